@@ -1,9 +1,8 @@
 -- Bits stand for one number of two's complement.
-use Rattle.std.proofs.Common.{◌≡◌, ℕ, ◌*◌, ◌^◌, ◌<◌, ◌≤◌, ◌↔◌, ◌⊎◌, inl, inr, Bool, true, false, cond, refl, sym, arith, ltb-true, ltb-false}
+use Rattle.std.proofs.Common.{◌≡◌, ℕ, ◌*◌, ◌^◌, ◌<◌, ◌⊎◌, inl, inr, Bool, true, false, cond, refl, arith, ltb-true, ltb-false}
 use Rattle.std.specs.Prelude.{nat_lt, ℤ, pos, neg_ℤ, ◌+ℤ◌, ◌-ℤ◌, ◌≤ℤ◌, ◌<ℤ◌}
 use Rattle.std.proofs.lemmas.Int.{ints}
-use Rattle.fit_base.specs.Laws.{IsTwosComplement, SignedNumbers}
-use Rattle.fit_base.specs.Numbers.{twos_complement}
+use Rattle.fit_base.specs.Laws.{SignedNumbers}
 
 -- at any bound in place of 256 ^ width
 one_value :
