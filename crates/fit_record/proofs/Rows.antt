@@ -1,6 +1,5 @@
 -- Files that are known from outside.
-use Rattle.std.proofs.Common.{◌≡◌, ℕ, List, [], ◌∷◌, ◌++◌, refl, None, Some, lit<, lit≤}
-use Rattle.std.specs.Prelude.{Option}
+use Rattle.std.proofs.Common.{ℕ, List, [], ◌∷◌, refl, None, Some, lit<, lit≤}
 use Rattle.fit_base.specs.declared.items.Items.{Items}
 use Rattle.fit_base.specs.declared.number.Order.TheVariants as orders
 use Rattle.fit_sum.specs.Checksum.{checksum}
@@ -12,7 +11,6 @@ use Rattle.fit_record.specs.declared.definition.DevDef.{DevDef}
 use Rattle.fit_record.specs.declared.file.FitFile.{FitFile}
 use Rattle.fit_record.specs.declared.message.Record.{Record}
 use Rattle.fit_record.specs.declared.message.Record.TheVariants.{Define, Values}
-use Rattle.fit_record.specs.Records.{DefinitionFits}
 use Rattle.fit_record.specs.Files.{IsFile}
 
 -- protocol version 2.0
@@ -34,7 +32,7 @@ file_1 = file_of (header_of 14 sums.True) []
 
 pub row_1 : IsFile file_1 (0x0E ∷ 0x20 ∷ 0 ∷ 0 ∷ 0 ∷ 0 ∷ 0 ∷ 0 ∷ 0x2E ∷ 0x46 ∷ 0x49 ∷ 0x54 ∷ 0x9C ∷ 0x85 ∷ 0 ∷ 0 ∷ [])
 unfolding checksum
-row_1 = (record { header = record { form = record { size = refl; size_fits = lit< tt; version = lit≤ tt; profile_fits = lit< tt }; data_fits = lit< tt; sum = λ z. let word = z.0 in cc }; records = tt }, refl)
+row_1 = (record { header = record { form = record { size = refl; version = lit≤ tt }; size_fits = lit< tt; profile_fits = lit< tt; data_fits = lit< tt; sum = λ z. let word = z.0 in cc }; records = tt }, refl)
 
 -- zeros in place of the header's sum
 abbrev pub file_2 : FitFile (Unit {0})
@@ -42,7 +40,7 @@ file_2 = file_of (header_of 14 sums.Zero) []
 
 pub row_2 : IsFile file_2 (0x0E ∷ 0x20 ∷ 0 ∷ 0 ∷ 0 ∷ 0 ∷ 0 ∷ 0 ∷ 0x2E ∷ 0x46 ∷ 0x49 ∷ 0x54 ∷ 0 ∷ 0 ∷ 0xA8 ∷ 0xA3 ∷ [])
 unfolding checksum
-row_2 = (record { header = record { form = record { size = refl; size_fits = lit< tt; version = lit≤ tt; profile_fits = lit< tt }; data_fits = lit< tt; sum = λ z. let zero_sum = z.1 in cc }; records = tt }, refl)
+row_2 = (record { header = record { form = record { size = refl; version = lit≤ tt }; size_fits = lit< tt; profile_fits = lit< tt; data_fits = lit< tt; sum = λ z. let zero_sum = z.1 in cc }; records = tt }, refl)
 
 -- a header of twelve bytes
 abbrev pub file_3 : FitFile (Unit {0})
@@ -50,7 +48,7 @@ file_3 = file_of (header_of 12 sums.Absent) []
 
 pub row_3 : IsFile file_3 (0x0C ∷ 0x20 ∷ 0 ∷ 0 ∷ 0 ∷ 0 ∷ 0 ∷ 0 ∷ 0x2E ∷ 0x46 ∷ 0x49 ∷ 0x54 ∷ 0x65 ∷ 0x42 ∷ [])
 unfolding checksum
-row_3 = (record { header = record { form = record { size = (refl, refl); size_fits = lit< tt; version = lit≤ tt; profile_fits = lit< tt }; data_fits = lit< tt; sum = λ z. let word = z.0 in cc }; records = tt }, refl)
+row_3 = (record { header = record { form = record { size = (refl, refl); version = lit≤ tt }; size_fits = lit< tt; profile_fits = lit< tt; data_fits = lit< tt; sum = λ z. let word = z.0 in cc }; records = tt }, refl)
 
 -- a definition without fields, and a message of one byte
 abbrev pub file_4 : FitFile (Unit {0})
@@ -62,7 +60,7 @@ pub row_4 : IsFile file_4 (0x0E ∷ 0x20 ∷ 0 ∷ 0 ∷ 7 ∷ 0 ∷ 0 ∷ 0 ∷
 unfolding checksum
 row_4 = (
   record {
-    header = record { form = record { size = refl; size_fits = lit< tt; version = lit≤ tt; profile_fits = lit< tt }; data_fits = lit< tt; sum = λ z. let word = z.0 in cc };
+    header = record { form = record { size = refl; version = lit≤ tt }; size_fits = lit< tt; profile_fits = lit< tt; data_fits = lit< tt; sum = λ z. let word = z.0 in cc };
     records = (record { local = lit< tt; global = lit< tt; fields = lit< tt; dev_fields = lit< tt }, (record { header = lit< tt; fields = tt; dev_fields = tt }, tt));
   },
   refl,
@@ -87,7 +85,7 @@ pub vector_a : IsFile file_a
 unfolding checksum
 vector_a = (
   record {
-    header = record { form = record { size = refl; size_fits = lit< tt; version = lit≤ tt; profile_fits = lit< tt }; data_fits = lit< tt; sum = λ z. let word = z.0 in cc };
+    header = record { form = record { size = refl; version = lit≤ tt }; size_fits = lit< tt; profile_fits = lit< tt; data_fits = lit< tt; sum = λ z. let word = z.0 in cc };
     records = (
       record { local = lit< tt; global = lit< tt; fields = lit< tt; dev_fields = lit< tt },
       (
@@ -139,7 +137,7 @@ pub vector_b : IsFile file_b
 unfolding checksum
 vector_b = (
   record {
-    header = record { form = record { size = refl; size_fits = lit< tt; version = lit≤ tt; profile_fits = lit< tt }; data_fits = lit< tt; sum = λ z. let word = z.0 in cc };
+    header = record { form = record { size = refl; version = lit≤ tt }; size_fits = lit< tt; profile_fits = lit< tt; data_fits = lit< tt; sum = λ z. let word = z.0 in cc };
     records = (
       record { local = lit< tt; global = lit< tt; fields = lit< tt; dev_fields = lit< tt },
       (
@@ -172,7 +170,7 @@ long_header = file_of (record { size = 16; protocol = 32; profile = 0; sum = sum
 
 pub row_long_header : IsFile long_header (0x10 ∷ 0x20 ∷ 0 ∷ 0 ∷ 0 ∷ 0 ∷ 0 ∷ 0 ∷ 0x2E ∷ 0x46 ∷ 0x49 ∷ 0x54 ∷ 0xB4 ∷ 0xAD ∷ 0x41 ∷ 0x42 ∷ 0xB0 ∷ 0x61 ∷ [])
 unfolding checksum
-row_long_header = (record { header = record { form = record { size = refl; size_fits = lit< tt; version = lit≤ tt; profile_fits = lit< tt }; data_fits = lit< tt; sum = λ z. let word = z.0 in cc }; records = tt }, refl)
+row_long_header = (record { header = record { form = record { size = refl; version = lit≤ tt }; size_fits = lit< tt; profile_fits = lit< tt; data_fits = lit< tt; sum = λ z. let word = z.0 in cc }; records = tt }, refl)
 
 -- a true sum of 0
 abbrev pub sum_of_zero : FitFile (Unit {0})
@@ -180,4 +178,4 @@ sum_of_zero = file_of (record { size = 14; protocol = 32; profile = 46477; sum =
 
 pub row_sum_of_zero : IsFile sum_of_zero (0x0E ∷ 0x20 ∷ 0x8D ∷ 0xB5 ∷ 0 ∷ 0 ∷ 0 ∷ 0 ∷ 0x2E ∷ 0x46 ∷ 0x49 ∷ 0x54 ∷ 0 ∷ 0 ∷ 0 ∷ 0 ∷ [])
 unfolding checksum
-row_sum_of_zero = (record { header = record { form = record { size = refl; size_fits = lit< tt; version = lit≤ tt; profile_fits = lit< tt }; data_fits = lit< tt; sum = λ z. let word = z.0 in cc }; records = tt }, refl)
+row_sum_of_zero = (record { header = record { form = record { size = refl; version = lit≤ tt }; size_fits = lit< tt; profile_fits = lit< tt; data_fits = lit< tt; sum = λ z. let word = z.0 in cc }; records = tt }, refl)
