@@ -1,5 +1,5 @@
 -- Headers that are known from outside, and their bytes.
-use Rattle.std.proofs.Common.{◌≡◌, ℕ, List, [], ◌∷◌, refl, lit<, lit≤}
+use Rattle.std.proofs.Common.{ℕ, List, [], ◌∷◌, refl, lit<, lit≤}
 use Rattle.fit_sum.specs.Checksum.{checksum}
 use Rattle.fit_frame.specs.declared.header.Header.{Header}
 use Rattle.fit_frame.specs.declared.header.HeaderSum.{HeaderSum}
