@@ -1,12 +1,12 @@
 -- A header and its bytes determine each other, and no header's bytes begin those of another.
-use Rattle.std.proofs.Common.{◌≡◌, ℕ, ◌/◌, ◌%◌, ◌<◌, List, ◌++◌, length, refl, sym, ap, ◌∙◌, subst, arith}
+use Rattle.std.proofs.Common.{◌≡◌, ◌≤◌, ◌⊎◌, inl, inr, ℕ, ◌/◌, ◌%◌, ◌<◌, List, ◌++◌, length, refl, sym, ap, ◌∙◌, subst, arith}
 use Rattle.fit_base.proofs.Bytes.{front_back}
 use Rattle.fit_sum.specs.Checksum.{checksum}
 use Rattle.fit_sum.proofs.Bound.{checksum-below}
 use Rattle.fit_frame.specs.declared.header.Header.{Header}
 use Rattle.fit_frame.specs.declared.header.HeaderSum.{HeaderSum}
 use Rattle.fit_frame.specs.declared.header.HeaderSum.TheVariants.{Absent, Zero, True}
-use Rattle.fit_frame.specs.Header.{fixed_part, sum_part, header_bytes, SizeFits, FormFits, HeaderFits, HeadersHaveOneSpelling}
+use Rattle.fit_frame.specs.Header.{fixed_part, sum_part, header_bytes, SizeFits, FormFits, HeaderFits, HeadersHaveOneSpelling, HeadersHaveTheirSize}
 
 two_bytes : (m n : ℕ) → m < 65536 → n < 65536 → m % 256 ≡ n % 256 → m / 256 % 256 ≡ n / 256 % 256 → m ≡ n
 two_bytes m n p q a b = omega arith
@@ -68,3 +68,11 @@ headers_have_one_spelling h k m n b c x y p q e =
     let whole : header_bytes h m ++ x ≡ header_bytes k n ++ y = cc (p.1, q.1) in
     let one = one_header h k m n x y p.0 q.0 whole in
     (one.0, one.1, cc (one.0, one.1, p.1, q.1), one.2)
+
+pub headers_have_their_size : HeadersHaveTheirSize
+headers_have_their_size h n b p = (ap length p.1 ∙ length-header_bytes h n p.0.form, go h.sum p.0.form.size)
+  where
+    go : (w : HeaderSum) → SizeFits w h.size h.rest.items → (h.size ≡ 12) ⊎ ((14 ≤ h.size) × (h.size ≤ 255))
+    go Absent q = inl q.0
+    go Zero q = inr (omega arith, omega (arith, p.0.size_fits))
+    go True q = inr (omega arith, omega (arith, p.0.size_fits))

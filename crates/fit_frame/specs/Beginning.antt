@@ -33,7 +33,7 @@ header_reason place =
     (if nat_le 8 place && nat_lt place 12 then Signature else HeaderSum)))
 
 -- The bytes begin a header of a file, with b behind them they begin none, and this is the reason.
-pub record IsRefused (bytes : List ℕ) (b : ℕ) (reason : Reason) : Type 0 where
+pub record RefusesByte (bytes : List ℕ) (b : ℕ) (reason : Reason) : Type 0 where
   pub begins : BeginsHeader bytes
   pub ends : BeginsHeader (bytes ++ b ∷ []) → ⊥
   pub why : reason ≡ header_reason (length bytes)
