@@ -1,4 +1,4 @@
-pub mod Rows
+pub mod KnownFiles
 pub mod OneRecord
 pub mod OneFile
 pub mod ChainOfOne
