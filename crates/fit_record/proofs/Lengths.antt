@@ -1,7 +1,7 @@
 -- How many bytes a record has.
-use Rattle.std.proofs.Common.{◌≡◌, ℕ, suc, ◌+◌, ◌*◌, ◌<◌, List, [], ◌∷◌, ◌++◌, length, map, refl, sym, ap, ◌∙◌, arith, length-append, Some, None}
-use Rattle.std.specs.Prelude.{Option, flat_map, sum_by, zip}
-use Rattle.std.proofs.lemmas.List.Sums.{sum_by-cons}
+use Rattle.std.proofs.Common.{◌≡◌, ℕ, suc, ◌*◌, List, [], ◌∷◌, ◌++◌, length, refl, arith, length-append, Some, None}
+use Rattle.std.specs.Prelude.{Option, flat_map, sum_by}
+use Rattle.std.proofs.lemmas.List.Sums.{sum_by-cons, sum_by-append}
 use Rattle.fit_base.specs.declared.items.Items.{Items}
 use Rattle.fit_base.specs.declared.number.Order.{Order}
 use Rattle.fit_base.specs.Numbers.{number_bytes}
@@ -11,8 +11,12 @@ use Rattle.fit_base.proofs.ShapeTests.{length-items_bytes}
 use Rattle.fit_record.specs.declared.definition.FieldDef.{FieldDef}
 use Rattle.fit_record.specs.declared.definition.DevDef.{DevDef}
 use Rattle.fit_record.specs.declared.definition.MessageDef.{MessageDef}
-use Rattle.fit_record.specs.Records.{architecture, field_bytes, dev_field_bytes, dev_part, definition_bytes, HaveShape}
+use Rattle.fit_record.specs.declared.message.Values.{Values}
+use Rattle.fit_record.specs.declared.environment.Defined.{Defined}
+use Rattle.fit_record.specs.Records.{architecture, field_bytes, dev_field_bytes, dev_part, definition_bytes, layout, dev_layout, message_size, HaveShape, data_bytes, DataFits}
 use Rattle.fit_record.specs.Faults.{dev_length, definition_length}
+
+-- ---- definition messages
 
 length-fields : (fs : List FieldDef) → length (flat_map field_bytes fs) ≡ 3 * length fs
 length-fields [] = refl
@@ -32,26 +36,21 @@ length-definition d =
     let fields = length d.fields ∷ flat_map field_bytes d.fields in
     omega (arith, length-append (front ++ fields) (dev_part d.dev), length-append front fields, length-number_bytes d.order 2 d.global, length-fields d.fields, length-dev_part d.dev)
 
-pub length-items : {A : Type 0} (o : Order) (fs : List FieldDef) (is : List (Items A)) → HaveShape (map (λ f. (f.code, f.size)) fs) is
-    → length (flat_map (items_bytes o) is) ≡ sum_by (λ f. f.size) fs
+-- ---- data messages
+
+length-items : {A : Type 0} (o : Order) (fs : List (ℕ × ℕ)) (is : List (Items A)) → HaveShape fs is → length (flat_map (items_bytes o) is) ≡ sum_by (λ f. f.1) fs
 length-items o [] [] h = refl
 length-items o [] (i ∷ is) h = absurd h
 length-items o (f ∷ fs) [] h = absurd h
 length-items o (f ∷ fs) (i ∷ is) h =
-    length-append (items_bytes o i) (flat_map (items_bytes o) is)
-    ∙ ap (λ n. n + length (flat_map (items_bytes o) is)) (length-items_bytes o f.code f.size i h.0)
-    ∙ ap (λ n. f.size + n) (length-items o fs is h.1)
-    ∙ sym (sum_by-cons (λ f. f.size) f fs)
+    omega (arith, length-append (items_bytes o i) (flat_map (items_bytes o) is), length-items_bytes o f.0 f.1 i h.0, length-items o fs is h.1, sum_by-cons (λ (f : ℕ × ℕ). f.1) f fs)
 
-pub length-dev_items : {A : Type 0} (o : Order) (codes : List ℕ) (fs : List DevDef) (is : List (Items A)) → length codes ≡ length fs
-    → HaveShape (zip codes (map (λ f. f.size) fs)) is → length (flat_map (items_bytes o) is) ≡ sum_by (λ f. f.size) fs
-length-dev_items o [] [] [] l h = refl
-length-dev_items o [] [] (i ∷ is) l h = absurd h
-length-dev_items o [] (f ∷ fs) is l h = absurd (omega arith)
-length-dev_items o (c ∷ cs) [] is l h = absurd (omega arith)
-length-dev_items o (c ∷ cs) (f ∷ fs) [] l h = absurd h
-length-dev_items o (c ∷ cs) (f ∷ fs) (i ∷ is) l h =
-    length-append (items_bytes o i) (flat_map (items_bytes o) is)
-    ∙ ap (λ n. n + length (flat_map (items_bytes o) is)) (length-items_bytes o c f.size i h.0)
-    ∙ ap (λ n. f.size + n) (length-dev_items o cs fs is (omega arith) h.1)
-    ∙ sym (sum_by-cons (λ f. f.size) f fs)
+pub length-data : {A : Type 0} (o : Order) (v : Values A) (p : Defined A) → DataFits v p → length (data_bytes o v) ≡ message_size p
+length-data o v p h =
+    omega (
+      arith,
+      length-append (flat_map (items_bytes o) v.fields) (flat_map (items_bytes o) v.dev),
+      length-items o (layout p) v.fields h.fields,
+      length-items o (dev_layout p) v.dev h.dev_fields,
+      sum_by-append (λ (f : ℕ × ℕ). f.1) (layout p) (dev_layout p),
+    )

@@ -8,3 +8,17 @@ pub mod FaultFacts
 pub mod LengthFacts
 pub mod KeptFacts
 pub mod Firsts
+pub mod MessageSizes
+pub mod ByteLists
+pub mod MessageBytes
+pub mod RoomSums
+pub mod LargeRooms
+pub mod FilledRooms
+pub mod SixteenPlaces
+pub mod RoomWalks
+pub mod EntryParts
+pub mod DefinitionInPlace
+pub mod DefinitionParts
+pub mod DefinitionFronts
+pub mod CarriedMessages
+pub mod RoomRows

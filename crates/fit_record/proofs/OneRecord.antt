@@ -1,5 +1,5 @@
 -- Under an environment a record and its bytes determine each other, and no record's bytes begin those of another.
-use Rattle.std.proofs.Common.{◌≡◌, ℕ, ◌+◌, ◌*◌, ◌<◌, ◌^◌, List, [], ◌∷◌, ◌++◌, length, refl, sym, ap, ◌∙◌, subst, arith, append_assoc, length-append, Some, None}
+use Rattle.std.proofs.Common.{◌≡◌, ℕ, ◌+◌, ◌<◌, List, [], ◌∷◌, ◌++◌, length, refl, sym, ap, ◌∙◌, subst, arith, append_assoc, length-append, Some, None}
 use Rattle.std.specs.Prelude.{Option, flat_map, option_map, unwrap_or, IsSomeAnd}
 use Rattle.fit_base.specs.declared.items.Items.{Items}
 use Rattle.fit_base.specs.declared.number.Order.{Order}
@@ -16,7 +16,7 @@ use Rattle.fit_record.specs.declared.message.Record.{Record}
 use Rattle.fit_record.specs.declared.message.Record.TheVariants.{Define, Values as Data}
 use Rattle.fit_record.specs.declared.environment.Defined.{Defined}
 use Rattle.fit_record.specs.Environment.{Environment, defined_at, learn}
-use Rattle.fit_record.specs.Records.{architecture, field_bytes, dev_field_bytes, dev_part, definition_header, definition_bytes, DefinitionFits, layout, dev_layout, HaveShape, data_header, DataHeaderFits, data_bytes, DataFits, Fits, order_at, record_bytes, IsRecord, AllFit, records_bytes}
+use Rattle.fit_record.specs.Records.{architecture, field_bytes, dev_field_bytes, dev_part, definition_header, definition_bytes, DefinitionFits, layout, dev_layout, HaveShape, data_header, DataHeaderFits, data_bytes, DataFits, Fits, order_at, record_bytes, AllFit, records_bytes}
 use Rattle.fit_record.specs.Laws.{RecordsHaveOneSpelling}
 
 regroup : {X : Type 0} → (a b c d : List X) → (a ++ b ++ c) ++ d ≡ a ++ (b ++ (c ++ d))
@@ -116,7 +116,7 @@ same_data (Some d) v w x y p q e =
     let dev = same_values o (dev_layout d) v.dev w.dev x y p.dev_fields q.dev_fields fields.1 in
     (fields.0, dev.0, dev.1)
 
-same_header : (l m : ℕ) (s t : Option ℕ) → DataHeaderFits l s → DataHeaderFits m t → data_header l s ≡ data_header m t → (l ≡ m) × (s ≡ t)
+pub same_header : (l m : ℕ) (s t : Option ℕ) → DataHeaderFits l s → DataHeaderFits m t → data_header l s ≡ data_header m t → (l ≡ m) × (s ≡ t)
 same_header l m None None p q e = (e, refl)
 same_header l m None (Some t) p q e = absurd (omega arith)
 same_header l m (Some s) None p q e = absurd (omega arith)

@@ -5,3 +5,6 @@ pub mod Files
 pub mod Faults
 pub mod Laws
 pub mod Kept
+pub mod Rooms
+pub mod Unfinished
+pub mod RoomLaws

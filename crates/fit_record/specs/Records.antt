@@ -1,5 +1,5 @@
 -- The bytes of records (sections "Record Header", "Definition Message", "Data Message" and "Developer Fields").
-use Rattle.std.specs.Prelude.{◌≡◌, ℕ, ◌+◌, ◌*◌, ◌<◌, ◌^◌, List, [], ◌∷◌, ◌++◌, length, map, flat_map, zip, sum_by, Option, Some, None, IfSome, IsSomeAnd, unwrap_or, option_map}
+use Rattle.std.specs.Prelude.{◌≡◌, ℕ, ◌+◌, ◌*◌, ◌<◌, ◌^◌, List, [], ◌∷◌, ◌++◌, length, map, flat_map, zip, sum_by, Option, Some, None, IsSomeAnd, unwrap_or, option_map}
 use Rattle.fit_base.specs.declared.items.Items.{Items}
 use Rattle.fit_base.specs.declared.number.Order.{Order}
 use Rattle.fit_base.specs.declared.number.Order.TheVariants.{Little, Big}
@@ -56,6 +56,10 @@ layout p = map (λ f. (f.code, f.size)) p.definition.fields
 
 abbrev pub dev_layout : {A : Type 0} → Defined A → List (ℕ × ℕ)
 dev_layout p = zip p.dev_codes (map (λ f. f.size) (dev_defs p.definition.dev))
+
+-- how many bytes follow the record header of a data message
+abbrev pub message_size : {A : Type 0} → Defined A → ℕ
+message_size p = sum_by (λ f. f.1) (layout p ++ dev_layout p)
 
 -- There are as many fields as defined, each of the shape that its code and size give.
 abbrev pub HaveShape : {A : Type 0} → List (ℕ × ℕ) → List (Items A) → Type 0

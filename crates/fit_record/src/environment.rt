@@ -2,7 +2,7 @@
 //! developer fields.
 ghost use Rattle.std.specs.Prelude.{◌≡◌, ◌+◌, ◌<◌, ◌≤◌, IfOk, IfErr, map, option_map, option_and_then, option_copied, slice_get, slice_set, IsSomeAnd, OnOk, OnErr, IfSome, Some, length};
 ghost use Rattle.fit_record.specs.Environment.{empty_environment, defined_at, defined_by, describe, description, dev_code, dev_defs, learn};
-ghost use Rattle.fit_record.specs.Records.{Fits, DefinitionFits, DataFits, record_bytes};
+ghost use Rattle.fit_record.specs.Records.{Fits, DefinitionFits, DataFits, message_size, record_bytes};
 ghost use Rattle.fit_record.specs.Faults.{first_fault};
 ghost use Rattle.fit_record.specs.Kept.{IsSound, body_length};
 
@@ -27,7 +27,7 @@ pub struct Defined<A: Allocator = Global> {
 /// types, and the base type codes of the developer fields that were described.
 #[derive(Drop)]
 pub struct Env<A: Allocator = Global> {
-    places: [Option<Defined<A>>; 16],
+    pub(crate) places: [Option<Defined<A>>; 16],
     /// How many bytes follow the record header of each local message type.
     lengths: [u32; 16],
     described: BTreeMap<DevKey, u8, A>,
@@ -95,7 +95,10 @@ impl<A: Allocator> Env<A> {
     /// How many bytes follow the record header of a data message: the sum of the definition's sizes.
     pub fn length(&self, local: u8) -> Option<u32>
         ensures length { result ≡ option_map (λ p. body_length p.definition) (defined_at self.now local) }
+        // So many bytes each data message of the type has.
+        ensures size { result ≡ option_map message_size (defined_at self.now local) }
         ensures small { IfSome result (λ n. n ≤ 130050) }
+        ensures places { length self.now.places ≡ 16 }
     {
         let place = self.places.get(local as usize)?;
         match place {

@@ -1,6 +1,7 @@
 //! What holds of records, files and chains of files. These functions do nothing: what they ensure is
 //! what they are for.
 ghost use Rattle.fit_record.specs.Laws.{ChainOfOne, FaultsAreExact, FilesHaveOneSpelling, RecordsHaveOneSpelling};
+ghost use Rattle.fit_record.specs.RoomLaws.{DevFieldsAreTested, DevNumbersAreTested, FieldsAreTested, FrontsAreTested, HaveSixteenPlaces, MessagesAreTested};
 
 use std::alloc::Allocator;
 
@@ -23,4 +24,22 @@ pub fn files_have_one_spelling<A: Allocator>()
 /// A chain of at most one file is a file.
 pub fn chain_of_one<A: Allocator>()
     ensures { ChainOfOne A }
+{}
+
+/// Whatever the records of a file, a reader of them knows sixteen places.
+pub fn environments_have_sixteen_places<A: Allocator>()
+    ensures { HaveSixteenPlaces A }
+{}
+
+/// Which definition messages that aren't whole can be completed so that records fill the room.
+pub fn definitions_are_tested<A: Allocator>()
+    ensures front { FrontsAreTested A }
+    ensures fields { FieldsAreTested A }
+    ensures dev_number { DevNumbersAreTested A }
+    ensures dev_fields { DevFieldsAreTested A }
+{}
+
+/// Which data messages, with some of their bytes or none, can be completed so that records fill the room.
+pub fn messages_are_tested<A: Allocator>()
+    ensures { MessagesAreTested A }
 {}

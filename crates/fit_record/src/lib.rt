@@ -9,9 +9,12 @@ mod fits;
 pub mod laws;
 mod learn;
 mod message;
+mod rooms;
+mod unfinished;
 
 pub use definition::{DevDef, FieldDef, MessageDef};
 pub use environment::Env;
 pub use file::FitFile;
 pub use fits::ShapeFault;
 pub use message::{Record, Values};
+pub use unfinished::can_complete_front;

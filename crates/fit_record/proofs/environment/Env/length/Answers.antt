@@ -4,6 +4,8 @@ use Rattle.std.proofs.lemmas.Option.{get_or_from_slice_get}
 use Rattle.fit_record.specs.Environment.{defined_at}
 use Rattle.fit_record.specs.Kept.{MayBeKept, body_length}
 use Rattle.fit_record.proofs.WrongPlace.{found}
+use Rattle.fit_record.specs.Records.{message_size}
+use Rattle.fit_record.proofs.MessageSizes.{kept_size}
 use Rattle.fit_record.proofs.environment.Env.length.Goals as goal
 
 pub returns-in-Some-clause-length : goal.returns-in-Some-clause-length
@@ -16,3 +18,8 @@ pub returns-in-Some-clause-small : goal.returns-in-Some-clause-small
 returns-in-Some-clause-small g c =
     let at = get_or_from_slice_get c.self.inside.places c.args.local _ None (found c.self.inside.places c.args.local _ c.in_ok-place.ensures.lookup.0 c.in_ok-place.ensures.lookup.1) ∙ c.in-Some.is in
     (subst (λ p. MayBeKept p (get_or c.self.inside.lengths c.args.local 0)) at (c.self.invariant c.args.local)).small
+
+pub returns-in-Some-clause-size : goal.returns-in-Some-clause-size
+returns-in-Some-clause-size g c =
+    let at = get_or_from_slice_get c.self.inside.places c.args.local _ None (found c.self.inside.places c.args.local _ c.in_ok-place.ensures.lookup.0 c.in_ok-place.ensures.lookup.1) ∙ c.in-Some.is in
+    kept_size _ _ _ at (c.self.invariant c.args.local) ∙ ap (λ e. option_map message_size (defined_at e c.args.local)) c.self.view_is

@@ -1,0 +1,105 @@
+-- Worked rooms, and worked records that aren't whole.
+use Rattle.std.proofs.Common.{◌≡◌, ℕ, true, false, [], ◌∷◌, refl, None}
+use Rattle.std.specs.Prelude.{map}
+use Rattle.fit_base.specs.declared.number.Order.TheVariants.{Little}
+use Rattle.fit_record.specs.declared.definition.MessageDef.{MessageDef}
+use Rattle.fit_record.specs.declared.message.Record.TheVariants.{Define}
+use Rattle.fit_record.specs.Environment.{Environment, empty_environment, learn}
+use Rattle.fit_record.specs.Rooms.{can_fill}
+use Rattle.fit_record.specs.Unfinished.{can_complete, can_complete_dev, can_carry}
+
+abbrev sized : ℕ → ℕ → MessageDef ℕ
+sized local size = record { local = local; reserved = 0; order = Little; global = 20; fields = record { number = 5; size = size; code = 2 } ∷ []; dev = None }
+
+abbrev nothing : Environment ℕ
+nothing = empty_environment
+
+-- data messages of 4 bytes
+abbrev fours : Environment ℕ
+fours = learn nothing (Define (sized 0 3))
+
+-- of 3 and of 4 bytes
+abbrev threes_and_fours : Environment ℕ
+threes_and_fours = learn fours (Define (sized 15 2))
+
+-- of 2 bytes
+abbrev twos : Environment ℕ
+twos = learn nothing (Define (sized 0 1))
+
+-- of 2 and of 3 bytes
+abbrev twos_and_threes : Environment ℕ
+twos_and_threes = learn twos (Define (sized 1 2))
+
+-- ---- rooms
+
+rooms_of_nothing : (map (can_fill nothing) (0 ∷ 1 ∷ 5 ∷ 6 ∷ 7 ∷ [])) ≡ true ∷ false ∷ false ∷ true ∷ true ∷ []
+rooms_of_nothing = refl
+
+rooms_of_fours : (map (can_fill fours) (0 ∷ 1 ∷ 4 ∷ 5 ∷ 6 ∷ [])) ≡ true ∷ false ∷ true ∷ false ∷ true ∷ []
+rooms_of_fours = refl
+
+rooms_of_threes_and_fours : (map (can_fill threes_and_fours) (1 ∷ 2 ∷ 5 ∷ [])) ≡ false ∷ false ∷ false ∷ []
+rooms_of_threes_and_fours = refl
+
+rooms_of_twos_and_threes : (map (can_fill twos_and_threes) (1 ∷ 2 ∷ 3 ∷ 4 ∷ 5 ∷ [])) ≡ false ∷ true ∷ true ∷ true ∷ true ∷ []
+rooms_of_twos_and_threes = refl
+
+-- ---- data messages
+
+-- A message of 2 bytes leaves 3 of the 4 bytes behind its record header, and no message fills them.
+carried : (map (can_carry twos 0) (0 ∷ 1 ∷ 3 ∷ 4 ∷ [])) ≡ false ∷ true ∷ true ∷ false ∷ []
+carried = refl
+
+undefined : can_carry twos 1 6 ≡ false
+undefined = refl
+
+-- Messages of 4 bytes leave 3 of 7.
+three_left : can_carry fours 0 6 ≡ false
+three_left = refl
+
+-- ---- definition messages
+
+-- One byte would be left, and messages would have three.
+one_left : can_complete nothing 0 1 2 2 ≡ false
+one_left = refl
+
+none_left : can_complete nothing 0 1 0 2 ≡ true
+none_left = refl
+
+-- The entry of a field would overrun.
+overrun : can_complete nothing 0 3 0 2 ≡ false
+overrun = refl
+
+-- Three bytes would be left for messages of four, unless a developer field takes them.
+without_developer_fields : can_complete nothing 0 0 3 3 ≡ false
+without_developer_fields = refl
+
+with_a_developer_field : can_complete nothing 0 3 3 3 ≡ true
+with_a_developer_field = refl
+
+with_two : can_complete nothing 0 6 3 3 ≡ false
+with_two = refl
+
+-- Messages of 2 bytes don't fill 5 bytes. While the number of developer fields is to come, one of them may.
+number_open : can_complete_dev nothing 0 1 1 7 ≡ true
+number_open = refl
+
+none_of_them : can_complete nothing 0 0 1 5 ≡ false
+none_of_them = refl
+
+one_of_them : can_complete nothing 0 3 1 5 ≡ true
+one_of_them = refl
+
+-- The definition message that is replaced doesn't count.
+replaced : can_complete twos 0 1 3 3 ≡ false
+replaced = refl
+
+beside : can_complete twos 1 1 3 3 ≡ true
+beside = refl
+
+-- a size that is still open, beside another
+open_size : can_complete nothing 0 4 1 6 ≡ true
+open_size = refl
+
+too_much : can_complete nothing 0 4 3 6 ≡ false
+too_much = refl

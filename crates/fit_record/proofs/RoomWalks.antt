@@ -1,0 +1,46 @@
+-- The walks over the places of an environment, and the tests that are computed from them.
+use Rattle.std.proofs.Common.{◌≡◌, ℕ, ◌+◌, ◌-◌, ◌<◌, ◌≤◌, ◌≢◌, ◌⊎◌, inl, inr, Bool, true, false, List, length, take, get_or, sym, ap, ◌∙◌, subst, None}
+use Rattle.std.specs.Prelude.{Option, slice_set, ◌||◌, ◌&&◌, nat_le}
+use Rattle.std.proofs.lemmas.Bool.{cases_eq, or_from, and_right, and_left, lt-leb, le-leb}
+use Rattle.std.proofs.lemmas.List.Folds.{list_any_more, list_any_at}
+use Rattle.std.proofs.lemmas.List.{get_or-set_same, get_or-set_other}
+use Rattle.std.proofs.Math.ListN.{length-set}
+use Rattle.fit_record.specs.declared.environment.Defined.{Defined}
+use Rattle.fit_record.specs.Environment.{Environment}
+use Rattle.fit_record.specs.Rooms.{has_length_at, has_length, can_fill_from}
+use Rattle.fit_record.specs.Unfinished.{finishes, can_complete_dev}
+
+-- with the place of one local message type left out
+module _ {A : Type 0} (places : List (Option (Defined A))) (local n other : ℕ) (below : other < length places) where
+  abbrev others : List (Option (Defined A))
+  others = slice_set places local None
+
+  below_set : other < length others
+  below_set = subst (λ m. other < m) (sym (length-set places local None)) below
+
+  more : has_length (take other others) n ≡ false → has_length_at (get_or others other None) n ≡ false → has_length (take (other + 1) others) n ≡ false
+  more before here = list_any_more (λ o. has_length_at o n) others other None below_set ∙ or_from (has_length (take other others) n) _ before here
+
+  pub left_out : other ≡ local → has_length (take other others) n ≡ false → has_length (take (other + 1) others) n ≡ false
+  left_out same before =
+      more before (ap (λ o. has_length_at o n) (ap (λ i. get_or others i None) same ∙ get_or-set_same places local None None (subst (λ i. i < length places) same below)))
+
+  pub not_here : has_length_at (get_or places other None) n ≡ false → has_length (take other others) n ≡ false → has_length (take (other + 1) others) n ≡ false
+  not_here lacks before = go (cases_eq other local) where
+    go : (other ≡ local) ⊎ (other ≢ local) → has_length (take (other + 1) others) n ≡ false
+    go (inl same) = left_out same before
+    go (inr differs) = more before (ap (λ o. has_length_at o n) (get_or-set_other places local other None None differs) ∙ lacks)
+
+  pub here : other ≢ local → has_length_at (get_or places other None) n ≡ true → has_length others n ≡ true
+  here differs has =
+      list_any_at (λ o. has_length_at o n) others other None below_set (ap (λ o. has_length_at o n) (get_or-set_other places local other None None differs) ∙ has)
+
+module _ {A : Type 0} (e : Environment A) (local t size room : ℕ) (enough : t + 1 ≤ room) (not_without : finishes e local t size (room - (t + 1)) ≡ false) where
+  pub too_short : room - (t + 1) < 3 → false ≡ can_complete_dev e local t size room
+  too_short l = sym (and_right (nat_le (t + 1) room) _ (or_from (finishes e local t size (room - (t + 1))) _ not_without (and_left (nat_le 3 (room - (t + 1))) _ (lt-leb 3 (room - (t + 1)) l))))
+
+  pub with_one : (r : Bool) → 3 ≤ room - (t + 1) → r ≡ can_fill_from e local size (room - (t + 1) - 3) → r ≡ can_complete_dev e local t size room
+  with_one r l h =
+      h ∙ sym (ap (λ b. b && (finishes e local t size (room - (t + 1)) || (nat_le 3 (room - (t + 1)) && can_fill_from e local size (room - (t + 1) - 3)))) (le-leb (t + 1) room enough)
+      ∙ ap (λ b. b || (nat_le 3 (room - (t + 1)) && can_fill_from e local size (room - (t + 1) - 3))) not_without
+      ∙ ap (λ b. b && can_fill_from e local size (room - (t + 1) - 3)) (le-leb 3 (room - (t + 1)) l))

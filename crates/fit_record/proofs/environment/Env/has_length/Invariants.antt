@@ -1,0 +1,7 @@
+use Rattle.std.proofs.Common.{◌≡◌, ◌<◌, length, take, false}
+use Rattle.fit_record.specs.Rooms.{has_length}
+use Rattle.fit_record.proofs.environment.Env.has_length.Given as goal
+
+abbrev pub invariant-loop-local : goal.invariant-loop-local
+invariant-loop-local g l =
+    (has_length (take l.local l.self.places) l.n ≡ false) × (0 < l.local → length l.self.places ≡ 16)
