@@ -18,3 +18,6 @@ pub use file::FitFile;
 pub use fits::ShapeFault;
 pub use message::{Record, Values};
 pub use unfinished::can_complete_front;
+
+#[cfg(test)]
+mod tests;
