@@ -1,0 +1,14 @@
+-- What clauses see of a sink.
+use Rattle.std.specs.Prelude.{◌≡◌, ℕ, ◌<◌, ◌⊎◌, Bool, true, List, Option, length, take}
+use Rattle.std.specs.Io.KnownBytes.{Appends}
+
+-- of a sink over a writer: the bytes that it holds, where the writer tells them, and whether a call failed
+pub record Written : Type 0 where
+  pub held : Option (List ℕ)
+  pub failed : Bool
+
+-- of a cut sink: the bytes that it holds, how many more it takes, and whether a call failed
+pub record Kept : Type 0 where
+  pub held : List ℕ
+  pub room : ℕ
+  pub failed : Bool
