@@ -1,2 +1,7 @@
+mod Consumed
+mod Found
+mod Frames
 mod LineFacts
 mod Written
+mod Said
+mod Unique
