@@ -1,6 +1,6 @@
 -- Lists of bytes, and numbers as bytes.
-use Rattle.std.proofs.Common.{◌≡◌, ℕ, zero, suc, ◌+◌, ◌*◌, ◌/◌, ◌%◌, ◌^◌, ◌<◌, Bool, true, false, cond, List, [], ◌∷◌, ◌++◌, length, get_or, refl, sym, ap, ◌∙◌, ltb, lit<, arith, append_assoc, length-append}
-use Rattle.std.specs.Prelude.{◌&&◌, reverse, flat_map, Option, Some, None, unwrap_or, find}
+use Rattle.std.proofs.Common.{◌≡◌, ℕ, zero, suc, ◌*◌, ◌/◌, ◌^◌, ◌<◌, Bool, true, false, cond, List, [], ◌∷◌, ◌++◌, length, refl, sym, ap, ◌∙◌, ltb, lit<, arith, append_assoc}
+use Rattle.std.specs.Prelude.{◌&&◌, flat_map, Some, unwrap_or, find}
 use Rattle.std.proofs.lemmas.List.{reverse-reverse, length-reverse}
 use Rattle.std.proofs.Math.Nat.{pow-suc}
 use borrow.Author.Tests.{ltb-true}

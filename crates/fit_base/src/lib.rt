@@ -5,6 +5,7 @@ mod bits;
 mod code;
 mod entries;
 mod items;
+pub mod laws;
 mod number;
 
 pub use bits::Bits;
@@ -12,3 +13,6 @@ pub use code::{Class, Code, width_of};
 pub use entries::Entries;
 pub use items::{Items, has_shape};
 pub use number::{Order, bits_at, put_bits, signed};
+
+#[cfg(test)]
+mod tests;

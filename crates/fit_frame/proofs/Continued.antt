@@ -4,7 +4,7 @@ use Rattle.std.proofs.lemmas.List.{get_or_append_left, append-nil}
 use Rattle.fit_base.specs.Numbers.{IsBytes}
 use Rattle.fit_sum.specs.Checksum.{checksum}
 use Rattle.fit_sum.proofs.Bound.{checksum-below}
-use Rattle.fit_frame.specs.Beginning.{IsWholeHeader, BeginsHeader, IsRefused, header_reason}
+use Rattle.fit_frame.specs.Beginning.{IsWholeHeader, BeginsHeader, RefusesByte, header_reason}
 use Rattle.fit_frame.specs.Judgement.{two_bytes, MayFollow, AreJudged, HasItsSize, IsReading}
 use Rattle.fit_frame.proofs.Whole.{is_whole}
 use Rattle.fit_frame.proofs.Judged.{may_follow, judged_more}
@@ -152,5 +152,5 @@ room (s ∷ bytes) reading fresh =
     omega (arith, reading.are_bytes 0, other)
 
 -- a byte that may not follow is refused
-pub refused : (bytes : List ℕ) (b : ℕ) → IsReading bytes → (MayFollow bytes b → ⊥) → IsRefused bytes b (header_reason (length bytes))
+pub refused : (bytes : List ℕ) (b : ℕ) → IsReading bytes → (MayFollow bytes b → ⊥) → RefusesByte bytes b (header_reason (length bytes))
 refused bytes b reading fails = record { begins = begins bytes reading; ends = λ more. fails (may_follow bytes b more); why = refl }

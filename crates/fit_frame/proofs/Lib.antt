@@ -1,4 +1,5 @@
 pub mod OneHeader
+mod HeaderRows
 mod Whole
 mod Judged
 mod Continued

@@ -1,12 +1,14 @@
 -- A header and its bytes determine each other, and no header's bytes begin those of another.
-use Rattle.std.proofs.Common.{◌≡◌, ℕ, ◌/◌, ◌%◌, ◌<◌, List, ◌++◌, length, refl, sym, ap, ◌∙◌, subst, arith}
+use Rattle.std.proofs.Common.{◌≡◌, ◌≤◌, ◌⊎◌, inl, inr, ℕ, ◌/◌, ◌%◌, ◌<◌, List, [], ◌∷◌, ◌++◌, length, append_assoc, refl, sym, ap, ◌∙◌, subst, arith}
+use Rattle.std.proofs.lemmas.List.{append-nil}
 use Rattle.fit_base.proofs.Bytes.{front_back}
 use Rattle.fit_sum.specs.Checksum.{checksum}
 use Rattle.fit_sum.proofs.Bound.{checksum-below}
 use Rattle.fit_frame.specs.declared.header.Header.{Header}
 use Rattle.fit_frame.specs.declared.header.HeaderSum.{HeaderSum}
 use Rattle.fit_frame.specs.declared.header.HeaderSum.TheVariants.{Absent, Zero, True}
-use Rattle.fit_frame.specs.Header.{fixed_part, sum_part, header_bytes, SizeFits, FormFits, HeaderFits, HeadersHaveOneSpelling}
+use Rattle.fit_frame.specs.Header.{fixed_part, sum_part, header_bytes, SizeFits, FormFits, HeaderFits, HeadersHaveOneSpelling, HeadersHaveTheirSize}
+use Rattle.fit_frame.specs.Beginning.{HeadersEndOnce}
 
 two_bytes : (m n : ℕ) → m < 65536 → n < 65536 → m % 256 ≡ n % 256 → m / 256 % 256 ≡ n / 256 % 256 → m ≡ n
 two_bytes m n p q a b = omega arith
@@ -68,3 +70,22 @@ headers_have_one_spelling h k m n b c x y p q e =
     let whole : header_bytes h m ++ x ≡ header_bytes k n ++ y = cc (p.1, q.1) in
     let one = one_header h k m n x y p.0 q.0 whole in
     (one.0, one.1, cc (one.0, one.1, p.1, q.1), one.2)
+
+pub headers_have_their_size : HeadersHaveTheirSize
+headers_have_their_size h n b p = (ap length p.1 ∙ length-header_bytes h n p.0.form, go h.sum p.0.form.size)
+  where
+    go : (w : HeaderSum) → SizeFits w h.size h.rest.items → (h.size ≡ 12) ⊎ ((14 ≤ h.size) × (h.size ≤ 255))
+    go Absent q = inl q.0
+    go Zero q = inr (omega arith, omega (arith, p.0.size_fits))
+    go True q = inr (omega arith, omega (arith, p.0.size_fits))
+
+pub headers_end_once : HeadersEndOnce
+headers_end_once h n bytes x p begins =
+    let whole = begins.whole.is.0 in
+    let joined : bytes ++ (x ++ begins.more) ≡ ((bytes ++ x) ++ begins.more) ++ [] = sym (append_assoc bytes x begins.more) ∙ sym (append-nil ((bytes ++ x) ++ begins.more)) in
+    let one = headers_have_one_spelling h begins.whole.header n begins.whole.data_size bytes ((bytes ++ x) ++ begins.more) (x ++ begins.more) [] p whole joined in
+    front_empty x begins.more one.3
+  where
+    front_empty : (x y : List ℕ) → x ++ y ≡ [] → x ≡ []
+    front_empty [] y e = refl
+    front_empty (a ∷ x) y e = cc

@@ -26,6 +26,10 @@ pub record BeginsHeader (bytes : List ℕ) : Type 0 where
   pub are_bytes : IsBytes more
   pub whole : IsWholeHeader (bytes ++ more)
 
+-- What begins with a whole header is, if it begins a header, that header and no more.
+abbrev pub HeadersEndOnce : Type 0
+HeadersEndOnce = (h : Header) (n : ℕ) (bytes x : List ℕ) → IsHeader h n bytes → BeginsHeader (bytes ++ x) → x ≡ []
+
 -- The reason that belongs to a byte behind so many others of a header.
 abbrev pub header_reason : ℕ → Reason
 header_reason place =
@@ -33,7 +37,7 @@ header_reason place =
     (if nat_le 8 place && nat_lt place 12 then Signature else HeaderSum)))
 
 -- The bytes begin a header of a file, with b behind them they begin none, and this is the reason.
-pub record IsRefused (bytes : List ℕ) (b : ℕ) (reason : Reason) : Type 0 where
+pub record RefusesByte (bytes : List ℕ) (b : ℕ) (reason : Reason) : Type 0 where
   pub begins : BeginsHeader bytes
   pub ends : BeginsHeader (bytes ++ b ∷ []) → ⊥
   pub why : reason ≡ header_reason (length bytes)

@@ -1,5 +1,5 @@
 -- The file header (section "File Header").
-use Rattle.std.specs.Prelude.{◌≡◌, ℕ, ◌+◌, ◌/◌, ◌<◌, ◌≤◌, ◌^◌, List, [], ◌∷◌, ◌++◌, length}
+use Rattle.std.specs.Prelude.{◌≡◌, ℕ, ◌+◌, ◌/◌, ◌<◌, ◌≤◌, ◌^◌, ◌⊎◌, List, [], ◌∷◌, ◌++◌, length}
 use Rattle.fit_base.specs.Numbers.{little_bytes}
 use Rattle.fit_sum.specs.Checksum.{checksum}
 use Rattle.fit_frame.specs.declared.header.Header.{Header}
@@ -55,3 +55,8 @@ IsHeader h n bytes = HeaderFits h n × (bytes ≡ header_bytes h n)
 abbrev pub HeadersHaveOneSpelling : Type 0
 HeadersHaveOneSpelling = (h k : Header) (m n : ℕ) (b c x y : List ℕ) → IsHeader h m b → IsHeader k n c → b ++ x ≡ c ++ y
     → (h ≡ k) × (m ≡ n) × (b ≡ c) × (x ≡ y)
+
+-- A header has as many bytes as its size says: twelve, or from 14 to 255.
+abbrev pub HeadersHaveTheirSize : Type 0
+HeadersHaveTheirSize = (h : Header) (n : ℕ) (b : List ℕ) → IsHeader h n b
+    → (length b ≡ h.size) × ((h.size ≡ 12) ⊎ ((14 ≤ h.size) × (h.size ≤ 255)))

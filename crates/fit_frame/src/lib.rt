@@ -6,6 +6,8 @@ pub mod laws;
 mod reader;
 mod reason;
 mod spelling;
+#[cfg(test)]
+mod tests;
 
 pub use header::{Header, HeaderSum};
 pub use reader::HeadReader;

@@ -2,7 +2,7 @@
 ghost use Rattle.std.specs.Prelude.{◌≡◌, ◌<◌, ◌≤◌, ◌↔◌, ◌⊎◌, ℕ, [], ◌∷◌, ◌++◌, length, drop, Some, None, Ok, Err, IsOk, IsTrue, OnOk};
 ghost use Rattle.fit_frame.specs.declared.header.Header.{Header};
 ghost use Rattle.fit_frame.specs.declared.reason.Reason.{Reason};
-ghost use Rattle.fit_frame.specs.Beginning.{IsDataSize, IsFileHeader, IsWholeHeader, BeginsHeader, IsRefused, header_reason};
+ghost use Rattle.fit_frame.specs.Beginning.{IsDataSize, IsFileHeader, IsWholeHeader, BeginsHeader, RefusesByte, header_reason};
 ghost use Rattle.fit_frame.specs.Judgement.{MayFollow, HasItsSize, ReadsAs, ReadsWord};
 
 use crate::spelling::checksum;
@@ -36,7 +36,8 @@ impl Model for HeadReader {
 impl HeadReader {
     /// A reader that has seen no byte.
     pub fn new() -> HeadReader
-        ensures { result ≡ record { bytes = []; refusal = None } }
+        ensures seen { result ≡ record { bytes = []; refusal = None } }
+        ensures begins { BeginsHeader result.bytes × (IsWholeHeader result.bytes → ⊥) }
     {
         HeadReader {
             bytes: ArrayVec::new(),
@@ -46,14 +47,16 @@ impl HeadReader {
 
     /// Takes the next byte. The last byte of a header gives the header and the data size.
     ///
-    /// After a refusal each call answers it again.
+    /// A byte is refused where the bytes before it begin a header of a file, and with it they don't:
+    /// `HeaderSize`, `Protocol`, `NoFit` (no records fill 1 to 5 bytes of data), `Signature` or
+    /// `HeaderSum`. After a refusal each call answers it again and changes nothing.
     pub fn put(&mut self, byte: u8) -> Result<Option<(Header, u32)>, Reason>
         requires { IsWholeHeader self.old.bytes → ⊥ }
         ensures taken { OnOk result (self.new ≡ record { bytes = self.old.bytes ++ byte ∷ []; refusal = None }) }
         ensures some { (h : Header) (n : ℕ) → result ≡ Ok (Some (h, n)) → IsFileHeader h n self.new.bytes }
         ensures none { result ≡ Ok None → BeginsHeader self.new.bytes × (IsWholeHeader self.new.bytes → ⊥) }
         ensures refused { (reason : Reason) → self.old.refusal ≡ None → result ≡ Err reason
-            → (self.new ≡ record { bytes = self.old.bytes; refusal = Some reason }) × IsRefused self.old.bytes byte reason }
+            → (self.new ≡ record { bytes = self.old.bytes; refusal = Some reason }) × RefusesByte self.old.bytes byte reason }
         ensures latched { (reason : Reason) → self.old.refusal ≡ Some reason → (result ≡ Err reason) × (self.new ≡ self.old) }
     {
         if let Some(reason) = self.refusal {
@@ -68,7 +71,7 @@ impl HeadReader {
         if !has_its_size(self.bytes.as_slice()) {
             return Ok(None);
         }
-        Ok(Some(read(self.bytes.as_slice())))
+        Ok(Some(header_of(self.bytes.as_slice())))
     }
 
     /// Whether the bytes put are a whole header.
@@ -82,7 +85,7 @@ impl HeadReader {
     pub fn bytes(&self) -> &[u8]
         ensures { result.now ≡ self.now.bytes }
     {
-        self.bytes.as_slice()
+        &self.bytes
     }
 }
 
@@ -138,7 +141,7 @@ fn has_its_size(bytes: &[u8]) -> bool
 }
 
 /// The header in these bytes, and the data size.
-fn read(bytes: &[u8]) -> (Header, u32)
+fn header_of(bytes: &[u8]) -> (Header, u32)
     requires { (length bytes.now ≡ 12) ⊎ ((14 ≤ length bytes.now) × (length bytes.now ≤ 255)) }
     ensures { ReadsAs result.0 result.1 bytes.now }
 {

@@ -1,4 +1,7 @@
 //! Why a byte is refused, and why a header has no bytes.
+ghost use Rattle.std.specs.Prelude.{◌≡◌};
+ghost use Rattle.fit_frame.specs.ReasonNames.{reason_name};
+
 use thiserror::Error;
 
 /// Why a byte of a file is refused.
@@ -37,6 +40,27 @@ pub enum Reason {
     /// A byte behind the last file that a chain may have.
     #[error("too many files")]
     TooManyFiles,
+}
+
+impl Reason {
+    /// The name of the reason, as it is printed.
+    pub fn name(self) -> &'static str
+        ensures { result.now ≡ reason_name self }
+    {
+        match self {
+            Reason::HeaderSize => "HeaderSize",
+            Reason::Protocol => "Protocol",
+            Reason::NoFit => "NoFit",
+            Reason::Signature => "Signature",
+            Reason::HeaderSum => "HeaderSum",
+            Reason::ReservedBit => "ReservedBit",
+            Reason::UndefinedLocal => "UndefinedLocal",
+            Reason::Overrun => "Overrun",
+            Reason::Architecture => "Architecture",
+            Reason::FileSum => "FileSum",
+            Reason::TooManyFiles => "TooManyFiles",
+        }
+    }
 }
 
 /// Why a header has no bytes before a given number of data bytes.

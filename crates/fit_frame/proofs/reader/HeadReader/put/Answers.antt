@@ -1,6 +1,6 @@
 use Rattle.std.proofs.Common.{◌≡◌, Some, lit<, sym, ap, ◌∙◌, subst}
 use Rattle.fit_frame.specs.declared.reason.Reason.{Reason}
-use Rattle.fit_frame.specs.Beginning.{Seen, IsWholeHeader, IsRefused, header_reason}
+use Rattle.fit_frame.specs.Beginning.{Seen, IsWholeHeader, RefusesByte, header_reason}
 use Rattle.fit_frame.specs.Judgement.{MayFollow, HasItsSize, IsReading, ReadsAs}
 use Rattle.fit_frame.proofs.Whole.{whole}
 use Rattle.fit_frame.proofs.Judged.{has_its_size}
@@ -13,7 +13,7 @@ returns-then-not-may_follow-clause-refused c = rw (← c.self.view_is) (λ reaso
     let bytes = c.self.inside.bytes.items in
     let fails : MayFollow bytes c.args.byte → ⊥ = λ m. cc (c.may_follow.ensures.1 (subst (λ x. MayFollow x c.args.byte) (sym c.as_slice.ensures.value) m)) in (
       ap (λ (r : Reason). record { bytes = bytes; refusal = Some r }) is,
-      subst (IsRefused bytes c.args.byte) (ap header_reason (sym c.len.ensures.value) ∙ sym c.reason_at-reason.ensures ∙ is) (refused bytes c.args.byte c.self.invariant fails),
+      subst (RefusesByte bytes c.args.byte) (ap header_reason (sym c.len.ensures.value) ∙ sym c.reason_at-reason.ensures ∙ is) (refused bytes c.args.byte c.self.invariant fails),
     ))
 
 pub push-requires : goal.push-requires
@@ -44,7 +44,7 @@ returns-clause-some c = λ h n e.
     let reading = invariant_of-self-2 c in
     let bytes = c.push.new.self.items in
     let size : HasItsSize bytes = subst HasItsSize c.as_slice-2.ensures.value (c.has_its_size.ensures.0 c.if-not-has_its_size.false) in
-    let reads : ReadsAs c.read.result.0 c.read.result.1 bytes = subst (ReadsAs c.read.result.0 c.read.result.1) c.as_slice-3.ensures.value c.read.ensures in
-    let is_header : c.read.result.0 ≡ h = cc in
-    let is_size : c.read.result.1 ≡ n = cc in
-    whole h n bytes reading.judged reading.are_bytes size (subst (λ x. ReadsAs h x bytes) is_size (subst (λ x. ReadsAs x c.read.result.1 bytes) is_header reads))
+    let reads : ReadsAs c.header_of.result.0 c.header_of.result.1 bytes = subst (ReadsAs c.header_of.result.0 c.header_of.result.1) c.as_slice-3.ensures.value c.header_of.ensures in
+    let is_header : c.header_of.result.0 ≡ h = cc in
+    let is_size : c.header_of.result.1 ≡ n = cc in
+    whole h n bytes reading.judged reading.are_bytes size (subst (λ x. ReadsAs h x bytes) is_size (subst (λ x. ReadsAs x c.header_of.result.1 bytes) is_header reads))

@@ -1,0 +1,10 @@
+use Rattle.std.proofs.Common.{[], length, sym, ap, subst, arith}
+use Rattle.fit_frame.specs.Beginning.{BeginsHeader, IsWholeHeader}
+use Rattle.fit_frame.proofs.Judged.{has_its_size}
+use Rattle.fit_frame.proofs.Continued.{begins, no_byte}
+use Rattle.fit_frame.proofs.reader.HeadReader.new.Goals as goal
+
+pub returns-clause-begins : goal.returns-clause-begins
+returns-clause-begins c =
+    let fails : IsWholeHeader c.new.result.items → ⊥ = λ w. omega (arith, has_its_size c.new.result.items w, ap length c.new.ensures) in
+    (subst BeginsHeader (sym c.new.ensures) (begins [] no_byte), fails)
