@@ -1,10 +1,10 @@
 -- What a check found, put together from what its parts took.
-use Rattle.std.proofs.Common.{◌≡◌, ℕ, ◌<◌, Bool, List, [], ◌∷◌, ◌++◌, Option, Ok, Err, take, length, get_or, sym, ap, ◌∙◌, subst, arith}
+use Rattle.std.proofs.Common.{◌≡◌, ℕ, ◌<◌, Bool, List, [], ◌∷◌, ◌++◌, Option, Ok, Err, take, length, get_or, sym, ◌∙◌, subst, arith}
 use Rattle.std.specs.Io.KnownBytes.{Consumes}
 use Rattle.std.proofs.lemmas.List.{append-nil, length-append}
 use Rattle.fit_frame.specs.declared.header.Header.{Header}
 use Rattle.fit_frame.specs.declared.reason.Reason.{Reason}
-use Rattle.fit_frame.specs.Beginning.{IsFileHeader, IsWholeHeader, IsRefused}
+use Rattle.fit_frame.specs.Beginning.{IsFileHeader, IsWholeHeader, RefusesByte}
 use Rattle.fit_cmd.specs.declared.check.FrameFault.{FrameFault}
 use Rattle.fit_cmd.specs.declared.check.FrameFault.TheVariants.{Refused, Truncated, Read}
 use Rattle.fit_cmd.specs.Frame.{closing_sum, IsFirstWrong, Finds}
@@ -22,7 +22,7 @@ Finds-stopped had mid has failed p part place (Read at_place) taken at cut (last
     (bad, p ++ part, Consumes-append had mid has p part taken last, omega (arith, is, at, length-append p part), cut-begins (p ++ part) cut)
 
 pub Finds-refused : (had mid has : Option (List ℕ)) (failed : Bool) (p : List ℕ) (b place : ℕ) (reason : Reason)
-    → Consumes had mid p → Consumes mid has (b ∷ []) → place ≡ length p → IsRefused p b reason → (IsWholeHeader p → ⊥) → Finds had has failed (Err (Refused place reason))
+    → Consumes had mid p → Consumes mid has (b ∷ []) → place ≡ length p → RefusesByte p b reason → (IsWholeHeader p → ⊥) → Finds had has failed (Err (Refused place reason))
 Finds-refused had mid has failed p b place reason taken last at refused whole =
     (p, b, Consumes-append had mid has p (b ∷ []) taken last, at, wrong-in_header p b reason refused whole)
 

@@ -1,16 +1,14 @@
 -- Where bytes begin a frame, and that a frame at the front of bytes is the only one.
-use Rattle.std.proofs.Common.{◌≡◌, ◌≢◌, ℕ, zero, suc, ◌+◌, ◌-◌, ◌*◌, ◌/◌, ◌%◌, ◌^◌, ◌<◌, ◌≤◌, ◌⊎◌, inl, inr, List, [], ◌∷◌, ◌++◌, take, drop, replicate, length, get_or, refl, sym, ap, ◌∙◌, subst, lit<, arith, append_assoc}
+use Rattle.std.proofs.Common.{◌≡◌, ◌≢◌, ℕ, zero, suc, ◌-◌, ◌<◌, ◌≤◌, ◌⊎◌, inl, inr, List, [], ◌∷◌, ◌++◌, take, drop, replicate, length, get_or, refl, sym, ap, ◌∙◌, subst, lit<, arith, append_assoc}
 use Rattle.std.proofs.lemmas.Bool.{cases_lt}
-use Rattle.std.proofs.lemmas.List.{append-nil, length-append, length-replicate, length-drop, take-append-drop, nil_from_length}
+use Rattle.std.proofs.lemmas.List.{append-nil, length-append, length-replicate, length-drop, take-append-drop}
 use Rattle.fit_base.specs.Numbers.{IsBytes}
-use Rattle.fit_base.proofs.Bytes.{bytes_below, front_back}
+use Rattle.fit_base.proofs.Bytes.{front_back}
 use Rattle.fit_frame.specs.declared.header.Header.{Header}
-use Rattle.fit_frame.specs.declared.header.HeaderSum.TheVariants.{Absent}
-use Rattle.fit_frame.specs.Header.{header_bytes}
-use Rattle.fit_frame.specs.Beginning.{IsFileHeader, IsWholeHeader, BeginsHeader, IsRefused}
+use Rattle.fit_frame.specs.Beginning.{IsFileHeader, IsWholeHeader, BeginsHeader, RefusesByte}
 use Rattle.fit_frame.specs.declared.reason.Reason.{Reason}
 use Rattle.fit_frame.specs.declared.reason.Reason.TheVariants.{FileSum}
-use Rattle.fit_frame.proofs.OneHeader.{headers_have_one_spelling, length-header_bytes}
+use Rattle.fit_frame.proofs.OneHeader.{headers_have_one_spelling, headers_have_their_size, headers_end_once}
 use Rattle.fit_cmd.specs.Frame.{closing_sum, IsFrame, BeginsFrame, IsInSum, HasReason, IsFirstWrong, HasFrame}
 
 pub IsBytes-append : (a b : List ℕ) → IsBytes a → IsBytes b → IsBytes (a ++ b)
@@ -47,55 +45,15 @@ goes_on (c ∷ a) (d ∷ b) x y l e =
     let r = goes_on a b x y (omega arith) t in
     (r.0, cc (h, r.1), r.2)
 
--- what is behind a list that is as long as the whole is nothing
-nothing-behind : {X : Type 0} → (z m : List X) → z ++ m ≡ [] → z ≡ []
-nothing-behind [] m e = refl
-nothing-behind (x ∷ z) m e = cc
-
-pub header-below : (h : Header) (n : ℕ) (b : List ℕ) → IsFileHeader h n b → length b < 256
-header-below h n b p = omega (arith, ap length p.0.1, length-header_bytes h n p.0.0.form, p.0.0.size_fits)
-
 pub header-length : (h : Header) (n : ℕ) (b : List ℕ) → IsFileHeader h n b → length b ≡ h.size
-header-length h n b p = ap length p.0.1 ∙ length-header_bytes h n p.0.0.form
+header-length h n b p = (headers_have_their_size h n b p.0).0
+
+header-below : (h : Header) (n : ℕ) (b : List ℕ) → IsFileHeader h n b → length b < 256
+header-below h n b p = omega (arith, header-length h n b p, p.0.0.size_fits)
 
 -- what begins a header is shorter than 256 bytes
 pub begins-below : (b : List ℕ) → BeginsHeader b → length b < 256
 begins-below b p = omega (arith, header-below p.whole.header p.whole.data_size (b ++ p.more) p.whole.is, length-append b p.more)
-
--- a header without a sum, before no data
-plain_header : Header
-plain_header = record { size = 12; protocol = 0; profile = 0; sum = Absent; rest = record { items = [] } }
-
-plain_bytes : List ℕ
-plain_bytes = 12 ∷ 0 ∷ 0 ∷ 0 ∷ 0 ∷ 0 ∷ 0 ∷ 0 ∷ 0x2E ∷ 0x46 ∷ 0x49 ∷ 0x54 ∷ []
-
--- no bytes begin a header
-pub nothing-begins : BeginsHeader []
-unfolding plain_header plain_bytes
-nothing-begins = record {
-  more = plain_bytes;
-  are_bytes = bytes_below plain_bytes refl;
-  whole = record {
-    header = plain_header;
-    data_size = 0;
-    is = (
-      (
-        record {
-          form = record { size = (refl, refl); version = omega arith };
-          size_fits = lit< tt;
-          profile_fits = lit< tt;
-          data_fits = lit< tt;
-          sum = λ p. cc p.0;
-        },
-        refl,
-      ),
-      inl refl,
-    );
-  };
-}
-
-pub nothing-not_whole : IsWholeHeader [] → ⊥
-nothing-not_whole p = cc p.is.0.1
 
 -- Bytes that some more make a frame, at least one.
 pub record Cut (bytes : List ℕ) : Type 0 where
@@ -178,15 +136,13 @@ cut-no_frame p c f =
     let one = one-frame f.data_size c.data_size f.frame (p ++ c.more) (f.rest ++ c.more) [] f.is c.whole (sym (append_assoc f.frame f.rest c.more) ∙ same) in
     omega (arith, ap length one.2, length-append f.rest c.more, c.longer)
 
--- a header's bytes are no beginning of another one
+-- bytes that begin a header and begin with one are that header
 header-inside : (k : Header) (n : ℕ) (p c z : List ℕ) → BeginsHeader p → IsFileHeader k n c → p ≡ c ++ z → IsWholeHeader p
 header-inside k n p c z q is e =
-    let same = sym (append_assoc c z q.more) ∙ ap (λ (t : List ℕ). t ++ q.more) (sym e) ∙ sym (append-nil (p ++ q.more)) in
-    let one = headers_have_one_spelling k q.whole.header n q.whole.data_size c (p ++ q.more) (z ++ q.more) [] is.0 q.whole.is.0 same in
-    let none = nothing-behind z q.more one.3 in
+    let none = headers_end_once k n c z is.0 (subst BeginsHeader e q) in
     record { header = k; data_size = n; is = subst (IsFileHeader k n) (sym (e ∙ ap (λ (t : List ℕ). c ++ t) none ∙ append-nil c)) is }
 
-pub wrong-in_header : (p : List ℕ) (b : ℕ) (reason : Reason) → IsRefused p b reason → (IsWholeHeader p → ⊥) → IsFirstWrong p b reason
+pub wrong-in_header : (p : List ℕ) (b : ℕ) (reason : Reason) → RefusesByte p b reason → (IsWholeHeader p → ⊥) → IsFirstWrong p b reason
 wrong-in_header p b reason q whole = record {
   begins = cut-begins p (cut-in_header p q.begins);
   ends = λ f. go f (cases_lt (length p) (length f.whole.head));

@@ -2,6 +2,7 @@ mod Consumed
 mod Found
 mod Frames
 mod LineFacts
-mod Written
+mod Names
 mod Said
 mod Unique
+mod Written

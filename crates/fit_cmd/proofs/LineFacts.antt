@@ -1,12 +1,12 @@
 -- What clap makes of a line with a command and at most one FILE.
-use Rattle.std.proofs.Common.{◌∙◌, ap, ◌⊎◌, inl, inr, ◌≡◌, ◌≢◌, ◌∷◌, ◌==◌, [], ℕ, List, Option, Some, None, true, false, refl, codes}
+use Rattle.std.proofs.Common.{◌∙◌, ap, inl, inr, ◌≡◌, ◌∷◌, ◌==◌, [], ℕ, List, Option, Some, None, true, false, refl, codes}
 use Rattle.std.proofs.lemmas.Bool.{ne_eqb}
 use Rattle.clap.specs.Words.{App, Text, takes, matches_of, first_of, first_value, found_of, is_simple, app_of, HasMatchesOf}
 use Rattle.clap.specs.declared.builder.command.Command.{Command as ClapCommand}
 use Rattle.clap.specs.declared.parser.matches.ArgMatches.{ArgMatches}
 use Rattle.clap.proofs.WalkLemmas.{first_value-rows}
 use Rattle.clap.proofs.OnLiterals.{clap_on_literals}
-use Rattle.fit_cmd.specs.CommandLine.{command_word, fit_app, IsFile, IsPlainLine, Names}
+use Rattle.fit_cmd.specs.CommandLine.{command_word, fit_app, IsPlainLine, Names}
 use Rattle.fit_cmd.specs.declared.command_line.Command.{Command}
 use Rattle.fit_cmd.specs.declared.command_line.Command.TheVariants.{Check}
 

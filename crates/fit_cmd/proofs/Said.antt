@@ -1,5 +1,5 @@
 -- What the program says of a finding.
-use Rattle.std.proofs.Common.{◌≡◌, ℕ, ◌<◌, Bool, true, false, List, [], ◌++◌, Option, Some, None, Ok, Err, Result, take, length, refl, inl, inr, sym, ap, ◌∙◌, OnOk, OnErr, IfErr}
+use Rattle.std.proofs.Common.{◌≡◌, ℕ, ◌<◌, Bool, true, List, Option, Some, None, Ok, Err, Result, take, length, refl, inl, inr, OnOk, OnErr, IfErr}
 use Rattle.std.specs.Io.KnownBytes.{Appends, Keeps}
 use Rattle.fit_cmd.specs.Run.{Puts}
 

@@ -1,5 +1,5 @@
 -- A frame at the front of an input is found, and nothing else is.
-use Rattle.std.proofs.Common.{◌≡◌, ℕ, ◌+◌, ◌<◌, ◌≤◌, ◌⊎◌, inl, inr, Bool, true, false, List, [], ◌∷◌, ◌++◌, Option, Some, None, Ok, Err, Result, length, refl, sym, ap, ◌∙◌, subst, append_assoc, arith}
+use Rattle.std.proofs.Common.{◌≡◌, ℕ, ◌<◌, ◌≤◌, ◌⊎◌, inl, inr, Bool, false, List, [], ◌∷◌, ◌++◌, Option, Some, None, Ok, Err, Result, length, sym, ap, ◌∙◌, subst, append_assoc, arith}
 use Rattle.std.proofs.lemmas.Bool.{cases_lt}
 use Rattle.std.proofs.lemmas.List.{append-nil, length-append}
 use Rattle.std.specs.Io.KnownBytes.{Appends}
@@ -8,7 +8,7 @@ use Rattle.fit_base.proofs.Bytes.{front_back}
 use Rattle.fit_frame.specs.declared.reason.Reason.{Reason}
 use Rattle.fit_cmd.specs.declared.check.FrameFault.{FrameFault}
 use Rattle.fit_cmd.specs.declared.check.FrameFault.TheVariants.{Refused, Truncated, Read}
-use Rattle.fit_cmd.specs.Frame.{IsFrame, BeginsFrame, HasReason, IsFirstWrong, HasFrame, Finds}
+use Rattle.fit_cmd.specs.Frame.{IsFrame, BeginsFrame, HasReason, IsFirstWrong, Finds}
 use Rattle.fit_cmd.specs.Laws.{FindingsAreOne, FramesAreApart}
 use Rattle.fit_cmd.specs.Lines.{good_lines}
 use Rattle.fit_cmd.specs.Run.{Output, Reports, Says, Checks}

@@ -1,6 +1,6 @@
 -- The command line of `fit`, as clap reads it.
-use Rattle.std.specs.Prelude.{◌≡◌, ◌≢◌, ◌⊎◌, ◌∷◌, ◌==◌, ◌++◌, [], ℕ, Bool, true, false, List, Option, Some, None, codes}
-use Rattle.clap.specs.Words.{App, Rule, Text, new_app, new_rule, with_rule, takes, matches_of, first_of}
+use Rattle.std.specs.Prelude.{◌≡◌, ◌≢◌, ◌⊎◌, ◌∷◌, [], true, List, Option, Some, codes}
+use Rattle.clap.specs.Words.{App, Rule, Text, new_app, new_rule, with_rule, matches_of, first_of}
 use Rattle.fit_cmd.specs.declared.command_line.Command.{Command}
 use Rattle.fit_cmd.specs.declared.command_line.Command.TheVariants.{Check}
 

@@ -1,5 +1,5 @@
 -- Frames: a file header, as many bytes of data as it states, and the closing sum (sections "File Header" and "CRC").
-use Rattle.std.specs.Prelude.{◌≡◌, ℕ, ◌<◌, ◌⊎◌, Bool, true, List, [], ◌∷◌, ◌++◌, Option, Some, Result, Ok, Err, length, take}
+use Rattle.std.specs.Prelude.{◌≡◌, ℕ, ◌<◌, ◌⊎◌, Bool, true, List, [], ◌∷◌, ◌++◌, Option, Result, Ok, Err, length, take}
 use Rattle.std.specs.Io.KnownBytes.{Consumes, IsAtEnd}
 use Rattle.fit_base.specs.Numbers.{IsBytes, little_bytes}
 use Rattle.fit_sum.specs.Checksum.{checksum}

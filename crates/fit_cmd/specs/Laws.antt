@@ -1,5 +1,5 @@
 -- Laws of frames.
-use Rattle.std.specs.Prelude.{◌≡◌, ℕ, Bool, false, List, ◌++◌, Option, Some, Result}
+use Rattle.std.specs.Prelude.{◌≡◌, ℕ, false, List, ◌++◌, Option, Some, Result}
 use Rattle.fit_base.specs.Numbers.{IsBytes}
 use Rattle.fit_cmd.specs.declared.check.FrameFault.{FrameFault}
 use Rattle.fit_cmd.specs.Frame.{IsFrame, Finds}

@@ -1,20 +1,7 @@
 -- The lines that the program writes.
-use Rattle.std.specs.Prelude.{ℕ, List, [], ◌++◌, Result, Ok, Err, codes, decimal}
+use Rattle.std.specs.Prelude.{ℕ, List, ◌++◌, codes, decimal}
 use Rattle.fit_frame.specs.declared.reason.Reason.{Reason}
-use Rattle.fit_frame.specs.declared.reason.Reason.TheVariants.{HeaderSize, Protocol, NoFit, Signature, HeaderSum, ReservedBit, UndefinedLocal, Overrun, Architecture, FileSum, TooManyFiles}
-
-abbrev pub reason_name : Reason → List ℕ
-reason_name HeaderSize = codes "HeaderSize"
-reason_name Protocol = codes "Protocol"
-reason_name NoFit = codes "NoFit"
-reason_name Signature = codes "Signature"
-reason_name HeaderSum = codes "HeaderSum"
-reason_name ReservedBit = codes "ReservedBit"
-reason_name UndefinedLocal = codes "UndefinedLocal"
-reason_name Overrun = codes "Overrun"
-reason_name Architecture = codes "Architecture"
-reason_name FileSum = codes "FileSum"
-reason_name TooManyFiles = codes "TooManyFiles"
+use Rattle.fit_frame.specs.ReasonNames.{reason_name}
 
 -- a file of n bytes of data is good
 abbrev pub good_lines : ℕ → List ℕ

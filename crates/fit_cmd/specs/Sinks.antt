@@ -1,6 +1,5 @@
 -- What clauses see of a sink.
-use Rattle.std.specs.Prelude.{◌≡◌, ℕ, ◌<◌, ◌⊎◌, Bool, true, List, Option, length, take}
-use Rattle.std.specs.Io.KnownBytes.{Appends}
+use Rattle.std.specs.Prelude.{ℕ, Bool, List, Option}
 
 -- of a sink over a writer: the bytes that it holds, where the writer tells them, and whether a call failed
 pub record Written : Type 0 where

@@ -1,5 +1,5 @@
 -- What the parts of the check of a frame do. No public contract names these definitions.
-use Rattle.std.specs.Prelude.{◌≡◌, ◌≢◌, ℕ, ◌+◌, ◌<◌, Bool, true, List, [], ◌∷◌, ◌++◌, Option, Result, Ok, Err, length}
+use Rattle.std.specs.Prelude.{◌≡◌, ◌≢◌, ℕ, ◌+◌, Bool, true, List, [], ◌∷◌, Option, Result, Ok, Err, length}
 use Rattle.std.specs.Io.KnownBytes.{Consumes, IsAtEnd}
 use Rattle.fit_frame.specs.declared.reason.Reason.TheVariants.{FileSum}
 use Rattle.fit_cmd.specs.declared.check.FrameFault.{FrameFault}

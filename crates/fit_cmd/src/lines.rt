@@ -1,6 +1,6 @@
 //! The lines that the program writes.
 ghost use Rattle.std.specs.Prelude.{◌≡◌, ◌++◌, ◌+◌, ◌≤◌, codes, decimal, length};
-ghost use Rattle.fit_cmd.specs.Lines.{good_lines, read_fault_line, reason_name, refused_line, truncated_line};
+ghost use Rattle.fit_cmd.specs.Lines.{good_lines, read_fault_line, refused_line, truncated_line};
 
 use arrayvec::ArrayString;
 use fit_frame::Reason;
@@ -25,26 +25,6 @@ fn numbered(front: &str, number: u64, back: &str) -> Lines
     lines
 }
 
-/// The name of a reason, as the program writes it.
-fn reason_name(reason: Reason) -> &'static str
-    ensures name { result.now ≡ reason_name reason }
-    ensures short { length result.now ≤ 14 }
-{
-    match reason {
-        Reason::HeaderSize => "HeaderSize",
-        Reason::Protocol => "Protocol",
-        Reason::NoFit => "NoFit",
-        Reason::Signature => "Signature",
-        Reason::HeaderSum => "HeaderSum",
-        Reason::ReservedBit => "ReservedBit",
-        Reason::UndefinedLocal => "UndefinedLocal",
-        Reason::Overrun => "Overrun",
-        Reason::Architecture => "Architecture",
-        Reason::FileSum => "FileSum",
-        Reason::TooManyFiles => "TooManyFiles",
-    }
-}
-
 /// The first file of an input is good, and has so many bytes of data.
 pub fn good(data_size: u32) -> Lines
     ensures { result.bytes ≡ good_lines data_size }
@@ -57,7 +37,7 @@ pub fn refused(place: u64, reason: Reason) -> Lines
     ensures { result.bytes ≡ refused_line place reason }
 {
     let mut lines = numbered("refused at byte ", place, ": ");
-    lines.push_str(reason_name(reason));
+    lines.push_str(reason.name());
     lines.push_str("\n");
     lines
 }

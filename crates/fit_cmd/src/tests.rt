@@ -279,7 +279,8 @@ fn readers_and_writers(rt: HostRuntime) -> Result<(), Fail> {
     );
     assert_eq!(rt; status, 0);
 
-    let mut source = ReadSource::new(BrokenReader(&bytes.as_slice()[..5000]));
+    let front = bytes.as_slice().get(..5000).ok_or("too short")?;
+    let mut source = ReadSource::new(BrokenReader(front));
     let mut room = [0u8; 8];
     let mut output = WriteSink::new(room.as_mut_slice());
     let status = run(Command::Check, &mut source, &mut output, &mut faults);

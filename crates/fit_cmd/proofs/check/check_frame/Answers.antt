@@ -1,10 +1,9 @@
-use Rattle.std.proofs.Common.{◌≡◌, ℕ, ◌+◌, ◌/◌, ◌%◌, ◌<◌, ◌≤◌, List, [], ◌∷◌, ◌++◌, take, length, refl, sym, ap, ◌∙◌, subst, lit<, arith}
+use Rattle.std.proofs.Common.{◌≡◌, ◌+◌, ◌/◌, ◌%◌, [], ◌∷◌, ◌++◌, length, sym, ap, ◌∙◌, subst, lit<, arith}
 use Rattle.std.proofs.lemmas.List.{append-nil, length-append}
 use Rattle.std.proofs.lemmas.Result.{err_from_is_err_and}
 use Rattle.std.specs.Io.KnownBytes.{Consumes}
 use Rattle.fit_sum.specs.Checksum.{checksum}
 use Rattle.fit_sum.proofs.Bound.{checksum-below}
-use Rattle.fit_cmd.specs.Frame.{closing_sum}
 use Rattle.fit_cmd.proofs.Consumed.{Consumes-append}
 use Rattle.fit_cmd.proofs.Frames.{header-length, cut-in_data}
 use Rattle.fit_cmd.proofs.Found.{Finds-stopped, Finds-sum_fault, Finds-frame}

@@ -1,21 +1,21 @@
-use Rattle.std.proofs.Common.{rules, ◌≡◌, ℕ, List, [], ◌∷◌, ◌++◌, length, refl, sym, ap, ◌∙◌, subst, arith, Option, Some, None}
+use Rattle.std.proofs.Common.{[], ◌∷◌, ◌++◌, length, sym, ap, ◌∙◌, subst, arith}
 use Rattle.std.proofs.lemmas.List.{append-nil, length-append}
 use Rattle.std.proofs.lemmas.Result.{err_from_is_err_and}
 use Rattle.std.specs.Io.KnownBytes.{Consumes}
-use Rattle.fit_frame.specs.Beginning.{BeginsHeader, IsFileHeader, IsWholeHeader}
+use Rattle.fit_frame.specs.Beginning.{IsFileHeader}
 use Rattle.fit_cmd.proofs.Consumed.{Consumes-nothing, Consumes-append}
-use Rattle.fit_cmd.proofs.Frames.{Cut, begins-below, cut-in_header, nothing-begins, nothing-not_whole}
+use Rattle.fit_cmd.proofs.Frames.{Cut, begins-below, cut-in_header}
 use Rattle.fit_cmd.proofs.Found.{Finds-stopped, Finds-refused}
 use Rattle.fit_cmd.proofs.check.take_header.Goals as goal
 
 pub header-init : goal.header-init
-header-init g c = let e = sym (ap (λ s. s.bytes) c.new-reader.ensures) in record {
+header-init g c = let e = sym (ap (λ s. s.bytes) c.new-reader.ensures.seen) in record {
   place = ap length e;
   added = c.requires ∙ e;
-  fresh = ap (λ s. s.refusal) c.new-reader.ensures;
+  fresh = ap (λ s. s.refusal) c.new-reader.ensures.seen;
   taken = subst (Consumes (g.S.Source.remaining c.args.source.now) (g.S.Source.remaining c.args.source.now)) e (Consumes-nothing (g.S.Source.remaining c.args.source.now));
-  begins = subst BeginsHeader e nothing-begins;
-  not_whole = subst (λ b. IsWholeHeader b → ⊥) e nothing-not_whole;
+  begins = c.new-reader.ensures.begins.0;
+  not_whole = c.new-reader.ensures.begins.1;
 }
 
 pub returns-in_err-byte-clause-fault : goal.returns-in_err-byte-clause-fault

@@ -1,4 +1,4 @@
-use Rattle.std.proofs.Common.{◌≡◌, ℕ, ◌-◌, List, length, None}
+use Rattle.std.proofs.Common.{◌≡◌, ◌-◌, length, None}
 use Rattle.std.specs.Io.KnownBytes.{Consumes}
 use Rattle.fit_frame.specs.Beginning.{BeginsHeader, IsWholeHeader}
 use Rattle.fit_cmd.proofs.check.take_header.Given as goal

@@ -1,4 +1,4 @@
-use Rattle.std.proofs.Common.{rules, ◌≡◌, ◌∙◌, sym, ap, refl, map, option_map, Some, None, codes, List, ℕ, string_bytes}
+use Rattle.std.proofs.Common.{◌∙◌, sym, ap, map, option_map, Some, codes, List, ℕ, string_bytes}
 use Rattle.clap.specs.Words.{App, takes}
 use Rattle.fit_cmd.proofs.LineFacts.{plain-takes, plain-command, first-is}
 use Rattle.fit_cmd.proofs.command_line.parse_line.Goals as goal

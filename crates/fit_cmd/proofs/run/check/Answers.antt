@@ -1,4 +1,4 @@
-use Rattle.std.proofs.Common.{Ok, Err, refl}
+use Rattle.std.proofs.Common.{Err, refl}
 use Rattle.fit_cmd.specs.declared.check.FrameFault.TheVariants.{Refused, Truncated, Read}
 use Rattle.fit_cmd.proofs.Said.{Keeps-same}
 use Rattle.fit_cmd.proofs.run.check.Goals as goal
