@@ -41,12 +41,13 @@ fn main(rt: HostRuntime) -> ExitCode {
 
 /// The words of the command line, the first of which is the program's name.
 fn words(rt: &HostRuntime) -> Result<Vec<String>, ErrorKind> {
-    match std::env::args(rt) {
-        Ok(words) => words
-            .collect(rt.alloc())
-            .map_err(|_| ErrorKind::OutOfMemory),
-        Err(error) => Err(error.kind()),
+    let mut words = Vec::new(rt.alloc());
+    for word in std::env::args(rt).map_err(|error| error.kind())? {
+        if words.push(word).is_err() {
+            return Err(ErrorKind::OutOfMemory);
+        }
     }
+    Ok(words)
 }
 
 /// Does what the words ask for, and answers the exit status.
