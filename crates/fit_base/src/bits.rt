@@ -1,0 +1,158 @@
+//! The numbers of a field, of which a lone one takes no memory.
+ghost use Rattle.std.specs.Prelude.{◌≡◌, ◌≤◌, [], ◌∷◌, ◌++◌, ◌==◌, OnOk, OnErr, IfOk, IsOk, length};
+
+use std::alloc::{AllocError, Allocator, Global};
+use std::fmt::{self, Debug, Formatter, Write};
+use std::marker::Model;
+use std::slice;
+
+/// Where the numbers are kept.
+#[derive(Drop)]
+enum Held<A: Allocator> {
+    None(A),
+    One(u64, A),
+    Many(Vec<u64, A>),
+}
+
+/// A list of numbers. Most fields have one, and it takes no memory.
+#[derive(Drop)]
+pub struct Bits<A: Allocator = Global> {
+    held: Held<A>,
+}
+
+impl<A: Allocator> Model for Bits<A> {
+    ghost use Rattle.std.specs.Prelude.{List, ℕ};
+    ghost use Rattle.fit_base.specs.Held.{numbers};
+
+    ghost Value = { List ℕ };
+
+    ghost view = { λ b. numbers b.held };
+}
+
+impl<A: Allocator> PartialEq for Bits<A> {
+    ghost use Rattle.std.specs.Prelude.{nat_eq};
+    ghost use Rattle.std.specs.Cmp.Lexicographic.{pointwise, nat_list_eq_equiv};
+    ghost use Rattle.std.specs.Cmp.{partial_equiv_from_equiv};
+
+    ghost eq = { λ x y. pointwise nat_eq x y };
+
+    ghost laws = { partial_equiv_from_equiv nat_list_eq_equiv };
+
+    fn eq(&self, other: &Self) -> bool {
+        self.as_slice() == other.as_slice()
+    }
+}
+
+impl<A: Allocator> Debug for Bits<A> {
+    fn fmt<W: Write>(&self, f: &mut Formatter<W>) -> fmt::Result {
+        Debug::fmt(&self.as_slice(), f)
+    }
+}
+
+impl<A: Allocator> Bits<A> {
+    /// No numbers.
+    pub fn new(alloc: A) -> Self
+        ensures { result ≡ [] }
+    {
+        Bits {
+            held: Held::None(alloc),
+        }
+    }
+
+    /// The numbers of a vector, which keeps its memory.
+    pub fn from_vec(numbers: Vec<u64, A>) -> Self
+        ensures { result ≡ numbers.items }
+    {
+        Bits {
+            held: Held::Many(numbers),
+        }
+    }
+
+    /// No numbers, and memory for this many. For one none is taken.
+    pub fn with_capacity(alloc: A, capacity: usize) -> Result<Self, AllocError>
+        ensures none { IfOk result (λ bits. bits ≡ []) }
+        ensures one { capacity ≤ 1 → IsOk result }
+    {
+        if capacity <= 1 {
+            return Ok(Bits::new(alloc));
+        }
+        Ok(Bits::from_vec(Vec::with_capacity(alloc, capacity)?))
+    }
+
+    /// The numbers.
+    pub fn as_slice(&self) -> &[u64]
+        ensures { result.now ≡ self.now }
+    {
+        match &self.held {
+            Held::None(_) => &[],
+            Held::One(number, _) => slice::from_ref(number),
+            Held::Many(numbers) => numbers.as_slice(),
+        }
+    }
+
+    /// How many numbers there are.
+    pub fn len(&self) -> usize
+        ensures { result ≡ length self.now }
+    {
+        self.as_slice().len()
+    }
+
+    /// Whether there are none.
+    pub fn is_empty(&self) -> bool
+        ensures { result ≡ (length self.now == 0) }
+    {
+        self.as_slice().is_empty()
+    }
+}
+
+impl<A: Allocator + Copy> Bits<A> {
+    /// Puts a number at the end. The first takes no memory.
+    pub fn push(&mut self, number: u64) -> Result<(), AllocError>
+        ensures ok { OnOk result (self.new ≡ self.old ++ number ∷ []) }
+        ensures err { OnErr result (self.new ≡ self.old) }
+        ensures first { self.old ≡ [] → IsOk result }
+    {
+        match &mut self.held {
+            Held::None(alloc) => {
+                let alloc = *alloc;
+                self.held = Held::One(number, alloc);
+                Ok(())
+            }
+            Held::One(first, alloc) => {
+                let numbers = pair(*alloc, *first, number)?;
+                self.held = Held::Many(numbers);
+                Ok(())
+            }
+            Held::Many(numbers) => {
+                if numbers.is_empty() && numbers.capacity() == 0 {
+                    let alloc = *numbers.allocator();
+                    self.held = Held::One(number, alloc);
+                    return Ok(());
+                }
+                numbers.push(number)?;
+                Ok(())
+            }
+        }
+    }
+
+    /// The vector of the numbers. Memory is taken for a lone one alone.
+    pub fn into_vec(self) -> Result<Vec<u64, A>, AllocError>
+        ensures { IfOk result (λ numbers. numbers.items ≡ self) }
+    {
+        match self.held {
+            Held::None(alloc) => Ok(Vec::new(alloc)),
+            Held::One(number, alloc) => Vec::from_slice(alloc, slice::from_ref(&number)),
+            Held::Many(numbers) => Ok(numbers),
+        }
+    }
+}
+
+/// A vector of two numbers.
+fn pair<A: Allocator>(alloc: A, first: u64, second: u64) -> Result<Vec<u64, A>, AllocError>
+    ensures { IfOk result (λ numbers. numbers.items ≡ first ∷ second ∷ []) }
+{
+    let mut numbers = Vec::new(alloc);
+    numbers.push(first)?;
+    numbers.push(second)?;
+    Ok(numbers)
+}

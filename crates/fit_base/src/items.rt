@@ -1,0 +1,50 @@
+//! The items of a field, and whether they are of the shape that its definition gives.
+ghost use Rattle.std.specs.Prelude.{◌≡◌, ◌⊎◌, ◌^◌, ◌↔◌, ◌+◌, ◌≤◌, IsTrue, All};
+ghost use Rattle.fit_base.specs.Fields.{HasShape};
+
+use crate::{Bits, Code, width_of};
+use std::alloc::{Allocator, Global};
+
+/// The numbers of one field, each of `width` bytes.
+#[derive(Drop)]
+#[derive_where(Debug, PartialEq)]
+pub struct Items<A: Allocator = Global> {
+    /// How many bytes each item has: 1, 2, 4 or 8.
+    pub width: u8,
+    /// The items, each below `256 ^ width`.
+    pub bits: Bits<A>,
+}
+
+/// Whether the items are as many, as wide and as large as a field of this code and size has.
+pub fn has_shape<A: Allocator>(code: Code, size: u8, items: &Items<A>) -> bool
+    ensures { IsTrue result ↔ HasShape code.0 size items.now }
+{
+    let width = width_of(code, size);
+    if items.width != width {
+        return false;
+    }
+    if items.bits.len() != (size / width) as usize {
+        return false;
+    }
+    all_at_most(greatest(width), items.bits.as_slice())
+}
+
+/// Whether all numbers are at most this one.
+fn all_at_most(most: u64, bits: &[u64]) -> bool
+    ensures { IsTrue result ↔ All (λ n. n ≤ most) bits.now }
+{
+    bits.iter().all(|n| *n <= most)
+}
+
+/// The greatest number of this many bytes.
+fn greatest(width: u8) -> u64
+    requires { (width ≡ 1) ⊎ (width ≡ 2) ⊎ (width ≡ 4) ⊎ (width ≡ 8) }
+    ensures { result + 1 ≡ 256 ^ width }
+{
+    match width {
+        1 => 0xFF,
+        2 => 0xFFFF,
+        4 => 0xFFFF_FFFF,
+        _ => u64::MAX,
+    }
+}

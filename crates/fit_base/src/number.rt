@@ -1,0 +1,53 @@
+//! Numbers as bytes, and signed numbers.
+ghost use Rattle.std.specs.Prelude.{◌≡◌, ◌⊎◌, ◌<◌, ◌^◌, length};
+ghost use Rattle.fit_base.specs.Numbers.{number, number_bytes, twos_complement};
+
+use byteorder::{BigEndian, ByteOrder, LittleEndian};
+
+/// The byte order of a message, which its definition message calls the architecture.
+#[derive(Clone, Copy, Debug, PartialEq, Eq)]
+pub enum Order {
+    /// The lowest byte comes first.
+    Little,
+    /// The highest byte comes first.
+    Big,
+}
+
+/// The number that `width` bytes spell.
+pub fn bits_at(order: Order, width: u8, bytes: &[u8]) -> u64
+    requires width { (width ≡ 1) ⊎ (width ≡ 2) ⊎ (width ≡ 4) ⊎ (width ≡ 8) }
+    requires length { length bytes.now ≡ width }
+    ensures { result ≡ number order bytes.now }
+{
+    match order {
+        Order::Little => LittleEndian::read_uint(bytes, width as usize),
+        Order::Big => BigEndian::read_uint(bytes, width as usize),
+    }
+}
+
+/// Writes a number as `width` bytes.
+pub fn put_bits(order: Order, width: u8, bits: u64, bytes: &mut [u8])
+    requires width { (width ≡ 1) ⊎ (width ≡ 2) ⊎ (width ≡ 4) ⊎ (width ≡ 8) }
+    requires length { length bytes.old ≡ width }
+    requires bits { bits < 256 ^ width }
+    ensures { bytes.new ≡ number_bytes order width bits }
+{
+    match order {
+        Order::Little => LittleEndian::write_uint(bytes, bits, width as usize),
+        Order::Big => BigEndian::write_uint(bytes, bits, width as usize),
+    }
+}
+
+/// The signed number that the lowest `width` bytes of `bits` are in two's complement.
+pub fn signed(width: u8, bits: u64) -> i64
+    requires width { (width ≡ 1) ⊎ (width ≡ 2) ⊎ (width ≡ 4) ⊎ (width ≡ 8) }
+    requires bits { bits < 256 ^ width }
+    ensures { result ≡ twos_complement width bits }
+{
+    match width {
+        1 => i64::from((bits as u8).cast_signed()),
+        2 => i64::from((bits as u16).cast_signed()),
+        4 => i64::from((bits as u32).cast_signed()),
+        _ => bits.cast_signed(),
+    }
+}

@@ -1,0 +1,4 @@
+pub mod OneHeader
+mod Whole
+mod Judged
+mod Continued

@@ -1,0 +1,12 @@
+use Rattle.std.proofs.Common.{◌≡◌, true, refl, ap, ◌∙◌}
+use Rattle.fit_sum.specs.Checksum.{checksum}
+use Rattle.fit_frame.specs.Header.{FormFits, ZeroIsSum}
+use Rattle.fit_frame.proofs.spelling.head_bytes.Goals as goal
+
+pub returns-clause-ok : goal.returns-clause-ok
+returns-clause-ok c =
+    let form : FormFits c.args.header.now = c.has_form.ensures.0 c.if-not-has_form.false in
+    let sum : ZeroIsSum c.args.header.now c.args.data_len → ⊥ = λ z.
+    let zero : c.is_zero.result ≡ true = c.is_zero.ensures.1 (z.0, c.checksum-sum.ensures ∙ ap checksum c.fixed_part-fixed.ensures.bytes ∙ z.1) in
+    cc (zero, c.if-is_zero.false) in
+    (λ _. record { form = form; size_fits = c.fixed_part-fixed.ensures.in_range.0; profile_fits = c.fixed_part-fixed.ensures.in_range.1; data_fits = c.ranges.data_len.fits; sum = sum }, λ _. refl)

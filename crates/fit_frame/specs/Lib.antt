@@ -1,0 +1,3 @@
+pub mod Header
+pub mod Beginning
+pub mod Judgement

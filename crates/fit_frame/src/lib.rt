@@ -1,0 +1,13 @@
+//! The file header of the FIT protocol, and why bytes of a FIT file are refused.
+#![tactic(auto)]
+
+mod header;
+pub mod laws;
+mod reader;
+mod reason;
+mod spelling;
+
+pub use header::{Header, HeaderSum};
+pub use reader::HeadReader;
+pub use reason::{HeadFault, Reason};
+pub use spelling::head_bytes;

@@ -1,0 +1,10 @@
+pub mod Rows
+pub mod OneRecord
+pub mod OneFile
+pub mod ChainOfOne
+pub mod Lengths
+pub mod WrongPlace
+pub mod FaultFacts
+pub mod LengthFacts
+pub mod KeptFacts
+pub mod Firsts

@@ -1,0 +1,9 @@
+use Rattle.std.proofs.Common.{ap, subst}
+use Rattle.std.specs.Prelude.{IfSome}
+use Rattle.fit_record.specs.Environment.{defined_at}
+use Rattle.fit_record.specs.Kept.{IsSound}
+use Rattle.fit_record.proofs.KeptFacts.{sound_of}
+use Rattle.fit_record.proofs.environment.Env.defined.Goals as goal
+
+pub returns-clause-sound : goal.returns-clause-sound
+returns-clause-sound g c = subst (λ o. IfSome o IsSound) (ap (λ e. defined_at e c.args.local) c.self.view_is) (sound_of _ _ (c.self.invariant c.args.local))

@@ -1,0 +1,10 @@
+use Rattle.std.proofs.Common.{◌∙◌, ne_eqb}
+use Rattle.std.proofs.lemmas.Option.{slice_get-get_or}
+use Rattle.fit_record.proofs.Firsts.{after_other}
+use Rattle.fit_record.proofs.learn.first_items.Goals as goal
+
+pub loop-place-preserved : goal.loop-place-preserved
+loop-place-preserved g c =
+    c.loop-place.invariant
+    ∙ after_other c.loop-place.place c.args.fields.now c.args.items.now c.args.number _
+        (slice_get-get_or c.args.fields.now c.loop-place.place (record { number = 0; size = 0; code = 0 }) c.loop-place-test.true) (ne_eqb _ _ c.if-f-number.false)

@@ -1,0 +1,128 @@
+//! Definition messages (FIT protocol, "Definition Message").
+ghost use Rattle.std.specs.Prelude.{◌≡◌, ◌<◌, ◌≤◌, IfOk, length, sum_by};
+ghost use Rattle.fit_record.specs.Kept.{body_length};
+ghost use Rattle.fit_record.specs.Records.{DefinitionFits};
+
+use fit_base::{Entries, Order};
+use std::alloc::{AllocError, Allocator, Global};
+
+/// A field of a definition message: its number in the profile, its size in bytes, and its base type
+/// code.
+#[derive(Clone, Copy, Debug, PartialEq, Eq)]
+pub struct FieldDef {
+    pub number: u8,
+    pub size: u8,
+    pub code: u8,
+}
+
+/// A developer field of a definition message: its number, its size in bytes, and its developer data
+/// index.
+#[derive(Clone, Copy, Debug, PartialEq, Eq)]
+pub struct DevDef {
+    pub number: u8,
+    pub size: u8,
+    pub index: u8,
+}
+
+/// A definition message: what data messages of a local message type look like.
+#[derive(Drop)]
+#[derive_where(Debug, PartialEq)]
+pub struct MessageDef<A: Allocator = Global> {
+    /// The local message type, below 16.
+    pub local: u8,
+    /// The reserved byte. It may be any, and is kept.
+    pub reserved: u8,
+    /// The architecture: the byte order of the global message number and of all items.
+    pub order: Order,
+    /// The global message number.
+    pub global: u16,
+    /// The fields, at most 255.
+    pub fields: Entries<FieldDef, A>,
+    /// The developer fields, at most 255. `None` where the record header says that there are none
+    /// ("Developer Fields").
+    pub dev: Option<Entries<DevDef, A>>,
+}
+
+/// The same definition, in memory of its own.
+pub(crate) fn definition_copy<A: Allocator + Copy>(
+    alloc: A,
+    d: &MessageDef<A>,
+) -> Result<MessageDef<A>, AllocError>
+    ensures { IfOk result (λ copy. copy ≡ d.now) }
+{
+    let fields = copy_of(alloc, &d.fields)?;
+    let dev = dev_copy(alloc, &d.dev)?;
+    Ok(MessageDef {
+        local: d.local,
+        reserved: d.reserved,
+        order: d.order,
+        global: d.global,
+        fields,
+        dev,
+    })
+}
+
+/// The same elements, in memory of their own.
+fn copy_of<T: Copy, A: Allocator>(
+    alloc: A,
+    entries: &Entries<T, A>,
+) -> Result<Entries<T, A>, AllocError>
+    ensures { IfOk result (λ copy. copy ≡ entries.now) }
+{
+    Ok(Entries::from_vec(Vec::from_slice(alloc, entries.as_slice())?))
+}
+
+/// The same developer fields, in memory of their own.
+fn dev_copy<A: Allocator>(
+    alloc: A,
+    dev: &Option<Entries<DevDef, A>>,
+) -> Result<Option<Entries<DevDef, A>>, AllocError>
+    ensures { IfOk result (λ copy. copy ≡ dev.now) }
+{
+    match dev {
+        None => Ok(None),
+        Some(fields) => {
+            let fields = copy_of(alloc, fields)?;
+            Ok(Some(fields))
+        }
+    }
+}
+
+/// How many bytes follow the record header of a data message.
+pub(crate) fn body_length<A: Allocator>(d: &MessageDef<A>) -> u32
+    requires { DefinitionFits d.now }
+    ensures length { result ≡ body_length d.now }
+    ensures small { result ≤ 130050 }
+{
+    let fields = sizes_of_fields(d.fields.as_slice());
+    match &d.dev {
+        None => fields,
+        Some(dev) => fields + sizes_of_dev_fields(dev.as_slice()),
+    }
+}
+
+/// The sum of the sizes of fields.
+fn sizes_of_fields(fields: &[FieldDef]) -> u32
+    requires { length fields.now < 256 }
+    ensures sum { result ≡ sum_by (λ f. f.size) fields.now }
+    ensures small { result ≤ 65025 }
+{
+    let mut sum = 0;
+    for f in fields {
+        sum += f.size as u32;
+    }
+    sum
+}
+
+/// The sum of the sizes of developer fields.
+fn sizes_of_dev_fields(fields: &[DevDef]) -> u32
+    requires { length fields.now < 256 }
+    ensures sum { result ≡ sum_by (λ f. f.size) fields.now }
+    ensures small { result ≤ 65025 }
+{
+    let mut sum = 0;
+    for f in fields {
+        sum += f.size as u32;
+    }
+    sum
+}

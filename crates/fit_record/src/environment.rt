@@ -1,0 +1,241 @@
+//! What a reader of records knows: the definition of each local message type, and the described
+//! developer fields.
+ghost use Rattle.std.specs.Prelude.{◌≡◌, ◌+◌, ◌<◌, ◌≤◌, IfOk, IfErr, map, option_map, option_and_then, option_copied, slice_get, slice_set, IsSomeAnd, OnOk, OnErr, IfSome, Some, length};
+ghost use Rattle.fit_record.specs.Environment.{empty_environment, defined_at, defined_by, describe, description, dev_code, dev_defs, learn};
+ghost use Rattle.fit_record.specs.Records.{Fits, DefinitionFits, DataFits, record_bytes};
+ghost use Rattle.fit_record.specs.Faults.{first_fault};
+ghost use Rattle.fit_record.specs.Kept.{IsSound, body_length};
+
+use crate::definition::{body_length, definition_copy};
+use crate::fits::{data_fits, definition_fits};
+use crate::learn::{Description, DevKey, description_of};
+use crate::{DevDef, MessageDef, Record, ShapeFault, Values};
+use fit_base::Entries;
+use std::alloc::{AllocError, Allocator, Global};
+use std::collections::BTreeMap;
+use std::marker::Model;
+
+/// A definition message in its place.
+#[derive(Drop)]
+pub struct Defined<A: Allocator = Global> {
+    pub definition: MessageDef<A>,
+    /// The base type code of each developer field.
+    pub dev_codes: Entries<u8, A>,
+}
+
+/// What is known after some records of a file: the definition of each of the sixteen local message
+/// types, and the base type codes of the developer fields that were described.
+#[derive(Drop)]
+pub struct Env<A: Allocator = Global> {
+    places: [Option<Defined<A>>; 16],
+    /// How many bytes follow the record header of each local message type.
+    lengths: [u32; 16],
+    described: BTreeMap<DevKey, u8, A>,
+    alloc: A,
+}
+
+impl<A: Allocator> Model for Env<A> {
+    ghost use Rattle.fit_record.specs.Environment.{Environment};
+    ghost use Rattle.fit_record.specs.Kept.{AreKept};
+
+    ghost Value = { Environment A };
+
+    ghost view = { λ e. record { places = e.places; described = e.described.entries } };
+
+    ghost invariant = { λ e. AreKept e.places e.lengths };
+}
+
+impl<A: Allocator + Copy> Env<A> {
+    /// Nothing is known.
+    pub fn new(alloc: A) -> Self
+        ensures { result ≡ empty_environment }
+    {
+        Env {
+            places: [
+                None, None, None, None, None, None, None, None, None, None, None, None, None, None,
+                None, None,
+            ],
+            lengths: [0; 16],
+            described: BTreeMap::new(alloc),
+            alloc,
+        }
+    }
+}
+
+impl<A: Allocator> Env<A> {
+    /// What is defined for a local message type.
+    pub(crate) fn defined(&self, local: u8) -> Option<&Defined<A>>
+        ensures place { option_copied result ≡ defined_at self.now local }
+        ensures sound { IfSome (defined_at self.now local) IsSound }
+    {
+        let place = self.places.get(local as usize)?;
+        place.as_ref()
+    }
+
+    /// The definition of a local message type.
+    pub fn definition(&self, local: u8) -> Option<&MessageDef<A>>
+        ensures { option_copied result ≡ option_map (λ p. p.definition) (defined_at self.now local) }
+    {
+        let place = self.places.get(local as usize)?;
+        match place {
+            Some(place) => Some(&place.definition),
+            None => None,
+        }
+    }
+
+    /// The base type code of the developer field at a place of a definition.
+    pub fn dev_code(&self, local: u8, place: u8) -> Option<u8>
+        ensures { result ≡ option_and_then (λ p. slice_get p.dev_codes place) (defined_at self.now local) }
+    {
+        let defined = self.defined(local)?;
+        byte_at(defined.dev_codes.as_slice(), place)
+    }
+
+    /// How many bytes follow the record header of a data message.
+    pub fn length(&self, local: u8) -> Option<u32>
+        ensures length { result ≡ option_map (λ p. body_length p.definition) (defined_at self.now local) }
+        ensures small { IfSome result (λ n. n ≤ 130050) }
+    {
+        let place = self.places.get(local as usize)?;
+        match place {
+            Some(_) => Some(self.lengths[local as usize]),
+            None => None,
+        }
+    }
+}
+
+impl<A: Allocator> Env<A> {
+    /// The length of a record's bytes, or the first reason why it can't stand here.
+    pub fn fits(&self, r: &Record<A>) -> Result<u32, ShapeFault>
+        ensures ok { IfOk result (λ n. Fits self.now r.now × (n ≡ length (record_bytes self.now r.now))) }
+        ensures err { IfErr result (λ fault. first_fault self.now r.now ≡ Some fault) }
+    {
+        match r {
+            Record::Define(d) => definition_fits(d),
+            Record::Values(v) => data_fits(self, v),
+        }
+    }
+}
+
+impl<A: Allocator + Copy> Env<A> {
+    /// Takes a record in.
+    pub fn learn(&mut self, r: &Record<A>) -> Result<(), AllocError>
+        requires { Fits self.old r.now }
+        ensures ok { OnOk result (self.new ≡ learn self.old r.now) }
+        ensures err { OnErr result (self.new ≡ self.old) }
+    {
+        match r {
+            Record::Define(d) => self.define(d),
+            Record::Values(v) => self.take_in(v),
+        }
+    }
+
+    /// Takes a definition in.
+    fn define(&mut self, d: &MessageDef<A>) -> Result<(), AllocError>
+        requires { DefinitionFits d.now }
+        ensures ok { OnOk result (self.new ≡ record self.old { places = slice_set self.old.places d.now.local (Some (defined_by self.old d.now)) }) }
+        ensures err { OnErr result (self.new ≡ self.old) }
+    {
+        let defined = self.defined_by(d)?;
+        let length = body_length(d);
+        set_place(&mut self.places, d.local, defined);
+        self.lengths[d.local as usize] = length;
+        Ok(())
+    }
+
+    /// Takes a data message in.
+    fn take_in(&mut self, v: &Values<A>) -> Result<(), AllocError>
+        requires { IsSomeAnd (defined_at self.old v.now.local) (DataFits v.now) }
+        ensures ok { OnOk result (self.new ≡ describe self.old (option_and_then (λ p. description p.definition v.now) (defined_at self.old v.now.local))) }
+        ensures err { OnErr result (self.new ≡ self.old) }
+    {
+        match self.described_by(v) {
+            None => Ok(()),
+            Some(s) => self.describe(s),
+        }
+    }
+
+    /// What a data message describes.
+    fn described_by(&self, v: &Values<A>) -> Option<Description>
+        requires { IsSomeAnd (defined_at self.now v.now.local) (DataFits v.now) }
+        ensures { result ≡ option_and_then (λ p. description p.definition v.now) (defined_at self.now v.now.local) }
+    {
+        let p = self.defined(v.local)?;
+        description_of(&p.definition, v)
+    }
+
+    /// Keeps the base type code of a developer field.
+    fn describe(&mut self, s: Description) -> Result<(), AllocError>
+        ensures ok { OnOk result (self.new ≡ describe self.old (Some s)) }
+        ensures err { OnErr result (self.new ≡ self.old) }
+    {
+        self.described.insert(s.key, s.code)?;
+        Ok(())
+    }
+
+    /// The base type code of a developer field that is defined now.
+    fn code_of(&self, f: DevDef) -> u8
+        ensures { result ≡ dev_code self.now f }
+    {
+        let key = DevKey {
+            index: f.index,
+            number: f.number,
+        };
+        match self.described.get(&key) {
+            Some(code) => *code,
+            None => 0x0D,
+        }
+    }
+
+    /// The code of each developer field.
+    fn codes_of(&self, fields: &[DevDef]) -> Result<Entries<u8, A>, AllocError>
+        ensures { IfOk result (λ codes. codes ≡ map (dev_code self.now) fields.now) }
+    {
+        let mut codes = Entries::new(self.alloc);
+        for f in fields {
+            codes.push(self.code_of(*f))?;
+        }
+        Ok(codes)
+    }
+
+    /// The code of each developer field of a definition.
+    fn codes_for(&self, d: &MessageDef<A>) -> Result<Entries<u8, A>, AllocError>
+        ensures { IfOk result (λ codes. codes ≡ map (dev_code self.now) (dev_defs d.now.dev)) }
+    {
+        match &d.dev {
+            None => Ok(Entries::new(self.alloc)),
+            Some(fields) => self.codes_of(fields.as_slice()),
+        }
+    }
+
+    /// A definition with the codes that its developer fields have now.
+    fn defined_by(&self, d: &MessageDef<A>) -> Result<Defined<A>, AllocError>
+        ensures { IfOk result (λ p. p ≡ defined_by self.now d.now) }
+    {
+        let dev_codes = self.codes_for(d)?;
+        let definition = definition_copy(self.alloc, d)?;
+        Ok(Defined {
+            definition,
+            dev_codes,
+        })
+    }
+}
+
+/// The byte at a place.
+fn byte_at(bytes: &[u8], place: u8) -> Option<u8>
+    ensures { result ≡ slice_get bytes.now place }
+{
+    match bytes.get(place as usize) {
+        Some(b) => Some(*b),
+        None => None,
+    }
+}
+
+/// Puts a definition in its place.
+fn set_place<A: Allocator>(places: &mut [Option<Defined<A>>; 16], local: u8, defined: Defined<A>)
+    requires { local < 16 }
+    ensures place { places.new ≡ slice_set places.old local (Some defined) }
+    ensures length { length places.old ≡ 16 }
+{
+    places[local as usize] = Some(defined);
+}

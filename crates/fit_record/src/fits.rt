@@ -1,0 +1,170 @@
+//! Whether a record can stand where an environment is known, and how long its bytes are.
+ghost use Rattle.std.specs.Prelude.{◌≡◌, ℕ, ◌+◌, ◌<◌, ◌≤◌, IfOk, IfErr, OnOk, IfSome, Some, None, IsSomeAnd, length, map, zip};
+ghost use Rattle.fit_record.specs.Records.{DefinitionFits, DataHeaderFits, HaveShape, layout, dev_layout, DataFits};
+ghost use Rattle.fit_record.specs.Environment.{defined_at, dev_defs};
+ghost use Rattle.fit_record.specs.Faults.{wrong_from, wrong_place, header_fault, body_fault, data_fault, definition_fault, definition_length};
+ghost use Rattle.fit_record.specs.Kept.{IsSound, body_length};
+
+use crate::environment::Defined;
+use crate::{DevDef, Env, FieldDef, MessageDef, Values};
+use fit_base::{Code, Items, has_shape};
+use std::alloc::Allocator;
+use thiserror::Error;
+
+/// Why a record can't stand where it is.
+#[derive(Clone, Copy, PartialEq, Eq, Debug, Drop, Error)]
+pub enum ShapeFault {
+    /// The local message type is 16 or more, or with a time offset 4 or more.
+    #[error("no such local message type")]
+    BadLocal,
+    /// The time offset is 32 or more.
+    #[error("no such time offset")]
+    BadOffset,
+    /// A data message of a local message type without a definition.
+    #[error("the local message type isn't defined")]
+    UndefinedLocal,
+    /// The first field that is missing or too many, or whose items have another width or number than
+    /// defined or a number too large for their width. Places count from 0. Those of developer fields
+    /// go on from the number of fields, of a data message that of its definition. In a definition
+    /// message place 255 of either list is too many.
+    #[error("the field at place {field} isn't as defined")]
+    WrongShape { field: u64 },
+}
+
+/// The length of a definition's bytes.
+pub(crate) fn definition_fits<A: Allocator>(d: &MessageDef<A>) -> Result<u32, ShapeFault>
+    ensures ok { IfOk result (λ n. DefinitionFits d.now × (n ≡ definition_length d.now)) }
+    ensures err { IfErr result (λ fault. definition_fault d.now ≡ Some fault) }
+{
+    let _global = d.global;
+    if d.local >= 16 {
+        return Err(ShapeFault::BadLocal);
+    }
+    if d.fields.len() >= 256 {
+        return Err(ShapeFault::WrongShape { field: 255 });
+    }
+    let fields = d.fields.len() as u32;
+    match &d.dev {
+        None => Ok(6 + 3 * fields),
+        Some(dev) => {
+            if dev.len() >= 256 {
+                return Err(ShapeFault::WrongShape {
+                    field: fields as u64 + 255,
+                });
+            }
+            Ok(7 + 3 * fields + 3 * dev.len() as u32)
+        }
+    }
+}
+
+/// Whether a data message may have this local message type and time offset.
+fn header_fits(local: u8, offset: Option<u8>) -> Result<(), ShapeFault>
+    ensures ok { OnOk result (DataHeaderFits local offset) }
+    ensures err { IfErr result (λ fault. header_fault local offset ≡ Some fault) }
+{
+    match offset {
+        None => {
+            if local >= 16 {
+                return Err(ShapeFault::BadLocal);
+            }
+            Ok(())
+        }
+        Some(offset) => {
+            if local >= 4 {
+                return Err(ShapeFault::BadLocal);
+            }
+            if offset >= 32 {
+                return Err(ShapeFault::BadOffset);
+            }
+            Ok(())
+        }
+    }
+}
+
+/// The first field that isn't as defined.
+fn wrong_field<A: Allocator>(fields: &[FieldDef], items: &[Items<A>]) -> Option<u64>
+    ensures { result ≡ wrong_from 0 (map (λ f. (f.code, f.size)) fields.now) items.now }
+{
+    for (place, f) in fields.iter().enumerate() {
+        let Some(i) = items.get(place) else {
+            return Some(place as u64);
+        };
+        if !has_shape(Code(f.code), f.size, i) {
+            return Some(place as u64);
+        }
+    }
+    if fields.len() < items.len() {
+        return Some(fields.len() as u64);
+    }
+    None
+}
+
+/// The first developer field that isn't as defined, counted from `first`.
+fn wrong_dev_field<A: Allocator>(
+    first: u64,
+    codes: &[u8],
+    fields: &[DevDef],
+    items: &[Items<A>],
+) -> Option<u64>
+    requires codes { length codes.now ≡ length fields.now }
+    requires places { first + length fields.now < 512 }
+    ensures { result ≡ wrong_from first (zip codes.now (map (λ f. f.size) fields.now)) items.now }
+{
+    for (n, f) in fields.iter().enumerate() {
+        let place = first + n as u64;
+        let Some(i) = items.get(n) else {
+            return Some(place);
+        };
+        if !has_shape(Code(codes[n]), f.size, i) {
+            return Some(place);
+        }
+    }
+    if fields.len() < items.len() {
+        return Some(first + fields.len() as u64);
+    }
+    None
+}
+
+/// The first developer field that isn't as defined, counted on from the number of fields.
+fn wrong_dev<A: Allocator>(p: &Defined<A>, items: &[Items<A>]) -> Option<u64>
+    requires { IsSound p.now }
+    ensures { result ≡ wrong_from (length p.now.definition.fields) (dev_layout p.now) items.now }
+{
+    let first = p.definition.fields.len() as u64;
+    let codes = p.dev_codes.as_slice();
+    match &p.definition.dev {
+        None => wrong_dev_field(first, codes, &[], items),
+        Some(fields) => wrong_dev_field(first, codes, fields.as_slice(), items),
+    }
+}
+
+/// Whether the items of a data message are as defined.
+fn body_fits<A: Allocator>(p: &Defined<A>, v: &Values<A>) -> Result<(), ShapeFault>
+    requires { IsSound p.now }
+    ensures ok { OnOk result (HaveShape (layout p.now) v.now.fields × HaveShape (dev_layout p.now) v.now.dev) }
+    ensures err { IfErr result (λ fault. body_fault (Some p.now) v.now ≡ Some fault) }
+{
+    if let Some(field) = wrong_field(p.definition.fields.as_slice(), v.fields.as_slice()) {
+        return Err(ShapeFault::WrongShape { field });
+    }
+    if let Some(field) = wrong_dev(p, v.dev.as_slice()) {
+        return Err(ShapeFault::WrongShape { field });
+    }
+    Ok(())
+}
+
+/// The length of a data message's bytes.
+pub(crate) fn data_fits<A: Allocator>(env: &Env<A>, v: &Values<A>) -> Result<u32, ShapeFault>
+    ensures ok { IfOk result (λ n. IsSomeAnd (defined_at env.now v.now.local) (λ p. DataFits v.now p × (n ≡ 1 + body_length p.definition) × IsSound p)) }
+    ensures err { IfErr result (λ fault. data_fault env.now v.now ≡ Some fault) }
+{
+    header_fits(v.local, v.offset)?;
+    let Some(p) = env.defined(v.local) else {
+        return Err(ShapeFault::UndefinedLocal);
+    };
+    let Some(length) = env.length(v.local) else {
+        return Err(ShapeFault::UndefinedLocal);
+    };
+    body_fits(p, v)?;
+    Ok(1 + length)
+}

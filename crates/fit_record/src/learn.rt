@@ -1,0 +1,75 @@
+//! What a field description message says (FIT protocol, "Developer Fields").
+ghost use Rattle.std.specs.Prelude.{◌≡◌, option_copied, map};
+ghost use Rattle.fit_record.specs.Environment.{description, first_items, only_byte};
+ghost use Rattle.fit_record.specs.Records.{HaveShape};
+
+use crate::{FieldDef, MessageDef, Values};
+use fit_base::Items;
+use std::alloc::Allocator;
+
+/// The global message number of field descriptions.
+const FIELD_DESCRIPTION: u16 = 206;
+
+/// A developer field by its developer data index and its number.
+#[derive(Clone, Copy, Debug, PartialEq, Eq, PartialOrd, Ord)]
+pub struct DevKey {
+    pub index: u8,
+    pub number: u8,
+}
+
+/// The base type code that a message describes for a developer field.
+#[derive(Clone, Copy, Debug, PartialEq, Eq)]
+pub struct Description {
+    pub key: DevKey,
+    pub code: u8,
+}
+
+/// What a message describes, if it does.
+pub(crate) fn description_of<A: Allocator>(d: &MessageDef<A>, v: &Values<A>) -> Option<Description>
+    requires { HaveShape (map (λ f. (f.code, f.size)) d.now.fields) v.now.fields }
+    ensures { result ≡ description d.now v.now }
+{
+    if d.global != FIELD_DESCRIPTION {
+        return None;
+    }
+    let fields = d.fields.as_slice();
+    let items = v.fields.as_slice();
+    let index = only_byte(fields, items, 0)?;
+    let number = only_byte(fields, items, 1)?;
+    let code = only_byte(fields, items, 2)?;
+    Some(Description {
+        key: DevKey { index, number },
+        code,
+    })
+}
+
+/// The only item of the first field of this number, where it has width 1.
+fn only_byte<A: Allocator>(fields: &[FieldDef], items: &[Items<A>], number: u8) -> Option<u8>
+    requires { HaveShape (map (λ f. (f.code, f.size)) fields.now) items.now }
+    ensures { result ≡ only_byte fields.now items.now number }
+{
+    let i = first_items(fields, items, number)?;
+    if i.width != 1 {
+        return None;
+    }
+    match i.bits.as_slice() {
+        [n] => Some(*n as u8),
+        _ => None,
+    }
+}
+
+/// The items of the first field of this number.
+fn first_items<'a, A: Allocator>(
+    fields: &[FieldDef],
+    items: &'a [Items<A>],
+    number: u8,
+) -> Option<&'a Items<A>>
+    ensures { option_copied result ≡ first_items fields.now items.now number }
+{
+    for (place, f) in fields.iter().enumerate() {
+        if f.number == number {
+            return items.get(place);
+        }
+    }
+    None
+}

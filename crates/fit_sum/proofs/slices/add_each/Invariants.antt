@@ -1,0 +1,6 @@
+use Rattle.std.proofs.Common.{◌≡◌, take}
+use Rattle.fit_sum.specs.Register.{run}
+use Rattle.fit_sum.proofs.slices.add_each.Given as goal
+
+abbrev pub invariant-loop-byte : goal.invariant-loop-byte
+invariant-loop-byte l = l.sum ≡ run l.register (take l.byte-index l.bytes)

@@ -1,0 +1,6 @@
+use Rattle.std.proofs.Common.{rules}
+use Rattle.fit_sum.proofs.Entries.{byte-step}
+use Rattle.fit_sum.proofs.slices.add_one.Goals as goal
+
+pub returns : goal.returns
+returns c = rw c.after_8.ensures (byte-step c.args.register c.args.byte (search rules))

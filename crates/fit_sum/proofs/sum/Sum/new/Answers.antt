@@ -1,0 +1,5 @@
+use Rattle.fit_sum.proofs.Added.{IsSumOf-none}
+use Rattle.fit_sum.proofs.sum.Sum.new.Goals as goal
+
+pub invariant_of-result : goal.invariant_of-result
+invariant_of-result c = rw c.new.ensures IsSumOf-none

@@ -1,0 +1,7 @@
+use Rattle.std.proofs.Common.{take}
+use Rattle.std.specs.List.{concat}
+use Rattle.fit_sum.proofs.Blocks.{Keeps}
+use Rattle.fit_sum.proofs.words.add_blocks.Given as goal
+
+abbrev pub invariant-loop-block : goal.invariant-loop-block
+invariant-loop-block l = Keeps l.register (concat (take l.block-index l.front)) l.words

@@ -1,0 +1,7 @@
+use Rattle.std.proofs.Common.{◌≡◌, take}
+use Rattle.fit_sum.specs.Register.{run}
+use Rattle.fit_sum.specs.Words.{spelled}
+use Rattle.fit_sum.proofs.words.add_words.Given as goal
+
+abbrev pub invariant-loop-word : goal.invariant-loop-word
+invariant-loop-word l = l.sum ≡ run 0 (spelled (take l.word-index l.words))

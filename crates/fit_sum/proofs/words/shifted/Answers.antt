@@ -1,0 +1,8 @@
+use Rattle.std.proofs.Common.{ap, sym}
+use Rattle.fit_sum.specs.Words.{xor_into, turn, turns}
+use Rattle.fit_sum.proofs.Turns.{sixteen}
+use Rattle.fit_sum.proofs.words.shifted.Goals as goal
+
+pub returns : goal.returns
+unfolding xor_into turn turns
+returns c = sym (ap (turns 16) (sixteen c.args.register.now c.told-register))

@@ -1,0 +1,12 @@
+//! The checksum of FIT files.
+#![tactic(auto)]
+
+mod nibbles;
+mod slices;
+mod sum;
+mod tables;
+#[cfg(test)]
+mod tests;
+mod words;
+
+pub use crate::sum::Sum;
