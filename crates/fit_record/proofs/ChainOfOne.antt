@@ -14,6 +14,7 @@ chain_of_file : {A : Type 0} (f : FitFile A) (bytes : List ℕ) → IsFile f byt
 chain_of_file f bytes w = (record { some = lit< tt; within = lit≤ tt; each = (w.0, tt) }, w.1 ∙ sym (append-nil (file_bytes f)))
 
 pub chain_of_one : {A : Type 0} → ChainOfOne A
-chain_of_one fs bytes =
-    ((λ c. one_of_chain fs bytes c),
-    (λ w. subst (λ gs. IsChain 1 gs bytes) (sym w.1) (chain_of_file w.0 bytes w.2)))
+chain_of_one fs bytes = (
+  (λ c. one_of_chain fs bytes c),
+  (λ w. subst (λ gs. IsChain 1 gs bytes) (sym w.1) (chain_of_file w.0 bytes w.2)),
+)

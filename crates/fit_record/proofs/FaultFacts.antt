@@ -1,6 +1,6 @@
 -- There is no fault just where a record fits.
-use Rattle.std.proofs.Common.{◌≡◌, ℕ, suc, ◌+◌, ◌^◌, ◌<◌, ◌↔◌, Bool, true, false, cond, List, length, refl, sym, ap, ◌∙◌, Some, None, ltb, ltb-true, lt-ltb}
-use Rattle.std.specs.Prelude.{Option, option_map, IsSomeAnd}
+use Rattle.std.proofs.Common.{◌≡◌, ℕ, suc, ◌+◌, ◌^◌, ◌<◌, ◌↔◌, Bool, true, false, cond, List, length, refl, sym, ap, subst, ◌∙◌, Some, None, ltb, ltb-true, lt-ltb}
+use Rattle.std.specs.Prelude.{Option, Result, Ok, Err, IfErr, OnErr, option_map, IsSomeAnd}
 use Rattle.fit_record.specs.declared.definition.MessageDef.{MessageDef}
 use Rattle.fit_record.specs.declared.message.Values.{Values}
 use Rattle.fit_record.specs.declared.message.Record.{Record}
@@ -68,3 +68,11 @@ none_definition d h r =
 pub faults_are_exact : {A : Type 0} → FaultsAreExact A
 faults_are_exact e (Define d) = (λ h. (definition_none d h, h.global), λ h. none_definition d h.0 h.1)
 faults_are_exact e (Data v) = (λ h. (data_none (defined_at e v.local) v h, tt), λ h. none_data (defined_at e v.local) v h.0)
+
+-- A record with a fault doesn't fit.
+pub refused_by : {A T : Type 0} (e : Environment A) (r s : Record A) (result : Result T ShapeFault) → r ≡ s → IfErr result (λ fault. first_fault e s ≡ Some fault)
+    → OnErr result (Fits e r → ⊥)
+refused_by e r s (Ok n) is h = tt
+refused_by e r s (Err fault) is h = λ fits.
+    let none : first_fault e s ≡ None = ((faults_are_exact e s).0 (subst (Fits e) is fits)).0 in
+    let clash : Some fault ≡ None = sym h ∙ none in cc

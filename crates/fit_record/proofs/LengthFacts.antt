@@ -26,10 +26,16 @@ data_length : {A : Type 0} (o : Option (Defined A)) (v : Values A) (n : ℕ) →
     → IsSomeAnd o (DataFits v) × (n ≡ suc (length (data_bytes (unwrap_or (option_map (λ p. p.definition.order) o) Little) v)))
 data_length None v n h = absurd h
 data_length (Some p) v n h =
-    let o = p.definition.order in
-    (h.0, omega (arith, h.1, length-append (flat_map (items_bytes o) v.fields) (flat_map (items_bytes o) v.dev),
-      length-items o p.definition.fields v.fields h.0.fields,
-      length-dev_items o p.dev_codes (dev_defs p.definition.dev) v.dev h.2.codes h.0.dev_fields))
+    let o = p.definition.order in (
+      h.0,
+      omega (
+        arith,
+        h.1,
+        length-append (flat_map (items_bytes o) v.fields) (flat_map (items_bytes o) v.dev),
+        length-items o p.definition.fields v.fields h.0.fields,
+        length-dev_items o p.dev_codes (dev_defs p.definition.dev) v.dev h.2.codes h.0.dev_fields,
+      ),
+    )
 
 pub length_of_data : {A : Type 0} (e : Environment A) (r : Record A) (v : Values A) (n : ℕ) → r ≡ Data v
     → IsSomeAnd (defined_at e v.local) (λ p. DataFits v p × (n ≡ 1 + body_length p.definition) × IsSound p)

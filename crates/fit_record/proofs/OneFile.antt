@@ -16,9 +16,9 @@ regroup a b c d = simp append_assoc
 pub same_file : {A : Type 0} (f g : FitFile A) (x y : List ℕ) → IsWellFormed f → IsWellFormed g → file_bytes f ++ x ≡ file_bytes g ++ y → f ≡ g
 same_file f g x y p q e =
     let parts = sym (regroup (header_bytes f.header (length (body f))) (body f) (little_bytes 2 (checksum (summed f))) x) ∙ e
-        ∙ regroup (header_bytes g.header (length (body g))) (body g) (little_bytes 2 (checksum (summed g))) y in
+    ∙ regroup (header_bytes g.header (length (body g))) (body g) (little_bytes 2 (checksum (summed g))) y in
     let header = one_header f.header g.header (length (body f)) (length (body g))
-        (body f ++ (little_bytes 2 (checksum (summed f)) ++ x)) (body g ++ (little_bytes 2 (checksum (summed g)) ++ y)) p.header q.header parts in
+    (body f ++ (little_bytes 2 (checksum (summed f)) ++ x)) (body g ++ (little_bytes 2 (checksum (summed g)) ++ y)) p.header q.header parts in
     let records = same_records empty_environment f.records g.records _ _ p.records q.records header.1 header.2 in
     λ i. record { header = header.0 i; records = records i }
 

@@ -77,11 +77,11 @@ same_definition c d x y p q e =
     let arch : architecture c.order ≡ architecture d.order = cc in
     let order = one_order c.order d.order arch in
     let after : (number_bytes c.order 2 c.global ++ (length c.fields ∷ flat_map field_bytes c.fields) ++ dev_part c.dev) ++ x
-        ≡ (number_bytes d.order 2 d.global ++ (length d.fields ∷ flat_map field_bytes d.fields) ++ dev_part d.dev) ++ y = cc in
+    ≡ (number_bytes d.order 2 d.global ++ (length d.fields ∷ flat_map field_bytes d.fields) ++ dev_part d.dev) ++ y = cc in
     let parts = sym (regroup (number_bytes c.order 2 c.global) (length c.fields ∷ flat_map field_bytes c.fields) (dev_part c.dev) x) ∙ after
-        ∙ regroup (number_bytes d.order 2 d.global) (length d.fields ∷ flat_map field_bytes d.fields) (dev_part d.dev) y in
+    ∙ regroup (number_bytes d.order 2 d.global) (length d.fields ∷ flat_map field_bytes d.fields) (dev_part d.dev) y in
     let in_order = subst (λ o. number_bytes c.order 2 c.global ++ ((length c.fields ∷ flat_map field_bytes c.fields) ++ (dev_part c.dev ++ x))
-        ≡ number_bytes o 2 d.global ++ ((length d.fields ∷ flat_map field_bytes d.fields) ++ (dev_part d.dev ++ y))) (sym order) parts in
+    ≡ number_bytes o 2 d.global ++ ((length d.fields ∷ flat_map field_bytes d.fields) ++ (dev_part d.dev ++ y))) (sym order) parts in
     let global = one_number c.order 2 c.global d.global _ _ p.global q.global in_order in
     let counts = global.1 in
     let count : length c.fields ≡ length d.fields = cc in
@@ -101,7 +101,7 @@ same_values o (f ∷ fs) [] vs x y p q e = absurd p
 same_values o (f ∷ fs) (u ∷ us) [] x y p q e = absurd q
 same_values o (f ∷ fs) (u ∷ us) (v ∷ vs) x y p q e =
     let first = same_items o f.0 f.1 u v (flat_map (items_bytes o) us ++ x) (flat_map (items_bytes o) vs ++ y) p.0 q.0
-        (sym (append_assoc (items_bytes o u) (flat_map (items_bytes o) us) x) ∙ e ∙ append_assoc (items_bytes o v) (flat_map (items_bytes o) vs) y) in
+    (sym (append_assoc (items_bytes o u) (flat_map (items_bytes o) us) x) ∙ e ∙ append_assoc (items_bytes o v) (flat_map (items_bytes o) vs) y) in
     let others = same_values o fs us vs x y p.1 q.1 first.1 in
     (cc (first.0, others.0), others.1)
 
@@ -112,7 +112,7 @@ same_data None v w x y p q e = absurd p
 same_data (Some d) v w x y p q e =
     let o = d.definition.order in
     let fields = same_values o (layout d) v.fields w.fields (flat_map (items_bytes o) v.dev ++ x) (flat_map (items_bytes o) w.dev ++ y) p.fields q.fields
-        (sym (append_assoc (flat_map (items_bytes o) v.fields) (flat_map (items_bytes o) v.dev) x) ∙ e ∙ append_assoc (flat_map (items_bytes o) w.fields) (flat_map (items_bytes o) w.dev) y) in
+    (sym (append_assoc (flat_map (items_bytes o) v.fields) (flat_map (items_bytes o) v.dev) x) ∙ e ∙ append_assoc (flat_map (items_bytes o) w.fields) (flat_map (items_bytes o) w.dev) y) in
     let dev = same_values o (dev_layout d) v.dev w.dev x y p.dev_fields q.dev_fields fields.1 in
     (fields.0, dev.0, dev.1)
 
@@ -147,8 +147,8 @@ same_record e (Data v) (Data w) x y p q h =
     let tail : data_bytes (order_at e v.local) v ++ x ≡ data_bytes (order_at e w.local) w ++ y = cc in
     let header = same_header v.local w.local v.offset w.offset (header_fits (defined_at e v.local) v p) (header_fits (defined_at e w.local) w q) head in
     let k = same_data (defined_at e v.local) v w x y p
-        (subst (λ l. IsSomeAnd (defined_at e l) (DataFits w)) (sym header.0) q)
-        (subst (λ l. data_bytes (order_at e v.local) v ++ x ≡ data_bytes (order_at e l) w ++ y) (sym header.0) tail) in
+    (subst (λ l. IsSomeAnd (defined_at e l) (DataFits w)) (sym header.0) q)
+    (subst (λ l. data_bytes (order_at e v.local) v ++ x ≡ data_bytes (order_at e l) w ++ y) (sym header.0) tail) in
     (λ i. Data (record { local = header.0 i; offset = header.1 i; fields = k.0 i; dev = k.1 i }), k.2)
 
 pub one_record : {A : Type 0} → RecordsHaveOneSpelling A
@@ -170,13 +170,13 @@ same_records e [] (s ∷ ss) x y p q l h = absurd (no_bytes e s (records_bytes (
 same_records e (r ∷ rs) [] x y p q l h = absurd (no_bytes e r (records_bytes (learn e r) rs) l)
 same_records e (r ∷ rs) (s ∷ ss) x y p q l h =
     let first = same_record e r s (records_bytes (learn e r) rs ++ x) (records_bytes (learn e s) ss ++ y) p.0 q.0
-        (sym (append_assoc (record_bytes e r) (records_bytes (learn e r) rs) x) ∙ h ∙ append_assoc (record_bytes e s) (records_bytes (learn e s) ss) y) in
+    (sym (append_assoc (record_bytes e r) (records_bytes (learn e r) rs) x) ∙ h ∙ append_assoc (record_bytes e s) (records_bytes (learn e s) ss) y) in
     let learned = ap (learn e) first.0 in
     let total = sym (length-append (record_bytes e r) (records_bytes (learn e r) rs)) ∙ l ∙ length-append (record_bytes e s) (records_bytes (learn e s) ss) in
     let same_length = ap (λ t. length (record_bytes e t)) first.0 in
     let l' : length (records_bytes (learn e r) rs) ≡ length (records_bytes (learn e s) ss) = omega (arith, total, same_length) in
     let others = same_records (learn e r) rs ss x y p.1
-        (subst (λ f. AllFit f ss) (sym learned) q.1)
-        (subst (λ f. length (records_bytes (learn e r) rs) ≡ length (records_bytes f ss)) (sym learned) l')
-        (subst (λ f. records_bytes (learn e r) rs ++ x ≡ records_bytes f ss ++ y) (sym learned) first.1) in
+    (subst (λ f. AllFit f ss) (sym learned) q.1)
+    (subst (λ f. length (records_bytes (learn e r) rs) ≡ length (records_bytes f ss)) (sym learned) l')
+    (subst (λ f. records_bytes (learn e r) rs ++ x ≡ records_bytes f ss ++ y) (sym learned) first.1) in
     cc (first.0, others)

@@ -60,9 +60,13 @@ file_4 = file_of (header_of 14 sums.True)
 
 pub row_4 : IsFile file_4 (0x0E ∷ 0x20 ∷ 0 ∷ 0 ∷ 7 ∷ 0 ∷ 0 ∷ 0 ∷ 0x2E ∷ 0x46 ∷ 0x49 ∷ 0x54 ∷ 0xDD ∷ 0x63 ∷ 0x40 ∷ 0 ∷ 0 ∷ 0x14 ∷ 0 ∷ 0 ∷ 0 ∷ 0x44 ∷ 0x34 ∷ [])
 unfolding checksum
-row_4 = (record {
+row_4 = (
+  record {
     header = record { form = record { size = refl; size_fits = lit< tt; version = lit≤ tt; profile_fits = lit< tt }; data_fits = lit< tt; sum = λ z. let word = z.0 in cc };
-    records = (record { local = lit< tt; global = lit< tt; fields = lit< tt; dev_fields = lit< tt }, (record { header = lit< tt; fields = tt; dev_fields = tt }, tt)) }, refl)
+    records = (record { local = lit< tt; global = lit< tt; fields = lit< tt; dev_fields = lit< tt }, (record { header = lit< tt; fields = tt; dev_fields = tt }, tt));
+  },
+  refl,
+)
 
 -- both architectures, and a compressed header
 abbrev pub file_a : FitFile (Unit {0})
@@ -81,14 +85,25 @@ pub vector_a : IsFile file_a
     ∷ 0xA2 ∷ 9 ∷ 0xC4 ∷ 0x64 ∷ 0 ∷ 0x10
     ∷ 0xF0 ∷ 0x3B ∷ [])
 unfolding checksum
-vector_a = (record {
+vector_a = (
+  record {
     header = record { form = record { size = refl; size_fits = lit< tt; version = lit≤ tt; profile_fits = lit< tt }; data_fits = lit< tt; sum = λ z. let word = z.0 in cc };
-    records =
-        (record { local = lit< tt; global = lit< tt; fields = lit< tt; dev_fields = lit< tt },
-        (record { header = lit< tt; fields = (record { width = refl; whole = refl; fits = (lit< tt, tt) }, (record { width = refl; whole = refl; fits = (lit< tt, tt) }, tt)); dev_fields = tt },
-        (record { local = lit< tt; global = lit< tt; fields = lit< tt; dev_fields = lit< tt },
-        (record { header = (lit< tt, lit< tt); fields = (record { width = refl; whole = refl; fits = (lit< tt, tt) }, (record { width = refl; whole = refl; fits = (lit< tt, (lit< tt, (lit< tt, tt))) }, tt)); dev_fields = tt },
-        tt)))) }, refl)
+    records = (
+      record { local = lit< tt; global = lit< tt; fields = lit< tt; dev_fields = lit< tt },
+      (
+        record { header = lit< tt; fields = (record { width = refl; whole = refl; fits = (lit< tt, tt) }, (record { width = refl; whole = refl; fits = (lit< tt, tt) }, tt)); dev_fields = tt },
+        (
+          record { local = lit< tt; global = lit< tt; fields = lit< tt; dev_fields = lit< tt },
+          (
+            record { header = (lit< tt, lit< tt); fields = (record { width = refl; whole = refl; fits = (lit< tt, tt) }, (record { width = refl; whole = refl; fits = (lit< tt, (lit< tt, (lit< tt, tt))) }, tt)); dev_fields = tt },
+            tt,
+          ),
+        ),
+      ),
+    );
+  },
+  refl,
+)
 
 abbrev pub dev_field : ℕ → ℕ → ℕ → DevDef
 dev_field number size index = record { number = number; size = size; index = index }
@@ -122,17 +137,34 @@ pub vector_b : IsFile file_b
     ∷ 1 ∷ 0x34 ∷ 0x12
     ∷ 0x4A ∷ 0x8B ∷ [])
 unfolding checksum
-vector_b = (record {
+vector_b = (
+  record {
     header = record { form = record { size = refl; size_fits = lit< tt; version = lit≤ tt; profile_fits = lit< tt }; data_fits = lit< tt; sum = λ z. let word = z.0 in cc };
-    records =
-        (record { local = lit< tt; global = lit< tt; fields = lit< tt; dev_fields = lit< tt },
-        (record { local = lit< tt; global = lit< tt; fields = lit< tt; dev_fields = lit< tt },
-        (record { header = lit< tt; fields = tt; dev_fields = (record { width = refl; whole = refl; fits = (lit< tt, (lit< tt, tt)) }, tt) },
-        (record { header = lit< tt; fields = (record { width = refl; whole = refl; fits = (lit< tt, tt) }, (record { width = refl; whole = refl; fits = (lit< tt, tt) }, (record { width = refl; whole = refl; fits = (lit< tt, tt) }, (record { width = refl; whole = refl; fits = (lit< tt, (lit< tt, (lit< tt, tt))) }, tt)))); dev_fields = tt },
-        (record { header = lit< tt; fields = tt; dev_fields = (record { width = refl; whole = refl; fits = (lit< tt, (lit< tt, tt)) }, tt) },
-        (record { local = lit< tt; global = lit< tt; fields = lit< tt; dev_fields = lit< tt },
-        (record { header = lit< tt; fields = tt; dev_fields = (record { width = refl; whole = refl; fits = (lit< tt, tt) }, tt) },
-        tt))))))) }, refl)
+    records = (
+      record { local = lit< tt; global = lit< tt; fields = lit< tt; dev_fields = lit< tt },
+      (
+        record { local = lit< tt; global = lit< tt; fields = lit< tt; dev_fields = lit< tt },
+        (
+          record { header = lit< tt; fields = tt; dev_fields = (record { width = refl; whole = refl; fits = (lit< tt, (lit< tt, tt)) }, tt) },
+          (
+            record { header = lit< tt; fields = (record { width = refl; whole = refl; fits = (lit< tt, tt) }, (record { width = refl; whole = refl; fits = (lit< tt, tt) }, (record { width = refl; whole = refl; fits = (lit< tt, tt) }, (record { width = refl; whole = refl; fits = (lit< tt, (lit< tt, (lit< tt, tt))) }, tt)))); dev_fields = tt },
+            (
+              record { header = lit< tt; fields = tt; dev_fields = (record { width = refl; whole = refl; fits = (lit< tt, (lit< tt, tt)) }, tt) },
+              (
+                record { local = lit< tt; global = lit< tt; fields = lit< tt; dev_fields = lit< tt },
+                (
+                  record { header = lit< tt; fields = tt; dev_fields = (record { width = refl; whole = refl; fits = (lit< tt, tt) }, tt) },
+                  tt,
+                ),
+              ),
+            ),
+          ),
+        ),
+      ),
+    );
+  },
+  refl,
+)
 
 -- a header of sixteen bytes, with two after its sum
 abbrev pub long_header : FitFile (Unit {0})

@@ -45,7 +45,7 @@ pub pass : {A : Type 0} (p q k : ℕ) (fs : List (ℕ × ℕ)) (is : List (Items
 pass p q k fs is f i n e d h =
     let next : suc k ≡ k + 1 = omega arith in
     subst (λ r. wrong_from p (drop k fs) (drop k is) ≡ wrong_from r (drop (k + 1) fs) (drop (k + 1) is)) (sym n)
-      (subst (λ m. wrong_from p (drop k fs) (drop k is) ≡ wrong_from (p + 1) (drop m fs) (drop m is)) next (pass_suc p k fs is f i e d h))
+    (subst (λ m. wrong_from p (drop k fs) (drop k is) ≡ wrong_from (p + 1) (drop m fs) (drop m is)) next (pass_suc p k fs is f i e d h))
 
 -- a field not as defined
 pub fail : {A : Type 0} (p k : ℕ) (fs : List (ℕ × ℕ)) (is : List (Items A)) (f : ℕ × ℕ) (i : Items A) → slice_get fs k ≡ Some f → slice_get is k ≡ Some i

@@ -54,9 +54,9 @@ only_byte fields items number = option_and_then (λ i. if i.width == 1 then only
 abbrev pub description : {A : Type 0} → MessageDef A → Values A → Option Description
 description d v =
     if d.global == 206 then
-      option_and_then (λ index. option_and_then (λ number. option_and_then (λ code.
-        Some (record { key = record { index = index; number = number }; code = code }))
-        (only_byte d.fields v.fields 2)) (only_byte d.fields v.fields 1)) (only_byte d.fields v.fields 0)
+    option_and_then (λ index. option_and_then (λ number. option_and_then (λ code.
+    Some (record { key = record { index = index; number = number }; code = code }))
+    (only_byte d.fields v.fields 2)) (only_byte d.fields v.fields 1)) (only_byte d.fields v.fields 0)
     else None
 
 abbrev pub describe : {A : Type 0} → Environment A → Option Description → Environment A

@@ -42,9 +42,9 @@ body_fault (Some p) v = option_map WrongShape (wrong_place p v)
 abbrev pub definition_fault : {A : Type 0} → MessageDef A → Option ShapeFault
 definition_fault d =
     if nat_lt d.local 16 then
-      (if nat_lt (length d.fields) 256 then
-        (if nat_lt (length (dev_defs d.dev)) 256 then None else Some (WrongShape (length d.fields + 255)))
-      else Some (WrongShape 255))
+    (if nat_lt (length d.fields) 256 then
+    (if nat_lt (length (dev_defs d.dev)) 256 then None else Some (WrongShape (length d.fields + 255)))
+    else Some (WrongShape 255))
     else Some BadLocal
 
 abbrev pub data_fault : {A : Type 0} → Environment A → Values A → Option ShapeFault

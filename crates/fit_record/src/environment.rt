@@ -72,7 +72,7 @@ impl<A: Allocator> Env<A> {
         place.as_ref()
     }
 
-    /// The definition of a local message type.
+    /// The definition of a local message type. One of 16 or more has none.
     pub fn definition(&self, local: u8) -> Option<&MessageDef<A>>
         ensures { option_copied result ≡ option_map (λ p. p.definition) (defined_at self.now local) }
     {
@@ -83,7 +83,8 @@ impl<A: Allocator> Env<A> {
         }
     }
 
-    /// The base type code of the developer field at a place of a definition.
+    /// The base type code of a developer field of a local message type: that of its last description
+    /// before the definition, or else 0x0D, byte. `place` counts from 0 among the developer fields.
     pub fn dev_code(&self, local: u8, place: u8) -> Option<u8>
         ensures { result ≡ option_and_then (λ p. slice_get p.dev_codes place) (defined_at self.now local) }
     {
@@ -91,7 +92,7 @@ impl<A: Allocator> Env<A> {
         byte_at(defined.dev_codes.as_slice(), place)
     }
 
-    /// How many bytes follow the record header of a data message.
+    /// How many bytes follow the record header of a data message: the sum of the definition's sizes.
     pub fn length(&self, local: u8) -> Option<u32>
         ensures length { result ≡ option_map (λ p. body_length p.definition) (defined_at self.now local) }
         ensures small { IfSome result (λ n. n ≤ 130050) }
@@ -102,12 +103,12 @@ impl<A: Allocator> Env<A> {
             None => None,
         }
     }
-}
 
-impl<A: Allocator> Env<A> {
-    /// The length of a record's bytes, or the first reason why it can't stand here.
+    /// The length of a record's bytes, or the first fault for which it can't stand here, in the order
+    /// of `ShapeFault`.
     pub fn fits(&self, r: &Record<A>) -> Result<u32, ShapeFault>
         ensures ok { IfOk result (λ n. Fits self.now r.now × (n ≡ length (record_bytes self.now r.now))) }
+        ensures refused { OnErr result (Fits self.now r.now → ⊥) }
         ensures err { IfErr result (λ fault. first_fault self.now r.now ≡ Some fault) }
     {
         match r {
@@ -118,7 +119,8 @@ impl<A: Allocator> Env<A> {
 }
 
 impl<A: Allocator + Copy> Env<A> {
-    /// Takes a record in.
+    /// Takes a record in: a definition takes its place, and a field description sets the code of its
+    /// developer field. Where memory is refused, nothing changes.
     pub fn learn(&mut self, r: &Record<A>) -> Result<(), AllocError>
         requires { Fits self.old r.now }
         ensures ok { OnOk result (self.new ≡ learn self.old r.now) }

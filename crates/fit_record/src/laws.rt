@@ -8,23 +8,19 @@ use std::alloc::Allocator;
 /// bytes begin another's.
 pub fn records_have_one_spelling<A: Allocator>()
     ensures { RecordsHaveOneSpelling A }
-{
-}
+{}
 
 /// A record fits just where it has no fault, its numbers being in the ranges of their types.
 pub fn faults_are_exact<A: Allocator>()
     ensures { FaultsAreExact A }
-{
-}
+{}
 
 /// A file and its bytes determine each other, and no file's bytes begin another's.
 pub fn files_have_one_spelling<A: Allocator>()
     ensures { FilesHaveOneSpelling A }
-{
-}
+{}
 
 /// A chain of at most one file is a file.
 pub fn chain_of_one<A: Allocator>()
     ensures { ChainOfOne A }
-{
-}
+{}

@@ -7,4 +7,4 @@ pub loop-place-preserved : goal.loop-place-preserved
 loop-place-preserved g c =
     c.loop-place.invariant
     ∙ after_other c.loop-place.place c.args.fields.now c.args.items.now c.args.number _
-        (slice_get-get_or c.args.fields.now c.loop-place.place (record { number = 0; size = 0; code = 0 }) c.loop-place-test.true) (ne_eqb _ _ c.if-f-number.false)
+    (slice_get-get_or c.args.fields.now c.loop-place.place (record { number = 0; size = 0; code = 0 }) c.loop-place-test.true) (ne_eqb _ _ c.if-f-number.false)

@@ -13,5 +13,6 @@ invariant_of-self g c =
     let kept = subst (λ p. IsKept p n) (sym c.in_ok-defined.ensures) (record {
       sound = record { fields = c.requires.fields; dev_fields = c.requires.dev_fields; codes = length-map (dev_defs d.dev) (dev_code c.args.self.now) };
       total = c.body_length-length.ensures.length;
-      small = c.body_length-length.ensures.small }) in
+      small = c.body_length-length.ensures.small;
+    }) in
     subst (λ places. AreKept places (set c.self.inside.lengths d.local n)) (sym c.set_place.ensures.place) (kept_set c.self.inside.places c.self.inside.lengths d.local c.in_ok-defined.defined n as_long c.self.invariant kept)
