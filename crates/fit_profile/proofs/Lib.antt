@@ -1,0 +1,5 @@
+mod DayFacts
+mod DegreeFacts
+mod DigitFacts
+mod ScaleFacts
+mod ScanFacts

@@ -1,0 +1,7 @@
+pub mod Profile
+pub mod Names
+pub mod Scaled
+pub mod FixedText
+pub mod Instant
+pub mod Laws
+pub mod Digits
