@@ -39,7 +39,8 @@ pub fn definitions_are_tested<A: Allocator>()
     ensures dev_fields { DevFieldsAreTested A }
 {}
 
-/// Which data messages, with some of their bytes or none, can be completed so that records fill the room.
+/// Which data messages, with some of their bytes or none, can be completed so that records fill the
+/// room.
 pub fn messages_are_tested<A: Allocator>()
     ensures { MessagesAreTested A }
 {}

@@ -1,4 +1,5 @@
-//! Which rooms records can fill. The room is the number of bytes of the data section that are to come.
+//! Which rooms records can fill. The room is the number of bytes of the data section that are to
+//! come.
 ghost use Rattle.std.specs.Prelude.{◌≡◌, ◌↔◌, ◌<◌, ◌+◌, ◌==◌, ◌||◌, IsTrue, length, slice_index_or, slice_set, false, None};
 ghost use Rattle.fit_record.specs.Environment.{defined_at};
 ghost use Rattle.fit_record.specs.Files.{CanFill};
@@ -14,9 +15,10 @@ use std::alloc::Allocator;
 impl<A: Allocator> Env<A> {
     /// Whether some records take up just this many bytes.
     ///
-    /// No room at all and a room of six bytes or more can be filled: a definition message without fields has six bytes,
-    /// and its data messages have one. A smaller room can be filled by data messages alone, of local message types that
-    /// are defined (sections "Definition Message" and "Data Message").
+    /// No room at all and a room of six bytes or more can be filled: a definition message without
+    /// fields has six bytes, and its data messages have one. A smaller room can be filled by data
+    /// messages alone, of local message types that are defined (sections "Definition Message" and
+    /// "Data Message").
     pub fn can_fill(&self, room: u32) -> bool
         ensures { IsTrue result ↔ CanFill self.now room }
     {
@@ -73,8 +75,8 @@ impl<A: Allocator> Env<A> {
         }
     }
 
-    /// Whether records can fill the room once data messages of this local message type have this many bytes after the
-    /// record header.
+    /// Whether records can fill the room once data messages of this local message type have this
+    /// many bytes after the record header.
     pub(crate) fn can_fill_with(&self, local: u8, size: u32, room: u32) -> bool
         requires { local < 16 }
         ensures { result ≡ can_fill_with self.now local size room }
@@ -102,8 +104,8 @@ impl<A: Allocator> Env<A> {
         self.others_have(local, n) || size == n - 1
     }
 
-    /// Whether records can fill the room once data messages of this local message type have this many bytes or more
-    /// after the record header, as suits the room.
+    /// Whether records can fill the room once data messages of this local message type have this
+    /// many bytes or more after the record header, as suits the room.
     pub(crate) fn can_fill_from(&self, local: u8, least: u32, room: u32) -> bool
         requires { local < 16 }
         ensures { result ≡ can_fill_from self.now local least room }

@@ -6,9 +6,10 @@ use crate::Env;
 use std::alloc::Allocator;
 
 impl<A: Allocator> Env<A> {
-    /// Whether records can fill the room behind a data message of this local message type, where its record header has
-    /// come and `room` is what is left of the data section then (section "Data Message"). No where the local message
-    /// type isn't defined, and where the message is longer than the room.
+    /// Whether records can fill the room behind a data message of this local message type, where
+    /// its record header has come and `room` is what is left of the data section then (section
+    /// "Data Message"). No where the local message type isn't defined, and where the message is
+    /// longer than the room.
     ///
     /// Each of the message's bytes may be any, so the answer holds until its last one.
     pub fn can_carry(&self, local: u8, room: u32) -> bool
@@ -20,12 +21,13 @@ impl<A: Allocator> Env<A> {
         }
     }
 
-    /// Whether a definition message can be completed so that records fill the room behind it, where `to_come` bytes of
-    /// its entries and nothing else are to come (section "Definition Message"). `local` is its local message type,
-    /// `size` the sum of the sizes that have come, and `room` what is left of the data section.
+    /// Whether a definition message can be completed so that records fill the room behind it, where
+    /// `to_come` bytes of its entries and nothing else are to come (section "Definition Message").
+    /// `local` is its local message type, `size` the sum of the sizes that have come, and `room`
+    /// what is left of the data section.
     ///
-    /// A size that is to come is chosen as suits the room. The definition message takes the place of the one that its
-    /// local message type had.
+    /// A size that is to come is chosen as suits the room. The definition message takes the place
+    /// of the one that its local message type had.
     pub fn can_complete(&self, local: u8, to_come: u32, size: u32, room: u32) -> bool
         requires { local < 16 }
         ensures { result ≡ can_complete self.now local to_come size room }
@@ -36,8 +38,8 @@ impl<A: Allocator> Env<A> {
         self.finishes(local, to_come, size, room - to_come)
     }
 
-    /// The same where the number of developer fields is to come behind these entries (section "Developer Fields"), and
-    /// is chosen as suits the room.
+    /// The same where the number of developer fields is to come behind these entries (section
+    /// "Developer Fields"), and is chosen as suits the room.
     pub fn can_complete_dev(&self, local: u8, to_come: u32, size: u32, room: u32) -> bool
         requires { local < 16 }
         ensures { result ≡ can_complete_dev self.now local to_come size room }
@@ -68,8 +70,9 @@ impl<A: Allocator> Env<A> {
     }
 }
 
-/// Whether a definition message, with or without developer fields, can be completed so that records fill the room behind
-/// it, where `come` bytes after its record header have come and the number of its fields has not.
+/// Whether a definition message, with or without developer fields, can be completed so that records
+/// fill the room behind it, where `come` bytes after its record header have come and the number of
+/// its fields has not.
 pub fn can_complete_front(dev: bool, come: u32, room: u32) -> bool
     requires { come < 5 }
     ensures { result ≡ can_complete_front dev come room }

@@ -1,0 +1,8 @@
+mod Consumed
+mod Found
+mod Frames
+mod LineFacts
+mod Names
+mod Said
+mod Unique
+mod Written

@@ -1,0 +1,51 @@
+-- What clap makes of a line with a command and at most one FILE.
+use Rattle.std.proofs.Common.{◌∙◌, ap, inl, inr, ◌≡◌, ◌∷◌, ◌==◌, [], ℕ, List, Option, Some, None, true, false, refl, codes}
+use Rattle.std.proofs.lemmas.Bool.{ne_eqb}
+use Rattle.clap.specs.Words.{App, Text, takes, matches_of, first_of, first_value, found_of, is_simple, app_of, HasMatchesOf}
+use Rattle.clap.specs.declared.builder.command.Command.{Command as ClapCommand}
+use Rattle.clap.specs.declared.parser.matches.ArgMatches.{ArgMatches}
+use Rattle.clap.proofs.WalkLemmas.{first_value-rows}
+use Rattle.clap.proofs.OnLiterals.{clap_on_literals}
+use Rattle.fit_cmd.specs.CommandLine.{command_word, fit_app, IsPlainLine, Names}
+use Rattle.fit_cmd.specs.declared.command_line.Command.{Command}
+use Rattle.fit_cmd.specs.declared.command_line.Command.TheVariants.{Check}
+
+pub simple : is_simple fit_app ≡ true
+unfolding clap_on_literals
+simple = refl
+
+pub takes-command : (c : Command) (program : Text) → takes fit_app (program ∷ command_word c ∷ []) ≡ true
+unfolding clap_on_literals
+takes-command Check p = refl
+
+pub names-command : (c : Command) (program : Text) → Names (program ∷ command_word c ∷ []) c None
+unfolding clap_on_literals
+names-command Check p = (refl, refl)
+
+pub takes-file : (c : Command) (program : Text) (b : ℕ) (rest : Text) → (b == 45) ≡ false → takes fit_app (program ∷ command_word c ∷ (b ∷ rest) ∷ []) ≡ true
+unfolding clap_on_literals
+takes-file Check p b rest n = simp n refl
+
+pub names-file : (c : Command) (program : Text) (b : ℕ) (rest : Text) → (b == 45) ≡ false → Names (program ∷ command_word c ∷ (b ∷ rest) ∷ []) c (Some (b ∷ rest))
+unfolding clap_on_literals
+names-file Check p b rest n = (simp n refl, simp n refl)
+
+pub plain-takes : (c : Command) (words : List Text) → IsPlainLine c words → takes fit_app words ≡ true
+plain-takes c words (p, inl e) = ap (λ (w : List Text). takes fit_app w) e ∙ takes-command c p
+plain-takes c words (p, inr ([], none, e)) = absurd none
+plain-takes c words (p, inr (b ∷ rest, is_file, e)) = ap (λ (w : List Text). takes fit_app w) e ∙ takes-file c p b rest (ne_eqb b 45 is_file)
+
+abbrev named : List Text → Option Text
+named words = first_of (codes "command") (matches_of fit_app words)
+
+pub plain-command : (c : Command) (words : List Text) → IsPlainLine c words → first_of (codes "command") (matches_of fit_app words) ≡ Some (command_word c)
+plain-command c words (p, inl e) = ap named e ∙ (names-command c p).0
+plain-command c words (p, inr ([], none, e)) = absurd none
+plain-command c words (p, inr (b ∷ rest, is_file, e)) = ap named e ∙ (names-file c p b rest (ne_eqb b 45 is_file)).0
+
+-- the first value of an id is that of clap's matches
+pub first-is : (clap : ClapCommand) (words : List Text) (m : ArgMatches) (id : Text) → app_of clap ≡ fit_app → HasMatchesOf (app_of clap) words m
+    → first_value (found_of m) id ≡ first_of id (matches_of fit_app words)
+first-is clap words m id e h =
+    let same = h (ap is_simple e ∙ simple) in
+    first_value-rows (found_of m) id ∙ ap (first_of id) same.0 ∙ ap (λ (a : App). first_of id (matches_of a words)) e

@@ -1,0 +1,31 @@
+-- The command line of `fit`, as clap reads it.
+use Rattle.std.specs.Prelude.{◌≡◌, ◌≢◌, ◌⊎◌, ◌∷◌, [], true, List, Option, Some, codes}
+use Rattle.clap.specs.Words.{App, Rule, Text, new_app, new_rule, with_rule, matches_of, first_of}
+use Rattle.fit_cmd.specs.declared.command_line.Command.{Command}
+use Rattle.fit_cmd.specs.declared.command_line.Command.TheVariants.{Check}
+
+-- the word of a command
+abbrev pub command_word : Command → Text
+command_word Check = codes "check"
+
+abbrev pub command_rule : Rule
+command_rule = record (new_rule (codes "command")) { required = true }
+
+-- a command, which has to stand, and a FILE, which may
+abbrev pub fit_app : App
+fit_app = with_rule (with_rule (new_app (codes "fit")) command_rule) (new_rule (codes "file"))
+
+-- a FILE that is not empty and is no flag
+abbrev pub IsFile : Text → Type 0
+IsFile [] = ⊥
+IsFile (b ∷ rest) = b ≢ 45
+
+-- the words of a line that is refused for memory alone
+abbrev pub IsPlainLine : Command → List Text → Type 0
+IsPlainLine command words = (program : Text) × ((words ≡ program ∷ command_word command ∷ [])
+    ⊎ ((file : Text) × IsFile file × (words ≡ program ∷ command_word command ∷ file ∷ [])))
+
+-- what clap's matches of the words name
+abbrev pub Names : List Text → Command → Option Text → Type 0
+Names words command path = (first_of (codes "command") (matches_of fit_app words) ≡ Some (command_word command))
+    × (first_of (codes "file") (matches_of fit_app words) ≡ path)

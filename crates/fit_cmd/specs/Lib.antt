@@ -1,0 +1,8 @@
+pub mod Sources
+pub mod Sinks
+pub mod CommandLine
+pub mod Frame
+pub mod Taking
+pub mod Laws
+pub mod Lines
+pub mod Run

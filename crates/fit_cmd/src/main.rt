@@ -1,0 +1,108 @@
+//! The program `fit`, which checks files of the FIT protocol.
+#![tactic(auto)]
+
+mod check;
+mod command_line;
+mod laws;
+mod lines;
+mod run;
+mod sink;
+mod source;
+#[cfg(test)]
+mod tests;
+
+use crate::command_line::{Command, Line, LineFault, parse_line};
+use crate::lines::WRITE_FAULT;
+use crate::run::{BAD_USAGE, FAILED, GOOD, NO_MEMORY, run};
+use crate::sink::WriteSink;
+use crate::source::ReadSource;
+use std::alloc::Global;
+use std::fs::File;
+use std::io;
+use std::io::{BufReader, BufWriter, ErrorKind, Read, Write};
+use std::process::ExitCode;
+
+const USAGE: &str = "usage: fit check|show|to-csv|from-csv|table [FILE]";
+
+/// How many bytes are read from a file, and written to the output, at once.
+const BUFFER: usize = 64 * 1024;
+
+fn main(rt: HostRuntime) -> ExitCode {
+    let status = match words(&rt) {
+        Ok(words) => run_line(&rt, words.as_slice()),
+        Err(ErrorKind::OutOfMemory) => out_of_memory(&rt),
+        Err(_) => {
+            let _ = eprintln!(rt; "a word of the command line isn't UTF-8");
+            bad_usage(&rt)
+        }
+    };
+    ExitCode::from(status)
+}
+
+/// The words of the command line, the first of which is the program's name.
+fn words(rt: &HostRuntime) -> Result<Vec<String>, ErrorKind> {
+    match std::env::args(rt) {
+        Ok(words) => words
+            .collect(rt.alloc())
+            .map_err(|_| ErrorKind::OutOfMemory),
+        Err(error) => Err(error.kind()),
+    }
+}
+
+/// Does what the words ask for, and answers the exit status.
+fn run_line(rt: &HostRuntime, words: &[String]) -> u8 {
+    match parse_line(rt.alloc(), words) {
+        Ok(Line { command, path }) => match path {
+            Some(path) => run_file(rt, command, path.as_str()),
+            None => run_reader(rt, command, rt.stdin()),
+        },
+        Err(LineFault::Usage) => bad_usage(rt),
+        Err(LineFault::Help) => {
+            let _ = println!(rt; "{USAGE}");
+            GOOD
+        }
+        Err(LineFault::NoMemory) => out_of_memory(rt),
+    }
+}
+
+/// Runs a command on a file.
+fn run_file(rt: &HostRuntime, command: Command, path: &str) -> u8 {
+    match File::open(rt, path) {
+        Ok(file) => run_reader(rt, command, file),
+        Err(_) => {
+            let _ = eprintln!(rt; "cannot open {path}");
+            FAILED
+        }
+    }
+}
+
+/// Runs a command on what a reader gives. The output goes through a buffer, which is flushed before
+/// the status is made.
+fn run_reader<R: Read + Drop>(rt: &HostRuntime, command: Command, reader: R) -> u8 {
+    let alloc: Global = rt.alloc();
+    let Ok(reader) = BufReader::with_capacity(alloc, BUFFER, reader) else {
+        return out_of_memory(rt);
+    };
+    let Ok(mut writer) = BufWriter::with_capacity(alloc, BUFFER, rt.stdout()) else {
+        return out_of_memory(rt);
+    };
+    let mut source = ReadSource::new(reader);
+    let mut output = WriteSink::new(&mut writer);
+    let mut faults = WriteSink::new(rt.stderr());
+    let status = run(command, &mut source, &mut output, &mut faults);
+    if writer.flush().is_ok() || status == FAILED {
+        return status;
+    }
+    let _ = eprint!(rt; "{WRITE_FAULT}");
+    FAILED
+}
+
+fn bad_usage(rt: &HostRuntime) -> u8 {
+    let _ = eprintln!(rt; "{USAGE}");
+    BAD_USAGE
+}
+
+fn out_of_memory(rt: &HostRuntime) -> u8 {
+    let _ = eprintln!(rt; "out of memory");
+    NO_MEMORY
+}

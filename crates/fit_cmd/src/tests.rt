@@ -1,0 +1,335 @@
+//! Files checked, lines read, and sources and sinks that fail.
+use crate::command_line::{Command, LineFault, parse_line};
+use crate::run::run;
+use crate::sink::{CutSink, Sink, WriteSink};
+use crate::source::{CutSource, ReadSource, Source};
+use std::alloc::{AllocError, Global};
+use std::io;
+use std::io::{ErrorKind, Read};
+use std::test::Fail;
+
+/// The empty file, with the sum of its header.
+const EMPTY: &str = "0E 20 00 00 00 00 00 00 2E 46 49 54 9C 85 00 00";
+
+/// A definition message without fields and a data message of one byte.
+const ONE_BYTE_MESSAGE: &str =
+    "0E 20 00 00 07 00 00 00 2E 46 49 54 DD 63 40 00 00 14 00 00 00 44 34";
+
+/// Messages in both architectures, one with a compressed timestamp header.
+const TWO_MESSAGES: &str =
+    "0E 20 00 00 24 00 00 00 2E 46 49 54 9F 6E 40 00 00 14 00 02 FD 04 86 03 01 02 \
+     00 1F CA 9A 3B 78 41 00 01 00 14 02 02 02 84 08 03 0D A2 09 C4 64 00 10 F0 3B";
+
+const EMPTY_IS_GOOD: &str = "file 1: 0 data bytes\nok\n";
+
+/// The bytes that two hexadecimal digits each stand for.
+fn bytes_of(alloc: Global, text: &str) -> Result<Vec<u8>, Fail> {
+    let mut bytes = Vec::new(alloc);
+    for word in text.split_whitespace() {
+        bytes.push(u8::from_str_radix(word, 16)?)?;
+    }
+    Ok(bytes)
+}
+
+/// What a check writes, what it writes of faults, and its status.
+#[derive(Drop)]
+struct Answer {
+    output: CutSink<64>,
+    faults: CutSink<64>,
+    status: u8,
+}
+
+fn check<S: Source>(source: &mut S) -> Answer {
+    let mut output = CutSink::new(64);
+    let mut faults = CutSink::new(64);
+    let status = run(Command::Check, source, &mut output, &mut faults);
+    Answer {
+        output,
+        faults,
+        status,
+    }
+}
+
+#[test]
+fn files(rt: HostRuntime) -> Result<(), Fail> {
+    for (input, output, status) in [
+        (EMPTY, EMPTY_IS_GOOD, 0),
+        (
+            "0E 20 00 00 00 00 00 00 2E 46 49 54 9C 85 01 00",
+            "refused at byte 14: FileSum\n",
+            1,
+        ),
+        (
+            "0E 20 00 00 00 00 00 00 2E 46 49 54 9C 85 00 01",
+            "refused at byte 15: FileSum\n",
+            1,
+        ),
+        (
+            "0E 20 00 00 00 00 00 00 2E 46 49 54 00 00 A8 A3",
+            EMPTY_IS_GOOD,
+            0,
+        ),
+        (
+            "0C 20 00 00 00 00 00 00 2E 46 49 54 65 42",
+            EMPTY_IS_GOOD,
+            0,
+        ),
+        (
+            "0C 20 00 00 00 00 00 00 2E 46 49 54 65 43",
+            "refused at byte 13: FileSum\n",
+            1,
+        ),
+        (ONE_BYTE_MESSAGE, "file 1: 7 data bytes\nok\n", 0),
+        (
+            "0E 20 00 00 07 00 00 00 2E 46 49 54 DD 63 40 07 00 14 00 00 00 45 83",
+            "file 1: 7 data bytes\nok\n",
+            0,
+        ),
+        (TWO_MESSAGES, "file 1: 36 data bytes\nok\n", 0),
+        (
+            "0E 20 8D B5 00 00 00 00 2E 46 49 54 00 00 00 00",
+            EMPTY_IS_GOOD,
+            0,
+        ),
+        (
+            "10 20 00 00 00 00 00 00 2E 46 49 54 B4 AD 41 42 B0 61",
+            EMPTY_IS_GOOD,
+            0,
+        ),
+        (
+            "0E 20 00 00 00 00 00 00 2E 46 49 54 00 00",
+            "truncated at byte 14\n",
+            1,
+        ),
+        (
+            "0E 20 00 00 06 00 00 00 2E 46 49 54 00 00",
+            "truncated at byte 14\n",
+            1,
+        ),
+        (
+            "0E 20 00 00 03 00 00 00 2E 46 49 54 00 00",
+            "refused at byte 7: NoFit\n",
+            1,
+        ),
+        ("0B", "refused at byte 0: HeaderSize\n", 1),
+        (
+            "0D 20 00 00 00 00 00 00 2E 46 49 54 9C 85 00 00",
+            "refused at byte 0: HeaderSize\n",
+            1,
+        ),
+        (
+            "0E 30 00 00 00 00 00 00 2E 46 49 54 9C 85 00 00",
+            "refused at byte 1: Protocol\n",
+            1,
+        ),
+        (
+            "0E 20 00 00 00 00 00 00 2F 46 49 54 9C 85 00 00",
+            "refused at byte 8: Signature\n",
+            1,
+        ),
+        (
+            "0E 20 00 00 00 00 00 00 2E 46 49 54 9D 85 00 00",
+            "refused at byte 12: HeaderSum\n",
+            1,
+        ),
+        (
+            "0E 20 00 00 00 00 00 00 2E 46 49 54 9C 00 00 00",
+            "refused at byte 13: HeaderSum\n",
+            1,
+        ),
+        (
+            "0E 20 00 00 00 00 00 00 2E 46 49 54 00 85 00 00",
+            "refused at byte 13: HeaderSum\n",
+            1,
+        ),
+    ] {
+        let bytes = bytes_of(rt.alloc(), input)?;
+        let answer = check(&mut bytes.as_slice());
+        assert_eq!(rt; answer.output.bytes(), output.as_bytes(), "at {input}");
+        assert_eq!(rt; answer.faults.bytes(), b"".as_slice(), "at {input}");
+        assert_eq!(rt; answer.status, status, "at {input}");
+    }
+    Ok(())
+}
+
+#[test]
+fn cut_files(rt: HostRuntime) -> Result<(), Fail> {
+    let bytes = bytes_of(rt.alloc(), ONE_BYTE_MESSAGE)?;
+    for n in 0..bytes.len() {
+        let line = format!(in rt.alloc(); "truncated at byte {n}\n")?;
+        let answer = check(&mut &bytes.as_slice()[..n]);
+        assert_eq!(rt; answer.output.bytes(), line.as_bytes());
+        assert_eq!(rt; answer.status, 1);
+    }
+    Ok(())
+}
+
+#[test]
+fn changed_sums(rt: HostRuntime) -> Result<(), Fail> {
+    for bit in 0..16u8 {
+        let mut bytes = bytes_of(rt.alloc(), EMPTY)?;
+        let place = 14 + usize::from(bit / 8);
+        if let Some(byte) = bytes.as_mut_slice().get_mut(place) {
+            *byte ^= 1 << (bit % 8);
+        }
+        let line = format!(in rt.alloc(); "refused at byte {place}: FileSum\n")?;
+        let answer = check(&mut bytes.as_slice());
+        assert_eq!(rt; answer.output.bytes(), line.as_bytes());
+        assert_eq!(rt; answer.status, 1);
+    }
+    Ok(())
+}
+
+#[test]
+fn what_follows_is_left(rt: HostRuntime) -> Result<(), Fail> {
+    let mut bytes = bytes_of(rt.alloc(), EMPTY)?;
+    bytes.push(0xFF)?;
+    let mut source = bytes.as_slice();
+    let answer = check(&mut source);
+    assert_eq!(rt; answer.output.bytes(), EMPTY_IS_GOOD.as_bytes());
+    assert_eq!(rt; source, [0xFF].as_slice());
+    Ok(())
+}
+
+#[test]
+fn failing_sources(rt: HostRuntime) -> Result<(), Fail> {
+    let bytes = bytes_of(rt.alloc(), TWO_MESSAGES)?;
+    let answer = check(&mut CutSource::new(bytes.as_slice(), 20));
+    assert_eq!(rt; answer.output.bytes(), b"".as_slice());
+    assert_eq!(rt;
+        answer.faults.bytes(),
+        b"read fault at byte 20\n".as_slice()
+    );
+    assert_eq!(rt; answer.status, 4);
+
+    let answer = check(&mut CutSource::new(&[0x0D], 1));
+    assert_eq!(rt;
+        answer.output.bytes(),
+        b"refused at byte 0: HeaderSize\n".as_slice()
+    );
+    assert_eq!(rt; answer.status, 1);
+    Ok(())
+}
+
+#[test]
+fn small_sinks(rt: HostRuntime) -> Result<(), Fail> {
+    let bytes = bytes_of(rt.alloc(), EMPTY)?;
+    for limit in 0..EMPTY_IS_GOOD.len() {
+        let mut output = CutSink::<64>::new(limit);
+        let mut faults = CutSink::<64>::new(64);
+        let status = run(
+            Command::Check,
+            &mut bytes.as_slice(),
+            &mut output,
+            &mut faults,
+        );
+        assert_eq!(rt; output.bytes(), &EMPTY_IS_GOOD.as_bytes()[..limit]);
+        assert_eq!(rt; faults.bytes(), b"write fault\n".as_slice());
+        assert_eq!(rt; status, 4);
+    }
+
+    // A fault line that can't be written changes no status.
+    let mut output = CutSink::<64>::new(64);
+    let mut faults = CutSink::<4>::new(64);
+    let status = run(
+        Command::Check,
+        &mut CutSource::new(&[0x0E], 1),
+        &mut output,
+        &mut faults,
+    );
+    assert_eq!(rt; faults.bytes(), b"read".as_slice());
+    assert!(rt; faults.failed());
+    assert_eq!(rt; status, 4);
+    Ok(())
+}
+
+/// Gives some bytes, and then an error.
+#[derive(Drop)]
+struct BrokenReader<'a>(&'a [u8]);
+
+impl Read for BrokenReader<'_> {
+    fn read(&mut self, buffer: &mut [u8]) -> io::Result<usize> {
+        if self.0.is_empty() {
+            return Err(io::Error::from(ErrorKind::Other));
+        }
+        self.0.read(buffer)
+    }
+}
+
+#[test]
+fn readers_and_writers(rt: HostRuntime) -> Result<(), Fail> {
+    // More than two pieces of data, all zeros. Their sum is that of another program.
+    let mut bytes = bytes_of(rt.alloc(), "0E 20 00 00 28 23 00 00 2E 46 49 54 00 00")?;
+    for _ in 0..9000 {
+        bytes.push(0)?;
+    }
+    bytes.extend_from_slice(&[0x59, 0xAC])?;
+    let mut text = Vec::new(rt.alloc());
+    let mut faults = CutSink::<64>::new(64);
+    let mut source = ReadSource::new(bytes.as_slice());
+    let status = run(
+        Command::Check,
+        &mut source,
+        &mut WriteSink::new(&mut text),
+        &mut faults,
+    );
+    assert_eq!(rt;
+        text.as_slice(),
+        b"file 1: 9000 data bytes\nok\n".as_slice()
+    );
+    assert_eq!(rt; status, 0);
+
+    let front = bytes.as_slice().get(..5000).ok_or("too short")?;
+    let mut source = ReadSource::new(BrokenReader(front));
+    let mut room = [0u8; 8];
+    let mut output = WriteSink::new(room.as_mut_slice());
+    let status = run(Command::Check, &mut source, &mut output, &mut faults);
+    assert_eq!(rt; faults.bytes(), b"read fault at byte 5000\n".as_slice());
+    assert!(rt; source.failed() && !output.failed());
+    assert_eq!(rt; status, 4);
+
+    let status = run(
+        Command::Check,
+        &mut bytes.as_slice(),
+        &mut output,
+        &mut faults,
+    );
+    assert!(rt; output.failed());
+    assert_eq!(rt; status, 4);
+    Ok(())
+}
+
+fn words(alloc: Global, line: &str) -> Result<Vec<String>, AllocError> {
+    let mut words = Vec::new(alloc);
+    for word in line.split(' ') {
+        words.push(String::from_str(alloc, word)?)?;
+    }
+    Ok(words)
+}
+
+#[test]
+fn lines(rt: HostRuntime) -> Result<(), Fail> {
+    for (line, want) in [
+        ("fit check", Ok(None)),
+        ("fit check a.fit", Ok(Some("a.fit"))),
+        ("fit", Err(LineFault::Usage)),
+        ("fit frob", Err(LineFault::Usage)),
+        ("fit Check", Err(LineFault::Usage)),
+        ("fit ", Err(LineFault::Usage)),
+        ("fit check a b", Err(LineFault::Usage)),
+        ("fit to-csv a.fit", Err(LineFault::Usage)),
+        ("fit --help", Err(LineFault::Help)),
+    ] {
+        let words = words(rt.alloc(), line)?;
+        let found = parse_line(rt.alloc(), words.as_slice());
+        match &found {
+            Ok(found) => {
+                assert_eq!(rt; found.command, Command::Check, "at {line}");
+                let path = found.path.as_ref().map(|path| path.as_str());
+                assert!(rt; want == Ok(path), "at {line}");
+            }
+            Err(fault) => assert!(rt; want == Err(*fault), "at {line}"),
+        }
+    }
+    Ok(())
+}
