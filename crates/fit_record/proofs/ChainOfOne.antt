@@ -1,5 +1,5 @@
 -- A chain of at most one file is a file.
-use Rattle.std.proofs.Common.{◌≡◌, ℕ, ◌≤◌, List, [], ◌∷◌, ◌++◌, length, refl, sym, ap, ◌∙◌, subst, arith, lit<, lit≤}
+use Rattle.std.proofs.Common.{◌≡◌, ℕ, List, [], ◌∷◌, refl, sym, ◌∙◌, subst, arith, lit<, lit≤}
 use Rattle.std.proofs.lemmas.List.{append-nil}
 use Rattle.fit_record.specs.declared.file.FitFile.{FitFile}
 use Rattle.fit_record.specs.Files.{file_bytes, IsFile, IsChain}

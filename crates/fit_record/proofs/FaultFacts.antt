@@ -1,5 +1,5 @@
 -- There is no fault just where a record fits.
-use Rattle.std.proofs.Common.{◌≡◌, ℕ, suc, ◌+◌, ◌^◌, ◌<◌, ◌↔◌, Bool, true, false, cond, List, length, refl, sym, ap, subst, ◌∙◌, Some, None, ltb, ltb-true, lt-ltb}
+use Rattle.std.proofs.Common.{◌≡◌, ℕ, ◌+◌, ◌^◌, ◌<◌, Bool, true, false, cond, length, refl, sym, ap, subst, ◌∙◌, Some, None, ltb, ltb-true, lt-ltb}
 use Rattle.std.specs.Prelude.{Option, Result, Ok, Err, IfErr, OnErr, option_map, IsSomeAnd}
 use Rattle.fit_record.specs.declared.definition.MessageDef.{MessageDef}
 use Rattle.fit_record.specs.declared.message.Values.{Values}
@@ -9,8 +9,8 @@ use Rattle.fit_record.specs.declared.environment.Defined.{Defined}
 use Rattle.fit_record.specs.declared.fits.ShapeFault.{ShapeFault}
 use Rattle.fit_record.specs.declared.fits.ShapeFault.TheVariants.{BadLocal, BadOffset, UndefinedLocal, WrongShape}
 use Rattle.fit_record.specs.Environment.{Environment, defined_at, dev_defs}
-use Rattle.fit_record.specs.Records.{layout, dev_layout, DefinitionFits, DataHeaderFits, DataFits, HaveShape, Fits}
-use Rattle.fit_record.specs.Faults.{or_else, wrong_from, wrong_place, header_fault, body_fault, data_fault, definition_fault, first_fault, HasRange}
+use Rattle.fit_record.specs.Records.{layout, dev_layout, DefinitionFits, DataHeaderFits, DataFits, Fits}
+use Rattle.fit_record.specs.Faults.{or_else, wrong_from, header_fault, body_fault, definition_fault, first_fault}
 use Rattle.fit_record.specs.Laws.{FaultsAreExact}
 use Rattle.fit_record.proofs.WrongPlace.{wrong_none, none_wrong}
 

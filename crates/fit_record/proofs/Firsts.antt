@@ -1,11 +1,11 @@
 -- How the first field of a number is found by going over the fields.
-use Rattle.std.proofs.Common.{◌≡◌, ℕ, zero, suc, ◌+◌, ◌^◌, ◌<◌, ◌≤◌, Bool, true, false, cond, List, [], ◌∷◌, length, map, drop, get_or, refl, sym, ap, ◌∙◌, subst, arith, Some, None, eqb-true, eq-eqb}
-use Rattle.std.specs.Prelude.{Option, slice_get, option_and_then, ◌==◌}
+use Rattle.std.proofs.Common.{◌≡◌, ℕ, zero, suc, ◌+◌, ◌^◌, ◌<◌, ◌≤◌, true, false, cond, List, [], ◌∷◌, length, map, drop, get_or, refl, sym, ap, ◌∙◌, subst, arith, Some, None}
+use Rattle.std.specs.Prelude.{slice_get, ◌==◌}
 use Rattle.fit_base.specs.declared.items.Items.{Items}
 use Rattle.fit_base.specs.Fields.{HasShape}
 use Rattle.std.specs.List.{AllByRecursion}
 use Rattle.fit_record.specs.declared.definition.FieldDef.{FieldDef}
-use Rattle.fit_record.specs.Environment.{first_items, only, only_byte}
+use Rattle.fit_record.specs.Environment.{first_items}
 use Rattle.fit_record.specs.Records.{HaveShape}
 
 no_items : {A : Type 0} (fs : List FieldDef) (n : ℕ) → first_items {A = A} fs [] n ≡ None

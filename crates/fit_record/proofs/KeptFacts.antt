@@ -1,5 +1,5 @@
 -- What is kept stays so as places are filled.
-use Rattle.std.proofs.Common.{◌≡◌, ℕ, zero, suc, ◌<◌, List, [], ◌∷◌, length, replicate, set, get_or, refl, arith, Some, None}
+use Rattle.std.proofs.Common.{◌≡◌, ℕ, zero, suc, List, [], ◌∷◌, length, replicate, set, get_or, arith, Some, None}
 use Rattle.std.specs.Prelude.{Option, IfSome}
 use Rattle.fit_record.specs.declared.environment.Defined.{Defined}
 use Rattle.fit_record.specs.Kept.{IsSound, IsKept, MayBeKept, AreKept}

@@ -1,6 +1,5 @@
 -- Whole files whose bytes are known from elsewhere: each value below is proved to be the file of its bytes.
-use Rattle.std.proofs.Common.{◌≡◌, ℕ, ◌<◌, ◌^◌, List, [], ◌∷◌, ◌++◌, refl, None, Some, lit<, lit≤}
-use Rattle.std.specs.Prelude.{Option}
+use Rattle.std.proofs.Common.{ℕ, ◌<◌, ◌^◌, List, [], ◌∷◌, refl, None, Some, lit<, lit≤}
 use Rattle.fit_base.specs.declared.items.Items.{Items}
 use Rattle.fit_base.specs.declared.number.Order.TheVariants as orders
 use Rattle.fit_sum.specs.Checksum.{checksum}
@@ -13,7 +12,6 @@ use Rattle.fit_record.specs.declared.definition.DevDef.{DevDef}
 use Rattle.fit_record.specs.declared.file.FitFile.{FitFile}
 use Rattle.fit_record.specs.declared.message.Record.{Record}
 use Rattle.fit_record.specs.declared.message.Record.TheVariants.{Define, Values}
-use Rattle.fit_record.specs.Records.{DefinitionFits}
 use Rattle.fit_record.specs.Files.{IsFile}
 
 -- protocol version 2.0

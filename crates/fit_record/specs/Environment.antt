@@ -1,5 +1,5 @@
 -- What a reader of records knows: the definition of each local message type, and the described developer fields.
-use Rattle.std.specs.Prelude.{ℕ, ◌==◌, Bool, if◌then◌else◌, List, [], ◌∷◌, length, map, replicate, slice_index_or, slice_set, unwrap_or, option_and_then, Option, Some, None, zip}
+use Rattle.std.specs.Prelude.{ℕ, ◌==◌, if◌then◌else◌, List, [], ◌∷◌, map, replicate, slice_index_or, slice_set, unwrap_or, option_and_then, Option, Some, None}
 use Rattle.std.specs.Ordering.{nat_cmp, ordering_then}
 use Rattle.std.specs.declared.cmp.Ordering.{Ordering}
 use Rattle.std.specs.Map.{lookup}

@@ -1,5 +1,5 @@
 -- Why a record can't stand where an environment is known: the first reason, in the order of the faults.
-use Rattle.std.specs.Prelude.{◌≡◌, ℕ, ◌+◌, ◌*◌, ◌<◌, ◌^◌, nat_lt, if◌then◌else◌, List, [], ◌∷◌, length, Option, Some, None, option_map}
+use Rattle.std.specs.Prelude.{ℕ, ◌+◌, ◌*◌, ◌<◌, ◌^◌, nat_lt, if◌then◌else◌, List, [], ◌∷◌, length, Option, Some, None, option_map}
 use Rattle.fit_base.specs.declared.items.Items.{Items}
 use Rattle.fit_base.specs.Fields.{has_shape}
 use Rattle.fit_record.specs.declared.definition.MessageDef.{MessageDef}

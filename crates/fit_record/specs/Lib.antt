@@ -4,6 +4,7 @@ pub mod HeaderByte
 pub mod Files
 pub mod Faults
 pub mod Laws
+pub mod Sound
 pub mod Kept
 pub mod Rooms
 pub mod Unfinished

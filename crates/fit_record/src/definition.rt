@@ -1,7 +1,6 @@
 //! Definition messages (FIT protocol, "Definition Message").
 ghost use Rattle.std.specs.Prelude.{◌≡◌, ◌<◌, ◌≤◌, IfOk, length, sum_by};
-ghost use Rattle.fit_record.specs.Kept.{body_length};
-ghost use Rattle.fit_record.specs.Records.{DefinitionFits};
+ghost use Rattle.fit_record.specs.Records.{DefinitionFits, body_length};
 
 use fit_base::{Entries, Order};
 use std::alloc::{AllocError, Allocator, Global};
@@ -89,7 +88,7 @@ fn dev_copy<A: Allocator>(
 }
 
 /// How many bytes follow the record header of a data message.
-pub(crate) fn body_length<A: Allocator>(d: &MessageDef<A>) -> u32
+pub fn body_length<A: Allocator>(d: &MessageDef<A>) -> u32
     requires { DefinitionFits d.now }
     ensures length { result ≡ body_length d.now }
     ensures small { result ≤ 130050 }

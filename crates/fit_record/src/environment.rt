@@ -2,9 +2,9 @@
 //! developer fields.
 ghost use Rattle.std.specs.Prelude.{◌≡◌, ◌+◌, ◌<◌, ◌≤◌, IfOk, IfErr, map, option_map, option_and_then, option_copied, slice_get, slice_set, IsSomeAnd, OnOk, OnErr, IfSome, Some, length};
 ghost use Rattle.fit_record.specs.Environment.{empty_environment, defined_at, defined_by, describe, description, dev_code, dev_defs, learn};
-ghost use Rattle.fit_record.specs.Records.{Fits, DefinitionFits, DataFits, message_size, record_bytes};
+ghost use Rattle.fit_record.specs.Records.{Fits, DefinitionFits, DataFits, body_length, message_size, record_bytes};
 ghost use Rattle.fit_record.specs.Faults.{first_fault};
-ghost use Rattle.fit_record.specs.Kept.{IsSound, body_length};
+ghost use Rattle.fit_record.specs.Sound.{IsSound};
 
 use crate::definition::{body_length, definition_copy};
 use crate::fits::{data_fits, definition_fits};
@@ -63,8 +63,8 @@ impl<A: Allocator + Copy> Env<A> {
 }
 
 impl<A: Allocator> Env<A> {
-    /// What is defined for a local message type.
-    pub(crate) fn defined(&self, local: u8) -> Option<&Defined<A>>
+    /// What is defined for a local message type. One of 16 or more has none.
+    pub fn defined(&self, local: u8) -> Option<&Defined<A>>
         ensures place { option_copied result ≡ defined_at self.now local }
         ensures sound { IfSome (defined_at self.now local) IsSound }
     {

@@ -1,9 +1,9 @@
 //! Whether a record can stand where an environment is known, and how long its bytes are.
 ghost use Rattle.std.specs.Prelude.{◌≡◌, ℕ, ◌+◌, ◌<◌, ◌≤◌, IfOk, IfErr, OnOk, IfSome, Some, None, IsSomeAnd, length, map, zip};
-ghost use Rattle.fit_record.specs.Records.{DefinitionFits, DataHeaderFits, HaveShape, layout, dev_layout, DataFits};
+ghost use Rattle.fit_record.specs.Records.{DefinitionFits, DataHeaderFits, HaveShape, layout, dev_layout, DataFits, body_length};
 ghost use Rattle.fit_record.specs.Environment.{defined_at, dev_defs};
 ghost use Rattle.fit_record.specs.Faults.{wrong_from, wrong_place, header_fault, body_fault, data_fault, definition_fault, definition_length};
-ghost use Rattle.fit_record.specs.Kept.{IsSound, body_length};
+ghost use Rattle.fit_record.specs.Sound.{IsSound};
 
 use crate::environment::Defined;
 use crate::{DevDef, Env, FieldDef, MessageDef, Values};

@@ -12,8 +12,8 @@ mod message;
 mod rooms;
 mod unfinished;
 
-pub use definition::{DevDef, FieldDef, MessageDef};
-pub use environment::Env;
+pub use definition::{DevDef, FieldDef, MessageDef, body_length};
+pub use environment::{Defined, Env};
 pub use file::FitFile;
 pub use fits::ShapeFault;
 pub use message::{Record, Values};
