@@ -1,5 +1,5 @@
 //! The check of a frame: a file header, the data that it announces, and the closing sum.
-ghost use Rattle.std.specs.Prelude.{◌≡◌, ◌≢◌, ℕ, ◌+◌, ◌<◌, ◌≤◌, ◌^◌, List, [], ◌∷◌, ◌++◌, Option, Some, None, Ok, Err, IfOk, IfErr, false, length};
+ghost use Rattle.std.specs.Prelude.{◌≡◌, ℕ, ◌<◌, ◌≤◌, List, [], ◌++◌, Err, IfOk, IfErr, OnOk, length, take};
 ghost use Rattle.std.specs.Io.KnownBytes.{Consumes};
 ghost use Rattle.fit_frame.specs.Beginning.{IsFileHeader};
 ghost use Rattle.fit_cmd.specs.Frame.{Finds};
@@ -37,8 +37,6 @@ fn take_some<S: Source>(source: &mut S, place: u64, buffer: &mut [u8]) -> Result
         Err(_) => Err(FrameFault::Read { place }),
     }
 }
-
-ghost use Rattle.std.specs.Prelude.{take};
 
 /// Takes the next byte of a frame.
 fn take_byte<S: Source>(source: &mut S, place: u64) -> Result<u8, FrameFault>
@@ -99,8 +97,6 @@ fn pass_data<S: Source>(
     }
     Ok(())
 }
-
-ghost use Rattle.std.specs.Prelude.{OnOk};
 
 /// Takes the next byte of the closing sum, which has to be this one.
 fn take_sum_byte<S: Source>(source: &mut S, place: u64, wanted: u8) -> Result<(), FrameFault>
