@@ -3,12 +3,14 @@ use Rattle.std.specs.Prelude.{ℕ, ◌%◌, ◌==◌, if◌then◌else◌, List,
 use Rattle.fit_base.specs.declared.code.Class.{Class}
 use Rattle.fit_base.specs.declared.code.Class.TheVariants.{Signed, Unsigned, Text, Float, Bytes}
 
+-- a row of the table: code, width in bytes, the number that says "no value", and how the numbers are to be read
 pub record BaseType : Type 0 where
   pub code : ℕ
   pub width : ℕ
   pub invalid : ℕ
   pub class : Class
 
+-- a row from its four columns
 abbrev pub base : ℕ → ℕ → ℕ → Class → BaseType
 base code width invalid class = record { code = code; width = width; invalid = invalid; class = class }
 
@@ -16,6 +18,7 @@ base code width invalid class = record { code = code; width = width; invalid = i
 abbrev pub byte : BaseType
 byte = base 0x0D 1 0xFF Bytes
 
+-- the table, row by row
 abbrev pub base_types : List BaseType
 base_types =
     base 0x00 1 0xFF Unsigned  -- enum

@@ -1,5 +1,5 @@
 //! The numbers of a field, of which a lone one takes no memory.
-ghost use Rattle.std.specs.Prelude.{◌≡◌, ◌≤◌, [], ◌∷◌, ◌++◌, ◌==◌, OnOk, OnErr, IfOk, IsOk, length};
+ghost use Rattle.std.specs.Prelude.{◌≡◌, ◌≤◌, [], ◌∷◌, ◌++◌, ◌==◌, ◌<◌, ◌↔◌, OnOk, OnErr, IfOk, IsOk, IsSome, length, option_to_list};
 
 use std::alloc::{AllocError, Allocator, Global};
 use std::fmt::{self, Debug, Formatter, Write};
@@ -132,6 +132,22 @@ impl<A: Allocator + Copy> Bits<A> {
                 numbers.push(number)?;
                 Ok(())
             }
+        }
+    }
+
+    /// Takes the last number away. Memory stays, if there was any.
+    pub fn pop(&mut self) -> Option<u64>
+        ensures last { self.old ≡ self.new ++ option_to_list result }
+        ensures some { IsSome result ↔ (0 < length self.old) }
+    {
+        match &mut self.held {
+            Held::None(_) => None,
+            Held::One(number, alloc) => {
+                let (last, alloc) = (*number, *alloc);
+                self.held = Held::None(alloc);
+                Some(last)
+            }
+            Held::Many(numbers) => numbers.pop(),
         }
     }
 

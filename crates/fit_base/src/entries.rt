@@ -1,5 +1,5 @@
 //! A vector that contracts see as the list of its elements.
-ghost use Rattle.std.specs.Prelude.{◌≡◌, [], ◌∷◌, ◌++◌, ◌==◌, OnOk, OnErr, IfOk, IfErr, length};
+ghost use Rattle.std.specs.Prelude.{◌≡◌, [], ◌∷◌, ◌++◌, ◌==◌, OnOk, OnErr, IfOk, IfErr, IsSome, ◌↔◌, ◌<◌, length, option_to_list};
 
 use std::alloc::{AllocError, AllocFailed, Allocator, Global};
 use std::marker::Model;
@@ -92,5 +92,13 @@ impl<T, A: Allocator> Entries<T, A> {
         ensures returned { IfErr result (λ failed. failed.value ≡ item) }
     {
         self.items.push(item)
+    }
+
+    /// Takes the last element away. The memory stays.
+    pub fn pop(&mut self) -> Option<T>
+        ensures last { self.old ≡ self.new ++ option_to_list result }
+        ensures some { IsSome result ↔ (0 < length self.old) }
+    {
+        self.items.pop()
     }
 }

@@ -20,6 +20,7 @@ sum_part Absent fixed = []
 sum_part Zero fixed = 0 ∷ 0 ∷ []
 sum_part True fixed = little_bytes 2 (checksum fixed)
 
+-- the one spelling of a header that stands before n bytes of data
 abbrev pub header_bytes : Header → ℕ → List ℕ
 header_bytes h n = fixed_part h n ++ sum_part h.sum (fixed_part h n) ++ h.rest.items
 

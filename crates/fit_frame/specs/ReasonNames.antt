@@ -3,6 +3,7 @@ use Rattle.std.specs.Prelude.{ℕ, List, codes}
 use Rattle.fit_frame.specs.declared.reason.Reason.{Reason}
 use Rattle.fit_frame.specs.declared.reason.Reason.TheVariants.{HeaderSize, Protocol, NoFit, Signature, HeaderSum, ReservedBit, UndefinedLocal, Overrun, Architecture, FileSum, TooManyFiles}
 
+-- the name of a reason, as the program prints it
 abbrev pub reason_name : Reason → List ℕ
 reason_name HeaderSize = codes "HeaderSize"
 reason_name Protocol = codes "Protocol"

@@ -30,7 +30,7 @@ one_order Little Big e = cc
 one_order Big Little e = cc
 one_order Big Big e = refl
 
-same_fields : (fs gs : List FieldDef) (x y : List ℕ) → length fs ≡ length gs → flat_map field_bytes fs ++ x ≡ flat_map field_bytes gs ++ y → (fs ≡ gs) × (x ≡ y)
+pub same_fields : (fs gs : List FieldDef) (x y : List ℕ) → length fs ≡ length gs → flat_map field_bytes fs ++ x ≡ flat_map field_bytes gs ++ y → (fs ≡ gs) × (x ≡ y)
 same_fields [] [] x y l e = (refl, e)
 same_fields [] (g ∷ gs) x y l e = absurd (omega arith)
 same_fields (f ∷ fs) [] x y l e = absurd (omega arith)
@@ -43,7 +43,7 @@ same_fields (f ∷ fs) (g ∷ gs) x y l e =
     let h : f ≡ g = λ i. record { number = a i; size = b i; code = c i } in
     (cc (h, r.0), r.1)
 
-same_dev_fields : (fs gs : List DevDef) (x y : List ℕ) → length fs ≡ length gs → flat_map dev_field_bytes fs ++ x ≡ flat_map dev_field_bytes gs ++ y → (fs ≡ gs) × (x ≡ y)
+pub same_dev_fields : (fs gs : List DevDef) (x y : List ℕ) → length fs ≡ length gs → flat_map dev_field_bytes fs ++ x ≡ flat_map dev_field_bytes gs ++ y → (fs ≡ gs) × (x ≡ y)
 same_dev_fields [] [] x y l e = (refl, e)
 same_dev_fields [] (g ∷ gs) x y l e = absurd (omega arith)
 same_dev_fields (f ∷ fs) [] x y l e = absurd (omega arith)

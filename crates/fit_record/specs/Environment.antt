@@ -1,4 +1,5 @@
--- What a reader of records knows: the definition of each local message type, and the described developer fields.
+-- What a reader of records knows: the definition of each local message type, and the described developer fields
+-- (sections "Definition Message" and "Developer Data").
 use Rattle.std.specs.Prelude.{ℕ, ◌==◌, if◌then◌else◌, List, [], ◌∷◌, map, replicate, slice_index_or, slice_set, unwrap_or, option_and_then, Option, Some, None}
 use Rattle.std.specs.Ordering.{nat_cmp, ordering_then}
 use Rattle.std.specs.declared.cmp.Ordering.{Ordering}
@@ -25,6 +26,7 @@ pub record Environment (A : Type 0) : Type 0 where
   pub places : List (Option (Defined A))
   pub described : List (DevKey × ℕ)
 
+-- what is known at the start of a file: nothing
 abbrev pub empty_environment : {A : Type 0} → Environment A
 empty_environment = record { places = replicate 16 None; described = [] }
 
@@ -59,10 +61,12 @@ description d v =
     (only_byte d.fields v.fields 2)) (only_byte d.fields v.fields 1)) (only_byte d.fields v.fields 0)
     else None
 
+-- A description replaces the earlier one of its developer field (section "Field Description Message").
 abbrev pub describe : {A : Type 0} → Environment A → Option Description → Environment A
 describe e None = e
 describe e (Some s) = record e { described = insert_entry dev_key_cmp e.described s.key s.code }
 
+-- the developer fields of a definition, none where it has no such part
 abbrev pub dev_defs : Option (List DevDef) → List DevDef
 dev_defs fields = unwrap_or fields []
 

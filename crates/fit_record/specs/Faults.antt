@@ -47,9 +47,11 @@ definition_fault d =
     else Some (WrongShape 255))
     else Some BadLocal
 
+-- of a data message: its header first
 abbrev pub data_fault : {A : Type 0} → Environment A → Values A → Option ShapeFault
 data_fault e v = or_else (header_fault v.local v.offset) (body_fault (defined_at e v.local) v)
 
+-- of any record
 abbrev pub first_fault : {A : Type 0} → Environment A → Record A → Option ShapeFault
 first_fault e (Define d) = definition_fault d
 first_fault e (Data v) = data_fault e v
@@ -61,6 +63,7 @@ HasRange (Data v) = Unit {0}
 
 -- ---- lengths
 
+-- the number of developer fields, and three bytes for each
 abbrev pub dev_length : Option (List DevDef) → ℕ
 dev_length None = 0
 dev_length (Some fields) = 1 + 3 * length fields

@@ -21,6 +21,7 @@ summed f = header_bytes f.header (length (body f)) ++ body f
 abbrev pub file_bytes : {A : Type 0} → FitFile A → List ℕ
 file_bytes f = summed f ++ little_bytes 2 (checksum (summed f))
 
+-- The header can announce the data section, and each record can stand where it is.
 pub record IsWellFormed {A : Type 0} (f : FitFile A) : Type 0 where
   pub header : HeaderFits f.header (length (body f))
   pub records : AllFit empty_environment f.records
@@ -35,6 +36,7 @@ IsFile f bytes = IsWellFormed f × (bytes ≡ file_bytes f)
 abbrev pub chain_limit : ℕ
 chain_limit = 16777215
 
+-- the files, one after another (section "Chained FIT Files")
 abbrev pub chain_bytes : {A : Type 0} → List (FitFile A) → List ℕ
 chain_bytes fs = flat_map file_bytes fs
 

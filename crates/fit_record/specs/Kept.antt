@@ -11,9 +11,11 @@ pub record IsKept {A : Type 0} (p : Defined A) (n : ℕ) : Type 0 where
   pub total : n ≡ body_length p.definition
   pub small : n ≤ 130050
 
+-- the same of a place that may be empty
 abbrev pub MayBeKept : {A : Type 0} → Option (Defined A) → ℕ → Type 0
 MayBeKept None n = Unit {0}
 MayBeKept (Some p) n = IsKept p n
 
+-- the same of every place
 abbrev pub AreKept : {A : Type 0} → List (Option (Defined A)) → List ℕ → Type 0
 AreKept places lengths = (local : ℕ) → MayBeKept (slice_index_or places local None) (slice_index lengths local)

@@ -21,9 +21,11 @@ abbrev pub architecture : Order → ℕ
 architecture Little = 0
 architecture Big = 1
 
+-- a field: its number, its size in bytes, its base type code (section "Field Definition")
 abbrev pub field_bytes : FieldDef → List ℕ
 field_bytes f = f.number ∷ f.size ∷ f.code ∷ []
 
+-- a developer field: its number, its size in bytes, its developer data index (section "Developer Field Definition")
 abbrev pub dev_field_bytes : DevDef → List ℕ
 dev_field_bytes f = f.number ∷ f.size ∷ f.index ∷ []
 
@@ -42,6 +44,7 @@ definition_bytes d =
     d.reserved ∷ architecture d.order ∷ number_bytes d.order 2 d.global
     ++ length d.fields ∷ flat_map field_bytes d.fields ++ dev_part d.dev
 
+-- The numbers and the counts of a definition message have room in their bits.
 pub record DefinitionFits {A : Type 0} (d : MessageDef A) : Type 0 where
   pub local : d.local < 16
   pub global : d.global < 2 ^ 16
@@ -50,10 +53,11 @@ pub record DefinitionFits {A : Type 0} (d : MessageDef A) : Type 0 where
 
 -- ---- data messages
 
--- code and size of each field, and of each developer field
+-- base type code and size of each field
 abbrev pub layout : {A : Type 0} → Defined A → List (ℕ × ℕ)
 layout p = map (λ f. (f.code, f.size)) p.definition.fields
 
+-- the same of each developer field
 abbrev pub dev_layout : {A : Type 0} → Defined A → List (ℕ × ℕ)
 dev_layout p = zip p.dev_codes (map (λ f. f.size) (dev_defs p.definition.dev))
 
@@ -72,6 +76,7 @@ abbrev pub data_header : ℕ → Option ℕ → ℕ
 data_header local None = local
 data_header local (Some offset) = 0x80 + 32 * local + offset
 
+-- local message type and time offset have room in the record header
 abbrev pub DataHeaderFits : ℕ → Option ℕ → Type 0
 DataHeaderFits local None = local < 16
 DataHeaderFits local (Some offset) = (local < 4) × (offset < 32)
@@ -84,6 +89,7 @@ body_length d = sum_by (λ f. f.size) d.fields + sum_by (λ f. f.size) (dev_defs
 abbrev pub data_bytes : {A : Type 0} → Order → Values A → List ℕ
 data_bytes order v = flat_map (items_bytes order) v.fields ++ flat_map (items_bytes order) v.dev
 
+-- The data message is one of this definition.
 pub record DataFits {A : Type 0} (v : Values A) (p : Defined A) : Type 0 where
   pub header : DataHeaderFits v.local v.offset
   pub fields : HaveShape (layout p) v.fields
@@ -114,9 +120,11 @@ abbrev pub AllFit : {A : Type 0} → Environment A → List (Record A) → Type 
 AllFit e [] = Unit {0}
 AllFit e (r ∷ records) = Fits e r × AllFit (learn e r) records
 
+-- the bytes of records, one after another
 abbrev pub records_bytes : {A : Type 0} → Environment A → List (Record A) → List ℕ
 records_bytes e [] = []
 records_bytes e (r ∷ records) = record_bytes e r ++ records_bytes (learn e r) records
 
+-- The bytes are those of the records.
 abbrev pub AreRecords : {A : Type 0} → Environment A → List (Record A) → List ℕ → Type 0
 AreRecords e records bytes = AllFit e records × (bytes ≡ records_bytes e records)
