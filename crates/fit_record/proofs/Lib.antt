@@ -22,3 +22,5 @@ pub mod DefinitionParts
 pub mod DefinitionFronts
 pub mod CarriedMessages
 pub mod RoomRows
+pub mod KnownRecords
+pub mod KnownFaults

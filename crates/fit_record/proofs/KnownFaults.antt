@@ -1,0 +1,151 @@
+-- Worked records and the first reasons why they can't stand where they are.
+use Rattle.std.proofs.Common.{◌≡◌, ℕ, List, [], ◌∷◌, refl, Option, None, Some}
+use Rattle.std.specs.Prelude.{map, replicate}
+use Rattle.fit_base.specs.declared.items.Items.{Items}
+use Rattle.fit_base.specs.declared.number.Order.TheVariants.{Little}
+use Rattle.fit_record.proofs.KnownFiles.{field, dev_field, item}
+use Rattle.fit_record.specs.declared.definition.FieldDef.{FieldDef}
+use Rattle.fit_record.specs.declared.definition.DevDef.{DevDef}
+use Rattle.fit_record.specs.declared.fits.ShapeFault.{ShapeFault}
+use Rattle.fit_record.specs.declared.fits.ShapeFault.TheVariants.{BadLocal, BadOffset, UndefinedLocal, WrongShape}
+use Rattle.fit_record.specs.declared.message.Record.{Record}
+use Rattle.fit_record.specs.declared.message.Record.TheVariants.{Define, Values}
+use Rattle.fit_record.specs.Environment.{Environment, empty_environment, learn}
+use Rattle.fit_record.specs.Faults.{first_fault}
+
+abbrev nothing : Environment (Unit {0})
+nothing = empty_environment
+
+abbrev defines : ℕ → List FieldDef → Option (List DevDef) → Record (Unit {0})
+defines local fields dev = Define (record { local = local; reserved = 0; order = Little; global = 20; fields = fields; dev = dev })
+
+abbrev message : ℕ → Option ℕ → List (Items (Unit {0})) → List (Items (Unit {0})) → Record (Unit {0})
+message local offset fields dev = Values (record { local = local; offset = offset; fields = fields; dev = dev })
+
+-- ---- fields that are single bytes
+
+-- a uint32 field of six bytes, a field of an unknown code, and a uint16 field of no bytes
+abbrev odd_fields : Environment (Unit {0})
+odd_fields = learn nothing (defines 0 (field 3 6 0x86 ∷ field 4 4 0x1F ∷ field 5 0 0x84 ∷ []) None)
+
+abbrev odd_fault : Items (Unit {0}) → Items (Unit {0}) → Items (Unit {0}) → Option ShapeFault
+odd_fault a b c = first_fault odd_fields (message 0 None (a ∷ b ∷ c ∷ []) [])
+
+abbrev six : Items (Unit {0})
+six = item 1 (1 ∷ 2 ∷ 3 ∷ 4 ∷ 5 ∷ 255 ∷ [])
+
+abbrev four : Items (Unit {0})
+four = item 1 (1 ∷ 2 ∷ 3 ∷ 4 ∷ [])
+
+-- Where the width doesn't divide the size, and where the code is unknown, the items are bytes. No items have the width of the code.
+odd_sizes_and_unknown_codes : odd_fault six four (item 2 []) ≡ None
+odd_sizes_and_unknown_codes = refl
+
+-- One number of four bytes is neither.
+a_number_of_an_odd_size : odd_fault (item 4 (1 ∷ [])) four (item 2 []) ≡ Some (WrongShape 0)
+a_number_of_an_odd_size = refl
+
+a_number_of_an_unknown_code : odd_fault six (item 4 (1 ∷ [])) (item 2 []) ≡ Some (WrongShape 1)
+a_number_of_an_unknown_code = refl
+
+a_number_of_no_bytes : odd_fault six four (item 2 (1 ∷ [])) ≡ Some (WrongShape 2)
+a_number_of_no_bytes = refl
+
+no_bytes_as_bytes : odd_fault six four (item 1 []) ≡ Some (WrongShape 2)
+no_bytes_as_bytes = refl
+
+-- ---- the order of the reasons
+
+-- Local type 0 has a uint32 field, a uint8 field, and a developer field of two bytes.
+abbrev known : Environment (Unit {0})
+known = learn nothing (defines 0 (field 253 4 0x86 ∷ field 3 1 2 ∷ []) (Some (dev_field 5 2 0 ∷ [])))
+
+-- of a message without fields
+abbrev header_fault_of : ℕ → Option ℕ → Option ShapeFault
+header_fault_of local offset = first_fault known (message local offset [] [])
+
+-- A local message type of 16, or of 4 with a time offset, comes before the offset. All fields are missing too.
+bad_local : (header_fault_of 16 None ∷ header_fault_of 16 (Some 32) ∷ header_fault_of 4 (Some 0) ∷ header_fault_of 4 (Some 32) ∷ [])
+    ≡ (Some BadLocal ∷ Some BadLocal ∷ Some BadLocal ∷ Some BadLocal ∷ [])
+bad_local = refl
+
+-- The offset comes before a local message type that isn't defined.
+bad_offset : (header_fault_of 3 (Some 32) ∷ header_fault_of 0 (Some 32) ∷ []) ≡ (Some BadOffset ∷ Some BadOffset ∷ [])
+bad_offset = refl
+
+undefined_local : (header_fault_of 3 (Some 31) ∷ header_fault_of 15 None ∷ []) ≡ (Some UndefinedLocal ∷ Some UndefinedLocal ∷ [])
+undefined_local = refl
+
+-- The fields come last.
+missing_fields : (header_fault_of 0 (Some 31) ∷ header_fault_of 0 None ∷ []) ≡ (Some (WrongShape 0) ∷ Some (WrongShape 0) ∷ [])
+missing_fields = refl
+
+-- ---- the first field that isn't as defined
+
+abbrev fault_of : List (Items (Unit {0})) → List (Items (Unit {0})) → Option ShapeFault
+fault_of fields dev = first_fault known (message 0 None fields dev)
+
+abbrev time : Items (Unit {0})
+time = item 4 (1000000031 ∷ [])
+
+abbrev pulse : Items (Unit {0})
+pulse = item 1 (120 ∷ [])
+
+abbrev power : Items (Unit {0})
+power = item 1 (0x34 ∷ 0x12 ∷ [])
+
+-- a number that one byte can't hold
+abbrev large : Items (Unit {0})
+large = item 1 (256 ∷ [])
+
+-- the developer field as one number
+abbrev wide : Items (Unit {0})
+wide = item 2 (4660 ∷ [])
+
+as_defined : fault_of (time ∷ pulse ∷ []) (power ∷ []) ≡ None
+as_defined = refl
+
+too_large : fault_of (time ∷ large ∷ []) (power ∷ []) ≡ Some (WrongShape 1)
+too_large = refl
+
+missing : fault_of (time ∷ []) (power ∷ []) ≡ Some (WrongShape 1)
+missing = refl
+
+too_many : fault_of (time ∷ pulse ∷ pulse ∷ []) (power ∷ []) ≡ Some (WrongShape 2)
+too_many = refl
+
+-- Of several the first counts.
+all_wrong : fault_of (large ∷ large ∷ []) (wide ∷ []) ≡ Some (WrongShape 0)
+all_wrong = refl
+
+-- Developer fields are counted on from the two fields.
+wrong_developer_field : fault_of (time ∷ pulse ∷ []) (wide ∷ []) ≡ Some (WrongShape 2)
+wrong_developer_field = refl
+
+missing_developer_field : fault_of (time ∷ pulse ∷ []) [] ≡ Some (WrongShape 2)
+missing_developer_field = refl
+
+too_many_developer_fields : fault_of (time ∷ pulse ∷ []) (power ∷ power ∷ []) ≡ Some (WrongShape 3)
+too_many_developer_fields = refl
+
+-- ---- definition messages
+
+abbrev so_many : ℕ → List FieldDef
+so_many count = replicate count (field 3 1 2)
+
+abbrev so_many_dev : ℕ → Option (List DevDef)
+so_many_dev count = Some (replicate count (dev_field 5 2 0))
+
+-- The place of 256 of either list is too many. Developer fields are counted on from the definition's own fields.
+fields_of_a_definition : map (λ count. first_fault nothing (defines 0 (so_many count) None)) (0 ∷ 255 ∷ 256 ∷ 300 ∷ [])
+    ≡ (None ∷ None ∷ Some (WrongShape 255) ∷ Some (WrongShape 255) ∷ [])
+fields_of_a_definition = refl
+
+dev_fields_of_a_definition : map (λ count. first_fault nothing (defines 0 (so_many 2) (so_many_dev count))) (0 ∷ 255 ∷ 256 ∷ [])
+    ≡ (None ∷ None ∷ Some (WrongShape 257) ∷ [])
+dev_fields_of_a_definition = refl
+
+-- The local message type comes first.
+local_of_a_definition : map (λ local. first_fault nothing (defines local (so_many 256) None)) (15 ∷ 16 ∷ [])
+    ≡ (Some (WrongShape 255) ∷ Some BadLocal ∷ [])
+local_of_a_definition = refl
