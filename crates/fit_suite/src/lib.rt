@@ -4,12 +4,4 @@
 #[cfg(test)]
 mod built;
 #[cfg(test)]
-mod definitions;
-#[cfg(test)]
-mod described;
-#[cfg(test)]
-mod faults;
-#[cfg(test)]
 mod refused;
-#[cfg(test)]
-mod shapes;
