@@ -5,4 +5,3 @@ mod LineFacts
 mod Names
 mod Said
 mod Unique
-mod Written

@@ -1,5 +1,4 @@
 pub mod Sources
-pub mod Sinks
 pub mod CommandLine
 pub mod Frame
 pub mod Taking

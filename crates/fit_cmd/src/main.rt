@@ -6,7 +6,6 @@ mod command_line;
 mod laws;
 mod lines;
 mod run;
-mod sink;
 mod source;
 #[cfg(test)]
 mod tests;
@@ -14,8 +13,8 @@ mod tests;
 use crate::command_line::{Command, Line, LineFault, parse_line};
 use crate::lines::WRITE_FAULT;
 use crate::run::{BAD_USAGE, FAILED, GOOD, NO_MEMORY, run};
-use crate::sink::WriteSink;
 use crate::source::ReadSource;
+use fit_encode::WriteSink;
 use std::alloc::Global;
 use std::fs::File;
 use std::io;

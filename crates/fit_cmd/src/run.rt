@@ -10,8 +10,8 @@ use crate::check::{FrameFault, check_frame};
 use crate::command_line::Command;
 use crate::lines;
 use crate::lines::WRITE_FAULT;
-use crate::sink::{Sink, put_all};
 use crate::source::Source;
+use fit_encode::{Sink, put_all};
 
 /// The exit status of a good input.
 pub const GOOD: u8 = 0;

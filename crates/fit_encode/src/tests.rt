@@ -1,0 +1,250 @@
+//! Files of which the bytes are known, and the faults that no clause puts at a place.
+use crate::{CutSink, EncodeFault, write_chain, write_one};
+use arrayvec::ArrayVec;
+use fit_base::{Bits, Entries, Items, Order};
+use fit_frame::{Header, HeaderSum};
+use fit_record::{DevDef, FieldDef, FitFile, MessageDef, Record, Values};
+use std::alloc::{AllocError, Global};
+use std::test::Fail;
+
+/// A header of protocol version 2.0.
+fn header(size: u8, profile: u16, sum: HeaderSum) -> Header {
+    Header {
+        size,
+        protocol: 0x20,
+        profile,
+        sum,
+        rest: ArrayVec::new(),
+    }
+}
+
+/// A definition message, little endian, of fields by number, size and code. Of its developer fields
+/// it has none.
+fn define(
+    alloc: Global,
+    local: u8,
+    global: u16,
+    fields: &[(u8, u8, u8)],
+) -> Result<MessageDef, AllocError> {
+    let mut list = Entries::new(alloc);
+    for (number, size, code) in fields {
+        list.push(FieldDef {
+            number: *number,
+            size: *size,
+            code: *code,
+        })?;
+    }
+    Ok(MessageDef {
+        local,
+        reserved: 0,
+        order: Order::Little,
+        global,
+        fields: list,
+        dev: None,
+    })
+}
+
+/// The items of fields, by their width.
+fn fields_of(alloc: Global, fields: &[(u8, &[u64])]) -> Result<Entries<Items>, AllocError> {
+    let mut list = Entries::new(alloc);
+    for (width, numbers) in fields {
+        list.push(Items {
+            width: *width,
+            bits: Bits::from_vec(Vec::from_slice(alloc, numbers)?),
+        })?;
+    }
+    Ok(list)
+}
+
+/// A data message without developer fields.
+fn values(
+    alloc: Global,
+    local: u8,
+    offset: Option<u8>,
+    fields: &[(u8, &[u64])],
+) -> Result<Record, AllocError> {
+    Ok(Record::Values(Values {
+        local,
+        offset,
+        fields: fields_of(alloc, fields)?,
+        dev: Entries::new(alloc),
+    }))
+}
+
+/// Messages in both architectures, one of them with a compressed timestamp header.
+fn both_orders(alloc: Global, heart_rate: u64) -> Result<Vec<Record>, AllocError> {
+    let mut records = Vec::new(alloc);
+    let first = define(alloc, 0, 20, &[(253, 4, 0x86), (3, 1, 2)])?;
+    records.push(Record::Define(first))?;
+    let first = values(alloc, 0, None, &[(4, &[1_000_000_031]), (1, &[heart_rate])])?;
+    records.push(first)?;
+    let mut second = define(alloc, 1, 20, &[(2, 2, 0x84), (8, 3, 0x0D)])?;
+    second.order = Order::Big;
+    records.push(Record::Define(second))?;
+    let second = values(alloc, 1, Some(2), &[(2, &[2500]), (1, &[0x64, 0, 0x10])])?;
+    records.push(second)?;
+    Ok(records)
+}
+
+/// A definition message with developer field 5 of index 0, of two bytes.
+fn define_dev(alloc: Global) -> Result<Record, AllocError> {
+    let mut definition = define(alloc, 1, 20, &[])?;
+    let mut dev = Entries::new(alloc);
+    dev.push(DevDef {
+        number: 5,
+        size: 2,
+        index: 0,
+    })?;
+    definition.dev = Some(dev);
+    Ok(Record::Define(definition))
+}
+
+/// A message that has the developer field alone.
+fn dev_values(alloc: Global, width: u8, numbers: &[u64]) -> Result<Record, AllocError> {
+    Ok(Record::Values(Values {
+        local: 1,
+        offset: None,
+        fields: Entries::new(alloc),
+        dev: fields_of(alloc, &[(width, numbers)])?,
+    }))
+}
+
+/// A developer field before and after its description, and defined again.
+fn described(alloc: Global) -> Result<Vec<Record>, AllocError> {
+    let mut records = Vec::new(alloc);
+    let fields = [(0, 1, 2), (1, 1, 2), (2, 1, 2), (3, 3, 7)];
+    records.push(Record::Define(define(alloc, 0, 206, &fields)?))?;
+    records.push(define_dev(alloc)?)?;
+    records.push(dev_values(alloc, 1, &[0x34, 0x12])?)?;
+    let name = [0x6D, 0x6F, 0];
+    let description: [(u8, &[u64]); 4] = [(1, &[0]), (1, &[5]), (1, &[0x84]), (1, &name)];
+    records.push(values(alloc, 0, None, &description)?)?;
+    records.push(dev_values(alloc, 1, &[0x34, 0x12])?)?;
+    records.push(define_dev(alloc)?)?;
+    records.push(dev_values(alloc, 2, &[4660])?)?;
+    Ok(records)
+}
+
+/// What a file of these is written as, by a sink that takes so many bytes.
+fn written(
+    alloc: Global,
+    limit: usize,
+    header: Header,
+    records: Vec<Record>,
+) -> (Result<(), EncodeFault>, CutSink<70>) {
+    let mut sink = CutSink::new(limit);
+    let file = FitFile {
+        header,
+        records: Entries::from_vec(records),
+    };
+    (write_one(alloc, &mut sink, &file), sink)
+}
+
+#[test]
+fn headers_alone(rt: HostRuntime) {
+    let rows = [
+        (
+            header(14, 0, HeaderSum::True),
+            b"\x0E\x20\0\0\0\0\0\0.FIT\x9C\x85\0\0".as_slice(),
+        ),
+        (
+            header(14, 0, HeaderSum::Zero),
+            b"\x0E\x20\0\0\0\0\0\0.FIT\0\0\xA8\xA3",
+        ),
+        (
+            header(12, 0, HeaderSum::Absent),
+            b"\x0C\x20\0\0\0\0\0\0.FIT\x65\x42",
+        ),
+        (
+            header(14, 46477, HeaderSum::True),
+            b"\x0E\x20\x8D\xB5\0\0\0\0.FIT\0\0\0\0",
+        ),
+    ];
+    for (header, bytes) in rows {
+        let (answer, sink) = written(rt.alloc(), 70, header, Vec::new(rt.alloc()));
+        assert_eq!(rt; answer, Ok(()));
+        assert_eq!(rt; sink.bytes(), bytes);
+    }
+}
+
+#[test]
+fn files_with_records(rt: HostRuntime) -> Result<(), Fail> {
+    let alloc = rt.alloc();
+    let mut small = Vec::new(alloc);
+    small.push(Record::Define(define(alloc, 0, 20, &[])?))?;
+    small.push(values(alloc, 0, None, &[])?)?;
+    let rows = [
+        (
+            small,
+            b"\x0E\x20\0\0\x07\0\0\0.FIT\xDD\x63\x40\0\0\x14\0\0\0\x44\x34".as_slice(),
+        ),
+        (
+            both_orders(alloc, 120)?,
+            b"\x0E\x20\0\0\x24\0\0\0.FIT\x9F\x6E\
+              \x40\0\0\x14\0\x02\xFD\x04\x86\x03\x01\x02\0\x1F\xCA\x9A\x3B\x78\
+              \x41\0\x01\0\x14\x02\x02\x02\x84\x08\x03\x0D\xA2\x09\xC4\x64\0\x10\xF0\x3B",
+        ),
+        (
+            described(alloc)?,
+            b"\x0E\x20\0\0\x36\0\0\0.FIT\x1F\xBB\
+              \x40\0\0\xCE\0\x04\0\x01\x02\x01\x01\x02\x02\x01\x02\x03\x03\x07\
+              \x61\0\0\x14\0\0\x01\x05\x02\0\x01\x34\x12\0\0\x05\x84\x6D\x6F\0\x01\x34\x12\
+              \x61\0\0\x14\0\0\x01\x05\x02\0\x01\x34\x12\x4A\x8B",
+        ),
+    ];
+    for (records, bytes) in rows {
+        let (answer, sink) = written(alloc, 70, header(14, 0, HeaderSum::True), records);
+        assert_eq!(rt; answer, Ok(()));
+        assert_eq!(rt; sink.bytes(), bytes);
+    }
+    Ok(())
+}
+
+#[test]
+fn faults(rt: HostRuntime) -> Result<(), Fail> {
+    let alloc = rt.alloc();
+    let mut undefined = Vec::new(alloc);
+    undefined.push(values(alloc, 0, None, &[])?)?;
+    let rows = [
+        (
+            header(16, 0, HeaderSum::True),
+            Vec::new(alloc),
+            EncodeFault::BadHeader { file: 1 },
+        ),
+        (
+            header(14, 46477, HeaderSum::Zero),
+            Vec::new(alloc),
+            EncodeFault::ZeroIsSum { file: 1 },
+        ),
+        (
+            header(14, 0, HeaderSum::True),
+            undefined,
+            EncodeFault::UndefinedLocal { file: 1, index: 0 },
+        ),
+        (
+            header(14, 0, HeaderSum::True),
+            both_orders(alloc, 256)?,
+            EncodeFault::WrongShape {
+                file: 1,
+                index: 1,
+                field: 1,
+            },
+        ),
+    ];
+    for (header, records, fault) in rows {
+        let (answer, sink) = written(alloc, 70, header, records);
+        assert_eq!(rt; answer, Err(fault));
+        assert!(rt; sink.bytes().is_empty());
+    }
+    let none = write_chain(alloc, &mut CutSink::<4>::new(4), &[]);
+    assert_eq!(rt; none, Err(EncodeFault::ChainLength));
+    Ok(())
+}
+
+#[test]
+fn a_sink_that_fails(rt: HostRuntime) {
+    let alloc = rt.alloc();
+    let (answer, sink) = written(alloc, 5, header(14, 0, HeaderSum::True), Vec::new(alloc));
+    assert_eq!(rt; answer, Err(EncodeFault::Write { written: 5 }));
+    assert_eq!(rt; sink.bytes(), b"\x0E\x20\0\0\0".as_slice());
+}
