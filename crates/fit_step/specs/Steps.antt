@@ -1,5 +1,5 @@
 -- What the code's steps say, in terms of the machine. No public contract names these.
-use Rattle.std.specs.Prelude.{◌≡◌, ℕ, suc, ◌+◌, ◌<◌, ◌==◌, ◌⊎◌, if◌then◌else◌, Bool, true, false, List, [], ◌∷◌, length, Option, Some, None, Result, Ok, Err, IsOk, IsSome}
+use Rattle.std.specs.Prelude.{◌≡◌, ℕ, suc, ◌<◌, ◌==◌, ◌⊎◌, if◌then◌else◌, Bool, true, false, List, [], ◌∷◌, length, Option, Some, None, Result, Ok, Err, IsOk, IsSome}
 use Rattle.fit_record.specs.declared.definition.MessageDef.{MessageDef}
 use Rattle.fit_record.specs.declared.message.Record.{Record}
 use Rattle.fit_record.specs.declared.message.Record.TheVariants.{Define, Values as Data}
@@ -23,6 +23,17 @@ Made phase room in_progress partial (Ok true) made = made ≡ Ok (state phase ro
 Made phase room in_progress partial (Ok false) made = made ≡ Ok (state phase room in_progress partial, None)
 Made phase room in_progress partial (Err (Refused reason)) made = made ≡ Err reason
 Made phase room in_progress partial (Err NoMemory) made = IsOk made
+
+-- What there is of a record is all of it, or stays in progress.
+abbrev pub entered : {A : Type 0} → Bool → Phase → ℕ → Record A → Next A
+entered true phase room r = (state phase room None [], Some r)
+entered false phase room r = (state phase room (Some r) [], None)
+
+-- the same of the byte with which a record begins
+abbrev pub Enters : {A : Type 0} → Phase → ℕ → Result (Record A × Bool) Stop → Step A → Type 0
+Enters phase room (Ok (r, whole)) made = made ≡ Ok (entered whole phase room r)
+Enters phase room (Err (Refused reason)) made = made ≡ Err reason
+Enters phase room (Err NoMemory) made = IsOk made
 
 -- the same inside a definition message
 abbrev pub Defines : {A : Type 0} → Phase → ℕ → MessageDef A → Result Bool Stop → Step A → Type 0

@@ -1,6 +1,6 @@
 -- What there is of a data message can go on just where the room behind it can be filled.
-use Rattle.std.proofs.Common.{◌≡◌, ◌↔◌, IsTrue, ℕ, zero, suc, ◌+◌, ◌-◌, ◌*◌, ◌<◌, ◌≤◌, Bool, true, false, List, [], ◌∷◌, ◌++◌, length, refl, sym, ap, ◌∙◌, subst, arith, length-append, Some, None}
-use Rattle.std.specs.Prelude.{Option, flat_map, sum_by, nat_le, ◌&&◌, IfSome}
+use Rattle.std.proofs.Common.{◌≡◌, ◌↔◌, IsTrue, ℕ, ◌+◌, ◌-◌, ◌*◌, ◌≤◌, true, false, List, [], ◌∷◌, ◌++◌, length, refl, sym, ap, ◌∙◌, subst, arith, length-append, Some}
+use Rattle.std.specs.Prelude.{Option, flat_map, nat_le, ◌&&◌, IfSome}
 use Rattle.std.specs.Option.{option_map_or}
 use Rattle.std.proofs.lemmas.Bool.{both_ways, le-leb}
 use Rattle.std.proofs.lemmas.List.{flat_map_more}
@@ -14,7 +14,7 @@ use Rattle.fit_record.specs.declared.message.Record.{Record}
 use Rattle.fit_record.specs.declared.message.Record.TheVariants.{Define, Values as Data}
 use Rattle.fit_record.specs.Environment.{Environment, defined_at, learn}
 use Rattle.fit_record.specs.HeaderByte.{is_definition}
-use Rattle.fit_record.specs.Records.{layout, dev_layout, message_size, data_header, DataHeaderFits, data_bytes, order_at, record_bytes, Fits}
+use Rattle.fit_record.specs.Records.{message_size, data_header, DataHeaderFits, data_bytes, order_at, record_bytes, Fits}
 use Rattle.fit_record.specs.Files.{CanFill}
 use Rattle.fit_record.specs.Rooms.{can_fill}
 use Rattle.fit_record.specs.Unfinished.{can_carry, CanCarry}

@@ -17,7 +17,7 @@ use Rattle.fit_record.specs.HeaderByte.{is_definition}
 use Rattle.fit_record.specs.Records.{architecture, field_bytes, dev_field_bytes, dev_part, definition_header, definition_bytes, DefinitionFits}
 use Rattle.fit_step.specs.Machine.{Tests, Step, step, definition_move, next_field, next_dev, after_fields, dev_count_byte}
 use Rattle.fit_step.specs.Parts.{in_definition, definition_front, fields_front, dev_front, definition_part, HasNone, IsNew, AwaitsFields, AwaitsDev, IsDefinitionPart, IsShut}
-use Rattle.fit_step.proofs.Lengths.{same_fields}
+use Rattle.fit_record.proofs.OneRecord.{same_fields}
 use Rattle.fit_step.proofs.Takes.{IsBytes-none, IsBytes-cons, number_bytes-number, number-below}
 use Rattle.fit_step.proofs.Lengths.{dev_size_of, length-field_bytes, length-dev_field_bytes, length-dev_part, length-fields_front}
 use Rattle.fit_step.proofs.HeaderBits.{definition_bits, is_some_dev}

@@ -1,5 +1,5 @@
 -- Developer fields, whose codes and sizes stand in two lists, and the search for the next field that has bytes.
-use Rattle.std.proofs.Common.{◌≡◌, inl, inr, ℕ, zero, suc, ◌+◌, ◌<◌, List, [], ◌∷◌, ◌++◌, length, take, drop, map, get_or, set, refl, sym, ap, ◌∙◌, subst, arith, Some, None, Ok, Err}
+use Rattle.std.proofs.Common.{◌≡◌, inl, inr, ℕ, zero, suc, ◌+◌, ◌<◌, List, [], ◌∷◌, ◌++◌, length, take, drop, map, get_or, set, refl, ap, ◌∙◌, subst, arith, Some, None, Ok, Err}
 use Rattle.std.specs.Prelude.{Option, Result, OnOk, OnErr, zip, ◌==◌, ◌≤◌}
 use Rattle.fit_base.specs.declared.items.Items.{Items}
 use Rattle.std.proofs.lemmas.Bool.{cond-true, eq-eqb, cases_Bool}

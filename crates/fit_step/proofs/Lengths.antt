@@ -1,5 +1,5 @@
 -- How long the bytes of records are.
-use Rattle.std.proofs.Common.{◌≡◌, ℕ, ◌+◌, ◌*◌, List, [], ◌∷◌, ◌++◌, length, refl, sym, ◌∙◌, ap, arith, length-append, Some, None}
+use Rattle.std.proofs.Common.{◌≡◌, ℕ, ◌+◌, ◌*◌, List, [], ◌∷◌, length, refl, sym, ◌∙◌, ap, arith, length-append, Some, None}
 use Rattle.std.specs.Prelude.{Option, flat_map, sum_by}
 use Rattle.std.proofs.lemmas.List.Sums.{sum_by-append, sum_by-cons}
 use Rattle.fit_base.specs.declared.items.Items.{Items}
@@ -60,17 +60,3 @@ length-shaped o (f ∷ fs) (i ∷ items) h =
 pub length-data : {A : Type 0} (o : Order) (v : Values A) (p : Defined A) → DataFits v p → length (data_bytes o v) ≡ message_size p
 length-data o v p h =
     omega (arith, length-append (flat_map (items_bytes o) v.fields) (flat_map (items_bytes o) v.dev), length-shaped o (layout p) v.fields h.fields, length-shaped o (dev_layout p) v.dev h.dev_fields, sum_by-append (λ (f : ℕ × ℕ). f.1) (layout p) (dev_layout p))
-
--- as many fields with the same bytes are the same
-pub same_fields : (fs gs : List FieldDef) (x y : List ℕ) → length fs ≡ length gs → flat_map field_bytes fs ++ x ≡ flat_map field_bytes gs ++ y → (fs ≡ gs) × (x ≡ y)
-same_fields [] [] x y l e = (refl, e)
-same_fields [] (g ∷ gs) x y l e = absurd (omega arith)
-same_fields (f ∷ fs) [] x y l e = absurd (omega arith)
-same_fields (f ∷ fs) (g ∷ gs) x y l e =
-    let a : f.number ≡ g.number = cc in
-    let b : f.size ≡ g.size = cc in
-    let c : f.code ≡ g.code = cc in
-    let t : flat_map field_bytes fs ++ x ≡ flat_map field_bytes gs ++ y = cc in
-    let r = same_fields fs gs x y (omega arith) t in
-    let h : f ≡ g = λ i. record { number = a i; size = b i; code = c i } in
-    (cc (h, r.0), r.1)

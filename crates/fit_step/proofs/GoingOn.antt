@@ -7,21 +7,20 @@ use Rattle.fit_record.specs.declared.definition.DevDef.{DevDef}
 use Rattle.fit_record.specs.declared.definition.FieldDef.{FieldDef}
 use Rattle.fit_record.specs.declared.definition.MessageDef.{MessageDef}
 use Rattle.fit_record.specs.declared.environment.Defined.{Defined}
-use Rattle.fit_record.specs.declared.message.Record.{Record}
-use Rattle.fit_record.specs.declared.message.Record.TheVariants.{Define, Values as Data}
+use Rattle.fit_record.specs.declared.message.Record.TheVariants.{Define}
 use Rattle.fit_record.specs.declared.message.Values.{Values}
 use Rattle.fit_record.specs.Environment.{Environment, defined_at, dev_defs, learn}
 use Rattle.fit_record.specs.HeaderByte.{is_definition, has_developer_fields, has_reserved_bit, local_type}
 use Rattle.fit_record.specs.Records.{layout, dev_layout, message_size, body_length}
 use Rattle.fit_record.specs.Rooms.{fills, has_length, can_fill, can_fill_with, can_fill_from, others_have}
-use Rattle.fit_record.specs.Unfinished.{finishes, can_complete, can_complete_dev, can_complete_front}
+use Rattle.fit_record.specs.Unfinished.{finishes, can_complete, can_complete_dev}
 use Rattle.fit_record.proofs.FilledRooms.{same_places, can_fill_is}
 use Rattle.fit_record.proofs.DefinitionInPlace.{can_fill_after}
 use Rattle.std.proofs.Math.ListN.{length-set}
 use Rattle.fit_step.specs.declared.phase.DefinitionPhase.{DefinitionPhase}
 use Rattle.fit_step.specs.declared.phase.DefinitionPhase.TheVariants.{Reserved, Architecture as AtArchitecture, GlobalFirst, GlobalSecond, FieldCount, FieldNumber, FieldSize, FieldCode, DevCount, DevNumber, DevSize, DevIndex}
 use Rattle.fit_step.specs.Reasons.{least_definition}
-use Rattle.fit_step.specs.Machine.{State, Step, start, step, sizes, least_rest, begin_dev, begin_fields, layout_at, dev_layout_at, fields_rest, dev_rest, field_move, dev_move, definition_move, definition_rest, next_field, next_dev, after_fields, dev_count_byte, new_definition, new_message, new_dev, header_move, message_move}
+use Rattle.fit_step.specs.Machine.{Step, start, step, sizes, least_rest, begin_dev, begin_fields, layout_at, dev_layout_at, fields_rest, dev_rest, field_move, dev_move, definition_move, definition_rest, next_field, next_dev, after_fields, dev_count_byte, new_message, new_dev, header_move, message_move}
 use Rattle.fit_step.specs.Parts.{Part, nothing, in_definition, in_fields, in_dev_fields, IsDefinitionPart, IsNew, HasNone, IsPart, state_of}
 use Rattle.fit_step.specs.Tests.{entries_complete, tests_of}
 use Rattle.fit_step.specs.GoingOn.{has_dev, definition_goes_on, goes_on}
