@@ -1,0 +1,6 @@
+mod KnownCells
+mod HexFacts
+mod NumberFacts
+mod StringFacts
+mod ClassFacts
+mod TextFacts

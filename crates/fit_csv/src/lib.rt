@@ -1,0 +1,9 @@
+//! CSV both ways: the cells of fields, and rows.
+#![tactic(auto)]
+
+mod cell;
+mod hexadecimal;
+mod numbers;
+mod strings;
+
+pub use cell::{cell_text, put_cell};
