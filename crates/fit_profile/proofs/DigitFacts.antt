@@ -1,5 +1,5 @@
 -- The last digits of a number.
-use Rattle.std.proofs.Common.{◌≡◌, inl, inr, drop, drop-cons, get_or, ◌∙◌, ◌++◌, ◌∷◌, [], ◌+◌, ◌-◌, ◌*◌, ◌/◌, ◌%◌, ◌^◌, ◌<◌, ◌≤◌, zero, suc, ℕ, ℤ, pos, negsuc, mul_assoc, unsigned_abs, decimal, List, refl, ap, ap₂, sym, arith, add-one, length, append_assoc}
+use Rattle.std.proofs.Common.{◌≡◌, inl, inr, drop, drop-cons, get_or, ◌∙◌, ◌++◌, ◌∷◌, [], ◌+◌, ◌*◌, ◌/◌, ◌%◌, ◌^◌, ◌<◌, ◌≤◌, zero, suc, ℕ, ℤ, pos, negsuc, mul_assoc, unsigned_abs, decimal, List, refl, ap, ap₂, sym, arith, add-one, length, append_assoc}
 use Rattle.std.proofs.Math.Nat.{pow-suc, pow-succ', div-lt_iff_lt-mul, div-le_self, mod-lt, mod-eq_of_lt, add-mul, mul_comm, div-div-eq-div-mul}
 use Rattle.std.proofs.Math.Arith.{mod-mul}
 use Rattle.std.specs.Char.{is_ascii_digit}

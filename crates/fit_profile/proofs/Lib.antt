@@ -1,5 +1,12 @@
 mod DayFacts
 mod DegreeFacts
 mod DigitFacts
+pub mod FirstField
+mod Kept
+mod KnownFacts
+mod LeastFacts
+mod NameFacts
 mod ScaleFacts
 mod ScanFacts
+mod ShownFacts
+mod TextFacts

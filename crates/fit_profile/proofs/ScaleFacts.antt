@@ -1,5 +1,5 @@
 -- A raw value stands for one number.
-use Rattle.std.proofs.Common.{◌≡◌, ◌∙◌, ℕ, ℤ, pos, ◌*ℤ◌, inl, inr, arith, sym, subst}
+use Rattle.std.proofs.Common.{◌≡◌, ◌∙◌, ℕ, ℤ, pos, ◌*ℤ◌, inl, inr, arith, sym}
 use Rattle.std.proofs.lemmas.Int.{ints}
 use Rattle.fit_profile.specs.Scaled.{IsScale, IsScaled}
 

@@ -1,5 +1,8 @@
-//! Laws of scaled values, of texts and of instants.
-ghost use Rattle.fit_profile.specs.Laws.{InstantHasOneText, TextHasOneNumber, ScaledValueIsOne, DegreesAreOne};
+//! Laws of scaled values, of texts, of instants, and of looking back over records. These functions do nothing: what
+//! they ensure is what they are for.
+ghost use Rattle.fit_profile.specs.Laws.{InstantHasOneText, TextHasOneNumber, ScaledValueIsOne, DegreesAreOne, FirstIsLeast, LookingBackIsLearning};
+
+use std::alloc::Allocator;
 
 /// An instant has one text.
 pub fn instant_has_one_text()
@@ -19,4 +22,15 @@ pub fn scaled_value_is_one()
 /// A number of semicircles is one number of degrees.
 pub fn degrees_are_one()
     ensures { DegreesAreOne }
+{}
+
+/// Header times and accumulated values are the least numbers at or after the previous ones that leave
+/// the given rest.
+pub fn first_is_least()
+    ensures { FirstIsLeast }
+{}
+
+/// Looking back over records, latest first, is learning them in their order.
+pub fn looking_back_is_learning<A: Allocator>()
+    ensures { LookingBackIsLearning A }
 {}

@@ -1,21 +1,34 @@
 //! What a person calls the numbers of an activity file: the names of messages and fields, exact scaled values, and
-//! civil times.
+//! civil times, and what a data message means by the records before it.
 #![tactic(auto)]
 
+mod component;
 mod decimal;
 mod digits;
 mod instant;
 mod label;
 pub mod laws;
+mod learn;
+mod least;
+mod look;
+mod message;
+mod names;
 mod profile;
 mod scaled;
+mod stream;
 #[cfg(test)]
 mod table_tests;
 #[cfg(test)]
 mod tests;
+mod text;
+mod time;
+mod told;
+mod value;
 
 pub use decimal::Fixed;
 pub use instant::utc_text;
 pub use label::{Label, field_label, message_label};
+pub use message::{FieldView, Message};
 pub use profile::{Info, field_info, message_name};
 pub use scaled::{degrees, fixed};
+pub use stream::Stream;

@@ -1,4 +1,4 @@
-use Rattle.std.proofs.Common.{◌≡◌, ◌+◌, ◌<◌, ◌≤◌, ◌/◌, arith, length, inl, inr}
+use Rattle.std.proofs.Common.{◌<◌, ◌≤◌, ◌/◌, arith, length, inl, inr}
 use Rattle.std.proofs.lemmas.Bool.{cases_eq}
 use Rattle.std.proofs.lemmas.Fmt.{length-decimal-le_wide}
 use Rattle.fit_profile.proofs.DigitFacts.{short-whole}

@@ -3,7 +3,6 @@ use Rattle.std.proofs.lemmas.Int.{ints, to_z-of_z}
 use Rattle.std.proofs.lemmas.Slice.Eq.{bytes_eq-Decides}
 use Rattle.std.specs.Str.Parse.{starts_with_minus}
 use Rattle.std.specs.Int.{w128}
-use Rattle.fit_profile.specs.declared.decimal.Fixed.{Fixed}
 use Rattle.fit_profile.specs.FixedText.{fixed_text, IsIn128}
 use Rattle.fit_profile.specs.Digits.{digits_in, signed_value}
 use Rattle.fit_profile.proofs.ScanFacts.{size-in, size-of-text, text-value}

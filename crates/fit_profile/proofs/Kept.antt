@@ -1,0 +1,167 @@
+-- What is kept of the records so far suffices for what is told of the next one.
+use Rattle.std.proofs.Common.{◌≡◌, ◌∙◌, ℕ, List, [], ◌∷◌, ◌++◌, reverse, map, cond, refl, sym, ap, ap₂, subst, None, Some, Option, option_map}
+use Rattle.std.specs.Prelude.{IsSomeAnd, option_and_then, unwrap_or, if◌then◌else◌, ◌==◌, ◌&&◌}
+use Rattle.std.proofs.lemmas.List.{reverse-append}
+use Rattle.fit_record.specs.declared.definition.MessageDef.{MessageDef}
+use Rattle.fit_record.specs.Environment.{dev_defs, description}
+use Rattle.fit_profile.specs.declared.names.Described.{Described}
+use Rattle.fit_profile.specs.declared.names.Names.{Names}
+use Rattle.fit_profile.specs.Described.{Naming, nameless, naming, naming_by, naming_after, namings_after, naming_of}
+use Rattle.fit_profile.specs.Keeps.{Keeps, described, is_key, naming_in, namings_in}
+use Rattle.fit_profile.proofs.NameFacts.{or-kept}
+use Rattle.std.proofs.lemmas.Option.{none-some, same_Some}
+use Rattle.fit_record.specs.declared.environment.Defined.{Defined}
+use Rattle.fit_record.specs.declared.message.Values.{Values}
+use Rattle.fit_record.specs.declared.message.Record.{Record}
+use Rattle.fit_record.specs.declared.message.Record.TheVariants.{Define, Values as Data}
+use Rattle.fit_record.specs.declared.learn.Description.{Description}
+use Rattle.fit_record.specs.Environment.{Environment, empty_environment, defined_at, describe, learn}
+use Rattle.fit_record.specs.Records.{Fits, DataFits}
+use Rattle.fit_profile.specs.declared.told.Told.{Told}
+use Rattle.fit_profile.specs.declared.told.Last.{Last}
+use Rattle.fit_profile.specs.Looks.{known}
+use Rattle.fit_profile.specs.Told.{told, told_at, told_of, tell, last_of, last_after}
+
+pub map-some : {X Y Z : Type 0} (g : X → Y) (f : Y → Z) (o : Option X) (y : Y) → Some y ≡ option_map g o → Some (f y) ≡ option_map (λ x. f (g x)) o
+map-some g f None y e = absurd (none-some y (sym e))
+map-some g f (Some x) y e = ap (λ z. Some (f z)) (same_Some y (g x) e)
+
+pub map-none : {X Y Z : Type 0} (g : X → Y) (h : X → Z) (o : Option X) → None ≡ option_map g o → None ≡ option_map h o
+map-none g h None e = refl
+map-none g h (Some x) e = absurd (none-some (g x) e)
+
+pub told-placed : {A : Type 0} (earlier : List (Record A)) (v : Values A) (p : Defined A) → defined_at (known earlier) v.local ≡ Some p
+    → told_at (last_of earlier) p.definition v ≡ told earlier v
+told-placed earlier v p e = rw e refl
+
+told-some : {A : Type 0} (earlier : List (Record A)) (v : Values A) (o : Option (Defined A)) → defined_at (known earlier) v.local ≡ o → IsSomeAnd o (DataFits v)
+    → option_map (λ p. told_at (last_of earlier) p.definition v) o ≡ Some (told earlier v)
+told-some earlier v None e h = absurd h
+told-some earlier v (Some p) e h = ap Some (told-placed earlier v p e)
+
+pub tell-fits : {A : Type 0} (earlier : List (Record A)) (r : Record A) → Fits (known earlier) r → tell (known earlier) (last_of earlier) r ≡ told_of earlier r
+tell-fits earlier (Define d) h = refl
+tell-fits earlier (Data v) h = told-some earlier v (defined_at (known earlier) v.local) refl h
+
+pub last-step : {A : Type 0} (earlier : List (Record A)) (r : Record A) → last_after (last_of earlier) (told_of earlier r) ≡ last_of (r ∷ earlier)
+last-step earlier (Define d) = refl
+last-step earlier (Data v) = refl
+
+-- a data message moves no definition
+same-places : {A : Type 0} (e : Environment A) (o : Option Description) (local : ℕ) → defined_at (describe e o) local ≡ defined_at e local
+same-places e None local = refl
+same-places e (Some s) local = refl
+
+pub same-definition : {A : Type 0} (earlier : List (Record A)) (v : Values A) → defined_at (known (Data v ∷ earlier)) v.local ≡ defined_at (known earlier) v.local
+same-definition earlier v = same-places (known earlier) _ v.local
+
+pub told-kept : {A : Type 0} (xs now : List (Record A)) (e : Environment A) (l : Last) (r : Record A) (t : Option Told) → xs ≡ now → e ≡ known xs → l ≡ last_of xs → Fits (known now) r
+    → t ≡ tell e l r → t ≡ told_of xs r
+told-kept xs now e l r t same env last fits is =
+    is ∙ ap₂ (λ e' l'. tell e' l' r) env last ∙ tell-fits xs r (subst (λ ys. Fits (known ys) r) (sym same) fits)
+
+pub place-kept : {A : Type 0} (earlier now inside : List (Record A)) (e : Environment A) (v : Values A) → e ≡ known inside → inside ≡ now → now ≡ Data v ∷ earlier
+    → defined_at e v.local ≡ defined_at (known earlier) v.local
+place-kept earlier now inside e v env view pushed = ap (λ x. defined_at x v.local) (env ∙ ap known (view ∙ pushed)) ∙ same-definition earlier v
+
+pub not-none : {A : Type 0} (o : Option (Defined A)) (v : Values A) → IsSomeAnd o (DataFits v) → None ≡ option_map (λ p. p.definition) o → ⊥
+not-none None v h e = absurd h
+not-none (Some p) v h e = none-some p.definition e
+
+-- ---- names and units
+
+pub through : {X Y Z : Type 0} (g : X → Y) (f : Y → Option Z) (o : Option X) (y : Y) → Some y ≡ option_map g o → f y ≡ option_and_then (λ x. f (g x)) o
+through g f None y e = absurd (none-some y (sym e))
+through g f (Some x) y e = ap f (same_Some y (g x) e)
+
+pub through-none : {X Y Z : Type 0} (g : X → Y) (f : Y → Option Z) (o : Option X) → None ≡ option_map g o → None ≡ option_and_then (λ x. f (g x)) o
+through-none g f None e = refl
+through-none g f (Some x) e = absurd (none-some (g x) e)
+
+-- what a described field changes
+pub given : {A : Type 0} → Option (Described A) → ℕ → ℕ → Naming → Naming
+given None index number before = before
+given (Some x) index number before = cond (is_key x.key index number) x.texts before
+
+described-helper : (A : Type 0) (q : Option Description) (nm : Naming) (index number : ℕ) (before : Naming)
+    → unwrap_or (option_and_then (λ s. if s.key.index == index && s.key.number == number then Some nm else None) q) before
+    ≡ given {A = A} (option_map (λ k. record { key = k; texts = nm }) (option_map (λ s. record { index = s.key.index; number = s.key.number }) q)) index number before
+unfolding given
+described-helper A None nm index number before = refl
+described-helper A (Some s) nm index number before = or-kept (s.key.index == index && s.key.number == number) nm before None
+
+described-placed : {A : Type 0} (v : Values A) (o : Option (Defined A)) (x : Option (Described A)) (index number : ℕ) (before : Naming)
+    → x ≡ option_and_then (λ p. described p.definition v) o → unwrap_or (option_and_then (λ p. naming_by p.definition v index number) o) before ≡ given x index number before
+unfolding given
+described-placed v None x index number before e = sym (ap (λ y. given y index number before) e)
+described-placed {A = A} v (Some p) x index number before e =
+    described-helper A (description p.definition v) (naming p.definition v) index number before ∙ sym (ap (λ y. given y index number before) e)
+
+pub nothing-described : {A : Type 0} (e : Environment A) (r : Record A) (v : Values A) (index number : ℕ) (before now : Naming) → r ≡ Data v
+    → None ≡ option_and_then (λ p. described p.definition v) (defined_at e v.local) → now ≡ before → now ≡ naming_after e r index number before
+unfolding given
+nothing-described e r v index number before now is none same =
+    same ∙ sym (described-placed v (defined_at e v.local) None index number before none) ∙ sym (ap (λ s. naming_after e s index number before) is)
+
+pub one-described : {A : Type 0} (e : Environment A) (r : Record A) (v : Values A) (x : Described A) (index number : ℕ) (before held now : Naming) → r ≡ Data v
+    → Some x ≡ option_and_then (λ p. described p.definition v) (defined_at e v.local) → held ≡ before → now ≡ cond (is_key x.key index number) x.texts held
+    → now ≡ naming_after e r index number before
+unfolding given
+one-described e r v x index number before held now is some same set =
+    set ∙ ap (λ h. cond (is_key x.key index number) x.texts h) same
+    ∙ sym (described-placed v (defined_at e v.local) (Some x) index number before some) ∙ sym (ap (λ s. naming_after e s index number before) is)
+
+pub no-definition : {A : Type 0} (f : ℕ → ℕ → Naming) (r : Record A) (v : Values A) (local : ℕ) (before now : List Naming) → r ≡ Data v → now ≡ before → now ≡ namings_after f r local before
+no-definition f r v local before now is same = same ∙ sym (ap (λ s. namings_after f s local before) is)
+
+pub no-description : {A : Type 0} (e : Environment A) (r : Record A) (d : MessageDef A) (index number : ℕ) (before now : Naming) → r ≡ Define d → now ≡ before → now ≡ naming_after e r index number before
+no-description e r d index number before now is same = same ∙ sym (ap (λ s. naming_after e s index number before) is)
+
+pub one-definition : {A : Type 0} (f : ℕ → ℕ → Naming) (r : Record A) (d : MessageDef A) (local : ℕ) (before held now given_now : List Naming) → r ≡ Define d
+    → given_now ≡ map (λ x. f x.index x.number) (dev_defs d.dev) → held ≡ before → now ≡ cond (d.local == local) given_now held → now ≡ namings_after f r local before
+one-definition f r d local before held now given_now is list same put =
+    put ∙ ap₂ (λ g h. cond (d.local == local) g h) list same ∙ sym (ap (λ s. namings_after f s local before) is)
+
+-- ---- a stream
+
+-- before the first record nothing is kept
+pub keeps-nothing : {A : Type 0} (e : Environment A) (n : Names A) (items : List (Record A)) → e ≡ empty_environment
+    → ((index number : ℕ) → naming_in n index number ≡ nameless) → ((local : ℕ) → namings_in n local ≡ []) → items ≡ []
+    → Keeps e (record { time = None; distance = 0; total_cycles = 0; accumulated_power = 0 }) n (reverse items)
+keeps-nothing e n items env naming namings none =
+    subst (λ xs. Keeps e (record { time = None; distance = 0; total_cycles = 0; accumulated_power = 0 }) n (reverse xs)) (sym none)
+    (record { env_is = env; last_is = refl; naming_is = naming; namings_are = namings })
+
+pub keeps-same : {A : Type 0} (e e' : Environment A) (l : Last) (n n' : Names A) (xs : List (Record A)) → Keeps e l n xs → e' ≡ e
+    → ((index number : ℕ) → naming_in n' index number ≡ naming_in n index number) → ((local : ℕ) → namings_in n' local ≡ namings_in n local) → Keeps e' l n' xs
+keeps-same e e' l n n' xs k env naming namings = record {
+  env_is = env ∙ k.env_is;
+  last_is = k.last_is;
+  naming_is = λ index number. naming index number ∙ k.naming_is index number;
+  namings_are = λ local. namings local ∙ k.namings_are local;
+}
+
+keeps-after : {A : Type 0} (e e' : Environment A) (l l' : Last) (n n' : Names A) (xs : List (Record A)) (r : Record A) (t : Option Told) → Keeps e l n xs → Fits (known xs) r
+    → e' ≡ learn e r → t ≡ tell e l r → l' ≡ last_after l t
+    → ((index number : ℕ) → naming_in n' index number ≡ naming_after e r index number (naming_in n index number))
+    → ((local : ℕ) → namings_in n' local ≡ namings_after (naming_in n) r local (namings_in n local)) → Keeps e' l' n' (r ∷ xs)
+keeps-after e e' l l' n n' xs r t k fits env told last naming namings =
+    let same_naming : naming_in n ≡ naming_of xs = λ i index number. k.naming_is index number i in
+    record {
+      env_is = env ∙ ap (λ x. learn x r) k.env_is;
+      last_is = last ∙ ap₂ last_after k.last_is (told ∙ ap₂ (λ x y. tell x y r) k.env_is k.last_is ∙ tell-fits xs r fits) ∙ last-step xs r;
+      naming_is = λ index number. naming index number ∙ ap₂ (λ x b. naming_after x r index number b) k.env_is (k.naming_is index number);
+      namings_are = λ local. namings local ∙ ap₂ (λ f b. namings_after f r local b) same_naming (k.namings_are local);
+    }
+
+pub keeps-next : {A : Type 0} (e e' : Environment A) (l l' : Last) (n n' : Names A) (items : List (Record A)) (r : Record A) (t : Option Told) → Keeps e l n (reverse items)
+    → Fits (known (reverse items)) r → e' ≡ learn e r → t ≡ tell e l r → l' ≡ last_after l t
+    → ((index number : ℕ) → naming_in n' index number ≡ naming_after e r index number (naming_in n index number))
+    → ((local : ℕ) → namings_in n' local ≡ namings_after (naming_in n) r local (namings_in n local)) → Keeps e' l' n' (reverse (items ++ (r ∷ [])))
+keeps-next e e' l l' n n' items r t k fits env told last naming namings =
+    subst (Keeps e' l' n') (sym (reverse-append items (r ∷ []))) (keeps-after e e' l l' n n' (reverse items) r t k fits env told last naming namings)
+
+pub told-now : {A : Type 0} (e : Environment A) (l : Last) (n : Names A) (xs now : List (Record A)) (r : Record A) (t : Option Told) → Keeps e l n xs → xs ≡ now → Fits (known now) r
+    → t ≡ tell e l r → t ≡ told_of now r
+told-now e l n xs now r t k view fits told =
+    told-kept xs now e l r t view k.env_is k.last_is fits told ∙ ap (λ ys. told_of ys r) view

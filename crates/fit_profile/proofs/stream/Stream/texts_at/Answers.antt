@@ -1,0 +1,9 @@
+use Rattle.std.proofs.Common.{◌∙◌, ap}
+use Rattle.std.specs.Prelude.{slice_get}
+use Rattle.fit_profile.specs.Described.{namings_at}
+use Rattle.fit_profile.proofs.stream.Stream.texts_at.Goals as goal
+
+pub returns : goal.returns
+returns c =
+    let kept = c.self.invariant.namings_are c.args.local ∙ ap (λ xs. namings_at xs c.args.local) c.self.view_is in
+    c.at_place.ensures ∙ ap (λ xs. slice_get xs c.args.place) kept

@@ -1,0 +1,190 @@
+//! A data message, and what it means by the records before it.
+ghost use Rattle.std.specs.Prelude.{◌≡◌, ◌≤◌, IfSome, IsSome, Some, option_map, option_and_then, option_copied, slice_get};
+ghost use Rattle.fit_record.specs.Environment.{defined_at, first_items};
+ghost use Rattle.fit_profile.specs.Names as names;
+ghost use Rattle.fit_profile.specs.Meant.{shown, part_of, field_at, dev_field_at};
+ghost use Rattle.fit_profile.specs.Shows.{Shows};
+ghost use Rattle.fit_profile.specs.Values.{IsAmount, IsValueOf, known_number};
+
+use crate::look::first_of;
+use crate::names::{Names, Texts};
+use crate::told::Told;
+use crate::value::{in_scale, value_of};
+use crate::{Fixed, message_name};
+use fit_base::Items;
+use fit_record::{Defined, Env, Values};
+use std::alloc::{Allocator, Global};
+
+/// A field of a message: its number, its base type code and its items.
+#[derive(Drop)]
+pub struct FieldView<'a, A: Allocator = Global> {
+    pub number: u8,
+    pub code: u8,
+    pub items: &'a Items<A>,
+}
+
+/// A data message, and what it means by the records before it. It lends the parts of the record, of
+/// its definition and of the stream.
+#[derive(Drop)]
+pub struct Message<'a, A: Allocator = Global> {
+    defined: &'a Defined<A>,
+    values: &'a Values<A>,
+    texts: &'a [Texts<A>],
+    told: Told,
+}
+
+impl<'a, A: Allocator> Message<'a, A> {
+    /// The global message number.
+    pub fn global(&self) -> u16
+        ensures { result ≡ (shown self.now).definition.global }
+    {
+        self.defined.definition.global
+    }
+
+    /// The name of the message, where the profile lists it.
+    pub fn name(&self) -> Option<&str>
+        ensures { option_map (λ n. n.now) result ≡ names.message_name (shown self.now).definition.global }
+    {
+        match message_name(self.defined.definition.global) {
+            Some(name) => Some(name),
+            None => None,
+        }
+    }
+
+    /// The field at a place, which counts from 0.
+    pub fn field(&self, place: u8) -> Option<FieldView<A>>
+        ensures { option_map part_of result ≡ field_at (shown self.now) place }
+    {
+        let field = self
+            .defined
+            .definition
+            .fields
+            .as_slice()
+            .get(place as usize)?;
+        let items = self.values.fields.as_slice().get(place as usize)?;
+        Some(FieldView {
+            number: field.number,
+            code: field.code,
+            items,
+        })
+    }
+
+    /// The developer field at a place, which counts from 0 among the developer fields.
+    pub fn dev(&self, place: u8) -> Option<FieldView<A>>
+        ensures { option_map part_of result ≡ dev_field_at (shown self.now) place }
+    {
+        let fields = self.defined.definition.dev.as_ref()?;
+        let field = fields.as_slice().get(place as usize)?;
+        let code = *self.defined.dev_codes.as_slice().get(place as usize)?;
+        let items = self.values.dev.as_slice().get(place as usize)?;
+        Some(FieldView {
+            number: field.number,
+            code,
+            items,
+        })
+    }
+
+    /// The items of the first field of this number.
+    #[tactic(auto, using(crate::proofs::FirstField::items_first))]
+    pub fn items(&self, number: u8) -> Option<&Items<A>>
+        ensures { option_copied result ≡ first_items (shown self.now).definition.fields (shown self.now).values.fields number }
+    {
+        let (_, items) = first_of(
+            self.defined.definition.fields.as_slice(),
+            self.values.fields.as_slice(),
+            number,
+        )?;
+        Some(items)
+    }
+
+    /// The name of the developer field at a place: that of the last field description before the
+    /// definition, where it can be shown.
+    pub fn dev_name(&self, place: u8) -> Option<&str>
+        ensures { option_map (λ s. s.now) result ≡ option_and_then (λ t. t.name) (slice_get (shown self.now).namings place) }
+    {
+        self.texts.get(place as usize)?.name()
+    }
+
+    /// The unit of the developer field at a place.
+    pub fn dev_unit(&self, place: u8) -> Option<&str>
+        ensures { option_map (λ s. s.now) result ≡ option_and_then (λ t. t.unit) (slice_get (shown self.now).namings place) }
+    {
+        self.texts.get(place as usize)?.unit()
+    }
+
+    /// The number of the first field of this number: its first item, scaled by the profile. None where
+    /// the profile doesn't know the field, its class isn't one of numbers, or the item is invalid.
+    pub fn value(&self, number: u8) -> Option<Fixed>
+        ensures value { IsValueOf (known_number (shown self.now).definition (shown self.now).values number) result }
+        ensures few { IfSome result (λ v. v.decimals ≤ 8) }
+    {
+        value_of(&self.defined.definition, self.values, number)
+    }
+
+    /// The time of the message: its valid field 253, and else that of its compressed header.
+    pub fn time(&self) -> Option<u32>
+        ensures { result ≡ (shown self.now).told.time }
+    {
+        self.told.time
+    }
+
+    /// The time of a compressed header.
+    pub fn header_time(&self) -> Option<u32>
+        ensures { result ≡ (shown self.now).told.header_time }
+    {
+        self.told.header_time
+    }
+
+    /// The speed in compressed_speed_distance, in m/s.
+    pub fn speed(&self) -> Option<Fixed>
+        ensures amount { IsAmount 100 (shown self.now).told.speed result }
+        ensures few { IfSome result (λ v. v.decimals ≤ 8) }
+    {
+        in_scale(self.told.speed, 100)
+    }
+
+    /// The distance accumulated from compressed_speed_distance, in m.
+    pub fn distance(&self) -> Option<Fixed>
+        ensures amount { IsAmount 16 (shown self.now).told.distance result }
+        ensures few { IfSome result (λ v. v.decimals ≤ 8) }
+    {
+        in_scale(self.told.distance, 16)
+    }
+
+    /// The cycles accumulated from cycles.
+    pub fn total_cycles(&self) -> Option<Fixed>
+        ensures amount { IsAmount 1 (shown self.now).told.total_cycles result }
+        ensures few { IfSome result (λ v. v.decimals ≤ 8) }
+    {
+        in_scale(self.told.total_cycles, 1)
+    }
+
+    /// The power accumulated from compressed_accumulated_power, in watts.
+    pub fn accumulated_power(&self) -> Option<Fixed>
+        ensures amount { IsAmount 1 (shown self.now).told.accumulated_power result }
+        ensures few { IfSome result (λ v. v.decimals ≤ 8) }
+    {
+        in_scale(self.told.accumulated_power, 1)
+    }
+}
+
+/// The message of values that were just learned.
+pub(crate) fn message_of<'a, A: Allocator>(
+    env: &'a Env<A>,
+    names: &'a Names<A>,
+    told: Told,
+    values: &'a Values<A>,
+) -> Message<'a, A>
+    requires { IsSome (defined_at env.now values.now.local) }
+    ensures { Shows env.now names.now told values.now (shown result) }
+{
+    match env.defined(values.local) {
+        Some(defined) => Message {
+            defined,
+            values,
+            texts: names.at(values.local),
+            told,
+        },
+        None => unreachable!(),
+    }
+}

@@ -1,0 +1,301 @@
+//! Names and units of developer fields: those of the last descriptions, and those of the defined fields.
+ghost use Rattle.std.specs.Prelude.{◌≡◌, ◌==◌, IfOk, OnOk, IsSome, ℕ, [], if◌then◌else◌, map, option_map, slice_get};
+ghost use Rattle.std.specs.BTreeMap.{get};
+ghost use Rattle.std.specs.Ordering.{nat_cmp};
+ghost use Rattle.std.specs.String.{string_bytes};
+ghost use Rattle.fit_record.specs.Environment.{dev_defs, only_byte};
+ghost use Rattle.fit_profile.specs.Described.{naming, nameless};
+ghost use Rattle.fit_profile.specs.Keeps.{described, described_key, is_key, key_cmp, naming_in, namings_in};
+
+use crate::look::{first_of, only_item};
+use crate::text::text_field;
+use fit_base::Entries;
+use fit_record::{DevDef, MessageDef, Values};
+use std::alloc::{AllocError, Allocator, Global};
+use std::collections::BTreeMap;
+use std::marker::Model;
+
+const FIELD_DESCRIPTION: u16 = 206;
+
+/// A developer field by its developer data index and its number, as the items of a description.
+#[derive(Clone, Copy, Debug, PartialEq, Eq, PartialOrd, Ord)]
+pub(crate) struct FieldKey {
+    pub index: u64,
+    pub number: u64,
+}
+
+/// The name and the unit of a developer field. A contract sees them as lists of bytes.
+#[derive(Drop)]
+pub(crate) struct Texts<A: Allocator = Global> {
+    pub name: Option<String<A>>,
+    pub unit: Option<String<A>>,
+}
+
+impl<A: Allocator> Model for Texts<A> {
+    ghost use Rattle.std.specs.Prelude.{option_map};
+    ghost use Rattle.std.specs.String.{string_bytes};
+    ghost use Rattle.fit_profile.specs.Described.{Naming};
+
+    ghost Value = { Naming };
+
+    ghost view = { λ t. record { name = option_map string_bytes t.name; unit = option_map string_bytes t.unit } };
+}
+
+/// The names and units of the descriptions so far, and of the developer fields of each local message
+/// type.
+#[derive(Drop)]
+pub(crate) struct Names<A: Allocator = Global> {
+    pub described: BTreeMap<FieldKey, Texts<A>, A>,
+    pub places: BTreeMap<u8, Entries<Texts<A>, A>, A>,
+    pub alloc: A,
+}
+
+/// A developer field that a message describes.
+#[derive(Drop)]
+pub(crate) struct Described<A: Allocator> {
+    pub key: FieldKey,
+    pub texts: Texts<A>,
+}
+
+/// The same text, in memory of its own.
+fn copy_of<A: Allocator>(
+    alloc: A,
+    text: &Option<String<A>>,
+) -> Result<Option<String<A>>, AllocError>
+    ensures { IfOk result (λ copy. option_map string_bytes copy ≡ option_map string_bytes text.now) }
+{
+    match text {
+        None => Ok(None),
+        Some(text) => {
+            let copy = String::from_str(alloc, text.as_str())?;
+            Ok(Some(copy))
+        }
+    }
+}
+
+impl<A: Allocator> Texts<A> {
+    /// Neither a name nor a unit.
+    fn none() -> Self
+        ensures { result ≡ nameless }
+    {
+        Texts {
+            name: None,
+            unit: None,
+        }
+    }
+}
+
+/// A text, where there is one.
+fn lent<A: Allocator>(text: &Option<String<A>>) -> Option<&str>
+    ensures { option_map (λ s. s.now) result ≡ option_map string_bytes text.now }
+{
+    match text {
+        Some(text) => Some(text.as_str()),
+        None => None,
+    }
+}
+
+impl<A: Allocator> Texts<A> {
+    pub fn name(&self) -> Option<&str>
+        ensures { option_map (λ s. s.now) result ≡ self.now.name }
+    {
+        lent(&self.name)
+    }
+
+    pub fn unit(&self) -> Option<&str>
+        ensures { option_map (λ s. s.now) result ≡ self.now.unit }
+    {
+        lent(&self.unit)
+    }
+}
+
+impl<A: Allocator + Copy> Texts<A> {
+    /// The same texts, in memory of their own.
+    fn copy(&self, alloc: A) -> Result<Self, AllocError>
+        ensures { IfOk result (λ copy. copy ≡ self.now) }
+    {
+        let name = copy_of(alloc, &self.name)?;
+        let unit = copy_of(alloc, &self.unit)?;
+        Ok(Texts { name, unit })
+    }
+}
+
+/// The only item of the first field of this number, where it has width 1.
+#[tactic(auto, using(crate::proofs::FirstField::only_byte_first))]
+fn only_byte<A: Allocator>(
+    definition: &MessageDef<A>,
+    values: &Values<A>,
+    number: u8,
+) -> Option<u64>
+    ensures { result ≡ only_byte definition.now.fields values.now.fields number }
+{
+    let (_, items) = first_of(
+        definition.fields.as_slice(),
+        values.fields.as_slice(),
+        number,
+    )?;
+    if items.width != 1 {
+        return None;
+    }
+    only_item(items.bits.as_slice())
+}
+
+/// The developer field that a message describes.
+fn key_of<A: Allocator>(definition: &MessageDef<A>, values: &Values<A>) -> Option<FieldKey>
+    ensures { result ≡ described_key definition.now values.now }
+{
+    if definition.global != FIELD_DESCRIPTION {
+        return None;
+    }
+    let index = only_byte(definition, values, 0)?;
+    let number = only_byte(definition, values, 1)?;
+    let _code = only_byte(definition, values, 2)?;
+    Some(FieldKey { index, number })
+}
+
+/// The name and the unit that a field description gives.
+fn texts_of<A: Allocator + Copy>(
+    alloc: A,
+    definition: &MessageDef<A>,
+    values: &Values<A>,
+) -> Result<Texts<A>, AllocError>
+    ensures { IfOk result (λ texts. texts ≡ naming definition.now values.now) }
+{
+    let name = text_field(alloc, definition, values, 3)?;
+    let unit = text_field(alloc, definition, values, 8)?;
+    Ok(Texts { name, unit })
+}
+
+/// The developer field that a message describes, with its name and its unit.
+pub(crate) fn described_by<A: Allocator + Copy>(
+    alloc: A,
+    definition: &MessageDef<A>,
+    values: &Values<A>,
+) -> Result<Option<Described<A>>, AllocError>
+    ensures { IfOk result (λ o. o ≡ described definition.now values.now) }
+{
+    match key_of(definition, values) {
+        None => Ok(None),
+        Some(key) => {
+            let texts = texts_of(alloc, definition, values)?;
+            Ok(Some(Described { key, texts }))
+        }
+    }
+}
+
+impl<A: Allocator> Names<A> {
+    /// The names and units of the developer fields of a local message type.
+    pub fn at(&self, local: u8) -> &[Texts<A>]
+        ensures { result.now ≡ namings_in self.now local }
+    {
+        match self.places.get(&local) {
+            Some(texts) => texts.as_slice(),
+            None => &[],
+        }
+    }
+
+    /// Those of one of them, at a place that counts from 0.
+    pub fn at_place(&self, local: u8, place: u8) -> Option<&Texts<A>>
+        ensures { option_map (λ t. t.now) result ≡ slice_get (namings_in self.now local) place }
+    {
+        self.at(local).get(place as usize)
+    }
+}
+
+impl<A: Allocator + Copy> Names<A> {
+    /// Nothing is described or defined.
+    pub fn new(alloc: A) -> Self
+        ensures naming { (index number : ℕ) → naming_in result index number ≡ nameless }
+        ensures namings { (local : ℕ) → namings_in result local ≡ [] }
+    {
+        Names {
+            described: BTreeMap::new(alloc),
+            places: BTreeMap::new(alloc),
+            alloc,
+        }
+    }
+
+    /// The name and the unit of a developer field that is defined now.
+    fn texts_at(&self, field: DevDef) -> Result<Texts<A>, AllocError>
+        ensures { IfOk result (λ texts. texts ≡ naming_in self.now field.index field.number) }
+    {
+        let key = FieldKey {
+            index: u64::from(field.index),
+            number: u64::from(field.number),
+        };
+        match self.described.get(&key) {
+            Some(texts) => texts.copy(self.alloc),
+            None => Ok(Texts::none()),
+        }
+    }
+
+    /// The names and units of developer fields that are defined now.
+    fn all_texts_at(&self, fields: &[DevDef]) -> Result<Entries<Texts<A>, A>, AllocError>
+        ensures { IfOk result (λ all. all ≡ map (λ f. naming_in self.now f.index f.number) fields.now) }
+    {
+        let mut all = Entries::new(self.alloc);
+        for field in fields {
+            let texts = self.texts_at(*field)?;
+            all.push(texts)?;
+        }
+        Ok(all)
+    }
+
+    /// The names and units of the developer fields of a definition that comes now.
+    pub fn namings_of(&self, definition: &MessageDef<A>) -> Result<Entries<Texts<A>, A>, AllocError>
+        ensures { IfOk result (λ all. all ≡ map (λ f. naming_in self.now f.index f.number) (dev_defs definition.now.dev)) }
+    {
+        match &definition.dev {
+            Some(fields) => self.all_texts_at(fields.as_slice()),
+            None => Ok(Entries::new(self.alloc)),
+        }
+    }
+
+    /// Takes memory for a definition to come. No name or unit changes.
+    pub fn reserve_place(&mut self, local: u8) -> Result<(), AllocError>
+        ensures namings { (l : ℕ) → namings_in self.new l ≡ namings_in self.old l }
+        ensures naming { (index number : ℕ) → naming_in self.new index number ≡ naming_in self.old index number }
+        ensures held { OnOk result (IsSome (get nat_cmp self.new.places local)) }
+    {
+        if !self.places.contains_key(&local) {
+            self.places.insert(local, Entries::new(self.alloc))?;
+        }
+        Ok(())
+    }
+
+    /// Keeps the names and units of a local message type.
+    pub fn put(&mut self, local: u8, namings: Entries<Texts<A>, A>)
+        requires { IsSome (get nat_cmp self.old.places local) }
+        ensures namings { (l : ℕ) → namings_in self.new l ≡ (if local == l then namings else namings_in self.old l) }
+        ensures naming { (index number : ℕ) → naming_in self.new index number ≡ naming_in self.old index number }
+    {
+        match self.places.insert(local, namings) {
+            Ok(_) => (),
+            Err(_) => unreachable!(),
+        }
+    }
+
+    /// Takes memory for what will be described. No name or unit changes.
+    pub fn reserve(&mut self, key: FieldKey) -> Result<(), AllocError>
+        ensures naming { (index number : ℕ) → naming_in self.new index number ≡ naming_in self.old index number }
+        ensures namings { (local : ℕ) → namings_in self.new local ≡ namings_in self.old local }
+        ensures held { OnOk result (IsSome (get key_cmp self.new.described key)) }
+    {
+        if !self.described.contains_key(&key) {
+            self.described.insert(key, Texts::none())?;
+        }
+        Ok(())
+    }
+
+    /// Keeps the name and the unit of a developer field.
+    pub fn set(&mut self, key: FieldKey, texts: Texts<A>)
+        requires { IsSome (get key_cmp self.old.described key) }
+        ensures naming { (index number : ℕ) → naming_in self.new index number ≡ (if is_key key index number then texts else naming_in self.old index number) }
+        ensures namings { (local : ℕ) → namings_in self.new local ≡ namings_in self.old local }
+    {
+        match self.described.insert(key, texts) {
+            Ok(_) => (),
+            Err(_) => unreachable!(),
+        }
+    }
+}

@@ -1,0 +1,174 @@
+//! The records of a file, one after another, and what each message means by those before it.
+ghost use Rattle.std.specs.Prelude.{◌≡◌, ◌∷◌, [], OnOk, OnErr, IfOk, ⊤, MatchResult, Some, drop, option_map, option_and_then, slice_get};
+ghost use Rattle.std.specs.Borrow.{sem};
+ghost use mathlib.Core.Option.{none};
+ghost use denote.Follow.{follows_so};
+ghost use Rattle.fit_record.specs.Records.{Fits};
+ghost use Rattle.fit_record.specs.declared.message.Record.TheVariants.{Values as Data};
+ghost use Rattle.fit_profile.specs.Described.{namings_at};
+ghost use Rattle.fit_profile.specs.Looks.{known};
+ghost use Rattle.fit_profile.specs.Meant.{MessageOf};
+ghost use Rattle.fit_profile.specs.Told.{told_of};
+ghost use Rattle.fit_profile.specs.Told as telling;
+ghost use Rattle.fit_profile.specs.Times as times;
+ghost use Rattle.fit_profile.specs.contracts.stream.Stream.{the_row};
+
+use crate::learn::take_in;
+use crate::message::{Message, message_of};
+use crate::names::{Names, Texts};
+use crate::time::header_time;
+use crate::told::{Last, Told, last_after, tell};
+use fit_history::History;
+use fit_record::{Env, Record, Values};
+use std::alloc::{AllocError, Global};
+use std::marker::Model;
+
+/// The records of a file, pushed one after another. It keeps what their successors need: the
+/// definitions, the last time, the accumulated values, and the names and units of developer fields. A
+/// contract sees it as the list of the records pushed since the file began, latest first.
+///
+/// Its memory is that of `Global`: at an allocator of any size nothing says that a stream fits in
+/// memory.
+#[derive(Drop)]
+pub struct Stream {
+    env: Env,
+    last: Last,
+    names: Names,
+    pushed: History<Record>,
+    alloc: Global,
+}
+
+impl Model for Stream {
+    ghost use Rattle.std.specs.Prelude.{List, reverse};
+    ghost use Rattle.std.specs.declared.alloc.Global.{Global};
+    ghost use Rattle.fit_record.specs.declared.message.Record.{Record};
+    ghost use Rattle.fit_profile.specs.Keeps.{Keeps};
+
+    ghost Value = { List (Record Global) };
+
+    ghost view = { λ s. reverse s.pushed.items };
+
+    ghost invariant = { λ s. Keeps s.env s.last s.names (reverse s.pushed.items) };
+}
+
+const NOTHING: Last = Last {
+    time: None,
+    distance: 0,
+    total_cycles: 0,
+    accumulated_power: 0,
+};
+
+impl Stream {
+    /// A stream with no record yet.
+    pub fn new(alloc: Global) -> Self
+        ensures { result ≡ [] }
+    {
+        Stream {
+            env: Env::new(alloc),
+            last: NOTHING,
+            names: Names::new(alloc),
+            pushed: History::new(),
+            alloc,
+        }
+    }
+
+    /// Begins a file: the records before it count no more.
+    pub fn begin_file(&mut self)
+        ensures { self.new ≡ [] }
+    {
+        self.env = Env::new(self.alloc);
+        self.last = NOTHING;
+        self.names = Names::new(self.alloc);
+        self.pushed = History::new();
+    }
+
+    /// What is known after the records of the file.
+    pub fn env(&self) -> &Env
+        ensures { result.now ≡ known self.now }
+    {
+        &self.env
+    }
+
+    /// The time that the next message with this offset has by its compressed header: the least one at
+    /// or after the previous timestamp whose low five bits are the offset (FIT protocol, "Compressed
+    /// Timestamp Header"). None where no message has had a time yet.
+    pub fn header_time(&self, offset: u8) -> Option<u32>
+        ensures { result ≡ times.header_time (times.previous_time self.now) (Some offset) }
+    {
+        header_time(self.last.time, Some(offset))
+    }
+
+    /// The name and the unit of a developer field of a local message type.
+    fn texts_at(&self, local: u8, place: u8) -> Option<&Texts>
+        ensures { option_map (λ t. t.now) result ≡ slice_get (namings_at self.now local) place }
+    {
+        self.names.at_place(local, place)
+    }
+
+    /// The name of a developer field of the next message of this local message type: that of the last
+    /// field description before the definition. `place` counts from 0 among the developer fields.
+    pub fn dev_name(&self, local: u8, place: u8) -> Option<&str>
+        ensures { option_map (λ s. s.now) result ≡ option_and_then (λ t. t.name) (slice_get (namings_at self.now local) place) }
+    {
+        self.texts_at(local, place)?.name()
+    }
+
+    /// The unit of a developer field of the next message of this local message type.
+    pub fn dev_unit(&self, local: u8, place: u8) -> Option<&str>
+        ensures { option_map (λ s. s.now) result ≡ option_and_then (λ t. t.unit) (slice_get (namings_at self.now local) place) }
+    {
+        self.texts_at(local, place)?.unit()
+    }
+
+    /// Takes a record in, and tells its times and accumulated values.
+    fn note(&mut self, record_: &Record) -> Result<Option<Told>, AllocError>
+        requires { Fits (known self.old) record_.now }
+        ensures ok { OnOk result (self.new ≡ record_.now ∷ self.old) }
+        ensures err { OnErr result (self.new ≡ self.old) }
+        ensures told { IfOk result (λ t. t ≡ told_of self.old record_.now) }
+    {
+        let told = tell(&self.env, self.last, record_);
+        take_in(&mut self.env, &mut self.names, record_)?;
+        self.last = last_after(self.last, told);
+        self.pushed.add(record_);
+        Ok(told)
+    }
+
+    /// Takes a record in. A definition gives None, a data message what it means by the records before
+    /// it. Where memory is refused, the stream stays as it was.
+    pub fn push<'a>(&'a mut self, record_: &'a Record) -> Result<Option<Message<'a>>, AllocError>
+        requires { Fits (known self.old) record_.now }
+        ensures message { IfOk result (λ m. MessageOf self.old record_.now m) }
+        ensures* after { sem 𝓛 (follows_so the_row the_row self.entry.ghost_name none (λ _ _. ⊤)
+            (λ n. MatchResult result (λ _. n ≡ record_.now ∷ self.old) (λ _. n ≡ self.old))) }
+    {
+        let told = self.note(record_)?;
+        Ok(self.message(told, record_))
+    }
+
+    /// The data message that was just taken in.
+    fn data_message<'a>(&'a self, told: Told, values: &'a Values) -> Message<'a>
+        requires pushed { self.now ≡ Data values.now ∷ drop 1 self.now }
+        requires fits { Fits (known (drop 1 self.now)) (Data values.now) }
+        requires told { told ≡ telling.told (drop 1 self.now) values.now }
+        ensures { MessageOf (drop 1 self.now) (Data values.now) (Some result) }
+    {
+        message_of(&self.env, &self.names, told, values)
+    }
+
+    /// The message of the record that was just taken in.
+    fn message<'a>(&'a self, told: Option<Told>, record_: &'a Record) -> Option<Message<'a>>
+        requires pushed { self.now ≡ record_.now ∷ drop 1 self.now }
+        requires fits { Fits (known (drop 1 self.now)) record_.now }
+        requires told { told ≡ told_of (drop 1 self.now) record_.now }
+        ensures { MessageOf (drop 1 self.now) record_.now result }
+    {
+        match record_ {
+            Record::Define(_) => None,
+            Record::Values(values) => match told {
+                Some(told) => Some(self.data_message(told, values)),
+                None => unreachable!(),
+            },
+        }
+    }
+}

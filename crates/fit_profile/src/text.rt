@@ -1,0 +1,92 @@
+//! Texts of field description messages.
+ghost use Rattle.std.specs.Prelude.{◌≡◌, ◌≤◌, IfOk, option_map, take, length, Some, None, if◌then◌else◌};
+ghost use Rattle.std.specs.String.{string_bytes};
+ghost use Rattle.std.specs.List.{list_all};
+ghost use Rattle.fit_profile.specs.Described.{before_closing_zeros, is_printable, printable_text, text_field};
+
+use crate::look::first_of;
+use fit_record::{MessageDef, Values};
+use std::alloc::{AllocError, Allocator};
+use std::str;
+
+const STRING: u8 = 0x07;
+
+/// How many bytes there are before the closing zeros.
+fn text_len(bytes: &[u64]) -> usize
+    ensures before { take result bytes.now ≡ before_closing_zeros bytes.now }
+    ensures within { result ≤ length bytes.now }
+{
+    let mut len = 0;
+    for (place, byte) in bytes.iter().enumerate() {
+        if *byte != 0 {
+            len = place + 1;
+        }
+    }
+    len
+}
+
+/// Whether this is a byte that is neither a control character nor delete.
+fn is_printable(byte: u64) -> bool
+    ensures { result ≡ is_printable byte }
+{
+    byte < 0x100 && byte >= 0x20 && byte != 0x7F
+}
+
+/// Numbers as bytes, where all of them are printable.
+fn printable_bytes<A: Allocator>(
+    alloc: A,
+    numbers: &[u64],
+) -> Result<Option<Vec<u8, A>>, AllocError>
+    ensures { IfOk result (λ bytes. option_map (λ b. b.items) bytes ≡ (if list_all is_printable numbers.now then Some numbers.now else None)) }
+{
+    let mut bytes = Vec::with_capacity(alloc, numbers.len())?;
+    for number in numbers {
+        if !is_printable(*number) {
+            return Ok(None);
+        }
+        bytes.push(*number as u8)?;
+    }
+    Ok(Some(bytes))
+}
+
+/// Numbers as a text, where they are one that can be shown.
+fn text_of<A: Allocator + Copy>(alloc: A, numbers: &[u64]) -> Result<Option<String<A>>, AllocError>
+    ensures { IfOk result (λ text. option_map string_bytes text ≡ printable_text numbers.now) }
+{
+    if numbers.is_empty() {
+        return Ok(None);
+    }
+    let Some(bytes) = printable_bytes(alloc, numbers)? else {
+        return Ok(None);
+    };
+    match str::from_utf8(bytes.as_slice()) {
+        Ok(text) => {
+            let text = String::from_str(alloc, text)?;
+            Ok(Some(text))
+        }
+        Err(_) => Ok(None),
+    }
+}
+
+/// The text of the first field of this number, where it is a string.
+pub(crate) fn text_field<A: Allocator + Copy>(
+    alloc: A,
+    definition: &MessageDef<A>,
+    values: &Values<A>,
+    number: u8,
+) -> Result<Option<String<A>>, AllocError>
+    ensures { IfOk result (λ text. option_map string_bytes text ≡ text_field definition.now values.now number) }
+{
+    let Some((field, items)) = first_of(
+        definition.fields.as_slice(),
+        values.fields.as_slice(),
+        number,
+    ) else {
+        return Ok(None);
+    };
+    if field.code != STRING {
+        return Ok(None);
+    }
+    let bytes = items.bits.as_slice();
+    text_of(alloc, &bytes[..text_len(bytes)])
+}
