@@ -1,11 +1,14 @@
 //! Files of which the bytes are known, and the faults that no clause puts at a place.
-use crate::{CutSink, EncodeFault, write_chain, write_one};
+use crate::{CutSink, EncodeFault, Encoder, write_chain, write_one};
 use arrayvec::ArrayVec;
 use fit_base::{Bits, Entries, Items, Order};
 use fit_frame::{Header, HeaderSum};
 use fit_record::{DevDef, FieldDef, FitFile, MessageDef, Record, Values};
 use std::alloc::{AllocError, Global};
 use std::test::Fail;
+
+/// A definition message without fields, and a data message of one byte.
+const ONE_BYTE_MESSAGE: &[u8; 23] = b"\x0E\x20\0\0\x07\0\0\0.FIT\xDD\x63\x40\0\0\x14\0\0\0\x44\x34";
 
 /// A header of protocol version 2.0.
 fn header(size: u8, profile: u16, sum: HeaderSum) -> Header {
@@ -174,10 +177,7 @@ fn files_with_records(rt: HostRuntime) -> Result<(), Fail> {
     small.push(Record::Define(define(alloc, 0, 20, &[])?))?;
     small.push(values(alloc, 0, None, &[])?)?;
     let rows = [
-        (
-            small,
-            b"\x0E\x20\0\0\x07\0\0\0.FIT\xDD\x63\x40\0\0\x14\0\0\0\x44\x34".as_slice(),
-        ),
+        (small, ONE_BYTE_MESSAGE.as_slice()),
         (
             both_orders(alloc, 120)?,
             b"\x0E\x20\0\0\x24\0\0\0.FIT\x9F\x6E\
@@ -247,4 +247,43 @@ fn a_sink_that_fails(rt: HostRuntime) {
     let (answer, sink) = written(alloc, 5, header(14, 0, HeaderSum::True), Vec::new(alloc));
     assert_eq!(rt; answer, Err(EncodeFault::Write { written: 5 }));
     assert_eq!(rt; sink.bytes(), b"\x0E\x20\0\0\0".as_slice());
+}
+
+#[test]
+fn record_by_record(rt: HostRuntime) -> Result<(), Fail> {
+    let alloc = rt.alloc();
+    let definition = Record::Define(define(alloc, 0, 20, &[])?);
+    let message = values(alloc, 0, None, &[])?;
+    let wrong_length = Err(EncodeFault::DeclaredLength);
+    let mut sink = CutSink::<32>::new(32);
+    let mut encoder = Encoder::begin(alloc, &mut sink, &header(14, 0, HeaderSum::True), 7)?;
+    encoder.put(&mut sink, &definition)?;
+    assert_eq!(rt; encoder.finish(&mut sink), wrong_length);
+    encoder.put(&mut sink, &message)?;
+    assert_eq!(rt; encoder.put(&mut sink, &message), wrong_length);
+    encoder.finish(&mut sink)?;
+    assert_eq!(rt; sink.bytes(), ONE_BYTE_MESSAGE.as_slice());
+
+    let mut sink = CutSink::<32>::new(32);
+    let mut encoder = Encoder::begin(alloc, &mut sink, &header(12, 0, HeaderSum::Absent), 0)?;
+    encoder.finish(&mut sink)?;
+    assert_eq!(rt;
+        sink.bytes(),
+        b"\x0C\x20\0\0\0\0\0\0.FIT\x65\x42".as_slice()
+    );
+    assert_eq!(rt; encoder.put(&mut sink, &message), wrong_length);
+    Ok(())
+}
+
+#[test]
+fn an_encoder_whose_sink_fails(rt: HostRuntime) -> Result<(), Fail> {
+    let alloc = rt.alloc();
+    let definition = Record::Define(define(alloc, 0, 20, &[])?);
+    let failed = Err(EncodeFault::Write { written: 16 });
+    let mut sink = CutSink::<32>::new(16);
+    let mut encoder = Encoder::begin(alloc, &mut sink, &header(14, 0, HeaderSum::True), 7)?;
+    assert_eq!(rt; encoder.put(&mut sink, &definition), failed);
+    assert_eq!(rt; encoder.put(&mut sink, &definition), failed);
+    assert_eq!(rt; encoder.finish(&mut sink), failed);
+    Ok(())
 }
