@@ -249,29 +249,62 @@ fn a_sink_that_fails(rt: HostRuntime) {
     assert_eq!(rt; sink.bytes(), b"\x0E\x20\0\0\0".as_slice());
 }
 
+/// What an encoder answers to calls, of which one with a record puts it and one without finishes the
+/// file. The sink takes so many bytes.
+fn answers(
+    alloc: Global,
+    limit: usize,
+    header: &Header,
+    data_len: u32,
+    calls: &[Option<&Record>],
+) -> Result<(Vec<Result<(), EncodeFault>>, CutSink<32>), Fail> {
+    let mut sink = CutSink::new(limit);
+    let mut encoder = Encoder::begin(alloc, &mut sink, header, data_len)?;
+    let mut answers = Vec::new(alloc);
+    for call in calls {
+        let answer = match call {
+            Some(r) => encoder.put(&mut sink, r),
+            None => encoder.finish(&mut sink),
+        };
+        answers.push(answer)?;
+    }
+    Ok((answers, sink))
+}
+
 #[test]
 fn record_by_record(rt: HostRuntime) -> Result<(), Fail> {
     let alloc = rt.alloc();
     let definition = Record::Define(define(alloc, 0, 20, &[])?);
     let message = values(alloc, 0, None, &[])?;
-    let wrong_length = Err(EncodeFault::DeclaredLength);
-    let mut sink = CutSink::<32>::new(32);
-    let mut encoder = Encoder::begin(alloc, &mut sink, &header(14, 0, HeaderSum::True), 7)?;
-    encoder.put(&mut sink, &definition)?;
-    assert_eq!(rt; encoder.finish(&mut sink), wrong_length);
-    encoder.put(&mut sink, &message)?;
-    assert_eq!(rt; encoder.put(&mut sink, &message), wrong_length);
-    encoder.finish(&mut sink)?;
+    let (put, next) = (Some(&definition), Some(&message));
+    let head = header(14, 0, HeaderSum::True);
+    let refused = Err(EncodeFault::DeclaredLength);
+    let (found, sink) = answers(alloc, 32, &head, 7, &[put, None, next, next, None, next])?;
+    let wanted = [Ok(()), refused, Ok(()), refused, Ok(()), refused];
+    assert_eq!(rt; found.as_slice(), wanted.as_slice());
     assert_eq!(rt; sink.bytes(), ONE_BYTE_MESSAGE.as_slice());
+    Ok(())
+}
 
-    let mut sink = CutSink::<32>::new(32);
-    let mut encoder = Encoder::begin(alloc, &mut sink, &header(12, 0, HeaderSum::Absent), 0)?;
-    encoder.finish(&mut sink)?;
-    assert_eq!(rt;
-        sink.bytes(),
-        b"\x0C\x20\0\0\0\0\0\0.FIT\x65\x42".as_slice()
-    );
-    assert_eq!(rt; encoder.put(&mut sink, &message), wrong_length);
+#[test]
+fn files_without_records(rt: HostRuntime) -> Result<(), Fail> {
+    let alloc = rt.alloc();
+    let message = values(alloc, 0, None, &[])?;
+    let refused = Err(EncodeFault::DeclaredLength);
+    let undefined = Err(EncodeFault::UndefinedLocal { file: 1, index: 0 });
+    for (data_len, wanted, bytes) in [
+        (
+            0,
+            [Ok(()), refused],
+            b"\x0C\x20\0\0\0\0\0\0.FIT\x65\x42".as_slice(),
+        ),
+        (3, [refused, undefined], b"\x0C\x20\0\0\x03\0\0\0.FIT"),
+    ] {
+        let head = header(12, 0, HeaderSum::Absent);
+        let (found, sink) = answers(alloc, 32, &head, data_len, &[None, Some(&message)])?;
+        assert_eq!(rt; found.as_slice(), wanted.as_slice());
+        assert_eq!(rt; sink.bytes(), bytes);
+    }
     Ok(())
 }
 
@@ -279,11 +312,10 @@ fn record_by_record(rt: HostRuntime) -> Result<(), Fail> {
 fn an_encoder_whose_sink_fails(rt: HostRuntime) -> Result<(), Fail> {
     let alloc = rt.alloc();
     let definition = Record::Define(define(alloc, 0, 20, &[])?);
+    let put = Some(&definition);
+    let head = header(14, 0, HeaderSum::True);
+    let (found, _) = answers(alloc, 16, &head, 7, &[put, put, None])?;
     let failed = Err(EncodeFault::Write { written: 16 });
-    let mut sink = CutSink::<32>::new(16);
-    let mut encoder = Encoder::begin(alloc, &mut sink, &header(14, 0, HeaderSum::True), 7)?;
-    assert_eq!(rt; encoder.put(&mut sink, &definition), failed);
-    assert_eq!(rt; encoder.put(&mut sink, &definition), failed);
-    assert_eq!(rt; encoder.finish(&mut sink), failed);
+    assert_eq!(rt; found.as_slice(), [failed, failed, failed].as_slice());
     Ok(())
 }
