@@ -7,3 +7,4 @@ pub mod Lengths
 pub mod Orders
 pub mod Spellable
 pub mod NoFault
+pub mod Encoders

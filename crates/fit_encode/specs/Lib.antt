@@ -2,4 +2,6 @@ pub mod Sinks
 pub mod Sending
 pub mod Spelling
 pub mod Faults
+pub mod Encoding
+pub mod Open
 pub mod Laws

@@ -2,6 +2,7 @@
 #![tactic(auto)]
 
 mod check;
+mod encoder;
 mod fault;
 pub mod laws;
 mod length;
@@ -12,6 +13,7 @@ mod spelling;
 mod tests;
 mod write;
 
+pub use encoder::Encoder;
 pub use fault::EncodeFault;
 pub use sink::{CutSink, Sink, SinkFailed, WriteSink, put_all};
 pub use write::{write_chain, write_one};

@@ -1,11 +1,14 @@
 //! Files of which the bytes are known, and the faults that no clause puts at a place.
-use crate::{CutSink, EncodeFault, write_chain, write_one};
+use crate::{CutSink, EncodeFault, Encoder, write_chain, write_one};
 use arrayvec::ArrayVec;
 use fit_base::{Bits, Entries, Items, Order};
 use fit_frame::{Header, HeaderSum};
 use fit_record::{DevDef, FieldDef, FitFile, MessageDef, Record, Values};
 use std::alloc::{AllocError, Global};
 use std::test::Fail;
+
+/// A definition message without fields, and a data message of one byte.
+const ONE_BYTE_MESSAGE: &[u8; 23] = b"\x0E\x20\0\0\x07\0\0\0.FIT\xDD\x63\x40\0\0\x14\0\0\0\x44\x34";
 
 /// A header of protocol version 2.0.
 fn header(size: u8, profile: u16, sum: HeaderSum) -> Header {
@@ -174,10 +177,7 @@ fn files_with_records(rt: HostRuntime) -> Result<(), Fail> {
     small.push(Record::Define(define(alloc, 0, 20, &[])?))?;
     small.push(values(alloc, 0, None, &[])?)?;
     let rows = [
-        (
-            small,
-            b"\x0E\x20\0\0\x07\0\0\0.FIT\xDD\x63\x40\0\0\x14\0\0\0\x44\x34".as_slice(),
-        ),
+        (small, ONE_BYTE_MESSAGE.as_slice()),
         (
             both_orders(alloc, 120)?,
             b"\x0E\x20\0\0\x24\0\0\0.FIT\x9F\x6E\
@@ -247,4 +247,75 @@ fn a_sink_that_fails(rt: HostRuntime) {
     let (answer, sink) = written(alloc, 5, header(14, 0, HeaderSum::True), Vec::new(alloc));
     assert_eq!(rt; answer, Err(EncodeFault::Write { written: 5 }));
     assert_eq!(rt; sink.bytes(), b"\x0E\x20\0\0\0".as_slice());
+}
+
+/// What an encoder answers to calls, of which one with a record puts it and one without finishes the
+/// file. The sink takes so many bytes.
+fn answers(
+    alloc: Global,
+    limit: usize,
+    header: &Header,
+    data_len: u32,
+    calls: &[Option<&Record>],
+) -> Result<(Vec<Result<(), EncodeFault>>, CutSink<32>), Fail> {
+    let mut sink = CutSink::new(limit);
+    let mut encoder = Encoder::begin(alloc, &mut sink, header, data_len)?;
+    let mut answers = Vec::new(alloc);
+    for call in calls {
+        let answer = match call {
+            Some(r) => encoder.put(&mut sink, r),
+            None => encoder.finish(&mut sink),
+        };
+        answers.push(answer)?;
+    }
+    Ok((answers, sink))
+}
+
+#[test]
+fn record_by_record(rt: HostRuntime) -> Result<(), Fail> {
+    let alloc = rt.alloc();
+    let definition = Record::Define(define(alloc, 0, 20, &[])?);
+    let message = values(alloc, 0, None, &[])?;
+    let (put, next) = (Some(&definition), Some(&message));
+    let head = header(14, 0, HeaderSum::True);
+    let refused = Err(EncodeFault::DeclaredLength);
+    let (found, sink) = answers(alloc, 32, &head, 7, &[put, None, next, next, None, next])?;
+    let wanted = [Ok(()), refused, Ok(()), refused, Ok(()), refused];
+    assert_eq!(rt; found.as_slice(), wanted.as_slice());
+    assert_eq!(rt; sink.bytes(), ONE_BYTE_MESSAGE.as_slice());
+    Ok(())
+}
+
+#[test]
+fn files_without_records(rt: HostRuntime) -> Result<(), Fail> {
+    let alloc = rt.alloc();
+    let message = values(alloc, 0, None, &[])?;
+    let refused = Err(EncodeFault::DeclaredLength);
+    let undefined = Err(EncodeFault::UndefinedLocal { file: 1, index: 0 });
+    for (data_len, wanted, bytes) in [
+        (
+            0,
+            [Ok(()), refused],
+            b"\x0C\x20\0\0\0\0\0\0.FIT\x65\x42".as_slice(),
+        ),
+        (3, [refused, undefined], b"\x0C\x20\0\0\x03\0\0\0.FIT"),
+    ] {
+        let head = header(12, 0, HeaderSum::Absent);
+        let (found, sink) = answers(alloc, 32, &head, data_len, &[None, Some(&message)])?;
+        assert_eq!(rt; found.as_slice(), wanted.as_slice());
+        assert_eq!(rt; sink.bytes(), bytes);
+    }
+    Ok(())
+}
+
+#[test]
+fn an_encoder_whose_sink_fails(rt: HostRuntime) -> Result<(), Fail> {
+    let alloc = rt.alloc();
+    let definition = Record::Define(define(alloc, 0, 20, &[])?);
+    let put = Some(&definition);
+    let head = header(14, 0, HeaderSum::True);
+    let (found, _) = answers(alloc, 16, &head, 7, &[put, put, None])?;
+    let failed = Err(EncodeFault::Write { written: 16 });
+    assert_eq!(rt; found.as_slice(), [failed, failed, failed].as_slice());
+    Ok(())
 }

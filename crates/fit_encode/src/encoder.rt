@@ -1,9 +1,9 @@
 //! The streaming encoder: a file record by record.
-ghost use Rattle.std.specs.Prelude.{◌≡◌, ◌⊎◌, ◌+◌, ◌<◌, ◌≤◌, [], ◌∷◌, ◌++◌, OnOk, OnErr, IfOk, IfErr, length, Some, None, true};
+ghost use Rattle.std.specs.Prelude.{◌≡◌, ◌+◌, ◌≤◌, [], ◌∷◌, ◌++◌, OnOk, IfOk, IfErr, IfSome, length, Some, None, Err, true};
 ghost use Rattle.std.specs.Io.KnownBytes.{Appends};
-ghost use Rattle.fit_frame.specs.Header.{HeaderFits, IsHeader, header_bytes};
-ghost use Rattle.fit_record.specs.Records.{Fits, record_bytes, order_at};
-ghost use Rattle.fit_encode.specs.Encoding.{known, CanPut, CanFinish, IsPutFault, IsFinishFault, IsHeaderFault, BreaksOff, begun, closing_bytes, IsWhole, IsOpenFault, fault_when};
+ghost use Rattle.fit_frame.specs.Header.{HeaderFits, header_bytes};
+ghost use Rattle.fit_record.specs.Records.{Fits, record_bytes};
+ghost use Rattle.fit_encode.specs.Encoding.{known, CanPut, IsComplete, IsPutFault, IsFinishFault, IsHeaderFault, BreaksOff, begun, closed_fault, closing_bytes, IsWhole, IsPlaceFault, HasPlace, fault_when};
 ghost use Rattle.fit_encode.specs.Faults.{StopsAt, IfWrite, UnlessWrite};
 ghost use Rattle.fit_encode.specs.Sending.{Sends};
 ghost use Rattle.fit_encode.specs.Spelling.{bytes_in_order, IsSpellable};
@@ -24,41 +24,42 @@ use std::marker::Model;
 /// It keeps no sink: each call writes to the one that it is handed. After a good `finish` every call
 /// answers `DeclaredLength`, and after `Write` every call answers that fault again.
 #[derive(Drop)]
-pub struct Encoder<A: Allocator + Copy = Global> {
-    env: Env<A>,
+pub struct Encoder {
+    env: Env,
     out: Spelling,
     /// How many bytes of data the header declares.
     declared: u32,
     /// How many bytes the records put so far have.
-    length: u32,
+    size: u32,
     /// How many records were put.
     count: u64,
     /// How many bytes of the file had gone out when a sink failed.
     failed: Option<u64>,
     finished: bool,
     head: History<u8>,
-    records: History<Record<A>>,
+    records: History<Record>,
 }
 
-impl<A: Allocator + Copy> Model for Encoder<A> {
+impl Model for Encoder {
     ghost use Rattle.std.specs.Prelude.{◌≡◌, None, false};
+    ghost use Rattle.std.specs.declared.alloc.Global.{Global};
     ghost use Rattle.fit_encode.specs.Encoding.{Encoding};
     ghost use Rattle.fit_encode.specs.Open.{IsOpen};
 
-    ghost Value = { Encoding A };
+    ghost Value = { Encoding Global };
 
     ghost view = { λ e. record { head = e.head.items; declared = e.declared; records = e.records.items; failed = e.failed; finished = e.finished } };
 
-    ghost invariant = { λ e. e.failed ≡ None → e.finished ≡ false → IsOpen e.env e.out e.declared e.length e.count e.head.items e.records.items };
+    ghost invariant = { λ e. e.failed ≡ None → e.finished ≡ false → IsOpen e.env e.out e.declared e.size e.count e.head.items e.records.items };
 }
 
-impl<A: Allocator + Copy> Encoder<A> {
+impl Encoder {
     /// Writes a header that declares `data_len` bytes of data.
     ///
     /// It answers `BadHeader` and then `ZeroIsSum` before a byte goes out, both with file 1. It takes
     /// no memory, and says nothing of whether records can have that many bytes.
     pub fn begin<K: Sink>(
-        alloc: A,
+        alloc: Global,
         sink: &mut K,
         header: &Header,
         data_len: u32,
@@ -87,7 +88,7 @@ impl<A: Allocator + Copy> Encoder<A> {
             env: Env::new(alloc),
             out,
             declared: data_len,
-            length: 0,
+            size: 0,
             count: 0,
             failed: None,
             finished: false,
@@ -101,19 +102,23 @@ impl<A: Allocator + Copy> Encoder<A> {
     /// It answers the faults of the record's shape, with file 1 and the number of records put so far
     /// as `index`, and then `DeclaredLength` where the data would pass the declared length. With these
     /// and with `NoMemory` nothing changes.
-    pub fn put<K: Sink>(&mut self, sink: &mut K, r: &Record<A>) -> Result<(), EncodeFault>
+    pub fn put<K: Sink>(&mut self, sink: &mut K, r: &Record) -> Result<(), EncodeFault>
         ensures ok { OnOk result (CanPut self.old r.now) }
         ensures spelled { OnOk result (Appends (K.contents sink.old) (K.contents sink.new) (record_bytes (known self.old) r.now)) }
         ensures kept { OnOk result (self.new ≡ record self.old { records = self.old.records ++ r.now ∷ [] }) }
 
-        // It was refused, memory was refused, or the sink failed.
-        ensures err { IfErr result (λ fault. (IsPutFault self.old r.now fault × (self.new ≡ self.old) × (sink.new ≡ sink.old)) ⊎ (CanPut self.old r.now × (fault ≡ EncodeFault.NoMemory) × (self.new ≡ self.old) × (sink.new ≡ sink.old)) ⊎ (CanPut self.old r.now × BreaksOff (K.contents sink.old) (K.contents sink.new) (K.has_failed sink.new) self.old self.new (record_bytes (known self.old) r.now) fault)) }
+        // The file is finished, or a sink failed before.
+        ensures closed { IfSome (closed_fault self.old) (λ fault. (result ≡ Err fault) × (self.new ≡ self.old) × (sink.new ≡ sink.old)) }
+
+        // Before a byte went out, or where the sink failed.
+        ensures refused { closed_fault self.old ≡ None → IfErr result (λ fault. UnlessWrite fault (IsPutFault self.old r.now fault × (self.new ≡ self.old) × (sink.new ≡ sink.old))) }
+        ensures written { closed_fault self.old ≡ None → IfErr result (λ fault. IfWrite fault (λ written. CanPut self.old r.now × BreaksOff (K.contents sink.old) (K.contents sink.new) (K.has_failed sink.new) self.old self.new (record_bytes (known self.old) r.now) written)) }
     {
         if let Some(fault) = closed_fault(self.finished, self.failed) {
             return Err(fault);
         }
-        let length = match record_length(&self.env, self.count, self.declared, self.length, r) {
-            Ok(length) => length,
+        let size = match record_size(&self.env, self.count, self.declared, self.size, r) {
+            Ok(size) => size,
             Err(fault) => return Err(fault),
         };
         let order = order_of(&self.env, r);
@@ -124,7 +129,7 @@ impl<A: Allocator + Copy> Encoder<A> {
             self.failed = Some(written);
             return Err(EncodeFault::Write { written });
         }
-        self.length += length;
+        self.size += size;
         self.count += 1;
         self.records.add(r);
         Ok(())
@@ -135,20 +140,24 @@ impl<A: Allocator + Copy> Encoder<A> {
     /// It answers `DeclaredLength` where data is missing, and changes nothing then. It takes no
     /// memory.
     pub fn finish<K: Sink>(&mut self, sink: &mut K) -> Result<(), EncodeFault>
-        ensures ok { OnOk result (CanFinish self.old) }
+        ensures ok { OnOk result (IsComplete self.old) }
         ensures spelled { OnOk result (Appends (K.contents sink.old) (K.contents sink.new) (closing_bytes self.old)) }
         ensures finished { OnOk result (self.new ≡ record self.old { finished = true }) }
 
         // What went out since `begin` is the file of the header and the records.
         ensures whole { OnOk result (IsWhole self.old) }
 
-        // It was refused, or the sink failed.
-        ensures err { IfErr result (λ fault. (IsFinishFault self.old fault × (self.new ≡ self.old) × (sink.new ≡ sink.old)) ⊎ (CanFinish self.old × BreaksOff (K.contents sink.old) (K.contents sink.new) (K.has_failed sink.new) self.old self.new (closing_bytes self.old) fault)) }
+        // The file is finished, or a sink failed before.
+        ensures closed { IfSome (closed_fault self.old) (λ fault. (result ≡ Err fault) × (self.new ≡ self.old) × (sink.new ≡ sink.old)) }
+
+        // Before a byte went out, or where the sink failed.
+        ensures refused { closed_fault self.old ≡ None → IfErr result (λ fault. UnlessWrite fault (IsFinishFault self.old fault × (self.new ≡ self.old) × (sink.new ≡ sink.old))) }
+        ensures written { closed_fault self.old ≡ None → IfErr result (λ fault. IfWrite fault (λ written. IsComplete self.old × BreaksOff (K.contents sink.old) (K.contents sink.new) (K.has_failed sink.new) self.old self.new (closing_bytes self.old) written)) }
     {
         if let Some(fault) = closed_fault(self.finished, self.failed) {
             return Err(fault);
         }
-        if self.length < self.declared {
+        if self.size < self.declared {
             return Err(EncodeFault::DeclaredLength);
         }
         if let Err(written) = self.out.end(sink) {
@@ -173,20 +182,21 @@ fn closed_fault(finished: bool, failed: Option<u64>) -> Option<EncodeFault>
     }
 }
 
-/// The length of a record that can be put behind so many bytes.
-fn record_length<A: Allocator>(
+/// The length of a record that can be put behind so many others with so many bytes.
+fn record_size<A: Allocator>(
     env: &Env<A>,
-    index: u64,
+    count: u64,
     declared: u32,
     size: u32,
     r: &Record<A>,
 ) -> Result<u32, EncodeFault>
     requires { size ≤ declared }
-    ensures ok { IfOk result (λ n. Fits env.now r.now × (n ≡ length (record_bytes env.now r.now)) × (size + n ≤ declared)) }
-    ensures err { IfErr result (IsOpenFault env.now index declared size r.now) }
+    ensures ok { IfOk result (λ n. HasPlace env.now declared size r.now × (n ≡ length (record_bytes env.now r.now))) }
+    ensures err { IfErr result (IsPlaceFault env.now count declared size r.now) }
+    ensures memory { IfErr result (λ fault. fault ≡ EncodeFault.NoMemory → ⊥) }
 {
     match env.fits(r) {
-        Err(fault) => Err(shape_fault(1, index, fault)),
+        Err(fault) => Err(shape_fault(1, count, fault)),
         Ok(more) => {
             if more > declared - size {
                 return Err(EncodeFault::DeclaredLength);

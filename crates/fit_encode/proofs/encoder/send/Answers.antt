@@ -1,6 +1,6 @@
 use Rattle.std.proofs.Common.{[], append-nil}
 use Rattle.std.proofs.lemmas.Result.{err_from_is_err_and}
-use Rattle.fit_encode.proofs.Sendings.{Breaks-more, Breaks-as, Sends-on}
+use Rattle.fit_encode.proofs.Sendings.{Sends-on}
 use Rattle.fit_encode.proofs.encoder.send.Goals as goal
 
 pub returns-in_err-bytes-clause-sends : goal.returns-in_err-bytes-clause-sends
