@@ -283,27 +283,26 @@ fn dev_of(
     }
 }
 
+/// The definition of field descriptions with a name of three bytes.
+fn define_description(alloc: Global) -> Result<Record, AllocError> {
+    let fields = [(0, 1, 2), (1, 1, 2), (2, 1, 2), (3, 3, 7)];
+    define(alloc, 0, Order::Little, 206, &fields)
+}
+
+/// A description of the developer field as numbers of two bytes, with this name.
+fn describe(alloc: Global, name: &[u64]) -> Result<Record, AllocError> {
+    let fields: [(u8, &[u64]); 4] = [(1, &[0]), (1, &[5]), (1, &[0x84]), (1, name)];
+    data(alloc, 0, None, &fields)
+}
+
 #[test]
 fn described_developer_field(rt: HostRuntime) {
     let alloc = rt.alloc();
-    let description = define(
-        alloc,
-        0,
-        Order::Little,
-        206,
-        &[(0, 1, 2), (1, 1, 2), (2, 1, 2), (3, 3, 7)],
-    )
-    .expect(&rt, "memory");
+    let description = define_description(alloc).expect(&rt, "memory");
     let definition = define_dev(alloc).expect(&rt, "memory");
     let bytes = dev_data(alloc, 1, &[0x34, 0x12]).expect(&rt, "memory");
     let number = dev_data(alloc, 2, &[4660]).expect(&rt, "memory");
-    let named = data(
-        alloc,
-        0,
-        None,
-        &[(1, &[0]), (1, &[5]), (1, &[0x84]), (1, &[0x6D, 0x6F, 0])],
-    )
-    .expect(&rt, "memory");
+    let named = describe(alloc, &[0x6D, 0x6F, 0]).expect(&rt, "memory");
     let mut stream = Stream::new(alloc);
     for record_ in [&description, &definition] {
         assert_eq!(rt; dev_of(&mut stream, record_, "mo"), Ok((None, None)));
@@ -319,18 +318,22 @@ fn described_developer_field(rt: HostRuntime) {
         dev_of(&mut stream, &number, "mo"),
         Ok((Some(0x84), Some(true)))
     );
-    // A name with a line feed can't be shown, and one that isn't UTF-8 is none.
-    for text in [[0x6D, 0x0A, 0], [0x6D, 0xFF, 0]] {
-        let nameless = data(
-            alloc,
-            0,
-            None,
-            &[(1, &[0]), (1, &[5]), (1, &[0x84]), (1, &text)],
-        )
-        .expect(&rt, "memory");
-        assert_eq!(rt; dev_of(&mut stream, &nameless, "mo"), Ok((None, None)));
-        assert_eq!(rt; dev_of(&mut stream, &definition, "mo"), Ok((None, None)));
-        assert_eq!(rt; dev_of(&mut stream, &number, "mo"), Ok((Some(0x84), None)));
+}
+
+#[test]
+fn names_that_are_not_shown(rt: HostRuntime) {
+    let alloc = rt.alloc();
+    let description = define_description(alloc).expect(&rt, "memory");
+    let definition = define_dev(alloc).expect(&rt, "memory");
+    let number = dev_data(alloc, 2, &[4660]).expect(&rt, "memory");
+    let mut stream = Stream::new(alloc);
+    assert_eq!(rt; dev_of(&mut stream, &description, ""), Ok((None, None)));
+    // One has a line feed, the other isn't UTF-8.
+    for name in [[0x6D, 0x0A, 0], [0x6D, 0xFF, 0]] {
+        let nameless = describe(alloc, &name).expect(&rt, "memory");
+        assert_eq!(rt; dev_of(&mut stream, &nameless, ""), Ok((None, None)));
+        assert_eq!(rt; dev_of(&mut stream, &definition, ""), Ok((None, None)));
+        assert_eq!(rt; dev_of(&mut stream, &number, ""), Ok((Some(0x84), None)));
     }
 }
 
