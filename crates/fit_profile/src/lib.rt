@@ -17,6 +17,8 @@ mod profile;
 mod scaled;
 mod stream;
 #[cfg(test)]
+mod stream_tests;
+#[cfg(test)]
 mod table_tests;
 #[cfg(test)]
 mod tests;

@@ -18,7 +18,7 @@ use std::marker::Model;
 const FIELD_DESCRIPTION: u16 = 206;
 
 /// A developer field by its developer data index and its number, as the items of a description.
-#[derive(Clone, Copy, Debug, PartialEq, Eq, PartialOrd, Ord)]
+#[derive(Clone, Copy, PartialEq, Eq, PartialOrd, Ord)]
 pub(crate) struct FieldKey {
     pub index: u64,
     pub number: u64,

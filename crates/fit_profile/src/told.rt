@@ -13,7 +13,7 @@ use fit_record::{Env, MessageDef, Record, Values};
 use std::alloc::Allocator;
 
 /// What is told of a data message.
-#[derive(Clone, Copy, Debug, PartialEq, Eq)]
+#[derive(Clone, Copy)]
 pub struct Told {
     pub time: Option<u32>,
     pub header_time: Option<u32>,
@@ -25,7 +25,7 @@ pub struct Told {
 }
 
 /// The last time and the last accumulated values.
-#[derive(Clone, Copy, Debug, PartialEq, Eq)]
+#[derive(Clone, Copy)]
 pub struct Last {
     pub time: Option<u32>,
     pub distance: u64,
