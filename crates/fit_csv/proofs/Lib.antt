@@ -1,6 +1,9 @@
 mod KnownCells
 mod HexFacts
+mod ReadFacts
 mod NumberFacts
 mod StringFacts
 mod ClassFacts
 mod TextFacts
+mod SplitFacts
+mod ItemFacts

@@ -4,6 +4,9 @@
 mod cell;
 mod hexadecimal;
 mod numbers;
+mod raw;
+mod scan;
 mod strings;
 
 pub use cell::{cell_text, put_cell};
+pub use scan::cell_items;
