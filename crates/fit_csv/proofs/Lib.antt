@@ -7,3 +7,4 @@ mod ClassFacts
 mod TextFacts
 mod SplitFacts
 mod ItemFacts
+mod RowFacts

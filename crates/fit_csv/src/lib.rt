@@ -3,10 +3,13 @@
 
 mod cell;
 mod hexadecimal;
+pub mod laws;
 mod numbers;
 mod raw;
+mod rows;
 mod scan;
 mod strings;
 
 pub use cell::{cell_text, put_cell};
+pub use rows::{put_row, row_writer, rows_text};
 pub use scan::cell_items;
