@@ -1,9 +1,10 @@
 -- Widths and classes of base types.
-use Rattle.std.proofs.Common.{◌≡◌, ◌∙◌, ℕ, ◌⊎◌, inl, inr, Bool, true, false, refl, sym, ap, arith, eqb-true, eq-eqb, ltb-true, List, map, ◌<◌, ◌^◌, nat_lt}
+use Rattle.std.proofs.Common.{◌≡◌, ◌∙◌, ℕ, ◌⊎◌, inl, inr, Bool, true, false, refl, eqb-true, eq-eqb, ltb-true, List, map, ◌<◌, ◌^◌, ◌%◌, nat_lt}
 use Rattle.std.specs.Prelude.{◌==◌, ◌||◌, Option}
 use Rattle.std.proofs.lemmas.Bool.{cases_Bool}
 use Rattle.fit_base.specs.declared.code.Class.{Class}
 use Rattle.fit_base.specs.declared.code.Class.TheVariants.{Signed, Unsigned, Text, Float, Bytes}
+use Rattle.fit_base.specs.BaseTypes as base
 use Rattle.fit_base.specs.BaseTypes.{base_type, base_types, byte}
 use Rattle.fit_base.proofs.Bytes.{found_passes}
 use Rattle.fit_profile.specs.declared.profile.Info.{Info}
@@ -35,6 +36,13 @@ code_width code = widths (base_type code).width (found_passes (λ t. t.code == c
 pub item_width : (code width : ℕ) → (width ≡ (base_type code).width) ⊎ (width ≡ 1) → (width ≡ 1) ⊎ (width ≡ 2) ⊎ (width ≡ 4) ⊎ (width ≡ 8)
 item_width code width (inl own) = rw own (code_width code)
 item_width code width (inr one) = inl one
+
+-- a field's items have its code's width, or 1
+pub item_width-kinds : (code size : ℕ) → (base.item_width code size ≡ (base_type code).width) ⊎ (base.item_width code size ≡ 1)
+item_width-kinds code size = elim (cases_Bool (size % (base_type code).width == 0)) [
+  | inl whole ↦ inl (rw whole refl)
+  | inr rest ↦ inr (rw rest refl)
+]
 
 -- the invalid number of a base type has its width
 pub code_invalid : (code : ℕ) → (base_type code).invalid < 256 ^ (base_type code).width

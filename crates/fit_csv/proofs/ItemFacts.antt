@@ -1,5 +1,5 @@
 -- Items of one shape that a cell shows are one list.
-use Rattle.std.proofs.Common.{◌≡◌, ◌∙◌, ℕ, ◌*◌, ◌/◌, ◌^◌, ◌<◌, ◌==◌, true, false, List, [], length, All, Result, Ok, Err, Option, refl, sym, ap, ap₂, subst, inl, inr, eqb-true, IfOk}
+use Rattle.std.proofs.Common.{◌≡◌, ◌∙◌, ℕ, ◌*◌, ◌/◌, ◌^◌, ◌<◌, ◌==◌, false, List, length, All, Result, Ok, Err, Option, sym, ap, subst, inl, inr, eqb-true, IfOk}
 use Rattle.std.proofs.Math.Nat.{mul-div_cancel}
 use Rattle.std.proofs.lemmas.Bool.{cases_Bool}
 use Rattle.std.proofs.lemmas.List.{nil_from_length}

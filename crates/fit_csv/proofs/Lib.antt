@@ -8,3 +8,5 @@ mod TextFacts
 mod SplitFacts
 mod ItemFacts
 mod RowFacts
+mod ReaderFacts
+mod OneCell

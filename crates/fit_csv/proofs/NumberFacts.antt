@@ -1,5 +1,5 @@
 -- Scaled numbers, and items side by side.
-use Rattle.std.proofs.Common.{◌≡◌, ◌∙◌, ℕ, zero, suc, ◌+◌, ◌*◌, ◌/◌, ◌%◌, ◌^◌, ◌<◌, ◌≤◌, Bool, true, false, cond, List, [], ◌∷◌, ◌++◌, ℤ, pos, neg_ℤ, ◌*ℤ◌, ◌-ℤ◌, ◌≤ℤ◌, ◌<ℤ◌, unsigned_abs, ◌⊎◌, inl, inr, Option, Some, None, length, map, take, get_or, refl, sym, ap, arith, append_assoc, append-nil, flat_map, length-append, decimal, nat_lt, ◌==◌, to_z, of_z, FitsSigned}
+use Rattle.std.proofs.Common.{◌≡◌, ◌∙◌, ℕ, zero, suc, ◌*◌, ◌/◌, ◌%◌, ◌^◌, ◌<◌, ◌≤◌, Bool, true, false, cond, List, [], ◌∷◌, ◌++◌, ℤ, pos, neg_ℤ, ◌*ℤ◌, ◌-ℤ◌, ◌≤ℤ◌, ◌<ℤ◌, unsigned_abs, ◌⊎◌, inl, inr, Option, Some, None, length, refl, sym, ap, arith, length-append, decimal, nat_lt, ◌==◌, to_z, of_z, FitsSigned}
 use Rattle.std.specs.Fmt.{digits, digits_onto, digit_glyph}
 use Rattle.std.proofs.lemmas.Bool.{cases_Bool}
 use Rattle.std.proofs.lemmas.Int.{ints, to_z-of_z}
@@ -52,7 +52,7 @@ fixed-some v d =
     let all = length-append (sign v ++ decimal (unsigned_abs v / 10 ^ d)) (fraction d (unsigned_abs v % 10 ^ d)) in
     omega (arith, some, whole, all)
 
-number-some : (info : Option Info) (raw : ℤ) → 0 < length (number_text info raw)
+pub number-some : (info : Option Info) (raw : ℤ) → 0 < length (number_text info raw)
 number-some None raw = fixed-some raw 0
 number-some (Some i) raw = fixed-some _ _
 
@@ -96,3 +96,31 @@ raw-in raw least most = (omega (arith, ints, least), omega (arith, ints, most))
 pub same-raw : (w v bits : ℕ) (x y : ℤ) → w ≡ v → x ≡ y → (y ≡ pos bits) ⊎ (y ≡ pos bits -ℤ pos (256 ^ v)) → (x ≡ pos bits) ⊎ (x ≡ pos bits -ℤ pos (256 ^ w))
 same-raw w v bits x y d e (inl h) = inl (e ∙ h)
 same-raw w v bits x y d e (inr h) = inr (e ∙ h ∙ ap (λ k. pos bits -ℤ pos (256 ^ k)) (sym d))
+
+pub scaled-exact : (raw : ℤ) (scale offset : ℕ) → IsScale scale → IsScaled raw scale offset (scaled raw scale offset)
+scaled-exact raw s offset (inl one) = rw one (omega (arith, ints))
+scaled-exact raw s offset (inr (inl five)) = rw five (omega (arith, ints))
+scaled-exact raw s offset (inr (inr (inl ten))) = rw ten (omega (arith, ints))
+scaled-exact raw s offset (inr (inr (inr (inl hundred)))) = rw hundred (omega (arith, ints))
+scaled-exact raw s offset (inr (inr (inr (inr (inl thousand))))) = rw thousand (omega (arith, ints))
+scaled-exact raw s offset (inr (inr (inr (inr (inr (inl sixteen)))))) = rw sixteen (omega (arith, ints))
+scaled-exact raw s offset (inr (inr (inr (inr (inr (inr most)))))) = rw most (omega (arith, ints))
+
+-- what is shown has one raw value
+pub one-raw : (x y : ℤ) (s : ℕ) → IsScale s → x *ℤ pos (10 ^ decimals s / s) ≡ y *ℤ pos (10 ^ decimals s / s) → x ≡ y
+one-raw x y s (inl one) e = let h = rw one at e in omega (arith, ints, h)
+one-raw x y s (inr (inl five)) e = let h = rw five at e in omega (arith, ints, h)
+one-raw x y s (inr (inr (inl ten))) e = let h = rw ten at e in omega (arith, ints, h)
+one-raw x y s (inr (inr (inr (inl hundred)))) e = let h = rw hundred at e in omega (arith, ints, h)
+one-raw x y s (inr (inr (inr (inr (inl thousand))))) e = let h = rw thousand at e in omega (arith, ints, h)
+one-raw x y s (inr (inr (inr (inr (inr (inl sixteen)))))) e = let h = rw sixteen at e in omega (arith, ints, h)
+one-raw x y s (inr (inr (inr (inr (inr (inr most)))))) e = let h = rw most at e in omega (arith, ints, h)
+
+pub shift-bound : (offset s : ℕ) → IsScale s → offset < 2 ^ 32 → offset * s ≤ 2 ^ 42
+shift-bound offset s (inl one) h = rw one (omega (arith, h))
+shift-bound offset s (inr (inl five)) h = rw five (omega (arith, h))
+shift-bound offset s (inr (inr (inl ten))) h = rw ten (omega (arith, h))
+shift-bound offset s (inr (inr (inr (inl hundred)))) h = rw hundred (omega (arith, h))
+shift-bound offset s (inr (inr (inr (inr (inl thousand))))) h = rw thousand (omega (arith, h))
+shift-bound offset s (inr (inr (inr (inr (inr (inl sixteen)))))) h = rw sixteen (omega (arith, h))
+shift-bound offset s (inr (inr (inr (inr (inr (inr most)))))) h = rw most (omega (arith, h))

@@ -1,5 +1,5 @@
 -- The text of rows reads back as those rows, and a text has one list of rows.
-use Rattle.std.proofs.Common.{◌≡◌, ◌<◌, ◌≤◌, ◌+◌, ◌==◌, ◌&&◌, ◌⊎◌, Bool, if◌then◌else◌, inl, inr, arith, length, ◌≢◌, ◌++◌, ◌∷◌, [], ℕ, List, Option, Some, None, true, false, refl, sym, ◌∙◌, ap, ap₂, subst}
+use Rattle.std.proofs.Common.{◌≡◌, ◌<◌, ◌≤◌, ◌+◌, ◌==◌, ◌&&◌, ◌⊎◌, Bool, if◌then◌else◌, inl, inr, arith, length, ◌≢◌, ◌++◌, ◌∷◌, [], ℕ, List, Some, None, true, false, refl, sym, ◌∙◌, ap, ap₂, subst}
 use Rattle.csv.specs.Machine.{Read, next_record, ends_at_end, is_end, step, after_end, in_field, start_field, start_record, ends_with, is_byte, fields_after, field_after}
 use Rattle.csv.specs.declared.parser.Action.{Action}
 use Rattle.csv.specs.declared.parser.Action.TheVariants as act
@@ -12,7 +12,7 @@ use Rattle.csv.specs.declared.parser.Config.{Config}
 use Rattle.csv.specs.declared.parser.State.{State}
 use Rattle.csv.specs.declared.parser.State.TheVariants as st
 use Rattle.csv.proofs.RoundTrip.{read-write}
-use Rattle.fit_csv.specs.Rows.{Cell, Row, csv_text, NoneEmpty, first_line, RowsOfText}
+use Rattle.fit_csv.specs.Rows.{Row, csv_text, NoneEmpty, first_line, RowsOfText}
 
 back-same : (row : Row) → row ≢ [] → read_back row ≡ row
 back-same [] n = absurd (n refl)

@@ -1,7 +1,6 @@
 -- The items of a cell, cut at its bars.
-use Rattle.std.proofs.Common.{◌≡◌, ◌∙◌, ℕ, zero, suc, ◌+◌, ◌<◌, ◌≤◌, Bool, true, false, List, [], ◌∷◌, ◌++◌, length, map, flat_map, take, drop, get_or, refl, sym, ap, ap₂, subst, arith, inl, inr, add-one, append-nil, drop-cons}
-use Rattle.std.specs.Prelude.{not, ◌==◌}
-use Rattle.std.specs.List.{AllByRecursion, position_or_len, before_first, after_first}
+use Rattle.std.proofs.Common.{◌≡◌, ◌∙◌, ℕ, suc, ◌+◌, ◌<◌, false, List, [], ◌∷◌, ◌++◌, length, map, drop, get_or, refl, sym, ap, arith, add-one, append-nil, drop-cons}
+use Rattle.std.specs.List.{position_or_len, before_first, after_first}
 use Rattle.std.proofs.lemmas.Bool.{ne_eqb}
 use Rattle.std.proofs.Math.Numerals.{one-add}
 use Rattle.fit_csv.specs.Cells.{barred}
@@ -42,11 +41,11 @@ after-end : (text : List ℕ) → Low text → after_first is_bar text ≡ []
 after-end text h = ap (λ n. drop (n + 1) text) (place-end text h) ∙ ap (λ n. drop n text) (add-one (length text)) ∙ drop-past text
 
 -- the first of texts with a bar between one and the next, and the others
-first-text : (x : List ℕ) (xs : List (List ℕ)) → Low x → before_first is_bar (barred (x ∷ xs)) ≡ x
+pub first-text : (x : List ℕ) (xs : List (List ℕ)) → Low x → before_first is_bar (barred (x ∷ xs)) ≡ x
 first-text x [] h = ap (before_first is_bar) (append-nil x) ∙ before-end x h
 first-text x (y ∷ ys) h = before-bar x (barred (y ∷ ys)) h
 
-other-texts : (x : List ℕ) (xs : List (List ℕ)) → Low x → after_first is_bar (barred (x ∷ xs)) ≡ barred xs
+pub other-texts : (x : List ℕ) (xs : List (List ℕ)) → Low x → after_first is_bar (barred (x ∷ xs)) ≡ barred xs
 other-texts x [] h = ap (after_first is_bar) (append-nil x) ∙ after-end x h
 other-texts x (y ∷ ys) h = after-bar x (barred (y ∷ ys)) h
 

@@ -1,5 +1,5 @@
 -- Texts that can stand as they are.
-use Rattle.std.proofs.Common.{◌≡◌, ◌∙◌, ℕ, zero, suc, ◌<◌, Bool, true, false, List, [], ◌∷◌, ◌++◌, length, drop, get_or, reverse, All, refl, sym, ap, ap₂, inl, inr, arith, eqb-true}
+use Rattle.std.proofs.Common.{◌≡◌, ◌∙◌, ℕ, zero, suc, ◌<◌, Bool, true, false, List, [], ◌∷◌, ◌++◌, length, drop, get_or, reverse, All, refl, sym, ap, inl, inr, arith, eqb-true}
 use Rattle.std.specs.Prelude.{◌==◌, ◌&&◌, not}
 use Rattle.std.specs.List.{list_all}
 use Rattle.std.specs.Str.{IsUtf8, is_utf8}
@@ -68,6 +68,17 @@ string-plain bytes text bits count e begins m n same = elim (cases_Bool (is_plai
   | inl plain ↦
       let is : text ≡ before_closing_zeros bytes = rw plain at e in
       ext_get_or 0 bits bytes (m ∙ sym n) (λ k h. same k (omega (arith, h, m)) ∙ ap (λ t. get_or t k 0) is ∙ before-same bytes k)
+  | inr other ↦
+      let is : text ≡ bytes_text bytes = rw other at e in
+      cc (sym begins ∙ ap begins_as_bytes is)
+]
+
+-- a text that is shown has its string's bytes
+pub plain-same : (bytes text : List ℕ) (k : ℕ) → text ≡ string_text bytes → begins_as_bytes text ≡ false → get_or bytes k 0 ≡ get_or text k 0
+plain-same bytes text k e begins = elim (cases_Bool (is_plain (before_closing_zeros bytes))) [
+  | inl plain ↦
+      let is : text ≡ before_closing_zeros bytes = rw plain at e in
+      sym (ap (λ t. get_or t k 0) is ∙ before-same bytes k)
   | inr other ↦
       let is : text ≡ bytes_text bytes = rw other at e in
       cc (sym begins ∙ ap begins_as_bytes is)

@@ -1,9 +1,12 @@
 -- The text of rows of cells, and the rows of a text.
-use Rattle.std.specs.Prelude.{◌≡◌, ◌≢◌, ◌++◌, ◌∷◌, [], ℕ, List, Bool, false, Vec, Option, Some, unwrap_or, codes}
+use Rattle.std.specs.Prelude.{◌≡◌, ◌≢◌, ◌++◌, ◌∷◌, [], ℕ, List, Bool, true, false, Vec, Some, unwrap_or, codes}
+use Rattle.std.specs.Borrow.{Bor}
 use Rattle.std.specs.Global.{Global}
-use Rattle.csv.specs.Reading.{AreRecords, default_config, strip_bom}
+use Rattle.csv.specs.Reading.{AreRecords, Reached, Ready, default_config, reader_config, reader_state, reader_trim, source_of, strip_bom}
 use Rattle.csv.specs.Writing.{default_writer, row_text, fields_written, has_written, text_written, writer_setup}
 use Rattle.csv.specs.declared.parser.State.TheVariants as st
+use Rattle.csv.specs.declared.reader.Reader.{Reader}
+use Rattle.csv.specs.declared.reader.Trim.TheVariants as trim
 use Rattle.csv.specs.declared.writer.Writer.{Writer}
 
 abbrev pub Cell : Type 0
@@ -40,3 +43,15 @@ pub record IsBetweenRows (w : Writer (Vec ℕ Global)) : Type 0 where
   pub ended : fields_written w ≡ 0
   pub clean : has_written w ≡ false
   pub setup : writer_setup w ≡ default_writer
+
+-- a reader that has read these rows of a text
+pub record HasRead (text : List ℕ) (rows : List Row) (r : Reader (Bor (List ℕ))) : Type 0 where
+  pub trim : reader_trim r ≡ trim.None
+  pub ready : Ready r
+  pub config : reader_config r ≡ default_config
+  pub place : (left : List ℕ) × (source_of (λ s. Some s.now) r ≡ Some left) × Reached default_config st.StartRecord (strip_bom text) rows (reader_state r) left
+
+-- after these rows there comes one more, or they are all that the text has
+abbrev pub Follows : Bool → Row → List ℕ → List Row → Reader (Bor (List ℕ)) → Type 0
+Follows true row text rows r = HasRead text (rows ++ (row ∷ [])) r
+Follows false row text rows r = RowsOfText text rows

@@ -1,5 +1,8 @@
-//! What holds of rows and their text.
-ghost use Rattle.fit_csv.specs.Laws.{ReadsBack, ReadsOneWay};
+//! What holds of cells, of rows and of their text.
+ghost use Rattle.fit_csv.specs.Laws.{CellsAreOne, ReadsBack, ReadsOneWay, ScaledIsExact};
+
+use fit_profile::laws::text_has_one_number;
+use std::alloc::Allocator;
 
 /// The text of the first line and other rows reads as those rows.
 pub fn text_reads_back()
@@ -10,3 +13,15 @@ pub fn text_reads_back()
 pub fn text_reads_one_way()
     ensures { ReadsOneWay }
 {}
+
+/// A scaled number is exactly what its raw value stands for.
+pub fn scaled_is_exact()
+    ensures { ScaledIsExact }
+{}
+
+/// Items with the shape that a code and a size give have a cell of their own.
+pub fn cells_are_one<A: Allocator>()
+    ensures { CellsAreOne A }
+{
+    text_has_one_number();
+}

@@ -11,5 +11,5 @@ mod scan;
 mod strings;
 
 pub use cell::{cell_text, put_cell};
-pub use rows::{put_row, row_writer, rows_text};
+pub use rows::{next_row, put_row, row_reader, row_writer, rows_text};
 pub use scan::cell_items;

@@ -1,5 +1,5 @@
-use Rattle.std.proofs.Common.{◌≡◌, ◌∙◌, ◌<◌, ◌^◌, ◌*◌, ◌+◌, arith, drop, length, ap, sym, drop_of_length-le, get_or, subst}
-use Rattle.fit_csv.specs.Steps.{read_hex, hex_value}
+use Rattle.std.proofs.Common.{◌∙◌, ◌*◌, ◌+◌, arith, drop, ap, sym, drop_of_length-le}
+use Rattle.fit_csv.specs.Steps.{read_hex}
 use Rattle.fit_csv.proofs.ReadFacts.{room, below_next, read_hex-at, read_hex-end}
 use Rattle.fit_csv.proofs.hexadecimal.read_digits.Goals as goal
 
@@ -12,7 +12,7 @@ overflow_mul-number c = let r = room c.loop-digit.number c.loop-digit.digit-inde
 pub loop-digit-preserved : goal.loop-digit-preserved
 loop-digit-preserved c = record {
   value = c.loop-digit.invariant.value ∙ read_hex-at c.loop-digit.number c.args.digits.now c.loop-digit.digit-index c.loop-digit-test.true
-    ∙ ap (λ v. read_hex (c.loop-digit.number * 16 + v) (drop (c.loop-digit.digit-index + 1) c.args.digits.now)) (sym c.digit_value.ensures.value);
+      ∙ ap (λ v. read_hex (c.loop-digit.number * 16 + v) (drop (c.loop-digit.digit-index + 1) c.args.digits.now)) (sym c.digit_value.ensures.value);
   below = below_next c.loop-digit.number c.loop-digit.digit-index c.digit_value.result c.loop-digit.invariant.below c.digit_value.ensures.below;
 }
 

@@ -1,4 +1,4 @@
-use Rattle.std.proofs.Common.{◌≡◌, ◌∙◌, ap}
+use Rattle.std.proofs.Common.{◌∙◌, ap}
 use Rattle.std.proofs.lemmas.List.{take_rest}
 use Rattle.fit_csv.specs.Steps.{read_hex}
 use Rattle.fit_csv.proofs.ReadFacts.{float-length, float-read}

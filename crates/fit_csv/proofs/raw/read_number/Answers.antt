@@ -1,4 +1,4 @@
-use Rattle.std.proofs.Common.{◌≡◌, ◌∙◌, ◌^◌, ◌<◌, ◌==◌, sym, ap, eqb-true, eq-eqb, subst, length}
+use Rattle.std.proofs.Common.{◌≡◌, ◌∙◌, ◌^◌, ◌<◌, ◌==◌, sym, eqb-true, eq-eqb, subst, length}
 use Rattle.std.proofs.lemmas.Option.{same_Some, none-some}
 use Rattle.fit_base.specs.BaseTypes.{base_type}
 use Rattle.fit_csv.proofs.ClassFacts.{code_width}

@@ -30,9 +30,9 @@ returns-in_default c =
       count = c.read_items.ensures.count;
       below = IfOk-weaker c.read_items.result (λ bits. All (λ n. n < 256 ^ (base_type c.args.code.0).width) bits) _ (λ bits h. subst (λ w. All (λ n. n < 256 ^ w) bits) (sym own) h) c.read_items.ensures.below;
       every = IfOk-weaker c.read_items.result
-        (λ bits. (numbers : List ℕ) → length numbers ≡ c.args.count → All (λ n. n < 256 ^ (base_type c.args.code.0).width) numbers → c.args.text.now ≡ barred (map (item_text c.class_of.result c.args.code.0 c.args.info (base_type c.args.code.0).width) numbers) → bits ≡ numbers) _
-        (λ bits h numbers long small shows. h numbers long (subst (λ w. All (λ n. n < 256 ^ w) numbers) own small)
-        (shows ∙ ap (λ k. items_text k c.args.code.0 c.args.info c.args.width numbers) (sym c.class_of.ensures)
-        ∙ side_by_side c.class_of.result c.args.code.0 c.args.info c.args.width numbers c.in_default.not-Text c.in_default.not-Bytes
-        ∙ ap (λ w. barred (map (item_text c.class_of.result c.args.code.0 c.args.info w) numbers)) own)) c.read_items.ensures.every;
+          (λ bits. (numbers : List ℕ) → length numbers ≡ c.args.count → All (λ n. n < 256 ^ (base_type c.args.code.0).width) numbers → c.args.text.now ≡ barred (map (item_text c.class_of.result c.args.code.0 c.args.info (base_type c.args.code.0).width) numbers) → bits ≡ numbers) _
+          (λ bits h numbers long small shows. h numbers long (subst (λ w. All (λ n. n < 256 ^ w) numbers) own small)
+          (shows ∙ ap (λ k. items_text k c.args.code.0 c.args.info c.args.width numbers) (sym c.class_of.ensures)
+          ∙ side_by_side c.class_of.result c.args.code.0 c.args.info c.args.width numbers c.in_default.not-Text c.in_default.not-Bytes
+          ∙ ap (λ w. barred (map (item_text c.class_of.result c.args.code.0 c.args.info w) numbers)) own)) c.read_items.ensures.every;
     }
