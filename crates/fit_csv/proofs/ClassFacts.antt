@@ -1,9 +1,10 @@
 -- Widths and classes of base types.
-use Rattle.std.proofs.Common.{◌≡◌, ◌∙◌, ℕ, ◌⊎◌, inl, inr, Bool, true, false, refl, sym, ap, arith, eqb-true, List, map}
+use Rattle.std.proofs.Common.{◌≡◌, ◌∙◌, ℕ, ◌⊎◌, inl, inr, Bool, true, false, refl, eqb-true, eq-eqb, ltb-true, List, map, ◌<◌, ◌^◌, ◌%◌, nat_lt}
 use Rattle.std.specs.Prelude.{◌==◌, ◌||◌, Option}
 use Rattle.std.proofs.lemmas.Bool.{cases_Bool}
 use Rattle.fit_base.specs.declared.code.Class.{Class}
 use Rattle.fit_base.specs.declared.code.Class.TheVariants.{Signed, Unsigned, Text, Float, Bytes}
+use Rattle.fit_base.specs.BaseTypes as base
 use Rattle.fit_base.specs.BaseTypes.{base_type, base_types, byte}
 use Rattle.fit_base.proofs.Bytes.{found_passes}
 use Rattle.fit_profile.specs.declared.profile.Info.{Info}
@@ -36,25 +37,51 @@ pub item_width : (code width : ℕ) → (width ≡ (base_type code).width) ⊎ (
 item_width code width (inl own) = rw own (code_width code)
 item_width code width (inr one) = inl one
 
--- strings are bytes
+-- a field's items have its code's width, or 1
+pub item_width-kinds : (code size : ℕ) → (base.item_width code size ≡ (base_type code).width) ⊎ (base.item_width code size ≡ 1)
+item_width-kinds code size = elim (cases_Bool (size % (base_type code).width == 0)) [
+  | inl whole ↦ inl (rw whole refl)
+  | inr rest ↦ inr (rw rest refl)
+]
+
+-- the invalid number of a base type has its width
+pub code_invalid : (code : ℕ) → (base_type code).invalid < 256 ^ (base_type code).width
+code_invalid code = ltb-true _ _ (found_passes (λ t. t.code == code) (λ t. nat_lt t.invalid (256 ^ t.width)) byte base_types refl refl)
+
+-- strings and bytes are one byte wide
 abbrev narrow : Class → ℕ → Bool
-narrow Text w = w == 1
-narrow other w = true
+narrow Signed w = true
+narrow Unsigned w = true
+narrow Float w = true
+narrow _ w = w == 1
 
-narrow_text : (class : Class) (w : ℕ) → narrow class w ≡ true → class ≡ Text → w ≡ 1
+narrow_text : (class : Class) (w : ℕ) → narrow class w ≡ true → (class ≡ Text) ⊎ (class ≡ Bytes) → w ≡ 1
 narrow_text Text w h e = eqb-true w 1 h
-narrow_text Signed w h e = cc
-narrow_text Unsigned w h e = cc
-narrow_text Float w h e = cc
-narrow_text Bytes w h e = cc
+narrow_text Bytes w h e = eqb-true w 1 h
+narrow_text Signed w h (inl e) = cc
+narrow_text Signed w h (inr e) = cc
+narrow_text Unsigned w h (inl e) = cc
+narrow_text Unsigned w h (inr e) = cc
+narrow_text Float w h (inl e) = cc
+narrow_text Float w h (inr e) = cc
 
-code_narrow : (code : ℕ) → (base_type code).class ≡ Text → (base_type code).width ≡ 1
+code_narrow : (code : ℕ) → ((base_type code).class ≡ Text) ⊎ ((base_type code).class ≡ Bytes) → (base_type code).width ≡ 1
 code_narrow code e = narrow_text (base_type code).class (base_type code).width (found_passes (λ t. t.code == code) (λ t. narrow t.class t.width) byte base_types refl refl) e
 
 pub text_width : (code width : ℕ) → class_of code width ≡ Text → width ≡ 1
 text_width code width e = elim (cases_Bool (width == (base_type code).width)) [
-  | inl own ↦ eqb-true width (base_type code).width own ∙ code_narrow code (rw own at e)
+  | inl own ↦ eqb-true width (base_type code).width own ∙ code_narrow code (inl (rw own at e))
   | inr other ↦ cc (rw other at e)
+]
+
+pub bytes_width : (code width : ℕ) → (width ≡ (base_type code).width) ⊎ (width ≡ 1) → class_of code width ≡ Bytes → width ≡ 1
+bytes_width code width (inr one) e = one
+bytes_width code width (inl own) e = own ∙ code_narrow code (inr (rw (eq-eqb width (base_type code).width own) at e))
+
+pub own_width : (code width : ℕ) → (class_of code width ≡ Bytes → ⊥) → width ≡ (base_type code).width
+own_width code width h = elim (cases_Bool (width == (base_type code).width)) [
+  | inl own ↦ eqb-true width (base_type code).width own
+  | inr other ↦ absurd (h (rw other refl))
 ]
 
 -- the other classes stand item by item

@@ -3,7 +3,6 @@ use Rattle.std.proofs.Common.{◌≡◌, refl, ℕ, List, [], ◌∷◌, Option,
 use Rattle.std.specs.Fmt.{digits}
 use Rattle.std.specs.Str.{is_utf8, chars}
 use lib.Utf8.{encode}
-use Rattle.fit_base.specs.declared.items.Items.{Items}
 use Rattle.fit_profile.specs.declared.profile.Info.{Info}
 use Rattle.fit_profile.specs.FixedText.{last_digits}
 use Rattle.fit_csv.specs.Cells.{cell, hex_digits}

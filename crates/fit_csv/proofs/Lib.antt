@@ -1,6 +1,12 @@
 mod KnownCells
 mod HexFacts
+mod ReadFacts
 mod NumberFacts
 mod StringFacts
 mod ClassFacts
 mod TextFacts
+mod SplitFacts
+mod ItemFacts
+mod RowFacts
+mod ReaderFacts
+mod OneCell

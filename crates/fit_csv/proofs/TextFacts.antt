@@ -1,8 +1,8 @@
--- A cell is a text.
-use Rattle.std.proofs.Common.{◌≡◌, ◌∙◌, ℕ, zero, suc, ◌+◌, ◌*◌, ◌/◌, ◌%◌, ◌^◌, ◌<◌, ◌==◌, Bool, true, false, List, [], ◌∷◌, ◌++◌, length, map, flat_map, refl, sym, ap, subst, arith, inl, inr, lit<, cond, unsigned_abs, ℤ, pos, negsuc, Option, Some, None, decimal, codes}
+-- A cell is a text, and no item of it has a bar.
+use Rattle.std.proofs.Common.{◌≡◌, ℕ, zero, suc, ◌*◌, ◌/◌, ◌%◌, ◌^◌, ◌<◌, ◌==◌, Bool, true, false, List, [], ◌∷◌, ◌++◌, length, map, flat_map, refl, arith, inl, inr, lit<, cond, unsigned_abs, ℤ, pos, negsuc, Option, Some, None, decimal}
 use Rattle.std.specs.Fmt.{digits, digits_onto, digit_glyph}
 use Rattle.std.specs.Prelude.{◌&&◌, not}
-use Rattle.std.specs.List.{list_all}
+use Rattle.std.specs.List.{AllByRecursion, list_all}
 use Rattle.std.specs.Str.{IsUtf8, is_utf8, IsAscii}
 use Rattle.std.proofs.lemmas.Bool.{cases_Bool}
 use Rattle.std.proofs.lemmas.Bool.Decides.{nat_tests}
@@ -17,75 +17,90 @@ use Rattle.fit_profile.specs.declared.profile.Info.{Info}
 use Rattle.fit_profile.specs.FixedText.{fixed_text, fraction, last_digits, sign}
 use Rattle.fit_csv.specs.Cells.{barred, before_closing_zeros, begins_as_bytes, bytes_text, cell, class_of, hex_digit, hex_digits, is_plain, item_text, items_text, number_text, string_text}
 
-glyph : (d : ℕ) → d < 10 → digit_glyph false d < 128
+-- each byte comes before the bar
+abbrev pub Low : List ℕ → Type 0
+Low text = AllByRecursion (λ b. b < 124) text
+
+low-append : (a b : List ℕ) → Low a → Low b → Low (a ++ b)
+low-append [] b p q = q
+low-append (x ∷ a) b p q = (p.0, low-append a b p.1 q)
+
+ascii-low : (text : List ℕ) → Low text → IsAscii text
+ascii-low [] h = IsAscii-nil
+ascii-low (b ∷ text) h = IsAscii-cons b text (let below = h.0 in omega (arith, below)) (ascii-low text h.1)
+
+glyph : (d : ℕ) → d < 10 → digit_glyph false d < 124
 glyph d h = grind (arith, nat_tests)
 
-digits-onto : (k n : ℕ) (acc : List ℕ) → IsAscii acc → IsAscii (digits_onto k 10 false n acc)
+digits-onto : (k n : ℕ) (acc : List ℕ) → Low acc → Low (digits_onto k 10 false n acc)
 digits-onto zero n acc h = h
 digits-onto (suc k) n acc h =
-    let more = IsAscii-cons (digit_glyph false (n % 10)) acc (glyph (n % 10) (omega arith)) h in
+    let more : Low (digit_glyph false (n % 10) ∷ acc) = (glyph (n % 10) (omega arith), h) in
     elim (cases_Bool (n / 10 == 0)) [
       | inl last ↦ rw last more
       | inr other ↦ rw other (digits-onto k (n / 10) (digit_glyph false (n % 10) ∷ acc) more)
     ]
 
-ascii-decimal : (n : ℕ) → IsAscii (decimal n)
+low-decimal : (n : ℕ) → Low (decimal n)
 unfolding digits
-ascii-decimal n = digits-onto 64 n [] IsAscii-nil
+low-decimal n = digits-onto 64 n [] tt
 
-ascii-last : (k n : ℕ) → IsAscii (last_digits k n)
+low-last : (k n : ℕ) → Low (last_digits k n)
 unfolding last_digits
-ascii-last zero n = IsAscii-nil
-ascii-last (suc k) n = IsAscii-cons (48 + n / 10 ^ k % 10) (last_digits k n) (omega arith) (ascii-last k n)
+low-last zero n = tt
+low-last (suc k) n = (omega arith, low-last k n)
 
-ascii-fraction : (d n : ℕ) → IsAscii (fraction d n)
-ascii-fraction d n = elim (cases_Bool (d == 0)) [
-  | inl none ↦ rw none IsAscii-nil
-  | inr some ↦ rw some (IsAscii-cons 46 (last_digits d n) (lit< tt) (ascii-last d n))
+low-fraction : (d n : ℕ) → Low (fraction d n)
+low-fraction d n = elim (cases_Bool (d == 0)) [
+  | inl none ↦ rw none tt
+  | inr some ↦ rw some (lit< tt, low-last d n)
 ]
 
-ascii-sign : (v : ℤ) → IsAscii (sign v)
-ascii-sign (pos n) = IsAscii-nil
-ascii-sign (negsuc n) = IsAscii-cons 45 [] (lit< tt) IsAscii-nil
+low-sign : (v : ℤ) → Low (sign v)
+low-sign (pos n) = tt
+low-sign (negsuc n) = (lit< tt, tt)
 
-pub ascii-fixed : (v : ℤ) (d : ℕ) → IsAscii (fixed_text v d)
-ascii-fixed v d =
-    IsAscii-append (sign v ++ decimal (unsigned_abs v / 10 ^ d)) (fraction d (unsigned_abs v % 10 ^ d))
-    (IsAscii-append (sign v) (decimal (unsigned_abs v / 10 ^ d)) (ascii-sign v) (ascii-decimal (unsigned_abs v / 10 ^ d)))
-    (ascii-fraction d (unsigned_abs v % 10 ^ d))
+low-fixed : (v : ℤ) (d : ℕ) → Low (fixed_text v d)
+low-fixed v d =
+    low-append (sign v ++ decimal (unsigned_abs v / 10 ^ d)) (fraction d (unsigned_abs v % 10 ^ d))
+    (low-append (sign v) (decimal (unsigned_abs v / 10 ^ d)) (low-sign v) (low-decimal (unsigned_abs v / 10 ^ d)))
+    (low-fraction d (unsigned_abs v % 10 ^ d))
 
-ascii-number : (info : Option Info) (raw : ℤ) → IsAscii (number_text info raw)
-ascii-number None raw = ascii-fixed raw 0
-ascii-number (Some i) raw = ascii-fixed _ _
+low-number : (info : Option Info) (raw : ℤ) → Low (number_text info raw)
+low-number None raw = low-fixed raw 0
+low-number (Some i) raw = low-fixed _ _
 
-hex_ascii : (d : ℕ) → d < 16 → hex_digit d < 128
-hex_ascii d h = grind (arith, nat_tests)
+low-digit : (d : ℕ) → d < 16 → hex_digit d < 124
+low-digit d h = grind (arith, nat_tests)
 
-ascii-hex : (k n : ℕ) → IsAscii (hex_digits k n)
+low-hex : (k n : ℕ) → Low (hex_digits k n)
 unfolding hex_digits
-ascii-hex zero n = IsAscii-nil
-ascii-hex (suc k) n = IsAscii-cons (hex_digit (n / 16 ^ k % 16)) (hex_digits k n) (hex_ascii (n / 16 ^ k % 16) (omega arith)) (ascii-hex k n)
+low-hex zero n = tt
+low-hex (suc k) n = (low-digit (n / 16 ^ k % 16) (omega arith), low-hex k n)
 
-ascii-0x : (text : List ℕ) → IsAscii text → IsAscii (48 ∷ 120 ∷ text)
-ascii-0x text h = IsAscii-cons 48 (120 ∷ text) (lit< tt) (IsAscii-cons 120 text (lit< tt) h)
+low-0x : (text : List ℕ) → Low text → Low (48 ∷ 120 ∷ text)
+low-0x text h = (lit< tt, (lit< tt, h))
 
-ascii-pairs : (bytes : List ℕ) → IsAscii (flat_map (λ b. hex_digits 2 b) bytes)
-ascii-pairs [] = IsAscii-nil
-ascii-pairs (b ∷ bytes) = IsAscii-append (hex_digits 2 b) (flat_map (λ b. hex_digits 2 b) bytes) (ascii-hex 2 b) (ascii-pairs bytes)
+low-pairs : (bytes : List ℕ) → Low (flat_map (λ b. hex_digits 2 b) bytes)
+low-pairs [] = tt
+low-pairs (b ∷ bytes) = low-append (hex_digits 2 b) (flat_map (λ b. hex_digits 2 b) bytes) (low-hex 2 b) (low-pairs bytes)
 
 ascii-bytes : (bytes : List ℕ) → IsAscii (bytes_text bytes)
-ascii-bytes bytes = ascii-0x (flat_map (λ b. hex_digits 2 b) bytes) (ascii-pairs bytes)
+ascii-bytes bytes = ascii-low (bytes_text bytes) (low-0x (flat_map (λ b. hex_digits 2 b) bytes) (low-pairs bytes))
 
-ascii-valid : (b : Bool) (text : List ℕ) → IsAscii text → IsAscii (cond b [] text)
-ascii-valid true text h = IsAscii-nil
-ascii-valid false text h = h
+low-valid : (b : Bool) (text : List ℕ) → Low text → Low (cond b [] text)
+low-valid true text h = tt
+low-valid false text h = h
 
-pub ascii-item : (class : Class) (code : ℕ) (info : Option Info) (width n : ℕ) → IsAscii (item_text class code info width n)
-ascii-item Signed code info width n = ascii-valid (n == (base_type code).invalid) (number_text info (twos_complement width n)) (ascii-number info (twos_complement width n))
-ascii-item Unsigned code info width n = ascii-valid (n == (base_type code).invalid) (number_text info (pos n)) (ascii-number info (pos n))
-ascii-item Text code info width n = ascii-0x _ (ascii-hex (2 * width) n)
-ascii-item Float code info width n = ascii-0x _ (ascii-hex (2 * width) n)
-ascii-item Bytes code info width n = ascii-0x _ (ascii-hex (2 * width) n)
+pub low-item : (class : Class) (code : ℕ) (info : Option Info) (width n : ℕ) → Low (item_text class code info width n)
+low-item Signed code info width n = low-valid (n == (base_type code).invalid) (number_text info (twos_complement width n)) (low-number info (twos_complement width n))
+low-item Unsigned code info width n = low-valid (n == (base_type code).invalid) (number_text info (pos n)) (low-number info (pos n))
+low-item Text code info width n = low-0x _ (low-hex (2 * width) n)
+low-item Float code info width n = low-0x _ (low-hex (2 * width) n)
+low-item Bytes code info width n = low-0x _ (low-hex (2 * width) n)
+
+ascii-item : (class : Class) (code : ℕ) (info : Option Info) (width n : ℕ) → IsAscii (item_text class code info width n)
+ascii-item class code info width n = ascii-low (item_text class code info width n) (low-item class code info width n)
 
 ascii-others : (f : ℕ → List ℕ) → ((n : ℕ) → IsAscii (f n)) → (bits : List ℕ) → IsAscii (flat_map (λ t. 124 ∷ t) (map f bits))
 ascii-others f h [] = IsAscii-nil

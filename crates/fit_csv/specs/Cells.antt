@@ -3,7 +3,7 @@ use Rattle.std.specs.Prelude.{ℕ, zero, suc, ◌+◌, ◌*◌, ◌/◌, ◌%◌
 use Rattle.std.specs.List.{list_all}
 use Rattle.std.specs.Str.{is_utf8}
 use Rattle.fit_base.specs.declared.code.Class.{Class}
-use Rattle.fit_base.specs.declared.code.Class.TheVariants.{Signed, Unsigned, Text, Float, Bytes}
+use Rattle.fit_base.specs.declared.code.Class.TheVariants.{Signed, Unsigned, Text, Bytes}
 use Rattle.fit_base.specs.declared.items.Items.{Items}
 use Rattle.fit_base.specs.BaseTypes.{base_type}
 use Rattle.fit_base.specs.Numbers.{twos_complement}

@@ -3,7 +3,15 @@
 
 mod cell;
 mod hexadecimal;
+pub mod laws;
 mod numbers;
+mod raw;
+mod rows;
+mod scan;
 mod strings;
+#[cfg(test)]
+mod tests;
 
 pub use cell::{cell_text, put_cell};
+pub use rows::{next_row, put_row, row_reader, row_writer, rows_text};
+pub use scan::cell_items;

@@ -41,7 +41,13 @@ fn number_text(info: Option<Info>, raw: i128) -> ArrayString<48>
 }
 
 /// Puts a number behind a text, but nothing where its bits are the invalid ones.
-fn put_number(text: &mut Vec<u8>, code: Code, info: Option<Info>, bits: u64, raw: i128) -> Result<(), AllocError>
+fn put_number(
+    text: &mut Vec<u8>,
+    code: Code,
+    info: Option<Info>,
+    bits: u64,
+    raw: i128,
+) -> Result<(), AllocError>
     requires least { neg_ℤ (pos (2 ^ 63)) ≤ℤ raw }
     requires most { raw <ℤ pos (2 ^ 64) }
     requires scale { IfSome info (λ i. IsScale i.scale) }
@@ -54,7 +60,14 @@ fn put_number(text: &mut Vec<u8>, code: Code, info: Option<Info>, bits: u64, raw
 }
 
 /// Puts an item behind a text.
-fn put_item(text: &mut Vec<u8>, class: Class, code: Code, info: Option<Info>, width: u8, bits: u64) -> Result<(), AllocError>
+fn put_item(
+    text: &mut Vec<u8>,
+    class: Class,
+    code: Code,
+    info: Option<Info>,
+    width: u8,
+    bits: u64,
+) -> Result<(), AllocError>
     requires scale { IfSome info (λ i. IsScale i.scale) }
     requires width { (width ≡ 1) ⊎ (width ≡ 2) ⊎ (width ≡ 4) ⊎ (width ≡ 8) }
     requires bits { bits < 256 ^ width }
@@ -81,7 +94,14 @@ fn put_bar(text: &mut Vec<u8>, place: usize) -> Result<(), AllocError>
 }
 
 /// Puts items behind a text, with a bar between one and the next.
-pub(crate) fn put_items(text: &mut Vec<u8>, class: Class, code: Code, info: Option<Info>, width: u8, bits: &[u64]) -> Result<(), AllocError>
+pub(crate) fn put_items(
+    text: &mut Vec<u8>,
+    class: Class,
+    code: Code,
+    info: Option<Info>,
+    width: u8,
+    bits: &[u64],
+) -> Result<(), AllocError>
     requires scale { IfSome info (λ i. IsScale i.scale) }
     requires width { (width ≡ 1) ⊎ (width ≡ 2) ⊎ (width ≡ 4) ⊎ (width ≡ 8) }
     requires bits { All (λ n. n < 256 ^ width) bits.now }

@@ -1,10 +1,11 @@
 //! Strings, as they stand in a cell.
-ghost use Rattle.std.specs.Prelude.{◌≡◌, ◌<◌, ◌≤◌, ◌++◌, All, OnOk, take, length, not, ◌==◌};
+ghost use Rattle.std.specs.Prelude.{◌≡◌, List, ◌<◌, ◌≤◌, ◌++◌, ℕ, All, IfOk, OnOk, slice_index, take, length, not, ◌==◌};
 ghost use Rattle.std.specs.List.{list_all};
 ghost use Rattle.fit_csv.specs.Cells.{before_closing_zeros, begins_as_bytes, is_plain, string_text};
 
-use crate::hexadecimal::put_bytes;
-use std::alloc::AllocError;
+use crate::hexadecimal::{put_bytes, read_bytes};
+use fit_base::Bits;
+use std::alloc::{AllocError, Global};
 use std::str;
 
 /// How many bytes there are before the closing zeros.
@@ -22,7 +23,7 @@ fn text_len(bytes: &[u64]) -> usize
 }
 
 /// Whether a text begins as bytes do in a cell.
-pub(crate) fn begins_as_bytes(text: &[u8]) -> bool
+fn begins_as_bytes(text: &[u8]) -> bool
     ensures { result ≡ begins_as_bytes text.now }
 {
     if text.len() < 2 {
@@ -71,4 +72,42 @@ pub(crate) fn put_string(text: &mut Vec<u8>, bytes: &[u64]) -> Result<(), AllocE
     }
     text.truncate(start);
     put_bytes(text, bytes)
+}
+
+/// The bytes of a string that a cell shows, and some bytes where it shows none.
+pub(crate) fn read_string(alloc: Global, count: u8, text: &[u8]) -> Result<Bits, AllocError>
+    ensures count { IfOk result (λ bits. length bits ≡ count) }
+    ensures below { IfOk result (λ bits. All (λ b. b < 256) bits) }
+    ensures every { IfOk result (λ bits. (bytes : List ℕ) → length bytes ≡ count → All (λ b. b < 256) bytes → text.now ≡ string_text bytes → bits ≡ bytes) }
+{
+    if begins_as_bytes(text) {
+        read_bytes(alloc, count, text)
+    } else {
+        read_text(alloc, count, text)
+    }
+}
+
+/// The bytes of a text, and zeros behind them.
+fn read_text(alloc: Global, count: u8, text: &[u8]) -> Result<Bits, AllocError>
+    ensures count { IfOk result (λ bits. length bits ≡ count) }
+    ensures value { IfOk result (λ bits. (k : ℕ) → k < count → slice_index bits k ≡ slice_index text.now k) }
+    ensures below { IfOk result (λ bits. All (λ b. b < 256) bits) }
+{
+    let mut bits = Bits::with_capacity(alloc, count as usize)?;
+    for place in 0..count as usize {
+        bits.push(byte_at(text, place))?;
+    }
+    Ok(bits)
+}
+
+/// The byte of a text at a place, and zero behind its end.
+fn byte_at(text: &[u8], place: usize) -> u64
+    ensures value { result ≡ slice_index text.now place }
+    ensures below { result < 256 }
+{
+    if place < text.len() {
+        text[place] as u64
+    } else {
+        0
+    }
 }

@@ -1,4 +1,4 @@
-use Rattle.std.proofs.Common.{◌≡◌, sym, subst}
+use Rattle.std.proofs.Common.{sym, subst}
 use Rattle.std.specs.Str.{IsUtf8}
 use Rattle.fit_csv.proofs.TextFacts.{utf8-cell}
 use Rattle.fit_csv.proofs.cell.cell_text.Goals as goal

@@ -1,4 +1,4 @@
-use Rattle.std.proofs.Common.{◌≡◌, ◌∙◌, ℕ, ◌*◌, ◌/◌, ◌%◌, ◌^◌, ap}
+use Rattle.std.proofs.Common.{◌∙◌, ◌*◌, ◌/◌, ◌%◌, ◌^◌, ap}
 use Rattle.fit_csv.specs.Cells.{hex_digit}
 use Rattle.fit_csv.proofs.HexFacts.{two-sixteen, low_digit, high_digit}
 use Rattle.fit_csv.proofs.hexadecimal.digit_at.Goals as goal

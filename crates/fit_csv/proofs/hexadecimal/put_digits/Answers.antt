@@ -1,4 +1,4 @@
-use Rattle.std.proofs.Common.{◌≡◌, ◌++◌, ◌∷◌, [], ◌-◌, ◌+◌, is_ok, true, rules, ap, ◌∙◌}
+use Rattle.std.proofs.Common.{◌≡◌, ◌++◌, ◌-◌, ◌+◌, is_ok, true, rules, ap, ◌∙◌}
 use Rattle.fit_csv.specs.Cells.{hex_digits}
 use Rattle.fit_csv.proofs.HexFacts.{more_digits, all_digits}
 use Rattle.fit_csv.proofs.hexadecimal.put_digits.Goals as goal

@@ -1,4 +1,4 @@
-use Rattle.std.proofs.Common.{◌≡◌, rules, arith, to_z, of_z, FitsSigned, subst, ℤ}
+use Rattle.std.proofs.Common.{◌≡◌, arith, to_z, of_z, FitsSigned, subst, ℤ}
 use Rattle.std.proofs.lemmas.Int.{ints, to_z-of_z}
 use Rattle.std.specs.Int.{w128}
 use Rattle.fit_profile.specs.Scaled.{IsScaled}

@@ -1,6 +1,6 @@
-use Rattle.std.proofs.Common.{◌≡◌, ◌∙◌, ap, sym}
+use Rattle.std.proofs.Common.{◌∙◌, ap, sym}
 use Rattle.std.specs.Prelude.{not}
-use Rattle.fit_csv.proofs.StringFacts.{no_utf8, zero_inside, no_zero}
+use Rattle.fit_csv.proofs.StringFacts.{no_utf8, no_zero}
 use Rattle.fit_csv.proofs.strings.is_plain.Goals as goal
 
 pub returns-then-has_no_zero : goal.returns-then-has_no_zero

@@ -1,0 +1,59 @@
+//! Rows of cells as text, through the crate `csv`.
+ghost use Rattle.std.specs.Prelude.{◌≡◌, ◌++◌, [], ℕ, List, IfOk, OnOk, map};
+ghost use Rattle.csv.specs.Records.{fields_of};
+ghost use Rattle.csv.specs.Writing.{default_writer, row_text};
+ghost use Rattle.fit_csv.specs.Rows.{Follows, HasRead, IsBetweenRows, Row, written};
+
+use csv::{ByteRecord, Reader, ReaderBuilder, Writer, WriterBuilder};
+use std::alloc::{AllocError, Global};
+
+/// A writer of rows behind a text. The text's memory is used on.
+pub fn row_writer(text: Vec<u8>) -> Writer<Vec<u8>>
+    ensures between { IsBetweenRows result }
+    ensures text { written result ≡ text.items }
+{
+    WriterBuilder::new().from_writer(text)
+}
+
+/// Writes a row. The rows of one writer have the same number of cells.
+pub fn put_row(writer: &mut Writer<Vec<u8>>, cells: &[&[u8]]) -> Result<(), AllocError>
+    requires { IsBetweenRows writer.old }
+    ensures between { OnOk result (IsBetweenRows writer.new) }
+    ensures text { OnOk result (written writer.new ≡ written writer.old ++ row_text default_writer (map (λ f. f.now) cells.now)) }
+{
+    match writer.write_fields(cells) {
+        Ok(()) => Ok(()),
+        Err(_) => Err(AllocError),
+    }
+}
+
+/// The text behind which rows were written, with those rows.
+pub fn rows_text(writer: Writer<Vec<u8>>) -> Result<Vec<u8>, AllocError>
+    requires { IsBetweenRows writer }
+    ensures { IfOk result (λ text. text.items ≡ written writer) }
+{
+    match writer.into_inner() {
+        Ok(text) => Ok(text),
+        Err(_) => Err(AllocError),
+    }
+}
+
+/// A reader of the rows of a text, of any length each.
+pub fn row_reader(alloc: Global, text: &[u8]) -> Reader<&[u8]>
+    ensures { HasRead text.now [] result }
+{
+    ReaderBuilder::new()
+        .has_headers(false)
+        .flexible(true)
+        .from_reader(alloc, text)
+}
+
+/// Reads the next row, and says whether there is one.
+pub fn next_row(reader: &mut Reader<&[u8]>, row: &mut ByteRecord) -> Result<bool, AllocError>
+    ensures { IfOk result (λ found. (text : List ℕ) (rows : List Row) → HasRead text rows reader.old → Follows found (fields_of row.new) text rows reader.new) }
+{
+    let Ok(found) = reader.read_byte_record(row) else {
+        return Err(AllocError);
+    };
+    Ok(found)
+}
