@@ -7,10 +7,11 @@ use Rattle.fit_record.specs.declared.message.Record.{Record}
 use Rattle.fit_record.specs.Environment.{Environment, learn}
 use Rattle.fit_record.specs.Files.{CanFill}
 use Rattle.fit_record.specs.Records.{IsRecord}
+use Rattle.fit_step.specs.declared.position.Position.{Position}
 use Rattle.fit_step.specs.GoingOn.{goes_on, Continues}
 use Rattle.fit_step.specs.Machine.{State, start, step, least_rest, Ends}
 use Rattle.fit_step.specs.Parts.{Part, nothing, part_bytes, IsPart, state_of}
-use Rattle.fit_step.specs.Places.{Stands}
+use Rattle.fit_step.specs.Places.{state_at, Begins, Stands}
 use Rattle.fit_step.specs.Reasons.{record_reason}
 use Rattle.fit_step.specs.Tests.{tests_of}
 
@@ -52,7 +53,11 @@ RefusedBytesEndAll A = (e : Environment A) (part : Part A) (room b : ℕ) (reaso
     → IsPart e part → 0 < room → b < 256 → step e (tests_of e) (state_of room part) b ≡ Err reason
     → (record_reason e (part_bytes e part) room b ≡ Some reason) × (Continues e (part_bytes e part ++ b ∷ []) (room - 1) → ⊥)
 
--- Where a reader stands, a byte that isn't refused leaves it standing.
+-- A reader stands where a record begins, whatever is known there,
+abbrev pub BeginningsStand : Type 0 → Type 0
+BeginningsStand A = (e : Environment A) (p : Position) → Begins p → Stands e (state_at p None)
+
+-- and where it stood before a byte that isn't refused.
 abbrev pub TakenBytesStand : Type 0 → Type 0
 TakenBytesStand A = (e : Environment A) (s t : State A) (b : ℕ) → b < 256 → Stands e s
     → step e (tests_of e) s b ≡ Ok (t, None) → Stands e t

@@ -1,6 +1,6 @@
 //! What holds of the bytes of records, one after another. These functions do nothing: what they ensure is what they are
 //! for.
-ghost use Rattle.fit_step.specs.Laws.{PartsAreTested, RecordsEnd, RefusedBytesEndAll, TakenBytesEnd, TakenBytesGoOn, TakenBytesStand};
+ghost use Rattle.fit_step.specs.Laws.{BeginningsStand, PartsAreTested, RecordsEnd, RefusedBytesEndAll, TakenBytesEnd, TakenBytesGoOn, TakenBytesStand};
 
 use std::alloc::Allocator;
 
@@ -18,7 +18,12 @@ pub fn parts_are_tested<A: Allocator>()
 pub fn taken_bytes_go_on<A: Allocator>()
     ensures part { TakenBytesGoOn A }
     ensures whole { TakenBytesEnd A }
-    ensures stand { TakenBytesStand A }
+{}
+
+/// Where a reader of records stands.
+pub fn readers_stand<A: Allocator>()
+    ensures begin { BeginningsStand A }
+    ensures go_on { TakenBytesStand A }
 {}
 
 /// A byte is refused for the reason of its place, and then no record begins with it so that records fill the room.

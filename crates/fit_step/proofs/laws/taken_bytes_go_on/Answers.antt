@@ -1,4 +1,4 @@
-use Rattle.fit_step.proofs.Continuing.{taken_bytes_go_on, taken_bytes_end, taken_bytes_stand}
+use Rattle.fit_step.proofs.Continuing.{taken_bytes_go_on, taken_bytes_end}
 use Rattle.fit_step.proofs.laws.taken_bytes_go_on.Goals as goal
 
 pub returns-clause-part : goal.returns-clause-part
@@ -6,6 +6,3 @@ returns-clause-part g c = taken_bytes_go_on
 
 pub returns-clause-whole : goal.returns-clause-whole
 returns-clause-whole g c = taken_bytes_end
-
-pub returns-clause-stand : goal.returns-clause-stand
-returns-clause-stand g c = taken_bytes_stand
