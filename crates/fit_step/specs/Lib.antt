@@ -5,3 +5,6 @@ pub mod Runs
 pub mod Tests
 pub mod GoingOn
 pub mod Steps
+pub mod Places
+pub mod Laws
+pub mod Undone

@@ -5,12 +5,22 @@ mod definition;
 mod definition_byte;
 mod header;
 mod items;
+pub mod laws;
+mod one_byte;
 mod partial;
 mod phase;
+mod position;
 mod record_header;
 mod sizes;
 mod stop;
+mod undone;
 
+pub use one_byte::step;
 pub use partial::Partial;
 pub use phase::{DefinitionPhase, Phase};
+pub use position::Position;
 pub use stop::Stop;
+pub use undone::undo;
+
+#[cfg(test)]
+mod tests;
