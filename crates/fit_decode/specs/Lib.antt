@@ -1,4 +1,5 @@
 pub mod Progress
 pub mod Events
+pub mod GoingOn
 pub mod Refusals
 pub mod Laws
