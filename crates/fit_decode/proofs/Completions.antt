@@ -105,11 +105,11 @@ completed (at_data h n records part) u goes = of_data h n records part u (n - le
 
 -- ---- a chain
 
-all_append : {A : Type 0} (fs : List (FitFile A)) (f : FitFile A) → AllByRecursion IsWellFormed fs → IsWellFormed f → AllByRecursion IsWellFormed (fs ++ f ∷ [])
+pub all_append : {A : Type 0} (fs : List (FitFile A)) (f : FitFile A) → AllByRecursion IsWellFormed fs → IsWellFormed f → AllByRecursion IsWellFormed (fs ++ f ∷ [])
 all_append [] f p q = (q, tt)
 all_append (d ∷ fs) f p q = (p.0, all_append fs f p.1 q)
 
-chain_bytes-append : {A : Type 0} (fs : List (FitFile A)) (f : FitFile A) → chain_bytes (fs ++ f ∷ []) ≡ chain_bytes fs ++ file_bytes f
+pub chain_bytes-append : {A : Type 0} (fs : List (FitFile A)) (f : FitFile A) → chain_bytes (fs ++ f ∷ []) ≡ chain_bytes fs ++ file_bytes f
 chain_bytes-append [] f = append-nil (file_bytes f)
 chain_bytes-append (d ∷ fs) f = ap (λ b. file_bytes d ++ b) (chain_bytes-append fs f) ∙ sym (append_assoc (file_bytes d) (chain_bytes fs) (file_bytes f))
 

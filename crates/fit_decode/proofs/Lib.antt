@@ -4,4 +4,7 @@ pub mod Splits
 pub mod Following
 pub mod Goes
 pub mod Completions
+pub mod Whole
+pub mod Next
+pub mod Pieces
 mod Refused

@@ -3,3 +3,5 @@ pub mod Events
 pub mod GoingOn
 pub mod Refusals
 pub mod Laws
+pub mod Answers
+pub mod Scans
