@@ -15,3 +15,6 @@ pub mod Rows
 pub mod GoingOn
 pub mod TwoLists
 pub mod Carried
+pub mod Continued
+pub mod Preconditions
+pub mod HeaderCode

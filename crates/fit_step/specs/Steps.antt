@@ -24,6 +24,17 @@ Made phase room in_progress partial (Ok false) made = made ≡ Ok (state phase r
 Made phase room in_progress partial (Err (Refused reason)) made = made ≡ Err reason
 Made phase room in_progress partial (Err NoMemory) made = IsOk made
 
+-- What there is of a record is all of it, or stays in progress.
+abbrev pub entered : {A : Type 0} → Bool → Phase → ℕ → Record A → Next A
+entered true phase room r = (state phase room None [], Some r)
+entered false phase room r = (state phase room (Some r) [], None)
+
+-- the same of the byte with which a record begins
+abbrev pub Enters : {A : Type 0} → Phase → ℕ → Result (Record A × Bool) Stop → Step A → Type 0
+Enters phase room (Ok (r, whole)) made = made ≡ Ok (entered whole phase room r)
+Enters phase room (Err (Refused reason)) made = made ≡ Err reason
+Enters phase room (Err NoMemory) made = IsOk made
+
 -- the same inside a definition message
 abbrev pub Defines : {A : Type 0} → Phase → ℕ → MessageDef A → Result Bool Stop → Step A → Type 0
 Defines phase room d (Ok true) made = made ≡ Ok (state phase room None [], Some (Define d))

@@ -7,6 +7,7 @@ mod header;
 mod items;
 mod partial;
 mod phase;
+mod record_header;
 mod sizes;
 mod stop;
 

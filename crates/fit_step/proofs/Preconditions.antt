@@ -30,7 +30,7 @@ dev_fits d left h =
     record { local = h.local; global = h.global; fields = h.fields; dev_fields = omega (arith, known, h.few) }
 
 some_dev : {A : Type 0} (d : MessageDef A) (left : ℕ) → AwaitsDev d left → IsSome d.dev
-some_dev d left h = subst IsSome (sym h.dev) tt
+some_dev d left h = subst IsSome (sym h.dev) refl
 
 pub is_defining : {A : Type 0} (k : DefinitionPhase) (d : MessageDef A) → IsDefinitionPart k d → IsDefining k d
 is_defining Reserved d h = new_fits d h
@@ -48,8 +48,8 @@ is_defining (DevIndex left number size) d h = (dev_fits d left h.0, h.1, some_de
 
 -- a data message in progress has as many fields as are defined
 pub as_defined : {A : Type 0} (all : List (ℕ × ℕ)) (t : Taking A) → IsTaking all t → length (all_items t) ≡ length all
-as_defined all t s =
+as_defined {A} all t s =
     let listed : length all ≡ length t.done + suc (length t.to_come) = ap length s.layout ∙ length-append t.done (t.field ∷ t.to_come) in
     let front : length (taken t) ≡ length t.whole + 1 = length-append t.whole _ in
     let both : length (all_items t) ≡ length (taken t) + length (map no_items t.to_come) = length-append (taken t) (map no_items t.to_come) in
-    omega (arith, listed, front, both, as_many t.done t.whole s.shapes, length-map t.to_come no_items)
+    omega (arith, listed, front, both, as_many t.done t.whole s.shapes, length-map t.to_come (no_items {A = A}))
