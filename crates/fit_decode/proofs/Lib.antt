@@ -7,4 +7,7 @@ pub mod Completions
 pub mod Whole
 pub mod Next
 pub mod Pieces
+pub mod Continuing
+pub mod Walked
+pub mod RefusedBytes
 mod Refused
