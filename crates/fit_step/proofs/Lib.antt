@@ -18,3 +18,5 @@ pub mod Carried
 pub mod Continued
 pub mod Preconditions
 pub mod HeaderCode
+pub mod InPlace
+pub mod Kept

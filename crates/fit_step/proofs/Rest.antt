@@ -23,7 +23,7 @@ use Rattle.fit_step.proofs.Takes.{IsBytes-tail}
 use Rattle.fit_step.proofs.Runs.{step_goes}
 
 -- what a step leaves of a room
-abbrev Keeps : {A : Type 0} → Environment A → ℕ → Step A → Type 0
+abbrev pub Keeps : {A : Type 0} → Environment A → ℕ → Step A → Type 0
 Keeps e room (Ok (t, None)) = (t.room + 1 ≡ room) × (least_rest e t ≤ t.room)
 Keeps e room (Ok (t, Some r)) = 0 < room
 Keeps e room (Err reason) = Unit {0}
@@ -149,7 +149,7 @@ header_keeps {A} e tests room b =
     (λ x. let within = ltb-false room (least_definition b) x in let least = counts_one (has_developer_fields b) in (omega (arith, within, least), omega (arith, within, least))))
     (λ y. message_keeps e tests room b (defined_at e (local_type b)) refl))
 
-keeps : {A : Type 0} (e : Environment A) (tests : Tests A) (room : ℕ) (f : Part A) (b : ℕ) → IsPart e f → least_rest e (state_of room f) ≤ room → Keeps e room (step e tests (state_of room f) b)
+pub keeps : {A : Type 0} (e : Environment A) (tests : Tests A) (room : ℕ) (f : Part A) (b : ℕ) → IsPart e f → least_rest e (state_of room f) ≤ room → Keeps e room (step e tests (state_of room f) b)
 unfolding step
 keeps e tests room nothing b h less = header_keeps e tests room b
 keeps e tests room (in_definition k d) b h less = definition_keeps e tests k room d b h less
@@ -158,7 +158,7 @@ keeps e tests room (in_dev_fields local offset items t) b (p, known, header, sha
 
 -- ---- runs
 
-room_of : {A : Type 0} (room : ℕ) (f : Part A) → (state_of room f).room ≡ room
+pub room_of : {A : Type 0} (room : ℕ) (f : Part A) → (state_of room f).room ≡ room
 room_of room nothing = refl
 room_of room (in_definition k d) = refl
 room_of room (in_fields local offset t dev) = refl

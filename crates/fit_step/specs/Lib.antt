@@ -5,3 +5,4 @@ pub mod Runs
 pub mod Tests
 pub mod GoingOn
 pub mod Steps
+pub mod Places

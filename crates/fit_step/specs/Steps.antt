@@ -4,8 +4,11 @@ use Rattle.fit_record.specs.declared.definition.MessageDef.{MessageDef}
 use Rattle.fit_record.specs.declared.message.Record.{Record}
 use Rattle.fit_record.specs.declared.message.Record.TheVariants.{Define, Values as Data}
 use Rattle.fit_record.specs.declared.message.Values.{Values}
-use Rattle.fit_record.specs.Records.{DefinitionFits}
+use Rattle.fit_record.specs.declared.environment.Defined.{Defined}
+use Rattle.fit_record.specs.Environment.{Environment, defined_at}
+use Rattle.fit_record.specs.Records.{DefinitionFits, dev_layout}
 use Rattle.fit_step.specs.declared.phase.Phase.{Phase}
+use Rattle.fit_step.specs.declared.phase.Phase.TheVariants.{Definition, FieldItems, DevItems}
 use Rattle.fit_step.specs.declared.phase.DefinitionPhase.{DefinitionPhase}
 use Rattle.fit_step.specs.declared.phase.DefinitionPhase.TheVariants.{FieldNumber, FieldSize, FieldCode, DevCount, DevNumber, DevSize, DevIndex}
 use Rattle.fit_base.specs.BaseTypes.{item_width}
@@ -77,3 +80,17 @@ pub record IsReading (count at each rest : ℕ) (partial : List ℕ) : Type 0 wh
   pub width : (each ≡ 1) ⊎ ((each ≡ 2) ⊎ ((each ≡ 4) ⊎ (each ≡ 8)))
   pub short : length partial < each
   pub some : 0 < rest
+
+-- ---- where a record is in progress
+
+abbrev pub DefinesAt : {A : Type 0} → Phase → MessageDef A → Type 0
+DefinesAt (Definition k) d = IsDefining k d
+DefinesAt phase d = ⊥
+
+-- A field, or a developer field, of the definition of its local message type is read, and the message has as many as that.
+abbrev pub ReadsAt : {A : Type 0} → Environment A → Phase → Values A → List ℕ → Type 0
+ReadsAt {A} e (FieldItems place width left) v partial =
+    (p : Defined A) × (defined_at e v.local ≡ Some p) × IsReading (length p.definition.fields) place width left partial × (length v.fields ≡ length p.definition.fields)
+ReadsAt {A} e (DevItems place width left) v partial =
+    (p : Defined A) × (defined_at e v.local ≡ Some p) × IsReading (length (dev_layout p)) place width left partial × (length v.dev ≡ length (dev_layout p))
+ReadsAt e phase v partial = ⊥

@@ -5,12 +5,16 @@ mod definition;
 mod definition_byte;
 mod header;
 mod items;
+mod one_byte;
 mod partial;
 mod phase;
+mod position;
 mod record_header;
 mod sizes;
 mod stop;
 
+pub use one_byte::step;
 pub use partial::Partial;
 pub use phase::{DefinitionPhase, Phase};
+pub use position::Position;
 pub use stop::Stop;

@@ -31,6 +31,16 @@ impl Partial {
         }
     }
 
+    /// The same bytes.
+    pub(crate) fn copied(&self) -> Partial
+        ensures { result ≡ self.now }
+    {
+        Partial {
+            bytes: self.bytes,
+            count: self.count,
+        }
+    }
+
     /// How many bytes there are.
     pub(crate) fn len(&self) -> usize
         ensures { result ≡ length self.now }

@@ -1,0 +1,34 @@
+-- Where a reader of records is: a part of a record has come, and what is left of the data section has room for the rest.
+use Rattle.std.specs.Prelude.{◌≡◌, ℕ, ◌≤◌, Bool, true, false, Option, Some, None, Result, Ok, Err, IsOk, IsSomeAnd}
+use Rattle.fit_record.specs.declared.message.Record.{Record}
+use Rattle.fit_record.specs.Environment.{Environment}
+use Rattle.fit_record.specs.Records.{Fits}
+use Rattle.fit_step.specs.declared.position.Position.{Position}
+use Rattle.fit_step.specs.declared.stop.Stop.{Stop}
+use Rattle.fit_step.specs.declared.stop.Stop.TheVariants.{Refused, NoMemory}
+use Rattle.fit_step.specs.Machine.{State, Step, least_rest}
+use Rattle.fit_step.specs.Parts.{Part, IsPart, state_of}
+
+-- a position, and the record in progress
+abbrev pub state_at : {A : Type 0} → Position → Option (Record A) → State A
+state_at p in_progress = record { phase = p.phase; room = p.room; in_progress = in_progress; partial = p.partial }
+
+-- A part of a record has come, and its rest is within the room: for a definition as if the counts to come were 0.
+pub record Stands {A : Type 0} (e : Environment A) (s : State A) : Type 0 where
+  pub part : Part A
+  pub is_part : IsPart e part
+  pub is : s ≡ state_of s.room part
+  pub within : least_rest e s ≤ s.room
+
+-- The answer of a step, where `after` is the record in progress behind it, is what the byte makes. With true that record is
+-- whole. Where memory was refused the byte isn't one to be refused.
+abbrev pub Steps : {A : Type 0} → Option (Record A) → Result (Position × Bool) Stop → Step A → Type 0
+Steps after (Ok (p, true)) made = made ≡ Ok (state_at p None, after)
+Steps after (Ok (p, false)) made = made ≡ Ok (state_at p after, None)
+Steps after (Err (Refused reason)) made = made ≡ Err reason
+Steps after (Err NoMemory) made = IsOk made
+
+-- A part of a record has come, or all of it, and then the next one begins.
+abbrev pub Keeps : {A : Type 0} → Environment A → Option (Record A) → Position × Bool → Type 0
+Keeps e after (p, true) = IsSomeAnd after (Fits e) × Stands e (state_at p None)
+Keeps e after (p, false) = Stands e (state_at p after)
