@@ -98,11 +98,11 @@ begins {A} front x y z others u are is short s =
 
 -- ---- data sections
 
-some_room : {A : Type 0} (e : Environment A) (room : ℕ) (sum part : List ℕ) → 0 < room → FillFrom e room part → DataGoesOn e room sum part
+pub some_room : {A : Type 0} (e : Environment A) (room : ℕ) (sum part : List ℕ) → 0 < room → FillFrom e room part → DataGoesOn e room sum part
 some_room e zero sum part some fill = absurd (omega arith)
 some_room e (suc room) sum part some fill = fill
 
-no_room : {A : Type 0} (e : Environment A) (room : ℕ) (sum part rest : List ℕ) → room ≡ 0 → sum ≡ part ++ rest → DataGoesOn e room sum part
+pub no_room : {A : Type 0} (e : Environment A) (room : ℕ) (sum part rest : List ℕ) → room ≡ 0 → sum ≡ part ++ rest → DataGoesOn e room sum part
 no_room e zero sum part rest over h = (rest, h)
 no_room e (suc room) sum part rest over h = absurd (omega arith)
 

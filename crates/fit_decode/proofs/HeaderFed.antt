@@ -1,6 +1,6 @@
 -- What bytes of a header make of the place, of the events and of what can follow.
-use Rattle.std.proofs.Common.{◌≡◌, inl, inr, ℕ, zero, suc, ◌+◌, ◌-◌, ◌<◌, ◌≤◌, List, [], ◌∷◌, ◌++◌, length, take, drop, slice_index, length-append, length-drop, refl, sym, ap, ◌∙◌, subst, arith, append_assoc, Some, None, Ok, Err}
-use Rattle.std.proofs.lemmas.Bool.{cases_lt}
+use Rattle.std.proofs.Common.{◌≡◌, cond, inl, inr, ℕ, zero, suc, ◌+◌, ◌-◌, ◌<◌, ◌≤◌, List, [], ◌∷◌, ◌++◌, length, take, drop, slice_index, length-append, length-drop, refl, sym, ap, ◌∙◌, subst, arith, append_assoc, Some, None, Ok, Err}
+use Rattle.std.proofs.lemmas.Bool.{ne_eqb, eq-eqb}
 use Rattle.std.proofs.lemmas.List.{append-nil, take-append-drop, length-take-le, take_more}
 use Rattle.fit_base.specs.Numbers.{IsBytes}
 use Rattle.fit_base.proofs.NumberLaws.{IsBytes-append, IsBytes-take}
@@ -13,13 +13,17 @@ use Rattle.fit_record.specs.Files.{chain_limit, IsViable}
 use Rattle.fit_decode.specs.Progress.{Progress, at_header, at_data, HasCome}
 use Rattle.fit_decode.specs.Events.{Event, header, AreEvents}
 use Rattle.fit_decode.specs.GoingOn.{GoesOn, files_begun, ChainGoesOn}
-use Rattle.fit_decode.specs.Refusals.{IsRefused}
+use Rattle.fit_decode.specs.Refusals.{IsRefused, reason_at, reason_in_file}
 use Rattle.fit_decode.specs.Answers.{Quiet, Least}
 use Rattle.fit_decode.specs.Scans.{IsOpen}
 use Rattle.fit_decode.proofs.Goes.{next_goes}
 use Rattle.fit_decode.proofs.Completions.{goes_viable}
 use Rattle.fit_decode.proofs.Whole.{NoHeader, no_header_before, no_header_in, begun_header, before_header}
 use Rattle.fit_decode.proofs.Next.{more_header, whole_header, quiet, told, header_told}
+
+-- a limit that isn't reached gives no reason
+pub not_full : (A : Type 0) (limit files : ℕ) (g : Progress A) (b : ℕ) → files < limit → reason_at limit files g b ≡ reason_in_file g b
+not_full A limit files g b few = ap (λ c. cond c (Some TooManyFiles) (reason_in_file g b)) (ne_eqb files limit (omega (arith, few)))
 
 -- a front of a front
 pub front_of : (y : List ℕ) (j k : ℕ) → j ≤ k → k ≤ length y → take k y ≡ take j y ++ take (k - j) (drop j y)
@@ -62,11 +66,22 @@ module _ {A : Type 0} (files : List (FitFile A)) (front bytes piece : List ℕ) 
         files = files;
         progress = at_header now;
         come = here;
-        because = reason_of;
+        because = not_full A chain_limit (length files) (at_header now) (slice_index piece k) few ∙ ap Some (sym refuses.why);
       }
     where
       begun_at : (fs : List (FitFile A)) (l : List ℕ) → files_begun fs (at_header l) ≤ length fs + 1
       begun_at fs [] = omega arith
       begun_at fs (b ∷ l) = omega arith
-      reason_of : Rattle.fit_decode.specs.Refusals.reason_at chain_limit (length files) (at_header (front ++ take k piece)) (slice_index piece k) ≡ Some reason
-      reason_of = ?
+
+  -- a byte behind the last file that a chain may have
+  pub full_refuses : (b : ℕ) → front ≡ [] → length files ≡ chain_limit → IsViable A chain_limit bytes → IsRefused A chain_limit bytes b TooManyFiles
+  full_refuses b none full viable =
+      let here : HasCome files (at_header []) bytes = subst (λ l. HasCome files (at_header l) bytes) none come in
+      record {
+        viable = viable;
+        refused = λ more. let goes = next_goes chain_limit files (at_header []) bytes b here more in omega (arith, goes.1, full);
+        files = files;
+        progress = at_header [];
+        come = here;
+        because = ap (λ c. cond c (Some TooManyFiles) (reason_in_file {A = A} (at_header []) b)) (eq-eqb (length files) chain_limit full);
+      }

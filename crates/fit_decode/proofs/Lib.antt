@@ -10,4 +10,8 @@ pub mod Pieces
 pub mod Continuing
 pub mod Walked
 pub mod RefusedBytes
+pub mod Readings
+pub mod HeaderFed
+pub mod DataFed
+pub mod SumFed
 mod Refused

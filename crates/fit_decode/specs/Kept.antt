@@ -50,7 +50,7 @@ pub record InData {A : Type 0} (count : ℕ) (sum : List ℕ) (env : Environment
   pub goes : goes_on env s ≡ true
 
 -- behind a data section
-pub record InSum {A : Type 0} (count : ℕ) (half : Bool) (sum : List ℕ) (bytes : List ℕ) : Type 0 where
+pub record InSum (A : Type 0) (count : ℕ) (half : Bool) (sum : List ℕ) (bytes : List ℕ) : Type 0 where
   pub files : List (FitFile A)
   pub header : Header
   pub size : ℕ

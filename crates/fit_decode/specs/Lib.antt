@@ -5,3 +5,4 @@ pub mod Refusals
 pub mod Laws
 pub mod Answers
 pub mod Scans
+pub mod Kept
