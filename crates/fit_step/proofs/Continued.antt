@@ -91,7 +91,7 @@ dev_spelled d count entry =
 no_size : {A : Type 0} (d : MessageDef A) → size_so_far d [] ≡ body_length d
 no_size d = omega arith
 
-among_fields : {A : Type 0} (e : Environment A) (d : MessageDef A) (dev : Option (List DevDef)) (left t size room : ℕ) (entry : List ℕ) → length e.places ≡ 16
+pub among_fields : {A : Type 0} (e : Environment A) (d : MessageDef A) (dev : Option (List DevDef)) (left t size room : ℕ) (entry : List ℕ) → length e.places ≡ 16
     → AwaitsFields d left → d.dev ≡ dev → HasNone dev → length entry < 3 → length entry + t ≡ 3 * left → size_so_far d entry ≡ size
     → IsTrue (entries_complete e dev d.local t size room) ↔ Continues e (fields_front d (length d.fields + left) ++ entry) room
 among_fields {A} e d None left t size room entry sixteen h is none short cut sum =
@@ -109,7 +109,7 @@ among_fields {A} e d (Some defs) left t size room entry sixteen h is none short 
 
 -- ---- developer fields
 
-among_dev_fields : {A : Type 0} (e : Environment A) (d : MessageDef A) (left t size room : ℕ) (entry : List ℕ) → length e.places ≡ 16
+pub among_dev_fields : {A : Type 0} (e : Environment A) (d : MessageDef A) (left t size room : ℕ) (entry : List ℕ) → length e.places ≡ 16
     → AwaitsDev d left → length entry < 3 → length entry + t ≡ 3 * left → size_so_far d entry ≡ size
     → IsTrue (can_complete e d.local t size room) ↔ Continues e (dev_front d (length (dev_defs d.dev) + left) ++ entry) room
 among_dev_fields {A} e d left t size room entry sixteen h short cut sum =

@@ -8,7 +8,8 @@ use Rattle.fit_step.specs.declared.phase.Phase.{Phase}
 use Rattle.fit_step.specs.declared.position.Position.{Position}
 use Rattle.fit_step.specs.Machine.{Tests, State, Step, Next, start, step, least_rest}
 use Rattle.fit_step.specs.Parts.{Part, nothing, in_definition, in_fields, in_dev_fields, part_bytes, IsPart, HasBegun, state_of}
-use Rattle.fit_step.specs.Places.{state_at, Stands, Steps, Keeps}
+use Rattle.fit_step.specs.Laws.{BeginningsStand}
+use Rattle.fit_step.specs.Places.{state_at, Begins, Stands, Steps, Keeps}
 use Rattle.fit_step.specs.Steps.{state, Made}
 use Rattle.fit_step.proofs.Outcomes.{Goes, Completes, Moves}
 use Rattle.fit_step.proofs.OneByte.{outcome}
@@ -24,6 +25,11 @@ in_progress_is room (in_dev_fields local offset items t) begun none = cc
 -- a record begins
 pub stands_start : {A : Type 0} (e : Environment A) (room : ℕ) → Stands e (start room)
 stands_start e room = record { part = nothing; is_part = tt; is = refl; within = omega arith }
+
+pub beginnings_stand : {A : Type 0} → BeginningsStand A
+beginnings_stand {A} e p h =
+    let is : state_at p None ≡ start p.room = λ i. record { phase = h.phase i; room = p.room; in_progress = None; partial = h.partial i } in
+    subst (Stands e) (sym is) (stands_start e p.room)
 
 module _ {A : Type 0} (e : Environment A) (tests : Tests A) (b : ℕ) (low : b < 256) where
   -- what a byte makes of the parts
@@ -69,8 +75,16 @@ module _ {A : Type 0} (e : Environment A) (tests : Tests A) (b : ℕ) (low : b <
   pub step_keeps : (s : State A) (p : Position) (whole : Bool) (after : Option (Record A)) → Stands e s → Steps after (Ok (p, whole)) (step e tests s b) → Keeps e after (p, whole)
   step_keeps s p true after h made =
       let k = is_whole s (state_at p None) after h refl made in
-      (k.0, subst (Stands e) (sym k.1) (stands_start e (s.room - 1)))
+      (k.0, record { phase = ap (λ (u : State A). u.phase) k.1; partial = ap (λ (u : State A). u.partial) k.1 })
   step_keeps s p false after h made = still_stands s (state_at p after) h made
+
+  -- one byte of the room has come
+  pub step_room : (s : State A) (p : Position) (whole : Bool) (after : Option (Record A)) → 0 < s.room → Stands e s → Steps after (Ok (p, whole)) (step e tests s b) → p.room + 1 ≡ s.room
+  step_room s p true after some h made =
+      let k = is_whole s (state_at p None) after h refl made in
+      let left : p.room ≡ s.room - 1 = ap (λ (u : State A). u.room) k.1 in
+      omega (arith, left, some)
+  step_room s p false after some h made = (left_of s h (state_at p after, None) made).0
 
 -- the answer with its position, by the answer's parts
 pub made_steps : {A : Type 0} (p : Position) (whole : Bool) (after : Option (Record A)) (made : Step A) → Made p.phase p.room after p.partial (Ok whole) made → Steps after (Ok (p, whole)) made

@@ -20,3 +20,5 @@ pub mod Preconditions
 pub mod HeaderCode
 pub mod InPlace
 pub mod Kept
+pub mod Continuing
+pub mod Undoing

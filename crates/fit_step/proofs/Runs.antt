@@ -36,7 +36,7 @@ step_goes {A} e tests room f b u h low made =
       ]
     ]
 
-step_ends : {A : Type 0} (e : Environment A) (tests : Tests A) (room : ℕ) (f : Part A) (b : ℕ) (u : State A) (r : Record A) → IsPart e f → b < 256 → step e tests (state_of room f) b ≡ Ok (u, Some r)
+pub step_ends : {A : Type 0} (e : Environment A) (tests : Tests A) (room : ℕ) (f : Part A) (b : ℕ) (u : State A) (r : Record A) → IsPart e f → b < 256 → step e tests (state_of room f) b ≡ Ok (u, Some r)
     → Fits e r × (record_bytes e r ≡ part_bytes e f ++ b ∷ []) × (u ≡ start (room - 1))
 step_ends {A} e tests room f b u r h low made =
     elim (outcome e tests room f b h low) [

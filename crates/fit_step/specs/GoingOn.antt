@@ -1,5 +1,4 @@
--- Whether what there is of a record can still become a record with others behind it that fill the room. No public contract
--- names this.
+-- Whether what there is of a record can still become a record with others behind it that fill the room.
 use Rattle.std.specs.Prelude.{◌≡◌, ℕ, ◌+◌, ◌-◌, ◌*◌, Bool, true, false, List, ◌++◌, length, Option, Some, None}
 use Rattle.fit_base.specs.Numbers.{IsBytes}
 use Rattle.fit_record.specs.declared.message.Record.{Record}

@@ -6,3 +6,5 @@ pub mod Tests
 pub mod GoingOn
 pub mod Steps
 pub mod Places
+pub mod Laws
+pub mod Undone

@@ -1,5 +1,5 @@
 -- One record, byte by byte: the state that a reader's fields hold, and what the next byte makes of it.
--- The environment stays the same inside a record. No public clause names these.
+-- The environment stays the same inside a record.
 use Rattle.std.specs.Prelude.{◌≡◌, ℕ, zero, suc, ◌+◌, ◌-◌, ◌*◌, ◌%◌, ◌==◌, ◌⊎◌, Bool, if◌then◌else◌, nat_lt, List, [], ◌∷◌, ◌++◌, length, map, drop, sum_by, Option, Some, None, Result, Ok, Err, option_map, unwrap_or}
 use Rattle.fit_base.specs.declared.items.Items.{Items}
 use Rattle.fit_base.specs.declared.number.Order.{Order}

@@ -1,8 +1,9 @@
 -- Where a reader of records is: a part of a record has come, and what is left of the data section has room for the rest.
-use Rattle.std.specs.Prelude.{◌≡◌, ℕ, ◌≤◌, Bool, true, false, Option, Some, None, Result, Ok, Err, IsOk, IsSomeAnd}
+use Rattle.std.specs.Prelude.{◌≡◌, ℕ, ◌≤◌, Bool, true, false, [], Option, Some, None, Result, Ok, Err, IsOk, IsSomeAnd}
 use Rattle.fit_record.specs.declared.message.Record.{Record}
 use Rattle.fit_record.specs.Environment.{Environment}
 use Rattle.fit_record.specs.Records.{Fits}
+use Rattle.fit_step.specs.declared.phase.Phase.TheVariants.{RecordHeader}
 use Rattle.fit_step.specs.declared.position.Position.{Position}
 use Rattle.fit_step.specs.declared.stop.Stop.{Stop}
 use Rattle.fit_step.specs.declared.stop.Stop.TheVariants.{Refused, NoMemory}
@@ -12,6 +13,11 @@ use Rattle.fit_step.specs.Parts.{Part, IsPart, state_of}
 -- a position, and the record in progress
 abbrev pub state_at : {A : Type 0} → Position → Option (Record A) → State A
 state_at p in_progress = record { phase = p.phase; room = p.room; in_progress = in_progress; partial = p.partial }
+
+-- The next byte is the first of a record.
+pub record Begins (p : Position) : Type 0 where
+  pub phase : p.phase ≡ RecordHeader
+  pub partial : p.partial ≡ []
 
 -- A part of a record has come, and its rest is within the room: for a definition as if the counts to come were 0.
 pub record Stands {A : Type 0} (e : Environment A) (s : State A) : Type 0 where
@@ -28,7 +34,7 @@ Steps after (Ok (p, false)) made = made ≡ Ok (state_at p after, None)
 Steps after (Err (Refused reason)) made = made ≡ Err reason
 Steps after (Err NoMemory) made = IsOk made
 
--- A part of a record has come, or all of it, and then the next one begins.
+-- A part of a record has come. With true it is all of a record that can stand where this is known, and the next one begins.
 abbrev pub Keeps : {A : Type 0} → Environment A → Option (Record A) → Position × Bool → Type 0
-Keeps e after (p, true) = IsSomeAnd after (Fits e) × Stands e (state_at p None)
+Keeps e after (p, true) = IsSomeAnd after (Fits e) × Begins p
 Keeps e after (p, false) = Stands e (state_at p after)

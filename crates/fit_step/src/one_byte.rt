@@ -1,5 +1,5 @@
 //! One byte of a record.
-ghost use Rattle.std.specs.Prelude.{◌≡◌, ◌<◌, OnErr, IfOk, Some, []};
+ghost use Rattle.std.specs.Prelude.{◌≡◌, ◌+◌, ◌<◌, OnErr, IfOk, Some, []};
 ghost use Rattle.fit_record.specs.declared.message.Record.TheVariants.{Define, Values as Data};
 ghost use Rattle.fit_step.specs.Machine.{step, step_at};
 ghost use Rattle.fit_step.specs.Places.{state_at, Keeps, Stands, Steps};
@@ -30,6 +30,7 @@ pub fn step<A: Allocator + Copy>(
     requires stands { Stands env.now (state_at position.now in_progress.old) }
     ensures made { Steps in_progress.new result (step env.now (tests_of env.now) (state_at position.now in_progress.old) byte) }
     ensures kept { IfOk result (λ next. Keeps env.now in_progress.new next) }
+    ensures room { IfOk result (λ next. next.0.room + 1 ≡ position.now.room) }
     ensures err { OnErr result (in_progress.new ≡ in_progress.old) }
 {
     let mut phase = position.phase;

@@ -1,6 +1,6 @@
 //! Where a reader of records is between two bytes.
-ghost use Rattle.std.specs.Prelude.{◌≡◌, []};
-ghost use Rattle.fit_step.specs.declared.phase.Phase.TheVariants.{RecordHeader};
+ghost use Rattle.std.specs.Prelude.{◌≡◌};
+ghost use Rattle.fit_step.specs.Places.{Begins};
 
 use crate::{Partial, Phase};
 
@@ -16,11 +16,10 @@ pub struct Position {
 }
 
 impl Position {
-    /// Where a record begins.
+    /// Where a record begins. `room` is how many bytes of the data section are to come.
     pub fn new(room: u32) -> Position
-        ensures phase { result.phase ≡ RecordHeader }
+        ensures begins { Begins result }
         ensures room { result.room ≡ room }
-        ensures partial { result.partial ≡ [] }
     {
         Position {
             phase: Phase::RecordHeader,
