@@ -1,7 +1,8 @@
 -- Where a byte is refused, and why.
-use Rattle.std.specs.Prelude.{◌≡◌, ℕ, ◌-◌, ◌==◌, ◌&&◌, if◌then◌else◌, nat_lt, nat_le, List, [], ◌∷◌, ◌++◌, length, Option, Some, None}
+use Rattle.std.specs.Prelude.{◌≡◌, ℕ, ◌-◌, ◌==◌, if◌then◌else◌, List, [], ◌∷◌, ◌++◌, length, Option, Some}
 use Rattle.fit_frame.specs.declared.reason.Reason.{Reason}
-use Rattle.fit_frame.specs.declared.reason.Reason.TheVariants.{HeaderSize, Protocol, NoFit, Signature, HeaderSum, FileSum, TooManyFiles}
+use Rattle.fit_frame.specs.declared.reason.Reason.TheVariants.{FileSum, TooManyFiles}
+use Rattle.fit_frame.specs.Beginning.{header_reason}
 use Rattle.fit_record.specs.declared.file.FitFile.{FitFile}
 use Rattle.fit_record.specs.Environment.{empty_environment, learn_all}
 use Rattle.fit_record.specs.Records.{records_bytes}
@@ -9,18 +10,9 @@ use Rattle.fit_record.specs.Files.{IsViable}
 use Rattle.fit_step.specs.Reasons.{record_reason}
 use Rattle.fit_decode.specs.Progress.{Progress, at_header, at_data, HasCome}
 
--- by the place of the byte in the file header
-abbrev pub header_reason : ℕ → Option Reason
-header_reason place =
-    if place == 0 then Some HeaderSize
-    else if place == 1 then Some Protocol
-    else if place == 7 then Some NoFit
-    else if nat_le 8 place && nat_lt place 12 then Some Signature
-    else if nat_le 12 place && nat_lt place 14 then Some HeaderSum
-    else None
-
+-- By the place of the byte: in the file header, in a record, or in the closing sum.
 abbrev pub reason_in_file : {A : Type 0} → Progress A → ℕ → Option Reason
-reason_in_file (at_header front) b = header_reason (length front)
+reason_in_file (at_header front) b = Some (header_reason (length front))
 reason_in_file (at_data h n records part) b =
     let taken = length (records_bytes empty_environment records) in
     if n == taken then Some FileSum

@@ -1,6 +1,11 @@
 -- What holds of events and refusals.
-use Rattle.std.specs.Prelude.{◌≡◌, ℕ, List}
+use Rattle.std.specs.Prelude.{◌≡◌, ◌↔◌, ℕ, List}
+use Rattle.fit_base.specs.Numbers.{IsBytes}
 use Rattle.fit_frame.specs.declared.reason.Reason.{Reason}
+use Rattle.fit_record.specs.declared.file.FitFile.{FitFile}
+use Rattle.fit_record.specs.Files.{IsViable}
+use Rattle.fit_decode.specs.Progress.{Progress, HasCome}
+use Rattle.fit_decode.specs.GoingOn.{ChainGoesOn}
 use Rattle.fit_decode.specs.Events.{Event, AreEvents}
 use Rattle.fit_decode.specs.Refusals.{IsRefused}
 
@@ -11,3 +16,8 @@ EventsAreOne A = (bytes : List ℕ) (events others : List (Event A)) → AreEven
 -- A byte is refused for one reason at most.
 abbrev pub ReasonsAreOne : Type 0 → Type 0
 ReasonsAreOne A = (limit : ℕ) (bytes : List ℕ) (b : ℕ) (reason other : Reason) → IsRefused A limit bytes b reason → IsRefused A limit bytes b other → reason ≡ other
+
+-- Some chain of at most so many files begins with the bytes exactly where what there is of it can go on.
+abbrev pub ChainsGoOn : Type 0 → Type 0
+ChainsGoOn A = (limit : ℕ) (files : List (FitFile A)) (progress : Progress A) (bytes : List ℕ) → HasCome files progress bytes → IsBytes bytes
+    → IsViable A limit bytes ↔ ChainGoesOn limit files progress

@@ -13,7 +13,7 @@ use Rattle.fit_decode.specs.Refusals.{reason_at}
 use Rattle.fit_record.specs.Environment.{Environment, empty_environment}
 use Rattle.fit_record.specs.Records.{AreRecords}
 use Rattle.fit_record.specs.Files.{chain_limit}
-use Rattle.fit_record.proofs.KnownFiles.{header_of, field, item, file_a}
+use Rattle.fit_record.proofs.KnownFiles.{header_of, field, both_architectures}
 
 Bytes : Type 0
 Bytes = List ℕ
@@ -70,9 +70,9 @@ closing_sum = refl
 past_the_limit : reason_at {A = Unit {0}} chain_limit 16777215 (at_header []) 0 ≡ Some reasons.TooManyFiles
 past_the_limit = refl
 
--- how much a reader of vector A holds
-abbrev of_a : ℕ → List ℕ → Progress (Unit {0})
-of_a n part = at_data file_a.header 36 (take n file_a.records) part
+-- how much a reader holds after some records of a file with two definitions
+abbrev of_two : ℕ → List ℕ → Progress (Unit {0})
+of_two n part = at_data both_architectures.header 36 (take n both_architectures.records) part
 
-held : (bound (of_a 1 []) ≡ 2) × (bound (of_a 2 []) ≡ 2) × (bound (of_a 3 []) ≡ 4) × (bound (of_a 4 []) ≡ 4) × (bound (of_a 1 (0 ∷ 0x1F ∷ 0xCA ∷ [])) ≡ 6)
+held : (bound (of_two 1 []) ≡ 2) × (bound (of_two 2 []) ≡ 2) × (bound (of_two 3 []) ≡ 4) × (bound (of_two 4 []) ≡ 4) × (bound (of_two 1 (0 ∷ 0x1F ∷ 0xCA ∷ [])) ≡ 6)
 held = (refl, refl, refl, refl, refl)

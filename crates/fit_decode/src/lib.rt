@@ -1,4 +1,8 @@
 //! Reads FIT files: what the bytes of a chain of files tell, piece by piece.
 #![tactic(auto)]
 
+mod event;
 pub mod laws;
+mod scan;
+
+pub use event::{Event, Fault, Fed};

@@ -21,7 +21,7 @@ sub_sub : (room a b : ℕ) → room - (a + b) ≡ room - a - b
 sub_sub room a b = omega arith
 
 -- a record at the front of what is partial leaves no room
-no_record : {A : Type 0} (e : Environment A) (room : ℕ) (part rest : List ℕ) (r : Record A) → IsPartial e room part → Fits e r → part ≡ record_bytes e r ++ rest → room ≡ 0
+pub no_record : {A : Type 0} (e : Environment A) (room : ℕ) (part rest : List ℕ) (r : Record A) → IsPartial e room part → Fits e r → part ≡ record_bytes e r ++ rest → room ≡ 0
 no_record e zero part rest r p f h = refl
 no_record e (suc room) part rest r p f h = absurd (p r (length (record_bytes e r)) (f, ap (take (length (record_bytes e r))) h ∙ take-append_seam (record_bytes e r) rest))
 
@@ -86,7 +86,7 @@ not_whole e room (r ∷ rs) (s ∷ ss) x y c d p q l m u h =
     (subst (λ t. records_bytes (learn e r) rs ++ x ≡ records_bytes (learn e t) ss ++ c ∷ d ∷ y) (sym same) first.1)
 
 -- a header begins no part of a header
-no_header : (A : Type 0) (front : List ℕ) (h : Header) (n : ℕ) (rest : List ℕ) → IsUnfinished {A = A} (at_header front) → HeaderFits h n → front ≡ header_bytes h n ++ rest → ⊥
+pub no_header : (A : Type 0) (front : List ℕ) (h : Header) (n : ℕ) (rest : List ℕ) → IsUnfinished {A = A} (at_header front) → HeaderFits h n → front ≡ header_bytes h n ++ rest → ⊥
 no_header A front h n rest p f e = p h n (length (header_bytes h n)) (f, ap (take (length (header_bytes h n))) e ∙ take-append_seam (header_bytes h n) rest)
 
 -- no whole file begins what is unfinished

@@ -1,0 +1,21 @@
+-- Fronts of a piece, one byte more each.
+use Rattle.std.proofs.Common.{◌≡◌, ℕ, ◌+◌, ◌<◌, ◌≤◌, List, [], ◌∷◌, ◌++◌, length, take, get_or, refl, sym, ap, ◌∙◌, subst, arith, append_assoc, Some, None, Ok}
+use Rattle.std.proofs.lemmas.List.{append-nil, take_more}
+use Rattle.fit_frame.specs.declared.header.Header.{Header}
+use Rattle.fit_frame.specs.Beginning.{Seen, IsFileHeader}
+use Rattle.fit_decode.specs.Scans.{HeaderScanned}
+
+-- one byte more of the piece
+pub bytes_more : (front piece : List ℕ) (i : ℕ) → i < length piece → (front ++ take i piece) ++ get_or piece i 0 ∷ [] ≡ front ++ take (i + 1) piece
+bytes_more front piece i within = append_assoc front (take i piece) (get_or piece i 0 ∷ []) ∙ ap (λ b. front ++ b) (sym (take_more piece i 0 within))
+
+-- the byte with which a header is whole
+pub header_scanned : (front piece : List ℕ) (i : ℕ) (old new : Seen) (whole : Header × ℕ) → i < length piece
+    → old ≡ record { bytes = front ++ take i piece; refusal = None } → new ≡ record { bytes = old.bytes ++ get_or piece i 0 ∷ []; refusal = None }
+    → IsFileHeader whole.0 whole.1 new.bytes → HeaderScanned front piece new (i + 1) (Ok (Some whole))
+header_scanned front piece i old new whole within before after is =
+    let all : new.bytes ≡ front ++ take (i + 1) piece =
+    ap (λ (s : Seen). s.bytes) after ∙ ap (λ (s : Seen). s.bytes ++ get_or piece i 0 ∷ []) before ∙ bytes_more front piece i within in
+    let seen : new ≡ record { bytes = front ++ take (i + 1) piece; refusal = None } =
+    after ∙ ap (λ (s : Seen). record { bytes = s.bytes ++ get_or piece i 0 ∷ []; refusal = None }) before ∙ ap (λ b. record { bytes = b; refusal = None }) (bytes_more front piece i within) in
+    (omega arith, omega (arith, within), seen, subst (IsFileHeader whole.0 whole.1) all is)

@@ -1,0 +1,35 @@
+-- Two ways to begin one list, and bytes of a part of a list.
+use Rattle.std.proofs.Common.{◌≡◌, ◌⊎◌, inl, inr, ℕ, ◌<◌, List, [], ◌∷◌, ◌++◌, length, refl, subst}
+use Rattle.std.proofs.Math.Seq.{take-append_seam, drop-append_seam}
+use Rattle.fit_base.specs.Numbers.{IsBytes}
+use Rattle.fit_base.proofs.NumberLaws.{IsBytes-take, IsBytes-drop}
+
+-- the second goes on behind the first
+pub record GoesPast (a b x y : List ℕ) : Type 0 where
+  pub more : List ℕ
+  pub second : b ≡ a ++ more
+  pub behind : x ≡ more ++ y
+
+-- the first goes on behind the second, by one byte at least
+pub record EndsAfter (a b x y : List ℕ) : Type 0 where
+  pub next : ℕ
+  pub more : List ℕ
+  pub first : a ≡ b ++ next ∷ more
+  pub behind : y ≡ next ∷ more ++ x
+
+pub split : (a b x y : List ℕ) → a ++ x ≡ b ++ y → GoesPast a b x y ⊎ EndsAfter a b x y
+split [] b x y e = inl (record { more = b; second = refl; behind = e })
+split (c ∷ a) [] x y e = inr (record { next = c; more = a; first = refl; behind = cc })
+split (c ∷ a) (d ∷ b) x y e =
+    let head : c ≡ d = cc in
+    let tail : a ++ x ≡ b ++ y = cc in
+    elim (split a b x y tail) [
+      | inl s ↦ let second = s.second in inl (record { more = s.more; second = cc; behind = s.behind })
+      | inr s ↦ let first = s.first in inr (record { next = s.next; more = s.more; first = cc; behind = s.behind })
+    ]
+
+pub IsBytes-front : (a b : List ℕ) → IsBytes (a ++ b) → IsBytes a
+IsBytes-front a b are = subst IsBytes (take-append_seam a b) (IsBytes-take (length a) (a ++ b) are)
+
+pub IsBytes-back : (a b : List ℕ) → IsBytes (a ++ b) → IsBytes b
+IsBytes-back a b are = subst IsBytes (drop-append_seam a b) (IsBytes-drop (length a) (a ++ b) are)

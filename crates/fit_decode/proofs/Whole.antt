@@ -1,0 +1,102 @@
+-- What isn't whole: bytes that no header, and no record, begins.
+use Rattle.std.proofs.Common.{◌≡◌, inl, inr, ℕ, zero, suc, ◌+◌, ◌-◌, ◌<◌, ◌≤◌, List, [], ◌∷◌, ◌++◌, length, take, drop, length-drop, refl, sym, ap, ◌∙◌, subst, arith, append_assoc, length-append}
+use Rattle.std.specs.Prelude.{replicate}
+use Rattle.std.proofs.lemmas.List.{append-nil, take-append-drop}
+use Rattle.fit_frame.specs.declared.header.Header.{Header}
+use Rattle.fit_frame.specs.Header.{HeaderFits, header_bytes}
+use Rattle.fit_frame.specs.Beginning.{IsFileHeader, IsWholeHeader, BeginsHeader}
+use Rattle.fit_frame.proofs.OneHeader.{one_header}
+use Rattle.fit_record.specs.declared.message.Record.{Record}
+use Rattle.fit_record.specs.Environment.{Environment}
+use Rattle.fit_record.specs.Records.{Fits, record_bytes}
+use Rattle.fit_record.proofs.OneRecord.{same_record, no_bytes}
+use Rattle.fit_step.specs.Parts.{Part, nothing, in_definition, in_fields, in_dev_fields, part_bytes, IsPart, HasBegun}
+use Rattle.fit_step.proofs.GoOn.{cuts_go_on}
+use Rattle.fit_decode.specs.Progress.{at_header, IsPartial, IsUnfinished}
+use Rattle.fit_decode.proofs.OnePlace.{no_header}
+
+no_end : (a b : List ℕ) (c : ℕ) → a ++ c ∷ b ≡ [] → ⊥
+no_end [] b c e = cc
+no_end (x ∷ a) b c e = cc
+
+empty_front : (a b : List ℕ) → a ++ b ≡ [] → a ≡ []
+empty_front [] b e = refl
+empty_front (x ∷ a) b e = absurd cc
+
+empty_back : (a b : List ℕ) → a ++ b ≡ [] → b ≡ []
+empty_back [] b e = e
+empty_back (x ∷ a) b e = absurd cc
+
+-- ---- headers
+
+-- no header begins the bytes
+abbrev pub NoHeader : List ℕ → Type 0
+NoHeader bytes = (h : Header) (n : ℕ) (rest : List ℕ) → HeaderFits h n → bytes ≡ header_bytes h n ++ rest → ⊥
+
+pub unfinished : (A : Type 0) (front : List ℕ) → NoHeader front → IsUnfinished {A = A} (at_header front)
+unfinished A front none h n k (fits, is) = none h n (drop k front) fits (sym (take-append-drop k front) ∙ ap (λ b. b ++ drop k front) is)
+
+pub no_header_in : (A : Type 0) (front : List ℕ) → IsUnfinished {A = A} (at_header front) → NoHeader front
+no_header_in A front u h n rest fits is = no_header A front h n rest u fits is
+
+pub no_header_before : (a b : List ℕ) → NoHeader (a ++ b) → NoHeader a
+no_header_before a b none h n rest fits is = none h n (rest ++ b) fits (ap (λ z. z ++ b) is ∙ append_assoc (header_bytes h n) rest b)
+
+-- what begins a header and isn't one
+pub begun_header : (bytes : List ℕ) → BeginsHeader bytes → (IsWholeHeader bytes → ⊥) → NoHeader bytes
+begun_header bytes begins unended h n rest fits is =
+    let whole = begins.whole.is.0 in
+    let joined : header_bytes h n ++ (rest ++ begins.more) ≡ header_bytes begins.whole.header begins.whole.data_size ++ [] =
+    sym (append_assoc (header_bytes h n) rest begins.more) ∙ ap (λ z. z ++ begins.more) (sym is) ∙ whole.1 ∙ sym (append-nil (header_bytes begins.whole.header begins.whole.data_size)) in
+    let one = one_header h begins.whole.header n begins.whole.data_size (rest ++ begins.more) [] fits whole.0 joined in
+    let none = empty_back rest begins.more one.2 in
+    let same : bytes ++ begins.more ≡ bytes = ap (λ z. bytes ++ z) none ∙ append-nil bytes in
+    unended (record { header = begins.whole.header; data_size = begins.whole.data_size; is = ((whole.0, sym same ∙ whole.1), begins.whole.is.1) })
+
+-- a whole header less some bytes
+pub before_header : (a b : List ℕ) (h : Header) (n : ℕ) → IsFileHeader h n (a ++ b) → 0 < length b → NoHeader a
+before_header a b h n whole some k m rest fits is =
+    let joined : header_bytes k m ++ (rest ++ b) ≡ header_bytes h n ++ [] =
+    sym (append_assoc (header_bytes k m) rest b) ∙ ap (λ z. z ++ b) (sym is) ∙ whole.0.1 ∙ sym (append-nil (header_bytes h n)) in
+    let one = one_header k h m n (rest ++ b) [] fits whole.0.0 joined in
+    omega (arith, some, ap length (empty_back rest b one.2))
+
+-- ---- records
+
+-- no record begins the bytes
+abbrev pub NoRecord : {A : Type 0} → Environment A → List ℕ → Type 0
+NoRecord {A} e bytes = (r : Record A) (rest : List ℕ) → Fits e r → bytes ≡ record_bytes e r ++ rest → ⊥
+
+pub partial : {A : Type 0} (e : Environment A) (room : ℕ) (part : List ℕ) → 0 < room → NoRecord e part → IsPartial e room part
+partial e zero part some none = absurd (omega arith)
+partial e (suc room) part some none = λ r k is. none r (drop k part) is.0 (sym (take-append-drop k part) ∙ ap (λ b. b ++ drop k part) is.1)
+
+pub no_record_before : {A : Type 0} (e : Environment A) (a b : List ℕ) → NoRecord e (a ++ b) → NoRecord e a
+no_record_before e a b none r rest fits is = none r (rest ++ b) fits (ap (λ z. z ++ b) is ∙ append_assoc (record_bytes e r) rest b)
+
+pub no_record_yet : {A : Type 0} (e : Environment A) → NoRecord e []
+no_record_yet e r rest fits is = no_bytes e r rest (ap length (sym is))
+
+pub partial_nothing : {A : Type 0} (e : Environment A) (room : ℕ) → IsPartial e room []
+partial_nothing e zero = omega arith
+partial_nothing e (suc room) = partial e (suc room) [] (omega arith) (no_record_yet e)
+
+-- a whole record less some bytes
+pub before_record : {A : Type 0} (e : Environment A) (a b : List ℕ) (s : Record A) → Fits e s → record_bytes e s ≡ a ++ b → 0 < length b → NoRecord e a
+before_record e a b s whole spelled some r rest fits is =
+    let joined : record_bytes e r ++ (rest ++ b) ≡ record_bytes e s ++ [] =
+    sym (append_assoc (record_bytes e r) rest b) ∙ ap (λ z. z ++ b) (sym is) ∙ sym spelled ∙ sym (append-nil (record_bytes e s)) in
+    let one = same_record e r s (rest ++ b) [] fits whole joined in
+    omega (arith, some, ap length (empty_back rest b one.1))
+
+begun_part : {A : Type 0} (e : Environment A) (f : Part A) → IsPart e f → HasBegun f → NoRecord e (part_bytes e f)
+begun_part e f is begun =
+    let (r, k, whole) = cuts_go_on e f is begun in
+    before_record e (part_bytes e f) (0 ∷ replicate k 0) r whole.0 (sym whole.1) (omega arith)
+
+-- parts of a record are none
+pub part_of_record : {A : Type 0} (e : Environment A) (f : Part A) → IsPart e f → NoRecord e (part_bytes e f)
+part_of_record e nothing is = no_record_yet e
+part_of_record e (in_definition k d) is = begun_part e (in_definition k d) is tt
+part_of_record e (in_fields local offset t dev) is = begun_part e (in_fields local offset t dev) is tt
+part_of_record e (in_dev_fields local offset items t) is = begun_part e (in_dev_fields local offset items t) is tt

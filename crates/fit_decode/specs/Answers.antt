@@ -1,0 +1,48 @@
+-- What a caller of a decoder sees: the bytes fed that weren't refused, and the refusal if there was one.
+use Rattle.std.specs.Prelude.{◌≡◌, ℕ, ◌+◌, ◌<◌, ◌≤◌, List, [], ◌∷◌, ◌++◌, Option, Some, None, take, length, option_to_list, slice_index}
+use Rattle.fit_frame.specs.declared.reason.Reason.{Reason}
+use Rattle.fit_record.specs.Files.{chain_limit, IsViable}
+use Rattle.fit_decode.specs.declared.event.Event.{Event as Answer}
+use Rattle.fit_decode.specs.declared.event.Event.TheVariants as answers
+use Rattle.fit_decode.specs.Events.{Event, header, item, file_end, AreEvents}
+use Rattle.fit_decode.specs.Refusals.{IsRefused}
+
+pub record Seen : Type 0 where
+  pub bytes : List ℕ
+  pub refusal : Option Reason
+
+-- what an answer tells
+abbrev pub told : {A : Type 0} → Answer A → Option (Event A)
+told answers.More = None
+told (answers.Header h n) = Some (header h n)
+told (answers.Item r) = Some (item r)
+told answers.FileEnd = Some file_end
+
+-- the bytes fed and the first k of the piece
+abbrev pub fed : Seen → List ℕ → ℕ → Seen
+fed old piece k = record { bytes = old.bytes ++ take k piece; refusal = None }
+
+-- Each front of the piece of at most k bytes leaves the events as they are.
+abbrev pub Quiet : Type 0 → List ℕ → List ℕ → ℕ → Type 0
+Quiet A bytes piece k = (events : List (Event A)) → AreEvents bytes events → (j : ℕ) → j ≤ k → AreEvents (bytes ++ take j piece) events
+
+-- The first k bytes of the piece add this event, and no fewer do.
+abbrev pub Least : (A : Type 0) → List ℕ → List ℕ → ℕ → Event A → Type 0
+Least A bytes piece k x = (events : List (Event A)) → AreEvents bytes events
+    → AreEvents (bytes ++ take k piece) (events ++ x ∷ []) × ((j : ℕ) → j < k → AreEvents (bytes ++ take j piece) events)
+
+-- The byte at this place is refused, and no event stands before it.
+pub record Refuses (A : Type 0) (old : Seen) (piece : List ℕ) (new : Seen) (place : ℕ) (reason : Reason) : Type 0 where
+  pub used : ℕ
+  pub within : used < length piece
+  pub is_place : place ≡ length old.bytes + used
+  pub after : new ≡ record { bytes = old.bytes ++ take used piece; refusal = Some reason }
+  pub quiet : Quiet A old.bytes piece used
+  pub why : IsRefused A chain_limit (old.bytes ++ take used piece) (slice_index piece used) reason
+
+-- Memory was refused at the byte behind the first used ones, which isn't one to be refused. No event stands before it.
+pub record Wants (A : Type 0) (old : Seen) (piece : List ℕ) (new : Seen) (used : ℕ) : Type 0 where
+  pub within : used < length piece
+  pub after : new ≡ fed old piece used
+  pub quiet : Quiet A old.bytes piece used
+  pub next : IsViable A chain_limit (old.bytes ++ take (used + 1) piece)

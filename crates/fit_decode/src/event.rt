@@ -1,0 +1,43 @@
+//! What a decoder answers.
+use fit_frame::{Header, Reason};
+use fit_record::Record;
+use std::alloc::{Allocator, Global};
+use thiserror::Error;
+
+/// What the last byte that was used completed.
+#[derive(Drop)]
+pub enum Event<A: Allocator = Global> {
+    /// Nothing: the whole piece was used.
+    More,
+    /// The header of a file, and the size of its data section in bytes.
+    Header(Header, u32),
+    /// A definition message or a data message.
+    Item(Record<A>),
+    /// A file, with its closing sum.
+    FileEnd,
+}
+
+/// How much of a piece was used, and what that completed.
+#[derive(Drop)]
+pub struct Fed<A: Allocator = Global> {
+    /// How many bytes of the piece were used.
+    pub used: usize,
+    pub event: Event<A>,
+}
+
+/// Why a decoder, or what reads by one, can't go on. Places count bytes from the start of the chain, from 0.
+#[derive(Clone, Copy, Debug, PartialEq, Eq, Error)]
+pub enum Fault {
+    /// The bytes before this place begin a chain of files, and with the byte there they don't.
+    #[error("refused")]
+    Refused { place: u64, reason: Reason },
+    /// The bytes end at this place, and they begin a chain of files but aren't one.
+    #[error("truncated")]
+    Truncated { place: u64 },
+    /// Memory was refused. So many bytes of the piece count as fed.
+    #[error("out of memory")]
+    NoMemory { used: u64 },
+    /// The source failed behind so many bytes.
+    #[error("read fault")]
+    Read { place: u64 },
+}

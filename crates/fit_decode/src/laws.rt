@@ -1,0 +1,21 @@
+//! What holds of events and refusals. These functions do nothing: what they ensure is what they are for.
+ghost use Rattle.fit_decode.specs.Laws.{ChainsGoOn, EventsAreOne, ReasonsAreOne};
+
+use std::alloc::Allocator;
+
+/// The bytes of a chain that have come have one list of events.
+pub fn events_are_one<A: Allocator>()
+    ensures { EventsAreOne A }
+{}
+
+/// A byte is refused for one reason at most.
+pub fn reasons_are_one<A: Allocator>()
+    ensures { ReasonsAreOne A }
+{}
+
+/// Some chain of at most so many files begins with the bytes that have come exactly where what there is of it can go on:
+/// a header of a file begins with those of the header, records fill the data section behind those that are whole, or the
+/// closing sum begins so.
+pub fn chains_go_on<A: Allocator>()
+    ensures { ChainsGoOn A }
+{}
