@@ -117,10 +117,7 @@ impl Encoder {
         if let Some(fault) = closed_fault(self.finished, self.failed) {
             return Err(fault);
         }
-        let size = match record_size(&self.env, self.count, self.declared, self.size, r) {
-            Ok(size) => size,
-            Err(fault) => return Err(fault),
-        };
+        let size = record_size(&self.env, self.count, self.declared, self.size, r)?;
         let order = order_of(&self.env, r);
         if self.env.learn(r).is_err() {
             return Err(EncodeFault::NoMemory);

@@ -1,5 +1,6 @@
 use Rattle.std.proofs.Common.{◌≡◌, ◌∙◌, ℕ, Global, refl, sym, ap, subst, arith}
 use Rattle.std.specs.Prelude.{Some}
+use Rattle.std.proofs.lemmas.Result.{err_from_is_err_and}
 use Rattle.fit_record.specs.Environment.{Environment, learn}
 use Rattle.fit_record.specs.Records.{record_bytes}
 use Rattle.fit_encode.specs.Encoding.{Encoding, known, BreaksOff, CanPut, HasPlace, IsPlaceFault, IsPutFault}
@@ -14,21 +15,24 @@ record_size-requires g c =
     let still = when_open c.self.inside.finished c.self.inside.failed (sym c.closed_fault.ensures ∙ c.in_default.is) in
     (omega arith, (c.self.invariant still.0 still.1).within)
 
-pub returns-in-Err-clause-refused : goal.returns-in-Err-clause-refused
-returns-in-Err-clause-refused g c =
+pub returns-in_err-size-clause-refused : goal.returns-in_err-size-clause-refused
+returns-in_err-size-clause-refused g c =
+    let p = err_from_is_err_and c.from_residual.result c.from_residual.ensures.1 in
     let still = when_open c.self.inside.finished c.self.inside.failed (sym c.closed_fault.ensures ∙ c.in_default.is) in
-    let here = in_terms (λ (e : Environment Global) (n m : ℕ). IsPlaceFault e n c.self.inside.declared m c.args.r.now c.in-Err.fault) (c.self.invariant still.0 still.1)
-    c.in-Err.ensures.err in
-    λ _. unless_write c.in-Err.fault _ (subst (λ (e : Encoding Global). IsPutFault e c.args.r.now c.in-Err.fault) c.self.view_is here, refl, refl)
+    let err = c.in_err-size.ensures.err in
+    let here = in_terms (λ (e : Environment Global) (n m : ℕ). IsPlaceFault e n c.self.inside.declared m c.args.r.now c.in_err-size.field-0.0) (c.self.invariant still.0 still.1) err in
+    λ _. rw (p.1, p.2) (unless_write c.in_err-size.field-0.0 _ (subst (λ (e : Encoding Global). IsPutFault e c.args.r.now c.in_err-size.field-0.0) c.self.view_is here, refl, refl))
 
-pub returns-in-Err-clause-written : goal.returns-in-Err-clause-written
-returns-in-Err-clause-written g c = λ _. not_written c.self.inside.env c.self.inside.count c.self.inside.declared c.self.inside.size c.args.r.now c.in-Err.fault _ c.in-Err.ensures.err
+pub returns-in_err-size-clause-written : goal.returns-in_err-size-clause-written
+returns-in_err-size-clause-written g c =
+    let p = err_from_is_err_and c.from_residual.result c.from_residual.ensures.1 in
+    λ _. rw (p.1, p.2) (not_written c.self.inside.env c.self.inside.count c.self.inside.declared c.self.inside.size c.args.r.now c.in_err-size.field-0.0 _ c.in_err-size.ensures.err)
 
 pub order_of-order-requires : goal.order_of-order-requires
 order_of-order-requires g c = omega arith
 
 pub learn-requires : goal.learn-requires
-learn-requires g c = (omega arith, c.in-Ok.ensures.ok.0.fits)
+learn-requires g c = (omega arith, c.in_ok-size.ensures.ok.0.fits)
 
 pub invariant_of-self : goal.invariant_of-self
 invariant_of-self g c =
@@ -38,32 +42,32 @@ invariant_of-self g c =
 pub returns-then-is_err-clause-refused : goal.returns-then-is_err-clause-refused
 returns-then-is_err-clause-refused g c =
     let still = when_open c.self.inside.finished c.self.inside.failed (sym c.closed_fault.ensures ∙ c.in_default.is) in
-    let here = in_terms (λ (e : Environment Global) (n m : ℕ). HasPlace e c.self.inside.declared m c.args.r.now) (c.self.invariant still.0 still.1) c.in-Ok.ensures.ok.0 in
+    let here = in_terms (λ (e : Environment Global) (n m : ℕ). HasPlace e c.self.inside.declared m c.args.r.now) (c.self.invariant still.0 still.1) c.in_ok-size.ensures.ok.0 in
     λ _. (subst (λ (e : Encoding Global). CanPut e c.args.r.now) c.self.view_is here, c.self.view_is, refl)
 
 pub send_record-requires : goal.send_record-requires
-send_record-requires g c = spellable c.self.inside.env c.args.r.now c.in-Ok.ensures.ok.0.fits
+send_record-requires g c = spellable c.self.inside.env c.args.r.now c.in_ok-size.ensures.ok.0.fits
 
-pub returns-in-Err-send_record-clause-written : goal.returns-in-Err-send_record-clause-written
-returns-in-Err-send_record-clause-written g c =
+pub returns-in-Err-clause-written : goal.returns-in-Err-clause-written
+returns-in-Err-clause-written g c =
     let still = when_open c.self.inside.finished c.self.inside.failed (sym c.closed_fault.ensures ∙ c.in_default.is) in
     let inv = c.self.invariant still.0 still.1 in
     let r = c.args.r.now in
-    let here = in_terms (λ (e : Environment Global) (n m : ℕ). HasPlace e c.self.inside.declared m r) inv c.in-Ok.ensures.ok.0 in
+    let here = in_terms (λ (e : Environment Global) (n m : ℕ). HasPlace e c.self.inside.declared m r) inv c.in_ok-size.ensures.ok.0 in
     let bytes = c.order_of-order.ensures ∙ ap (λ (e : Environment Global). record_bytes e r) inv.known in
-    let broken = c.in-Err-send_record.ensures.sends in
+    let broken = c.in-Err.ensures.sends in
     let new : Encoding Global = record {
       head = c.self.inside.head.items;
       declared = c.self.inside.declared;
       records = c.self.inside.records.items;
-      failed = Some c.in-Err-send_record.written;
+      failed = Some c.in-Err.written;
       finished = c.self.inside.finished;
     } in
     let off = breaks_off c.self.inside.failed c.self.inside.finished inv (small_record inv here) (Breaks-as bytes broken.0) broken.1 in
     λ _. (
       subst (λ (e : Encoding Global). CanPut e r) c.self.view_is here,
       subst (λ (e : Encoding Global). BreaksOff (g.K.Sink.contents c.args.sink.now) (g.K.Sink.contents c.send_record.new.sink) (g.K.Sink.has_failed c.send_record.new.sink) e new
-          (record_bytes (known e) r) c.in-Err-send_record.written) c.self.view_is off,
+          (record_bytes (known e) r) c.in-Err.written) c.self.view_is off,
     )
 
 pub overflow_add-self-2 : goal.overflow_add-self-2
@@ -75,18 +79,18 @@ overflow_add-self-2 g c =
 pub invariant_of-self-2 : goal.invariant_of-self-2
 invariant_of-self-2 g c =
     let r = c.args.r.now in
-    let place = c.in-Ok.ensures.ok in
+    let place = c.in_ok-size.ensures.ok in
     let learned : c.learn.new.self ≡ learn c.self.inside.env r = on_ok_at _ c.learn.result (sym c.is_err.ensures.value ∙ c.if-is_err.false) c.learn.ensures.ok in
     λ failed finished.
     let inv = c.self.invariant failed finished in
     let spelled = c.in_default-send_record.ensures in
     let out = went_out (Spells-as c.order_of-order.ensures spelled.sends) inv.held spelled.empty in
-    rw c.add.ensures (next_open c.learn.new.self c.send_record.new.out c.in-Ok.size r inv place.0.fits place.1 (omega (arith, place.0.within, place.1)) learned out.1 spelled.empty out.2)
+    rw c.add.ensures (next_open c.learn.new.self c.send_record.new.out c.in_ok-size.size r inv place.0.fits place.1 (omega (arith, place.0.within, place.1)) learned out.1 spelled.empty out.2)
 
 pub returns-clause-ok : goal.returns-clause-ok
 returns-clause-ok g c =
     let still = when_open c.self.inside.finished c.self.inside.failed (sym c.closed_fault.ensures ∙ c.in_default.is) in
-    let here = in_terms (λ (e : Environment Global) (n m : ℕ). HasPlace e c.self.inside.declared m c.args.r.now) (c.self.invariant still.0 still.1) c.in-Ok.ensures.ok.0 in
+    let here = in_terms (λ (e : Environment Global) (n m : ℕ). HasPlace e c.self.inside.declared m c.args.r.now) (c.self.invariant still.0 still.1) c.in_ok-size.ensures.ok.0 in
     subst (λ (e : Encoding Global). CanPut e c.args.r.now) c.self.view_is here
 
 pub returns-clause-spelled : goal.returns-clause-spelled
