@@ -1,5 +1,5 @@
 -- Widths and classes of base types.
-use Rattle.std.proofs.Common.{◌≡◌, ◌∙◌, ℕ, ◌⊎◌, inl, inr, Bool, true, false, refl, eqb-true, eq-eqb, ltb-true, List, map, ◌<◌, ◌^◌, ◌%◌, nat_lt}
+use Rattle.std.proofs.Common.{◌≡◌, ◌∙◌, ℕ, ◌⊎◌, inl, inr, Bool, true, false, refl, eqb-true, eq-eqb, List, map, ◌%◌}
 use Rattle.std.specs.Prelude.{◌==◌, ◌||◌, Option}
 use Rattle.std.proofs.lemmas.Bool.{cases_Bool}
 use Rattle.fit_base.specs.declared.code.Class.{Class}
@@ -43,10 +43,6 @@ item_width-kinds code size = elim (cases_Bool (size % (base_type code).width == 
   | inl whole ↦ inl (rw whole refl)
   | inr rest ↦ inr (rw rest refl)
 ]
-
--- the invalid number of a base type has its width
-pub code_invalid : (code : ℕ) → (base_type code).invalid < 256 ^ (base_type code).width
-code_invalid code = ltb-true _ _ (found_passes (λ t. t.code == code) (λ t. nat_lt t.invalid (256 ^ t.width)) byte base_types refl refl)
 
 -- strings and bytes are one byte wide
 abbrev narrow : Class → ℕ → Bool

@@ -109,6 +109,3 @@ float-length text w bits e = let l = length-hex_digits (2 * w) bits in rw e (ome
 
 pub float-read : (text : List ℕ) (w bits : ℕ) → bits < 256 ^ w → text ≡ 48 ∷ 120 ∷ hex_digits (2 * w) bits → read_hex 0 (drop 2 text) ≡ bits
 float-read text w bits h e = ap (λ t. read_hex 0 (drop 2 t)) e ∙ digits-read (2 * w) bits (rw (sixteen-squared w) h)
-
-pub float-below : (n l w : ℕ) → n < 16 ^ l → l ≡ 2 * w → n < 256 ^ w
-float-below n l w h e = subst (λ m. n < m) (ap (λ k. 16 ^ k) e ∙ sixteen-squared w) h
