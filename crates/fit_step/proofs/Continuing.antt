@@ -185,7 +185,7 @@ refused_bytes_end_all {A} e part room b reason sixteen h some low refused =
           let same : stops.reason ≡ reason = cc (refused, stops.is) in (
             stops.because ∙ ap Some same,
             λ c. shut_ends e room (part_bytes e part) b stops.reason some stops.shut c
-            (λ none. no_fit_ends e room part b sixteen h some low (stops.is ∙ ap Err none) c),
+                (λ none. no_fit_ends e room part b sixteen h some low (stops.is ∙ ap Err none) c),
           )
     ]
 
