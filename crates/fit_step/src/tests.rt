@@ -45,13 +45,7 @@ fn read(alloc: Global, room: u32, bytes: &[u8]) -> (usize, Option<Stop>, Option<
     let mut in_progress = None;
     let mut last = None;
     for i in 0..bytes.len() {
-        match take(
-            alloc,
-            &mut env,
-            &mut position,
-            &mut in_progress,
-            bytes[i],
-        ) {
+        match take(alloc, &mut env, &mut position, &mut in_progress, bytes[i]) {
             Ok(None) => {}
             Ok(record) => last = record,
             Err(stop) => return (i, Some(stop), last),
