@@ -153,7 +153,8 @@ impl<A: Allocator + Copy> Bits<A> {
 
     /// The vector of the numbers. Memory is taken for a lone one alone.
     pub fn into_vec(self) -> Result<Vec<u64, A>, AllocError>
-        ensures { IfOk result (λ numbers. numbers.items ≡ self) }
+        ensures same { IfOk result (λ numbers. numbers.items ≡ self) }
+        ensures many { (length self ≡ 1 → ⊥) → IsOk result }
     {
         match self.held {
             Held::None(alloc) => Ok(Vec::new(alloc)),

@@ -1,5 +1,5 @@
 //! Base types and their codes (FIT protocol, "Base Types").
-ghost use Rattle.std.specs.Prelude.{◌≡◌};
+ghost use Rattle.std.specs.Prelude.{◌≡◌, ◌⊎◌, ◌/◌, ◌%◌, ◌==◌};
 ghost use Rattle.fit_base.specs.BaseTypes.{base_type, item_width};
 
 /// What the items of a base type stand for.
@@ -71,5 +71,31 @@ pub fn width_of(code: Code, size: u8) -> u8
     ensures { result ≡ item_width code.0 size }
 {
     let width = code.width();
-    if size.is_multiple_of(width) { width } else { 1 }
+    if divides(width, size) { width } else { 1 }
+}
+
+/// Whether the width divides the size. A division by a known number is fast.
+fn divides(width: u8, size: u8) -> bool
+    requires { (width ≡ 1) ⊎ (width ≡ 2) ⊎ (width ≡ 4) ⊎ (width ≡ 8) }
+    ensures { result ≡ (size % width == 0) }
+{
+    match width {
+        1 => true,
+        2 => size % 2 == 0,
+        4 => size % 4 == 0,
+        _ => size % 8 == 0,
+    }
+}
+
+/// How many items of this width as many bytes have.
+pub(crate) fn items_in(size: u8, width: u8) -> u8
+    requires { (width ≡ 1) ⊎ (width ≡ 2) ⊎ (width ≡ 4) ⊎ (width ≡ 8) }
+    ensures { result ≡ size / width }
+{
+    match width {
+        1 => size,
+        2 => size / 2,
+        4 => size / 4,
+        _ => size / 8,
+    }
 }

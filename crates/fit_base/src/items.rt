@@ -2,6 +2,7 @@
 ghost use Rattle.std.specs.Prelude.{◌≡◌, ◌⊎◌, ◌^◌, ◌↔◌, ◌+◌, ◌≤◌, IsTrue, All};
 ghost use Rattle.fit_base.specs.Fields.{HasShape};
 
+use crate::code::items_in;
 use crate::{Bits, Code, width_of};
 use std::alloc::{Allocator, Global};
 
@@ -23,7 +24,7 @@ pub fn has_shape<A: Allocator>(code: Code, size: u8, items: &Items<A>) -> bool
     if items.width != width {
         return false;
     }
-    if items.bits.len() != (size / width) as usize {
+    if items.bits.len() != items_in(size, width) as usize {
         return false;
     }
     all_at_most(greatest(width), items.bits.as_slice())
