@@ -60,7 +60,7 @@ of_records {A} h n rs front more header fit size are spelled = record {
   spelled = ap (λ m. (header_bytes h m ++ records_bytes empty_environment rs) ++ little_bytes 2 (checksum (header_bytes h m ++ records_bytes empty_environment rs))) size ∙ spelled;
 }
 
-fill_data : {A : Type 0} (n : ℕ) → IsDataSize n → CanFill {A = A} empty_environment n
+pub fill_data : {A : Type 0} (n : ℕ) → IsDataSize n → CanFill {A = A} empty_environment n
 fill_data n (inl none) = ([], [], IsBytes-none, (tt, refl), sym none)
 fill_data {A} n (inr many) = let same : 6 + (n - 6) ≡ n = omega (arith, many) in subst (CanFill {A = A} empty_environment) same (six_and_more empty_environment (n - 6) (lit< tt))
 

@@ -33,7 +33,7 @@ front_of (x ∷ y) (suc j) zero less within = absurd (omega arith)
 front_of (x ∷ y) (suc j) (suc k) less within = ap (λ l. x ∷ l) (front_of y j k (omega (arith, less)) (omega (arith, within)) ∙ ap (λ n. take j y ++ take n (drop j y)) (omega arith))
 
 module _ {A : Type 0} (files : List (FitFile A)) (front bytes piece : List ℕ) (come : HasCome files (at_header front) bytes) where
-  header_fronts : (k : ℕ) → k ≤ length piece → NoHeader (front ++ take k piece) → (j : ℕ) → j ≤ k → HasCome files (at_header (front ++ take j piece)) (bytes ++ take j piece)
+  pub header_fronts : (k : ℕ) → k ≤ length piece → NoHeader (front ++ take k piece) → (j : ℕ) → j ≤ k → HasCome files (at_header (front ++ take j piece)) (bytes ++ take j piece)
   header_fronts k within none j less =
       let parts : front ++ take k piece ≡ (front ++ take j piece) ++ take (k - j) (drop j piece) = ap (λ l. front ++ l) (front_of piece j k less within) ∙ sym (append_assoc front (take j piece) (take (k - j) (drop j piece))) in
       more_header files front bytes (take j piece) come (no_header_before (front ++ take j piece) (take (k - j) (drop j piece)) (subst NoHeader parts none))

@@ -15,7 +15,7 @@ use Rattle.fit_step.proofs.GoOn.{cuts_go_on}
 use Rattle.fit_decode.specs.Progress.{at_header, IsPartial, IsUnfinished}
 use Rattle.fit_decode.proofs.OnePlace.{no_header}
 
-no_end : (a b : List ℕ) (c : ℕ) → a ++ c ∷ b ≡ [] → ⊥
+pub no_end : (a b : List ℕ) (c : ℕ) → a ++ c ∷ b ≡ [] → ⊥
 no_end [] b c e = cc
 no_end (x ∷ a) b c e = cc
 

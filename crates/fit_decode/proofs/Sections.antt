@@ -1,0 +1,183 @@
+-- What the bytes used of a piece leave in the fields: they are those behind the bytes fed, and what was told is what these tell.
+use Rattle.std.proofs.Common.{◌≡◌, cond, ◌⊎◌, inl, inr, ℕ, zero, suc, ◌+◌, ◌-◌, ◌<◌, ◌≤◌, Bool, true, false, List, [], ◌∷◌, ◌++◌, length, take, slice_index, refl, sym, ap, ◌∙◌, subst, arith, append_assoc, length-append, Some, None, Ok, Err}
+use Rattle.std.specs.Prelude.{Option, Result}
+use Rattle.std.proofs.lemmas.Bool.Decides.{eqb_tells}
+use Rattle.std.proofs.lemmas.List.{append-nil}
+use Rattle.fit_base.specs.Numbers.{IsBytes, little_bytes}
+use Rattle.fit_base.proofs.NumberLaws.{IsBytes-append, IsBytes-take}
+use Rattle.fit_sum.specs.Checksum.{checksum}
+use Rattle.fit_frame.specs.declared.header.Header.{Header as FileHeader}
+use Rattle.fit_frame.specs.Header.{header_bytes}
+use Rattle.fit_frame.specs.Beginning.{IsDataSize, IsFileHeader, RefusesByte, Seen}
+use Rattle.fit_record.specs.declared.file.FitFile.{FitFile}
+use Rattle.fit_record.specs.declared.message.Record.{Record}
+use Rattle.fit_record.specs.Environment.{Environment, empty_environment, learn, learn_all}
+use Rattle.fit_record.specs.Records.{records_bytes}
+use Rattle.fit_record.specs.Rooms.{can_fill}
+use Rattle.fit_record.specs.Files.{chain_limit, IsViable}
+use Rattle.fit_record.proofs.FilledRooms.{can_fill_is}
+use Rattle.fit_record.proofs.SixteenPlaces.{sixteen_places}
+use Rattle.fit_step.specs.declared.position.Position.{Position}
+use Rattle.fit_step.specs.declared.stop.Stop.{Stop}
+use Rattle.fit_step.specs.declared.stop.Stop.TheVariants.{Refused, NoMemory}
+use Rattle.fit_step.specs.Machine.{State, start, Walks}
+use Rattle.fit_step.specs.Places.{state_at}
+use Rattle.fit_step.specs.Tests.{tests_of}
+use Rattle.fit_step.specs.GoingOn.{goes_on}
+use Rattle.fit_decode.specs.declared.event.Event.{Event as Answer}
+use Rattle.fit_decode.specs.declared.event.Event.TheVariants as answers
+use Rattle.fit_decode.specs.declared.section.Section.{Section}
+use Rattle.fit_decode.specs.declared.section.Section.TheVariants.{Header, Data, ClosingSum}
+use Rattle.fit_decode.specs.Progress.{at_header, at_data, HasCome}
+use Rattle.fit_frame.specs.declared.reason.Reason.TheVariants.{TooManyFiles}
+use Rattle.fit_decode.specs.Events.{AreEvents}
+use Rattle.fit_decode.specs.Refusals.{IsRefused}
+use Rattle.fit_decode.specs.GoingOn.{GoesOn, files_begun, ChainGoesOn}
+use Rattle.fit_decode.specs.Scans.{IsOpen, sum_part}
+use Rattle.fit_decode.specs.Sections.{section_of, position_of, HeaderFed, DataFed, SumFed}
+use Rattle.fit_decode.specs.Kept.{Fields, InHeader, InData, InSum, Holds, HoldsAt, Advanced, NotRefused}
+use Rattle.fit_decode.proofs.Completions.{goes_viable, fill_data}
+use Rattle.fit_decode.proofs.Next.{whole_header}
+use Rattle.fit_decode.proofs.Whole.{begun_header, no_header_in}
+use Rattle.fit_decode.proofs.HeaderFed.{header_fronts, header_quiet, header_least, header_refuses, full_refuses}
+use Rattle.fit_decode.proofs.DataFed.{data_starts}
+
+-- What the bytes used tell, and that a chain begins with them; and unless a byte was refused, the fields are those behind them.
+pub record Next {A : Type 0} (d : Fields A) (bytes piece : List ℕ) (used : ℕ) (answer : Result (Answer A) Stop) : Type 0 where
+  pub told : Advanced bytes piece used answer
+  pub viable : IsViable A chain_limit (bytes ++ take used piece)
+  pub holds : NotRefused answer → Holds d (bytes ++ take used piece)
+
+-- ---- where records begin
+
+pub begins_records : {A : Type 0} (files : List (FitFile A)) (d : Fields A) (bytes : List ℕ) (h : FileHeader) (n : ℕ) (records : List (Record A)) → HasCome files (at_data h n records []) bytes
+    → length files < chain_limit → d.count ≡ length files → d.half ≡ false → d.reader ≡ record { bytes = []; refusal = None } → d.sum ≡ header_bytes h n ++ records_bytes empty_environment records
+    → d.env ≡ learn_all empty_environment records → state_at d.position d.in_progress ≡ start (n - length (records_bytes empty_environment records))
+    → can_fill (learn_all empty_environment records) (n - length (records_bytes empty_environment records)) ≡ true → HoldsAt (section_of (n - length (records_bytes empty_environment records))) d bytes
+begins_records {A} files d bytes h n records come few counted whole fresh sum known at fill =
+    let room = n - length (records_bytes empty_environment records) in
+    let no_part : sum_part (checksum d.sum) d.half ≡ [] = ap (λ c. sum_part (checksum d.sum) c) whole in
+    elim (eqb_tells room 0) [
+      | inl none ↦ subst (λ c. HoldsAt (cond c ClosingSum Data) d bytes) (sym none.0) (record {
+        files = files;
+        header = h;
+        size = n;
+        records = records;
+        come = subst (λ p. HasCome files (at_data h n records p) bytes) (sym no_part) come;
+        few = few;
+        counted = counted;
+        fresh = fresh;
+        summed = sum;
+        over = none.1;
+        idle = ap (λ (s : State A). s.in_progress) at;
+      })
+      | inr some ↦ subst (λ c. HoldsAt (cond c ClosingSum Data) d bytes) (sym some.0) (record {
+        files = files;
+        header = h;
+        size = n;
+        records = records;
+        part = [];
+        come = come;
+        few = few;
+        counted = counted;
+        whole = whole;
+        fresh = fresh;
+        summed = sum ∙ sym (append-nil (header_bytes h n ++ records_bytes empty_environment records));
+        known = known;
+        some = omega (arith, some.1);
+        walk = sym at;
+        goes = (λ i. goes_on (known i) (at i)) ∙ fill;
+      })
+    ]
+
+-- ---- headers
+
+module _ {A : Type 0} (d : Fields A) (bytes piece : List ℕ) (k : InHeader d bytes) (are : IsBytes bytes) (low : IsBytes piece) where
+  front_is : d.reader.bytes ≡ d.sum
+  front_is = ap (λ (s : Seen). s.bytes) k.read
+
+  begun_within : (front : List ℕ) → d.count < chain_limit → files_begun k.files (at_header front) ≤ chain_limit
+  begun_within [] few = omega (arith, few, k.counted)
+  begun_within (b ∷ front) few = omega (arith, few, k.counted)
+
+  within_limit : (used : ℕ) → (d.count < chain_limit) ⊎ (piece ≡ []) → used ≡ length piece → files_begun k.files (at_header (d.sum ++ take used piece)) ≤ chain_limit
+  within_limit used (inl few) all = begun_within (d.sum ++ take used piece) few
+  within_limit used (inr none) all =
+      let silent : take used piece ≡ [] = ap (λ n. take n piece) (all ∙ ap length none) in
+      subst (λ l. files_begun k.files (at_header l) ≤ chain_limit) (sym (append-nil d.sum) ∙ ap (λ l. d.sum ++ l) (sym silent)) k.goes.1
+
+  at_most : (front : List ℕ) → files_begun k.files (at_header front) ≤ chain_limit → length k.files ≤ chain_limit
+  at_most [] begun = begun
+  at_most (b ∷ front) begun = omega (arith, begun)
+
+  no_front : (front : List ℕ) → files_begun k.files (at_header front) ≤ chain_limit → length k.files ≡ chain_limit → front ≡ []
+  no_front [] begun all = refl
+  no_front (b ∷ front) begun all = absurd (omega (arith, begun, all))
+
+  pub header_fed : (reader : Seen) (sum : List ℕ) (section : Section) (position : Position) (used : ℕ) (answer : Result (Answer A) Stop)
+      → HeaderFed d.count d.reader.bytes d.sum Header d.position reader sum section position piece used answer
+      → Next (record d { section = section; reader = reader; sum = sum; position = position }) bytes piece used answer
+  header_fed reader sum section position used (Ok answers.More) (lim, (all, read, begun), covered, same) =
+      let open_ : IsOpen (d.sum ++ take used piece) = subst (λ l. IsOpen (l ++ take used piece)) front_is begun in
+      let within : used ≤ length piece = omega (arith, all) in
+      let none = begun_header (d.sum ++ take used piece) open_.0 open_.1 in
+      let come = header_fronts k.files d.sum bytes piece k.come used within none used (omega arith) in
+      let goes : ChainGoesOn chain_limit k.files (at_header (d.sum ++ take used piece)) = (k.goes.0, within_limit used lim all, open_.0) in
+      record {
+        told = (all, header_quiet k.files d.sum bytes piece k.come used within none);
+        viable = goes_viable chain_limit k.files (at_header (d.sum ++ take used piece)) (bytes ++ take used piece) come (IsBytes-append bytes (take used piece) are (IsBytes-take used piece low)) goes;
+        holds = λ _. subst (λ c. HoldsAt c (record d { section = section; reader = reader; sum = sum; position = position }) (bytes ++ take used piece)) (sym same) (record {
+          files = k.files;
+          come = subst (λ l. HasCome k.files (at_header l) (bytes ++ take used piece)) (sym covered) come;
+          goes = subst (λ l. ChainGoesOn chain_limit k.files (at_header l)) (sym covered) goes;
+          counted = k.counted;
+          whole = k.whole;
+          read = read ∙ ap (λ l. record { bytes = l; refusal = None }) (ap (λ l. l ++ take used piece) front_is ∙ sym covered);
+          known = k.known;
+          idle = k.idle;
+        });
+      }
+  header_fed reader sum section position used (Ok (answers.Header h n)) (few, some, within, whole, fresh, covered, at, begins) =
+      let is : IsFileHeader h n (d.sum ++ take used piece) = subst (λ l. IsFileHeader h n (l ++ take used piece)) front_is whole in
+      let less : length k.files < chain_limit = omega (arith, few, k.counted) in
+      let come = whole_header k.files d.sum bytes (take used piece) h n k.come is in
+      let same : n ≡ n - 0 = omega arith in
+      let fill : can_fill {A = A} empty_environment (n - 0) ≡ true = subst (λ m. can_fill {A = A} empty_environment m ≡ true) same ((can_fill_is {A = A} empty_environment n refl).1 (fill_data n is.1)) in
+      let now : Fields A = record d { section = section; reader = reader; sum = sum; position = position } in
+      let state : state_at {A = A} position d.in_progress ≡ start (n - 0) = λ i. state_at ((begins ∙ ap position_of same) i) (k.idle i) in
+      let all : sum ≡ header_bytes h n ++ [] = covered ∙ is.0.1 ∙ sym (append-nil (header_bytes h n)) in
+      record {
+        told = (some, within, header_least k.files d.sum bytes piece k.come used h n within is);
+        viable = goes_viable chain_limit k.files (at_data h n [] []) (bytes ++ take used piece) come (IsBytes-append bytes (take used piece) are (IsBytes-take used piece low))
+        (k.goes.0, omega (arith, less), data_starts empty_environment (n - 0) _ refl fill);
+        holds = λ _. subst (λ c. HoldsAt c now (bytes ++ take used piece)) (ap section_of (sym same) ∙ sym at) (begins_records k.files now (bytes ++ take used piece) h n [] come less k.counted k.whole fresh all k.known state fill);
+      }
+  header_fed reader sum section position used (Ok (answers.Item r)) fed = absurd fed
+  header_fed reader sum section position used (Ok answers.FileEnd) fed = absurd fed
+  header_fed reader sum section position used (Err NoMemory) fed = absurd fed
+  header_fed reader sum section position used (Err (Refused reason)) (inl (full, some, none, is)) =
+      let all : length k.files ≡ chain_limit = omega (arith, full, k.counted, at_most (d.sum) k.goes.1) in
+      let empty : d.sum ≡ [] = no_front d.sum k.goes.1 all in
+      let viable = goes_viable chain_limit k.files (at_header d.sum) bytes k.come are k.goes in
+      let here : bytes ≡ bytes ++ take used piece = sym (ap (λ n. bytes ++ take n piece) none ∙ append-nil bytes) in
+      let why = full_refuses k.files d.sum bytes piece k.come (slice_index piece used) empty all viable in
+      record {
+        told = (
+          omega (arith, some, none),
+          λ events are_told j less. subst (λ l. AreEvents l events) (sym (ap (λ n. bytes ++ take n piece) (let zero_only : j ≡ 0 = omega (arith, less, none) in zero_only) ∙ append-nil bytes)) are_told,
+          subst (λ r. IsRefused A chain_limit (bytes ++ take used piece) (slice_index piece used) r) (sym is) (subst (λ l. IsRefused A chain_limit l (slice_index piece used) TooManyFiles) here why),
+        );
+        viable = subst (IsViable A chain_limit) here viable;
+        holds = λ never. absurd never;
+      }
+  header_fed reader sum section position used (Err (Refused reason)) (inr (few, within, begun, refuses)) =
+      let open_ : IsOpen (d.sum ++ take used piece) = subst (λ l. IsOpen (l ++ take used piece)) front_is begun in
+      let less : length k.files < chain_limit = omega (arith, few, k.counted) in
+      let none = begun_header (d.sum ++ take used piece) open_.0 open_.1 in
+      let why = header_refuses k.files d.sum bytes piece k.come used reason within less (IsBytes-append bytes (take used piece) are (IsBytes-take used piece low)) open_
+      (subst (λ l. RefusesByte (l ++ take used piece) (slice_index piece used) reason) front_is refuses) in
+      record {
+        told = (within, header_quiet k.files d.sum bytes piece k.come used (omega (arith, within)) none, why);
+        viable = why.viable;
+        holds = λ never. absurd never;
+      }
