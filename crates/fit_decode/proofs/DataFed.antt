@@ -109,7 +109,7 @@ module _ {A : Type 0} (files : List (FitFile A)) (h : Header) (n : ℕ) (records
     pub fits : Fits e r
     fits = (ends_are_records e (tests_of e) room (part ++ take k piece) t r all_ended (now_are k)).0.0
 
-    spelled : record_bytes e r ≡ part ++ take k piece
+    pub spelled : record_bytes e r ≡ part ++ take k piece
     spelled = sym (ends_are_records e (tests_of e) room (part ++ take k piece) t r all_ended (now_are k)).0.1
 
     fits_room : length (record_bytes e r) ≤ room

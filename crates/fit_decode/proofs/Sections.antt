@@ -1,6 +1,6 @@
 -- What the bytes used of a piece leave in the fields: they are those behind the bytes fed, and what was told is what these tell.
 use Rattle.std.proofs.Common.{◌≡◌, cond, ◌⊎◌, inl, inr, ℕ, zero, suc, ◌+◌, ◌-◌, ◌<◌, ◌≤◌, Bool, true, false, List, [], ◌∷◌, ◌++◌, length, take, slice_index, refl, sym, ap, ◌∙◌, subst, arith, append_assoc, length-append, Some, None, Ok, Err}
-use Rattle.std.specs.Prelude.{Option, Result}
+use Rattle.std.specs.Prelude.{Option, Result, IsOk}
 use Rattle.std.proofs.lemmas.Bool.Decides.{eqb_tells}
 use Rattle.std.proofs.lemmas.List.{append-nil}
 use Rattle.fit_base.specs.Numbers.{IsBytes, little_bytes}
@@ -12,7 +12,7 @@ use Rattle.fit_frame.specs.Beginning.{IsDataSize, IsFileHeader, RefusesByte, See
 use Rattle.fit_record.specs.declared.file.FitFile.{FitFile}
 use Rattle.fit_record.specs.declared.message.Record.{Record}
 use Rattle.fit_record.specs.Environment.{Environment, empty_environment, learn, learn_all}
-use Rattle.fit_record.specs.Records.{records_bytes}
+use Rattle.fit_record.specs.Records.{record_bytes, records_bytes}
 use Rattle.fit_record.specs.Rooms.{can_fill}
 use Rattle.fit_record.specs.Files.{chain_limit, IsViable}
 use Rattle.fit_record.proofs.FilledRooms.{can_fill_is}
@@ -20,7 +20,7 @@ use Rattle.fit_record.proofs.SixteenPlaces.{sixteen_places}
 use Rattle.fit_step.specs.declared.position.Position.{Position}
 use Rattle.fit_step.specs.declared.stop.Stop.{Stop}
 use Rattle.fit_step.specs.declared.stop.Stop.TheVariants.{Refused, NoMemory}
-use Rattle.fit_step.specs.Machine.{State, start, Walks}
+use Rattle.fit_step.specs.Machine.{State, start, step, Walks, Ends}
 use Rattle.fit_step.specs.Places.{state_at}
 use Rattle.fit_step.specs.Tests.{tests_of}
 use Rattle.fit_step.specs.GoingOn.{goes_on}
@@ -36,11 +36,11 @@ use Rattle.fit_decode.specs.GoingOn.{GoesOn, files_begun, ChainGoesOn}
 use Rattle.fit_decode.specs.Scans.{IsOpen, sum_part}
 use Rattle.fit_decode.specs.Sections.{section_of, position_of, HeaderFed, DataFed, SumFed}
 use Rattle.fit_decode.specs.Kept.{Fields, InHeader, InData, InSum, Holds, HoldsAt, Advanced, NotRefused}
-use Rattle.fit_decode.proofs.Completions.{goes_viable, fill_data}
+use Rattle.fit_decode.proofs.Completions.{goes_viable, fill_data, records_bytes-append, learn_all-append}
 use Rattle.fit_decode.proofs.Next.{whole_header}
 use Rattle.fit_decode.proofs.Whole.{begun_header, no_header_in}
 use Rattle.fit_decode.proofs.HeaderFed.{header_fronts, header_quiet, header_least, header_refuses, full_refuses}
-use Rattle.fit_decode.proofs.DataFed.{data_starts}
+use Rattle.fit_decode.proofs.DataFed.{data_starts, all_walked, still_on, data_quiet, data_come, data_viable, spelled, starts, item_come, item_least, item_on, item_viable, data_refuses, data_wants}
 
 -- What the bytes used tell, and that a chain begins with them; and unless a byte was refused, the fields are those behind them.
 pub record Next {A : Type 0} (d : Fields A) (bytes piece : List ℕ) (used : ℕ) (answer : Result (Answer A) Stop) : Type 0 where
@@ -180,4 +180,108 @@ module _ {A : Type 0} (d : Fields A) (bytes piece : List ℕ) (k : InHeader d by
         told = (within, header_quiet k.files d.sum bytes piece k.come used (omega (arith, within)) none, why);
         viable = why.viable;
         holds = λ never. absurd never;
+      }
+
+-- ---- data sections
+
+module _ {A : Type 0} (d : Fields A) (bytes piece : List ℕ) (k : InData d bytes) (are : IsBytes bytes) (low : IsBytes piece) where
+  abbrev taken : ℕ
+  taken = length (records_bytes empty_environment k.records)
+
+  walk_known : Walks (learn_all empty_environment k.records) (tests_of (learn_all empty_environment k.records)) (start (k.size - taken)) k.part (state_at d.position d.in_progress)
+  walk_known = subst (λ e. Walks e (tests_of e) (start (k.size - taken)) k.part (state_at d.position d.in_progress)) k.known k.walk
+
+  on_known : goes_on (learn_all empty_environment k.records) (state_at d.position d.in_progress) ≡ true
+  on_known = subst (λ e. goes_on e (state_at d.position d.in_progress) ≡ true) k.known k.goes
+
+  covered_is : (used : ℕ) → d.sum ++ take used piece ≡ (header_bytes k.header k.size ++ records_bytes empty_environment k.records) ++ (k.part ++ take used piece)
+  covered_is used = ap (λ l. l ++ take used piece) k.summed ∙ append_assoc (header_bytes k.header k.size ++ records_bytes empty_environment k.records) k.part (take used piece)
+
+  -- a walk that ends within a record
+  within_record : (sum : List ℕ) (section : Section) (env : Environment A) (position : Position) (in_progress : Option (Record A)) (used : ℕ) → used ≤ length piece → env ≡ d.env
+      → Walks d.env (tests_of d.env) (state_at d.position d.in_progress) (take used piece) (state_at position in_progress) → sum ≡ d.sum ++ take used piece → section ≡ Data
+      → Holds (record d { env = env; section = section; sum = sum; position = position; in_progress = in_progress }) (bytes ++ take used piece)
+  within_record sum section env position in_progress used within same walk covered at =
+      let known : Environment A = learn_all empty_environment k.records in
+      let here = subst (λ e. Walks e (tests_of e) (state_at d.position d.in_progress) (take used piece) (state_at position in_progress)) k.known walk in
+      let now : env ≡ known = same ∙ k.known in
+      subst (λ c. HoldsAt c (record d { env = env; section = section; sum = sum; position = position; in_progress = in_progress }) (bytes ++ take used piece)) (sym at) (record {
+        files = k.files;
+        header = k.header;
+        size = k.size;
+        records = k.records;
+        part = k.part ++ take used piece;
+        come = data_come k.files k.header k.size k.records k.part bytes piece (state_at d.position d.in_progress) k.come k.few k.some walk_known on_known are low used (state_at position in_progress) within here;
+        few = k.few;
+        counted = k.counted;
+        whole = k.whole;
+        fresh = k.fresh;
+        summed = covered ∙ covered_is used;
+        known = now;
+        some = k.some;
+        walk = subst (λ e. Walks e (tests_of e) (start (k.size - taken)) (k.part ++ take used piece) (state_at position in_progress)) (sym now)
+        (all_walked k.files k.header k.size k.records k.part bytes piece (state_at d.position d.in_progress) k.come k.few k.some walk_known on_known are low used (state_at position in_progress) here);
+        goes = subst (λ e. goes_on e (state_at position in_progress) ≡ true) (sym now)
+        (still_on k.files k.header k.size k.records k.part bytes piece (state_at d.position d.in_progress) k.come k.few k.some walk_known on_known are low used (state_at position in_progress) here);
+      })
+
+  pub data_fed : (sum : List ℕ) (section : Section) (env : Environment A) (position : Position) (in_progress : Option (Record A)) (used : ℕ) (answer : Result (Answer A) Stop)
+      → DataFed d.env d.sum (state_at d.position d.in_progress) env sum section (state_at position in_progress) piece used answer
+      → Next (record d { env = env; section = section; sum = sum; position = position; in_progress = in_progress }) bytes piece used answer
+  data_fed sum section env position in_progress used (Ok answers.More) ((all, same, walk), covered, at) =
+      let within : used ≤ length piece = omega (arith, all) in
+      let here = subst (λ e. Walks e (tests_of e) (state_at d.position d.in_progress) (take used piece) (state_at position in_progress)) k.known walk in
+      record {
+        told = (all, data_quiet k.files k.header k.size k.records k.part bytes piece (state_at d.position d.in_progress) k.come k.few k.some walk_known on_known are low used (state_at position in_progress) within here);
+        viable = data_viable k.files k.header k.size k.records k.part bytes piece (state_at d.position d.in_progress) k.come k.few k.some walk_known on_known are low used (state_at position in_progress) within here;
+        holds = λ _. within_record sum section env position in_progress used within same walk covered at;
+      }
+  data_fed sum section env position in_progress used (Ok (answers.Item r)) ((some, within, same, ends), covered, at) =
+      let s : State A = state_at d.position d.in_progress in
+      let t : State A = state_at position in_progress in
+      let here = subst (λ e. Ends e (tests_of e) s (take used piece) t r) k.known ends in
+      let come = item_come k.files k.header k.size k.records k.part bytes piece s k.come k.few k.some walk_known on_known are low used t r some within here in
+      let starts_at = starts k.files k.header k.size k.records k.part bytes piece s k.come k.few k.some walk_known on_known are low used t r some within here in
+      let filled = item_on k.files k.header k.size k.records k.part bytes piece s k.come k.few k.some walk_known on_known are low used t r some within here in
+      let all : records_bytes empty_environment (k.records ++ r ∷ []) ≡ records_bytes empty_environment k.records ++ (k.part ++ take used piece) =
+      records_bytes-append empty_environment k.records (r ∷ []) ∙ ap (λ l. records_bytes empty_environment k.records ++ l) (append-nil (record_bytes (learn_all empty_environment k.records) r)
+      ∙ spelled k.files k.header k.size k.records k.part bytes piece s k.come k.few k.some walk_known on_known are low used t r some within here) in
+      let sums : sum ≡ header_bytes k.header k.size ++ records_bytes empty_environment (k.records ++ r ∷ []) =
+      covered ∙ covered_is used ∙ append_assoc (header_bytes k.header k.size) (records_bytes empty_environment k.records) (k.part ++ take used piece) ∙ ap (λ l. header_bytes k.header k.size ++ l) (sym all) in
+      let learned : env ≡ learn_all empty_environment (k.records ++ r ∷ []) = same ∙ ap (λ e. learn e r) k.known ∙ sym (learn_all-append empty_environment k.records (r ∷ [])) in
+      let now : Fields A = record d { env = env; section = section; sum = sum; position = position; in_progress = in_progress } in
+      record {
+        told = (some, within, item_least k.files k.header k.size k.records k.part bytes piece s k.come k.few k.some walk_known on_known are low used t r some within here);
+        viable = item_viable k.files k.header k.size k.records k.part bytes piece s k.come k.few k.some walk_known on_known are low used t r some within here;
+        holds = λ _. subst (λ c. HoldsAt c now (bytes ++ take used piece)) (ap section_of (sym (ap (λ (u : State A). u.room) starts_at)) ∙ sym at)
+        (begins_records k.files now (bytes ++ take used piece) k.header k.size (k.records ++ r ∷ []) come k.few k.counted k.whole k.fresh sums learned starts_at filled);
+      }
+  data_fed sum section env position in_progress used (Ok (answers.Header h n)) fed = absurd fed
+  data_fed sum section env position in_progress used (Ok answers.FileEnd) fed = absurd fed
+  data_fed sum section env position in_progress used (Err (Refused reason)) ((within, same, walk, made), covered, at) =
+      let s : State A = state_at d.position d.in_progress in
+      let t : State A = state_at position in_progress in
+      let here = subst (λ e. Walks e (tests_of e) s (take used piece) t) k.known walk in
+      let step_made = subst (λ e. step e (tests_of e) t (slice_index piece used) ≡ Err reason) k.known made in
+      let upto : used ≤ length piece = omega (arith, within) in
+      let why = data_refuses k.files k.header k.size k.records k.part bytes piece s k.come k.few k.some walk_known on_known are low used t reason within here step_made in
+      record {
+        told = (within, data_quiet k.files k.header k.size k.records k.part bytes piece s k.come k.few k.some walk_known on_known are low used t upto here, why);
+        viable = why.viable;
+        holds = λ never. absurd never;
+      }
+  data_fed sum section env position in_progress used (Err NoMemory) ((within, same, walk, ok), covered, at) =
+      let s : State A = state_at d.position d.in_progress in
+      let t : State A = state_at position in_progress in
+      let here = subst (λ e. Walks e (tests_of e) s (take used piece) t) k.known walk in
+      let step_ok = subst (λ e. IsOk (step e (tests_of e) t (slice_index piece used))) k.known ok in
+      let upto : used ≤ length piece = omega (arith, within) in
+      record {
+        told = (
+          within,
+          data_quiet k.files k.header k.size k.records k.part bytes piece s k.come k.few k.some walk_known on_known are low used t upto here,
+          data_wants k.files k.header k.size k.records k.part bytes piece s k.come k.few k.some walk_known on_known are low used t within here step_ok,
+        );
+        viable = data_viable k.files k.header k.size k.records k.part bytes piece s k.come k.few k.some walk_known on_known are low used t upto here;
+        holds = λ _. within_record sum section env position in_progress used upto same walk covered at;
       }
