@@ -146,8 +146,7 @@ module _ {A : Type 0} (files : List (FitFile A)) (h : Header) (n : ℕ) (records
 
     pub item_viable : IsViable A chain_limit (bytes ++ take k piece)
     item_viable =
-        goes_viable chain_limit files (at_data h n (records ++ r ∷ []) []) (bytes ++ take k piece) item_come (fed_are k)
-        (
+        goes_viable chain_limit files (at_data h n (records ++ r ∷ []) []) (bytes ++ take k piece) item_come (fed_are k) (
           omega (arith, few),
           omega (arith, few),
           data_starts (learn_all empty_environment (records ++ r ∷ [])) (n - length (records_bytes empty_environment (records ++ r ∷ []))) _ (sixteen_places (records ++ r ∷ [])) item_on,
@@ -172,8 +171,8 @@ module _ {A : Type 0} (files : List (FitFile A)) (h : Header) (n : ℕ) (records
         progress = at_data h n records now;
         come = at;
         because = not_full A chain_limit (length files) (at_data h n records now) b few
-        ∙ ap (λ c. cond c (Some FileSum) (record_reason e now (room - length now) b)) (ne_eqb n (length (records_bytes empty_environment records)) (λ same. other (sym same)))
-        ∙ ap (λ m. record_reason e now m b) (sym left) ∙ law.0;
+            ∙ ap (λ c. cond c (Some FileSum) (record_reason e now (room - length now) b)) (ne_eqb n (length (records_bytes empty_environment records)) (λ same. other (sym same)))
+            ∙ ap (λ m. record_reason e now m b) (sym left) ∙ law.0;
       }
 
   pub data_wants : (k : ℕ) (t : State A) → k < length piece → Walks e (tests_of e) s (take k piece) t → IsOk (step e (tests_of e) t (slice_index piece k)) → IsViable A chain_limit (bytes ++ take (k + 1) piece)
@@ -181,6 +180,7 @@ module _ {A : Type 0} (files : List (FitFile A)) (h : Header) (n : ℕ) (records
     where
       one : take (k + 1) piece ≡ take k piece ++ slice_index piece k ∷ []
       one = take_more piece k 0 within
+
       go : (made : Step A) → step e (tests_of e) t (slice_index piece k) ≡ made → IsOk made → IsViable A chain_limit (bytes ++ take (k + 1) piece)
       go (Ok (u, None)) is ok =
           data_viable (k + 1) u (omega (arith, within)) (subst (λ l. Walks e (tests_of e) s l u) (sym one) (walks_join e (tests_of e) s (take k piece) (slice_index piece k ∷ []) t u more (u, is, refl)))

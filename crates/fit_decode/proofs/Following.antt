@@ -175,7 +175,7 @@ data_follows h n records part x (f ∷ after) u p e =
       next = rest.others;
       same_records = rest.joined;
       goes = part_follows (learn_all empty_environment records) (n - length (records_bytes empty_environment records)) rest.others part x tail u.3 rest.fit
-      (omega (arith, header.1, rest.total)) rest.spelled;
+          (omega (arith, header.1, rest.total)) rest.spelled;
     }
 
 -- ---- all of it

@@ -141,6 +141,7 @@ record_goes {A} e room sum part x y z tail u are is short s =
     empty : (a : List ℕ) → length a ≡ 0 → a ≡ []
     empty [] e = refl
     empty (b ∷ a) e = absurd (omega arith)
+
     regroup : (a b c d : List ℕ) → a ++ ((b ++ c) ++ d) ≡ (a ++ b) ++ (c ++ d)
     regroup a b c d = simp append_assoc
 

@@ -65,8 +65,7 @@ module _ {A : Type 0} (fs : List (FitFile A)) (h : Header) (n : ℕ) (records : 
   whole_record r fits spelled within =
       let all = one_record_more r in
       let size : length (records_bytes empty_environment (records ++ r ∷ [])) ≡ taken + length (record_bytes known r) = ap length all ∙ length-append (records_bytes empty_environment records) (record_bytes known r) in
-      more_of fs (at_data h n records part) (at_data h n (records ++ r ∷ []) []) bytes y come
-      (
+      more_of fs (at_data h n records part) (at_data h n (records ++ r ∷ []) []) bytes y come (
         come.next.0,
         all_fit-append empty_environment records (r ∷ []) come.next.1 (fits, tt),
         omega (arith, size, within, come.next.2),
@@ -98,7 +97,7 @@ module _ {A : Type 0} (fs : List (FitFile A)) (h : Header) (n : ℕ) (records : 
         files = all_append fs file come.files (record { header = subst (HeaderFits h) size come.next.0; records = come.next.1 });
         next = unfinished A [] (λ k m rest fits is. cc);
         spelled = ap (λ b. b ++ y) come.spelled ∙ append_assoc (chain_bytes fs) (progress_bytes (at_data h n records part)) y
-        ∙ ap (λ b. chain_bytes fs ++ b) (sym spelled) ∙ sym (chain_bytes-append fs file) ∙ sym (append-nil (chain_bytes (fs ++ file ∷ [])));
+            ∙ ap (λ b. chain_bytes fs ++ b) (sym spelled) ∙ sym (chain_bytes-append fs file) ∙ sym (append-nil (chain_bytes (fs ++ file ∷ [])));
       }
 
 -- ---- events

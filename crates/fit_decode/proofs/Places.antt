@@ -60,6 +60,7 @@ placed {A} e (r ∷ rs) q sum c m fit two joined =
           open_ = subst (λ n. IsPartial (learn_all (learn e r) k.done) n k.part) (omega (arith, all, both)) k.open_;
           spelled = first ∙ ap (λ l. record_bytes e r ++ l) k.spelled ∙ sym (append_assoc (record_bytes e r) (records_bytes (learn e r) k.done) k.part);
         }
+
     go : ((front : List ℕ) → records_bytes (learn e r) rs ++ sum ≡ front ++ c ∷ m → Placed (learn e r) (length (records_bytes (learn e r) rs)) front) → (more : List ℕ) → record_bytes e r ≡ q ++ more → c ∷ m ≡ more ++ (records_bytes (learn e r) rs ++ sum) → Placed e (length (records_bytes e (r ∷ rs))) q
     go again [] second behind = onward again [] (sym (append-nil q) ∙ sym second ∙ sym (append-nil (record_bytes e r))) (sym behind)
     go again (d ∷ more) second behind =

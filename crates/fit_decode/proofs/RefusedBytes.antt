@@ -81,6 +81,7 @@ module _ {A : Type 0} (e : Environment A) (sixteen : length e.places ≡ 16) whe
       spelled_so =
           ap (λ o. ((fields_front d (length d.fields) ++ []) ++ b ∷ flat_map dev_field_bytes (dev_defs o)) ++ []) none ∙ append-nil ((fields_front d (length d.fields) ++ []) ++ b ∷ [])
           ∙ ap (λ l. l ++ b ∷ []) (append-nil (fields_front d (length d.fields)))
+
       of : (r : Record A) (rest : List ℕ) (left : ℕ) → Fits e r → record_bytes e r ≡ definition_header d ∷ (dev_fields_part d b [] ++ rest) → IsBytes rest → CanFill (learn e r) left → length rest + left ≡ room
           → CanComplete e (definition_header d) (dev_fields_part d b []) room
       of (Define k) rest left fits spelled are fill total =

@@ -1,5 +1,5 @@
 -- What the bytes used of a piece leave in the fields: they are those behind the bytes fed, and what was told is what these tell.
-use Rattle.std.proofs.Common.{◌≡◌, cond, ◌⊎◌, inl, inr, ℕ, zero, suc, ◌+◌, ◌-◌, ◌<◌, ◌≤◌, Bool, true, false, List, [], ◌∷◌, ◌++◌, length, take, slice_index, refl, sym, ap, ◌∙◌, subst, arith, append_assoc, length-append, Some, None, Ok, Err}
+use Rattle.std.proofs.Common.{◌≡◌, cond, ◌⊎◌, inl, inr, ℕ, zero, suc, ◌+◌, ◌-◌, ◌/◌, ◌%◌, ◌<◌, ◌≤◌, Bool, true, false, List, [], ◌∷◌, ◌++◌, length, take, slice_index, refl, sym, ap, ◌∙◌, subst, arith, append_assoc, length-append, Some, None, Ok, Err}
 use Rattle.std.specs.Prelude.{Option, Result, IsOk}
 use Rattle.std.proofs.lemmas.Bool.Decides.{eqb_tells}
 use Rattle.std.proofs.lemmas.List.{append-nil}
@@ -40,6 +40,7 @@ use Rattle.fit_decode.proofs.Completions.{goes_viable, fill_data, records_bytes-
 use Rattle.fit_decode.proofs.Next.{whole_header}
 use Rattle.fit_decode.proofs.Whole.{begun_header, no_header_in}
 use Rattle.fit_decode.proofs.HeaderFed.{header_fronts, header_quiet, header_least, header_refuses, full_refuses}
+use Rattle.fit_decode.proofs.SumFed.{sum_fronts, sum_quiet, sum_viable, file_come, file_goes, file_viable, file_least, sum_refuses}
 use Rattle.fit_decode.proofs.DataFed.{data_starts, all_walked, still_on, data_quiet, data_come, data_viable, spelled, starts, item_come, item_least, item_on, item_viable, data_refuses, data_wants}
 
 -- What the bytes used tell, and that a chain begins with them; and unless a byte was refused, the fields are those behind them.
@@ -149,7 +150,7 @@ module _ {A : Type 0} (d : Fields A) (bytes piece : List ℕ) (k : InHeader d by
       record {
         told = (some, within, header_least k.files d.sum bytes piece k.come used h n within is);
         viable = goes_viable chain_limit k.files (at_data h n [] []) (bytes ++ take used piece) come (IsBytes-append bytes (take used piece) are (IsBytes-take used piece low))
-        (k.goes.0, omega (arith, less), data_starts empty_environment (n - 0) _ refl fill);
+            (k.goes.0, omega (arith, less), data_starts empty_environment (n - 0) _ refl fill);
         holds = λ _. subst (λ c. HoldsAt c now (bytes ++ take used piece)) (ap section_of (sym same) ∙ sym at) (begins_records k.files now (bytes ++ take used piece) h n [] come less k.counted k.whole fresh all k.known state fill);
       }
   header_fed reader sum section position used (Ok (answers.Item r)) fed = absurd fed
@@ -220,9 +221,9 @@ module _ {A : Type 0} (d : Fields A) (bytes piece : List ℕ) (k : InData d byte
         known = now;
         some = k.some;
         walk = subst (λ e. Walks e (tests_of e) (start (k.size - taken)) (k.part ++ take used piece) (state_at position in_progress)) (sym now)
-        (all_walked k.files k.header k.size k.records k.part bytes piece (state_at d.position d.in_progress) k.come k.few k.some walk_known on_known are low used (state_at position in_progress) here);
+            (all_walked k.files k.header k.size k.records k.part bytes piece (state_at d.position d.in_progress) k.come k.few k.some walk_known on_known are low used (state_at position in_progress) here);
         goes = subst (λ e. goes_on e (state_at position in_progress) ≡ true) (sym now)
-        (still_on k.files k.header k.size k.records k.part bytes piece (state_at d.position d.in_progress) k.come k.few k.some walk_known on_known are low used (state_at position in_progress) here);
+            (still_on k.files k.header k.size k.records k.part bytes piece (state_at d.position d.in_progress) k.come k.few k.some walk_known on_known are low used (state_at position in_progress) here);
       })
 
   pub data_fed : (sum : List ℕ) (section : Section) (env : Environment A) (position : Position) (in_progress : Option (Record A)) (used : ℕ) (answer : Result (Answer A) Stop)
@@ -254,7 +255,7 @@ module _ {A : Type 0} (d : Fields A) (bytes piece : List ℕ) (k : InData d byte
         told = (some, within, item_least k.files k.header k.size k.records k.part bytes piece s k.come k.few k.some walk_known on_known are low used t r some within here);
         viable = item_viable k.files k.header k.size k.records k.part bytes piece s k.come k.few k.some walk_known on_known are low used t r some within here;
         holds = λ _. subst (λ c. HoldsAt c now (bytes ++ take used piece)) (ap section_of (sym (ap (λ (u : State A). u.room) starts_at)) ∙ sym at)
-        (begins_records k.files now (bytes ++ take used piece) k.header k.size (k.records ++ r ∷ []) come k.few k.counted k.whole k.fresh sums learned starts_at filled);
+            (begins_records k.files now (bytes ++ take used piece) k.header k.size (k.records ++ r ∷ []) come k.few k.counted k.whole k.fresh sums learned starts_at filled);
       }
   data_fed sum section env position in_progress used (Ok (answers.Header h n)) fed = absurd fed
   data_fed sum section env position in_progress used (Ok answers.FileEnd) fed = absurd fed
@@ -284,4 +285,91 @@ module _ {A : Type 0} (d : Fields A) (bytes piece : List ℕ) (k : InData d byte
         );
         viable = data_viable k.files k.header k.size k.records k.part bytes piece s k.come k.few k.some walk_known on_known are low used t upto here;
         holds = λ _. within_record sum section env position in_progress used upto same walk covered at;
+      }
+
+-- ---- closing sums
+
+part_short : (n : ℕ) (half : Bool) → length (sum_part n half) < 2
+part_short n true = omega arith
+part_short n false = omega arith
+
+part_begins : (n : ℕ) (half : Bool) → (rest : List ℕ) × (little_bytes 2 n ≡ sum_part n half ++ rest)
+part_begins n true = (n / 256 % 256 ∷ [], refl)
+part_begins n false = (little_bytes 2 n, refl)
+
+module _ {A : Type 0} (d : Fields A) (bytes piece : List ℕ) (k : InSum d bytes) (are : IsBytes bytes) (low : IsBytes piece) where
+  abbrev value : ℕ
+  value = checksum d.sum
+
+  abbrev part : List ℕ
+  part = sum_part (checksum d.sum) d.half
+
+  sums : little_bytes 2 (checksum d.sum) ≡ little_bytes 2 (checksum (header_bytes k.header k.size ++ records_bytes empty_environment k.records))
+  sums = ap (λ l. little_bytes 2 (checksum l)) k.summed
+
+  short : (half : Bool) (used : ℕ) → part ++ take used piece ≡ sum_part value half → length (part ++ take used piece) < 2
+  short half used joined = omega (arith, ap length joined, part_short value half)
+
+  begins_sum : (half : Bool) (used : ℕ) → part ++ take used piece ≡ sum_part value half
+      → (rest : List ℕ) × (little_bytes 2 (checksum (header_bytes k.header k.size ++ records_bytes empty_environment k.records)) ≡ (part ++ take used piece) ++ rest)
+  begins_sum half used joined = let begins = part_begins value half in (begins.0, sym sums ∙ begins.1 ∙ ap (λ l. l ++ begins.0) (sym joined))
+
+  pub sum_fed : (half : Bool) (sum : List ℕ) (now : ℕ) (env : Environment A) (section : Section) (used : ℕ) (answer : Result (Answer A) Stop)
+      → SumFed d.half d.sum d.count d.env half sum now env section piece used answer
+      → Next (record d { count = now; env = env; section = section; half = half; sum = sum }) bytes piece used answer
+  sum_fed half sum now env section used (Ok answers.More) ((all, joined), covered, counted, same, at) =
+      let within : used ≤ length piece = omega (arith, all) in
+      let begins = begins_sum half used joined in
+      let come = sum_fronts k.files k.header k.size k.records part bytes piece k.come k.few k.over are low used within (short half used joined) used (omega arith) in
+      record {
+        told = (all, sum_quiet k.files k.header k.size k.records part bytes piece k.come k.few k.over are low used within (short half used joined));
+        viable = sum_viable k.files k.header k.size k.records part bytes piece k.come k.few k.over are low used begins.0 within (short half used joined) begins.1;
+        holds = λ _. subst (λ c. HoldsAt c (record d { count = now; env = env; section = section; half = half; sum = sum }) (bytes ++ take used piece)) (sym at) (record {
+          files = k.files;
+          header = k.header;
+          size = k.size;
+          records = k.records;
+          come = subst (λ p. HasCome k.files (at_data k.header k.size k.records p) (bytes ++ take used piece)) (joined ∙ ap (λ l. sum_part (checksum l) half) (sym covered)) come;
+          few = k.few;
+          counted = counted ∙ k.counted;
+          fresh = k.fresh;
+          summed = covered ∙ k.summed;
+          over = k.over;
+          idle = k.idle;
+        });
+      }
+  sum_fed half sum now env section used (Ok answers.FileEnd) ((some, within, whole, joined), none, counted, known, at) =
+      let is = joined ∙ sums in
+      let come = file_come k.files k.header k.size k.records part bytes piece k.come k.few k.over are low used is in
+      let goes = file_goes k.files k.header k.size k.records part bytes piece k.come k.few k.over are low in
+      let file : FitFile A = record { header = k.header; records = k.records } in
+      record {
+        told = (some, within, file_least k.files k.header k.size k.records part bytes piece k.come k.few k.over are low used within is);
+        viable = file_viable k.files k.header k.size k.records part bytes piece k.come k.few k.over are low used is;
+        holds = λ _. subst (λ c. HoldsAt c (record d { count = now; env = env; section = section; half = half; sum = sum }) (bytes ++ take used piece)) (sym at) (record {
+          files = k.files ++ file ∷ [];
+          come = subst (λ l. HasCome (k.files ++ file ∷ []) (at_header l) (bytes ++ take used piece)) (sym none) come;
+          goes = subst (λ l. ChainGoesOn chain_limit (k.files ++ file ∷ []) (at_header l)) (sym none) goes;
+          counted = omega (arith, counted, k.counted, length-append k.files (file ∷ []));
+          whole = whole;
+          read = k.fresh ∙ ap (λ l. record { bytes = l; refusal = None }) (sym none);
+          known = known;
+          idle = k.idle;
+        });
+      }
+  sum_fed half sum now env section used (Ok (answers.Header h n)) fed = absurd fed
+  sum_fed half sum now env section used (Ok (answers.Item r)) fed = absurd fed
+  sum_fed half sum now env section used (Err NoMemory) fed = absurd fed
+  sum_fed half sum now env section used (Err (Refused reason)) ((is, within, joined, differs), covered, counted, same, at) =
+      let begins = begins_sum half used joined in
+      let why = sum_refuses k.files k.header k.size k.records part bytes piece k.come k.few k.over are low used begins.0 within (short half used joined) begins.1
+      (λ more e. differs more (sums ∙ e ∙ ap (λ l. (l ++ slice_index piece used ∷ []) ++ more) joined)) in
+      record {
+        told = (
+          within,
+          sum_quiet k.files k.header k.size k.records part bytes piece k.come k.few k.over are low used (omega (arith, within)) (short half used joined),
+          subst (λ r. IsRefused A chain_limit (bytes ++ take used piece) (slice_index piece used) r) (sym is) why,
+        );
+        viable = why.viable;
+        holds = λ never. absurd never;
       }

@@ -71,7 +71,7 @@ module _ {A : Type 0} (files : List (FitFile A)) (h : Header) (n : ℕ) (records
   pub file_least : (k : ℕ) → k ≤ length piece → part ++ take k piece ≡ sum → Least A bytes piece k file_end
   file_least k within whole = λ events are_told. (
     told files (files ++ file ∷ []) (at_data h n records part) (at_header []) bytes (bytes ++ take k piece) file_end here (file_come k whole)
-    (end_told files h n records part (omega (arith, over, here.next.2))) events are_told,
+        (end_told files h n records part (omega (arith, over, here.next.2))) events are_told,
     λ j less.
         let two : length (part ++ take k piece) ≡ 2 = ap length whole ∙ length-little_bytes 2 (checksum summed) in
         let short : length (part ++ take j piece) < 2 =
@@ -95,6 +95,6 @@ module _ {A : Type 0} (files : List (FitFile A)) (h : Header) (n : ℕ) (records
         progress = at_data h n records (part ++ take k piece);
         come = at;
         because = not_full A chain_limit (length files) (at_data h n records (part ++ take k piece)) (slice_index piece k) few
-        ∙ ap (λ c. cond c (Some FileSum) (record_reason e (part ++ take k piece) (n - length (records_bytes empty_environment records) - length (part ++ take k piece)) (slice_index piece k)))
-        (eq-eqb n (length (records_bytes empty_environment records)) whole);
+            ∙ ap (λ c. cond c (Some FileSum) (record_reason e (part ++ take k piece) (n - length (records_bytes empty_environment records) - length (part ++ take k piece)) (slice_index piece k)))
+            (eq-eqb n (length (records_bytes empty_environment records)) whole);
       }
