@@ -1,8 +1,8 @@
 -- What bytes of records make of the place, of the events and of what can follow.
-use Rattle.std.proofs.Common.{◌≡◌, cond, inl, inr, ℕ, zero, suc, ◌+◌, ◌-◌, ◌<◌, ◌≤◌, Bool, true, false, List, [], ◌∷◌, ◌++◌, length, take, drop, get_or, slice_index, length-append, length-drop, refl, sym, ap, ◌∙◌, subst, arith, append_assoc, Some, None, Ok, Err}
-use Rattle.std.specs.Prelude.{Option, IsOk}
+use Rattle.std.proofs.Common.{◌≡◌, cond, inl, ℕ, zero, suc, ◌+◌, ◌-◌, ◌<◌, ◌≤◌, true, List, [], ◌∷◌, ◌++◌, length, take, drop, slice_index, length-drop, refl, sym, ap, ◌∙◌, subst, arith, append_assoc, Some, None, Ok, Err}
+use Rattle.std.specs.Prelude.{IsOk}
 use Rattle.std.proofs.lemmas.Bool.{ne_eqb}
-use Rattle.std.proofs.lemmas.List.{append-nil, length-take-le, take_more}
+use Rattle.std.proofs.lemmas.List.{length-take-le, take_more}
 use Rattle.fit_base.specs.Numbers.{IsBytes, little_bytes}
 use Rattle.fit_base.proofs.NumberLaws.{IsBytes-append, IsBytes-take}
 use Rattle.fit_sum.specs.Checksum.{checksum}
@@ -24,9 +24,9 @@ use Rattle.fit_step.specs.Tests.{tests_of}
 use Rattle.fit_step.specs.GoingOn.{goes_on}
 use Rattle.fit_step.proofs.Runs.{walks_join, walk_ends, ends_are_records}
 use Rattle.fit_step.proofs.Rest.{ends_are_within}
-use Rattle.fit_decode.specs.Progress.{at_header, at_data, progress_bytes, HasCome}
-use Rattle.fit_decode.specs.Events.{Event, item, AreEvents}
-use Rattle.fit_decode.specs.GoingOn.{FillFrom, DataGoesOn, GoesOn, ChainGoesOn}
+use Rattle.fit_decode.specs.Progress.{at_data, progress_bytes, HasCome}
+use Rattle.fit_decode.specs.Events.{item}
+use Rattle.fit_decode.specs.GoingOn.{FillFrom, DataGoesOn}
 use Rattle.fit_decode.specs.Refusals.{IsRefused}
 use Rattle.fit_decode.specs.Answers.{Quiet, Least}
 use Rattle.fit_decode.proofs.Splits.{IsBytes-back}

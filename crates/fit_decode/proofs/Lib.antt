@@ -17,4 +17,5 @@ pub mod SumFed
 pub mod Scanned
 pub mod Places
 pub mod Sections
+pub mod Bounds
 mod Refused

@@ -1,7 +1,6 @@
 -- Where the bytes have come to with some bytes more.
-use Rattle.std.proofs.Common.{◌≡◌, inl, inr, ℕ, zero, suc, ◌+◌, ◌-◌, ◌<◌, ◌≤◌, List, [], ◌∷◌, ◌++◌, length, refl, sym, ap, ◌∙◌, subst, arith, append_assoc, length-append}
+use Rattle.std.proofs.Common.{◌≡◌, ℕ, zero, suc, ◌+◌, ◌-◌, ◌<◌, ◌≤◌, List, [], ◌∷◌, ◌++◌, length, refl, sym, ap, ◌∙◌, subst, arith, append_assoc, length-append}
 use Rattle.std.specs.Prelude.{flat_map, map}
-use Rattle.std.specs.List.{AllByRecursion}
 use Rattle.std.proofs.lemmas.List.{append-nil}
 use Rattle.fit_base.specs.Numbers.{little_bytes}
 use Rattle.fit_sum.specs.Checksum.{checksum}
@@ -11,8 +10,8 @@ use Rattle.fit_frame.specs.Beginning.{IsFileHeader}
 use Rattle.fit_record.specs.declared.file.FitFile.{FitFile}
 use Rattle.fit_record.specs.declared.message.Record.{Record}
 use Rattle.fit_record.specs.Environment.{Environment, empty_environment, learn, learn_all}
-use Rattle.fit_record.specs.Records.{Fits, record_bytes, AllFit, records_bytes}
-use Rattle.fit_record.specs.Files.{body, file_bytes, chain_bytes, IsWellFormed}
+use Rattle.fit_record.specs.Records.{Fits, record_bytes, records_bytes}
+use Rattle.fit_record.specs.Files.{file_bytes, chain_bytes}
 use Rattle.fit_decode.specs.Progress.{Progress, at_header, at_data, progress_bytes, IsPartial, IsUnfinished, HasCome}
 use Rattle.fit_decode.specs.Events.{Event, header, item, file_end, file_events, progress_events, AreEvents}
 use Rattle.fit_decode.proofs.Completions.{all_append, chain_bytes-append, all_fit-append, records_bytes-append, learn_all-append}

@@ -1,12 +1,11 @@
 -- Bytes with which a chain begins have come somewhere: to some whole files and some of the next one.
-use Rattle.std.proofs.Common.{◌≡◌, ◌⊎◌, inl, inr, ℕ, zero, suc, ◌+◌, ◌-◌, ◌<◌, ◌≤◌, List, [], ◌∷◌, ◌++◌, length, refl, sym, ap, ◌∙◌, subst, arith, append_assoc, length-append}
+use Rattle.std.proofs.Common.{◌≡◌, inl, inr, ℕ, zero, suc, ◌-◌, ◌<◌, ◌≤◌, List, [], ◌∷◌, ◌++◌, length, refl, sym, ap, ◌∙◌, subst, arith, append_assoc, length-append}
 use Rattle.std.specs.List.{AllByRecursion}
 use Rattle.std.proofs.lemmas.List.{append-nil}
 use Rattle.fit_base.specs.Numbers.{little_bytes}
 use Rattle.fit_base.proofs.Bytes.{length-little_bytes}
 use Rattle.fit_sum.specs.Checksum.{checksum}
-use Rattle.fit_frame.specs.declared.header.Header.{Header}
-use Rattle.fit_frame.specs.Header.{HeaderFits, header_bytes}
+use Rattle.fit_frame.specs.Header.{header_bytes}
 use Rattle.fit_frame.proofs.OneHeader.{one_header}
 use Rattle.fit_record.specs.declared.file.FitFile.{FitFile}
 use Rattle.fit_record.specs.declared.message.Record.{Record}
@@ -15,7 +14,7 @@ use Rattle.fit_record.specs.Records.{record_bytes, AllFit, records_bytes}
 use Rattle.fit_record.specs.Files.{body, summed, file_bytes, chain_bytes, IsWellFormed, IsViable}
 use Rattle.fit_decode.specs.Progress.{Progress, at_header, at_data, progress_bytes, IsPartial, IsUnfinished, HasCome}
 use Rattle.fit_decode.proofs.Splits.{split}
-use Rattle.fit_decode.proofs.Whole.{NoHeader, unfinished, no_end, before_record, partial, partial_nothing}
+use Rattle.fit_decode.proofs.Whole.{unfinished, no_end, before_record, partial}
 
 -- ---- records
 

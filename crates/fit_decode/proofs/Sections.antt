@@ -1,5 +1,5 @@
 -- What the bytes used of a piece leave in the fields: they are those behind the bytes fed, and what was told is what these tell.
-use Rattle.std.proofs.Common.{◌≡◌, cond, ◌⊎◌, inl, inr, ℕ, zero, suc, ◌+◌, ◌-◌, ◌/◌, ◌%◌, ◌<◌, ◌≤◌, Bool, true, false, List, [], ◌∷◌, ◌++◌, length, take, slice_index, refl, sym, ap, ◌∙◌, subst, arith, append_assoc, length-append, Some, None, Ok, Err}
+use Rattle.std.proofs.Common.{◌≡◌, cond, ◌⊎◌, inl, inr, ℕ, ◌-◌, ◌/◌, ◌%◌, ◌<◌, ◌≤◌, Bool, true, false, List, [], ◌∷◌, ◌++◌, length, take, slice_index, refl, sym, ap, ◌∙◌, subst, arith, append_assoc, length-append, None, Ok, Err}
 use Rattle.std.specs.Prelude.{Option, Result, IsOk}
 use Rattle.std.proofs.lemmas.Bool.Decides.{eqb_tells}
 use Rattle.std.proofs.lemmas.List.{append-nil}
@@ -8,7 +8,7 @@ use Rattle.fit_base.proofs.NumberLaws.{IsBytes-append, IsBytes-take}
 use Rattle.fit_sum.specs.Checksum.{checksum}
 use Rattle.fit_frame.specs.declared.header.Header.{Header as FileHeader}
 use Rattle.fit_frame.specs.Header.{header_bytes}
-use Rattle.fit_frame.specs.Beginning.{IsDataSize, IsFileHeader, RefusesByte, Seen}
+use Rattle.fit_frame.specs.Beginning.{IsFileHeader, RefusesByte, Seen}
 use Rattle.fit_record.specs.declared.file.FitFile.{FitFile}
 use Rattle.fit_record.specs.declared.message.Record.{Record}
 use Rattle.fit_record.specs.Environment.{Environment, empty_environment, learn, learn_all}
@@ -16,7 +16,6 @@ use Rattle.fit_record.specs.Records.{record_bytes, records_bytes}
 use Rattle.fit_record.specs.Rooms.{can_fill}
 use Rattle.fit_record.specs.Files.{chain_limit, IsViable}
 use Rattle.fit_record.proofs.FilledRooms.{can_fill_is}
-use Rattle.fit_record.proofs.SixteenPlaces.{sixteen_places}
 use Rattle.fit_step.specs.declared.position.Position.{Position}
 use Rattle.fit_step.specs.declared.stop.Stop.{Stop}
 use Rattle.fit_step.specs.declared.stop.Stop.TheVariants.{Refused, NoMemory}
@@ -32,13 +31,13 @@ use Rattle.fit_decode.specs.Progress.{at_header, at_data, HasCome}
 use Rattle.fit_frame.specs.declared.reason.Reason.TheVariants.{TooManyFiles}
 use Rattle.fit_decode.specs.Events.{AreEvents}
 use Rattle.fit_decode.specs.Refusals.{IsRefused}
-use Rattle.fit_decode.specs.GoingOn.{GoesOn, files_begun, ChainGoesOn}
+use Rattle.fit_decode.specs.GoingOn.{files_begun, ChainGoesOn}
 use Rattle.fit_decode.specs.Scans.{IsOpen, sum_part}
 use Rattle.fit_decode.specs.Sections.{section_of, position_of, HeaderFed, DataFed, SumFed}
 use Rattle.fit_decode.specs.Kept.{Fields, InHeader, InData, InSum, Holds, HoldsAt, Advanced, NotRefused}
 use Rattle.fit_decode.proofs.Completions.{goes_viable, fill_data, records_bytes-append, learn_all-append}
 use Rattle.fit_decode.proofs.Next.{whole_header}
-use Rattle.fit_decode.proofs.Whole.{begun_header, no_header_in}
+use Rattle.fit_decode.proofs.Whole.{begun_header}
 use Rattle.fit_decode.proofs.HeaderFed.{header_fronts, header_quiet, header_least, header_refuses, full_refuses}
 use Rattle.fit_decode.proofs.SumFed.{sum_fronts, sum_quiet, sum_viable, file_come, file_goes, file_viable, file_least, sum_refuses}
 use Rattle.fit_decode.proofs.DataFed.{data_starts, all_walked, still_on, data_quiet, data_come, data_viable, spelled, starts, item_come, item_least, item_on, item_viable, data_refuses, data_wants}

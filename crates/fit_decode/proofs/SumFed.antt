@@ -1,7 +1,7 @@
 -- What bytes of a closing sum make of the place, of the events and of what can follow.
-use Rattle.std.proofs.Common.{◌≡◌, cond, inl, inr, ℕ, zero, suc, ◌+◌, ◌-◌, ◌<◌, ◌≤◌, Bool, true, false, List, [], ◌∷◌, ◌++◌, length, take, drop, slice_index, length-append, length-drop, refl, sym, ap, ◌∙◌, subst, arith, append_assoc, Some, None, Ok, Err}
+use Rattle.std.proofs.Common.{◌≡◌, cond, ℕ, zero, suc, ◌-◌, ◌<◌, ◌≤◌, List, [], ◌∷◌, ◌++◌, length, take, slice_index, length-append, refl, ap, ◌∙◌, arith, Some}
 use Rattle.std.proofs.lemmas.Bool.{eq-eqb}
-use Rattle.std.proofs.lemmas.List.{append-nil, length-take-le}
+use Rattle.std.proofs.lemmas.List.{length-take-le}
 use Rattle.fit_base.specs.Numbers.{IsBytes, little_bytes}
 use Rattle.fit_base.proofs.Bytes.{length-little_bytes}
 use Rattle.fit_base.proofs.NumberLaws.{IsBytes-append, IsBytes-take}
@@ -16,14 +16,14 @@ use Rattle.fit_record.specs.Records.{records_bytes}
 use Rattle.fit_record.specs.Files.{chain_limit, IsViable}
 use Rattle.fit_step.specs.Reasons.{record_reason}
 use Rattle.fit_decode.specs.Progress.{at_header, at_data, HasCome}
-use Rattle.fit_decode.specs.Events.{Event, file_end, AreEvents}
+use Rattle.fit_decode.specs.Events.{file_end}
 use Rattle.fit_decode.specs.GoingOn.{DataGoesOn, ChainGoesOn}
 use Rattle.fit_decode.specs.Refusals.{IsRefused}
 use Rattle.fit_decode.specs.Answers.{Quiet, Least}
 use Rattle.fit_decode.proofs.Goes.{next_goes, begins_nothing, no_room}
 use Rattle.fit_decode.proofs.Completions.{goes_viable}
 use Rattle.fit_decode.proofs.Next.{more_sum, whole_file, quiet, told, end_told}
-use Rattle.fit_decode.proofs.HeaderFed.{front_of, not_full}
+use Rattle.fit_decode.proofs.HeaderFed.{not_full}
 
 rest_of : {A : Type 0} (e : Environment A) (room : ℕ) (sum part : List ℕ) → room ≡ 0 → DataGoesOn e room sum part → (rest : List ℕ) × (sum ≡ part ++ rest)
 rest_of e zero sum part over goes = goes

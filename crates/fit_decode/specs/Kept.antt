@@ -1,10 +1,9 @@
 -- What holds of a decoder's fields behind the bytes fed. No public contract names these.
-use Rattle.std.specs.Prelude.{◌≡◌, ℕ, ◌-◌, ◌<◌, ◌≤◌, Bool, true, false, List, [], ◌∷◌, ◌++◌, length, take, slice_index, Option, Some, None, Result, Ok, Err, ◌+◌}
-use Rattle.fit_base.specs.Numbers.{IsBytes}
+use Rattle.std.specs.Prelude.{◌≡◌, ℕ, ◌-◌, ◌<◌, ◌≤◌, Bool, true, false, List, [], ◌++◌, length, take, slice_index, Option, None, Result, Ok, Err, ◌+◌}
 use Rattle.fit_sum.specs.Checksum.{checksum}
 use Rattle.fit_frame.specs.declared.header.Header.{Header as FileHeader}
 use Rattle.fit_frame.specs.Header.{header_bytes}
-use Rattle.fit_frame.specs.Beginning.{IsWholeHeader, Seen as HeaderSeen}
+use Rattle.fit_frame.specs.Beginning.{Seen as HeaderSeen}
 use Rattle.fit_record.specs.declared.file.FitFile.{FitFile}
 use Rattle.fit_record.specs.declared.message.Record.{Record}
 use Rattle.fit_record.specs.Environment.{Environment, empty_environment, learn_all}

@@ -1,15 +1,14 @@
 -- What the code's walks over a section of a file leave in its fields. No public contract names these.
-use Rattle.std.specs.Prelude.{◌≡◌, ℕ, ◌+◌, ◌==◌, ◌<◌, ◌≤◌, ◌⊎◌, Bool, true, false, if◌then◌else◌, List, [], ◌∷◌, ◌++◌, take, length, slice_index, Option, Some, None, Result, Ok, Err, IsOk}
+use Rattle.std.specs.Prelude.{◌≡◌, ℕ, ◌+◌, ◌==◌, ◌<◌, ◌≤◌, ◌⊎◌, Bool, true, false, if◌then◌else◌, List, [], ◌++◌, take, length, slice_index, Some, None, Result, Ok, Err}
 use Rattle.fit_sum.specs.Checksum.{checksum}
 use Rattle.fit_frame.specs.declared.reason.Reason.TheVariants.{TooManyFiles}
 use Rattle.fit_frame.specs.Beginning.{Seen, IsFileHeader, RefusesByte}
-use Rattle.fit_record.specs.declared.message.Record.{Record}
-use Rattle.fit_record.specs.Environment.{Environment, empty_environment, learn}
+use Rattle.fit_record.specs.Environment.{Environment, empty_environment}
 use Rattle.fit_record.specs.Files.{chain_limit}
 use Rattle.fit_step.specs.declared.position.Position.{Position}
 use Rattle.fit_step.specs.declared.phase.Phase.TheVariants.{RecordHeader}
 use Rattle.fit_step.specs.declared.stop.Stop.{Stop}
-use Rattle.fit_step.specs.declared.stop.Stop.TheVariants.{Refused, NoMemory}
+use Rattle.fit_step.specs.declared.stop.Stop.TheVariants.{Refused}
 use Rattle.fit_step.specs.Machine.{State}
 use Rattle.fit_decode.specs.declared.event.Event.{Event as Answer}
 use Rattle.fit_decode.specs.declared.event.Event.TheVariants as answers

@@ -1,4 +1,3 @@
-use Rattle.std.proofs.Common.{refl}
 use Rattle.fit_decode.proofs.Next.{events_of, are_events}
 use Rattle.fit_decode.proofs.Places.{viable_somewhere}
 use Rattle.fit_decode.proofs.laws.viable_bytes_have_events.Goals as goal

@@ -1,4 +1,4 @@
-use Rattle.std.proofs.Common.{◌≡◌, ◌<◌, get_or, arith}
+use Rattle.std.proofs.Common.{◌<◌, get_or}
 use Rattle.fit_step.specs.Places.{state_at}
 use Rattle.fit_decode.proofs.Pieces.{are_bytes}
 use Rattle.fit_decode.proofs.Scanned.{record_ends, record_stops, record_goes}

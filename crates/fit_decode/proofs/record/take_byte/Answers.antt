@@ -1,4 +1,4 @@
-use Rattle.std.proofs.Common.{rules, ◌≡◌, None, Some, sym, ap, ◌∙◌, subst, arith}
+use Rattle.std.proofs.Common.{rules, ◌≡◌, None, Some, sym, ap, ◌∙◌, arith}
 use Rattle.fit_step.specs.Machine.{step}
 use Rattle.fit_step.specs.Places.{state_at}
 use Rattle.fit_step.specs.Tests.{tests_of}
