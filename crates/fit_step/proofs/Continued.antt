@@ -1,6 +1,6 @@
 -- What there is of a definition message can go on just where it can be completed so that records fill the room.
-use Rattle.std.proofs.Common.{◌≡◌, ◌↔◌, IsTrue, ℕ, zero, suc, ◌+◌, ◌-◌, ◌*◌, ◌<◌, ◌≤◌, ◌^◌, Bool, true, false, List, [], ◌∷◌, ◌++◌, length, refl, sym, ap, ◌∙◌, subst, arith, append_assoc, length-append, lit<, Some, None}
-use Rattle.std.specs.Prelude.{Option, flat_map, if◌then◌else◌, unwrap_or, option_map, slice_index, sum_by}
+use Rattle.std.proofs.Common.{◌≡◌, ◌↔◌, IsTrue, ℕ, ◌+◌, ◌-◌, ◌*◌, ◌<◌, Bool, true, List, [], ◌∷◌, ◌++◌, length, refl, ap, ◌∙◌, subst, arith, lit<, Some, None}
+use Rattle.std.specs.Prelude.{Option, flat_map, if◌then◌else◌, unwrap_or, option_map, slice_index}
 use Rattle.std.proofs.lemmas.Bool.{both_ways}
 use Rattle.std.proofs.lemmas.List.{append-nil}
 use Rattle.fit_base.specs.declared.number.Order.{Order}
@@ -13,13 +13,13 @@ use Rattle.fit_record.specs.declared.message.Record.{Record}
 use Rattle.fit_record.specs.declared.message.Record.TheVariants.{Define, Values as Data}
 use Rattle.fit_record.specs.Environment.{Environment, dev_defs}
 use Rattle.fit_record.specs.HeaderByte.{is_definition}
-use Rattle.fit_record.specs.Records.{architecture, field_bytes, dev_field_bytes, definition_header, definition_bytes, record_bytes, body_length, Fits}
-use Rattle.fit_record.specs.Unfinished.{CanComplete, IsCut, fields_part, dev_fields_part, size_so_far, can_complete, can_complete_dev, can_complete_front}
+use Rattle.fit_record.specs.Records.{architecture, dev_field_bytes, definition_header, definition_bytes, record_bytes, body_length, Fits}
+use Rattle.fit_record.specs.Unfinished.{CanComplete, fields_part, dev_fields_part, size_so_far, can_complete, can_complete_dev, can_complete_front}
 use Rattle.fit_record.proofs.DefinitionFronts.{front_can_complete}
 use Rattle.fit_record.proofs.DefinitionParts.{fields_can_complete, dev_can_complete, dev_fields_can_complete}
 use Rattle.fit_step.specs.declared.phase.DefinitionPhase.{DefinitionPhase}
 use Rattle.fit_step.specs.declared.phase.DefinitionPhase.TheVariants.{Reserved, Architecture as AtArchitecture, GlobalFirst, GlobalSecond, FieldCount, FieldNumber, FieldSize, FieldCode, DevCount, DevNumber, DevSize, DevIndex}
-use Rattle.fit_step.specs.Parts.{definition_front, fields_front, dev_front, definition_part, IsNew, HasNone, AwaitsFields, AwaitsDev, IsDefinitionPart}
+use Rattle.fit_step.specs.Parts.{fields_front, dev_front, definition_part, HasNone, AwaitsFields, AwaitsDev, IsDefinitionPart}
 use Rattle.fit_step.specs.Tests.{entries_complete}
 use Rattle.fit_step.specs.GoingOn.{has_dev, definition_goes_on, Continues}
 use Rattle.fit_step.proofs.Takes.{IsBytes-tail}

@@ -1,13 +1,12 @@
 -- What isn't refused begins records that fill the room, and what is refused begins none.
-use Rattle.std.proofs.Common.{◌≡◌, ◌↔◌, IsTrue, inl, inr, ℕ, zero, suc, ◌+◌, ◌-◌, ◌*◌, ◌<◌, ◌≤◌, Bool, true, false, List, [], ◌∷◌, ◌++◌, length, refl, sym, ap, ◌∙◌, subst, lit<, arith, append_assoc, length-append, Some, None, Ok, Err}
-use Rattle.std.specs.Prelude.{Option, flat_map, sum_by, nat_lt, option_map, unwrap_or, drop}
+use Rattle.std.proofs.Common.{◌≡◌, inl, inr, ℕ, zero, suc, ◌+◌, ◌-◌, ◌*◌, ◌<◌, ◌≤◌, true, false, List, [], ◌∷◌, ◌++◌, length, refl, sym, ap, ◌∙◌, subst, lit<, arith, append_assoc, length-append, Some, None, Err}
+use Rattle.std.specs.Prelude.{Option, flat_map, nat_lt, option_map, unwrap_or, drop}
 use Rattle.std.proofs.lemmas.Bool.{both_ways, cond_both}
 use Rattle.std.proofs.lemmas.List.{append-nil}
 use Rattle.std.proofs.lemmas.List.Sums.{sum_by-append}
 use Rattle.std.proofs.Math.ListN.{length-set}
 use Rattle.fit_base.specs.Numbers.{IsBytes}
 use Rattle.fit_base.specs.Fields.{items_bytes}
-use Rattle.fit_base.specs.declared.items.Items.{Items}
 use Rattle.fit_frame.specs.declared.reason.Reason.{Reason}
 use Rattle.fit_frame.specs.declared.reason.Reason.TheVariants.{NoFit, Overrun}
 use Rattle.fit_record.specs.declared.definition.MessageDef.{MessageDef}
@@ -17,18 +16,18 @@ use Rattle.fit_record.specs.declared.message.Record.TheVariants.{Define, Values 
 use Rattle.fit_record.specs.Environment.{Environment, defined_at, dev_defs, learn}
 use Rattle.fit_record.specs.Files.{CanFill}
 use Rattle.fit_record.specs.HeaderByte.{is_definition, has_reserved_bit, local_type}
-use Rattle.fit_record.specs.Records.{dev_field_bytes, layout, dev_layout, message_size, body_length, data_header, order_at, record_bytes, Fits, IsRecord}
+use Rattle.fit_record.specs.Records.{dev_field_bytes, layout, dev_layout, message_size, body_length, data_header, order_at, record_bytes, Fits}
 use Rattle.fit_record.specs.Rooms.{can_fill}
 use Rattle.fit_record.specs.Unfinished.{can_complete}
 use Rattle.fit_record.proofs.CarriedMessages.{can_fill_after_data}
 use Rattle.fit_record.proofs.FilledRooms.{can_fill_is, same_places}
 use Rattle.fit_step.specs.declared.phase.DefinitionPhase.{DefinitionPhase}
-use Rattle.fit_step.specs.declared.phase.DefinitionPhase.TheVariants.{Reserved, Architecture as AtArchitecture, GlobalFirst, GlobalSecond, FieldCount, FieldNumber, FieldSize, FieldCode, DevCount, DevNumber, DevSize, DevIndex}
-use Rattle.fit_step.specs.GoingOn.{goes_on, Continues}
-use Rattle.fit_step.specs.Laws.{CanGoOn, PartsAreTested, RecordsEnd, TakenBytesGoOn, TakenBytesEnd, RefusedBytesEndAll, TakenBytesStand}
-use Rattle.fit_step.specs.Machine.{Tests, State, Step, Next, start, step, sizes, least_rest, layout_at, dev_layout_at, fields_rest, dev_rest, header_move, message_move, Ends, RoomsFill}
-use Rattle.fit_step.specs.Parts.{Part, nothing, in_definition, in_fields, in_dev_fields, Taking, taken, part_bytes, dev_front, fields_front, definition_part, IsTaking, IsPart, IsDefinitionPart, AwaitsDev, state_of, IsShut}
-use Rattle.fit_step.specs.Reasons.{least_definition, record_reason}
+use Rattle.fit_step.specs.declared.phase.DefinitionPhase.TheVariants.{FieldSize, DevCount, DevSize}
+use Rattle.fit_step.specs.GoingOn.{Continues}
+use Rattle.fit_step.specs.Laws.{PartsAreTested, RecordsEnd, TakenBytesGoOn, TakenBytesEnd, RefusedBytesEndAll, TakenBytesStand}
+use Rattle.fit_step.specs.Machine.{Tests, State, Step, start, step, sizes, least_rest, layout_at, dev_layout_at, fields_rest, dev_rest, header_move, message_move, Ends, RoomsFill}
+use Rattle.fit_step.specs.Parts.{Part, nothing, in_definition, in_fields, in_dev_fields, taken, part_bytes, dev_front, fields_front, definition_part, IsPart, IsDefinitionPart, AwaitsDev, state_of, IsShut}
+use Rattle.fit_step.specs.Reasons.{least_definition}
 use Rattle.fit_step.specs.Runs.{Fails}
 use Rattle.fit_step.specs.Tests.{tests_of, entries_complete}
 use Rattle.fit_step.proofs.Takes.{IsBytes-tail}
@@ -36,8 +35,8 @@ use Rattle.fit_step.proofs.Lengths.{length-data, length-shaped}
 use Rattle.fit_step.proofs.HeaderSteps.{message_first, definition_first}
 use Rattle.fit_step.proofs.MessageSteps.{fields_to_come, dev_to_come}
 use Rattle.fit_step.proofs.OneByte.{outcome}
-use Rattle.fit_step.proofs.Runs.{step_goes, step_ends, one_more, one_less, records_run_through}
-use Rattle.fit_step.proofs.Rest.{keeps, room_of, Keeps}
+use Rattle.fit_step.proofs.Runs.{step_goes, step_ends, one_more, records_run_through}
+use Rattle.fit_step.proofs.Rest.{keeps, Keeps}
 use Rattle.fit_step.proofs.Fills.{no_fit_fails}
 use Rattle.fit_step.proofs.GoingOn.{goes, GoesOn}
 use Rattle.fit_step.proofs.Carried.{taken_rest, data_continues}
@@ -185,7 +184,7 @@ refused_bytes_end_all {A} e part room b reason sixteen h some low refused =
           let same : stops.reason ≡ reason = cc (refused, stops.is) in (
             stops.because ∙ ap Some same,
             λ c. shut_ends e room (part_bytes e part) b stops.reason some stops.shut c
-            (λ none. no_fit_ends e room part b sixteen h some low (stops.is ∙ ap Err none) c),
+                (λ none. no_fit_ends e room part b sixteen h some low (stops.is ∙ ap Err none) c),
           )
     ]
 

@@ -1,5 +1,5 @@
 -- Where a reader of records stands, the code's steps get what they ask for.
-use Rattle.std.proofs.Common.{◌≡◌, inl, inr, ◌⊎◌, ℕ, suc, ◌+◌, ◌<◌, Bool, true, false, cond, List, [], ◌∷◌, ◌++◌, length, refl, sym, ap, ◌∙◌, subst, arith, length-append, Some, None, Ok, Err}
+use Rattle.std.proofs.Common.{◌≡◌, inl, inr, ◌⊎◌, ℕ, suc, ◌+◌, Bool, true, false, cond, List, [], ◌∷◌, length, refl, sym, ap, ◌∙◌, subst, arith, length-append, Some, None, Ok, Err}
 use Rattle.std.specs.Prelude.{Option, Result, IfSome, map, zip, ◌==◌, ◌||◌}
 use Rattle.std.proofs.lemmas.Bool.{or_cases, eqb-true}
 use Rattle.std.proofs.lemmas.List.{length-map}
@@ -21,7 +21,7 @@ use Rattle.fit_step.specs.declared.phase.Phase.TheVariants.{RecordHeader, Defini
 use Rattle.fit_step.specs.declared.stop.Stop.{Stop}
 use Rattle.fit_step.specs.declared.stop.Stop.TheVariants.{Refused, NoMemory}
 use Rattle.fit_step.specs.Machine.{Tests, State, Step, definition_of, values_of, header_move, field_move, dev_move, step, step_at}
-use Rattle.fit_step.specs.Parts.{Part, nothing, in_definition, in_fields, in_dev_fields, Taking, IsTaking, IsPart, state_of, width_of, all_items}
+use Rattle.fit_step.specs.Parts.{Part, nothing, in_definition, in_fields, in_dev_fields, Taking, IsTaking, IsPart, state_of, width_of}
 use Rattle.fit_step.specs.Places.{Stands}
 use Rattle.fit_step.specs.Steps.{state, Made, Defines, Enters, entered, DefinesAt, ReadsAt, IsReading}
 use Rattle.fit_step.proofs.Preconditions.{is_defining, as_defined}

@@ -1,17 +1,16 @@
 -- Where a reader of records stands, a step leaves it standing.
-use Rattle.std.proofs.Common.{◌≡◌, inl, inr, ℕ, ◌+◌, ◌-◌, ◌<◌, ◌≤◌, Bool, true, false, List, [], ◌∷◌, ◌++◌, refl, sym, ap, ◌∙◌, subst, arith, Some, None, Ok, Err}
+use Rattle.std.proofs.Common.{◌≡◌, inl, inr, ℕ, ◌+◌, ◌-◌, ◌<◌, ◌≤◌, Bool, true, false, [], ◌∷◌, ◌++◌, refl, sym, ap, ◌∙◌, subst, arith, Some, None, Ok, Err}
 use Rattle.std.specs.Prelude.{Option, IsSomeAnd}
 use Rattle.fit_record.specs.declared.message.Record.{Record}
 use Rattle.fit_record.specs.Environment.{Environment}
-use Rattle.fit_record.specs.Records.{Fits, record_bytes}
-use Rattle.fit_step.specs.declared.phase.Phase.{Phase}
+use Rattle.fit_record.specs.Records.{Fits}
 use Rattle.fit_step.specs.declared.position.Position.{Position}
 use Rattle.fit_step.specs.Machine.{Tests, State, Step, Next, start, step, least_rest}
-use Rattle.fit_step.specs.Parts.{Part, nothing, in_definition, in_fields, in_dev_fields, part_bytes, IsPart, HasBegun, state_of}
+use Rattle.fit_step.specs.Parts.{Part, nothing, in_definition, in_fields, in_dev_fields, part_bytes, HasBegun, state_of}
 use Rattle.fit_step.specs.Laws.{BeginningsStand}
-use Rattle.fit_step.specs.Places.{state_at, Begins, Stands, Steps, Keeps}
-use Rattle.fit_step.specs.Steps.{state, Made}
-use Rattle.fit_step.proofs.Outcomes.{Goes, Completes, Moves}
+use Rattle.fit_step.specs.Places.{state_at, Stands, Steps, Keeps}
+use Rattle.fit_step.specs.Steps.{Made}
+use Rattle.fit_step.proofs.Outcomes.{Moves}
 use Rattle.fit_step.proofs.OneByte.{outcome}
 use Rattle.fit_step.proofs.Rest.{keeps, room_of, Keeps as KeepsRoom}
 

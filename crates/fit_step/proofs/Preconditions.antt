@@ -1,5 +1,5 @@
 -- What the code's steps ask for holds of all parts of a record.
-use Rattle.std.proofs.Common.{◌≡◌, inl, inr, ◌⊎◌, ℕ, suc, ◌+◌, ◌<◌, List, [], ◌∷◌, ◌++◌, length, refl, sym, ap, ◌∙◌, subst, arith, length-append, Some, None}
+use Rattle.std.proofs.Common.{◌≡◌, ℕ, suc, ◌+◌, ◌<◌, List, ◌∷◌, length, refl, sym, ap, ◌∙◌, subst, arith, length-append, Some, None}
 use Rattle.std.specs.Prelude.{Option, IsSome, map}
 use Rattle.std.proofs.lemmas.List.{length-map}
 use Rattle.fit_record.specs.declared.definition.DevDef.{DevDef}

@@ -51,7 +51,7 @@ step_ends {A} e tests room f b u r h low made =
       ]
     ]
 
-walk_from : {A : Type 0} (e : Environment A) (tests : Tests A) (bytes : List ℕ) (room : ℕ) (f : Part A) (t : State A) → IsPart e f → IsBytes bytes → Walks e tests (state_of room f) bytes t
+pub walk_from : {A : Type 0} (e : Environment A) (tests : Tests A) (bytes : List ℕ) (room : ℕ) (f : Part A) (t : State A) → IsPart e f → IsBytes bytes → Walks e tests (state_of room f) bytes t
     → (next : Part A) × IsPart e next × (part_bytes e next ≡ part_bytes e f ++ bytes) × (t ≡ state_of (room - length bytes) next)
 walk_from e tests [] room f t h low walk = (f, h, sym (append-nil (part_bytes e f)), sym walk ∙ ap (λ n. state_of n f) (omega arith))
 walk_from e tests (b ∷ bytes) room f t h low (u, made, walk) =
@@ -64,7 +64,7 @@ walks_are_cuts e tests room bytes t walk low =
     let k = walk_from e tests bytes room nothing t tt low walk in
     record { part = k.0; stands = k.1; spelled = k.2; is = k.3 }
 
-end_from : {A : Type 0} (e : Environment A) (tests : Tests A) (bytes : List ℕ) (room : ℕ) (f : Part A) (t : State A) (r : Record A) → IsPart e f → IsBytes bytes → Ends e tests (state_of room f) bytes t r
+pub end_from : {A : Type 0} (e : Environment A) (tests : Tests A) (bytes : List ℕ) (room : ℕ) (f : Part A) (t : State A) (r : Record A) → IsPart e f → IsBytes bytes → Ends e tests (state_of room f) bytes t r
     → Fits e r × (record_bytes e r ≡ part_bytes e f ++ bytes) × (t ≡ start (room - length bytes))
 end_from e tests [] room f t r h low ends = absurd ends
 end_from e tests (b ∷ bytes) room f t r h low (inl last) =

@@ -1,10 +1,9 @@
 -- The last byte of a record adds an entry or a number to it, or nothing, and that can be taken away again.
-use Rattle.std.proofs.Common.{◌≡◌, ◌↔◌, ◌⊎◌, inl, inr, ℕ, zero, suc, ◌+◌, ◌-◌, ◌*◌, ◌<◌, ◌≤◌, Bool, true, false, cond, List, [], ◌∷◌, ◌++◌, length, get_or, set, refl, sym, ap, ◌∙◌, subst, arith, length-append, Some, None, Ok, Err}
+use Rattle.std.proofs.Common.{◌≡◌, ◌↔◌, ℕ, zero, suc, ◌+◌, ◌-◌, ◌*◌, ◌<◌, Bool, true, false, cond, List, [], ◌∷◌, ◌++◌, length, get_or, set, refl, sym, ap, ◌∙◌, subst, arith, length-append, Some, None, Ok}
 use Rattle.std.specs.Prelude.{Option, IsSome, option_to_list, ◌==◌, nat_lt, drop, map}
 use Rattle.std.proofs.lemmas.Bool.{cond_both, cond-true, eqb-true}
 use Rattle.fit_base.specs.declared.items.Items.{Items}
 use Rattle.fit_base.specs.declared.number.Order.{Order}
-use Rattle.fit_record.specs.declared.definition.FieldDef.{FieldDef}
 use Rattle.fit_record.specs.declared.definition.DevDef.{DevDef}
 use Rattle.fit_record.specs.declared.definition.MessageDef.{MessageDef}
 use Rattle.fit_record.specs.declared.message.Record.{Record}
@@ -166,9 +165,11 @@ module _ {A : Type 0} (e : Environment A) (tests : Tests A) (b : ℕ) (low : b <
       cond_both (u.left == 1) _ _ (λ n. n ≡ Ok (t, Some r) → Adds (FieldItems (length u.done) (width_of u) u.left) (Some (Data v)) r)
       (λ z ends.
       let last = eqb-true u.left 1 z in
-      subst (Adds (FieldItems (length u.done) (width_of u) u.left) (Some (Data v))) (begin_fields_is t r (room - 1) _ (suc (length u.done)) (drop (suc (length u.done)) (layout_at e local)) (dev_layout_at e local) ends)
-      (number o (u.partial ++ b ∷ []), place_within (layout p) u s,
-      ap (λ i. record v { fields = i }) (number_added o (layout p) u b (all_items u) (length u.done) s low last)))
+      subst (Adds (FieldItems (length u.done) (width_of u) u.left) (Some (Data v))) (begin_fields_is t r (room - 1) _ (suc (length u.done)) (drop (suc (length u.done)) (layout_at e local)) (dev_layout_at e local) ends) (
+        number o (u.partial ++ b ∷ []),
+        place_within (layout p) u s,
+        ap (λ i. record v { fields = i }) (number_added o (layout p) u b (all_items u) (length u.done) s low last),
+      ))
       (λ z ends. absurd (not_whole t r _ ends)) made
   part_adds room (in_dev_fields local offset items u) (p, known, header, shapes, s) made =
       let o = order_at e local in
@@ -176,9 +177,11 @@ module _ {A : Type 0} (e : Environment A) (tests : Tests A) (b : ℕ) (low : b <
       cond_both (u.left == 1) _ _ (λ n. n ≡ Ok (t, Some r) → Adds (DevItems (length u.done) (width_of u) u.left) (Some (Data v)) r)
       (λ z ends.
       let last = eqb-true u.left 1 z in
-      subst (Adds (DevItems (length u.done) (width_of u) u.left) (Some (Data v))) (begin_dev_is t r (room - 1) _ (suc (length u.done)) (drop (suc (length u.done)) (dev_layout_at e local)) ends)
-      (number o (u.partial ++ b ∷ []), place_within (dev_layout p) u s,
-      ap (λ i. record v { dev = i }) (number_added o (dev_layout p) u b (all_items u) (length u.done) s low last)))
+      subst (Adds (DevItems (length u.done) (width_of u) u.left) (Some (Data v))) (begin_dev_is t r (room - 1) _ (suc (length u.done)) (drop (suc (length u.done)) (dev_layout_at e local)) ends) (
+        number o (u.partial ++ b ∷ []),
+        place_within (dev_layout p) u s,
+        ap (λ i. record v { dev = i }) (number_added o (dev_layout p) u b (all_items u) (length u.done) s low last),
+      ))
       (λ z ends. absurd (not_whole t r _ ends)) made
 
   pub adds : (s : State A) → Stands e s → step e tests s b ≡ Ok (t, Some r) → Adds s.phase s.in_progress r

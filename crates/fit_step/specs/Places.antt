@@ -1,9 +1,12 @@
 -- Where a reader of records is: a part of a record has come, and what is left of the data section has room for the rest.
-use Rattle.std.specs.Prelude.{◌≡◌, ℕ, ◌≤◌, Bool, true, false, [], Option, Some, None, Result, Ok, Err, IsOk, IsSomeAnd}
+use Rattle.std.specs.Prelude.{◌≡◌, ℕ, ◌+◌, ◌<◌, ◌≤◌, Bool, true, false, IsTrue, List, [], length, Option, None, Result, Ok, Err, IsOk, IsSomeAnd}
 use Rattle.fit_record.specs.declared.message.Record.{Record}
 use Rattle.fit_record.specs.Environment.{Environment}
 use Rattle.fit_record.specs.Records.{Fits}
-use Rattle.fit_step.specs.declared.phase.Phase.TheVariants.{RecordHeader}
+use Rattle.fit_record.specs.HeaderByte.{is_definition}
+use Rattle.fit_step.specs.declared.phase.DefinitionPhase.TheVariants.{FieldCode, DevIndex}
+use Rattle.fit_step.specs.declared.phase.Phase.{Phase}
+use Rattle.fit_step.specs.declared.phase.Phase.TheVariants.{RecordHeader, Definition, FieldItems, DevItems}
 use Rattle.fit_step.specs.declared.position.Position.{Position}
 use Rattle.fit_step.specs.declared.stop.Stop.{Stop}
 use Rattle.fit_step.specs.declared.stop.Stop.TheVariants.{Refused, NoMemory}
@@ -33,6 +36,21 @@ Steps after (Ok (p, true)) made = made ≡ Ok (state_at p None, after)
 Steps after (Ok (p, false)) made = made ≡ Ok (state_at p after, None)
 Steps after (Err (Refused reason)) made = made ≡ Err reason
 Steps after (Err NoMemory) made = IsOk made
+
+-- For these bytes no memory is wanted: those of a definition message that end no entry, and those of a data message, behind
+-- its record header, that end no number.
+abbrev pub TakesNone : Phase → List ℕ → ℕ → Type 0
+TakesNone RecordHeader partial b = IsTrue (is_definition b)
+TakesNone (Definition (FieldCode left number size)) partial b = ⊥
+TakesNone (Definition (DevIndex left number size)) partial b = ⊥
+TakesNone (Definition k) partial b = Unit {0}
+TakesNone (FieldItems place width left) partial b = length partial + 1 < width
+TakesNone (DevItems place width left) partial b = length partial + 1 < width
+
+-- The answer isn't that memory was refused.
+abbrev pub WantsNone : {X : Type 0} → Result X Stop → Type 0
+WantsNone (Err NoMemory) = ⊥
+WantsNone result = Unit {0}
 
 -- A part of a record has come. With true it is all of a record that can stand where this is known, and the next one begins.
 abbrev pub Keeps : {A : Type 0} → Environment A → Option (Record A) → Position × Bool → Type 0

@@ -4,6 +4,7 @@ ghost use Rattle.fit_record.specs.declared.message.Record.TheVariants.{Define};
 ghost use Rattle.fit_record.specs.Records.{DefinitionFits};
 ghost use Rattle.fit_step.specs.declared.phase.DefinitionPhase.TheVariants.{Reserved, Architecture, GlobalFirst, GlobalSecond, FieldCount, FieldNumber, FieldCode, DevNumber, DevIndex};
 ghost use Rattle.fit_step.specs.Machine.{Tests, definition_move};
+ghost use Rattle.fit_step.specs.Places.{WantsNone};
 ghost use Rattle.fit_step.specs.Steps.{state, Defines, DefinesOn};
 
 use crate::{DefinitionPhase, Phase, Stop};
@@ -39,6 +40,7 @@ pub(crate) fn at_architecture<A: Allocator>(
     requires { 0 < room.old }
     ensures made { (tests : Tests A) → DefinesOn phase.new room.new definition.new result (definition_move tests Architecture room.old definition.old byte) }
     ensures err { OnErr result ((phase.new ≡ phase.old) × (room.new ≡ room.old) × (definition.new ≡ definition.old)) }
+    ensures free { WantsNone result }
 {
     definition.order = match byte {
         0 => Order::Little,
@@ -96,6 +98,7 @@ pub(crate) fn at_field_count<A: Allocator>(
     requires { 0 < room.old }
     ensures made { (tests : Tests A) → Defines phase.new room.new definition.now result (definition_move tests FieldCount room.old definition.now byte) }
     ensures err { OnErr result ((phase.new ≡ phase.old) × (room.new ≡ room.old)) }
+    ensures free { WantsNone result }
 {
     let dev_count = match &definition.dev {
         Some(_) => 1,

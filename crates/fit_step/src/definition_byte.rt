@@ -1,6 +1,8 @@
 //! One byte of a definition message behind its record header.
-ghost use Rattle.std.specs.Prelude.{◌≡◌, ◌<◌, OnErr};
+ghost use Rattle.std.specs.Prelude.{◌≡◌, ◌<◌, OnErr, []};
+ghost use Rattle.fit_step.specs.declared.phase.Phase.TheVariants.{Definition};
 ghost use Rattle.fit_step.specs.Machine.{definition_move};
+ghost use Rattle.fit_step.specs.Places.{TakesNone, WantsNone};
 ghost use Rattle.fit_step.specs.Steps.{Defines, IsDefining};
 ghost use Rattle.fit_step.specs.Tests.{tests_of};
 
@@ -26,6 +28,7 @@ pub(crate) fn definition_byte<A: Allocator>(
     requires defining { IsDefining part definition.old }
     ensures made { Defines phase.new room.new definition.new result (definition_move (tests_of env.now) part room.old definition.old byte) }
     ensures err { OnErr result ((phase.new ≡ phase.old) × (room.new ≡ room.old) × (definition.new ≡ definition.old)) }
+    ensures free { TakesNone (Definition part) [] byte → WantsNone result }
 {
     match part {
         DefinitionPhase::Reserved => {

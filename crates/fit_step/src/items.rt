@@ -1,11 +1,12 @@
 //! The bytes of a data message behind its record header, one by one (FIT protocol, "Data Message").
-ghost use Rattle.std.specs.Prelude.{◌≡◌, ℕ, ◌<◌, ◌≤◌, ◌⊎◌, OnOk, OnErr, Some, [], ◌∷◌, ◌++◌, length, drop, map, zip};
+ghost use Rattle.std.specs.Prelude.{◌≡◌, ℕ, ◌+◌, ◌<◌, ◌≤◌, ◌⊎◌, IsOk, OnOk, OnErr, Some, [], ◌∷◌, ◌++◌, length, drop, map, zip};
 ghost use Rattle.fit_record.specs.declared.message.Values.{Values};
 ghost use Rattle.fit_record.specs.declared.message.Record.TheVariants.{Values as Data};
 ghost use Rattle.fit_record.specs.Kept.{IsSound};
 ghost use Rattle.fit_record.specs.Environment.{Environment, dev_defs, defined_at};
 ghost use Rattle.fit_record.specs.Records.{layout, dev_layout};
 ghost use Rattle.fit_step.specs.Machine.{with_number, beyond_number, add_number, begin_dev, begin_fields, field_move, dev_move};
+ghost use Rattle.fit_step.specs.Places.{WantsNone};
 ghost use Rattle.fit_step.specs.Steps.{next_from, begun, IsReading, Made};
 
 use crate::partial::Partial;
@@ -47,6 +48,7 @@ fn take_byte<A: Allocator + Copy>(
     requires short { length partial.old < width }
     ensures ok { OnOk result ((fields.new ≡ with_number order width place fields.old (partial.old ++ byte ∷ [])) × (partial.new ≡ beyond_number width (partial.old ++ byte ∷ []))) }
     ensures err { OnErr result ((fields.new ≡ fields.old) × (partial.new ≡ partial.old)) }
+    ensures free { length partial.old + 1 < width → IsOk result }
 {
     let bytes = partial.with(byte);
     if bytes.len() < width as usize {
@@ -161,6 +163,7 @@ pub(crate) fn at_field_items<A: Allocator + Copy>(
     requires fields { length values.old.fields ≡ length defined.now.definition.fields }
     ensures made { (e : Environment A) → defined_at e values.old.local ≡ Some defined.now → Made phase.new room.new (Some (Data values.new)) partial.new result (field_move e place width left room.old values.old partial.old byte) }
     ensures err { OnErr result ((phase.new ≡ phase.old) × (room.new ≡ room.old) × (partial.new ≡ partial.old) × (values.new ≡ values.old)) }
+    ensures free { length partial.old + 1 < width → WantsNone result }
 {
     let order = defined.definition.order;
     if take_byte(
@@ -209,6 +212,7 @@ pub(crate) fn at_dev_items<A: Allocator + Copy>(
     requires dev { length values.old.dev ≡ length (dev_defs defined.now.definition.dev) }
     ensures made { (e : Environment A) → defined_at e values.old.local ≡ Some defined.now → Made phase.new room.new (Some (Data values.new)) partial.new result (dev_move e place width left room.old values.old partial.old byte) }
     ensures err { OnErr result ((phase.new ≡ phase.old) × (room.new ≡ room.old) × (partial.new ≡ partial.old) × (values.new ≡ values.old)) }
+    ensures free { length partial.old + 1 < width → WantsNone result }
 {
     let order = defined.definition.order;
     if take_byte(alloc, order, width, place, &mut values.dev, partial, byte).is_err() {

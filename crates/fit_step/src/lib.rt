@@ -21,3 +21,6 @@ pub use phase::{DefinitionPhase, Phase};
 pub use position::Position;
 pub use stop::Stop;
 pub use undone::undo;
+
+#[cfg(test)]
+mod tests;

@@ -2,7 +2,7 @@
 ghost use Rattle.std.specs.Prelude.{◌≡◌, ◌+◌, ◌<◌, OnErr, IfOk, Some, []};
 ghost use Rattle.fit_record.specs.declared.message.Record.TheVariants.{Define, Values as Data};
 ghost use Rattle.fit_step.specs.Machine.{step, step_at};
-ghost use Rattle.fit_step.specs.Places.{state_at, Keeps, Stands, Steps};
+ghost use Rattle.fit_step.specs.Places.{state_at, Keeps, Stands, Steps, TakesNone, WantsNone};
 ghost use Rattle.fit_step.specs.Steps.{state, Defines, DefinesAt, Made, ReadsAt};
 ghost use Rattle.fit_step.specs.Tests.{tests_of};
 
@@ -32,6 +32,7 @@ pub fn step<A: Allocator + Copy>(
     ensures kept { IfOk result (λ next. Keeps env.now in_progress.new next) }
     ensures room { IfOk result (λ next. next.0.room + 1 ≡ position.now.room) }
     ensures err { OnErr result (in_progress.new ≡ in_progress.old) }
+    ensures free { TakesNone position.now.phase position.now.partial byte → WantsNone result }
 {
     let mut phase = position.phase;
     let mut room = position.room;
@@ -68,6 +69,7 @@ fn take<A: Allocator + Copy>(
     requires stands { Stands env.now (state phase.old room.old in_progress.old partial.old) }
     ensures made { Made phase.new room.new in_progress.new partial.new result (step env.now (tests_of env.now) (state phase.old room.old in_progress.old partial.old) byte) }
     ensures err { OnErr result (in_progress.new ≡ in_progress.old) }
+    ensures free { TakesNone phase.old partial.old byte → WantsNone result }
 {
     match in_progress {
         None => {
@@ -94,6 +96,7 @@ fn in_definition<A: Allocator>(
     requires defines { DefinesAt phase.old definition.old }
     ensures made { Defines phase.new room.new definition.new result (step_at env.now (tests_of env.now) phase.old (state phase.old room.old (Some (Define definition.old)) []) byte) }
     ensures err { OnErr result (definition.new ≡ definition.old) }
+    ensures free { TakesNone phase.old [] byte → WantsNone result }
 {
     match *phase {
         Phase::Definition(part) => definition_byte(env, part, phase, room, definition, byte),
@@ -115,6 +118,7 @@ fn in_message<A: Allocator + Copy>(
     requires reads { ReadsAt env.now phase.old values.old partial.old }
     ensures made { Made phase.new room.new (Some (Data values.new)) partial.new result (step_at env.now (tests_of env.now) phase.old (state phase.old room.old (Some (Data values.old)) partial.old) byte) }
     ensures err { OnErr result (values.new ≡ values.old) }
+    ensures free { TakesNone phase.old partial.old byte → WantsNone result }
 {
     let Some(defined) = env.defined(values.local) else {
         unreachable!()

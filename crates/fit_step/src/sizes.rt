@@ -3,6 +3,7 @@ ghost use Rattle.std.specs.Prelude.{◌≡◌, ◌<◌, OnErr, IsSome};
 ghost use Rattle.fit_record.specs.Records.{DefinitionFits};
 ghost use Rattle.fit_step.specs.declared.phase.DefinitionPhase.TheVariants.{FieldSize, DevCount, DevSize};
 ghost use Rattle.fit_step.specs.Machine.{definition_move};
+ghost use Rattle.fit_step.specs.Places.{WantsNone};
 ghost use Rattle.fit_step.specs.Steps.{Defines, DefinesOn};
 ghost use Rattle.fit_step.specs.Tests.{tests_of, entries_complete};
 
@@ -45,6 +46,7 @@ pub(crate) fn at_field_size<A: Allocator>(
     requires fits { DefinitionFits definition.now }
     ensures made { DefinesOn phase.new room.new definition.now result (definition_move (tests_of env.now) (FieldSize left number) room.old definition.now byte) }
     ensures err { OnErr result ((phase.new ≡ phase.old) × (room.new ≡ room.old)) }
+    ensures free { WantsNone result }
 {
     let to_come = 1 + 3 * u32::from(left - 1);
     let size = body_length(definition) + u32::from(byte);
@@ -73,6 +75,7 @@ pub(crate) fn at_dev_count<A: Allocator>(
     requires fits { DefinitionFits definition.now }
     ensures made { Defines phase.new room.new definition.now result (definition_move (tests_of env.now) DevCount room.old definition.now byte) }
     ensures err { OnErr result ((phase.new ≡ phase.old) × (room.new ≡ room.old)) }
+    ensures free { WantsNone result }
 {
     let to_come = 3 * u32::from(byte);
     if *room < 1 + to_come {
@@ -111,6 +114,7 @@ pub(crate) fn at_dev_size<A: Allocator>(
     requires fits { DefinitionFits definition.now }
     ensures made { DefinesOn phase.new room.new definition.now result (definition_move (tests_of env.now) (DevSize left number) room.old definition.now byte) }
     ensures err { OnErr result ((phase.new ≡ phase.old) × (room.new ≡ room.old)) }
+    ensures free { WantsNone result }
 {
     let to_come = 1 + 3 * u32::from(left - 1);
     let size = body_length(definition) + u32::from(byte);

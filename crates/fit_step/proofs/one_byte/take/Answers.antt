@@ -10,9 +10,11 @@ use Rattle.fit_step.proofs.one_byte.take.Goals as goal
 pub in_message-requires : goal.in_message-requires
 in_message-requires g c = (
   search rules,
-  (c.requires.room,
-  stands_values c.args.env.now c.args.phase.now c.args.room.now c.args.partial.now c.in-Some-Values.values
-  (subst (λ o. Stands c.args.env.now (state c.args.phase.now c.args.room.now o c.args.partial.now)) (c.in-Some-Values.is ∙ ap Some c.in-Some-Values.field-0-is) c.requires.stands)),
+  (
+    c.requires.room,
+    stands_values c.args.env.now c.args.phase.now c.args.room.now c.args.partial.now c.in-Some-Values.values
+        (subst (λ o. Stands c.args.env.now (state c.args.phase.now c.args.room.now o c.args.partial.now)) (c.in-Some-Values.is ∙ ap Some c.in-Some-Values.field-0-is) c.requires.stands),
+  ),
 )
 
 pub returns-in-Some-Define-clause-made : goal.returns-in-Some-Define-clause-made
