@@ -1,5 +1,5 @@
 -- A file is completed from what can go on.
-use Rattle.std.proofs.Common.{◌≡◌, ◌⊎◌, inl, inr, ℕ, zero, suc, ◌+◌, ◌-◌, ◌<◌, ◌≤◌, List, [], ◌∷◌, ◌++◌, length, refl, sym, ap, ◌∙◌, subst, arith, append_assoc, length-append, lit<}
+use Rattle.std.proofs.Common.{◌≡◌, inl, inr, ℕ, zero, suc, ◌+◌, ◌-◌, ◌≤◌, List, [], ◌∷◌, ◌++◌, length, refl, sym, ap, ◌∙◌, subst, arith, append_assoc, length-append, lit<}
 use Rattle.std.specs.List.{AllByRecursion}
 use Rattle.std.proofs.lemmas.Bool.{cases_lt}
 use Rattle.std.proofs.lemmas.List.{append-nil}
@@ -14,11 +14,11 @@ use Rattle.fit_record.specs.declared.file.FitFile.{FitFile}
 use Rattle.fit_record.specs.declared.message.Record.{Record}
 use Rattle.fit_record.specs.Environment.{Environment, empty_environment, learn, learn_all}
 use Rattle.fit_record.specs.Records.{record_bytes, AllFit, records_bytes}
-use Rattle.fit_record.specs.Files.{body, summed, file_bytes, chain_bytes, IsWellFormed, IsChain, IsViable, CanFill}
+use Rattle.fit_record.specs.Files.{file_bytes, chain_bytes, IsWellFormed, IsViable, CanFill}
 use Rattle.fit_record.proofs.ByteLists.{IsBytes-none}
 use Rattle.fit_record.proofs.LargeRooms.{six_and_more}
-use Rattle.fit_decode.specs.Progress.{Progress, at_header, at_data, progress_bytes, IsPartial, IsUnfinished, HasCome}
-use Rattle.fit_decode.specs.GoingOn.{FillFrom, DataGoesOn, GoesOn, files_begun, ChainGoesOn}
+use Rattle.fit_decode.specs.Progress.{Progress, at_header, at_data, progress_bytes, IsUnfinished, HasCome}
+use Rattle.fit_decode.specs.GoingOn.{DataGoesOn, GoesOn, ChainGoesOn}
 use Rattle.fit_decode.proofs.Splits.{IsBytes-back}
 
 -- ---- records behind records
@@ -60,7 +60,7 @@ of_records {A} h n rs front more header fit size are spelled = record {
   spelled = ap (λ m. (header_bytes h m ++ records_bytes empty_environment rs) ++ little_bytes 2 (checksum (header_bytes h m ++ records_bytes empty_environment rs))) size ∙ spelled;
 }
 
-fill_data : {A : Type 0} (n : ℕ) → IsDataSize n → CanFill {A = A} empty_environment n
+pub fill_data : {A : Type 0} (n : ℕ) → IsDataSize n → CanFill {A = A} empty_environment n
 fill_data n (inl none) = ([], [], IsBytes-none, (tt, refl), sym none)
 fill_data {A} n (inr many) = let same : 6 + (n - 6) ≡ n = omega (arith, many) in subst (CanFill {A = A} empty_environment) same (six_and_more empty_environment (n - 6) (lit< tt))
 

@@ -1,20 +1,15 @@
 -- What there is of a record goes on exactly where the machine's test says so, and not with a byte that is refused.
-use Rattle.std.proofs.Common.{◌≡◌, ◌↔◌, IsTrue, inl, inr, ℕ, zero, suc, ◌+◌, ◌-◌, ◌*◌, ◌<◌, ◌≤◌, Bool, true, false, List, [], ◌∷◌, ◌++◌, length, drop, refl, sym, ap, ◌∙◌, subst, arith, append_assoc, length-append, Some, None, Ok, Err}
+use Rattle.std.proofs.Common.{◌≡◌, ◌↔◌, IsTrue, ℕ, suc, ◌+◌, ◌≤◌, List, [], ◌∷◌, ◌++◌, length, drop, refl, ap, ◌∙◌, arith, length-append, Some}
 use Rattle.std.specs.Prelude.{Option, flat_map, option_map, unwrap_or}
-use Rattle.std.proofs.lemmas.List.{append-nil}
 use Rattle.std.proofs.lemmas.List.Sums.{sum_by-append}
 use Rattle.fit_base.specs.Numbers.{IsBytes}
 use Rattle.fit_base.specs.Fields.{items_bytes}
 use Rattle.fit_base.specs.declared.items.Items.{Items}
 use Rattle.fit_record.specs.declared.environment.Defined.{Defined}
-use Rattle.fit_record.specs.declared.message.Record.{Record}
-use Rattle.fit_record.specs.declared.message.Record.TheVariants.{Define, Values as Data}
-use Rattle.fit_record.specs.declared.definition.MessageDef.{MessageDef}
-use Rattle.fit_record.specs.declared.definition.DevDef.{DevDef}
 use Rattle.fit_record.specs.Environment.{Environment, defined_at}
-use Rattle.fit_record.specs.Records.{layout, dev_layout, message_size, order_at, data_header, DataHeaderFits, HaveShape}
+use Rattle.fit_record.specs.Records.{layout, dev_layout, message_size, order_at, data_header}
 use Rattle.fit_step.specs.Machine.{sizes, layout_at, dev_layout_at, fields_rest, dev_rest, least_rest}
-use Rattle.fit_step.specs.Parts.{Part, nothing, in_definition, in_fields, in_dev_fields, Taking, taken, IsTaking, part_bytes, IsPart, HasBegun, state_of}
+use Rattle.fit_step.specs.Parts.{Part, nothing, in_definition, in_fields, in_dev_fields, Taking, taken, part_bytes, IsPart, HasBegun, state_of}
 use Rattle.fit_step.specs.GoingOn.{goes_on, Continues}
 use Rattle.fit_step.proofs.Takes.{IsBytes-tail}
 use Rattle.fit_step.proofs.Lengths.{length-shaped}

@@ -1,8 +1,8 @@
 -- What bytes of records make of the place, of the events and of what can follow.
-use Rattle.std.proofs.Common.{◌≡◌, cond, inl, inr, ℕ, zero, suc, ◌+◌, ◌-◌, ◌<◌, ◌≤◌, Bool, true, false, List, [], ◌∷◌, ◌++◌, length, take, drop, get_or, slice_index, length-append, length-drop, refl, sym, ap, ◌∙◌, subst, arith, append_assoc, Some, None, Ok, Err}
-use Rattle.std.specs.Prelude.{Option, IsOk}
+use Rattle.std.proofs.Common.{◌≡◌, cond, inl, ℕ, zero, suc, ◌+◌, ◌-◌, ◌<◌, ◌≤◌, true, List, [], ◌∷◌, ◌++◌, length, take, drop, slice_index, length-drop, refl, sym, ap, ◌∙◌, subst, arith, append_assoc, Some, None, Ok, Err}
+use Rattle.std.specs.Prelude.{IsOk}
 use Rattle.std.proofs.lemmas.Bool.{ne_eqb}
-use Rattle.std.proofs.lemmas.List.{append-nil, length-take-le, take_more}
+use Rattle.std.proofs.lemmas.List.{length-take-le, take_more}
 use Rattle.fit_base.specs.Numbers.{IsBytes, little_bytes}
 use Rattle.fit_base.proofs.NumberLaws.{IsBytes-append, IsBytes-take}
 use Rattle.fit_sum.specs.Checksum.{checksum}
@@ -24,9 +24,9 @@ use Rattle.fit_step.specs.Tests.{tests_of}
 use Rattle.fit_step.specs.GoingOn.{goes_on}
 use Rattle.fit_step.proofs.Runs.{walks_join, walk_ends, ends_are_records}
 use Rattle.fit_step.proofs.Rest.{ends_are_within}
-use Rattle.fit_decode.specs.Progress.{at_header, at_data, progress_bytes, HasCome}
-use Rattle.fit_decode.specs.Events.{Event, item, AreEvents}
-use Rattle.fit_decode.specs.GoingOn.{FillFrom, DataGoesOn, GoesOn, ChainGoesOn}
+use Rattle.fit_decode.specs.Progress.{at_data, progress_bytes, HasCome}
+use Rattle.fit_decode.specs.Events.{item}
+use Rattle.fit_decode.specs.GoingOn.{FillFrom, DataGoesOn}
 use Rattle.fit_decode.specs.Refusals.{IsRefused}
 use Rattle.fit_decode.specs.Answers.{Quiet, Least}
 use Rattle.fit_decode.proofs.Splits.{IsBytes-back}
@@ -109,7 +109,7 @@ module _ {A : Type 0} (files : List (FitFile A)) (h : Header) (n : ℕ) (records
     pub fits : Fits e r
     fits = (ends_are_records e (tests_of e) room (part ++ take k piece) t r all_ended (now_are k)).0.0
 
-    spelled : record_bytes e r ≡ part ++ take k piece
+    pub spelled : record_bytes e r ≡ part ++ take k piece
     spelled = sym (ends_are_records e (tests_of e) room (part ++ take k piece) t r all_ended (now_are k)).0.1
 
     fits_room : length (record_bytes e r) ≤ room
@@ -146,8 +146,7 @@ module _ {A : Type 0} (files : List (FitFile A)) (h : Header) (n : ℕ) (records
 
     pub item_viable : IsViable A chain_limit (bytes ++ take k piece)
     item_viable =
-        goes_viable chain_limit files (at_data h n (records ++ r ∷ []) []) (bytes ++ take k piece) item_come (fed_are k)
-        (
+        goes_viable chain_limit files (at_data h n (records ++ r ∷ []) []) (bytes ++ take k piece) item_come (fed_are k) (
           omega (arith, few),
           omega (arith, few),
           data_starts (learn_all empty_environment (records ++ r ∷ [])) (n - length (records_bytes empty_environment (records ++ r ∷ []))) _ (sixteen_places (records ++ r ∷ [])) item_on,
@@ -172,8 +171,8 @@ module _ {A : Type 0} (files : List (FitFile A)) (h : Header) (n : ℕ) (records
         progress = at_data h n records now;
         come = at;
         because = not_full A chain_limit (length files) (at_data h n records now) b few
-        ∙ ap (λ c. cond c (Some FileSum) (record_reason e now (room - length now) b)) (ne_eqb n (length (records_bytes empty_environment records)) (λ same. other (sym same)))
-        ∙ ap (λ m. record_reason e now m b) (sym left) ∙ law.0;
+            ∙ ap (λ c. cond c (Some FileSum) (record_reason e now (room - length now) b)) (ne_eqb n (length (records_bytes empty_environment records)) (λ same. other (sym same)))
+            ∙ ap (λ m. record_reason e now m b) (sym left) ∙ law.0;
       }
 
   pub data_wants : (k : ℕ) (t : State A) → k < length piece → Walks e (tests_of e) s (take k piece) t → IsOk (step e (tests_of e) t (slice_index piece k)) → IsViable A chain_limit (bytes ++ take (k + 1) piece)
@@ -181,6 +180,7 @@ module _ {A : Type 0} (files : List (FitFile A)) (h : Header) (n : ℕ) (records
     where
       one : take (k + 1) piece ≡ take k piece ++ slice_index piece k ∷ []
       one = take_more piece k 0 within
+
       go : (made : Step A) → step e (tests_of e) t (slice_index piece k) ≡ made → IsOk made → IsViable A chain_limit (bytes ++ take (k + 1) piece)
       go (Ok (u, None)) is ok =
           data_viable (k + 1) u (omega (arith, within)) (subst (λ l. Walks e (tests_of e) s l u) (sym one) (walks_join e (tests_of e) s (take k piece) (slice_index piece k ∷ []) t u more (u, is, refl)))

@@ -1,22 +1,22 @@
 -- What a chain tells of the bytes that have come of it: its first files are the whole ones, and its next file begins with the rest.
-use Rattle.std.proofs.Common.{◌≡◌, ◌⊎◌, inl, inr, ℕ, zero, suc, ◌+◌, ◌-◌, ◌<◌, ◌≤◌, List, [], ◌∷◌, ◌++◌, length, refl, sym, ap, ◌∙◌, subst, arith, append_assoc, length-append}
+use Rattle.std.proofs.Common.{◌≡◌, ◌⊎◌, inl, inr, ℕ, ◌+◌, ◌-◌, ◌<◌, ◌≤◌, List, [], ◌∷◌, ◌++◌, length, refl, sym, ap, ◌∙◌, subst, arith, append_assoc, length-append}
 use Rattle.std.specs.List.{AllByRecursion}
 use Rattle.std.proofs.lemmas.List.{append_cancel_left}
-use Rattle.fit_base.specs.Numbers.{IsBytes, little_bytes}
+use Rattle.fit_base.specs.Numbers.{little_bytes}
 use Rattle.fit_sum.specs.Checksum.{checksum}
 use Rattle.fit_frame.specs.declared.header.Header.{Header}
-use Rattle.fit_frame.specs.Header.{HeaderFits, header_bytes}
+use Rattle.fit_frame.specs.Header.{header_bytes}
 use Rattle.fit_frame.proofs.OneHeader.{one_header}
 use Rattle.fit_record.specs.declared.file.FitFile.{FitFile}
 use Rattle.fit_record.specs.declared.message.Record.{Record}
 use Rattle.fit_record.specs.Environment.{Environment, empty_environment, learn, learn_all}
-use Rattle.fit_record.specs.Records.{Fits, record_bytes, AllFit, records_bytes}
-use Rattle.fit_record.specs.Files.{body, summed, file_bytes, chain_bytes, IsWellFormed, IsWellFormedChain, IsChain}
+use Rattle.fit_record.specs.Records.{record_bytes, AllFit, records_bytes}
+use Rattle.fit_record.specs.Files.{body, summed, file_bytes, chain_bytes, IsWellFormed, IsChain}
 use Rattle.fit_record.proofs.OneRecord.{same_record, no_bytes}
 use Rattle.fit_record.proofs.OneFile.{same_file}
 use Rattle.fit_decode.specs.Progress.{Progress, at_header, at_data, progress_bytes, IsPartial, IsUnfinished, HasCome}
 use Rattle.fit_decode.proofs.OnePlace.{no_header, no_record}
-use Rattle.fit_decode.proofs.Splits.{split, IsBytes-front}
+use Rattle.fit_decode.proofs.Splits.{split}
 
 -- ---- whole files
 
@@ -175,7 +175,7 @@ data_follows h n records part x (f ∷ after) u p e =
       next = rest.others;
       same_records = rest.joined;
       goes = part_follows (learn_all empty_environment records) (n - length (records_bytes empty_environment records)) rest.others part x tail u.3 rest.fit
-      (omega (arith, header.1, rest.total)) rest.spelled;
+          (omega (arith, header.1, rest.total)) rest.spelled;
     }
 
 -- ---- all of it

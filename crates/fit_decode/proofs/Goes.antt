@@ -1,17 +1,16 @@
 -- What has come of a chain goes on: bytes of which some chain goes on have come to where one can.
-use Rattle.std.proofs.Common.{◌≡◌, ◌⊎◌, inl, inr, ℕ, zero, suc, ◌+◌, ◌-◌, ◌<◌, ◌≤◌, Bool, true, false, List, [], ◌∷◌, ◌++◌, length, refl, sym, ap, ◌∙◌, subst, arith, append_assoc, length-append, lit<, lit≤}
-use Rattle.std.specs.List.{AllByRecursion}
+use Rattle.std.proofs.Common.{◌≡◌, inl, inr, ℕ, zero, suc, ◌+◌, ◌-◌, ◌<◌, ◌≤◌, true, List, [], ◌∷◌, ◌++◌, length, refl, sym, ap, ◌∙◌, subst, arith, append_assoc, length-append}
 use Rattle.std.proofs.lemmas.List.{append-nil}
 use Rattle.fit_base.specs.Numbers.{IsBytes, little_bytes}
 use Rattle.fit_base.proofs.Bytes.{bytes_below, length-little_bytes}
 use Rattle.fit_sum.specs.Checksum.{checksum}
 use Rattle.fit_frame.specs.declared.header.Header.{Header}
-use Rattle.fit_frame.specs.Header.{HeaderFits, header_bytes}
+use Rattle.fit_frame.specs.Header.{header_bytes}
 use Rattle.fit_frame.specs.Beginning.{IsDataSize, BeginsHeader}
 use Rattle.fit_record.specs.declared.file.FitFile.{FitFile}
 use Rattle.fit_record.specs.declared.message.Record.{Record}
 use Rattle.fit_record.specs.Environment.{Environment, empty_environment, learn, learn_all}
-use Rattle.fit_record.specs.Records.{record_bytes, AllFit, records_bytes}
+use Rattle.fit_record.specs.Records.{record_bytes, records_bytes}
 use Rattle.fit_record.specs.Rooms.{can_fill}
 use Rattle.fit_record.specs.Files.{body, summed, chain_bytes, IsWellFormed, IsChain, IsViable}
 use Rattle.fit_record.proofs.FilledRooms.{can_fill_is}
@@ -20,7 +19,7 @@ use Rattle.fit_decode.specs.Progress.{Progress, at_header, at_data, IsPartial, I
 use Rattle.fit_decode.specs.GoingOn.{FillFrom, DataGoesOn, GoesOn, files_begun, ChainGoesOn}
 use Rattle.fit_decode.proofs.OnePlace.{no_header, no_record}
 use Rattle.fit_decode.proofs.Splits.{split, IsBytes-front, IsBytes-back}
-use Rattle.fit_decode.proofs.Following.{Follow, HeaderFollows, RecordFollows, SumFollows, DataFollows, header_follows, data_follows, chain_follows}
+use Rattle.fit_decode.proofs.Following.{HeaderFollows, RecordFollows, SumFollows, DataFollows, header_follows, data_follows, chain_follows}
 
 -- g with some bytes more
 abbrev pub with_bytes : {A : Type 0} → Progress A → List ℕ → Progress A
@@ -141,6 +140,7 @@ record_goes {A} e room sum part x y z tail u are is short s =
     empty : (a : List ℕ) → length a ≡ 0 → a ≡ []
     empty [] e = refl
     empty (b ∷ a) e = absurd (omega arith)
+
     regroup : (a b c d : List ℕ) → a ++ ((b ++ c) ++ d) ≡ (a ++ b) ++ (c ++ d)
     regroup a b c d = simp append_assoc
 

@@ -1,24 +1,23 @@
 -- What bytes of a header make of the place, of the events and of what can follow.
-use Rattle.std.proofs.Common.{◌≡◌, cond, inl, inr, ℕ, zero, suc, ◌+◌, ◌-◌, ◌<◌, ◌≤◌, List, [], ◌∷◌, ◌++◌, length, take, drop, slice_index, length-append, length-drop, refl, sym, ap, ◌∙◌, subst, arith, append_assoc, Some, None, Ok, Err}
+use Rattle.std.proofs.Common.{◌≡◌, cond, ℕ, zero, suc, ◌+◌, ◌-◌, ◌<◌, ◌≤◌, List, [], ◌∷◌, ◌++◌, length, take, drop, slice_index, length-drop, refl, sym, ap, ◌∙◌, subst, arith, append_assoc, Some}
 use Rattle.std.proofs.lemmas.Bool.{ne_eqb, eq-eqb}
-use Rattle.std.proofs.lemmas.List.{append-nil, take-append-drop, length-take-le, take_more}
+use Rattle.std.proofs.lemmas.List.{length-take-le}
 use Rattle.fit_base.specs.Numbers.{IsBytes}
-use Rattle.fit_base.proofs.NumberLaws.{IsBytes-append, IsBytes-take}
 use Rattle.fit_frame.specs.declared.header.Header.{Header}
 use Rattle.fit_frame.specs.declared.reason.Reason.{Reason}
 use Rattle.fit_frame.specs.declared.reason.Reason.TheVariants.{TooManyFiles}
-use Rattle.fit_frame.specs.Beginning.{IsFileHeader, BeginsHeader, RefusesByte}
+use Rattle.fit_frame.specs.Beginning.{IsFileHeader, RefusesByte}
 use Rattle.fit_record.specs.declared.file.FitFile.{FitFile}
 use Rattle.fit_record.specs.Files.{chain_limit, IsViable}
 use Rattle.fit_decode.specs.Progress.{Progress, at_header, at_data, HasCome}
-use Rattle.fit_decode.specs.Events.{Event, header, AreEvents}
-use Rattle.fit_decode.specs.GoingOn.{GoesOn, files_begun, ChainGoesOn}
+use Rattle.fit_decode.specs.Events.{header}
+use Rattle.fit_decode.specs.GoingOn.{files_begun}
 use Rattle.fit_decode.specs.Refusals.{IsRefused, reason_at, reason_in_file}
 use Rattle.fit_decode.specs.Answers.{Quiet, Least}
 use Rattle.fit_decode.specs.Scans.{IsOpen}
 use Rattle.fit_decode.proofs.Goes.{next_goes}
 use Rattle.fit_decode.proofs.Completions.{goes_viable}
-use Rattle.fit_decode.proofs.Whole.{NoHeader, no_header_before, no_header_in, begun_header, before_header}
+use Rattle.fit_decode.proofs.Whole.{NoHeader, no_header_before, begun_header, before_header}
 use Rattle.fit_decode.proofs.Next.{more_header, whole_header, quiet, told, header_told}
 
 -- a limit that isn't reached gives no reason
@@ -33,7 +32,7 @@ front_of (x ∷ y) (suc j) zero less within = absurd (omega arith)
 front_of (x ∷ y) (suc j) (suc k) less within = ap (λ l. x ∷ l) (front_of y j k (omega (arith, less)) (omega (arith, within)) ∙ ap (λ n. take j y ++ take n (drop j y)) (omega arith))
 
 module _ {A : Type 0} (files : List (FitFile A)) (front bytes piece : List ℕ) (come : HasCome files (at_header front) bytes) where
-  header_fronts : (k : ℕ) → k ≤ length piece → NoHeader (front ++ take k piece) → (j : ℕ) → j ≤ k → HasCome files (at_header (front ++ take j piece)) (bytes ++ take j piece)
+  pub header_fronts : (k : ℕ) → k ≤ length piece → NoHeader (front ++ take k piece) → (j : ℕ) → j ≤ k → HasCome files (at_header (front ++ take j piece)) (bytes ++ take j piece)
   header_fronts k within none j less =
       let parts : front ++ take k piece ≡ (front ++ take j piece) ++ take (k - j) (drop j piece) = ap (λ l. front ++ l) (front_of piece j k less within) ∙ sym (append_assoc front (take j piece) (take (k - j) (drop j piece))) in
       more_header files front bytes (take j piece) come (no_header_before (front ++ take j piece) (take (k - j) (drop j piece)) (subst NoHeader parts none))

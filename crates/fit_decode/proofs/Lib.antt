@@ -14,4 +14,8 @@ pub mod Readings
 pub mod HeaderFed
 pub mod DataFed
 pub mod SumFed
+pub mod Scanned
+pub mod Places
+pub mod Sections
+pub mod Bounds
 mod Refused

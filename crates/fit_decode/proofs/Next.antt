@@ -1,7 +1,6 @@
 -- Where the bytes have come to with some bytes more.
-use Rattle.std.proofs.Common.{◌≡◌, inl, inr, ℕ, zero, suc, ◌+◌, ◌-◌, ◌<◌, ◌≤◌, List, [], ◌∷◌, ◌++◌, length, refl, sym, ap, ◌∙◌, subst, arith, append_assoc, length-append}
+use Rattle.std.proofs.Common.{◌≡◌, ℕ, zero, suc, ◌+◌, ◌-◌, ◌<◌, ◌≤◌, List, [], ◌∷◌, ◌++◌, length, refl, sym, ap, ◌∙◌, subst, arith, append_assoc, length-append}
 use Rattle.std.specs.Prelude.{flat_map, map}
-use Rattle.std.specs.List.{AllByRecursion}
 use Rattle.std.proofs.lemmas.List.{append-nil}
 use Rattle.fit_base.specs.Numbers.{little_bytes}
 use Rattle.fit_sum.specs.Checksum.{checksum}
@@ -11,8 +10,8 @@ use Rattle.fit_frame.specs.Beginning.{IsFileHeader}
 use Rattle.fit_record.specs.declared.file.FitFile.{FitFile}
 use Rattle.fit_record.specs.declared.message.Record.{Record}
 use Rattle.fit_record.specs.Environment.{Environment, empty_environment, learn, learn_all}
-use Rattle.fit_record.specs.Records.{Fits, record_bytes, AllFit, records_bytes}
-use Rattle.fit_record.specs.Files.{body, file_bytes, chain_bytes, IsWellFormed}
+use Rattle.fit_record.specs.Records.{Fits, record_bytes, records_bytes}
+use Rattle.fit_record.specs.Files.{file_bytes, chain_bytes}
 use Rattle.fit_decode.specs.Progress.{Progress, at_header, at_data, progress_bytes, IsPartial, IsUnfinished, HasCome}
 use Rattle.fit_decode.specs.Events.{Event, header, item, file_end, file_events, progress_events, AreEvents}
 use Rattle.fit_decode.proofs.Completions.{all_append, chain_bytes-append, all_fit-append, records_bytes-append, learn_all-append}
@@ -65,8 +64,7 @@ module _ {A : Type 0} (fs : List (FitFile A)) (h : Header) (n : ℕ) (records : 
   whole_record r fits spelled within =
       let all = one_record_more r in
       let size : length (records_bytes empty_environment (records ++ r ∷ [])) ≡ taken + length (record_bytes known r) = ap length all ∙ length-append (records_bytes empty_environment records) (record_bytes known r) in
-      more_of fs (at_data h n records part) (at_data h n (records ++ r ∷ []) []) bytes y come
-      (
+      more_of fs (at_data h n records part) (at_data h n (records ++ r ∷ []) []) bytes y come (
         come.next.0,
         all_fit-append empty_environment records (r ∷ []) come.next.1 (fits, tt),
         omega (arith, size, within, come.next.2),
@@ -98,7 +96,7 @@ module _ {A : Type 0} (fs : List (FitFile A)) (h : Header) (n : ℕ) (records : 
         files = all_append fs file come.files (record { header = subst (HeaderFits h) size come.next.0; records = come.next.1 });
         next = unfinished A [] (λ k m rest fits is. cc);
         spelled = ap (λ b. b ++ y) come.spelled ∙ append_assoc (chain_bytes fs) (progress_bytes (at_data h n records part)) y
-        ∙ ap (λ b. chain_bytes fs ++ b) (sym spelled) ∙ sym (chain_bytes-append fs file) ∙ sym (append-nil (chain_bytes (fs ++ file ∷ [])));
+            ∙ ap (λ b. chain_bytes fs ++ b) (sym spelled) ∙ sym (chain_bytes-append fs file) ∙ sym (append-nil (chain_bytes (fs ++ file ∷ [])));
       }
 
 -- ---- events

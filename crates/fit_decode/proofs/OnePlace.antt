@@ -6,12 +6,12 @@ use Rattle.std.proofs.Math.Seq.{take-append_seam}
 use Rattle.fit_base.specs.Numbers.{little_bytes}
 use Rattle.fit_sum.specs.Checksum.{checksum}
 use Rattle.fit_frame.specs.declared.header.Header.{Header}
-use Rattle.fit_frame.specs.Header.{HeaderFits, IsHeader, header_bytes}
+use Rattle.fit_frame.specs.Header.{HeaderFits, header_bytes}
 use Rattle.fit_frame.proofs.OneHeader.{one_header}
 use Rattle.fit_record.specs.declared.file.FitFile.{FitFile}
 use Rattle.fit_record.specs.declared.message.Record.{Record}
 use Rattle.fit_record.specs.Environment.{Environment, empty_environment, learn, learn_all}
-use Rattle.fit_record.specs.Records.{Fits, record_bytes, IsRecord, AllFit, records_bytes}
+use Rattle.fit_record.specs.Records.{Fits, record_bytes, AllFit, records_bytes}
 use Rattle.fit_record.specs.Files.{body, summed, file_bytes, chain_bytes, IsWellFormed}
 use Rattle.fit_decode.specs.Progress.{Progress, at_header, at_data, progress_bytes, IsPartial, IsUnfinished, HasCome}
 use Rattle.fit_record.proofs.OneRecord.{same_record, no_bytes}

@@ -1,6 +1,9 @@
 -- Fronts of a piece, one byte more each.
-use Rattle.std.proofs.Common.{◌≡◌, ℕ, ◌+◌, ◌<◌, ◌≤◌, List, [], ◌∷◌, ◌++◌, length, take, get_or, refl, sym, ap, ◌∙◌, subst, arith, append_assoc, Some, None, Ok}
-use Rattle.std.proofs.lemmas.List.{append-nil, take_more}
+use Rattle.std.proofs.Common.{◌≡◌, ℕ, ◌+◌, ◌<◌, List, [], ◌∷◌, ◌++◌, length, take, get_or, sym, ap, ◌∙◌, subst, arith, append_assoc, Some, None, Ok, Err, true, false, Fits, w8}
+use Rattle.fit_base.specs.Numbers.{IsBytes}
+use Rattle.std.specs.Prelude.{Result, OnOk, OnErr}
+use Rattle.std.specs.Result.{is_ok}
+use Rattle.std.proofs.lemmas.List.{take_more}
 use Rattle.fit_frame.specs.declared.header.Header.{Header}
 use Rattle.fit_frame.specs.Beginning.{Seen, IsFileHeader}
 use Rattle.fit_decode.specs.Scans.{HeaderScanned}
@@ -19,3 +22,16 @@ header_scanned front piece i old new whole within before after is =
     let seen : new ≡ record { bytes = front ++ take (i + 1) piece; refusal = None } =
     after ∙ ap (λ (s : Seen). record { bytes = s.bytes ++ get_or piece i 0 ∷ []; refusal = None }) before ∙ ap (λ b. record { bytes = b; refusal = None }) (bytes_more front piece i within) in
     (omega arith, omega (arith, within), seen, subst (IsFileHeader whole.0 whole.1) all is)
+
+-- what holds of a good answer, and of a fault
+pub when_ok : {X Y P : Type 0} (r : Result X Y) → OnOk r P → is_ok r ≡ true → P
+when_ok (Ok x) h is = h
+when_ok (Err y) h is = absurd cc
+
+pub when_err : {X Y P : Type 0} (r : Result X Y) → OnErr r P → is_ok r ≡ false → P
+when_err (Ok x) h is = absurd cc
+when_err (Err y) h is = h
+
+-- the bytes of the code's slices
+pub are_bytes : (bytes : List ℕ) → ((k : ℕ) → Fits w8 (get_or bytes k 0)) → IsBytes bytes
+are_bytes bytes h k = let fits : Fits w8 (get_or bytes k 0) = h k in omega arith

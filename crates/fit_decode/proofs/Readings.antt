@@ -1,12 +1,11 @@
 -- A walk over bytes of a record, one byte more, and what can fill the data section behind it.
-use Rattle.std.proofs.Common.{◌≡◌, inl, inr, ℕ, zero, suc, ◌+◌, ◌-◌, ◌*◌, ◌<◌, ◌≤◌, Bool, true, List, [], ◌∷◌, ◌++◌, length, refl, sym, ap, ◌∙◌, subst, arith, append_assoc, length-append, Some, None, Ok, Err}
+use Rattle.std.proofs.Common.{◌≡◌, inl, inr, ℕ, zero, ◌<◌, ◌≤◌, true, List, [], ◌∷◌, ◌++◌, length, refl, sym, ap, subst, arith, None, Ok}
 use Rattle.fit_base.specs.Numbers.{IsBytes}
 use Rattle.fit_base.proofs.NumberLaws.{IsBytes-append}
 use Rattle.fit_record.specs.declared.message.Record.{Record}
 use Rattle.fit_record.specs.Environment.{Environment, learn}
 use Rattle.fit_record.specs.Rooms.{can_fill}
 use Rattle.fit_record.proofs.ByteLists.{IsBytes-cons, IsBytes-none}
-use Rattle.fit_step.specs.declared.phase.DefinitionPhase.{DefinitionPhase}
 use Rattle.fit_step.specs.declared.phase.DefinitionPhase.TheVariants.{Reserved, Architecture as AtArchitecture, GlobalFirst, GlobalSecond, FieldCount, FieldNumber, FieldSize, FieldCode, DevCount, DevNumber, DevSize, DevIndex}
 use Rattle.fit_step.specs.Machine.{State, start, step, Walks, Ends, least_rest}
 use Rattle.fit_step.specs.Parts.{Part, nothing, in_definition, in_fields, in_dev_fields, part_bytes, IsPart, HasBegun, state_of}

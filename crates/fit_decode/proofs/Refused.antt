@@ -1,7 +1,6 @@
 -- Reasons and counts that are known from outside.
-use Rattle.std.proofs.Common.{◌≡◌, ℕ, List, [], ◌∷◌, ◌++◌, take, drop, refl, None, Some, lit<}
+use Rattle.std.proofs.Common.{◌≡◌, ℕ, List, [], ◌∷◌, take, refl, None, Some}
 use Rattle.fit_base.specs.declared.number.Order.TheVariants as orders
-use Rattle.fit_frame.specs.declared.header.Header.{Header}
 use Rattle.fit_frame.specs.declared.header.HeaderSum.TheVariants as sums
 use Rattle.fit_frame.specs.declared.reason.Reason.TheVariants as reasons
 use Rattle.fit_record.specs.declared.definition.FieldDef.{FieldDef}
@@ -10,8 +9,6 @@ use Rattle.fit_record.specs.declared.message.Record.TheVariants.{Define, Values}
 use Rattle.fit_decode.specs.Progress.{Progress, at_header, at_data}
 use Rattle.fit_decode.specs.Events.{bound}
 use Rattle.fit_decode.specs.Refusals.{reason_at}
-use Rattle.fit_record.specs.Environment.{Environment, empty_environment}
-use Rattle.fit_record.specs.Records.{AreRecords}
 use Rattle.fit_record.specs.Files.{chain_limit}
 use Rattle.fit_record.proofs.KnownFiles.{header_of, field, both_architectures}
 

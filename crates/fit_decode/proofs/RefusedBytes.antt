@@ -1,10 +1,9 @@
 -- With a byte that the machine refuses no records go on and fill the data section.
-use Rattle.std.proofs.Common.{◌≡◌, ◌↔◌, IsTrue, ◌⊎◌, inl, inr, ℕ, zero, suc, ◌+◌, ◌-◌, ◌*◌, ◌<◌, ◌≤◌, Bool, true, false, cond, List, [], ◌∷◌, ◌++◌, length, refl, sym, ap, ◌∙◌, subst, arith, append_assoc, length-append, lit<, Some, None, Ok, Err}
-use Rattle.std.specs.Prelude.{Option, flat_map}
+use Rattle.std.proofs.Common.{◌≡◌, inl, inr, ℕ, ◌+◌, ◌-◌, ◌*◌, ◌<◌, Bool, true, false, cond, List, [], ◌∷◌, ◌++◌, length, refl, sym, ap, ◌∙◌, subst, arith, append_assoc, length-append, lit<, Some, Ok, Err}
+use Rattle.std.specs.Prelude.{flat_map}
 use Rattle.std.proofs.lemmas.Bool.{both_ways}
 use Rattle.std.proofs.lemmas.List.{append-nil}
 use Rattle.fit_base.specs.Numbers.{IsBytes}
-use Rattle.fit_base.proofs.NumberLaws.{IsBytes-append}
 use Rattle.fit_frame.specs.declared.reason.Reason.{Reason}
 use Rattle.fit_frame.specs.declared.reason.Reason.TheVariants.{NoFit, ReservedBit, Overrun}
 use Rattle.fit_record.specs.declared.environment.Defined.{Defined}
@@ -13,18 +12,17 @@ use Rattle.fit_record.specs.declared.message.Record.{Record}
 use Rattle.fit_record.specs.declared.message.Record.TheVariants.{Define, Values as Data}
 use Rattle.fit_record.specs.Environment.{Environment, defined_at, dev_defs, learn}
 use Rattle.fit_record.specs.HeaderByte.{is_definition, local_type}
-use Rattle.fit_record.specs.Records.{Fits, record_bytes, body_length, message_size, order_at, data_bytes, dev_field_bytes, definition_header}
+use Rattle.fit_record.specs.Records.{Fits, record_bytes, body_length, message_size, order_at, dev_field_bytes, definition_header}
 use Rattle.fit_record.specs.Rooms.{can_fill}
 use Rattle.fit_record.specs.Files.{CanFill}
 use Rattle.fit_record.specs.Unfinished.{CanComplete, dev_fields_part, can_complete}
-use Rattle.fit_record.proofs.ByteLists.{IsBytes-cons, IsBytes-none}
 use Rattle.fit_record.proofs.CarriedMessages.{can_fill_after_data}
 use Rattle.fit_record.proofs.DefinitionParts.{dev_fields_can_complete}
 use Rattle.fit_record.proofs.Lengths.{length-data}
 use Rattle.fit_step.specs.declared.phase.DefinitionPhase.{DefinitionPhase}
-use Rattle.fit_step.specs.declared.phase.DefinitionPhase.TheVariants.{Reserved, Architecture as AtArchitecture, GlobalFirst, GlobalSecond, FieldCount, FieldNumber, FieldSize, FieldCode, DevCount, DevNumber, DevSize, DevIndex}
+use Rattle.fit_step.specs.declared.phase.DefinitionPhase.TheVariants.{FieldSize, FieldCode, DevCount, DevSize, DevIndex}
 use Rattle.fit_step.specs.Reasons.{record_reason}
-use Rattle.fit_step.specs.Machine.{State, Step, Next, start, step, header_move, least_rest, defining}
+use Rattle.fit_step.specs.Machine.{State, Step, Next, start, step, header_move}
 use Rattle.fit_step.specs.Parts.{Part, nothing, in_definition, in_fields, in_dev_fields, AwaitsDev, definition_part, IsDefinitionPart, fields_front, dev_front, part_bytes, IsPart, state_of, IsShut}
 use Rattle.fit_step.specs.Runs.{Fails}
 use Rattle.fit_step.specs.Tests.{tests_of}
@@ -81,6 +79,7 @@ module _ {A : Type 0} (e : Environment A) (sixteen : length e.places ≡ 16) whe
       spelled_so =
           ap (λ o. ((fields_front d (length d.fields) ++ []) ++ b ∷ flat_map dev_field_bytes (dev_defs o)) ++ []) none ∙ append-nil ((fields_front d (length d.fields) ++ []) ++ b ∷ [])
           ∙ ap (λ l. l ++ b ∷ []) (append-nil (fields_front d (length d.fields)))
+
       of : (r : Record A) (rest : List ℕ) (left : ℕ) → Fits e r → record_bytes e r ≡ definition_header d ∷ (dev_fields_part d b [] ++ rest) → IsBytes rest → CanFill (learn e r) left → length rest + left ≡ room
           → CanComplete e (definition_header d) (dev_fields_part d b []) room
       of (Define k) rest left fits spelled are fill total =

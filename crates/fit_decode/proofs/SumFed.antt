@@ -1,7 +1,7 @@
 -- What bytes of a closing sum make of the place, of the events and of what can follow.
-use Rattle.std.proofs.Common.{◌≡◌, cond, inl, inr, ℕ, zero, suc, ◌+◌, ◌-◌, ◌<◌, ◌≤◌, Bool, true, false, List, [], ◌∷◌, ◌++◌, length, take, drop, slice_index, length-append, length-drop, refl, sym, ap, ◌∙◌, subst, arith, append_assoc, Some, None, Ok, Err}
+use Rattle.std.proofs.Common.{◌≡◌, cond, ℕ, zero, suc, ◌-◌, ◌<◌, ◌≤◌, List, [], ◌∷◌, ◌++◌, length, take, slice_index, length-append, refl, ap, ◌∙◌, arith, Some}
 use Rattle.std.proofs.lemmas.Bool.{eq-eqb}
-use Rattle.std.proofs.lemmas.List.{append-nil, length-take-le}
+use Rattle.std.proofs.lemmas.List.{length-take-le}
 use Rattle.fit_base.specs.Numbers.{IsBytes, little_bytes}
 use Rattle.fit_base.proofs.Bytes.{length-little_bytes}
 use Rattle.fit_base.proofs.NumberLaws.{IsBytes-append, IsBytes-take}
@@ -16,14 +16,14 @@ use Rattle.fit_record.specs.Records.{records_bytes}
 use Rattle.fit_record.specs.Files.{chain_limit, IsViable}
 use Rattle.fit_step.specs.Reasons.{record_reason}
 use Rattle.fit_decode.specs.Progress.{at_header, at_data, HasCome}
-use Rattle.fit_decode.specs.Events.{Event, file_end, AreEvents}
+use Rattle.fit_decode.specs.Events.{file_end}
 use Rattle.fit_decode.specs.GoingOn.{DataGoesOn, ChainGoesOn}
 use Rattle.fit_decode.specs.Refusals.{IsRefused}
 use Rattle.fit_decode.specs.Answers.{Quiet, Least}
 use Rattle.fit_decode.proofs.Goes.{next_goes, begins_nothing, no_room}
 use Rattle.fit_decode.proofs.Completions.{goes_viable}
 use Rattle.fit_decode.proofs.Next.{more_sum, whole_file, quiet, told, end_told}
-use Rattle.fit_decode.proofs.HeaderFed.{front_of, not_full}
+use Rattle.fit_decode.proofs.HeaderFed.{not_full}
 
 rest_of : {A : Type 0} (e : Environment A) (room : ℕ) (sum part : List ℕ) → room ≡ 0 → DataGoesOn e room sum part → (rest : List ℕ) × (sum ≡ part ++ rest)
 rest_of e zero sum part over goes = goes
@@ -71,7 +71,7 @@ module _ {A : Type 0} (files : List (FitFile A)) (h : Header) (n : ℕ) (records
   pub file_least : (k : ℕ) → k ≤ length piece → part ++ take k piece ≡ sum → Least A bytes piece k file_end
   file_least k within whole = λ events are_told. (
     told files (files ++ file ∷ []) (at_data h n records part) (at_header []) bytes (bytes ++ take k piece) file_end here (file_come k whole)
-    (end_told files h n records part (omega (arith, over, here.next.2))) events are_told,
+        (end_told files h n records part (omega (arith, over, here.next.2))) events are_told,
     λ j less.
         let two : length (part ++ take k piece) ≡ 2 = ap length whole ∙ length-little_bytes 2 (checksum summed) in
         let short : length (part ++ take j piece) < 2 =
@@ -95,6 +95,6 @@ module _ {A : Type 0} (files : List (FitFile A)) (h : Header) (n : ℕ) (records
         progress = at_data h n records (part ++ take k piece);
         come = at;
         because = not_full A chain_limit (length files) (at_data h n records (part ++ take k piece)) (slice_index piece k) few
-        ∙ ap (λ c. cond c (Some FileSum) (record_reason e (part ++ take k piece) (n - length (records_bytes empty_environment records) - length (part ++ take k piece)) (slice_index piece k)))
-        (eq-eqb n (length (records_bytes empty_environment records)) whole);
+            ∙ ap (λ c. cond c (Some FileSum) (record_reason e (part ++ take k piece) (n - length (records_bytes empty_environment records) - length (part ++ take k piece)) (slice_index piece k)))
+            (eq-eqb n (length (records_bytes empty_environment records)) whole);
       }

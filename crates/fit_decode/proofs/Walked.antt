@@ -1,24 +1,19 @@
 -- Where a walk over bytes of a record has come to, the data section can be filled exactly where the machine's test says so.
-use Rattle.std.proofs.Common.{◌≡◌, ◌↔◌, IsTrue, ◌⊎◌, inl, inr, ℕ, zero, suc, ◌+◌, ◌-◌, ◌<◌, ◌≤◌, Bool, true, false, List, [], ◌∷◌, ◌++◌, length, refl, sym, ap, ◌∙◌, subst, arith, append_assoc, length-append, Some, None, Ok, Err}
+use Rattle.std.proofs.Common.{◌≡◌, inl, inr, ℕ, ◌+◌, ◌-◌, ◌≤◌, true, List, [], ◌∷◌, ◌++◌, length, refl, sym, ap, ◌∙◌, subst, arith, append_assoc, length-append}
 use Rattle.std.proofs.lemmas.List.{append-nil}
 use Rattle.fit_base.specs.Numbers.{IsBytes}
 use Rattle.fit_base.proofs.NumberLaws.{IsBytes-append}
-use Rattle.fit_record.specs.declared.message.Record.{Record}
 use Rattle.fit_record.specs.Environment.{Environment, learn}
-use Rattle.fit_record.specs.Records.{Fits, record_bytes, records_bytes}
+use Rattle.fit_record.specs.Records.{record_bytes, records_bytes}
 use Rattle.fit_record.specs.Rooms.{can_fill}
-use Rattle.fit_record.specs.Files.{CanFill}
 use Rattle.fit_record.proofs.FilledRooms.{can_fill_is}
-use Rattle.fit_step.specs.Machine.{State, Step, start, step, Walks, Ends, least_rest}
+use Rattle.fit_step.specs.Machine.{State, start, step, Walks, least_rest}
 use Rattle.fit_step.specs.Parts.{Part, nothing, in_definition, in_fields, in_dev_fields, part_bytes, IsPart, HasBegun, state_of}
-use Rattle.fit_step.specs.Runs.{IsCut}
 use Rattle.fit_step.specs.Tests.{tests_of}
 use Rattle.fit_step.specs.GoingOn.{goes_on, Continues}
 use Rattle.fit_step.proofs.GoingOn.{GoesOn, goes}
-use Rattle.fit_step.proofs.Runs.{walks_are_cuts, walks_join, one_more}
+use Rattle.fit_step.proofs.Runs.{walks_are_cuts, one_more}
 use Rattle.fit_step.proofs.Rest.{rooms_are_kept}
-use Rattle.fit_step.proofs.Takes.{IsBytes-tail}
-use Rattle.fit_record.proofs.ByteLists.{IsBytes-cons, IsBytes-none}
 use Rattle.fit_decode.specs.GoingOn.{FillFrom}
 use Rattle.fit_decode.proofs.Splits.{split, IsBytes-front, IsBytes-back}
 use Rattle.fit_decode.proofs.Whole.{NoRecord, part_of_record}

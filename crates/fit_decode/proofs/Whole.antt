@@ -1,5 +1,5 @@
 -- What isn't whole: bytes that no header, and no record, begins.
-use Rattle.std.proofs.Common.{◌≡◌, inl, inr, ℕ, zero, suc, ◌+◌, ◌-◌, ◌<◌, ◌≤◌, List, [], ◌∷◌, ◌++◌, length, take, drop, length-drop, refl, sym, ap, ◌∙◌, subst, arith, append_assoc, length-append}
+use Rattle.std.proofs.Common.{◌≡◌, ℕ, zero, suc, ◌<◌, List, [], ◌∷◌, ◌++◌, length, drop, refl, sym, ap, ◌∙◌, arith, append_assoc}
 use Rattle.std.specs.Prelude.{replicate}
 use Rattle.std.proofs.lemmas.List.{append-nil, take-append-drop}
 use Rattle.fit_frame.specs.declared.header.Header.{Header}
@@ -15,7 +15,7 @@ use Rattle.fit_step.proofs.GoOn.{cuts_go_on}
 use Rattle.fit_decode.specs.Progress.{at_header, IsPartial, IsUnfinished}
 use Rattle.fit_decode.proofs.OnePlace.{no_header}
 
-no_end : (a b : List ℕ) (c : ℕ) → a ++ c ∷ b ≡ [] → ⊥
+pub no_end : (a b : List ℕ) (c : ℕ) → a ++ c ∷ b ≡ [] → ⊥
 no_end [] b c e = cc
 no_end (x ∷ a) b c e = cc
 

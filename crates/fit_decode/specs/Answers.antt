@@ -1,5 +1,5 @@
 -- What a caller of a decoder sees: the bytes fed that weren't refused, and the refusal if there was one.
-use Rattle.std.specs.Prelude.{◌≡◌, ℕ, ◌+◌, ◌<◌, ◌≤◌, List, [], ◌∷◌, ◌++◌, Option, Some, None, take, length, option_to_list, slice_index}
+use Rattle.std.specs.Prelude.{◌≡◌, ℕ, ◌+◌, ◌<◌, ◌≤◌, List, [], ◌∷◌, ◌++◌, Option, Some, None, take, length, slice_index}
 use Rattle.fit_frame.specs.declared.reason.Reason.{Reason}
 use Rattle.fit_record.specs.Files.{chain_limit, IsViable}
 use Rattle.fit_decode.specs.declared.event.Event.{Event as Answer}

@@ -1,5 +1,5 @@
 -- The events of a stream of files, and how much a reader of it has to hold.
-use Rattle.std.specs.Prelude.{◌≡◌, ℕ, ◌+◌, ◌*◌, ◌/◌, ◌<◌, if◌then◌else◌, nat_lt, List, [], ◌∷◌, ◌++◌, length, map, flat_map, sum_by, Option, Some, None, slice_index}
+use Rattle.std.specs.Prelude.{◌≡◌, ℕ, ◌+◌, ◌*◌, ◌/◌, if◌then◌else◌, List, [], ◌∷◌, ◌++◌, length, map, flat_map, sum_by, slice_index}
 use Rattle.std.specs.Option.{option_map_or}
 use Rattle.fit_base.specs.BaseTypes.{item_width}
 use Rattle.fit_frame.specs.declared.header.Header.{Header}

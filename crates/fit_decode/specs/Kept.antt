@@ -1,10 +1,9 @@
 -- What holds of a decoder's fields behind the bytes fed. No public contract names these.
-use Rattle.std.specs.Prelude.{◌≡◌, ℕ, ◌-◌, ◌<◌, ◌≤◌, Bool, true, List, [], ◌∷◌, ◌++◌, length, take, slice_index, Option, Some, None, Result, Ok, Err, ◌+◌}
-use Rattle.fit_base.specs.Numbers.{IsBytes}
+use Rattle.std.specs.Prelude.{◌≡◌, ℕ, ◌-◌, ◌<◌, ◌≤◌, Bool, true, false, List, [], ◌++◌, length, take, slice_index, Option, None, Result, Ok, Err, ◌+◌}
 use Rattle.fit_sum.specs.Checksum.{checksum}
-use Rattle.fit_frame.specs.declared.header.Header.{Header}
+use Rattle.fit_frame.specs.declared.header.Header.{Header as FileHeader}
 use Rattle.fit_frame.specs.Header.{header_bytes}
-use Rattle.fit_frame.specs.Beginning.{IsWholeHeader, Seen as HeaderSeen}
+use Rattle.fit_frame.specs.Beginning.{Seen as HeaderSeen}
 use Rattle.fit_record.specs.declared.file.FitFile.{FitFile}
 use Rattle.fit_record.specs.declared.message.Record.{Record}
 use Rattle.fit_record.specs.Environment.{Environment, empty_environment, learn_all}
@@ -12,9 +11,13 @@ use Rattle.fit_record.specs.Records.{records_bytes}
 use Rattle.fit_record.specs.Files.{chain_limit, IsViable}
 use Rattle.fit_step.specs.declared.stop.Stop.{Stop}
 use Rattle.fit_step.specs.declared.stop.Stop.TheVariants.{Refused, NoMemory}
-use Rattle.fit_step.specs.Machine.{State, start, Walks}
+use Rattle.fit_step.specs.Machine.{start, Walks}
 use Rattle.fit_step.specs.Tests.{tests_of}
 use Rattle.fit_step.specs.GoingOn.{goes_on}
+use Rattle.fit_step.specs.declared.position.Position.{Position}
+use Rattle.fit_step.specs.Places.{state_at}
+use Rattle.fit_decode.specs.declared.section.Section.{Section}
+use Rattle.fit_decode.specs.declared.section.Section.TheVariants.{Header, Data, ClosingSum}
 use Rattle.fit_decode.specs.declared.event.Event.{Event as Answer}
 use Rattle.fit_decode.specs.declared.event.Event.TheVariants as answers
 use Rattle.fit_decode.specs.Progress.{at_header, at_data, HasCome}
@@ -24,42 +27,70 @@ use Rattle.fit_decode.specs.Refusals.{IsRefused}
 use Rattle.fit_decode.specs.Answers.{Quiet, Least}
 use Rattle.fit_decode.specs.Scans.{sum_part}
 
+-- A decoder's fields, but for the count of the bytes and the refusal: how many files have ended, the section that the next
+-- byte belongs to, whether one byte of a closing sum has come, the reader of the header, the bytes that the closing sum
+-- covers so far, what is known, where in a record it is, and the record in progress.
+pub record Fields (A : Type 0) : Type 0 where
+  pub count : ℕ
+  pub section : Section
+  pub half : Bool
+  pub reader : HeaderSeen
+  pub sum : List ℕ
+  pub env : Environment A
+  pub position : Position
+  pub in_progress : Option (Record A)
+
 -- in a header, or before one
-pub record InHeader {A : Type 0} (count : ℕ) (reader : HeaderSeen) (sum : List ℕ) (env : Environment A) (bytes : List ℕ) : Type 0 where
+pub record InHeader {A : Type 0} (d : Fields A) (bytes : List ℕ) : Type 0 where
   pub files : List (FitFile A)
-  pub come : HasCome files (at_header sum) bytes
-  pub goes : ChainGoesOn chain_limit files (at_header sum)
-  pub counted : count ≡ length files
-  pub read : reader ≡ record { bytes = sum; refusal = None }
-  pub known : env ≡ empty_environment
+  pub come : HasCome files (at_header d.sum) bytes
+  pub goes : ChainGoesOn chain_limit files (at_header d.sum)
+  pub counted : d.count ≡ length files
+  pub whole : d.half ≡ false
+  pub read : d.reader ≡ record { bytes = d.sum; refusal = None }
+  pub known : d.env ≡ empty_environment
+  pub idle : d.in_progress ≡ None
 
 -- in a data section that isn't over
-pub record InData {A : Type 0} (count : ℕ) (sum : List ℕ) (env : Environment A) (s : State A) (bytes : List ℕ) : Type 0 where
+pub record InData {A : Type 0} (d : Fields A) (bytes : List ℕ) : Type 0 where
   pub files : List (FitFile A)
-  pub header : Header
+  pub header : FileHeader
   pub size : ℕ
   pub records : List (Record A)
   pub part : List ℕ
   pub come : HasCome files (at_data header size records part) bytes
   pub few : length files < chain_limit
-  pub counted : count ≡ length files
-  pub summed : sum ≡ (header_bytes header size ++ records_bytes empty_environment records) ++ part
-  pub known : env ≡ learn_all empty_environment records
+  pub counted : d.count ≡ length files
+  pub whole : d.half ≡ false
+  pub fresh : d.reader ≡ record { bytes = []; refusal = None }
+  pub summed : d.sum ≡ (header_bytes header size ++ records_bytes empty_environment records) ++ part
+  pub known : d.env ≡ learn_all empty_environment records
   pub some : 0 < size - length (records_bytes empty_environment records)
-  pub walk : Walks env (tests_of env) (start (size - length (records_bytes empty_environment records))) part s
-  pub goes : goes_on env s ≡ true
+  pub walk : Walks d.env (tests_of d.env) (start (size - length (records_bytes empty_environment records))) part (state_at d.position d.in_progress)
+  pub goes : goes_on d.env (state_at d.position d.in_progress) ≡ true
 
 -- behind a data section
-pub record InSum (A : Type 0) (count : ℕ) (half : Bool) (sum : List ℕ) (bytes : List ℕ) : Type 0 where
+pub record InSum {A : Type 0} (d : Fields A) (bytes : List ℕ) : Type 0 where
   pub files : List (FitFile A)
-  pub header : Header
+  pub header : FileHeader
   pub size : ℕ
   pub records : List (Record A)
-  pub come : HasCome files (at_data header size records (sum_part (checksum sum) half)) bytes
+  pub come : HasCome files (at_data header size records (sum_part (checksum d.sum) d.half)) bytes
   pub few : length files < chain_limit
-  pub counted : count ≡ length files
-  pub summed : sum ≡ header_bytes header size ++ records_bytes empty_environment records
+  pub counted : d.count ≡ length files
+  pub fresh : d.reader ≡ record { bytes = []; refusal = None }
+  pub summed : d.sum ≡ header_bytes header size ++ records_bytes empty_environment records
   pub over : size - length (records_bytes empty_environment records) ≡ 0
+  pub idle : d.in_progress ≡ None
+
+abbrev pub HoldsAt : {A : Type 0} → Section → Fields A → List ℕ → Type 0
+HoldsAt Header d bytes = InHeader d bytes
+HoldsAt Data d bytes = InData d bytes
+HoldsAt ClosingSum d bytes = InSum d bytes
+
+-- The fields are those behind these bytes.
+abbrev pub Holds : {A : Type 0} → Fields A → List ℕ → Type 0
+Holds d bytes = HoldsAt d.section d bytes
 
 -- What the use of so many bytes of a piece told.
 abbrev pub Advanced : {A : Type 0} → List ℕ → List ℕ → ℕ → Result (Answer A) Stop → Type 0
@@ -71,3 +102,8 @@ Advanced {A} bytes piece used (Err (Refused reason)) =
     (used < length piece) × Quiet A bytes piece used × IsRefused A chain_limit (bytes ++ take used piece) (slice_index piece used) reason
 Advanced {A} bytes piece used (Err NoMemory) =
     (used < length piece) × Quiet A bytes piece used × IsViable A chain_limit (bytes ++ take (used + 1) piece)
+
+-- no byte was refused
+abbrev pub NotRefused : {A : Type 0} → Result (Answer A) Stop → Type 0
+NotRefused (Err (Refused reason)) = ⊥
+NotRefused answer = Unit {0}

@@ -13,6 +13,10 @@ use Rattle.fit_decode.specs.Refusals.{IsRefused}
 abbrev pub EventsAreOne : Type 0 → Type 0
 EventsAreOne A = (bytes : List ℕ) (events others : List (Event A)) → AreEvents bytes events → AreEvents bytes others → events ≡ others
 
+-- Bytes with which some chain begins have events.
+abbrev pub ViableHaveEvents : Type 0 → Type 0
+ViableHaveEvents A = (limit : ℕ) (bytes : List ℕ) → IsViable A limit bytes → (events : List (Event A)) × AreEvents bytes events
+
 -- A byte is refused for one reason at most.
 abbrev pub ReasonsAreOne : Type 0 → Type 0
 ReasonsAreOne A = (limit : ℕ) (bytes : List ℕ) (b : ℕ) (reason other : Reason) → IsRefused A limit bytes b reason → IsRefused A limit bytes b other → reason ≡ other

@@ -5,4 +5,5 @@ pub mod Refusals
 pub mod Laws
 pub mod Answers
 pub mod Scans
+pub mod Sections
 pub mod Kept

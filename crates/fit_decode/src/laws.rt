@@ -1,11 +1,16 @@
 //! What holds of events and refusals. These functions do nothing: what they ensure is what they are for.
-ghost use Rattle.fit_decode.specs.Laws.{ChainsGoOn, EventsAreOne, ReasonsAreOne};
+ghost use Rattle.fit_decode.specs.Laws.{ChainsGoOn, EventsAreOne, ReasonsAreOne, ViableHaveEvents};
 
 use std::alloc::Allocator;
 
 /// The bytes of a chain that have come have one list of events.
 pub fn events_are_one<A: Allocator>()
     ensures { EventsAreOne A }
+{}
+
+/// Bytes with which some chain begins have events.
+pub fn viable_bytes_have_events<A: Allocator>()
+    ensures { ViableHaveEvents A }
 {}
 
 /// A byte is refused for one reason at most.

@@ -3,6 +3,8 @@
 
 mod event;
 pub mod laws;
+mod record;
 mod scan;
+mod section;
 
 pub use event::{Event, Fault, Fed};

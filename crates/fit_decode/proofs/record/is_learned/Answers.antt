@@ -1,0 +1,12 @@
+use Rattle.std.proofs.Common.{◌≡◌, ◌∙◌, sym, subst}
+use Rattle.fit_record.specs.Environment.{learn}
+use Rattle.fit_decode.proofs.Pieces.{when_ok, when_err}
+use Rattle.fit_decode.proofs.record.is_learned.Goals as goal
+
+pub returns-clause-learned : goal.returns-clause-learned
+returns-clause-learned g c = λ r is ok.
+    let same : c.in-Some.record ≡ r = cc (is, c.in-Some.is) in
+    subst (λ q. c.learn.new.self ≡ learn c.args.env.now q) same (when_ok c.learn.result c.learn.ensures.ok (sym c.is_ok.ensures.value ∙ ok))
+
+pub returns-clause-same : goal.returns-clause-same
+returns-clause-same g c = λ none. when_err c.learn.result c.learn.ensures.err (sym c.is_ok.ensures.value ∙ none)

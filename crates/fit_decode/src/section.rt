@@ -1,0 +1,122 @@
+//! The bytes of a piece that belong to one section of a file: its header, its data section, or its closing sum.
+ghost use Rattle.std.specs.Prelude.{◌≡◌, ◌<◌, None};
+ghost use Rattle.fit_step.specs.Places.{state_at};
+ghost use Rattle.fit_decode.specs.Scans.{IsOpen, Reading};
+ghost use Rattle.fit_decode.specs.Sections.{section_of, HeaderFed, DataFed, SumFed};
+
+use crate::Event;
+use crate::record::scan_record;
+use crate::scan::{scan_header, scan_sum};
+use fit_frame::{HeadReader, Reason};
+use fit_record::{Env, Record};
+use fit_step::{Position, Stop};
+use fit_sum::Sum;
+use std::alloc::Allocator;
+
+/// The most files of a chain.
+const CHAIN_LIMIT: u32 = 16_777_215;
+
+/// The section of a file that the next byte belongs to.
+#[derive(Clone, Copy, Drop)]
+pub(crate) enum Section {
+    Header,
+    Data,
+    ClosingSum,
+}
+
+/// The section behind which so many bytes of data are to come.
+fn section_of(room: u32) -> Section
+    ensures { result ≡ section_of room }
+{
+    if room == 0 {
+        Section::ClosingSum
+    } else {
+        Section::Data
+    }
+}
+
+/// Bytes of a header.
+pub(crate) fn feed_header<A: Allocator>(
+    count: u32,
+    reader: &mut HeadReader,
+    sum: &mut Sum,
+    section: &mut Section,
+    position: &mut Position,
+    piece: &[u8],
+) -> (usize, Result<Event<A>, Stop>)
+    requires fresh { reader.old.refusal ≡ None }
+    requires begun { IsOpen reader.old.bytes }
+    ensures { HeaderFed count reader.old.bytes sum.old section.old position.old reader.new sum.new section.new position.new piece.now result.0 result.1 }
+{
+    if count >= CHAIN_LIMIT && !piece.is_empty() {
+        return (0, Err(Stop::Refused(Reason::TooManyFiles)));
+    }
+    let (used, answer) = scan_header(reader, piece);
+    let (taken, _) = piece.split_at(used);
+    sum.add_all(taken);
+    match answer {
+        Ok(None) => (used, Ok(Event::More)),
+        Ok(Some((header, size))) => {
+            *reader = HeadReader::new();
+            *section = section_of(size);
+            *position = Position::new(size);
+            (used, Ok(Event::Header(header, size)))
+        }
+        Err(reason) => (used, Err(Stop::Refused(reason))),
+    }
+}
+
+/// Bytes of records.
+pub(crate) fn feed_data<A: Allocator + Copy>(
+    alloc: A,
+    env: &mut Env<A>,
+    sum: &mut Sum,
+    section: &mut Section,
+    position: &mut Position,
+    in_progress: &mut Option<Record<A>>,
+    piece: &[u8],
+) -> (usize, Result<Event<A>, Stop>)
+    requires here { section.old ≡ Section.Data }
+    requires reading { Reading env.old (state_at position.old in_progress.old) }
+    ensures { DataFed env.old sum.old (state_at position.old in_progress.old) env.new sum.new section.new (state_at position.new in_progress.new) piece.now result.0 result.1 }
+{
+    let (used, answer) = scan_record(alloc, env, position, in_progress, piece);
+    let (taken, _) = piece.split_at(used);
+    sum.add_all(taken);
+    match answer {
+        Ok(None) => (used, Ok(Event::More)),
+        Ok(Some(record)) => {
+            *section = section_of(position.room);
+            (used, Ok(Event::Item(record)))
+        }
+        Err(stop) => (used, Err(stop)),
+    }
+}
+
+/// Bytes of a closing sum.
+pub(crate) fn feed_sum<A: Allocator + Copy>(
+    alloc: A,
+    half: &mut bool,
+    sum: &mut Sum,
+    count: &mut u32,
+    env: &mut Env<A>,
+    section: &mut Section,
+    piece: &[u8],
+) -> (usize, Result<Event<A>, Stop>)
+    requires here { section.old ≡ Section.ClosingSum }
+    requires few { count.old < 16777215 }
+    ensures { SumFed half.old sum.old count.old env.old half.new sum.new count.new env.new section.new piece.now result.0 result.1 }
+{
+    let (used, answer) = scan_sum(sum.value(), half, piece);
+    match answer {
+        Ok(false) => (used, Ok(Event::More)),
+        Ok(true) => {
+            *sum = Sum::new();
+            *count += 1;
+            *env = Env::new(alloc);
+            *section = Section::Header;
+            (used, Ok(Event::FileEnd))
+        }
+        Err(reason) => (used, Err(Stop::Refused(reason))),
+    }
+}
