@@ -19,3 +19,5 @@ pub mod Places
 pub mod Sections
 pub mod Bounds
 mod Refused
+pub mod Sizes
+pub mod Invariant
