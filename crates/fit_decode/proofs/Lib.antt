@@ -21,3 +21,5 @@ pub mod Bounds
 mod Refused
 pub mod Sizes
 pub mod Invariant
+pub mod Advancing
+pub mod Feeding
