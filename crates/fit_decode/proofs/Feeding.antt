@@ -12,11 +12,12 @@ use Rattle.fit_decode.specs.declared.decoder.Decoder.TheInside.{Inside}
 use Rattle.fit_decode.specs.declared.event.Event.{Event as Answer}
 use Rattle.fit_decode.specs.declared.event.Event.TheVariants as answers
 use Rattle.fit_decode.specs.Events.{Event, header, item, file_end}
-use Rattle.fit_decode.specs.Answers.{Seen, told, Quiet, Least, Refuses, Wants}
+use Rattle.fit_decode.specs.Answers.{Seen, told, Quiet, Least, Refuses, Wants, AreChain}
 use Rattle.fit_decode.specs.Refusals.{IsRefused}
 use Rattle.fit_decode.specs.Kept.{Fields, Advanced, Advances, NotRefused, Next, Stand, Holds}
 use Rattle.fit_decode.specs.Invariant.{IsKept, fields_of}
 use Rattle.fit_decode.proofs.Bounds.{short_bytes}
+use Rattle.fit_decode.proofs.Ended.{HasEnded, ended_chain, chain_ended}
 
 -- ---- what is told
 
@@ -93,6 +94,16 @@ module _ {A : Type 0} (d : Inside A) (k : IsKept d) (old : Seen) (seen : record 
 
   pub reason_seen : (was reason : Reason) → d.refusal ≡ Some was → old.refusal ≡ Some reason → was ≡ reason
   reason_seen was reason kept is = let both : Some was ≡ Some reason = sym kept ∙ ap (λ (s : Seen). s.refusal) seen ∙ is in cc
+
+  pub reason_kept : (was : Reason) → d.refusal ≡ Some was → old.refusal ≡ None → ⊥
+  reason_kept was kept fresh = let both : Some was ≡ None = sym kept ∙ ap (λ (s : Seen). s.refusal) seen ∙ fresh in cc
+
+  module _ (none : d.refusal ≡ None) where
+    pub chain_fed : HasEnded (fields_of d) → (old.refusal ≡ None) × AreChain A old.bytes
+    chain_fed ended = (ap (λ (s : Seen). s.refusal) (sym seen) ∙ none, subst (AreChain A) bytes_seen (ended_chain (fields_of d) d.history.items (k.holds none) ended))
+
+    pub ends_with_chain : AreChain A old.bytes → HasEnded (fields_of d)
+    ends_with_chain chain = chain_ended (fields_of d) d.history.items (k.holds none) (subst (AreChain A) (sym bytes_seen) chain)
 
   module _ (none : d.refusal ≡ None) (piece : List ℕ) (new : Fields A) (used : ℕ) (answer : Result (Answer A) Stop) (go : Advances (fields_of d) new piece used answer) where
     seen_told : (is : Result (Answer A) Stop) → answer ≡ is → Advanced old.bytes piece used is

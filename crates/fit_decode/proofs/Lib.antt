@@ -22,4 +22,5 @@ mod Refused
 pub mod Sizes
 pub mod Invariant
 pub mod Advancing
+pub mod Ended
 pub mod Feeding

@@ -1,9 +1,9 @@
 //! The resumable decoder.
-ghost use Rattle.std.specs.Prelude.{◌≡◌, ℕ, ◌<◌, ◌≤◌, [], length, Some, None, Ok, Err, IfOk};
+ghost use Rattle.std.specs.Prelude.{◌≡◌, ◌↔◌, ℕ, ◌<◌, ◌≤◌, [], length, Some, None, Ok, Err, IfOk, IsErr, IsOk, IsTrue};
 ghost use Rattle.fit_frame.specs.declared.reason.Reason.{Reason};
 ghost use Rattle.fit_record.specs.Files.{chain_limit, IsViable};
 ghost use Rattle.fit_decode.specs.Events.{Event as Told};
-ghost use Rattle.fit_decode.specs.Answers.{told, fed, Quiet, Least, Refuses, Wants};
+ghost use Rattle.fit_decode.specs.Answers.{told, fed, Quiet, Least, Refuses, Wants, AreChain};
 
 use crate::section::{Section, feed_section};
 use crate::{Event, Fault, Fed};
@@ -43,6 +43,16 @@ impl<A: Allocator + Copy> Model for Decoder<A> {
     ghost view = { λ d. record { bytes = d.history.items; refusal = d.refusal } };
 
     ghost invariant = { IsKept };
+}
+
+/// Whether files have ended, and no byte has come of a next one.
+fn has_ended(files: u32, section: Section, reader: &HeadReader) -> bool
+    ensures { IsTrue result ↔ ((section ≡ Section.Header) × (0 < files) × (reader.now.bytes ≡ [])) }
+{
+    match section {
+        Section::Header => files > 0 && reader.bytes().is_empty(),
+        Section::Data | Section::ClosingSum => false,
+    }
 }
 
 impl<A: Allocator + Copy> Decoder<A> {
@@ -119,6 +129,26 @@ impl<A: Allocator + Copy> Decoder<A> {
                 }
                 Stop::NoMemory => Err(Fault::NoMemory { used: used as u64 }),
             },
+        }
+    }
+
+    /// Whether the bytes fed are a chain of files. Where they only begin one, `Truncated` names the place behind the
+    /// last byte; after a refusal it is answered again.
+    pub fn finish(&self) -> Result<(), Fault>
+        ensures good { IsOk result ↔ ((self.now.refusal ≡ None) × AreChain A self.now.bytes) }
+        ensures truncated { self.now.refusal ≡ None → IsErr result → result ≡ Err (Fault.Truncated (length self.now.bytes)) }
+        ensures refused { (reason : Reason) → self.now.refusal ≡ Some reason → result ≡ Err (Fault.Refused (length self.now.bytes) reason) }
+    {
+        if let Some(reason) = self.refusal {
+            return Err(Fault::Refused {
+                place: self.count,
+                reason,
+            });
+        }
+        if has_ended(self.files, self.section, &self.reader) {
+            Ok(())
+        } else {
+            Err(Fault::Truncated { place: self.count })
         }
     }
 }
