@@ -19,3 +19,8 @@ pub mod Places
 pub mod Sections
 pub mod Bounds
 mod Refused
+pub mod Sizes
+pub mod Invariant
+pub mod Advancing
+pub mod Ended
+pub mod Feeding

@@ -34,19 +34,13 @@ use Rattle.fit_decode.specs.Refusals.{IsRefused}
 use Rattle.fit_decode.specs.GoingOn.{files_begun, ChainGoesOn}
 use Rattle.fit_decode.specs.Scans.{IsOpen, sum_part}
 use Rattle.fit_decode.specs.Sections.{section_of, position_of, HeaderFed, DataFed, SumFed}
-use Rattle.fit_decode.specs.Kept.{Fields, InHeader, InData, InSum, Holds, HoldsAt, Advanced, NotRefused}
+use Rattle.fit_decode.specs.Kept.{Fields, InHeader, InData, InSum, Holds, HoldsAt, Next}
 use Rattle.fit_decode.proofs.Completions.{goes_viable, fill_data, records_bytes-append, learn_all-append}
 use Rattle.fit_decode.proofs.Next.{whole_header}
 use Rattle.fit_decode.proofs.Whole.{begun_header}
 use Rattle.fit_decode.proofs.HeaderFed.{header_fronts, header_quiet, header_least, header_refuses, full_refuses}
 use Rattle.fit_decode.proofs.SumFed.{sum_fronts, sum_quiet, sum_viable, file_come, file_goes, file_viable, file_least, sum_refuses}
 use Rattle.fit_decode.proofs.DataFed.{data_starts, all_walked, still_on, data_quiet, data_come, data_viable, spelled, starts, item_come, item_least, item_on, item_viable, data_refuses, data_wants}
-
--- What the bytes used tell, and that a chain begins with them; and unless a byte was refused, the fields are those behind them.
-pub record Next {A : Type 0} (d : Fields A) (bytes piece : List ℕ) (used : ℕ) (answer : Result (Answer A) Stop) : Type 0 where
-  pub told : Advanced bytes piece used answer
-  pub viable : IsViable A chain_limit (bytes ++ take used piece)
-  pub holds : NotRefused answer → Holds d (bytes ++ take used piece)
 
 -- ---- where records begin
 

@@ -1,7 +1,8 @@
 -- What a caller of a decoder sees: the bytes fed that weren't refused, and the refusal if there was one.
 use Rattle.std.specs.Prelude.{◌≡◌, ℕ, ◌+◌, ◌<◌, ◌≤◌, List, [], ◌∷◌, ◌++◌, Option, Some, None, take, length, slice_index}
 use Rattle.fit_frame.specs.declared.reason.Reason.{Reason}
-use Rattle.fit_record.specs.Files.{chain_limit, IsViable}
+use Rattle.fit_record.specs.declared.file.FitFile.{FitFile}
+use Rattle.fit_record.specs.Files.{chain_limit, IsChain, IsViable}
 use Rattle.fit_decode.specs.declared.event.Event.{Event as Answer}
 use Rattle.fit_decode.specs.declared.event.Event.TheVariants as answers
 use Rattle.fit_decode.specs.Events.{Event, header, item, file_end, AreEvents}
@@ -46,3 +47,7 @@ pub record Wants (A : Type 0) (old : Seen) (piece : List ℕ) (new : Seen) (used
   pub after : new ≡ fed old piece used
   pub quiet : Quiet A old.bytes piece used
   pub next : IsViable A chain_limit (old.bytes ++ take (used + 1) piece)
+
+-- Some files, one after another, have these bytes.
+abbrev pub AreChain : Type 0 → List ℕ → Type 0
+AreChain A bytes = (files : List (FitFile A)) × IsChain chain_limit files bytes

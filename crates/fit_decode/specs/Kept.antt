@@ -1,5 +1,6 @@
 -- What holds of a decoder's fields behind the bytes fed. No public contract names these.
 use Rattle.std.specs.Prelude.{◌≡◌, ℕ, ◌-◌, ◌<◌, ◌≤◌, Bool, true, false, List, [], ◌++◌, length, take, slice_index, Option, None, Result, Ok, Err, ◌+◌}
+use Rattle.fit_base.specs.Numbers.{IsBytes}
 use Rattle.fit_sum.specs.Checksum.{checksum}
 use Rattle.fit_frame.specs.declared.header.Header.{Header as FileHeader}
 use Rattle.fit_frame.specs.Header.{header_bytes}
@@ -107,3 +108,19 @@ Advanced {A} bytes piece used (Err NoMemory) =
 abbrev pub NotRefused : {A : Type 0} → Result (Answer A) Stop → Type 0
 NotRefused (Err (Refused reason)) = ⊥
 NotRefused answer = Unit {0}
+
+-- What the bytes used tell, and that a chain begins with them; and unless a byte was refused, the fields are those behind them.
+pub record Next {A : Type 0} (d : Fields A) (bytes piece : List ℕ) (used : ℕ) (answer : Result (Answer A) Stop) : Type 0 where
+  pub told : Advanced bytes piece used answer
+  pub viable : IsViable A chain_limit (bytes ++ take used piece)
+  pub holds : NotRefused answer → Holds d (bytes ++ take used piece)
+
+-- The fields are those behind some bytes.
+pub record Stand {A : Type 0} (d : Fields A) : Type 0 where
+  pub bytes : List ℕ
+  pub are : IsBytes bytes
+  pub holds : Holds d bytes
+
+-- Behind bytes of which the old fields are, the piece makes the new ones.
+abbrev pub Advances : {A : Type 0} → Fields A → Fields A → List ℕ → ℕ → Result (Answer A) Stop → Type 0
+Advances old new piece used answer = (bytes : List ℕ) → IsBytes bytes → Holds old bytes → Next new bytes piece used answer

@@ -7,3 +7,4 @@ pub mod Answers
 pub mod Scans
 pub mod Sections
 pub mod Kept
+pub mod Invariant

@@ -1,10 +1,12 @@
 //! Reads FIT files: what the bytes of a chain of files tell, piece by piece.
 #![tactic(auto)]
 
+mod decoder;
 mod event;
 pub mod laws;
 mod record;
 mod scan;
 mod section;
 
+pub use decoder::Decoder;
 pub use event::{Event, Fault, Fed};

@@ -1,6 +1,7 @@
 //! The bytes of a piece that belong to one section of a file: its header, its data section, or its closing sum.
 ghost use Rattle.std.specs.Prelude.{◌≡◌, ◌<◌, None};
 ghost use Rattle.fit_step.specs.Places.{state_at};
+ghost use Rattle.fit_decode.specs.Kept.{Stand, Advances};
 ghost use Rattle.fit_decode.specs.Scans.{IsOpen, Reading};
 ghost use Rattle.fit_decode.specs.Sections.{section_of, HeaderFed, DataFed, SumFed};
 
@@ -118,5 +119,31 @@ pub(crate) fn feed_sum<A: Allocator + Copy>(
             (used, Ok(Event::FileEnd))
         }
         Err(reason) => (used, Err(Stop::Refused(reason))),
+    }
+}
+
+/// Bytes of the section that the next byte belongs to.
+pub(crate) fn feed_section<A: Allocator + Copy>(
+    alloc: A,
+    files: &mut u32,
+    section: &mut Section,
+    half: &mut bool,
+    reader: &mut HeadReader,
+    sum: &mut Sum,
+    env: &mut Env<A>,
+    position: &mut Position,
+    in_progress: &mut Option<Record<A>>,
+    piece: &[u8],
+) -> (usize, Result<Event<A>, Stop>)
+    requires { Stand record { count = files.old; section = section.old; half = half.old; reader = reader.old; sum = sum.old; env = env.old; position = position.old; in_progress = in_progress.old } }
+    ensures { Advances
+        record { count = files.old; section = section.old; half = half.old; reader = reader.old; sum = sum.old; env = env.old; position = position.old; in_progress = in_progress.old }
+        record { count = files.new; section = section.new; half = half.new; reader = reader.new; sum = sum.new; env = env.new; position = position.new; in_progress = in_progress.new }
+        piece.now result.0 result.1 }
+{
+    match *section {
+        Section::Header => feed_header(*files, reader, sum, section, position, piece),
+        Section::Data => feed_data(alloc, env, sum, section, position, in_progress, piece),
+        Section::ClosingSum => feed_sum(alloc, half, sum, files, env, section, piece),
     }
 }

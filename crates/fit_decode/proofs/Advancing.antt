@@ -1,0 +1,79 @@
+-- What a piece makes of the fields, by the section that its first byte belongs to.
+use Rattle.std.proofs.Common.{◌≡◌, ℕ, ◌-◌, ◌<◌, List, [], ◌++◌, length, sym, ap, ◌∙◌, subst, arith, None}
+use Rattle.std.specs.Prelude.{Bool, Option, Result}
+use Rattle.std.proofs.lemmas.List.{append-nil}
+use Rattle.fit_base.specs.Numbers.{IsBytes}
+use Rattle.fit_frame.specs.Header.{header_bytes}
+use Rattle.fit_frame.specs.Beginning.{Seen}
+use Rattle.fit_record.specs.declared.message.Record.{Record}
+use Rattle.fit_record.specs.Environment.{Environment, empty_environment}
+use Rattle.fit_record.specs.Records.{records_bytes}
+use Rattle.fit_record.specs.Files.{chain_bytes, chain_limit}
+use Rattle.fit_step.specs.declared.position.Position.{Position}
+use Rattle.fit_step.specs.declared.stop.Stop.{Stop}
+use Rattle.fit_step.specs.Places.{state_at}
+use Rattle.fit_decode.specs.declared.event.Event.{Event as Answer}
+use Rattle.fit_decode.specs.declared.section.Section.{Section}
+use Rattle.fit_decode.specs.declared.section.Section.TheVariants.{Header, Data, ClosingSum}
+use Rattle.fit_decode.specs.Progress.{at_data, progress_bytes}
+use Rattle.fit_decode.specs.Scans.{IsOpen, Reading}
+use Rattle.fit_decode.specs.Sections.{HeaderFed, DataFed, SumFed}
+use Rattle.fit_decode.specs.Kept.{Fields, InHeader, InData, InSum, HoldsAt, Stand, Advances}
+use Rattle.fit_decode.proofs.Splits.{IsBytes-back}
+use Rattle.fit_decode.proofs.Whole.{no_header_in}
+use Rattle.fit_decode.proofs.Sections.{header_fed, data_fed, sum_fed}
+
+module _ {A : Type 0} {d : Fields A} (s : Stand d) (at : d.section ≡ Header) where
+  in_header : (bytes : List ℕ) → HoldsAt d.section d bytes → InHeader d bytes
+  in_header bytes holds = subst (λ c. HoldsAt c d bytes) at holds
+
+  pub header_fresh : d.reader.refusal ≡ None
+  header_fresh = ap (λ (r : Seen). r.refusal) (in_header s.bytes s.holds).read
+
+  pub header_open : IsOpen d.reader.bytes
+  header_open =
+      let k = in_header s.bytes s.holds in
+      let same : d.sum ≡ d.reader.bytes = sym (ap (λ (r : Seen). r.bytes) k.read) in
+      subst IsOpen same (k.goes.2, λ whole. no_header_in A d.sum k.come.next whole.header whole.data_size [] whole.is.0.0 (whole.is.0.1 ∙ sym (append-nil (header_bytes whole.header whole.data_size))))
+
+  pub header_advances : (piece : List ℕ) → IsBytes piece → (reader : Seen) (sum : List ℕ) (section : Section) (position : Position) (used : ℕ) (answer : Result (Answer A) Stop)
+      → HeaderFed d.count d.reader.bytes d.sum d.section d.position reader sum section position piece used answer
+      → Advances d (record d { section = section; reader = reader; sum = sum; position = position }) piece used answer
+  header_advances piece low reader sum section position used answer fed = λ bytes are holds.
+      header_fed d bytes piece (in_header bytes holds) are low reader sum section position used answer
+      (subst (λ c. HeaderFed d.count d.reader.bytes d.sum c d.position reader sum section position piece used answer) at fed)
+
+module _ {A : Type 0} {d : Fields A} (s : Stand d) (at : d.section ≡ Data) where
+  in_data : (bytes : List ℕ) → HoldsAt d.section d bytes → InData d bytes
+  in_data bytes holds = subst (λ c. HoldsAt c d bytes) at holds
+
+  pub data_reading : Reading d.env (state_at d.position d.in_progress)
+  data_reading =
+      let k = in_data s.bytes s.holds in
+      let next : List ℕ = progress_bytes (at_data k.header k.size k.records k.part) in
+      record {
+        room = k.size - length (records_bytes empty_environment k.records);
+        part = k.part;
+        some = k.some;
+        are_bytes = IsBytes-back (header_bytes k.header k.size ++ records_bytes empty_environment k.records) k.part (IsBytes-back (chain_bytes k.files) next (subst IsBytes k.come.spelled s.are));
+        walk = k.walk;
+      }
+
+  pub data_advances : (piece : List ℕ) → IsBytes piece → (sum : List ℕ) (section : Section) (env : Environment A) (position : Position) (in_progress : Option (Record A)) (used : ℕ) (answer : Result (Answer A) Stop)
+      → DataFed d.env d.sum (state_at d.position d.in_progress) env sum section (state_at position in_progress) piece used answer
+      → Advances d (record d { env = env; section = section; sum = sum; position = position; in_progress = in_progress }) piece used answer
+  data_advances piece low sum section env position in_progress used answer fed = λ bytes are holds.
+      data_fed d bytes piece (in_data bytes holds) are low sum section env position in_progress used answer fed
+
+module _ {A : Type 0} {d : Fields A} (s : Stand d) (at : d.section ≡ ClosingSum) where
+  in_sum : (bytes : List ℕ) → HoldsAt d.section d bytes → InSum d bytes
+  in_sum bytes holds = subst (λ c. HoldsAt c d bytes) at holds
+
+  pub sum_few : d.count < chain_limit
+  sum_few = let k = in_sum s.bytes s.holds in omega (arith, k.few, k.counted)
+
+  pub sum_advances : (piece : List ℕ) → IsBytes piece → (half : Bool) (sum : List ℕ) (now : ℕ) (env : Environment A) (section : Section) (used : ℕ) (answer : Result (Answer A) Stop)
+      → SumFed d.half d.sum d.count d.env half sum now env section piece used answer
+      → Advances d (record d { count = now; env = env; section = section; half = half; sum = sum }) piece used answer
+  sum_advances piece low half sum now env section used answer fed = λ bytes are holds.
+      sum_fed d bytes piece (in_sum bytes holds) are low half sum now env section used answer fed

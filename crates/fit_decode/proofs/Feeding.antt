@@ -1,0 +1,139 @@
+-- What a caller of `feed` sees: that the invariant is kept, and what is told of the bytes used.
+use Rattle.std.proofs.Common.{◌≡◌, ℕ, ◌+◌, ◌<◌, ◌≤◌, List, ◌++◌, length, take, slice_index, sym, ap, ◌∙◌, subst, arith, length-append, Fits, w64, Some, None, Ok, Err}
+use Rattle.std.specs.Prelude.{Result}
+use Rattle.std.proofs.lemmas.List.{length-take-le}
+use Rattle.fit_base.specs.Numbers.{IsBytes}
+use Rattle.fit_base.proofs.NumberLaws.{IsBytes-append, IsBytes-take}
+use Rattle.fit_frame.specs.declared.reason.Reason.{Reason}
+use Rattle.fit_record.specs.Files.{chain_limit, IsViable}
+use Rattle.fit_step.specs.declared.stop.Stop.{Stop}
+use Rattle.fit_step.specs.declared.stop.Stop.TheVariants.{Refused, NoMemory}
+use Rattle.fit_decode.specs.declared.decoder.Decoder.TheInside.{Inside}
+use Rattle.fit_decode.specs.declared.event.Event.{Event as Answer}
+use Rattle.fit_decode.specs.declared.event.Event.TheVariants as answers
+use Rattle.fit_decode.specs.Events.{Event, header, item, file_end}
+use Rattle.fit_decode.specs.Answers.{Seen, told, Quiet, Least, Refuses, Wants, AreChain}
+use Rattle.fit_decode.specs.Refusals.{IsRefused}
+use Rattle.fit_decode.specs.Kept.{Fields, Advanced, Advances, NotRefused, Next, Stand, Holds}
+use Rattle.fit_decode.specs.Invariant.{IsKept, fields_of}
+use Rattle.fit_decode.proofs.Bounds.{short_bytes}
+use Rattle.fit_decode.proofs.Ended.{HasEnded, ended_chain, chain_ended}
+
+-- ---- what is told
+
+used_at_most : {A : Type 0} (bytes piece : List ℕ) (used : ℕ) (answer : Result (Answer A) Stop) → Advanced bytes piece used answer → used ≤ length piece
+used_at_most bytes piece used (Ok answers.More) t = omega (arith, t.0)
+used_at_most bytes piece used (Ok (answers.Header h n)) t = t.1
+used_at_most bytes piece used (Ok (answers.Item r)) t = t.1
+used_at_most bytes piece used (Ok answers.FileEnd) t = t.1
+used_at_most bytes piece used (Err (Refused reason)) t = omega (arith, t.0)
+used_at_most bytes piece used (Err NoMemory) t = omega (arith, t.0)
+
+tells_none : {A : Type 0} (bytes piece : List ℕ) (used : ℕ) (event : Answer A) → Advanced bytes piece used (Ok event) → told event ≡ None → (used ≡ length piece) × Quiet A bytes piece used
+tells_none bytes piece used answers.More t is = t
+tells_none bytes piece used (answers.Header h n) t is = absurd cc
+tells_none bytes piece used (answers.Item r) t is = absurd cc
+tells_none bytes piece used answers.FileEnd t is = absurd cc
+
+tells_one : {A : Type 0} (bytes piece : List ℕ) (used : ℕ) (event : Answer A) → Advanced bytes piece used (Ok event) → (x : Event A) → told event ≡ Some x → (0 < used) × Least A bytes piece used x
+tells_one bytes piece used answers.More t x is = absurd cc
+tells_one {A} bytes piece used (answers.Header h n) t x is = let same : header h n ≡ x = cc in (t.0, subst (Least A bytes piece used) same t.2)
+tells_one {A} bytes piece used (answers.Item r) t x is = let same : item r ≡ x = cc in (t.0, subst (Least A bytes piece used) same t.2)
+tells_one {A} bytes piece used answers.FileEnd t x is = let same : file_end ≡ x = cc in (t.0, subst (Least A bytes piece used) same t.2)
+
+pub not_refused : {A : Type 0} (answer : Result (Answer A) Stop) (event : Answer A) → answer ≡ Ok event → NotRefused answer
+not_refused {A} answer event is = subst (NotRefused {A = A}) (sym is) tt
+
+pub not_for_memory : {A : Type 0} (answer : Result (Answer A) Stop) → answer ≡ Err NoMemory → NotRefused answer
+not_for_memory {A} answer is = subst (NotRefused {A = A}) (sym is) tt
+
+pub stopped : {A : Type 0} (answer : Result (Answer A) Stop) (stop other : Stop) → answer ≡ Err stop → stop ≡ other → answer ≡ Err other
+stopped answer stop other is same = is ∙ ap Err same
+
+-- ---- the invariant
+
+pub stands : {A : Type 0} (d : Inside A) → IsKept d → d.refusal ≡ None → Stand (fields_of d)
+stands d k none = record { bytes = d.history.items; are = k.are; holds = k.holds none }
+
+module _ {A : Type 0} (d : Inside A) (k : IsKept d) (none : d.refusal ≡ None) (piece : List ℕ) (new : Fields A) (used : ℕ) (answer : Result (Answer A) Stop) (go : Advances (fields_of d) new piece used answer) where
+  next : Next new d.history.items piece used answer
+  next = go d.history.items k.are (k.holds none)
+
+  pub within : used ≤ length piece
+  within = used_at_most d.history.items piece used answer next.told
+
+  more_bytes : length (d.history.items ++ take used piece) ≡ d.count + used
+  more_bytes = omega (arith, length-append d.history.items (take used piece), k.counted, length-take-le used piece within)
+
+  pub few_bytes : Fits w64 (d.count + used)
+  few_bytes = omega (arith, more_bytes, short_bytes (d.history.items ++ take used piece) next.viable)
+
+  module _ (low : IsBytes piece) (n : Inside A) (same : fields_of n ≡ new) (took : n.history.items ≡ d.history.items ++ take used piece) where
+    pub still_viable : IsViable A chain_limit n.history.items
+    still_viable = subst (IsViable A chain_limit) (sym took) next.viable
+
+    pub still_kept : n.count ≡ d.count + used → (n.refusal ≡ None → NotRefused answer) → IsKept n
+    still_kept counted refused = record {
+      viable = still_viable;
+      are = subst IsBytes (sym took) (IsBytes-append d.history.items (take used piece) k.are (IsBytes-take used piece low));
+      counted = counted ∙ sym more_bytes ∙ ap length (sym took);
+      holds = λ fresh. subst (λ f. Holds f n.history.items) (sym same) (subst (Holds new) (sym took) (next.holds (refused fresh)));
+    }
+
+-- ---- the clauses
+
+module _ {A : Type 0} (d : Inside A) (k : IsKept d) (old : Seen) (seen : record { bytes = d.history.items; refusal = d.refusal } ≡ old) where
+  bytes_seen : d.history.items ≡ old.bytes
+  bytes_seen = ap (λ (s : Seen). s.bytes) seen
+
+  pub was_viable : IsViable A chain_limit old.bytes
+  was_viable = subst (IsViable A chain_limit) bytes_seen k.viable
+
+  pub place_seen : d.count ≡ length old.bytes
+  place_seen = k.counted ∙ ap length bytes_seen
+
+  pub reason_seen : (was reason : Reason) → d.refusal ≡ Some was → old.refusal ≡ Some reason → was ≡ reason
+  reason_seen was reason kept is = let both : Some was ≡ Some reason = sym kept ∙ ap (λ (s : Seen). s.refusal) seen ∙ is in cc
+
+  pub reason_kept : (was : Reason) → d.refusal ≡ Some was → old.refusal ≡ None → ⊥
+  reason_kept was kept fresh = let both : Some was ≡ None = sym kept ∙ ap (λ (s : Seen). s.refusal) seen ∙ fresh in cc
+
+  module _ (none : d.refusal ≡ None) where
+    pub chain_fed : HasEnded (fields_of d) → (old.refusal ≡ None) × AreChain A old.bytes
+    chain_fed ended = (ap (λ (s : Seen). s.refusal) (sym seen) ∙ none, subst (AreChain A) bytes_seen (ended_chain (fields_of d) d.history.items (k.holds none) ended))
+
+    pub ends_with_chain : AreChain A old.bytes → HasEnded (fields_of d)
+    ends_with_chain chain = chain_ended (fields_of d) d.history.items (k.holds none) (subst (AreChain A) (sym bytes_seen) chain)
+
+  module _ (none : d.refusal ≡ None) (piece : List ℕ) (new : Fields A) (used : ℕ) (answer : Result (Answer A) Stop) (go : Advances (fields_of d) new piece used answer) where
+    seen_told : (is : Result (Answer A) Stop) → answer ≡ is → Advanced old.bytes piece used is
+    seen_told is same = subst (Advanced old.bytes piece used) same (subst (λ b. Advanced b piece used answer) bytes_seen (next d k none piece new used answer go).told)
+
+    pub no_event : (event : Answer A) → answer ≡ Ok event → told event ≡ None → (used ≡ length piece) × Quiet A old.bytes piece used
+    no_event event is = tells_none old.bytes piece used event (seen_told (Ok event) is)
+
+    pub one_event : (event : Answer A) → answer ≡ Ok event → (x : Event A) → told event ≡ Some x → (0 < used) × Least A old.bytes piece used x
+    one_event event is = tells_one old.bytes piece used event (seen_told (Ok event) is)
+
+    pub refuses : (reason : Reason) → answer ≡ Err (Refused reason) → (bytes : List ℕ) → bytes ≡ d.history.items ++ take used piece → (place : ℕ) (why : Reason) → d.count + used ≡ place → reason ≡ why
+        → Refuses A old piece (record { bytes = bytes; refusal = Some reason }) place why
+    refuses reason is bytes took place why at same =
+        let t = seen_told (Err (Refused reason)) is in
+        record {
+          used = used;
+          within = t.0;
+          is_place = omega (arith, at, place_seen);
+          after = λ i. record { bytes = (took ∙ ap (λ b. b ++ take used piece) bytes_seen) i; refusal = Some (same i) };
+          quiet = t.1;
+          why = subst (IsRefused A chain_limit (old.bytes ++ take used piece) (slice_index piece used)) same t.2;
+        }
+
+    pub wants : answer ≡ Err NoMemory → (bytes : List ℕ) → bytes ≡ d.history.items ++ take used piece → (count : ℕ) → used ≡ count → Wants A old piece (record { bytes = bytes; refusal = d.refusal }) count
+    wants is bytes took count same =
+        let t = seen_told (Err NoMemory) is in
+        subst (Wants A old piece (record { bytes = bytes; refusal = d.refusal })) same (record {
+          within = t.0;
+          after = λ i. record { bytes = (took ∙ ap (λ b. b ++ take used piece) bytes_seen) i; refusal = none i };
+          quiet = t.1;
+          next = t.2;
+        })

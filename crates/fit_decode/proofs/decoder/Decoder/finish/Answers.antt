@@ -1,0 +1,30 @@
+use Rattle.std.proofs.Common.{◌≡◌, length, refl, sym, ◌∙◌, Err, true}
+use Rattle.fit_decode.specs.declared.event.Fault.TheVariants.{Refused, Truncated}
+use Rattle.fit_decode.proofs.Feeding.{place_seen, reason_seen, reason_kept, chain_fed, ends_with_chain}
+use Rattle.fit_decode.proofs.decoder.Decoder.finish.Goals as goal
+
+pub returns-in-Some-clause-good : goal.returns-in-Some-clause-good
+returns-in-Some-clause-good g c = (λ never. absurd cc, λ both. absurd (reason_kept c.self.inside c.self.invariant c.args.self.now c.self.view_is c.in-Some.reason c.in-Some.is both.0))
+
+pub returns-in-Some-clause-refused : goal.returns-in-Some-clause-refused
+returns-in-Some-clause-refused g c = λ reason is.
+    let place : c.self.inside.count ≡ length c.args.self.now.bytes = place_seen c.self.inside c.self.invariant c.args.self.now c.self.view_is in
+    let same : c.in-Some.reason ≡ reason = reason_seen c.self.inside c.self.invariant c.args.self.now c.self.view_is c.in-Some.reason reason c.in-Some.is is in
+    λ i. Err (Refused (place i) (same i))
+
+pub returns-then-has_ended-clause-good : goal.returns-then-has_ended-clause-good
+returns-then-has_ended-clause-good g c =
+    (λ is. chain_fed c.self.inside c.self.invariant c.args.self.now c.self.view_is c.in_default.is (c.has_ended.ensures.0 c.if-has_ended.true), λ both. refl)
+
+pub returns-else-has_ended-clause-good : goal.returns-else-has_ended-clause-good
+returns-else-has_ended-clause-good g c = (
+  λ never. absurd cc,
+  λ both.
+      let ended : c.has_ended.result ≡ true = c.has_ended.ensures.1 (ends_with_chain c.self.inside c.self.invariant c.args.self.now c.self.view_is c.in_default.is both.1) in
+      sym c.if-has_ended.false ∙ ended,
+)
+
+pub returns-else-has_ended-clause-truncated : goal.returns-else-has_ended-clause-truncated
+returns-else-has_ended-clause-truncated g c = λ fresh bad.
+    let place : c.self.inside.count ≡ length c.args.self.now.bytes = place_seen c.self.inside c.self.invariant c.args.self.now c.self.view_is in
+    λ i. Err (Truncated (place i))

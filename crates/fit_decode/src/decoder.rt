@@ -1,0 +1,154 @@
+//! The resumable decoder.
+ghost use Rattle.std.specs.Prelude.{◌≡◌, ◌↔◌, ℕ, ◌<◌, ◌≤◌, [], length, Some, None, Ok, Err, IfOk, IsErr, IsOk, IsTrue};
+ghost use Rattle.fit_frame.specs.declared.reason.Reason.{Reason};
+ghost use Rattle.fit_record.specs.Files.{chain_limit, IsViable};
+ghost use Rattle.fit_decode.specs.Events.{Event as Told};
+ghost use Rattle.fit_decode.specs.Answers.{told, fed, Quiet, Least, Refuses, Wants, AreChain};
+
+use crate::section::{Section, feed_section};
+use crate::{Event, Fault, Fed};
+use fit_frame::{HeadReader, Reason};
+use fit_history::History;
+use fit_record::{Env, Record};
+use fit_step::{Position, Stop};
+use fit_sum::Sum;
+use std::alloc::{Allocator, Global};
+use std::marker::Model;
+
+/// Reads a chain of FIT files as their bytes come, in pieces of any length.
+///
+/// Clauses see the bytes fed that weren't refused, and the refusal if there was one.
+#[derive(Drop)]
+pub struct Decoder<A: Allocator + Copy = Global> {
+    alloc: A,
+    reader: HeadReader,
+    sum: Sum,
+    env: Env<A>,
+    in_progress: Option<Record<A>>,
+    position: Position,
+    section: Section,
+    half: bool,
+    files: u32,
+    count: u64,
+    refusal: Option<Reason>,
+    history: History<u8>,
+}
+
+impl<A: Allocator + Copy> Model for Decoder<A> {
+    ghost use Rattle.fit_decode.specs.Answers.{Seen};
+    ghost use Rattle.fit_decode.specs.Invariant.{IsKept};
+
+    ghost Value = { Seen };
+
+    ghost view = { λ d. record { bytes = d.history.items; refusal = d.refusal } };
+
+    ghost invariant = { IsKept };
+}
+
+/// Whether files have ended, and no byte has come of a next one.
+fn has_ended(files: u32, section: Section, reader: &HeadReader) -> bool
+    ensures { IsTrue result ↔ ((section ≡ Section.Header) × (0 < files) × (reader.now.bytes ≡ [])) }
+{
+    match section {
+        Section::Header => files > 0 && reader.bytes().is_empty(),
+        Section::Data | Section::ClosingSum => false,
+    }
+}
+
+impl<A: Allocator + Copy> Decoder<A> {
+    /// A decoder to which no byte was fed.
+    pub fn new(alloc: A) -> Self
+        ensures { result ≡ record { bytes = []; refusal = None } }
+    {
+        Decoder {
+            alloc,
+            reader: HeadReader::new(),
+            sum: Sum::new(),
+            env: Env::new(alloc),
+            in_progress: None,
+            position: Position::new(0),
+            section: Section::Header,
+            half: false,
+            files: 0,
+            count: 0,
+            refusal: None,
+            history: History::new(),
+        }
+    }
+
+    /// Takes the next piece, up to the byte that completes an event. `More` is answered where the whole piece was used
+    /// and completed none.
+    ///
+    /// `Refused` names the first byte with which the bytes fed begin no chain of files, and why; after it each call
+    /// answers it again. With `NoMemory` the first `used` bytes of the piece count as fed, and the rest may be fed again.
+    pub fn feed(&mut self, piece: &[u8]) -> Result<Fed<A>, Fault>
+        // After a refusal each call answers it again.
+        ensures latched { (reason : Reason) → self.old.refusal ≡ Some reason → (result ≡ Err (Fault.Refused (length self.old.bytes) reason)) × (self.new ≡ self.old) }
+        ensures used { IfOk result (λ f. (f.used ≤ length piece.now) × (self.new ≡ fed self.old piece.now f.used)) }
+        // Without an event the whole piece is used, and tells none.
+        ensures more { IfOk result (λ f. told f.event ≡ None → (f.used ≡ length piece.now) × Quiet A self.old.bytes piece.now f.used) }
+        // An event is told by the bytes used, and by no fewer.
+        ensures event { IfOk result (λ f. (x : Told A) → told f.event ≡ Some x → (0 < f.used) × Least A self.old.bytes piece.now f.used x) }
+        // The first refusal is of the first byte with which the bytes begin no chain.
+        ensures refused { (place : ℕ) (reason : Reason) → self.old.refusal ≡ None → result ≡ Err (Fault.Refused place reason) → Refuses A self.old piece.now self.new place reason }
+        ensures memory { (used : ℕ) → result ≡ Err (Fault.NoMemory used) → Wants A self.old piece.now self.new used }
+        ensures others { (place : ℕ) → (result ≡ Err (Fault.Truncated place) → ⊥) × (result ≡ Err (Fault.Read place) → ⊥) }
+        // Bytes that aren't refused begin a chain.
+        ensures viable { IsViable A chain_limit self.new.bytes }
+    {
+        if let Some(reason) = self.refusal {
+            return Err(Fault::Refused {
+                place: self.count,
+                reason,
+            });
+        }
+        let (used, answer) = feed_section(
+            self.alloc,
+            &mut self.files,
+            &mut self.section,
+            &mut self.half,
+            &mut self.reader,
+            &mut self.sum,
+            &mut self.env,
+            &mut self.position,
+            &mut self.in_progress,
+            piece,
+        );
+        let (taken, _) = piece.split_at(used);
+        self.history.note(taken);
+        self.count += used as u64;
+        match answer {
+            Ok(event) => Ok(Fed { used, event }),
+            Err(stop) => match stop {
+                Stop::Refused(reason) => {
+                    self.refusal = Some(reason);
+                    Err(Fault::Refused {
+                        place: self.count,
+                        reason,
+                    })
+                }
+                Stop::NoMemory => Err(Fault::NoMemory { used: used as u64 }),
+            },
+        }
+    }
+
+    /// Whether the bytes fed are a chain of files. Where they only begin one, `Truncated` names the place behind the
+    /// last byte; after a refusal it is answered again.
+    pub fn finish(&self) -> Result<(), Fault>
+        ensures good { IsOk result ↔ ((self.now.refusal ≡ None) × AreChain A self.now.bytes) }
+        ensures truncated { self.now.refusal ≡ None → IsErr result → result ≡ Err (Fault.Truncated (length self.now.bytes)) }
+        ensures refused { (reason : Reason) → self.now.refusal ≡ Some reason → result ≡ Err (Fault.Refused (length self.now.bytes) reason) }
+    {
+        if let Some(reason) = self.refusal {
+            return Err(Fault::Refused {
+                place: self.count,
+                reason,
+            });
+        }
+        if has_ended(self.files, self.section, &self.reader) {
+            Ok(())
+        } else {
+            Err(Fault::Truncated { place: self.count })
+        }
+    }
+}
