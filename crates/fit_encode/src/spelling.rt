@@ -89,10 +89,12 @@ impl Spelling {
         requires bits { bits < 256 ^ width }
         ensures { Sends (K.contents sink.old) (K.contents sink.new) (K.has_failed sink.new) self.old self.new (number_bytes order width bits) result }
     {
-        let mut room = [0; 8];
-        let (bytes, _) = room.split_at_mut(width as usize);
-        put_bits(order, width, bits, bytes);
-        self.bytes(sink, bytes)
+        match width {
+            1 => self.bytes(sink, &bytes_of::<1>(order, bits)),
+            2 => self.bytes(sink, &bytes_of::<2>(order, bits)),
+            4 => self.bytes(sink, &bytes_of::<4>(order, bits)),
+            _ => self.bytes(sink, &bytes_of::<8>(order, bits)),
+        }
     }
 
     /// Sends what is held back, and then the checksum of all bytes of the file (FIT protocol, "CRC").
@@ -119,6 +121,17 @@ impl Spelling {
     {
         self.sum.value()
     }
+}
+
+/// The bytes of a number. Bytes whose number the compiler knows are copied without a call.
+fn bytes_of<const WIDTH: usize>(order: Order, bits: u64) -> [u8; WIDTH]
+    requires width { (WIDTH ≡ 1) ⊎ (WIDTH ≡ 2) ⊎ (WIDTH ≡ 4) ⊎ (WIDTH ≡ 8) }
+    requires bits { bits < 256 ^ WIDTH }
+    ensures { result ≡ number_bytes order WIDTH bits }
+{
+    let mut bytes = [0; WIDTH];
+    put_bits(order, WIDTH as u8, bits, &mut bytes);
+    bytes
 }
 
 /// The bytes of a checksum, the lowest first.

@@ -47,6 +47,21 @@ fn define(
     })
 }
 
+/// A definition message without fields, and its data message of one byte.
+fn one_byte_message(
+    alloc: Global,
+    reserved: u8,
+    dev: Option<Entries<DevDef>>,
+) -> Result<Vec<Record>, AllocError> {
+    let mut definition = define(alloc, 0, 20, &[])?;
+    definition.reserved = reserved;
+    definition.dev = dev;
+    let mut records = Vec::new(alloc);
+    records.push(Record::Define(definition))?;
+    records.push(values(alloc, 0, None, &[])?)?;
+    Ok(records)
+}
+
 /// The items of fields, by their width.
 fn fields_of(alloc: Global, fields: &[(u8, &[u64])]) -> Result<Entries<Items>, AllocError> {
     let mut list = Entries::new(alloc);
@@ -145,6 +160,8 @@ fn written(
 
 #[test]
 fn headers_alone(rt: HostRuntime) {
+    let mut longer = header(16, 0, HeaderSum::True);
+    assert!(rt; longer.rest.try_extend_from_slice(b"AB").is_ok());
     let rows = [
         (
             header(14, 0, HeaderSum::True),
@@ -162,6 +179,7 @@ fn headers_alone(rt: HostRuntime) {
             header(14, 46477, HeaderSum::True),
             b"\x0E\x20\x8D\xB5\0\0\0\0.FIT\0\0\0\0",
         ),
+        (longer, b"\x10\x20\0\0\0\0\0\0.FIT\xB4\xADAB\xB0\x61"),
     ];
     for (header, bytes) in rows {
         let (answer, sink) = written(rt.alloc(), 70, header, Vec::new(rt.alloc()));
@@ -173,11 +191,19 @@ fn headers_alone(rt: HostRuntime) {
 #[test]
 fn files_with_records(rt: HostRuntime) -> Result<(), Fail> {
     let alloc = rt.alloc();
-    let mut small = Vec::new(alloc);
-    small.push(Record::Define(define(alloc, 0, 20, &[])?))?;
-    small.push(values(alloc, 0, None, &[])?)?;
     let rows = [
-        (small, ONE_BYTE_MESSAGE.as_slice()),
+        (
+            one_byte_message(alloc, 0, None)?,
+            ONE_BYTE_MESSAGE.as_slice(),
+        ),
+        (
+            one_byte_message(alloc, 7, None)?,
+            b"\x0E\x20\0\0\x07\0\0\0.FIT\xDD\x63\x40\x07\0\x14\0\0\0\x45\x83",
+        ),
+        (
+            one_byte_message(alloc, 0, Some(Entries::new(alloc)))?,
+            b"\x0E\x20\0\0\x08\0\0\0.FIT\x9D\x23\x60\0\0\x14\0\0\0\0\x36\x2B",
+        ),
         (
             both_orders(alloc, 120)?,
             b"\x0E\x20\0\0\x24\0\0\0.FIT\x9F\x6E\
