@@ -4,6 +4,7 @@
 mod decoder;
 mod event;
 pub mod laws;
+mod need;
 mod record;
 mod scan;
 mod section;
