@@ -8,6 +8,8 @@ mod need;
 mod record;
 mod scan;
 mod section;
+#[cfg(test)]
+mod tests;
 
 pub use decoder::Decoder;
 pub use event::{Event, Fault, Fed};
