@@ -24,3 +24,4 @@ pub mod Invariant
 pub mod Advancing
 pub mod Ended
 pub mod Feeding
+pub mod Needed

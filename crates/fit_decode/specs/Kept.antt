@@ -1,5 +1,5 @@
 -- What holds of a decoder's fields behind the bytes fed. No public contract names these.
-use Rattle.std.specs.Prelude.{◌≡◌, ℕ, ◌-◌, ◌<◌, ◌≤◌, Bool, true, false, List, [], ◌++◌, length, take, slice_index, Option, None, Result, Ok, Err, ◌+◌}
+use Rattle.std.specs.Prelude.{◌≡◌, ℕ, ◌-◌, ◌<◌, ◌≤◌, Bool, true, false, if◌then◌else◌, List, [], ◌++◌, length, take, slice_index, Option, None, Result, Ok, Err, ◌+◌}
 use Rattle.fit_base.specs.Numbers.{IsBytes}
 use Rattle.fit_sum.specs.Checksum.{checksum}
 use Rattle.fit_frame.specs.declared.header.Header.{Header as FileHeader}
@@ -26,6 +26,7 @@ use Rattle.fit_decode.specs.Events.{header, item, file_end}
 use Rattle.fit_decode.specs.GoingOn.{ChainGoesOn}
 use Rattle.fit_decode.specs.Refusals.{IsRefused}
 use Rattle.fit_decode.specs.Answers.{Quiet, Least}
+use Rattle.fit_decode.specs.Needs.{missing}
 use Rattle.fit_decode.specs.Scans.{sum_part}
 
 -- A decoder's fields, but for the count of the bytes and the refusal: how many files have ended, the section that the next
@@ -124,3 +125,9 @@ pub record Stand {A : Type 0} (d : Fields A) : Type 0 where
 -- Behind bytes of which the old fields are, the piece makes the new ones.
 abbrev pub Advances : {A : Type 0} → Fields A → Fields A → List ℕ → ℕ → Result (Answer A) Stop → Type 0
 Advances old new piece used answer = (bytes : List ℕ) → IsBytes bytes → Holds old bytes → Next new bytes piece used answer
+
+-- How many bytes are to come, by the fields.
+abbrev pub to_come : ℕ → Section → Bool → List ℕ → ℕ → ℕ
+to_come files Header half front room = missing {A = Unit {0}} files (at_header front)
+to_come files Data half front room = room + 2
+to_come files ClosingSum half front room = if half then 1 else 2

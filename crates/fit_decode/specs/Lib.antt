@@ -4,6 +4,7 @@ pub mod GoingOn
 pub mod Refusals
 pub mod Laws
 pub mod Answers
+pub mod Needs
 pub mod Scans
 pub mod Sections
 pub mod Kept

@@ -3,8 +3,10 @@ ghost use Rattle.std.specs.Prelude.{◌≡◌, ◌↔◌, ℕ, ◌<◌, ◌≤�
 ghost use Rattle.fit_frame.specs.declared.reason.Reason.{Reason};
 ghost use Rattle.fit_record.specs.Files.{chain_limit, IsViable};
 ghost use Rattle.fit_decode.specs.Events.{Event as Told};
+ghost use Rattle.fit_decode.specs.Needs.{Needs};
 ghost use Rattle.fit_decode.specs.Answers.{told, fed, Quiet, Least, Refuses, Wants, AreChain};
 
+use crate::need::bytes_to_come;
 use crate::section::{Section, feed_section};
 use crate::{Event, Fault, Fed};
 use fit_frame::{HeadReader, Reason};
@@ -150,5 +152,23 @@ impl<A: Allocator + Copy> Decoder<A> {
         } else {
             Err(Fault::Truncated { place: self.count })
         }
+    }
+
+    /// How many bytes are to come at least until a file ends: before a file 14, or 1 where no file may follow, and
+    /// after a refusal 0. From the place of its data size on, a header tells the data section too.
+    pub fn need(&self) -> u64
+        ensures refused { (reason : Reason) → self.now.refusal ≡ Some reason → result ≡ 0 }
+        ensures need { self.now.refusal ≡ None → Needs A self.now.bytes result }
+    {
+        if self.refusal.is_some() {
+            return 0;
+        }
+        bytes_to_come(
+            self.files,
+            self.section,
+            self.half,
+            self.reader.bytes(),
+            self.position.room,
+        )
     }
 }

@@ -4,9 +4,12 @@
 mod decoder;
 mod event;
 pub mod laws;
+mod need;
 mod record;
 mod scan;
 mod section;
+#[cfg(test)]
+mod tests;
 
 pub use decoder::Decoder;
 pub use event::{Event, Fault, Fed};

@@ -15,7 +15,7 @@ use fit_sum::Sum;
 use std::alloc::Allocator;
 
 /// The most files of a chain.
-const CHAIN_LIMIT: u32 = 16_777_215;
+pub(crate) const CHAIN_LIMIT: u32 = 16_777_215;
 
 /// The section of a file that the next byte belongs to.
 #[derive(Clone, Copy, Drop)]

@@ -1,0 +1,71 @@
+-- How many bytes are to come, by the fields, are those that are missing by the bytes fed.
+use Rattle.std.proofs.Common.{◌≡◌, ℕ, ◌+◌, ◌-◌, ◌<◌, ◌^◌, Bool, true, false, List, [], ◌∷◌, ◌++◌, length, take, drop, refl, sym, ap, ◌∙◌, subst, arith, None}
+use Rattle.std.specs.Prelude.{if◌then◌else◌}
+use Rattle.fit_base.specs.declared.number.Order.TheVariants.{Little}
+use Rattle.fit_base.specs.Numbers.{IsBytes, number}
+use Rattle.fit_base.proofs.NumberLaws.{IsBytes-take, IsBytes-drop, number-below}
+use Rattle.fit_sum.specs.Checksum.{checksum}
+use Rattle.fit_frame.specs.Header.{header_bytes}
+use Rattle.fit_frame.specs.Beginning.{Seen}
+use Rattle.fit_record.specs.Environment.{empty_environment}
+use Rattle.fit_record.specs.Records.{records_bytes}
+use Rattle.fit_record.specs.Files.{chain_bytes}
+use Rattle.fit_step.specs.Places.{state_at}
+use Rattle.fit_decode.specs.declared.decoder.Decoder.TheInside.{Inside}
+use Rattle.fit_decode.specs.declared.section.Section.{Section}
+use Rattle.fit_decode.specs.declared.section.Section.TheVariants.{Header, Data, ClosingSum}
+use Rattle.fit_decode.specs.Progress.{at_header, at_data, progress_bytes}
+use Rattle.fit_decode.specs.Needs.{missing, Needs}
+use Rattle.fit_decode.specs.Answers.{Seen as Fed}
+use Rattle.fit_decode.specs.Scans.{sum_part}
+use Rattle.fit_decode.specs.Kept.{Fields, HoldsAt, Holds, to_come}
+use Rattle.fit_decode.specs.Invariant.{IsKept, fields_of}
+use Rattle.fit_decode.proofs.Splits.{IsBytes-back}
+use Rattle.fit_decode.proofs.Walked.{come}
+
+-- the number in four bytes
+pub four_bytes_below : (all some bytes : List ℕ) (n : ℕ) → IsBytes all → some ≡ drop 4 all → bytes ≡ take 4 some → length bytes ≡ 4 → n ≡ number Little bytes → n < 4294967296
+four_bytes_below all some bytes n are behind is four same =
+    let low : IsBytes bytes = subst IsBytes (sym is) (IsBytes-take 4 some (subst IsBytes (sym behind) (IsBytes-drop 4 all are))) in
+    let below : number Little bytes < 4294967296 = subst (λ k. number Little bytes < 256 ^ k) four (number-below Little bytes low) in
+    omega (arith, below, same)
+
+same_missing : (A B : Type 0) (files : ℕ) (front : List ℕ) → missing {A = A} files (at_header front) ≡ missing {A = B} files (at_header front)
+same_missing A B files [] = refl
+same_missing A B files (b ∷ front) = refl
+
+sum_left : (n : ℕ) (half : Bool) → (if half then 1 else 2) + length (sum_part n half) ≡ 2
+sum_left n true = refl
+sum_left n false = refl
+
+module _ {A : Type 0} (d : Fields A) (bytes : List ℕ) (are : IsBytes bytes) where
+  needed_at : (s : Section) → HoldsAt s d bytes → Needs A bytes (to_come d.count s d.half d.reader.bytes d.position.room)
+  needed_at Header k = record {
+    files = k.files;
+    progress = at_header d.sum;
+    come = k.come;
+    is = (λ i. missing {A = Unit {0}} (k.counted i) (at_header (ap (λ (r : Seen). r.bytes) k.read i))) ∙ same_missing (Unit {0}) A (length k.files) d.sum;
+  }
+  needed_at Data k =
+      let taken : ℕ = length (records_bytes empty_environment k.records) in
+      let part_are : IsBytes k.part = IsBytes-back (header_bytes k.header k.size ++ records_bytes empty_environment k.records) k.part
+      (IsBytes-back (chain_bytes k.files) (progress_bytes (at_data k.header k.size k.records k.part)) (subst IsBytes k.come.spelled are)) in
+      let place = come d.env (k.size - taken) k.part (state_at d.position d.in_progress) k.walk part_are in
+      record { files = k.files; progress = at_data k.header k.size k.records k.part; come = k.come; is = omega (arith, place.total, k.come.next.2) }
+  needed_at ClosingSum k = record {
+    files = k.files;
+    progress = at_data k.header k.size k.records (sum_part (checksum d.sum) d.half);
+    come = k.come;
+    is = omega (arith, sum_left (checksum d.sum) d.half, k.over, k.come.next.2);
+  }
+
+  pub needed : Holds d bytes → Needs A bytes (to_come d.count d.section d.half d.reader.bytes d.position.room)
+  needed holds = needed_at d.section holds
+
+pub needed_seen : {A : Type 0} (d : Inside A) → IsKept d → (old : Fed) → record { bytes = d.history.items; refusal = d.refusal } ≡ old → (front : List ℕ) (n : ℕ) → front ≡ d.reader.bytes
+    → n ≡ to_come d.files d.section d.half front d.position.room → old.refusal ≡ None → Needs A old.bytes n
+needed_seen {A} d k old seen front n read is fresh =
+    let none : d.refusal ≡ None = ap (λ (s : Fed). s.refusal) seen ∙ fresh in
+    let same : to_come d.files d.section d.half d.reader.bytes d.position.room ≡ n = sym (is ∙ ap (λ l. to_come d.files d.section d.half l d.position.room) read) in
+    subst (Needs A old.bytes) same
+    (subst (λ b. Needs A b (to_come d.files d.section d.half d.reader.bytes d.position.room)) (ap (λ (s : Fed). s.bytes) seen) (needed (fields_of d) d.history.items k.are (k.holds none)))
