@@ -1,4 +1,4 @@
--- The bytes of one field of a data message.
+-- The bytes of one field of a data message (section "Data Message").
 use Rattle.std.specs.Prelude.{◌≡◌, ℕ, ◌*◌, ◌<◌, ◌^◌, ◌==◌, ◌&&◌, Bool, nat_lt, List, length, flat_map, slice_index, take, drop}
 use Rattle.std.specs.List.{AllByRecursion, list_all}
 use Rattle.fit_base.specs.declared.items.Items.{Items}

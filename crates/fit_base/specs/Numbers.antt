@@ -1,4 +1,4 @@
--- Bytes, numbers as bytes, and signed numbers.
+-- Bytes, numbers as bytes, and signed numbers (sections "Architecture" and "Base Type").
 use Rattle.std.specs.Prelude.{ℕ, zero, suc, ◌+◌, ◌*◌, ◌/◌, ◌%◌, ◌^◌, ◌<◌, nat_lt, if◌then◌else◌, List, [], ◌∷◌, reverse, slice_index, ℤ, pos, ◌-ℤ◌}
 use Rattle.fit_base.specs.declared.number.Order.{Order}
 use Rattle.fit_base.specs.declared.number.Order.TheVariants.{Little, Big}
