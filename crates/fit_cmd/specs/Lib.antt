@@ -1,4 +1,3 @@
-pub mod Sources
 pub mod CommandLine
 pub mod Frame
 pub mod Taking

@@ -5,7 +5,7 @@ ghost use Rattle.fit_frame.specs.Beginning.{IsFileHeader};
 ghost use Rattle.fit_cmd.specs.Frame.{Finds};
 ghost use Rattle.fit_cmd.specs.Taking.{Stops, TakesByte, TakesSumByte};
 
-use crate::source::Source;
+use fit_decode::Source;
 use fit_frame::{HeadReader, Header, Reason};
 use fit_sum::Sum;
 

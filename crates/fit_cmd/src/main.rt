@@ -6,14 +6,13 @@ mod command_line;
 mod laws;
 mod lines;
 mod run;
-mod source;
 #[cfg(test)]
 mod tests;
 
 use crate::command_line::{Command, Line, LineFault, parse_line};
 use crate::lines::WRITE_FAULT;
 use crate::run::{BAD_USAGE, FAILED, GOOD, NO_MEMORY, run};
-use crate::source::ReadSource;
+use fit_decode::ReadSource;
 use fit_encode::WriteSink;
 use std::alloc::Global;
 use std::fs::File;

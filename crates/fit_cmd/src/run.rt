@@ -10,7 +10,7 @@ use crate::check::{FrameFault, check_frame};
 use crate::command_line::Command;
 use crate::lines;
 use crate::lines::WRITE_FAULT;
-use crate::source::Source;
+use fit_decode::Source;
 use fit_encode::{Sink, put_all};
 
 /// The exit status of a good input.

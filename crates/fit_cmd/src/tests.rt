@@ -1,7 +1,7 @@
 //! Files checked, lines read, and sources and sinks that fail.
 use crate::command_line::{Command, LineFault, parse_line};
 use crate::run::run;
-use crate::source::{CutSource, ReadSource, Source};
+use fit_decode::{CutSource, ReadSource, Source};
 use fit_encode::{CutSink, Sink, WriteSink};
 use std::alloc::{AllocError, Global};
 use std::io;

@@ -5,6 +5,7 @@ pub mod Refusals
 pub mod Laws
 pub mod Answers
 pub mod Needs
+pub mod Sources
 pub mod Scans
 pub mod Sections
 pub mod Kept

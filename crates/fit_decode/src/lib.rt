@@ -8,8 +8,10 @@ mod need;
 mod record;
 mod scan;
 mod section;
+mod source;
 #[cfg(test)]
 mod tests;
 
 pub use decoder::Decoder;
 pub use event::{Event, Fault, Fed};
+pub use source::{CutSource, ReadSource, Source, SourceFailed};

@@ -2,7 +2,7 @@
 ghost use Rattle.std.specs.Prelude.{◌≡◌, ℕ, ◌<◌, ◌≤◌, length, List, [], ◌++◌, Option, Bool, Some, true, false, IsOk, IsErr, OnOk, OnErr, take};
 ghost use Rattle.std.specs.Io.{ReadsAtMost};
 ghost use Rattle.std.specs.Io.KnownBytes.{ReadConsumes};
-ghost use Rattle.fit_cmd.specs.Sources.{Cut, Told};
+ghost use Rattle.fit_decode.specs.Sources.{Cut, Told};
 
 use std::io::Read;
 use std::marker::Model;
