@@ -1,0 +1,17 @@
+//! Why a report breaks off.
+use fit_decode::Fault;
+use thiserror::Error;
+
+/// Why a report doesn't come to the end of a chain.
+#[derive(Clone, Copy, Debug, PartialEq, Eq, Error)]
+pub enum ReportFault {
+    /// The bytes are refused or end too soon, or the source failed. Want of memory is `NoMemory`, and never this.
+    #[error("no chain of files")]
+    Decode(Fault),
+    /// Memory was refused.
+    #[error("out of memory")]
+    NoMemory,
+    /// The sink failed behind so many bytes of the report. The count stops at 2^64 - 1.
+    #[error("write fault")]
+    Write { written: u64 },
+}

@@ -1,0 +1,1 @@
+//! Letters for events.
