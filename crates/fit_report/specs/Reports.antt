@@ -1,5 +1,5 @@
 -- What a report of the bytes of a source puts in a sink.
-use Rattle.std.specs.Prelude.{◌≡◌, ℕ, ◌+◌, ◌-◌, ◌^◌, ◌<◌, ◌≤◌, min, Bool, true, List, [], ◌++◌, Option, Result, Ok, Err, take, length, reverse, slice_index, flat_map}
+use Rattle.std.specs.Prelude.{◌≡◌, ℕ, ◌+◌, ◌-◌, ◌^◌, ◌<◌, ◌≤◌, min, Bool, true, List, Option, Result, Ok, Err, take, length, reverse, slice_index, flat_map}
 use Rattle.std.specs.Io.KnownBytes.{Appends, Consumes, IsAtEnd}
 use Rattle.fit_record.specs.declared.file.FitFile.{FitFile}
 use Rattle.fit_record.specs.Files.{IsChain, IsViable, chain_limit}
@@ -25,6 +25,11 @@ Faults A limit taken has failed (Refused place reason) =
 Faults A limit taken has failed (Truncated place) = (place ≡ length taken) × IsAtEnd has × IsShort A limit taken
 Faults A limit taken has failed (NoMemory used) = used ≡ length taken
 Faults A limit taken has failed (Read place) = (place ≡ length taken) × (failed ≡ true) × IsViable A limit taken
+
+-- the fault of a report
+abbrev pub report_fault : Fault → ReportFault
+report_fault (NoMemory used) = report.NoMemory
+report_fault fault = report.Decode fault
 
 -- the bytes before a fault
 abbrev pub before_fault : Fault → List ℕ → List ℕ

@@ -15,3 +15,17 @@ pub enum ReportFault {
     #[error("write fault")]
     Write { written: u64 },
 }
+
+impl From<Fault> for ReportFault {
+    ghost use Rattle.std.specs.Prelude.{◌≡◌};
+    ghost use Rattle.fit_report.specs.Reports.{report_fault};
+
+    ghost from_gives = { λ f e. e ≡ report_fault f };
+
+    fn from(fault: Fault) -> ReportFault {
+        match fault {
+            Fault::NoMemory { .. } => ReportFault::NoMemory,
+            fault => ReportFault::Decode(fault),
+        }
+    }
+}

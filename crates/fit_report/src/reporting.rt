@@ -23,14 +23,14 @@ fn pass_on<K: Sink, R: Report>(
     sink: &mut K,
     text: &mut Vec<u8>,
     written: &mut u64,
-    event: &Event,
+    event: Event,
 ) -> Result<(), ReportFault>
-    requires { AreHeard (hear event.now (R.heard reporter.old)) }
-    ensures { Passed R.line (R.heard reporter.old) event.now (R.heard reporter.new)
+    requires { AreHeard (hear event (R.heard reporter.old)) }
+    ensures { Passed R.line (R.heard reporter.old) event (R.heard reporter.new)
         (record { before = K.contents sink.old; after = K.contents sink.new; failed = K.has_failed sink.new }) written.old written.new result }
 {
     text.clear();
-    if reporter.tell(event, text).is_err() {
+    if reporter.tell(&event, text).is_err() {
         return Err(ReportFault::NoMemory);
     }
     match put_all(sink, text.as_slice()) {
@@ -62,16 +62,43 @@ fn tell_piece<K: Sink, R: Report>(
     let mut at = 0;
     while at < piece.len() {
         let (_, rest) = piece.split_at(at);
-        match decoder.feed(rest) {
-            Ok(fed) => {
-                at += fed.used;
-                pass_on(reporter, sink, text, written, &fed.event)?;
-            }
-            Err(Fault::NoMemory { .. }) => return Err(ReportFault::NoMemory),
-            Err(fault) => return Err(ReportFault::Decode(fault)),
-        }
+        let fed = decoder.feed(rest)?;
+        at += fed.used;
+        pass_on(reporter, sink, text, written, fed.event)?;
     }
     Ok(())
+}
+
+/// Takes pieces to the end of the input or the first fault, and tells each.
+fn tell_pieces<S: Source, K: Sink, R: Report>(
+    alloc: Global,
+    source: &mut S,
+    sink: &mut K,
+    reporter: &mut R,
+) -> Result<(), ReportFault>
+    requires { R.heard reporter.old ≡ [] }
+    ensures { Reports R.line
+        (record { before = S.remaining source.old; after = S.remaining source.new; failed = S.has_failed source.new })
+        (record { before = K.contents sink.old; after = K.contents sink.new; failed = K.has_failed sink.new })
+        (R.heard reporter.new) result }
+{
+    let mut decoder = Decoder::new(alloc);
+    let mut text = Vec::new(alloc);
+    let mut written = 0;
+    let mut place = 0;
+    let mut buffer = [0u8; PIECE];
+    'pieces: loop {
+        let Ok(got) = source.take(&mut buffer) else {
+            return Err(ReportFault::Decode(Fault::Read { place }));
+        };
+        if got == 0 {
+            decoder.finish()?;
+            return Ok(());
+        }
+        let (piece, _) = buffer.split_at(got);
+        tell_piece(&mut decoder, reporter, sink, &mut text, &mut written, piece)?;
+        place += got as u64;
+    }
 }
 
 /// Passes what the bytes of a source tell to a reporter, which has heard nothing yet, and its text to a sink. Takes pieces of at
@@ -97,23 +124,5 @@ pub fn report<S: Source, K: Sink, R: Report>(
         (record { before = S.remaining source.old; after = S.remaining source.new; failed = S.has_failed source.new })
         (record { before = K.contents sink.old; after = K.contents sink.new; failed = K.has_failed sink.new }) result }
 {
-    let mut decoder = Decoder::new(alloc);
-    let mut text = Vec::new(alloc);
-    let mut written = 0;
-    let mut place = 0;
-    let mut buffer = [0u8; PIECE];
-    'pieces: loop {
-        let Ok(got) = source.take(&mut buffer) else {
-            return Err(ReportFault::Decode(Fault::Read { place }));
-        };
-        if got == 0 {
-            return match decoder.finish() {
-                Ok(()) => Ok(()),
-                Err(fault) => Err(ReportFault::Decode(fault)),
-            };
-        }
-        let (piece, _) = buffer.split_at(got);
-        tell_piece(&mut decoder, reporter, sink, &mut text, &mut written, piece)?;
-        place += got as u64;
-    }
+    tell_pieces(alloc, source, sink, reporter)
 }
