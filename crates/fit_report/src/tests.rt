@@ -6,6 +6,7 @@ use fit_decode::{CutSource, Event, Fault};
 use fit_encode::{CutSink, Sink};
 use fit_frame::Reason;
 use std::alloc::AllocError;
+use std::test::Fail;
 
 /// A header, a definition message without fields, a data message of one byte, and the checksum.
 const FILE: [u8; 23] = *b"\x0E\x20\0\0\x07\0\0\0.FIT\xDD\x63\x40\0\0\x14\0\0\0\x44\x34";
@@ -43,7 +44,7 @@ fn dotted(count: usize) -> CutSink<64> {
 }
 
 #[test]
-fn inputs(rt: HostRuntime) -> Result<(), AllocError> {
+fn inputs(rt: HostRuntime) -> Result<(), Fail> {
     let mut chain = Vec::new(rt.alloc());
     for _ in 0..3 {
         chain.extend_from_slice(&FILE)?;
@@ -66,7 +67,7 @@ fn inputs(rt: HostRuntime) -> Result<(), AllocError> {
             }),
         ),
     ] {
-        let mut input = &chain.as_slice()[..size];
+        let mut input = chain.as_slice().get(..size).ok_or("too short")?;
         let mut sink = CutSink::<64>::new(64);
         let mut reporter = Dots {
             heard: Heard::new(),
