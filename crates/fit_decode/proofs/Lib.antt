@@ -14,6 +14,7 @@ pub mod Readings
 pub mod HeaderFed
 pub mod DataFed
 pub mod SumFed
+pub mod EmptyMessages
 pub mod Scanned
 pub mod Places
 pub mod Sections

@@ -1,5 +1,6 @@
 pub mod Progress
 pub mod Events
+pub mod Memory
 pub mod GoingOn
 pub mod Refusals
 pub mod Laws

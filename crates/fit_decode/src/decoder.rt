@@ -83,6 +83,8 @@ impl<A: Allocator + Copy> Decoder<A> {
     ///
     /// `Refused` names the first byte with which the bytes fed begin no chain of files, and why; after it each call
     /// answers it again. With `NoMemory` the first `used` bytes of the piece count as fed, and the rest may be fed again.
+    /// No memory is taken by a byte of a header, of a closing sum, or of a data message without fields and developer
+    /// fields.
     pub fn feed(&mut self, piece: &[u8]) -> Result<Fed<A>, Fault>
         // After a refusal each call answers it again.
         ensures latched { (reason : Reason) → self.old.refusal ≡ Some reason → (result ≡ Err (Fault.Refused (length self.old.bytes) reason)) × (self.new ≡ self.old) }
