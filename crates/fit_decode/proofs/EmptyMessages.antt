@@ -1,6 +1,6 @@
 -- A data message without fields and developer fields describes nothing, and is whole with its record header.
-use Rattle.std.proofs.Common.{◌≡◌, cond, inl, inr, ℕ, zero, suc, ◌+◌, ◌-◌, ◌==◌, ◌<◌, Bool, true, false, List, [], ◌∷◌, ◌++◌, refl, sym, ap, ◌∙◌, subst, Some, None, Ok, Err}
-use Rattle.std.specs.Prelude.{Option, Result, IsSomeAnd, IsOk, nat_lt}
+use Rattle.std.proofs.Common.{◌≡◌, inr, ℕ, suc, ◌+◌, ◌-◌, ◌==◌, Bool, false, List, [], ◌∷◌, refl, sym, ap, ◌∙◌, subst, Some, None, Ok, Err}
+use Rattle.std.specs.Prelude.{Option, IsSomeAnd, nat_lt}
 use Rattle.std.proofs.lemmas.Bool.{cond_both}
 use Rattle.fit_record.specs.declared.definition.MessageDef.{MessageDef}
 use Rattle.fit_record.specs.declared.environment.Defined.{Defined}
@@ -11,13 +11,12 @@ use Rattle.fit_record.specs.Environment.{Environment, defined_at, only_byte, des
 use Rattle.fit_record.specs.HeaderByte.{is_definition, has_reserved_bit, local_type}
 use Rattle.fit_record.specs.Records.{layout, dev_layout, message_size}
 use Rattle.fit_record.specs.Sizes.{HasNoFields}
-use Rattle.fit_step.specs.declared.phase.Phase.{Phase}
 use Rattle.fit_step.specs.declared.phase.Phase.TheVariants.{RecordHeader}
 use Rattle.fit_step.specs.declared.position.Position.{Position}
 use Rattle.fit_step.specs.declared.stop.Stop.{Stop}
 use Rattle.fit_step.specs.declared.stop.Stop.TheVariants.{Refused, NoMemory}
 use Rattle.fit_step.specs.Machine.{Tests, State, Step, Next, begin_dev, begin_fields, new_message, message_move, header_move, step, step_at}
-use Rattle.fit_step.specs.Places.{state_at, HeadsEmptyMessage, Steps, TakesNone, WantsNone}
+use Rattle.fit_step.specs.Places.{HeadsEmptyMessage, Steps, TakesNone, WantsNone}
 use Rattle.fit_decode.specs.Scans.{RecordByte}
 
 undescribed : {A : Type 0} (d : MessageDef A) (v : Values A) → d.fields ≡ [] → description d v ≡ None

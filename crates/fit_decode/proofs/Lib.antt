@@ -26,3 +26,4 @@ pub mod Advancing
 pub mod Ended
 pub mod Feeding
 pub mod Needed
+pub mod NoSooner

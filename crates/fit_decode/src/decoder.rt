@@ -3,7 +3,7 @@ ghost use Rattle.std.specs.Prelude.{◌≡◌, ◌↔◌, ℕ, ◌<◌, ◌≤�
 ghost use Rattle.fit_frame.specs.declared.reason.Reason.{Reason};
 ghost use Rattle.fit_record.specs.Files.{chain_limit, IsViable};
 ghost use Rattle.fit_decode.specs.Events.{Event as Told};
-ghost use Rattle.fit_decode.specs.Needs.{Needs};
+ghost use Rattle.fit_decode.specs.Needs.{Needs, NoFileEndsBefore};
 ghost use Rattle.fit_decode.specs.Answers.{told, fed, Quiet, Least, Refuses, Wants, AreChain};
 
 use crate::need::bytes_to_come;
@@ -161,6 +161,7 @@ impl<A: Allocator + Copy> Decoder<A> {
     pub fn need(&self) -> u64
         ensures refused { (reason : Reason) → self.now.refusal ≡ Some reason → result ≡ 0 }
         ensures need { self.now.refusal ≡ None → Needs A self.now.bytes result }
+        ensures least { self.now.refusal ≡ None → NoFileEndsBefore A self.now.bytes result }
     {
         if self.refusal.is_some() {
             return 0;
