@@ -136,4 +136,5 @@ module _ {A : Type 0} (d : Inside A) (k : IsKept d) (old : Seen) (seen : record 
           after = λ i. record { bytes = (took ∙ ap (λ b. b ++ take used piece) bytes_seen) i; refusal = none i };
           quiet = t.1;
           next = t.2;
+          takes = t.3;
         })

@@ -14,6 +14,7 @@ pub mod Readings
 pub mod HeaderFed
 pub mod DataFed
 pub mod SumFed
+pub mod EmptyMessages
 pub mod Scanned
 pub mod Places
 pub mod Sections
@@ -25,3 +26,4 @@ pub mod Advancing
 pub mod Ended
 pub mod Feeding
 pub mod Needed
+pub mod NoSooner

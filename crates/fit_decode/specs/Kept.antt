@@ -24,6 +24,7 @@ use Rattle.fit_decode.specs.declared.event.Event.TheVariants as answers
 use Rattle.fit_decode.specs.Progress.{at_header, at_data, HasCome}
 use Rattle.fit_decode.specs.Events.{header, item, file_end}
 use Rattle.fit_decode.specs.GoingOn.{ChainGoesOn}
+use Rattle.fit_decode.specs.Memory.{MayTakeMemory}
 use Rattle.fit_decode.specs.Refusals.{IsRefused}
 use Rattle.fit_decode.specs.Answers.{Quiet, Least}
 use Rattle.fit_decode.specs.Needs.{missing}
@@ -104,6 +105,7 @@ Advanced {A} bytes piece used (Err (Refused reason)) =
     (used < length piece) × Quiet A bytes piece used × IsRefused A chain_limit (bytes ++ take used piece) (slice_index piece used) reason
 Advanced {A} bytes piece used (Err NoMemory) =
     (used < length piece) × Quiet A bytes piece used × IsViable A chain_limit (bytes ++ take (used + 1) piece)
+    × MayTakeMemory A (bytes ++ take used piece) (slice_index piece used)
 
 -- no byte was refused
 abbrev pub NotRefused : {A : Type 0} → Result (Answer A) Stop → Type 0

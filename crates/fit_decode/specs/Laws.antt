@@ -1,13 +1,14 @@
 -- What holds of events and refusals.
-use Rattle.std.specs.Prelude.{◌≡◌, ◌↔◌, ℕ, List}
+use Rattle.std.specs.Prelude.{◌≡◌, ◌↔◌, ℕ, ◌<◌, ◌≤◌, List, ◌++◌, length}
 use Rattle.fit_base.specs.Numbers.{IsBytes}
 use Rattle.fit_frame.specs.declared.reason.Reason.{Reason}
 use Rattle.fit_record.specs.declared.file.FitFile.{FitFile}
-use Rattle.fit_record.specs.Files.{IsViable}
+use Rattle.fit_record.specs.Files.{IsChain, IsViable}
 use Rattle.fit_decode.specs.Progress.{Progress, HasCome}
 use Rattle.fit_decode.specs.GoingOn.{ChainGoesOn}
 use Rattle.fit_decode.specs.Events.{Event, AreEvents}
 use Rattle.fit_decode.specs.Refusals.{IsRefused}
+use Rattle.fit_decode.specs.Needs.{missing}
 
 -- Bytes have one list of events.
 abbrev pub EventsAreOne : Type 0 → Type 0
@@ -25,3 +26,8 @@ ReasonsAreOne A = (limit : ℕ) (bytes : List ℕ) (b : ℕ) (reason other : Rea
 abbrev pub ChainsGoOn : Type 0 → Type 0
 ChainsGoOn A = (limit : ℕ) (files : List (FitFile A)) (progress : Progress A) (bytes : List ℕ) → HasCome files progress bytes → IsBytes bytes
     → IsViable A limit bytes ↔ ChainGoesOn limit files progress
+
+-- No file ends before so many bytes more have come as are missing.
+abbrev pub FilesEndNoSooner : Type 0 → Type 0
+FilesEndNoSooner A = (limit : ℕ) (files others : List (FitFile A)) (progress : Progress A) (bytes more : List ℕ)
+    → HasCome files progress bytes → IsChain limit others (bytes ++ more) → length files < length others → missing (length files) progress ≤ length more

@@ -1,12 +1,13 @@
 pub mod Progress
 pub mod Events
+pub mod Memory
 pub mod GoingOn
 pub mod Refusals
+pub mod Needs
 pub mod Laws
 pub mod Answers
-pub mod Needs
-pub mod Sources
 pub mod Scans
 pub mod Sections
 pub mod Kept
 pub mod Invariant
+pub mod Sources

@@ -3,7 +3,7 @@ ghost use Rattle.std.specs.Prelude.{◌≡◌, ◌↔◌, ℕ, ◌<◌, ◌≤�
 ghost use Rattle.fit_frame.specs.declared.reason.Reason.{Reason};
 ghost use Rattle.fit_record.specs.Files.{chain_limit, IsViable};
 ghost use Rattle.fit_decode.specs.Events.{Event as Told};
-ghost use Rattle.fit_decode.specs.Needs.{Needs};
+ghost use Rattle.fit_decode.specs.Needs.{Needs, NoFileEndsBefore};
 ghost use Rattle.fit_decode.specs.Answers.{told, fed, Quiet, Least, Refuses, Wants, AreChain};
 
 use crate::need::bytes_to_come;
@@ -83,6 +83,8 @@ impl<A: Allocator + Copy> Decoder<A> {
     ///
     /// `Refused` names the first byte with which the bytes fed begin no chain of files, and why; after it each call
     /// answers it again. With `NoMemory` the first `used` bytes of the piece count as fed, and the rest may be fed again.
+    /// No memory is taken by a byte of a header, of a closing sum, or of a data message without fields and developer
+    /// fields.
     pub fn feed(&mut self, piece: &[u8]) -> Result<Fed<A>, Fault>
         // After a refusal each call answers it again.
         ensures latched { (reason : Reason) → self.old.refusal ≡ Some reason → (result ≡ Err (Fault.Refused (length self.old.bytes) reason)) × (self.new ≡ self.old) }
@@ -159,6 +161,7 @@ impl<A: Allocator + Copy> Decoder<A> {
     pub fn need(&self) -> u64
         ensures refused { (reason : Reason) → self.now.refusal ≡ Some reason → result ≡ 0 }
         ensures need { self.now.refusal ≡ None → Needs A self.now.bytes result }
+        ensures least { self.now.refusal ≡ None → NoFileEndsBefore A self.now.bytes result }
     {
         if self.refusal.is_some() {
             return 0;
