@@ -1,5 +1,5 @@
 -- What holds of events and refusals.
-use Rattle.std.specs.Prelude.{◌≡◌, ◌↔◌, ℕ, List}
+use Rattle.std.specs.Prelude.{◌≡◌, ◌↔◌, ℕ, ◌<◌, List, []}
 use Rattle.fit_base.specs.Numbers.{IsBytes}
 use Rattle.fit_frame.specs.declared.reason.Reason.{Reason}
 use Rattle.fit_record.specs.declared.file.FitFile.{FitFile}
@@ -25,3 +25,8 @@ ReasonsAreOne A = (limit : ℕ) (bytes : List ℕ) (b : ℕ) (reason other : Rea
 abbrev pub ChainsGoOn : Type 0 → Type 0
 ChainsGoOn A = (limit : ℕ) (files : List (FitFile A)) (progress : Progress A) (bytes : List ℕ) → HasCome files progress bytes → IsBytes bytes
     → IsViable A limit bytes ↔ ChainGoesOn limit files progress
+
+-- What begins a chain of at most so many files, and has no whole file in it, begins a file.
+abbrev pub FirstFilesAreFiles : Type 0 → Type 0
+FirstFilesAreFiles A = (limit : ℕ) (progress : Progress A) (bytes : List ℕ) → HasCome [] progress bytes → IsBytes bytes → 0 < limit
+    → IsViable A limit bytes ↔ IsViable A 1 bytes

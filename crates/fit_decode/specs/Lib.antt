@@ -10,3 +10,5 @@ pub mod Scans
 pub mod Sections
 pub mod Kept
 pub mod Invariant
+pub mod Reads
+pub mod Turns

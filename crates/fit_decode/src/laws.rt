@@ -1,5 +1,5 @@
 //! What holds of events and refusals. These functions do nothing: what they ensure is what they are for.
-ghost use Rattle.fit_decode.specs.Laws.{ChainsGoOn, EventsAreOne, ReasonsAreOne, ViableHaveEvents};
+ghost use Rattle.fit_decode.specs.Laws.{ChainsGoOn, EventsAreOne, FirstFilesAreFiles, ReasonsAreOne, ViableHaveEvents};
 
 use std::alloc::Allocator;
 
@@ -23,4 +23,9 @@ pub fn reasons_are_one<A: Allocator>()
 /// closing sum begins so.
 pub fn chains_go_on<A: Allocator>()
     ensures { ChainsGoOn A }
+{}
+
+/// Bytes in which no file is whole begin a chain exactly where they begin a file.
+pub fn first_files_are_files<A: Allocator>()
+    ensures { FirstFilesAreFiles A }
 {}
