@@ -20,6 +20,10 @@ pub mod Places
 pub mod Sections
 pub mod Bounds
 mod Refused
+pub mod FirstFile
+pub mod Gathered
+pub mod FileEnds
+pub mod PieceTold
 pub mod Sizes
 pub mod Invariant
 pub mod Advancing
@@ -27,3 +31,8 @@ pub mod Ended
 pub mod Feeding
 pub mod Needed
 pub mod NoSooner
+pub mod Consumed
+pub mod Turning
+pub mod Missing
+pub mod FileRead
+pub mod OneRead

@@ -1,5 +1,5 @@
 -- What holds of events and refusals.
-use Rattle.std.specs.Prelude.{◌≡◌, ◌↔◌, ℕ, ◌<◌, ◌≤◌, List, ◌++◌, length}
+use Rattle.std.specs.Prelude.{◌≡◌, ◌↔◌, ℕ, ◌<◌, ◌≤◌, List, [], ◌∷◌, ◌++◌, length}
 use Rattle.fit_base.specs.Numbers.{IsBytes}
 use Rattle.fit_frame.specs.declared.reason.Reason.{Reason}
 use Rattle.fit_record.specs.declared.file.FitFile.{FitFile}
@@ -31,3 +31,8 @@ ChainsGoOn A = (limit : ℕ) (files : List (FitFile A)) (progress : Progress A) 
 abbrev pub FilesEndNoSooner : Type 0 → Type 0
 FilesEndNoSooner A = (limit : ℕ) (files others : List (FitFile A)) (progress : Progress A) (bytes more : List ℕ)
     → HasCome files progress bytes → IsChain limit others (bytes ++ more) → length files < length others → missing (length files) progress ≤ length more
+
+-- What begins a chain of at most so many files, and has no whole file in it, begins a file.
+abbrev pub FirstFilesAreFiles : Type 0 → Type 0
+FirstFilesAreFiles A = (limit : ℕ) (progress : Progress A) (bytes : List ℕ) → HasCome [] progress bytes → IsBytes bytes → 0 < limit
+    → IsViable A limit bytes ↔ IsViable A 1 bytes

@@ -11,3 +11,5 @@ pub mod Sections
 pub mod Kept
 pub mod Invariant
 pub mod Sources
+pub mod Reads
+pub mod Turns

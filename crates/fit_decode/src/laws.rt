@@ -1,5 +1,5 @@
 //! What holds of events and refusals. These functions do nothing: what they ensure is what they are for.
-ghost use Rattle.fit_decode.specs.Laws.{ChainsGoOn, EventsAreOne, FilesEndNoSooner, ReasonsAreOne, ViableHaveEvents};
+ghost use Rattle.fit_decode.specs.Laws.{ChainsGoOn, EventsAreOne, FilesEndNoSooner, FirstFilesAreFiles, ReasonsAreOne, RefusedHaveReasons, ViableHaveEvents};
 
 use std::alloc::Allocator;
 
@@ -28,4 +28,9 @@ pub fn chains_go_on<A: Allocator>()
 /// No file ends before so many bytes more have come as `need` tells.
 pub fn files_end_no_sooner<A: Allocator>()
     ensures { FilesEndNoSooner A }
+{}
+
+/// Bytes in which no file is whole begin a chain exactly where they begin a file.
+pub fn first_files_are_files<A: Allocator>()
+    ensures { FirstFilesAreFiles A }
 {}

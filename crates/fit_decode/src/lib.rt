@@ -5,6 +5,7 @@ mod decoder;
 mod event;
 pub mod laws;
 mod need;
+mod readers;
 mod record;
 mod scan;
 mod section;
@@ -14,4 +15,5 @@ mod tests;
 
 pub use decoder::Decoder;
 pub use event::{Event, Fault, Fed};
+pub use readers::read_one;
 pub use source::{CutSource, ReadSource, Source, SourceFailed};

@@ -1,0 +1,6 @@
+//! Reads whole files from a source.
+mod file;
+mod one;
+mod piece;
+
+pub use one::read_one;
