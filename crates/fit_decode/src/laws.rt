@@ -1,5 +1,5 @@
 //! What holds of events and refusals. These functions do nothing: what they ensure is what they are for.
-ghost use Rattle.fit_decode.specs.Laws.{ChainsGoOn, EventsAreOne, ReasonsAreOne, ViableHaveEvents};
+ghost use Rattle.fit_decode.specs.Laws.{ChainsGoOn, EventsAreOne, ReasonsAreOne, RefusedHaveReasons, ViableHaveEvents};
 
 use std::alloc::Allocator;
 
@@ -16,6 +16,12 @@ pub fn viable_bytes_have_events<A: Allocator>()
 /// A byte is refused for one reason at most.
 pub fn reasons_are_one<A: Allocator>()
     ensures { ReasonsAreOne A }
+{}
+
+/// A byte with which no chain begins, behind bytes with which one does, is refused for a reason. With `reasons_are_one`
+/// it has exactly one.
+pub fn refused_bytes_have_reasons<A: Allocator>()
+    ensures { RefusedHaveReasons A }
 {}
 
 /// Some chain of at most so many files begins with the bytes that have come exactly where what there is of it can go on:
