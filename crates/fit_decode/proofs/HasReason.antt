@@ -27,8 +27,8 @@ use Rattle.fit_step.specs.Tests.{tests_of}
 use Rattle.fit_step.proofs.Continuing.{records_end}
 use Rattle.fit_decode.specs.GoingOn.{FillFrom, GoesOn, files_begun}
 use Rattle.fit_decode.specs.Laws.{RefusedHaveReasons}
-use Rattle.fit_decode.specs.Progress.{Progress, at_header, at_data, progress_bytes, IsPartial, HasCome}
-use Rattle.fit_decode.specs.Refusals.{IsRefused, reason_at, reason_in_file}
+use Rattle.fit_decode.specs.Progress.{Progress, at_header, at_data, progress_bytes, HasCome}
+use Rattle.fit_decode.specs.Refusals.{IsRefused, reason_at}
 use Rattle.fit_decode.proofs.Completions.{goes_viable}
 use Rattle.fit_decode.proofs.DataFed as data_fed
 use Rattle.fit_decode.proofs.DataFed.{fill_of}
