@@ -1,5 +1,6 @@
 pub mod OnePlace
 pub mod OneReason
+pub mod HasReason
 pub mod Splits
 pub mod Following
 pub mod Goes

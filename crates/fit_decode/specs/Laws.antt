@@ -3,7 +3,7 @@ use Rattle.std.specs.Prelude.{◌≡◌, ◌↔◌, ℕ, ◌<◌, ◌≤◌, Lis
 use Rattle.fit_base.specs.Numbers.{IsBytes}
 use Rattle.fit_frame.specs.declared.reason.Reason.{Reason}
 use Rattle.fit_record.specs.declared.file.FitFile.{FitFile}
-use Rattle.fit_record.specs.Files.{IsChain, IsViable}
+use Rattle.fit_record.specs.Files.{chain_limit, IsChain, IsViable}
 use Rattle.fit_decode.specs.Progress.{Progress, HasCome}
 use Rattle.fit_decode.specs.GoingOn.{ChainGoesOn}
 use Rattle.fit_decode.specs.Events.{Event, AreEvents}
@@ -21,6 +21,11 @@ ViableHaveEvents A = (limit : ℕ) (bytes : List ℕ) → IsViable A limit bytes
 -- A byte is refused for one reason at most.
 abbrev pub ReasonsAreOne : Type 0 → Type 0
 ReasonsAreOne A = (limit : ℕ) (bytes : List ℕ) (b : ℕ) (reason other : Reason) → IsRefused A limit bytes b reason → IsRefused A limit bytes b other → reason ≡ other
+
+-- A byte with which no chain of at most so many files begins, behind bytes with which one does, has a reason.
+abbrev pub RefusedHaveReasons : Type 0 → Type 0
+RefusedHaveReasons A = (limit : ℕ) (bytes : List ℕ) (b : ℕ) → limit ≤ chain_limit → IsBytes bytes → b < 256
+    → IsViable A limit bytes → (IsViable A limit (bytes ++ b ∷ []) → ⊥) → (reason : Reason) × IsRefused A limit bytes b reason
 
 -- Some chain of at most so many files begins with the bytes exactly where what there is of it can go on.
 abbrev pub ChainsGoOn : Type 0 → Type 0

@@ -18,6 +18,12 @@ pub fn reasons_are_one<A: Allocator>()
     ensures { ReasonsAreOne A }
 {}
 
+/// A byte with which no chain begins, behind bytes with which one does, is refused for a reason. With `reasons_are_one`
+/// it has exactly one.
+pub fn refused_bytes_have_reasons<A: Allocator>()
+    ensures { RefusedHaveReasons A }
+{}
+
 /// Some chain of at most so many files begins with the bytes that have come exactly where what there is of it can go on:
 /// a header of a file begins with those of the header, records fill the data section behind those that are whole, or the
 /// closing sum begins so.
