@@ -10,3 +10,6 @@ mod ItemFacts
 mod RowFacts
 mod ReaderFacts
 mod OneCell
+mod SevenCells
+mod Closest
+mod ClosestRows

@@ -1,0 +1,36 @@
+-- Rows that can be read at a place, and why others can't. No public contract names these definitions.
+use Rattle.std.specs.Prelude.{◌≡◌, ◌<◌, ◌^◌, ℕ, [], take, codes, decimal}
+use Rattle.fit_record.specs.declared.definition.FieldDef.{FieldDef}
+use Rattle.fit_record.specs.declared.definition.DevDef.{DevDef}
+use Rattle.fit_csv.specs.Rows.{Cell, Row}
+use Rattle.fit_csv.specs.Judged.{IsBadCell}
+use Rattle.fit_csv.specs.ChainRows.{row, field_def_row, dev_def_row}
+use Rattle.fit_csv.specs.declared.from.misfit.Misfit.{Misfit}
+use Rattle.fit_csv.specs.declared.from.misfit.Misfit.TheVariants.{Kind, Cell as BadCell, NoMemory}
+
+-- why the row can't stand where these can: no such row has its first cell, or one of its other cells is bad
+abbrev pub IsMisfit : (Row → Type 0) → Row → Misfit → Type 0
+IsMisfit CanStand r Kind = (other : Row) → CanStand other → take 1 other ≡ take 1 r → ⊥
+IsMisfit CanStand r (BadCell column) = IsBadCell CanStand r column
+IsMisfit CanStand r NoMemory = Unit {0}
+
+-- three numbers of a byte each behind the kind, and nothing behind them
+abbrev pub IsRowOfThree : Cell → Row → Type 0
+IsRowOfThree kind r = (a : ℕ) × (b : ℕ) × (c : ℕ) × (a < 2 ^ 8) × (b < 2 ^ 8) × (c < 2 ^ 8) × (r ≡ row kind (decimal a) (decimal b) (decimal c) [] [] [])
+
+-- each number of a field is one of a byte
+pub record FieldDefInRange (f : FieldDef) : Type 0 where
+  pub number : f.number < 2 ^ 8
+  pub size : f.size < 2 ^ 8
+  pub code : f.code < 2 ^ 8
+
+pub record DevDefInRange (f : DevDef) : Type 0 where
+  pub number : f.number < 2 ^ 8
+  pub size : f.size < 2 ^ 8
+  pub index : f.index < 2 ^ 8
+
+abbrev pub IsFieldDefRow : Row → Type 0
+IsFieldDefRow r = (f : FieldDef) × FieldDefInRange f × (r ≡ field_def_row f)
+
+abbrev pub IsDevDefRow : Row → Type 0
+IsDevDefRow r = (f : DevDef) × DevDefInRange f × (r ≡ dev_def_row f)

@@ -1,0 +1,6 @@
+//! Rows back to files.
+
+mod cells;
+mod definition;
+mod misfit;
+mod number;
