@@ -1,4 +1,8 @@
 mod KnownCells
+mod KnownRows
+pub mod RowsOfEvents
+mod InstantFacts
+mod DegreeFacts
 mod HexFacts
 mod ReadFacts
 mod NumberFacts
