@@ -17,3 +17,4 @@ mod OneCell
 mod SevenCells
 mod Closest
 mod ClosestRows
+mod DefinitionRows

@@ -1,10 +1,11 @@
 -- Rows that can be read at a place, and why others can't. No public contract names these definitions.
-use Rattle.std.specs.Prelude.{◌≡◌, ◌<◌, ◌^◌, ℕ, [], take, codes, decimal}
+use Rattle.std.specs.Prelude.{◌≡◌, ◌<◌, ◌^◌, ℕ, [], take, codes, decimal, IfSome}
 use Rattle.fit_record.specs.declared.definition.FieldDef.{FieldDef}
 use Rattle.fit_record.specs.declared.definition.DevDef.{DevDef}
 use Rattle.fit_csv.specs.Rows.{Cell, Row}
 use Rattle.fit_csv.specs.Judged.{IsBadCell}
-use Rattle.fit_csv.specs.ChainRows.{row, field_def_row, dev_def_row}
+use Rattle.fit_csv.specs.ChainRows.{dev_def_row, field_def_row, optional_number, order_word, row}
+use Rattle.fit_csv.specs.declared.from.definition.DefinitionHead.{DefinitionHead}
 use Rattle.fit_csv.specs.declared.from.misfit.Misfit.{Misfit}
 use Rattle.fit_csv.specs.declared.from.misfit.Misfit.TheVariants.{Kind, Cell as BadCell, NoMemory}
 
@@ -34,3 +35,18 @@ IsFieldDefRow r = (f : FieldDef) × FieldDefInRange f × (r ≡ field_def_row f)
 
 abbrev pub IsDevDefRow : Row → Type 0
 IsDevDefRow r = (f : DevDef) × DevDefInRange f × (r ≡ dev_def_row f)
+
+-- the numbers of the first row of a definition have room in their bits
+pub record HeadInRange (h : DefinitionHead) : Type 0 where
+  pub local : h.local < 16
+  pub reserved : h.reserved < 2 ^ 8
+  pub global : h.global < 2 ^ 16
+  pub fields : h.fields < 2 ^ 8
+  pub dev : IfSome h.dev (λ n. n < 2 ^ 8)
+
+-- the first row of a definition, by the numbers of its fields and developer fields
+abbrev pub head_row : DefinitionHead → Row
+head_row h = row (codes "def") (decimal h.local) (decimal h.reserved) (order_word h.order) (decimal h.global) (decimal h.fields) (optional_number h.dev)
+
+abbrev pub IsHeadRow : Row → Type 0
+IsHeadRow r = (h : DefinitionHead) × HeadInRange h × (r ≡ head_row h)
