@@ -18,3 +18,6 @@ mod SevenCells
 mod Closest
 mod ClosestRows
 mod DefinitionRows
+mod ZeroItems
+mod MessageRows
+mod ValueRows

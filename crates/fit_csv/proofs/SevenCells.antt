@@ -1,6 +1,8 @@
 -- Rows of seven cells.
 use Rattle.std.proofs.Common.{◌≡◌, ◌∙◌, ℕ, zero, suc, ◌+◌, ◌<◌, ◌≤◌, List, [], ◌∷◌, length, take, Some, None, refl, sym, ap, ap₂, arith}
 use Rattle.csv.specs.Records.{field_at}
+use Rattle.fit_csv.specs.ChainRows.{row}
+use Rattle.fit_csv.specs.Rows.{Cell}
 
 one-more : (fields : List (List ℕ)) (n : ℕ) (x : List ℕ) (xs : List (List ℕ)) → length fields ≡ suc n → field_at fields 0 ≡ Some x
     → ((rest : List (List ℕ)) → length rest ≡ n → ((i : ℕ) → field_at rest i ≡ field_at fields (suc i)) → xs ≡ rest) → x ∷ xs ≡ fields
@@ -23,3 +25,7 @@ seven-cells fields a b c d e f g l ea eb ec ed ee ef eg =
     one-more r4 2 e (f ∷ g ∷ []) l4 (s4 0 ∙ s3 1 ∙ s2 2 ∙ s1 3 ∙ ee) (λ r5 l5 s5.
     one-more r5 1 f (g ∷ []) l5 (s5 0 ∙ s4 1 ∙ s3 2 ∙ s2 3 ∙ s1 4 ∙ ef) (λ r6 l6 s6.
     one-more r6 0 g [] l6 (s6 0 ∙ s5 1 ∙ s4 2 ∙ s3 3 ∙ s2 4 ∙ s1 5 ∙ eg) (λ r7 l7 s7. none-left r7 l7)))))))
+
+-- rows are the same where their cells are
+pub same-cells : {k l a a' b b' c c' d d' e e' f f' : Cell} → k ≡ l → a ≡ a' → b ≡ b' → c ≡ c' → d ≡ d' → e ≡ e' → f ≡ f' → row k a b c d e f ≡ row l a' b' c' d' e' f'
+same-cells ek ea eb ec ed ee ef = λ i. row (ek i) (ea i) (eb i) (ec i) (ed i) (ee i) (ef i)

@@ -1,10 +1,21 @@
 -- Rows that can be read at a place, and why others can't. No public contract names these definitions.
-use Rattle.std.specs.Prelude.{◌≡◌, ◌<◌, ◌^◌, ℕ, [], take, codes, decimal, IfSome}
+use Rattle.std.specs.Prelude.{◌≡◌, ◌<◌, ◌^◌, ℕ, List, [], Option, take, codes, decimal, IfSome, IsSome, option_map, unwrap_or}
+use Rattle.std.specs.Global.{Global}
+use Rattle.fit_base.specs.declared.items.Items.{Items}
+use Rattle.fit_base.specs.Fields.{HasShape}
 use Rattle.fit_record.specs.declared.definition.FieldDef.{FieldDef}
 use Rattle.fit_record.specs.declared.definition.DevDef.{DevDef}
+use Rattle.fit_record.specs.declared.message.Values.{Values}
+use Rattle.fit_record.specs.declared.message.Record.{Record}
+use Rattle.fit_record.specs.Environment.{defined_at}
+use Rattle.fit_record.specs.Records.{DataHeaderFits}
+use Rattle.fit_profile.specs.Profile.{Meaning}
+use Rattle.fit_profile.specs.Looks.{known}
+use Rattle.fit_profile.specs.Times.{header_time, previous_time}
+use Rattle.fit_csv.specs.Cells.{cell}
 use Rattle.fit_csv.specs.Rows.{Cell, Row}
 use Rattle.fit_csv.specs.Judged.{IsBadCell}
-use Rattle.fit_csv.specs.ChainRows.{dev_def_row, field_def_row, optional_number, order_word, row}
+use Rattle.fit_csv.specs.ChainRows.{data_row, dev_def_row, field_def_row, optional_number, order_word, row}
 use Rattle.fit_csv.specs.declared.from.definition.DefinitionHead.{DefinitionHead}
 use Rattle.fit_csv.specs.declared.from.misfit.Misfit.{Misfit}
 use Rattle.fit_csv.specs.declared.from.misfit.Misfit.TheVariants.{Kind, Cell as BadCell, NoMemory}
@@ -50,3 +61,27 @@ head_row h = row (codes "def") (decimal h.local) (decimal h.reserved) (order_wor
 
 abbrev pub IsHeadRow : Row → Type 0
 IsHeadRow r = (h : DefinitionHead) × HeadInRange h × (r ≡ head_row h)
+
+-- ---- data messages behind records, latest first
+
+-- the global message number of a local message type
+abbrev pub global_at : List (Record Global) → ℕ → ℕ
+global_at before local = unwrap_or (option_map (λ p. p.definition.global) (defined_at (known before) local)) 0
+
+-- a data message of which the first row has come
+pub record IsMessageStart (before : List (Record Global)) (v : Values Global) : Type 0 where
+  pub header : DataHeaderFits v.local v.offset
+  pub defined : IsSome (defined_at (known before) v.local)
+  pub no_fields : v.fields ≡ []
+  pub no_dev_fields : v.dev ≡ []
+
+-- its first row
+abbrev pub message_row : List (Record Global) → Values Global → Row
+message_row before v = data_row v (global_at before v.local) (header_time (previous_time before) v.offset)
+
+abbrev pub IsMessageRow : List (Record Global) → Row → Type 0
+IsMessageRow before r = (v : Values Global) × IsMessageStart before v × (r ≡ message_row before v)
+
+-- a row of a field: label, items, unit
+abbrev pub IsValueRow : Cell → Cell → ℕ → ℕ → Option Meaning → Cell → Row → Type 0
+IsValueRow kind label code size info unit r = (i : Items Global) × HasShape code size i × (r ≡ row kind label (cell code info i) unit [] [] [])

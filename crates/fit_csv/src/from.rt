@@ -2,5 +2,6 @@
 
 mod cells;
 mod definition;
+mod message;
 mod misfit;
 mod number;
