@@ -1,4 +1,8 @@
 mod KnownCells
+mod KnownRows
+pub mod RowsOfEvents
+mod InstantFacts
+mod DegreeFacts
 mod HexFacts
 mod ReadFacts
 mod NumberFacts
@@ -10,3 +14,10 @@ mod ItemFacts
 mod RowFacts
 mod ReaderFacts
 mod OneCell
+mod SevenCells
+mod Closest
+mod ClosestRows
+mod DefinitionRows
+mod ZeroItems
+mod MessageRows
+mod ValueRows

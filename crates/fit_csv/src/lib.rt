@@ -2,6 +2,7 @@
 #![tactic(auto)]
 
 mod cell;
+mod from;
 mod hexadecimal;
 pub mod laws;
 mod numbers;
