@@ -27,3 +27,6 @@ pub mod Ended
 pub mod Feeding
 pub mod Needed
 pub mod NoSooner
+pub mod Limits
+pub mod InProgress
+pub mod Holding

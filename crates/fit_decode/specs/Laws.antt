@@ -6,7 +6,8 @@ use Rattle.fit_record.specs.declared.file.FitFile.{FitFile}
 use Rattle.fit_record.specs.Files.{IsChain, IsViable}
 use Rattle.fit_decode.specs.Progress.{Progress, HasCome}
 use Rattle.fit_decode.specs.GoingOn.{ChainGoesOn}
-use Rattle.fit_decode.specs.Events.{Event, AreEvents}
+use Rattle.fit_decode.specs.Events.{Event, AreEvents, bound}
+use Rattle.fit_decode.specs.Held.{bound_limit}
 use Rattle.fit_decode.specs.Refusals.{IsRefused}
 use Rattle.fit_decode.specs.Needs.{missing}
 
@@ -31,3 +32,7 @@ ChainsGoOn A = (limit : ℕ) (files : List (FitFile A)) (progress : Progress A) 
 abbrev pub FilesEndNoSooner : Type 0 → Type 0
 FilesEndNoSooner A = (limit : ℕ) (files others : List (FitFile A)) (progress : Progress A) (bytes more : List ℕ)
     → HasCome files progress bytes → IsChain limit others (bytes ++ more) → length files < length others → missing (length files) progress ≤ length more
+
+-- What a reader holds behind some bytes is limited.
+abbrev pub BoundsAreLimited : Type 0 → Type 0
+BoundsAreLimited A = (files : List (FitFile A)) (progress : Progress A) (bytes : List ℕ) → HasCome files progress bytes → IsBytes bytes → bound progress ≤ bound_limit

@@ -1,5 +1,5 @@
 //! What holds of events and refusals. These functions do nothing: what they ensure is what they are for.
-ghost use Rattle.fit_decode.specs.Laws.{ChainsGoOn, EventsAreOne, FilesEndNoSooner, ReasonsAreOne, ViableHaveEvents};
+ghost use Rattle.fit_decode.specs.Laws.{BoundsAreLimited, ChainsGoOn, EventsAreOne, FilesEndNoSooner, ReasonsAreOne, ViableHaveEvents};
 
 use std::alloc::Allocator;
 
@@ -28,4 +28,10 @@ pub fn chains_go_on<A: Allocator>()
 /// No file ends before so many bytes more have come as `need` tells.
 pub fn files_end_no_sooner<A: Allocator>()
     ensures { FilesEndNoSooner A }
+{}
+
+/// What a reader has to hold is limited: 16 definitions of 510 entries, 65,536 descriptions, and one record of 510
+/// entries and 130,050 items.
+pub fn bounds_are_limited<A: Allocator>()
+    ensures { BoundsAreLimited A }
 {}
