@@ -37,3 +37,6 @@ pub mod Turning
 pub mod Missing
 pub mod FileRead
 pub mod OneRead
+pub mod Limits
+pub mod InProgress
+pub mod Holding

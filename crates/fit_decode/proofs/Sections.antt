@@ -62,6 +62,7 @@ begins_records {A} files d bytes h n records come few counted whole fresh sum kn
         counted = counted;
         fresh = fresh;
         summed = sum;
+        known = known;
         over = none.1;
         idle = ap (λ (s : State A). s.in_progress) at;
       })
@@ -328,6 +329,7 @@ module _ {A : Type 0} (d : Fields A) (bytes piece : List ℕ) (k : InSum d bytes
           counted = counted ∙ k.counted;
           fresh = k.fresh;
           summed = covered ∙ k.summed;
+          known = same ∙ k.known;
           over = k.over;
           idle = k.idle;
         });

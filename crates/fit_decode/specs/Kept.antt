@@ -83,6 +83,7 @@ pub record InSum {A : Type 0} (d : Fields A) (bytes : List ℕ) : Type 0 where
   pub counted : d.count ≡ length files
   pub fresh : d.reader ≡ record { bytes = []; refusal = None }
   pub summed : d.sum ≡ header_bytes header size ++ records_bytes empty_environment records
+  pub known : d.env ≡ learn_all empty_environment records
   pub over : size - length (records_bytes empty_environment records) ≡ 0
   pub idle : d.in_progress ≡ None
 

@@ -6,7 +6,8 @@ use Rattle.fit_record.specs.declared.file.FitFile.{FitFile}
 use Rattle.fit_record.specs.Files.{chain_limit, IsChain, IsViable}
 use Rattle.fit_decode.specs.Progress.{Progress, HasCome}
 use Rattle.fit_decode.specs.GoingOn.{ChainGoesOn}
-use Rattle.fit_decode.specs.Events.{Event, AreEvents}
+use Rattle.fit_decode.specs.Events.{Event, AreEvents, bound}
+use Rattle.fit_decode.specs.Held.{bound_limit}
 use Rattle.fit_decode.specs.Refusals.{IsRefused}
 use Rattle.fit_decode.specs.Needs.{missing}
 
@@ -41,3 +42,7 @@ FilesEndNoSooner A = (limit : ℕ) (files others : List (FitFile A)) (progress :
 abbrev pub FirstFilesAreFiles : Type 0 → Type 0
 FirstFilesAreFiles A = (limit : ℕ) (progress : Progress A) (bytes : List ℕ) → HasCome [] progress bytes → IsBytes bytes → 0 < limit
     → IsViable A limit bytes ↔ IsViable A 1 bytes
+
+-- What a reader holds behind some bytes is limited.
+abbrev pub BoundsAreLimited : Type 0 → Type 0
+BoundsAreLimited A = (files : List (FitFile A)) (progress : Progress A) (bytes : List ℕ) → HasCome files progress bytes → IsBytes bytes → bound progress ≤ bound_limit

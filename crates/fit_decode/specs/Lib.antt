@@ -1,6 +1,7 @@
 pub mod Progress
 pub mod Events
 pub mod Memory
+pub mod Held
 pub mod GoingOn
 pub mod Refusals
 pub mod Needs
@@ -9,6 +10,7 @@ pub mod Answers
 pub mod Scans
 pub mod Sections
 pub mod Kept
+pub mod InProgress
 pub mod Invariant
 pub mod Sources
 pub mod Reads

@@ -1,5 +1,5 @@
 //! What holds of events and refusals. These functions do nothing: what they ensure is what they are for.
-ghost use Rattle.fit_decode.specs.Laws.{ChainsGoOn, EventsAreOne, FilesEndNoSooner, FirstFilesAreFiles, ReasonsAreOne, RefusedHaveReasons, ViableHaveEvents};
+ghost use Rattle.fit_decode.specs.Laws.{BoundsAreLimited, ChainsGoOn, EventsAreOne, FilesEndNoSooner, FirstFilesAreFiles, ReasonsAreOne, RefusedHaveReasons, ViableHaveEvents};
 
 use std::alloc::Allocator;
 
@@ -39,4 +39,10 @@ pub fn files_end_no_sooner<A: Allocator>()
 /// Bytes in which no file is whole begin a chain exactly where they begin a file.
 pub fn first_files_are_files<A: Allocator>()
     ensures { FirstFilesAreFiles A }
+{}
+
+/// What a reader has to hold is limited: 16 definitions of 510 entries, 65,536 descriptions, and one record of 510
+/// entries and 130,050 items.
+pub fn bounds_are_limited<A: Allocator>()
+    ensures { BoundsAreLimited A }
 {}

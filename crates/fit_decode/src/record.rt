@@ -1,7 +1,7 @@
 //! The bytes of a piece that belong to a record.
-ghost use Rattle.std.specs.Prelude.{◌≡◌, OnErr, Some, true, false, IsSomeAnd};
+ghost use Rattle.std.specs.Prelude.{◌≡◌, OnErr, None, Some, true, false, IsSomeAnd};
 ghost use Rattle.fit_record.specs.declared.message.Record.{Record};
-ghost use Rattle.fit_record.specs.Environment.{DescribesNothing, learn};
+ghost use Rattle.fit_record.specs.Environment.{DescribesNothing, empty_environment, learn};
 ghost use Rattle.fit_record.specs.Records.{Fits};
 ghost use Rattle.fit_step.specs.Machine.{step};
 ghost use Rattle.fit_step.specs.Places.{state_at};
@@ -76,4 +76,17 @@ pub(crate) fn scan_record<A: Allocator + Copy>(
         }
     }
     (piece.len(), Ok(None))
+}
+
+/// Nothing is known any more, and no record is in progress.
+pub(crate) fn let_go<A: Allocator + Copy>(
+    alloc: A,
+    env: &mut Env<A>,
+    in_progress: &mut Option<Record<A>>,
+)
+    ensures known { env.new ≡ empty_environment }
+    ensures idle { in_progress.new ≡ None }
+{
+    *env = Env::new(alloc);
+    *in_progress = None;
 }
