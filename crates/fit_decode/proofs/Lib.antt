@@ -34,4 +34,7 @@ pub mod Consumed
 pub mod Turning
 pub mod Missing
 pub mod FileRead
+pub mod FileGiven
 pub mod OneRead
+pub mod NextRead
+pub mod ChainRead

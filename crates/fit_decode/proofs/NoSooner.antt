@@ -1,5 +1,5 @@
 -- No file ends before the bytes have come that are missing.
-use Rattle.std.proofs.Common.{◌≡◌, cond, inl, inr, ℕ, ◌+◌, ◌-◌, ◌<◌, ◌≤◌, ◌^◌, nat_le, nat_lt, Bool, true, false, List, [], ◌∷◌, ◌++◌, length, take, drop, refl, sym, ap, ◌∙◌, subst, arith, length-append}
+use Rattle.std.proofs.Common.{◌≡◌, cond, inl, inr, ℕ, ◌+◌, ◌<◌, ◌≤◌, ◌^◌, nat_le, nat_lt, Bool, true, false, List, [], ◌∷◌, ◌++◌, length, take, drop, refl, sym, ap, ◌∙◌, arith, length-append}
 use Rattle.std.proofs.lemmas.Bool.{leb-true}
 use Rattle.fit_base.specs.Numbers.{little, little_bytes}
 use Rattle.fit_base.proofs.Bytes.{length-little_bytes, little-little_bytes}
@@ -10,13 +10,12 @@ use Rattle.fit_frame.specs.declared.header.HeaderSum.TheVariants.{Absent, Zero, 
 use Rattle.fit_frame.specs.Header.{SizeFits, HeaderFits, header_bytes}
 use Rattle.fit_frame.proofs.OneHeader.{length-header_bytes}
 use Rattle.fit_record.specs.declared.file.FitFile.{FitFile}
-use Rattle.fit_record.specs.declared.message.Record.{Record}
 use Rattle.fit_record.specs.Environment.{empty_environment, learn, learn_all}
 use Rattle.fit_record.specs.Records.{records_bytes}
 use Rattle.fit_record.specs.Files.{body, summed, chain_bytes, chain_limit, IsChain}
 use Rattle.fit_decode.specs.Progress.{Progress, at_header, at_data, HasCome}
 use Rattle.fit_decode.specs.Needs.{missing}
-use Rattle.fit_decode.proofs.Following.{HeaderFollows, DataFollows, RecordFollows, SumFollows, header_follows, data_follows, chain_follows}
+use Rattle.fit_decode.proofs.Following.{header_follows, data_follows, chain_follows}
 
 -- ---- headers
 

@@ -12,3 +12,4 @@ pub mod Kept
 pub mod Invariant
 pub mod Reads
 pub mod Turns
+pub mod Between
