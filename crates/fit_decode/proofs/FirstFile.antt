@@ -3,7 +3,7 @@ use Rattle.std.proofs.Common.{ℕ, ◌<◌, ◌≤◌, List, [], ◌∷◌, arit
 use Rattle.fit_base.specs.Numbers.{IsBytes}
 use Rattle.fit_record.specs.Files.{IsViable}
 use Rattle.fit_decode.specs.Progress.{Progress, at_header, at_data, HasCome}
-use Rattle.fit_decode.specs.GoingOn.{files_begun, ChainGoesOn}
+use Rattle.fit_decode.specs.GoingOn.{files_begun}
 use Rattle.fit_decode.proofs.Goes.{viable_goes}
 use Rattle.fit_decode.proofs.Completions.{goes_viable}
 

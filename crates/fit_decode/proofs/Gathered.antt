@@ -1,12 +1,10 @@
 -- What a reader gathers from events: the whole files, and of the next one the header, once it is whole, and the whole records.
-use Rattle.std.proofs.Common.{◌≡◌, ℕ, List, [], ◌∷◌, ◌++◌, Option, Some, None, length, refl, sym, ap, ◌∙◌, subst, arith, append_assoc, length-append}
+use Rattle.std.proofs.Common.{◌≡◌, ℕ, List, [], ◌∷◌, ◌++◌, Option, Some, None, refl, sym, ap, ◌∙◌, subst, append_assoc}
 use Rattle.std.specs.Prelude.{flat_map, map}
-use Rattle.std.specs.Option.{option_and_then}
 use Rattle.std.proofs.lemmas.List.{append-nil}
 use Rattle.fit_frame.specs.declared.header.Header.{Header}
 use Rattle.fit_record.specs.declared.file.FitFile.{FitFile}
 use Rattle.fit_record.specs.declared.message.Record.{Record}
-use Rattle.fit_record.specs.Files.{body}
 use Rattle.fit_decode.specs.Progress.{Progress, at_header, at_data, HasCome}
 use Rattle.fit_decode.specs.Events.{Event, header, item, file_end, file_events, progress_events, AreEvents}
 use Rattle.fit_decode.specs.Turns.{Stands, progress_header, progress_records}

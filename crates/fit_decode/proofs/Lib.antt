@@ -36,7 +36,10 @@ pub mod Consumed
 pub mod Turning
 pub mod Missing
 pub mod FileRead
+pub mod FileGiven
 pub mod OneRead
 pub mod Limits
 pub mod InProgress
 pub mod Holding
+pub mod NextRead
+pub mod ChainRead

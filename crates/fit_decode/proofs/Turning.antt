@@ -1,6 +1,6 @@
 -- A turn of a reader: a piece taken and fed.
-use Rattle.std.proofs.Common.{◌≡◌, Bool, true, false, ℕ, ◌+◌, ◌<◌, ◌≤◌, List, [], ◌∷◌, ◌++◌, length, take, drop, get_or, Option, Some, None, Result, Ok, Err, refl, sym, ap, ◌∙◌, subst, arith, append_assoc, length-append}
-use Rattle.std.specs.Io.KnownBytes.{Consumes, Keeps, IsAtEnd}
+use Rattle.std.proofs.Common.{◌≡◌, Bool, true, false, ℕ, ◌<◌, ◌≤◌, List, [], ◌++◌, length, take, get_or, Option, None, Result, Ok, Err, sym, ap, ◌∙◌, subst, arith, length-append}
+use Rattle.std.specs.Io.KnownBytes.{IsAtEnd}
 use Rattle.std.proofs.lemmas.List.{append-nil, length-take, get_or-append-add}
 use Rattle.std.proofs.Math.Seq.{take-length, take-append-add}
 use Rattle.fit_frame.specs.declared.header.Header.{Header}
@@ -11,7 +11,7 @@ use Rattle.fit_decode.specs.declared.event.Fault.{Fault}
 use Rattle.fit_decode.specs.declared.event.Fault.TheVariants.{Refused, Truncated, NoMemory, Read}
 use Rattle.fit_decode.specs.Answers.{Seen}
 use Rattle.fit_decode.specs.Refusals.{IsRefused}
-use Rattle.fit_decode.specs.Turns.{Stands, ComesTo, Ended, PieceFed, TurnTold, FaultIn, NoSooner, unrefused}
+use Rattle.fit_decode.specs.Turns.{Stands, ComesTo, Ended, PieceFed, TurnTold, NoSooner, unrefused}
 
 -- what feeding the piece told is what the turn told
 pub turn_of : {A : Type 0} (files : List (FitFile A)) (bytes piece : List ℕ) (n : ℕ) (has : Option (List ℕ)) (failed : Bool) (new : Seen) (head : Option Header) (records : List (Record A)) (result : Result Bool Fault)

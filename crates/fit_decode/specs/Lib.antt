@@ -15,3 +15,4 @@ pub mod Invariant
 pub mod Sources
 pub mod Reads
 pub mod Turns
+pub mod Between

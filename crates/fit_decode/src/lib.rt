@@ -16,5 +16,5 @@ mod tests;
 
 pub use decoder::Decoder;
 pub use event::{Event, Fault, Fed};
-pub use readers::read_one;
+pub use readers::{Reading, read_chain, read_one};
 pub use source::{CutSource, ReadSource, Source, SourceFailed};

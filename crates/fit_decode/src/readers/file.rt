@@ -2,6 +2,7 @@
 ghost use Rattle.std.specs.Prelude.{◌≡◌, ◌+◌, List, [], length, None};
 ghost use Rattle.fit_record.specs.declared.file.FitFile.{FitFile};
 ghost use Rattle.fit_record.specs.Files.{chain_limit, IsViable};
+ghost use Rattle.fit_decode.specs.Between.{IsEnd};
 ghost use Rattle.fit_decode.specs.Progress.{at_header, HasCome};
 ghost use Rattle.fit_decode.specs.Turns.{FileRead, Stands, Turned};
 
@@ -75,5 +76,17 @@ pub(crate) fn read_file<A: Allocator + Copy, S: Source>(
             Ok(false) => {}
             Err(fault) => return Err(fault),
         }
+    }
+}
+
+/// Whether the source has ended behind a whole chain.
+pub(crate) fn is_end<A: Allocator + Copy>(decoder: &Decoder<A>, fault: Fault) -> bool
+    ensures { IsEnd A decoder.now fault result }
+{
+    match fault {
+        Fault::Truncated { .. } => decoder.finish().is_ok(),
+        Fault::Refused { .. } => false,
+        Fault::NoMemory { .. } => false,
+        Fault::Read { .. } => false,
     }
 }

@@ -1,8 +1,7 @@
 -- A piece is fed event by event.
-use Rattle.std.proofs.Common.{◌≡◌, ℕ, ◌+◌, ◌≤◌, length, drop, Some, None, Ok, Err, refl, sym, ap, ◌∙◌, subst, arith}
+use Rattle.std.proofs.Common.{length, drop, Some, Err, sym, ap, ◌∙◌, subst, arith}
 use Rattle.std.proofs.lemmas.List.{length-drop}
-use Rattle.fit_decode.specs.declared.event.Fault.TheVariants.{Refused, Truncated, NoMemory, Read}
-use Rattle.fit_decode.specs.Answers.{Seen, told, fed}
+use Rattle.fit_decode.specs.Answers.{Seen, told}
 use Rattle.fit_decode.specs.Turns.{Stands}
 use Rattle.fit_decode.proofs.PieceTold.{fed_on, feeds_header, feeds_item, piece_over, piece_more, piece_end, piece_refused}
 use Rattle.fit_decode.proofs.readers.piece.take_piece.Goals as goal
