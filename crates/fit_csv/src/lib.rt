@@ -2,8 +2,12 @@
 #![tactic(auto)]
 
 mod cell;
+mod definition_rows;
+mod dev_rows;
+mod file_rows;
 mod hexadecimal;
 pub mod laws;
+mod message_rows;
 mod numbers;
 mod raw;
 mod rows;
