@@ -23,5 +23,6 @@ mod Closest
 mod ClosestRows
 mod DefinitionRows
 mod ZeroItems
+mod HeaderRows
 mod MessageRows
 mod ValueRows

@@ -1,8 +1,11 @@
 -- Rows that can be read at a place, and why others can't. No public contract names these definitions.
-use Rattle.std.specs.Prelude.{◌≡◌, ◌<◌, ◌^◌, ℕ, List, [], Option, take, codes, decimal, IfSome, IsSome, option_map, unwrap_or}
+use Rattle.std.specs.Prelude.{◌≡◌, ◌⊎◌, ◌<◌, ◌≤◌, ◌^◌, ℕ, List, [], Option, take, codes, decimal, IfSome, IsSome, option_map, unwrap_or}
 use Rattle.std.specs.Global.{Global}
 use Rattle.fit_base.specs.declared.items.Items.{Items}
 use Rattle.fit_base.specs.Fields.{HasShape}
+use Rattle.fit_frame.specs.declared.header.Header.{Header}
+use Rattle.fit_frame.specs.declared.header.HeaderSum.{HeaderSum}
+use Rattle.fit_frame.specs.declared.header.HeaderSum.TheVariants.{Absent, Zero, True}
 use Rattle.fit_record.specs.declared.definition.FieldDef.{FieldDef}
 use Rattle.fit_record.specs.declared.definition.DevDef.{DevDef}
 use Rattle.fit_record.specs.declared.message.Values.{Values}
@@ -14,8 +17,8 @@ use Rattle.fit_profile.specs.Looks.{known}
 use Rattle.fit_profile.specs.Times.{header_time, previous_time}
 use Rattle.fit_csv.specs.Cells.{cell}
 use Rattle.fit_csv.specs.Rows.{Cell, Row}
-use Rattle.fit_csv.specs.Judged.{IsBadCell}
-use Rattle.fit_csv.specs.ChainRows.{data_row, dev_def_row, field_def_row, optional_number, order_word, row}
+use Rattle.fit_csv.specs.Judged.{HeaderInRange, IsBadCell}
+use Rattle.fit_csv.specs.ChainRows.{data_row, dev_def_row, end_row, file_row, field_def_row, optional_number, order_word, row}
 use Rattle.fit_csv.specs.declared.from.definition.DefinitionHead.{DefinitionHead}
 use Rattle.fit_csv.specs.declared.from.misfit.Misfit.{Misfit}
 use Rattle.fit_csv.specs.declared.from.misfit.Misfit.TheVariants.{Kind, Cell as BadCell, NoMemory}
@@ -85,3 +88,20 @@ IsMessageRow before r = (v : Values Global) × IsMessageStart before v × (r ≡
 -- a row of a field: label, items, unit
 abbrev pub IsValueRow : Cell → Cell → ℕ → ℕ → Option Meaning → Cell → Row → Type 0
 IsValueRow kind label code size info unit r = (i : Items Global) × HasShape code size i × (r ≡ row kind label (cell code info i) unit [] [] [])
+
+-- ---- the rows in which files begin and end
+
+abbrev pub IsHeaderSize : ℕ → Type 0
+IsHeaderSize n = (n ≡ 12) ⊎ ((14 ≤ n) × (n < 2 ^ 8))
+
+-- headers of twelve bytes have no sum, the others have one
+abbrev pub HasSum : ℕ → HeaderSum → Type 0
+HasSum size Absent = size ≡ 12
+HasSum size Zero = 14 ≤ size
+HasSum size True = 14 ≤ size
+
+abbrev pub IsFileRow : Row → Type 0
+IsFileRow r = (h : Header) × HeaderInRange h × (r ≡ file_row h)
+
+abbrev pub IsEndRow : Row → Type 0
+IsEndRow r = r ≡ end_row

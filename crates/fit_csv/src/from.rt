@@ -2,6 +2,7 @@
 
 mod cells;
 mod definition;
+mod header;
 mod message;
 mod misfit;
 mod number;

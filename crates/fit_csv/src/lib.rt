@@ -2,6 +2,7 @@
 #![tactic(auto)]
 
 mod cell;
+mod file_rows;
 mod from;
 mod definition_rows;
 mod dev_rows;
