@@ -46,7 +46,7 @@ pub data_starts : {A : Type 0} (e : Environment A) (room : ℕ) (sum : List ℕ)
 data_starts e zero sum sixteen fill = (sum, refl)
 data_starts e (suc room) sum sixteen fill = let (rs, bytes, are, fit, size) = (can_fill_is e (suc room) sixteen).0 fill in (rs, bytes, are, fit.0, sym fit.1, omega (arith, size))
 
-fill_of : {A : Type 0} (e : Environment A) (room : ℕ) (sum part : List ℕ) → 0 < room → DataGoesOn e room sum part → FillFrom e room part
+pub fill_of : {A : Type 0} (e : Environment A) (room : ℕ) (sum part : List ℕ) → 0 < room → DataGoesOn e room sum part → FillFrom e room part
 fill_of e zero sum part some goes = absurd (omega arith)
 fill_of e (suc room) sum part some goes = goes
 

@@ -1,5 +1,6 @@
 pub mod OnePlace
 pub mod OneReason
+pub mod HasReason
 pub mod Splits
 pub mod Following
 pub mod Goes
@@ -20,6 +21,10 @@ pub mod Places
 pub mod Sections
 pub mod Bounds
 mod Refused
+pub mod FirstFile
+pub mod Gathered
+pub mod FileEnds
+pub mod PieceTold
 pub mod Sizes
 pub mod Invariant
 pub mod Advancing
@@ -27,6 +32,14 @@ pub mod Ended
 pub mod Feeding
 pub mod Needed
 pub mod NoSooner
+pub mod Consumed
+pub mod Turning
+pub mod Missing
+pub mod FileRead
+pub mod FileGiven
+pub mod OneRead
 pub mod Limits
 pub mod InProgress
 pub mod Holding
+pub mod NextRead
+pub mod ChainRead

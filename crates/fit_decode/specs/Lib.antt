@@ -13,3 +13,6 @@ pub mod Kept
 pub mod InProgress
 pub mod Invariant
 pub mod Sources
+pub mod Reads
+pub mod Turns
+pub mod Between
