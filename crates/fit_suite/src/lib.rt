@@ -4,4 +4,8 @@
 #[cfg(test)]
 mod built;
 #[cfg(test)]
+mod fed;
+#[cfg(test)]
 mod refused;
+#[cfg(test)]
+mod starved;
