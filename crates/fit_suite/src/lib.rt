@@ -4,4 +4,10 @@
 #[cfg(test)]
 mod built;
 #[cfg(test)]
+mod files;
+#[cfg(test)]
+mod reading;
+#[cfg(test)]
 mod refused;
+#[cfg(test)]
+mod sources;
