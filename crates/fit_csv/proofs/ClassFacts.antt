@@ -7,7 +7,7 @@ use Rattle.fit_base.specs.declared.code.Class.TheVariants.{Signed, Unsigned, Tex
 use Rattle.fit_base.specs.BaseTypes as base
 use Rattle.fit_base.specs.BaseTypes.{base_type, base_types, byte}
 use Rattle.fit_base.proofs.Bytes.{found_passes}
-use Rattle.fit_profile.specs.declared.profile.Info.{Info}
+use Rattle.fit_profile.specs.Profile.{Meaning}
 use Rattle.fit_csv.specs.Cells.{barred, class_of, item_text, items_text}
 
 abbrev is_width : ℕ → Bool
@@ -81,7 +81,7 @@ own_width code width h = elim (cases_Bool (width == (base_type code).width)) [
 ]
 
 -- the other classes stand item by item
-pub side_by_side : (class : Class) (code : ℕ) (info : Option Info) (width : ℕ) (bits : List ℕ) → (class ≡ Text → ⊥) → (class ≡ Bytes → ⊥)
+pub side_by_side : (class : Class) (code : ℕ) (info : Option Meaning) (width : ℕ) (bits : List ℕ) → (class ≡ Text → ⊥) → (class ≡ Bytes → ⊥)
     → items_text class code info width bits ≡ barred (map (item_text class code info width) bits)
 side_by_side Signed code info width bits t b = refl
 side_by_side Unsigned code info width bits t b = refl

@@ -9,7 +9,7 @@ use Rattle.fit_base.specs.BaseTypes.{item_width}
 use Rattle.fit_base.specs.Fields.{HasShape}
 use Rattle.fit_base.proofs.SameItems.{item_width_positive}
 use Rattle.fit_base.proofs.Shapes.{item_width_divides}
-use Rattle.fit_profile.specs.declared.profile.Info.{Info}
+use Rattle.fit_profile.specs.Profile.{Meaning}
 use Rattle.fit_csv.specs.Cells.{cell, class_of, items_text}
 
 -- two facts of one answer
@@ -24,12 +24,12 @@ shape_count code size items s =
     sym (mul-div_cancel (length items.bits) positive) ∙ ap (λ n. n / items.width) s.whole ∙ ap (λ w. size / w) s.width
 
 -- what the items of a shape show, where there are some
-shown : {A : Type 0} (code size width : ℕ) (info : Option Info) (text : List ℕ) (items : Items A) → width ≡ item_width code size → HasShape code size items
+shown : {A : Type 0} (code size width : ℕ) (info : Option Meaning) (text : List ℕ) (items : Items A) → width ≡ item_width code size → HasShape code size items
     → (length items.bits == 0) ≡ false → cell code info items ≡ text → text ≡ items_text (class_of code width) code info width items.bits
 shown code size width info text items w s some e =
     sym (rw some at e) ∙ ap (λ v. items_text (class_of code v) code info v items.bits) (s.width ∙ sym w)
 
-same-bits : {A : Type 0} (code size width : ℕ) (info : Option Info) (text bits : List ℕ) (items : Items A) → width ≡ item_width code size → HasShape code size items → cell code info items ≡ text → length bits ≡ size / width
+same-bits : {A : Type 0} (code size width : ℕ) (info : Option Meaning) (text bits : List ℕ) (items : Items A) → width ≡ item_width code size → HasShape code size items → cell code info items ≡ text → length bits ≡ size / width
     → ((numbers : List ℕ) → length numbers ≡ size / width → All (λ n. n < 256 ^ width) numbers → text ≡ items_text (class_of code width) code info width numbers → bits ≡ numbers)
     → bits ≡ items.bits
 same-bits code size width info text bits items w s e long every =
@@ -44,7 +44,7 @@ same-bits code size width info text bits items w s e long every =
     ]
 
 -- what is read of a text is whatever items show it
-pub same-items : {A : Type 0} (code size width : ℕ) (info : Option Info) (text bits : List ℕ) (items : Items A) → width ≡ item_width code size → HasShape code size items → cell code info items ≡ text → length bits ≡ size / width
+pub same-items : {A : Type 0} (code size width : ℕ) (info : Option Meaning) (text bits : List ℕ) (items : Items A) → width ≡ item_width code size → HasShape code size items → cell code info items ≡ text → length bits ≡ size / width
     → ((numbers : List ℕ) → length numbers ≡ size / width → All (λ n. n < 256 ^ width) numbers → text ≡ items_text (class_of code width) code info width numbers → bits ≡ numbers)
     → ◌≡◌ {A = Items A} (record { width = width; bits = bits }) items
 same-items code size width info text bits items w s e long every =

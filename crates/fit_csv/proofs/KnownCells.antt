@@ -1,38 +1,37 @@
 -- Cells that are known from outside.
-use Rattle.std.proofs.Common.{◌≡◌, refl, ℕ, List, [], ◌∷◌, Option, Some, None, codes, Bor}
+use Rattle.std.proofs.Common.{◌≡◌, refl, ℕ, List, [], ◌∷◌, Option, Some, None, codes}
 use Rattle.std.specs.Fmt.{digits}
 use Rattle.std.specs.Str.{is_utf8, chars}
 use lib.Utf8.{encode}
-use Rattle.fit_profile.specs.declared.profile.Info.{Info}
+use Rattle.fit_profile.specs.Profile.{Meaning}
 use Rattle.fit_profile.specs.FixedText.{last_digits}
 use Rattle.fit_csv.specs.Cells.{cell, hex_digits}
 
 -- the cell of items of a width
-abbrev shown : ℕ → Option Info → ℕ → List ℕ → List ℕ
+abbrev shown : ℕ → Option Meaning → ℕ → List ℕ → List ℕ
 shown code info width bits = cell {A = ℕ} code info (record { width = width; bits = bits })
 
-module _ (name unit : Bor (List ℕ)) where
-  abbrev by : ℕ → ℕ → Option Info
-  by scale offset = Some (record { name = name; unit = unit; scale = scale; offset = offset })
+abbrev by : ℕ → ℕ → Option Meaning
+by scale offset = Some (record { name = []; unit = []; scale = scale; offset = offset })
 
-  altitude_2500 : shown 0x84 (by 5 500) 2 (2500 ∷ []) ≡ codes "0.0"
-  unfolding digits last_digits
-  altitude_2500 = refl
+altitude_2500 : shown 0x84 (by 5 500) 2 (2500 ∷ []) ≡ codes "0.0"
+unfolding digits last_digits
+altitude_2500 = refl
 
-  altitude_2499 : shown 0x84 (by 5 500) 2 (2499 ∷ []) ≡ codes "-0.2"
-  unfolding digits last_digits
-  altitude_2499 = refl
+altitude_2499 : shown 0x84 (by 5 500) 2 (2499 ∷ []) ≡ codes "-0.2"
+unfolding digits last_digits
+altitude_2499 = refl
 
-  altitude_invalid : shown 0x84 (by 5 500) 2 (65535 ∷ []) ≡ codes ""
-  altitude_invalid = refl
+altitude_invalid : shown 0x84 (by 5 500) 2 (65535 ∷ []) ≡ codes ""
+altitude_invalid = refl
 
-  hrv_times : shown 0x84 (by 1000 0) 2 (812 ∷ 65535 ∷ 0 ∷ []) ≡ codes "0.812||0.000"
-  unfolding digits last_digits
-  hrv_times = refl
+hrv_times : shown 0x84 (by 1000 0) 2 (812 ∷ 65535 ∷ 0 ∷ []) ≡ codes "0.812||0.000"
+unfolding digits last_digits
+hrv_times = refl
 
-  battery_voltage : shown 0x84 (by 256 0) 2 (956 ∷ []) ≡ codes "3.73437500"
-  unfolding digits last_digits
-  battery_voltage = refl
+battery_voltage : shown 0x84 (by 256 0) 2 (956 ∷ []) ≡ codes "3.73437500"
+unfolding digits last_digits
+battery_voltage = refl
 
 temperature : shown 0x01 None 1 (0xFE ∷ []) ≡ codes "-2"
 unfolding digits last_digits

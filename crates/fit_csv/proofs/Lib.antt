@@ -1,4 +1,12 @@
 mod KnownCells
+mod KnownRows
+pub mod RowsOfEvents
+mod AddedRows
+mod Shapes
+mod NamingFacts
+mod DevFields
+mod InstantFacts
+mod DegreeFacts
 mod HexFacts
 mod ReadFacts
 mod NumberFacts
@@ -10,3 +18,11 @@ mod ItemFacts
 mod RowFacts
 mod ReaderFacts
 mod OneCell
+mod SevenCells
+mod Closest
+mod ClosestRows
+mod DefinitionRows
+mod ZeroItems
+mod HeaderRows
+mod MessageRows
+mod ValueRows

@@ -5,7 +5,7 @@ use Rattle.std.proofs.lemmas.Bool.{cases_Bool}
 use Rattle.std.proofs.lemmas.Int.{ints, to_z-of_z}
 use Rattle.std.specs.Int.{w128}
 use Rattle.fit_base.specs.Numbers.{twos_complement}
-use Rattle.fit_profile.specs.declared.profile.Info.{Info}
+use Rattle.fit_profile.specs.Profile.{Meaning}
 use Rattle.fit_profile.specs.FixedText.{fixed_text, fraction, sign, IsIn128}
 use Rattle.fit_profile.specs.Scaled.{IsScale, IsScaled, decimals}
 use Rattle.fit_csv.specs.Cells.{number_text, scaled}
@@ -52,16 +52,16 @@ fixed-some v d =
     let all = length-append (sign v ++ decimal (unsigned_abs v / 10 ^ d)) (fraction d (unsigned_abs v % 10 ^ d)) in
     omega (arith, some, whole, all)
 
-pub number-some : (info : Option Info) (raw : ℤ) → 0 < length (number_text info raw)
+pub number-some : (info : Option Meaning) (raw : ℤ) → 0 < length (number_text info raw)
 number-some None raw = fixed-some raw 0
 number-some (Some i) raw = fixed-some _ _
 
 -- just the invalid item is empty
-pub empty-number : (b : Bool) (info : Option Info) (raw : ℤ) (text : List ℕ) → length text ≡ 0 → text ≡ cond b [] (number_text info raw) → b ≡ true
+pub empty-number : (b : Bool) (info : Option Meaning) (raw : ℤ) (text : List ℕ) → length text ≡ 0 → text ≡ cond b [] (number_text info raw) → b ≡ true
 empty-number true info raw text h e = refl
 empty-number false info raw text h e = let same = ap length e in let some = number-some info raw in absurd (omega (arith, same, some, h))
 
-pub some-number : (b : Bool) (info : Option Info) (raw : ℤ) (text : List ℕ) → (length text ≡ 0 → ⊥) → text ≡ cond b [] (number_text info raw) → text ≡ number_text info raw
+pub some-number : (b : Bool) (info : Option Meaning) (raw : ℤ) (text : List ℕ) → (length text ≡ 0 → ⊥) → text ≡ cond b [] (number_text info raw) → text ≡ number_text info raw
 some-number true info raw text h e = absurd (h (ap length e))
 some-number false info raw text h e = e
 

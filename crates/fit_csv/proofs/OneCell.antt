@@ -11,7 +11,7 @@ use Rattle.fit_base.specs.declared.items.Items.{Items}
 use Rattle.fit_base.specs.BaseTypes.{base_type, item_width}
 use Rattle.fit_base.specs.Fields.{HasShape}
 use Rattle.fit_base.specs.Numbers.{twos_complement}
-use Rattle.fit_profile.specs.declared.profile.Info.{Info}
+use Rattle.fit_profile.specs.Profile.{Meaning}
 use Rattle.fit_profile.specs.Laws.{TextHasOneNumber}
 use Rattle.fit_profile.specs.Scaled.{IsScale, decimals}
 use Rattle.fit_profile.specs.FixedText.{IsIn128}
@@ -25,11 +25,11 @@ use Rattle.fit_csv.proofs.SplitFacts.{first-text, other-texts}
 use Rattle.fit_csv.proofs.StringFacts.{string-bytes, string-plain, plain-same}
 use Rattle.fit_csv.proofs.TextFacts.{Low, low-item}
 
-abbrev IsKnown : Option Info → Type 0
+abbrev IsKnown : Option Meaning → Type 0
 IsKnown info = IfSome info (λ i. IsScale i.scale × (i.offset < 2 ^ 32))
 
 -- a text is that of one number
-one-number : TextHasOneNumber → (info : Option Info) → IsKnown info → (x y : ℤ) → neg_ℤ (pos (2 ^ 64)) ≤ℤ x → x <ℤ pos (2 ^ 64) → neg_ℤ (pos (2 ^ 64)) ≤ℤ y → y <ℤ pos (2 ^ 64)
+one-number : TextHasOneNumber → (info : Option Meaning) → IsKnown info → (x y : ℤ) → neg_ℤ (pos (2 ^ 64)) ≤ℤ x → x <ℤ pos (2 ^ 64) → neg_ℤ (pos (2 ^ 64)) ≤ℤ y → y <ℤ pos (2 ^ 64)
     → number_text info x ≡ number_text info y → x ≡ y
 one-number law None k x y xl xm yl ym e = law x y 0 (raw-in x xl xm) (raw-in y yl ym) e
 one-number law (Some i) k x y xl xm yl ym e =
@@ -48,7 +48,7 @@ one-pattern top m n false true a b p q e = absurd (omega (arith, ints, e, p))
 one-pattern top m n false false a b p q e = omega (arith, ints, e)
 
 -- of two integers that show the same, both are the invalid one or none is
-one-valid : TextHasOneNumber → (info : Option Info) → IsKnown info → (m n invalid : ℕ) (x y : ℤ) (is_m is_n : Bool) → (m == invalid) ≡ is_m → (n == invalid) ≡ is_n
+one-valid : TextHasOneNumber → (info : Option Meaning) → IsKnown info → (m n invalid : ℕ) (x y : ℤ) (is_m is_n : Bool) → (m == invalid) ≡ is_m → (n == invalid) ≡ is_n
     → neg_ℤ (pos (2 ^ 64)) ≤ℤ x → x <ℤ pos (2 ^ 64) → neg_ℤ (pos (2 ^ 64)) ≤ℤ y → y <ℤ pos (2 ^ 64) → (x ≡ y → m ≡ n)
     → cond is_m [] (number_text info x) ≡ cond is_n [] (number_text info y) → m ≡ n
 one-valid law info k m n invalid x y true true a b xl xm yl ym same e = eqb-true m invalid a ∙ sym (eqb-true n invalid b)
@@ -64,7 +64,7 @@ one-float w m n p q e =
     let digits : hex_digits (2 * w) m ≡ hex_digits (2 * w) n = cc in
     sym (digits-read (2 * w) m (rw (sixteen-squared w) p)) ∙ ap (read_hex 0) digits ∙ digits-read (2 * w) n (rw (sixteen-squared w) q)
 
-one-item : TextHasOneNumber → (class : Class) (code : ℕ) (info : Option Info) (w m n : ℕ) → IsKnown info → (w ≡ 1) ⊎ (w ≡ 2) ⊎ (w ≡ 4) ⊎ (w ≡ 8) → m < 256 ^ w → n < 256 ^ w
+one-item : TextHasOneNumber → (class : Class) (code : ℕ) (info : Option Meaning) (w m n : ℕ) → IsKnown info → (w ≡ 1) ⊎ (w ≡ 2) ⊎ (w ≡ 4) ⊎ (w ≡ 8) → m < 256 ^ w → n < 256 ^ w
     → item_text class code info w m ≡ item_text class code info w n → m ≡ n
 one-item law Signed code info w m n k kinds p q e =
     let limit = power-bound w kinds in
@@ -101,7 +101,7 @@ one-string a b l p q e = elim (cases_Bool (begins_as_bytes (string_text a))) [
 one-bytes : (a b : List ℕ) → length a ≡ length b → All (λ n. n < 256) a → All (λ n. n < 256) b → bytes_text a ≡ bytes_text b → a ≡ b
 one-bytes a b l p q e = sym (bytes-shown a (bytes_text a) (length a) refl refl p) ∙ bytes-shown b (bytes_text a) (length a) e (sym l) q
 
-one-items : TextHasOneNumber → (class : Class) (code : ℕ) (info : Option Info) (w : ℕ) (a b : List ℕ) → IsKnown info → (w ≡ 1) ⊎ (w ≡ 2) ⊎ (w ≡ 4) ⊎ (w ≡ 8)
+one-items : TextHasOneNumber → (class : Class) (code : ℕ) (info : Option Meaning) (w : ℕ) (a b : List ℕ) → IsKnown info → (w ≡ 1) ⊎ (w ≡ 2) ⊎ (w ≡ 4) ⊎ (w ≡ 8)
     → ((class ≡ Text) ⊎ (class ≡ Bytes) → w ≡ 1) → length a ≡ length b → AllByRecursion (λ n. n < 256 ^ w) a → AllByRecursion (λ n. n < 256 ^ w) b
     → items_text class code info w a ≡ items_text class code info w b → a ≡ b
 one-items law Signed code info w a b k kinds narrow l p q e =
@@ -122,11 +122,11 @@ one-narrow code size (inl text) = text_width code (item_width code size) text
 one-narrow code size (inr bytes) = bytes_width code (item_width code size) (item_width-kinds code size) bytes
 
 -- what the items of a shape show, where there are some
-shown : {A : Type 0} (code size : ℕ) (info : Option Info) (items : Items A) → HasShape code size items → (length items.bits == 0) ≡ false
+shown : {A : Type 0} (code size : ℕ) (info : Option Meaning) (items : Items A) → HasShape code size items → (length items.bits == 0) ≡ false
     → cell code info items ≡ items_text (class_of code (item_width code size)) code info (item_width code size) items.bits
 shown code size info items s some = rw some (ap (λ v. items_text (class_of code v) code info v items.bits) s.width)
 
-pub one-cell : TextHasOneNumber → {A : Type 0} (code size : ℕ) (info : Option Info) (a b : Items A) → IsKnown info → HasShape code size a → HasShape code size b → cell code info a ≡ cell code info b → a ≡ b
+pub one-cell : TextHasOneNumber → {A : Type 0} (code size : ℕ) (info : Option Meaning) (a b : Items A) → IsKnown info → HasShape code size a → HasShape code size b → cell code info a ≡ cell code info b → a ≡ b
 one-cell law code size info a b k p q e =
     let count : length a.bits ≡ length b.bits = shape_count code size a p ∙ sym (shape_count code size b q) in
     let width : a.width ≡ b.width = p.width ∙ sym q.width in

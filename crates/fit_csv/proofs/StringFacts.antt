@@ -6,7 +6,8 @@ use Rattle.std.specs.Str.{IsUtf8, is_utf8}
 use Rattle.std.proofs.lemmas.Bool.{cases_Bool}
 use Rattle.std.proofs.lemmas.Str.{is_utf8-from_IsUtf8, IsUtf8-from_is_utf8}
 use Rattle.std.proofs.lemmas.List.{reverse-append, reverse-reverse, ext_get_or}
-use Rattle.fit_csv.specs.Cells.{before_closing_zeros, begins_as_bytes, bytes_text, is_plain, string_text, without_zeros}
+use Rattle.fit_profile.specs.Described.{before_closing_zeros, without_zeros}
+use Rattle.fit_csv.specs.Cells.{begins_as_bytes, bytes_text, is_plain, string_text}
 use Rattle.fit_csv.specs.Steps.{read_pairs}
 use Rattle.fit_csv.proofs.ReadFacts.{bytes-shown}
 

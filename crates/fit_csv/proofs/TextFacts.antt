@@ -13,9 +13,10 @@ use Rattle.fit_base.specs.declared.code.Class.TheVariants.{Signed, Unsigned, Tex
 use Rattle.fit_base.specs.declared.items.Items.{Items}
 use Rattle.fit_base.specs.BaseTypes.{base_type}
 use Rattle.fit_base.specs.Numbers.{twos_complement}
-use Rattle.fit_profile.specs.declared.profile.Info.{Info}
+use Rattle.fit_profile.specs.Described.{before_closing_zeros}
+use Rattle.fit_profile.specs.Profile.{Meaning}
 use Rattle.fit_profile.specs.FixedText.{fixed_text, fraction, last_digits, sign}
-use Rattle.fit_csv.specs.Cells.{barred, before_closing_zeros, begins_as_bytes, bytes_text, cell, class_of, hex_digit, hex_digits, is_plain, item_text, items_text, number_text, string_text}
+use Rattle.fit_csv.specs.Cells.{barred, begins_as_bytes, bytes_text, cell, class_of, hex_digit, hex_digits, is_plain, item_text, items_text, number_text, string_text}
 
 -- each byte comes before the bar
 abbrev pub Low : List ℕ → Type 0
@@ -66,7 +67,7 @@ low-fixed v d =
     (low-append (sign v) (decimal (unsigned_abs v / 10 ^ d)) (low-sign v) (low-decimal (unsigned_abs v / 10 ^ d)))
     (low-fraction d (unsigned_abs v % 10 ^ d))
 
-low-number : (info : Option Info) (raw : ℤ) → Low (number_text info raw)
+low-number : (info : Option Meaning) (raw : ℤ) → Low (number_text info raw)
 low-number None raw = low-fixed raw 0
 low-number (Some i) raw = low-fixed _ _
 
@@ -92,14 +93,14 @@ low-valid : (b : Bool) (text : List ℕ) → Low text → Low (cond b [] text)
 low-valid true text h = tt
 low-valid false text h = h
 
-pub low-item : (class : Class) (code : ℕ) (info : Option Info) (width n : ℕ) → Low (item_text class code info width n)
+pub low-item : (class : Class) (code : ℕ) (info : Option Meaning) (width n : ℕ) → Low (item_text class code info width n)
 low-item Signed code info width n = low-valid (n == (base_type code).invalid) (number_text info (twos_complement width n)) (low-number info (twos_complement width n))
 low-item Unsigned code info width n = low-valid (n == (base_type code).invalid) (number_text info (pos n)) (low-number info (pos n))
 low-item Text code info width n = low-0x _ (low-hex (2 * width) n)
 low-item Float code info width n = low-0x _ (low-hex (2 * width) n)
 low-item Bytes code info width n = low-0x _ (low-hex (2 * width) n)
 
-ascii-item : (class : Class) (code : ℕ) (info : Option Info) (width n : ℕ) → IsAscii (item_text class code info width n)
+ascii-item : (class : Class) (code : ℕ) (info : Option Meaning) (width n : ℕ) → IsAscii (item_text class code info width n)
 ascii-item class code info width n = ascii-low (item_text class code info width n) (low-item class code info width n)
 
 ascii-others : (f : ℕ → List ℕ) → ((n : ℕ) → IsAscii (f n)) → (bits : List ℕ) → IsAscii (flat_map (λ t. 124 ∷ t) (map f bits))
@@ -122,14 +123,14 @@ utf8-string bytes = elim (cases_Bool (is_plain (before_closing_zeros bytes))) [
   | inr other ↦ rw other (IsUtf8-from_ascii (bytes_text bytes) (ascii-bytes bytes))
 ]
 
-pub utf8-items : (class : Class) (code : ℕ) (info : Option Info) (width : ℕ) (bits : List ℕ) → IsUtf8 (items_text class code info width bits)
+pub utf8-items : (class : Class) (code : ℕ) (info : Option Meaning) (width : ℕ) (bits : List ℕ) → IsUtf8 (items_text class code info width bits)
 utf8-items Signed code info width bits = IsUtf8-from_ascii _ (ascii-barred (item_text Signed code info width) (ascii-item Signed code info width) bits)
 utf8-items Unsigned code info width bits = IsUtf8-from_ascii _ (ascii-barred (item_text Unsigned code info width) (ascii-item Unsigned code info width) bits)
 utf8-items Float code info width bits = IsUtf8-from_ascii _ (ascii-barred (item_text Float code info width) (ascii-item Float code info width) bits)
 utf8-items Text code info width bits = utf8-string bits
 utf8-items Bytes code info width bits = IsUtf8-from_ascii _ (ascii-bytes bits)
 
-pub utf8-cell : {A : Type 0} (code : ℕ) (info : Option Info) (items : Items A) → IsUtf8 (cell code info items)
+pub utf8-cell : {A : Type 0} (code : ℕ) (info : Option Meaning) (items : Items A) → IsUtf8 (cell code info items)
 utf8-cell code info items = elim (cases_Bool (length items.bits == 0)) [
   | inl none ↦ rw none (IsUtf8-from_ascii [] IsAscii-nil)
   | inr some ↦ rw some (utf8-items (class_of code items.width) code info items.width items.bits)

@@ -1,5 +1,5 @@
 -- The text of a field, as a cell of a CSV row shows it.
-use Rattle.std.specs.Prelude.{ℕ, zero, suc, ◌+◌, ◌*◌, ◌/◌, ◌%◌, ◌^◌, ◌==◌, ◌&&◌, not, nat_lt, if◌then◌else◌, Bool, List, [], ◌∷◌, ◌++◌, length, map, flat_map, reverse, slice_index, Option, Some, None, ℤ, pos, ◌-ℤ◌, ◌*ℤ◌, codes}
+use Rattle.std.specs.Prelude.{ℕ, zero, suc, ◌+◌, ◌*◌, ◌/◌, ◌%◌, ◌^◌, ◌==◌, ◌&&◌, not, nat_lt, if◌then◌else◌, Bool, List, [], ◌∷◌, ◌++◌, length, map, flat_map, slice_index, Option, Some, None, ℤ, pos, ◌-ℤ◌, ◌*ℤ◌, codes}
 use Rattle.std.specs.List.{list_all}
 use Rattle.std.specs.Str.{is_utf8}
 use Rattle.fit_base.specs.declared.code.Class.{Class}
@@ -7,8 +7,9 @@ use Rattle.fit_base.specs.declared.code.Class.TheVariants.{Signed, Unsigned, Tex
 use Rattle.fit_base.specs.declared.items.Items.{Items}
 use Rattle.fit_base.specs.BaseTypes.{base_type}
 use Rattle.fit_base.specs.Numbers.{twos_complement}
-use Rattle.fit_profile.specs.declared.profile.Info.{Info}
+use Rattle.fit_profile.specs.Described.{before_closing_zeros}
 use Rattle.fit_profile.specs.FixedText.{fixed_text}
+use Rattle.fit_profile.specs.Profile.{Meaning}
 use Rattle.fit_profile.specs.Scaled.{decimals}
 
 -- what the items of a field stand for: bytes where they have another width than the field's base type
@@ -38,24 +39,15 @@ abbrev pub scaled : ℤ → ℕ → ℕ → ℤ
 scaled raw scale offset = (raw -ℤ pos (offset * scale)) *ℤ pos (10 ^ decimals scale / scale)
 
 -- a number: scaled where it is known how, else whole
-abbrev pub number_text : Option Info → ℤ → List ℕ
+abbrev pub number_text : Option Meaning → ℤ → List ℕ
 number_text None raw = fixed_text raw 0
-number_text (Some i) raw = fixed_text (scaled raw i.scale i.offset) (decimals i.scale)
+number_text (Some m) raw = fixed_text (scaled raw m.scale m.offset) (decimals m.scale)
 
 -- one of the items that stand side by side: a number, which is empty where it is the invalid one, or the bits of a float
-abbrev pub item_text : Class → ℕ → Option Info → ℕ → ℕ → List ℕ
+abbrev pub item_text : Class → ℕ → Option Meaning → ℕ → ℕ → List ℕ
 item_text Signed code info width n = if n == (base_type code).invalid then [] else number_text info (twos_complement width n)
 item_text Unsigned code info width n = if n == (base_type code).invalid then [] else number_text info (pos n)
 item_text other code info width n = codes "0x" ++ hex_digits (2 * width) n
-
--- a list without its first zeros
-abbrev pub without_zeros : List ℕ → List ℕ
-without_zeros [] = []
-without_zeros (b ∷ bytes) = if b == 0 then without_zeros bytes else b ∷ bytes
-
--- the bytes before the closing zeros
-abbrev pub before_closing_zeros : List ℕ → List ℕ
-before_closing_zeros bytes = reverse (without_zeros (reverse bytes))
 
 -- as bytes begin in a cell
 abbrev pub begins_as_bytes : List ℕ → Bool
@@ -69,11 +61,11 @@ abbrev pub string_text : List ℕ → List ℕ
 string_text bytes = if is_plain (before_closing_zeros bytes) then before_closing_zeros bytes else bytes_text bytes
 
 -- the items of a class
-abbrev pub items_text : Class → ℕ → Option Info → ℕ → List ℕ → List ℕ
+abbrev pub items_text : Class → ℕ → Option Meaning → ℕ → List ℕ → List ℕ
 items_text Text code info width bits = string_text bits
 items_text Bytes code info width bits = bytes_text bits
 items_text numbers code info width bits = barred (map (item_text numbers code info width) bits)
 
 -- The cell of a field: empty where it has no items, else its items as their class has them.
-abbrev pub cell : {A : Type 0} → ℕ → Option Info → Items A → List ℕ
+abbrev pub cell : {A : Type 0} → ℕ → Option Meaning → Items A → List ℕ
 cell code info items = if length items.bits == 0 then [] else items_text (class_of code items.width) code info items.width items.bits

@@ -1,11 +1,17 @@
--- What holds of cells, of rows and of their text.
-use Rattle.std.specs.Prelude.{◌≡◌, ◌∷◌, ◌<◌, ◌^◌, ℕ, ℤ, List, Option, IfSome}
+-- What holds of cells, of rows and of their text, and of the computed texts of instants and positions.
+use Rattle.std.specs.Prelude.{◌≡◌, ◌∷◌, ◌<◌, ◌^◌, ℕ, ℤ, List, Option, IfSome, flat_map}
 use Rattle.fit_base.specs.declared.items.Items.{Items}
 use Rattle.fit_base.specs.Fields.{HasShape}
-use Rattle.fit_profile.specs.declared.profile.Info.{Info}
-use Rattle.fit_profile.specs.Scaled.{IsScale, IsScaled}
+use Rattle.fit_record.specs.declared.file.FitFile.{FitFile}
+use Rattle.fit_decode.specs.Events.{file_events}
+use Rattle.fit_profile.specs.Instant.{IsInstantText}
+use Rattle.fit_profile.specs.Profile.{Meaning}
+use Rattle.fit_profile.specs.Scaled.{IsDegrees, IsScale, IsScaled}
 use Rattle.fit_csv.specs.Cells.{cell, scaled}
 use Rattle.fit_csv.specs.Rows.{Row, RowsOfText, NoneEmpty, csv_text, first_line}
+use Rattle.fit_csv.specs.InstantText.{instant_text}
+use Rattle.fit_csv.specs.Degrees.{degrees_of}
+use Rattle.fit_csv.specs.ChainRows.{chain_rows, rows_of}
 
 -- the text of the first line and other rows reads as those rows
 abbrev pub ReadsBack : Type 0
@@ -22,5 +28,17 @@ ScaledIsExact = (raw : ℤ) (scale offset : ℕ) → IsScale scale → IsScaled 
 -- items with the shape that a code and a size give have a cell of their own
 abbrev pub CellsAreOne : Type 0 → Type 0
 CellsAreOne A =
-    (code size : ℕ) (info : Option Info) (a b : Items A) → IfSome info (λ i. IsScale i.scale × (i.offset < 2 ^ 32)) → HasShape code size a → HasShape code size b →
+    (code size : ℕ) (info : Option Meaning) (a b : Items A) → IfSome info (λ m. IsScale m.scale × (m.offset < 2 ^ 32)) → HasShape code size a → HasShape code size b →
     cell code info a ≡ cell code info b → a ≡ b
+
+-- the rows of the events of a chain are the rows of the chain
+abbrev pub EventsHaveTheRows : Type 0 → Type 0
+EventsHaveTheRows A = (files : List (FitFile A)) → rows_of (flat_map file_events files) ≡ chain_rows files
+
+-- the computed text of an instant is its text
+abbrev pub InstantTextIs : Type 0
+InstantTextIs = (t : ℕ) → t < 2 ^ 32 → IsInstantText t (instant_text t)
+
+-- the computed number of degrees is the nearest one
+abbrev pub DegreesAreNearest : Type 0
+DegreesAreNearest = (semicircles : ℤ) → IsDegrees semicircles (degrees_of semicircles)

@@ -1,4 +1,11 @@
 pub mod Cells
 pub mod Steps
 pub mod Rows
+pub mod InstantText
+pub mod Degrees
+pub mod ChainRows
+pub mod Table
+pub mod Judged
+pub mod Seven
+pub mod Misfits
 pub mod Laws

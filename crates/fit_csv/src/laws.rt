@@ -1,5 +1,5 @@
-//! What holds of cells, of rows and of their text.
-ghost use Rattle.fit_csv.specs.Laws.{CellsAreOne, ReadsBack, ReadsOneWay, ScaledIsExact};
+//! What holds of cells, of rows and of their text, and of the computed texts of instants and positions.
+ghost use Rattle.fit_csv.specs.Laws.{CellsAreOne, DegreesAreNearest, EventsHaveTheRows, InstantTextIs, ReadsBack, ReadsOneWay, ScaledIsExact};
 
 use fit_profile::laws::text_has_one_number;
 use std::alloc::Allocator;
@@ -25,3 +25,18 @@ pub fn cells_are_one<A: Allocator>()
 {
     text_has_one_number();
 }
+
+/// The rows of the events of a chain are the rows of the chain.
+pub fn events_have_the_rows<A: Allocator>()
+    ensures { EventsHaveTheRows A }
+{}
+
+/// The text of an instant that is computed by years and months is its text.
+pub fn instant_text_is()
+    ensures { InstantTextIs }
+{}
+
+/// The computed number of degrees of a position is the nearest one.
+pub fn degrees_are_nearest()
+    ensures { DegreesAreNearest }
+{}

@@ -2,8 +2,14 @@
 #![tactic(auto)]
 
 mod cell;
+mod file_rows;
+mod from;
+mod definition_rows;
+mod dev_rows;
+mod file_rows;
 mod hexadecimal;
 pub mod laws;
+mod message_rows;
 mod numbers;
 mod raw;
 mod rows;

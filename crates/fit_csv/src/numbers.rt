@@ -1,6 +1,7 @@
 //! Numbers, as they stand in a cell.
-ghost use Rattle.std.specs.Prelude.{◌≡◌, ◌<◌, ◌≤◌, ◌++◌, ◌⊎◌, ◌^◌, ◌==◌, ◌+◌, pos, neg_ℤ, ◌≤ℤ◌, ◌<ℤ◌, All, IfSome, OnOk, [], if◌then◌else◌, map};
+ghost use Rattle.std.specs.Prelude.{◌≡◌, ◌<◌, ◌≤◌, ◌++◌, ◌⊎◌, ◌^◌, ◌==◌, ◌+◌, pos, neg_ℤ, ◌≤ℤ◌, ◌<ℤ◌, All, IfSome, OnOk, [], if◌then◌else◌, map, option_map};
 ghost use Rattle.fit_base.specs.BaseTypes.{base_type};
+ghost use Rattle.fit_profile.specs.Names.{meaning};
 ghost use Rattle.fit_profile.specs.Scaled.{decimals, IsScale};
 ghost use Rattle.fit_csv.specs.Cells.{barred, item_text, number_text, scaled};
 ghost use Rattle.fit_csv.specs.Steps.{bar};
@@ -28,7 +29,7 @@ fn number_text(info: Option<Info>, raw: i128) -> ArrayString<48>
     requires least { neg_ℤ (pos (2 ^ 63)) ≤ℤ raw }
     requires most { raw <ℤ pos (2 ^ 64) }
     requires scale { IfSome info (λ i. IsScale i.scale) }
-    ensures { result.bytes ≡ number_text info raw }
+    ensures { result.bytes ≡ number_text (option_map meaning info) raw }
 {
     match info {
         Some(info) => scaled(raw, info).print(),
@@ -51,7 +52,7 @@ fn put_number(
     requires least { neg_ℤ (pos (2 ^ 63)) ≤ℤ raw }
     requires most { raw <ℤ pos (2 ^ 64) }
     requires scale { IfSome info (λ i. IsScale i.scale) }
-    ensures { OnOk result (text.new.items ≡ text.old.items ++ (if bits == (base_type code.0).invalid then [] else number_text info raw)) }
+    ensures { OnOk result (text.new.items ≡ text.old.items ++ (if bits == (base_type code.0).invalid then [] else number_text (option_map meaning info) raw)) }
 {
     if bits == code.invalid() {
         return Ok(());
@@ -71,7 +72,7 @@ fn put_item(
     requires scale { IfSome info (λ i. IsScale i.scale) }
     requires width { (width ≡ 1) ⊎ (width ≡ 2) ⊎ (width ≡ 4) ⊎ (width ≡ 8) }
     requires bits { bits < 256 ^ width }
-    ensures { OnOk result (text.new.items ≡ text.old.items ++ item_text class code.0 info width bits) }
+    ensures { OnOk result (text.new.items ≡ text.old.items ++ item_text class code.0 (option_map meaning info) width bits) }
 {
     match class {
         Class::Signed => put_number(text, code, info, bits, i128::from(signed(width, bits))),
@@ -105,7 +106,7 @@ pub(crate) fn put_items(
     requires scale { IfSome info (λ i. IsScale i.scale) }
     requires width { (width ≡ 1) ⊎ (width ≡ 2) ⊎ (width ≡ 4) ⊎ (width ≡ 8) }
     requires bits { All (λ n. n < 256 ^ width) bits.now }
-    ensures { OnOk result (text.new.items ≡ text.old.items ++ barred (map (item_text class code.0 info width) bits.now)) }
+    ensures { OnOk result (text.new.items ≡ text.old.items ++ barred (map (item_text class code.0 (option_map meaning info) width) bits.now)) }
 {
     for (place, item) in bits.iter().enumerate() {
         put_bar(text, place)?;

@@ -1,6 +1,7 @@
 //! Raw values, read back from the texts of numbers.
-ghost use Rattle.std.specs.Prelude.{◌≡◌, ◌<◌, ◌≤◌, ◌⊎◌, ◌^◌, ◌*◌, ◌/◌, ℕ, ℤ, pos, neg_ℤ, ◌*ℤ◌, ◌-ℤ◌, ◌≤ℤ◌, ◌<ℤ◌, IfSome, Some, None, ◌==◌, [], if◌then◌else◌};
+ghost use Rattle.std.specs.Prelude.{◌≡◌, ◌<◌, ◌≤◌, ◌⊎◌, ◌^◌, ◌*◌, ◌/◌, ℕ, ℤ, pos, neg_ℤ, ◌*ℤ◌, ◌-ℤ◌, ◌≤ℤ◌, ◌<ℤ◌, IfSome, Some, None, ◌==◌, [], if◌then◌else◌, option_map};
 ghost use Rattle.fit_base.specs.BaseTypes.{base_type};
+ghost use Rattle.fit_profile.specs.Names.{meaning};
 ghost use Rattle.fit_profile.specs.Scaled.{decimals, IsScale};
 ghost use Rattle.fit_csv.specs.Cells.{number_text, scaled};
 
@@ -58,7 +59,7 @@ fn unscaled(value: i128, scale: u32, shift: u64) -> Option<i128>
 /// The raw value that a field shows as a text.
 fn read_scaled(text: &str, info: Info) -> Option<i128>
     requires { IsScale info.scale }
-    ensures { (raw : ℤ) → neg_ℤ (pos (2 ^ 64)) ≤ℤ raw → raw <ℤ pos (2 ^ 64) → text.now ≡ number_text (Some info) raw → result ≡ Some raw }
+    ensures { (raw : ℤ) → neg_ℤ (pos (2 ^ 64)) ≤ℤ raw → raw <ℤ pos (2 ^ 64) → text.now ≡ number_text (Some (meaning info)) raw → result ≡ Some raw }
 {
     let shift = shift(info.offset, info.scale);
     let number = Fixed::scan(text, fixed(0, info).decimals)?;
@@ -76,7 +77,7 @@ fn read_whole(text: &str) -> Option<i128>
 /// The raw value that is shown as a text.
 fn read_raw(info: Option<Info>, text: &str) -> Option<i128>
     requires { IfSome info (λ i. IsScale i.scale) }
-    ensures { (raw : ℤ) → neg_ℤ (pos (2 ^ 64)) ≤ℤ raw → raw <ℤ pos (2 ^ 64) → text.now ≡ number_text info raw → result ≡ Some raw }
+    ensures { (raw : ℤ) → neg_ℤ (pos (2 ^ 64)) ≤ℤ raw → raw <ℤ pos (2 ^ 64) → text.now ≡ number_text (option_map meaning info) raw → result ≡ Some raw }
 {
     match info {
         Some(info) => read_scaled(text, info),
@@ -115,7 +116,7 @@ fn bits_of(width: u8, number: i128) -> u64
 pub(crate) fn read_number(code: Code, info: Option<Info>, text: &str) -> u64
     requires { IfSome info (λ i. IsScale i.scale) }
     ensures below { result < 256 ^ (base_type code.0).width }
-    ensures every { (bits : ℕ) (raw : ℤ) → bits < 256 ^ (base_type code.0).width → (raw ≡ pos bits) ⊎ (raw ≡ pos bits -ℤ pos (256 ^ (base_type code.0).width)) → text.now ≡ (if bits == (base_type code.0).invalid then [] else number_text info raw) → result ≡ bits }
+    ensures every { (bits : ℕ) (raw : ℤ) → bits < 256 ^ (base_type code.0).width → (raw ≡ pos bits) ⊎ (raw ≡ pos bits -ℤ pos (256 ^ (base_type code.0).width)) → text.now ≡ (if bits == (base_type code.0).invalid then [] else number_text (option_map meaning info) raw) → result ≡ bits }
 {
     if text.is_empty() {
         return code.invalid();

@@ -1,10 +1,11 @@
 //! The items that a cell shows.
-ghost use Rattle.std.specs.Prelude.{◌≡◌, ◌<◌, ◌⊎◌, ◌^◌, ℕ, List, All, IfOk, IfSome, Some, length, map};
+ghost use Rattle.std.specs.Prelude.{◌≡◌, ◌<◌, ◌⊎◌, ◌^◌, ℕ, List, All, IfOk, IfSome, Some, length, map, option_map};
 ghost use Rattle.std.specs.Global.{Global};
 ghost use Rattle.std.specs.List.{after_first, before_first};
 ghost use Rattle.fit_base.specs.BaseTypes.{base_type};
 ghost use Rattle.fit_base.specs.Fields.{HasShape};
 ghost use Rattle.fit_base.specs.declared.items.Items.{Items};
+ghost use Rattle.fit_profile.specs.Names.{meaning};
 ghost use Rattle.fit_profile.specs.Scaled.{IsScale};
 ghost use Rattle.fit_csv.specs.Cells.{barred, cell, class_of, item_text, items_text};
 ghost use Rattle.fit_csv.specs.Steps.{is_bar};
@@ -32,7 +33,7 @@ fn split_at_bar(text: &str) -> (&str, &str)
 fn read_item(class: Class, code: Code, info: Option<Info>, text: &str) -> u64
     requires { IfSome info (λ i. IsScale i.scale) }
     ensures below { result < 256 ^ (base_type code.0).width }
-    ensures every { (bits : ℕ) → bits < 256 ^ (base_type code.0).width → text.now ≡ item_text class code.0 info (base_type code.0).width bits → result ≡ bits }
+    ensures every { (bits : ℕ) → bits < 256 ^ (base_type code.0).width → text.now ≡ item_text class code.0 (option_map meaning info) (base_type code.0).width bits → result ≡ bits }
 {
     match class {
         Class::Signed => read_number(code, info, text),
@@ -53,7 +54,7 @@ fn read_items(
     requires { IfSome info (λ i. IsScale i.scale) }
     ensures count { IfOk result (λ bits. length bits ≡ count) }
     ensures below { IfOk result (λ bits. All (λ n. n < 256 ^ (base_type code.0).width) bits) }
-    ensures every { IfOk result (λ bits. (numbers : List ℕ) → length numbers ≡ count → All (λ n. n < 256 ^ (base_type code.0).width) numbers → text.now ≡ barred (map (item_text class code.0 info (base_type code.0).width) numbers) → bits ≡ numbers) }
+    ensures every { IfOk result (λ bits. (numbers : List ℕ) → length numbers ≡ count → All (λ n. n < 256 ^ (base_type code.0).width) numbers → text.now ≡ barred (map (item_text class code.0 (option_map meaning info) (base_type code.0).width) numbers) → bits ≡ numbers) }
 {
     let mut bits = Bits::with_capacity(alloc, count as usize)?;
     let mut rest = text;
@@ -78,7 +79,7 @@ fn read_bits(
     requires width { (width ≡ (base_type code.0).width) ⊎ (width ≡ 1) }
     ensures count { IfOk result (λ bits. length bits ≡ count) }
     ensures below { IfOk result (λ bits. All (λ n. n < 256 ^ width) bits) }
-    ensures every { IfOk result (λ bits. (numbers : List ℕ) → length numbers ≡ count → All (λ n. n < 256 ^ width) numbers → text.now ≡ items_text (class_of code.0 width) code.0 info width numbers → bits ≡ numbers) }
+    ensures every { IfOk result (λ bits. (numbers : List ℕ) → length numbers ≡ count → All (λ n. n < 256 ^ width) numbers → text.now ≡ items_text (class_of code.0 width) code.0 (option_map meaning info) width numbers → bits ≡ numbers) }
 {
     match class_of(code, width) {
         Class::Text => read_string(alloc, count, text.as_bytes()),
@@ -96,8 +97,8 @@ pub fn cell_items(
     text: &str,
 ) -> Result<Option<Items>, AllocError>
     requires { IfSome info (λ i. IsScale i.scale) }
-    ensures some { IfOk result (λ found. IfSome found (λ items. HasShape code.0 size items × (cell code.0 info items ≡ text.now))) }
-    ensures every { IfOk result (λ found. (items : Items Global) → HasShape code.0 size items → cell code.0 info items ≡ text.now → found ≡ Some items) }
+    ensures some { IfOk result (λ found. IfSome found (λ items. HasShape code.0 size items × (cell code.0 (option_map meaning info) items ≡ text.now))) }
+    ensures every { IfOk result (λ found. (items : Items Global) → HasShape code.0 size items → cell code.0 (option_map meaning info) items ≡ text.now → found ≡ Some items) }
 {
     let width = width_of(code, size);
     let bits = read_bits(alloc, code, width, size / width, info, text)?;

@@ -1,7 +1,8 @@
 //! Strings, as they stand in a cell.
 ghost use Rattle.std.specs.Prelude.{◌≡◌, List, ◌<◌, ◌≤◌, ◌++◌, ℕ, All, IfOk, OnOk, slice_index, take, length, not, ◌==◌};
 ghost use Rattle.std.specs.List.{list_all};
-ghost use Rattle.fit_csv.specs.Cells.{before_closing_zeros, begins_as_bytes, is_plain, string_text};
+ghost use Rattle.fit_profile.specs.Described.{before_closing_zeros};
+ghost use Rattle.fit_csv.specs.Cells.{begins_as_bytes, is_plain, string_text};
 
 use crate::hexadecimal::{put_bytes, read_bytes};
 use fit_base::Bits;

@@ -1,5 +1,6 @@
 pub mod OnePlace
 pub mod OneReason
+pub mod HasReason
 pub mod Splits
 pub mod Following
 pub mod Goes
@@ -14,6 +15,7 @@ pub mod Readings
 pub mod HeaderFed
 pub mod DataFed
 pub mod SumFed
+pub mod EmptyMessages
 pub mod Scanned
 pub mod Places
 pub mod Sections
@@ -36,5 +38,8 @@ pub mod Missing
 pub mod FileRead
 pub mod FileGiven
 pub mod OneRead
+pub mod Limits
+pub mod InProgress
+pub mod Holding
 pub mod NextRead
 pub mod ChainRead

@@ -14,7 +14,8 @@ use Rattle.fit_record.specs.Environment.{empty_environment, learn, learn_all}
 use Rattle.fit_record.specs.Records.{records_bytes}
 use Rattle.fit_record.specs.Files.{body, summed, chain_bytes, chain_limit, IsChain}
 use Rattle.fit_decode.specs.Progress.{Progress, at_header, at_data, HasCome}
-use Rattle.fit_decode.specs.Needs.{missing}
+use Rattle.fit_decode.specs.Needs.{missing, Needs, NoFileEndsBefore}
+use Rattle.fit_decode.proofs.OnePlace.{one_place}
 use Rattle.fit_decode.proofs.Following.{header_follows, data_follows, chain_follows}
 
 -- ---- headers
@@ -84,3 +85,9 @@ no_sooner {A} limit fs gs (at_data h n records part) bytes x come chain fewer =
       | inl s ↦ omega (arith, s.total, behind_header x s.more (records_bytes (learn e s.whole) s.after) sum (chain_bytes d.after) s.behind, length-little_bytes 2 (checksum (summed d.file)))
       | inr s ↦ omega (arith, s.over, come.next.2, ap length s.comes, length-append part x, length-append sum (chain_bytes d.after), length-little_bytes 2 (checksum (summed d.file)))
     ]
+
+pub need_is_least : {A : Type 0} (bytes : List ℕ) (n : ℕ) → Needs A bytes n → NoFileEndsBefore A bytes n
+need_is_least bytes n needs files others progress more come chain fewer =
+    let place = one_place needs.files files needs.progress progress bytes needs.come come in
+    let same : n ≡ missing (length files) progress = needs.is ∙ (λ i. missing (length (place.0 i)) (place.1 i)) in
+    omega (arith, same, no_sooner chain_limit files others progress bytes more come chain fewer)

@@ -3,6 +3,7 @@
 
 mod decoder;
 mod event;
+mod held;
 pub mod laws;
 mod need;
 mod readers;

@@ -1,7 +1,8 @@
-use Rattle.std.proofs.Common.{◌≡◌, ◌∙◌, ◌<◌, ◌^◌, ◌++◌, ◌∷◌, [], All, rules, arith, sym, ap, ap₂, subst, length, get_or, length-append}
+use Rattle.std.proofs.Common.{◌≡◌, ◌∙◌, ◌<◌, ◌^◌, ◌++◌, ◌∷◌, [], All, rules, arith, sym, ap, ap₂, subst, length, get_or, length-append, option_map}
 use Rattle.std.proofs.lemmas.List.{take_more}
 use Rattle.std.proofs.lemmas.List.Elements.{All-push}
 use Rattle.fit_base.specs.BaseTypes.{base_type}
+use Rattle.fit_profile.specs.Names.{meaning}
 use Rattle.fit_csv.specs.Cells.{item_text}
 use Rattle.fit_csv.proofs.TextFacts.{low-item}
 use Rattle.fit_csv.proofs.SplitFacts.{piece, behind-piece}
@@ -18,10 +19,10 @@ loop-place-preserved c =
       every = λ numbers long small e.
           let so_far = c.loop-place.invariant.every numbers long small e in
           let within : c.loop-place.place < length numbers = omega (arith, long, c.loop-place-test.true) in
-          let low = low-item c.args.class c.args.code.0 c.args.info (base_type c.args.code.0).width in
-          let shown = c.split_at_bar.ensures.before ∙ piece (item_text c.args.class c.args.code.0 c.args.info (base_type c.args.code.0).width) numbers c.loop-place.rest.now c.loop-place.place low within so_far.1 in
+          let low = low-item c.args.class c.args.code.0 (option_map meaning c.args.info) (base_type c.args.code.0).width in
+          let shown = c.split_at_bar.ensures.before ∙ piece (item_text c.args.class c.args.code.0 (option_map meaning c.args.info) (base_type c.args.code.0).width) numbers c.loop-place.rest.now c.loop-place.place low within so_far.1 in
           let item : c.read_item.result ≡ get_or numbers c.loop-place.place 0 = c.read_item.ensures.every (get_or numbers c.loop-place.place 0) (small c.loop-place.place 0 within) shown in (
             pushed ∙ ap₂ (λ bits x. bits ++ (x ∷ [])) so_far.0 item ∙ sym (take_more numbers c.loop-place.place 0 within),
-            c.split_at_bar.ensures.behind ∙ behind-piece (item_text c.args.class c.args.code.0 c.args.info (base_type c.args.code.0).width) numbers c.loop-place.rest.now c.loop-place.place low within so_far.1,
+            c.split_at_bar.ensures.behind ∙ behind-piece (item_text c.args.class c.args.code.0 (option_map meaning c.args.info) (base_type c.args.code.0).width) numbers c.loop-place.rest.now c.loop-place.place low within so_far.1,
           );
     }

@@ -1,7 +1,8 @@
-use Rattle.std.proofs.Common.{◌≡◌, ◌<◌, ◌^◌, ℕ, List, All, length, map, take, drop}
+use Rattle.std.proofs.Common.{◌≡◌, ◌<◌, ◌^◌, ℕ, List, All, length, map, take, drop, option_map}
 use denote.Text.{Utf8}
 use denote.Shadow.{shadow}
 use Rattle.fit_base.specs.BaseTypes.{base_type}
+use Rattle.fit_profile.specs.Names.{meaning}
 use Rattle.fit_csv.specs.Cells.{barred, item_text}
 use Rattle.fit_csv.proofs.scan.read_items.Given as goal
 
@@ -11,6 +12,6 @@ invariant-loop-place l = record {
   count : length l.bits ≡ l.place;
   below : All (λ n. n < 256 ^ (base_type l.code.0).width) l.bits;
   every : (numbers : List ℕ) → length numbers ≡ l.count → All (λ n. n < 256 ^ (base_type l.code.0).width) numbers
-      → l.fn.text ≡ barred (map (item_text l.class l.code.0 l.info (base_type l.code.0).width) numbers)
-      → (l.bits ≡ take l.place numbers) × (l.rest ≡ barred (map (item_text l.class l.code.0 l.info (base_type l.code.0).width) (drop l.place numbers)));
+      → l.fn.text ≡ barred (map (item_text l.class l.code.0 (option_map meaning l.info) (base_type l.code.0).width) numbers)
+      → (l.bits ≡ take l.place numbers) × (l.rest ≡ barred (map (item_text l.class l.code.0 (option_map meaning l.info) (base_type l.code.0).width) (drop l.place numbers)));
 }

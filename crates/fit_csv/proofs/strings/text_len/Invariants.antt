@@ -1,5 +1,5 @@
 use Rattle.std.proofs.Common.{◌≡◌, ◌≤◌, take}
-use Rattle.fit_csv.specs.Cells.{before_closing_zeros}
+use Rattle.fit_profile.specs.Described.{before_closing_zeros}
 use Rattle.fit_csv.proofs.strings.text_len.Given as goal
 
 abbrev pub invariant-loop-place : goal.invariant-loop-place

@@ -1,0 +1,71 @@
+-- The table of record messages, global message number 20.
+use Rattle.std.specs.Prelude.{ℕ, ◌+◌, ◌==◌, if◌then◌else◌, List, [], ◌∷◌, ◌++◌, map, option_and_then, option_map, unwrap_or, Option, None, codes, decimal, ℤ, pos}
+use Rattle.fit_record.specs.declared.definition.MessageDef.{MessageDef}
+use Rattle.fit_record.specs.declared.message.Values.{Values}
+use Rattle.fit_record.specs.declared.message.Record.{Record}
+use Rattle.fit_record.specs.declared.message.Record.TheVariants.{Values as Data}
+use Rattle.fit_record.specs.Environment.{defined_at}
+use Rattle.fit_decode.specs.Events.{Event, header, item}
+use Rattle.fit_profile.specs.declared.told.Told.{Told}
+use Rattle.fit_profile.specs.FixedText.{fixed_text}
+use Rattle.fit_profile.specs.Looks.{known, first_field, or_else}
+use Rattle.fit_profile.specs.Scaled.{decimals}
+use Rattle.fit_profile.specs.Told.{told}
+use Rattle.fit_profile.specs.Values.{first_number, known_number}
+use Rattle.fit_csv.specs.Cells.{scaled}
+use Rattle.fit_csv.specs.Degrees.{degrees_of}
+use Rattle.fit_csv.specs.InstantText.{instant_text}
+use Rattle.fit_csv.specs.Rows.{Cell, Row}
+use Rattle.fit_csv.specs.ChainRows.{records_behind}
+
+abbrev pub table_line : Row
+table_line =
+    codes "file" ∷ codes "timestamp" ∷ codes "position_lat" ∷ codes "position_long" ∷ codes "altitude" ∷ codes "distance" ∷ codes "speed"
+    ∷ codes "heart_rate" ∷ codes "cadence" ∷ codes "power" ∷ codes "temperature" ∷ []
+
+-- a raw value over the scale, less the offset
+abbrev pub amount_text : ℤ → ℕ → ℕ → Cell
+amount_text raw scale offset = fixed_text (scaled raw scale offset) (decimals scale)
+
+-- the number of the first field of this number, in its unit
+abbrev pub value_text : {A : Type 0} → MessageDef A → Values A → ℕ → Option Cell
+value_text d v number = option_map (λ x. amount_text x.0 x.1.scale x.1.offset) (known_number d v number)
+
+-- the first item of the first field of this number, where it is a valid sint32 of semicircles, in degrees
+abbrev pub degrees_text : {A : Type 0} → MessageDef A → Values A → ℕ → Option Cell
+degrees_text d v number =
+    option_and_then (λ f. if f.0.code == 0x85 then option_map (λ s. fixed_text (degrees_of s) 7) (first_number f.0 f.1) else None) (first_field d.fields v.fields number)
+
+-- The row of a record message of the file of this number: what stands in the message itself comes before what is accumulated from field 8.
+abbrev pub table_row : {A : Type 0} → ℕ → MessageDef A → Values A → Told → Row
+table_row file d v t =
+    decimal file ∷ map (λ cell. unwrap_or cell [])
+    (option_map instant_text t.time
+    ∷ degrees_text d v 0 ∷ degrees_text d v 1
+    ∷ or_else (value_text d v 78) (value_text d v 2)
+    ∷ or_else (value_text d v 5) (option_map (λ n. amount_text (pos n) 16 0) t.distance)
+    ∷ or_else (value_text d v 73) (or_else (value_text d v 6) (option_map (λ n. amount_text (pos n) 100 0) t.speed))
+    ∷ value_text d v 3 ∷ value_text d v 4 ∷ value_text d v 7 ∷ value_text d v 13 ∷ [])
+
+-- a message of the file of this number, after the records before it in the file, latest first: one row where it is a record message
+abbrev pub table_rows : {A : Type 0} → ℕ → List (Record A) → Values A → List Row
+table_rows file before v =
+    unwrap_or (option_map (λ p. if p.definition.global == 20 then table_row file p.definition v (told before v) ∷ [] else []) (defined_at (known before) v.local)) []
+
+abbrev pub table_event_rows : {A : Type 0} → ℕ → List (Record A) → Event A → List Row
+table_event_rows file before (item (Data v)) = table_rows file before v
+table_event_rows file before other = []
+
+-- how many files have begun behind an event
+abbrev pub files_behind : {A : Type 0} → ℕ → Event A → ℕ
+files_behind files (header h n) = files + 1
+files_behind files other = files
+
+-- events one after another, after so many headers
+unfoldable pub table_events_rows : {A : Type 0} → ℕ → List (Record A) → List (Event A) → List Row
+table_events_rows files before [] = []
+table_events_rows files before (x ∷ events) = table_event_rows files before x ++ table_events_rows (files_behind files x) (records_behind before x) events
+
+-- the first line, and a row for each record message that a reader has told
+abbrev pub table_of : {A : Type 0} → List (Event A) → List Row
+table_of events = table_line ∷ table_events_rows 0 [] events
