@@ -5,4 +5,6 @@ pub mod InstantText
 pub mod Degrees
 pub mod ChainRows
 pub mod Table
+pub mod Conversions
+pub mod Reporting
 pub mod Laws

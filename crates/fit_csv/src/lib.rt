@@ -2,14 +2,17 @@
 #![tactic(auto)]
 
 mod cell;
+mod conversion;
 mod definition_rows;
 mod dev_rows;
+mod fault;
 mod file_rows;
 mod hexadecimal;
 pub mod laws;
 mod message_rows;
 mod numbers;
 mod raw;
+mod report;
 mod rows;
 mod scan;
 mod strings;
@@ -17,5 +20,7 @@ mod strings;
 mod tests;
 
 pub use cell::{cell_text, put_cell};
+pub use conversion::to_csv;
+pub use fault::CsvFault;
 pub use rows::{next_row, put_row, row_reader, row_writer, rows_text};
 pub use scan::cell_items;
