@@ -20,3 +20,11 @@ mod ItemFacts
 mod RowFacts
 mod ReaderFacts
 mod OneCell
+mod SevenCells
+mod Closest
+mod ClosestRows
+mod DefinitionRows
+mod ZeroItems
+mod HeaderRows
+mod MessageRows
+mod ValueRows

@@ -7,4 +7,7 @@ pub mod ChainRows
 pub mod Table
 pub mod Conversions
 pub mod Reporting
+pub mod Judged
+pub mod Seven
+pub mod Misfits
 pub mod Laws

@@ -63,7 +63,7 @@ pub(crate) fn put_file_row(
 }
 
 /// Makes a cell of the bytes of a header from place 14 on.
-fn put_rest(value: &mut Vec<u8>, rest: &[u8]) -> Result<(), AllocError>
+pub(crate) fn put_rest(value: &mut Vec<u8>, rest: &[u8]) -> Result<(), AllocError>
     ensures { OnOk result (value.new.items ≡ rows.rest_text rest.now) }
 {
     value.clear();

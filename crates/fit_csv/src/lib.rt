@@ -7,6 +7,7 @@ mod definition_rows;
 mod dev_rows;
 mod fault;
 mod file_rows;
+mod from;
 mod hexadecimal;
 pub mod laws;
 mod message_rows;

@@ -1,0 +1,48 @@
+-- The first cell in which a row differs from the closest row that can stand there.
+use Rattle.std.proofs.Common.{◌≡◌, ◌∙◌, ℕ, zero, suc, ◌<◌, ◌≤◌, ◌-◌, List, [], ◌∷◌, take, refl, sym, ap, ap₂, arith, inl, inr}
+use Rattle.std.proofs.lemmas.List.{take-take}
+use Rattle.fit_csv.specs.Rows.{Row}
+use Rattle.fit_csv.specs.Judged.{Agree, IsBadCell}
+use Rattle.fit_csv.specs.Seven.{AsFar, DifferAt}
+use Rattle.fit_csv.specs.Misfits.{IsMisfit}
+use Rattle.fit_csv.specs.declared.from.misfit.Misfit.{Misfit}
+use Rattle.fit_csv.specs.declared.from.misfit.Misfit.TheVariants.{Kind, Cell, NoMemory}
+
+pub as_far : (count : ℕ) (xs ys ts : Row) → AsFar xs ys ts → Agree count xs ts → Agree count ys ts
+as_far zero xs ys ts h e = refl
+as_far (suc count) [] [] [] h e = refl
+as_far (suc count) [] [] (t ∷ ts) h e = absurd h
+as_far (suc count) [] (y ∷ ys) ts h e = absurd h
+as_far (suc count) (x ∷ xs) [] ts h e = absurd h
+as_far (suc count) (x ∷ xs) (y ∷ ys) [] h e = absurd h
+as_far (suc count) (x ∷ xs) (y ∷ ys) (t ∷ ts) h e =
+    let same : x ≡ t = cc e in
+    let rest : take count xs ≡ take count ts = cc e in
+    ap₂ (λ z zs. z ∷ zs) (h same).0 (as_far count xs ys ts (h same).1 rest)
+
+-- Where a row that can stand there is as close as any, the first cell in which it differs is the bad one.
+pub closest : (CanStand : Row → Type 0) (row candidate : Row) (column : ℕ) → CanStand candidate → ((other : Row) → CanStand other → AsFar other candidate row)
+    → DifferAt column candidate row → IsBadCell CanStand row column
+closest CanStand row candidate column can far differs = record {
+  behind_kind = differs.behind_kind;
+  bad = λ other stands e. differs.there (as_far column other candidate row (far other stands) e);
+  good_before = inr (candidate, can, differs.before);
+}
+
+-- rows that agree in two cells or more are of one kind
+pub kind-agrees : (column : ℕ) (a b : Row) → 2 ≤ column → Agree column a b → take 1 a ≡ take 1 b
+kind-agrees column a b h e = sym (take-take 1 column a (omega (arith, h))) ∙ ap (λ r. take 1 r) e ∙ take-take 1 column b (omega (arith, h))
+
+-- a row's kind decides which rows can stand in its place
+pub of-kind : (P Q : Row → Type 0) (row : Row) (misfit : Misfit) → ((other : Row) → P other → Q other) → ((other : Row) → Q other → take 1 other ≡ take 1 row → P other)
+    → IsMisfit P row misfit → IsMisfit Q row misfit
+of-kind P Q row Kind up down h = λ other stands e. h other (down other stands e) e
+of-kind P Q row (Cell column) up down h = record {
+  behind_kind = h.behind_kind;
+  bad = λ other stands e. h.bad other (down other stands (kind-agrees column other row h.behind_kind e)) e;
+  good_before = elim h.good_before [
+    | inl second ↦ inl second
+    | inr some ↦ inr (some.0, up some.0 some.1, some.2)
+  ];
+}
+of-kind P Q row NoMemory up down h = tt

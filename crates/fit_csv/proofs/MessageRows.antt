@@ -1,0 +1,47 @@
+-- Rows of data messages.
+use Rattle.std.proofs.Common.{◌≡◌, ◌∙◌, ℕ, ◌<◌, ◌^◌, List, [], ◌∷◌, length, decimal, Option, Some, None, refl, sym, ap, subst, arith}
+use Rattle.std.specs.Prelude.{codes, IfSome, IsSome, option_map, unwrap_or}
+use Rattle.std.specs.Global.{Global}
+use Rattle.std.proofs.lemmas.Fmt.{decimal_injective}
+use Rattle.fit_record.specs.declared.message.Record.{Record}
+use Rattle.fit_record.specs.declared.message.Values.{Values}
+use Rattle.fit_record.specs.Environment.{defined_at}
+use Rattle.fit_record.specs.Records.{DataHeaderFits}
+use Rattle.fit_profile.specs.Looks.{known}
+use Rattle.fit_profile.specs.Names.{message_label}
+use Rattle.fit_profile.specs.Times.{header_time, previous_time}
+use Rattle.fit_csv.specs.ChainRows.{data_row, optional_number, row}
+use Rattle.fit_csv.specs.InstantText.{instant_text}
+use Rattle.fit_csv.specs.Misfits.{IsMessageRow, IsMessageStart, global_at, message_row}
+use Rattle.fit_csv.specs.Rows.{Cell, Row}
+use Rattle.fit_csv.specs.Seven.{AsFar}
+use Rattle.fit_csv.proofs.ClosestRows.{none-shown}
+
+pub small-offset : (local : ℕ) (offset : Option ℕ) → DataHeaderFits local offset → IfSome offset (λ n. n < 2 ^ 8)
+small-offset local None fits = tt
+small-offset local (Some n) fits = omega (arith, fits.1)
+
+small-local : (local : ℕ) (offset : Option ℕ) → DataHeaderFits local offset → local < 16
+small-local local None fits = fits
+small-local local (Some n) fits = omega (arith, fits.0)
+
+-- an empty cell shows no time offset
+pub no-offset : (cell : Cell) (local : ℕ) (offset : Option ℕ) → DataHeaderFits local offset → optional_number offset ≡ cell → length cell ≡ 0 → None ≡ offset
+no-offset cell local offset fits = none-shown cell offset (small-offset local offset fits)
+
+-- the time of a header as a cell
+abbrev pub time_cell : List (Record Global) → Option ℕ → Cell
+time_cell before offset = unwrap_or (option_map instant_text (header_time (previous_time before) offset)) []
+
+pub message-closest : (before : List (Record Global)) (ta tb tc td te tf : Cell) (local : ℕ) (offset : Option ℕ) → local < 16 → decimal local ≡ ta
+    → ((other : Option ℕ) → DataHeaderFits local other → optional_number other ≡ tb → offset ≡ other) → (other : Row) → IsMessageRow before other
+    → AsFar other (row (codes "data") (decimal local) (optional_number offset) (message_label (global_at before local)) (time_cell before offset) [] []) (row (codes "data") ta tb tc td te tf)
+message-closest before ta tb tc td te tf local offset small shown is_b other (v, start, e) =
+    subst (λ (o : Row). AsFar o (row (codes "data") (decimal local) (optional_number offset) (message_label (global_at before local)) (time_cell before offset) [] []) (row (codes "data") ta tb tc td te tf)) (sym e)
+    (λ ek. (refl, λ ea.
+      let same : v.local ≡ local = decimal_injective v.local local (let s = small-local v.local v.offset start.header in omega (arith, s)) (omega (arith, small)) (ea ∙ sym shown) in
+      (shown, λ eb.
+      let same_offset : offset ≡ v.offset = is_b v.offset (subst (λ l. DataHeaderFits l v.offset) same start.header) eb in
+      (ap optional_number same_offset ∙ eb, λ ec.
+      (ap (λ l. message_label (global_at before l)) (sym same) ∙ ec, λ ed.
+      (ap (λ o. time_cell before o) same_offset ∙ ed, λ ee. (ee, λ ef. (ef, tt))))))))

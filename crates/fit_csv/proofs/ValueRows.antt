@@ -1,0 +1,33 @@
+-- Rows of the fields of a data message.
+use Rattle.std.proofs.Common.{◌≡◌, ◌∙◌, ℕ, List, [], ◌∷◌, take, Option, refl, sym, ap, subst, inl, inr, arith}
+use Rattle.std.specs.Global.{Global}
+use Rattle.fit_base.specs.Fields.{HasShape}
+use Rattle.fit_base.specs.declared.items.Items.{Items}
+use Rattle.fit_profile.specs.Profile.{Meaning}
+use Rattle.fit_csv.specs.Cells.{cell}
+use Rattle.fit_csv.specs.ChainRows.{row}
+use Rattle.fit_csv.specs.Judged.{IsBadCell}
+use Rattle.fit_csv.specs.Misfits.{IsValueRow}
+use Rattle.fit_csv.specs.Rows.{Cell, Row}
+use Rattle.fit_csv.specs.Seven.{AsFar}
+use Rattle.fit_csv.proofs.ZeroItems.{zero-items}
+
+-- a cell that shows no items, behind the label
+pub no-items : (kind label ta tb tc td te tf : Cell) (code size : ℕ) (info : Option Meaning) (unit : Cell) → label ≡ ta
+    → ((items : Items Global) → HasShape code size items → cell code info items ≡ tb → ⊥)
+    → IsBadCell (IsValueRow kind label code size info unit) (row kind ta tb tc td te tf) 3
+no-items kind label ta tb tc td te tf code size info unit same none =
+    let (zero, shape) = zero-items code size in
+    record {
+      behind_kind = omega arith;
+      bad = λ other (i, fits, e) agree.
+        let three : take 3 (row kind label (cell code info i) unit [] [] []) ≡ take 3 (row kind ta tb tc td te tf) = ap (λ (r : Row). take 3 r) (sym e) ∙ agree in
+        none i fits (cc three);
+      good_before = inr (row kind label (cell code info zero) unit [] [] [], (zero, shape, refl), ap (λ (c : Cell). kind ∷ c ∷ []) same);
+    }
+
+pub value-closest : (kind label ta tb tc td te tf : Cell) (code size : ℕ) (info : Option Meaning) (unit : Cell) (items : Items Global) → label ≡ ta → cell code info items ≡ tb
+    → (other : Row) → IsValueRow kind label code size info unit other → AsFar other (row kind label (cell code info items) unit [] [] []) (row kind ta tb tc td te tf)
+value-closest kind label ta tb tc td te tf code size info unit items same shown other (i, fits, e) =
+    subst (λ (o : Row). AsFar o (row kind label (cell code info items) unit [] [] []) (row kind ta tb tc td te tf)) (sym e)
+    (λ ek. (refl, λ ea. (same, λ eb. (shown, λ ec. (ec, λ ed. (ed, λ ee. (ee, λ ef. (ef, tt))))))))

@@ -1,0 +1,22 @@
+use Rattle.std.proofs.Common.{◌≡◌, ◌∙◌, [], decimal, refl, ap, ap₂, subst}
+use Rattle.fit_csv.specs.ChainRows.{row}
+use Rattle.fit_csv.specs.Misfits.{IsRowOfThree}
+use Rattle.fit_csv.specs.Rows.{Row}
+use Rattle.fit_csv.specs.Seven.{AsFar, DifferAt, row_of}
+use Rattle.fit_csv.proofs.Closest.{closest}
+use Rattle.fit_csv.proofs.ClosestRows.{three-closest}
+use Rattle.fit_csv.proofs.from.definition.three_bytes.Goals as goal
+
+pub returns-in-Some-clause-err : goal.returns-in-Some-clause-err
+returns-in-Some-clause-err c =
+    let cells = c.args.cells.now in
+    let shown : Row = row c.args.cells.now.kind.now (decimal c.byte_in-a.result) (decimal c.byte_in-b.result) (decimal c.byte_in-c.result) [] [] [] in
+    let ea = c.as_bytes.ensures.value ∙ c.format.ensures.text in
+    let eb = c.as_bytes-2.ensures.value ∙ c.format-2.ensures.text in
+    let ec = c.as_bytes-3.ensures.value ∙ c.format-3.ensures.text in
+    let differs : DifferAt c.in-Some.column shown (row_of c.args.cells.now) = rw (← ea, ← eb, ← ec) c.in-Some.ensures.some in
+    closest (IsRowOfThree c.args.cells.now.kind.now) (row_of c.args.cells.now) shown c.in-Some.column
+    (c.byte_in-a.result, c.byte_in-b.result, c.byte_in-c.result, c.byte_in-a.type_inv, c.byte_in-b.type_inv, c.byte_in-c.type_inv, refl)
+    (three-closest cells.kind.now cells.a.now cells.b.now cells.c.now cells.d.now cells.e.now cells.f.now c.byte_in-a.result c.byte_in-b.result c.byte_in-c.result
+    c.byte_in-a.ensures c.byte_in-b.ensures c.byte_in-c.ensures)
+    differs

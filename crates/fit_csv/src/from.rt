@@ -1,0 +1,8 @@
+//! Rows back to files.
+
+mod cells;
+mod definition;
+mod header;
+mod message;
+mod misfit;
+mod number;

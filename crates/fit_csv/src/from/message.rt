@@ -1,0 +1,202 @@
+//! Rows of data messages.
+ghost use Rattle.std.specs.Prelude.{◌≡◌, ◌<◌, [], ℕ, List, Option, Some, codes, decimal, IfErr, IfOk, IfSome, IsSome, is_some, option_map, unwrap_or};
+ghost use Rattle.std.specs.Global.{Global};
+ghost use Rattle.fit_base.specs.declared.items.Items.{Items};
+ghost use Rattle.fit_base.specs.Fields.{HasShape};
+ghost use Rattle.fit_profile.specs.Looks.{known};
+ghost use Rattle.fit_profile.specs.Names.{meaning};
+ghost use Rattle.fit_profile.specs.Scaled.{IsScale};
+ghost use Rattle.fit_profile.specs.Times as times;
+ghost use Rattle.fit_record.specs.Environment.{defined_at};
+ghost use Rattle.fit_record.specs.Records.{DataHeaderFits};
+ghost use Rattle.fit_csv.specs.Cells.{cell};
+ghost use Rattle.fit_csv.specs.ChainRows.{optional_number, row};
+ghost use Rattle.fit_csv.specs.InstantText.{instant_text};
+ghost use Rattle.fit_csv.specs.Misfits.{IsMessageRow, IsMessageStart, IsMisfit, IsValueRow, global_at, message_row};
+ghost use Rattle.fit_csv.specs.Seven.{row_of};
+
+use crate::from::cells::{Cells, first_difference, same};
+use crate::from::misfit::Misfit;
+use crate::from::number::{byte_in, optional_text};
+use crate::scan::cell_items;
+use fit_base::{Code, Entries, Items};
+use fit_profile::laws::instant_has_one_text;
+use fit_profile::{Info, Label, Stream, message_label, utc_text};
+use fit_record::Values;
+use itoa::Buffer;
+use std::alloc::Global;
+use std::str;
+
+/// Whether a local message type is defined.
+fn is_defined(before: &Stream, local: u8) -> bool
+    ensures { result ≡ is_some (defined_at (known before.now) local) }
+{
+    before.env().definition(local).is_some()
+}
+
+/// The local message type that a cell shows, where it is defined.
+fn defined_local(cell: &[u8], before: &Stream) -> Option<u8>
+    ensures small { IfSome result (λ local. local < 16) }
+    ensures shown { IfSome result (λ local. decimal local ≡ cell.now) }
+    ensures defined { IfSome result (λ local. IsSome (defined_at (known before.now) local)) }
+    ensures every { (n : ℕ) → n < 16 → decimal n ≡ cell.now → IsSome (defined_at (known before.now) n) → result ≡ Some n }
+{
+    let local = byte_in(cell);
+    let mut text = Buffer::new();
+    if local < 16 && is_defined(before, local) && same(text.format(local).as_bytes(), cell) {
+        Some(local)
+    } else {
+        None
+    }
+}
+
+/// The global message number of a local message type, and some number where it isn't defined.
+fn global_at(before: &Stream, local: u8) -> u16
+    ensures { result ≡ global_at before.now local }
+{
+    match before.env().definition(local) {
+        Some(definition) => definition.global,
+        None => 0,
+    }
+}
+
+/// The time offset that a cell shows, and some one, or none, where it shows none.
+fn offset_in(cell: &[u8], local: u8) -> Option<u8>
+    requires { local < 16 }
+    ensures fits { DataHeaderFits local result }
+    ensures every { (offset : Option ℕ) → DataHeaderFits local offset → optional_number offset ≡ cell.now → result ≡ offset }
+{
+    if cell.is_empty() {
+        return None;
+    }
+    if local >= 4 {
+        return None;
+    }
+    let offset = byte_in(cell);
+    if offset < 32 { Some(offset) } else { None }
+}
+
+/// The text of the time that a message with this offset has by its header, empty where it has none.
+fn time_text(before: &Stream, offset: Option<u8>) -> Label
+    ensures { result.bytes ≡ unwrap_or (option_map instant_text (times.header_time (times.previous_time before.now) offset)) [] }
+{
+    instant_has_one_text();
+    let Some(offset) = offset else {
+        return Label::new();
+    };
+    match before.header_time(offset) {
+        Some(time) => utc_text(time),
+        None => Label::new(),
+    }
+}
+
+/// The first row of a data message whose local message type is known.
+fn rest_of_message(
+    alloc: Global,
+    cells: &Cells,
+    before: &Stream,
+    local: u8,
+) -> Result<Values, Misfit>
+    requires kind { cells.now.kind.now ≡ codes "data" }
+    requires small { local < 16 }
+    requires shown { decimal local ≡ cells.now.a.now }
+    requires defined { IsSome (defined_at (known before.now) local) }
+    ensures start { IfOk result (IsMessageStart before.now) }
+    ensures ok { IfOk result (λ v. row_of cells.now ≡ message_row before.now v) }
+    ensures err { IfErr result (IsMisfit (IsMessageRow before.now) (row_of cells.now)) }
+{
+    let offset = offset_in(cells.b, local);
+    let label = message_label(global_at(before, local));
+    let time = time_text(before, offset);
+    let mut offset_text = Buffer::new();
+    let shown = Cells {
+        kind: cells.kind,
+        a: cells.a,
+        b: optional_text(&mut offset_text, offset),
+        c: label.as_str().as_bytes(),
+        d: time.as_str().as_bytes(),
+        e: b"",
+        f: b"",
+    };
+    match first_difference(cells, &shown) {
+        None => Ok(Values {
+            local,
+            offset,
+            fields: Entries::new(alloc),
+            dev: Entries::new(alloc),
+        }),
+        Some(column) => Err(Misfit::Cell(column)),
+    }
+}
+
+/// The first row of a data message behind these records.
+pub(crate) fn message_head(
+    alloc: Global,
+    cells: &Cells,
+    before: &Stream,
+) -> Result<Values, Misfit>
+    requires { cells.now.kind.now ≡ codes "data" }
+    ensures start { IfOk result (IsMessageStart before.now) }
+    ensures ok { IfOk result (λ v. row_of cells.now ≡ message_row before.now v) }
+    ensures err { IfErr result (IsMisfit (IsMessageRow before.now) (row_of cells.now)) }
+{
+    match defined_local(cells.a, before) {
+        Some(local) => rest_of_message(alloc, cells, before, local),
+        None => Err(Misfit::Cell(2)),
+    }
+}
+
+/// The items that a cell shows, where it is the cell of some.
+fn items_in(
+    alloc: Global,
+    shown: &[u8],
+    code: Code,
+    size: u8,
+    info: Option<Info>,
+) -> Result<Option<Items>, Misfit>
+    requires { IfSome info (λ i. IsScale i.scale) }
+    ensures some { IfOk result (λ found. IfSome found (λ items. HasShape code.0 size items × (cell code.0 (option_map meaning info) items ≡ shown.now))) }
+    ensures every { IfOk result (λ found. (items : Items Global) → HasShape code.0 size items → cell code.0 (option_map meaning info) items ≡ shown.now → found ≡ Some items) }
+    ensures memory { IfErr result (λ misfit. misfit ≡ Misfit.NoMemory) }
+{
+    match str::from_utf8(shown) {
+        Ok(text) => Ok(cell_items(alloc, code, size, info, text)?),
+        Err(_) => Ok(None),
+    }
+}
+
+/// The row of a field with this label, code and size, and with this unit.
+pub(crate) fn value_row(
+    alloc: Global,
+    cells: &Cells,
+    label: &[u8],
+    code: Code,
+    size: u8,
+    info: Option<Info>,
+    unit: &[u8],
+) -> Result<Items, Misfit>
+    requires { IfSome info (λ i. IsScale i.scale) }
+    ensures shape { IfOk result (HasShape code.0 size) }
+    ensures ok { IfOk result (λ items. row_of cells.now ≡ row cells.now.kind.now label.now (cell code.0 (option_map meaning info) items) unit.now [] [] []) }
+    ensures err { IfErr result (IsMisfit (IsValueRow cells.now.kind.now label.now code.0 size (option_map meaning info) unit.now) (row_of cells.now)) }
+{
+    if !same(cells.a, label) {
+        return Err(Misfit::Cell(2));
+    }
+    let Some(items) = items_in(alloc, cells.b, code, size, info)? else {
+        return Err(Misfit::Cell(3));
+    };
+    let shown = Cells {
+        kind: cells.kind,
+        a: cells.a,
+        b: cells.b,
+        c: unit,
+        d: b"",
+        e: b"",
+        f: b"",
+    };
+    match first_difference(cells, &shown) {
+        None => Ok(items),
+        Some(column) => Err(Misfit::Cell(column)),
+    }
+}
