@@ -8,4 +8,5 @@ pub mod Table
 pub mod Judged
 pub mod Seven
 pub mod Misfits
+pub mod Progress
 pub mod Laws

@@ -2,7 +2,7 @@
 ghost use Rattle.std.specs.Prelude.{◌≡◌, ◌<◌, ◌^◌, [], ℕ, Option, codes, decimal, IfErr, IfOk, IfSome};
 ghost use Rattle.fit_csv.specs.ChainRows.{dev_def_row, field_def_row, optional_number, order_word, row};
 ghost use Rattle.fit_base.specs.declared.number.Order.{Order};
-ghost use Rattle.fit_csv.specs.Misfits.{HeadInRange, IsDevDefRow, IsFieldDefRow, IsHeadRow, IsCellFault, IsRowOfThree, head_row};
+ghost use Rattle.fit_csv.specs.Misfits.{DevDefInRange, FieldDefInRange, HeadInRange, IsDevDefRow, IsFieldDefRow, IsHeadRow, IsCellFault, IsRowOfThree, head_row};
 ghost use Rattle.fit_csv.specs.Rows.{Row};
 ghost use Rattle.fit_csv.specs.Seven.{AsFar, row_of};
 
@@ -141,6 +141,7 @@ fn three_bytes(cells: &Cells) -> Result<(u8, u8, u8), Misfit>
 /// The row of a field of a definition.
 pub(crate) fn field_def(cells: &Cells) -> Result<FieldDef, Misfit>
     requires { cells.now.kind.now ≡ codes "fdef" }
+    ensures range { IfOk result FieldDefInRange }
     ensures ok { IfOk result (λ f. row_of cells.now ≡ field_def_row f) }
     ensures err { IfErr result (IsCellFault IsFieldDefRow (row_of cells.now)) }
 {
@@ -151,6 +152,7 @@ pub(crate) fn field_def(cells: &Cells) -> Result<FieldDef, Misfit>
 /// The row of a developer field of a definition.
 pub(crate) fn dev_def(cells: &Cells) -> Result<DevDef, Misfit>
     requires { cells.now.kind.now ≡ codes "ddef" }
+    ensures range { IfOk result DevDefInRange }
     ensures ok { IfOk result (λ f. row_of cells.now ≡ dev_def_row f) }
     ensures err { IfErr result (IsCellFault IsDevDefRow (row_of cells.now)) }
 {
