@@ -1,6 +1,10 @@
 mod KnownCells
 mod KnownRows
 pub mod RowsOfEvents
+mod AddedRows
+mod Shapes
+mod NamingFacts
+mod DevFields
 mod InstantFacts
 mod DegreeFacts
 mod HexFacts

@@ -5,35 +5,38 @@ use Rattle.std.specs.Prelude.{flat_map}
 use Rattle.fit_record.specs.declared.file.FitFile.{FitFile}
 use Rattle.fit_record.specs.declared.message.Record.{Record}
 use Rattle.fit_decode.specs.Events.{Event, item, file_end, file_events}
-use Rattle.fit_csv.specs.Rows.{first_line}
+use Rattle.fit_csv.specs.Rows.{Row, first_line}
 use Rattle.fit_csv.specs.ChainRows.{chain_rows, end_row, event_rows, events_rows, file_row, file_rows, record_rows, records_after, records_behind, records_rows, rows_of}
 
 -- ---- the records of a file
 
-data_events : {A : Type 0} (before records : List (Record A)) (rest : List (Event A))
-    → events_rows before (map item records ++ (file_end ∷ rest)) ≡ records_rows before records ++ (end_row ∷ events_rows [] rest)
+data_events : {A : Type 0} (before records : List (Record A)) (rest : List (Event A)) (rows : List Row)
+    → ((behind : List (Record A)) → events_rows behind rest ≡ rows)
+    → events_rows before (map item records ++ (file_end ∷ rest)) ≡ records_rows before records ++ (end_row ∷ rows)
 unfolding events_rows records_rows
-data_events before [] rest = refl
-data_events before (r ∷ records) rest =
-    ap (λ rows. record_rows before r ++ rows) (data_events (r ∷ before) records rest)
-    ∙ sym (append_assoc (record_rows before r) (records_rows (r ∷ before) records) (end_row ∷ events_rows [] rest))
+data_events before [] rest rows others = ap (λ more. end_row ∷ more) (others before)
+data_events before (r ∷ records) rest rows others =
+    ap (λ more. record_rows before r ++ more) (data_events (r ∷ before) records rest rows others)
+    ∙ sym (append_assoc (record_rows before r) (records_rows (r ∷ before) records) (end_row ∷ rows))
 
 -- a file's events, and then others
-one_file : {A : Type 0} (f : FitFile A) (rest : List (Event A)) → events_rows [] (file_events f ++ rest) ≡ file_rows f ++ events_rows [] rest
+one_file : {A : Type 0} (before : List (Record A)) (f : FitFile A) (rest : List (Event A)) (rows : List Row)
+    → ((behind : List (Record A)) → events_rows behind rest ≡ rows)
+    → events_rows before (file_events f ++ rest) ≡ file_rows f ++ rows
 unfolding events_rows
-one_file f rest =
+one_file before f rest rows others =
     ap (λ events. file_row f.header ∷ events_rows [] events) (append_assoc (map item f.records) (file_end ∷ []) rest)
-    ∙ ap (λ rows. file_row f.header ∷ rows) (data_events [] f.records rest)
-    ∙ ap (λ rows. file_row f.header ∷ rows) (sym (append_assoc (records_rows [] f.records) (end_row ∷ []) (events_rows [] rest)))
+    ∙ ap (λ more. file_row f.header ∷ more) (data_events [] f.records rest rows others)
+    ∙ ap (λ more. file_row f.header ∷ more) (sym (append_assoc (records_rows [] f.records) (end_row ∷ []) rows))
 
-all_files : {A : Type 0} (files : List (FitFile A)) → events_rows [] (flat_map file_events files) ≡ flat_map file_rows files
+all_files : {A : Type 0} (files : List (FitFile A)) (before : List (Record A)) → events_rows before (flat_map file_events files) ≡ flat_map file_rows files
 unfolding events_rows
-all_files [] = refl
-all_files (f ∷ files) = one_file f (flat_map file_events files) ∙ ap (λ rows. file_rows f ++ rows) (all_files files)
+all_files [] before = refl
+all_files (f ∷ files) before = one_file before f (flat_map file_events files) (flat_map file_rows files) (all_files files)
 
 -- the rows of the events of whole files are the rows of the files
 pub rows-of-chain : {A : Type 0} (files : List (FitFile A)) → rows_of (flat_map file_events files) ≡ chain_rows files
-rows-of-chain files = ap (λ rows. first_line ∷ rows) (all_files files)
+rows-of-chain files = ap (λ rows. first_line ∷ rows) (all_files files [])
 
 -- ---- one more event
 

@@ -1,5 +1,5 @@
 -- The rows of a chain of files, and of the events of a reader.
-use Rattle.std.specs.Prelude.{ℕ, List, [], ◌∷◌, ◌++◌, length, map, flat_map, option_map, unwrap_or, Option, None, codes, decimal}
+use Rattle.std.specs.Prelude.{ℕ, List, [], ◌∷◌, ◌++◌, length, map, flat_map, zip, option_map, unwrap_or, Option, None, codes, decimal}
 use Rattle.fit_base.specs.declared.items.Items.{Items}
 use Rattle.fit_base.specs.declared.number.Order.{Order}
 use Rattle.fit_base.specs.declared.number.Order.TheVariants.{Little, Big}
@@ -93,10 +93,9 @@ unit_text info = unwrap_or (option_map (λ m. m.unit) info) []
 abbrev pub field_row : {A : Type 0} → ℕ → FieldDef → Items A → Row
 field_row global f i = row (codes "field") (field_label global f.number) (cell f.code (names.field global f.number) i) (unit_text (names.field global f.number)) [] [] []
 
--- the fields of a message
+-- the fields of a message, each with its items
 abbrev pub field_rows : {A : Type 0} → ℕ → List FieldDef → List (Items A) → List Row
-field_rows global (f ∷ fields) (i ∷ items) = field_row global f i ∷ field_rows global fields items
-field_rows global _ _ = []
+field_rows global fields items = map (λ x. field_row global x.0 x.1) (zip fields items)
 
 -- the name of a developer field, or else its developer data index and its number
 abbrev pub dev_label : DevDef → Naming → Cell
@@ -106,10 +105,9 @@ dev_label f n = unwrap_or n.name (codes "dev_" ++ decimal f.index ++ codes "_" +
 abbrev pub dev_row : {A : Type 0} → DevDef → ℕ → Naming → Items A → Row
 dev_row f code n i = row (codes "dev") (dev_label f n) (cell code None i) (unwrap_or n.unit []) [] [] []
 
--- the developer fields of a message, with their codes and namings
+-- the developer fields of a message, each with its code, its naming and its items
 abbrev pub dev_rows : {A : Type 0} → List DevDef → List ℕ → List Naming → List (Items A) → List Row
-dev_rows (f ∷ fields) (c ∷ dev_codes) (n ∷ namings) (i ∷ items) = dev_row f c n i ∷ dev_rows fields dev_codes namings items
-dev_rows _ _ _ _ = []
+dev_rows fields dev_codes namings items = map (λ x. dev_row x.0.0 x.0.1 x.1.0 x.1.1) (zip (zip fields dev_codes) (zip namings items))
 
 -- a data message under its definition, by the time of its header and the namings of its developer fields
 abbrev pub message_rows : {A : Type 0} → Values A → Defined A → Option ℕ → List Naming → List Row
@@ -150,13 +148,13 @@ event_rows before (header h n) = file_row h ∷ []
 event_rows before (item r) = record_rows before r
 event_rows before file_end = end_row ∷ []
 
--- the records of the file that there are behind an event
+-- the records of the file that was begun last, behind an event
 abbrev pub records_behind : {A : Type 0} → List (Record A) → Event A → List (Record A)
 records_behind before (header h n) = []
 records_behind before (item r) = r ∷ before
-records_behind before file_end = []
+records_behind before file_end = before
 
--- the same behind events, one after another
+-- the same behind events one after another
 unfoldable pub records_after : {A : Type 0} → List (Record A) → List (Event A) → List (Record A)
 records_after before [] = before
 records_after before (x ∷ events) = records_after (records_behind before x) events

@@ -44,6 +44,11 @@ pub record IsBetweenRows (w : Writer (Vec ℕ Global)) : Type 0 where
   pub clean : has_written w ≡ false
   pub setup : writer_setup w ≡ default_writer
 
+-- Behind what a writer had written it has written these rows, and stands between two rows again.
+pub record HasAdded (rows : List Row) (old new : Writer (Vec ℕ Global)) : Type 0 where
+  pub between : IsBetweenRows new
+  pub text : written new ≡ written old ++ csv_text rows
+
 -- a reader that has read these rows of a text
 pub record HasRead (text : List ℕ) (rows : List Row) (r : Reader (Bor (List ℕ))) : Type 0 where
   pub trim : reader_trim r ≡ trim.None

@@ -1,9 +1,13 @@
 //! The rows in which a file begins and ends.
-ghost use Rattle.std.specs.Prelude.{◌≡◌, OnOk};
+ghost use Rattle.std.specs.Prelude.{◌≡◌, ◌∷◌, [], OnOk};
+ghost use Rattle.fit_csv.specs.Rows.{HasAdded, IsBetweenRows};
 ghost use Rattle.fit_csv.specs.ChainRows as rows;
 
 use crate::hexadecimal::put_digits;
-use fit_frame::HeaderSum;
+use crate::rows::put_row;
+use csv::Writer;
+use fit_frame::{Header, HeaderSum};
+use itoa::Buffer;
 use std::alloc::AllocError;
 
 /// The word for what the two bytes behind the fixed part of a header hold.
@@ -15,6 +19,47 @@ pub(crate) fn sum_word(sum: HeaderSum) -> &'static str
         HeaderSum::Zero => "zero",
         HeaderSum::True => "sum",
     }
+}
+
+/// Puts the row of a header by the word of its sum and the cell of its bytes from place 14 on.
+fn put_header_cells<'a>(
+    writer: &mut Writer<Vec<u8>>,
+    header: &Header,
+    word: &'a [u8],
+    rest: &'a [u8],
+) -> Result<(), AllocError>
+    requires between { IsBetweenRows writer.old }
+    requires word { word.now ≡ rows.sum_word header.now.sum }
+    requires rest { rest.now ≡ rows.rest_text header.now.rest.items }
+    ensures { OnOk result (HasAdded (rows.file_row header.now ∷ []) writer.old writer.new) }
+{
+    let mut sizes = Buffer::new();
+    let mut protocols = Buffer::new();
+    let mut profiles = Buffer::new();
+    let cells = [
+        b"file".as_slice(),
+        sizes.format(header.size).as_bytes(),
+        protocols.format(header.protocol).as_bytes(),
+        profiles.format(header.profile).as_bytes(),
+        word,
+        rest,
+        b"".as_slice(),
+    ];
+    put_row(writer, cells.as_slice())
+}
+
+/// Puts the row of a header.
+pub(crate) fn put_file_row(
+    writer: &mut Writer<Vec<u8>>,
+    value: &mut Vec<u8>,
+    header: &Header,
+) -> Result<(), AllocError>
+    requires { IsBetweenRows writer.old }
+    ensures { OnOk result (HasAdded (rows.file_row header.now ∷ []) writer.old writer.new) }
+{
+    put_rest(value, header.rest.as_slice())?;
+    let word = sum_word(header.sum).as_bytes();
+    put_header_cells(writer, header, word, value.as_slice())
 }
 
 /// Makes a cell of the bytes of a header from place 14 on.
@@ -30,4 +75,12 @@ pub(crate) fn put_rest(value: &mut Vec<u8>, rest: &[u8]) -> Result<(), AllocErro
         put_digits(value, 2, *byte as u64)?;
     }
     Ok(())
+}
+
+/// Puts the row that ends a file.
+pub(crate) fn put_end_row(writer: &mut Writer<Vec<u8>>) -> Result<(), AllocError>
+    requires { IsBetweenRows writer.old }
+    ensures { OnOk result (HasAdded (rows.end_row ∷ []) writer.old writer.new) }
+{
+    put_row(writer, &[b"end", b"", b"", b"", b"", b"", b""])
 }

@@ -4,8 +4,12 @@
 mod cell;
 mod file_rows;
 mod from;
+mod definition_rows;
+mod dev_rows;
+mod file_rows;
 mod hexadecimal;
 pub mod laws;
+mod message_rows;
 mod numbers;
 mod raw;
 mod rows;

@@ -1,8 +1,7 @@
 //! Rows of cells as text, through the crate `csv`.
-ghost use Rattle.std.specs.Prelude.{◌≡◌, ◌++◌, [], ℕ, List, IfOk, OnOk, map};
+ghost use Rattle.std.specs.Prelude.{◌≡◌, ◌∷◌, [], ℕ, List, IfOk, OnOk, map};
 ghost use Rattle.csv.specs.Records.{fields_of};
-ghost use Rattle.csv.specs.Writing.{default_writer, row_text};
-ghost use Rattle.fit_csv.specs.Rows.{Follows, HasRead, IsBetweenRows, Row, written};
+ghost use Rattle.fit_csv.specs.Rows.{Follows, HasAdded, HasRead, IsBetweenRows, Row, written};
 
 use csv::{ByteRecord, Reader, ReaderBuilder, Writer, WriterBuilder};
 use std::alloc::{AllocError, Global};
@@ -16,10 +15,10 @@ pub fn row_writer(text: Vec<u8>) -> Writer<Vec<u8>>
 }
 
 /// Writes a row. The rows of one writer have the same number of cells.
+#[tactic(auto, using(crate::proofs::AddedRows::text_one))]
 pub fn put_row(writer: &mut Writer<Vec<u8>>, cells: &[&[u8]]) -> Result<(), AllocError>
     requires { IsBetweenRows writer.old }
-    ensures between { OnOk result (IsBetweenRows writer.new) }
-    ensures text { OnOk result (written writer.new ≡ written writer.old ++ row_text default_writer (map (λ f. f.now) cells.now)) }
+    ensures { OnOk result (HasAdded (map (λ f. f.now) cells.now ∷ []) writer.old writer.new) }
 {
     match writer.write_fields(cells) {
         Ok(()) => Ok(()),

@@ -1,5 +1,5 @@
 -- What bytes of records make of the place, of the events and of what can follow.
-use Rattle.std.proofs.Common.{◌≡◌, cond, inl, ℕ, zero, suc, ◌+◌, ◌-◌, ◌<◌, ◌≤◌, true, List, [], ◌∷◌, ◌++◌, length, take, drop, slice_index, length-drop, refl, sym, ap, ◌∙◌, subst, arith, append_assoc, Some, None, Ok, Err}
+use Rattle.std.proofs.Common.{◌≡◌, cond, inl, inr, ℕ, zero, suc, ◌+◌, ◌-◌, ◌<◌, ◌≤◌, true, List, [], ◌∷◌, ◌++◌, length, take, drop, slice_index, length-drop, refl, sym, ap, ◌∙◌, subst, arith, append_assoc, Some, None, Ok, Err}
 use Rattle.std.specs.Prelude.{IsOk}
 use Rattle.std.proofs.lemmas.Bool.{ne_eqb}
 use Rattle.std.proofs.lemmas.List.{length-take-le, take_more}
@@ -29,6 +29,8 @@ use Rattle.fit_decode.specs.Events.{item}
 use Rattle.fit_decode.specs.GoingOn.{FillFrom, DataGoesOn}
 use Rattle.fit_decode.specs.Refusals.{IsRefused}
 use Rattle.fit_decode.specs.Answers.{Quiet, Least}
+use Rattle.fit_decode.specs.Memory.{MayTakeMemory}
+use Rattle.fit_decode.specs.Scans.{HeadsNoEmptyMessage}
 use Rattle.fit_decode.proofs.Splits.{IsBytes-back}
 use Rattle.fit_decode.proofs.Goes.{next_goes, some_room}
 use Rattle.fit_decode.proofs.Completions.{goes_viable}
@@ -44,7 +46,7 @@ pub data_starts : {A : Type 0} (e : Environment A) (room : ℕ) (sum : List ℕ)
 data_starts e zero sum sixteen fill = (sum, refl)
 data_starts e (suc room) sum sixteen fill = let (rs, bytes, are, fit, size) = (can_fill_is e (suc room) sixteen).0 fill in (rs, bytes, are, fit.0, sym fit.1, omega (arith, size))
 
-fill_of : {A : Type 0} (e : Environment A) (room : ℕ) (sum part : List ℕ) → 0 < room → DataGoesOn e room sum part → FillFrom e room part
+pub fill_of : {A : Type 0} (e : Environment A) (room : ℕ) (sum part : List ℕ) → 0 < room → DataGoesOn e room sum part → FillFrom e room part
 fill_of e zero sum part some goes = absurd (omega arith)
 fill_of e (suc room) sum part some goes = goes
 
@@ -187,3 +189,17 @@ module _ {A : Type 0} (files : List (FitFile A)) (h : Header) (n : ℕ) (records
       go (Ok (u, Some r)) is ok =
           item_viable (k + 1) u r (omega arith) (omega (arith, within)) (subst (λ l. Ends e (tests_of e) s l u r) (sym one) (walk_ends e (tests_of e) s (take k piece) (slice_index piece k ∷ []) t u r more (inl (refl, is))))
       go (Err reason) is ok = absurd cc
+
+  -- where memory was wanted, the byte isn't one that takes none
+  pub data_takes : (k : ℕ) (t : State A) → k ≤ length piece → Walks e (tests_of e) s (take k piece) t → HeadsNoEmptyMessage e t (slice_index piece k) → MayTakeMemory A (bytes ++ take k piece) (slice_index piece k)
+  data_takes k t within more heads = record {
+    files = files;
+    progress = at_data h n records (part ++ take k piece);
+    come = data_come k t within more;
+    takes = λ none. elim none [
+      | inl over ↦ absurd (omega (arith, over, some))
+      | inr empty ↦
+          let begins : start room ≡ t = subst (λ l. Walks e (tests_of e) (start room) l t) empty.0 (all_walked k t more) in
+          heads (ap (λ (u : State A). u.phase) (sym begins)) empty.1
+    ];
+  }

@@ -5,6 +5,7 @@ use Rattle.std.proofs.lemmas.List.{length-take-le}
 use Rattle.fit_base.specs.Numbers.{IsBytes}
 use Rattle.fit_base.proofs.NumberLaws.{IsBytes-append, IsBytes-take}
 use Rattle.fit_frame.specs.declared.reason.Reason.{Reason}
+use Rattle.fit_record.specs.Environment.{empty_environment}
 use Rattle.fit_record.specs.Files.{chain_limit, IsViable}
 use Rattle.fit_step.specs.declared.stop.Stop.{Stop}
 use Rattle.fit_step.specs.declared.stop.Stop.TheVariants.{Refused, NoMemory}
@@ -68,16 +69,29 @@ module _ {A : Type 0} (d : Inside A) (k : IsKept d) (none : d.refusal ≡ None) 
   pub few_bytes : Fits w64 (d.count + used)
   few_bytes = omega (arith, more_bytes, short_bytes (d.history.items ++ take used piece) next.viable)
 
-  module _ (low : IsBytes piece) (n : Inside A) (same : fields_of n ≡ new) (took : n.history.items ≡ d.history.items ++ take used piece) where
+  module _ (low : IsBytes piece) (n : Inside A) (took : n.history.items ≡ d.history.items ++ take used piece) where
     pub still_viable : IsViable A chain_limit n.history.items
     still_viable = subst (IsViable A chain_limit) (sym took) next.viable
 
-    pub still_kept : n.count ≡ d.count + used → (n.refusal ≡ None → NotRefused answer) → IsKept n
-    still_kept counted refused = record {
+    still_bytes : IsBytes n.history.items
+    still_bytes = subst IsBytes (sym took) (IsBytes-append d.history.items (take used piece) k.are (IsBytes-take used piece low))
+
+    pub still_kept : fields_of n ≡ new → n.count ≡ d.count + used → NotRefused answer → n.refusal ≡ None → IsKept n
+    still_kept same counted taken fresh = record {
       viable = still_viable;
-      are = subst IsBytes (sym took) (IsBytes-append d.history.items (take used piece) k.are (IsBytes-take used piece low));
+      are = still_bytes;
       counted = counted ∙ sym more_bytes ∙ ap length (sym took);
-      holds = λ fresh. subst (λ f. Holds f n.history.items) (sym same) (subst (Holds new) (sym took) (next.holds (refused fresh)));
+      holds = λ _. subst (λ f. Holds f n.history.items) (sym same) (subst (Holds new) (sym took) (next.holds taken));
+      let_go = λ reason is. absurd (let both : Some reason ≡ None = sym is ∙ fresh in cc);
+    }
+
+    pub refused_kept : n.count ≡ d.count + used → (reason : Reason) → n.refusal ≡ Some reason → n.env ≡ empty_environment → n.in_progress ≡ None → IsKept n
+    refused_kept counted reason is known idle = record {
+      viable = still_viable;
+      are = still_bytes;
+      counted = counted ∙ sym more_bytes ∙ ap length (sym took);
+      holds = λ fresh. absurd (let both : Some reason ≡ None = sym is ∙ fresh in cc);
+      let_go = λ _ _. (known, idle);
     }
 
 -- ---- the clauses
@@ -136,4 +150,5 @@ module _ {A : Type 0} (d : Inside A) (k : IsKept d) (old : Seen) (seen : record 
           after = λ i. record { bytes = (took ∙ ap (λ b. b ++ take used piece) bytes_seen) i; refusal = none i };
           quiet = t.1;
           next = t.2;
+          takes = t.3;
         })

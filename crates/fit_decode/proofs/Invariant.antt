@@ -40,4 +40,5 @@ begins_kept {A} d at whole read none known idle no_files no_bytes nothing =
         known = known;
         idle = idle;
       });
+      let_go = λ _ _. (known, idle);
     }

@@ -90,7 +90,7 @@ pub no_header : (A : Type 0) (front : List ℕ) (h : Header) (n : ℕ) (rest : L
 no_header A front h n rest p f e = p h n (length (header_bytes h n)) (f, ap (take (length (header_bytes h n))) e ∙ take-append_seam (header_bytes h n) rest)
 
 -- no whole file begins what is unfinished
-no_file : {A : Type 0} (g : Progress A) (f : FitFile A) (rest : List ℕ) → IsUnfinished g → IsWellFormed f → progress_bytes g ≡ file_bytes f ++ rest → ⊥
+pub no_file : {A : Type 0} (g : Progress A) (f : FitFile A) (rest : List ℕ) → IsUnfinished g → IsWellFormed f → progress_bytes g ≡ file_bytes f ++ rest → ⊥
 no_file {A} (at_header front) f rest p q e =
     no_header A front f.header (length (body f)) _ p q.header
     (e ∙ append_assoc (summed f) (little_bytes 2 (checksum (summed f))) rest ∙ append_assoc (header_bytes f.header (length (body f))) (body f) (little_bytes 2 (checksum (summed f)) ++ rest))

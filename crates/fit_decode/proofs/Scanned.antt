@@ -27,20 +27,20 @@ module _ {A : Type 0} (e now env : Environment A) (s t u : State A) (piece : Lis
   one : take (i + 1) piece ≡ take i piece ++ slice_index piece i ∷ []
   one = take_more piece i 0 within
 
-  pub record_ends : (r : Record A) → RecordByte now env u (Ok (Some r)) (step now (tests_of now) t (slice_index piece i)) → DataScanned e env s u piece (i + 1) (Ok (Some r))
+  pub record_ends : (r : Record A) → RecordByte now env u (slice_index piece i) (Ok (Some r)) (step now (tests_of now) t (slice_index piece i)) → DataScanned e env s u piece (i + 1) (Ok (Some r))
   record_ends r made =
-      let here : RecordByte e env u (Ok (Some r)) (step e (tests_of e) t (slice_index piece i)) = subst (λ x. RecordByte x env u (Ok (Some r)) (step x (tests_of x) t (slice_index piece i))) known made in
+      let here : RecordByte e env u (slice_index piece i) (Ok (Some r)) (step e (tests_of e) t (slice_index piece i)) = subst (λ x. RecordByte x env u (slice_index piece i) (Ok (Some r)) (step x (tests_of x) t (slice_index piece i))) known made in
       (omega arith, omega (arith, within), here.0, subst (λ l. Ends e (tests_of e) s l u r) (sym one) (walk_ends e (tests_of e) s (take i piece) (slice_index piece i ∷ []) t u r walk (inl (refl, here.1))))
 
-  pub record_stops : (stop : Stop) → u ≡ t → RecordByte now env u (Err stop) (step now (tests_of now) t (slice_index piece i)) → DataScanned e env s u piece i (Err stop)
+  pub record_stops : (stop : Stop) → u ≡ t → RecordByte now env u (slice_index piece i) (Err stop) (step now (tests_of now) t (slice_index piece i)) → DataScanned e env s u piece i (Err stop)
   record_stops (Refused reason) same made =
-      let here : RecordByte e env u (Err (Refused reason)) (step e (tests_of e) t (slice_index piece i)) = subst (λ x. RecordByte x env u (Err (Refused reason)) (step x (tests_of x) t (slice_index piece i))) known made in
+      let here : RecordByte e env u (slice_index piece i) (Err (Refused reason)) (step e (tests_of e) t (slice_index piece i)) = subst (λ x. RecordByte x env u (slice_index piece i) (Err (Refused reason)) (step x (tests_of x) t (slice_index piece i))) known made in
       (within, here.0, subst (Walks e (tests_of e) s (take i piece)) (sym same) walk, subst (λ x. step e (tests_of e) x (slice_index piece i) ≡ Err reason) (sym same) here.1)
   record_stops NoMemory same made =
-      let here : RecordByte e env u (Err NoMemory) (step e (tests_of e) t (slice_index piece i)) = subst (λ x. RecordByte x env u (Err NoMemory) (step x (tests_of x) t (slice_index piece i))) known made in
-      (within, here.0, subst (Walks e (tests_of e) s (take i piece)) (sym same) walk, subst (λ x. IsOk (step e (tests_of e) x (slice_index piece i))) (sym same) here.1)
+      let here : RecordByte e env u (slice_index piece i) (Err NoMemory) (step e (tests_of e) t (slice_index piece i)) = subst (λ x. RecordByte x env u (slice_index piece i) (Err NoMemory) (step x (tests_of x) t (slice_index piece i))) known made in
+      (within, here.0, subst (Walks e (tests_of e) s (take i piece)) (sym same) walk, subst (λ x. IsOk (step e (tests_of e) x (slice_index piece i))) (sym same) here.1, here.2)
 
-  pub record_goes : RecordByte now env u (Ok None) (step now (tests_of now) t (slice_index piece i)) → Reading now t → slice_index piece i < 256
+  pub record_goes : RecordByte now env u (slice_index piece i) (Ok None) (step now (tests_of now) t (slice_index piece i)) → Reading now t → slice_index piece i < 256
       → (env ≡ e) × Walks e (tests_of e) s (take (i + 1) piece) u × Reading env u
   record_goes made reading low = (
     made.0 ∙ known,

@@ -32,7 +32,7 @@ use Rattle.fit_frame.specs.declared.reason.Reason.TheVariants.{TooManyFiles}
 use Rattle.fit_decode.specs.Events.{AreEvents}
 use Rattle.fit_decode.specs.Refusals.{IsRefused}
 use Rattle.fit_decode.specs.GoingOn.{files_begun, ChainGoesOn}
-use Rattle.fit_decode.specs.Scans.{IsOpen, sum_part}
+use Rattle.fit_decode.specs.Scans.{IsOpen, HeadsNoEmptyMessage, sum_part}
 use Rattle.fit_decode.specs.Sections.{section_of, position_of, HeaderFed, DataFed, SumFed}
 use Rattle.fit_decode.specs.Kept.{Fields, InHeader, InData, InSum, Holds, HoldsAt, Next}
 use Rattle.fit_decode.proofs.Completions.{goes_viable, fill_data, records_bytes-append, learn_all-append}
@@ -40,7 +40,7 @@ use Rattle.fit_decode.proofs.Next.{whole_header}
 use Rattle.fit_decode.proofs.Whole.{begun_header}
 use Rattle.fit_decode.proofs.HeaderFed.{header_fronts, header_quiet, header_least, header_refuses, full_refuses}
 use Rattle.fit_decode.proofs.SumFed.{sum_fronts, sum_quiet, sum_viable, file_come, file_goes, file_viable, file_least, sum_refuses}
-use Rattle.fit_decode.proofs.DataFed.{data_starts, all_walked, still_on, data_quiet, data_come, data_viable, spelled, starts, item_come, item_least, item_on, item_viable, data_refuses, data_wants}
+use Rattle.fit_decode.proofs.DataFed.{data_starts, all_walked, still_on, data_quiet, data_come, data_viable, spelled, starts, item_come, item_least, item_on, item_viable, data_refuses, data_wants, data_takes}
 
 -- ---- where records begin
 
@@ -62,6 +62,7 @@ begins_records {A} files d bytes h n records come few counted whole fresh sum kn
         counted = counted;
         fresh = fresh;
         summed = sum;
+        known = known;
         over = none.1;
         idle = ap (λ (s : State A). s.in_progress) at;
       })
@@ -264,7 +265,7 @@ module _ {A : Type 0} (d : Fields A) (bytes piece : List ℕ) (k : InData d byte
         viable = why.viable;
         holds = λ never. absurd never;
       }
-  data_fed sum section env position in_progress used (Err NoMemory) ((within, same, walk, ok), covered, at) =
+  data_fed sum section env position in_progress used (Err NoMemory) ((within, same, walk, ok, heads), covered, at) =
       let s : State A = state_at d.position d.in_progress in
       let t : State A = state_at position in_progress in
       let here = subst (λ e. Walks e (tests_of e) s (take used piece) t) k.known walk in
@@ -275,6 +276,7 @@ module _ {A : Type 0} (d : Fields A) (bytes piece : List ℕ) (k : InData d byte
           within,
           data_quiet k.files k.header k.size k.records k.part bytes piece s k.come k.few k.some walk_known on_known are low used t upto here,
           data_wants k.files k.header k.size k.records k.part bytes piece s k.come k.few k.some walk_known on_known are low used t within here step_ok,
+          data_takes k.files k.header k.size k.records k.part bytes piece s k.come k.few k.some walk_known on_known are low used t upto here (subst (λ e. HeadsNoEmptyMessage e t (slice_index piece used)) k.known heads),
         );
         viable = data_viable k.files k.header k.size k.records k.part bytes piece s k.come k.few k.some walk_known on_known are low used t upto here;
         holds = λ _. within_record sum section env position in_progress used upto same walk covered at;
@@ -327,6 +329,7 @@ module _ {A : Type 0} (d : Fields A) (bytes piece : List ℕ) (k : InSum d bytes
           counted = counted ∙ k.counted;
           fresh = k.fresh;
           summed = covered ∙ k.summed;
+          known = same ∙ k.known;
           over = k.over;
           idle = k.idle;
         });

@@ -6,6 +6,7 @@ use Rattle.fit_record.specs.Files.{chain_limit, IsChain, IsViable}
 use Rattle.fit_decode.specs.declared.event.Event.{Event as Answer}
 use Rattle.fit_decode.specs.declared.event.Event.TheVariants as answers
 use Rattle.fit_decode.specs.Events.{Event, header, item, file_end, AreEvents}
+use Rattle.fit_decode.specs.Memory.{MayTakeMemory}
 use Rattle.fit_decode.specs.Refusals.{IsRefused}
 
 pub record Seen : Type 0 where
@@ -41,12 +42,14 @@ pub record Refuses (A : Type 0) (old : Seen) (piece : List ℕ) (new : Seen) (pl
   pub quiet : Quiet A old.bytes piece used
   pub why : IsRefused A chain_limit (old.bytes ++ take used piece) (slice_index piece used) reason
 
--- Memory was refused at the byte behind the first used ones, which isn't one to be refused. No event stands before it.
+-- Memory was refused at the byte behind the first used ones, which isn't one to be refused, nor one that takes no memory.
+-- No event stands before it.
 pub record Wants (A : Type 0) (old : Seen) (piece : List ℕ) (new : Seen) (used : ℕ) : Type 0 where
   pub within : used < length piece
   pub after : new ≡ fed old piece used
   pub quiet : Quiet A old.bytes piece used
   pub next : IsViable A chain_limit (old.bytes ++ take (used + 1) piece)
+  pub takes : MayTakeMemory A (old.bytes ++ take used piece) (slice_index piece used)
 
 -- Some files, one after another, have these bytes.
 abbrev pub AreChain : Type 0 → List ℕ → Type 0

@@ -3,12 +3,12 @@ use Rattle.std.specs.Prelude.{◌≡◌, ℕ, ◌+◌, ◌*◌, ◌/◌, if◌th
 use Rattle.std.specs.Option.{option_map_or}
 use Rattle.fit_base.specs.BaseTypes.{item_width}
 use Rattle.fit_frame.specs.declared.header.Header.{Header}
-use Rattle.fit_record.specs.declared.definition.MessageDef.{MessageDef}
 use Rattle.fit_record.specs.declared.file.FitFile.{FitFile}
 use Rattle.fit_record.specs.declared.message.Record.{Record}
 use Rattle.fit_record.specs.declared.environment.Defined.{Defined}
-use Rattle.fit_record.specs.Environment.{Environment, empty_environment, defined_at, dev_defs, learn_all}
+use Rattle.fit_record.specs.Environment.{Environment, empty_environment, defined_at, learn_all}
 use Rattle.fit_record.specs.Records.{layout, dev_layout}
+use Rattle.fit_record.specs.Sizes.{entry_count, environment_size}
 use Rattle.fit_record.specs.Files.{body}
 use Rattle.fit_record.specs.HeaderByte.{is_definition, has_developer_fields, local_type}
 use Rattle.fit_decode.specs.Progress.{Progress, at_header, at_data, HasCome}
@@ -33,13 +33,6 @@ AreEvents {A} bytes events =
     × (events ≡ flat_map file_events fs ++ progress_events g)
 
 -- ---- what is held
-
--- fields and developer fields
-abbrev pub entry_count : {A : Type 0} → MessageDef A → ℕ
-entry_count d = length d.fields + length (dev_defs d.dev)
-
-abbrev pub environment_size : {A : Type 0} → Environment A → ℕ
-environment_size e = sum_by (λ p. option_map_or (λ q. entry_count q.definition) p 0) e.places + length e.described
 
 -- the items of a message under this definition
 abbrev pub item_count : {A : Type 0} → Defined A → ℕ

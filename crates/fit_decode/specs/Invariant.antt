@@ -1,6 +1,8 @@
 -- The invariant of a decoder, and what its caller sees behind the use of some bytes. No public contract names these.
 use Rattle.std.specs.Prelude.{◌≡◌, ℕ, List, ◌++◌, length, take, Some, None, Result, Err}
 use Rattle.fit_base.specs.Numbers.{IsBytes}
+use Rattle.fit_frame.specs.declared.reason.Reason.{Reason}
+use Rattle.fit_record.specs.Environment.{empty_environment}
 use Rattle.fit_record.specs.Files.{chain_limit, IsViable}
 use Rattle.fit_step.specs.declared.stop.Stop.{Stop}
 use Rattle.fit_step.specs.declared.stop.Stop.TheVariants.{Refused}
@@ -17,6 +19,8 @@ pub record IsKept {A : Type 0} (d : Inside A) : Type 0 where
   pub are : IsBytes d.history.items
   pub counted : d.count ≡ length d.history.items
   pub holds : d.refusal ≡ None → Holds (fields_of d) d.history.items
+  -- after a refusal nothing is kept
+  pub let_go : (reason : Reason) → d.refusal ≡ Some reason → (d.env ≡ empty_environment) × (d.in_progress ≡ None)
 
 abbrev pub seen_after : {A : Type 0} → Seen → List ℕ → ℕ → Result (Answer A) Stop → Seen
 seen_after old piece used (Err (Refused reason)) = record { bytes = old.bytes ++ take used piece; refusal = Some reason }

@@ -24,6 +24,7 @@ use Rattle.fit_decode.specs.declared.event.Event.TheVariants as answers
 use Rattle.fit_decode.specs.Progress.{at_header, at_data, HasCome}
 use Rattle.fit_decode.specs.Events.{header, item, file_end}
 use Rattle.fit_decode.specs.GoingOn.{ChainGoesOn}
+use Rattle.fit_decode.specs.Memory.{MayTakeMemory}
 use Rattle.fit_decode.specs.Refusals.{IsRefused}
 use Rattle.fit_decode.specs.Answers.{Quiet, Least}
 use Rattle.fit_decode.specs.Needs.{missing}
@@ -82,6 +83,7 @@ pub record InSum {A : Type 0} (d : Fields A) (bytes : List ℕ) : Type 0 where
   pub counted : d.count ≡ length files
   pub fresh : d.reader ≡ record { bytes = []; refusal = None }
   pub summed : d.sum ≡ header_bytes header size ++ records_bytes empty_environment records
+  pub known : d.env ≡ learn_all empty_environment records
   pub over : size - length (records_bytes empty_environment records) ≡ 0
   pub idle : d.in_progress ≡ None
 
@@ -104,6 +106,7 @@ Advanced {A} bytes piece used (Err (Refused reason)) =
     (used < length piece) × Quiet A bytes piece used × IsRefused A chain_limit (bytes ++ take used piece) (slice_index piece used) reason
 Advanced {A} bytes piece used (Err NoMemory) =
     (used < length piece) × Quiet A bytes piece used × IsViable A chain_limit (bytes ++ take (used + 1) piece)
+    × MayTakeMemory A (bytes ++ take used piece) (slice_index piece used)
 
 -- no byte was refused
 abbrev pub NotRefused : {A : Type 0} → Result (Answer A) Stop → Type 0

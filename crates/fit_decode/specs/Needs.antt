@@ -1,10 +1,10 @@
 -- How many bytes are to come, at least, until a file ends.
-use Rattle.std.specs.Prelude.{◌≡◌, ℕ, ◌+◌, ◌-◌, nat_le, nat_lt, if◌then◌else◌, List, [], ◌∷◌, length, take, drop}
+use Rattle.std.specs.Prelude.{◌≡◌, ℕ, ◌+◌, ◌-◌, ◌<◌, ◌≤◌, nat_le, nat_lt, if◌then◌else◌, List, [], ◌∷◌, ◌++◌, length, take, drop}
 use Rattle.fit_base.specs.Numbers.{little}
 use Rattle.fit_record.specs.declared.file.FitFile.{FitFile}
 use Rattle.fit_record.specs.Environment.{empty_environment}
 use Rattle.fit_record.specs.Records.{records_bytes}
-use Rattle.fit_record.specs.Files.{chain_limit}
+use Rattle.fit_record.specs.Files.{chain_limit, IsChain}
 use Rattle.fit_decode.specs.Progress.{Progress, at_header, at_data, HasCome}
 
 -- Before a file: a header of 12 bytes and a closing sum, or one byte where no file may follow. In a header: the rest of its size
@@ -21,3 +21,8 @@ pub record Needs (A : Type 0) (bytes : List ℕ) (n : ℕ) : Type 0 where
   pub progress : Progress A
   pub come : HasCome files progress bytes
   pub is : n ≡ missing (length files) progress
+
+-- A chain that begins with these bytes, and has one more file at least than have ended in them, goes on for so many bytes.
+abbrev pub NoFileEndsBefore : Type 0 → List ℕ → ℕ → Type 0
+NoFileEndsBefore A bytes n = (files others : List (FitFile A)) (progress : Progress A) (more : List ℕ)
+    → HasCome files progress bytes → IsChain chain_limit others (bytes ++ more) → length files < length others → n ≤ length more

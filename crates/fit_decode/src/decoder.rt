@@ -3,10 +3,13 @@ ghost use Rattle.std.specs.Prelude.{◌≡◌, ◌↔◌, ℕ, ◌<◌, ◌≤�
 ghost use Rattle.fit_frame.specs.declared.reason.Reason.{Reason};
 ghost use Rattle.fit_record.specs.Files.{chain_limit, IsViable};
 ghost use Rattle.fit_decode.specs.Events.{Event as Told};
-ghost use Rattle.fit_decode.specs.Needs.{Needs};
+ghost use Rattle.fit_decode.specs.Held.{bound_limit, IsHeld};
+ghost use Rattle.fit_decode.specs.Needs.{Needs, NoFileEndsBefore};
 ghost use Rattle.fit_decode.specs.Answers.{told, fed, Quiet, Least, Refuses, Wants, AreChain};
 
+use crate::held::in_progress_size;
 use crate::need::bytes_to_come;
+use crate::record::let_go;
 use crate::section::{Section, feed_section};
 use crate::{Event, Fault, Fed};
 use fit_frame::{HeadReader, Reason};
@@ -82,7 +85,9 @@ impl<A: Allocator + Copy> Decoder<A> {
     /// and completed none.
     ///
     /// `Refused` names the first byte with which the bytes fed begin no chain of files, and why; after it each call
-    /// answers it again. With `NoMemory` the first `used` bytes of the piece count as fed, and the rest may be fed again.
+    /// answers it again, and nothing is held any more. With `NoMemory` the first `used` bytes of the piece count as fed, and the rest may be fed again.
+    /// No memory is taken by a byte of a header, of a closing sum, or of a data message without fields and developer
+    /// fields.
     pub fn feed(&mut self, piece: &[u8]) -> Result<Fed<A>, Fault>
         // After a refusal each call answers it again.
         ensures latched { (reason : Reason) → self.old.refusal ≡ Some reason → (result ≡ Err (Fault.Refused (length self.old.bytes) reason)) × (self.new ≡ self.old) }
@@ -124,6 +129,7 @@ impl<A: Allocator + Copy> Decoder<A> {
             Err(stop) => match stop {
                 Stop::Refused(reason) => {
                     self.refusal = Some(reason);
+                    let_go(self.alloc, &mut self.env, &mut self.in_progress);
                     Err(Fault::Refused {
                         place: self.count,
                         reason,
@@ -159,6 +165,7 @@ impl<A: Allocator + Copy> Decoder<A> {
     pub fn need(&self) -> u64
         ensures refused { (reason : Reason) → self.now.refusal ≡ Some reason → result ≡ 0 }
         ensures need { self.now.refusal ≡ None → Needs A self.now.bytes result }
+        ensures least { self.now.refusal ≡ None → NoFileEndsBefore A self.now.bytes result }
     {
         if self.refusal.is_some() {
             return 0;
@@ -170,5 +177,17 @@ impl<A: Allocator + Copy> Decoder<A> {
             self.reader.bytes(),
             self.position.room,
         )
+    }
+
+    /// How much is held: the fields and developer fields of all definitions, the described developer fields, and of the
+    /// record in progress the fields, developer fields and items.
+    pub fn held(&self) -> u64
+        ensures held { self.now.refusal ≡ None → IsHeld A self.now.bytes result }
+        ensures refused { (reason : Reason) → self.now.refusal ≡ Some reason → result ≡ 0 }
+        // At the end of a file nothing is held.
+        ensures ended { AreChain A self.now.bytes → result ≡ 0 }
+        ensures limit { result ≤ bound_limit }
+    {
+        self.env.held() + in_progress_size(&self.in_progress)
     }
 }

@@ -1,5 +1,5 @@
 //! What holds of events and refusals. These functions do nothing: what they ensure is what they are for.
-ghost use Rattle.fit_decode.specs.Laws.{ChainsGoOn, EventsAreOne, ReasonsAreOne, ViableHaveEvents};
+ghost use Rattle.fit_decode.specs.Laws.{BoundsAreLimited, ChainsGoOn, EventsAreOne, FilesEndNoSooner, FirstFilesAreFiles, ReasonsAreOne, RefusedHaveReasons, ViableHaveEvents};
 
 use std::alloc::Allocator;
 
@@ -18,9 +18,31 @@ pub fn reasons_are_one<A: Allocator>()
     ensures { ReasonsAreOne A }
 {}
 
+/// A byte with which no chain begins, behind bytes with which one does, is refused for a reason. With `reasons_are_one`
+/// it has exactly one.
+pub fn refused_bytes_have_reasons<A: Allocator>()
+    ensures { RefusedHaveReasons A }
+{}
+
 /// Some chain of at most so many files begins with the bytes that have come exactly where what there is of it can go on:
 /// a header of a file begins with those of the header, records fill the data section behind those that are whole, or the
 /// closing sum begins so.
 pub fn chains_go_on<A: Allocator>()
     ensures { ChainsGoOn A }
+{}
+
+/// No file ends before so many bytes more have come as `need` tells.
+pub fn files_end_no_sooner<A: Allocator>()
+    ensures { FilesEndNoSooner A }
+{}
+
+/// Bytes in which no file is whole begin a chain exactly where they begin a file.
+pub fn first_files_are_files<A: Allocator>()
+    ensures { FirstFilesAreFiles A }
+{}
+
+/// What a reader has to hold is limited: 16 definitions of 510 entries, 65,536 descriptions, and one record of 510
+/// entries and 130,050 items.
+pub fn bounds_are_limited<A: Allocator>()
+    ensures { BoundsAreLimited A }
 {}

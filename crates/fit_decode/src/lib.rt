@@ -3,8 +3,10 @@
 
 mod decoder;
 mod event;
+mod held;
 pub mod laws;
 mod need;
+mod readers;
 mod record;
 mod scan;
 mod section;
@@ -14,4 +16,5 @@ mod tests;
 
 pub use decoder::Decoder;
 pub use event::{Event, Fault, Fed};
+pub use readers::{Reading, read_chain, read_one};
 pub use source::{CutSource, ReadSource, Source, SourceFailed};

@@ -1,7 +1,7 @@
 //! The bytes of a piece that belong to a record.
-ghost use Rattle.std.specs.Prelude.{◌≡◌, OnErr, Some, true, false, IsSomeAnd};
+ghost use Rattle.std.specs.Prelude.{◌≡◌, OnErr, None, Some, true, false, IsSomeAnd};
 ghost use Rattle.fit_record.specs.declared.message.Record.{Record};
-ghost use Rattle.fit_record.specs.Environment.{learn};
+ghost use Rattle.fit_record.specs.Environment.{DescribesNothing, empty_environment, learn};
 ghost use Rattle.fit_record.specs.Records.{Fits};
 ghost use Rattle.fit_step.specs.Machine.{step};
 ghost use Rattle.fit_step.specs.Places.{state_at};
@@ -17,6 +17,7 @@ fn is_learned<A: Allocator + Copy>(env: &mut Env<A>, whole: &Option<Record<A>>) 
     requires { IsSomeAnd whole.now (Fits env.old) }
     ensures learned { (r : Record A) → whole.now ≡ Some r → result ≡ true → env.new ≡ learn env.old r }
     ensures same { result ≡ false → env.new ≡ env.old }
+    ensures free { (r : Record A) → whole.now ≡ Some r → DescribesNothing env.old r → result ≡ true }
 {
     match whole {
         Some(record) => env.learn(record).is_ok(),
@@ -33,7 +34,7 @@ fn take_byte<A: Allocator + Copy>(
     byte: u8,
 ) -> Result<Option<Record<A>>, Stop>
     requires { Reading env.old (state_at position.old in_progress.old) }
-    ensures made { RecordByte env.old env.new (state_at position.new in_progress.new) result (step env.old (tests_of env.old) (state_at position.old in_progress.old) byte) }
+    ensures made { RecordByte env.old env.new (state_at position.new in_progress.new) byte result (step env.old (tests_of env.old) (state_at position.old in_progress.old) byte) }
     ensures err { OnErr result (state_at position.new in_progress.new ≡ state_at position.old in_progress.old) }
 {
     match step(alloc, env, position, in_progress, byte) {
@@ -75,4 +76,17 @@ pub(crate) fn scan_record<A: Allocator + Copy>(
         }
     }
     (piece.len(), Ok(None))
+}
+
+/// Nothing is known any more, and no record is in progress.
+pub(crate) fn let_go<A: Allocator + Copy>(
+    alloc: A,
+    env: &mut Env<A>,
+    in_progress: &mut Option<Record<A>>,
+)
+    ensures known { env.new ≡ empty_environment }
+    ensures idle { in_progress.new ≡ None }
+{
+    *env = Env::new(alloc);
+    *in_progress = None;
 }

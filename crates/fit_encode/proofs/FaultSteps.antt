@@ -1,6 +1,6 @@
 -- From the fault of a record to that of its file, and from there to that of the chain.
 use Rattle.std.proofs.Common.{◌≡◌, ℕ, ◌+◌, ◌<◌, ◌^◌, List, [], ◌∷◌, ◌++◌, ◌⊎◌, inl, inr, length, take, drop, get_or, Some, Result, Ok, Err, true, false, refl, sym, ap, ◌∙◌, subst, length-take, arith}
-use Rattle.std.specs.Prelude.{OnOk, is_err}
+use Rattle.std.specs.Prelude.{OnOk, IfErr, is_err}
 use Rattle.std.specs.List.{AllByRecursion}
 use Rattle.std.proofs.lemmas.List.{take_more, drop_more, take-append-drop}
 use Rattle.fit_record.specs.declared.file.FitFile.{FitFile}
@@ -77,6 +77,15 @@ pub file_or : {A : Type 0} (fs : List (FitFile A)) (i : ℕ) (f : FitFile A) (fa
     → AllByRecursion IsWellFormed (take i fs) → (fault ≡ NoMemory) ⊎ IsFileFault (i + 1) f fault → (fault ≡ NoMemory) ⊎ IsFirstFault fs fault
 file_or fs i f fault less is allowed good (inl none) = inl none
 file_or fs i f fault less is allowed good (inr h) = inr (of_file fs fault allowed (at_file (λ number x. IsFileFault number x fault) fs i f less is good h))
+
+-- a file alone is the first of its chain
+lone_or : {A : Type 0} (f : FitFile A) (fault : EncodeFault) → (fault ≡ NoMemory) ⊎ IsFileFault 1 f fault → (fault ≡ NoMemory) ⊎ IsFirstFault (f ∷ []) fault
+lone_or f fault h = file_or (f ∷ []) 0 f fault (omega arith) refl (omega arith, omega arith) tt h
+
+pub if_lone : {A T : Type 0} (f : FitFile A) (r : Result T EncodeFault) → IfErr r (λ fault. (fault ≡ NoMemory) ⊎ IsFileFault 1 f fault)
+    → IfErr r (λ fault. (fault ≡ NoMemory) ⊎ IsFirstFault (f ∷ []) fault)
+if_lone f (Ok x) h = tt
+if_lone f (Err fault) h = lone_or f fault h
 
 -- ---- files that can be written
 

@@ -91,7 +91,7 @@ word_short True fixed rest size twelve fits small =
 pub header_short : (h : Header) (n : ℕ) → HeaderFits h n → length (header_bytes h n) < 256
 header_short h n fits = word_short h.sum (fixed_part h n) h.rest.items h.size refl fits.form.size fits.size_fits
 
-file_short : {A : Type 0} (f : FitFile A) → IsWellFormed f → length (file_bytes f) ≤ 4294967552
+pub file_short : {A : Type 0} (f : FitFile A) → IsWellFormed f → length (file_bytes f) ≤ 4294967552
 file_short f good =
     let head = header_bytes f.header (length (body f)) in
     let sum = little_bytes 2 (checksum (summed f)) in

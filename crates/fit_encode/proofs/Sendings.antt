@@ -170,6 +170,12 @@ stops_at {a} {b} {c} {f} {w} front bytes back count short first counted broken f
       stopped = failed;
     }
 
+-- The same of bytes that nothing went before.
+pub stops_in : {a b : Option (List ℕ)} {f : Bool} {w : ℕ} (bytes : List ℕ) → length bytes < 2 ^ 64 → Breaks a b (fresh 0) bytes w → f ≡ true → StopsAt a b f bytes w
+stops_in {a} {b} {f} {w} bytes short broken failed =
+    let same : bytes ++ [] ≡ bytes = append-nil bytes in
+    StopsAt-as same (stops_at [] bytes [] 0 (subst (λ (x : List ℕ). length x < 2 ^ 64) (sym same) short) (Appends-nil a) (λ _. refl) broken failed)
+
 -- ---- lists
 
 -- a part for each element, of which some are spelled

@@ -1,9 +1,9 @@
 //! The measuring pass: whether files can be written, and the first reason where they can't.
-ghost use Rattle.std.specs.Prelude.{◌≡◌, ◌⊎◌, ◌↔◌, ◌<◌, ◌^◌, IsTrue, OnOk, IfOk, IfErr, length, Err};
+ghost use Rattle.std.specs.Prelude.{◌≡◌, ◌⊎◌, ◌↔◌, ◌<◌, ◌^◌, [], ◌∷◌, IsTrue, OnOk, IfOk, IfErr, length, Err};
 ghost use Rattle.fit_frame.specs.Header.{FormFits};
 ghost use Rattle.fit_record.specs.Environment.{empty_environment};
 ghost use Rattle.fit_record.specs.Records.{AllFit, records_bytes};
-ghost use Rattle.fit_record.specs.Files.{IsWellFormed, IsWellFormedChain, chain_limit};
+ghost use Rattle.fit_record.specs.Files.{IsWellFormed, IsWellFormedChain, body, chain_limit};
 ghost use Rattle.fit_encode.specs.Faults.{shape_fault, IsRecordFault, IsFileFault, IsFirstFault};
 
 use crate::EncodeFault;
@@ -33,14 +33,26 @@ pub(crate) fn check_files<A: Allocator + Copy>(
     Ok(())
 }
 
-/// Whether the file of this number can be written.
+/// The length of the data of a file that can be written alone.
+pub(crate) fn check_one<A: Allocator + Copy>(
+    alloc: A,
+    env: &mut Env<A>,
+    file: &FitFile<A>,
+) -> Result<u32, EncodeFault>
+    ensures ok { IfOk result (λ n. IsWellFormed file.now × (n ≡ length (body file.now))) }
+    ensures err { IfErr result (λ fault. (fault ≡ EncodeFault.NoMemory) ⊎ IsFirstFault (file.now ∷ []) fault) }
+{
+    check_file(alloc, env, 1, file)
+}
+
+/// The length of the data of the file of this number, if it can be written.
 fn check_file<A: Allocator + Copy>(
     alloc: A,
     env: &mut Env<A>,
     number: u64,
     file: &FitFile<A>,
-) -> Result<(), EncodeFault>
-    ensures ok { OnOk result (IsWellFormed file.now) }
+) -> Result<u32, EncodeFault>
+    ensures ok { IfOk result (λ n. IsWellFormed file.now × (n ≡ length (body file.now))) }
     ensures err { IfErr result (λ fault. (fault ≡ EncodeFault.NoMemory) ⊎ IsFileFault number file.now fault) }
 {
     if !has_form(&file.header) {
@@ -48,7 +60,7 @@ fn check_file<A: Allocator + Copy>(
     }
     let length = measure(alloc, env, number, file.records.as_slice())?;
     match head_bytes(&file.header, length) {
-        Ok(_) => Ok(()),
+        Ok(_) => Ok(length),
         Err(HeadFault::BadHeader) => Err(EncodeFault::BadHeader { file: number }),
         Err(HeadFault::ZeroIsSum) => Err(EncodeFault::ZeroIsSum { file: number }),
     }

@@ -226,6 +226,26 @@ fn files_with_records(rt: HostRuntime) -> Result<(), Fail> {
     Ok(())
 }
 
+/// A file without records, and one of two.
+#[test]
+fn a_chain(rt: HostRuntime) -> Result<(), Fail> {
+    let alloc = rt.alloc();
+    let mut files = Vec::new(alloc);
+    for records in [Vec::new(alloc), one_byte_message(alloc, 0, None)?] {
+        files.push(FitFile {
+            header: header(14, 0, HeaderSum::True),
+            records: Entries::from_vec(records),
+        })?;
+    }
+    let mut sink = CutSink::<39>::new(39);
+    let answer = write_chain(alloc, &mut sink, files.as_slice());
+    assert_eq!(rt; answer, Ok(()));
+    let bytes = b"\x0E\x20\0\0\0\0\0\0.FIT\x9C\x85\0\0\
+                  \x0E\x20\0\0\x07\0\0\0.FIT\xDD\x63\x40\0\0\x14\0\0\0\x44\x34";
+    assert_eq!(rt; sink.bytes(), bytes.as_slice());
+    Ok(())
+}
+
 #[test]
 fn faults(rt: HostRuntime) -> Result<(), Fail> {
     let alloc = rt.alloc();

@@ -1,15 +1,15 @@
 //! Writes files and chains of files.
-ghost use Rattle.std.specs.Prelude.{◌≡◌, ◌∷◌, [], OnOk, IfErr};
+ghost use Rattle.std.specs.Prelude.{◌≡◌, ◌∷◌, [], OnOk, IfErr, length};
 ghost use Rattle.std.specs.Io.KnownBytes.{Appends};
 ghost use Rattle.fit_record.specs.Environment.{empty_environment};
 ghost use Rattle.fit_record.specs.Records.{AllFit, records_bytes};
-ghost use Rattle.fit_record.specs.Files.{IsWellFormed, IsWellFormedChain, file_bytes, chain_bytes, chain_limit};
+ghost use Rattle.fit_record.specs.Files.{IsWellFormed, IsWellFormedChain, body, file_bytes, chain_bytes, chain_limit};
 ghost use Rattle.fit_encode.specs.Faults.{IsFirstFault, IfWrite, UnlessWrite, IfRefused, StopsAt};
 ghost use Rattle.fit_encode.specs.Sending.{Sends, Puts};
 ghost use Rattle.fit_frame.specs.Header.{HeaderFits, header_bytes};
 ghost use Rattle.fit_encode.specs.Spelling.{order_in, orders_after};
 
-use crate::check::check_files;
+use crate::check::{check_files, check_one};
 use crate::length::data_length;
 use crate::message::spell_record;
 use crate::spelling::Spelling;
@@ -18,7 +18,6 @@ use fit_base::Order;
 use fit_frame::{Header, head_bytes};
 use fit_record::{Env, FitFile, Record};
 use std::alloc::{Allocator, Global};
-use std::slice;
 
 /// Writes a file.
 ///
@@ -37,7 +36,15 @@ pub fn write_one<K: Sink>(alloc: Global, sink: &mut K, file: &FitFile) -> Result
     ensures written_of_good { IfErr result (λ fault. IfWrite fault (λ written. IsWellFormed file.now)) }
     ensures written { IfErr result (λ fault. IfWrite fault (StopsAt (K.contents sink.old) (K.contents sink.new) (K.has_failed sink.new) (file_bytes file.now))) }
 {
-    write_chain(alloc, sink, slice::from_ref(file))
+    let mut env = Env::new(alloc);
+    let data_len = match check_one(alloc, &mut env, file) {
+        Ok(data_len) => data_len,
+        Err(fault) => return Err(fault),
+    };
+    if let Err(written) = write_file(sink, 0, data_len, file) {
+        return Err(EncodeFault::Write { written });
+    }
+    Ok(())
 }
 
 /// Writes a chain of files, one after another.
@@ -77,24 +84,26 @@ fn write_files<K: Sink, A: Allocator>(sink: &mut K, files: &[FitFile<A>]) -> Res
 {
     let mut count = 0;
     for file in files {
-        count = write_file(sink, count, file)?;
+        count = write_file(sink, count, data_length(file.records.as_slice()), file)?;
     }
     Ok(())
 }
 
-/// Writes a file that can be written. So many bytes went out before it, and the answer counts on.
+/// Writes a file that can be written, with so many bytes of data. So many bytes went out before it,
+/// and the answer counts on.
 fn write_file<K: Sink, A: Allocator>(
     sink: &mut K,
     count: u64,
+    data_len: u32,
     file: &FitFile<A>,
 ) -> Result<u64, u64>
-    requires { IsWellFormed file.now }
+    requires good { IsWellFormed file.now }
+    requires size { data_len ≡ length (body file.now) }
     ensures { Puts (K.contents sink.old) (K.contents sink.new) (K.has_failed sink.new) count (file_bytes file.now) result }
 {
     let mut out = Spelling::new(count);
-    let records = file.records.as_slice();
-    spell_head(&mut out, sink, &file.header, data_length(records))?;
-    spell_records(&mut out, sink, records)?;
+    spell_head(&mut out, sink, &file.header, data_len)?;
+    spell_records(&mut out, sink, file.records.as_slice())?;
     out.end(sink)?;
     Ok(out.count())
 }

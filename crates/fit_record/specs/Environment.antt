@@ -1,6 +1,6 @@
 -- What a reader of records knows: the definition of each local message type, and the described developer fields
 -- (sections "Definition Message" and "Developer Data").
-use Rattle.std.specs.Prelude.{ℕ, ◌==◌, if◌then◌else◌, List, [], ◌∷◌, map, replicate, slice_index_or, slice_set, unwrap_or, option_and_then, Option, Some, None}
+use Rattle.std.specs.Prelude.{◌≡◌, ℕ, ◌==◌, if◌then◌else◌, List, [], ◌∷◌, map, replicate, slice_index_or, slice_set, unwrap_or, option_and_then, Option, Some, None}
 use Rattle.std.specs.Ordering.{nat_cmp, ordering_then}
 use Rattle.std.specs.declared.cmp.Ordering.{Ordering}
 use Rattle.std.specs.Map.{lookup}
@@ -74,10 +74,19 @@ dev_defs fields = unwrap_or fields []
 abbrev pub defined_by : {A : Type 0} → Environment A → MessageDef A → Defined A
 defined_by e d = record { definition = d; dev_codes = map (dev_code e) (dev_defs d.dev) }
 
+-- what a data message describes by the definition of its local message type
+abbrev pub described_by : {A : Type 0} → Environment A → Values A → Option Description
+described_by e v = option_and_then (λ p. description p.definition v) (defined_at e v.local)
+
 -- The environment after a record. A definition takes its place; a description sets the code of its developer field.
 abbrev pub learn : {A : Type 0} → Environment A → Record A → Environment A
 learn e (Define d) = record e { places = slice_set e.places d.local (Some (defined_by e d)) }
-learn e (Data v) = describe e (option_and_then (λ p. description p.definition v) (defined_at e v.local))
+learn e (Data v) = describe e (described_by e v)
+
+-- A data message that describes no developer field.
+abbrev pub DescribesNothing : {A : Type 0} → Environment A → Record A → Type 0
+DescribesNothing e (Define d) = ⊥
+DescribesNothing e (Data v) = described_by e v ≡ None
 
 -- the environment after records
 abbrev pub learn_all : {A : Type 0} → Environment A → List (Record A) → Environment A

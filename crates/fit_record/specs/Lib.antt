@@ -1,4 +1,5 @@
 pub mod Environment
+pub mod Sizes
 pub mod Records
 pub mod HeaderByte
 pub mod Files

@@ -1,7 +1,7 @@
 //! What a reader of records knows: the definition of each local message type, and the described
 //! developer fields.
-ghost use Rattle.std.specs.Prelude.{◌≡◌, ◌+◌, ◌<◌, ◌≤◌, IfOk, IfErr, map, option_map, option_and_then, option_copied, slice_get, slice_set, IsSomeAnd, OnOk, OnErr, IfSome, Some, length};
-ghost use Rattle.fit_record.specs.Environment.{empty_environment, defined_at, defined_by, describe, description, dev_code, dev_defs, learn};
+ghost use Rattle.std.specs.Prelude.{◌≡◌, ◌+◌, ◌<◌, ◌≤◌, IfOk, IfErr, map, option_map, option_and_then, option_copied, slice_get, slice_set, IsOk, IsSomeAnd, OnOk, OnErr, IfSome, Some, None, length};
+ghost use Rattle.fit_record.specs.Environment.{DescribesNothing, empty_environment, defined_at, defined_by, describe, described_by, dev_code, dev_defs, learn};
 ghost use Rattle.fit_record.specs.Records.{Fits, DefinitionFits, DataFits, body_length, message_size, record_bytes};
 ghost use Rattle.fit_record.specs.Faults.{first_fault};
 ghost use Rattle.fit_record.specs.Sound.{IsSound};
@@ -30,7 +30,7 @@ pub struct Env<A: Allocator = Global> {
     pub(crate) places: [Option<Defined<A>>; 16],
     /// How many bytes follow the record header of each local message type.
     lengths: [u32; 16],
-    described: BTreeMap<DevKey, u8, A>,
+    pub(crate) described: BTreeMap<DevKey, u8, A>,
     alloc: A,
 }
 
@@ -123,11 +123,12 @@ impl<A: Allocator> Env<A> {
 
 impl<A: Allocator + Copy> Env<A> {
     /// Takes a record in: a definition takes its place, and a field description sets the code of its
-    /// developer field. Where memory is refused, nothing changes.
+    /// developer field. Where memory is refused, nothing changes. A data message that describes nothing takes none.
     pub fn learn(&mut self, r: &Record<A>) -> Result<(), AllocError>
         requires { Fits self.old r.now }
         ensures ok { OnOk result (self.new ≡ learn self.old r.now) }
         ensures err { OnErr result (self.new ≡ self.old) }
+        ensures free { DescribesNothing self.old r.now → IsOk result }
     {
         match r {
             Record::Define(d) => self.define(d),
@@ -151,8 +152,9 @@ impl<A: Allocator + Copy> Env<A> {
     /// Takes a data message in.
     fn take_in(&mut self, v: &Values<A>) -> Result<(), AllocError>
         requires { IsSomeAnd (defined_at self.old v.now.local) (DataFits v.now) }
-        ensures ok { OnOk result (self.new ≡ describe self.old (option_and_then (λ p. description p.definition v.now) (defined_at self.old v.now.local))) }
+        ensures ok { OnOk result (self.new ≡ describe self.old (described_by self.old v.now)) }
         ensures err { OnErr result (self.new ≡ self.old) }
+        ensures free { described_by self.old v.now ≡ None → IsOk result }
     {
         match self.described_by(v) {
             None => Ok(()),
@@ -163,7 +165,7 @@ impl<A: Allocator + Copy> Env<A> {
     /// What a data message describes.
     fn described_by(&self, v: &Values<A>) -> Option<Description>
         requires { IsSomeAnd (defined_at self.now v.now.local) (DataFits v.now) }
-        ensures { result ≡ option_and_then (λ p. description p.definition v.now) (defined_at self.now v.now.local) }
+        ensures { result ≡ described_by self.now v.now }
     {
         let p = self.defined(v.local)?;
         description_of(&p.definition, v)

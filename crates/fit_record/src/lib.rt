@@ -6,6 +6,7 @@ mod definition;
 mod environment;
 mod file;
 mod fits;
+mod held;
 pub mod laws;
 mod learn;
 mod message;
@@ -16,6 +17,7 @@ pub use definition::{DevDef, FieldDef, MessageDef, body_length};
 pub use environment::{Defined, Env};
 pub use file::FitFile;
 pub use fits::ShapeFault;
+pub use held::entry_count;
 pub use message::{Record, Values};
 pub use unfinished::can_complete_front;
 

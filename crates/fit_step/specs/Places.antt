@@ -1,9 +1,10 @@
 -- Where a reader of records is: a part of a record has come, and what is left of the data section has room for the rest.
-use Rattle.std.specs.Prelude.{◌≡◌, ℕ, ◌+◌, ◌<◌, ◌≤◌, Bool, true, false, IsTrue, List, [], length, Option, None, Result, Ok, Err, IsOk, IsSomeAnd}
+use Rattle.std.specs.Prelude.{◌≡◌, ℕ, ◌+◌, ◌<◌, ◌≤◌, ◌⊎◌, Bool, true, false, IsTrue, List, [], length, Option, None, Result, Ok, Err, IsOk, IsSomeAnd}
 use Rattle.fit_record.specs.declared.message.Record.{Record}
-use Rattle.fit_record.specs.Environment.{Environment}
+use Rattle.fit_record.specs.Environment.{Environment, defined_at}
 use Rattle.fit_record.specs.Records.{Fits}
-use Rattle.fit_record.specs.HeaderByte.{is_definition}
+use Rattle.fit_record.specs.Sizes.{HasNoFields}
+use Rattle.fit_record.specs.HeaderByte.{is_definition, local_type}
 use Rattle.fit_step.specs.declared.phase.DefinitionPhase.TheVariants.{FieldCode, DevIndex}
 use Rattle.fit_step.specs.declared.phase.Phase.{Phase}
 use Rattle.fit_step.specs.declared.phase.Phase.TheVariants.{RecordHeader, Definition, FieldItems, DevItems}
@@ -37,15 +38,20 @@ Steps after (Ok (p, false)) made = made ≡ Ok (state_at p after, None)
 Steps after (Err (Refused reason)) made = made ≡ Err reason
 Steps after (Err NoMemory) made = IsOk made
 
--- For these bytes no memory is wanted: those of a definition message that end no entry, and those of a data message, behind
--- its record header, that end no number.
-abbrev pub TakesNone : Phase → List ℕ → ℕ → Type 0
-TakesNone RecordHeader partial b = IsTrue (is_definition b)
-TakesNone (Definition (FieldCode left number size)) partial b = ⊥
-TakesNone (Definition (DevIndex left number size)) partial b = ⊥
-TakesNone (Definition k) partial b = Unit {0}
-TakesNone (FieldItems place width left) partial b = length partial + 1 < width
-TakesNone (DevItems place width left) partial b = length partial + 1 < width
+-- The byte heads a data message of a definition without fields and developer fields.
+abbrev pub HeadsEmptyMessage : {A : Type 0} → Environment A → ℕ → Type 0
+HeadsEmptyMessage e b = (is_definition b ≡ false) × IsSomeAnd (defined_at e (local_type b)) (λ p. HasNoFields p.definition)
+
+-- For these bytes no memory is wanted: the record header of a definition message, or of a data message without fields and
+-- developer fields, the bytes of a definition message that end no entry, and those of a data message, behind its record
+-- header, that end no number.
+abbrev pub TakesNone : {A : Type 0} → Environment A → Phase → List ℕ → ℕ → Type 0
+TakesNone e RecordHeader partial b = IsTrue (is_definition b) ⊎ HeadsEmptyMessage e b
+TakesNone e (Definition (FieldCode left number size)) partial b = ⊥
+TakesNone e (Definition (DevIndex left number size)) partial b = ⊥
+TakesNone e (Definition k) partial b = Unit {0}
+TakesNone e (FieldItems place width left) partial b = length partial + 1 < width
+TakesNone e (DevItems place width left) partial b = length partial + 1 < width
 
 -- The answer isn't that memory was refused.
 abbrev pub WantsNone : {X : Type 0} → Result X Stop → Type 0

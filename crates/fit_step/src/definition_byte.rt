@@ -28,7 +28,7 @@ pub(crate) fn definition_byte<A: Allocator>(
     requires defining { IsDefining part definition.old }
     ensures made { Defines phase.new room.new definition.new result (definition_move (tests_of env.now) part room.old definition.old byte) }
     ensures err { OnErr result ((phase.new ≡ phase.old) × (room.new ≡ room.old) × (definition.new ≡ definition.old)) }
-    ensures free { TakesNone (Definition part) [] byte → WantsNone result }
+    ensures free { TakesNone env.now (Definition part) [] byte → WantsNone result }
 {
     match part {
         DefinitionPhase::Reserved => {

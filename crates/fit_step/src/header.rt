@@ -1,9 +1,9 @@
 //! The record header byte (FIT protocol, "Record Header").
 ghost use Rattle.std.specs.Prelude.{◌≡◌, IfOk, IsOk, [], length, map, zip};
 ghost use Rattle.fit_record.specs.HeaderByte.{is_compressed, is_definition, has_developer_fields, has_reserved_bit, local_type};
-ghost use Rattle.fit_record.specs.Environment.{dev_defs};
 ghost use Rattle.fit_record.specs.Kept.{IsSound};
 ghost use Rattle.fit_record.specs.Records.{layout, dev_layout};
+ghost use Rattle.fit_record.specs.Sizes.{HasNoFields};
 ghost use Rattle.fit_step.specs.Machine.{no_items, new_definition, new_message};
 
 use fit_base::{Bits, Code, Entries, Items, Order, width_of};
@@ -82,7 +82,7 @@ pub(crate) fn new_message<A: Allocator + Copy>(
 ) -> Result<Values<A>, AllocError>
     requires { IsSound defined.now }
     ensures made { IfOk result (λ v. v ≡ new_message byte (layout defined.now) (dev_layout defined.now)) }
-    ensures free { layout defined.now ≡ [] → dev_defs defined.now.definition.dev ≡ [] → IsOk result }
+    ensures free { HasNoFields defined.now.definition → IsOk result }
 {
     let fields = empty_fields(alloc, defined.definition.fields.as_slice())?;
     let dev = match &defined.definition.dev {

@@ -32,7 +32,7 @@ pub fn step<A: Allocator + Copy>(
     ensures kept { IfOk result (λ next. Keeps env.now in_progress.new next) }
     ensures room { IfOk result (λ next. next.0.room + 1 ≡ position.now.room) }
     ensures err { OnErr result (in_progress.new ≡ in_progress.old) }
-    ensures free { TakesNone position.now.phase position.now.partial byte → WantsNone result }
+    ensures free { TakesNone env.now position.now.phase position.now.partial byte → WantsNone result }
 {
     let mut phase = position.phase;
     let mut room = position.room;
@@ -69,7 +69,7 @@ fn take<A: Allocator + Copy>(
     requires stands { Stands env.now (state phase.old room.old in_progress.old partial.old) }
     ensures made { Made phase.new room.new in_progress.new partial.new result (step env.now (tests_of env.now) (state phase.old room.old in_progress.old partial.old) byte) }
     ensures err { OnErr result (in_progress.new ≡ in_progress.old) }
-    ensures free { TakesNone phase.old partial.old byte → WantsNone result }
+    ensures free { TakesNone env.now phase.old partial.old byte → WantsNone result }
 {
     match in_progress {
         None => {
@@ -96,7 +96,7 @@ fn in_definition<A: Allocator>(
     requires defines { DefinesAt phase.old definition.old }
     ensures made { Defines phase.new room.new definition.new result (step_at env.now (tests_of env.now) phase.old (state phase.old room.old (Some (Define definition.old)) []) byte) }
     ensures err { OnErr result (definition.new ≡ definition.old) }
-    ensures free { TakesNone phase.old [] byte → WantsNone result }
+    ensures free { TakesNone env.now phase.old [] byte → WantsNone result }
 {
     match *phase {
         Phase::Definition(part) => definition_byte(env, part, phase, room, definition, byte),
@@ -118,7 +118,7 @@ fn in_message<A: Allocator + Copy>(
     requires reads { ReadsAt env.now phase.old values.old partial.old }
     ensures made { Made phase.new room.new (Some (Data values.new)) partial.new result (step_at env.now (tests_of env.now) phase.old (state phase.old room.old (Some (Data values.old)) partial.old) byte) }
     ensures err { OnErr result (values.new ≡ values.old) }
-    ensures free { TakesNone phase.old partial.old byte → WantsNone result }
+    ensures free { TakesNone env.now phase.old partial.old byte → WantsNone result }
 {
     let Some(defined) = env.defined(values.local) else {
         unreachable!()

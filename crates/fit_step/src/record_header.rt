@@ -1,12 +1,13 @@
 //! The byte with which a record begins (FIT protocol, "Record Header").
-ghost use Rattle.std.specs.Prelude.{◌≡◌, ◌-◌, ◌<◌, IfOk, IfErr, IsTrue, Ok, Err, Some};
+ghost use Rattle.std.specs.Prelude.{◌≡◌, ◌-◌, ◌<◌, ◌⊎◌, IfOk, IfErr, IsTrue, IsSomeAnd, Ok, Err, Some};
 ghost use Rattle.fit_record.specs.Environment.{defined_at};
 ghost use Rattle.fit_record.specs.HeaderByte.{is_definition, local_type};
 ghost use Rattle.fit_record.specs.Kept.{IsSound};
 ghost use Rattle.fit_record.specs.Records.{layout, dev_layout};
+ghost use Rattle.fit_record.specs.Sizes.{HasNoFields};
 ghost use Rattle.fit_step.specs.Reasons.{least_definition};
 ghost use Rattle.fit_step.specs.Machine.{begin_fields, header_move, message_move, new_message};
-ghost use Rattle.fit_step.specs.Places.{WantsNone};
+ghost use Rattle.fit_step.specs.Places.{HeadsEmptyMessage, WantsNone};
 ghost use Rattle.fit_step.specs.Steps.{Enters};
 ghost use Rattle.fit_step.specs.Tests.{tests_of};
 
@@ -52,6 +53,7 @@ fn at_message<A: Allocator + Copy>(
 ) -> Result<(Record<A>, bool), Stop>
     requires room { 0 < room.old }
     ensures made { Enters phase.new room.new result (message_move (tests_of env.now) room.old byte (defined_at env.now (local_type byte))) }
+    ensures free { IsSomeAnd (defined_at env.now (local_type byte)) (λ p. HasNoFields p.definition) → WantsNone result }
 {
     let defined = match defined_for(env, *room, byte) {
         Ok(defined) => defined,
@@ -76,7 +78,7 @@ pub(crate) fn at_record_header<A: Allocator + Copy>(
 ) -> Result<(Record<A>, bool), Stop>
     requires room { 0 < room.old }
     ensures made { Enters phase.new room.new result (header_move env.now (tests_of env.now) room.old byte) }
-    ensures free { IsTrue (is_definition byte) → WantsNone result }
+    ensures free { IsTrue (is_definition byte) ⊎ HeadsEmptyMessage env.now byte → WantsNone result }
 {
     if has_reserved_bit(byte) {
         return Err(Stop::Refused(Reason::ReservedBit));

@@ -1,5 +1,7 @@
-use Rattle.std.proofs.Common.{Err, inr, refl, ap}
+use Rattle.std.proofs.Common.{Err, inr, length, refl, ap, ◌∙◌}
 use Rattle.std.proofs.lemmas.Result.{err_from_is_err_and}
+use Rattle.fit_record.specs.Environment.{empty_environment}
+use Rattle.fit_record.specs.Records.{records_bytes}
 use Rattle.fit_encode.proofs.FaultSteps.{record_or, good_file, zero_fault}
 use Rattle.fit_encode.proofs.check.check_file.Goals as goal
 
@@ -10,8 +12,10 @@ returns-in_err-length-clause-err g c =
 
 pub returns-in-Ok-clause-ok : goal.returns-in-Ok-clause-ok
 returns-in-Ok-clause-ok g c =
-    let measured = c.in_ok-length.ensures.ok in
-    good_file c.args.file.now _ _ c.as_slice.ensures measured.0 measured.1 (c.in-Ok.ensures.ok.0 refl)
+    let measured = c.in_ok-length.ensures.ok in (
+      good_file c.args.file.now _ _ c.as_slice.ensures measured.0 measured.1 (c.in-Ok.ensures.ok.0 refl),
+      measured.1 ∙ ap (λ x. length (records_bytes {A = g.row.A.Denot} empty_environment x)) c.as_slice.ensures,
+    )
 
 pub returns-in-Err-BadHeader-clause-err : goal.returns-in-Err-BadHeader-clause-err
 returns-in-Err-BadHeader-clause-err g c = inr (refl, c.in-Err-BadHeader.ensures.bad_header.0 (ap Err c.in-Err-BadHeader.field-0-is))

@@ -12,4 +12,4 @@ returns-in_err-check_file-clause-err g c =
 
 pub loop-place-preserved : goal.loop-place-preserved
 loop-place-preserved g c =
-    next_good c.args.files.now c.loop-place.place c.index-files-place.result (omega arith) c.index-files-place.is c.loop-place.invariant c.in_ok-check_file.ensures.ok
+    next_good c.args.files.now c.loop-place.place c.index-files-place.result (omega arith) c.index-files-place.is c.loop-place.invariant c.in_ok-check_file.ensures.ok.0

@@ -10,20 +10,17 @@ use Rattle.fit_encode.proofs.Sendings.{Breaks-more, Breaks-on, Breaks-as, Breaks
 use Rattle.fit_encode.proofs.write.write_file.Goals as goal
 
 pub spell_head-requires : goal.spell_head-requires
-spell_head-requires g c =
-    let length_is = c.data_length.ensures ∙ ap (λ x. length (records_bytes {A = g.row.A.Denot} empty_environment x)) c.as_slice-records.ensures in
-    subst (HeaderFits c.args.file.now.header) (sym length_is) c.requires.header
+spell_head-requires g c = subst (HeaderFits c.args.file.now.header) (sym c.requires.size) c.requires.good.header
 
 pub spell_records-requires : goal.spell_records-requires
-spell_records-requires g c = subst (AllFit {A = g.row.A.Denot} empty_environment) (sym c.as_slice-records.ensures) c.requires.records
+spell_records-requires g c = subst (AllFit {A = g.row.A.Denot} empty_environment) (sym c.as_slice.ensures) c.requires.good.records
 
 pub returns-in_err-spell_head : goal.returns-in_err-spell_head
 returns-in_err-spell_head g c =
     let p = err_from_is_err_and c.from_residual.result c.from_residual.ensures.1 in
     let f = c.args.file.now in
     let broken = c.in_err-spell_head.ensures in
-    let length_is = c.data_length.ensures ∙ ap (λ x. length (records_bytes {A = g.row.A.Denot} empty_environment x)) c.as_slice-records.ensures in
-    let head = Breaks-as (ap (header_bytes f.header) length_is) (Breaks-from c.new-out.ensures broken.0) in
+    let head = Breaks-as (ap (header_bytes f.header) c.requires.size) (Breaks-from c.new-out.ensures broken.0) in
     rw (p.1, p.2) (Breaks-more (little_bytes 2 (checksum (summed f))) (Breaks-more (body f) head), broken.1)
 
 pub returns-in_err-spell_records : goal.returns-in_err-spell_records
@@ -31,9 +28,8 @@ returns-in_err-spell_records g c =
     let p = err_from_is_err_and c.from_residual-in_err-spell_records.result c.from_residual-in_err-spell_records.ensures.1 in
     let f = c.args.file.now in
     let broken = c.in_err-spell_records.ensures in
-    let length_is = c.data_length.ensures ∙ ap (λ x. length (records_bytes {A = g.row.A.Denot} empty_environment x)) c.as_slice-records.ensures in
-    let head = Spells-as (ap (header_bytes f.header) length_is) (Spells-from c.new-out.ensures c.in_ok-spell_head.ensures) in
-    let records = Breaks-as (ap (records_bytes {A = g.row.A.Denot} empty_environment) c.as_slice-records.ensures) broken.0 in
+    let head = Spells-as (ap (header_bytes f.header) c.requires.size) (Spells-from c.new-out.ensures c.in_ok-spell_head.ensures) in
+    let records = Breaks-as (ap (records_bytes {A = g.row.A.Denot} empty_environment) c.as_slice.ensures) broken.0 in
     rw (p.1, p.2) (Breaks-more (little_bytes 2 (checksum (summed f))) (Breaks-on head records), broken.1)
 
 pub returns-in_err-end : goal.returns-in_err-end
@@ -41,18 +37,16 @@ returns-in_err-end g c =
     let p = err_from_is_err_and c.from_residual-in_err-end.result c.from_residual-in_err-end.ensures.1 in
     let f = c.args.file.now in
     let broken = c.in_err-end.ensures.sends in
-    let length_is = c.data_length.ensures ∙ ap (λ x. length (records_bytes {A = g.row.A.Denot} empty_environment x)) c.as_slice-records.ensures in
-    let head = Spells-as (ap (header_bytes f.header) length_is) (Spells-from c.new-out.ensures c.in_ok-spell_head.ensures) in
-    let records = Spells-as (ap (records_bytes {A = g.row.A.Denot} empty_environment) c.as_slice-records.ensures) c.in_ok-spell_records.ensures in
+    let head = Spells-as (ap (header_bytes f.header) c.requires.size) (Spells-from c.new-out.ensures c.in_ok-spell_head.ensures) in
+    let records = Spells-as (ap (records_bytes {A = g.row.A.Denot} empty_environment) c.as_slice.ensures) c.in_ok-spell_records.ensures in
     let both = Spells-on head records in
     rw (p.1, p.2) (Breaks-on both (Breaks-as (ap (λ x. little_bytes 2 (checksum x)) (all_spelled both)) broken.0), broken.1)
 
 pub returns : goal.returns
 returns g c =
     let f = c.args.file.now in
-    let length_is = c.data_length.ensures ∙ ap (λ x. length (records_bytes {A = g.row.A.Denot} empty_environment x)) c.as_slice-records.ensures in
-    let head = Spells-as (ap (header_bytes f.header) length_is) (Spells-from c.new-out.ensures c.in_ok-spell_head.ensures) in
-    let records = Spells-as (ap (records_bytes {A = g.row.A.Denot} empty_environment) c.as_slice-records.ensures) c.in_ok-spell_records.ensures in
+    let head = Spells-as (ap (header_bytes f.header) c.requires.size) (Spells-from c.new-out.ensures c.in_ok-spell_head.ensures) in
+    let records = Spells-as (ap (records_bytes {A = g.row.A.Denot} empty_environment) c.as_slice.ensures) c.in_ok-spell_records.ensures in
     let both = Spells-on head records in
     let whole = Spells-on both (Spells-as (ap (λ x. little_bytes 2 (checksum x)) (all_spelled both)) c.in_ok-end.ensures.sends) in
     let out = went_out whole refl c.in_ok-end.ensures.empty in

@@ -4,13 +4,11 @@ use Rattle.fit_step.specs.Steps.{entered}
 use Rattle.fit_step.proofs.HeaderCode.{begun_entered}
 use Rattle.fit_step.proofs.record_header.at_message.Goals as goal
 
-pub returns : goal.returns
-returns g c =
+pub returns-clause-made : goal.returns-clause-made
+returns-clause-made g c =
     let whole = c.begin_fields-whole.result in
     let phase = c.begin_fields-whole.new.phase in
     let room = c.args.room.now - 1 in
-    record {
-      made = c.in-Ok.ensures.goes
-          ∙ ap Ok (c.begin_fields-whole.ensures room _ ∙ begun_entered whole phase room _
-          ∙ ap (λ v. entered whole phase room (Data v)) (sym c.in-Ok-new_message.ensures.made));
-    }
+    c.in-Ok.ensures.goes
+    ∙ ap Ok (c.begin_fields-whole.ensures room _ ∙ begun_entered whole phase room _
+    ∙ ap (λ v. entered whole phase room (Data v)) (sym c.in-Ok-new_message.ensures.made))

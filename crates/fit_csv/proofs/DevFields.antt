@@ -1,0 +1,55 @@
+-- The developer fields of a message, place by place.
+use Rattle.std.proofs.Common.{◌≡◌, ◌∙◌, ◌<◌, ◌++◌, ℕ, List, [], None, codes, decimal, length, map, get_or, sym, ap, ap₂, subst, arith}
+use Rattle.std.specs.Prelude.{option_and_then, slice_get, unwrap_or, zip}
+use Rattle.std.proofs.lemmas.List.{get_or-map, length-map}
+use Rattle.std.proofs.lemmas.Option.{slice_get-get_or}
+use Rattle.std.proofs.lemmas.Slice.Zip.{get_or-zip, length-zip}
+use Rattle.fit_base.specs.declared.items.Items.{Items}
+use Rattle.fit_base.specs.Fields.{HasShape}
+use Rattle.fit_record.specs.declared.definition.DevDef.{DevDef}
+use Rattle.fit_record.specs.Records.{HaveShape}
+use Rattle.fit_profile.specs.Described.{Naming, nameless}
+use Rattle.fit_csv.specs.Cells.{cell}
+use Rattle.fit_csv.specs.ChainRows.{dev_label, dev_row, row}
+use Rattle.fit_csv.proofs.Shapes.{as_long, shape_at}
+
+abbrev pub nothing : DevDef
+nothing = record { number = 0; size = 0; index = 0 }
+
+-- there is an item list for each field
+pub dev_long : {A : Type 0} (fields : List DevDef) (coded : List ℕ) (items : List (Items A)) → length coded ≡ length fields → HaveShape (zip coded (map (λ f. f.size) fields)) items
+    → length items ≡ length fields
+dev_long fields coded items long have =
+    omega (arith, as_long (zip coded (map (λ f. f.size) fields)) items have, length-zip coded (map (λ f. f.size) fields), length-map fields (λ f. f.size), long)
+
+pub dev_shape : {A : Type 0} (fields : List DevDef) (coded : List ℕ) (items : List (Items A)) (k : ℕ) (item : Items A) → length coded ≡ length fields → HaveShape (zip coded (map (λ f. f.size) fields)) items
+    → k < length fields → item ≡ get_or items k item → HasShape (get_or coded k 0) (get_or fields k nothing).size item
+dev_shape fields coded items k item long have within is =
+    let sizes = map (λ (f : DevDef). f.size) fields in
+    let sized : length sizes ≡ length fields = length-map fields (λ f. f.size) in
+    let shape = shape_at (zip coded sizes) items k (0, 0) item have (omega (arith, length-zip coded sizes, sized, long, within)) in
+    let place : get_or (zip coded sizes) k (0, 0) ≡ (get_or coded k 0, (get_or fields k nothing).size) =
+    get_or-zip coded sizes k (0, 0) (omega (arith, long, within)) (omega (arith, sized, within))
+    ∙ ap (λ s. (get_or coded k 0, s)) (get_or-map (λ (f : DevDef). f.size) fields k nothing 0 within) in
+    subst (λ i. HasShape (get_or coded k 0) (get_or fields k nothing).size i) (sym is) (subst (λ f. HasShape f.0 f.1 (get_or items k item)) place shape)
+
+-- what stands at a place: field, code, naming and items
+pub dev_place : {A : Type 0} (fields : List DevDef) (coded : List ℕ) (namings : List Naming) (items : List (Items A)) (k : ℕ) (item : Items A)
+    → k < length fields → k < length coded → k < length namings → k < length items → item ≡ get_or items k item
+    → ((get_or fields k nothing, get_or coded k 0), (get_or namings k nameless, item)) ≡ get_or (zip (zip fields coded) (zip namings items)) k ((nothing, 0), (nameless, item))
+dev_place fields coded namings items k item a b c d is =
+    sym (get_or-zip (zip fields coded) (zip namings items) k ((nothing, 0), (nameless, item)) (omega (arith, length-zip fields coded, a, b)) (omega (arith, length-zip namings items, c, d))
+    ∙ ap₂ (λ x y. (x, y)) (get_or-zip fields coded k (nothing, 0) a b) (get_or-zip namings items k (nameless, item) c d ∙ ap (λ i. (get_or namings k nameless, i)) (sym is)))
+
+-- the row of a developer field by the label and the unit that its naming gives
+pub dev_named : {A : Type 0} (f : DevDef) (code : ℕ) (namings : List Naming) (item : Items A) (k : ℕ) (numbered label unit : List ℕ) → k < length namings
+    → numbered ≡ codes "dev_" ++ decimal f.index ++ codes "_" ++ decimal f.number
+    → label ≡ unwrap_or (option_and_then (λ t. t.name) (slice_get namings k)) numbered
+    → unit ≡ unwrap_or (option_and_then (λ t. t.unit) (slice_get namings k)) []
+    → row (codes "dev") label (cell code None item) unit [] [] [] ≡ dev_row f code (get_or namings k nameless) item
+dev_named f code namings item k numbered label unit within plain named measured =
+    let there = slice_get-get_or namings k nameless within in
+    let label_is : label ≡ dev_label f (get_or namings k nameless) =
+    named ∙ ap₂ (λ o text. unwrap_or (option_and_then (λ (t : Naming). t.name) o) text) there plain in
+    let unit_is : unit ≡ unwrap_or (get_or namings k nameless).unit [] = measured ∙ ap (λ o. unwrap_or (option_and_then (λ (t : Naming). t.unit) o) []) there in
+    ap₂ (λ l u. row (codes "dev") l (cell code None item) u [] [] []) label_is unit_is

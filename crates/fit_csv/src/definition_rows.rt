@@ -1,0 +1,126 @@
+//! The rows of definition messages.
+ghost use Rattle.std.specs.Prelude.{◌≡◌, ◌∷◌, [], OnOk, decimal, map};
+ghost use Rattle.fit_record.specs.Environment.{dev_defs};
+ghost use Rattle.fit_csv.specs.Rows.{HasAdded, IsBetweenRows};
+ghost use Rattle.fit_csv.specs.ChainRows as rows;
+
+use crate::rows::put_row;
+use csv::Writer;
+use fit_base::{Entries, Order};
+use fit_record::{DevDef, FieldDef, MessageDef};
+use itoa::Buffer;
+use std::alloc::AllocError;
+
+/// The word for a byte order.
+pub(crate) fn order_word(order: Order) -> &'static str
+    ensures { result.now ≡ rows.order_word order }
+{
+    match order {
+        Order::Little => "little",
+        Order::Big => "big",
+    }
+}
+
+/// How many developer fields a definition has, as a cell.
+fn dev_count<'a>(digits: &'a mut Buffer, dev: &Option<Entries<DevDef>>) -> &'a [u8]
+    ensures { result.now ≡ rows.dev_count dev.now }
+{
+    match dev {
+        Some(fields) => digits.format(fields.len()).as_bytes(),
+        None => &[],
+    }
+}
+
+/// Puts the row of a definition.
+fn put_def_row(writer: &mut Writer<Vec<u8>>, definition: &MessageDef) -> Result<(), AllocError>
+    requires { IsBetweenRows writer.old }
+    ensures { OnOk result (HasAdded (rows.def_row definition.now ∷ []) writer.old writer.new) }
+{
+    let mut locals = Buffer::new();
+    let mut reserved = Buffer::new();
+    let mut globals = Buffer::new();
+    let mut fields = Buffer::new();
+    let mut dev = Buffer::new();
+    let cells = [
+        b"def".as_slice(),
+        locals.format(definition.local).as_bytes(),
+        reserved.format(definition.reserved).as_bytes(),
+        order_word(definition.order).as_bytes(),
+        globals.format(definition.global).as_bytes(),
+        fields.format(definition.fields.len()).as_bytes(),
+        dev_count(&mut dev, &definition.dev),
+    ];
+    put_row(writer, cells.as_slice())
+}
+
+/// Puts the row of three numbers behind a word.
+fn put_numbers(
+    writer: &mut Writer<Vec<u8>>,
+    kind: &[u8],
+    number: u8,
+    size: u8,
+    last: u8,
+) -> Result<(), AllocError>
+    requires { IsBetweenRows writer.old }
+    ensures { OnOk result (HasAdded (rows.row kind.now (decimal number) (decimal size) (decimal last) [] [] [] ∷ []) writer.old writer.new) }
+{
+    let mut numbers = Buffer::new();
+    let mut sizes = Buffer::new();
+    let mut lasts = Buffer::new();
+    let cells = [
+        kind,
+        numbers.format(number).as_bytes(),
+        sizes.format(size).as_bytes(),
+        lasts.format(last).as_bytes(),
+        b"".as_slice(),
+        b"".as_slice(),
+        b"".as_slice(),
+    ];
+    put_row(writer, cells.as_slice())
+}
+
+/// Puts the rows of the fields of a definition.
+fn put_field_defs(writer: &mut Writer<Vec<u8>>, fields: &[FieldDef]) -> Result<(), AllocError>
+    requires { IsBetweenRows writer.old }
+    ensures { OnOk result (HasAdded (map rows.field_def_row fields.now) writer.old writer.new) }
+{
+    for field in fields {
+        put_numbers(writer, b"fdef", field.number, field.size, field.code)?;
+    }
+    Ok(())
+}
+
+/// Puts the rows of the developer fields of a definition.
+fn put_dev_defs(writer: &mut Writer<Vec<u8>>, fields: &[DevDef]) -> Result<(), AllocError>
+    requires { IsBetweenRows writer.old }
+    ensures { OnOk result (HasAdded (map rows.dev_def_row fields.now) writer.old writer.new) }
+{
+    for field in fields {
+        put_numbers(writer, b"ddef", field.number, field.size, field.index)?;
+    }
+    Ok(())
+}
+
+/// The developer fields of a definition, none where it has no such part.
+pub(crate) fn dev_slice(dev: &Option<Entries<DevDef>>) -> &[DevDef]
+    ensures { result.now ≡ dev_defs dev.now }
+{
+    match dev {
+        Some(fields) => fields.as_slice(),
+        None => &[],
+    }
+}
+
+/// Puts the rows of a definition message.
+pub(crate) fn put_definition(
+    writer: &mut Writer<Vec<u8>>,
+    definition: &MessageDef,
+) -> Result<(), AllocError>
+    requires { IsBetweenRows writer.old }
+    ensures { OnOk result (HasAdded (rows.definition_rows definition.now) writer.old writer.new) }
+{
+    put_def_row(writer, definition)?;
+    put_field_defs(writer, definition.fields.as_slice())?;
+    put_dev_defs(writer, dev_slice(&definition.dev))?;
+    Ok(())
+}

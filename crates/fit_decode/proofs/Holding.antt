@@ -1,0 +1,156 @@
+-- How much a decoder holds, by the bytes that were fed.
+use Rattle.std.proofs.Common.{◌≡◌, ℕ, ◌+◌, ◌-◌, ◌≤◌, List, ◌++◌, length, refl, sym, ap, ◌∙◌, subst, arith, Some, None}
+use Rattle.std.specs.Prelude.{Option}
+use Rattle.fit_base.specs.Numbers.{IsBytes}
+use Rattle.fit_frame.specs.declared.reason.Reason.{Reason}
+use Rattle.fit_frame.specs.Header.{header_bytes}
+use Rattle.fit_record.specs.declared.file.FitFile.{FitFile}
+use Rattle.fit_record.specs.declared.message.Record.{Record}
+use Rattle.fit_record.specs.Environment.{Environment, empty_environment, learn_all}
+use Rattle.fit_record.specs.Records.{records_bytes}
+use Rattle.fit_record.specs.Files.{chain_bytes}
+use Rattle.fit_record.specs.Sizes.{environment_size}
+use Rattle.fit_record.proofs.SixteenPlaces.{sixteen_places}
+use Rattle.fit_step.specs.Machine.{State, start, Walks}
+use Rattle.fit_step.specs.Parts.{part_bytes}
+use Rattle.fit_step.specs.Places.{state_at}
+use Rattle.fit_step.specs.Tests.{tests_of}
+use Rattle.fit_decode.specs.declared.decoder.Decoder.TheInside.{Inside}
+use Rattle.fit_decode.specs.declared.section.Section.{Section}
+use Rattle.fit_decode.specs.declared.section.Section.TheVariants.{Header, Data, ClosingSum}
+use Rattle.fit_decode.specs.Progress.{at_header, at_data, progress_bytes, HasCome}
+use Rattle.fit_decode.specs.Events.{part_size, bound}
+use Rattle.fit_decode.specs.Answers.{Seen, AreChain}
+use Rattle.fit_decode.specs.Held.{IsHeld, bound_limit}
+use Rattle.fit_decode.specs.InProgress.{in_progress_size, IsSmall}
+use Rattle.fit_decode.specs.Kept.{Fields, InHeader, HoldsAt}
+use Rattle.fit_decode.specs.Invariant.{IsKept, fields_of}
+use Rattle.fit_decode.specs.Laws.{BoundsAreLimited}
+use Rattle.fit_decode.proofs.Splits.{IsBytes-front, IsBytes-back}
+use Rattle.fit_decode.proofs.Walked.{come}
+use Rattle.fit_decode.proofs.Ended.{chain_ended}
+use Rattle.fit_decode.proofs.Limits.{AreLimited, all_limited, nothing_limited, environment_limited}
+use Rattle.fit_decode.proofs.InProgress.{part_held, part_small, part_limited}
+
+nothing_known : (A : Type 0) → environment_size {A = A} empty_environment ≡ 0
+nothing_known A = refl
+
+-- ---- the limit
+
+module _ {A : Type 0} (files : List (FitFile A)) (h : Rattle.fit_frame.specs.declared.header.Header.Header) (n : ℕ) (records : List (Record A)) (part bytes : List ℕ)
+    (here : HasCome files (at_data h n records part) bytes) (are : IsBytes bytes) where
+  next_are : IsBytes ((header_bytes h n ++ records_bytes empty_environment records) ++ part)
+  next_are = IsBytes-back (chain_bytes files) (progress_bytes (at_data h n records part)) (subst IsBytes here.spelled are)
+
+  pub part_are : IsBytes part
+  part_are = IsBytes-back (header_bytes h n ++ records_bytes empty_environment records) part next_are
+
+  pub records_limited : AreLimited (learn_all empty_environment records)
+  records_limited =
+      all_limited empty_environment records here.next.1
+      (IsBytes-back (header_bytes h n) (records_bytes empty_environment records) (IsBytes-front (header_bytes h n ++ records_bytes empty_environment records) part next_are)) (nothing_limited A)
+
+  limited_data : bound (at_data h n records part) ≤ bound_limit
+  limited_data = omega (arith, environment_limited (learn_all empty_environment records) (sixteen_places records) records_limited, part_limited (learn_all empty_environment records) part records_limited part_are)
+
+pub limited_bound : {A : Type 0} → BoundsAreLimited A
+limited_bound files (at_header front) bytes here are = omega arith
+limited_bound files (at_data h n records part) bytes here are = limited_data files h n records part bytes here are
+
+-- ---- by the fields
+
+module _ {A : Type 0} (d : Fields A) (bytes : List ℕ) (are : IsBytes bytes) where
+  nothing_held : d.env ≡ empty_environment → d.in_progress ≡ None → environment_size d.env + in_progress_size d.in_progress ≡ 0
+  nothing_held known idle = omega (arith, ap environment_size known ∙ nothing_known A, ap in_progress_size idle)
+
+  held_at : (s : Section) → HoldsAt s d bytes → IsHeld A bytes (environment_size d.env + in_progress_size d.in_progress)
+  held_at Header k =
+      let none = nothing_held k.known k.idle in
+      record { files = k.files; progress = at_header d.sum; come = k.come; within = omega (arith, none); all = λ _. none }
+  held_at Data k =
+      let e : Environment A = learn_all empty_environment k.records in
+      let room : ℕ = k.size - length (records_bytes empty_environment k.records) in
+      let now : State A = state_at d.position d.in_progress in
+      let place = come d.env room k.part now k.walk (part_are k.files k.header k.size k.records k.part bytes k.come are) in
+      let held = part_held d.env now.room place.of place.is_part in
+      let same : in_progress_size d.in_progress ≤ part_size d.env k.part =
+      subst (λ l. in_progress_size d.in_progress ≤ part_size d.env l) place.spelled (subst (λ (t : State A). in_progress_size t.in_progress ≤ part_size d.env (part_bytes d.env place.of)) (sym place.is) held) in
+      let known = ap environment_size k.known in
+      let at_part = ap (λ f. part_size f k.part) k.known in
+      record {
+        files = k.files;
+        progress = at_data k.header k.size k.records k.part;
+        come = k.come;
+        within = omega (arith, known, at_part, same);
+        all = λ idle.
+            let begins : start room ≡ now = subst (λ l. Walks d.env (tests_of d.env) (start room) l now) idle k.walk in
+            let none : in_progress_size d.in_progress ≡ 0 = ap (λ (t : State A). in_progress_size t.in_progress) (sym begins) in
+            let no_part : part_size e k.part ≡ 0 = ap (part_size e) idle in
+            omega (arith, known, none, no_part);
+      }
+  held_at ClosingSum k =
+      let known = ap environment_size k.known in
+      let none : in_progress_size d.in_progress ≡ 0 = ap in_progress_size k.idle in
+      record {
+        files = k.files;
+        progress = at_data k.header k.size k.records _;
+        come = k.come;
+        within = omega (arith, known, none);
+        all = λ idle. let no_part = ap (part_size (learn_all empty_environment k.records)) idle in omega (arith, known, none, no_part);
+      }
+
+  small_at : (s : Section) → HoldsAt s d bytes → IsSmall d.in_progress
+  small_at Header k = subst IsSmall (sym k.idle) tt
+  small_at ClosingSum k = subst IsSmall (sym k.idle) tt
+  small_at Data k =
+      let now : State A = state_at d.position d.in_progress in
+      let part = part_are k.files k.header k.size k.records k.part bytes k.come are in
+      let place = come d.env (k.size - length (records_bytes empty_environment k.records)) k.part now k.walk part in
+      let limited : AreLimited d.env = subst AreLimited (sym k.known) (records_limited k.files k.header k.size k.records k.part bytes k.come are) in
+      let few = subst (λ l. part_size d.env l ≤ 130560) (sym place.spelled) (part_limited d.env k.part limited part) in
+      subst (λ (t : State A). IsSmall t.in_progress) (sym place.is) (part_small d.env now.room place.of place.is_part few)
+
+-- ---- what a caller sees
+
+pub small_seen : {A : Type 0} (d : Inside A) → IsKept d → IsSmall d.in_progress
+small_seen {A} d k = go d.refusal refl
+  where
+    go : (o : Option Reason) → d.refusal ≡ o → IsSmall d.in_progress
+    go None is = small_at (fields_of d) d.history.items k.are d.section (k.holds is)
+    go (Some reason) is = subst IsSmall (sym (k.let_go reason is).1) tt
+
+module _ {A : Type 0} (d : Inside A) (k : IsKept d) (n m : ℕ) (env : n ≡ environment_size d.env) (in_progress : m ≡ in_progress_size d.in_progress) where
+  fresh_held : d.refusal ≡ None → IsHeld A d.history.items (n + m)
+  fresh_held none =
+      let count : environment_size d.env + in_progress_size d.in_progress ≡ n + m = omega (arith, env, in_progress) in
+      subst (IsHeld A d.history.items) count (held_at (fields_of d) d.history.items k.are d.section (k.holds none))
+
+  let_go : (reason : Reason) → d.refusal ≡ Some reason → n + m ≡ 0
+  let_go reason is = let gone = k.let_go reason is in omega (arith, env, in_progress, nothing_held (fields_of d) d.history.items k.are gone.0 gone.1)
+
+  pub limited_seen : n + m ≤ bound_limit
+  limited_seen = go d.refusal refl
+    where
+      go : (o : Option Reason) → d.refusal ≡ o → n + m ≤ bound_limit
+      go None is = let h = fresh_held is in omega (arith, h.within, limited_bound h.files h.progress d.history.items h.come k.are)
+      go (Some reason) is = omega (arith, let_go reason is)
+
+  module _ (old : Seen) (seen : record { bytes = d.history.items; refusal = d.refusal } ≡ old) where
+    pub held_seen : old.refusal ≡ None → IsHeld A old.bytes (n + m)
+    held_seen fresh = subst (λ b. IsHeld A b (n + m)) (ap (λ (s : Seen). s.bytes) seen) (fresh_held (ap (λ (s : Seen). s.refusal) seen ∙ fresh))
+
+    pub let_go_seen : (reason : Reason) → old.refusal ≡ Some reason → n + m ≡ 0
+    let_go_seen reason is = let_go reason (ap (λ (s : Seen). s.refusal) seen ∙ is)
+
+    pub ended_seen : AreChain A old.bytes → n + m ≡ 0
+    ended_seen chain = go d.refusal refl
+      where
+        at_end : d.refusal ≡ None → n + m ≡ 0
+        at_end none =
+            let ended = chain_ended (fields_of d) d.history.items (k.holds none) (subst (AreChain A) (sym (ap (λ (s : Seen). s.bytes) seen)) chain) in
+            let h : InHeader (fields_of d) d.history.items = subst (λ s. HoldsAt s (fields_of d) d.history.items) ended.0 (k.holds none) in
+            omega (arith, env, in_progress, nothing_held (fields_of d) d.history.items k.are h.known h.idle)
+
+        go : (o : Option Reason) → d.refusal ≡ o → n + m ≡ 0
+        go None is = at_end is
+        go (Some reason) is = let_go reason is

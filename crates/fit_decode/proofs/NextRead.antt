@@ -1,0 +1,149 @@
+-- What the reading of the next file of a chain tells.
+use Rattle.std.proofs.Common.{◌≡◌, Bool, true, false, ℕ, ◌+◌, List, [], ◌∷◌, ◌++◌, length, Option, Some, None, Result, Ok, Err, refl, sym, ap, ◌∙◌, subst, arith}
+use Rattle.std.specs.Io.KnownBytes.{Consumes, Keeps, IsAtEnd}
+use Rattle.std.proofs.lemmas.List.{append-nil, append_cancel_left}
+use Rattle.fit_base.specs.Numbers.{IsBytes}
+use Rattle.fit_record.specs.declared.file.FitFile.{FitFile}
+use Rattle.fit_record.specs.Files.{IsFile, IsChain, IsViable, chain_bytes, chain_limit}
+use Rattle.fit_decode.specs.declared.event.Fault.{Fault}
+use Rattle.fit_decode.specs.declared.event.Fault.TheVariants.{Refused, Truncated, NoMemory, Read}
+use Rattle.fit_decode.specs.Answers.{Seen, AreChain}
+use Rattle.fit_decode.specs.Between.{IsBehind, IsEnd}
+use Rattle.fit_decode.specs.Progress.{at_header, HasCome}
+use Rattle.fit_decode.specs.Reads.{EndsReading, GivesFile, GivesNext}
+use Rattle.fit_decode.specs.Turns.{ComesTo, Ended, FaultIn, FileTold, FileRead, unrefused}
+use Rattle.fit_decode.proofs.FileGiven.{given, next_bytes}
+use Rattle.fit_decode.proofs.FileRead.{no_file_yet, nothing_viable}
+use Rattle.fit_decode.proofs.OnePlace.{one_place}
+use Rattle.fit_decode.proofs.Whole.{unfinished}
+
+-- a chain is its files, and nothing of a next one
+pub chain_comes : {A : Type 0} (limit : ℕ) (fs : List (FitFile A)) (bytes : List ℕ) → IsChain limit fs bytes → HasCome fs (at_header []) bytes
+chain_comes {A} limit fs bytes chain = record {
+  files = chain.0.each;
+  next = unfinished A [] (λ h n rest fits is. cc);
+  spelled = chain.1 ∙ sym (append-nil (chain_bytes fs));
+}
+
+module _ {A : Type 0} (files : List (FitFile A)) (before : Seen) (count : ℕ) (old taken : List ℕ) (had has : Option (List ℕ)) (failed : Bool) (new : Seen) (now : ℕ)
+    (behind : IsBehind files before count old) (counted : now + length old ≡ count + length taken) (viable : IsViable A chain_limit new.bytes) where
+  module _ (result : Result (FitFile A) Fault) (r : FileRead files before.bytes old taken had has failed new result) where
+    -- the bytes fed before are those taken before
+    joined : before.bytes ++ r.got ≡ taken
+    joined = ap (λ (v : Seen). v.bytes ++ r.got) behind.fed ∙ sym r.noted
+
+    counts : now ≡ length taken
+    counts = omega (arith, counted, behind.counted)
+
+    told : FileTold files taken has failed new result
+    told = subst (λ t. FileTold files t has failed new result) joined r.told
+
+  -- ---- the next file
+
+  pub next_file : (f : FitFile A) (r : FileRead files before.bytes old taken had has failed new (Ok f)) → IsFile f r.got
+  next_file f r = next_bytes files old behind.come f r.got (subst (Ended files f) r.noted (told (Ok f) r).1)
+
+  pub behind_file : (f : FitFile A) → FileRead files before.bytes old taken had has failed new (Ok f) → IsBehind (files ++ f ∷ []) new now taken
+  behind_file f r =
+      let is = told (Ok f) r in
+      record {
+        fed = is.0;
+        counted = counts (Ok f) r;
+        viable = subst (λ (v : Seen). IsViable A chain_limit v.bytes) is.0 viable;
+        come = is.1;
+      }
+
+  -- ---- a fault
+
+  fault_told : (fault : Fault) → FaultIn files taken has failed new fault → IsEnd A new fault false → EndsReading A chain_limit (AreChain A) taken has failed fault
+  fault_told (Refused place reason) (within, near, comes, why) open_ = (within, near, why)
+  fault_told (Truncated place) (is, end, comes, after) open_ = (
+    is,
+    end,
+    subst (λ (v : Seen). IsViable A chain_limit v.bytes) after viable,
+    λ whole. let no : false ≡ true = open_.1 (ap (λ (v : Seen). v.refusal) after, subst (AreChain A) (sym (ap (λ (v : Seen). v.bytes) after)) whole) in cc,
+  )
+  fault_told (NoMemory used) is open_ = is
+  fault_told (Read place) (is, bad, comes, after) open_ = (is, bad, subst (λ (v : Seen). IsViable A chain_limit v.bytes) after viable)
+
+  pub next_fault : (fault : Fault) → FileRead files before.bytes old taken had has failed new (Err fault) → IsEnd A new fault false → EndsReading A chain_limit (AreChain A) taken has failed fault
+  next_fault fault r open_ = fault_told fault (told (Err fault) r) open_
+
+  -- ---- the end of the input, behind a whole chain
+
+  nothing_taken : (got : List ℕ) → ComesTo files (old ++ got) → AreChain A (old ++ got) → got ≡ []
+  nothing_taken got comes whole =
+      let one = one_place files whole.0 comes.0 (at_header []) (old ++ got) comes.1 (chain_comes chain_limit whole.0 (old ++ got) whole.1) in
+      let first : old ≡ chain_bytes files = behind.come.spelled ∙ append-nil (chain_bytes files) in
+      let all : old ++ got ≡ chain_bytes files = whole.1.1 ∙ ap chain_bytes (sym one.0) in
+      append_cancel_left old got [] (all ∙ sym first ∙ sym (append-nil old))
+
+  -- nothing more was taken, and the files are a chain
+  pub record AtEnd : Type 0 where
+    pub end : IsAtEnd has
+    pub same : taken ≡ old
+    pub kept : Consumes had has []
+    pub whole : IsChain chain_limit files old
+    pub still : IsBehind files new now taken
+
+  pub next_end : (fault : Fault) → FileRead files before.bytes old taken had has failed new (Err fault) → IsEnd A new fault true → AtEnd
+  next_end (Refused place reason) r end = absurd cc
+  next_end (NoMemory used) r end = absurd cc
+  next_end (Read place) r end = absurd cc
+  next_end (Truncated place) r end =
+      let is = told (Err (Truncated place)) r in
+      let chain : AreChain A taken = subst (λ (v : Seen). AreChain A v.bytes) is.3 (end.0 refl).1 in
+      let none : r.got ≡ [] = nothing_taken r.got (subst (ComesTo files) r.noted is.2) (subst (AreChain A) r.noted chain) in
+      let same : taken ≡ old = r.noted ∙ ap (λ t. old ++ t) none ∙ append-nil old in
+      let one = one_place files chain.0 (at_header []) (at_header []) taken (subst (HasCome files (at_header [])) (sym same) behind.come) (chain_comes chain_limit chain.0 taken chain.1) in
+      record {
+        end = is.1;
+        same = same;
+        kept = subst (Consumes had has) none r.eats;
+        whole = subst (λ fs. IsChain chain_limit fs old) (sym one.0) (subst (IsChain chain_limit chain.0) same chain.1);
+        still = record {
+          fed = is.3;
+          counted = counts (Err (Truncated place)) r;
+          viable = subst (λ (v : Seen). IsViable A chain_limit v.bytes) is.3 viable;
+          come = subst (HasCome files (at_header [])) (sym same) behind.come;
+        };
+      }
+
+  -- ---- where a file's bytes begin what is left
+
+  pub next_given : (f : FitFile A) (b x : List ℕ) (gs : List (FitFile A)) (result : Result (FitFile A) Fault) → had ≡ Some (b ++ x) → IsBytes b → IsFile f b → IsChain chain_limit gs (old ++ b)
+      → FileRead files before.bytes old taken had has failed new result → GivesFile f (length (old ++ b)) x has failed result
+  next_given f b x gs result input are file chain r =
+      given files old behind.come f b x are file (gs, chain) r.got has failed new result (subst (λ h. Consumes h has r.got) input r.eats)
+      (subst (λ t. FileTold files t has failed new result) r.noted (told result r))
+
+-- where the reading ended behind a whole chain, no file is given
+pub end_not_given : {A : Type 0} (f : FitFile A) (n : ℕ) (x : List ℕ) (has : Option (List ℕ)) (failed : Bool) (new : Seen) (fault : Fault) → IsEnd A new fault true → GivesFile f n x has failed (Err fault) → ⊥
+end_not_given f n x has failed new (Refused place reason) end never = never
+end_not_given f n x has failed new (Truncated place) end never = never
+end_not_given f n x has failed new (NoMemory used) end gives = absurd cc
+end_not_given f n x has failed new (Read place) end gives = absurd cc
+
+pub fault_given : {A : Type 0} (f : FitFile A) (n : ℕ) (x : List ℕ) (has : Option (List ℕ)) (failed : Bool) (fault : Fault) → GivesFile f n x has failed (Err fault) → GivesNext f x has failed (Err fault)
+fault_given f n x has failed (Refused place reason) never = never
+fault_given f n x has failed (Truncated place) never = never
+fault_given f n x has failed (NoMemory used) gives = tt
+fault_given f n x has failed (Read place) gives = gives.0
+
+pub keeps : (a b : Option (List ℕ)) → Consumes a b [] → Keeps a b
+keeps None b h = tt
+keeps (Some x) None h = absurd h
+keeps (Some x) (Some y) h = sym h
+
+-- the decoder has come behind the files
+pub comes_behind : {A : Type 0} (files : List (FitFile A)) (decoder : Seen) (count : ℕ) (taken : List ℕ) → IsBehind files decoder count taken → HasCome files (at_header []) decoder.bytes
+comes_behind files decoder count taken behind = subst (λ (v : Seen). HasCome files (at_header []) v.bytes) (sym behind.fed) behind.come
+
+-- no file yet
+pub behind_none : (A : Type 0) (decoder : Seen) (taken : List ℕ) → decoder ≡ unrefused [] → taken ≡ [] → IsBehind {A = A} [] decoder 0 taken
+behind_none A decoder taken fed none = record {
+  fed = fed ∙ ap unrefused (sym none);
+  counted = ap length (sym none);
+  viable = subst (IsViable A chain_limit) (sym none) (nothing_viable A);
+  come = subst (HasCome {A = A} [] (at_header [])) (sym none) (no_file_yet A);
+}

@@ -1,0 +1,61 @@
+-- A turn of a reader: a piece taken and fed.
+use Rattle.std.proofs.Common.{◌≡◌, Bool, true, false, ℕ, ◌<◌, ◌≤◌, List, [], ◌++◌, length, take, get_or, Option, None, Result, Ok, Err, sym, ap, ◌∙◌, subst, arith, length-append}
+use Rattle.std.specs.Io.KnownBytes.{IsAtEnd}
+use Rattle.std.proofs.lemmas.List.{append-nil, length-take, get_or-append-add}
+use Rattle.std.proofs.Math.Seq.{take-length, take-append-add}
+use Rattle.fit_frame.specs.declared.header.Header.{Header}
+use Rattle.fit_record.specs.declared.file.FitFile.{FitFile}
+use Rattle.fit_record.specs.declared.message.Record.{Record}
+use Rattle.fit_record.specs.Files.{chain_limit}
+use Rattle.fit_decode.specs.declared.event.Fault.{Fault}
+use Rattle.fit_decode.specs.declared.event.Fault.TheVariants.{Refused, Truncated, NoMemory, Read}
+use Rattle.fit_decode.specs.Answers.{Seen}
+use Rattle.fit_decode.specs.Refusals.{IsRefused}
+use Rattle.fit_decode.specs.Turns.{Stands, ComesTo, Ended, PieceFed, TurnTold, NoSooner, unrefused}
+
+-- what feeding the piece told is what the turn told
+pub turn_of : {A : Type 0} (files : List (FitFile A)) (bytes piece : List ℕ) (n : ℕ) (has : Option (List ℕ)) (failed : Bool) (new : Seen) (head : Option Header) (records : List (Record A)) (result : Result Bool Fault)
+    → NoSooner files bytes n → length piece ≤ n → 0 < length piece → length piece ≤ 4096
+    → PieceFed files bytes piece new head records result → TurnTold files bytes piece has failed new head records result
+turn_of files bytes piece n has failed new head records (Ok false) least short some small (after, stands) = (some, after, stands)
+turn_of files bytes piece n has failed new head records (Ok true) least short some small (k, within, after, h, is, ended) =
+    let long = least (record { header = h; records = records }) (take k piece) ended in
+    let k_is : k ≡ length piece = omega (arith, long, within, short, length-take k piece) in
+    let all : take k piece ≡ piece = ap (λ m. take m piece) k_is ∙ take-length piece in (
+      after ∙ ap (λ t. unrefused (bytes ++ t)) all,
+      h,
+      is,
+      subst (λ t. Ended files (record { header = h; records = records }) (bytes ++ t)) all ended,
+    )
+turn_of {A} files bytes piece n has failed new head records (Err (Refused place reason)) least short some small (k, within, is, comes, why) =
+    let front : take place (bytes ++ piece) ≡ bytes ++ take k piece = ap (λ m. take m (bytes ++ piece)) is ∙ take-append-add bytes piece k in
+    let byte : get_or (bytes ++ piece) place 0 ≡ get_or piece k 0 = ap (λ m. get_or (bytes ++ piece) m 0) is ∙ get_or-append-add bytes piece k 0 in (
+      omega (arith, is, within, length-append bytes piece),
+      omega (arith, is, small, length-append bytes piece),
+      subst (ComesTo files) (sym front) comes,
+      subst (λ b. IsRefused A chain_limit (take place (bytes ++ piece)) b reason) (sym byte) (subst (λ t. IsRefused A chain_limit t (get_or piece k 0) reason) (sym front) why),
+    )
+turn_of files bytes piece n has failed new head records (Err (NoMemory used)) least short some small is = omega (arith, is, length-append bytes piece)
+turn_of files bytes piece n has failed new head records (Err (Truncated place)) least short some small never = absurd never
+turn_of files bytes piece n has failed new head records (Err (Read place)) least short some small never = absurd never
+
+-- nothing more was taken
+module _ {A : Type 0} (files : List (FitFile A)) (head : Option Header) (records : List (Record A)) (old : Seen) (place : ℕ) (has : Option (List ℕ)) (failed : Bool)
+    (counted : place ≡ length old.bytes) (fresh : old.refusal ≡ None) (s : Stands files head records old.bytes) where
+  nothing : old.bytes ++ [] ≡ old.bytes
+  nothing = append-nil old.bytes
+
+  comes : ComesTo files (old.bytes ++ [])
+  comes = subst (ComesTo files) (sym nothing) (s.progress, s.come)
+
+  same : old ≡ unrefused (old.bytes ++ [])
+  same = (λ i. record { bytes = old.bytes; refusal = fresh i }) ∙ ap unrefused (sym nothing)
+
+  counts : place ≡ length (old.bytes ++ [])
+  counts = counted ∙ ap length (sym nothing)
+
+  pub turn_ends : IsAtEnd has → TurnTold files old.bytes [] has failed old head records (Err (Truncated place))
+  turn_ends end = (counts, end, comes, same)
+
+  pub turn_fails : failed ≡ true → TurnTold files old.bytes [] has failed old head records (Err (Read place))
+  turn_fails bad = (counts, bad, comes, same)

@@ -1,0 +1,14 @@
+use Rattle.std.proofs.Common.{◌-◌, length}
+use Rattle.std.specs.Io.KnownBytes.{Consumes}
+use Rattle.fit_decode.specs.Between.{IsBehind}
+use Rattle.fit_decode.proofs.readers.chain.read_chain.Given as goal
+
+-- the files so far, and the bytes taken for them
+abbrev pub invariant-files : goal.invariant-files
+invariant-files g l = record {
+  behind : IsBehind l.files.items l.decoder l.count l.taken.items;
+  eats : Consumes (g.S.Source.remaining l.initial.source) (g.S.Source.remaining l.source) l.taken.items;
+}
+
+abbrev pub decreases-files : goal.decreases-files
+decreases-files g l = 144115188075855872 - length l.taken.items

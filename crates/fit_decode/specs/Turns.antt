@@ -1,0 +1,94 @@
+-- What the parts of a reader do. No public contract names these.
+use Rattle.std.specs.Prelude.{◌≡◌, ℕ, ◌+◌, ◌<◌, ◌≤◌, Bool, true, false, List, [], ◌∷◌, ◌++◌, Option, Some, None, Result, Ok, Err, take, length, slice_index}
+use Rattle.std.specs.Io.KnownBytes.{Consumes, IsAtEnd}
+use Rattle.fit_frame.specs.declared.header.Header.{Header}
+use Rattle.fit_record.specs.declared.file.FitFile.{FitFile}
+use Rattle.fit_record.specs.declared.message.Record.{Record}
+use Rattle.fit_record.specs.Files.{chain_limit}
+use Rattle.fit_decode.specs.declared.event.Fault.{Fault}
+use Rattle.fit_decode.specs.declared.event.Fault.TheVariants.{Refused, Truncated, NoMemory, Read}
+use Rattle.fit_decode.specs.Progress.{Progress, at_header, at_data, HasCome}
+use Rattle.fit_decode.specs.Answers.{Seen}
+use Rattle.fit_decode.specs.Refusals.{IsRefused}
+
+abbrev pub progress_header : {A : Type 0} → Progress A → Option Header
+progress_header (at_header front) = None
+progress_header (at_data h n records part) = Some h
+
+abbrev pub progress_records : {A : Type 0} → Progress A → List (Record A)
+progress_records (at_header front) = []
+progress_records (at_data h n records part) = records
+
+-- The bytes are those of the files and of some of the next one, of which the header, if it is whole, and the whole records are these.
+pub record Stands {A : Type 0} (files : List (FitFile A)) (head : Option Header) (records : List (Record A)) (bytes : List ℕ) : Type 0 where
+  pub progress : Progress A
+  pub come : HasCome files progress bytes
+  pub head_is : progress_header progress ≡ head
+  pub records_are : progress_records progress ≡ records
+
+-- The bytes are those of the files and of some of the next one.
+abbrev pub ComesTo : {A : Type 0} → List (FitFile A) → List ℕ → Type 0
+ComesTo {A} files bytes = (g : Progress A) × HasCome files g bytes
+
+-- The bytes are those of the files and of one file more.
+abbrev pub Ended : {A : Type 0} → List (FitFile A) → FitFile A → List ℕ → Type 0
+Ended files f bytes = HasCome (files ++ f ∷ []) (at_header []) bytes
+
+-- No file ends with fewer bytes behind these.
+abbrev pub NoSooner : {A : Type 0} → List (FitFile A) → List ℕ → ℕ → Type 0
+NoSooner {A} files bytes n = (f : FitFile A) (more : List ℕ) → Ended files f (bytes ++ more) → n ≤ length more
+
+-- A decoder that was fed these bytes, none of which was refused.
+abbrev pub unrefused : List ℕ → Seen
+unrefused bytes = record { bytes = bytes; refusal = None }
+
+-- What a piece fed behind the bytes told: no end of a file; or the end of one, with so many of its bytes; or a fault.
+abbrev pub PieceFed : {A : Type 0} → List (FitFile A) → List ℕ → List ℕ → Seen → Option Header → List (Record A) → Result Bool Fault → Type 0
+PieceFed files bytes piece new head records (Ok false) = (new ≡ unrefused (bytes ++ piece)) × Stands files head records (bytes ++ piece)
+PieceFed files bytes piece new head records (Ok true) =
+    (k : ℕ) × (k ≤ length piece) × (new ≡ unrefused (bytes ++ take k piece))
+    × (h : Header) × (head ≡ Some h) × Ended files (record { header = h; records = records }) (bytes ++ take k piece)
+PieceFed {A} files bytes piece new head records (Err (Refused place reason)) =
+    (k : ℕ) × (k < length piece) × (place ≡ length bytes + k) × ComesTo files (bytes ++ take k piece)
+    × IsRefused A chain_limit (bytes ++ take k piece) (slice_index piece k) reason
+PieceFed files bytes piece new head records (Err (NoMemory used)) = used ≡ length bytes + length piece
+PieceFed files bytes piece new head records (Err fault) = ⊥
+
+-- The fault that ended the reading of the file behind these files, after all these bytes.
+abbrev pub FaultIn : {A : Type 0} → List (FitFile A) → List ℕ → Option (List ℕ) → Bool → Seen → Fault → Type 0
+FaultIn {A} files taken has failed new (Refused place reason) =
+    (place < length taken) × (length taken ≤ place + 4096) × ComesTo files (take place taken) × IsRefused A chain_limit (take place taken) (slice_index taken place) reason
+FaultIn files taken has failed new (Truncated place) = (place ≡ length taken) × IsAtEnd has × ComesTo files taken × (new ≡ unrefused taken)
+FaultIn files taken has failed new (NoMemory used) = used ≡ length taken
+FaultIn files taken has failed new (Read place) = (place ≡ length taken) × (failed ≡ true) × ComesTo files taken × (new ≡ unrefused taken)
+
+-- What the taking and feeding of one piece, got, told.
+abbrev pub TurnTold : {A : Type 0} → List (FitFile A) → List ℕ → List ℕ → Option (List ℕ) → Bool → Seen → Option Header → List (Record A) → Result Bool Fault → Type 0
+TurnTold files bytes got has failed new head records (Ok false) = (0 < length got) × (new ≡ unrefused (bytes ++ got)) × Stands files head records (bytes ++ got)
+TurnTold files bytes got has failed new head records (Ok true) =
+    (new ≡ unrefused (bytes ++ got)) × (h : Header) × (head ≡ Some h) × Ended files (record { header = h; records = records }) (bytes ++ got)
+TurnTold files bytes got has failed new head records (Err fault) = FaultIn files (bytes ++ got) has failed new fault
+
+pub record Turned {A : Type 0} (files : List (FitFile A)) (bytes old taken : List ℕ) (had has : Option (List ℕ)) (failed : Bool) (new : Seen) (head : Option Header) (records : List (Record A)) (result : Result Bool Fault) : Type 0 where
+  pub got : List ℕ
+  pub noted : taken ≡ old ++ got
+  pub eats : Consumes had has got
+  pub told : TurnTold files bytes got has failed new head records result
+
+-- What the reading of one file told.
+abbrev pub FileTold : {A : Type 0} → List (FitFile A) → List ℕ → Option (List ℕ) → Bool → Seen → Result (FitFile A) Fault → Type 0
+FileTold files taken has failed new (Ok f) = (new ≡ unrefused taken) × Ended files f taken
+FileTold files taken has failed new (Err fault) = FaultIn files taken has failed new fault
+
+pub record FileRead {A : Type 0} (files : List (FitFile A)) (bytes old taken : List ℕ) (had has : Option (List ℕ)) (failed : Bool) (new : Seen) (result : Result (FitFile A) Fault) : Type 0 where
+  pub got : List ℕ
+  pub noted : taken ≡ old ++ got
+  pub eats : Consumes had has got
+  pub told : FileTold files (bytes ++ got) has failed new result
+
+-- What was taken of a file that isn't over, and fed.
+pub record Eaten (bytes old taken : List ℕ) (had has : Option (List ℕ)) (now : Seen) : Type 0 where
+  pub got : List ℕ
+  pub noted : taken ≡ old ++ got
+  pub eats : Consumes had has got
+  pub fed : now ≡ unrefused (bytes ++ got)

@@ -1,0 +1,45 @@
+//! Reads all files of a source.
+ghost use Rattle.std.specs.Prelude.{◌≡◌, ℕ, List, Some};
+ghost use Rattle.std.specs.declared.alloc.Global.{Global};
+ghost use Rattle.fit_base.specs.Numbers.{IsBytes};
+ghost use Rattle.fit_record.specs.declared.file.FitFile.{FitFile};
+ghost use Rattle.fit_record.specs.Files.{chain_limit, IsChain};
+ghost use Rattle.fit_decode.specs.Reads.{GivesChain, ReadsChain};
+
+use crate::readers::file::{is_end, read_file};
+use crate::{Decoder, Fault, Source};
+use fit_history::History;
+use fit_record::FitFile;
+use std::alloc::Global;
+
+/// Reads a chain of files, to the end of the source. It takes pieces of at most 4,096 bytes.
+///
+/// `Refused` names the first byte with which no chain begins, and why; from there on at most 4,096 bytes were taken.
+/// `Truncated` names the end of a source that ends inside a file, or before the first, and `Read` the place where it
+/// failed. With `NoMemory`, `used` is the number of bytes taken.
+pub fn read_chain<S: Source>(alloc: Global, source: &mut S) -> Result<Vec<FitFile>, Fault>
+    // Where the input is a chain's bytes, its files are answered.
+    ensures chain { (fs : List (FitFile Global)) (b : List ℕ) → S.remaining source.old ≡ Some b → IsBytes b → IsChain chain_limit fs b
+        → GivesChain fs (S.has_failed source.new) result }
+    ensures exact { ReadsChain (S.remaining source.old) (S.remaining source.new) (S.has_failed source.new) result }
+{
+    let mut decoder = Decoder::new(alloc);
+    let mut count = 0;
+    let mut taken = History::new();
+    let mut files = Vec::new(alloc);
+    'files: loop {
+        match read_file(alloc, &mut decoder, &mut count, &mut taken, source) {
+            Ok(file) => {
+                if files.push(file).is_err() {
+                    return Err(Fault::NoMemory { used: count });
+                }
+            }
+            Err(fault) => {
+                if is_end(&decoder, fault) {
+                    return Ok(files);
+                }
+                return Err(fault);
+            }
+        }
+    }
+}

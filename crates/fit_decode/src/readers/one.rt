@@ -1,0 +1,30 @@
+//! Reads one file from a source.
+ghost use Rattle.std.specs.Prelude.{◌≡◌, ℕ, List, ◌++◌, length, Some};
+ghost use Rattle.std.specs.declared.alloc.Global.{Global};
+ghost use Rattle.fit_base.specs.Numbers.{IsBytes};
+ghost use Rattle.fit_record.specs.declared.file.FitFile.{FitFile};
+ghost use Rattle.fit_record.specs.Files.{IsFile};
+ghost use Rattle.fit_decode.specs.Reads.{GivesFile, ReadsOne};
+
+use crate::readers::file::read_file;
+use crate::{Decoder, Fault, Source};
+use fit_history::History;
+use fit_record::FitFile;
+use std::alloc::Global;
+
+/// Reads one file, and leaves the bytes behind it. It takes pieces of at most 4,096 bytes.
+///
+/// `Refused` names the first byte with which no file begins, and why; from there on at most 4,096 bytes were taken.
+/// `Truncated` names the end of a source that ends before a file does, and `Read` the place where it failed. With
+/// `NoMemory`, `used` is the number of bytes taken.
+pub fn read_one<S: Source>(alloc: Global, source: &mut S) -> Result<FitFile, Fault>
+    // Where a file's bytes begin the input, that file is answered, and the bytes behind it are left.
+    ensures file { (f : FitFile Global) (b x : List ℕ) → S.remaining source.old ≡ Some (b ++ x) → IsBytes b → IsFile f b
+        → GivesFile f (length b) x (S.remaining source.new) (S.has_failed source.new) result }
+    ensures exact { ReadsOne (S.remaining source.old) (S.remaining source.new) (S.has_failed source.new) result }
+{
+    let mut decoder = Decoder::new(alloc);
+    let mut count = 0;
+    let mut taken = History::new();
+    read_file(alloc, &mut decoder, &mut count, &mut taken, source)
+}

@@ -1,0 +1,86 @@
+//! Reads the files of a chain from a source, one after another.
+ghost use Rattle.std.specs.Prelude.{◌≡◌, ℕ, [], ◌∷◌, List, ◌++◌, None, Some, Err};
+ghost use Rattle.fit_decode.specs.declared.event.Fault.{Fault};
+ghost use Rattle.fit_base.specs.Numbers.{IsBytes};
+ghost use Rattle.fit_record.specs.declared.file.FitFile.{FitFile};
+ghost use Rattle.fit_record.specs.Files.{chain_limit, IsChain, IsFile};
+ghost use Rattle.fit_decode.specs.Reads.{GivesNext, ReadsNext};
+
+use crate::readers::file::{is_end, read_file};
+use crate::{Decoder, Fault, Source};
+use fit_history::History;
+use fit_record::FitFile;
+use std::alloc::{Allocator, Global};
+use std::marker::Model;
+
+/// Reads a chain from a source, file by file. It takes pieces of at most 4,096 bytes, and none behind the file that it answers.
+///
+/// Clauses see the source, the bytes taken since `new`, and the fault if there was one.
+#[derive(Drop)]
+pub struct Reading<S: Source, A: Allocator + Copy = Global> {
+    alloc: A,
+    source: S,
+    count: u64,
+    decoder: Decoder<A>,
+    fault: Option<Fault>,
+    taken: History<u8>,
+}
+
+impl<S: Source, A: Allocator + Copy> Model for Reading<S, A> {
+    ghost use Rattle.fit_decode.specs.Reads.{Past};
+    ghost use Rattle.fit_decode.specs.Between.{IsReading};
+
+    ghost Value = { Past S };
+
+    ghost view = { λ r. record { source = r.source; taken = r.taken.items; fault = r.fault } };
+
+    ghost invariant = { λ r. IsReading A r.fault r.decoder r.count r.taken.items };
+}
+
+impl<S: Source, A: Allocator + Copy> Reading<S, A> {
+    /// No byte is taken yet.
+    pub fn new(alloc: A, source: S) -> Self
+        ensures { result ≡ record { source = source; taken = []; fault = None } }
+    {
+        Reading {
+            alloc,
+            source,
+            count: 0,
+            decoder: Decoder::new(alloc),
+            fault: None,
+            taken: History::new(),
+        }
+    }
+
+    /// The next file, or `None` where the source ends behind at least one. After a fault each call answers it again.
+    ///
+    /// Places count from the start of the chain. With `NoMemory`, `used` is the number of bytes taken since `new`.
+    pub fn next(&mut self) -> Result<Option<FitFile<A>>, Fault>
+        // After a fault each call answers it again.
+        ensures latched { (fault : Fault) → self.old.fault ≡ Some fault → (result ≡ Err fault) × (self.new ≡ self.old) }
+        ensures exact { self.old.fault ≡ None → ReadsNext self.old.taken (S.remaining self.old.source) self.new.taken (S.remaining self.new.source) (S.has_failed self.new.source) self.new.fault result }
+        // Where a file's bytes begin what is left, and with the bytes taken make a chain, that file is answered, and the bytes behind it are left.
+        ensures file { self.old.fault ≡ None → (fs : List (FitFile A)) (f : FitFile A) (b x : List ℕ) → S.remaining self.old.source ≡ Some (b ++ x) → IsBytes b → IsFile f b
+            → IsChain chain_limit (fs ++ f ∷ []) (self.old.taken ++ b) → GivesNext f x (S.remaining self.new.source) (S.has_failed self.new.source) result }
+    {
+        if let Some(fault) = self.fault {
+            return Err(fault);
+        }
+        match read_file(
+            self.alloc,
+            &mut self.decoder,
+            &mut self.count,
+            &mut self.taken,
+            &mut self.source,
+        ) {
+            Ok(file) => Ok(Some(file)),
+            Err(fault) => {
+                if is_end(&self.decoder, fault) {
+                    return Ok(None);
+                }
+                self.fault = Some(fault);
+                Err(fault)
+            }
+        }
+    }
+}

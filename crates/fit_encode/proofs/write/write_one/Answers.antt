@@ -1,0 +1,12 @@
+use Rattle.std.proofs.Common.{◌^◌, ◌≤◌, ◌<◌, length, arith}
+use Rattle.fit_record.specs.Files.{file_bytes}
+use Rattle.fit_encode.proofs.Lengths.{file_short}
+use Rattle.fit_encode.proofs.Sendings.{stops_in}
+use Rattle.fit_encode.proofs.write.write_one.Goals as goal
+
+pub returns-in-Err-write_file-clause-written : goal.returns-in-Err-write_file-clause-written
+returns-in-Err-write_file-clause-written g c =
+    let f = c.args.file.now in
+    let broken = c.in-Err-write_file.ensures in
+    let short = file_short f c.in-Ok.ensures.ok.0 in
+    stops_in (file_bytes f) (omega (arith, short)) broken.0 broken.1

@@ -1,0 +1,17 @@
+-- How much a reader of records keeps.
+use Rattle.std.specs.Prelude.{◌≡◌, ℕ, ◌+◌, [], length, sum_by}
+use Rattle.std.specs.Option.{option_map_or}
+use Rattle.fit_record.specs.declared.definition.MessageDef.{MessageDef}
+use Rattle.fit_record.specs.Environment.{Environment, dev_defs}
+
+-- no fields, and no developer fields
+abbrev pub HasNoFields : {A : Type 0} → MessageDef A → Type 0
+HasNoFields d = (d.fields ≡ []) × (dev_defs d.dev ≡ [])
+
+-- fields and developer fields
+abbrev pub entry_count : {A : Type 0} → MessageDef A → ℕ
+entry_count d = length d.fields + length (dev_defs d.dev)
+
+-- The fields and developer fields of all definitions in their places, and the described developer fields.
+abbrev pub environment_size : {A : Type 0} → Environment A → ℕ
+environment_size e = sum_by (λ p. option_map_or (λ q. entry_count q.definition) p 0) e.places + length e.described

@@ -1,0 +1,70 @@
+-- What a report answers where the input is the bytes of a chain.
+use Rattle.std.proofs.Common.{◌≡◌, ℕ, suc, ◌<◌, List, [], ◌∷◌, ◌++◌, length, take, drop, get_or, reverse, Option, Some, None, Result, Ok, Err, refl, sym, ap, ◌∙◌, subst, append_assoc}
+use Rattle.std.specs.Prelude.{flat_map}
+use Rattle.std.specs.Io.KnownBytes.{Appends, Consumes, IsAtEnd}
+use Rattle.std.proofs.lemmas.List.{append-nil, take-append-drop, reverse-reverse}
+use Rattle.std.proofs.Math.Seq.{drop-cons}
+use Rattle.fit_base.specs.Numbers.{IsBytes}
+use Rattle.fit_record.specs.declared.file.FitFile.{FitFile}
+use Rattle.fit_record.specs.Files.{chain_bytes, chain_limit, IsChain, IsViable}
+use Rattle.fit_decode.specs.declared.event.Fault.TheVariants.{Refused, Truncated, Read, NoMemory as NoRoom}
+use Rattle.fit_decode.specs.Events.{Event, AreEvents, file_events}
+use Rattle.fit_decode.specs.Progress.{at_header}
+use Rattle.fit_decode.proofs.OneReason.{one_list_of_events}
+use Rattle.fit_decode.proofs.Whole.{unfinished}
+use Rattle.fit_report.specs.declared.fault.ReportFault.{ReportFault}
+use Rattle.fit_report.specs.declared.fault.ReportFault.TheVariants.{Decode, NoMemory, Write}
+use Rattle.fit_report.specs.Heard.{Lines, text_of}
+use Rattle.fit_report.specs.Reports.{Channel, Reports, ReportsChain, HasTold}
+
+-- the events of a chain
+pub chain_events : {A : Type 0} (limit : ℕ) (fs : List (FitFile A)) (bytes : List ℕ) → IsChain limit fs bytes → AreEvents bytes (flat_map file_events fs)
+chain_events {A} limit fs bytes chain = (
+  fs,
+  at_header [],
+  record {
+    files = chain.0.each;
+    next = unfinished A [] (λ h n rest fits is. cc);
+    spelled = chain.1 ∙ sym (append-nil (chain_bytes fs));
+  },
+  sym (append-nil (flat_map file_events fs)),
+)
+
+at_place : (got y : List ℕ) (place : ℕ) → place < length got → got ++ y ≡ (take place got ++ get_or got place 0 ∷ []) ++ (drop (suc place) got ++ y)
+at_place got y place within =
+    ap (λ t. t ++ y) (sym (take-append-drop place got) ∙ ap (λ t. take place got ++ t) (drop-cons got place 0 within))
+    ∙ append_assoc (take place got) (get_or got place 0 ∷ drop (suc place) got) y
+    ∙ sym (append_assoc (take place got) (get_or got place 0 ∷ []) (drop (suc place) got ++ y))
+
+module _ {A : Type 0} (line : Lines A) (fs : List (FitFile A)) (b : List ℕ) (are : IsBytes b) (chain : IsChain chain_limit fs b) where
+  -- all of the input was taken
+  whole : (taken y : List ℕ) → b ≡ taken ++ y → y ≡ [] → b ≡ taken
+  whole taken y eats end = eats ∙ ap (λ t. taken ++ t) end ∙ append-nil taken
+
+  none_refused : (taken y : List ℕ) (place : ℕ) → b ≡ taken ++ y → place < length taken → IsViable A chain_limit (take place taken ++ get_or taken place 0 ∷ [])
+  none_refused taken y place eats within =
+      let all = eats ∙ at_place taken y place within in
+      (drop (suc place) taken ++ y, fs, subst IsBytes all are, subst (IsChain chain_limit fs) all chain)
+
+  told : (taken y : List ℕ) (heard : List (Event A)) (source sink : Channel) (result : Result (Unit {0}) ReportFault) → source.after ≡ Some y → b ≡ taken ++ y
+      → HasTold line taken source sink heard result → ReportsChain line fs source sink result
+  told taken y heard source sink (Ok x) after eats (end, files, tells) =
+      let all : b ≡ taken = whole taken y eats (subst IsAtEnd after end) in
+      let same : reverse heard ≡ flat_map file_events fs = one_list_of_events b (reverse heard) (flat_map file_events fs) (subst (λ t. AreEvents t (reverse heard)) (sym all) tells.0) (chain_events chain_limit fs b chain) in
+      subst (λ es. Appends sink.before sink.after (text_of line es)) (sym (reverse-reverse heard) ∙ ap reverse same) tells.1
+  told taken y heard source sink (Err (Decode (Refused place reason))) after eats (fault, tells) = fault.2.refused (none_refused taken y place eats fault.0)
+  told taken y heard source sink (Err (Decode (Truncated place))) after eats (fault, tells) =
+      fault.2.1 fs (subst (IsChain chain_limit fs) (whole taken y eats (subst IsAtEnd after fault.1)) chain)
+  told taken y heard source sink (Err (Decode (NoRoom used))) after eats none = none
+  told taken y heard source sink (Err (Decode (Read place))) after eats (fault, tells) = fault.1
+  told taken y heard source sink (Err NoMemory) after eats some = tt
+  told taken y heard source sink (Err (Write count)) after eats (k, part, some, fails) = fails.0
+
+  taken_of : (has : Option (List ℕ)) (taken : List ℕ) → Consumes (Some b) has taken → (y : List ℕ) × (has ≡ Some y) × (b ≡ taken ++ y)
+  taken_of None taken eats = absurd eats
+  taken_of (Some y) taken eats = (y, refl, eats)
+
+  pub reports_chain : (heard : List (Event A)) (source sink : Channel) (result : Result (Unit {0}) ReportFault) → source.before ≡ Some b → Reports line source sink heard result → ReportsChain line fs source sink result
+  reports_chain heard source sink result input (taken, eats, says) =
+      let t = taken_of source.after taken (subst (λ h. Consumes h source.after taken) input eats) in
+      told taken t.0 heard source sink result t.1 t.2 says

@@ -1,0 +1,19 @@
+-- Bytes taken one after another.
+use Rattle.std.proofs.Common.{ℕ, List, [], ◌++◌, Option, Some, None, refl, sym, ap, ◌∙◌, append_assoc}
+use Rattle.std.specs.Io.KnownBytes.{Consumes, Keeps}
+
+pub Consumes-nothing : (a : Option (List ℕ)) → Consumes a a []
+Consumes-nothing None = tt
+Consumes-nothing (Some x) = refl
+
+pub Consumes-append : (a b c : Option (List ℕ)) (p q : List ℕ) → Consumes a b p → Consumes b c q → Consumes a c (p ++ q)
+Consumes-append None b c p q h g = tt
+Consumes-append (Some x) None c p q h g = absurd h
+Consumes-append (Some x) (Some y) None p q h g = absurd g
+Consumes-append (Some x) (Some y) (Some z) p q h g = h ∙ ap (λ (t : List ℕ). p ++ t) g ∙ sym (append_assoc p q z)
+
+pub Consumes-keeps : (a b c : Option (List ℕ)) (p : List ℕ) → Consumes a b p → Keeps b c → Consumes a c p
+Consumes-keeps None b c p h g = tt
+Consumes-keeps (Some x) None c p h g = absurd h
+Consumes-keeps (Some x) (Some y) None p h g = absurd g
+Consumes-keeps (Some x) (Some y) (Some z) p h g = h ∙ ap (λ (t : List ℕ). p ++ t) (sym g)

@@ -1,0 +1,39 @@
+-- What is heard when a decoder is fed.
+use Rattle.std.proofs.Common.{◌≡◌, ℕ, ◌+◌, ◌<◌, List, [], ◌∷◌, ◌++◌, length, take, drop, reverse, Some, None, refl, sym, ap, ◌∙◌, subst, arith, append_assoc}
+use Rattle.std.proofs.lemmas.List.{reverse-append}
+use Rattle.std.proofs.Math.Seq.{take-add}
+use Rattle.fit_decode.specs.declared.event.Event.{Event as Answer}
+use Rattle.fit_decode.specs.declared.event.Event.TheVariants as answers
+use Rattle.fit_decode.specs.Answers.{Seen, told, fed, Quiet, Least}
+use Rattle.fit_decode.specs.Events.{Event, header, item, file_end, AreEvents}
+use Rattle.fit_report.specs.Heard.{hear}
+
+pub fed_on : (old mid new : Seen) (piece : List ℕ) (at used : ℕ) → mid ≡ fed old piece at → new ≡ fed mid (drop at piece) used → new ≡ fed old piece (at + used)
+fed_on old mid new piece at used is after =
+    after ∙ ap (λ (v : Seen). fed v (drop at piece) used) is
+    ∙ ap (λ (b : List ℕ). record { bytes = b; refusal = None }) (append_assoc old.bytes (take at piece) (take used (drop at piece)) ∙ ap (λ (x : List ℕ). old.bytes ++ x) (sym (take-add at used piece)))
+
+reverse-cons : {X : Type 0} (x : X) (xs : List X) → reverse (x ∷ xs) ≡ reverse xs ++ x ∷ []
+reverse-cons x xs = reverse-append (x ∷ []) xs
+
+-- What the use of so many bytes of a piece told, where nothing is told without an event, and an event by no fewer bytes.
+pub record Told {A : Type 0} (bytes piece : List ℕ) (used : ℕ) (answer : Answer A) : Type 0 where
+  pub more : told answer ≡ None → (used ≡ length piece) × Quiet A bytes piece used
+  pub event : (x : Event A) → told answer ≡ Some x → (0 < used) × Least A bytes piece used x
+
+module _ {A : Type 0} (bytes piece : List ℕ) (used : ℕ) (heard : List (Event A)) (are : AreEvents bytes (reverse heard)) where
+  one : (answer : Answer A) (x : Event A) → told answer ≡ Some x → Told bytes piece used answer → AreEvents (bytes ++ take used piece) (reverse (x ∷ heard))
+  one answer x is t = subst (AreEvents (bytes ++ take used piece)) (sym (reverse-cons x heard)) ((t.event x is).1 (reverse heard) are).0
+
+  pub hears : (answer : Answer A) → Told bytes piece used answer → AreEvents (bytes ++ take used piece) (reverse (hear answer heard))
+  hears answers.More t = (t.more refl).1 (reverse heard) are used (omega arith)
+  hears (answers.Header h n) t = one (answers.Header h n) (header h n) refl t
+  hears (answers.Item r) t = one (answers.Item r) (item r) refl t
+  hears answers.FileEnd t = one answers.FileEnd file_end refl t
+
+-- some bytes of a piece are used
+pub uses_some : {A : Type 0} (bytes piece : List ℕ) (used : ℕ) (answer : Answer A) → 0 < length piece → Told bytes piece used answer → 0 < used
+uses_some bytes piece used answers.More some t = omega (arith, (t.more refl).0)
+uses_some bytes piece used (answers.Header h n) some t = (t.event (header h n) refl).0
+uses_some bytes piece used (answers.Item r) some t = (t.event (item r) refl).0
+uses_some bytes piece used answers.FileEnd some t = (t.event file_end refl).0

@@ -1,0 +1,81 @@
+-- What the telling of a piece did.
+use Rattle.std.proofs.Common.{◌≡◌, Bool, ℕ, ◌+◌, ◌<◌, List, ◌++◌, length, take, drop, get_or, reverse, Option, Ok, Err, refl, sym, ap, ◌∙◌, subst, arith, length-append}
+use Rattle.std.proofs.lemmas.List.{length-drop, length-take, get_or-drop}
+use Rattle.fit_frame.specs.declared.reason.Reason.{Reason}
+use Rattle.fit_record.specs.Files.{chain_limit, IsViable}
+use Rattle.fit_decode.specs.declared.event.Event.{Event as Answer}
+use Rattle.fit_decode.specs.declared.event.Fault.{Fault}
+use Rattle.fit_decode.specs.declared.event.Fault.TheVariants as faults
+use Rattle.fit_decode.specs.Answers.{Seen, fed, Refuses}
+use Rattle.fit_decode.specs.Events.{Event, AreEvents}
+use Rattle.fit_decode.specs.Refusals.{IsRefused}
+use Rattle.fit_report.specs.declared.fault.ReportFault.{ReportFault}
+use Rattle.fit_report.specs.declared.fault.ReportFault.TheVariants.{Decode, NoMemory, Write}
+use Rattle.fit_report.specs.Heard.{Lines, hear}
+use Rattle.fit_report.specs.Reports.{Channel, Tells, report_fault}
+use Rattle.fit_report.specs.Passing.{Stands, Passed, PieceTold}
+use Rattle.fit_report.proofs.Hearing.{Told, fed_on, hears}
+use Rattle.fit_report.proofs.Texts.{stands_on, fails_on, tells}
+
+pub are_heard : {A : Type 0} (new mid : Seen) (piece : List ℕ) (used : ℕ) (heard : List (Event A)) (answer : Answer A) → IsViable A chain_limit new.bytes → new ≡ fed mid piece used
+    → AreEvents mid.bytes (reverse heard) → Told mid.bytes piece used answer → AreEvents new.bytes (reverse (hear answer heard))
+are_heard new mid piece used heard answer viable after are told =
+    subst (λ (v : Seen). AreEvents v.bytes (reverse (hear answer heard))) (sym after) (hears mid.bytes piece used heard are answer told)
+
+-- the bytes before a piece that isn't over, and those of it that were fed
+pub joined : (old mid : Seen) (piece : List ℕ) (at used : ℕ) → mid ≡ fed old piece at → mid.bytes ++ take used (drop at piece) ≡ old.bytes ++ take (at + used) piece
+joined old mid piece at used is = ap (λ (v : Seen). v.bytes) (fed_on old mid (fed mid (drop at piece) used) piece at used is refl)
+
+module _ {A : Type 0} (line : Lines A) (old mid new : Seen) (piece : List ℕ) (at used : ℕ) (answer : Answer A) (heard next : List (Event A)) (start : Option (List ℕ)) (sink : Channel) (written count : ℕ)
+    (is : mid ≡ fed old piece at) (after : new ≡ fed mid (drop at piece) used) (told : Told mid.bytes (drop at piece) used answer) (s : Stands line mid.bytes heard start sink.before written) where
+  events : AreEvents new.bytes (reverse (hear answer heard))
+  events = subst (λ (v : Seen). AreEvents v.bytes (reverse (hear answer heard))) (sym after) (hears mid.bytes (drop at piece) used heard s.are answer told)
+
+  placed : new.bytes ≡ old.bytes ++ take (at + used) piece
+  placed = ap (λ (v : Seen). v.bytes) after ∙ joined old mid piece at used is
+
+  -- an answer was passed on
+  pub passes : Passed line heard answer next sink written count (Ok tt) → Stands line new.bytes next start sink.after count
+  passes (same, put, counted) =
+      subst (λ es. Stands line new.bytes es start sink.after count) (sym same) (stands_on line mid.bytes heard start sink.before written s answer new.bytes sink.after count events put counted)
+
+  -- or was not
+  pub breaks : (fault : ReportFault) → Passed line heard answer next sink written count (Err fault)
+      → PieceTold line old.bytes piece new next (record { before = start; after = sink.after; failed = sink.failed }) count (Err fault)
+  breaks (Decode fault) none = absurd none
+  breaks NoMemory keeps = (
+    at,
+    heard,
+    subst (λ b. Tells line b heard (record { before = start; after = sink.after; failed = sink.failed })) (ap (λ (v : Seen). v.bytes) is) (tells line mid.bytes heard start sink.before written s sink.after sink.failed keeps),
+  )
+  breaks (Write n) (bad, m, short, put, counted) = (
+    at + used,
+    hear answer heard,
+    subst (λ b. AreEvents b (reverse (hear answer heard))) placed events,
+    fails_on line mid.bytes heard start sink.before written s answer sink.after sink.failed m n bad short put counted,
+  )
+
+-- a fault in a piece that isn't over
+pub record Stopped (A : Type 0) (mid : Seen) (piece : List ℕ) (new : Seen) (fault : Fault) : Type 0 where
+  pub refused : (place : ℕ) (reason : Reason) → fault ≡ faults.Refused place reason → Refuses A mid piece new place reason
+  pub others : (place : ℕ) → (fault ≡ faults.Truncated place → ⊥) × (fault ≡ faults.Read place → ⊥)
+
+module _ {A : Type 0} (line : Lines A) (old mid new : Seen) (piece : List ℕ) (at : ℕ) (heard : List (Event A)) (start now : Option (List ℕ)) (failed : Bool) (written : ℕ)
+    (within : at < length piece) (is : mid ≡ fed old piece at) (s : Stands line mid.bytes heard start now written) where
+  abbrev pub sink : Channel
+  sink = record { before = start; after = now; failed = failed }
+
+  pub stops : (fault : Fault) → Stopped A mid (drop at piece) new fault → PieceTold line old.bytes piece new heard sink written (Err (report_fault fault))
+  stops (faults.Refused place reason) t =
+      let refuses = t.refused place reason refl in
+      let u : ℕ = refuses.used in (
+        at + u,
+        omega (arith, refuses.within, length-drop at piece),
+        omega (arith, refuses.is_place, ap (λ (v : Seen). length v.bytes) is, length-append old.bytes (take at piece), length-take at piece, within),
+        subst (λ bytes. IsRefused A chain_limit bytes (get_or piece (at + u) 0) reason) (joined old mid piece at u is)
+            (subst (λ b. IsRefused A chain_limit (mid.bytes ++ take u (drop at piece)) b reason) (get_or-drop at piece u 0) refuses.why),
+        (subst (λ b. AreEvents b (reverse heard)) (joined old mid piece at u is) (refuses.quiet (reverse heard) s.are u (omega arith)), s.put),
+      )
+  stops (faults.NoMemory used) t = (at, heard, (subst (λ b. AreEvents b (reverse heard)) (ap (λ (v : Seen). v.bytes) is) s.are, s.put))
+  stops (faults.Truncated place) t = absurd ((t.others place).0 refl)
+  stops (faults.Read place) t = absurd ((t.others place).1 refl)

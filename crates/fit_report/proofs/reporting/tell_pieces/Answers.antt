@@ -1,0 +1,74 @@
+-- A report goes on piece by piece.
+use Rattle.std.proofs.Common.{◌++◌, length, sym, ap, subst, arith, length-append}
+use Rattle.std.specs.Global.{Global}
+use Rattle.std.specs.Io.KnownBytes.{Consumes}
+use Rattle.std.proofs.lemmas.Result.{err_from_is_err_and}
+use Rattle.fit_record.specs.Files.{chain_limit, IsViable}
+use Rattle.fit_decode.specs.Answers.{Seen}
+use Rattle.fit_decode.proofs.Bounds.{short_bytes}
+use Rattle.fit_report.specs.Passing.{Stands}
+use Rattle.fit_report.specs.Reports.{Channel}
+use Rattle.fit_report.proofs.Consumed.{Consumes-nothing, Consumes-append}
+use Rattle.fit_report.proofs.Outcomes.{nothing_viable, stands_before, piece_fault, end_fault, ate_nothing}
+use Rattle.fit_report.proofs.reporting.tell_pieces.Goals as goal
+
+pub pieces-init : goal.pieces-init
+pieces-init g c =
+    let none = ap (λ (v : Seen). v.bytes) c.new-decoder.ensures in
+    record {
+      fresh = ap (λ (v : Seen). v.refusal) c.new-decoder.ensures;
+      viable = subst (IsViable Global chain_limit) (sym none) (nothing_viable Global);
+      counted = ap length (sym none);
+      eaten = subst (Consumes (g.S.Source.remaining c.args.source.now) (g.S.Source.remaining c.args.source.now)) (sym none) (Consumes-nothing (g.S.Source.remaining c.args.source.now));
+      stands = stands_before g.R.Report.line c.new-decoder.result.bytes (g.R.Report.heard c.args.reporter.now) (g.K.Sink.contents c.args.sink.now) none c.requires;
+    }
+
+pub returns-in_err-finish : goal.returns-in_err-finish
+returns-in_err-finish g c =
+    let p = err_from_is_err_and c.from_residual.result c.from_residual.ensures.1 in
+    let i = c.pieces.invariant in
+    let source : Channel = record { before = g.S.Source.remaining c.args.source.now; after = g.S.Source.remaining c.take.new.self; failed = g.S.Source.has_failed c.take.new.self } in
+    let sink : Channel = record { before = g.K.Sink.contents c.args.sink.now; after = g.K.Sink.contents c.pieces.sink; failed = g.K.Sink.has_failed c.pieces.sink } in (
+      c.pieces.decoder.bytes,
+      ate_nothing _ _ _ c.pieces.decoder.bytes _ c.in-Ok.got i.eaten c.in-Ok.ensures.bytes.0 c.if-got-eq0.true,
+      rw (p.1, p.2)
+          (end_fault g.R.Report.line c.pieces.decoder (g.R.Report.heard c.pieces.reporter) source sink c.pieces.written c.finish.result c.in_err-finish.field-0.0 i.fresh i.viable
+          (c.in-Ok.ensures.bytes.1 c.if-got-eq0.true (omega arith)) i.stands c.finish.ensures.good c.finish.ensures.truncated c.in_err-finish.was),
+    )
+
+pub returns-in_err-tell_piece : goal.returns-in_err-tell_piece
+returns-in_err-tell_piece g c =
+    let p = err_from_is_err_and c.from_residual-in_err-tell_piece.result c.from_residual-in_err-tell_piece.ensures.1 in
+    let i = c.pieces.invariant in
+    let piece = c.split_at.result.0.now in
+    let source : Channel = record { before = g.S.Source.remaining c.args.source.now; after = g.S.Source.remaining c.take.new.self; failed = g.S.Source.has_failed c.take.new.self } in
+    let sink : Channel = record { before = g.K.Sink.contents c.args.sink.now; after = g.K.Sink.contents c.tell_piece.new.sink; failed = g.K.Sink.has_failed c.tell_piece.new.sink } in (
+      c.pieces.decoder.bytes ++ piece,
+      Consumes-append _ _ _ c.pieces.decoder.bytes piece i.eaten (rw (← c.split_at.ensures.front) at c.in-Ok.ensures.bytes.0),
+      rw (p.1, p.2)
+          (piece_fault g.R.Report.line c.pieces.decoder.bytes piece c.tell_piece.new.decoder (g.R.Report.heard c.tell_piece.new.reporter) source sink c.tell_piece.new.written (omega arith)
+          c.in_err-tell_piece.field-0.0 (c.in_err-tell_piece.ensures.piece (g.K.Sink.contents c.args.sink.now) i.stands)),
+    )
+
+pub pieces-preserved : goal.pieces-preserved
+pieces-preserved g c =
+    let i = c.pieces.invariant in
+    let piece = c.split_at.result.0.now in
+    let told = c.in_ok-tell_piece.ensures.piece (g.K.Sink.contents c.args.sink.now) i.stands in
+    let all = ap (λ (v : Seen). v.bytes) told.0 in
+    record {
+      fresh = ap (λ (v : Seen). v.refusal) told.0;
+      viable = c.in_ok-tell_piece.ensures.viable i.viable;
+      counted = omega (arith, i.counted, ap length all, length-append c.pieces.decoder.bytes piece, c.split_at.ensures.front_len);
+      eaten = subst (Consumes (g.S.Source.remaining c.args.source.now) (g.S.Source.remaining c.take.new.self)) (sym all)
+          (Consumes-append _ _ _ c.pieces.decoder.bytes piece i.eaten (rw (← c.split_at.ensures.front) at c.in-Ok.ensures.bytes.0));
+      stands = subst (λ b. Stands g.R.Report.line b (g.R.Report.heard c.tell_piece.new.reporter) (g.K.Sink.contents c.args.sink.now) (g.K.Sink.contents c.tell_piece.new.sink) c.tell_piece.new.written) (sym all) told.1;
+    }
+
+pub pieces-smaller : goal.pieces-smaller
+pieces-smaller g c =
+    let i = c.pieces.invariant in
+    let piece = c.split_at.result.0.now in
+    let told = c.in_ok-tell_piece.ensures.piece (g.K.Sink.contents c.args.sink.now) i.stands in
+    let all = ap (λ (v : Seen). v.bytes) told.0 in
+    omega (arith, short_bytes c.tell_piece.new.decoder.bytes (c.in_ok-tell_piece.ensures.viable i.viable), ap length all, length-append c.pieces.decoder.bytes piece, c.split_at.ensures.front_len)

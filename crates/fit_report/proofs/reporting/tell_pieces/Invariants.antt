@@ -1,0 +1,18 @@
+use Rattle.std.proofs.Common.{◌≡◌, ◌-◌, None, length}
+use Rattle.std.specs.Global.{Global}
+use Rattle.std.specs.Io.KnownBytes.{Consumes}
+use Rattle.fit_record.specs.Files.{chain_limit, IsViable}
+use Rattle.fit_report.specs.Passing.{Stands}
+use Rattle.fit_report.proofs.reporting.tell_pieces.Given as goal
+
+abbrev pub invariant-pieces : goal.invariant-pieces
+invariant-pieces g l = record {
+  fresh : l.decoder.refusal ≡ None;
+  viable : IsViable Global chain_limit l.decoder.bytes;
+  counted : l.place ≡ length l.decoder.bytes;
+  eaten : Consumes (g.S.Source.remaining l.initial.source) (g.S.Source.remaining l.source) l.decoder.bytes;
+  stands : Stands g.R.Report.line l.decoder.bytes (g.R.Report.heard l.reporter) (g.K.Sink.contents l.initial.sink) (g.K.Sink.contents l.sink) l.written;
+}
+
+abbrev pub decreases-pieces : goal.decreases-pieces
+decreases-pieces g l = 144115188075855872 - length l.decoder.bytes

@@ -1,0 +1,45 @@
+-- What a reporter hears, and the text of it. Events are listed with the latest first.
+use Rattle.std.specs.Prelude.{ℕ, List, [], ◌∷◌, ◌++◌, reverse}
+use Rattle.std.specs.Option.{option_map_or}
+use Rattle.fit_record.specs.declared.message.Record.{Record}
+use Rattle.fit_record.specs.Files.{chain_limit, IsViable}
+use Rattle.fit_decode.specs.declared.event.Event.{Event as Answer}
+use Rattle.fit_decode.specs.Answers.{told}
+use Rattle.fit_decode.specs.Events.{Event, header, item, file_end, AreEvents}
+
+-- what is heard behind an answer of a decoder
+abbrev pub hear : {A : Type 0} → Answer A → List (Event A) → List (Event A)
+hear answer heard = option_map_or (λ x. x ∷ heard) (told answer) heard
+
+-- Some bytes with which a chain of files begins have these events.
+abbrev pub AreHeard : {A : Type 0} → List (Event A) → Type 0
+AreHeard {A} heard = (bytes : List ℕ) × IsViable A chain_limit bytes × AreEvents bytes (reverse heard)
+
+-- the records of the file that was begun last, the latest first
+abbrev pub latest_records : {A : Type 0} → List (Event A) → List (Record A)
+latest_records [] = []
+latest_records (header h n ∷ heard) = []
+latest_records (item r ∷ heard) = r ∷ latest_records heard
+latest_records (file_end ∷ heard) = latest_records heard
+
+-- ---- text
+
+-- the text of an event, behind the events before it
+abbrev pub Lines : Type 0 → Type 0
+Lines A = List (Event A) → Event A → List ℕ
+
+-- the text of what a decoder answers
+abbrev pub line_of : {A : Type 0} → Lines A → List (Event A) → Answer A → List ℕ
+line_of line heard answer = option_map_or (line heard) (told answer) []
+
+-- the text of the events, each behind that of the events before it
+abbrev pub text_of : {A : Type 0} → Lines A → List (Event A) → List ℕ
+text_of line [] = []
+text_of line (x ∷ heard) = text_of line heard ++ line heard x
+
+-- ---- for a list of answers. No public contract names this.
+
+-- what is heard by the answers, the latest first
+abbrev pub heard_of : {A : Type 0} → List (Answer A) → List (Event A)
+heard_of [] = []
+heard_of (x ∷ answers) = hear x (heard_of answers)

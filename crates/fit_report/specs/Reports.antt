@@ -1,0 +1,84 @@
+-- What a report of the bytes of a source puts in a sink.
+use Rattle.std.specs.Prelude.{◌≡◌, ℕ, ◌+◌, ◌-◌, ◌^◌, ◌<◌, ◌≤◌, min, Bool, true, List, Option, Result, Ok, Err, take, length, reverse, slice_index, flat_map}
+use Rattle.std.specs.Io.KnownBytes.{Appends, Consumes, IsAtEnd}
+use Rattle.fit_record.specs.declared.file.FitFile.{FitFile}
+use Rattle.fit_record.specs.Files.{IsChain, IsViable, chain_limit}
+use Rattle.fit_decode.specs.declared.event.Fault.{Fault}
+use Rattle.fit_decode.specs.declared.event.Fault.TheVariants.{Refused, Truncated, NoMemory, Read}
+use Rattle.fit_decode.specs.Answers.{AreChain}
+use Rattle.fit_decode.specs.Events.{Event, AreEvents, file_events}
+use Rattle.fit_decode.specs.Refusals.{IsRefused}
+use Rattle.fit_report.specs.declared.fault.ReportFault.{ReportFault}
+use Rattle.fit_report.specs.declared.fault.ReportFault.TheVariants as report
+use Rattle.fit_report.specs.Heard.{Lines, text_of}
+
+-- A chain of at most so many files begins with the bytes, and they are none.
+abbrev pub IsShort : Type 0 → ℕ → List ℕ → Type 0
+IsShort A limit bytes = IsViable A limit bytes × ((fs : List (FitFile A)) → IsChain limit fs bytes → ⊥)
+
+-- The fault that ended the reading of a chain of at most so many files, after these bytes were taken: the byte at the place is
+-- the first one with which no such chain begins, and at most a piece was taken from it on; or the input ended, and is the
+-- beginning of a chain alone; or memory was refused; or the source failed.
+abbrev pub Faults : Type 0 → ℕ → List ℕ → Option (List ℕ) → Bool → Fault → Type 0
+Faults A limit taken has failed (Refused place reason) =
+    (place < length taken) × (length taken ≤ place + 4096) × IsRefused A limit (take place taken) (slice_index taken place) reason
+Faults A limit taken has failed (Truncated place) = (place ≡ length taken) × IsAtEnd has × IsShort A limit taken
+Faults A limit taken has failed (NoMemory used) = used ≡ length taken
+Faults A limit taken has failed (Read place) = (place ≡ length taken) × (failed ≡ true) × IsViable A limit taken
+
+-- the fault of a report
+abbrev pub report_fault : Fault → ReportFault
+report_fault (NoMemory used) = report.NoMemory
+report_fault fault = report.Decode fault
+
+-- the bytes before a fault
+abbrev pub before_fault : Fault → List ℕ → List ℕ
+before_fault (Refused place reason) taken = take place taken
+before_fault fault taken = taken
+
+-- ---- the text that was put
+
+-- a source or a sink over a call: the bytes that it has before and after it, where it tells them, and whether it has failed
+pub record Channel : Type 0 where
+  pub before : Option (List ℕ)
+  pub after : Option (List ℕ)
+  pub failed : Bool
+
+-- The events of the bytes were heard, and their text was put.
+abbrev pub Tells : {A : Type 0} → Lines A → List ℕ → List (Event A) → Channel → Type 0
+Tells line bytes heard sink = AreEvents bytes (reverse heard) × Appends sink.before sink.after (text_of line heard)
+
+-- The text of the events of some first bytes was put.
+abbrev pub TellsSome : {A : Type 0} → Lines A → List ℕ → Channel → Type 0
+TellsSome {A} line bytes sink = (k : ℕ) × (heard : List (Event A)) × Tells line (take k bytes) heard sink
+
+-- The sink has failed behind some first bytes of a text, so many; the count stops at 2^64 - 1.
+abbrev pub FailsIn : List ℕ → Channel → ℕ → Type 0
+FailsIn text sink written =
+    (sink.failed ≡ true) × (n : ℕ) × (n < length text) × Appends sink.before sink.after (take n text) × (written ≡ min n (2 ^ 64 - 1))
+
+-- The sink has failed in the text of the events of some first bytes.
+abbrev pub BreaksOff : {A : Type 0} → Lines A → List ℕ → Channel → ℕ → Type 0
+BreaksOff {A} line bytes sink written = (k : ℕ) × (heard : List (Event A)) × AreEvents (take k bytes) (reverse heard) × FailsIn (text_of line heard) sink written
+
+-- What a report told that took these bytes: all of the input, which is a chain, was told; or what is before a fault; or, where
+-- memory was refused or the sink failed, some of it.
+abbrev pub HasTold : {A : Type 0} → Lines A → List ℕ → Channel → Channel → List (Event A) → Result (Unit {0}) ReportFault → Type 0
+HasTold {A} line taken source sink heard (Ok _) = IsAtEnd source.after × AreChain A taken × Tells line taken heard sink
+HasTold line taken source sink heard (Err (report.Decode (NoMemory used))) = ⊥
+HasTold {A} line taken source sink heard (Err (report.Decode fault)) =
+    Faults A chain_limit taken source.after source.failed fault × Tells line (before_fault fault taken) heard sink
+HasTold line taken source sink heard (Err report.NoMemory) = TellsSome line taken sink
+HasTold line taken source sink heard (Err (report.Write written)) = BreaksOff line taken sink written
+
+abbrev pub Reports : {A : Type 0} → Lines A → Channel → Channel → List (Event A) → Result (Unit {0}) ReportFault → Type 0
+Reports line source sink heard result = (taken : List ℕ) × Consumes source.before source.after taken × HasTold line taken source sink heard result
+
+-- The answer where the input is the bytes of this chain: its text was put; or the source or the sink has failed, or memory was
+-- refused.
+abbrev pub ReportsChain : {A : Type 0} → Lines A → List (FitFile A) → Channel → Channel → Result (Unit {0}) ReportFault → Type 0
+ReportsChain line fs source sink (Ok _) = Appends sink.before sink.after (text_of line (reverse (flat_map file_events fs)))
+ReportsChain line fs source sink (Err (report.Decode (Read place))) = source.failed ≡ true
+ReportsChain line fs source sink (Err (report.Decode fault)) = ⊥
+ReportsChain line fs source sink (Err report.NoMemory) = Unit {0}
+ReportsChain line fs source sink (Err (report.Write written)) = sink.failed ≡ true

@@ -1,0 +1,31 @@
+//! Why a report breaks off.
+use fit_decode::Fault;
+use thiserror::Error;
+
+/// Why a report doesn't come to the end of a chain.
+#[derive(Clone, Copy, Debug, PartialEq, Eq, Error)]
+pub enum ReportFault {
+    /// The bytes are refused or end too soon, or the source failed. Want of memory is `NoMemory`, and never this.
+    #[error("no chain of files")]
+    Decode(Fault),
+    /// Memory was refused.
+    #[error("out of memory")]
+    NoMemory,
+    /// The sink failed behind so many bytes of the report. The count stops at 2^64 - 1.
+    #[error("write fault")]
+    Write { written: u64 },
+}
+
+impl From<Fault> for ReportFault {
+    ghost use Rattle.std.specs.Prelude.{◌≡◌};
+    ghost use Rattle.fit_report.specs.Reports.{report_fault};
+
+    ghost from_gives = { λ f e. e ≡ report_fault f };
+
+    fn from(fault: Fault) -> ReportFault {
+        match fault {
+            Fault::NoMemory { .. } => ReportFault::NoMemory,
+            fault => ReportFault::Decode(fault),
+        }
+    }
+}

@@ -1,0 +1,128 @@
+//! Passes the events of a source's bytes to a reporter, and its text to a sink.
+ghost use Rattle.std.specs.Prelude.{◌≡◌, ℕ, [], List, Option, None, Some, reverse};
+ghost use Rattle.std.specs.Global.{Global};
+ghost use Rattle.fit_base.specs.Numbers.{IsBytes};
+ghost use Rattle.fit_record.specs.declared.file.FitFile.{FitFile};
+ghost use Rattle.fit_record.specs.Files.{chain_limit, IsChain, IsViable};
+ghost use Rattle.fit_decode.specs.Events.{AreEvents};
+ghost use Rattle.fit_report.specs.Heard.{AreHeard, hear};
+ghost use Rattle.fit_report.specs.Passing.{Passed, PieceTold, Stands};
+ghost use Rattle.fit_report.specs.Reports.{Reports, ReportsChain};
+
+use crate::{Report, ReportFault};
+use fit_decode::{Decoder, Event, Fault, Source};
+use fit_encode::{Sink, put_all};
+use std::alloc::Global;
+
+/// The most bytes that are taken at once.
+const PIECE: usize = 4096;
+
+/// Tells an event to a reporter, and puts its text in the sink, where so many bytes of text were put before.
+fn pass_on<K: Sink, R: Report>(
+    reporter: &mut R,
+    sink: &mut K,
+    text: &mut Vec<u8>,
+    written: &mut u64,
+    event: Event,
+) -> Result<(), ReportFault>
+    requires { AreHeard (hear event (R.heard reporter.old)) }
+    ensures { Passed R.line (R.heard reporter.old) event (R.heard reporter.new)
+        (record { before = K.contents sink.old; after = K.contents sink.new; failed = K.has_failed sink.new }) written.old written.new result }
+{
+    text.clear();
+    if reporter.tell(&event, text).is_err() {
+        return Err(ReportFault::NoMemory);
+    }
+    match put_all(sink, text.as_slice()) {
+        Ok(()) => {
+            *written = written.saturating_add(text.len() as u64);
+            Ok(())
+        }
+        Err(count) => Err(ReportFault::Write {
+            written: written.saturating_add(count),
+        }),
+    }
+}
+
+/// Feeds a piece, and passes on what it tells.
+fn tell_piece<K: Sink, R: Report>(
+    decoder: &mut Decoder,
+    reporter: &mut R,
+    sink: &mut K,
+    text: &mut Vec<u8>,
+    written: &mut u64,
+    piece: &[u8],
+) -> Result<(), ReportFault>
+    requires fresh { decoder.old.refusal ≡ None }
+    requires told { AreEvents decoder.old.bytes (reverse (R.heard reporter.old)) }
+    ensures piece { (start : Option (List ℕ)) → Stands R.line decoder.old.bytes (R.heard reporter.old) start (K.contents sink.old) written.old
+        → PieceTold R.line decoder.old.bytes piece.now decoder.new (R.heard reporter.new) (record { before = start; after = K.contents sink.new; failed = K.has_failed sink.new }) written.new result }
+    ensures viable { IsViable Global chain_limit decoder.old.bytes → IsViable Global chain_limit decoder.new.bytes }
+{
+    let mut at = 0;
+    while at < piece.len() {
+        let (_, rest) = piece.split_at(at);
+        let fed = decoder.feed(rest)?;
+        at += fed.used;
+        pass_on(reporter, sink, text, written, fed.event)?;
+    }
+    Ok(())
+}
+
+/// Takes pieces to the end of the input or the first fault, and tells each.
+fn tell_pieces<S: Source, K: Sink, R: Report>(
+    alloc: Global,
+    source: &mut S,
+    sink: &mut K,
+    reporter: &mut R,
+) -> Result<(), ReportFault>
+    requires { R.heard reporter.old ≡ [] }
+    ensures { Reports R.line
+        (record { before = S.remaining source.old; after = S.remaining source.new; failed = S.has_failed source.new })
+        (record { before = K.contents sink.old; after = K.contents sink.new; failed = K.has_failed sink.new })
+        (R.heard reporter.new) result }
+{
+    let mut decoder = Decoder::new(alloc);
+    let mut text = Vec::new(alloc);
+    let mut written = 0;
+    let mut place = 0;
+    let mut buffer = [0u8; PIECE];
+    'pieces: loop {
+        let Ok(got) = source.take(&mut buffer) else {
+            return Err(ReportFault::Decode(Fault::Read { place }));
+        };
+        if got == 0 {
+            decoder.finish()?;
+            return Ok(());
+        }
+        let (piece, _) = buffer.split_at(got);
+        tell_piece(&mut decoder, reporter, sink, &mut text, &mut written, piece)?;
+        place += got as u64;
+    }
+}
+
+/// Passes what the bytes of a source tell to a reporter, which has heard nothing yet, and its text to a sink. Takes pieces of at
+/// most 4,096 bytes, to the end of the input or the first fault.
+///
+/// `Decode` where the input is no chain of files or the source failed, and then the text of all that is before the fault was put;
+/// `NoMemory` where memory was refused, and `Write` where the sink failed. Then the text of some first bytes was put, with `Write`
+/// only so many bytes of it.
+pub fn report<S: Source, K: Sink, R: Report>(
+    alloc: Global,
+    source: &mut S,
+    sink: &mut K,
+    reporter: &mut R,
+) -> Result<(), ReportFault>
+    requires { R.heard reporter.old ≡ [] }
+    ensures reports { Reports R.line
+        (record { before = S.remaining source.old; after = S.remaining source.new; failed = S.has_failed source.new })
+        (record { before = K.contents sink.old; after = K.contents sink.new; failed = K.has_failed sink.new })
+        (R.heard reporter.new) result }
+    // Where the input is a chain's bytes, its text is put, unless memory is refused or the source or the sink fails.
+    ensures chain { (fs : List (FitFile Global)) (b : List ℕ) → S.remaining source.old ≡ Some b → IsBytes b → IsChain chain_limit fs b
+        → ReportsChain R.line fs
+        (record { before = S.remaining source.old; after = S.remaining source.new; failed = S.has_failed source.new })
+        (record { before = K.contents sink.old; after = K.contents sink.new; failed = K.has_failed sink.new }) result }
+{
+    tell_pieces(alloc, source, sink, reporter)
+}
