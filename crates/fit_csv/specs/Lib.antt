@@ -10,4 +10,5 @@ pub mod Reporting
 pub mod Judged
 pub mod Seven
 pub mod Misfits
+pub mod Progress
 pub mod Laws
