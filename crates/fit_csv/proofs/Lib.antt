@@ -28,3 +28,4 @@ mod ZeroItems
 mod HeaderRows
 mod MessageRows
 mod ValueRows
+pub mod ShownLines

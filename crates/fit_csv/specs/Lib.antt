@@ -12,3 +12,5 @@ pub mod Seven
 pub mod Misfits
 pub mod Progress
 pub mod Laws
+pub mod ShowLines
+pub mod Showing

@@ -16,6 +16,7 @@ mod raw;
 mod report;
 mod rows;
 mod scan;
+mod show;
 mod strings;
 #[cfg(test)]
 mod tests;
@@ -25,3 +26,4 @@ pub use conversion::to_csv;
 pub use fault::CsvFault;
 pub use rows::{next_row, put_row, row_reader, row_writer, rows_text};
 pub use scan::cell_items;
+pub use show::ShowReport;
