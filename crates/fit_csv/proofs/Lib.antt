@@ -4,6 +4,8 @@ pub mod RowsOfEvents
 mod AddedRows
 mod ToldRows
 mod Converted
+mod ProfileScales
+mod ToldTable
 mod Shapes
 mod NamingFacts
 mod DevFields
