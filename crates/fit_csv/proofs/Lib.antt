@@ -2,6 +2,8 @@ mod KnownCells
 mod KnownRows
 pub mod RowsOfEvents
 mod AddedRows
+mod ToldRows
+mod Converted
 mod Shapes
 mod NamingFacts
 mod DevFields

@@ -5,7 +5,10 @@ pub mod InstantText
 pub mod Degrees
 pub mod ChainRows
 pub mod Table
+pub mod Conversions
+pub mod Reporting
 pub mod Judged
 pub mod Seven
 pub mod Misfits
+pub mod Progress
 pub mod Laws

@@ -1,5 +1,5 @@
 -- Rows that can be read at a place, and why others can't. No public contract names these definitions.
-use Rattle.std.specs.Prelude.{◌≡◌, ◌⊎◌, ◌<◌, ◌≤◌, ◌^◌, ℕ, List, [], Option, take, codes, decimal, IfSome, IsSome, option_map, unwrap_or}
+use Rattle.std.specs.Prelude.{◌≡◌, ◌⊎◌, ◌<◌, ◌≤◌, ◌^◌, ℕ, List, [], Option, codes, decimal, IfSome, IsSome, option_map, unwrap_or}
 use Rattle.std.specs.Global.{Global}
 use Rattle.fit_base.specs.declared.items.Items.{Items}
 use Rattle.fit_base.specs.Fields.{HasShape}
@@ -17,17 +17,23 @@ use Rattle.fit_profile.specs.Looks.{known}
 use Rattle.fit_profile.specs.Times.{header_time, previous_time}
 use Rattle.fit_csv.specs.Cells.{cell}
 use Rattle.fit_csv.specs.Rows.{Cell, Row}
-use Rattle.fit_csv.specs.Judged.{HeaderInRange, IsBadCell}
+use Rattle.fit_csv.specs.Judged.{HeaderInRange, IsBadCell, MayBeOfKind}
 use Rattle.fit_csv.specs.ChainRows.{data_row, dev_def_row, end_row, file_row, field_def_row, optional_number, order_word, row}
 use Rattle.fit_csv.specs.declared.from.definition.DefinitionHead.{DefinitionHead}
 use Rattle.fit_csv.specs.declared.from.misfit.Misfit.{Misfit}
 use Rattle.fit_csv.specs.declared.from.misfit.Misfit.TheVariants.{Kind, Cell as BadCell, NoMemory}
 
--- why the row can't stand where these can: no such row has its first cell, or one of its other cells is bad
+-- why the row can't stand where these can: no row has its kind, or one of its other cells is bad
 abbrev pub IsMisfit : (Row → Type 0) → Row → Misfit → Type 0
-IsMisfit CanStand r Kind = (other : Row) → CanStand other → take 1 other ≡ take 1 r → ⊥
+IsMisfit CanStand r Kind = (other : Row) → CanStand other → MayBeOfKind other r → ⊥
 IsMisfit CanStand r (BadCell column) = IsBadCell CanStand r column
 IsMisfit CanStand r NoMemory = Unit {0}
+
+-- the same of a row whose kind is right
+abbrev pub IsCellFault : (Row → Type 0) → Row → Misfit → Type 0
+IsCellFault CanStand r Kind = ⊥
+IsCellFault CanStand r (BadCell column) = IsBadCell CanStand r column
+IsCellFault CanStand r NoMemory = Unit {0}
 
 -- three numbers of a byte each behind the kind, and nothing behind them
 abbrev pub IsRowOfThree : Cell → Row → Type 0
@@ -84,6 +90,10 @@ message_row before v = data_row v (global_at before v.local) (header_time (previ
 
 abbrev pub IsMessageRow : List (Record Global) → Row → Type 0
 IsMessageRow before r = (v : Values Global) × IsMessageStart before v × (r ≡ message_row before v)
+
+-- a file may end there too
+abbrev pub IsMessageOrEnd : List (Record Global) → Row → Type 0
+IsMessageOrEnd before r = IsMessageRow before r ⊎ (r ≡ end_row)
 
 -- a row of a field: label, items, unit
 abbrev pub IsValueRow : Cell → Cell → ℕ → ℕ → Option Meaning → Cell → Row → Type 0

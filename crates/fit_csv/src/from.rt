@@ -1,8 +1,11 @@
 //! Rows back to files.
 
 mod cells;
+mod chain;
 mod definition;
 mod header;
 mod message;
 mod misfit;
 mod number;
+mod open_definition;
+mod open_file;

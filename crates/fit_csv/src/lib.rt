@@ -2,16 +2,18 @@
 #![tactic(auto)]
 
 mod cell;
-mod file_rows;
-mod from;
+mod conversion;
 mod definition_rows;
 mod dev_rows;
+mod fault;
 mod file_rows;
+mod from;
 mod hexadecimal;
 pub mod laws;
 mod message_rows;
 mod numbers;
 mod raw;
+mod report;
 mod rows;
 mod scan;
 mod strings;
@@ -19,5 +21,7 @@ mod strings;
 mod tests;
 
 pub use cell::{cell_text, put_cell};
+pub use conversion::to_csv;
+pub use fault::CsvFault;
 pub use rows::{next_row, put_row, row_reader, row_writer, rows_text};
 pub use scan::cell_items;

@@ -1,8 +1,9 @@
 //! Tests over the crates below. They stand apart so that the proofs of those crates stay short.
 #![tactic(auto)]
-
 #[cfg(test)]
 mod built;
+#[cfg(test)]
+mod fed;
 #[cfg(test)]
 mod files;
 #[cfg(test)]
@@ -11,3 +12,5 @@ mod reading;
 mod refused;
 #[cfg(test)]
 mod sources;
+#[cfg(test)]
+mod starved;

@@ -2,7 +2,7 @@
 ghost use Rattle.std.specs.Prelude.{◌≡◌, ◌<◌, ◌^◌, [], ℕ, Option, codes, decimal, IfErr, IfOk, IfSome};
 ghost use Rattle.fit_csv.specs.ChainRows.{dev_def_row, field_def_row, optional_number, order_word, row};
 ghost use Rattle.fit_base.specs.declared.number.Order.{Order};
-ghost use Rattle.fit_csv.specs.Misfits.{HeadInRange, IsDevDefRow, IsFieldDefRow, IsHeadRow, IsMisfit, IsRowOfThree, head_row};
+ghost use Rattle.fit_csv.specs.Misfits.{DevDefInRange, FieldDefInRange, HeadInRange, IsDevDefRow, IsFieldDefRow, IsHeadRow, IsCellFault, IsRowOfThree, head_row};
 ghost use Rattle.fit_csv.specs.Rows.{Row};
 ghost use Rattle.fit_csv.specs.Seven.{AsFar, row_of};
 
@@ -96,7 +96,7 @@ pub(crate) fn definition_head(cells: &Cells) -> Result<DefinitionHead, Misfit>
     requires { cells.now.kind.now ≡ codes "def" }
     ensures range { IfOk result HeadInRange }
     ensures ok { IfOk result (λ head. row_of cells.now ≡ head_row head) }
-    ensures err { IfErr result (IsMisfit IsHeadRow (row_of cells.now)) }
+    ensures err { IfErr result (IsCellFault IsHeadRow (row_of cells.now)) }
 {
     let head = closest_head(cells);
     let (mut local, mut reserved) = (Buffer::new(), Buffer::new());
@@ -119,7 +119,7 @@ pub(crate) fn definition_head(cells: &Cells) -> Result<DefinitionHead, Misfit>
 /// Three numbers of a byte each in the cells of a row, of which the other ones are empty.
 fn three_bytes(cells: &Cells) -> Result<(u8, u8, u8), Misfit>
     ensures ok { IfOk result (λ n. row_of cells.now ≡ row cells.now.kind.now (decimal n.0) (decimal n.1) (decimal n.2) [] [] []) }
-    ensures err { IfErr result (IsMisfit (IsRowOfThree cells.now.kind.now) (row_of cells.now)) }
+    ensures err { IfErr result (IsCellFault (IsRowOfThree cells.now.kind.now) (row_of cells.now)) }
 {
     let (a, b, c) = (byte_in(cells.a), byte_in(cells.b), byte_in(cells.c));
     let (mut a_text, mut b_text, mut c_text) = (Buffer::new(), Buffer::new(), Buffer::new());
@@ -141,8 +141,9 @@ fn three_bytes(cells: &Cells) -> Result<(u8, u8, u8), Misfit>
 /// The row of a field of a definition.
 pub(crate) fn field_def(cells: &Cells) -> Result<FieldDef, Misfit>
     requires { cells.now.kind.now ≡ codes "fdef" }
+    ensures range { IfOk result FieldDefInRange }
     ensures ok { IfOk result (λ f. row_of cells.now ≡ field_def_row f) }
-    ensures err { IfErr result (IsMisfit IsFieldDefRow (row_of cells.now)) }
+    ensures err { IfErr result (IsCellFault IsFieldDefRow (row_of cells.now)) }
 {
     let (number, size, code) = three_bytes(cells)?;
     Ok(FieldDef { number, size, code })
@@ -151,8 +152,9 @@ pub(crate) fn field_def(cells: &Cells) -> Result<FieldDef, Misfit>
 /// The row of a developer field of a definition.
 pub(crate) fn dev_def(cells: &Cells) -> Result<DevDef, Misfit>
     requires { cells.now.kind.now ≡ codes "ddef" }
+    ensures range { IfOk result DevDefInRange }
     ensures ok { IfOk result (λ f. row_of cells.now ≡ dev_def_row f) }
-    ensures err { IfErr result (IsMisfit IsDevDefRow (row_of cells.now)) }
+    ensures err { IfErr result (IsCellFault IsDevDefRow (row_of cells.now)) }
 {
     let (number, size, index) = three_bytes(cells)?;
     Ok(DevDef { number, size, index })

@@ -12,7 +12,7 @@ ghost use Rattle.fit_record.specs.Records.{DataHeaderFits};
 ghost use Rattle.fit_csv.specs.Cells.{cell};
 ghost use Rattle.fit_csv.specs.ChainRows.{optional_number, row};
 ghost use Rattle.fit_csv.specs.InstantText.{instant_text};
-ghost use Rattle.fit_csv.specs.Misfits.{IsMessageRow, IsMessageStart, IsMisfit, IsValueRow, global_at, message_row};
+ghost use Rattle.fit_csv.specs.Misfits.{IsMessageOrEnd, IsMessageRow, IsMessageStart, IsCellFault, IsValueRow, global_at, message_row};
 ghost use Rattle.fit_csv.specs.Seven.{row_of};
 
 use crate::from::cells::{Cells, first_difference, same};
@@ -103,7 +103,7 @@ fn rest_of_message(
     requires defined { IsSome (defined_at (known before.now) local) }
     ensures start { IfOk result (IsMessageStart before.now) }
     ensures ok { IfOk result (λ v. row_of cells.now ≡ message_row before.now v) }
-    ensures err { IfErr result (IsMisfit (IsMessageRow before.now) (row_of cells.now)) }
+    ensures err { IfErr result (IsCellFault (IsMessageRow before.now) (row_of cells.now)) }
 {
     let offset = offset_in(cells.b, local);
     let label = message_label(global_at(before, local));
@@ -138,7 +138,7 @@ pub(crate) fn message_head(
     requires { cells.now.kind.now ≡ codes "data" }
     ensures start { IfOk result (IsMessageStart before.now) }
     ensures ok { IfOk result (λ v. row_of cells.now ≡ message_row before.now v) }
-    ensures err { IfErr result (IsMisfit (IsMessageRow before.now) (row_of cells.now)) }
+    ensures err { IfErr result (IsCellFault (IsMessageOrEnd before.now) (row_of cells.now)) }
 {
     match defined_local(cells.a, before) {
         Some(local) => rest_of_message(alloc, cells, before, local),
@@ -178,7 +178,7 @@ pub(crate) fn value_row(
     requires { IfSome info (λ i. IsScale i.scale) }
     ensures shape { IfOk result (HasShape code.0 size) }
     ensures ok { IfOk result (λ items. row_of cells.now ≡ row cells.now.kind.now label.now (cell code.0 (option_map meaning info) items) unit.now [] [] []) }
-    ensures err { IfErr result (IsMisfit (IsValueRow cells.now.kind.now label.now code.0 size (option_map meaning info) unit.now) (row_of cells.now)) }
+    ensures err { IfErr result (IsCellFault (IsValueRow cells.now.kind.now label.now code.0 size (option_map meaning info) unit.now) (row_of cells.now)) }
 {
     if !same(cells.a, label) {
         return Err(Misfit::Cell(2));
