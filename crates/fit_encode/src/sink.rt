@@ -110,13 +110,13 @@ impl<W: Write> Sink for WriteSink<W> {
 pub struct CutSink<const N: usize> {
     kept: ArrayVec<u8, N>,
     room: usize,
-    failed: bool,
+    refused: bool,
 }
 
 impl<const N: usize> Model for CutSink<N> {
     ghost Value = { Kept };
 
-    ghost view = { λ s. record { held = s.kept.items; room = s.room; failed = s.failed } };
+    ghost view = { λ s. record { held = s.kept.items; room = s.room; failed = s.refused } };
 
     ghost invariant = { λ s. length s.kept.items + s.room ≤ N };
 }
@@ -129,7 +129,7 @@ impl<const N: usize> CutSink<N> {
         CutSink {
             kept: ArrayVec::new(),
             room: limit.min(N),
-            failed: false,
+            refused: false,
         }
     }
 
@@ -160,8 +160,8 @@ impl<const N: usize> Sink for CutSink<N> {
         ensures room { length self.new.held + self.new.room ≡ length self.old.held + self.old.room }
     {
         let n = bytes.len().min(self.room);
-        if self.failed || n == 0 && !bytes.is_empty() {
-            self.failed = true;
+        if self.refused || n == 0 && !bytes.is_empty() {
+            self.refused = true;
             return Err(SinkFailed);
         }
         let (front, _) = bytes.split_at(n);
@@ -173,6 +173,6 @@ impl<const N: usize> Sink for CutSink<N> {
     }
 
     fn failed(&self) -> bool {
-        self.failed
+        self.refused
     }
 }
