@@ -26,3 +26,4 @@ mod ZeroItems
 mod HeaderRows
 mod MessageRows
 mod ValueRows
+mod ValueSteps

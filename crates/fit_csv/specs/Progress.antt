@@ -1,5 +1,5 @@
 -- What has been read of a chain, and how one more row goes on. No public contract names these definitions.
-use Rattle.std.specs.Prelude.{◌≡◌, ◌⊎◌, ◌<◌, ℕ, ◌==◌, ◌&&◌, Bool, true, if◌then◌else◌, List, [], ◌∷◌, ◌++◌, length, Option, Some, None, IsSomeAnd, option_map, unwrap_or, slice_get}
+use Rattle.std.specs.Prelude.{◌≡◌, ◌⊎◌, ◌<◌, ◌≤◌, ℕ, ◌==◌, ◌&&◌, Bool, true, if◌then◌else◌, List, [], ◌∷◌, ◌++◌, length, Option, Some, None, IfSome, IsSomeAnd, option_map, unwrap_or, slice_get}
 use Rattle.std.specs.Option.{option_map_or}
 use Rattle.std.specs.Global.{Global}
 use Rattle.fit_base.specs.declared.items.Items.{Items}
@@ -81,6 +81,10 @@ has_all v p = (length v.fields == length p.definition.fields) && (length v.dev =
 
 abbrev pub is_whole_message : List (Record Global) → Values Global → Bool
 is_whole_message before v = option_map_or (has_all v) (defined_at (known before) v.local) true
+
+-- there are no more fields than are defined
+abbrev pub HasRoom : List (Record Global) → Values Global → Type 0
+HasRoom before v = IfSome (defined_at (known before) v.local) (λ p. length v.fields ≤ length p.definition.fields)
 
 -- the name and unit of a developer field of a local message type
 abbrev pub naming_at : List (Record Global) → ℕ → ℕ → Naming

@@ -2,11 +2,10 @@
 #![tactic(auto)]
 
 mod cell;
-mod file_rows;
-mod from;
 mod definition_rows;
 mod dev_rows;
 mod file_rows;
+mod from;
 mod hexadecimal;
 pub mod laws;
 mod message_rows;
