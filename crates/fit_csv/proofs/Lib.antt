@@ -27,3 +27,4 @@ mod HeaderRows
 mod MessageRows
 mod ValueRows
 mod ValueSteps
+mod PartSteps
