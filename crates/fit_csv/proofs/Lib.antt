@@ -28,3 +28,5 @@ mod ZeroItems
 mod HeaderRows
 mod MessageRows
 mod ValueRows
+mod ValueSteps
+mod PartSteps

@@ -2,7 +2,10 @@
 #![tactic(auto)]
 
 mod cell;
+<<<<<<< HEAD
 mod conversion;
+=======
+>>>>>>> fromcsv
 mod definition_rows;
 mod dev_rows;
 mod fault;
