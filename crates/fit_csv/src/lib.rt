@@ -2,10 +2,7 @@
 #![tactic(auto)]
 
 mod cell;
-<<<<<<< HEAD
 mod conversion;
-=======
->>>>>>> fromcsv
 mod definition_rows;
 mod dev_rows;
 mod fault;
