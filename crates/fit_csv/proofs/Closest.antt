@@ -4,7 +4,7 @@ use Rattle.std.proofs.lemmas.List.{take-take}
 use Rattle.fit_csv.specs.Rows.{Row}
 use Rattle.fit_csv.specs.Judged.{Agree, IsBadCell}
 use Rattle.fit_csv.specs.Seven.{AsFar, DifferAt}
-use Rattle.fit_csv.specs.Misfits.{IsMisfit}
+use Rattle.fit_csv.specs.Misfits.{IsCellFault, IsMisfit}
 use Rattle.fit_csv.specs.declared.from.misfit.Misfit.{Misfit}
 use Rattle.fit_csv.specs.declared.from.misfit.Misfit.TheVariants.{Kind, Cell, NoMemory}
 
@@ -26,23 +26,36 @@ pub closest : (CanStand : Row → Type 0) (row candidate : Row) (column : ℕ) �
 closest CanStand row candidate column can far differs = record {
   behind_kind = differs.behind_kind;
   bad = λ other stands e. differs.there (as_far column other candidate row (far other stands) e);
-  good_before = inr (candidate, can, differs.before);
+  before = (candidate, can, inl differs.before);
 }
 
 -- rows that agree in two cells or more are of one kind
-pub kind-agrees : (column : ℕ) (a b : Row) → 2 ≤ column → Agree column a b → take 1 a ≡ take 1 b
-kind-agrees column a b h e = sym (take-take 1 column a (omega (arith, h))) ∙ ap (λ r. take 1 r) e ∙ take-take 1 column b (omega (arith, h))
+pub kind-agrees : (column : ℕ) (a b : Row) → 2 ≤ column → Agree column a b → Agree 1 a b
+kind-agrees column a b h e = sym (take-take 1 column a (omega (arith, h))) ∙ ap (λ (r : Row). take 1 r) e ∙ take-take 1 column b (omega (arith, h))
 
--- a row's kind decides which rows can stand in its place
-pub of-kind : (P Q : Row → Type 0) (row : Row) (misfit : Misfit) → ((other : Row) → P other → Q other) → ((other : Row) → Q other → take 1 other ≡ take 1 row → P other)
-    → IsMisfit P row misfit → IsMisfit Q row misfit
-of-kind P Q row Kind up down h = λ other stands e. h other (down other stands e) e
-of-kind P Q row (Cell column) up down h = record {
+bad-of-kind : (P Q : Row → Type 0) (row : Row) (column : ℕ) → ((other : Row) → P other → Q other) → ((other : Row) → Q other → Agree 1 other row → P other)
+    → IsBadCell P row column → IsBadCell Q row column
+bad-of-kind P Q row column up down h = record {
   behind_kind = h.behind_kind;
   bad = λ other stands e. h.bad other (down other stands (kind-agrees column other row h.behind_kind e)) e;
-  good_before = elim h.good_before [
-    | inl second ↦ inl second
-    | inr some ↦ inr (some.0, up some.0 some.1, some.2)
-  ];
+  before = (h.before.0, up h.before.0 h.before.1, h.before.2);
 }
+
+-- Which rows can stand in the place of a row hangs on its kind.
+pub of-kind : (P Q : Row → Type 0) (row : Row) (misfit : Misfit) → ((other : Row) → P other → Q other) → ((other : Row) → Q other → Agree 1 other row → P other)
+    → IsCellFault P row misfit → IsCellFault Q row misfit
+of-kind P Q row Kind up down h = h
+of-kind P Q row (Cell column) up down h = bad-of-kind P Q row column up down h
 of-kind P Q row NoMemory up down h = tt
+
+-- a fault of a cell is one of the row
+pub cell-fault : (P : Row → Type 0) (row : Row) (misfit : Misfit) → IsCellFault P row misfit → IsMisfit P row misfit
+cell-fault P row Kind h = absurd h
+cell-fault P row (Cell column) h = h
+cell-fault P row NoMemory h = tt
+
+-- where the same rows can stand, the same doesn't fit
+pub same-rows : (P Q : Row → Type 0) (row : Row) (misfit : Misfit) → ((other : Row) → P other → Q other) → ((other : Row) → Q other → P other) → IsMisfit P row misfit → IsMisfit Q row misfit
+same-rows P Q row Kind up down h = λ other stands. h other (down other stands)
+same-rows P Q row (Cell column) up down h = bad-of-kind P Q row column up (λ other stands e. down other stands) h
+same-rows P Q row NoMemory up down h = tt

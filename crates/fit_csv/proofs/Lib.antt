@@ -30,3 +30,5 @@ mod ZeroItems
 mod HeaderRows
 mod MessageRows
 mod ValueRows
+mod ValueSteps
+mod PartSteps

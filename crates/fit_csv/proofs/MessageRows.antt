@@ -1,5 +1,5 @@
 -- Rows of data messages.
-use Rattle.std.proofs.Common.{◌≡◌, ◌∙◌, ℕ, ◌<◌, ◌^◌, List, [], ◌∷◌, length, decimal, Option, Some, None, refl, sym, ap, subst, arith}
+use Rattle.std.proofs.Common.{◌≡◌, ◌∙◌, ℕ, ◌<◌, ◌^◌, List, [], ◌∷◌, length, take, decimal, Option, Some, None, refl, sym, ap, subst, inl, inr, arith}
 use Rattle.std.specs.Prelude.{codes, IfSome, IsSome, option_map, unwrap_or}
 use Rattle.std.specs.Global.{Global}
 use Rattle.std.proofs.lemmas.Fmt.{decimal_injective}
@@ -10,11 +10,14 @@ use Rattle.fit_record.specs.Records.{DataHeaderFits}
 use Rattle.fit_profile.specs.Looks.{known}
 use Rattle.fit_profile.specs.Names.{message_label}
 use Rattle.fit_profile.specs.Times.{header_time, previous_time}
-use Rattle.fit_csv.specs.ChainRows.{data_row, optional_number, row}
+use Rattle.fit_csv.specs.ChainRows.{data_row, end_row, optional_number, row}
+use Rattle.fit_csv.specs.Judged.{IsBadCell}
+use Rattle.fit_csv.specs.declared.from.misfit.Misfit.{Misfit}
 use Rattle.fit_csv.specs.InstantText.{instant_text}
-use Rattle.fit_csv.specs.Misfits.{IsMessageRow, IsMessageStart, global_at, message_row}
+use Rattle.fit_csv.specs.Misfits.{IsCellFault, IsMessageOrEnd, IsMessageRow, IsMessageStart, global_at, message_row}
 use Rattle.fit_csv.specs.Rows.{Cell, Row}
 use Rattle.fit_csv.specs.Seven.{AsFar}
+use Rattle.fit_csv.proofs.Closest.{of-kind}
 use Rattle.fit_csv.proofs.ClosestRows.{none-shown}
 
 pub small-offset : (local : ℕ) (offset : Option ℕ) → DataHeaderFits local offset → IfSome offset (λ n. n < 2 ^ 8)
@@ -45,3 +48,26 @@ message-closest before ta tb tc td te tf local offset small shown is_b other (v,
       (ap optional_number same_offset ∙ eb, λ ec.
       (ap (λ l. message_label (global_at before l)) (sym same) ∙ ec, λ ed.
       (ap (λ o. time_cell before o) same_offset ∙ ed, λ ee. (ee, λ ef. (ef, tt))))))))
+
+-- rows of data messages are none in which a file ends
+pub message-or-end : (before : List (Record Global)) (row : Row) (misfit : Misfit) → take 1 row ≡ codes "data" ∷ [] → IsCellFault (IsMessageRow before) row misfit → IsCellFault (IsMessageOrEnd before) row misfit
+message-or-end before row misfit kind =
+    of-kind (IsMessageRow before) (IsMessageOrEnd before) row misfit (λ other stands. inl stands) (λ other stands e. elim stands [
+      | inl message ↦ message
+      | inr end ↦ let words : take 1 end_row ≡ codes "data" ∷ [] = ap (λ (r : Row). take 1 r) (sym end) ∙ e ∙ kind in cc words
+    ])
+
+-- a cell that shows no local message type that is defined
+pub no-message : (before : List (Record Global)) (ta tb tc td te tf : Cell) → ((n : ℕ) → n < 16 → decimal n ≡ ta → IsSome (defined_at (known before) n) → ⊥)
+    → IsBadCell (IsMessageOrEnd before) (row (codes "data") ta tb tc td te tf) 2
+no-message before ta tb tc td te tf none = record {
+  behind_kind = omega arith;
+  bad = λ other stands agree. elim stands [
+    | inl message ↦
+        let v = message.0 in
+        let two : take 2 (message_row before v) ≡ take 2 (row (codes "data") ta tb tc td te tf) = ap (λ (r : Row). take 2 r) (sym message.2) ∙ agree in
+        none v.local (small-local v.local v.offset message.1.header) (cc two) message.1.defined
+    | inr end ↦ let words : take 2 end_row ≡ take 2 (row (codes "data") ta tb tc td te tf) = ap (λ (r : Row). take 2 r) (sym end) ∙ agree in cc words
+  ];
+  before = (end_row, inr refl, inr (refl, inr (refl, refl)));
+}

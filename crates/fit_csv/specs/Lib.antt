@@ -11,4 +11,5 @@ pub mod Reporting
 pub mod Judged
 pub mod Seven
 pub mod Misfits
+pub mod Progress
 pub mod Laws

@@ -1,5 +1,5 @@
 -- Rows that can be read at a place, and why others can't. No public contract names these definitions.
-use Rattle.std.specs.Prelude.{◌≡◌, ◌⊎◌, ◌<◌, ◌≤◌, ◌^◌, ℕ, List, [], Option, take, codes, decimal, IfSome, IsSome, option_map, unwrap_or}
+use Rattle.std.specs.Prelude.{◌≡◌, ◌⊎◌, ◌<◌, ◌≤◌, ◌^◌, ℕ, List, [], Option, codes, decimal, IfSome, IsSome, option_map, unwrap_or}
 use Rattle.std.specs.Global.{Global}
 use Rattle.fit_base.specs.declared.items.Items.{Items}
 use Rattle.fit_base.specs.Fields.{HasShape}
@@ -12,22 +12,29 @@ use Rattle.fit_record.specs.declared.message.Values.{Values}
 use Rattle.fit_record.specs.declared.message.Record.{Record}
 use Rattle.fit_record.specs.Environment.{defined_at}
 use Rattle.fit_record.specs.Records.{DataHeaderFits}
+use Rattle.fit_profile.specs.Described.{Naming}
 use Rattle.fit_profile.specs.Profile.{Meaning}
 use Rattle.fit_profile.specs.Looks.{known}
 use Rattle.fit_profile.specs.Times.{header_time, previous_time}
 use Rattle.fit_csv.specs.Cells.{cell}
 use Rattle.fit_csv.specs.Rows.{Cell, Row}
-use Rattle.fit_csv.specs.Judged.{HeaderInRange, IsBadCell}
-use Rattle.fit_csv.specs.ChainRows.{data_row, dev_def_row, end_row, file_row, field_def_row, optional_number, order_word, row}
+use Rattle.fit_csv.specs.Judged.{HeaderInRange, IsBadCell, MayBeOfKind}
+use Rattle.fit_csv.specs.ChainRows.{data_row, dev_def_row, dev_row, end_row, field_row, file_row, field_def_row, optional_number, order_word, row}
 use Rattle.fit_csv.specs.declared.from.definition.DefinitionHead.{DefinitionHead}
 use Rattle.fit_csv.specs.declared.from.misfit.Misfit.{Misfit}
 use Rattle.fit_csv.specs.declared.from.misfit.Misfit.TheVariants.{Kind, Cell as BadCell, NoMemory}
 
--- why the row can't stand where these can: no such row has its first cell, or one of its other cells is bad
+-- why the row can't stand where these can: no row has its kind, or one of its other cells is bad
 abbrev pub IsMisfit : (Row → Type 0) → Row → Misfit → Type 0
-IsMisfit CanStand r Kind = (other : Row) → CanStand other → take 1 other ≡ take 1 r → ⊥
+IsMisfit CanStand r Kind = (other : Row) → CanStand other → MayBeOfKind other r → ⊥
 IsMisfit CanStand r (BadCell column) = IsBadCell CanStand r column
 IsMisfit CanStand r NoMemory = Unit {0}
+
+-- the same of a row whose kind is right
+abbrev pub IsCellFault : (Row → Type 0) → Row → Misfit → Type 0
+IsCellFault CanStand r Kind = ⊥
+IsCellFault CanStand r (BadCell column) = IsBadCell CanStand r column
+IsCellFault CanStand r NoMemory = Unit {0}
 
 -- three numbers of a byte each behind the kind, and nothing behind them
 abbrev pub IsRowOfThree : Cell → Row → Type 0
@@ -85,9 +92,21 @@ message_row before v = data_row v (global_at before v.local) (header_time (previ
 abbrev pub IsMessageRow : List (Record Global) → Row → Type 0
 IsMessageRow before r = (v : Values Global) × IsMessageStart before v × (r ≡ message_row before v)
 
+-- a file may end there too
+abbrev pub IsMessageOrEnd : List (Record Global) → Row → Type 0
+IsMessageOrEnd before r = IsMessageRow before r ⊎ (r ≡ end_row)
+
 -- a row of a field: label, items, unit
 abbrev pub IsValueRow : Cell → Cell → ℕ → ℕ → Option Meaning → Cell → Row → Type 0
 IsValueRow kind label code size info unit r = (i : Items Global) × HasShape code size i × (r ≡ row kind label (cell code info i) unit [] [] [])
+
+-- the row of a field of a message with this global message number
+abbrev pub IsFieldRow : ℕ → FieldDef → Row → Type 0
+IsFieldRow global f r = (i : Items Global) × HasShape f.code f.size i × (r ≡ field_row global f i)
+
+-- the row of a developer field of this code, with this naming
+abbrev pub IsDevRow : DevDef → ℕ → Naming → Row → Type 0
+IsDevRow f code naming r = (i : Items Global) × HasShape code f.size i × (r ≡ dev_row f code naming i)
 
 -- ---- the rows in which files begin and end
 

@@ -2,13 +2,15 @@
 ghost use Rattle.std.specs.Prelude.{◌≡◌, ◌<◌, ◌^◌, [], ℕ, Option, codes, decimal, IfErr, IfOk, IfSome};
 ghost use Rattle.fit_csv.specs.ChainRows.{dev_def_row, field_def_row, optional_number, order_word, row};
 ghost use Rattle.fit_base.specs.declared.number.Order.{Order};
-ghost use Rattle.fit_csv.specs.Misfits.{HeadInRange, IsDevDefRow, IsFieldDefRow, IsHeadRow, IsMisfit, IsRowOfThree, head_row};
+ghost use Rattle.fit_csv.specs.Misfits.{DevDefInRange, FieldDefInRange, HeadInRange, IsDevDefRow, IsFieldDefRow, IsHeadRow, IsCellFault, IsRowOfThree, head_row};
 ghost use Rattle.fit_csv.specs.Rows.{Row};
 ghost use Rattle.fit_csv.specs.Seven.{AsFar, row_of};
 
+use crate::definition_rows::order_word;
 use crate::from::cells::{Cells, first_difference, same};
 use crate::from::misfit::Misfit;
-use crate::from::number::{byte_in, number_in, optional_text};
+use crate::from::number::{byte_in, number_in};
+use crate::message_rows::optional_number;
 use fit_base::{Entries, Order};
 use fit_record::{DevDef, FieldDef};
 use itoa::Buffer;
@@ -65,16 +67,6 @@ fn order_in(cell: &[u8]) -> Order
     }
 }
 
-/// The cell of a byte order.
-pub(crate) fn order_word(order: Order) -> &'static [u8]
-    ensures { result.now ≡ order_word order }
-{
-    match order {
-        Order::Little => b"little",
-        Order::Big => b"big",
-    }
-}
-
 /// The first row of a definition message that is as close to a row as any.
 fn closest_head(cells: &Cells) -> DefinitionHead
     requires { cells.now.kind.now ≡ codes "def" }
@@ -96,7 +88,7 @@ pub(crate) fn definition_head(cells: &Cells) -> Result<DefinitionHead, Misfit>
     requires { cells.now.kind.now ≡ codes "def" }
     ensures range { IfOk result HeadInRange }
     ensures ok { IfOk result (λ head. row_of cells.now ≡ head_row head) }
-    ensures err { IfErr result (IsMisfit IsHeadRow (row_of cells.now)) }
+    ensures err { IfErr result (IsCellFault IsHeadRow (row_of cells.now)) }
 {
     let head = closest_head(cells);
     let (mut local, mut reserved) = (Buffer::new(), Buffer::new());
@@ -105,10 +97,10 @@ pub(crate) fn definition_head(cells: &Cells) -> Result<DefinitionHead, Misfit>
         kind: cells.kind,
         a: local.format(head.local).as_bytes(),
         b: reserved.format(head.reserved).as_bytes(),
-        c: order_word(head.order),
+        c: order_word(head.order).as_bytes(),
         d: global.format(head.global).as_bytes(),
         e: fields.format(head.fields).as_bytes(),
-        f: optional_text(&mut dev, head.dev),
+        f: optional_number(&mut dev, head.dev),
     };
     match first_difference(cells, &shown) {
         None => Ok(head),
@@ -119,7 +111,7 @@ pub(crate) fn definition_head(cells: &Cells) -> Result<DefinitionHead, Misfit>
 /// Three numbers of a byte each in the cells of a row, of which the other ones are empty.
 fn three_bytes(cells: &Cells) -> Result<(u8, u8, u8), Misfit>
     ensures ok { IfOk result (λ n. row_of cells.now ≡ row cells.now.kind.now (decimal n.0) (decimal n.1) (decimal n.2) [] [] []) }
-    ensures err { IfErr result (IsMisfit (IsRowOfThree cells.now.kind.now) (row_of cells.now)) }
+    ensures err { IfErr result (IsCellFault (IsRowOfThree cells.now.kind.now) (row_of cells.now)) }
 {
     let (a, b, c) = (byte_in(cells.a), byte_in(cells.b), byte_in(cells.c));
     let (mut a_text, mut b_text, mut c_text) = (Buffer::new(), Buffer::new(), Buffer::new());
@@ -141,8 +133,9 @@ fn three_bytes(cells: &Cells) -> Result<(u8, u8, u8), Misfit>
 /// The row of a field of a definition.
 pub(crate) fn field_def(cells: &Cells) -> Result<FieldDef, Misfit>
     requires { cells.now.kind.now ≡ codes "fdef" }
+    ensures range { IfOk result FieldDefInRange }
     ensures ok { IfOk result (λ f. row_of cells.now ≡ field_def_row f) }
-    ensures err { IfErr result (IsMisfit IsFieldDefRow (row_of cells.now)) }
+    ensures err { IfErr result (IsCellFault IsFieldDefRow (row_of cells.now)) }
 {
     let (number, size, code) = three_bytes(cells)?;
     Ok(FieldDef { number, size, code })
@@ -151,8 +144,9 @@ pub(crate) fn field_def(cells: &Cells) -> Result<FieldDef, Misfit>
 /// The row of a developer field of a definition.
 pub(crate) fn dev_def(cells: &Cells) -> Result<DevDef, Misfit>
     requires { cells.now.kind.now ≡ codes "ddef" }
+    ensures range { IfOk result DevDefInRange }
     ensures ok { IfOk result (λ f. row_of cells.now ≡ dev_def_row f) }
-    ensures err { IfErr result (IsMisfit IsDevDefRow (row_of cells.now)) }
+    ensures err { IfErr result (IsCellFault IsDevDefRow (row_of cells.now)) }
 {
     let (number, size, index) = three_bytes(cells)?;
     Ok(DevDef { number, size, index })

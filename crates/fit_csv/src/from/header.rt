@@ -4,7 +4,7 @@ ghost use Rattle.fit_frame.specs.declared.header.HeaderSum.{HeaderSum};
 ghost use Rattle.fit_csv.specs.ChainRows.{end_row, file_row};
 ghost use Rattle.fit_csv.specs.ChainRows as rows;
 ghost use Rattle.fit_csv.specs.Judged.{HeaderInRange};
-ghost use Rattle.fit_csv.specs.Misfits.{HasSum, IsEndRow, IsFileRow, IsHeaderSize, IsMisfit};
+ghost use Rattle.fit_csv.specs.Misfits.{HasSum, IsEndRow, IsFileRow, IsHeaderSize, IsCellFault};
 ghost use Rattle.fit_csv.specs.Rows.{Row};
 ghost use Rattle.fit_csv.specs.Seven.{AsFar, DifferAt, row_of};
 
@@ -134,7 +134,7 @@ pub(crate) fn file_header(alloc: Global, cells: &Cells) -> Result<Header, Misfit
     requires { cells.now.kind.now ≡ codes "file" }
     ensures range { IfOk result HeaderInRange }
     ensures ok { IfOk result (λ h. row_of cells.now ≡ file_row h) }
-    ensures err { IfErr result (IsMisfit IsFileRow (row_of cells.now)) }
+    ensures err { IfErr result (IsCellFault IsFileRow (row_of cells.now)) }
 {
     let header = closest_header(alloc, cells)?;
     match difference(alloc, cells, &header)? {
@@ -147,7 +147,7 @@ pub(crate) fn file_header(alloc: Global, cells: &Cells) -> Result<Header, Misfit
 pub(crate) fn file_end(cells: &Cells) -> Result<(), Misfit>
     requires { cells.now.kind.now ≡ codes "end" }
     ensures ok { OnOk result (row_of cells.now ≡ end_row) }
-    ensures err { IfErr result (IsMisfit IsEndRow (row_of cells.now)) }
+    ensures err { IfErr result (IsCellFault IsEndRow (row_of cells.now)) }
 {
     let shown = Cells {
         kind: cells.kind,

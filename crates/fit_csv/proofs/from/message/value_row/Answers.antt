@@ -11,8 +11,14 @@ use Rattle.fit_csv.specs.Rows.{Row}
 use Rattle.fit_csv.specs.Seven.{DifferAt, row_of}
 use Rattle.fit_csv.proofs.Closest.{closest}
 use Rattle.fit_csv.proofs.SevenCells.{same-cells}
-use Rattle.fit_csv.proofs.ValueRows.{no-items, value-closest}
+use Rattle.fit_csv.proofs.ValueRows.{no-items, no-label, value-closest}
 use Rattle.fit_csv.proofs.from.message.value_row.Goals as goal
+
+pub returns-then-not-same-clause-err : goal.returns-then-not-same-clause-err
+returns-then-not-same-clause-err c =
+    let cells = c.args.cells.now in
+    no-label cells.kind.now c.args.label.now cells.a.now cells.b.now cells.c.now cells.d.now cells.e.now cells.f.now c.args.code.0 c.args.size (option_map meaning c.args.info) c.args.unit.now
+    (λ e. cc (c.if-not-same.ensures.1 e))
 
 pub returns-in_default-clause-err : goal.returns-in_default-clause-err
 returns-in_default-clause-err c =
