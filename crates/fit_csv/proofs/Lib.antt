@@ -28,3 +28,6 @@ mod MessageRows
 mod ValueRows
 mod ValueSteps
 mod PartSteps
+mod KnownDefinitions
+mod SoFar
+mod SoundSteps
