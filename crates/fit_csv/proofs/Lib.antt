@@ -31,3 +31,5 @@ mod PartSteps
 mod KnownDefinitions
 mod SoFar
 mod SoundSteps
+mod MoreRows
+mod ChainSteps

@@ -142,7 +142,7 @@ dev-rows-more fields dev_codes namings items f code i long e coded =
     ∙ ap (map (λ x. dev_row x.0.0 x.0.1 x.1.0 x.1.1)) (zip-last (zip fields dev_codes) (zip namings items) (f, code) (n, i) both)
     ∙ map-append (λ x. dev_row x.0.0 x.0.1 x.1.0 x.1.1) (zip (zip fields dev_codes) (zip namings items)) (((f, code), (n, i)) ∷ [])
 
-without-dev-rows : (rows : List Row) (fields : List DevDef) (dev_codes : List ℕ) (namings : List Naming) (dev : List (Items Global)) → dev ≡ [] → rows ++ dev_rows fields dev_codes namings dev ≡ rows
+pub without-dev-rows : (rows : List Row) (fields : List DevDef) (dev_codes : List ℕ) (namings : List Naming) (dev : List (Items Global)) → dev ≡ [] → rows ++ dev_rows fields dev_codes namings dev ≡ rows
 without-dev-rows rows fields dev_codes namings dev none =
     ap (λ (d : List (Items Global)). rows ++ dev_rows fields dev_codes namings d) none ∙ ap (λ (l : List Row). rows ++ l) (no-rows fields dev_codes namings) ∙ append-nil rows
 

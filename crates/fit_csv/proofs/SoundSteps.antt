@@ -38,7 +38,7 @@ pub all-last : {X : Type 0} (P : X → Type 0) (xs : List X) (x : X) → AllByRe
 all-last P [] x h p = (p, tt)
 all-last P (y ∷ xs) x h p = (h.0, all-last P xs x h.1 p)
 
-length-last : {X : Type 0} (xs : List X) (x : X) → length (xs ++ x ∷ []) ≡ suc (length xs)
+pub length-last : {X : Type 0} (xs : List X) (x : X) → length (xs ++ x ∷ []) ≡ suc (length xs)
 length-last [] x = refl
 length-last (y ∷ xs) x = let more = length-last xs x in omega (arith, more)
 
@@ -159,11 +159,11 @@ message-sound before p v r w sound (inr (all, step)) =
       in_order = λ more. absurd (omega (arith, more, all));
     }), ap (λ (x : Values Global). x.local) same)
 
-is-some-at : {X : Type 0} (o : Option X) → IsSome o → (x : X) × (o ≡ Some x)
+pub is-some-at : {X : Type 0} (o : Option X) → IsSome o → (x : X) × (o ≡ Some x)
 is-some-at None h = cc h
 is-some-at (Some x) h = (x, refl)
 
-at-some : {X : Type 0} (o : Option X) (x : X) (P : X → Type 0) → o ≡ Some x → P x → IsSomeAnd o P
+pub at-some : {X : Type 0} (o : Option X) (x : X) (P : X → Type 0) → o ≡ Some x → P x → IsSomeAnd o P
 at-some o x P e p = subst (λ q. IsSomeAnd q P) (sym e) p
 
 start-sound : (before : List (Record Global)) (v : Values Global) → IsMessageStart before v → IsSoundSoFar before (Message v)

@@ -1,5 +1,5 @@
 use Rattle.fit_csv.specs.Probe.{probed}
-use Rattle.fit_csv.proofs.SoundSteps.{all-last}
+use Rattle.fit_csv.proofs.ChainSteps.{end-misfit}
 use Rattle.fit_csv.proofs.from.probe.probe.Goals as goal
 
 pub returns : goal.returns
