@@ -32,3 +32,8 @@ mod MessageRows
 mod ValueRows
 mod ValueSteps
 mod PartSteps
+mod KnownDefinitions
+mod SoFar
+mod SoundSteps
+mod MoreRows
+mod ChainSteps

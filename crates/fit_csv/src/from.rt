@@ -11,3 +11,4 @@ mod number;
 mod open_definition;
 mod open_file;
 mod open_message;
+mod probe;
