@@ -4,6 +4,8 @@ pub mod RowsOfEvents
 mod AddedRows
 mod ToldRows
 mod Converted
+mod ProfileScales
+mod ToldTable
 mod Shapes
 mod NamingFacts
 mod DevFields
@@ -29,3 +31,10 @@ mod HeaderRows
 mod MessageRows
 mod ValueRows
 pub mod ShownLines
+mod ValueSteps
+mod PartSteps
+mod KnownDefinitions
+mod SoFar
+mod SoundSteps
+mod MoreRows
+mod ChainSteps

@@ -77,6 +77,13 @@ impl<W: Write> WriteSink<W> {
             failed: false,
         }
     }
+
+    /// The writer, which holds what was put.
+    pub fn into_inner(self) -> W
+        ensures { W.contents result ≡ self.held }
+    {
+        self.writer
+    }
 }
 
 impl<W: Write> Sink for WriteSink<W> {

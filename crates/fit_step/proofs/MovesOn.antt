@@ -1,5 +1,5 @@
 -- A byte that ends no number only moves on.
-use Rattle.std.proofs.Common.{◌≡◌, cond, false, ℕ, ◌+◌, ◌-◌, ◌<◌, List, [], ◌∷◌, ◌++◌, length, length-append, refl, sym, ap, ◌∙◌, arith, Some, None, Ok}
+use Rattle.std.proofs.Common.{◌≡◌, cond, false, ℕ, ◌+◌, ◌-◌, ◌<◌, List, [], ◌∷◌, ◌++◌, length, length-append, sym, ap, ◌∙◌, arith, Some, None, Ok}
 use Rattle.std.specs.Prelude.{Option, ◌==◌}
 use Rattle.std.proofs.lemmas.Bool.{cond-false, ne_eqb}
 use Rattle.fit_base.specs.Numbers.{number}
@@ -11,7 +11,7 @@ use Rattle.fit_record.specs.Records.{order_at}
 use Rattle.fit_step.specs.declared.phase.Phase.{Phase}
 use Rattle.fit_step.specs.declared.phase.Phase.TheVariants.{FieldItems, DevItems}
 use Rattle.fit_step.specs.declared.position.Position.{Position}
-use Rattle.fit_step.specs.Machine.{Tests, Step, add_number, reading, field_move, dev_move, values_of, step, step_at}
+use Rattle.fit_step.specs.Machine.{Tests, add_number, reading, field_move, dev_move, values_of, step, step_at}
 use Rattle.fit_step.specs.Places.{state_at}
 
 module _ {A : Type 0} (e : Environment A) (place width left room : ℕ) (v : Values A) (partial : List ℕ) (b : ℕ) (some : 1 < left) (short : length partial + 1 < width) where

@@ -1,4 +1,4 @@
-use Rattle.std.proofs.Common.{◌≡◌, ◌+◌, ◌<◌, length, refl, arith}
+use Rattle.std.proofs.Common.{refl, arith}
 use Rattle.fit_step.specs.Machine.{values_of}
 use Rattle.fit_step.specs.Tests.{tests_of}
 use Rattle.fit_step.proofs.MovesOn.{inside_field, inside_dev}
