@@ -12,7 +12,7 @@ use Rattle.fit_report.specs.declared.fault.ReportFault.{ReportFault}
 use Rattle.fit_report.specs.declared.fault.ReportFault.TheVariants as report
 use Rattle.fit_report.specs.Heard.{Lines, text_of}
 use Rattle.fit_report.specs.Reports.{Channel, FailsIn, Reports, ReportsChain, Tells}
-use Rattle.fit_report.proofs.Consumed.{Consumes-nothing}
+use Rattle.fit_decode.proofs.Consumed.{Consumes-nothing}
 use Rattle.fit_report.proofs.Outcomes.{nothing_heard}
 use Rattle.fit_report.proofs.Texts.{Appends-append}
 use Rattle.fit_csv.specs.declared.fault.CsvFault.{CsvFault}
