@@ -4,6 +4,8 @@ pub mod RowsOfEvents
 mod AddedRows
 mod ToldRows
 mod Converted
+mod ProfileScales
+mod ToldTable
 mod Shapes
 mod NamingFacts
 mod DevFields
@@ -28,3 +30,10 @@ mod ZeroItems
 mod HeaderRows
 mod MessageRows
 mod ValueRows
+mod ValueSteps
+mod PartSteps
+mod KnownDefinitions
+mod SoFar
+mod SoundSteps
+mod MoreRows
+mod ChainSteps

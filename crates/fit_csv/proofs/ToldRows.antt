@@ -36,7 +36,7 @@ answer_text heard (answers.Item r) = refl
 answer_text heard answers.FileEnd = refl
 
 -- the latest records are those behind the events in their order
-latest : {A : Type 0} (heard : List (Event A)) → records_after [] (reverse heard) ≡ latest_records heard
+pub latest : {A : Type 0} (heard : List (Event A)) → records_after [] (reverse heard) ≡ latest_records heard
 latest [] = refl
 latest (x ∷ heard) =
     ap (records_after []) (reverse-append (x ∷ []) heard) ∙ records-more [] (reverse heard) x ∙ ap (λ before. records_behind before x) (latest heard) ∙ behind x

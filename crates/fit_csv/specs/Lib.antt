@@ -5,10 +5,13 @@ pub mod InstantText
 pub mod Degrees
 pub mod ChainRows
 pub mod Table
+pub mod TableCells
 pub mod Conversions
 pub mod Reporting
 pub mod Judged
 pub mod Seven
 pub mod Misfits
 pub mod Progress
+pub mod SoundChain
 pub mod Laws
+pub mod Probe

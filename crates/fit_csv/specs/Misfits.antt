@@ -12,13 +12,15 @@ use Rattle.fit_record.specs.declared.message.Values.{Values}
 use Rattle.fit_record.specs.declared.message.Record.{Record}
 use Rattle.fit_record.specs.Environment.{defined_at}
 use Rattle.fit_record.specs.Records.{DataHeaderFits}
+use Rattle.fit_profile.specs.Described.{Naming}
 use Rattle.fit_profile.specs.Profile.{Meaning}
 use Rattle.fit_profile.specs.Looks.{known}
 use Rattle.fit_profile.specs.Times.{header_time, previous_time}
 use Rattle.fit_csv.specs.Cells.{cell}
 use Rattle.fit_csv.specs.Rows.{Cell, Row}
 use Rattle.fit_csv.specs.Judged.{HeaderInRange, IsBadCell, MayBeOfKind}
-use Rattle.fit_csv.specs.ChainRows.{data_row, dev_def_row, end_row, file_row, field_def_row, optional_number, order_word, row}
+pub use Rattle.fit_csv.specs.Judged.{DevDefInRange, FieldDefInRange}
+use Rattle.fit_csv.specs.ChainRows.{data_row, dev_def_row, dev_row, end_row, field_row, file_row, field_def_row, optional_number, order_word, row}
 use Rattle.fit_csv.specs.declared.from.definition.DefinitionHead.{DefinitionHead}
 use Rattle.fit_csv.specs.declared.from.misfit.Misfit.{Misfit}
 use Rattle.fit_csv.specs.declared.from.misfit.Misfit.TheVariants.{Kind, Cell as BadCell, NoMemory}
@@ -38,17 +40,6 @@ IsCellFault CanStand r NoMemory = Unit {0}
 -- three numbers of a byte each behind the kind, and nothing behind them
 abbrev pub IsRowOfThree : Cell → Row → Type 0
 IsRowOfThree kind r = (a : ℕ) × (b : ℕ) × (c : ℕ) × (a < 2 ^ 8) × (b < 2 ^ 8) × (c < 2 ^ 8) × (r ≡ row kind (decimal a) (decimal b) (decimal c) [] [] [])
-
--- each number of a field is one of a byte
-pub record FieldDefInRange (f : FieldDef) : Type 0 where
-  pub number : f.number < 2 ^ 8
-  pub size : f.size < 2 ^ 8
-  pub code : f.code < 2 ^ 8
-
-pub record DevDefInRange (f : DevDef) : Type 0 where
-  pub number : f.number < 2 ^ 8
-  pub size : f.size < 2 ^ 8
-  pub index : f.index < 2 ^ 8
 
 abbrev pub IsFieldDefRow : Row → Type 0
 IsFieldDefRow r = (f : FieldDef) × FieldDefInRange f × (r ≡ field_def_row f)
@@ -98,6 +89,14 @@ IsMessageOrEnd before r = IsMessageRow before r ⊎ (r ≡ end_row)
 -- a row of a field: label, items, unit
 abbrev pub IsValueRow : Cell → Cell → ℕ → ℕ → Option Meaning → Cell → Row → Type 0
 IsValueRow kind label code size info unit r = (i : Items Global) × HasShape code size i × (r ≡ row kind label (cell code info i) unit [] [] [])
+
+-- the row of a field of a message with this global message number
+abbrev pub IsFieldRow : ℕ → FieldDef → Row → Type 0
+IsFieldRow global f r = (i : Items Global) × HasShape f.code f.size i × (r ≡ field_row global f i)
+
+-- the row of a developer field of this code, with this naming
+abbrev pub IsDevRow : DevDef → ℕ → Naming → Row → Type 0
+IsDevRow f code naming r = (i : Items Global) × HasShape code f.size i × (r ≡ dev_row f code naming i)
 
 -- ---- the rows in which files begin and end
 

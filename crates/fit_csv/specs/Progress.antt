@@ -1,5 +1,5 @@
 -- What has been read of a chain, and how one more row goes on. No public contract names these definitions.
-use Rattle.std.specs.Prelude.{◌≡◌, ◌⊎◌, ◌<◌, ℕ, ◌==◌, ◌&&◌, Bool, true, if◌then◌else◌, List, [], ◌∷◌, ◌++◌, length, Option, Some, None, IsSomeAnd, option_map, unwrap_or, slice_get}
+use Rattle.std.specs.Prelude.{◌≡◌, ◌⊎◌, ◌<◌, ◌≤◌, ℕ, ◌==◌, ◌&&◌, Bool, true, if◌then◌else◌, List, [], ◌∷◌, ◌++◌, length, Option, Some, None, IfSome, IsSomeAnd, option_map, unwrap_or, slice_get}
 use Rattle.std.specs.Option.{option_map_or}
 use Rattle.std.specs.Global.{Global}
 use Rattle.fit_base.specs.declared.items.Items.{Items}
@@ -15,6 +15,7 @@ use Rattle.fit_record.specs.declared.message.Record.TheVariants.{Define, Values 
 use Rattle.fit_record.specs.declared.message.Values.{Values}
 use Rattle.fit_record.specs.Environment.{defined_at, dev_defs}
 use Rattle.fit_record.specs.Files.{chain_limit}
+use Rattle.fit_record.specs.Records.{DataFits, DefinitionFits}
 use Rattle.fit_profile.specs.Described.{Naming, namings_at, nameless}
 use Rattle.fit_profile.specs.Looks.{known}
 use Rattle.fit_csv.specs.ChainRows.{dev_def_row, dev_row, end_row, field_def_row, field_row, file_row}
@@ -82,6 +83,10 @@ has_all v p = (length v.fields == length p.definition.fields) && (length v.dev =
 abbrev pub is_whole_message : List (Record Global) → Values Global → Bool
 is_whole_message before v = option_map_or (has_all v) (defined_at (known before) v.local) true
 
+-- there are no more fields than are defined
+abbrev pub HasRoom : List (Record Global) → Values Global → Type 0
+HasRoom before v = IfSome (defined_at (known before) v.local) (λ p. length v.fields ≤ length p.definition.fields)
+
 -- the name and unit of a developer field of a local message type
 abbrev pub naming_at : List (Record Global) → ℕ → ℕ → Naming
 naming_at before local place = unwrap_or (slice_get (namings_at before local) place) nameless
@@ -128,6 +133,22 @@ PartStep before (Message v) r p = (w : Values Global) × MessageStep before v r 
 
 abbrev pub FileStep : OpenFile → Row → OpenFile → Type 0
 FileStep f r g = (p : Part) × PartStep f.before f.part r p × (g ≡ settled f p)
+
+-- what can stand there: that, or the end of the file
+abbrev pub CanGoOn : List (Record Global) → Part → Row → Type 0
+CanGoOn before part r = ((p : Part) × PartStep before part r p) ⊎ ((part ≡ Nothing) × (r ≡ end_row))
+
+-- there is room for one more row of the record
+abbrev pub PartHasRoom : List (Record Global) → Part → Type 0
+PartHasRoom before Nothing = Unit {0}
+PartHasRoom before (Definition o) = length o.fields ≤ o.head.fields
+PartHasRoom before (Message v) = HasRoom before v
+
+-- the record fits once it is whole
+abbrev pub FitsOnceWhole : List (Record Global) → Part → Type 0
+FitsOnceWhole before Nothing = Unit {0}
+FitsOnceWhole before (Definition o) = is_whole o ≡ true → DefinitionFits (definition_of o)
+FitsOnceWhole before (Message v) = is_whole_message before v ≡ true → IsSomeAnd (defined_at (known before) v.local) (DataFits v)
 
 -- ---- chains
 

@@ -8,13 +8,19 @@ ghost use Rattle.fit_decode.specs.Events.{file_events};
 ghost use Rattle.fit_csv.specs.ChainRows.{chain_rows, rows_of};
 ghost use Rattle.fit_csv.specs.Conversions.{Converts, ConvertsTo, RowsOf};
 ghost use Rattle.fit_csv.specs.Reporting.{HasText, csv_fault};
+ghost use Rattle.fit_csv.specs.Table.{table_of};
 
 use crate::CsvFault;
 use crate::report::CsvReport;
+use crate::table_report::TableReport;
 use fit_decode::Source;
 use fit_encode::{Sink, put_all};
 use fit_report::{Report, ReportFault, report};
 use std::alloc::Global;
+
+/// The first line of the table.
+const TABLE_LINE: &[u8] =
+    b"file,timestamp,position_lat,position_long,altitude,distance,speed,heart_rate,cadence,power,temperature\n";
 
 /// The fault of a conversion by that of its report, where so many bytes were written before it.
 fn csv_fault(fault: ReportFault, before: u64) -> CsvFault
@@ -79,4 +85,25 @@ pub fn to_csv<S: Source, K: Sink>(
 {
     let mut reporter = CsvReport::new(alloc);
     convert(alloc, source, sink, b"row,a,b,c,d,e,f\n", &mut reporter)
+}
+
+/// Writes the table of a chain of FIT files as CSV text: the first line, and then a row for each record message. It takes pieces of
+/// at most 4,096 bytes from the source, to the end of the input or the first fault, and writes a row as soon as its message is whole.
+/// Its faults are those of `to_csv`.
+pub fn table<S: Source, K: Sink>(
+    alloc: Global,
+    source: &mut S,
+    sink: &mut K,
+) -> Result<(), CsvFault>
+    ensures converts { Converts table_of
+        (record { before = S.remaining source.old; after = S.remaining source.new; failed = S.has_failed source.new })
+        (record { before = K.contents sink.old; after = K.contents sink.new; failed = K.has_failed sink.new }) result }
+    // Where the input is the bytes of a chain, its table is written, unless memory is refused or the source or the sink fails.
+    ensures chain { (fs : List (FitFile Global)) (b : List ℕ) → S.remaining source.old ≡ Some b → IsBytes b → IsChain chain_limit fs b
+        → ConvertsTo (table_of (flat_map file_events fs))
+        (record { before = S.remaining source.old; after = S.remaining source.new; failed = S.has_failed source.new })
+        (record { before = K.contents sink.old; after = K.contents sink.new; failed = K.has_failed sink.new }) result }
+{
+    let mut reporter = TableReport::new(alloc);
+    convert(alloc, source, sink, TABLE_LINE, &mut reporter)
 }

@@ -17,7 +17,7 @@ use itoa::Buffer;
 use std::alloc::AllocError;
 
 /// The label of a developer field without a name: its developer data index and its number.
-fn numbered_label(field: &DevDef) -> Label
+pub(crate) fn numbered_label(field: &DevDef) -> Label
     ensures { result.bytes ≡ codes "dev_" ++ decimal field.now.index ++ codes "_" ++ decimal field.now.number }
 {
     let mut label = Label::new();

@@ -151,7 +151,7 @@ pub(crate) fn put_fields(
 }
 
 /// The time of the header of the next message with this offset, or without one.
-fn header_time(stream: &Stream, offset: Option<u8>) -> Option<u32>
+pub(crate) fn header_time(stream: &Stream, offset: Option<u8>) -> Option<u32>
     ensures { result ≡ times.header_time (times.previous_time stream.now) offset }
 {
     match offset {

@@ -6,9 +6,11 @@ ghost use Rattle.fit_csv.specs.Misfits.{DevDefInRange, FieldDefInRange, HeadInRa
 ghost use Rattle.fit_csv.specs.Rows.{Row};
 ghost use Rattle.fit_csv.specs.Seven.{AsFar, row_of};
 
+use crate::definition_rows::order_word;
 use crate::from::cells::{Cells, first_difference, same};
 use crate::from::misfit::Misfit;
-use crate::from::number::{byte_in, number_in, optional_text};
+use crate::from::number::{byte_in, number_in};
+use crate::message_rows::optional_number;
 use fit_base::{Entries, Order};
 use fit_record::{DevDef, FieldDef};
 use itoa::Buffer;
@@ -65,16 +67,6 @@ fn order_in(cell: &[u8]) -> Order
     }
 }
 
-/// The cell of a byte order.
-pub(crate) fn order_word(order: Order) -> &'static [u8]
-    ensures { result.now ≡ order_word order }
-{
-    match order {
-        Order::Little => b"little",
-        Order::Big => b"big",
-    }
-}
-
 /// The first row of a definition message that is as close to a row as any.
 fn closest_head(cells: &Cells) -> DefinitionHead
     requires { cells.now.kind.now ≡ codes "def" }
@@ -105,10 +97,10 @@ pub(crate) fn definition_head(cells: &Cells) -> Result<DefinitionHead, Misfit>
         kind: cells.kind,
         a: local.format(head.local).as_bytes(),
         b: reserved.format(head.reserved).as_bytes(),
-        c: order_word(head.order),
+        c: order_word(head.order).as_bytes(),
         d: global.format(head.global).as_bytes(),
         e: fields.format(head.fields).as_bytes(),
-        f: optional_text(&mut dev, head.dev),
+        f: optional_number(&mut dev, head.dev),
     };
     match first_difference(cells, &shown) {
         None => Ok(head),

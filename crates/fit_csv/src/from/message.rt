@@ -6,22 +6,20 @@ ghost use Rattle.fit_base.specs.Fields.{HasShape};
 ghost use Rattle.fit_profile.specs.Looks.{known};
 ghost use Rattle.fit_profile.specs.Names.{meaning};
 ghost use Rattle.fit_profile.specs.Scaled.{IsScale};
-ghost use Rattle.fit_profile.specs.Times as times;
 ghost use Rattle.fit_record.specs.Environment.{defined_at};
 ghost use Rattle.fit_record.specs.Records.{DataHeaderFits};
 ghost use Rattle.fit_csv.specs.Cells.{cell};
 ghost use Rattle.fit_csv.specs.ChainRows.{optional_number, row};
-ghost use Rattle.fit_csv.specs.InstantText.{instant_text};
 ghost use Rattle.fit_csv.specs.Misfits.{IsMessageOrEnd, IsMessageRow, IsMessageStart, IsCellFault, IsValueRow, global_at, message_row};
 ghost use Rattle.fit_csv.specs.Seven.{row_of};
 
 use crate::from::cells::{Cells, first_difference, same};
 use crate::from::misfit::Misfit;
-use crate::from::number::{byte_in, optional_text};
+use crate::from::number::byte_in;
+use crate::message_rows::{header_time, optional_number, time_text};
 use crate::scan::cell_items;
 use fit_base::{Code, Entries, Items};
-use fit_profile::laws::instant_has_one_text;
-use fit_profile::{Info, Label, Stream, message_label, utc_text};
+use fit_profile::{Info, Stream, message_label};
 use fit_record::Values;
 use itoa::Buffer;
 use std::alloc::Global;
@@ -76,20 +74,6 @@ fn offset_in(cell: &[u8], local: u8) -> Option<u8>
     if offset < 32 { Some(offset) } else { None }
 }
 
-/// The text of the time that a message with this offset has by its header, empty where it has none.
-fn time_text(before: &Stream, offset: Option<u8>) -> Label
-    ensures { result.bytes ≡ unwrap_or (option_map instant_text (times.header_time (times.previous_time before.now) offset)) [] }
-{
-    instant_has_one_text();
-    let Some(offset) = offset else {
-        return Label::new();
-    };
-    match before.header_time(offset) {
-        Some(time) => utc_text(time),
-        None => Label::new(),
-    }
-}
-
 /// The first row of a data message whose local message type is known.
 fn rest_of_message(
     alloc: Global,
@@ -107,12 +91,12 @@ fn rest_of_message(
 {
     let offset = offset_in(cells.b, local);
     let label = message_label(global_at(before, local));
-    let time = time_text(before, offset);
+    let time = time_text(header_time(before, offset));
     let mut offset_text = Buffer::new();
     let shown = Cells {
         kind: cells.kind,
         a: cells.a,
-        b: optional_text(&mut offset_text, offset),
+        b: optional_number(&mut offset_text, offset),
         c: label.as_str().as_bytes(),
         d: time.as_str().as_bytes(),
         e: b"",

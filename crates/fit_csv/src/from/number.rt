@@ -1,8 +1,6 @@
 //! Numbers that cells show.
 ghost use Rattle.std.specs.Prelude.{◌≡◌, ◌<◌, ◌^◌, ℕ, decimal};
-ghost use Rattle.fit_csv.specs.ChainRows.{optional_number};
 
-use itoa::Buffer;
 use std::str;
 
 /// The number of two bytes that a cell shows, and some number where it shows none.
@@ -21,14 +19,4 @@ pub(crate) fn byte_in(cell: &[u8]) -> u8
 {
     let number = number_in(cell);
     if number < 256 { number as u8 } else { 0 }
-}
-
-/// The cell of a number of one byte, empty where there is none.
-pub(crate) fn optional_text(buffer: &mut Buffer, number: Option<u8>) -> &[u8]
-    ensures { result.now ≡ optional_number number }
-{
-    match number {
-        Some(number) => buffer.format(number).as_bytes(),
-        None => &[],
-    }
 }

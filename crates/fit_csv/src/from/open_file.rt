@@ -1,14 +1,19 @@
 //! A file of which not all rows have come.
-ghost use Rattle.std.specs.Prelude.{◌≡◌, ◌↔◌, ◌<◌, ◌⊎◌, IfErr, IfOk, IsTrue, OnErr, OnOk};
+ghost use Rattle.std.specs.Prelude.{◌≡◌, ◌↔◌, IfErr, IfOk, IsTrue, OnOk, codes};
 ghost use Rattle.fit_record.specs.Records.{Fits};
 ghost use Rattle.fit_profile.specs.Looks.{known};
+ghost use Rattle.fit_csv.specs.declared.from.open_file.Part.{Part};
 ghost use Rattle.fit_csv.specs.Misfits.{IsMisfit};
-ghost use Rattle.fit_csv.specs.Progress.{FileStep, PartStep, settled, with_record};
+ghost use Rattle.fit_csv.specs.Progress.{CanGoOn, FileStep, FitsOnceWhole, PartHasRoom, PartStep, settled, with_record};
 ghost use Rattle.fit_csv.specs.Seven.{row_of};
+ghost use Rattle.fit_csv.specs.SoundChain.{IsSoundFile};
 
-use crate::from::cells::Cells;
-use crate::from::definition::OpenDefinition;
+use crate::from::cells::{Cells, same};
+use crate::from::definition::{OpenDefinition, definition_head};
+use crate::from::message::message_head;
 use crate::from::misfit::Misfit;
+use crate::from::open_definition::{definition_of, is_whole, take_definition};
+use crate::from::open_message::{is_whole_message, take_message};
 use fit_base::Entries;
 use fit_frame::Header;
 use fit_profile::Stream;
@@ -35,6 +40,70 @@ pub(crate) struct OpenFile {
     pub part: Part,
 }
 
+/// Takes the first row of a definition.
+fn begin_definition(alloc: Global, before: &Stream, cells: &Cells) -> Result<Part, Misfit>
+    requires { cells.now.kind.now ≡ codes "def" }
+    ensures ok { IfOk result (PartStep before.now Part.Nothing (row_of cells.now)) }
+    ensures err { IfErr result (IsMisfit (CanGoOn before.now Part.Nothing) (row_of cells.now)) }
+{
+    let head = definition_head(cells)?;
+    Ok(Part::Definition(OpenDefinition {
+        head,
+        fields: Entries::new(alloc),
+        dev: Entries::new(alloc),
+    }))
+}
+
+/// Takes the first row of a data message.
+fn begin_message(alloc: Global, before: &Stream, cells: &Cells) -> Result<Part, Misfit>
+    requires { cells.now.kind.now ≡ codes "data" }
+    ensures ok { IfOk result (PartStep before.now Part.Nothing (row_of cells.now)) }
+    ensures err { IfErr result (IsMisfit (CanGoOn before.now Part.Nothing) (row_of cells.now)) }
+{
+    let values = message_head(alloc, cells, before)?;
+    Ok(Part::Message(values))
+}
+
+/// Takes the first row of a record.
+fn begin_record(alloc: Global, before: &Stream, cells: &Cells) -> Result<Part, Misfit>
+    requires { cells.now.kind.now ≡ codes "end" → ⊥ }
+    ensures ok { IfOk result (PartStep before.now Part.Nothing (row_of cells.now)) }
+    ensures err { IfErr result (IsMisfit (CanGoOn before.now Part.Nothing) (row_of cells.now)) }
+{
+    if same(cells.kind, b"def") {
+        begin_definition(alloc, before, cells)
+    } else if same(cells.kind, b"data") {
+        begin_message(alloc, before, cells)
+    } else {
+        Err(Misfit::Kind)
+    }
+}
+
+/// Takes the next row of a record. It isn't one in which a file ends.
+fn next_part(
+    alloc: Global,
+    before: &Stream,
+    part: Part,
+    cells: &Cells,
+) -> Result<Part, Misfit>
+    requires room { PartHasRoom before.now part }
+    requires kind { part ≡ Part.Nothing → cells.now.kind.now ≡ codes "end" → ⊥ }
+    ensures ok { IfOk result (PartStep before.now part (row_of cells.now)) }
+    ensures err { IfErr result (IsMisfit (CanGoOn before.now part) (row_of cells.now)) }
+{
+    match part {
+        Part::Nothing => begin_record(alloc, before, cells),
+        Part::Definition(mut definition) => {
+            take_definition(&mut definition, cells)?;
+            Ok(Part::Definition(definition))
+        }
+        Part::Message(mut values) => {
+            take_message(alloc, cells, before, &mut values)?;
+            Ok(Part::Message(values))
+        }
+    }
+}
+
 impl OpenFile {
     /// A record is whole.
     fn add_record(&mut self, r: Record) -> Result<(), Misfit>
@@ -48,5 +117,51 @@ impl OpenFile {
             Ok(()) => Ok(()),
             Err(_) => Err(Misfit::NoMemory),
         }
+    }
+
+    /// This part of a record has come, or all of it.
+    fn settle(&mut self, part: Part) -> Result<(), Misfit>
+        requires { FitsOnceWhole self.old.before part }
+        ensures ok { OnOk result (self.new ≡ settled self.old part) }
+        ensures err { IfErr result (λ misfit. misfit ≡ Misfit.NoMemory) }
+    {
+        match part {
+            Part::Nothing => self.part = Part::Nothing,
+            Part::Definition(definition) => {
+                if is_whole(&definition) {
+                    return self.add_record(Record::Define(definition_of(definition)));
+                }
+                self.part = Part::Definition(definition);
+            }
+            Part::Message(values) => {
+                if is_whole_message(&self.before, &values) {
+                    return self.add_record(Record::Values(values));
+                }
+                self.part = Part::Message(values);
+            }
+        }
+        Ok(())
+    }
+
+    /// Whether a file may end here.
+    pub(crate) fn is_between_records(&self) -> bool
+        ensures { IsTrue result ↔ (self.now.part ≡ Part.Nothing) }
+    {
+        match self.part {
+            Part::Nothing => true,
+            _ => false,
+        }
+    }
+
+    /// Takes the next row. It isn't one in which the file ends.
+    pub(crate) fn take_row(&mut self, alloc: Global, cells: &Cells) -> Result<(), Misfit>
+        requires sound { IsSoundFile self.old }
+        requires kind { self.old.part ≡ Part.Nothing → cells.now.kind.now ≡ codes "end" → ⊥ }
+        ensures ok { OnOk result (FileStep self.old (row_of cells.now) self.new) }
+        ensures err { IfErr result (IsMisfit (CanGoOn self.old.before self.old.part) (row_of cells.now)) }
+    {
+        let part = mem::replace(&mut self.part, Part::Nothing);
+        let part = next_part(alloc, &self.before, part, cells)?;
+        self.settle(part)
     }
 }
