@@ -14,4 +14,6 @@ pub mod Misfits
 pub mod Progress
 pub mod SoundChain
 pub mod Laws
+pub mod ShowLines
+pub mod Showing
 pub mod Probe
