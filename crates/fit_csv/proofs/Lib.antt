@@ -33,3 +33,5 @@ mod SoFar
 mod SoundSteps
 mod MoreRows
 mod ChainSteps
+mod Completed
+mod OneStep

@@ -11,4 +11,3 @@ pub mod Misfits
 pub mod Progress
 pub mod SoundChain
 pub mod Laws
-pub mod Probe
