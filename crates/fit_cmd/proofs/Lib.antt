@@ -1,7 +1,5 @@
-mod Consumed
-mod Found
-mod Frames
-mod LineFacts
-mod Names
-mod Said
-mod Unique
+pub mod LineFacts
+pub mod Names
+pub mod Said
+pub mod Counts
+pub mod Ran

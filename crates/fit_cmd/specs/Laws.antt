@@ -1,12 +1,10 @@
--- Laws of frames.
-use Rattle.std.specs.Prelude.{◌≡◌, ℕ, false, List, ◌++◌, Option, Some, Result}
-use Rattle.fit_base.specs.Numbers.{IsBytes}
-use Rattle.fit_cmd.specs.declared.check.FrameFault.{FrameFault}
-use Rattle.fit_cmd.specs.Frame.{IsFrame, Finds}
+-- What `check` writes of a chain.
+use Rattle.std.specs.Prelude.{◌≡◌, List, flat_map, reverse}
+use Rattle.fit_record.specs.declared.file.FitFile.{FitFile}
+use Rattle.fit_decode.specs.Events.{file_events}
+use Rattle.fit_report.specs.Heard.{text_of}
+use Rattle.fit_cmd.specs.Lines.{check_line, file_lines}
 
-abbrev pub FramesAreApart : Type 0
-FramesAreApart = (m n : ℕ) (b c x y : List ℕ) → IsFrame m b → IsFrame n c → b ++ x ≡ c ++ y → (m ≡ n) × (b ≡ c) × (x ≡ y)
-
-abbrev pub FindingsAreOne : Type 0
-FindingsAreOne = (input : List ℕ) (left rest : Option (List ℕ)) (f g : Result ℕ FrameFault) → IsBytes input
-    → Finds (Some input) left false f → Finds (Some input) rest false g → f ≡ g
+-- The text of a chain's events is a line for each file.
+abbrev pub ChainsHaveLines : Type 0 → Type 0
+ChainsHaveLines A = (fs : List (FitFile A)) → text_of check_line (reverse (flat_map file_events fs)) ≡ file_lines 1 fs

@@ -1,6 +1,5 @@
 pub mod CommandLine
-pub mod Frame
-pub mod Taking
-pub mod Laws
 pub mod Lines
 pub mod Run
+pub mod Laws
+pub mod Finishing

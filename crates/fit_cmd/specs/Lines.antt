@@ -1,11 +1,23 @@
 -- The lines that the program writes.
-use Rattle.std.specs.Prelude.{ℕ, List, ◌++◌, codes, decimal}
+use Rattle.std.specs.Prelude.{ℕ, ◌+◌, List, [], ◌∷◌, ◌++◌, length, codes, decimal}
 use Rattle.fit_frame.specs.declared.reason.Reason.{Reason}
 use Rattle.fit_frame.specs.ReasonNames.{reason_name}
+use Rattle.fit_record.specs.declared.file.FitFile.{FitFile}
+use Rattle.fit_record.specs.Files.{body}
+use Rattle.fit_decode.specs.Events.{Event, header, item, file_end}
+use Rattle.fit_report.specs.Heard.{Lines, latest_records}
 
--- a file of n bytes of data is good
-abbrev pub good_lines : ℕ → List ℕ
-good_lines n = codes "file 1: " ++ decimal n ++ codes " data bytes\nok\n"
+-- file k of the input has n bytes of data, in so many records
+abbrev pub file_line : ℕ → ℕ → ℕ → List ℕ
+file_line k n records = codes "file " ++ decimal k ++ codes ": " ++ decimal n ++ codes " data bytes, " ++ decimal records ++ codes " records\n"
+
+-- the lines of files, the first of which is file k
+abbrev pub file_lines : {A : Type 0} → ℕ → List (FitFile A) → List ℕ
+file_lines k [] = []
+file_lines k (f ∷ fs) = file_line k (length (body f)) (length f.records) ++ file_lines (k + 1) fs
+
+abbrev pub ok_line : List ℕ
+ok_line = codes "ok\n"
 
 abbrev pub refused_line : ℕ → Reason → List ℕ
 refused_line place reason = codes "refused at byte " ++ decimal place ++ codes ": " ++ reason_name reason ++ codes "\n"
@@ -18,3 +30,28 @@ read_fault_line place = codes "read fault at byte " ++ decimal place ++ codes "\
 
 abbrev pub write_fault_line : List ℕ
 write_fault_line = codes "write fault\n"
+
+abbrev pub out_of_memory_line : List ℕ
+out_of_memory_line = codes "out of memory\n"
+
+-- ---- of events, the latest first
+
+-- how many files have ended
+abbrev pub ended_files : {A : Type 0} → List (Event A) → ℕ
+ended_files [] = 0
+ended_files (header h n ∷ heard) = ended_files heard
+ended_files (item r ∷ heard) = ended_files heard
+ended_files (file_end ∷ heard) = ended_files heard + 1
+
+-- how many bytes of data the last header states
+abbrev pub latest_size : {A : Type 0} → List (Event A) → ℕ
+latest_size [] = 0
+latest_size (header h n ∷ heard) = n
+latest_size (item r ∷ heard) = latest_size heard
+latest_size (file_end ∷ heard) = latest_size heard
+
+-- What `check` writes of an event behind those before it: at the end of a file its line.
+abbrev pub check_line : {A : Type 0} → Lines A
+check_line heard (header h n) = []
+check_line heard (item r) = []
+check_line heard file_end = file_line (ended_files heard + 1) (latest_size heard) (length (latest_records heard))

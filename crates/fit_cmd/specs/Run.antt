@@ -1,39 +1,64 @@
 -- What the program writes, and the status that it answers.
-use Rattle.std.specs.Prelude.{◌≡◌, ℕ, ◌<◌, ◌⊎◌, Bool, true, List, Option, Result, Ok, Err, length, take}
-use Rattle.std.specs.Io.KnownBytes.{Appends, Keeps}
-use Rattle.fit_cmd.specs.declared.check.FrameFault.{FrameFault}
-use Rattle.fit_cmd.specs.declared.check.FrameFault.TheVariants.{Refused, Truncated, Read}
-use Rattle.fit_cmd.specs.Frame.{Finds}
-use Rattle.fit_cmd.specs.Lines.{good_lines, refused_line, truncated_line, read_fault_line, write_fault_line}
+use Rattle.std.specs.Prelude.{◌≡◌, ℕ, ◌<◌, ◌⊎◌, true, List, ◌++◌, Result, Ok, Err, length, reverse, take}
+use Rattle.std.specs.Io.KnownBytes.{Appends, Consumes, IsAtEnd, Keeps}
+use Rattle.fit_record.specs.Files.{chain_limit}
+use Rattle.fit_decode.specs.declared.event.Fault.{Fault}
+use Rattle.fit_decode.specs.declared.event.Fault.TheVariants.{Refused, Truncated, NoMemory, Read}
+use Rattle.fit_decode.specs.Answers.{AreChain}
+use Rattle.fit_decode.specs.Events.{Event, AreEvents}
+use Rattle.fit_report.specs.Heard.{Lines, text_of}
+use Rattle.fit_report.specs.Reports.{Channel, Faults, before_fault}
+use Rattle.fit_cmd.specs.Lines.{ok_line, refused_line, truncated_line, read_fault_line, write_fault_line, out_of_memory_line}
 
--- a sink over a call: the bytes that it held before and those that it holds after it, and whether it has failed
-pub record Output : Type 0 where
-  pub before : Option (List ℕ)
-  pub after : Option (List ℕ)
-  pub failed : Bool
+-- ---- lines in a sink
 
 -- All of the bytes were put, or the sink has failed behind some first ones.
-abbrev pub Puts : Output → List ℕ → Type 0
+abbrev pub Puts : Channel → List ℕ → Type 0
 Puts sink bytes = Appends sink.before sink.after bytes
     ⊎ ((sink.failed ≡ true) × (n : ℕ) × (n < length bytes) × Appends sink.before sink.after (take n bytes))
 
--- The lines went out, and this is the status. Or the output has failed behind some first bytes of them; the fault
--- sink is told so, and the status is 4.
-abbrev pub Reports : List ℕ → ℕ → Output → Output → ℕ → Type 0
-Reports lines status output faults result =
-    (Appends output.before output.after lines × Keeps faults.before faults.after × (result ≡ status))
-    ⊎ ((output.failed ≡ true) × (n : ℕ) × (n < length lines) × Appends output.before output.after (take n lines)
-    × Puts faults write_fault_line × (result ≡ 4))
+-- The output has failed behind some first bytes of the lines; the fault sink is told so, and the status is 4.
+abbrev pub FailsIn : List ℕ → Channel → Channel → ℕ → Type 0
+FailsIn lines output faults status =
+    (output.failed ≡ true) × (n : ℕ) × (n < length lines) × Appends output.before output.after (take n lines) × Puts faults write_fault_line × (status ≡ 4)
 
--- What is said of a finding: lines on the output with status 0 for a frame and 1 for none, or that the source failed.
-abbrev pub Says : Result ℕ FrameFault → Output → Output → ℕ → Type 0
-Says (Ok n) output faults result = Reports (good_lines n) 0 output faults result
-Says (Err (Refused place reason)) output faults result = Reports (refused_line place reason) 1 output faults result
-Says (Err (Truncated place)) output faults result = Reports (truncated_line place) 1 output faults result
-Says (Err (Read place)) output faults result =
-    Keeps output.before output.after × Puts faults (read_fault_line place) × (result ≡ 4)
+-- The lines went out, and this is the status; or the output has failed in them.
+abbrev pub Writes : List ℕ → ℕ → Channel → Channel → ℕ → Type 0
+Writes lines wanted output faults status =
+    (Appends output.before output.after lines × Keeps faults.before faults.after × (status ≡ wanted)) ⊎ FailsIn lines output faults status
 
--- What `check` did: what it found at the front of the input, and what it said of that.
-abbrev pub Checks : Option (List ℕ) → Option (List ℕ) → Bool → Output → Output → ℕ → Type 0
-Checks had has failed output faults result =
-    (found : Result ℕ FrameFault) × Finds had has failed found × Says found output faults result
+-- ---- a report
+
+-- What the bytes taken from the input are: all of it, and a chain of files; or what a fault ended.
+abbrev pub Finds : {X : Type 0} → Type 0 → List ℕ → Channel → Result X Fault → Type 0
+Finds A taken source (Ok _) = IsAtEnd source.after × AreChain A taken
+Finds A taken source (Err fault) = Faults A chain_limit taken source.after source.failed fault
+
+-- the bytes that were found good
+abbrev pub good_bytes : {X : Type 0} → Result X Fault → List ℕ → List ℕ
+good_bytes (Ok _) taken = taken
+good_bytes (Err fault) taken = before_fault fault taken
+
+-- What is said of it behind the lines of the good bytes: a last line with status 0 for a chain, and 1 for none; or that the
+-- source failed.
+abbrev pub Says : {X : Type 0} → Result X Fault → List ℕ → Channel → Channel → ℕ → Type 0
+Says (Ok _) lines output faults status = Writes (lines ++ ok_line) 0 output faults status
+Says (Err (Refused place reason)) lines output faults status = Writes (lines ++ refused_line place reason) 1 output faults status
+Says (Err (Truncated place)) lines output faults status = Writes (lines ++ truncated_line place) 1 output faults status
+Says (Err (Read place)) lines output faults status =
+    Appends output.before output.after lines × Puts faults (read_fault_line place) × (status ≡ 4)
+Says (Err (NoMemory used)) lines output faults status = ⊥
+
+-- Memory was refused behind the lines, or the output has failed in them.
+abbrev pub BreaksOff : List ℕ → Channel → Channel → ℕ → Type 0
+BreaksOff lines output faults status =
+    (Appends output.before output.after lines × Puts faults out_of_memory_line × (status ≡ 3)) ⊎ FailsIn lines output faults status
+
+-- What a command did that writes these lines of events: of all that it took from the input it wrote the lines, and said what it
+-- found; or it broke off in the lines of some first bytes.
+abbrev pub Runs : {A : Type 0} → Lines A → Channel → Channel → Channel → ℕ → Type 0
+Runs {A} line source output faults status =
+    (taken : List ℕ) × Consumes source.before source.after taken
+    × (((found : Result (Unit {0}) Fault) × (heard : List (Event A)) × Finds A taken source found × AreEvents (good_bytes found taken) (reverse heard)
+    × Says found (text_of line heard) output faults status)
+    ⊎ ((k : ℕ) × (heard : List (Event A)) × AreEvents (take k taken) (reverse heard) × BreaksOff (text_of line heard) output faults status))

@@ -1,14 +1,10 @@
-//! Laws of frames. These functions do nothing: what they ensure is what they are for.
-ghost use Rattle.fit_cmd.specs.Laws.{FindingsAreOne, FramesAreApart};
+//! What `check` writes of a chain. The function does nothing: what it ensures is what it is for.
+ghost use Rattle.fit_cmd.specs.Laws.{ChainsHaveLines};
 
-/// No two frames begin one input.
-pub fn frames_are_apart()
-    ensures { FramesAreApart }
-{}
+use std::alloc::Allocator;
 
-/// An input has one finding, as long as its source doesn't fail. So a frame is found exactly where one
-/// begins the input, and a byte is refused, for the one reason of its place, exactly where it is the
-/// first with which none begins.
-pub fn findings_are_one()
-    ensures { FindingsAreOne }
+/// The lines of the events of a chain are a line for each file, with its number, how many bytes of data it has and how many
+/// records.
+pub fn chains_have_lines<A: Allocator>()
+    ensures { ChainsHaveLines A }
 {}

@@ -1,16 +1,23 @@
 //! The lines that the program writes.
-ghost use Rattle.std.specs.Prelude.{◌≡◌, ◌++◌, ◌+◌, ◌≤◌, codes, decimal, length};
-ghost use Rattle.fit_cmd.specs.Lines.{good_lines, read_fault_line, refused_line, truncated_line};
+ghost use Rattle.std.specs.Prelude.{◌≡◌, ◌++◌, ◌+◌, ◌≤◌, OnOk, codes, decimal, length};
+ghost use Rattle.fit_cmd.specs.Lines.{read_fault_line, refused_line, truncated_line};
 
 use arrayvec::ArrayString;
 use fit_frame::Reason;
 use itoa::Buffer;
+use std::alloc::AllocError;
 
-/// One line, or two short ones, each with its line feed.
+/// A line with its line feed, or a part of one.
 pub type Lines = ArrayString<64>;
+
+/// The last line where the input is a chain of files.
+pub const OK: &str = "ok\n";
 
 /// The line on standard error where the output failed.
 pub const WRITE_FAULT: &str = "write fault\n";
+
+/// The line on standard error where memory was refused.
+pub const OUT_OF_MEMORY: &str = "out of memory\n";
 
 /// A text, a number and a text.
 fn numbered(front: &str, number: u64, back: &str) -> Lines
@@ -25,11 +32,17 @@ fn numbered(front: &str, number: u64, back: &str) -> Lines
     lines
 }
 
-/// The first file of an input is good, and has so many bytes of data.
-pub fn good(data_size: u32) -> Lines
-    ensures { result.bytes ≡ good_lines data_size }
+/// Puts a text, a number and a text behind the others.
+pub fn put_numbered(
+    text: &mut Vec<u8>,
+    front: &str,
+    number: u64,
+    back: &str,
+) -> Result<(), AllocError>
+    requires { length front.now + length back.now ≤ 44 }
+    ensures { OnOk result (text.new.items ≡ text.old.items ++ (front.now ++ decimal number ++ back.now)) }
 {
-    numbered("file 1: ", u64::from(data_size), " data bytes\nok\n")
+    text.extend_from_slice(numbered(front, number, back).as_bytes())
 }
 
 /// The byte at the place is refused.

@@ -10,7 +10,7 @@ mod run;
 mod tests;
 
 use crate::command_line::{Command, Line, LineFault, parse_line};
-use crate::lines::WRITE_FAULT;
+use crate::lines::{OUT_OF_MEMORY, WRITE_FAULT};
 use crate::run::{BAD_USAGE, FAILED, GOOD, NO_MEMORY, run};
 use fit_decode::ReadSource;
 use fit_encode::WriteSink;
@@ -88,7 +88,7 @@ fn run_reader<R: Read + Drop>(rt: &HostRuntime, command: Command, reader: R) -> 
     let mut source = ReadSource::new(reader);
     let mut output = WriteSink::new(&mut writer);
     let mut faults = WriteSink::new(rt.stderr());
-    let status = run(command, &mut source, &mut output, &mut faults);
+    let status = run(alloc, command, &mut source, &mut output, &mut faults);
     if writer.flush().is_ok() || status == FAILED {
         return status;
     }
@@ -102,6 +102,6 @@ fn bad_usage(rt: &HostRuntime) -> u8 {
 }
 
 fn out_of_memory(rt: &HostRuntime) -> u8 {
-    let _ = eprintln!(rt; "out of memory");
+    let _ = eprint!(rt; "{OUT_OF_MEMORY}");
     NO_MEMORY
 }

@@ -1,17 +1,24 @@
 //! What the program does, over any source and sinks.
-ghost use Rattle.std.specs.Prelude.{◌≡◌, ℕ, List, ◌++◌, Some, false};
+ghost use Rattle.std.specs.Prelude.{◌≡◌, ◌⊎◌, ◌++◌, ℕ, [], List, Some, false, flat_map, reverse};
+ghost use Rattle.std.specs.Global.{Global};
 ghost use Rattle.std.specs.Io.KnownBytes.{Appends};
 ghost use Rattle.fit_base.specs.Numbers.{IsBytes};
-ghost use Rattle.fit_cmd.specs.Frame.{IsFrame};
-ghost use Rattle.fit_cmd.specs.Lines.{good_lines};
-ghost use Rattle.fit_cmd.specs.Run.{Checks, Puts, Reports};
+ghost use Rattle.fit_record.specs.declared.file.FitFile.{FitFile};
+ghost use Rattle.fit_record.specs.Files.{chain_limit, IsChain};
+ghost use Rattle.fit_decode.specs.Events.{file_events};
+ghost use Rattle.fit_report.specs.Heard.{text_of};
+ghost use Rattle.fit_cmd.specs.Finishing.{FaultSaid, Finishes};
+ghost use Rattle.fit_cmd.specs.Lines.{check_line, file_lines, ok_line};
+ghost use Rattle.fit_cmd.specs.Run.{Puts, Runs, Writes};
 
-use crate::check::{FrameFault, check_frame};
+use crate::check::CheckReport;
 use crate::command_line::Command;
 use crate::lines;
-use crate::lines::WRITE_FAULT;
-use fit_decode::Source;
+use crate::lines::{OK, OUT_OF_MEMORY, WRITE_FAULT};
+use fit_decode::{Fault, Source};
 use fit_encode::{Sink, put_all};
+use fit_report::{Report, ReportFault, report};
+use std::alloc::Global;
 
 /// The exit status of a good input.
 pub const GOOD: u8 = 0;
@@ -26,60 +33,105 @@ pub const FAILED: u8 = 4;
 
 /// Runs a command on an input, and answers the exit status. Fault lines go to a sink of their own.
 ///
-/// `Check` takes one frame from the source and writes what it found: `file 1: n data bytes` and `ok`,
-/// status 0; or `refused at byte A: REASON` or `truncated at byte A`, status 1. Where the source
-/// fails, the line `read fault at byte A` goes to the fault sink, where the output fails `write
-/// fault` does, and the status is 4. A fault line that can't be written changes no status. No memory
-/// is taken.
+/// `Check` reads the whole input and writes `file K: D data bytes, N records` at the end of each file, N counting definition
+/// messages too; then `ok`, status 0; or `refused at byte A: REASON` or `truncated at byte A`, status 1. Where the source fails,
+/// the line `read fault at byte A` goes to the fault sink, where the output fails `write fault` does, and the status is 4; where
+/// memory is refused it is `out of memory`, and the status is 3. A fault line that can't be written changes no status.
 pub fn run<S: Source, K: Sink, E: Sink>(
+    alloc: Global,
     command: Command,
     source: &mut S,
     output: &mut K,
     faults: &mut E,
 ) -> u8
-    ensures checks { Checks (S.remaining source.old) (S.remaining source.new) (S.has_failed source.new)
+    ensures check { command ≡ Command.Check → Runs {A = Global} check_line
+        (record { before = S.remaining source.old; after = S.remaining source.new; failed = S.has_failed source.new })
         (record { before = K.contents output.old; after = K.contents output.new; failed = K.has_failed output.new })
         (record { before = E.contents faults.old; after = E.contents faults.new; failed = E.has_failed faults.new }) result }
 
-    // Where a frame begins the input, the lines say so, and what is behind it is left.
-    ensures frame { (n : ℕ) (frame rest : List ℕ) → S.remaining source.old ≡ Some (frame ++ rest) → IsBytes frame → IsFrame n frame
+    // Where the input is a chain of files, each has its line, and the last line is `ok`.
+    ensures chain { command ≡ Command.Check → (fs : List (FitFile Global)) (b : List ℕ) → S.remaining source.old ≡ Some b → IsBytes b → IsChain chain_limit fs b
         → S.has_failed source.new ≡ false → K.has_failed output.new ≡ false
-        → (result ≡ 0) × Appends (K.contents output.old) (K.contents output.new) (good_lines n) × (S.remaining source.new ≡ Some rest) }
+        → (result ≡ 3) ⊎ ((result ≡ 0) × Appends (K.contents output.old) (K.contents output.new) (file_lines 1 fs ++ ok_line)) }
 {
     match command {
-        Command::Check => check(source, output, faults),
+        Command::Check => run_report(alloc, source, output, faults, &mut CheckReport::new()),
     }
 }
 
-/// Checks the frame at the front of an input.
-fn check<S: Source, K: Sink, E: Sink>(source: &mut S, output: &mut K, faults: &mut E) -> u8
-    ensures { Checks (S.remaining source.old) (S.remaining source.new) (S.has_failed source.new)
+/// Reports an input, and says what was found.
+fn run_report<S: Source, K: Sink, E: Sink, R: Report>(
+    alloc: Global,
+    source: &mut S,
+    output: &mut K,
+    faults: &mut E,
+    reporter: &mut R,
+) -> u8
+    requires { R.heard reporter.old ≡ [] }
+    ensures runs { Runs R.line
+        (record { before = S.remaining source.old; after = S.remaining source.new; failed = S.has_failed source.new })
+        (record { before = K.contents output.old; after = K.contents output.new; failed = K.has_failed output.new })
+        (record { before = E.contents faults.old; after = E.contents faults.new; failed = E.has_failed faults.new }) result }
+    ensures chain { (fs : List (FitFile Global)) (b : List ℕ) → S.remaining source.old ≡ Some b → IsBytes b → IsChain chain_limit fs b
+        → S.has_failed source.new ≡ false → K.has_failed output.new ≡ false
+        → (result ≡ 3) ⊎ ((result ≡ 0) × Appends (K.contents output.old) (K.contents output.new) (text_of R.line (reverse (flat_map file_events fs)) ++ ok_line)) }
+{
+    let told = report(alloc, source, output, reporter);
+    finish(output, faults, told)
+}
+
+/// Says what a report answered.
+fn finish<K: Sink, E: Sink>(output: &mut K, faults: &mut E, told: Result<(), ReportFault>) -> u8
+    ensures { Finishes told output.old output.new
         (record { before = K.contents output.old; after = K.contents output.new; failed = K.has_failed output.new })
         (record { before = E.contents faults.old; after = E.contents faults.new; failed = E.has_failed faults.new }) result }
 {
-    match check_frame(source) {
-        Ok(data_size) => report(output, faults, lines::good(data_size).as_str(), GOOD),
-        Err(FrameFault::Refused { place, reason }) => {
-            let line = lines::refused(place, reason);
-            report(output, faults, line.as_str(), REFUSED)
+    match told {
+        Ok(()) => end(output, faults, OK, GOOD),
+        Err(ReportFault::Decode(fault)) => say(output, faults, fault),
+        Err(ReportFault::NoMemory) => {
+            tell(faults, OUT_OF_MEMORY);
+            NO_MEMORY
         }
-        Err(FrameFault::Truncated { place }) => {
-            report(output, faults, lines::truncated(place).as_str(), REFUSED)
-        }
-        Err(FrameFault::Read { place }) => {
-            tell(faults, lines::read_fault(place).as_str());
+        Err(ReportFault::Write { .. }) => {
+            tell(faults, WRITE_FAULT);
             FAILED
         }
     }
 }
 
-/// Writes the last lines of a run, and answers its status.
-fn report<K: Sink, E: Sink>(output: &mut K, faults: &mut E, lines: &str, status: u8) -> u8
-    ensures { Reports lines.now status
+/// Says what is wrong with the input.
+fn say<K: Sink, E: Sink>(output: &mut K, faults: &mut E, fault: Fault) -> u8
+    ensures { FaultSaid fault output.old output.new
         (record { before = K.contents output.old; after = K.contents output.new; failed = K.has_failed output.new })
         (record { before = E.contents faults.old; after = E.contents faults.new; failed = E.has_failed faults.new }) result }
 {
-    match put_all(output, lines.as_bytes()) {
+    match fault {
+        Fault::Refused { place, reason } => {
+            let line = lines::refused(place, reason);
+            end(output, faults, line.as_str(), REFUSED)
+        }
+        Fault::Truncated { place } => {
+            end(output, faults, lines::truncated(place).as_str(), REFUSED)
+        }
+        Fault::Read { place } => {
+            tell(faults, lines::read_fault(place).as_str());
+            FAILED
+        }
+        Fault::NoMemory { .. } => {
+            tell(faults, OUT_OF_MEMORY);
+            NO_MEMORY
+        }
+    }
+}
+
+/// Writes the last line of a run, and answers its status.
+fn end<K: Sink, E: Sink>(output: &mut K, faults: &mut E, line: &str, status: u8) -> u8
+    ensures { Writes line.now status
+        (record { before = K.contents output.old; after = K.contents output.new; failed = K.has_failed output.new })
+        (record { before = E.contents faults.old; after = E.contents faults.new; failed = E.has_failed faults.new }) result }
+{
+    match put_all(output, line.as_bytes()) {
         Ok(()) => status,
         Err(_) => {
             tell(faults, WRITE_FAULT);

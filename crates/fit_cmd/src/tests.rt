@@ -20,7 +20,7 @@ const TWO_MESSAGES: &str =
     "0E 20 00 00 24 00 00 00 2E 46 49 54 9F 6E 40 00 00 14 00 02 FD 04 86 03 01 02 \
      00 1F CA 9A 3B 78 41 00 01 00 14 02 02 02 84 08 03 0D A2 09 C4 64 00 10 F0 3B";
 
-const EMPTY_IS_GOOD: &str = "file 1: 0 data bytes\nok\n";
+const EMPTY_IS_GOOD: &str = "file 1: 0 data bytes, 0 records\nok\n";
 
 /// The bytes that two hexadecimal digits each stand for.
 fn bytes_of(alloc: Global, text: &str) -> Result<Vec<u8>, Fail> {
@@ -34,15 +34,15 @@ fn bytes_of(alloc: Global, text: &str) -> Result<Vec<u8>, Fail> {
 /// What a check writes, what it writes of faults, and its status.
 #[derive(Drop)]
 struct Answer {
-    output: CutSink<64>,
-    faults: CutSink<64>,
+    output: CutSink<128>,
+    faults: CutSink<128>,
     status: u8,
 }
 
-fn check<S: Source>(source: &mut S) -> Answer {
-    let mut output = CutSink::new(64);
-    let mut faults = CutSink::new(64);
-    let status = run(Command::Check, source, &mut output, &mut faults);
+fn check<S: Source>(alloc: Global, source: &mut S) -> Answer {
+    let mut output = CutSink::new(128);
+    let mut faults = CutSink::new(128);
+    let status = run(alloc, Command::Check, source, &mut output, &mut faults);
     Answer {
         output,
         faults,
@@ -79,13 +79,13 @@ fn files(rt: HostRuntime) -> Result<(), Fail> {
             "refused at byte 13: FileSum\n",
             1,
         ),
-        (ONE_BYTE_MESSAGE, "file 1: 7 data bytes\nok\n", 0),
+        (ONE_BYTE_MESSAGE, "file 1: 7 data bytes, 2 records\nok\n", 0),
         (
             "0E 20 00 00 07 00 00 00 2E 46 49 54 DD 63 40 07 00 14 00 00 00 45 83",
-            "file 1: 7 data bytes\nok\n",
+            "file 1: 7 data bytes, 2 records\nok\n",
             0,
         ),
-        (TWO_MESSAGES, "file 1: 36 data bytes\nok\n", 0),
+        (TWO_MESSAGES, "file 1: 36 data bytes, 4 records\nok\n", 0),
         (
             "0E 20 8D B5 00 00 00 00 2E 46 49 54 00 00 00 00",
             EMPTY_IS_GOOD,
@@ -109,6 +109,16 @@ fn files(rt: HostRuntime) -> Result<(), Fail> {
         (
             "0E 20 00 00 03 00 00 00 2E 46 49 54 00 00",
             "refused at byte 7: NoFit\n",
+            1,
+        ),
+        (
+            "0E 20 00 00 08 00 00 00 2E 46 49 54 00 00 40 00 00 14 00 01",
+            "refused at byte 19: Overrun\n",
+            1,
+        ),
+        (
+            "0E 20 00 00 0A 00 00 00 2E 46 49 54 00 00 40 00 00 14 00 01 05 02",
+            "refused at byte 21: NoFit\n",
             1,
         ),
         ("0B", "refused at byte 0: HeaderSize\n", 1),
@@ -144,7 +154,7 @@ fn files(rt: HostRuntime) -> Result<(), Fail> {
         ),
     ] {
         let bytes = bytes_of(rt.alloc(), input)?;
-        let answer = check(&mut bytes.as_slice());
+        let answer = check(rt.alloc(), &mut bytes.as_slice());
         assert_eq!(rt; answer.output.bytes(), output.as_bytes(), "at {input}");
         assert_eq!(rt; answer.faults.bytes(), b"".as_slice(), "at {input}");
         assert_eq!(rt; answer.status, status, "at {input}");
@@ -157,7 +167,7 @@ fn cut_files(rt: HostRuntime) -> Result<(), Fail> {
     let bytes = bytes_of(rt.alloc(), ONE_BYTE_MESSAGE)?;
     for n in 0..bytes.len() {
         let line = format!(in rt.alloc(); "truncated at byte {n}\n")?;
-        let answer = check(&mut &bytes.as_slice()[..n]);
+        let answer = check(rt.alloc(), &mut &bytes.as_slice()[..n]);
         assert_eq!(rt; answer.output.bytes(), line.as_bytes());
         assert_eq!(rt; answer.status, 1);
     }
@@ -173,7 +183,7 @@ fn changed_sums(rt: HostRuntime) -> Result<(), Fail> {
             *byte ^= 1 << (bit % 8);
         }
         let line = format!(in rt.alloc(); "refused at byte {place}: FileSum\n")?;
-        let answer = check(&mut bytes.as_slice());
+        let answer = check(rt.alloc(), &mut bytes.as_slice());
         assert_eq!(rt; answer.output.bytes(), line.as_bytes());
         assert_eq!(rt; answer.status, 1);
     }
@@ -181,20 +191,49 @@ fn changed_sums(rt: HostRuntime) -> Result<(), Fail> {
 }
 
 #[test]
-fn what_follows_is_left(rt: HostRuntime) -> Result<(), Fail> {
-    let mut bytes = bytes_of(rt.alloc(), EMPTY)?;
-    bytes.push(0xFF)?;
-    let mut source = bytes.as_slice();
-    let answer = check(&mut source);
-    assert_eq!(rt; answer.output.bytes(), EMPTY_IS_GOOD.as_bytes());
-    assert_eq!(rt; source, [0xFF].as_slice());
+fn chains(rt: HostRuntime) -> Result<(), Fail> {
+    for (inputs, output, status) in [
+        (
+            [ONE_BYTE_MESSAGE, TWO_MESSAGES, EMPTY],
+            "file 1: 7 data bytes, 2 records\nfile 2: 36 data bytes, 4 records\nfile 3: 0 data bytes, 0 records\nok\n",
+            0,
+        ),
+        (
+            [
+                ONE_BYTE_MESSAGE,
+                "0E 20 00 00 07 00 00 00 2E 46 49 54 DD 63",
+                "00",
+            ],
+            "file 1: 7 data bytes, 2 records\nrefused at byte 37: UndefinedLocal\n",
+            1,
+        ),
+        (
+            [EMPTY, "FF", ""],
+            "file 1: 0 data bytes, 0 records\ntruncated at byte 17\n",
+            1,
+        ),
+        (
+            [EMPTY, "0D", "FF"],
+            "file 1: 0 data bytes, 0 records\nrefused at byte 16: HeaderSize\n",
+            1,
+        ),
+    ] {
+        let mut bytes = Vec::new(rt.alloc());
+        for input in inputs {
+            bytes.extend_from_slice(bytes_of(rt.alloc(), input)?.as_slice())?;
+        }
+        let answer = check(rt.alloc(), &mut bytes.as_slice());
+        assert_eq!(rt; answer.output.bytes(), output.as_bytes(), "at {output}");
+        assert_eq!(rt; answer.faults.bytes(), b"".as_slice(), "at {output}");
+        assert_eq!(rt; answer.status, status, "at {output}");
+    }
     Ok(())
 }
 
 #[test]
 fn failing_sources(rt: HostRuntime) -> Result<(), Fail> {
     let bytes = bytes_of(rt.alloc(), TWO_MESSAGES)?;
-    let answer = check(&mut CutSource::new(bytes.as_slice(), 20));
+    let answer = check(rt.alloc(), &mut CutSource::new(bytes.as_slice(), 20));
     assert_eq!(rt; answer.output.bytes(), b"".as_slice());
     assert_eq!(rt;
         answer.faults.bytes(),
@@ -202,7 +241,7 @@ fn failing_sources(rt: HostRuntime) -> Result<(), Fail> {
     );
     assert_eq!(rt; answer.status, 4);
 
-    let answer = check(&mut CutSource::new(&[0x0D], 1));
+    let answer = check(rt.alloc(), &mut CutSource::new(&[0x0D], 1));
     assert_eq!(rt;
         answer.output.bytes(),
         b"refused at byte 0: HeaderSize\n".as_slice()
@@ -215,9 +254,10 @@ fn failing_sources(rt: HostRuntime) -> Result<(), Fail> {
 fn small_sinks(rt: HostRuntime) -> Result<(), Fail> {
     let bytes = bytes_of(rt.alloc(), EMPTY)?;
     for limit in 0..EMPTY_IS_GOOD.len() {
-        let mut output = CutSink::<64>::new(limit);
-        let mut faults = CutSink::<64>::new(64);
+        let mut output = CutSink::<128>::new(limit);
+        let mut faults = CutSink::<128>::new(128);
         let status = run(
+            rt.alloc(),
             Command::Check,
             &mut bytes.as_slice(),
             &mut output,
@@ -229,9 +269,10 @@ fn small_sinks(rt: HostRuntime) -> Result<(), Fail> {
     }
 
     // A fault line that can't be written changes no status.
-    let mut output = CutSink::<64>::new(64);
+    let mut output = CutSink::<128>::new(128);
     let mut faults = CutSink::<4>::new(64);
     let status = run(
+        rt.alloc(),
         Command::Check,
         &mut CutSource::new(&[0x0E], 1),
         &mut output,
@@ -258,16 +299,21 @@ impl Read for BrokenReader<'_> {
 
 #[test]
 fn readers_and_writers(rt: HostRuntime) -> Result<(), Fail> {
-    // More than two pieces of data, all zeros. Their sum is that of another program.
-    let mut bytes = bytes_of(rt.alloc(), "0E 20 00 00 28 23 00 00 2E 46 49 54 00 00")?;
+    // A definition message without fields, and more than two pieces of data messages of one byte. The checksum is that of another
+    // program.
+    let mut bytes = bytes_of(
+        rt.alloc(),
+        "0E 20 00 00 2E 23 00 00 2E 46 49 54 00 00 40 00 00 14 00 00",
+    )?;
     for _ in 0..9000 {
         bytes.push(0)?;
     }
-    bytes.extend_from_slice(&[0x59, 0xAC])?;
+    bytes.extend_from_slice(&[0x0C, 0xDC])?;
     let mut text = Vec::new(rt.alloc());
-    let mut faults = CutSink::<64>::new(64);
+    let mut faults = CutSink::<128>::new(128);
     let mut source = ReadSource::new(bytes.as_slice());
     let status = run(
+        rt.alloc(),
         Command::Check,
         &mut source,
         &mut WriteSink::new(&mut text),
@@ -275,7 +321,7 @@ fn readers_and_writers(rt: HostRuntime) -> Result<(), Fail> {
     );
     assert_eq!(rt;
         text.as_slice(),
-        b"file 1: 9000 data bytes\nok\n".as_slice()
+        b"file 1: 9006 data bytes, 9001 records\nok\n".as_slice()
     );
     assert_eq!(rt; status, 0);
 
@@ -283,12 +329,19 @@ fn readers_and_writers(rt: HostRuntime) -> Result<(), Fail> {
     let mut source = ReadSource::new(BrokenReader(front));
     let mut room = [0u8; 8];
     let mut output = WriteSink::new(room.as_mut_slice());
-    let status = run(Command::Check, &mut source, &mut output, &mut faults);
+    let status = run(
+        rt.alloc(),
+        Command::Check,
+        &mut source,
+        &mut output,
+        &mut faults,
+    );
     assert_eq!(rt; faults.bytes(), b"read fault at byte 5000\n".as_slice());
     assert!(rt; source.failed() && !output.failed());
     assert_eq!(rt; status, 4);
 
     let status = run(
+        rt.alloc(),
         Command::Check,
         &mut bytes.as_slice(),
         &mut output,

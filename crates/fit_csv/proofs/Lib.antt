@@ -2,6 +2,10 @@ mod KnownCells
 mod KnownRows
 pub mod RowsOfEvents
 mod AddedRows
+mod ToldRows
+mod Converted
+mod ProfileScales
+mod ToldTable
 mod Shapes
 mod NamingFacts
 mod DevFields

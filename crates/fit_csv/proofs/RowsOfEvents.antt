@@ -6,7 +6,7 @@ use Rattle.fit_record.specs.declared.file.FitFile.{FitFile}
 use Rattle.fit_record.specs.declared.message.Record.{Record}
 use Rattle.fit_decode.specs.Events.{Event, item, file_end, file_events}
 use Rattle.fit_csv.specs.Rows.{Row, first_line}
-use Rattle.fit_csv.specs.ChainRows.{chain_rows, end_row, event_rows, events_rows, file_row, file_rows, record_rows, records_after, records_behind, records_rows, rows_of}
+use Rattle.fit_csv.specs.ChainRows.{chain_rows, end_row, event_rows, events_rows, file_row, file_rows, record_rows, records_behind, records_rows, rows_of}
 
 -- ---- the records of a file
 
@@ -40,10 +40,15 @@ rows-of-chain files = ap (λ rows. first_line ∷ rows) (all_files files [])
 
 -- ---- one more event
 
+-- the records of the file that was begun last, behind events one after another
+abbrev pub records_after : {A : Type 0} → List (Record A) → List (Event A) → List (Record A)
+records_after before [] = before
+records_after before (x ∷ events) = records_after (records_behind before x) events
+
 -- one more event has its rows behind those of the others
 pub rows-more : {A : Type 0} (before : List (Record A)) (events : List (Event A)) (x : Event A)
     → events_rows before (events ++ (x ∷ [])) ≡ events_rows before events ++ event_rows (records_after before events) x
-unfolding events_rows records_after
+unfolding events_rows
 rows-more before [] x = append-nil (event_rows before x)
 rows-more before (y ∷ events) x =
     ap (λ rows. event_rows before y ++ rows) (rows-more (records_behind before y) events x)
@@ -52,6 +57,5 @@ rows-more before (y ∷ events) x =
 -- the records behind one more event
 pub records-more : {A : Type 0} (before : List (Record A)) (events : List (Event A)) (x : Event A)
     → records_after before (events ++ (x ∷ [])) ≡ records_behind (records_after before events) x
-unfolding records_after
 records-more before [] x = refl
 records-more before (y ∷ events) x = records-more (records_behind before y) events x

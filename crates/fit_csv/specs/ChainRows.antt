@@ -154,11 +154,6 @@ records_behind before (header h n) = []
 records_behind before (item r) = r ∷ before
 records_behind before file_end = before
 
--- the same behind events one after another
-unfoldable pub records_after : {A : Type 0} → List (Record A) → List (Event A) → List (Record A)
-records_after before [] = before
-records_after before (x ∷ events) = records_after (records_behind before x) events
-
 -- events one after another
 unfoldable pub events_rows : {A : Type 0} → List (Record A) → List (Event A) → List Row
 events_rows before [] = []

@@ -5,6 +5,9 @@ pub mod InstantText
 pub mod Degrees
 pub mod ChainRows
 pub mod Table
+pub mod TableCells
+pub mod Conversions
+pub mod Reporting
 pub mod Judged
 pub mod Seven
 pub mod Misfits

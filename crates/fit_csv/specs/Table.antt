@@ -61,6 +61,11 @@ abbrev pub files_behind : {A : Type 0} → ℕ → Event A → ℕ
 files_behind files (header h n) = files + 1
 files_behind files other = files
 
+-- the same of events, the latest first
+abbrev pub files_heard : {A : Type 0} → List (Event A) → ℕ
+files_heard [] = 0
+files_heard (x ∷ heard) = files_behind (files_heard heard) x
+
 -- events one after another, after so many headers
 unfoldable pub table_events_rows : {A : Type 0} → ℕ → List (Record A) → List (Event A) → List Row
 table_events_rows files before [] = []

@@ -2,8 +2,12 @@
 #![tactic(auto)]
 
 mod cell;
+mod conversion;
+#[cfg(test)]
+mod conversion_tests;
 mod definition_rows;
 mod dev_rows;
+mod fault;
 mod file_rows;
 mod from;
 mod hexadecimal;
@@ -11,12 +15,17 @@ pub mod laws;
 mod message_rows;
 mod numbers;
 mod raw;
+mod report;
 mod rows;
 mod scan;
 mod strings;
+mod table_report;
+mod table_rows;
 #[cfg(test)]
 mod tests;
 
 pub use cell::{cell_text, put_cell};
+pub use conversion::{table, to_csv};
+pub use fault::CsvFault;
 pub use rows::{next_row, put_row, row_reader, row_writer, rows_text};
 pub use scan::cell_items;

@@ -1,7 +1,9 @@
 -- How much a decoder holds, by the bytes that were fed.
-use Rattle.std.proofs.Common.{◌≡◌, ℕ, ◌+◌, ◌-◌, ◌≤◌, List, ◌++◌, length, refl, sym, ap, ◌∙◌, subst, arith, Some, None}
-use Rattle.std.specs.Prelude.{Option}
+use Rattle.std.proofs.Common.{◌≡◌, cond, false, ℕ, ◌+◌, ◌-◌, ◌≤◌, List, ◌++◌, length, refl, sym, ap, ◌∙◌, subst, arith, Some, None}
+use Rattle.std.specs.Prelude.{Option, ◌==◌}
+use Rattle.std.proofs.lemmas.Bool.{cond-true, cond-false, eq-eqb, ne_eqb}
 use Rattle.fit_base.specs.Numbers.{IsBytes}
+use Rattle.fit_sum.specs.Checksum.{checksum}
 use Rattle.fit_frame.specs.declared.reason.Reason.{Reason}
 use Rattle.fit_frame.specs.Header.{header_bytes}
 use Rattle.fit_record.specs.declared.file.FitFile.{FitFile}
@@ -21,16 +23,18 @@ use Rattle.fit_decode.specs.declared.section.Section.TheVariants.{Header, Data, 
 use Rattle.fit_decode.specs.Progress.{at_header, at_data, progress_bytes, HasCome}
 use Rattle.fit_decode.specs.Events.{part_size, bound}
 use Rattle.fit_decode.specs.Answers.{Seen, AreChain}
-use Rattle.fit_decode.specs.Held.{IsHeld, bound_limit}
+use Rattle.fit_decode.specs.Held.{IsHeld, bound_limit, held_of_record}
 use Rattle.fit_decode.specs.InProgress.{in_progress_size, IsSmall}
 use Rattle.fit_decode.specs.Kept.{Fields, InHeader, HoldsAt}
 use Rattle.fit_decode.specs.Invariant.{IsKept, fields_of}
+use Rattle.fit_decode.specs.Scans.{sum_part}
 use Rattle.fit_decode.specs.Laws.{BoundsAreLimited}
 use Rattle.fit_decode.proofs.Splits.{IsBytes-front, IsBytes-back}
 use Rattle.fit_decode.proofs.Walked.{come}
 use Rattle.fit_decode.proofs.Ended.{chain_ended}
 use Rattle.fit_decode.proofs.Limits.{AreLimited, all_limited, nothing_limited, environment_limited}
 use Rattle.fit_decode.proofs.InProgress.{part_held, part_small, part_limited}
+use Rattle.fit_decode.proofs.EntriesSoFar.{part_is}
 
 nothing_known : (A : Type 0) → environment_size {A = A} empty_environment ≡ 0
 nothing_known A = refl
@@ -66,7 +70,7 @@ module _ {A : Type 0} (d : Fields A) (bytes : List ℕ) (are : IsBytes bytes) wh
   held_at : (s : Section) → HoldsAt s d bytes → IsHeld A bytes (environment_size d.env + in_progress_size d.in_progress)
   held_at Header k =
       let none = nothing_held k.known k.idle in
-      record { files = k.files; progress = at_header d.sum; come = k.come; within = omega (arith, none); all = λ _. none }
+      record { files = k.files; progress = at_header d.sum; come = k.come; is = none; within = omega (arith, none); all = λ _. none }
   held_at Data k =
       let e : Environment A = learn_all empty_environment k.records in
       let room : ℕ = k.size - length (records_bytes empty_environment k.records) in
@@ -76,11 +80,17 @@ module _ {A : Type 0} (d : Fields A) (bytes : List ℕ) (are : IsBytes bytes) wh
       let same : in_progress_size d.in_progress ≤ part_size d.env k.part =
       subst (λ l. in_progress_size d.in_progress ≤ part_size d.env l) place.spelled (subst (λ (t : State A). in_progress_size t.in_progress ≤ part_size d.env (part_bytes d.env place.of)) (sym place.is) held) in
       let known = ap environment_size k.known in
+      let limited : AreLimited d.env = subst AreLimited (sym k.known) (records_limited k.files k.header k.size k.records k.part bytes k.come are) in
+      let some : (length (records_bytes empty_environment k.records) == k.size) ≡ false = ne_eqb (length (records_bytes empty_environment k.records)) k.size (λ all. let more = k.some in omega (arith, more, all)) in
+      let exact : in_progress_size d.in_progress ≡ cond (length (records_bytes empty_environment k.records) == k.size) 0 (held_of_record e k.part) =
+      ap (λ (t : State A). in_progress_size t.in_progress) place.is ∙ part_is d.env now.room place.of limited place.is_part ∙ ap (held_of_record d.env) place.spelled ∙ ap (λ f. held_of_record f k.part) k.known
+      ∙ sym (cond-false (length (records_bytes empty_environment k.records) == k.size) 0 (held_of_record e k.part) some) in
       let at_part = ap (λ f. part_size f k.part) k.known in
       record {
         files = k.files;
         progress = at_data k.header k.size k.records k.part;
         come = k.come;
+        is = omega (arith, known, exact);
         within = omega (arith, known, at_part, same);
         all = λ idle.
             let begins : start room ≡ now = subst (λ l. Walks d.env (tests_of d.env) (start room) l now) idle k.walk in
@@ -91,10 +101,12 @@ module _ {A : Type 0} (d : Fields A) (bytes : List ℕ) (are : IsBytes bytes) wh
   held_at ClosingSum k =
       let known = ap environment_size k.known in
       let none : in_progress_size d.in_progress ≡ 0 = ap in_progress_size k.idle in
+      let over = eq-eqb (length (records_bytes empty_environment k.records)) k.size (let less = k.come.next.2 in let all = k.over in omega (arith, less, all)) in
       record {
         files = k.files;
         progress = at_data k.header k.size k.records _;
         come = k.come;
+        is = omega (arith, known, none, cond-true (length (records_bytes empty_environment k.records) == k.size) 0 (held_of_record (learn_all empty_environment k.records) (sum_part (checksum d.sum) d.half)) over);
         within = omega (arith, known, none);
         all = λ idle. let no_part = ap (part_size (learn_all empty_environment k.records)) idle in omega (arith, known, none, no_part);
       }

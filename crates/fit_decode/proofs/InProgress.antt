@@ -34,7 +34,7 @@ use Rattle.fit_decode.proofs.Limits.{IsLimited, AreLimited}
 
 -- ---- the items of a data message
 
-abbrev items_of : ℕ × ℕ → ℕ
+abbrev pub items_of : ℕ × ℕ → ℕ
 items_of f = f.1 / item_width f.0 f.1
 
 items_of_field : {A : Type 0} (code size : ℕ) (i : Items A) → HasShape code size i → length i.bits ≡ size / item_width code size
@@ -43,14 +43,14 @@ items_of_field code size i h =
     let whole : length i.bits * w + 0 ≡ size = omega (arith, ap (λ n. length i.bits * n) (sym h.width), h.whole) in
     sym (div-mul-add (length i.bits) w 0 (item_width_positive code size)) ∙ ap (λ n. n / w) whole
 
-whole_items : {A : Type 0} (fields : List (ℕ × ℕ)) (items : List (Items A)) → HaveShape fields items → items_in items ≡ sum_by items_of fields
+pub whole_items : {A : Type 0} (fields : List (ℕ × ℕ)) (items : List (Items A)) → HaveShape fields items → items_in items ≡ sum_by items_of fields
 whole_items [] [] h = refl
 whole_items [] (i ∷ items) h = absurd h
 whole_items (f ∷ fields) [] h = absurd h
 whole_items {A} (f ∷ fields) (i ∷ items) h =
     sum_by-cons (λ (j : Items A). length j.bits) i items ∙ ap (λ n. n + items_in items) (items_of_field f.0 f.1 i h.0) ∙ ap (λ n. items_of f + n) (whole_items fields items h.1) ∙ sym (sum_by-cons items_of f fields)
 
-no_items_yet : (A : Type 0) (fields : List (ℕ × ℕ)) → items_in (map (no_items {A = A}) fields) ≡ 0
+pub no_items_yet : (A : Type 0) (fields : List (ℕ × ℕ)) → items_in (map (no_items {A = A}) fields) ≡ 0
 no_items_yet A [] = refl
 no_items_yet A (f ∷ fields) = omega (arith, sum_by-cons (λ (j : Items A). length j.bits) (no_items f) (map no_items fields), no_items_yet A fields)
 
@@ -103,7 +103,7 @@ dev_fields p = omega (arith, fewer_zipped p.dev_codes (map (λ f. f.size) (dev_d
 
 -- ---- by the bytes of a definition message
 
-no_dev_fields : (dev : Option (List DevDef)) → HasNone dev → length (dev_defs dev) ≡ 0
+pub no_dev_fields : (dev : Option (List DevDef)) → HasNone dev → length (dev_defs dev) ≡ 0
 no_dev_fields None none = refl
 no_dev_fields (Some fields) none = ap length none
 
@@ -134,11 +134,11 @@ behind_both : (front : List ℕ) (n count : ℕ) (more last : List ℕ) → leng
 behind_both front n count more last long = ap (λ l. slice_index l n) (append_assoc front (count ∷ more) last) ∙ behind front n count (more ++ last) long
 
 -- the bytes of the fields behind the record header
-abbrev front_of : {A : Type 0} → MessageDef A → ℕ → List ℕ
+abbrev pub front_of : {A : Type 0} → MessageDef A → ℕ → List ℕ
 front_of d count = d.reserved ∷ architecture d.order ∷ number_bytes d.order 2 d.global ++ count ∷ flat_map field_bytes d.fields
 
 -- the number of developer fields, and those that have come
-abbrev devs_of : {A : Type 0} → MessageDef A → ℕ → List ℕ
+abbrev pub devs_of : {A : Type 0} → MessageDef A → ℕ → List ℕ
 devs_of d left = (length (dev_defs d.dev) + left) ∷ flat_map dev_field_bytes (dev_defs d.dev)
 
 length-front_of : {A : Type 0} (d : MessageDef A) → length (front_of d (length d.fields)) ≡ 5 + 3 * length d.fields

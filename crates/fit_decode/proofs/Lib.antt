@@ -40,6 +40,8 @@ pub mod FileGiven
 pub mod OneRead
 pub mod Limits
 pub mod InProgress
+pub mod SoFar
+pub mod EntriesSoFar
 pub mod Holding
 pub mod NextRead
 pub mod ChainRead

@@ -9,6 +9,7 @@ use Rattle.std.specs.declared.cmp.Ordering.TheVariants.{Less, Equal, Greater}
 use Rattle.std.proofs.Math.Nat.{div-le_self}
 use Rattle.std.proofs.lemmas.Bool.{cond_both, eqb-true}
 use Rattle.std.proofs.lemmas.Cmp.{ranked}
+use Rattle.std.proofs.lemmas.List.{length-map}
 use Rattle.std.proofs.lemmas.List.Elements.{All-from_get_or}
 use Rattle.std.proofs.lemmas.List.Sums.{sum_by-append, sum_by-cons, sum_by-le}
 use Rattle.fit_base.specs.declared.items.Items.{Items}
@@ -23,7 +24,7 @@ use Rattle.fit_record.specs.declared.learn.DevKey.{DevKey}
 use Rattle.fit_record.specs.declared.message.Record.{Record}
 use Rattle.fit_record.specs.declared.message.Record.TheVariants.{Define, Values as Data}
 use Rattle.fit_record.specs.declared.message.Values.{Values}
-use Rattle.fit_record.specs.Environment.{Environment, empty_environment, defined_at, defined_by, describe, described_by, description, dev_defs, dev_key_cmp, first_items, learn, learn_all, only, only_byte}
+use Rattle.fit_record.specs.Environment.{Environment, empty_environment, defined_at, defined_by, describe, described_by, description, dev_code, dev_defs, dev_key_cmp, first_items, learn, learn_all, only, only_byte}
 use Rattle.fit_record.specs.Records.{architecture, layout, dev_layout, field_bytes, dev_field_bytes, dev_part, DefinitionFits, DataFits, HaveShape, Fits, record_bytes, AllFit, records_bytes}
 use Rattle.fit_record.specs.Sizes.{entry_count, environment_size}
 use Rattle.fit_record.proofs.Firsts.{first_below}
@@ -109,9 +110,9 @@ dev_bytes (Some fields) are = IsBytes-tail (length fields) (flat_map dev_field_b
 
 abbrev pub IsLimited : {A : Type 0} → Option (Defined A) → Type 0
 IsLimited None = Unit {0}
-IsLimited (Some p) = (entry_count p.definition ≤ 510) × (item_count p ≤ 130050)
+IsLimited (Some p) = (entry_count p.definition ≤ 510) × (item_count p ≤ 130050) × (length p.dev_codes ≡ length (dev_defs p.definition.dev))
 
--- Each definition has so many entries at most, and messages of so many items, and the described developer fields are in order.
+-- Each definition has so many entries at most, messages of so many items, and a code for each developer field; and the described developer fields are in order.
 pub record AreLimited {A : Type 0} (e : Environment A) : Type 0 where
   pub places : (local : ℕ) → IsLimited (defined_at e local)
   pub described : Ascend 0 e.described
@@ -124,7 +125,7 @@ limited_definition e f d fits are =
     let field_items = few_items d.fields (IsBytes-tail (length d.fields) (flat_map field_bytes d.fields) (IsBytes-back front fields (IsBytes-front (front ++ fields) (dev_part d.dev) behind))) in
     let dev_items = few_dev_items (defined_by f d).dev_codes (dev_defs d.dev) (dev_bytes d.dev (IsBytes-back (front ++ fields) (dev_part d.dev) behind)) in
     let both = sum_by-append items_of (layout (defined_by f d)) (dev_layout (defined_by f d)) in
-    (omega (arith, fits.fields, fits.dev_fields), omega (arith, fits.fields, fits.dev_fields, field_items, dev_items, both))
+    (omega (arith, fits.fields, fits.dev_fields), omega (arith, fits.fields, fits.dev_fields, field_items, dev_items, both), length-map (dev_defs d.dev) (dev_code f))
 
 none_limited : (A : Type 0) (n local : ℕ) → IsLimited {A = A} (get_or (replicate n None) local None)
 none_limited A zero local = tt

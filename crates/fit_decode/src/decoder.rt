@@ -7,6 +7,9 @@ ghost use Rattle.fit_decode.specs.Held.{bound_limit, IsHeld};
 ghost use Rattle.fit_decode.specs.Needs.{Needs, NoFileEndsBefore};
 ghost use Rattle.fit_decode.specs.Answers.{told, fed, Quiet, Least, Refuses, Wants, AreChain};
 
+#[cfg(test)]
+mod tests;
+
 use crate::held::in_progress_size;
 use crate::need::bytes_to_come;
 use crate::record::let_go;

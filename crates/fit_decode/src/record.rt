@@ -9,7 +9,7 @@ ghost use Rattle.fit_step.specs.Tests.{tests_of};
 ghost use Rattle.fit_decode.specs.Scans.{DataScanned, Reading, RecordByte};
 
 use fit_record::{Env, Record};
-use fit_step::{Position, Stop, step, undo};
+use fit_step::{Position, Stop, step, take_inside, undo};
 use std::alloc::Allocator;
 
 /// Learns a whole record. Whether there was memory.
@@ -27,6 +27,24 @@ fn is_learned<A: Allocator + Copy>(env: &mut Env<A>, whole: &Option<Record<A>>) 
 
 /// One byte of a record, and the record where it is whole with it. A whole record is learned.
 fn take_byte<A: Allocator + Copy>(
+    alloc: A,
+    env: &mut Env<A>,
+    position: &mut Position,
+    in_progress: &mut Option<Record<A>>,
+    byte: u8,
+) -> Result<Option<Record<A>>, Stop>
+    requires { Reading env.old (state_at position.old in_progress.old) }
+    ensures made { RecordByte env.old env.new (state_at position.new in_progress.new) byte result (step env.old (tests_of env.old) (state_at position.old in_progress.old) byte) }
+    ensures err { OnErr result (state_at position.new in_progress.new ≡ state_at position.old in_progress.old) }
+{
+    if take_inside(position, in_progress, byte) {
+        return Ok(None);
+    }
+    take_step(alloc, env, position, in_progress, byte)
+}
+
+/// The same of a byte that may end a number, or stand outside of one.
+fn take_step<A: Allocator + Copy>(
     alloc: A,
     env: &mut Env<A>,
     position: &mut Position,

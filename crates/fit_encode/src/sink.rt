@@ -77,6 +77,13 @@ impl<W: Write> WriteSink<W> {
             failed: false,
         }
     }
+
+    /// The writer, which holds what was put.
+    pub fn into_inner(self) -> W
+        ensures { W.contents result ≡ self.held }
+    {
+        self.writer
+    }
 }
 
 impl<W: Write> Sink for WriteSink<W> {
@@ -110,13 +117,13 @@ impl<W: Write> Sink for WriteSink<W> {
 pub struct CutSink<const N: usize> {
     kept: ArrayVec<u8, N>,
     room: usize,
-    failed: bool,
+    refused: bool,
 }
 
 impl<const N: usize> Model for CutSink<N> {
     ghost Value = { Kept };
 
-    ghost view = { λ s. record { held = s.kept.items; room = s.room; failed = s.failed } };
+    ghost view = { λ s. record { held = s.kept.items; room = s.room; failed = s.refused } };
 
     ghost invariant = { λ s. length s.kept.items + s.room ≤ N };
 }
@@ -129,7 +136,7 @@ impl<const N: usize> CutSink<N> {
         CutSink {
             kept: ArrayVec::new(),
             room: limit.min(N),
-            failed: false,
+            refused: false,
         }
     }
 
@@ -160,8 +167,8 @@ impl<const N: usize> Sink for CutSink<N> {
         ensures room { length self.new.held + self.new.room ≡ length self.old.held + self.old.room }
     {
         let n = bytes.len().min(self.room);
-        if self.failed || n == 0 && !bytes.is_empty() {
-            self.failed = true;
+        if self.refused || n == 0 && !bytes.is_empty() {
+            self.refused = true;
             return Err(SinkFailed);
         }
         let (front, _) = bytes.split_at(n);
@@ -173,6 +180,6 @@ impl<const N: usize> Sink for CutSink<N> {
     }
 
     fn failed(&self) -> bool {
-        self.failed
+        self.refused
     }
 }

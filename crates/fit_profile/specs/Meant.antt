@@ -2,6 +2,7 @@
 use Rattle.std.specs.Prelude.{◌≡◌, ℕ, List, Option, Some, None, option_map, option_and_then, slice_get, IsSomeAnd}
 use Rattle.fit_base.specs.declared.items.Items.{Items}
 use Rattle.fit_record.specs.declared.environment.Defined.{Defined}
+use Rattle.fit_record.specs.declared.definition.FieldDef.{FieldDef}
 use Rattle.fit_record.specs.declared.definition.MessageDef.{MessageDef}
 use Rattle.fit_record.specs.declared.message.Values.{Values}
 use Rattle.fit_record.specs.declared.message.Record.{Record}
@@ -59,6 +60,10 @@ pub record Part (A : Type 0) : Type 0 where
 -- what a view of a field says
 abbrev pub part_of : {A : Type 0} → FieldView A → Part A
 part_of f = record { number = f.number; code = f.code; items = f.items.now }
+
+-- a field with its items
+abbrev pub first_part : {A : Type 0} → FieldDef × Items A → Part A
+first_part f = record { number = f.0.number; code = f.0.code; items = f.1 }
 
 -- the field at a place, and its items
 abbrev pub field_at : {A : Type 0} → Shown A → ℕ → Option (Part A)

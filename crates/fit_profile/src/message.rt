@@ -2,7 +2,8 @@
 ghost use Rattle.std.specs.Prelude.{◌≡◌, ◌≤◌, IfSome, IsSome, Some, option_map, option_and_then, option_copied, slice_get};
 ghost use Rattle.fit_record.specs.Environment.{defined_at, first_items};
 ghost use Rattle.fit_profile.specs.Names as names;
-ghost use Rattle.fit_profile.specs.Meant.{shown, part_of, field_at, dev_field_at};
+ghost use Rattle.fit_profile.specs.Looks.{first_field};
+ghost use Rattle.fit_profile.specs.Meant.{shown, part_of, first_part, field_at, dev_field_at};
 ghost use Rattle.fit_profile.specs.Shows.{Shows};
 ghost use Rattle.fit_profile.specs.Values.{IsAmount, IsValueOf, known_number};
 
@@ -12,7 +13,7 @@ use crate::told::Told;
 use crate::value::{in_scale, value_of};
 use crate::{Fixed, message_name};
 use fit_base::Items;
-use fit_record::{Defined, Env, Values};
+use fit_record::{Defined, Env, FieldDef, Values};
 use std::alloc::{Allocator, Global};
 
 /// A field of a message: its number, its base type code and its items.
@@ -84,16 +85,36 @@ impl<'a, A: Allocator> Message<'a, A> {
         })
     }
 
+    /// The first field of this number as it is defined, with its items.
+    fn first_of(&self, number: u8) -> Option<(&FieldDef, &Items<A>)>
+        ensures { option_map (λ f. (f.0.now, f.1.now)) result ≡ first_field (shown self.now).definition.fields (shown self.now).values.fields number }
+    {
+        first_of(
+            self.defined.definition.fields.as_slice(),
+            self.values.fields.as_slice(),
+            number,
+        )
+    }
+
+    /// The first field of this number.
+    pub fn first(&self, number: u8) -> Option<FieldView<A>>
+        ensures { option_map part_of result ≡ option_map first_part (first_field (shown self.now).definition.fields (shown self.now).values.fields number) }
+    {
+        let (field, items) = self.first_of(number)?;
+        let code = field.code;
+        Some(FieldView {
+            number: field.number,
+            code,
+            items,
+        })
+    }
+
     /// The items of the first field of this number.
     #[tactic(auto, using(crate::proofs::FirstField::items_first))]
     pub fn items(&self, number: u8) -> Option<&Items<A>>
         ensures { option_copied result ≡ first_items (shown self.now).definition.fields (shown self.now).values.fields number }
     {
-        let (_, items) = first_of(
-            self.defined.definition.fields.as_slice(),
-            self.values.fields.as_slice(),
-            number,
-        )?;
+        let (_, items) = self.first_of(number)?;
         Some(items)
     }
 

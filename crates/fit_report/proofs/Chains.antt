@@ -54,7 +54,7 @@ module _ {A : Type 0} (line : Lines A) (fs : List (FitFile A)) (b : List ℕ) (a
       subst (λ es. Appends sink.before sink.after (text_of line es)) (sym (reverse-reverse heard) ∙ ap reverse same) tells.1
   told taken y heard source sink (Err (Decode (Refused place reason))) after eats (fault, tells) = fault.2.refused (none_refused taken y place eats fault.0)
   told taken y heard source sink (Err (Decode (Truncated place))) after eats (fault, tells) =
-      fault.2.1 fs (subst (IsChain chain_limit fs) (whole taken y eats (subst IsAtEnd after fault.1)) chain)
+      fault.3 (fs, subst (IsChain chain_limit fs) (whole taken y eats (subst IsAtEnd after fault.1)) chain)
   told taken y heard source sink (Err (Decode (NoRoom used))) after eats none = none
   told taken y heard source sink (Err (Decode (Read place))) after eats (fault, tells) = fault.1
   told taken y heard source sink (Err NoMemory) after eats some = tt

@@ -1,17 +1,11 @@
 -- What is heard when a decoder is fed.
-use Rattle.std.proofs.Common.{◌≡◌, ℕ, ◌+◌, ◌<◌, List, [], ◌∷◌, ◌++◌, length, take, drop, reverse, Some, None, refl, sym, ap, ◌∙◌, subst, arith, append_assoc}
+use Rattle.std.proofs.Common.{◌≡◌, ℕ, ◌<◌, List, [], ◌∷◌, ◌++◌, length, take, reverse, Some, None, refl, sym, subst, arith}
 use Rattle.std.proofs.lemmas.List.{reverse-append}
-use Rattle.std.proofs.Math.Seq.{take-add}
 use Rattle.fit_decode.specs.declared.event.Event.{Event as Answer}
 use Rattle.fit_decode.specs.declared.event.Event.TheVariants as answers
-use Rattle.fit_decode.specs.Answers.{Seen, told, fed, Quiet, Least}
+use Rattle.fit_decode.specs.Answers.{told, Quiet, Least}
 use Rattle.fit_decode.specs.Events.{Event, header, item, file_end, AreEvents}
 use Rattle.fit_report.specs.Heard.{hear}
-
-pub fed_on : (old mid new : Seen) (piece : List ℕ) (at used : ℕ) → mid ≡ fed old piece at → new ≡ fed mid (drop at piece) used → new ≡ fed old piece (at + used)
-fed_on old mid new piece at used is after =
-    after ∙ ap (λ (v : Seen). fed v (drop at piece) used) is
-    ∙ ap (λ (b : List ℕ). record { bytes = b; refusal = None }) (append_assoc old.bytes (take at piece) (take used (drop at piece)) ∙ ap (λ (x : List ℕ). old.bytes ++ x) (sym (take-add at used piece)))
 
 reverse-cons : {X : Type 0} (x : X) (xs : List X) → reverse (x ∷ xs) ≡ reverse xs ++ x ∷ []
 reverse-cons x xs = reverse-append (x ∷ []) xs

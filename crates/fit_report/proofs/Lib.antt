@@ -1,7 +1,6 @@
 pub mod Hearing
 pub mod Texts
 pub mod Pieces
-pub mod Consumed
 pub mod Outcomes
 pub mod Chains
 pub mod Records

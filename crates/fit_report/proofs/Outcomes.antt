@@ -4,35 +4,25 @@ use Rattle.std.specs.Io.KnownBytes.{Consumes, IsAtEnd}
 use Rattle.std.proofs.lemmas.List.{append-nil, get_or-append-add}
 use Rattle.std.proofs.Math.Seq.{take-append-add}
 use Rattle.fit_record.specs.Files.{chain_limit, IsViable}
-use Rattle.fit_record.proofs.ByteLists.{IsBytes-none}
 use Rattle.fit_decode.specs.declared.event.Fault.TheVariants.{Refused, Truncated, Read, NoMemory as NoRoom}
 use Rattle.fit_decode.specs.declared.event.Fault.{Fault}
 use Rattle.fit_decode.specs.Answers.{Seen, AreChain}
 use Rattle.fit_decode.specs.Events.{Event, AreEvents}
-use Rattle.fit_decode.specs.Progress.{at_header, HasCome}
+use Rattle.fit_decode.specs.Progress.{at_header}
 use Rattle.fit_decode.specs.Refusals.{IsRefused}
-use Rattle.fit_decode.proofs.Completions.{goes_viable}
-use Rattle.fit_decode.proofs.Goes.{begins_nothing}
-use Rattle.fit_decode.proofs.Whole.{unfinished}
+use Rattle.fit_decode.proofs.FileRead.{no_file_yet}
 use Rattle.fit_report.specs.declared.fault.ReportFault.{ReportFault}
 use Rattle.fit_report.specs.declared.fault.ReportFault.TheVariants.{Decode, NoMemory, Write}
 use Rattle.fit_report.specs.Heard.{Lines}
 use Rattle.fit_report.specs.Passing.{Stands, PieceTold}
 use Rattle.fit_report.specs.Reports.{Channel, Tells, HasTold, report_fault}
 use Rattle.fit_report.proofs.Texts.{Appends-nothing}
-use Rattle.fit_report.proofs.Consumed.{Consumes-append}
+use Rattle.fit_decode.proofs.Consumed.{Consumes-append}
 
 -- ---- no bytes
 
--- of no bytes, no file and nothing of a next one have come
-nothing_come : (A : Type 0) → HasCome {A = A} [] (at_header []) []
-nothing_come A = record { files = tt; next = unfinished A [] (λ h n rest fits is. cc); spelled = refl }
-
-pub nothing_viable : (A : Type 0) → IsViable A chain_limit []
-nothing_viable A = goes_viable chain_limit [] (at_header []) [] (nothing_come A) IsBytes-none (omega arith, omega arith, begins_nothing)
-
 pub nothing_heard : (A : Type 0) → AreEvents {A = A} [] []
-nothing_heard A = ([], at_header [], nothing_come A, refl)
+nothing_heard A = ([], at_header [], no_file_yet A, refl)
 
 pub stands_before : {A : Type 0} (line : Lines A) (bytes : List ℕ) (heard : List (Event A)) (start : Option (List ℕ)) → bytes ≡ [] → heard ≡ [] → Stands line bytes heard start start 0
 stands_before {A} line bytes heard start none silent =
@@ -71,7 +61,7 @@ pub end_fault : {A : Type 0} (line : Lines A) (now : Seen) (heard : List (Event 
 end_fault line now heard source sink written (Ok x) fault fresh viable end s good truncated is = absurd cc
 end_fault {A} line now heard source sink written (Err other) fault fresh viable end s good truncated is =
     let same : fault ≡ Truncated (length now.bytes) = let t = truncated fresh refl in cc in
-    rw same ((refl, end, (viable, λ fs chain. let ok = good.1 (fresh, (fs, chain)) in absurd cc)), (s.are, s.put))
+    rw same ((refl, end, viable, λ done. let ok = good.1 (fresh, done) in absurd cc), (s.are, s.put))
 
 -- nothing more was taken
 pub ate_nothing : (a b c : Option (List ℕ)) (taken piece : List ℕ) (n : ℕ) → Consumes a b taken → Consumes b c (take n piece) → n ≡ 0 → Consumes a c taken

@@ -14,7 +14,8 @@ use Rattle.fit_report.specs.declared.fault.ReportFault.TheVariants.{Decode, NoMe
 use Rattle.fit_report.specs.Heard.{Lines, hear}
 use Rattle.fit_report.specs.Reports.{Channel, Tells, report_fault}
 use Rattle.fit_report.specs.Passing.{Stands, Passed, PieceTold}
-use Rattle.fit_report.proofs.Hearing.{Told, fed_on, hears}
+use Rattle.fit_decode.proofs.PieceTold.{fed_on}
+use Rattle.fit_report.proofs.Hearing.{Told, hears}
 use Rattle.fit_report.proofs.Texts.{stands_on, fails_on, tells}
 
 pub are_heard : {A : Type 0} (new mid : Seen) (piece : List ℕ) (used : ℕ) (heard : List (Event A)) (answer : Answer A) → IsViable A chain_limit new.bytes → new ≡ fed mid piece used

@@ -70,7 +70,7 @@ heard_are_few heard (bytes, viable, are) = omega (arith, few_events bytes (rever
 
 -- ---- the records
 
-reverse-map : {X Y : Type 0} (f : X → Y) (xs : List X) → reverse (map f xs) ≡ map f (reverse xs)
+pub reverse-map : {X Y : Type 0} (f : X → Y) (xs : List X) → reverse (map f xs) ≡ map f (reverse xs)
 reverse-map f [] = refl
 reverse-map f (x ∷ xs) =
     reverse-append (f x ∷ []) (map f xs) ∙ ap (λ ys. ys ++ f x ∷ []) (reverse-map f xs) ∙ sym (map-append f (reverse xs) (x ∷ [])) ∙ ap (map f) (sym (reverse-append (x ∷ []) xs))
@@ -91,7 +91,7 @@ last_fits : {A : Type 0} (e : Environment A) (rs : List (Record A)) (r : Record 
 last_fits e [] r all = all.0
 last_fits e (s ∷ rs) r all = last_fits (learn e s) rs r all.1
 
-records_behind : {A : Type 0} (rs : List (Record A)) (h : Header) (n : ℕ) (before : List (Event A)) → latest_records (map item rs ++ header h n ∷ before) ≡ rs
+pub records_behind : {A : Type 0} (rs : List (Record A)) (h : Header) (n : ℕ) (before : List (Event A)) → latest_records (map item rs ++ header h n ∷ before) ≡ rs
 records_behind [] h n before = refl
 records_behind (r ∷ rs) h n before = ap (λ ss. r ∷ ss) (records_behind rs h n before)
 

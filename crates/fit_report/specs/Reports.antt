@@ -1,30 +1,20 @@
 -- What a report of the bytes of a source puts in a sink.
-use Rattle.std.specs.Prelude.{◌≡◌, ℕ, ◌+◌, ◌-◌, ◌^◌, ◌<◌, ◌≤◌, min, Bool, true, List, Option, Result, Ok, Err, take, length, reverse, slice_index, flat_map}
+use Rattle.std.specs.Prelude.{◌≡◌, ℕ, ◌-◌, ◌^◌, ◌<◌, min, Bool, true, List, Option, Result, Ok, Err, take, length, reverse, flat_map}
 use Rattle.std.specs.Io.KnownBytes.{Appends, Consumes, IsAtEnd}
 use Rattle.fit_record.specs.declared.file.FitFile.{FitFile}
-use Rattle.fit_record.specs.Files.{IsChain, IsViable, chain_limit}
+use Rattle.fit_record.specs.Files.{chain_limit}
 use Rattle.fit_decode.specs.declared.event.Fault.{Fault}
-use Rattle.fit_decode.specs.declared.event.Fault.TheVariants.{Refused, Truncated, NoMemory, Read}
+use Rattle.fit_decode.specs.declared.event.Fault.TheVariants.{Refused, NoMemory, Read}
 use Rattle.fit_decode.specs.Answers.{AreChain}
 use Rattle.fit_decode.specs.Events.{Event, AreEvents, file_events}
-use Rattle.fit_decode.specs.Refusals.{IsRefused}
+use Rattle.fit_decode.specs.Reads.{EndsReading}
 use Rattle.fit_report.specs.declared.fault.ReportFault.{ReportFault}
 use Rattle.fit_report.specs.declared.fault.ReportFault.TheVariants as report
 use Rattle.fit_report.specs.Heard.{Lines, text_of}
 
--- A chain of at most so many files begins with the bytes, and they are none.
-abbrev pub IsShort : Type 0 → ℕ → List ℕ → Type 0
-IsShort A limit bytes = IsViable A limit bytes × ((fs : List (FitFile A)) → IsChain limit fs bytes → ⊥)
-
--- The fault that ended the reading of a chain of at most so many files, after these bytes were taken: the byte at the place is
--- the first one with which no such chain begins, and at most a piece was taken from it on; or the input ended, and is the
--- beginning of a chain alone; or memory was refused; or the source failed.
+-- The fault that ended the reading of a chain of at most so many files, after these bytes were taken.
 abbrev pub Faults : Type 0 → ℕ → List ℕ → Option (List ℕ) → Bool → Fault → Type 0
-Faults A limit taken has failed (Refused place reason) =
-    (place < length taken) × (length taken ≤ place + 4096) × IsRefused A limit (take place taken) (slice_index taken place) reason
-Faults A limit taken has failed (Truncated place) = (place ≡ length taken) × IsAtEnd has × IsShort A limit taken
-Faults A limit taken has failed (NoMemory used) = used ≡ length taken
-Faults A limit taken has failed (Read place) = (place ≡ length taken) × (failed ≡ true) × IsViable A limit taken
+Faults A limit taken has failed fault = EndsReading A limit (AreChain A) taken has failed fault
 
 -- the fault of a report
 abbrev pub report_fault : Fault → ReportFault

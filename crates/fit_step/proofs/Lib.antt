@@ -20,5 +20,6 @@ pub mod Preconditions
 pub mod HeaderCode
 pub mod InPlace
 pub mod Kept
+pub mod MovesOn
 pub mod Continuing
 pub mod Undoing

@@ -4,6 +4,7 @@
 mod definition;
 mod definition_byte;
 mod header;
+mod inside;
 mod items;
 pub mod laws;
 mod one_byte;
@@ -15,6 +16,7 @@ mod sizes;
 mod stop;
 mod undone;
 
+pub use inside::take_inside;
 pub use one_byte::step;
 pub use partial::Partial;
 pub use phase::{DefinitionPhase, Phase};

@@ -67,4 +67,13 @@ impl Partial {
             count: self.count + 1,
         }
     }
+
+    /// Puts a byte at the end.
+    pub(crate) fn push(&mut self, byte: u8)
+        requires { length self.old < 8 }
+        ensures { self.new ≡ self.old ++ byte ∷ [] }
+    {
+        self.bytes[self.count] = byte;
+        self.count += 1;
+    }
 }

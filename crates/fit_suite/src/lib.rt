@@ -1,7 +1,16 @@
 //! Tests over the crates below. They stand apart so that the proofs of those crates stay short.
 #![tactic(auto)]
-
 #[cfg(test)]
 mod built;
 #[cfg(test)]
+mod fed;
+#[cfg(test)]
+mod files;
+#[cfg(test)]
+mod reading;
+#[cfg(test)]
 mod refused;
+#[cfg(test)]
+mod sources;
+#[cfg(test)]
+mod starved;

@@ -12,7 +12,8 @@ use fit_history::History;
 use fit_record::FitFile;
 use std::alloc::Global;
 
-/// Reads a chain of files, to the end of the source. It takes pieces of at most 4,096 bytes.
+/// Reads a chain of files, to the end of the source. It takes pieces of at most 4,096 bytes, and its memory from `Global`;
+/// `Reading` takes any allocator.
 ///
 /// `Refused` names the first byte with which no chain begins, and why; from there on at most 4,096 bytes were taken.
 /// `Truncated` names the end of a source that ends inside a file, or before the first, and `Read` the place where it

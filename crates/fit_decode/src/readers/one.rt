@@ -12,7 +12,8 @@ use fit_history::History;
 use fit_record::FitFile;
 use std::alloc::Global;
 
-/// Reads one file, and leaves the bytes behind it. It takes pieces of at most 4,096 bytes.
+/// Reads one file, and leaves the bytes behind it. It takes pieces of at most 4,096 bytes, and its memory from `Global`;
+/// `Reading` takes any allocator.
 ///
 /// `Refused` names the first byte with which no file begins, and why; from there on at most 4,096 bytes were taken.
 /// `Truncated` names the end of a source that ends before a file does, and `Read` the place where it failed. With

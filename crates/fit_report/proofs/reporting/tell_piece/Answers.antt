@@ -5,7 +5,8 @@ use Rattle.std.proofs.lemmas.List.{length-drop}
 use Rattle.std.proofs.lemmas.Result.{err_from_is_err_and}
 use Rattle.fit_decode.specs.Answers.{Seen}
 use Rattle.fit_decode.specs.Events.{AreEvents}
-use Rattle.fit_report.proofs.Hearing.{Told, fed_on, uses_some}
+use Rattle.fit_decode.proofs.PieceTold.{fed_on}
+use Rattle.fit_report.proofs.Hearing.{Told, uses_some}
 use Rattle.fit_report.proofs.Pieces.{Stopped, are_heard, passes, breaks, stops}
 use Rattle.fit_report.proofs.reporting.tell_piece.Goals as goal
 

@@ -8,8 +8,9 @@ use Rattle.fit_decode.specs.Answers.{Seen}
 use Rattle.fit_decode.proofs.Bounds.{short_bytes}
 use Rattle.fit_report.specs.Passing.{Stands}
 use Rattle.fit_report.specs.Reports.{Channel}
-use Rattle.fit_report.proofs.Consumed.{Consumes-nothing, Consumes-append}
-use Rattle.fit_report.proofs.Outcomes.{nothing_viable, stands_before, piece_fault, end_fault, ate_nothing}
+use Rattle.fit_decode.proofs.Consumed.{Consumes-nothing, Consumes-append}
+use Rattle.fit_decode.proofs.FileRead.{nothing_viable}
+use Rattle.fit_report.proofs.Outcomes.{stands_before, piece_fault, end_fault, ate_nothing}
 use Rattle.fit_report.proofs.reporting.tell_pieces.Goals as goal
 
 pub pieces-init : goal.pieces-init

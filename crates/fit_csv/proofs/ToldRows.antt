@@ -1,0 +1,63 @@
+-- The rows of what a decoder answers, told one after another.
+use Rattle.std.proofs.Common.{◌≡◌, ◌∙◌, List, [], ◌∷◌, ◌++◌, codes, reverse, refl, sym, ap, subst}
+use Rattle.std.proofs.lemmas.List.{reverse-append, reverse-reverse}
+use Rattle.csv.specs.Writing.{escaped, fields_text, is_blank}
+use Rattle.fit_record.specs.Records.{Fits}
+use Rattle.fit_decode.specs.declared.event.Event.{Event as Answer}
+use Rattle.fit_decode.specs.declared.event.Event.TheVariants as answers
+use Rattle.fit_decode.specs.Events.{Event, header, item, file_end}
+use Rattle.fit_profile.specs.Laws.{LookingBackIsLearning}
+use Rattle.fit_profile.specs.Looks.{known}
+use Rattle.fit_report.specs.Heard.{AreHeard, hear, latest_records, line_of, text_of}
+use Rattle.fit_report.specs.Laws.{HeardRecordsFit}
+use Rattle.std.specs.Global.{Global}
+use Rattle.fit_csv.specs.Rows.{csv_text}
+use Rattle.fit_csv.specs.ChainRows.{event_rows, events_rows, records_behind, rows_of}
+use Rattle.fit_csv.specs.Conversions.{csv_line}
+use Rattle.fit_csv.specs.Reporting.{AnswerFits, HasText, answer_rows}
+use Rattle.fit_csv.proofs.AddedRows.{text_append}
+use Rattle.fit_csv.proofs.RowsOfEvents.{records-more, records_after, rows-more}
+
+-- a record that is heard fits behind the latest records
+pub answer_fits : {A : Type 0} → HeardRecordsFit A → LookingBackIsLearning A → (heard : List (Event A)) (answer : Answer A) → AreHeard (hear answer heard) → AnswerFits (latest_records heard) answer
+answer_fits fit back heard answers.More are = tt
+answer_fits fit back heard (answers.Header h n) are = tt
+answer_fits fit back heard (answers.Item r) are =
+    let before = latest_records heard in
+    subst (λ e. Fits e r) (sym (back (reverse before)) ∙ ap known (reverse-reverse before)) (fit heard r are)
+answer_fits fit back heard answers.FileEnd are = tt
+
+-- the text of the rows of an answer is its line
+pub answer_text : (heard : List (Event Global)) (answer : Answer Global) → csv_text (answer_rows (latest_records heard) answer) ≡ line_of csv_line heard answer
+unfolding csv_text
+answer_text heard answers.More = refl
+answer_text heard (answers.Header h n) = refl
+answer_text heard (answers.Item r) = refl
+answer_text heard answers.FileEnd = refl
+
+-- the latest records are those behind the events in their order
+pub latest : {A : Type 0} (heard : List (Event A)) → records_after [] (reverse heard) ≡ latest_records heard
+latest [] = refl
+latest (x ∷ heard) =
+    ap (records_after []) (reverse-append (x ∷ []) heard) ∙ records-more [] (reverse heard) x ∙ ap (λ before. records_behind before x) (latest heard) ∙ behind x
+  where
+    behind : (x : Event _) → records_behind (latest_records heard) x ≡ latest_records (x ∷ heard)
+    behind (header h n) = refl
+    behind (item r) = refl
+    behind file_end = refl
+
+-- the text of events is that of their rows
+pub events_text : (heard : List (Event Global)) → csv_text (events_rows [] (reverse heard)) ≡ text_of csv_line heard
+unfolding csv_text events_rows
+events_text [] = refl
+events_text (x ∷ heard) =
+    ap (λ events. csv_text (events_rows [] events)) (reverse-append (x ∷ []) heard)
+    ∙ ap csv_text (rows-more [] (reverse heard) x)
+    ∙ text_append (events_rows [] (reverse heard)) (event_rows (records_after [] (reverse heard)) x)
+    ∙ ap (λ text. text ++ csv_text (event_rows (records_after [] (reverse heard)) x)) (events_text heard)
+    ∙ ap (λ before. text_of csv_line heard ++ csv_text (event_rows before x)) (latest heard)
+
+-- the text of the rows of events is the first line and the lines of the events
+pub rows_text : HasText (codes "row,a,b,c,d,e,f\n") csv_line rows_of
+unfolding csv_text escaped fields_text is_blank
+rows_text heard = ap (λ text. codes "row,a,b,c,d,e,f\n" ++ text) (events_text heard)

@@ -1,0 +1,60 @@
+-- What `to_csv` and `table` put in a sink.
+use Rattle.std.specs.Prelude.{◌≡◌, ℕ, true, List, Result, Ok, Err, take}
+use Rattle.std.specs.Global.{Global}
+use Rattle.std.specs.Io.KnownBytes.{Appends, Consumes, IsAtEnd}
+use Rattle.fit_record.specs.Files.{chain_limit}
+use Rattle.fit_decode.specs.declared.event.Fault.TheVariants as faults
+use Rattle.fit_decode.specs.Answers.{AreChain}
+use Rattle.fit_decode.specs.Events.{Event, AreEvents}
+use Rattle.fit_report.specs.Heard.{Lines, latest_records}
+use Rattle.fit_report.specs.Reports.{Channel, FailsIn, Faults, before_fault}
+use Rattle.fit_csv.specs.declared.fault.CsvFault.{CsvFault}
+use Rattle.fit_csv.specs.declared.fault.CsvFault.TheVariants as csv
+use Rattle.fit_csv.specs.Rows.{Row, csv_text}
+use Rattle.fit_csv.specs.ChainRows.{event_rows}
+use Rattle.fit_csv.specs.Table.{files_heard, table_event_rows}
+
+-- the rows of events
+abbrev pub RowsOf : Type 0
+RowsOf = List (Event Global) → List Row
+
+-- The text of the rows of the events of these bytes was put.
+abbrev pub Writes : RowsOf → List ℕ → Channel → Type 0
+Writes rows bytes sink = (events : List (Event Global)) × AreEvents bytes events × Appends sink.before sink.after (csv_text (rows events))
+
+-- The sink has failed in the text of the rows of the events of some first bytes, behind so many bytes.
+abbrev pub BreaksOff : RowsOf → List ℕ → Channel → ℕ → Type 0
+BreaksOff rows bytes sink written = (k : ℕ) × (events : List (Event Global)) × AreEvents (take k bytes) events × FailsIn (csv_text (rows events)) sink written
+
+-- What was written of the input after so much of it was taken: all rows of a chain; the rows before a fault; or, where memory was
+-- refused or the sink failed, the rows of some first bytes, or a part of them.
+abbrev pub HasWritten : RowsOf → List ℕ → Channel → Channel → Result (Unit {0}) CsvFault → Type 0
+HasWritten rows taken source sink (Ok _) = IsAtEnd source.after × AreChain Global taken × Writes rows taken sink
+HasWritten rows taken source sink (Err (csv.Decode (faults.NoMemory used))) = ⊥
+HasWritten rows taken source sink (Err (csv.Decode fault)) =
+    Faults Global chain_limit taken source.after source.failed fault × Writes rows (before_fault fault taken) sink
+HasWritten rows taken source sink (Err csv.NoMemory) = (k : ℕ) × Writes rows (take k taken) sink
+HasWritten rows taken source sink (Err (csv.Write written)) = BreaksOff rows taken sink written
+HasWritten rows taken source sink (Err other) = ⊥
+
+abbrev pub Converts : RowsOf → Channel → Channel → Result (Unit {0}) CsvFault → Type 0
+Converts rows source sink result = (taken : List ℕ) × Consumes source.before source.after taken × HasWritten rows taken source sink result
+
+-- The answer where the input is the bytes of a chain with these rows: they were written; or the source or the sink has failed, or
+-- memory was refused.
+abbrev pub ConvertsTo : List Row → Channel → Channel → Result (Unit {0}) CsvFault → Type 0
+ConvertsTo rows source sink (Ok _) = Appends sink.before sink.after (csv_text rows)
+ConvertsTo rows source sink (Err (csv.Decode (faults.Read place))) = source.failed ≡ true
+ConvertsTo rows source sink (Err csv.NoMemory) = Unit {0}
+ConvertsTo rows source sink (Err (csv.Write written)) = sink.failed ≡ true
+ConvertsTo rows source sink (Err other) = ⊥
+
+-- ---- text by events
+
+-- the rows of an event behind others, the latest first
+abbrev pub csv_line : Lines Global
+csv_line heard x = csv_text (event_rows (latest_records heard) x)
+
+-- the same in the table
+abbrev pub table_text : Lines Global
+table_text heard x = csv_text (table_event_rows (files_heard heard) (latest_records heard) x)

@@ -1,0 +1,42 @@
+-- How the rows of events are put one after another. No public contract names these.
+use Rattle.std.specs.Prelude.{◌≡◌, ℕ, ◌+◌, ◌-◌, ◌^◌, min, List, [], ◌++◌, reverse}
+use Rattle.std.specs.Global.{Global}
+use Rattle.std.specs.Option.{option_map_or}
+use Rattle.fit_record.specs.declared.message.Record.{Record}
+use Rattle.fit_record.specs.Records.{Fits}
+use Rattle.fit_decode.specs.declared.event.Event.{Event as Answer}
+use Rattle.fit_decode.specs.declared.event.Event.TheVariants as answers
+use Rattle.fit_decode.specs.Answers.{told}
+use Rattle.fit_decode.specs.Events.{Event}
+use Rattle.fit_profile.specs.Looks.{known}
+use Rattle.fit_report.specs.declared.fault.ReportFault.{ReportFault}
+use Rattle.fit_report.specs.declared.fault.ReportFault.TheVariants as report
+use Rattle.fit_report.specs.Heard.{Lines, text_of}
+use Rattle.fit_csv.specs.declared.fault.CsvFault.{CsvFault}
+use Rattle.fit_csv.specs.declared.fault.CsvFault.TheVariants as csv
+use Rattle.fit_csv.specs.Rows.{Row, csv_text}
+use Rattle.fit_csv.specs.ChainRows.{event_rows, records_behind}
+use Rattle.fit_csv.specs.Conversions.{RowsOf}
+
+-- the record of an answer fits behind these records
+abbrev pub AnswerFits : {A : Type 0} → List (Record A) → Answer A → Type 0
+AnswerFits before (answers.Item r) = Fits (known before) r
+AnswerFits before other = Unit {0}
+
+-- the rows of what a decoder answers
+abbrev pub answer_rows : {A : Type 0} → List (Record A) → Answer A → List Row
+answer_rows before answer = option_map_or (event_rows before) (told answer) []
+
+-- the records of the file that was begun last, behind what a decoder answers
+abbrev pub behind_answer : {A : Type 0} → List (Record A) → Answer A → List (Record A)
+behind_answer before answer = option_map_or (records_behind before) (told answer) before
+
+-- the text of the rows of events is this first line and the lines of the events, of which a reporter tells the latest first
+abbrev pub HasText : List ℕ → Lines Global → RowsOf → Type 0
+HasText first line rows = (heard : List (Event Global)) → csv_text (rows (reverse heard)) ≡ first ++ text_of line heard
+
+-- the fault of a conversion by that of a report behind so many bytes
+abbrev pub csv_fault : ReportFault → ℕ → CsvFault
+csv_fault (report.Decode fault) before = csv.Decode fault
+csv_fault report.NoMemory before = csv.NoMemory
+csv_fault (report.Write written) before = csv.Write (min (written + before) (2 ^ 64 - 1))

@@ -1,0 +1,40 @@
+-- How the cells of the table are put together. No public contract names these.
+use Rattle.std.specs.Prelude.{ℕ, List, [], ◌∷◌, option_map, Option, None, Some, decimal}
+use Rattle.std.specs.Option.{option_map_or}
+use Rattle.fit_record.specs.declared.message.Record.{Record}
+use Rattle.fit_record.specs.declared.message.Record.TheVariants.{Define, Values as Data}
+use Rattle.fit_decode.specs.declared.event.Event.{Event as Answer}
+use Rattle.fit_decode.specs.Answers.{told}
+use Rattle.fit_profile.specs.declared.decimal.Fixed.{Fixed}
+use Rattle.fit_profile.specs.FixedText.{fixed_text}
+use Rattle.fit_csv.specs.declared.table_rows.TableRow.{TableRow}
+use Rattle.fit_csv.specs.Rows.{Cell, Row}
+use Rattle.fit_csv.specs.Table.{files_behind, table_event_rows, table_rows}
+
+-- the text of a number, where there is one
+abbrev pub shown_text : Option Fixed → Option Cell
+shown_text value = option_map (λ v. fixed_text v.value v.decimals) value
+
+-- the cells of a row
+abbrev pub cells_of : TableRow → Row
+cells_of r =
+    decimal r.file ∷ r.timestamp.bytes ∷ r.position_lat.bytes ∷ r.position_long.bytes ∷ r.altitude.bytes ∷ r.distance.bytes ∷ r.speed.bytes
+    ∷ r.heart_rate.bytes ∷ r.cadence.bytes ∷ r.power.bytes ∷ r.temperature.bytes ∷ []
+
+-- one row, or none
+abbrev pub rows_in : Option TableRow → List Row
+rows_in None = []
+rows_in (Some r) = cells_of r ∷ []
+
+-- the rows of a record in the file of this number, behind the records before it
+abbrev pub table_record_rows : {A : Type 0} → ℕ → List (Record A) → Record A → List Row
+table_record_rows file before (Define d) = []
+table_record_rows file before (Data v) = table_rows file before v
+
+-- the rows of what a decoder answers, in the file of this number
+abbrev pub table_answer_rows : {A : Type 0} → ℕ → List (Record A) → Answer A → List Row
+table_answer_rows files before answer = option_map_or (table_event_rows files before) (told answer) []
+
+-- how many files have begun behind what a decoder answers
+abbrev pub files_behind_answer : {A : Type 0} → ℕ → Answer A → ℕ
+files_behind_answer files answer = option_map_or (files_behind files) (told answer) files
