@@ -39,3 +39,5 @@ mod MoreRows
 mod ChainSteps
 mod Completed
 mod OneStep
+mod ProfileOffsets
+mod OneWay

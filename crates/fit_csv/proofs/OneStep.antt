@@ -34,7 +34,7 @@ use Rattle.fit_csv.proofs.MessageRows.{small-local}
 
 -- ---- cells
 
-abbrev cell_at : ℕ → Row → Cell
+abbrev pub cell_at : ℕ → Row → Cell
 cell_at k r = get_or r k []
 
 one-decimal : (a b limit : ℕ) → limit ≤ 2 ^ 64 → a < limit → b < limit → decimal a ≡ decimal b → a ≡ b
