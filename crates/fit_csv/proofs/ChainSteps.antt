@@ -34,7 +34,7 @@ begin-misfit c row misfit none room h =
     (λ other (t, step) agree. let s = from-step c None other t none step in (s.1.0, s.1.1, s.1.2)) h)
 
 -- no record begins with a row in which a file ends
-not-end : (before : List (Record Global)) (row other : Row) (p : Part) → take 1 row ≡ codes "end" ∷ [] → Agree 1 other row → PartStep before Nothing other p → ⊥
+pub not-end : (before : List (Record Global)) (row other : Row) (p : Part) → take 1 row ≡ codes "end" ∷ [] → Agree 1 other row → PartStep before Nothing other p → ⊥
 not-end before row other p kind agree (inl (h, range, e, is)) = omega (arith, letters other row (head_row h) (codes "end") agree kind e)
 not-end before row other p kind agree (inr (v, start, e, is)) = omega (arith, letters other row (message_row before v) (codes "end") agree kind e)
 

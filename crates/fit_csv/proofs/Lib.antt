@@ -38,3 +38,7 @@ mod SoFar
 mod SoundSteps
 mod MoreRows
 mod ChainSteps
+mod Completed
+mod OneStep
+mod ProfileOffsets
+mod OneWay

@@ -60,7 +60,7 @@ part-more before (Message v) r p sound (w, step, is) =
 
 -- ---- files
 
-record-added : (f : OpenFile) (r : Record Global) → IsSoundFile f → open_file_rows (with_record f r) ≡ file_row f.header ∷ (records_rows [] f.records ++ record_rows f.before r)
+pub record-added : (f : OpenFile) (r : Record Global) → IsSoundFile f → open_file_rows (with_record f r) ≡ file_row f.header ∷ (records_rows [] f.records ++ record_rows f.before r)
 record-added f r sound =
     let place : reverse f.records ++ [] ≡ f.before = append-nil (reverse f.records) ∙ sym sound.same_records in
     append-nil (file_row f.header ∷ records_rows [] (f.records ++ r ∷ []))
@@ -89,15 +89,15 @@ file-more f r g sound (p, step, is) =
 
 -- ---- chains
 
-flat-last : (files : List (FitFile Global)) (f : FitFile Global) → flat_map file_rows (files ++ f ∷ []) ≡ flat_map file_rows files ++ file_rows f
+pub flat-last : (files : List (FitFile Global)) (f : FitFile Global) → flat_map file_rows (files ++ f ∷ []) ≡ flat_map file_rows files ++ file_rows f
 flat-last [] f = append-nil (file_rows f)
 flat-last (x ∷ files) f = ap (λ (rows : List Row). file_rows x ++ rows) (flat-last files f) ∙ sym (append_assoc (file_rows x) (flat_map file_rows files) (file_rows f))
 
-begun-rows : (h : Header) → open_file_rows (begun h) ≡ file_row h ∷ []
+pub begun-rows : (h : Header) → open_file_rows (begun h) ≡ file_row h ∷ []
 unfolding records_rows
 begun-rows h = refl
 
-ended-rows : (f : OpenFile) → f.part ≡ Nothing → file_rows {A = Global} (record { header = f.header; records = f.records }) ≡ open_file_rows f ++ end_row ∷ []
+pub ended-rows : (f : OpenFile) → f.part ≡ Nothing → file_rows {A = Global} (record { header = f.header; records = f.records }) ≡ open_file_rows f ++ end_row ∷ []
 ended-rows f none =
     ap (λ (rows : List Row). rows ++ end_row ∷ []) (sym (append-nil (file_row f.header ∷ records_rows [] f.records)))
     ∙ ap (λ (part : Part). (file_row f.header ∷ (records_rows [] f.records ++ part_rows f.before part)) ++ end_row ∷ []) (sym none)

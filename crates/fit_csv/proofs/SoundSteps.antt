@@ -55,7 +55,7 @@ dev-left o sound going all =
     let differ : length o.dev ≡ dev_total o.head → ⊥ = λ e. cc (sym other ∙ eq-eqb (length o.dev) (dev_total o.head) e) in
     omega (arith, differ, sound.few_dev_fields)
 
-definition-sound : (o : OpenDefinition) (r : Row) (q : OpenDefinition) → IsSoundDefinition o → is_whole o ≡ false → DefinitionStep o r q → IsSoundDefinition q
+pub definition-sound : (o : OpenDefinition) (r : Row) (q : OpenDefinition) → IsSoundDefinition o → is_whole o ≡ false → DefinitionStep o r q → IsSoundDefinition q
 definition-sound o r q sound going (inl (room, (f, range, e, is))) =
     subst IsSoundDefinition (sym is) (record {
       head = sound.head;
@@ -87,7 +87,7 @@ all-dev : (m : Option ℕ) (dev : List DevDef) → AllByRecursion DevDefInRange 
 all-dev None dev h = tt
 all-dev (Some n) dev h = h
 
-definition-fits : (o : OpenDefinition) → IsSoundDefinition o → DefinitionFits (definition_of o)
+pub definition-fits : (o : OpenDefinition) → IsSoundDefinition o → DefinitionFits (definition_of o)
 definition-fits o sound = record {
   local = sound.head.local;
   global = sound.head.global;
@@ -95,7 +95,7 @@ definition-fits o sound = record {
   dev_fields = few-dev o.head.dev o.dev sound.head.dev sound.few_dev_fields;
 }
 
-definition-range : (o : OpenDefinition) → IsSoundDefinition o → DefinitionInRange (definition_of o)
+pub definition-range : (o : OpenDefinition) → IsSoundDefinition o → DefinitionInRange (definition_of o)
 definition-range o sound = record { reserved = sound.head.reserved; fields = sound.fields; dev_fields = all-dev o.head.dev o.dev sound.dev_fields }
 
 -- ---- data messages
@@ -133,7 +133,7 @@ pub dev-layout-long : (p : Defined Global) → length p.dev_codes ≡ length (de
 dev-layout-long p coded =
     zip-as-long p.dev_codes (map (λ f. f.size) (dev_defs p.definition.dev)) (coded ∙ sym (length-map (dev_defs p.definition.dev) (λ f. f.size))) ∙ length-map (dev_defs p.definition.dev) (λ f. f.size)
 
-message-sound : (before : List (Record Global)) (p : Defined Global) (v : Values Global) (r : Row) (w : Values Global) → IsSoundMessage v p → FieldStep p v r w ⊎ DevStep before p v r w
+pub message-sound : (before : List (Record Global)) (p : Defined Global) (v : Values Global) (r : Row) (w : Values Global) → IsSoundMessage v p → FieldStep p v r w ⊎ DevStep before p v r w
     → IsSoundMessage w p × (w.local ≡ v.local)
 message-sound before p v r w sound (inl step) =
     let (f, next, (i, shape, e, same)) = some-at (slice_get p.definition.fields (length v.fields)) (λ f. (i : Items Global) × HasShape f.code f.size i × (r ≡ field_row p.definition.global f i) × (w ≡ with_items v i)) step in
@@ -196,7 +196,7 @@ part-room before (Message v) sound =
     let few : length v.fields ≤ length p.definition.fields = omega (arith, shapes-few (layout p) v.fields so_far.fields, layout-long p) in
     subst (λ q. IfSome q (λ p. length v.fields ≤ length p.definition.fields)) (sym is) few
 
-message-fits : (before : List (Record Global)) (v : Values Global) (p : Defined Global) → defined_at (known before) v.local ≡ Some p → IsSoundMessage v p → has_all v p ≡ true → DataFits v p
+pub message-fits : (before : List (Record Global)) (v : Values Global) (p : Defined Global) → defined_at (known before) v.local ≡ Some p → IsSoundMessage v p → has_all v p ≡ true → DataFits v p
 message-fits before v p is sound whole =
     let both = both-true (length v.fields == length p.definition.fields) (length v.dev == length (dev_defs p.definition.dev)) whole in
     let fields = eqb-true (length v.fields) (length p.definition.fields) both.0 in
@@ -219,7 +219,7 @@ part-fits before (Message v) sound = λ whole.
 
 -- ---- files
 
-with-record-sound : (f : OpenFile) (r : Record Global) → IsSoundFile f → Fits (known f.before) r → RecordInRange r → IsSoundFile (with_record f r)
+pub with-record-sound : (f : OpenFile) (r : Record Global) → IsSoundFile f → Fits (known f.before) r → RecordInRange r → IsSoundFile (with_record f r)
 with-record-sound f r sound fits range = record {
   header = sound.header;
   same_records = ap (λ b. r ∷ b) sound.same_records ∙ sym (reverse-append f.records (r ∷ []));

@@ -16,4 +16,3 @@ pub mod SoundChain
 pub mod Laws
 pub mod ShowLines
 pub mod Showing
-pub mod Probe

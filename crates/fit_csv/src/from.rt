@@ -11,4 +11,3 @@ mod number;
 mod open_definition;
 mod open_file;
 mod open_message;
-mod probe;
