@@ -29,7 +29,7 @@ has-sum Absent size rest fits = fits.0
 has-sum Zero size rest fits = omega (arith, fits)
 has-sum True size rest fits = omega (arith, fits)
 
-rest-long : (s : HeaderSum) (size : ℕ) (rest : List ℕ) → SizeFits s size rest → length rest ≡ size - 14
+pub rest-long : (s : HeaderSum) (size : ℕ) (rest : List ℕ) → SizeFits s size rest → length rest ≡ size - 14
 rest-long Absent size rest fits = ap length fits.1 ∙ omega (arith, fits.0)
 rest-long Zero size rest fits = omega (arith, fits)
 rest-long True size rest fits = omega (arith, fits)

@@ -30,5 +30,15 @@ mod ZeroItems
 mod HeaderRows
 mod MessageRows
 mod ValueRows
+pub mod ShownLines
 mod ValueSteps
 mod PartSteps
+mod KnownDefinitions
+mod SoFar
+mod SoundSteps
+mod MoreRows
+mod ChainSteps
+mod Completed
+mod OneStep
+mod ProfileOffsets
+mod OneWay

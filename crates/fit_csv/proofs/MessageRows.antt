@@ -24,7 +24,7 @@ pub small-offset : (local : ℕ) (offset : Option ℕ) → DataHeaderFits local 
 small-offset local None fits = tt
 small-offset local (Some n) fits = omega (arith, fits.1)
 
-small-local : (local : ℕ) (offset : Option ℕ) → DataHeaderFits local offset → local < 16
+pub small-local : (local : ℕ) (offset : Option ℕ) → DataHeaderFits local offset → local < 16
 small-local local None fits = fits
 small-local local (Some n) fits = omega (arith, fits.0)
 

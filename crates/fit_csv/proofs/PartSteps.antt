@@ -15,11 +15,11 @@ use Rattle.fit_csv.specs.declared.from.open_file.Part.TheVariants.{Nothing, Defi
 use Rattle.fit_csv.proofs.Closest.{cell-fault, of-kind, same-rows}
 
 -- the second letter of the first cell
-abbrev letter : Row → ℕ
+abbrev pub letter : Row → ℕ
 letter r = get_or (get_or r 0 []) 1 0
 
 -- the second letter of a row's kind, by that of another one
-letters : (other row known : Row) (word : Cell) → Agree 1 other row → take 1 row ≡ word ∷ [] → other ≡ known → letter (take 1 known) ≡ letter (word ∷ [])
+pub letters : (other row known : Row) (word : Cell) → Agree 1 other row → take 1 row ≡ word ∷ [] → other ≡ known → letter (take 1 known) ≡ letter (word ∷ [])
 letters other row known word e kind is = ap (λ (r : Row). letter (take 1 r)) (sym is) ∙ ap letter e ∙ ap letter kind
 
 pub head-misfit : (before : List (Record Global)) (row : Row) (misfit : Misfit) → take 1 row ≡ codes "def" ∷ [] → IsCellFault IsHeadRow row misfit → IsMisfit (CanGoOn before Nothing) row misfit

@@ -42,11 +42,11 @@ scale_from s e = elim (cases_Bool (s == 1)) [
   ]
 ]
 
-some_same : {X : Type 0} (a b : X) → Some a ≡ Some b → a ≡ b
+pub some_same : {X : Type 0} (a b : X) → Some a ≡ Some b → a ≡ b
 some_same a b e = cc e
 
 -- what holds of each element holds of one that is found
-found : {X : Type 0} (p q : X → Bool) (xs : List X) (x : X) → find p xs ≡ Some x → list_all q xs ≡ true → q x ≡ true
+pub found : {X : Type 0} (p q : X → Bool) (xs : List X) (x : X) → find p xs ≡ Some x → list_all q xs ≡ true → q x ≡ true
 found p q [] x e all = cc e
 found p q (y ∷ xs) x e all = elim (cases_Bool (p y)) [
   | inl here ↦ elim (cases_Bool (q y)) [

@@ -1,7 +1,19 @@
 -- Which rows can stand where, and the first cell of a row that can't.
-use Rattle.std.specs.Prelude.{◌≡◌, ◌⊎◌, ◌<◌, ◌≤◌, ◌-◌, ◌^◌, ℕ, [], ◌∷◌, All, codes, take}
+use Rattle.std.specs.Prelude.{◌≡◌, ◌⊎◌, ◌<◌, ◌≤◌, ◌-◌, ◌^◌, ℕ, List, [], ◌∷◌, ◌++◌, length, All, codes, take}
+use Rattle.std.specs.Global.{Global}
+use Rattle.std.specs.List.{AllByRecursion}
 use Rattle.fit_frame.specs.declared.header.Header.{Header}
 use Rattle.fit_frame.specs.Header.{FormFits}
+use Rattle.fit_record.specs.declared.definition.DevDef.{DevDef}
+use Rattle.fit_record.specs.declared.definition.FieldDef.{FieldDef}
+use Rattle.fit_record.specs.declared.definition.MessageDef.{MessageDef}
+use Rattle.fit_record.specs.declared.file.FitFile.{FitFile}
+use Rattle.fit_record.specs.declared.message.Record.{Record}
+use Rattle.fit_record.specs.declared.message.Record.TheVariants.{Define, Values as Data}
+use Rattle.fit_record.specs.Environment.{dev_defs, empty_environment}
+use Rattle.fit_record.specs.Files.{chain_limit}
+use Rattle.fit_record.specs.Records.{AllFit}
+use Rattle.fit_csv.specs.ChainRows.{chain_rows}
 use Rattle.fit_csv.specs.Rows.{Row}
 
 -- Two rows are the same in so many first cells.
@@ -27,3 +39,45 @@ pub record HeaderInRange (h : Header) : Type 0 where
   pub size : h.size < 2 ^ 8
   pub profile : h.profile < 2 ^ 16
   pub rest : All (λ b. b < 2 ^ 8) h.rest.items
+
+-- each number of a field is one of a byte
+pub record FieldDefInRange (f : FieldDef) : Type 0 where
+  pub number : f.number < 2 ^ 8
+  pub size : f.size < 2 ^ 8
+  pub code : f.code < 2 ^ 8
+
+pub record DevDefInRange (f : DevDef) : Type 0 where
+  pub number : f.number < 2 ^ 8
+  pub size : f.size < 2 ^ 8
+  pub index : f.index < 2 ^ 8
+
+-- each number of a definition has the width of its place, but for those that `Fits` speaks of
+pub record DefinitionInRange {A : Type 0} (d : MessageDef A) : Type 0 where
+  pub reserved : d.reserved < 2 ^ 8
+  pub fields : AllByRecursion FieldDefInRange d.fields
+  pub dev_fields : AllByRecursion DevDefInRange (dev_defs d.dev)
+
+abbrev pub RecordInRange : {A : Type 0} → Record A → Type 0
+RecordInRange (Define d) = DefinitionInRange d
+RecordInRange (Data v) = Unit {0}
+
+-- ---- texts that may go on
+
+-- A file that rows can give. It is well-formed but for its length: how much data there is doesn't matter, nor whether a
+-- checksum is 0.
+pub record IsFileOfRows {A : Type 0} (f : FitFile A) : Type 0 where
+  pub header : HeaderInRange f.header
+  pub records : AllFit empty_environment f.records
+  pub numbers : AllByRecursion RecordInRange f.records
+
+-- So many files that rows can give may follow one another.
+abbrev pub IsChainOfRows : {A : Type 0} → List (FitFile A) → Type 0
+IsChainOfRows files = (length files ≤ chain_limit) × AllByRecursion IsFileOfRows files
+
+-- Some rows behind these make them the rows of such a chain.
+abbrev pub MayGoOn : List Row → Type 0
+MayGoOn rows = (files : List (FitFile Global)) × (more : List Row) × IsChainOfRows files × (chain_rows files ≡ rows ++ more)
+
+-- The row can stand behind these.
+abbrev pub CanFollow : List Row → Row → Type 0
+CanFollow rows r = MayGoOn (rows ++ r ∷ [])

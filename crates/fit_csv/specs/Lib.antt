@@ -12,4 +12,7 @@ pub mod Judged
 pub mod Seven
 pub mod Misfits
 pub mod Progress
+pub mod SoundChain
 pub mod Laws
+pub mod ShowLines
+pub mod Showing

@@ -19,6 +19,7 @@ use Rattle.fit_profile.specs.Times.{header_time, previous_time}
 use Rattle.fit_csv.specs.Cells.{cell}
 use Rattle.fit_csv.specs.Rows.{Cell, Row}
 use Rattle.fit_csv.specs.Judged.{HeaderInRange, IsBadCell, MayBeOfKind}
+pub use Rattle.fit_csv.specs.Judged.{DevDefInRange, FieldDefInRange}
 use Rattle.fit_csv.specs.ChainRows.{data_row, dev_def_row, dev_row, end_row, field_row, file_row, field_def_row, optional_number, order_word, row}
 use Rattle.fit_csv.specs.declared.from.definition.DefinitionHead.{DefinitionHead}
 use Rattle.fit_csv.specs.declared.from.misfit.Misfit.{Misfit}
@@ -39,17 +40,6 @@ IsCellFault CanStand r NoMemory = Unit {0}
 -- three numbers of a byte each behind the kind, and nothing behind them
 abbrev pub IsRowOfThree : Cell → Row → Type 0
 IsRowOfThree kind r = (a : ℕ) × (b : ℕ) × (c : ℕ) × (a < 2 ^ 8) × (b < 2 ^ 8) × (c < 2 ^ 8) × (r ≡ row kind (decimal a) (decimal b) (decimal c) [] [] [])
-
--- each number of a field is one of a byte
-pub record FieldDefInRange (f : FieldDef) : Type 0 where
-  pub number : f.number < 2 ^ 8
-  pub size : f.size < 2 ^ 8
-  pub code : f.code < 2 ^ 8
-
-pub record DevDefInRange (f : DevDef) : Type 0 where
-  pub number : f.number < 2 ^ 8
-  pub size : f.size < 2 ^ 8
-  pub index : f.index < 2 ^ 8
 
 abbrev pub IsFieldDefRow : Row → Type 0
 IsFieldDefRow r = (f : FieldDef) × FieldDefInRange f × (r ≡ field_def_row f)

@@ -1,9 +1,9 @@
 -- What is heard when a decoder is fed.
-use Rattle.std.proofs.Common.{◌≡◌, ℕ, ◌+◌, ◌<◌, List, [], ◌∷◌, ◌++◌, length, take, drop, reverse, Some, None, refl, sym, ap, ◌∙◌, subst, arith, append_assoc}
+use Rattle.std.proofs.Common.{◌≡◌, ℕ, ◌<◌, List, [], ◌∷◌, ◌++◌, length, take, reverse, Some, None, refl, sym, subst, arith}
 use Rattle.std.proofs.lemmas.List.{reverse-append}
 use Rattle.fit_decode.specs.declared.event.Event.{Event as Answer}
 use Rattle.fit_decode.specs.declared.event.Event.TheVariants as answers
-use Rattle.fit_decode.specs.Answers.{Seen, told, Quiet, Least}
+use Rattle.fit_decode.specs.Answers.{told, Quiet, Least}
 use Rattle.fit_decode.specs.Events.{Event, header, item, file_end, AreEvents}
 use Rattle.fit_report.specs.Heard.{hear}
 

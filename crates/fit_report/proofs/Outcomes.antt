@@ -8,7 +8,7 @@ use Rattle.fit_decode.specs.declared.event.Fault.TheVariants.{Refused, Truncated
 use Rattle.fit_decode.specs.declared.event.Fault.{Fault}
 use Rattle.fit_decode.specs.Answers.{Seen, AreChain}
 use Rattle.fit_decode.specs.Events.{Event, AreEvents}
-use Rattle.fit_decode.specs.Progress.{at_header, HasCome}
+use Rattle.fit_decode.specs.Progress.{at_header}
 use Rattle.fit_decode.specs.Refusals.{IsRefused}
 use Rattle.fit_decode.proofs.FileRead.{no_file_yet}
 use Rattle.fit_report.specs.declared.fault.ReportFault.{ReportFault}

@@ -1,10 +1,10 @@
 -- What a report of the bytes of a source puts in a sink.
-use Rattle.std.specs.Prelude.{◌≡◌, ℕ, ◌+◌, ◌-◌, ◌^◌, ◌<◌, ◌≤◌, min, Bool, true, List, Option, Result, Ok, Err, take, length, reverse, slice_index, flat_map}
+use Rattle.std.specs.Prelude.{◌≡◌, ℕ, ◌-◌, ◌^◌, ◌<◌, min, Bool, true, List, Option, Result, Ok, Err, take, length, reverse, flat_map}
 use Rattle.std.specs.Io.KnownBytes.{Appends, Consumes, IsAtEnd}
 use Rattle.fit_record.specs.declared.file.FitFile.{FitFile}
-use Rattle.fit_record.specs.Files.{IsChain, IsViable, chain_limit}
+use Rattle.fit_record.specs.Files.{chain_limit}
 use Rattle.fit_decode.specs.declared.event.Fault.{Fault}
-use Rattle.fit_decode.specs.declared.event.Fault.TheVariants.{Refused, Truncated, NoMemory, Read}
+use Rattle.fit_decode.specs.declared.event.Fault.TheVariants.{Refused, NoMemory, Read}
 use Rattle.fit_decode.specs.Answers.{AreChain}
 use Rattle.fit_decode.specs.Events.{Event, AreEvents, file_events}
 use Rattle.fit_decode.specs.Reads.{EndsReading}

@@ -1,11 +1,106 @@
 //! The files of a chain, of which some rows have come.
-use crate::from::open_file::OpenFile;
+ghost use Rattle.std.specs.Prelude.{◌≡◌, ◌↔◌, IfErr, IsTrue, None, OnOk, Some, codes};
+ghost use Rattle.fit_csv.specs.declared.from.chain.Chain.{Chain};
+ghost use Rattle.fit_csv.specs.declared.from.open_file.OpenFile.{OpenFile};
+ghost use Rattle.fit_csv.specs.Misfits.{IsMisfit};
+ghost use Rattle.fit_csv.specs.Progress.{CanGoOn, ChainStep, FileStep, nothing_yet};
+ghost use Rattle.fit_csv.specs.Seven.{row_of};
+ghost use Rattle.fit_csv.specs.SoundChain.{IsSoundChain, IsSoundFile};
+
+use crate::from::cells::{Cells, same};
+use crate::from::header::{file_end, file_header};
+use crate::from::misfit::Misfit;
+use crate::from::open_file::{OpenFile, Part};
 use fit_base::Entries;
+use fit_profile::Stream;
 use fit_record::FitFile;
+use std::alloc::Global;
+use std::mem;
+
+/// The most files that follow one another.
+const LIMIT: usize = 16_777_215;
 
 /// The files of a chain that are whole, and the one that isn't.
 #[derive(Drop)]
 pub(crate) struct Chain {
     pub files: Entries<FitFile>,
     pub current: Option<OpenFile>,
+}
+
+impl Chain {
+    /// Nothing has come.
+    pub(crate) fn new(alloc: Global) -> Chain
+        ensures { result ≡ nothing_yet }
+    {
+        Chain {
+            files: Entries::new(alloc),
+            current: None,
+        }
+    }
+
+    /// Takes the row in which a file begins.
+    fn begin_file(&mut self, alloc: Global, cells: &Cells) -> Result<(), Misfit>
+        requires none { self.old.current ≡ None }
+        ensures ok { OnOk result (ChainStep self.old (row_of cells.now) self.new) }
+        ensures err { IfErr result (IsMisfit (λ r. (t : Chain) × ChainStep self.old r t) (row_of cells.now)) }
+    {
+        if self.files.len() >= LIMIT {
+            return Err(Misfit::Kind);
+        }
+        if !same(cells.kind, b"file") {
+            return Err(Misfit::Kind);
+        }
+        let header = file_header(alloc, cells)?;
+        self.current = Some(OpenFile {
+            header,
+            records: Entries::new(alloc),
+            before: Stream::new(alloc),
+            part: Part::Nothing,
+        });
+        Ok(())
+    }
+
+    /// Whether the row is one in which the current file may end.
+    fn may_end(&self, cells: &Cells) -> bool
+        ensures { IsTrue result ↔ ((f : OpenFile) × (self.now.current ≡ Some f) × (f.part ≡ Part.Nothing) × (cells.now.kind.now ≡ codes "end")) }
+    {
+        match &self.current {
+            Some(file) => file.is_between_records() && same(cells.kind, b"end"),
+            None => false,
+        }
+    }
+
+    /// Takes the row in which the current file ends.
+    fn end_file(&mut self, cells: &Cells) -> Result<(), Misfit>
+        requires { (f : OpenFile) × (self.old.current ≡ Some f) × (f.part ≡ Part.Nothing) × (cells.now.kind.now ≡ codes "end") }
+        ensures ok { OnOk result (ChainStep self.old (row_of cells.now) self.new) }
+        ensures err { IfErr result (IsMisfit (λ r. (t : Chain) × ChainStep self.old r t) (row_of cells.now)) }
+    {
+        file_end(cells)?;
+        let Some(file) = mem::replace(&mut self.current, None) else {
+            return Err(Misfit::Kind);
+        };
+        match self.files.push(FitFile {
+            header: file.header,
+            records: file.records,
+        }) {
+            Ok(()) => Ok(()),
+            Err(_) => Err(Misfit::NoMemory),
+        }
+    }
+
+    /// Takes the next row.
+    pub(crate) fn take_row(&mut self, alloc: Global, cells: &Cells) -> Result<(), Misfit>
+        requires { IsSoundChain self.old }
+        ensures ok { OnOk result (ChainStep self.old (row_of cells.now) self.new) }
+        ensures err { IfErr result (IsMisfit (λ r. (t : Chain) × ChainStep self.old r t) (row_of cells.now)) }
+    {
+        if self.may_end(cells) {
+            return self.end_file(cells);
+        }
+        match &mut self.current {
+            Some(file) => file.take_row(alloc, cells),
+            None => self.begin_file(alloc, cells),
+        }
+    }
 }

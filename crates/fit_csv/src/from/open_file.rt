@@ -1,11 +1,12 @@
 //! A file of which not all rows have come.
-ghost use Rattle.std.specs.Prelude.{◌≡◌, IfErr, IfOk, OnOk, codes};
+ghost use Rattle.std.specs.Prelude.{◌≡◌, ◌↔◌, IfErr, IfOk, IsTrue, OnOk, codes};
 ghost use Rattle.fit_record.specs.Records.{Fits};
 ghost use Rattle.fit_profile.specs.Looks.{known};
 ghost use Rattle.fit_csv.specs.declared.from.open_file.Part.{Part};
 ghost use Rattle.fit_csv.specs.Misfits.{IsMisfit};
 ghost use Rattle.fit_csv.specs.Progress.{CanGoOn, FileStep, FitsOnceWhole, PartHasRoom, PartStep, settled, with_record};
 ghost use Rattle.fit_csv.specs.Seven.{row_of};
+ghost use Rattle.fit_csv.specs.SoundChain.{IsSoundFile};
 
 use crate::from::cells::{Cells, same};
 use crate::from::definition::{OpenDefinition, definition_head};
@@ -140,5 +141,27 @@ impl OpenFile {
             }
         }
         Ok(())
+    }
+
+    /// Whether a file may end here.
+    pub(crate) fn is_between_records(&self) -> bool
+        ensures { IsTrue result ↔ (self.now.part ≡ Part.Nothing) }
+    {
+        match self.part {
+            Part::Nothing => true,
+            _ => false,
+        }
+    }
+
+    /// Takes the next row. It isn't one in which the file ends.
+    pub(crate) fn take_row(&mut self, alloc: Global, cells: &Cells) -> Result<(), Misfit>
+        requires sound { IsSoundFile self.old }
+        requires kind { self.old.part ≡ Part.Nothing → cells.now.kind.now ≡ codes "end" → ⊥ }
+        ensures ok { OnOk result (FileStep self.old (row_of cells.now) self.new) }
+        ensures err { IfErr result (IsMisfit (CanGoOn self.old.before self.old.part) (row_of cells.now)) }
+    {
+        let part = mem::replace(&mut self.part, Part::Nothing);
+        let part = next_part(alloc, &self.before, part, cells)?;
+        self.settle(part)
     }
 }
