@@ -41,3 +41,4 @@ mod Completed
 mod OneStep
 mod ProfileOffsets
 mod OneWay
+mod WholeRuns
