@@ -42,3 +42,5 @@ mod OneStep
 mod ProfileOffsets
 mod OneWay
 mod WholeRuns
+mod RowsWithin
+mod Judging
