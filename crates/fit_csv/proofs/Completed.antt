@@ -38,12 +38,12 @@ use Rattle.fit_csv.proofs.ZeroItems.{zero-items}
 one-and-others : (a b c more : List Row) (r : Row) → b ≡ a ++ r ∷ [] → c ≡ b ++ more → c ≡ a ++ (r ∷ more)
 one-and-others a b c more r e f = f ∙ ap (λ (rows : List Row). rows ++ more) e ∙ append_assoc a (r ∷ []) more
 
-both-holds : (a b : Bool) → a ≡ true → b ≡ true → (a && b) ≡ true
+pub both-holds : (a b : Bool) → a ≡ true → b ≡ true → (a && b) ≡ true
 both-holds true true p q = refl
 both-holds true false p q = cc q
 both-holds false b p q = cc p
 
-not-whole : (b : Bool) → (b ≡ true → ⊥) → b ≡ false
+pub not-whole : (b : Bool) → (b ≡ true → ⊥) → b ≡ false
 not-whole true h = absurd (h refl)
 not-whole false h = refl
 

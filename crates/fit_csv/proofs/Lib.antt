@@ -42,3 +42,6 @@ mod Completed
 mod OneStep
 mod ProfileOffsets
 mod OneWay
+mod WholeRuns
+mod RowsWithin
+mod Judging

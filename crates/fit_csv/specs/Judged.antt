@@ -1,8 +1,8 @@
 -- Which rows can stand where, and the first cell of a row that can't.
-use Rattle.std.specs.Prelude.{◌≡◌, ◌⊎◌, ◌<◌, ◌≤◌, ◌-◌, ◌^◌, ℕ, List, [], ◌∷◌, ◌++◌, length, All, codes, take}
+use Rattle.std.specs.Prelude.{◌≡◌, ◌⊎◌, ◌<◌, ◌≤◌, ◌+◌, ◌-◌, ◌^◌, ℕ, List, [], ◌∷◌, ◌++◌, length, All, codes, take}
 use Rattle.std.specs.Global.{Global}
 use Rattle.std.specs.List.{AllByRecursion}
-use Rattle.fit_frame.specs.declared.header.Header.{Header}
+use Rattle.fit_frame.specs.declared.header.Header.{Header as FileHeader}
 use Rattle.fit_frame.specs.Header.{FormFits}
 use Rattle.fit_record.specs.declared.definition.DevDef.{DevDef}
 use Rattle.fit_record.specs.declared.definition.FieldDef.{FieldDef}
@@ -14,7 +14,12 @@ use Rattle.fit_record.specs.Environment.{dev_defs, empty_environment}
 use Rattle.fit_record.specs.Files.{chain_limit}
 use Rattle.fit_record.specs.Records.{AllFit}
 use Rattle.fit_csv.specs.ChainRows.{chain_rows}
-use Rattle.fit_csv.specs.Rows.{Row}
+use Rattle.csv.specs.Reading.{Reached, default_config, strip_bom}
+use Rattle.csv.specs.declared.parser.State.{State}
+use Rattle.csv.specs.declared.parser.State.TheVariants as st
+use Rattle.fit_csv.specs.Rows.{Row, RowsOfText, first_line}
+use Rattle.fit_csv.specs.declared.fault.CsvFault.{CsvFault}
+use Rattle.fit_csv.specs.declared.fault.CsvFault.TheVariants.{BadCell, BadRow, Header, NoMemory}
 
 -- Two rows are the same in so many first cells.
 abbrev pub Agree : ℕ → Row → Row → Type 0
@@ -34,7 +39,7 @@ pub record IsBadCell (CanStand : Row → Type 0) (r : Row) (column : ℕ) : Type
 -- ---- numbers in their ranges
 
 -- the header has the form of one, and its numbers have the width of their places
-pub record HeaderInRange (h : Header) : Type 0 where
+pub record HeaderInRange (h : FileHeader) : Type 0 where
   pub form : FormFits h
   pub size : h.size < 2 ^ 8
   pub profile : h.profile < 2 ^ 16
@@ -81,3 +86,55 @@ MayGoOn rows = (files : List (FitFile Global)) × (more : List Row) × IsChainOf
 -- The row can stand behind these.
 abbrev pub CanFollow : List Row → Row → Type 0
 CanFollow rows r = MayGoOn (rows ++ r ∷ [])
+
+-- ---- what is wrong with a text
+
+-- The text begins with these rows.
+abbrev pub FirstRows : List ℕ → List Row → Type 0
+FirstRows text rows = (state : State) × (left : List ℕ) × Reached default_config st.StartRecord (strip_bom text) rows state left
+
+-- These rows are all those of a chain, which has a file at least.
+abbrev pub AreWhole : List Row → Type 0
+AreWhole rows = (files : List (FitFile Global)) × IsChainOfRows files × (0 < length files) × (rows ≡ chain_rows files)
+
+-- The rows of the text are those of these files, one at least, as a chain.
+abbrev pub AreFilesOf : List ℕ → List (FitFile Global) → Type 0
+AreFilesOf text files = RowsOfText text (chain_rows files) × IsChainOfRows files × (0 < length files)
+
+-- What is wrong with the row of this number where these can stand: it hasn't seven cells, or none of its kind can stand there,
+-- or one of its cells is bad.
+abbrev pub IsRowFault : (Row → Type 0) → Row → ℕ → CsvFault → Type 0
+IsRowFault CanStand r number (BadRow row) = (row ≡ number) × ((length r ≡ 7 → ⊥) ⊎ ((other : Row) → CanStand other → MayBeOfKind other r → ⊥))
+IsRowFault CanStand r number (BadCell row column) = (row ≡ number) × (length r ≡ 7) × IsBadCell CanStand r column
+IsRowFault CanStand r number NoMemory = Unit {0}
+IsRowFault CanStand r number _ = ⊥
+
+-- The rows before it may go on, and the next row is the first that can't stand where it is.
+pub record IsRefusedRow (text : List ℕ) (fault : CsvFault) : Type 0 where
+  pub front : List Row
+  pub this : Row
+  pub read : FirstRows text (front ++ this ∷ [])
+  pub some : 0 < length front
+  pub begins : MayGoOn front
+  pub wrong : IsRowFault (CanFollow front) this (length front + 1) fault
+
+-- The rows may go on and aren't whole, and the text ends.
+pub record IsCutOff (text : List ℕ) (row : ℕ) : Type 0 where
+  pub rows : List Row
+  pub read : RowsOfText text rows
+  pub some : 0 < length rows
+  pub begins : MayGoOn rows
+  pub unfinished : AreWhole rows → ⊥
+  pub place : row ≡ length rows + 1
+
+-- The first row isn't the first line, or there is none.
+abbrev pub HasNoHeader : List ℕ → Type 0
+HasNoHeader text = RowsOfText text [] ⊎ ((r : Row) × FirstRows text (r ∷ []) × (r ≡ first_line → ⊥))
+
+-- why the rows of a text aren't those of a chain
+abbrev pub IsTextFault : List ℕ → CsvFault → Type 0
+IsTextFault text Header = HasNoHeader text
+IsTextFault text (BadRow row) = IsRefusedRow text (BadRow row) ⊎ IsCutOff text row
+IsTextFault text (BadCell row column) = IsRefusedRow text (BadCell row column)
+IsTextFault text NoMemory = Unit {0}
+IsTextFault text _ = ⊥

@@ -5,6 +5,7 @@ mod chain;
 mod definition;
 mod fields;
 mod header;
+mod judge;
 mod message;
 mod misfit;
 mod number;

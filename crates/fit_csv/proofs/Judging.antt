@@ -1,0 +1,145 @@
+-- Judging the rows of a text one after another tells which of them can stand where they are.
+use Rattle.std.proofs.Common.{◌≡◌, ◌∙◌, ℕ, ◌<◌, ◌≤◌, ◌+◌, List, [], ◌∷◌, ◌++◌, length, Bor, Option, Some, None, refl, sym, ap, subst, inl, inr, arith, append_assoc}
+use Rattle.std.specs.Prelude.{◌⊎◌, flat_map}
+use Rattle.std.specs.Global.{Global}
+use Rattle.std.proofs.lemmas.List.{append-nil}
+use Rattle.csv.specs.Reading.{reader_state}
+use Rattle.csv.specs.declared.reader.Reader.{Reader}
+use Rattle.fit_record.specs.declared.file.FitFile.{FitFile}
+use Rattle.fit_profile.specs.Laws.{TextHasOneNumber}
+use Rattle.fit_csv.specs.ChainRows.{chain_rows, file_rows}
+use Rattle.fit_csv.specs.Judged.{AreFilesOf, AreWhole, CanFollow, FirstRows, IsBadCell, IsChainOfRows, IsCutOff, IsRefusedRow, IsRowFault, IsTextFault, MayGoOn}
+use Rattle.fit_csv.specs.Progress.{ChainStep, Run, nothing_yet}
+use Rattle.fit_csv.specs.Rows.{HasRead, Row, RowsOfText, first_line}
+use Rattle.fit_csv.specs.SoundChain.{IsSoundChain, IsSoundCurrent, current_rows, rows_so_far}
+use Rattle.fit_csv.specs.declared.fault.CsvFault.{CsvFault}
+use Rattle.fit_csv.specs.declared.fault.CsvFault.TheVariants as faults
+use Rattle.fit_csv.specs.declared.from.chain.Chain.{Chain}
+use Rattle.fit_csv.proofs.ChainSteps.{CanStep}
+use Rattle.fit_csv.proofs.Completed.{may-go-on}
+use Rattle.fit_csv.proofs.MoreRows.{chain-more, chain-sound}
+use Rattle.fit_csv.proofs.OneWay.{first-of-run, one-run, run-join, run-one, run-split}
+use Rattle.fit_csv.proofs.RowsWithin.{rows-of-text}
+use Rattle.fit_csv.proofs.WholeRuns.{chain-run}
+
+sound-run : (c : Chain) (rows : List Row) (t : Chain) → IsSoundChain c → Run c rows t → IsSoundChain t × (rows_so_far t ≡ rows_so_far c ++ rows)
+unfolding Run
+sound-run c [] t sound same = (subst IsSoundChain same sound, ap rows_so_far (sym same) ∙ sym (append-nil (rows_so_far c)))
+sound-run c (r ∷ rows) t sound (m, step, run) =
+    let (sound_t, so_far) = sound-run m rows t (chain-sound c r m sound step) run in
+    (sound_t, so_far ∙ ap (λ (l : List Row). l ++ rows) (chain-more c r m sound step) ∙ append_assoc (rows_so_far c) (r ∷ []) rows)
+
+nothing-sound : IsSoundChain nothing_yet
+nothing-sound = record { files = tt; current = omega arith }
+
+-- what holds of what has been read of a chain behind the first line
+pub judged : (rows : List Row) (c : Chain) → Run nothing_yet rows c → IsSoundChain c × (rows_so_far c ≡ rows)
+judged rows c run = sound-run nothing_yet rows c nothing-sound run
+
+pub begins : (rows : List Row) (c : Chain) → Run nothing_yet rows c → MayGoOn (first_line ∷ rows)
+begins rows c run = let (sound, so_far) = judged rows c run in subst (λ (l : List Row). MayGoOn (first_line ∷ l)) so_far (may-go-on c sound)
+
+pub one-more : (rows : List Row) (c : Chain) (r : Row) (t : Chain) → Run nothing_yet rows c → ChainStep c r t → Run nothing_yet (rows ++ r ∷ []) t
+one-more rows c r t run step = run-join nothing_yet rows (r ∷ []) c t run (run-one c r t step)
+
+pub can-follow : (rows : List Row) (c : Chain) (r : Row) → Run nothing_yet rows c → CanStep c r → CanFollow (first_line ∷ rows) r
+can-follow rows c r run (t, step) = begins (rows ++ r ∷ []) t (one-more rows c r t run step)
+
+tail-same : (a b : Row) (xs ys : List Row) → a ∷ xs ≡ b ∷ ys → xs ≡ ys
+tail-same a b xs ys e = cc e
+
+pub can-step : TextHasOneNumber → (rows : List Row) (c : Chain) (r : Row) → Run nothing_yet rows c → CanFollow (first_line ∷ rows) r → CanStep c r
+can-step law rows c r run (files, more, good, e) =
+    let rest : flat_map file_rows files ≡ rows ++ (r ∷ more) = tail-same first_line first_line (flat_map file_rows files) ((rows ++ r ∷ []) ++ more) e ∙ append_assoc rows (r ∷ []) more in
+    let done : Chain = record { files = files; current = None } in
+    let whole : Run nothing_yet (rows ++ (r ∷ more)) done = subst (λ (l : List Row). Run nothing_yet l done) rest (chain-run files good) in
+    let (m, front, others) = run-split nothing_yet rows (r ∷ more) done whole in
+    let same = one-run law nothing_yet rows m c front run in
+    first-of-run c r more done (subst (λ (x : Chain). Run x (r ∷ more) done) same others)
+
+bad-cell : (P Q : Row → Type 0) (r : Row) (column : ℕ) → ((other : Row) → P other → Q other) → ((other : Row) → Q other → P other) → IsBadCell P r column → IsBadCell Q r column
+bad-cell P Q r column up down h = record {
+  behind_kind = h.behind_kind;
+  bad = λ other stands. h.bad other (down other stands);
+  before = (h.before.0, up h.before.0 h.before.1, h.before.2);
+}
+
+-- a row's fault hangs only on which rows can stand there
+pub row-fault : (P Q : Row → Type 0) (r : Row) (number : ℕ) (fault : CsvFault) → ((other : Row) → P other → Q other) → ((other : Row) → Q other → P other) → IsRowFault P r number fault
+    → IsRowFault Q r number fault
+row-fault P Q r number (faults.BadRow row) up down (place, inl long) = (place, inl long)
+row-fault P Q r number (faults.BadRow row) up down (place, inr none) = (place, inr (λ other stands. none other (down other stands)))
+row-fault P Q r number (faults.BadCell row column) up down (place, seven, bad) = (place, seven, bad-cell P Q r column up down bad)
+row-fault P Q r number faults.NoMemory up down h = tt
+row-fault P Q r number faults.Header up down h = absurd h
+row-fault P Q r number faults.Read up down h = absurd h
+row-fault P Q r number (faults.Decode f) up down h = absurd h
+row-fault P Q r number (faults.Encode f) up down h = absurd h
+row-fault P Q r number (faults.Write n) up down h = absurd h
+
+pub followed : TextHasOneNumber → (rows : List Row) (c : Chain) (r : Row) (number : ℕ) (fault : CsvFault) → Run nothing_yet rows c → IsRowFault (CanStep c) r number fault
+    → IsRowFault (CanFollow (first_line ∷ rows)) r number fault
+followed law rows c r number fault run = row-fault (CanStep c) (CanFollow (first_line ∷ rows)) r number fault (λ other. can-follow rows c other run) (λ other. can-step law rows c other run)
+
+pub whole-rows : (rows : List Row) (c : Chain) → Run nothing_yet rows c → c.current ≡ None → (first_line ∷ rows ≡ chain_rows c.files) × IsChainOfRows c.files
+whole-rows rows c run none =
+    let (sound, so_far) = judged rows c run in
+    let count = subst (λ m. IsSoundCurrent (length c.files) m) none sound.current in
+    let all : rows ≡ flat_map file_rows c.files =
+      sym so_far ∙ ap (λ m. flat_map file_rows c.files ++ current_rows m) none ∙ append-nil (flat_map file_rows c.files) in
+    (ap (λ (l : List Row). first_line ∷ l) all, (count, sound.files))
+
+pub cut-off : TextHasOneNumber → (rows : List Row) (c : Chain) → Run nothing_yet rows c → (c.current ≡ None → 0 < length c.files → ⊥) → AreWhole (first_line ∷ rows) → ⊥
+cut-off law rows c run unfinished (files, good, some, e) =
+    let rest : rows ≡ flat_map file_rows files = tail-same first_line first_line rows (flat_map file_rows files) e in
+    let done : Chain = record { files = files; current = None } in
+    let whole : Run nothing_yet rows done = subst (λ (l : List Row). Run nothing_yet l done) (sym rest) (chain-run files good) in
+    let same : c ≡ done = one-run law nothing_yet rows c done run whole in
+    unfinished (ap (λ (x : Chain). x.current) same) (subst (λ (x : Chain). 0 < length x.files) (sym same) some)
+
+pub refused-text : (text : List ℕ) (fault : CsvFault) → IsRefusedRow text fault → IsTextFault text fault
+refused-text text (faults.BadRow row) h = inl h
+refused-text text (faults.BadCell row column) h = h
+refused-text text faults.NoMemory h = tt
+refused-text text faults.Header h = absurd h.wrong
+refused-text text faults.Read h = absurd h.wrong
+refused-text text (faults.Decode f) h = absurd h.wrong
+refused-text text (faults.Encode f) h = absurd h.wrong
+refused-text text (faults.Write n) h = absurd h.wrong
+
+first-rows : (text : List ℕ) (rows : List Row) (r : Reader (Bor (List ℕ))) → HasRead text rows r → FirstRows text rows
+first-rows text rows r read = (reader_state r, read.place.0, read.place.2)
+
+-- the next row can't stand behind those of a chain
+pub refused-row : TextHasOneNumber → (text : List ℕ) (rows : List Row) (c : Chain) (this : Row) (number : ℕ) (fault : CsvFault) (r : Reader (Bor (List ℕ))) → Run nothing_yet rows c
+    → HasRead text ((first_line ∷ rows) ++ this ∷ []) r → number ≡ length rows + 2 → IsRowFault (CanStep c) this number fault → IsTextFault text fault
+refused-row law text rows c this number fault r run read place wrong =
+    let counted : number ≡ length (first_line ∷ rows) + 1 = omega (arith, place) in
+    refused-text text fault (record {
+      front = first_line ∷ rows;
+      this = this;
+      read = first-rows text ((first_line ∷ rows) ++ this ∷ []) r read;
+      some = omega arith;
+      begins = begins rows c run;
+      wrong = subst (λ n. IsRowFault (CanFollow (first_line ∷ rows)) this n fault) counted (followed law rows c this number fault run wrong);
+    })
+
+-- the text ends too early
+pub cut-text : TextHasOneNumber → (text : List ℕ) (rows : List Row) (c : Chain) → Run nothing_yet rows c → RowsOfText text (first_line ∷ rows) → (c.current ≡ None → 0 < length c.files → ⊥)
+    → IsCutOff text (length rows + 2)
+cut-text law text rows c run read unfinished = record {
+  rows = first_line ∷ rows;
+  read = read;
+  some = omega arith;
+  begins = begins rows c run;
+  unfinished = cut-off law rows c run unfinished;
+  place = omega arith;
+}
+
+pub whole-text : (text : List ℕ) (rows : List Row) (c : Chain) → Run nothing_yet rows c → RowsOfText text (first_line ∷ rows) → c.current ≡ None → 0 < length c.files → AreFilesOf text c.files
+whole-text text rows c run read none some =
+    let (same, good) = whole-rows rows c run none in
+    (subst (λ (l : List Row). RowsOfText text l) same read, good, some)
+
+pub too-many : (text : List ℕ) (rows : List Row) (r : Reader (Bor (List ℕ))) → HasRead text rows r → length rows ≤ length text
+too-many text rows r read = rows-of-text text rows (reader_state r) read.place.0 read.place.2
