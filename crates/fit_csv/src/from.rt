@@ -5,7 +5,6 @@ mod chain;
 mod definition;
 mod fields;
 mod header;
-mod judge;
 mod message;
 mod misfit;
 mod number;
