@@ -117,7 +117,10 @@ pub(crate) fn judge(alloc: Global, text: &[u8]) -> Result<Entries<FitFile>, CsvF
     let Ok(found) = next_row(&mut reader, &mut row) else {
         return Err(CsvFault::NoMemory);
     };
-    if !found || !is_first_line(&row) {
+    if !found {
+        return Err(CsvFault::Header);
+    }
+    if !is_first_line(&row) {
         return Err(CsvFault::Header);
     }
     judge_rest(alloc, text, &mut reader, &mut row)
