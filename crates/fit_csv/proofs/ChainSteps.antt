@@ -52,8 +52,10 @@ pub current-misfit : (c : Chain) (f : OpenFile) (row : Row) (misfit : Misfit) �
 current-misfit c f row misfit some =
     same-rows (CanGoOn f.before f.part) (CanStep c) row misfit
     (λ other goes. elim goes [
-      | inl step ↦ (record c { current = Some (settled f step.0) },
-          step-at c (Some f) other (record c { current = Some (settled f step.0) }) some (inr (settled f step.0, (step.0, step.1, refl), refl)))
+      | inl step ↦ (
+        record c { current = Some (settled f step.0) },
+        step-at c (Some f) other (record c { current = Some (settled f step.0) }) some (inr (settled f step.0, (step.0, step.1, refl), refl)),
+      )
       | inr end ↦ (with_file c f, step-at c (Some f) other (with_file c f) some (inl (end.0, end.1, refl)))
     ])
     (λ other (t, step). elim (from-step c (Some f) other t some step) [

@@ -20,8 +20,19 @@ pub three-closest : (kind ta tb tc td te tf : Cell) (a b c : ℕ) → IsNumberIn
     → (other : Row) → IsRowOfThree kind other → AsFar other (row kind (decimal a) (decimal b) (decimal c) [] [] []) (row kind ta tb tc td te tf)
 three-closest kind ta tb tc td te tf a b c is_a is_b is_c other (x, y, z, hx, hy, hz, e) =
     subst (λ (o : Row). AsFar o (row kind (decimal a) (decimal b) (decimal c) [] [] []) (row kind ta tb tc td te tf)) (sym e)
-    (λ k. (refl, λ ea. (same-number (2 ^ 8) x a ta is_a hx ea, λ eb. (same-number (2 ^ 8) y b tb is_b hy eb, λ ec. (same-number (2 ^ 8) z c tc is_c hz ec,
-    λ ed. (ed, λ ee. (ee, λ ef. (ef, tt))))))))
+    (λ k. (
+      refl,
+      λ ea. (
+        same-number (2 ^ 8) x a ta is_a hx ea,
+        λ eb. (
+          same-number (2 ^ 8) y b tb is_b hy eb,
+          λ ec. (
+            same-number (2 ^ 8) z c tc is_c hz ec,
+            λ ed. (ed, λ ee. (ee, λ ef. (ef, tt))),
+          ),
+        ),
+      ),
+    ))
 
 -- an empty cell shows no number
 pub none-shown : (cell : Cell) (count : Option ℕ) → IfSome count (λ n. n < 2 ^ 8) → optional_number count ≡ cell → length cell ≡ 0 → None ≡ count
@@ -33,6 +44,22 @@ pub head-closest : (ta tb tc td te tf : Cell) (h : DefinitionHead) → IsNumberI
     → (other : Row) → IsHeadRow other → AsFar other (head_row h) (row (codes "def") ta tb tc td te tf)
 head-closest ta tb tc td te tf h is_a is_b is_c is_d is_e is_f other (k, range, e) =
     subst (λ (o : Row). AsFar o (head_row h) (row (codes "def") ta tb tc td te tf)) (sym e)
-    (λ ek. (refl, λ ea. (same-number 16 k.local h.local ta is_a range.local ea, λ eb. (same-number (2 ^ 8) k.reserved h.reserved tb is_b range.reserved eb,
-    λ ec. (ap order_word (is_c k.order ec) ∙ ec, λ ed. (same-number (2 ^ 16) k.global h.global td is_d range.global ed, λ ee. (same-number (2 ^ 8) k.fields h.fields te is_e range.fields ee,
-    λ ef. (ap optional_number (is_f k.dev range.dev ef) ∙ ef, tt))))))))
+    (λ ek. (
+      refl,
+      λ ea. (
+        same-number 16 k.local h.local ta is_a range.local ea,
+        λ eb. (
+          same-number (2 ^ 8) k.reserved h.reserved tb is_b range.reserved eb,
+          λ ec. (
+            ap order_word (is_c k.order ec) ∙ ec,
+            λ ed. (
+              same-number (2 ^ 16) k.global h.global td is_d range.global ed,
+              λ ee. (
+                same-number (2 ^ 8) k.fields h.fields te is_e range.fields ee,
+                λ ef. (ap optional_number (is_f k.dev range.dev ef) ∙ ef, tt),
+              ),
+            ),
+          ),
+        ),
+      ),
+    ))

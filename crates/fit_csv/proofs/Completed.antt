@@ -136,7 +136,7 @@ complete-message (suc n) before p v is sound some =
           let (i, shape) = zero-items code f.size in
           let r = dev_row f code (naming_at before v.local (length v.dev)) i in
           let step : FieldStep p v (dev_row f code (naming_at before v.local (length v.dev)) i) (with_dev_items v i) ⊎ DevStep before p v (dev_row f code (naming_at before v.local (length v.dev)) i) (with_dev_items v i) =
-            inr (dev-step before p v f code r i all next coded shape refl) in
+          inr (dev-step before p v f code r i all next coded shape refl) in
           let sound_next = message-sound before p v r (with_dev_items v i) sound step in
           go-on-message before p v (with_dev_items v i) r is sound step (complete-message n before p (with_dev_items v i) is sound_next.0 (omega (arith, some, all, room, length-last v.dev i)))
     ]
@@ -150,13 +150,17 @@ complete-by : (f : OpenFile) (r : Record Global) (more : List Row) → IsSoundFi
 complete-by f r more sound fits range rows =
     let next = with-record-sound f r sound fits range in
     let front = file_row f.header ∷ records_rows [] f.records in
-    let part = part_rows f.before f.part in
-    (record { header = f.header; records = f.records ++ r ∷ [] }, record { header = next.header; records = next.fit; numbers = next.numbers },
-    (more ++ end_row ∷ [],
-      ended-rows (with_record f r) refl ∙ ap (λ (l : List Row). l ++ end_row ∷ []) (record-added f r sound)
-      ∙ ap (λ (l : List Row). (front ++ l) ++ end_row ∷ []) rows
-      ∙ ap (λ (l : List Row). l ++ end_row ∷ []) (sym (append_assoc front part more))
-      ∙ append_assoc (front ++ part) more (end_row ∷ [])))
+    let part = part_rows f.before f.part in (
+      record { header = f.header; records = f.records ++ r ∷ [] },
+      record { header = next.header; records = next.fit; numbers = next.numbers },
+      (
+        more ++ end_row ∷ [],
+        ended-rows (with_record f r) refl ∙ ap (λ (l : List Row). l ++ end_row ∷ []) (record-added f r sound)
+            ∙ ap (λ (l : List Row). (front ++ l) ++ end_row ∷ []) rows
+            ∙ ap (λ (l : List Row). l ++ end_row ∷ []) (sym (append_assoc front part more))
+            ∙ append_assoc (front ++ part) more (end_row ∷ []),
+      ),
+    )
 
 complete-file : (f : OpenFile) (part : Part) → f.part ≡ part → IsSoundFile f → IsSoundSoFar f.before part → CompletedFile f
 complete-file f Nothing is sound so_far =
@@ -179,10 +183,13 @@ complete-current c None is files count =
     (c.files, [], (count, files), sym (append-nil (chain_rows c.files)) ∙ sym (append-nil (chain_rows c.files ++ [])) ∙ ap (λ m. (chain_rows c.files ++ current_rows m) ++ []) (sym is))
 complete-current c (Some f) is files sound =
     let (g, good, (more, rows)) = complete-file f f.part refl sound.1 sound.1.part.0 in
-    let count : length (c.files ++ g ∷ []) ≤ chain_limit = omega (arith, length-last c.files g, sound.0) in
-    (c.files ++ g ∷ [], more, (count, all-last IsFileOfRows c.files g files good),
-    ap (λ (l : List Row). first_line ∷ l) (flat-last c.files g ∙ ap (λ (l : List Row). flat_map file_rows c.files ++ l) rows
-      ∙ sym (append_assoc (flat_map file_rows c.files) (open_file_rows f) more) ∙ ap (λ m. (flat_map file_rows c.files ++ current_rows m) ++ more) (sym is)))
+    let count : length (c.files ++ g ∷ []) ≤ chain_limit = omega (arith, length-last c.files g, sound.0) in (
+      c.files ++ g ∷ [],
+      more,
+      (count, all-last IsFileOfRows c.files g files good),
+      ap (λ (l : List Row). first_line ∷ l) (flat-last c.files g ∙ ap (λ (l : List Row). flat_map file_rows c.files ++ l) rows
+          ∙ sym (append_assoc (flat_map file_rows c.files) (open_file_rows f) more) ∙ ap (λ m. (flat_map file_rows c.files ++ current_rows m) ++ more) (sym is)),
+    )
 
 pub may-go-on : (c : Chain) → IsSoundChain c → MayGoOn (first_line ∷ rows_so_far c)
 may-go-on c sound = complete-current c c.current refl sound.files sound.current

@@ -47,12 +47,23 @@ pub header-closest : (ta tb tc td te tf : Cell) (h : Header) → ((n : ℕ) → 
     → (other : Row) → IsFileRow other → AsFar other (file_row h) (row (codes "file") ta tb tc td te tf)
 header-closest ta tb tc td te tf h is_a is_b is_c is_d is_e other (k, range, e) =
     subst (λ (o : Row). AsFar o (file_row h) (row (codes "file") ta tb tc td te tf)) (sym e)
-    (λ ek. (refl, λ ea.
-      let size : h.size ≡ k.size = is_a k.size (header-size k.sum k.size k.rest.items range.form.size range.size) ea in
-      let sum : HasSum h.size k.sum = subst (λ n. HasSum n k.sum) (sym size) (has-sum k.sum k.size k.rest.items range.form.size) in
-      let long : length k.rest.items ≡ h.size - 14 = rest-long k.sum k.size k.rest.items range.form.size ∙ ap (λ n. n - 14) (sym size) in
-      (ap decimal size ∙ ea, λ eb.
-      (ap decimal (is_b k.protocol (let v = range.form.version in omega (arith, v)) eb) ∙ eb, λ ec.
-      (ap decimal (is_c k.profile range.profile ec) ∙ ec, λ ed.
-      (ap sum_word (is_d k.sum sum ed) ∙ ed, λ ee.
-      (ap rest_text (is_e k.rest.items long range.rest ee) ∙ ee, λ ef. (ef, tt))))))))
+    (λ ek. (
+      refl,
+      λ ea.
+          let size : h.size ≡ k.size = is_a k.size (header-size k.sum k.size k.rest.items range.form.size range.size) ea in
+          let sum : HasSum h.size k.sum = subst (λ n. HasSum n k.sum) (sym size) (has-sum k.sum k.size k.rest.items range.form.size) in
+          let long : length k.rest.items ≡ h.size - 14 = rest-long k.sum k.size k.rest.items range.form.size ∙ ap (λ n. n - 14) (sym size) in (
+            ap decimal size ∙ ea,
+            λ eb. (
+              ap decimal (is_b k.protocol (let v = range.form.version in omega (arith, v)) eb) ∙ eb,
+              λ ec. (
+                ap decimal (is_c k.profile range.profile ec) ∙ ec,
+                λ ed. (
+                  ap sum_word (is_d k.sum sum ed) ∙ ed,
+                  λ ee.
+                      (ap rest_text (is_e k.rest.items long range.rest ee) ∙ ee, λ ef. (ef, tt)),
+                ),
+              ),
+            ),
+          ),
+    ))

@@ -86,7 +86,7 @@ whole-rows rows c run none =
     let (sound, so_far) = judged rows c run in
     let count = subst (λ m. IsSoundCurrent (length c.files) m) none sound.current in
     let all : rows ≡ flat_map file_rows c.files =
-      sym so_far ∙ ap (λ m. flat_map file_rows c.files ++ current_rows m) none ∙ append-nil (flat_map file_rows c.files) in
+    sym so_far ∙ ap (λ m. flat_map file_rows c.files ++ current_rows m) none ∙ append-nil (flat_map file_rows c.files) in
     (ap (λ (l : List Row). first_line ∷ l) all, (count, sound.files))
 
 pub cut-off : TextHasOneNumber → (rows : List Row) (c : Chain) → Run nothing_yet rows c → (c.current ≡ None → 0 < length c.files → ⊥) → AreWhole (first_line ∷ rows) → ⊥

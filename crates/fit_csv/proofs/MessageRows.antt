@@ -41,13 +41,22 @@ pub message-closest : (before : List (Record Global)) (ta tb tc td te tf : Cell)
     → AsFar other (row (codes "data") (decimal local) (optional_number offset) (message_label (global_at before local)) (time_cell before offset) [] []) (row (codes "data") ta tb tc td te tf)
 message-closest before ta tb tc td te tf local offset small shown is_b other (v, start, e) =
     subst (λ (o : Row). AsFar o (row (codes "data") (decimal local) (optional_number offset) (message_label (global_at before local)) (time_cell before offset) [] []) (row (codes "data") ta tb tc td te tf)) (sym e)
-    (λ ek. (refl, λ ea.
-      let same : v.local ≡ local = decimal_injective v.local local (let s = small-local v.local v.offset start.header in omega (arith, s)) (omega (arith, small)) (ea ∙ sym shown) in
-      (shown, λ eb.
-      let same_offset : offset ≡ v.offset = is_b v.offset (subst (λ l. DataHeaderFits l v.offset) same start.header) eb in
-      (ap optional_number same_offset ∙ eb, λ ec.
-      (ap (λ l. message_label (global_at before l)) (sym same) ∙ ec, λ ed.
-      (ap (λ o. time_cell before o) same_offset ∙ ed, λ ee. (ee, λ ef. (ef, tt))))))))
+    (λ ek. (
+      refl,
+      λ ea.
+          let same : v.local ≡ local = decimal_injective v.local local (let s = small-local v.local v.offset start.header in omega (arith, s)) (omega (arith, small)) (ea ∙ sym shown) in (
+            shown,
+            λ eb.
+                let same_offset : offset ≡ v.offset = is_b v.offset (subst (λ l. DataHeaderFits l v.offset) same start.header) eb in (
+                  ap optional_number same_offset ∙ eb,
+                  λ ec. (
+                    ap (λ l. message_label (global_at before l)) (sym same) ∙ ec,
+                    λ ed.
+                        (ap (λ o. time_cell before o) same_offset ∙ ed, λ ee. (ee, λ ef. (ef, tt))),
+                  ),
+                ),
+          ),
+    ))
 
 -- rows of data messages are none in which a file ends
 pub message-or-end : (before : List (Record Global)) (row : Row) (misfit : Misfit) → take 1 row ≡ codes "data" ∷ [] → IsCellFault (IsMessageRow before) row misfit → IsCellFault (IsMessageOrEnd before) row misfit

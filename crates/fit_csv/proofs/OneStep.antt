@@ -75,7 +75,7 @@ one-header h k p q e =
     let profile = one-decimal h.profile k.profile (2 ^ 16) (omega arith) p.profile q.profile (ap (cell_at 3) e) in
     let sum = one-sum h.sum k.sum (ap (cell_at 4) e) in
     let long : length h.rest.items ≡ length k.rest.items =
-      rest-long h.sum h.size h.rest.items p.form.size ∙ ap (λ n. n - 14) size ∙ sym (rest-long k.sum k.size k.rest.items q.form.size) in
+    rest-long h.sum h.size h.rest.items p.form.size ∙ ap (λ n. n - 14) size ∙ sym (rest-long k.sum k.size k.rest.items q.form.size) in
     let rest = one-rest h.rest.items k.rest.items long p.rest q.rest (ap (cell_at 5) e) in
     λ i. record { size = size i; protocol = protocol i; profile = profile i; sum = sum i; rest = record { items = rest i } }
 

@@ -106,7 +106,7 @@ definition-whole o whole =
     let fields : length o.fields ≡ o.head.fields = eqb-true (length o.fields) o.head.fields both.0 in
     let dev = dev-whole o.head.dev o.dev (eqb-true (length o.dev) (dev_total o.head) both.1) in
     let first : head_row o.head ≡ def_row (definition_of o) =
-      ap₂ (λ n m. row (codes "def") (decimal o.head.local) (decimal o.head.reserved) (order_word o.head.order) (decimal o.head.global) n m) (ap decimal (sym fields)) dev.0 in
+    ap₂ (λ n m. row (codes "def") (decimal o.head.local) (decimal o.head.reserved) (order_word o.head.order) (decimal o.head.global) n m) (ap decimal (sym fields)) dev.0 in
     ap₂ (λ (r : Row) (d : List DevDef). r ∷ (map field_def_row o.fields ++ map dev_def_row d)) first dev.1
 
 -- ---- data messages
@@ -168,9 +168,9 @@ message-more before p v r w is sound (inl step) =
 message-more before p v r w is sound (inr (all, step)) =
     let k = length v.dev in
     let (f, next, step') = some-at (slice_get (dev_defs p.definition.dev) (length v.dev)) (λ f. IsSomeAnd (slice_get p.dev_codes (length v.dev)) (λ code. (i : Items Global) ×
-      HasShape code f.size i × (r ≡ dev_row f code (naming_at before v.local (length v.dev)) i) × (w ≡ with_dev_items v i))) step in
+    HasShape code f.size i × (r ≡ dev_row f code (naming_at before v.local (length v.dev)) i) × (w ≡ with_dev_items v i))) step in
     let (code, coded, (i, shape, e, same)) = some-at (slice_get p.dev_codes (length v.dev)) (λ code. (i : Items Global) ×
-      HasShape code f.size i × (r ≡ dev_row f code (naming_at before v.local (length v.dev)) i) × (w ≡ with_dev_items v i)) step' in
+    HasShape code f.size i × (r ≡ dev_row f code (naming_at before v.local (length v.dev)) i) × (w ≡ with_dev_items v i)) step' in
     let within = slice_get_within (dev_defs p.definition.dev) (length v.dev) f next in
     let long : length v.dev < length (namings_at before v.local) = omega (arith, within, namings_long before v.local p is) in
     let namings = namings_at before v.local in

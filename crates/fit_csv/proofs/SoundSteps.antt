@@ -138,26 +138,30 @@ pub message-sound : (before : List (Record Global)) (p : Defined Global) (v : Va
 message-sound before p v r w sound (inl step) =
     let (f, next, (i, shape, e, same)) = some-at (slice_get p.definition.fields (length v.fields)) (λ f. (i : Items Global) × HasShape f.code f.size i × (r ≡ field_row p.definition.global f i) × (w ≡ with_items v i)) step in
     let within = slice_get_within p.definition.fields (length v.fields) f next in
-    let laid : slice_get (layout p) (length v.fields) ≡ Some (f.code, f.size) = slice_get-map (λ f. (f.code, f.size)) p.definition.fields (length v.fields) ∙ ap (option_map (λ f. (f.code, f.size))) next in
-    (subst (λ (x : Values Global). IsSoundMessage x p) (sym same) (record {
-      header = sound.header;
-      fields = shape-last (layout p) v.fields f.code f.size i sound.fields laid shape;
-      dev_fields = sound.dev_fields;
-      in_order = λ more. sound.in_order within;
-    }), ap (λ (x : Values Global). x.local) same)
+    let laid : slice_get (layout p) (length v.fields) ≡ Some (f.code, f.size) = slice_get-map (λ f. (f.code, f.size)) p.definition.fields (length v.fields) ∙ ap (option_map (λ f. (f.code, f.size))) next in (
+      subst (λ (x : Values Global). IsSoundMessage x p) (sym same) (record {
+        header = sound.header;
+        fields = shape-last (layout p) v.fields f.code f.size i sound.fields laid shape;
+        dev_fields = sound.dev_fields;
+        in_order = λ more. sound.in_order within;
+      }),
+      ap (λ (x : Values Global). x.local) same,
+    )
 message-sound before p v r w sound (inr (all, step)) =
     let (f, next, step') = some-at (slice_get (dev_defs p.definition.dev) (length v.dev)) (λ f. IsSomeAnd (slice_get p.dev_codes (length v.dev)) (λ code. (i : Items Global) ×
-      HasShape code f.size i × (r ≡ dev_row f code (naming_at before v.local (length v.dev)) i) × (w ≡ with_dev_items v i))) step in
+    HasShape code f.size i × (r ≡ dev_row f code (naming_at before v.local (length v.dev)) i) × (w ≡ with_dev_items v i))) step in
     let (code, coded, (i, shape, e, same)) = some-at (slice_get p.dev_codes (length v.dev)) (λ code. (i : Items Global) ×
-      HasShape code f.size i × (r ≡ dev_row f code (naming_at before v.local (length v.dev)) i) × (w ≡ with_dev_items v i)) step' in
+    HasShape code f.size i × (r ≡ dev_row f code (naming_at before v.local (length v.dev)) i) × (w ≡ with_dev_items v i)) step' in
     let sized : slice_get (map (λ f. f.size) (dev_defs p.definition.dev)) (length v.dev) ≡ Some f.size = slice_get-map (λ f. f.size) (dev_defs p.definition.dev) (length v.dev) ∙ ap (option_map (λ f. f.size)) next in
-    let laid : slice_get (dev_layout p) (length v.dev) ≡ Some (code, f.size) = get-zip p.dev_codes (map (λ f. f.size) (dev_defs p.definition.dev)) (length v.dev) code f.size coded sized in
-    (subst (λ (x : Values Global). IsSoundMessage x p) (sym same) (record {
-      header = sound.header;
-      fields = sound.fields;
-      dev_fields = shape-last (dev_layout p) v.dev code f.size i sound.dev_fields laid shape;
-      in_order = λ more. absurd (omega (arith, more, all));
-    }), ap (λ (x : Values Global). x.local) same)
+    let laid : slice_get (dev_layout p) (length v.dev) ≡ Some (code, f.size) = get-zip p.dev_codes (map (λ f. f.size) (dev_defs p.definition.dev)) (length v.dev) code f.size coded sized in (
+      subst (λ (x : Values Global). IsSoundMessage x p) (sym same) (record {
+        header = sound.header;
+        fields = sound.fields;
+        dev_fields = shape-last (dev_layout p) v.dev code f.size i sound.dev_fields laid shape;
+        in_order = λ more. absurd (omega (arith, more, all));
+      }),
+      ap (λ (x : Values Global). x.local) same,
+    )
 
 pub is-some-at : {X : Type 0} (o : Option X) → IsSome o → (x : X) × (o ≡ Some x)
 is-some-at None h = cc h

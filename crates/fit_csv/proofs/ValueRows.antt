@@ -21,8 +21,8 @@ no-items kind label ta tb tc td te tf code size info unit same none =
     record {
       behind_kind = omega arith;
       bad = λ other (i, fits, e) agree.
-        let three : take 3 (row kind label (cell code info i) unit [] [] []) ≡ take 3 (row kind ta tb tc td te tf) = ap (λ (r : Row). take 3 r) (sym e) ∙ agree in
-        none i fits (cc three);
+          let three : take 3 (row kind label (cell code info i) unit [] [] []) ≡ take 3 (row kind ta tb tc td te tf) = ap (λ (r : Row). take 3 r) (sym e) ∙ agree in
+          none i fits (cc three);
       before = (row kind label (cell code info zero) unit [] [] [], (zero, shape, refl), inl (ap (λ (c : Cell). kind ∷ c ∷ []) same));
     }
 
@@ -40,7 +40,7 @@ no-label kind label ta tb tc td te tf code size info unit differs =
     record {
       behind_kind = omega arith;
       bad = λ other (i, fits, e) agree.
-        let two : take 2 (row kind label (cell code info i) unit [] [] []) ≡ take 2 (row kind ta tb tc td te tf) = ap (λ (r : Row). take 2 r) (sym e) ∙ agree in
-        differs (cc two);
+          let two : take 2 (row kind label (cell code info i) unit [] [] []) ≡ take 2 (row kind ta tb tc td te tf) = ap (λ (r : Row). take 2 r) (sym e) ∙ agree in
+          differs (cc two);
       before = (row kind label (cell code info zero) unit [] [] [], (zero, shape, refl), inl refl);
     }

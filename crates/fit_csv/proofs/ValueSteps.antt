@@ -40,9 +40,11 @@ DevStepAt before v r w next code =
 pub dev-step : (before : List (Record Global)) (p : Defined Global) (v : Values Global) (f : DevDef) (code : ℕ) (r : Row) (i : Items Global) → length v.fields ≡ length p.definition.fields
     → slice_get (dev_defs p.definition.dev) (length v.dev) ≡ Some f → slice_get p.dev_codes (length v.dev) ≡ Some code → HasShape code f.size i
     → r ≡ dev_row f code (naming_at before v.local (length v.dev)) i → DevStep before p v r (with_dev_items v i)
-dev-step before p v f code r i all next coded shape e =
-    (all, subst (λ n. DevStepAt before v r (with_dev_items v i) n (slice_get p.dev_codes (length v.dev))) (sym next)
-    (subst (λ n. DevStepAt before v r (with_dev_items v i) (Some f) n) (sym coded) (i, shape, e, refl)))
+dev-step before p v f code r i all next coded shape e = (
+  all,
+  subst (λ n. DevStepAt before v r (with_dev_items v i) n (slice_get p.dev_codes (length v.dev))) (sym next)
+      (subst (λ n. DevStepAt before v r (with_dev_items v i) (Some f) n) (sym coded) (i, shape, e, refl)),
+)
 
 pub dev-misfit : (before : List (Record Global)) (p : Defined Global) (v : Values Global) (f : DevDef) (code : ℕ) (row : Row) (misfit : Misfit) → length v.fields ≡ length p.definition.fields
     → slice_get (dev_defs p.definition.dev) (length v.dev) ≡ Some f → slice_get p.dev_codes (length v.dev) ≡ Some code
@@ -51,5 +53,5 @@ dev-misfit before p v f code row misfit all next coded =
     same-rows (IsDevRow f code (naming_at before v.local (length v.dev))) (λ r. (w : Values Global) × DevStep before p v r w) row misfit
     (λ other (i, shape, e). (with_dev_items v i, dev-step before p v f code other i all next coded shape e))
     (λ other (w, step).
-      let s = subst (λ n. DevStepAt before v other w (Some f) n) coded (subst (λ n. DevStepAt before v other w n (slice_get p.dev_codes (length v.dev))) next step.1) in
-      (s.0, s.1, s.2))
+    let s = subst (λ n. DevStepAt before v other w (Some f) n) coded (subst (λ n. DevStepAt before v other w n (slice_get p.dev_codes (length v.dev))) next step.1) in
+    (s.0, s.1, s.2))

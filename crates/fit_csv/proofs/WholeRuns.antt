@@ -107,14 +107,14 @@ definition-run f (x ∷ fs) ds o q pf pd lf ld eh ef ed =
     let here : settled f (Definition o) ≡ record f { part = Definition o } = rw going refl in
     let n = with_field o x in
     let step : FileStep (record f { part = Definition o }) (field_def_row x) (settled f (Definition (with_field o x))) =
-      (Definition (with_field o x), (with_field o x, inl (omega (arith, lf), (x, pf.0, refl, refl)), refl), sym (settled-again f (Definition o) (Definition (with_field o x)))) in
+    (Definition (with_field o x), (with_field o x, inl (omega (arith, lf), (x, pf.0, refl, refl)), refl), sym (settled-again f (Definition o) (Definition (with_field o x)))) in
     more-run (record f { part = Definition o }) (settled f (Definition o)) (settled f (Definition (with_field o x))) (with_record f (Define (definition_of q))) (field_def_row x) (map field_def_row fs ++ map dev_def_row ds) here step
     (definition-run f fs ds (with_field o x) q pf.1 pd (omega (arith, lf, length-last o.fields x)) ld eh (ef ∙ sym (append_assoc o.fields (x ∷ []) fs)) ed)
 definition-run f [] (y ∷ ds) o q pf pd lf ld eh ef ed =
     let going = open-definition o (λ all dev. omega (arith, ld, dev)) in
     let here : settled f (Definition o) ≡ record f { part = Definition o } = rw going refl in
     let step : FileStep (record f { part = Definition o }) (dev_def_row y) (settled f (Definition (with_dev_field o y))) =
-      (Definition (with_dev_field o y), (with_dev_field o y, inr (omega (arith, lf), (y, pd.0, refl, refl)), refl), sym (settled-again f (Definition o) (Definition (with_dev_field o y)))) in
+    (Definition (with_dev_field o y), (with_dev_field o y, inr (omega (arith, lf), (y, pd.0, refl, refl)), refl), sym (settled-again f (Definition o) (Definition (with_dev_field o y)))) in
     more-run (record f { part = Definition o }) (settled f (Definition o)) (settled f (Definition (with_dev_field o y))) (with_record f (Define (definition_of q))) (dev_def_row y) (map dev_def_row ds) here step
     (definition-run f [] ds (with_dev_field o y) q tt pd.1 lf (omega (arith, ld, length-last o.dev y)) eh ef (ed ∙ sym (append_assoc o.dev (y ∷ []) ds)))
 
@@ -139,12 +139,12 @@ define-run f d none fits range =
     let head_range : HeadInRange (head_of d) = record { local = fits.local; reserved = range.reserved; global = fits.global; fields = fits.fields; dev = few-dev-fields d.dev fits.dev_fields } in
     let q : OpenDefinition = record { head = head_of d; fields = d.fields; dev = dev_defs d.dev } in
     let step : FileStep f (def_row d) (settled f (Definition (opened (head_of d)))) =
-      (Definition (opened (head_of d)), subst (λ (part : Part). PartStep f.before part (def_row d) (Definition (opened (head_of d)))) (sym none) (inl (head_of d, head_range, refl, refl)), refl) in
+    (Definition (opened (head_of d)), subst (λ (part : Part). PartStep f.before part (def_row d) (Definition (opened (head_of d)))) (sym none) (inl (head_of d, head_range, refl, refl)), refl) in
     let same : definition_of q ≡ d =
-      λ i. record { local = d.local; reserved = d.reserved; order = d.order; global = d.global; fields = d.fields; dev = dev-again d.dev i } in
+    λ i. record { local = d.local; reserved = d.reserved; order = d.order; global = d.global; fields = d.fields; dev = dev-again d.dev i } in
     more-run f f (settled f (Definition (opened (head_of d)))) (with_record f (Define d)) (def_row d) (map field_def_row d.fields ++ map dev_def_row (dev_defs d.dev)) refl step
     (subst (λ (x : MessageDef Global). FileRun (settled f (Definition (opened (head_of d)))) (map field_def_row d.fields ++ map dev_def_row (dev_defs d.dev)) (with_record f (Define x))) same
-      (definition-run f d.fields (dev_defs d.dev) (opened (head_of d)) q range.fields range.dev_fields (omega arith) (dev-count d.dev) refl refl refl))
+    (definition-run f d.fields (dev_defs d.dev) (opened (head_of d)) q range.fields range.dev_fields (omega arith) (dev-count d.dev) refl refl refl))
 
 -- ---- data messages
 
@@ -158,15 +158,15 @@ open-message : (f : OpenFile) (v : Values Global) (p : Defined Global) → place
     → settled f (Message v) ≡ record f { part = Message v }
 open-message f v p is h =
     let going : is_whole_message f.before v ≡ false = has-at f v p is ∙ not-whole (has_all v p) (λ whole.
-      let both = both-true (length v.fields == length p.definition.fields) (length v.dev == length (dev_defs p.definition.dev)) whole in
-      h (eqb-true (length v.fields) (length p.definition.fields) both.0) (eqb-true (length v.dev) (length (dev_defs p.definition.dev)) both.1)) in
+    let both = both-true (length v.fields == length p.definition.fields) (length v.dev == length (dev_defs p.definition.dev)) whole in
+    h (eqb-true (length v.fields) (length p.definition.fields) both.0) (eqb-true (length v.dev) (length (dev_defs p.definition.dev)) both.1)) in
     rw going refl
 
 whole-message : (f : OpenFile) (v : Values Global) (p : Defined Global) → placed f v p → length v.fields ≡ length p.definition.fields → length v.dev ≡ length (dev_defs p.definition.dev)
     → settled f (Message v) ≡ with_record f (Data v)
 whole-message f v p is fields dev =
     let whole : is_whole_message f.before v ≡ true =
-      has-at f v p is ∙ both-holds _ _ (eq-eqb (length v.fields) (length p.definition.fields) fields) (eq-eqb (length v.dev) (length (dev_defs p.definition.dev)) dev) in
+    has-at f v p is ∙ both-holds _ _ (eq-eqb (length v.fields) (length p.definition.fields) fields) (eq-eqb (length v.dev) (length (dev_defs p.definition.dev)) dev) in
     rw whole refl
 
 message-step : (f : OpenFile) (v w : Values Global) (p : Defined Global) (r : Row) → placed f v p → FieldStep p v r w ⊎ DevStep f.before p v r w
@@ -190,7 +190,7 @@ fields-run f p front (x ∷ fs) (i ∷ items) v w is all long shapes e =
     let step = message-step f v (with_items v i) p r is (inl (field-step p v x r i next shapes.0 refl)) in
     more-run (record f { part = Message v }) (settled f (Message v)) (settled f (Message (with_items v i))) (settled f (Message w)) r (field_rows p.definition.global fs items) here step
     (fields-run f p (front ++ x ∷ []) fs items (with_items v i) w is (all ∙ sym (append_assoc front (x ∷ []) fs)) (length-last front x ∙ ap suc long ∙ sym (length-last v.fields i)) shapes.1
-      (e ∙ ap (λ (l : List (Items Global)). record v { fields = l }) (sym (append_assoc v.fields (i ∷ []) items))))
+    (e ∙ ap (λ (l : List (Items Global)). record v { fields = l }) (sym (append_assoc v.fields (i ∷ []) items))))
 
 naming-here : (before : List (Record Global)) (local k : ℕ) (front : List Naming) (n : Naming) (rest : List Naming) → namings_at before local ≡ front ++ n ∷ rest → length front ≡ k
     → naming_at before local k ≡ n
@@ -222,10 +222,10 @@ dev-run f p front (d ∷ ds) done (c ∷ cs) names (n ∷ ns) (i ∷ items) v w 
     let step = message-step f v (with_dev_items v i) p r is (inr (dev-step f.before p v d c r i fields next code shapes.0 row)) in
     more-run (record f { part = Message v }) (settled f (Message v)) (settled f (Message (with_dev_items v i))) (settled f (Message w)) r (dev_rows ds cs ns items) here step
     (dev-run f p (front ++ d ∷ []) ds (done ++ c ∷ []) cs (names ++ n ∷ []) ns items (with_dev_items v i) w is fields (all ∙ sym (append_assoc front (d ∷ []) ds))
-      (coded ∙ sym (append_assoc done (c ∷ []) cs)) (named ∙ sym (append_assoc names (n ∷ []) ns))
-      (length-last front d ∙ ap suc lf ∙ sym (length-last v.dev i)) (length-last done c ∙ ap suc lc ∙ sym (length-last v.dev i)) (length-last names n ∙ ap suc ln ∙ sym (length-last v.dev i))
-      (omega (arith, same_c)) (omega (arith, same_n)) shapes.1
-      (e ∙ ap (λ (l : List (Items Global)). record v { dev = l }) (sym (append_assoc v.dev (i ∷ []) items))))
+    (coded ∙ sym (append_assoc done (c ∷ []) cs)) (named ∙ sym (append_assoc names (n ∷ []) ns))
+    (length-last front d ∙ ap suc lf ∙ sym (length-last v.dev i)) (length-last done c ∙ ap suc lc ∙ sym (length-last v.dev i)) (length-last names n ∙ ap suc ln ∙ sym (length-last v.dev i))
+    (omega (arith, same_c)) (omega (arith, same_n)) shapes.1
+    (e ∙ ap (λ (l : List (Items Global)). record v { dev = l }) (sym (append_assoc v.dev (i ∷ []) items))))
 
 some-is : {X : Type 0} (o : Option X) (x : X) → o ≡ Some x → IsSome o
 some-is None x e = cc e
@@ -241,18 +241,18 @@ data-run f v p none is fits =
     let row : first ≡ message_row f.before start = ap (λ g. data_row v g time) global in
     let opens : IsMessageStart f.before start = record { header = fits.header; defined = some-is (defined_at (known f.before) v.local) p is; no_fields = refl; no_dev_fields = refl } in
     let step : FileStep f first (settled f (Message start)) =
-      (Message start, subst (λ (part : Part). PartStep f.before part first (Message start)) (sym none) (inr (start, opens, row, refl)), refl) in
+    (Message start, subst (λ (part : Part). PartStep f.before part first (Message start)) (sym none) (inr (start, opens, row, refl)), refl) in
     let fields = as_long (layout p) v.fields fits.fields ∙ layout-long p in
     let dev = as_long (dev_layout p) v.dev fits.dev_fields ∙ dev-layout-long p (codes-long f.before v.local p is) in
     let rows = field_rows p.definition.global p.definition.fields v.fields in
     let others = dev_rows (dev_defs p.definition.dev) p.dev_codes (namings_at f.before v.local) v.dev in
     subst (λ (l : List Row). FileRun f l (with_record f (Data v))) (sym (data-rows-at f.before v p is))
     (more-run f f (settled f (Message start)) (with_record f (Data v)) first (rows ++ others) refl step
-      (joined-run (settled f (Message start)) rows others (settled f (Message whole)) (with_record f (Data v))
-        (fields-run f p [] p.definition.fields v.fields start whole is refl refl fits.fields refl)
-        (subst (λ (g : OpenFile). FileRun (settled f (Message whole)) others g) (whole-message f v p is fields dev)
-          (dev-run f p [] (dev_defs p.definition.dev) [] p.dev_codes [] (namings_at f.before v.local) v.dev whole v is fields refl refl refl refl refl refl
-            (codes-long f.before v.local p is) (namings_long f.before v.local p is) fits.dev_fields refl))))
+    (joined-run (settled f (Message start)) rows others (settled f (Message whole)) (with_record f (Data v))
+    (fields-run f p [] p.definition.fields v.fields start whole is refl refl fits.fields refl)
+    (subst (λ (g : OpenFile). FileRun (settled f (Message whole)) others g) (whole-message f v p is fields dev)
+    (dev-run f p [] (dev_defs p.definition.dev) [] p.dev_codes [] (namings_at f.before v.local) v.dev whole v is fields refl refl refl refl refl refl
+    (codes-long f.before v.local p is) (namings_long f.before v.local p is) fits.dev_fields refl))))
 
 -- ---- records, files and chains
 
@@ -270,9 +270,11 @@ records-run : (f : OpenFile) (records : List (Record Global)) → f.part ≡ Not
 unfolding records_rows
 records-run f [] none fit range = (f, none-run f f refl, (none, refl, sym (append-nil f.records)))
 records-run f (r ∷ records) none fit range =
-    let (g, run, (part, header, rest)) = records-run (with_record f r) records refl fit.1 range.1 in
-    (g, joined-run f (record_rows f.before r) (records_rows (r ∷ f.before) records) (with_record f r) g (record-run f r none fit.0 range.0) run,
-    (part, header, rest ∙ append_assoc f.records (r ∷ []) records))
+    let (g, run, (part, header, rest)) = records-run (with_record f r) records refl fit.1 range.1 in (
+      g,
+      joined-run f (record_rows f.before r) (records_rows (r ∷ f.before) records) (with_record f r) g (record-run f r none fit.0 range.0) run,
+      (part, header, rest ∙ append_assoc f.records (r ∷ []) records),
+    )
 
 file-run : (files : List (FitFile Global)) (x : FitFile Global) → length files < chain_limit → IsFileOfRows x
     → Run (record { files = files; current = None }) (file_rows x) (record { files = files ++ x ∷ []; current = None })
@@ -297,7 +299,7 @@ files-run files (x ∷ rest) room good =
     run-join (record { files = files; current = None }) (file_rows x) (flat_map file_rows rest) (record { files = files ++ x ∷ []; current = None }) (record { files = files ++ x ∷ rest; current = None })
     (file-run files x (omega (arith, room)) good.0)
     (subst (λ (l : List (FitFile Global)). Run (record { files = files ++ x ∷ []; current = None }) (flat_map file_rows rest) (record { files = l; current = None })) (append_assoc files (x ∷ []) rest)
-      (files-run (files ++ x ∷ []) rest (omega (arith, room, length-last files x)) good.1))
+    (files-run (files ++ x ∷ []) rest (omega (arith, room, length-last files x)) good.1))
 
 -- the rows of a chain run through
 pub chain-run : (files : List (FitFile Global)) → IsChainOfRows files → Run nothing_yet (flat_map file_rows files) (record { files = files; current = None })

@@ -29,10 +29,11 @@ zeros-below (suc n) limit h = (h, zeros-below n limit h)
 -- there are items of each shape
 pub zero-items : (code size : ℕ) → (items : Items Global) × HasShape code size items
 zero-items code size =
-    let w = item_width code size in
-    (record { width = item_width code size; bits = zeros (size / item_width code size) },
-    record {
-      width = refl;
-      whole = shape_whole code size (item_width code size) (zeros (size / item_width code size)) refl (length-zeros (size / item_width code size));
-      fits = zeros-below (size / item_width code size) (256 ^ item_width code size) (power_above (item_width code size));
-    })
+    let w = item_width code size in (
+      record { width = item_width code size; bits = zeros (size / item_width code size) },
+      record {
+        width = refl;
+        whole = shape_whole code size (item_width code size) (zeros (size / item_width code size)) refl (length-zeros (size / item_width code size));
+        fits = zeros-below (size / item_width code size) (256 ^ item_width code size) (power_above (item_width code size));
+      },
+    )

@@ -149,5 +149,9 @@ pub(crate) fn dev_def(cells: &Cells) -> Result<DevDef, Misfit>
     ensures err { IfErr result (IsCellFault IsDevDefRow (row_of cells.now)) }
 {
     let (number, size, index) = three_bytes(cells)?;
-    Ok(DevDef { number, size, index })
+    Ok(DevDef {
+        number,
+        size,
+        index,
+    })
 }

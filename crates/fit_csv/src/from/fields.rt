@@ -39,7 +39,15 @@ pub(crate) fn field_items(
     let info = field_info(global, field.number);
     let unit = unit_text(info).as_bytes();
     let label = label.as_str().as_bytes();
-    value_row(alloc, cells, label, Code(field.code), field.size, info, unit)
+    value_row(
+        alloc,
+        cells,
+        label,
+        Code(field.code),
+        field.size,
+        info,
+        unit,
+    )
 }
 
 /// The row of a developer field of this code in a message of a local message type.

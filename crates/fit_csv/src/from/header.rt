@@ -67,11 +67,7 @@ fn bytes_of(numbers: &[u64]) -> ArrayVec<u8, 241>
 
 /// The bytes from place 14 on that a cell shows, where the header has this size, and some ones where
 /// it shows none.
-fn rest_in(
-    alloc: Global,
-    cell: &[u8],
-    size: u8,
-) -> Result<ArrayVec<u8, 241>, AllocError>
+fn rest_in(alloc: Global, cell: &[u8], size: u8) -> Result<ArrayVec<u8, 241>, AllocError>
     ensures size { IfOk result (λ rest. length rest.items ≡ size - 14) }
     ensures small { IfOk result (λ rest. All (λ b. b < 2 ^ 8) rest.items) }
     ensures every { IfOk result (λ rest. (bytes : List ℕ) → length bytes ≡ size - 14 → All (λ b. b < 2 ^ 8) bytes → rows.rest_text bytes ≡ cell.now → rest.items ≡ bytes) }

@@ -114,11 +114,7 @@ fn rest_of_message(
 }
 
 /// The first row of a data message behind these records.
-pub(crate) fn message_head(
-    alloc: Global,
-    cells: &Cells,
-    before: &Stream,
-) -> Result<Values, Misfit>
+pub(crate) fn message_head(alloc: Global, cells: &Cells, before: &Stream) -> Result<Values, Misfit>
     requires { cells.now.kind.now ≡ codes "data" }
     ensures start { IfOk result (IsMessageStart before.now) }
     ensures ok { IfOk result (λ v. row_of cells.now ≡ message_row before.now v) }

@@ -43,10 +43,7 @@ fn take_dev_field(definition: &mut OpenDefinition, cells: &Cells) -> Result<(), 
 }
 
 /// Takes the next row of a definition.
-pub(crate) fn take_definition(
-    definition: &mut OpenDefinition,
-    cells: &Cells,
-) -> Result<(), Misfit>
+pub(crate) fn take_definition(definition: &mut OpenDefinition, cells: &Cells) -> Result<(), Misfit>
     requires { length definition.old.fields ≤ definition.old.head.fields }
     ensures ok { OnOk result (DefinitionStep definition.old (row_of cells.now) definition.new) }
     ensures err { IfErr result (IsMisfit (λ r. (o : OpenDefinition) × DefinitionStep definition.old r o) (row_of cells.now)) }

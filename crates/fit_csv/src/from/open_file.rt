@@ -80,12 +80,7 @@ fn begin_record(alloc: Global, before: &Stream, cells: &Cells) -> Result<Part, M
 }
 
 /// Takes the next row of a record. It isn't one in which a file ends.
-fn next_part(
-    alloc: Global,
-    before: &Stream,
-    part: Part,
-    cells: &Cells,
-) -> Result<Part, Misfit>
+fn next_part(alloc: Global, before: &Stream, part: Part, cells: &Cells) -> Result<Part, Misfit>
     requires room { PartHasRoom before.now part }
     requires kind { part ≡ Part.Nothing → cells.now.kind.now ≡ codes "end" → ⊥ }
     ensures ok { IfOk result (PartStep before.now part (row_of cells.now)) }

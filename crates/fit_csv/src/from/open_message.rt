@@ -65,7 +65,15 @@ fn take_dev_field(
     let Some(code) = defined.dev_codes.as_slice().get(place) else {
         return Err(Misfit::Kind);
     };
-    let items = dev_items(alloc, cells, before, values.local, place as u8, *field, *code)?;
+    let items = dev_items(
+        alloc,
+        cells,
+        before,
+        values.local,
+        place as u8,
+        *field,
+        *code,
+    )?;
     add(&mut values.dev, items)
 }
 
@@ -82,7 +90,12 @@ fn take_by(
     ensures ok { OnOk result (FieldStep defined.now values.old (row_of cells.now) values.new ⊎ DevStep before.now defined.now values.old (row_of cells.now) values.new) }
     ensures err { IfErr result (IsMisfit (λ r. (w : Values Global) × (FieldStep defined.now values.old r w ⊎ DevStep before.now defined.now values.old r w)) (row_of cells.now)) }
 {
-    match defined.definition.fields.as_slice().get(values.fields.len()) {
+    match defined
+        .definition
+        .fields
+        .as_slice()
+        .get(values.fields.len())
+    {
         Some(field) => take_field(alloc, cells, defined, values, *field),
         None => take_dev_field(alloc, cells, before, defined, values),
     }

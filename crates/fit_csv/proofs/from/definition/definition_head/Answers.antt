@@ -14,5 +14,5 @@ returns-in-Some-clause-err c =
     let ed = c.as_bytes-4.ensures.value ∙ c.format-3.ensures.text in
     let ee = c.as_bytes-5.ensures.value ∙ c.format-4.ensures.text in
     let differs : DifferAt c.in-Some.column (head_row c.closest_head-head.result) (row_of c.args.cells.now) =
-      rw (← c.requires, ← ea, ← eb, ← ec, ← ed, ← ee, ← c.optional_number.ensures) c.in-Some.ensures.some in
+    rw (← c.requires, ← ea, ← eb, ← ec, ← ed, ← ee, ← c.optional_number.ensures) c.in-Some.ensures.some in
     closest IsHeadRow (row_of c.args.cells.now) (head_row c.closest_head-head.result) c.in-Some.column (c.closest_head-head.result, c.closest_head-head.ensures.range, refl) c.closest_head-head.ensures.far differs

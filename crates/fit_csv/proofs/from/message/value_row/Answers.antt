@@ -36,7 +36,7 @@ returns-in-Some-first_difference-clause-err c =
     let same : c.args.label.now ≡ c.args.cells.now.a.now = sym (c.same.ensures.0 c.if-not-same.false) in
     let some : HasShape c.args.code.0 c.args.size c.in-Some.items × (cell c.args.code.0 (option_map meaning c.args.info) c.in-Some.items ≡ c.args.cells.now.b.now) = rw c.in-Some.is at c.in_ok-items.ensures.some in
     let differs : DifferAt c.in-Some-first_difference.column shown (row_of c.args.cells.now) =
-      subst (λ (r : Row). DifferAt c.in-Some-first_difference.column r (row_of c.args.cells.now)) (same-cells refl (sym same) (sym some.1) refl refl refl refl) c.in-Some-first_difference.ensures.some in
+    subst (λ (r : Row). DifferAt c.in-Some-first_difference.column r (row_of c.args.cells.now)) (same-cells refl (sym same) (sym some.1) refl refl refl refl) c.in-Some-first_difference.ensures.some in
     closest (IsValueRow cells.kind.now c.args.label.now c.args.code.0 c.args.size info c.args.unit.now) (row_of c.args.cells.now) shown c.in-Some-first_difference.column (items, some.0, refl)
     (value-closest cells.kind.now c.args.label.now cells.a.now cells.b.now cells.c.now cells.d.now cells.e.now cells.f.now c.args.code.0 c.args.size info c.args.unit.now items same some.1)
     differs
