@@ -5,6 +5,8 @@ use Rattle.fit_frame.specs.ReasonNames.{reason_name}
 use Rattle.fit_record.specs.declared.file.FitFile.{FitFile}
 use Rattle.fit_record.specs.Files.{body}
 use Rattle.fit_decode.specs.Events.{Event, header, item, file_end}
+use Rattle.fit_encode.specs.declared.fault.EncodeFault.{EncodeFault}
+use Rattle.fit_encode.specs.declared.fault.EncodeFault.TheVariants as encode
 use Rattle.fit_report.specs.Heard.{Lines, latest_records}
 
 -- file k of the input has n bytes of data, in so many records
@@ -30,6 +32,25 @@ read_fault_line place = codes "read fault at byte " ++ decimal place ++ codes "\
 
 abbrev pub write_fault_line : List ℕ
 write_fault_line = codes "write fault\n"
+
+abbrev pub header_row_line : List ℕ
+header_row_line = codes "header row refused\n"
+
+abbrev pub row_line : ℕ → List ℕ
+row_line row = codes "row " ++ decimal row ++ codes " refused\n"
+
+abbrev pub cell_line : ℕ → ℕ → List ℕ
+cell_line row column = codes "row " ++ decimal row ++ codes " column " ++ decimal column ++ codes " refused\n"
+
+-- the reading of a text failed
+abbrev pub text_fault_line : List ℕ
+text_fault_line = codes "read fault\n"
+
+-- Rows are those of files that have no bytes; only these two faults are left to the encoder.
+abbrev pub encode_line : EncodeFault → List ℕ
+encode_line (encode.ZeroIsSum file) = codes "encode fault: ZeroIsSum\n"
+encode_line (encode.TooLong file index) = codes "encode fault: TooLong\n"
+encode_line fault = codes "encode fault\n"
 
 abbrev pub out_of_memory_line : List ℕ
 out_of_memory_line = codes "out of memory\n"

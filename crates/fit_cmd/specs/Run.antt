@@ -1,5 +1,6 @@
 -- What the program writes, and the status that it answers.
 use Rattle.std.specs.Prelude.{◌≡◌, ℕ, ◌<◌, ◌⊎◌, true, List, ◌++◌, Result, Ok, Err, length, reverse, take}
+use Rattle.std.specs.Global.{Global}
 use Rattle.std.specs.Io.KnownBytes.{Appends, Consumes, IsAtEnd, Keeps}
 use Rattle.fit_record.specs.Files.{chain_limit}
 use Rattle.fit_decode.specs.declared.event.Fault.{Fault}
@@ -8,7 +9,15 @@ use Rattle.fit_decode.specs.Answers.{AreChain}
 use Rattle.fit_decode.specs.Events.{Event, AreEvents}
 use Rattle.fit_report.specs.Heard.{Lines, text_of}
 use Rattle.fit_report.specs.Reports.{Channel, Faults, before_fault}
-use Rattle.fit_cmd.specs.Lines.{ok_line, refused_line, truncated_line, read_fault_line, write_fault_line, out_of_memory_line}
+use Rattle.fit_csv.specs.declared.fault.CsvFault.{CsvFault}
+use Rattle.fit_csv.specs.declared.fault.CsvFault.TheVariants as csv
+use Rattle.fit_csv.specs.ChainRows.{rows_of}
+use Rattle.fit_csv.specs.Conversions.{Converts, RowsOf}
+use Rattle.fit_csv.specs.ShowLines.{show_line}
+use Rattle.fit_csv.specs.Table.{table_of}
+use Rattle.fit_cmd.specs.declared.command_line.Command.{Command}
+use Rattle.fit_cmd.specs.declared.command_line.Command.TheVariants.{Check, Show, ToCsv, Table}
+use Rattle.fit_cmd.specs.Lines.{check_line, ok_line, refused_line, truncated_line, read_fault_line, write_fault_line, header_row_line, row_line, cell_line, text_fault_line, encode_line, out_of_memory_line}
 
 -- ---- lines in a sink
 
@@ -62,3 +71,32 @@ Runs {A} line source output faults status =
     × (((found : Result (Unit {0}) Fault) × (heard : List (Event A)) × Finds A taken source found × AreEvents (good_bytes found taken) (reverse heard)
     × Says found (text_of line heard) output faults status)
     ⊎ ((k : ℕ) × (heard : List (Event A)) × AreEvents (take k taken) (reverse heard) × BreaksOff (text_of line heard) output faults status))
+
+-- ---- a conversion
+
+-- What is said of a conversion's answer: nothing where it is good, and else a line on the fault sink.
+abbrev pub Concludes : {X : Type 0} → Result X CsvFault → Channel → ℕ → Type 0
+Concludes (Ok _) faults status = Keeps faults.before faults.after × (status ≡ 0)
+Concludes (Err (csv.Decode (Refused place reason))) faults status = Puts faults (refused_line place reason) × (status ≡ 1)
+Concludes (Err (csv.Decode (Truncated place))) faults status = Puts faults (truncated_line place) × (status ≡ 1)
+Concludes (Err (csv.Decode (Read place))) faults status = Puts faults (read_fault_line place) × (status ≡ 4)
+Concludes (Err (csv.Decode (NoMemory used))) faults status = Puts faults out_of_memory_line × (status ≡ 3)
+Concludes (Err (csv.Encode fault)) faults status = Puts faults (encode_line fault) × (status ≡ 1)
+Concludes (Err csv.Header) faults status = Puts faults header_row_line × (status ≡ 1)
+Concludes (Err (csv.BadRow row)) faults status = Puts faults (row_line row) × (status ≡ 1)
+Concludes (Err (csv.BadCell row column)) faults status = Puts faults (cell_line row column) × (status ≡ 1)
+Concludes (Err csv.NoMemory) faults status = Puts faults out_of_memory_line × (status ≡ 3)
+Concludes (Err csv.Read) faults status = Puts faults text_fault_line × (status ≡ 4)
+Concludes (Err (csv.Write written)) faults status = Puts faults write_fault_line × (status ≡ 4)
+
+-- What a command did that writes these rows of events.
+abbrev pub RunsConversion : RowsOf → Channel → Channel → Channel → ℕ → Type 0
+RunsConversion rows source output faults status = (answer : Result (Unit {0}) CsvFault) × Converts rows source output answer × Concludes answer faults status
+
+-- ---- the commands
+
+abbrev pub RunsCommand : Command → Channel → Channel → Channel → ℕ → Type 0
+RunsCommand Check source output faults status = Runs {A = Global} check_line source output faults status
+RunsCommand Show source output faults status = Runs {A = Global} show_line source output faults status
+RunsCommand ToCsv source output faults status = RunsConversion rows_of source output faults status
+RunsCommand Table source output faults status = RunsConversion table_of source output faults status

@@ -11,8 +11,14 @@ use std::alloc::{AllocError, Global};
 /// What the program does.
 #[derive(Clone, Copy, PartialEq, Eq, Debug)]
 pub enum Command {
-    /// Checks a file.
+    /// Checks a file, or a chain of files.
     Check,
+    /// Shows what it says.
+    Show,
+    /// Converts it to CSV text.
+    ToCsv,
+    /// Makes a table of its record messages.
+    Table,
 }
 
 /// A command line.
@@ -42,6 +48,9 @@ fn command_of(word: &str) -> Option<Command>
 {
     match word {
         "check" => Some(Command::Check),
+        "show" => Some(Command::Show),
+        "to-csv" => Some(Command::ToCsv),
+        "table" => Some(Command::Table),
         _ => None,
     }
 }

@@ -1,8 +1,9 @@
 //! The lines that the program writes.
 ghost use Rattle.std.specs.Prelude.{◌≡◌, ◌++◌, ◌+◌, ◌≤◌, OnOk, codes, decimal, length};
-ghost use Rattle.fit_cmd.specs.Lines.{read_fault_line, refused_line, truncated_line};
+ghost use Rattle.fit_cmd.specs.Lines.{cell_line, encode_line, read_fault_line, refused_line, row_line, truncated_line};
 
 use arrayvec::ArrayString;
+use fit_encode::EncodeFault;
 use fit_frame::Reason;
 use itoa::Buffer;
 use std::alloc::AllocError;
@@ -18,6 +19,12 @@ pub const WRITE_FAULT: &str = "write fault\n";
 
 /// The line on standard error where memory was refused.
 pub const OUT_OF_MEMORY: &str = "out of memory\n";
+
+/// The line on standard error where the first row of a text isn't the first line.
+pub const HEADER_ROW: &str = "header row refused\n";
+
+/// The line on standard error where a text can't be read.
+pub const TEXT_FAULT: &str = "read fault\n";
 
 /// A text, a number and a text.
 fn numbered(front: &str, number: u64, back: &str) -> Lines
@@ -67,4 +74,32 @@ pub fn read_fault(place: u64) -> Lines
     ensures { result.bytes ≡ read_fault_line place }
 {
     numbered("read fault at byte ", place, "\n")
+}
+
+/// A row can't stand where it is.
+pub fn bad_row(row: u64) -> Lines
+    ensures { result.bytes ≡ row_line row }
+{
+    numbered("row ", row, " refused\n")
+}
+
+/// A cell can't stand where it is.
+pub fn bad_cell(row: u64, column: u64) -> Lines
+    ensures { result.bytes ≡ cell_line row column }
+{
+    let mut lines = numbered("row ", row, " column ");
+    lines.push_str(Buffer::new().format(column));
+    lines.push_str(" refused\n");
+    lines
+}
+
+/// The rows are those of files that have no bytes.
+pub fn encode_fault(fault: EncodeFault) -> &'static str
+    ensures { result.now ≡ encode_line fault }
+{
+    match fault {
+        EncodeFault::ZeroIsSum { .. } => "encode fault: ZeroIsSum\n",
+        EncodeFault::TooLong { .. } => "encode fault: TooLong\n",
+        _ => "encode fault\n",
+    }
 }

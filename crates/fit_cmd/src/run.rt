@@ -1,5 +1,5 @@
 //! What the program does, over any source and sinks.
-ghost use Rattle.std.specs.Prelude.{◌≡◌, ◌⊎◌, ◌++◌, ℕ, [], List, Some, false, flat_map, reverse};
+ghost use Rattle.std.specs.Prelude.{◌≡◌, ◌⊎◌, ◌++◌, ℕ, [], List, Some, Err, false, flat_map, reverse};
 ghost use Rattle.std.specs.Global.{Global};
 ghost use Rattle.std.specs.Io.KnownBytes.{Appends};
 ghost use Rattle.fit_base.specs.Numbers.{IsBytes};
@@ -8,13 +8,14 @@ ghost use Rattle.fit_record.specs.Files.{chain_limit, IsChain};
 ghost use Rattle.fit_decode.specs.Events.{file_events};
 ghost use Rattle.fit_report.specs.Heard.{text_of};
 ghost use Rattle.fit_cmd.specs.Finishing.{FaultSaid, Finishes};
-ghost use Rattle.fit_cmd.specs.Lines.{check_line, file_lines, ok_line};
-ghost use Rattle.fit_cmd.specs.Run.{Puts, Runs, Writes};
+ghost use Rattle.fit_cmd.specs.Lines.{file_lines, ok_line};
+ghost use Rattle.fit_cmd.specs.Run.{Concludes, Puts, Runs, RunsCommand, Writes};
 
 use crate::check::CheckReport;
 use crate::command_line::Command;
 use crate::lines;
-use crate::lines::{OK, OUT_OF_MEMORY, WRITE_FAULT};
+use crate::lines::{HEADER_ROW, OK, OUT_OF_MEMORY, TEXT_FAULT, WRITE_FAULT};
+use fit_csv::{CsvFault, ShowReport, table, to_csv};
 use fit_decode::{Fault, Source};
 use fit_encode::{Sink, put_all};
 use fit_report::{Report, ReportFault, report};
@@ -37,6 +38,9 @@ pub const FAILED: u8 = 4;
 /// messages too; then `ok`, status 0; or `refused at byte A: REASON` or `truncated at byte A`, status 1. Where the source fails,
 /// the line `read fault at byte A` goes to the fault sink, where the output fails `write fault` does, and the status is 4; where
 /// memory is refused it is `out of memory`, and the status is 3. A fault line that can't be written changes no status.
+///
+/// `Show` does the same with the lines of `show`. `ToCsv` and `Table` write rows, of all events before a fault; their lines on
+/// what is wrong with the input go to the fault sink, with the same statuses.
 pub fn run<S: Source, K: Sink, E: Sink>(
     alloc: Global,
     command: Command,
@@ -44,18 +48,27 @@ pub fn run<S: Source, K: Sink, E: Sink>(
     output: &mut K,
     faults: &mut E,
 ) -> u8
-    ensures check { command ≡ Command.Check → Runs {A = Global} check_line
+    ensures runs { RunsCommand command
         (record { before = S.remaining source.old; after = S.remaining source.new; failed = S.has_failed source.new })
         (record { before = K.contents output.old; after = K.contents output.new; failed = K.has_failed output.new })
         (record { before = E.contents faults.old; after = E.contents faults.new; failed = E.has_failed faults.new }) result }
 
-    // Where the input is a chain of files, each has its line, and the last line is `ok`.
+    // Where `check` reads a chain of files, each has its line, and the last line is `ok`.
     ensures chain { command ≡ Command.Check → (fs : List (FitFile Global)) (b : List ℕ) → S.remaining source.old ≡ Some b → IsBytes b → IsChain chain_limit fs b
         → S.has_failed source.new ≡ false → K.has_failed output.new ≡ false
         → (result ≡ 3) ⊎ ((result ≡ 0) × Appends (K.contents output.old) (K.contents output.new) (file_lines 1 fs ++ ok_line)) }
 {
     match command {
         Command::Check => run_report(alloc, source, output, faults, &mut CheckReport::new()),
+        Command::Show => run_report(alloc, source, output, faults, &mut ShowReport::new(alloc)),
+        Command::ToCsv => {
+            let answer = to_csv(alloc, source, output);
+            conclude(faults, answer)
+        }
+        Command::Table => {
+            let answer = table(alloc, source, output);
+            conclude(faults, answer)
+        }
     }
 }
 
@@ -114,6 +127,72 @@ fn say<K: Sink, E: Sink>(output: &mut K, faults: &mut E, fault: Fault) -> u8
         Fault::Truncated { place } => {
             end(output, faults, lines::truncated(place).as_str(), REFUSED)
         }
+        Fault::Read { place } => {
+            tell(faults, lines::read_fault(place).as_str());
+            FAILED
+        }
+        Fault::NoMemory { .. } => {
+            tell(faults, OUT_OF_MEMORY);
+            NO_MEMORY
+        }
+    }
+}
+
+/// Says what a conversion answered.
+fn conclude<E: Sink>(faults: &mut E, answer: Result<(), CsvFault>) -> u8
+    ensures { Concludes answer (record { before = E.contents faults.old; after = E.contents faults.new; failed = E.has_failed faults.new }) result }
+{
+    match answer {
+        Ok(()) => GOOD,
+        Err(fault) => complain(faults, fault),
+    }
+}
+
+/// Says why an input is refused.
+fn refuse<E: Sink>(faults: &mut E, line: &str) -> u8
+    ensures line { Puts (record { before = E.contents faults.old; after = E.contents faults.new; failed = E.has_failed faults.new }) line.now }
+    ensures status { result ≡ 1 }
+{
+    tell(faults, line);
+    REFUSED
+}
+
+/// Says why a conversion broke off.
+fn complain<E: Sink>(faults: &mut E, fault: CsvFault) -> u8
+    ensures { Concludes {X = Unit {0}} (Err fault) (record { before = E.contents faults.old; after = E.contents faults.new; failed = E.has_failed faults.new }) result }
+{
+    match fault {
+        CsvFault::Decode(fault) => complain_of_bytes(faults, fault),
+        CsvFault::Encode(fault) => refuse(faults, lines::encode_fault(fault)),
+        CsvFault::Header => refuse(faults, HEADER_ROW),
+        CsvFault::BadRow { row } => refuse(faults, lines::bad_row(row).as_str()),
+        CsvFault::BadCell { row, column } => {
+            refuse(faults, lines::bad_cell(row, column).as_str())
+        }
+        CsvFault::NoMemory => {
+            tell(faults, OUT_OF_MEMORY);
+            NO_MEMORY
+        }
+        CsvFault::Read => {
+            tell(faults, TEXT_FAULT);
+            FAILED
+        }
+        CsvFault::Write { .. } => {
+            tell(faults, WRITE_FAULT);
+            FAILED
+        }
+    }
+}
+
+/// Says what is wrong with the bytes that a conversion reads.
+fn complain_of_bytes<E: Sink>(faults: &mut E, fault: Fault) -> u8
+    ensures { Concludes {X = Unit {0}} (Err (CsvFault.Decode fault)) (record { before = E.contents faults.old; after = E.contents faults.new; failed = E.has_failed faults.new }) result }
+{
+    match fault {
+        Fault::Refused { place, reason } => {
+            refuse(faults, lines::refused(place, reason).as_str())
+        }
+        Fault::Truncated { place } => refuse(faults, lines::truncated(place).as_str()),
         Fault::Read { place } => {
             tell(faults, lines::read_fault(place).as_str());
             FAILED

@@ -20,6 +20,15 @@ const TWO_MESSAGES: &str =
     "0E 20 00 00 24 00 00 00 2E 46 49 54 9F 6E 40 00 00 14 00 02 FD 04 86 03 01 02 \
      00 1F CA 9A 3B 78 41 00 01 00 14 02 02 02 84 08 03 0D A2 09 C4 64 00 10 F0 3B";
 
+/// A developer field before and after its description.
+const DEVELOPER_FIELD: &str =
+    "0E 20 00 00 36 00 00 00 2E 46 49 54 1F BB 40 00 00 CE 00 04 00 01 02 01 01 02 02 01 02 03 03 07 \
+     61 00 00 14 00 00 01 05 02 00 01 34 12 00 00 05 84 6D 6F 00 01 34 12 61 00 00 14 00 00 01 05 02 00 01 34 12 4A 8B";
+
+/// A file_id message whose product_name is `m` and a line feed.
+const LINE_FEED: &str =
+    "0E 20 00 00 0D 00 00 00 2E 46 49 54 00 00 40 00 00 00 00 01 08 03 07 00 6D 0A 00 14 A7";
+
 const EMPTY_IS_GOOD: &str = "file 1: 0 data bytes, 0 records\nok\n";
 
 /// The bytes that two hexadecimal digits each stand for.
@@ -231,6 +240,108 @@ fn chains(rt: HostRuntime) -> Result<(), Fail> {
 }
 
 #[test]
+fn other_commands(rt: HostRuntime) -> Result<(), Fail> {
+    for (command, input, output, faults, status) in [
+        (
+            Command::Show,
+            TWO_MESSAGES,
+            "file 1: header 14, protocol 32, profile 0, data 36, sum\n  define 0 record little 2 0\n  \
+             0 record 2021-09-08T01:47:11Z: timestamp=1000000031 s, heart_rate=120 bpm\n  \
+             define 1 record big 2 0\n  \
+             1 record 2021-09-08T01:47:14Z: altitude=0.0 m, compressed_speed_distance=0x640010\nok\n",
+            "",
+            0,
+        ),
+        (
+            Command::Show,
+            DEVELOPER_FIELD,
+            "file 1: header 14, protocol 32, profile 0, data 54, sum\n  define 0 field_description little 4 0\n  \
+             define 1 record little 0 1\n  1 record: dev_0_5=0x3412\n  0 field_description: \
+             developer_data_index=0, field_definition_number=5, fit_base_type_id=132, field_name=mo\n  \
+             1 record: dev_0_5=0x3412\n  define 1 record little 0 1\n  1 record: mo=4660\nok\n",
+            "",
+            0,
+        ),
+        (
+            Command::Show,
+            LINE_FEED,
+            "file 1: header 14, protocol 32, profile 0, data 13, zero\n  define 0 file_id little 1 0\n  \
+             0 file_id: product_name=0x6D0A00\nok\n",
+            "",
+            0,
+        ),
+        (
+            Command::Show,
+            "0E 20 00 00 24 00 00 00 2E 46 49 54 9F 6E 40 00 00 14 00 02 FD 04 86 03 01 02 00 1F CA 9A",
+            "file 1: header 14, protocol 32, profile 0, data 36, sum\n  define 0 record little 2 0\ntruncated at byte 30\n",
+            "",
+            1,
+        ),
+        (
+            Command::ToCsv,
+            EMPTY,
+            "row,a,b,c,d,e,f\nfile,14,32,0,sum,,\nend,,,,,,\n",
+            "",
+            0,
+        ),
+        (
+            Command::ToCsv,
+            "0E 20 00 00 24 00 00 00 2E 46 49 54 9F 6E 40 00 00 14 00 02 FD 04 86 03 01 02 00 1F CA 9A",
+            "row,a,b,c,d,e,f\nfile,14,32,0,sum,,\ndef,0,0,little,20,2,\nfdef,253,4,134,,,\nfdef,3,1,2,,,\n",
+            "truncated at byte 30\n",
+            1,
+        ),
+        (
+            Command::ToCsv,
+            "0D",
+            "row,a,b,c,d,e,f\n",
+            "refused at byte 0: HeaderSize\n",
+            1,
+        ),
+        (
+            Command::Table,
+            TWO_MESSAGES,
+            "file,timestamp,position_lat,position_long,altitude,distance,speed,heart_rate,cadence,power,temperature\n\
+             1,2021-09-08T01:47:11Z,,,,,,120,,,\n1,2021-09-08T01:47:14Z,,,0.0,16.0000,1.00,,,,\n",
+            "",
+            0,
+        ),
+    ] {
+        let bytes = bytes_of(rt.alloc(), input)?;
+        let mut text = CutSink::<1024>::new(1024);
+        let mut lines = CutSink::<128>::new(128);
+        let source = &mut bytes.as_slice();
+        let answer = run(rt.alloc(), command, source, &mut text, &mut lines);
+        assert_eq!(rt; text.bytes(), output.as_bytes(), "at {output}");
+        assert_eq!(rt; lines.bytes(), faults.as_bytes(), "at {output}");
+        assert_eq!(rt; answer, status, "at {output}");
+    }
+    Ok(())
+}
+
+#[test]
+fn failing_conversions(rt: HostRuntime) -> Result<(), Fail> {
+    let bytes = bytes_of(rt.alloc(), TWO_MESSAGES)?;
+    for command in [Command::Show, Command::ToCsv, Command::Table] {
+        let mut text = CutSink::<1024>::new(1024);
+        let mut lines = CutSink::<128>::new(128);
+        let mut source = CutSource::new(bytes.as_slice(), 20);
+        let status = run(rt.alloc(), command, &mut source, &mut text, &mut lines);
+        assert_eq!(rt; lines.bytes(), b"read fault at byte 20\n".as_slice());
+        assert_eq!(rt; status, 4);
+
+        let mut text = CutSink::<1024>::new(50);
+        let mut lines = CutSink::<128>::new(128);
+        let source = &mut bytes.as_slice();
+        let status = run(rt.alloc(), command, source, &mut text, &mut lines);
+        assert_eq!(rt; text.bytes().len(), 50);
+        assert_eq!(rt; lines.bytes(), b"write fault\n".as_slice());
+        assert_eq!(rt; status, 4);
+    }
+    Ok(())
+}
+
+#[test]
 fn failing_sources(rt: HostRuntime) -> Result<(), Fail> {
     let bytes = bytes_of(rt.alloc(), TWO_MESSAGES)?;
     let answer = check(rt.alloc(), &mut CutSource::new(bytes.as_slice(), 20));
@@ -363,23 +474,24 @@ fn words(alloc: Global, line: &str) -> Result<Vec<String>, AllocError> {
 #[test]
 fn lines(rt: HostRuntime) -> Result<(), Fail> {
     for (line, want) in [
-        ("fit check", Ok(None)),
-        ("fit check a.fit", Ok(Some("a.fit"))),
+        ("fit check", Ok((Command::Check, None))),
+        ("fit check a.fit", Ok((Command::Check, Some("a.fit")))),
+        ("fit show a.fit", Ok((Command::Show, Some("a.fit")))),
+        ("fit to-csv a.fit", Ok((Command::ToCsv, Some("a.fit")))),
+        ("fit table", Ok((Command::Table, None))),
         ("fit", Err(LineFault::Usage)),
         ("fit frob", Err(LineFault::Usage)),
         ("fit Check", Err(LineFault::Usage)),
         ("fit ", Err(LineFault::Usage)),
         ("fit check a b", Err(LineFault::Usage)),
-        ("fit to-csv a.fit", Err(LineFault::Usage)),
         ("fit --help", Err(LineFault::Help)),
     ] {
         let words = words(rt.alloc(), line)?;
         let found = parse_line(rt.alloc(), words.as_slice());
         match &found {
             Ok(found) => {
-                assert_eq!(rt; found.command, Command::Check, "at {line}");
                 let path = found.path.as_ref().map(|path| path.as_str());
-                assert!(rt; want == Ok(path), "at {line}");
+                assert!(rt; want == Ok((found.command, path)), "at {line}");
             }
             Err(fault) => assert!(rt; want == Err(*fault), "at {line}"),
         }

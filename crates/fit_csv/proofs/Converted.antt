@@ -1,8 +1,8 @@
 -- What a report put behind a first line.
-use Rattle.std.proofs.Common.{◌≡◌, ◌∙◌, ℕ, ◌+◌, ◌-◌, ◌^◌, ◌<◌, min, true, Bool, List, [], ◌++◌, length, take, reverse, Option, Result, Ok, Err, sym, ap, subst, arith, length-append}
+use Rattle.std.proofs.Common.{◌≡◌, ◌∙◌, ℕ, ◌+◌, ◌-◌, ◌^◌, ◌<◌, min, true, Bool, List, [], ◌++◌, length, take, reverse, Option, Some, None, Result, Ok, Err, refl, sym, ap, subst, arith, length-append}
 use Rattle.std.specs.Prelude.{flat_map}
 use Rattle.std.specs.Global.{Global}
-use Rattle.std.specs.Io.KnownBytes.{Appends}
+use Rattle.std.specs.Io.KnownBytes.{Appends, Consumes}
 use Rattle.std.proofs.lemmas.List.{append-nil, reverse-reverse}
 use Rattle.std.proofs.Math.Seq.{take-append-add}
 use Rattle.fit_record.specs.declared.file.FitFile.{FitFile}
@@ -12,7 +12,6 @@ use Rattle.fit_report.specs.declared.fault.ReportFault.{ReportFault}
 use Rattle.fit_report.specs.declared.fault.ReportFault.TheVariants as report
 use Rattle.fit_report.specs.Heard.{Lines, text_of}
 use Rattle.fit_report.specs.Reports.{Channel, FailsIn, Reports, ReportsChain, Tells}
-use Rattle.fit_report.proofs.Consumed.{Consumes-nothing}
 use Rattle.fit_report.proofs.Outcomes.{nothing_heard}
 use Rattle.fit_report.proofs.Texts.{Appends-append}
 use Rattle.fit_csv.specs.declared.fault.CsvFault.{CsvFault}
@@ -25,6 +24,10 @@ use Rattle.fit_csv.specs.Reporting.{HasText, csv_fault}
 abbrev pub csv_answer : Result (Unit {0}) ReportFault → ℕ → Result (Unit {0}) CsvFault
 csv_answer (Ok u) before = Ok u
 csv_answer (Err fault) before = Err (csv_fault fault before)
+
+consumes_nothing : (a : Option (List ℕ)) → Consumes a a []
+consumes_nothing None = tt
+consumes_nothing (Some left) = refl
 
 abbrev channel : Option (List ℕ) → Option (List ℕ) → Bool → Channel
 channel before after failed = record { before = before; after = after; failed = failed }
@@ -74,4 +77,4 @@ module _ (first : List ℕ) (line : Lines Global) (rows : RowsOf) (text : HasTex
       → Converts rows (channel has has unread) (channel start end bad) (Err (csv.Write written))
   unbegun has unread written small short failed part =
       let whole : csv_text (rows []) ≡ first = text [] ∙ append-nil first in
-      ([], Consumes-nothing has, (0, [], nothing_heard Global, (failed, written, omega (arith, short, ap length whole), subst (λ t. Appends start end (take written t)) (sym whole) part, omega (arith, small, short))))
+      ([], consumes_nothing has, (0, [], nothing_heard Global, (failed, written, omega (arith, short, ap length whole), subst (λ t. Appends start end (take written t)) (sym whole) part, omega (arith, small, short))))

@@ -30,6 +30,7 @@ mod ZeroItems
 mod HeaderRows
 mod MessageRows
 mod ValueRows
+pub mod ShownLines
 mod ValueSteps
 mod PartSteps
 mod KnownDefinitions

@@ -15,3 +15,5 @@ pub mod Misfits
 pub mod Progress
 pub mod SoundChain
 pub mod Laws
+pub mod ShowLines
+pub mod Showing

@@ -5,7 +5,7 @@ ghost use Rattle.fit_csv.specs.Reporting.{AnswerFits, answer_rows, behind_answer
 
 use crate::file_rows::{put_end_row, put_file_row};
 use crate::message_rows::put_record;
-use crate::rows::{row_writer, rows_text};
+use crate::rows::{copy_behind, flushed_len, row_writer};
 use csv::Writer;
 use fit_decode::Event;
 use fit_profile::Stream;
@@ -14,7 +14,9 @@ use fit_report::laws::heard_records_fit;
 use fit_report::{Heard, Report};
 use std::alloc::{AllocError, Global};
 use std::marker::Model;
-use std::mem;
+
+/// A writer whose text is longer than this is let go.
+const LONG: usize = 64 * 1024;
 
 /// Puts the rows of an event behind the records of a stream.
 #[tactic(auto, using(crate::proofs::AddedRows::added_none))]
@@ -36,21 +38,51 @@ fn put_event(
     }
 }
 
-/// Puts the text of the rows of an event behind the records of a stream.
-fn put_event_text(
-    alloc: Global,
+/// Writes the rows of an event behind the records of a stream, and puts their text in another one.
+fn put_rows(
+    writer: &mut Writer<Vec<u8>>,
     text: &mut Vec<u8>,
     value: &mut Vec<u8>,
     stream: &Stream,
     event: &Event,
 ) -> Result<(), AllocError>
-    requires { AnswerFits stream.now event.now }
-    ensures { OnOk result (text.new.items ≡ text.old.items ++ csv_text (answer_rows stream.now event.now)) }
+    requires between { IsBetweenRows writer.old }
+    requires fits { AnswerFits stream.now event.now }
+    ensures between { OnOk result (IsBetweenRows writer.new) }
+    ensures text { OnOk result (text.new.items ≡ text.old.items ++ csv_text (answer_rows stream.now event.now)) }
 {
-    let mut writer = row_writer(mem::replace(text, Vec::new(alloc)));
-    put_event(&mut writer, value, stream, event)?;
-    *text = rows_text(writer)?;
-    Ok(())
+    let start = flushed_len(writer)?;
+    put_event(writer, value, stream, event)?;
+    copy_behind(writer, start, text)
+}
+
+/// Puts the text of the rows of an event behind the records of a stream. The writer is used again for the next event: a new one
+/// would move its buffer of 8 KiB several times.
+fn put_event_text(
+    alloc: Global,
+    writer: &mut Writer<Vec<u8>>,
+    text: &mut Vec<u8>,
+    value: &mut Vec<u8>,
+    stream: &Stream,
+    event: &Event,
+) -> Result<(), AllocError>
+    requires between { IsBetweenRows writer.old }
+    requires fits { AnswerFits stream.now event.now }
+    ensures between { IsBetweenRows writer.new }
+    ensures text { OnOk result (text.new.items ≡ text.old.items ++ csv_text (answer_rows stream.now event.now)) }
+{
+    match put_rows(writer, text, value, stream, event) {
+        Ok(()) => {
+            if writer.get_ref().len() > LONG {
+                *writer = row_writer(Vec::new(alloc));
+            }
+            Ok(())
+        }
+        Err(error) => {
+            *writer = row_writer(Vec::new(alloc));
+            Err(error)
+        }
+    }
 }
 
 /// Takes an event in. A header begins a file. Where memory is refused, the stream stays as it was.
@@ -76,6 +108,7 @@ pub(crate) fn follow(stream: &mut Stream, event: &Event) -> Result<(), AllocErro
 #[derive(Drop)]
 pub(crate) struct CsvReport {
     stream: Stream,
+    writer: Writer<Vec<u8>>,
     /// The memory of a cell.
     value: Vec<u8>,
     alloc: Global,
@@ -87,12 +120,13 @@ impl Model for CsvReport {
     ghost use Rattle.std.specs.Global.{Global};
     ghost use Rattle.fit_decode.specs.Events.{Event as Told};
     ghost use Rattle.fit_report.specs.Heard.{latest_records};
+    ghost use Rattle.fit_csv.specs.Rows.{IsBetweenRows};
 
     ghost Value = { List (Told Global) };
 
     ghost view = { λ r. r.heard };
 
-    ghost invariant = { λ r. r.stream ≡ latest_records r.heard };
+    ghost invariant = { λ r. (r.stream ≡ latest_records r.heard) × IsBetweenRows r.writer };
 }
 
 impl CsvReport {
@@ -102,6 +136,7 @@ impl CsvReport {
     {
         CsvReport {
             stream: Stream::new(alloc),
+            writer: row_writer(Vec::new(alloc)),
             value: Vec::new(alloc),
             alloc,
             heard: Heard::new(),
@@ -119,7 +154,14 @@ impl Report for CsvReport {
     fn tell(&mut self, event: &Event, text: &mut Vec<u8>) -> Result<(), AllocError> {
         heard_records_fit::<Global>();
         looking_back_is_learning::<Global>();
-        put_event_text(self.alloc, text, &mut self.value, &self.stream, event)?;
+        put_event_text(
+            self.alloc,
+            &mut self.writer,
+            text,
+            &mut self.value,
+            &self.stream,
+            event,
+        )?;
         follow(&mut self.stream, event)?;
         self.heard.add(event);
         Ok(())

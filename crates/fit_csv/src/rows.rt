@@ -1,5 +1,5 @@
 //! Rows of cells as text, through the crate `csv`.
-ghost use Rattle.std.specs.Prelude.{◌≡◌, ◌∷◌, [], ℕ, List, IfOk, OnOk, map};
+ghost use Rattle.std.specs.Prelude.{◌≡◌, ◌≤◌, ◌++◌, ◌∷◌, [], ℕ, List, IfOk, OnOk, drop, length, map};
 ghost use Rattle.csv.specs.Records.{fields_of};
 ghost use Rattle.fit_csv.specs.Rows.{Follows, HasAdded, HasRead, IsBetweenRows, Row, written};
 
@@ -35,6 +35,37 @@ pub fn rows_text(writer: Writer<Vec<u8>>) -> Result<Vec<u8>, AllocError>
         Ok(text) => Ok(text),
         Err(_) => Err(AllocError),
     }
+}
+
+/// Brings all that was written to the text underneath, and answers how long that is.
+pub(crate) fn flushed_len(writer: &mut Writer<Vec<u8>>) -> Result<usize, AllocError>
+    requires { IsBetweenRows writer.old }
+    ensures between { OnOk result (IsBetweenRows writer.new) }
+    ensures same { OnOk result (written writer.new ≡ written writer.old) }
+    ensures len { IfOk result (λ len. len ≡ length (written writer.new)) }
+{
+    match writer.flush() {
+        Ok(()) => Ok(writer.get_ref().len()),
+        Err(_) => Err(AllocError),
+    }
+}
+
+/// Puts what was written behind so many bytes in a text.
+pub(crate) fn copy_behind(
+    writer: &mut Writer<Vec<u8>>,
+    start: usize,
+    text: &mut Vec<u8>,
+) -> Result<(), AllocError>
+    requires between { IsBetweenRows writer.old }
+    requires start { start ≤ length (written writer.old) }
+    ensures between { OnOk result (IsBetweenRows writer.new) }
+    ensures text { OnOk result (text.new.items ≡ text.old.items ++ drop start (written writer.old)) }
+{
+    if writer.flush().is_err() {
+        return Err(AllocError);
+    }
+    let rows = writer.get_ref().as_slice();
+    text.extend_from_slice(&rows[start..])
 }
 
 /// A reader of the rows of a text, of any length each.

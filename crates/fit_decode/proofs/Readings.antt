@@ -1,5 +1,5 @@
 -- A walk over bytes of a record, one byte more, and what can fill the data section behind it.
-use Rattle.std.proofs.Common.{◌≡◌, inl, inr, ℕ, zero, ◌<◌, ◌≤◌, true, List, [], ◌∷◌, ◌++◌, length, refl, sym, ap, subst, arith, None, Ok}
+use Rattle.std.proofs.Common.{◌≡◌, inl, inr, ℕ, zero, ◌<◌, ◌≤◌, true, List, [], ◌∷◌, ◌++◌, length, refl, sym, ap, ◌∙◌, subst, arith, None, Ok}
 use Rattle.fit_base.specs.Numbers.{IsBytes}
 use Rattle.fit_base.proofs.NumberLaws.{IsBytes-append}
 use Rattle.fit_record.specs.declared.message.Record.{Record}
@@ -64,6 +64,16 @@ module _ {A : Type 0} (e : Environment A) (s : State A) (r : Reading e s) where
     are_bytes = one_byte r.part b r.are_bytes low;
     walk = walks_join e (tests_of e) (start r.room) r.part (b ∷ []) s t r.walk (t, made, refl);
   }
+
+-- where no record is in progress one begins
+pub reading_begins : {A : Type 0} (e : Environment A) (s : State A) → Reading e s → s.in_progress ≡ None → s ≡ start s.room
+reading_begins {A} e s r none = let c = come e r.room r.part s r.walk r.are_bytes in go c.of c.is
+  where
+    go : (f : Part A) → s ≡ state_of s.room f → s ≡ start s.room
+    go nothing is = is
+    go (in_definition k d) is = absurd (let some = sym none ∙ ap (λ (t : State A). t.in_progress) is in cc)
+    go (in_fields local offset t dev) is = absurd (let some = sym none ∙ ap (λ (t : State A). t.in_progress) is in cc)
+    go (in_dev_fields local offset items t) is = absurd (let some = sym none ∙ ap (λ (t : State A). t.in_progress) is in cc)
 
 -- ---- what can fill the data section
 

@@ -1,5 +1,5 @@
 //! The bytes of a piece that belong to a record.
-ghost use Rattle.std.specs.Prelude.{◌≡◌, OnErr, None, Some, true, false, IsSomeAnd};
+ghost use Rattle.std.specs.Prelude.{◌≡◌, OnErr, Ok, None, Some, true, false, IfNone, IfSome, IsSomeAnd};
 ghost use Rattle.fit_record.specs.declared.message.Record.{Record};
 ghost use Rattle.fit_record.specs.Environment.{DescribesNothing, empty_environment, learn};
 ghost use Rattle.fit_record.specs.Records.{Fits};
@@ -9,7 +9,7 @@ ghost use Rattle.fit_step.specs.Tests.{tests_of};
 ghost use Rattle.fit_decode.specs.Scans.{DataScanned, Reading, RecordByte};
 
 use fit_record::{Env, Record};
-use fit_step::{Position, Stop, step, take_inside, undo};
+use fit_step::{Position, Stop, step, take_inside, undo, whole_message};
 use std::alloc::Allocator;
 
 /// Learns a whole record. Whether there was memory.
@@ -75,8 +75,8 @@ fn take_step<A: Allocator + Copy>(
     }
 }
 
-/// The bytes of a record: how many were used, and the record where it is whole.
-pub(crate) fn scan_record<A: Allocator + Copy>(
+/// The same, byte by byte.
+fn scan_bytes<A: Allocator + Copy>(
     alloc: A,
     env: &mut Env<A>,
     position: &mut Position,
@@ -94,6 +94,49 @@ pub(crate) fn scan_record<A: Allocator + Copy>(
         }
     }
     (piece.len(), Ok(None))
+}
+
+/// A data message of which all bytes stand at the front of the piece, where a record begins there. It is learned.
+fn take_whole<A: Allocator + Copy>(
+    alloc: A,
+    env: &mut Env<A>,
+    position: &mut Position,
+    in_progress: &Option<Record<A>>,
+    piece: &[u8],
+) -> Option<(Record<A>, usize)>
+    requires { Reading env.old (state_at position.old in_progress.now) }
+    ensures told { IfSome result (λ found. DataScanned env.old env.new (state_at position.old in_progress.now) (state_at position.new in_progress.now) piece.now found.1 (Ok (Some found.0))) }
+    ensures none { IfNone result ((env.new ≡ env.old) × (position.new ≡ position.old)) }
+{
+    match in_progress {
+        Some(_) => return None,
+        None => {}
+    }
+    let (message, used) = whole_message(alloc, env, position.room, piece)?;
+    let record = Record::Values(message);
+    match env.learn(&record) {
+        Ok(()) => {}
+        Err(_) => return None,
+    }
+    *position = Position::new(position.room - used as u32);
+    Some((record, used))
+}
+
+/// The bytes of a record: how many were used, and the record where it is whole.
+pub(crate) fn scan_record<A: Allocator + Copy>(
+    alloc: A,
+    env: &mut Env<A>,
+    position: &mut Position,
+    in_progress: &mut Option<Record<A>>,
+    piece: &[u8],
+) -> (usize, Result<Option<Record<A>>, Stop>)
+    requires { Reading env.old (state_at position.old in_progress.old) }
+    ensures { DataScanned env.old env.new (state_at position.old in_progress.old) (state_at position.new in_progress.new) piece.now result.0 result.1 }
+{
+    match take_whole(alloc, env, position, in_progress, piece) {
+        Some((record, used)) => (used, Ok(Some(record))),
+        None => scan_bytes(alloc, env, position, in_progress, piece),
+    }
 }
 
 /// Nothing is known any more, and no record is in progress.

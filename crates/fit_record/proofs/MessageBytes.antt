@@ -1,19 +1,18 @@
 -- Any bytes, as many as a data message has after its record header, are those of one.
 use Rattle.std.proofs.Common.{◌≡◌, ℕ, zero, suc, ◌+◌, ◌*◌, ◌/◌, ◌^◌, ◌<◌, List, [], ◌∷◌, ◌++◌, length, take, drop, refl, sym, ap, ◌∙◌, subst, arith}
-use Rattle.std.specs.Prelude.{Option, flat_map, sum_by}
+use Rattle.std.specs.Prelude.{Option, flat_map}
 use Rattle.std.specs.List.{AllByRecursion}
 use Rattle.std.proofs.Math.Nat.{suc-mul}
 use Rattle.std.proofs.lemmas.List.{take-append-drop, length-take-le, length-drop}
 use Rattle.std.proofs.lemmas.List.Sums.{sum_by-cons, sum_by-append}
-use Rattle.fit_base.specs.declared.items.Items.{Items}
 use Rattle.fit_base.specs.declared.number.Order.{Order}
 use Rattle.fit_base.specs.BaseTypes.{item_width}
 use Rattle.fit_base.specs.Fields.{HasShape, items_bytes}
 use Rattle.fit_base.specs.Numbers.{IsBytes, number, number_bytes}
 use Rattle.fit_base.proofs.NumberLaws.{IsBytes-take, IsBytes-drop, number-below, number_bytes-number}
 use Rattle.fit_base.proofs.Shapes.{item_width_divides}
-use Rattle.fit_record.specs.declared.message.Values.{Values}
 use Rattle.fit_record.specs.declared.environment.Defined.{Defined}
+pub use Rattle.fit_record.specs.ReadMessages.{numbers_of, field_of, fields_of, sizes, message_of}
 use Rattle.fit_record.specs.Records.{layout, dev_layout, message_size, HaveShape, DataHeaderFits, data_bytes, DataFits}
 
 no_elements : {X : Type 0} (xs : List X) → length xs ≡ 0 → xs ≡ []
@@ -21,11 +20,6 @@ no_elements [] h = refl
 no_elements (x ∷ xs) h = absurd (omega (arith, h))
 
 -- ---- numbers
-
--- the numbers of n pieces of w bytes
-abbrev pub numbers_of : Order → ℕ → ℕ → List ℕ → List ℕ
-numbers_of o w zero bytes = []
-numbers_of o w (suc n) bytes = number o (take w bytes) ∷ numbers_of o w n (drop w bytes)
 
 length-numbers_of : (o : Order) (w n : ℕ) (bytes : List ℕ) → length (numbers_of o w n bytes) ≡ n
 length-numbers_of o w zero bytes = refl
@@ -46,10 +40,6 @@ numbers_spell o w (suc n) bytes b l =
 
 -- ---- fields
 
--- the items of one field, by its code and size
-abbrev pub field_of : {A : Type 0} → Order → ℕ × ℕ → List ℕ → Items A
-field_of o f bytes = record { width = item_width f.0 f.1; bits = numbers_of o (item_width f.0 f.1) (f.1 / item_width f.0 f.1) bytes }
-
 field_fits : (A : Type 0) (o : Order) (f : ℕ × ℕ) (bytes : List ℕ) → IsBytes bytes → length bytes ≡ f.1
     → HasShape f.0 f.1 (field_of {A = A} o f bytes) × (items_bytes o (field_of {A = A} o f bytes) ≡ bytes)
 field_fits A o f bytes b l =
@@ -57,13 +47,6 @@ field_fits A o f bytes b l =
     let n = f.1 / w in
     let r = numbers_spell o w n bytes b (l ∙ sym (item_width_divides f.0 f.1)) in
     (record { width = refl; whole = ap (λ k. k * w) (length-numbers_of o w n bytes) ∙ item_width_divides f.0 f.1; fits = r.0 }, r.1)
-
-abbrev pub fields_of : {A : Type 0} → Order → List (ℕ × ℕ) → List ℕ → List (Items A)
-fields_of o [] bytes = []
-fields_of o (f ∷ fs) bytes = field_of o f (take f.1 bytes) ∷ fields_of o fs (drop f.1 bytes)
-
-abbrev pub sizes : List (ℕ × ℕ) → ℕ
-sizes fs = sum_by (λ f. f.1) fs
 
 fields_fit : (A : Type 0) (o : Order) (fs : List (ℕ × ℕ)) (bytes : List ℕ) → IsBytes bytes → length bytes ≡ sizes fs
     → HaveShape fs (fields_of {A = A} o fs bytes) × (flat_map (items_bytes o) (fields_of {A = A} o fs bytes) ≡ bytes)
@@ -77,10 +60,6 @@ fields_fit A o (f ∷ fs) bytes b l =
     ((first.0, others.0), ap (λ x. x ++ flat_map (items_bytes o) (fields_of {A = A} o fs rest)) first.1 ∙ ap (λ x. piece ++ x) others.1 ∙ take-append-drop f.1 bytes)
 
 -- ---- data messages
-
-abbrev pub message_of : {A : Type 0} → ℕ → Option ℕ → Order → Defined A → List ℕ → Values A
-message_of local offset o p bytes =
-    record { local = local; offset = offset; fields = fields_of o (layout p) (take (sizes (layout p)) bytes); dev = fields_of o (dev_layout p) (drop (sizes (layout p)) bytes) }
 
 pub message_fits : {A : Type 0} (local : ℕ) (offset : Option ℕ) (o : Order) (p : Defined A) (bytes : List ℕ) → DataHeaderFits local offset → IsBytes bytes
     → length bytes ≡ message_size p → DataFits (message_of local offset o p bytes) p × (data_bytes o (message_of local offset o p bytes) ≡ bytes)

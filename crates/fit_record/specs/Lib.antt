@@ -1,6 +1,7 @@
 pub mod Environment
 pub mod Sizes
 pub mod Records
+pub mod ReadMessages
 pub mod HeaderByte
 pub mod Files
 pub mod Faults

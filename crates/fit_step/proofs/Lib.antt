@@ -23,3 +23,5 @@ pub mod Kept
 pub mod MovesOn
 pub mod Continuing
 pub mod Undoing
+pub mod Gathering
+pub mod WholeMessage

@@ -15,6 +15,7 @@ mod record_header;
 mod sizes;
 mod stop;
 mod undone;
+mod whole;
 
 pub use inside::take_inside;
 pub use one_byte::step;
@@ -23,6 +24,7 @@ pub use phase::{DefinitionPhase, Phase};
 pub use position::Position;
 pub use stop::Stop;
 pub use undone::undo;
+pub use whole::whole_message;
 
 #[cfg(test)]
 mod tests;

@@ -1,5 +1,6 @@
 //! Tests over the crates below. They stand apart so that the proofs of those crates stay short.
 #![tactic(auto)]
+
 #[cfg(test)]
 mod built;
 #[cfg(test)]

@@ -2,7 +2,7 @@ use Rattle.std.proofs.Common.{◌<◌, get_or}
 use Rattle.fit_step.specs.Places.{state_at}
 use Rattle.fit_decode.proofs.Pieces.{are_bytes}
 use Rattle.fit_decode.proofs.Scanned.{record_ends, record_stops, record_goes}
-use Rattle.fit_decode.proofs.record.scan_record.Goals as goal
+use Rattle.fit_decode.proofs.record.scan_bytes.Goals as goal
 
 pub returns-in-Ok-Some : goal.returns-in-Ok-Some
 returns-in-Ok-Some g c =

@@ -3,7 +3,7 @@ use Rattle.fit_step.specs.Machine.{Walks}
 use Rattle.fit_step.specs.Places.{state_at}
 use Rattle.fit_step.specs.Tests.{tests_of}
 use Rattle.fit_decode.specs.Scans.{Reading}
-use Rattle.fit_decode.proofs.record.scan_record.Given as goal
+use Rattle.fit_decode.proofs.record.scan_bytes.Given as goal
 
 abbrev pub invariant-loop-i : goal.invariant-loop-i
 invariant-loop-i g l = record {

@@ -1,0 +1,21 @@
+-- An event is taken in: a record fits behind those of its file, and the count of files has room.
+use Rattle.std.proofs.Common.{◌∙◌, List, sym, ap, subst, arith}
+use Rattle.std.specs.Global.{Global}
+use Rattle.fit_decode.specs.Events.{Event}
+use Rattle.fit_report.specs.Heard.{hear, latest_records}
+use Rattle.fit_report.proofs.Records.{heard_are_few}
+use Rattle.fit_csv.specs.Reporting.{AnswerFits}
+use Rattle.fit_csv.specs.ShowLines.{begun_files}
+use Rattle.fit_csv.proofs.ShownLines.{few_begun}
+use Rattle.fit_csv.proofs.show.ShowReport.note.Goals as goal
+
+pub overflow_add-self : goal.overflow_add-self
+overflow_add-self c =
+    let few = heard_are_few (hear c.args.event.now c.args.self.now) c.requires.heard in
+    let less = rw c.in-Header.is at few in
+    omega (arith, less, few_begun c.args.self.now, c.self.invariant.1, ap (λ (heard : List (Event Global)). begun_files heard) c.self.view_is)
+
+pub take_in-requires : goal.take_in-requires
+take_in-requires c =
+    let fits = subst (λ before. AnswerFits before c.args.event.now) (ap latest_records (sym c.self.view_is) ∙ sym c.self.invariant.0) c.requires.fits in
+    rw c.in-Item.is at fits

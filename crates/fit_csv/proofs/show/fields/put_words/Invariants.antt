@@ -1,0 +1,6 @@
+use Rattle.std.proofs.Common.{◌≡◌, ◌++◌, map, take}
+use Rattle.fit_csv.specs.ShowLines.{joined}
+use Rattle.fit_csv.proofs.show.fields.put_words.Given as goal
+
+abbrev pub invariant-loop-word : goal.invariant-loop-word
+invariant-loop-word l = l.text.items ≡ l.initial.text.items ++ joined (map (λ w. w.now) (take l.word-index l.words))

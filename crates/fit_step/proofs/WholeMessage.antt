@@ -1,0 +1,131 @@
+-- A data message read at once is the record that its bytes end.
+use Rattle.std.proofs.Common.{Fits as FitsIn, w8, get_or, ◌≡◌, cond, ℕ, zero, suc, ◌+◌, ◌-◌, ◌%◌, ◌<◌, ◌≤◌, true, false, List, [], ◌∷◌, length, take, drop, refl, sym, ap, ◌∙◌, subst, arith, Some, None}
+use Rattle.std.specs.Prelude.{Option, map, zip, sum_by, nat_le, ◌&&◌, IsSomeAnd, option_map, unwrap_or}
+use Rattle.std.specs.Option.{option_map_or}
+use Rattle.std.proofs.lemmas.Bool.{leb-true}
+use Rattle.std.proofs.lemmas.List.{take_all, length-take-le}
+use Rattle.std.proofs.lemmas.List.Sums.{sum_by-append, sum_by-cons}
+use Rattle.fit_base.specs.declared.items.Items.{Items}
+use Rattle.fit_base.specs.declared.number.Order.TheVariants.{Little}
+use Rattle.fit_base.specs.Numbers.{IsBytes}
+use Rattle.fit_base.proofs.Bytes.{both}
+use Rattle.fit_base.proofs.NumberLaws.{IsBytes-take}
+use Rattle.fit_record.specs.declared.definition.DevDef.{DevDef}
+use Rattle.fit_record.specs.declared.definition.FieldDef.{FieldDef}
+use Rattle.fit_record.specs.declared.environment.Defined.{Defined}
+use Rattle.fit_record.specs.declared.message.Record.TheVariants.{Values as Data}
+use Rattle.fit_record.specs.declared.message.Values.{Values}
+use Rattle.fit_record.specs.Environment.{Environment, defined_at, dev_defs, learn}
+use Rattle.fit_record.specs.Files.{CanFill}
+use Rattle.fit_record.specs.HeaderByte.{is_compressed, is_definition, has_reserved_bit, local_type}
+use Rattle.fit_record.specs.ReadMessages.{fields_of, sizes, message_of}
+use Rattle.fit_record.specs.Records.{layout, dev_layout, message_size, data_header, DataHeaderFits, data_bytes, DataFits, Fits, order_at, IsRecord}
+use Rattle.fit_record.specs.Rooms.{can_fill, fills, has_length}
+use Rattle.fit_record.specs.Unfinished.{can_carry}
+use Rattle.fit_record.proofs.ByteLists.{IsBytes-cons}
+use Rattle.fit_record.proofs.FilledRooms.{can_fill_is, same_places}
+use Rattle.fit_record.proofs.MessageBytes.{message_fits}
+use Rattle.fit_step.specs.Machine.{start, Ends}
+use Rattle.fit_step.specs.Tests.{tests_of}
+use Rattle.fit_step.proofs.Continuing.{records_end}
+use Rattle.fit_step.proofs.HeaderBits.{data_spelled}
+use Rattle.fit_step.proofs.Takes.{IsBytes-tail}
+
+zip_none : (codes : List ℕ) → zip codes (map (λ (f : DevDef). f.size) []) ≡ []
+zip_none [] = refl
+zip_none (c ∷ codes) = refl
+
+no_dev_layout : {A : Type 0} (p : Defined A) → dev_defs p.definition.dev ≡ [] → dev_layout p ≡ []
+no_dev_layout p none = ap (λ l. zip p.dev_codes (map (λ f. f.size) l)) none ∙ zip_none p.dev_codes
+
+pub sized : {A : Type 0} (p : Defined A) → sum_by (λ f. f.size) p.definition.fields ≡ sizes (layout p)
+sized p = go p.definition.fields
+  where
+    go : (fields : List FieldDef) → sum_by (λ f. f.size) fields ≡ sizes (map (λ f. (f.code, f.size)) fields)
+    go [] = refl
+    go (f ∷ fields) = omega (arith, go fields, sum_by-cons (λ (f : FieldDef). f.size) f fields, sum_by-cons (λ (f : ℕ × ℕ). f.1) (f.code, f.size) (map (λ f. (f.code, f.size)) fields))
+
+pub all_sizes : {A : Type 0} (p : Defined A) → dev_defs p.definition.dev ≡ [] → message_size p ≡ sizes (layout p)
+all_sizes p none = omega (arith, sum_by-append (λ (f : ℕ × ℕ). f.1) (layout p) (dev_layout p), ap sizes (no_dev_layout p none))
+
+module _ {A : Type 0} (e : Environment A) (p : Defined A) (b size room local : ℕ) (offset : Option ℕ) (rest piece : List ℕ) (fields : List (Items A)) (dev : List (Items A))
+    (sixteen : length e.places ≡ 16) (begins : piece ≡ b ∷ rest) (are : IsBytes piece) (clean : has_reserved_bit b ≡ false) (kind : is_definition b ≡ false)
+    (same : local ≡ local_type b) (timed : offset ≡ cond (is_compressed b) (Some (b % 32)) None) (known : defined_at e local ≡ Some p) (none : dev_defs p.definition.dev ≡ []) (long : size ≡ message_size p)
+    (within : size ≤ length rest) (some : 0 < room) (carry : can_carry e local (room - 1) ≡ true)
+    (read : fields ≡ fields_of p.definition.order (layout p) (take size rest)) (no_dev : dev ≡ []) where
+  abbrev body : List ℕ
+  body = take size rest
+
+  abbrev message : Values A
+  message = record { local = local; offset = offset; fields = fields; dev = dev }
+
+  abbrev told : Values A
+  told = message_of local offset p.definition.order p body
+
+  all_are : IsBytes (b ∷ rest)
+  all_are = subst IsBytes begins are
+
+  body_are : IsBytes body
+  body_are = IsBytes-take size rest (IsBytes-tail b rest all_are)
+
+  body_long : length body ≡ size
+  body_long = length-take-le size rest within
+
+  is_told : told ≡ message
+  is_told =
+      let whole : take (sizes (layout p)) body ≡ body = take_all (sizes (layout p)) body (omega (arith, body_long, long, all_sizes p none)) in
+      let of_fields : fields_of p.definition.order (layout p) (take (sizes (layout p)) body) ≡ fields = ap (fields_of p.definition.order (layout p)) whole ∙ sym read in
+      let of_dev : fields_of p.definition.order (dev_layout p) (drop (sizes (layout p)) body) ≡ dev = ap (λ l. fields_of p.definition.order l (drop (sizes (layout p)) body)) (no_dev_layout p none) ∙ sym no_dev in
+      λ i. record { local = local; offset = offset; fields = of_fields i; dev = of_dev i }
+
+  header : DataHeaderFits local offset × (data_header local offset ≡ b)
+  header =
+      let low : b < 256 = all_are zero in
+      let spelled = data_spelled b low clean kind in
+      subst (λ o. DataHeaderFits local o × (data_header local o ≡ b)) (sym timed) (subst (λ l. DataHeaderFits l (cond (is_compressed b) (Some (b % 32)) None) × (data_header l (cond (is_compressed b) (Some (b % 32)) None) ≡ b)) (sym same) spelled)
+
+  is_message : DataFits message p × (data_bytes p.definition.order message ≡ body)
+  is_message = subst (λ v. DataFits v p × (data_bytes p.definition.order v ≡ body)) is_told (message_fits local offset p.definition.order p body header.0 body_are (body_long ∙ long))
+
+  pub message_can_stand : Fits e (Data message)
+  message_can_stand = subst (λ o. IsSomeAnd o (DataFits message)) (sym known) is_message.0
+
+  is_record : IsRecord e (Data message) (b ∷ body)
+  is_record =
+      let order : order_at e local ≡ p.definition.order = ap (λ o. unwrap_or (option_map (λ (q : Defined A). q.definition.order) o) Little) known in
+      (message_can_stand, (λ i. sym header.1 i ∷ sym is_message.1 i) ∙ ap (λ o. data_header local offset ∷ data_bytes o message) (sym order))
+
+  tested : (nat_le (message_size p) (room - 1) && can_fill e (room - 1 - message_size p)) ≡ true
+  tested = sym (ap (λ o. option_map_or (λ q. nat_le (message_size q) (room - 1) && can_fill e (room - 1 - message_size q)) o false) known) ∙ carry
+
+  parts : (nat_le (message_size p) (room - 1) ≡ true) × (can_fill e (room - 1 - message_size p) ≡ true)
+  parts = both (nat_le (message_size p) (room - 1)) (can_fill e (room - 1 - message_size p)) tested
+
+  enough : 1 + size ≤ room
+  enough = omega (arith, leb-true (message_size p) (room - 1) parts.0, long, some)
+
+  pub message_within : (0 < 1 + size) × (1 + size ≤ length piece) × (1 + size ≤ room)
+  message_within = (omega arith, omega (arith, within, ap length begins), enough)
+
+  filled : CanFill (learn e (Data message)) (room - (1 + size))
+  filled =
+      let left : room - 1 - message_size p ≡ room - (1 + size) = omega (arith, long) in
+      let fill : can_fill e (room - (1 + size)) ≡ true = ap (can_fill e) (sym left) ∙ parts.1 in
+      let places = same_places e message in
+      (can_fill_is (learn e (Data message)) (room - (1 + size)) (ap length places ∙ sixteen)).0 (ap (λ l. fills (has_length l) (room - (1 + size))) places ∙ fill)
+
+  pub message_ends : Ends e (tests_of e) (start room) (take (1 + size) piece) (start (room - (1 + size))) (Data message)
+  message_ends =
+      let all : b ∷ body ≡ take (1 + size) piece = ap (λ k. take k (b ∷ rest)) (let next : suc size ≡ 1 + size = omega arith in next) ∙ ap (take (1 + size)) (sym begins) in
+      let total : length (b ∷ body) + (room - (1 + size)) ≡ room = omega (arith, body_long, enough) in
+      subst (λ l. Ends e (tests_of e) (start room) l (start (room - (1 + size))) (Data message)) all
+      (subst (λ n. Ends e (tests_of e) (start n) (b ∷ body) (start (room - (1 + size))) (Data message)) total
+      (records_end e (Data message) (b ∷ body) (room - (1 + size)) sixteen is_record (IsBytes-cons b body (all_are zero) body_are) filled))
+
+-- the bytes of the code's slices
+pub are_bytes : (bytes : List ℕ) → ((k : ℕ) → FitsIn w8 (get_or bytes k 0)) → IsBytes bytes
+are_bytes bytes h k = let fits : FitsIn w8 (get_or bytes k 0) = h k in omega arith
+
+-- the length that is kept is that of the definition's messages
+pub same_size : {A : Type 0} (p : Defined A) (o : Option (Defined A)) (size : ℕ) → Some p ≡ o → Some size ≡ option_map message_size o → size ≡ message_size p
+same_size p o size known is = let wrapped : Some size ≡ Some (message_size p) = is ∙ ap (option_map message_size) (sym known) in cc
