@@ -107,7 +107,7 @@ refused-text text (faults.Decode f) h = absurd h.wrong
 refused-text text (faults.Encode f) h = absurd h.wrong
 refused-text text (faults.Write n) h = absurd h.wrong
 
-first-rows : (text : List ℕ) (rows : List Row) (r : Reader (Bor (List ℕ))) → HasRead text rows r → FirstRows text rows
+pub first-rows : (text : List ℕ) (rows : List Row) (r : Reader (Bor (List ℕ))) → HasRead text rows r → FirstRows text rows
 first-rows text rows r read = (reader_state r, read.place.0, read.place.2)
 
 -- the next row can't stand behind those of a chain

@@ -120,3 +120,7 @@ run-one c r t step = (t, step, refl)
 pub first-of-run : (c : Chain) (r : Row) (rows : List Row) (t : Chain) → Run c (r ∷ rows) t → (m : Chain) × ChainStep c r m
 unfolding Run
 first-of-run c r rows t (m, step, run) = (m, step)
+
+pub run-none : (c t : Chain) → c ≡ t → Run c [] t
+unfolding Run
+run-none c t e = e

@@ -1,5 +1,6 @@
 -- Which rows can stand where, and the first cell of a row that can't.
-use Rattle.std.specs.Prelude.{◌≡◌, ◌⊎◌, ◌<◌, ◌≤◌, ◌+◌, ◌-◌, ◌^◌, ℕ, List, [], ◌∷◌, ◌++◌, length, All, codes, take}
+use Rattle.std.specs.Prelude.{◌≡◌, ◌⊎◌, ◌<◌, ◌≤◌, ◌+◌, ◌-◌, ◌^◌, ℕ, Bool, true, List, [], ◌∷◌, ◌++◌, length, Option, All, codes, take}
+use Rattle.std.specs.Io.KnownBytes.{Consumes}
 use Rattle.std.specs.Global.{Global}
 use Rattle.std.specs.List.{AllByRecursion}
 use Rattle.fit_frame.specs.declared.header.Header.{Header as FileHeader}
@@ -19,7 +20,7 @@ use Rattle.csv.specs.declared.parser.State.{State}
 use Rattle.csv.specs.declared.parser.State.TheVariants as st
 use Rattle.fit_csv.specs.Rows.{Row, RowsOfText, first_line}
 use Rattle.fit_csv.specs.declared.fault.CsvFault.{CsvFault}
-use Rattle.fit_csv.specs.declared.fault.CsvFault.TheVariants.{BadCell, BadRow, Header, NoMemory}
+use Rattle.fit_csv.specs.declared.fault.CsvFault.TheVariants.{BadCell, BadRow, Header, NoMemory, Read}
 
 -- Two rows are the same in so many first cells.
 abbrev pub Agree : ℕ → Row → Row → Type 0
@@ -138,3 +139,9 @@ IsTextFault text (BadRow row) = IsRefusedRow text (BadRow row) ⊎ IsCutOff text
 IsTextFault text (BadCell row column) = IsRefusedRow text (BadCell row column)
 IsTextFault text NoMemory = Unit {0}
 IsTextFault text _ = ⊥
+
+-- The source of a text failed, or gave more than 2^62 bytes; or memory was refused.
+abbrev pub IsReadFault : Option (List ℕ) → Option (List ℕ) → Bool → CsvFault → Type 0
+IsReadFault before after failed Read = (failed ≡ true) ⊎ ((taken : List ℕ) × Consumes before after taken × (2 ^ 62 < length taken))
+IsReadFault before after failed NoMemory = Unit {0}
+IsReadFault before after failed _ = ⊥

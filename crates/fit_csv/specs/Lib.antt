@@ -10,6 +10,7 @@ pub mod Conversions
 pub mod Reporting
 pub mod Judged
 pub mod Seven
+pub mod FromText
 pub mod Misfits
 pub mod Progress
 pub mod SoundChain

@@ -7,34 +7,34 @@ use std::alloc::Global;
 use std::test::Fail;
 
 /// A header with its sum, no records, and the closing sum.
-const EMPTY: [u8; 16] = *b"\x0E\x20\0\0\0\0\0\0.FIT\x9C\x85\0\0";
+pub(crate) const EMPTY: [u8; 16] = *b"\x0E\x20\0\0\0\0\0\0.FIT\x9C\x85\0\0";
 
-const EMPTY_TEXT: &str = "row,a,b,c,d,e,f\nfile,14,32,0,sum,,\nend,,,,,,\n";
+pub(crate) const EMPTY_TEXT: &str = "row,a,b,c,d,e,f\nfile,14,32,0,sum,,\nend,,,,,,\n";
 
 /// Both architectures, and a compressed header.
-const BOTH: [u8; 52] =
+pub(crate) const BOTH: [u8; 52] =
     *b"\x0E\x20\0\0\x24\0\0\0.FIT\x9F\x6E\x40\0\0\x14\0\x02\xFD\x04\x86\x03\x01\x02\0\x1F\xCA\x9A\x3B\x78\x41\0\x01\0\x14\x02\x02\x02\x84\x08\x03\x0D\xA2\x09\xC4\x64\0\x10\xF0\x3B";
 
-const BOTH_TEXT: &str =
+pub(crate) const BOTH_TEXT: &str =
     "row,a,b,c,d,e,f\nfile,14,32,0,sum,,\ndef,0,0,little,20,2,\nfdef,253,4,134,,,\nfdef,3,1,2,,,\ndata,0,,record,,,\nfield,timestamp,1000000031,s,,,\nfield,heart_rate,120,bpm,,,\ndef,1,0,big,20,2,\nfdef,2,2,132,,,\nfdef,8,3,13,,,\ndata,1,2,record,2021-09-08T01:47:14Z,,\nfield,altitude,0.0,m,,,\nfield,compressed_speed_distance,0x640010,,,,\nend,,,,,,\n";
 
 /// A developer field before and after its description.
-const DESCRIBED: [u8; 70] =
+pub(crate) const DESCRIBED: [u8; 70] =
     *b"\x0E\x20\0\0\x36\0\0\0.FIT\x1F\xBB\x40\0\0\xCE\0\x04\0\x01\x02\x01\x01\x02\x02\x01\x02\x03\x03\x07\x61\0\0\x14\0\0\x01\x05\x02\0\x01\x34\x12\0\0\x05\x84mo\0\x01\x34\x12\x61\0\0\x14\0\0\x01\x05\x02\0\x01\x34\x12\x4A\x8B";
 
-const DESCRIBED_TEXT: &str =
+pub(crate) const DESCRIBED_TEXT: &str =
     "row,a,b,c,d,e,f\nfile,14,32,0,sum,,\ndef,0,0,little,206,4,\nfdef,0,1,2,,,\nfdef,1,1,2,,,\nfdef,2,1,2,,,\nfdef,3,3,7,,,\ndef,1,0,little,20,0,1\nddef,5,2,0,,,\ndata,1,,record,,,\ndev,dev_0_5,0x3412,,,,\ndata,0,,field_description,,,\nfield,developer_data_index,0,,,,\nfield,field_definition_number,5,,,,\nfield,fit_base_type_id,132,,,,\nfield,field_name,mo,,,,\ndata,1,,record,,,\ndev,dev_0_5,0x3412,,,,\ndef,1,0,little,20,0,1\nddef,5,2,0,,,\ndata,1,,record,,,\ndev,mo,4660,,,,\nend,,,,,,\n";
 
 /// A header of 16 bytes.
-const LONGER: [u8; 18] = *b"\x10\x20\0\0\0\0\0\0.FIT\xB4\xADAB\xB0\x61";
+pub(crate) const LONGER: [u8; 18] = *b"\x10\x20\0\0\0\0\0\0.FIT\xB4\xADAB\xB0\x61";
 
-const LONGER_TEXT: &str = "row,a,b,c,d,e,f\nfile,16,32,0,sum,0x4142,\nend,,,,,,\n";
+pub(crate) const LONGER_TEXT: &str = "row,a,b,c,d,e,f\nfile,16,32,0,sum,0x4142,\nend,,,,,,\n";
 
 /// A product name with a comma and a quote.
-const QUOTED: [u8; 31] =
+pub(crate) const QUOTED: [u8; 31] =
     *b"\x0E\x20\0\0\x0F\0\0\0.FIT\xDC\xC5\x40\0\0\0\0\x01\x08\x05\x07\0a,\"b\0\xFC\xF8";
 
-const QUOTED_TEXT: &str =
+pub(crate) const QUOTED_TEXT: &str =
     "row,a,b,c,d,e,f\nfile,14,32,0,sum,,\ndef,0,0,little,0,1,\nfdef,8,5,7,,,\ndata,0,,file_id,,,\nfield,product_name,\"a,\"\"b\",,,,\nend,,,,,,\n";
 
 #[test]

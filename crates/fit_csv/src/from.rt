@@ -1,13 +1,64 @@
 //! Rows back to files.
+ghost use Rattle.std.specs.Prelude.{◌≡◌, ℕ, List, IfErr, OnOk, Some};
+ghost use Rattle.fit_csv.specs.FromText.{FromFault, FromText, UnlessWritten, written_fault};
 
 mod cells;
 mod chain;
 mod definition;
 mod fields;
 mod header;
+mod judge;
 mod message;
 mod misfit;
 mod number;
 mod open_definition;
 mod open_file;
 mod open_message;
+#[cfg(test)]
+mod tests;
+mod text;
+
+use crate::CsvFault;
+use crate::from::judge::judge;
+use crate::from::text::read_text;
+use fit_decode::Source;
+use fit_encode::{EncodeFault, Sink, write_chain};
+use std::alloc::Global;
+
+/// The fault of files that rows gave and that weren't written.
+fn from_fault(fault: EncodeFault) -> CsvFault
+    ensures { result ≡ written_fault fault }
+{
+    match fault {
+        EncodeFault::NoMemory => CsvFault::NoMemory,
+        EncodeFault::Write { written } => CsvFault::Write { written },
+        fault => CsvFault::Encode(fault),
+    }
+}
+
+/// Writes CSV text as a chain of FIT files. It reads the whole text, which may have 2^62 bytes, then
+/// judges its rows in their order, and the cells of a row from left to right, and then writes the files.
+///
+/// `Read` where the source failed or the text is longer; `Header` where the first row isn't the first
+/// line; `BadRow` and `BadCell` for the first row that can't stand where it is, and its first such cell.
+/// `Encode` where the rows are those of files that can't be written: the data is too long, or zeros stand
+/// for a checksum that is 0 itself. Up to here nothing is written. `Write` where the sink failed behind so
+/// many bytes of the files. `NoMemory` where memory was refused.
+pub fn from_csv<S: Source, K: Sink>(
+    alloc: Global,
+    source: &mut S,
+    sink: &mut K,
+) -> Result<(), CsvFault>
+    // The rows are those of a well-formed chain, and its bytes are written.
+    ensures ok { (text : List ℕ) → S.remaining source.old ≡ Some text → OnOk result (FromText text (K.contents sink.old) (K.contents sink.new)) }
+    ensures err { (text : List ℕ) → S.remaining source.old ≡ Some text
+        → IfErr result (FromFault text (S.has_failed source.new) (K.contents sink.old) (K.contents sink.new) (K.has_failed sink.new)) }
+    ensures unchanged { IfErr result (λ fault. UnlessWritten fault (sink.new ≡ sink.old)) }
+{
+    let text = read_text(alloc, source)?;
+    let files = judge(alloc, text.as_slice())?;
+    match write_chain(alloc, sink, files.as_slice()) {
+        Ok(()) => Ok(()),
+        Err(fault) => Err(from_fault(fault)),
+    }
+}

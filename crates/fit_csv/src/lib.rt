@@ -28,6 +28,7 @@ mod tests;
 pub use cell::{cell_text, put_cell};
 pub use conversion::{table, to_csv};
 pub use fault::CsvFault;
+pub use from::from_csv;
 pub use rows::{next_row, put_row, row_reader, row_writer, rows_text};
 pub use scan::cell_items;
 pub use show::ShowReport;
