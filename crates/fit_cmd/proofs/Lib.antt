@@ -3,3 +3,4 @@ pub mod Names
 pub mod Said
 pub mod Counts
 pub mod Ran
+pub mod TextRead

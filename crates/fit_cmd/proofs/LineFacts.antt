@@ -8,7 +8,7 @@ use Rattle.clap.proofs.WalkLemmas.{first_value-rows}
 use Rattle.clap.proofs.OnLiterals.{clap_on_literals}
 use Rattle.fit_cmd.specs.CommandLine.{command_word, fit_app, IsPlainLine, Names}
 use Rattle.fit_cmd.specs.declared.command_line.Command.{Command}
-use Rattle.fit_cmd.specs.declared.command_line.Command.TheVariants.{Check, Show, ToCsv, Table}
+use Rattle.fit_cmd.specs.declared.command_line.Command.TheVariants.{Check, Show, ToCsv, FromCsv, Table}
 
 pub simple : is_simple fit_app ≡ true
 unfolding clap_on_literals
@@ -19,6 +19,7 @@ unfolding clap_on_literals
 takes-command Check p = refl
 takes-command Show p = refl
 takes-command ToCsv p = refl
+takes-command FromCsv p = refl
 takes-command Table p = refl
 
 pub names-command : (c : Command) (program : Text) → Names (program ∷ command_word c ∷ []) c None
@@ -26,6 +27,7 @@ unfolding clap_on_literals
 names-command Check p = (refl, refl)
 names-command Show p = (refl, refl)
 names-command ToCsv p = (refl, refl)
+names-command FromCsv p = (refl, refl)
 names-command Table p = (refl, refl)
 
 pub takes-file : (c : Command) (program : Text) (b : ℕ) (rest : Text) → (b == 45) ≡ false → takes fit_app (program ∷ command_word c ∷ (b ∷ rest) ∷ []) ≡ true
@@ -33,6 +35,7 @@ unfolding clap_on_literals
 takes-file Check p b rest n = simp n refl
 takes-file Show p b rest n = simp n refl
 takes-file ToCsv p b rest n = simp n refl
+takes-file FromCsv p b rest n = simp n refl
 takes-file Table p b rest n = simp n refl
 
 pub names-file : (c : Command) (program : Text) (b : ℕ) (rest : Text) → (b == 45) ≡ false → Names (program ∷ command_word c ∷ (b ∷ rest) ∷ []) c (Some (b ∷ rest))
@@ -40,6 +43,7 @@ unfolding clap_on_literals
 names-file Check p b rest n = (simp n refl, simp n refl)
 names-file Show p b rest n = (simp n refl, simp n refl)
 names-file ToCsv p b rest n = (simp n refl, simp n refl)
+names-file FromCsv p b rest n = (simp n refl, simp n refl)
 names-file Table p b rest n = (simp n refl, simp n refl)
 
 pub plain-takes : (c : Command) (words : List Text) → IsPlainLine c words → takes fit_app words ≡ true

@@ -2,13 +2,14 @@
 use Rattle.std.specs.Prelude.{◌≡◌, ◌≢◌, ◌⊎◌, ◌∷◌, [], true, List, Option, Some, codes}
 use Rattle.clap.specs.Words.{App, Rule, Text, new_app, new_rule, with_rule, matches_of, first_of}
 use Rattle.fit_cmd.specs.declared.command_line.Command.{Command}
-use Rattle.fit_cmd.specs.declared.command_line.Command.TheVariants.{Check, Show, ToCsv, Table}
+use Rattle.fit_cmd.specs.declared.command_line.Command.TheVariants.{Check, Show, ToCsv, FromCsv, Table}
 
 -- the word of a command
 abbrev pub command_word : Command → Text
 command_word Check = codes "check"
 command_word Show = codes "show"
 command_word ToCsv = codes "to-csv"
+command_word FromCsv = codes "from-csv"
 command_word Table = codes "table"
 
 abbrev pub command_rule : Rule

@@ -1,5 +1,5 @@
 -- What the program writes, and the status that it answers.
-use Rattle.std.specs.Prelude.{◌≡◌, ℕ, ◌<◌, ◌⊎◌, true, List, ◌++◌, Result, Ok, Err, length, reverse, take}
+use Rattle.std.specs.Prelude.{◌≡◌, ℕ, ◌<◌, ◌⊎◌, true, List, ◌++◌, Result, Ok, Err, Some, length, reverse, take}
 use Rattle.std.specs.Global.{Global}
 use Rattle.std.specs.Io.KnownBytes.{Appends, Consumes, IsAtEnd, Keeps}
 use Rattle.fit_record.specs.Files.{chain_limit}
@@ -13,10 +13,11 @@ use Rattle.fit_csv.specs.declared.fault.CsvFault.{CsvFault}
 use Rattle.fit_csv.specs.declared.fault.CsvFault.TheVariants as csv
 use Rattle.fit_csv.specs.ChainRows.{rows_of}
 use Rattle.fit_csv.specs.Conversions.{Converts, RowsOf}
+use Rattle.fit_csv.specs.FromText.{FromFault, FromText, UnlessWritten}
 use Rattle.fit_csv.specs.ShowLines.{show_line}
 use Rattle.fit_csv.specs.Table.{table_of}
 use Rattle.fit_cmd.specs.declared.command_line.Command.{Command}
-use Rattle.fit_cmd.specs.declared.command_line.Command.TheVariants.{Check, Show, ToCsv, Table}
+use Rattle.fit_cmd.specs.declared.command_line.Command.TheVariants.{Check, Show, ToCsv, FromCsv, Table}
 use Rattle.fit_cmd.specs.Lines.{check_line, ok_line, refused_line, truncated_line, read_fault_line, write_fault_line, header_row_line, row_line, cell_line, text_fault_line, encode_line, out_of_memory_line}
 
 -- ---- lines in a sink
@@ -93,10 +94,22 @@ Concludes (Err (csv.Write written)) faults status = Puts faults write_fault_line
 abbrev pub RunsConversion : RowsOf → Channel → Channel → Channel → ℕ → Type 0
 RunsConversion rows source output faults status = (answer : Result (Unit {0}) CsvFault) × Converts rows source output answer × Concludes answer faults status
 
+-- What `from-csv` makes of a text: a chain of files, whose bytes are written; or a fault, before which nothing was written but by
+-- a sink that fails.
+abbrev pub ReadsText : List ℕ → Channel → Channel → Result (Unit {0}) CsvFault → Type 0
+ReadsText text source output (Ok _) = FromText text output.before output.after
+ReadsText text source output (Err fault) =
+    FromFault text source.failed output.before output.after output.failed fault × UnlessWritten fault (output.after ≡ output.before)
+
+abbrev pub RunsFromCsv : Channel → Channel → Channel → ℕ → Type 0
+RunsFromCsv source output faults status =
+    (answer : Result (Unit {0}) CsvFault) × ((text : List ℕ) → source.before ≡ Some text → ReadsText text source output answer) × Concludes answer faults status
+
 -- ---- the commands
 
 abbrev pub RunsCommand : Command → Channel → Channel → Channel → ℕ → Type 0
 RunsCommand Check source output faults status = Runs {A = Global} check_line source output faults status
 RunsCommand Show source output faults status = Runs {A = Global} show_line source output faults status
 RunsCommand ToCsv source output faults status = RunsConversion rows_of source output faults status
+RunsCommand FromCsv source output faults status = RunsFromCsv source output faults status
 RunsCommand Table source output faults status = RunsConversion table_of source output faults status

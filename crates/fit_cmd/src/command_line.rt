@@ -17,6 +17,8 @@ pub enum Command {
     Show,
     /// Converts it to CSV text.
     ToCsv,
+    /// Converts CSV text to files.
+    FromCsv,
     /// Makes a table of its record messages.
     Table,
 }
@@ -50,6 +52,7 @@ fn command_of(word: &str) -> Option<Command>
         "check" => Some(Command::Check),
         "show" => Some(Command::Show),
         "to-csv" => Some(Command::ToCsv),
+        "from-csv" => Some(Command::FromCsv),
         "table" => Some(Command::Table),
         _ => None,
     }

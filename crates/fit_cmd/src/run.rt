@@ -15,7 +15,7 @@ use crate::check::CheckReport;
 use crate::command_line::Command;
 use crate::lines;
 use crate::lines::{HEADER_ROW, OK, OUT_OF_MEMORY, TEXT_FAULT, WRITE_FAULT};
-use fit_csv::{CsvFault, ShowReport, table, to_csv};
+use fit_csv::{CsvFault, ShowReport, from_csv, table, to_csv};
 use fit_decode::{Fault, Source};
 use fit_encode::{Sink, put_all};
 use fit_report::{Report, ReportFault, report};
@@ -40,7 +40,9 @@ pub const FAILED: u8 = 4;
 /// memory is refused it is `out of memory`, and the status is 3. A fault line that can't be written changes no status.
 ///
 /// `Show` does the same with the lines of `show`. `ToCsv` and `Table` write rows, of all events before a fault; their lines on
-/// what is wrong with the input go to the fault sink, with the same statuses.
+/// what is wrong with the input go to the fault sink, with the same statuses. `FromCsv` reads CSV text and writes the chain of files
+/// that it stands for, or nothing: `header row refused`, `row R refused`, `row R column C refused` and `encode fault: FAULT` have
+/// status 1, `read fault` has status 4.
 pub fn run<S: Source, K: Sink, E: Sink>(
     alloc: Global,
     command: Command,
@@ -63,6 +65,10 @@ pub fn run<S: Source, K: Sink, E: Sink>(
         Command::Show => run_report(alloc, source, output, faults, &mut ShowReport::new(alloc)),
         Command::ToCsv => {
             let answer = to_csv(alloc, source, output);
+            conclude(faults, answer)
+        }
+        Command::FromCsv => {
+            let answer = from_csv(alloc, source, output);
             conclude(faults, answer)
         }
         Command::Table => {

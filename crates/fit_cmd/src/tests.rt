@@ -320,6 +320,42 @@ fn other_commands(rt: HostRuntime) -> Result<(), Fail> {
 }
 
 #[test]
+fn text_back(rt: HostRuntime) -> Result<(), Fail> {
+    for (text, bytes, faults, status) in [
+        (
+            "row,a,b,c,d,e,f\nfile,14,32,0,sum,,\nend,,,,,,\n",
+            EMPTY,
+            "",
+            0,
+        ),
+        ("row,a,b,c,d,e,f\n", "", "row 2 refused\n", 1),
+        ("row,a\n", "", "header row refused\n", 1),
+        (
+            "row,a,b,c,d,e,f\nfile,13,32,0,sum,,\n",
+            "",
+            "row 2 column 2 refused\n",
+            1,
+        ),
+        (
+            "row,a,b,c,d,e,f\nfile,14,32,46477,zero,,\nend,,,,,,\n",
+            "",
+            "encode fault: ZeroIsSum\n",
+            1,
+        ),
+    ] {
+        let want = bytes_of(rt.alloc(), bytes)?;
+        let mut files = CutSink::<64>::new(64);
+        let mut lines = CutSink::<64>::new(64);
+        let source = &mut text.as_bytes();
+        let answer = run(rt.alloc(), Command::FromCsv, source, &mut files, &mut lines);
+        assert_eq!(rt; files.bytes(), want.as_slice(), "at {text}");
+        assert_eq!(rt; lines.bytes(), faults.as_bytes(), "at {text}");
+        assert_eq!(rt; answer, status, "at {text}");
+    }
+    Ok(())
+}
+
+#[test]
 fn failing_conversions(rt: HostRuntime) -> Result<(), Fail> {
     let bytes = bytes_of(rt.alloc(), TWO_MESSAGES)?;
     for command in [Command::Show, Command::ToCsv, Command::Table] {
@@ -478,6 +514,7 @@ fn lines(rt: HostRuntime) -> Result<(), Fail> {
         ("fit check a.fit", Ok((Command::Check, Some("a.fit")))),
         ("fit show a.fit", Ok((Command::Show, Some("a.fit")))),
         ("fit to-csv a.fit", Ok((Command::ToCsv, Some("a.fit")))),
+        ("fit from-csv a.csv", Ok((Command::FromCsv, Some("a.csv")))),
         ("fit table", Ok((Command::Table, None))),
         ("fit", Err(LineFault::Usage)),
         ("fit frob", Err(LineFault::Usage)),
