@@ -45,3 +45,4 @@ mod OneWay
 mod WholeRuns
 mod RowsWithin
 mod Judging
+mod OneChain

@@ -72,7 +72,7 @@ one-message law before p v r w x (inr (all, s)) (inr (all', t)) =
 head-or-message : (before : List (Record Global)) (r a b : Row) → r ≡ a → r ≡ b → letter (take 1 a) ≡ letter (take 1 b)
 head-or-message before r a b e f = ap (λ (x : Row). letter (take 1 x)) (sym e ∙ f)
 
-one-part : TextHasOneNumber → (before : List (Record Global)) (part : Part) (r : Row) (p q : Part) → PartStep before part r p → PartStep before part r q → p ≡ q
+pub one-part : TextHasOneNumber → (before : List (Record Global)) (part : Part) (r : Row) (p q : Part) → PartStep before part r p → PartStep before part r q → p ≡ q
 one-part law before Nothing r p q (inl (h, hh, eh, is)) (inl (k, hk, ek, is')) = is ∙ ap (λ d. Definition (opened d)) (one-head h k hh hk (sym eh ∙ ek)) ∙ sym is'
 one-part law before Nothing r p q (inl (h, hh, eh, is)) (inr (v, start, e, is')) = absurd (omega (arith, head-or-message before r (head_row h) (message_row before v) eh e))
 one-part law before Nothing r p q (inr (v, start, e, is)) (inl (h, hh, eh, is')) = absurd (omega (arith, head-or-message before r (head_row h) (message_row before v) eh e))

@@ -42,7 +42,7 @@ use Rattle.fit_csv.proofs.SoundSteps.{at-some, dev-layout-long, layout-long, len
 use Rattle.fit_csv.proofs.ValueSteps.{dev-step, field-step}
 
 -- rows of a file one after another
-unfoldable FileRun : OpenFile → List Row → OpenFile → Type 0
+unfoldable pub FileRun : OpenFile → List Row → OpenFile → Type 0
 FileRun f [] g = f ≡ g
 FileRun f (r ∷ rows) g = (m : OpenFile) × FileStep f r m × FileRun m rows g
 
@@ -256,7 +256,7 @@ data-run f v p none is fits =
 
 -- ---- records, files and chains
 
-record-run : (f : OpenFile) (r : Record Global) → f.part ≡ Nothing → Fits (known f.before) r → RecordInRange r → FileRun f (record_rows f.before r) (with_record f r)
+pub record-run : (f : OpenFile) (r : Record Global) → f.part ≡ Nothing → Fits (known f.before) r → RecordInRange r → FileRun f (record_rows f.before r) (with_record f r)
 record-run f (Define d) none fits range = define-run f d none fits range
 record-run f (Data v) none fits range =
     let (p, is, data_fits) = some-at (defined_at (known f.before) v.local) (DataFits v) fits in

@@ -1,8 +1,12 @@
 -- What holds of cells, of rows and of their text, and of the computed texts of instants and positions.
-use Rattle.std.specs.Prelude.{◌≡◌, ◌∷◌, ◌<◌, ◌^◌, ℕ, ℤ, List, Option, IfSome, flat_map}
+use Rattle.std.specs.Prelude.{◌≡◌, ◌∷◌, ◌++◌, ◌<◌, ◌^◌, ℕ, ℤ, List, Option, IfSome, flat_map}
 use Rattle.fit_base.specs.declared.items.Items.{Items}
 use Rattle.fit_base.specs.Fields.{HasShape}
+use Rattle.std.specs.Global.{Global}
 use Rattle.fit_record.specs.declared.file.FitFile.{FitFile}
+use Rattle.fit_record.specs.declared.message.Record.{Record}
+use Rattle.fit_record.specs.Records.{Fits}
+use Rattle.fit_profile.specs.Looks.{known}
 use Rattle.fit_decode.specs.Events.{file_events}
 use Rattle.fit_profile.specs.Instant.{IsInstantText}
 use Rattle.fit_profile.specs.Profile.{Meaning}
@@ -11,7 +15,8 @@ use Rattle.fit_csv.specs.Cells.{cell, scaled}
 use Rattle.fit_csv.specs.Rows.{Row, RowsOfText, NoneEmpty, csv_text, first_line}
 use Rattle.fit_csv.specs.InstantText.{instant_text}
 use Rattle.fit_csv.specs.Degrees.{degrees_of}
-use Rattle.fit_csv.specs.ChainRows.{chain_rows, rows_of}
+use Rattle.fit_csv.specs.ChainRows.{chain_rows, record_rows, rows_of}
+use Rattle.fit_csv.specs.Judged.{IsChainOfRows, RecordInRange}
 
 -- the text of the first line and other rows reads as those rows
 abbrev pub ReadsBack : Type 0
@@ -42,3 +47,13 @@ InstantTextIs = (t : ℕ) → t < 2 ^ 32 → IsInstantText t (instant_text t)
 -- the computed number of degrees is the nearest one
 abbrev pub DegreesAreNearest : Type 0
 DegreesAreNearest = (semicircles : ℤ) → IsDegrees semicircles (degrees_of semicircles)
+
+-- After the same records, a record that fits and its rows determine each other, and no record's rows begin another's.
+abbrev pub RecordsHaveOwnRows : Type 0
+RecordsHaveOwnRows =
+    (before : List (Record Global)) (r s : Record Global) (x y : List Row) → Fits (known before) r → RecordInRange r → Fits (known before) s → RecordInRange s →
+    record_rows before r ++ x ≡ record_rows before s ++ y → (r ≡ s) × (record_rows before r ≡ record_rows before s)
+
+-- a chain has rows of its own
+abbrev pub ChainsHaveOwnRows : Type 0
+ChainsHaveOwnRows = (a b : List (FitFile Global)) → IsChainOfRows a → IsChainOfRows b → chain_rows a ≡ chain_rows b → a ≡ b

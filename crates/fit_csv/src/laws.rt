@@ -1,5 +1,5 @@
 //! What holds of cells, of rows and of their text, and of the computed texts of instants and positions.
-ghost use Rattle.fit_csv.specs.Laws.{CellsAreOne, DegreesAreNearest, EventsHaveTheRows, InstantTextIs, ReadsBack, ReadsOneWay, ScaledIsExact};
+ghost use Rattle.fit_csv.specs.Laws.{CellsAreOne, ChainsHaveOwnRows, DegreesAreNearest, EventsHaveTheRows, InstantTextIs, ReadsBack, ReadsOneWay, RecordsHaveOwnRows, ScaledIsExact};
 
 use fit_profile::laws::text_has_one_number;
 use std::alloc::Allocator;
@@ -40,3 +40,18 @@ pub fn instant_text_is()
 pub fn degrees_are_nearest()
     ensures { DegreesAreNearest }
 {}
+
+/// After the same records, a record and its rows determine each other, and no record's rows begin
+/// another's.
+pub fn records_have_own_rows()
+    ensures { RecordsHaveOwnRows }
+{
+    text_has_one_number();
+}
+
+/// A chain has rows of its own.
+pub fn chains_have_own_rows()
+    ensures { ChainsHaveOwnRows }
+{
+    text_has_one_number();
+}
