@@ -1,37 +1,14 @@
 -- Bytes and their number determine each other.
-use Rattle.std.proofs.Common.{◌≡◌, ℕ, zero, suc, ◌+◌, ◌*◌, ◌/◌, ◌%◌, ◌^◌, ◌<◌, ◌↔◌, List, [], ◌∷◌, ◌++◌, length, take, drop, refl, sym, ap, ◌∙◌, subst, lit<, arith}
+use Rattle.std.proofs.Common.{◌≡◌, ℕ, zero, suc, ◌+◌, ◌*◌, ◌/◌, ◌%◌, ◌^◌, ◌<◌, ◌↔◌, List, [], ◌∷◌, length, refl, sym, ap, ◌∙◌, subst, lit<, arith}
 use Rattle.std.specs.Prelude.{reverse}
-use Rattle.std.proofs.lemmas.List.{reverse-reverse, length-reverse, reverse-append}
+use Rattle.std.proofs.lemmas.List.{reverse-reverse, length-reverse}
 use Rattle.std.proofs.Math.Nat.{pow-suc}
 use Rattle.fit_base.specs.declared.number.Order.{Order}
 use Rattle.fit_base.specs.declared.number.Order.TheVariants.{Little, Big}
 use Rattle.fit_base.specs.Laws.{NumbersAndBytes}
 use Rattle.fit_base.specs.Numbers.{IsBytes, little, number, little_bytes, number_bytes}
+use Rattle.fit_base.proofs.ByteLists.{IsBytes-reverse}
 use Rattle.fit_base.proofs.Bytes.{length-number_bytes, number-number_bytes}
-
-pub IsBytes-append : (a b : List ℕ) → IsBytes a → IsBytes b → IsBytes (a ++ b)
-IsBytes-append [] b p q i = q i
-IsBytes-append (x ∷ a) b p q zero = p 0
-IsBytes-append (x ∷ a) b p q (suc i) = IsBytes-append a b (λ k. p (suc k)) q i
-
-pub IsBytes-take : (n : ℕ) (a : List ℕ) → IsBytes a → IsBytes (take n a)
-IsBytes-take zero a p i = lit< tt
-IsBytes-take (suc n) [] p i = lit< tt
-IsBytes-take (suc n) (x ∷ a) p zero = p 0
-IsBytes-take (suc n) (x ∷ a) p (suc i) = IsBytes-take n a (λ k. p (suc k)) i
-
-pub IsBytes-drop : (n : ℕ) (a : List ℕ) → IsBytes a → IsBytes (drop n a)
-IsBytes-drop zero a p = p
-IsBytes-drop (suc n) [] p = p
-IsBytes-drop (suc n) (x ∷ a) p = IsBytes-drop n a (λ k. p (suc k))
-
-one_byte : (x : ℕ) → x < 256 → IsBytes (x ∷ [])
-one_byte x h zero = h
-one_byte x h (suc i) = lit< tt
-
-pub IsBytes-reverse : (a : List ℕ) → IsBytes a → IsBytes (reverse a)
-IsBytes-reverse [] p = p
-IsBytes-reverse (x ∷ a) p = subst IsBytes (sym (reverse-append (x ∷ []) a)) (IsBytes-append (reverse a) (x ∷ []) (IsBytes-reverse a (λ k. p (suc k))) (one_byte x (p 0)))
 
 IsBytes-little_bytes : (w n : ℕ) → IsBytes (little_bytes w n)
 IsBytes-little_bytes zero n i = lit< tt

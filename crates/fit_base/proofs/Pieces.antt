@@ -9,8 +9,9 @@ use Rattle.fit_base.specs.declared.number.Order.{Order}
 use Rattle.fit_base.specs.Laws.{ItemsAndBytes}
 use Rattle.fit_base.specs.Numbers.{IsBytes, number, number_bytes}
 use Rattle.fit_base.proofs.Bytes.{length-number_bytes, number-number_bytes}
-use Rattle.fit_base.proofs.NumberLaws.{IsBytes-take, IsBytes-drop, number-below, number_bytes-number}
+use Rattle.fit_base.proofs.NumberLaws.{number-below, number_bytes-number}
 use Rattle.fit_base.proofs.ShapeTests.{length-items_bytes}
+use Rattle.fit_base.proofs.ByteLists.{IsBytes-take, IsBytes-drop}
 
 -- each number is that of a piece
 abbrev ArePieces : Order → ℕ → List ℕ → List ℕ → Type 0

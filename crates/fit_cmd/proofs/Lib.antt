@@ -4,3 +4,6 @@ pub mod Said
 pub mod Counts
 pub mod Ran
 pub mod TextRead
+pub mod Findings
+pub mod OneRun
+pub mod Concluded

@@ -1,12 +1,13 @@
 -- What clap makes of a line with a command and at most one FILE.
-use Rattle.std.proofs.Common.{◌∙◌, ap, inl, inr, ◌≡◌, ◌∷◌, ◌==◌, [], ℕ, List, Option, Some, None, true, false, refl, codes}
+use Rattle.std.proofs.Common.{◌∙◌, ap, subst, inl, inr, ◌≡◌, ◌∷◌, ◌==◌, [], ℕ, List, Option, Some, None, true, false, refl, codes}
 use Rattle.std.proofs.lemmas.Bool.{ne_eqb}
-use Rattle.clap.specs.Words.{App, Text, takes, matches_of, first_of, first_value, found_of, is_simple, app_of, HasMatchesOf}
+use Rattle.clap.specs.Words.{App, HasKind, IsAmong, Text, fault_of, is_simple_and_free, kind_of, takes, matches_of, first_of, first_value, found_of, is_simple, app_of, HasMatchesOf}
+use Rattle.clap.specs.declared.error.Error.{Error}
 use Rattle.clap.specs.declared.builder.command.Command.{Command as ClapCommand}
 use Rattle.clap.specs.declared.parser.matches.ArgMatches.{ArgMatches}
 use Rattle.clap.proofs.WalkLemmas.{first_value-rows}
 use Rattle.clap.proofs.OnLiterals.{clap_on_literals}
-use Rattle.fit_cmd.specs.CommandLine.{command_word, fit_app, IsPlainLine, Names}
+use Rattle.fit_cmd.specs.CommandLine.{command_word, fit_app, line_fault, IsPlainLine, IsRefusedFor, Names}
 use Rattle.fit_cmd.specs.declared.command_line.Command.{Command}
 use Rattle.fit_cmd.specs.declared.command_line.Command.TheVariants.{Check, Show, ToCsv, FromCsv, Table}
 
@@ -65,3 +66,17 @@ pub first-is : (clap : ClapCommand) (words : List Text) (m : ArgMatches) (id : T
 first-is clap words m id e h =
     let same = h (ap is_simple e ∙ simple) in
     first_value-rows (found_of m) id ∙ ap (first_of id) same.0 ∙ ap (λ (a : App). first_of id (matches_of a words)) e
+
+-- ---- lines that are refused
+
+free : is_simple_and_free fit_app ≡ true
+unfolding clap_on_literals
+free = refl
+
+pub free-as : (a : App) → a ≡ fit_app → is_simple_and_free a ≡ true
+free-as a e = ap is_simple_and_free e ∙ free
+
+-- an error of clap's stands for the fault of one of its kinds
+pub refused-by : (a : App) (words : List Text) (error : Error) → a ≡ fit_app → HasKind (fault_of a words) error → IsRefusedFor words (line_fault (kind_of error))
+refused-by a words error e (inl memory) = inl (ap line_fault memory)
+refused-by a words error e (inr among) = inr (inl (kind_of error, subst (λ b. IsAmong (kind_of error) (fault_of b words)) e among, refl))

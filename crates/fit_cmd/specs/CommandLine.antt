@@ -1,8 +1,12 @@
 -- The command line of `fit`, as clap reads it.
 use Rattle.std.specs.Prelude.{◌≡◌, ◌≢◌, ◌⊎◌, ◌∷◌, [], true, List, Option, Some, codes}
-use Rattle.clap.specs.Words.{App, Rule, Text, new_app, new_rule, with_rule, matches_of, first_of}
+use Rattle.clap.specs.Words.{App, IsAmong, Rule, Text, fault_of, new_app, new_rule, with_rule, matches_of, first_of}
+use Rattle.clap.specs.declared.error.kind.ErrorKind.{ErrorKind}
+use Rattle.clap.specs.declared.error.kind.ErrorKind.TheVariants as kind
 use Rattle.fit_cmd.specs.declared.command_line.Command.{Command}
 use Rattle.fit_cmd.specs.declared.command_line.Command.TheVariants.{Check, Show, ToCsv, FromCsv, Table}
+use Rattle.fit_cmd.specs.declared.command_line.LineFault.{LineFault}
+use Rattle.fit_cmd.specs.declared.command_line.LineFault.TheVariants.{Usage, Help, NoMemory}
 
 -- the word of a command
 abbrev pub command_word : Command → Text
@@ -33,3 +37,20 @@ IsPlainLine command words = (program : Text) × ((words ≡ program ∷ command_
 abbrev pub Names : List Text → Command → Option Text → Type 0
 Names words command path = (first_of (codes "command") (matches_of fit_app words) ≡ Some (command_word command))
     × (first_of (codes "file") (matches_of fit_app words) ≡ path)
+
+-- the fault that a kind of clap's errors stands for
+abbrev pub line_fault : ErrorKind → LineFault
+line_fault kind.OutOfMemory = NoMemory
+line_fault kind.DisplayHelp = Help
+line_fault other = Usage
+
+-- What clap takes for the command is none, or isn't there.
+abbrev pub NamesNoCommand : List Text → Type 0
+NamesNoCommand words = (command : Command) → first_of (codes "command") (matches_of fit_app words) ≢ Some (command_word command)
+
+-- Why the words are refused: memory was; or clap refuses them, for a kind of error that it has there; or it takes them, and they
+-- name no command.
+abbrev pub IsRefusedFor : List Text → LineFault → Type 0
+IsRefusedFor words fault = (fault ≡ NoMemory)
+    ⊎ (((k : ErrorKind) × IsAmong k (fault_of fit_app words) × (fault ≡ line_fault k))
+    ⊎ ((fault_of fit_app words ≡ []) × NamesNoCommand words × (fault ≡ Usage)))

@@ -1,8 +1,10 @@
 -- What the program writes, and the status that it answers.
-use Rattle.std.specs.Prelude.{◌≡◌, ℕ, ◌<◌, ◌⊎◌, true, List, ◌++◌, Result, Ok, Err, Some, length, reverse, take}
+use Rattle.std.specs.Prelude.{◌≡◌, ℕ, ◌<◌, ◌⊎◌, true, false, List, ◌++◌, Result, Ok, Err, Some, length, reverse, take}
 use Rattle.std.specs.Global.{Global}
 use Rattle.std.specs.Io.KnownBytes.{Appends, Consumes, IsAtEnd, Keeps}
-use Rattle.fit_record.specs.Files.{chain_limit}
+use Rattle.fit_base.specs.Numbers.{IsBytes}
+use Rattle.fit_record.specs.declared.file.FitFile.{FitFile}
+use Rattle.fit_record.specs.Files.{IsChain, chain_limit}
 use Rattle.fit_decode.specs.declared.event.Fault.{Fault}
 use Rattle.fit_decode.specs.declared.event.Fault.TheVariants.{Refused, Truncated, NoMemory, Read}
 use Rattle.fit_decode.specs.Answers.{AreChain}
@@ -13,7 +15,7 @@ use Rattle.fit_csv.specs.declared.fault.CsvFault.{CsvFault}
 use Rattle.fit_csv.specs.declared.fault.CsvFault.TheVariants as csv
 use Rattle.fit_csv.specs.ChainRows.{rows_of}
 use Rattle.fit_csv.specs.Conversions.{Converts, RowsOf}
-use Rattle.fit_csv.specs.FromText.{FromFault, FromText, UnlessWritten}
+use Rattle.fit_csv.specs.FromText.{FromFault, FromText, IsTextOf, UnlessWritten}
 use Rattle.fit_csv.specs.ShowLines.{show_line}
 use Rattle.fit_csv.specs.Table.{table_of}
 use Rattle.fit_cmd.specs.declared.command_line.Command.{Command}
@@ -39,9 +41,11 @@ Writes lines wanted output faults status =
 
 -- ---- a report
 
--- What the bytes taken from the input are: all of it, and a chain of files; or what a fault ended.
+-- What the bytes taken from the input are: all of it, and a chain of files; or what a fault ended. That memory was refused is
+-- nothing found.
 abbrev pub Finds : {X : Type 0} → Type 0 → List ℕ → Channel → Result X Fault → Type 0
 Finds A taken source (Ok _) = IsAtEnd source.after × AreChain A taken
+Finds A taken source (Err (NoMemory used)) = ⊥
 Finds A taken source (Err fault) = Faults A chain_limit taken source.after source.failed fault
 
 -- the bytes that were found good
@@ -113,3 +117,22 @@ RunsCommand Show source output faults status = Runs {A = Global} show_line sourc
 RunsCommand ToCsv source output faults status = RunsConversion rows_of source output faults status
 RunsCommand FromCsv source output faults status = RunsFromCsv source output faults status
 RunsCommand Table source output faults status = RunsConversion table_of source output faults status
+
+-- ---- a chain
+
+-- Memory was refused, or all of this was written.
+abbrev pub IsWritten : List ℕ → Channel → ℕ → Type 0
+IsWritten text output status = (status ≡ 3) ⊎ ((status ≡ 0) × Appends output.before output.after text)
+
+-- What a command does with a chain of files, by the text that it makes of them: where the input is the chain's bytes, and neither
+-- the source nor the output has failed, this text is written, unless memory is refused.
+abbrev pub WritesOfChain : (List (FitFile Global) → List ℕ) → Channel → Channel → ℕ → Type 0
+WritesOfChain text source output status =
+    (fs : List (FitFile Global)) (b : List ℕ) → source.before ≡ Some b → IsBytes b → IsChain chain_limit fs b
+    → source.failed ≡ false → output.failed ≡ false → IsWritten (text fs) output status
+
+-- What `from-csv` does with the text of a chain: its bytes are written, unless memory is refused.
+abbrev pub WritesTextOfChain : Channel → Channel → ℕ → Type 0
+WritesTextOfChain source output status =
+    (text : List ℕ) (fs : List (FitFile Global)) (b : List ℕ) → source.before ≡ Some text → IsTextOf text fs b
+    → source.failed ≡ false → output.failed ≡ false → IsWritten b output status

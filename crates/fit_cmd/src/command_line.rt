@@ -1,7 +1,7 @@
 //! The command line of `fit`: a command, and at most one FILE.
 ghost use Rattle.std.specs.Prelude.{◌≡◌, ◌≢◌, IfErr, IfNone, IfOk, IfSome, map, option_map, string_bytes};
 ghost use Rattle.clap.specs.Words.{app_of, kind_of};
-ghost use Rattle.fit_cmd.specs.CommandLine.{IsPlainLine, Names, command_word, fit_app};
+ghost use Rattle.fit_cmd.specs.CommandLine.{IsPlainLine, IsRefusedFor, Names, command_word, fit_app, line_fault};
 ghost use Rattle.fit_cmd.specs.declared.command_line.Command.{Command};
 
 use clap::error::ErrorKind;
@@ -69,7 +69,7 @@ fn fit_command<'a>(alloc: Global) -> Result<ClapCommand<'a>, AllocError>
 
 /// The fault that an error of clap stands for.
 fn fault_of(error: Error) -> LineFault
-    ensures { kind_of error ≡ ErrorKind.OutOfMemory → result ≡ LineFault.NoMemory }
+    ensures { result ≡ line_fault (kind_of error) }
 {
     match error.kind() {
         ErrorKind::OutOfMemory => LineFault::NoMemory,
@@ -82,10 +82,11 @@ fn fault_of(error: Error) -> LineFault
 ///
 /// A command word with at most one FILE, which isn't empty and doesn't begin with `-`, is refused
 /// for memory alone. Which of `Usage` and `Help` other words get is clap's own answer: `--help`
-/// anywhere is `Help`.
+/// anywhere is `Help`. Words that clap takes, and that name no command, get `Usage`.
 pub fn parse_line(alloc: Global, words: &[String]) -> Result<Line, LineFault>
     ensures names { IfOk result (λ line. Names (map string_bytes words.now) line.command (option_map string_bytes line.path)) }
     ensures memory { IfErr result (λ fault. (command : Command) → IsPlainLine command (map string_bytes words.now) → fault ≡ LineFault.NoMemory) }
+    ensures refused { IfErr result (λ fault. IsRefusedFor (map string_bytes words.now) fault) }
 {
     let Ok(clap) = fit_command(alloc) else {
         return Err(LineFault::NoMemory);

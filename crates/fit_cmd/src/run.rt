@@ -1,15 +1,14 @@
 //! What the program does, over any source and sinks.
-ghost use Rattle.std.specs.Prelude.{◌≡◌, ◌⊎◌, ◌++◌, ℕ, [], List, Some, Err, false, flat_map, reverse};
-ghost use Rattle.std.specs.Global.{Global};
-ghost use Rattle.std.specs.Io.KnownBytes.{Appends};
-ghost use Rattle.fit_base.specs.Numbers.{IsBytes};
-ghost use Rattle.fit_record.specs.declared.file.FitFile.{FitFile};
-ghost use Rattle.fit_record.specs.Files.{chain_limit, IsChain};
+ghost use Rattle.std.specs.Prelude.{◌≡◌, ◌++◌, [], flat_map, reverse};
 ghost use Rattle.fit_decode.specs.Events.{file_events};
 ghost use Rattle.fit_report.specs.Heard.{text_of};
+ghost use Rattle.fit_csv.specs.ChainRows.{chain_rows};
+ghost use Rattle.fit_csv.specs.Rows.{csv_text};
+ghost use Rattle.fit_csv.specs.ShowLines.{show_line};
+ghost use Rattle.fit_csv.specs.Table.{table_of};
 ghost use Rattle.fit_cmd.specs.Finishing.{FaultSaid, Finishes};
 ghost use Rattle.fit_cmd.specs.Lines.{file_lines, ok_line};
-ghost use Rattle.fit_cmd.specs.Run.{Concludes, Puts, Runs, RunsCommand, Writes};
+ghost use Rattle.fit_cmd.specs.Run.{Concludes, Puts, Runs, RunsCommand, Writes, WritesOfChain, WritesTextOfChain};
 
 use crate::check::CheckReport;
 use crate::command_line::Command;
@@ -55,10 +54,23 @@ pub fn run<S: Source, K: Sink, E: Sink>(
         (record { before = K.contents output.old; after = K.contents output.new; failed = K.has_failed output.new })
         (record { before = E.contents faults.old; after = E.contents faults.new; failed = E.has_failed faults.new }) result }
 
-    // Where `check` reads a chain of files, each has its line, and the last line is `ok`.
-    ensures chain { command ≡ Command.Check → (fs : List (FitFile Global)) (b : List ℕ) → S.remaining source.old ≡ Some b → IsBytes b → IsChain chain_limit fs b
-        → S.has_failed source.new ≡ false → K.has_failed output.new ≡ false
-        → (result ≡ 3) ⊎ ((result ≡ 0) × Appends (K.contents output.old) (K.contents output.new) (file_lines 1 fs ++ ok_line)) }
+    // What each command writes where its input is the bytes of a chain of files.
+    ensures checks { command ≡ Command.Check → WritesOfChain (λ fs. file_lines 1 fs ++ ok_line)
+        (record { before = S.remaining source.old; after = S.remaining source.new; failed = S.has_failed source.new })
+        (record { before = K.contents output.old; after = K.contents output.new; failed = K.has_failed output.new }) result }
+    ensures shows { command ≡ Command.Show → WritesOfChain (λ fs. text_of show_line (reverse (flat_map file_events fs)) ++ ok_line)
+        (record { before = S.remaining source.old; after = S.remaining source.new; failed = S.has_failed source.new })
+        (record { before = K.contents output.old; after = K.contents output.new; failed = K.has_failed output.new }) result }
+    ensures converts { command ≡ Command.ToCsv → WritesOfChain (λ fs. csv_text (chain_rows fs))
+        (record { before = S.remaining source.old; after = S.remaining source.new; failed = S.has_failed source.new })
+        (record { before = K.contents output.old; after = K.contents output.new; failed = K.has_failed output.new }) result }
+    ensures tables { command ≡ Command.Table → WritesOfChain (λ fs. csv_text (table_of (flat_map file_events fs)))
+        (record { before = S.remaining source.old; after = S.remaining source.new; failed = S.has_failed source.new })
+        (record { before = K.contents output.old; after = K.contents output.new; failed = K.has_failed output.new }) result }
+    // What `from-csv` writes where its input is the text of a chain.
+    ensures from_text { command ≡ Command.FromCsv → WritesTextOfChain
+        (record { before = S.remaining source.old; after = S.remaining source.new; failed = S.has_failed source.new })
+        (record { before = K.contents output.old; after = K.contents output.new; failed = K.has_failed output.new }) result }
 {
     match command {
         Command::Check => run_report(alloc, source, output, faults, &mut CheckReport::new()),
@@ -91,9 +103,9 @@ fn run_report<S: Source, K: Sink, E: Sink, R: Report>(
         (record { before = S.remaining source.old; after = S.remaining source.new; failed = S.has_failed source.new })
         (record { before = K.contents output.old; after = K.contents output.new; failed = K.has_failed output.new })
         (record { before = E.contents faults.old; after = E.contents faults.new; failed = E.has_failed faults.new }) result }
-    ensures chain { (fs : List (FitFile Global)) (b : List ℕ) → S.remaining source.old ≡ Some b → IsBytes b → IsChain chain_limit fs b
-        → S.has_failed source.new ≡ false → K.has_failed output.new ≡ false
-        → (result ≡ 3) ⊎ ((result ≡ 0) × Appends (K.contents output.old) (K.contents output.new) (text_of R.line (reverse (flat_map file_events fs)) ++ ok_line)) }
+    ensures chain { WritesOfChain (λ fs. text_of R.line (reverse (flat_map file_events fs)) ++ ok_line)
+        (record { before = S.remaining source.old; after = S.remaining source.new; failed = S.has_failed source.new })
+        (record { before = K.contents output.old; after = K.contents output.new; failed = K.has_failed output.new }) result }
 {
     let told = report(alloc, source, output, reporter);
     finish(output, faults, told)

@@ -15,6 +15,10 @@ pub text_one : (row : Row) → csv_text (row ∷ []) ≡ row_text default_writer
 unfolding csv_text
 text_one row = append-nil (row_text default_writer row)
 
+pub text_none : (text : List ℕ) → text ++ csv_text [] ≡ text
+unfolding csv_text
+text_none text = append-nil text
+
 -- no row
 pub added_none : (w : Writer (Vec ℕ Global)) → IsBetweenRows w → HasAdded [] w w
 unfolding csv_text

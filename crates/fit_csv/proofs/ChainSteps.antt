@@ -1,10 +1,9 @@
 -- One more row of a chain.
-use Rattle.std.proofs.Common.{◌≡◌, ◌∙◌, ℕ, ◌<◌, List, [], ◌∷◌, length, take, Option, Some, None, arith, refl, sym, subst, inl, inr}
-use Rattle.std.specs.Prelude.{◌⊎◌, codes}
+use Rattle.std.proofs.Common.{◌≡◌, ◌<◌, List, [], ◌∷◌, length, take, Option, Some, None, arith, refl, sym, subst, inl, inr}
+use Rattle.std.specs.Prelude.{codes}
 use Rattle.std.specs.Global.{Global}
 use Rattle.fit_record.specs.declared.message.Record.{Record}
 use Rattle.fit_record.specs.Files.{chain_limit}
-use Rattle.fit_csv.specs.ChainRows.{end_row}
 use Rattle.fit_csv.specs.Judged.{Agree}
 use Rattle.fit_csv.specs.Misfits.{IsCellFault, IsEndRow, IsFileRow, IsMisfit, head_row, message_row}
 use Rattle.fit_csv.specs.Progress.{CanGoOn, ChainStep, OpenStep, PartStep, begun, settled, with_file}
@@ -13,9 +12,9 @@ use Rattle.fit_csv.specs.declared.from.chain.Chain.{Chain}
 use Rattle.fit_csv.specs.declared.from.misfit.Misfit.{Misfit}
 use Rattle.fit_csv.specs.declared.from.open_file.OpenFile.{OpenFile}
 use Rattle.fit_csv.specs.declared.from.open_file.Part.{Part}
-use Rattle.fit_csv.specs.declared.from.open_file.Part.TheVariants.{Nothing, Definition, Message}
+use Rattle.fit_csv.specs.declared.from.open_file.Part.TheVariants.{Nothing}
 use Rattle.fit_csv.proofs.Closest.{cell-fault, of-kind, same-rows}
-use Rattle.fit_csv.proofs.PartSteps.{letter, letters}
+use Rattle.fit_csv.proofs.PartSteps.{letters}
 
 -- the row can stand there
 abbrev pub CanStep : Chain → Row → Type 0

@@ -7,7 +7,7 @@ use Rattle.fit_csv.specs.Rows.{Cell, Row}
 use Rattle.fit_csv.specs.ChainRows.{optional_number, order_word, row}
 use Rattle.fit_csv.specs.Seven.{AsFar}
 use Rattle.fit_csv.specs.declared.from.definition.DefinitionHead.{DefinitionHead}
-use Rattle.fit_csv.specs.Misfits.{HeadInRange, IsHeadRow, IsRowOfThree, head_row}
+use Rattle.fit_csv.specs.Misfits.{IsHeadRow, IsRowOfThree, head_row}
 
 -- the number is that of the cell, where the cell shows one below the limit
 abbrev pub IsNumberIn : ℕ → Cell → ℕ → Type 0

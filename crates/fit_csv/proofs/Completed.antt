@@ -1,11 +1,10 @@
 -- What has been read of a chain can be completed.
-use Rattle.std.proofs.Common.{◌≡◌, ◌∙◌, ℕ, zero, suc, ◌<◌, ◌≤◌, ◌+◌, ◌-◌, Bool, true, false, List, [], ◌∷◌, ◌++◌, length, Option, Some, None, refl, sym, ap, subst, inl, inr, arith, append_assoc, eq-eqb, eqb-true}
-use Rattle.std.specs.Prelude.{◌==◌, ◌&&◌, ◌⊎◌, flat_map, slice_get, IsSomeAnd}
+use Rattle.std.proofs.Common.{◌≡◌, ◌∙◌, ℕ, zero, suc, ◌<◌, ◌≤◌, ◌+◌, ◌-◌, Bool, true, false, List, [], ◌∷◌, ◌++◌, length, Option, Some, None, refl, sym, ap, inl, inr, arith, append_assoc, eq-eqb, eqb-true}
+use Rattle.std.specs.Prelude.{◌==◌, ◌&&◌, ◌⊎◌, flat_map, slice_get}
 use Rattle.std.specs.Global.{Global}
 use Rattle.std.specs.List.{AllByRecursion}
-use Rattle.std.proofs.lemmas.Bool.{cases_Bool, cases_lt}
+use Rattle.std.proofs.lemmas.Bool.{cases_lt}
 use Rattle.std.proofs.lemmas.List.{append-nil}
-use Rattle.fit_base.specs.declared.items.Items.{Items}
 use Rattle.fit_record.specs.declared.definition.DevDef.{DevDef}
 use Rattle.fit_record.specs.declared.definition.FieldDef.{FieldDef}
 use Rattle.fit_record.specs.declared.environment.Defined.{Defined}
@@ -18,7 +17,7 @@ use Rattle.fit_record.specs.Records.{DataFits, Fits, dev_layout, layout}
 use Rattle.fit_record.specs.Files.{chain_limit}
 use Rattle.fit_profile.specs.Looks.{known}
 use Rattle.fit_csv.specs.ChainRows.{chain_rows, data_rows, dev_def_row, dev_row, end_row, field_def_row, field_row, file_row, file_rows, record_rows, records_rows}
-use Rattle.fit_csv.specs.Judged.{DevDefInRange, FieldDefInRange, IsChainOfRows, IsFileOfRows, MayGoOn, RecordInRange}
+use Rattle.fit_csv.specs.Judged.{DevDefInRange, FieldDefInRange, IsFileOfRows, MayGoOn, RecordInRange}
 use Rattle.fit_csv.specs.Progress.{DefinitionStep, DevStep, FieldStep, definition_of, dev_total, has_all, is_whole, naming_at, with_dev_field, with_dev_items, with_field, with_items, with_record}
 use Rattle.fit_csv.specs.Rows.{Row, first_line}
 use Rattle.fit_csv.specs.SoundChain.{IsSoundChain, IsSoundCurrent, IsSoundDefinition, IsSoundFile, IsSoundMessage, IsSoundSoFar, current_rows, open_file_rows, open_rows, part_rows, rows_so_far}

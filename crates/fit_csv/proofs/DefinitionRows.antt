@@ -1,10 +1,8 @@
 -- Rows of definition messages.
-use Rattle.std.proofs.Common.{◌≡◌, ◌∙◌, ℕ, ◌<◌, ◌^◌, List, [], ◌∷◌, length, take, refl, sym, subst}
+use Rattle.std.proofs.Common.{◌≡◌, ◌<◌, length, refl}
 use Rattle.std.specs.Prelude.{codes}
-use Rattle.fit_record.specs.declared.definition.FieldDef.{FieldDef}
-use Rattle.fit_record.specs.declared.definition.DevDef.{DevDef}
 use Rattle.fit_csv.specs.Rows.{Row}
-use Rattle.fit_csv.specs.Misfits.{FieldDefInRange, DevDefInRange, IsCellFault, IsDevDefRow, IsFieldDefRow, IsMisfit, IsRowOfThree}
+use Rattle.fit_csv.specs.Misfits.{IsCellFault, IsDevDefRow, IsFieldDefRow, IsMisfit, IsRowOfThree}
 use Rattle.fit_csv.specs.Progress.{DevDefStep, FieldDefStep, with_dev_field, with_field}
 use Rattle.fit_csv.specs.declared.from.definition.OpenDefinition.{OpenDefinition}
 use Rattle.fit_csv.specs.declared.from.misfit.Misfit.{Misfit}

@@ -1,12 +1,11 @@
 -- The rows in which files begin.
-use Rattle.std.proofs.Common.{◌≡◌, ◌∙◌, ◌⊎◌, inl, inr, ℕ, zero, suc, ◌<◌, ◌≤◌, ◌-◌, ◌/◌, ◌^◌, List, [], ◌∷◌, length, drop, decimal, All, refl, sym, ap, subst, arith}
+use Rattle.std.proofs.Common.{◌≡◌, ◌∙◌, inl, inr, ℕ, ◌<◌, ◌-◌, ◌^◌, List, [], ◌∷◌, length, drop, decimal, All, refl, sym, ap, subst, arith}
 use Rattle.std.specs.Prelude.{codes}
 use Rattle.fit_frame.specs.declared.header.Header.{Header}
 use Rattle.fit_frame.specs.declared.header.HeaderSum.{HeaderSum}
 use Rattle.fit_frame.specs.declared.header.HeaderSum.TheVariants.{Absent, Zero, True}
 use Rattle.fit_frame.specs.Header.{SizeFits}
 use Rattle.fit_csv.specs.ChainRows.{file_row, rest_text, row, sum_word}
-use Rattle.fit_csv.specs.Judged.{HeaderInRange}
 use Rattle.fit_csv.specs.Misfits.{HasSum, IsFileRow, IsHeaderSize}
 use Rattle.fit_csv.specs.Rows.{Cell, Row}
 use Rattle.fit_csv.specs.Seven.{AsFar}

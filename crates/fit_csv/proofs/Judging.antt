@@ -1,11 +1,9 @@
 -- Judging the rows of a text one after another tells which of them can stand where they are.
-use Rattle.std.proofs.Common.{◌≡◌, ◌∙◌, ℕ, ◌<◌, ◌≤◌, ◌+◌, List, [], ◌∷◌, ◌++◌, length, Bor, Option, Some, None, refl, sym, ap, subst, inl, inr, arith, append_assoc}
-use Rattle.std.specs.Prelude.{◌⊎◌, flat_map}
-use Rattle.std.specs.Global.{Global}
+use Rattle.std.proofs.Common.{◌≡◌, ◌∙◌, ℕ, ◌<◌, ◌≤◌, ◌+◌, List, [], ◌∷◌, ◌++◌, length, Bor, None, sym, ap, subst, inl, inr, arith, append_assoc}
+use Rattle.std.specs.Prelude.{flat_map}
 use Rattle.std.proofs.lemmas.List.{append-nil}
 use Rattle.csv.specs.Reading.{reader_state}
 use Rattle.csv.specs.declared.reader.Reader.{Reader}
-use Rattle.fit_record.specs.declared.file.FitFile.{FitFile}
 use Rattle.fit_profile.specs.Laws.{TextHasOneNumber}
 use Rattle.fit_csv.specs.ChainRows.{chain_rows, file_rows}
 use Rattle.fit_csv.specs.Judged.{AreFilesOf, AreWhole, CanFollow, FirstRows, IsBadCell, IsChainOfRows, IsCutOff, IsRefusedRow, IsRowFault, IsTextFault, MayGoOn}

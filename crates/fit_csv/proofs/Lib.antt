@@ -46,3 +46,7 @@ mod WholeRuns
 mod RowsWithin
 mod Judging
 mod OneChain
+mod InRange
+mod SevenRows
+mod FromChain
+mod Unwritten

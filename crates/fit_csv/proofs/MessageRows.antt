@@ -4,17 +4,16 @@ use Rattle.std.specs.Prelude.{codes, IfSome, IsSome, option_map, unwrap_or}
 use Rattle.std.specs.Global.{Global}
 use Rattle.std.proofs.lemmas.Fmt.{decimal_injective}
 use Rattle.fit_record.specs.declared.message.Record.{Record}
-use Rattle.fit_record.specs.declared.message.Values.{Values}
 use Rattle.fit_record.specs.Environment.{defined_at}
 use Rattle.fit_record.specs.Records.{DataHeaderFits}
 use Rattle.fit_profile.specs.Looks.{known}
 use Rattle.fit_profile.specs.Names.{message_label}
 use Rattle.fit_profile.specs.Times.{header_time, previous_time}
-use Rattle.fit_csv.specs.ChainRows.{data_row, end_row, optional_number, row}
+use Rattle.fit_csv.specs.ChainRows.{end_row, optional_number, row}
 use Rattle.fit_csv.specs.Judged.{IsBadCell}
 use Rattle.fit_csv.specs.declared.from.misfit.Misfit.{Misfit}
 use Rattle.fit_csv.specs.InstantText.{instant_text}
-use Rattle.fit_csv.specs.Misfits.{IsCellFault, IsMessageOrEnd, IsMessageRow, IsMessageStart, global_at, message_row}
+use Rattle.fit_csv.specs.Misfits.{IsCellFault, IsMessageOrEnd, IsMessageRow, global_at, message_row}
 use Rattle.fit_csv.specs.Rows.{Cell, Row}
 use Rattle.fit_csv.specs.Seven.{AsFar}
 use Rattle.fit_csv.proofs.Closest.{of-kind}

@@ -1,10 +1,10 @@
 -- One more row stands behind the rows of a file and of a chain.
-use Rattle.std.proofs.Common.{◌≡◌, ◌∙◌, ℕ, suc, ◌<◌, ◌≤◌, Bool, true, false, List, [], ◌∷◌, ◌++◌, length, map, Option, Some, None, refl, sym, ap, ap₂, subst, inl, inr, arith, append_assoc}
-use Rattle.std.specs.Prelude.{◌⊎◌, flat_map, reverse, zip, option_map, unwrap_or, slice_get, IsSome, IsSomeAnd}
+use Rattle.std.proofs.Common.{◌≡◌, ◌∙◌, ℕ, List, [], ◌∷◌, ◌++◌, length, Option, Some, None, refl, sym, ap, subst, inl, inr, arith, append_assoc}
+use Rattle.std.specs.Prelude.{◌⊎◌, flat_map, reverse, option_map, unwrap_or, IsSomeAnd}
 use Rattle.std.specs.Global.{Global}
 use Rattle.std.specs.List.{AllByRecursion}
 use Rattle.std.proofs.lemmas.Bool.{cases_Bool}
-use Rattle.std.proofs.lemmas.List.{append-nil, reverse-append}
+use Rattle.std.proofs.lemmas.List.{append-nil}
 use Rattle.fit_base.specs.declared.items.Items.{Items}
 use Rattle.fit_frame.specs.declared.header.Header.{Header}
 use Rattle.fit_record.specs.declared.definition.FieldDef.{FieldDef}
@@ -14,16 +14,15 @@ use Rattle.fit_record.specs.declared.message.Record.{Record}
 use Rattle.fit_record.specs.declared.message.Record.TheVariants.{Define, Values as Data}
 use Rattle.fit_record.specs.declared.message.Values.{Values}
 use Rattle.fit_record.specs.Environment.{defined_at, dev_defs}
-use Rattle.fit_record.specs.Files.{chain_limit}
 use Rattle.fit_profile.specs.Described.{namings_at}
 use Rattle.fit_profile.specs.Looks.{known}
 use Rattle.fit_profile.specs.Times.{header_time, previous_time}
 use Rattle.fit_csv.specs.ChainRows.{data_row, data_rows, end_row, field_rows, file_row, file_rows, record_rows, records_rows}
 use Rattle.fit_csv.specs.Judged.{IsFileOfRows}
 use Rattle.fit_csv.specs.Misfits.{IsMessageStart, global_at, message_row}
-use Rattle.fit_csv.specs.Progress.{ChainStep, DevStep, EndStep, FieldStep, FileStep, OpenStep, PartStep, begun, definition_of, is_whole, is_whole_message, settled, with_file, with_record}
+use Rattle.fit_csv.specs.Progress.{ChainStep, DevStep, FieldStep, FileStep, OpenStep, PartStep, begun, definition_of, is_whole, is_whole_message, settled, with_record}
 use Rattle.fit_csv.specs.Rows.{Row}
-use Rattle.fit_csv.specs.SoundChain.{IsSoundChain, IsSoundCurrent, IsSoundFile, IsSoundMessage, IsSoundPart, IsSoundSoFar, current_rows, open_file_rows, open_rows, part_rows, rows_so_far}
+use Rattle.fit_csv.specs.SoundChain.{IsSoundChain, IsSoundCurrent, IsSoundFile, IsSoundMessage, IsSoundPart, current_rows, open_file_rows, part_rows, rows_so_far}
 use Rattle.fit_csv.specs.declared.from.chain.Chain.{Chain}
 use Rattle.fit_csv.specs.declared.from.open_file.OpenFile.{OpenFile}
 use Rattle.fit_csv.specs.declared.from.open_file.Part.{Part}

@@ -1,33 +1,22 @@
 -- A row goes on in one way.
-use Rattle.std.proofs.Common.{◌≡◌, ◌∙◌, ℕ, ◌<◌, ◌≤◌, ◌-◌, ◌^◌, List, [], ◌∷◌, length, take, drop, get_or, decimal, All, Option, Some, None, arith, refl, sym, ap, ap₂, subst, inl, inr}
-use Rattle.std.specs.Prelude.{◌⊎◌, codes, option_map, slice_get, IfSome, IsSome, IsSomeAnd}
+use Rattle.std.proofs.Common.{◌≡◌, ◌∙◌, ℕ, ◌<◌, ◌≤◌, ◌-◌, ◌^◌, List, [], length, get_or, decimal, All, Option, Some, None, arith, refl, sym, ap}
+use Rattle.std.specs.Prelude.{IfSome}
 use Rattle.std.specs.Global.{Global}
 use Rattle.std.proofs.lemmas.Fmt.{decimal_injective, decimal_nonempty}
-use Rattle.std.proofs.lemmas.Option.{slice_get_within}
-use Rattle.fit_base.specs.declared.items.Items.{Items}
 use Rattle.fit_base.specs.declared.number.Order.{Order}
 use Rattle.fit_base.specs.declared.number.Order.TheVariants.{Little, Big}
-use Rattle.fit_base.specs.Fields.{HasShape}
 use Rattle.fit_frame.specs.declared.header.Header.{Header}
 use Rattle.fit_frame.specs.declared.header.HeaderSum.{HeaderSum}
 use Rattle.fit_frame.specs.declared.header.HeaderSum.TheVariants.{Absent, Zero, True}
 use Rattle.fit_record.specs.declared.definition.DevDef.{DevDef}
 use Rattle.fit_record.specs.declared.definition.FieldDef.{FieldDef}
-use Rattle.fit_record.specs.declared.environment.Defined.{Defined}
 use Rattle.fit_record.specs.declared.message.Record.{Record}
 use Rattle.fit_record.specs.declared.message.Values.{Values}
-use Rattle.fit_record.specs.Environment.{defined_at, dev_defs}
 use Rattle.fit_record.specs.Records.{DataHeaderFits}
-use Rattle.fit_profile.specs.Laws.{TextHasOneNumber}
-use Rattle.fit_profile.specs.Looks.{known}
-use Rattle.fit_profile.specs.Names as names
-use Rattle.fit_profile.specs.Profile.{Meaning}
-use Rattle.fit_profile.specs.Scaled.{IsScale}
-use Rattle.fit_csv.specs.ChainRows.{dev_def_row, dev_row, end_row, field_def_row, field_row, file_row, optional_number, order_word, rest_text, sum_word}
+use Rattle.fit_csv.specs.ChainRows.{dev_def_row, field_def_row, file_row, optional_number, order_word, rest_text, sum_word}
 use Rattle.fit_csv.specs.Judged.{DevDefInRange, FieldDefInRange, HeaderInRange}
 use Rattle.fit_csv.specs.Misfits.{HeadInRange, IsMessageStart, head_row, message_row}
 use Rattle.fit_csv.specs.Rows.{Cell, Row}
-use Rattle.fit_csv.specs.Steps.{read_pairs}
 use Rattle.fit_csv.specs.declared.from.definition.DefinitionHead.{DefinitionHead}
 use Rattle.fit_csv.proofs.HeaderRows.{rest-long, rest-shown}
 use Rattle.fit_csv.proofs.MessageRows.{small-local}

@@ -1,6 +1,6 @@
 -- Rows go on in one way.
-use Rattle.std.proofs.Common.{◌≡◌, ◌∙◌, ℕ, ◌<◌, ◌≤◌, List, [], ◌∷◌, ◌++◌, length, take, Option, Some, None, arith, refl, sym, ap, ap₂, subst, inl, inr}
-use Rattle.std.specs.Prelude.{◌⊎◌, codes, slice_get, IsSomeAnd}
+use Rattle.std.proofs.Common.{◌≡◌, ◌∙◌, ℕ, List, [], ◌∷◌, ◌++◌, length, take, Option, Some, None, arith, refl, sym, ap, subst, inl, inr}
+use Rattle.std.specs.Prelude.{◌⊎◌, slice_get, IsSomeAnd}
 use Rattle.std.specs.Global.{Global}
 use Rattle.std.proofs.lemmas.Option.{slice_get_within}
 use Rattle.fit_base.specs.declared.items.Items.{Items}
@@ -15,16 +15,14 @@ use Rattle.fit_profile.specs.Laws.{TextHasOneNumber}
 use Rattle.fit_profile.specs.Looks.{known}
 use Rattle.fit_csv.specs.ChainRows.{dev_row, end_row, field_row}
 use Rattle.fit_csv.specs.Misfits.{head_row, message_row}
-use Rattle.fit_csv.specs.Progress.{ChainStep, DefinitionStep, DevStep, FieldStep, FileStep, MessageStep, OpenStep, PartStep, Run, begun, naming_at, opened, settled, with_dev_field, with_dev_items, with_field, with_file, with_items}
+use Rattle.fit_csv.specs.Progress.{ChainStep, DefinitionStep, DevStep, FieldStep, OpenStep, PartStep, Run, begun, naming_at, opened, settled, with_dev_field, with_dev_items, with_field, with_items}
 use Rattle.fit_csv.specs.Rows.{Row}
-use Rattle.fit_csv.specs.SoundChain.{IsSoundChain}
 use Rattle.fit_csv.specs.declared.from.chain.Chain.{Chain}
 use Rattle.fit_csv.specs.declared.from.definition.OpenDefinition.{OpenDefinition}
 use Rattle.fit_csv.specs.declared.from.open_file.OpenFile.{OpenFile}
 use Rattle.fit_csv.specs.declared.from.open_file.Part.{Part}
 use Rattle.fit_csv.specs.declared.from.open_file.Part.TheVariants.{Nothing, Definition, Message}
 use Rattle.fit_csv.proofs.ChainSteps.{not-end}
-use Rattle.fit_csv.proofs.MoreRows.{chain-sound}
 use Rattle.fit_csv.proofs.OneStep.{one-dev-def, one-field-def, one-head, one-header, one-start}
 use Rattle.fit_csv.proofs.PartSteps.{letter}
 use Rattle.fit_csv.proofs.ProfileOffsets.{one-dev-field, one-field}

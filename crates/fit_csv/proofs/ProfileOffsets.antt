@@ -1,5 +1,5 @@
 -- The offsets of the profile, and items that a row of a field shows.
-use Rattle.std.proofs.Common.{◌≡◌, ◌∙◌, ℕ, ◌<◌, ◌^◌, ◌==◌, Bool, true, List, [], ◌∷◌, Option, Some, None, refl, sym, ap, inl, inr, arith}
+use Rattle.std.proofs.Common.{◌≡◌, ◌∙◌, ℕ, ◌<◌, ◌^◌, ◌==◌, Bool, true, List, Option, Some, None, refl, sym, ap, inl, inr, arith}
 use Rattle.std.specs.Prelude.{nat_lt, find, option_and_then, option_map, IfSome, if◌then◌else◌}
 use Rattle.std.specs.List.{list_all}
 use Rattle.std.specs.Global.{Global}
@@ -14,7 +14,6 @@ use Rattle.fit_profile.specs.Laws.{TextHasOneNumber}
 use Rattle.fit_profile.specs.Names.{field, field_of, message_of}
 use Rattle.fit_profile.specs.Profile.{Field, Meaning, Message, message_index, messages, timestamp}
 use Rattle.fit_profile.specs.Scaled.{IsScale}
-use Rattle.fit_csv.specs.Cells.{cell}
 use Rattle.fit_csv.specs.ChainRows.{dev_row, field_row}
 use Rattle.fit_csv.proofs.OneCell.{one-cell}
 use Rattle.fit_csv.proofs.OneStep.{cell_at}

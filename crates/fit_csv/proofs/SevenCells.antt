@@ -1,5 +1,5 @@
 -- Rows of seven cells.
-use Rattle.std.proofs.Common.{◌≡◌, ◌∙◌, ℕ, zero, suc, ◌+◌, ◌<◌, ◌≤◌, List, [], ◌∷◌, length, take, Some, None, refl, sym, ap, ap₂, arith}
+use Rattle.std.proofs.Common.{◌≡◌, ◌∙◌, ℕ, suc, List, [], ◌∷◌, length, Some, refl, ap₂, arith}
 use Rattle.csv.specs.Records.{field_at}
 use Rattle.fit_csv.specs.ChainRows.{row}
 use Rattle.fit_csv.specs.Rows.{Cell}

@@ -1,5 +1,5 @@
 -- The lines of `show`, part by part.
-use Rattle.std.proofs.Common.{◌≡◌, ℕ, zero, suc, ◌+◌, ◌<◌, ◌≤◌, List, [], ◌∷◌, ◌++◌, length, map, take, get_or, refl, sym, ap, ◌∙◌, subst, arith, append_assoc}
+use Rattle.std.proofs.Common.{◌≡◌, ℕ, ◌+◌, ◌<◌, ◌≤◌, List, [], ◌∷◌, ◌++◌, length, map, take, get_or, refl, sym, ap, ◌∙◌, subst, arith, append_assoc}
 use Rattle.std.specs.Prelude.{codes, option_map, unwrap_or, Option, None, Some, IsSomeAnd}
 use Rattle.std.proofs.lemmas.List.{append-nil, length-map, length-take, map-append, take_all, take_more}
 use Rattle.fit_record.specs.declared.learn.Description.{Description}

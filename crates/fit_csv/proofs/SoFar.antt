@@ -1,6 +1,6 @@
 -- One more row stands behind the rows that a chain was read from.
-use Rattle.std.proofs.Common.{◌≡◌, ◌∙◌, ℕ, zero, suc, ◌<◌, ◌≤◌, Bool, true, false, List, [], ◌∷◌, ◌++◌, length, map, Option, Some, None, refl, sym, ap, ap₂, subst, inl, inr, arith, append_assoc, eqb-true}
-use Rattle.std.specs.Prelude.{codes, decimal, ◌⊎◌, ◌==◌, ◌&&◌, flat_map, reverse, zip, option_map, unwrap_or, slice_get, IsSomeAnd}
+use Rattle.std.proofs.Common.{◌≡◌, ◌∙◌, ℕ, zero, suc, ◌<◌, ◌≤◌, Bool, true, false, List, [], ◌∷◌, ◌++◌, length, map, Option, Some, None, refl, sym, ap, ap₂, inl, inr, arith, append_assoc, eqb-true}
+use Rattle.std.specs.Prelude.{codes, decimal, ◌⊎◌, ◌==◌, ◌&&◌, reverse, zip, option_map, unwrap_or, slice_get, IsSomeAnd}
 use Rattle.std.specs.Global.{Global}
 use Rattle.std.proofs.lemmas.List.{append-nil, map-append, reverse-append}
 use Rattle.fit_base.specs.declared.items.Items.{Items}
@@ -10,7 +10,6 @@ use Rattle.fit_record.specs.declared.definition.DevDef.{DevDef}
 use Rattle.fit_record.specs.declared.definition.FieldDef.{FieldDef}
 use Rattle.fit_record.specs.declared.environment.Defined.{Defined}
 use Rattle.fit_record.specs.declared.message.Record.{Record}
-use Rattle.fit_record.specs.declared.message.Record.TheVariants.{Define, Values as Data}
 use Rattle.fit_record.specs.declared.message.Values.{Values}
 use Rattle.fit_record.specs.Environment.{defined_at, dev_defs}
 use Rattle.fit_profile.specs.Described.{Naming, namings_at, nameless}
@@ -18,7 +17,7 @@ use Rattle.fit_profile.specs.Looks.{known}
 use Rattle.fit_profile.specs.Times.{header_time, previous_time}
 use Rattle.fit_csv.specs.ChainRows.{data_row, data_rows, def_row, definition_rows, dev_count, dev_def_row, dev_row, dev_rows, field_def_row, field_row, field_rows, message_rows, optional_number, order_word, record_rows, records_rows, row}
 use Rattle.fit_csv.specs.Misfits.{head_row}
-use Rattle.fit_csv.specs.Progress.{DefinitionStep, DevStep, FieldStep, definition_of, dev_total, is_whole, naming_at, with_dev_field, with_dev_items, with_field, with_items}
+use Rattle.fit_csv.specs.Progress.{DefinitionStep, DevStep, FieldStep, definition_of, dev_total, is_whole, naming_at, with_dev_items, with_items}
 use Rattle.fit_csv.specs.Rows.{Row}
 use Rattle.fit_csv.specs.SoundChain.{IsSoundDefinition, IsSoundMessage, open_rows}
 use Rattle.fit_csv.specs.declared.from.definition.OpenDefinition.{OpenDefinition}

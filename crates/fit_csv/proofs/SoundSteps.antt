@@ -1,27 +1,26 @@
 -- One more row keeps what holds of what has been read.
-use Rattle.std.proofs.Common.{◌≡◌, ◌∙◌, ℕ, zero, suc, ◌<◌, ◌≤◌, ◌^◌, Bool, true, false, List, [], ◌∷◌, ◌++◌, length, map, replicate, set, get_or, Option, Some, None, refl, sym, ap, ap₂, subst, inl, inr, arith, append_assoc, eqb-true, eq-eqb}
-use Rattle.std.specs.Prelude.{◌==◌, ◌&&◌, ◌⊎◌, reverse, zip, option_map, unwrap_or, slice_get, IfSome, IsSome, IsSomeAnd}
+use Rattle.std.proofs.Common.{◌≡◌, ◌∙◌, ℕ, suc, ◌<◌, ◌≤◌, ◌^◌, Bool, true, false, List, [], ◌∷◌, ◌++◌, length, map, Option, Some, None, refl, sym, ap, subst, inl, inr, arith, eqb-true, eq-eqb}
+use Rattle.std.specs.Prelude.{◌==◌, ◌&&◌, ◌⊎◌, zip, option_map, unwrap_or, slice_get, IfSome, IsSome, IsSomeAnd}
 use Rattle.std.specs.Option.{option_map_or}
 use Rattle.std.specs.Global.{Global}
 use Rattle.std.specs.List.{AllByRecursion}
 use Rattle.std.proofs.lemmas.Bool.{cases_Bool}
-use Rattle.std.proofs.lemmas.List.{append-nil, length-map, reverse-append}
+use Rattle.std.proofs.lemmas.List.{length-map, reverse-append}
 use Rattle.std.proofs.lemmas.Option.{slice_get_within, slice_get-map}
 use Rattle.fit_base.specs.declared.items.Items.{Items}
 use Rattle.fit_base.specs.Fields.{HasShape}
 use Rattle.fit_record.specs.declared.definition.DevDef.{DevDef}
-use Rattle.fit_record.specs.declared.definition.FieldDef.{FieldDef}
 use Rattle.fit_record.specs.declared.environment.Defined.{Defined}
 use Rattle.fit_record.specs.declared.message.Record.{Record}
 use Rattle.fit_record.specs.declared.message.Record.TheVariants.{Define, Values as Data}
 use Rattle.fit_record.specs.declared.message.Values.{Values}
-use Rattle.fit_record.specs.Environment.{Environment, defined_at, dev_defs, empty_environment, learn, learn_all}
-use Rattle.fit_record.specs.Records.{AllFit, DataFits, DataHeaderFits, DefinitionFits, Fits, HaveShape, dev_layout, layout}
+use Rattle.fit_record.specs.Environment.{defined_at, dev_defs, empty_environment}
+use Rattle.fit_record.specs.Records.{DataFits, DefinitionFits, Fits, HaveShape, dev_layout, layout}
 use Rattle.fit_profile.specs.Looks.{known}
 use Rattle.fit_csv.specs.ChainRows.{dev_row, field_row}
 use Rattle.fit_csv.specs.Judged.{DefinitionInRange, RecordInRange}
 use Rattle.fit_csv.specs.Misfits.{DevDefInRange, FieldDefInRange, HeadInRange, IsMessageStart}
-use Rattle.fit_csv.specs.Progress.{DefinitionStep, DevStep, FieldStep, FileStep, FitsOnceWhole, PartHasRoom, PartStep, definition_of, dev_total, has_all, is_whole, is_whole_message, naming_at, opened, settled, with_dev_field, with_dev_items, with_field, with_items, with_record}
+use Rattle.fit_csv.specs.Progress.{DefinitionStep, DevStep, FieldStep, FileStep, FitsOnceWhole, PartHasRoom, PartStep, definition_of, dev_total, has_all, is_whole, is_whole_message, naming_at, opened, settled, with_dev_items, with_items, with_record}
 use Rattle.fit_csv.specs.Rows.{Row}
 use Rattle.fit_csv.specs.SoundChain.{HaveShapeSoFar, IsSoundDefinition, IsSoundFile, IsSoundMessage, IsSoundPart, IsSoundSoFar}
 use Rattle.fit_csv.specs.declared.from.definition.DefinitionHead.{DefinitionHead}

@@ -1,5 +1,5 @@
 -- Rows of the fields of a data message.
-use Rattle.std.proofs.Common.{◌≡◌, ◌∙◌, ℕ, List, [], ◌∷◌, take, Option, refl, sym, ap, subst, inl, inr, arith}
+use Rattle.std.proofs.Common.{◌≡◌, ◌∙◌, ℕ, [], ◌∷◌, take, Option, refl, sym, ap, subst, inl, arith}
 use Rattle.std.specs.Global.{Global}
 use Rattle.fit_base.specs.Fields.{HasShape}
 use Rattle.fit_base.specs.declared.items.Items.{Items}

@@ -1,12 +1,11 @@
 -- The rows of a chain are read one after another.
-use Rattle.std.proofs.Common.{◌≡◌, ◌∙◌, ℕ, zero, suc, ◌<◌, ◌≤◌, ◌+◌, ◌^◌, Bool, true, false, List, [], ◌∷◌, ◌++◌, length, map, Option, Some, None, refl, sym, ap, ap₂, subst, inl, inr, arith, append_assoc, eq-eqb, eqb-true}
-use Rattle.std.specs.Prelude.{◌==◌, ◌&&◌, ◌⊎◌, flat_map, zip, option_map, unwrap_or, slice_get, IfSome, IsSome, IsSomeAnd}
+use Rattle.std.proofs.Common.{◌≡◌, ◌∙◌, ℕ, zero, suc, ◌<◌, ◌≤◌, ◌+◌, ◌^◌, true, false, List, [], ◌∷◌, ◌++◌, length, map, Option, Some, None, refl, sym, ap, subst, inl, inr, arith, append_assoc, eq-eqb, eqb-true}
+use Rattle.std.specs.Prelude.{◌==◌, ◌⊎◌, flat_map, zip, option_map, unwrap_or, slice_get, IfSome, IsSome, IsSomeAnd}
 use Rattle.std.specs.Option.{option_map_or}
 use Rattle.std.specs.Global.{Global}
 use Rattle.std.specs.List.{AllByRecursion}
 use Rattle.std.proofs.lemmas.List.{append-nil}
 use Rattle.fit_base.specs.declared.items.Items.{Items}
-use Rattle.fit_base.specs.Fields.{HasShape}
 use Rattle.fit_record.specs.declared.definition.DevDef.{DevDef}
 use Rattle.fit_record.specs.declared.definition.FieldDef.{FieldDef}
 use Rattle.fit_record.specs.declared.definition.MessageDef.{MessageDef}
@@ -15,16 +14,16 @@ use Rattle.fit_record.specs.declared.file.FitFile.{FitFile}
 use Rattle.fit_record.specs.declared.message.Record.{Record}
 use Rattle.fit_record.specs.declared.message.Record.TheVariants.{Define, Values as Data}
 use Rattle.fit_record.specs.declared.message.Values.{Values}
-use Rattle.fit_record.specs.Environment.{Environment, defined_at, dev_defs, empty_environment, learn}
+use Rattle.fit_record.specs.Environment.{defined_at, dev_defs}
 use Rattle.fit_record.specs.Files.{chain_limit}
 use Rattle.fit_record.specs.Records.{AllFit, DataFits, DefinitionFits, Fits, HaveShape, dev_layout, layout}
 use Rattle.fit_profile.specs.Described.{Naming, namings_at, nameless}
 use Rattle.fit_profile.specs.Looks.{known}
 use Rattle.fit_profile.specs.Times.{header_time, previous_time}
-use Rattle.fit_csv.specs.ChainRows.{data_row, data_rows, def_row, definition_rows, dev_def_row, dev_row, dev_rows, end_row, field_def_row, field_row, field_rows, file_row, file_rows, message_rows, record_rows, records_rows}
+use Rattle.fit_csv.specs.ChainRows.{data_row, data_rows, def_row, definition_rows, dev_def_row, dev_row, dev_rows, end_row, field_def_row, field_row, field_rows, file_row, file_rows, record_rows, records_rows}
 use Rattle.fit_csv.specs.Judged.{DefinitionInRange, IsChainOfRows, IsFileOfRows, RecordInRange}
-use Rattle.fit_csv.specs.Misfits.{DevDefInRange, FieldDefInRange, HeadInRange, IsMessageStart, global_at, head_row, message_row}
-use Rattle.fit_csv.specs.Progress.{ChainStep, DefinitionStep, DevStep, FieldStep, FileStep, PartStep, Run, begun, definition_of, dev_total, has_all, is_whole, is_whole_message, naming_at, nothing_yet, opened, settled, with_dev_field, with_dev_items, with_field, with_file, with_items, with_record}
+use Rattle.fit_csv.specs.Misfits.{DevDefInRange, FieldDefInRange, HeadInRange, IsMessageStart, global_at, message_row}
+use Rattle.fit_csv.specs.Progress.{ChainStep, DevStep, FieldStep, FileStep, PartStep, Run, begun, definition_of, dev_total, has_all, is_whole, is_whole_message, naming_at, nothing_yet, opened, settled, with_dev_field, with_dev_items, with_field, with_items, with_record}
 use Rattle.fit_csv.specs.Rows.{Row}
 use Rattle.fit_csv.specs.declared.from.chain.Chain.{Chain}
 use Rattle.fit_csv.specs.declared.from.definition.DefinitionHead.{DefinitionHead}
@@ -38,7 +37,7 @@ use Rattle.fit_csv.proofs.NamingFacts.{namings_long}
 use Rattle.fit_csv.proofs.OneWay.{run-join, run-one}
 use Rattle.fit_csv.proofs.Shapes.{as_long}
 use Rattle.fit_csv.proofs.SoFar.{both-true, data-rows-at, some-at}
-use Rattle.fit_csv.proofs.SoundSteps.{at-some, dev-layout-long, layout-long, length-last}
+use Rattle.fit_csv.proofs.SoundSteps.{dev-layout-long, layout-long, length-last}
 use Rattle.fit_csv.proofs.ValueSteps.{dev-step, field-step}
 
 -- rows of a file one after another

@@ -1,10 +1,12 @@
 -- What holds of cells, of rows and of their text, and of the computed texts of instants and positions.
-use Rattle.std.specs.Prelude.{◌≡◌, ◌∷◌, ◌++◌, ◌<◌, ◌^◌, ℕ, ℤ, List, Option, IfSome, flat_map}
+use Rattle.std.specs.Prelude.{◌≡◌, ◌∷◌, ◌++◌, ◌<◌, ◌≤◌, ◌^◌, ℕ, ℤ, List, Option, IfSome, flat_map, length}
 use Rattle.fit_base.specs.declared.items.Items.{Items}
 use Rattle.fit_base.specs.Fields.{HasShape}
+use Rattle.fit_base.specs.Numbers.{IsBytes}
 use Rattle.std.specs.Global.{Global}
 use Rattle.fit_record.specs.declared.file.FitFile.{FitFile}
 use Rattle.fit_record.specs.declared.message.Record.{Record}
+use Rattle.fit_record.specs.Files.{IsChain, chain_limit}
 use Rattle.fit_record.specs.Records.{Fits}
 use Rattle.fit_profile.specs.Looks.{known}
 use Rattle.fit_decode.specs.Events.{file_events}
@@ -16,6 +18,7 @@ use Rattle.fit_csv.specs.Rows.{Row, RowsOfText, NoneEmpty, csv_text, first_line}
 use Rattle.fit_csv.specs.InstantText.{instant_text}
 use Rattle.fit_csv.specs.Degrees.{degrees_of}
 use Rattle.fit_csv.specs.ChainRows.{chain_rows, record_rows, rows_of}
+use Rattle.fit_csv.specs.FromText.{IsTextOf}
 use Rattle.fit_csv.specs.Judged.{IsChainOfRows, RecordInRange}
 
 -- the text of the first line and other rows reads as those rows
@@ -57,3 +60,8 @@ RecordsHaveOwnRows =
 -- a chain has rows of its own
 abbrev pub ChainsHaveOwnRows : Type 0
 ChainsHaveOwnRows = (a b : List (FitFile Global)) → IsChainOfRows a → IsChainOfRows b → chain_rows a ≡ chain_rows b → a ≡ b
+
+-- the text of the rows of a chain is one of that chain, if it isn't too long
+abbrev pub TextsComeBack : Type 0
+TextsComeBack = (files : List (FitFile Global)) (bytes : List ℕ) → IsBytes bytes → IsChain chain_limit files bytes → length (csv_text (chain_rows files)) ≤ 2 ^ 62
+    → IsTextOf (csv_text (chain_rows files)) files bytes

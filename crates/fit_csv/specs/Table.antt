@@ -5,10 +5,11 @@ use Rattle.fit_record.specs.declared.message.Values.{Values}
 use Rattle.fit_record.specs.declared.message.Record.{Record}
 use Rattle.fit_record.specs.declared.message.Record.TheVariants.{Values as Data}
 use Rattle.fit_record.specs.Environment.{defined_at}
+use Rattle.fit_record.specs.Faults.{or_else}
 use Rattle.fit_decode.specs.Events.{Event, header, item}
 use Rattle.fit_profile.specs.declared.told.Told.{Told}
 use Rattle.fit_profile.specs.FixedText.{fixed_text}
-use Rattle.fit_profile.specs.Looks.{known, first_field, or_else}
+use Rattle.fit_profile.specs.Looks.{known, first_field}
 use Rattle.fit_profile.specs.Scaled.{decimals}
 use Rattle.fit_profile.specs.Told.{told}
 use Rattle.fit_profile.specs.Values.{first_number, known_number}

@@ -6,10 +6,12 @@ use Rattle.fit_record.specs.declared.message.Record.TheVariants.{Define, Values 
 use Rattle.fit_decode.specs.declared.event.Event.{Event as Answer}
 use Rattle.fit_decode.specs.Answers.{told}
 use Rattle.fit_profile.specs.declared.decimal.Fixed.{Fixed}
+use Rattle.fit_profile.specs.declared.message.Message.{Message}
 use Rattle.fit_profile.specs.FixedText.{fixed_text}
+use Rattle.fit_profile.specs.Meant.{shown}
 use Rattle.fit_csv.specs.declared.table_rows.TableRow.{TableRow}
 use Rattle.fit_csv.specs.Rows.{Cell, Row}
-use Rattle.fit_csv.specs.Table.{files_behind, table_event_rows, table_rows}
+use Rattle.fit_csv.specs.Table.{files_behind, table_event_rows, table_row, table_rows}
 
 -- the text of a number, where there is one
 abbrev pub shown_text : Option Fixed → Option Cell
@@ -21,10 +23,10 @@ cells_of r =
     decimal r.file ∷ r.timestamp.bytes ∷ r.position_lat.bytes ∷ r.position_long.bytes ∷ r.altitude.bytes ∷ r.distance.bytes ∷ r.speed.bytes
     ∷ r.heart_rate.bytes ∷ r.cadence.bytes ∷ r.power.bytes ∷ r.temperature.bytes ∷ []
 
--- one row, or none
-abbrev pub rows_in : Option TableRow → List Row
-rows_in None = []
-rows_in (Some r) = cells_of r ∷ []
+-- the row of a record message in the file of this number, or none
+abbrev pub rows_in : {A : Type 0} → ℕ → Option (Message A) → List Row
+rows_in file None = []
+rows_in file (Some m) = table_row file (shown m).definition (shown m).values (shown m).told ∷ []
 
 -- the rows of a record in the file of this number, behind the records before it
 abbrev pub table_record_rows : {A : Type 0} → ℕ → List (Record A) → Record A → List Row

@@ -1,6 +1,8 @@
 //! Rows back to files.
 ghost use Rattle.std.specs.Prelude.{◌≡◌, ℕ, List, IfErr, OnOk, Some};
-ghost use Rattle.fit_csv.specs.FromText.{FromFault, FromText, UnlessWritten, written_fault};
+ghost use Rattle.std.specs.Global.{Global};
+ghost use Rattle.fit_record.specs.declared.file.FitFile.{FitFile};
+ghost use Rattle.fit_csv.specs.FromText.{FromFault, FromText, FromTextOf, IsTextOf, UnlessWritten, written_fault};
 
 mod cells;
 mod chain;
@@ -21,8 +23,11 @@ mod text;
 use crate::CsvFault;
 use crate::from::judge::judge;
 use crate::from::text::read_text;
+use crate::laws::chains_have_own_rows;
 use fit_decode::Source;
+use fit_encode::laws::good_chains_have_no_fault;
 use fit_encode::{EncodeFault, Sink, write_chain};
+use fit_record::laws::faults_are_exact;
 use std::alloc::Global;
 
 /// The fault of files that rows gave and that weren't written.
@@ -33,6 +38,22 @@ fn from_fault(fault: EncodeFault) -> CsvFault
         EncodeFault::NoMemory => CsvFault::NoMemory,
         EncodeFault::Write { written } => CsvFault::Write { written },
         fault => CsvFault::Encode(fault),
+    }
+}
+
+/// Writes the files whose rows are those of a text.
+fn convert<S: Source, K: Sink>(alloc: Global, source: &mut S, sink: &mut K) -> Result<(), CsvFault>
+    ensures ok { (text : List ℕ) → S.remaining source.old ≡ Some text → OnOk result (FromText text (K.contents sink.old) (K.contents sink.new)) }
+    ensures err { (text : List ℕ) → S.remaining source.old ≡ Some text
+        → IfErr result (FromFault text (S.has_failed source.new) (K.contents sink.old) (K.contents sink.new) (K.has_failed sink.new)) }
+    ensures unchanged { IfErr result (λ fault. UnlessWritten fault (sink.new ≡ sink.old)) }
+{
+    faults_are_exact::<Global>();
+    let text = read_text(alloc, source)?;
+    let files = judge(alloc, text.as_slice())?;
+    match write_chain(alloc, sink, files.as_slice()) {
+        Ok(()) => Ok(()),
+        Err(fault) => Err(from_fault(fault)),
     }
 }
 
@@ -54,11 +75,11 @@ pub fn from_csv<S: Source, K: Sink>(
     ensures err { (text : List ℕ) → S.remaining source.old ≡ Some text
         → IfErr result (FromFault text (S.has_failed source.new) (K.contents sink.old) (K.contents sink.new) (K.has_failed sink.new)) }
     ensures unchanged { IfErr result (λ fault. UnlessWritten fault (sink.new ≡ sink.old)) }
+    // Where the rows of the text are those of a chain, its bytes are written, unless memory is refused or the source or the sink fails.
+    ensures chain { (text : List ℕ) (files : List (FitFile Global)) (bytes : List ℕ) → S.remaining source.old ≡ Some text → IsTextOf text files bytes
+        → FromTextOf bytes (S.has_failed source.new) (K.contents sink.old) (K.contents sink.new) (K.has_failed sink.new) result }
 {
-    let text = read_text(alloc, source)?;
-    let files = judge(alloc, text.as_slice())?;
-    match write_chain(alloc, sink, files.as_slice()) {
-        Ok(()) => Ok(()),
-        Err(fault) => Err(from_fault(fault)),
-    }
+    chains_have_own_rows();
+    good_chains_have_no_fault::<Global>();
+    convert(alloc, source, sink)
 }

@@ -1,5 +1,5 @@
 //! What holds of cells, of rows and of their text, and of the computed texts of instants and positions.
-ghost use Rattle.fit_csv.specs.Laws.{CellsAreOne, ChainsHaveOwnRows, DegreesAreNearest, EventsHaveTheRows, InstantTextIs, ReadsBack, ReadsOneWay, RecordsHaveOwnRows, ScaledIsExact};
+ghost use Rattle.fit_csv.specs.Laws.{CellsAreOne, ChainsHaveOwnRows, DegreesAreNearest, EventsHaveTheRows, InstantTextIs, ReadsBack, ReadsOneWay, RecordsHaveOwnRows, ScaledIsExact, TextsComeBack};
 
 use fit_profile::laws::text_has_one_number;
 use std::alloc::Allocator;
@@ -55,3 +55,9 @@ pub fn chains_have_own_rows()
 {
     text_has_one_number();
 }
+
+/// What `to_csv` writes of a chain is a text of that chain, from which `from_csv` makes the same bytes,
+/// if it has at most 2^62 bytes.
+pub fn texts_come_back()
+    ensures { TextsComeBack }
+{}

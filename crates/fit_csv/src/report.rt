@@ -5,7 +5,7 @@ ghost use Rattle.fit_csv.specs.Reporting.{AnswerFits, answer_rows, behind_answer
 
 use crate::file_rows::{put_end_row, put_file_row};
 use crate::message_rows::put_record;
-use crate::rows::{copy_behind, flushed_len, row_writer};
+use crate::rows::{copy_behind, flushed_len, renew, row_writer};
 use csv::Writer;
 use fit_decode::Event;
 use fit_profile::Stream;
@@ -14,9 +14,6 @@ use fit_report::laws::heard_records_fit;
 use fit_report::{Heard, Report};
 use std::alloc::{AllocError, Global};
 use std::marker::Model;
-
-/// A writer whose text is longer than this is let go.
-const LONG: usize = 64 * 1024;
 
 /// Puts the rows of an event behind the records of a stream.
 #[tactic(auto, using(crate::proofs::AddedRows::added_none))]
@@ -56,8 +53,7 @@ fn put_rows(
     copy_behind(writer, start, text)
 }
 
-/// Puts the text of the rows of an event behind the records of a stream. The writer is used again for the next event: a new one
-/// would move its buffer of 8 KiB several times.
+/// Puts the text of the rows of an event behind the records of a stream. The writer stays fit for the next event.
 fn put_event_text(
     alloc: Global,
     writer: &mut Writer<Vec<u8>>,
@@ -71,18 +67,9 @@ fn put_event_text(
     ensures between { IsBetweenRows writer.new }
     ensures text { OnOk result (text.new.items ≡ text.old.items ++ csv_text (answer_rows stream.now event.now)) }
 {
-    match put_rows(writer, text, value, stream, event) {
-        Ok(()) => {
-            if writer.get_ref().len() > LONG {
-                *writer = row_writer(Vec::new(alloc));
-            }
-            Ok(())
-        }
-        Err(error) => {
-            *writer = row_writer(Vec::new(alloc));
-            Err(error)
-        }
-    }
+    let result = put_rows(writer, text, value, stream, event);
+    renew(alloc, writer, result.is_err());
+    result
 }
 
 /// Takes an event in. A header begins a file. Where memory is refused, the stream stays as it was.

@@ -1,10 +1,13 @@
 //! Rows of cells as text, through the crate `csv`.
-ghost use Rattle.std.specs.Prelude.{◌≡◌, ◌≤◌, ◌++◌, ◌∷◌, [], ℕ, List, IfOk, OnOk, drop, length, map};
+ghost use Rattle.std.specs.Prelude.{◌≡◌, ◌≤◌, ◌++◌, ◌∷◌, [], ℕ, List, IfOk, OnOk, drop, false, length, map};
 ghost use Rattle.csv.specs.Records.{fields_of};
 ghost use Rattle.fit_csv.specs.Rows.{Follows, HasAdded, HasRead, IsBetweenRows, Row, written};
 
 use csv::{ByteRecord, Reader, ReaderBuilder, Writer, WriterBuilder};
 use std::alloc::{AllocError, Global};
+
+/// A writer whose text is longer than this is let go.
+const LONG: usize = 64 * 1024;
 
 /// A writer of rows behind a text. The text's memory is used on.
 pub fn row_writer(text: Vec<u8>) -> Writer<Vec<u8>>
@@ -66,6 +69,17 @@ pub(crate) fn copy_behind(
     }
     let rows = writer.get_ref().as_slice();
     text.extend_from_slice(&rows[start..])
+}
+
+/// Makes a writer fit for the next rows, after it wrote some with this result. It is used again, as a new one would move its
+/// buffer of 8 KiB several times; it is made anew where it failed, and where its text has become long.
+pub(crate) fn renew(alloc: Global, writer: &mut Writer<Vec<u8>>, failed: bool)
+    requires { (failed ≡ false) → IsBetweenRows writer.old }
+    ensures { IsBetweenRows writer.new }
+{
+    if failed || writer.get_ref().len() > LONG {
+        *writer = row_writer(Vec::new(alloc));
+    }
 }
 
 /// A reader of the rows of a text, of any length each.

@@ -6,22 +6,9 @@ ghost use Rattle.fit_csv.specs.Cells.{begins_as_bytes, is_plain, string_text};
 
 use crate::hexadecimal::{put_bytes, read_bytes};
 use fit_base::Bits;
+use fit_profile::text_len;
 use std::alloc::{AllocError, Global};
 use std::str;
-
-/// How many bytes there are before the closing zeros.
-fn text_len(bytes: &[u64]) -> usize
-    ensures before { take result bytes.now ≡ before_closing_zeros bytes.now }
-    ensures within { result ≤ length bytes.now }
-{
-    let mut len = 0;
-    for (place, byte) in bytes.iter().enumerate() {
-        if *byte != 0 {
-            len = place + 1;
-        }
-    }
-    len
-}
 
 /// Whether a text begins as bytes do in a cell.
 fn begins_as_bytes(text: &[u8]) -> bool

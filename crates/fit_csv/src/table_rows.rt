@@ -1,35 +1,40 @@
 //! The rows of the table.
-ghost use Rattle.std.specs.Prelude.{◌≡◌, ◌≤◌, IfSome, [], option_and_then, option_map, pos, slice_get, unwrap_or};
-ghost use Rattle.fit_profile.specs.Looks.{or_else};
+ghost use Rattle.std.specs.Prelude.{◌≡◌, ◌≤◌, ◌∷◌, IfSome, OnOk, [], option_and_then, option_map, pos, slice_get, unwrap_or};
+ghost use Rattle.fit_record.specs.Faults.{or_else};
 ghost use Rattle.fit_profile.specs.Meant.{shown};
 ghost use Rattle.fit_profile.specs.Values as values;
 ghost use Rattle.fit_csv.specs.Degrees.{degrees_of};
 ghost use Rattle.fit_csv.specs.Table as table;
+ghost use Rattle.fit_csv.specs.Rows.{HasAdded, IsBetweenRows};
 ghost use Rattle.fit_csv.specs.TableCells.{cells_of, shown_text};
 
 use crate::message_rows::time_text;
+use crate::rows::put_row;
 use arrayvec::ArrayString;
+use csv::Writer;
 use fit_base::Items;
 use fit_profile::laws::degrees_are_one;
 use fit_profile::{Fixed, Label, Message, degrees};
+use itoa::Buffer;
+use std::alloc::AllocError;
 
 /// The text of a number, or an empty one.
 type Cell = ArrayString<48>;
 
 /// The cells of a row of the table.
 #[derive(Drop)]
-pub(crate) struct TableRow {
-    pub(crate) file: u64,
-    pub(crate) timestamp: Label,
-    pub(crate) position_lat: Cell,
-    pub(crate) position_long: Cell,
-    pub(crate) altitude: Cell,
-    pub(crate) distance: Cell,
-    pub(crate) speed: Cell,
-    pub(crate) heart_rate: Cell,
-    pub(crate) cadence: Cell,
-    pub(crate) power: Cell,
-    pub(crate) temperature: Cell,
+struct TableRow {
+    file: u64,
+    timestamp: Label,
+    position_lat: Cell,
+    position_long: Cell,
+    altitude: Cell,
+    distance: Cell,
+    speed: Cell,
+    heart_rate: Cell,
+    cadence: Cell,
+    power: Cell,
+    temperature: Cell,
 }
 
 /// The cell of a number, which is empty where there is none.
@@ -114,7 +119,7 @@ fn position(message: &Message, number: u8) -> Option<Fixed>
 }
 
 /// The row of a record message of a file.
-pub(crate) fn table_row(message: &Message, file: u64) -> TableRow
+fn table_row(message: &Message, file: u64) -> TableRow
     ensures { cells_of result ≡ table.table_row file (shown message.now).definition (shown message.now).values (shown message.now).told }
 {
     TableRow {
@@ -133,4 +138,39 @@ pub(crate) fn table_row(message: &Message, file: u64) -> TableRow
         power: cell(value(message, 7)),
         temperature: cell(value(message, 13)),
     }
+}
+
+/// Writes a row.
+fn put_cells(writer: &mut Writer<Vec<u8>>, row: &TableRow) -> Result<(), AllocError>
+    requires { IsBetweenRows writer.old }
+    ensures { OnOk result (HasAdded (cells_of row.now ∷ []) writer.old writer.new) }
+{
+    let mut files = Buffer::new();
+    let cells = [
+        files.format(row.file).as_bytes(),
+        row.timestamp.as_str().as_bytes(),
+        row.position_lat.as_str().as_bytes(),
+        row.position_long.as_str().as_bytes(),
+        row.altitude.as_str().as_bytes(),
+        row.distance.as_str().as_bytes(),
+        row.speed.as_str().as_bytes(),
+        row.heart_rate.as_str().as_bytes(),
+        row.cadence.as_str().as_bytes(),
+        row.power.as_str().as_bytes(),
+        row.temperature.as_str().as_bytes(),
+    ];
+    put_row(writer, cells.as_slice())
+}
+
+/// Writes the row of a record message of a file.
+pub(crate) fn put_table_row(
+    writer: &mut Writer<Vec<u8>>,
+    message: &Message,
+    file: u64,
+) -> Result<(), AllocError>
+    requires { IsBetweenRows writer.old }
+    ensures { OnOk result (HasAdded (table.table_row file (shown message.now).definition (shown message.now).values (shown message.now).told ∷ []) writer.old writer.new) }
+{
+    let row = table_row(message, file);
+    put_cells(writer, &row)
 }

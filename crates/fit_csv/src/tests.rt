@@ -82,6 +82,20 @@ fn numbers(rt: HostRuntime) -> Result<(), AllocError> {
 }
 
 #[test]
+fn a_cell_behind_a_text(rt: HostRuntime) -> Result<(), AllocError> {
+    let code = Code(0x84);
+    let items = Items {
+        width: width_of(code, 2),
+        bits: Bits::from_vec(Vec::from_slice(rt.alloc(), &[2499])?),
+    };
+    assert!(rt; has_shape(code, 2, &items));
+    let mut text = Vec::from_slice(rt.alloc(), b"12,")?;
+    put_cell(&mut text, code, field_info(ALTITUDE.0, ALTITUDE.1), &items)?;
+    assert_eq!(rt; text.as_slice(), b"12,-0.2".as_slice());
+    Ok(())
+}
+
+#[test]
 fn bytes_and_texts(rt: HostRuntime) -> Result<(), AllocError> {
     assert!(rt; is_cell(rt.alloc(), UNKNOWN, 0x1F, 3, &[0x64, 0, 0x1A], "0x64001A")?);
     assert!(rt; is_cell(rt.alloc(), ALTITUDE, 0x84, 3, &[0x64, 0, 0x1A], "0x64001A")?);

@@ -3,6 +3,7 @@ use Rattle.std.proofs.Common.{◌≡◌, ℕ, ◌-◌, ◌<◌, List, [], ◌++�
 use Rattle.std.specs.Prelude.{Bool, Option, Result}
 use Rattle.std.proofs.lemmas.List.{append-nil}
 use Rattle.fit_base.specs.Numbers.{IsBytes}
+use Rattle.fit_base.proofs.ByteLists.{IsBytes-back}
 use Rattle.fit_frame.specs.Header.{header_bytes}
 use Rattle.fit_frame.specs.Beginning.{Seen}
 use Rattle.fit_record.specs.declared.message.Record.{Record}
@@ -19,7 +20,6 @@ use Rattle.fit_decode.specs.Progress.{at_data, progress_bytes}
 use Rattle.fit_decode.specs.Scans.{IsOpen, Reading}
 use Rattle.fit_decode.specs.Sections.{HeaderFed, DataFed, SumFed}
 use Rattle.fit_decode.specs.Kept.{Fields, InHeader, InData, InSum, HoldsAt, Stand, Advances}
-use Rattle.fit_decode.proofs.Splits.{IsBytes-back}
 use Rattle.fit_decode.proofs.Whole.{no_header_in}
 use Rattle.fit_decode.proofs.Sections.{header_fed, data_fed, sum_fed}
 

@@ -5,7 +5,8 @@ use Rattle.std.proofs.lemmas.Bool.{cases_lt}
 use Rattle.std.proofs.lemmas.List.{append-nil}
 use Rattle.fit_base.specs.declared.number.Order.TheVariants.{Little}
 use Rattle.fit_base.specs.Numbers.{IsBytes, little_bytes}
-use Rattle.fit_base.proofs.NumberLaws.{IsBytes-append, IsBytes-number_bytes}
+use Rattle.fit_base.proofs.NumberLaws.{IsBytes-number_bytes}
+use Rattle.fit_base.proofs.ByteLists.{IsBytes-append, IsBytes-none, IsBytes-back}
 use Rattle.fit_sum.specs.Checksum.{checksum}
 use Rattle.fit_frame.specs.declared.header.Header.{Header}
 use Rattle.fit_frame.specs.Header.{HeaderFits, header_bytes}
@@ -15,11 +16,9 @@ use Rattle.fit_record.specs.declared.message.Record.{Record}
 use Rattle.fit_record.specs.Environment.{Environment, empty_environment, learn, learn_all}
 use Rattle.fit_record.specs.Records.{record_bytes, AllFit, records_bytes}
 use Rattle.fit_record.specs.Files.{file_bytes, chain_bytes, IsWellFormed, IsViable, CanFill}
-use Rattle.fit_record.proofs.ByteLists.{IsBytes-none}
 use Rattle.fit_record.proofs.LargeRooms.{six_and_more}
 use Rattle.fit_decode.specs.Progress.{Progress, at_header, at_data, progress_bytes, IsUnfinished, HasCome}
 use Rattle.fit_decode.specs.GoingOn.{DataGoesOn, GoesOn, ChainGoesOn}
-use Rattle.fit_decode.proofs.Splits.{IsBytes-back}
 
 -- ---- records behind records
 

@@ -5,13 +5,13 @@ use Rattle.std.proofs.lemmas.List.Sums.{sum_by-append}
 use Rattle.fit_base.specs.Numbers.{IsBytes}
 use Rattle.fit_base.specs.Fields.{items_bytes}
 use Rattle.fit_base.specs.declared.items.Items.{Items}
+use Rattle.fit_base.proofs.ByteLists.{IsBytes-tail}
 use Rattle.fit_record.specs.declared.environment.Defined.{Defined}
 use Rattle.fit_record.specs.Environment.{Environment, defined_at}
 use Rattle.fit_record.specs.Records.{layout, dev_layout, message_size, order_at, data_header}
 use Rattle.fit_step.specs.Machine.{sizes, layout_at, dev_layout_at, fields_rest, dev_rest, least_rest}
 use Rattle.fit_step.specs.Parts.{Part, nothing, in_definition, in_fields, in_dev_fields, Taking, taken, part_bytes, IsPart, HasBegun, state_of}
 use Rattle.fit_step.specs.GoingOn.{goes_on, Continues}
-use Rattle.fit_step.proofs.Takes.{IsBytes-tail}
 use Rattle.fit_step.proofs.Lengths.{length-shaped}
 use Rattle.fit_step.proofs.Carried.{taken_rest, data_continues}
 use Rattle.fit_step.proofs.Continued.{definition_continues}

@@ -4,7 +4,7 @@ use Rattle.std.specs.Prelude.{IsOk}
 use Rattle.std.proofs.lemmas.Bool.{ne_eqb}
 use Rattle.std.proofs.lemmas.List.{length-take-le, take_more}
 use Rattle.fit_base.specs.Numbers.{IsBytes, little_bytes}
-use Rattle.fit_base.proofs.NumberLaws.{IsBytes-append, IsBytes-take}
+use Rattle.fit_base.proofs.ByteLists.{IsBytes-append, IsBytes-take, IsBytes-back}
 use Rattle.fit_sum.specs.Checksum.{checksum}
 use Rattle.fit_frame.specs.declared.header.Header.{Header}
 use Rattle.fit_frame.specs.declared.reason.Reason.{Reason}
@@ -31,7 +31,6 @@ use Rattle.fit_decode.specs.Refusals.{IsRefused}
 use Rattle.fit_decode.specs.Answers.{Quiet, Least}
 use Rattle.fit_decode.specs.Memory.{MayTakeMemory}
 use Rattle.fit_decode.specs.Scans.{HeadsNoEmptyMessage}
-use Rattle.fit_decode.proofs.Splits.{IsBytes-back}
 use Rattle.fit_decode.proofs.Goes.{next_goes, some_room}
 use Rattle.fit_decode.proofs.Completions.{goes_viable}
 use Rattle.fit_decode.proofs.Whole.{NoRecord, no_record_before, before_record}

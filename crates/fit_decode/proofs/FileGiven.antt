@@ -5,7 +5,7 @@ use Rattle.std.specs.List.{AllByRecursion}
 use Rattle.std.proofs.lemmas.List.{append-nil, append_cancel_left, take-append-drop}
 use Rattle.std.proofs.Math.Seq.{drop-cons}
 use Rattle.fit_base.specs.Numbers.{IsBytes}
-use Rattle.fit_base.proofs.NumberLaws.{IsBytes-append}
+use Rattle.fit_base.proofs.ByteLists.{IsBytes-append, IsBytes-front}
 use Rattle.fit_frame.specs.declared.reason.Reason.{Reason}
 use Rattle.fit_record.specs.declared.file.FitFile.{FitFile}
 use Rattle.fit_record.specs.Files.{file_bytes, chain_bytes, IsWellFormed, IsFile, IsChain, IsViable, chain_limit}
@@ -19,7 +19,7 @@ use Rattle.fit_decode.specs.Refusals.{IsRefused}
 use Rattle.fit_decode.specs.Turns.{ComesTo, Ended, FileTold}
 use Rattle.fit_decode.proofs.Completions.{chain_bytes-append}
 use Rattle.fit_decode.proofs.OnePlace.{no_file}
-use Rattle.fit_decode.proofs.Splits.{split, IsBytes-front}
+use Rattle.fit_decode.proofs.Splits.{split}
 
 -- a list, parted at a place
 pub at_place : (all : List ℕ) (place : ℕ) → place < length all → all ≡ take place all ++ get_or all place 0 ∷ drop (suc place) all

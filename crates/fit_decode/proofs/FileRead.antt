@@ -6,7 +6,7 @@ use Rattle.fit_frame.specs.declared.header.Header.{Header}
 use Rattle.fit_record.specs.declared.file.FitFile.{FitFile}
 use Rattle.fit_record.specs.declared.message.Record.{Record}
 use Rattle.fit_record.specs.Files.{chain_limit, IsViable}
-use Rattle.fit_record.proofs.ByteLists.{IsBytes-none}
+use Rattle.fit_base.proofs.ByteLists.{IsBytes-none}
 use Rattle.fit_decode.specs.declared.event.Fault.{Fault}
 use Rattle.fit_decode.specs.Answers.{Seen}
 use Rattle.fit_decode.specs.Progress.{at_header, HasCome}

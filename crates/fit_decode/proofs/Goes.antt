@@ -3,6 +3,7 @@ use Rattle.std.proofs.Common.{◌≡◌, inl, inr, ℕ, zero, suc, ◌+◌, ◌-
 use Rattle.std.proofs.lemmas.List.{append-nil}
 use Rattle.fit_base.specs.Numbers.{IsBytes, little_bytes}
 use Rattle.fit_base.proofs.Bytes.{bytes_below, length-little_bytes}
+use Rattle.fit_base.proofs.ByteLists.{IsBytes-front, IsBytes-back}
 use Rattle.fit_sum.specs.Checksum.{checksum}
 use Rattle.fit_frame.specs.declared.header.Header.{Header}
 use Rattle.fit_frame.specs.Header.{header_bytes}
@@ -18,7 +19,7 @@ use Rattle.fit_record.proofs.KnownFiles.{short_header, short_header_bytes}
 use Rattle.fit_decode.specs.Progress.{Progress, at_header, at_data, IsPartial, IsUnfinished, HasCome}
 use Rattle.fit_decode.specs.GoingOn.{FillFrom, DataGoesOn, GoesOn, files_begun, ChainGoesOn}
 use Rattle.fit_decode.proofs.OnePlace.{no_header, no_record}
-use Rattle.fit_decode.proofs.Splits.{split, IsBytes-front, IsBytes-back}
+use Rattle.fit_decode.proofs.Splits.{split}
 use Rattle.fit_decode.proofs.Following.{HeaderFollows, RecordFollows, SumFollows, DataFollows, header_follows, data_follows, chain_follows}
 
 -- g with some bytes more

@@ -4,7 +4,7 @@ use Rattle.std.specs.Prelude.{◌==◌}
 use Rattle.std.proofs.lemmas.Bool.{eq-eqb, ne_eqb}
 use Rattle.std.proofs.lemmas.List.{append-nil}
 use Rattle.fit_base.specs.Numbers.{IsBytes, little_bytes}
-use Rattle.fit_base.proofs.NumberLaws.{IsBytes-append}
+use Rattle.fit_base.proofs.ByteLists.{IsBytes-append, IsBytes-cons, IsBytes-none, IsBytes-front, IsBytes-back}
 use Rattle.fit_sum.specs.Checksum.{checksum}
 use Rattle.fit_frame.specs.declared.header.Header.{Header}
 use Rattle.fit_frame.specs.declared.reason.Reason.{Reason}
@@ -17,7 +17,6 @@ use Rattle.fit_record.specs.Environment.{Environment, empty_environment, learn, 
 use Rattle.fit_record.specs.Records.{record_bytes, records_bytes}
 use Rattle.fit_record.specs.Rooms.{can_fill}
 use Rattle.fit_record.specs.Files.{chain_bytes, chain_limit, IsViable}
-use Rattle.fit_record.proofs.ByteLists.{IsBytes-cons, IsBytes-none}
 use Rattle.fit_record.proofs.FilledRooms.{can_fill_is}
 use Rattle.fit_record.proofs.SixteenPlaces.{sixteen_places}
 use Rattle.fit_step.specs.GoingOn.{goes_on}
@@ -38,7 +37,7 @@ use Rattle.fit_decode.proofs.OnePlace.{no_record}
 use Rattle.fit_decode.proofs.Places.{viable_somewhere}
 use Rattle.fit_decode.proofs.Readings.{one_byte, room_left, walk_goes_on}
 use Rattle.fit_decode.proofs.RefusedBytes.{refused}
-use Rattle.fit_decode.proofs.Splits.{split, IsBytes-front, IsBytes-back}
+use Rattle.fit_decode.proofs.Splits.{split}
 use Rattle.fit_decode.proofs.Walked.{come}
 use Rattle.fit_decode.proofs.Whole.{NoRecord, no_end}
 

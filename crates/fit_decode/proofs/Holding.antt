@@ -3,6 +3,7 @@ use Rattle.std.proofs.Common.{◌≡◌, cond, false, ℕ, ◌+◌, ◌-◌, ◌
 use Rattle.std.specs.Prelude.{Option, ◌==◌}
 use Rattle.std.proofs.lemmas.Bool.{cond-true, cond-false, eq-eqb, ne_eqb}
 use Rattle.fit_base.specs.Numbers.{IsBytes}
+use Rattle.fit_base.proofs.ByteLists.{IsBytes-front, IsBytes-back}
 use Rattle.fit_sum.specs.Checksum.{checksum}
 use Rattle.fit_frame.specs.declared.reason.Reason.{Reason}
 use Rattle.fit_frame.specs.Header.{header_bytes}
@@ -29,7 +30,6 @@ use Rattle.fit_decode.specs.Kept.{Fields, InHeader, HoldsAt}
 use Rattle.fit_decode.specs.Invariant.{IsKept, fields_of}
 use Rattle.fit_decode.specs.Scans.{sum_part}
 use Rattle.fit_decode.specs.Laws.{BoundsAreLimited}
-use Rattle.fit_decode.proofs.Splits.{IsBytes-front, IsBytes-back}
 use Rattle.fit_decode.proofs.Walked.{come}
 use Rattle.fit_decode.proofs.Ended.{chain_ended}
 use Rattle.fit_decode.proofs.Limits.{AreLimited, all_limited, nothing_limited, environment_limited}

@@ -15,6 +15,7 @@ use Rattle.std.proofs.lemmas.List.Sums.{sum_by-append, sum_by-cons, sum_by-le}
 use Rattle.fit_base.specs.declared.items.Items.{Items}
 use Rattle.fit_base.specs.BaseTypes.{item_width}
 use Rattle.fit_base.specs.Numbers.{IsBytes, number_bytes}
+use Rattle.fit_base.proofs.ByteLists.{IsBytes-tail, IsBytes-front, IsBytes-back}
 use Rattle.fit_record.specs.declared.definition.DevDef.{DevDef}
 use Rattle.fit_record.specs.declared.definition.FieldDef.{FieldDef}
 use Rattle.fit_record.specs.declared.definition.MessageDef.{MessageDef}
@@ -28,9 +29,7 @@ use Rattle.fit_record.specs.Environment.{Environment, empty_environment, defined
 use Rattle.fit_record.specs.Records.{architecture, layout, dev_layout, field_bytes, dev_field_bytes, dev_part, DefinitionFits, DataFits, HaveShape, Fits, record_bytes, AllFit, records_bytes}
 use Rattle.fit_record.specs.Sizes.{entry_count, environment_size}
 use Rattle.fit_record.proofs.Firsts.{first_below}
-use Rattle.fit_step.proofs.Takes.{IsBytes-tail}
 use Rattle.fit_decode.specs.Events.{item_count}
-use Rattle.fit_decode.proofs.Splits.{IsBytes-front, IsBytes-back}
 
 -- ---- described developer fields
 

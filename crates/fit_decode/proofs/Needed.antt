@@ -3,7 +3,8 @@ use Rattle.std.proofs.Common.{◌≡◌, ℕ, ◌+◌, ◌-◌, ◌<◌, ◌^◌
 use Rattle.std.specs.Prelude.{if◌then◌else◌}
 use Rattle.fit_base.specs.declared.number.Order.TheVariants.{Little}
 use Rattle.fit_base.specs.Numbers.{IsBytes, number}
-use Rattle.fit_base.proofs.NumberLaws.{IsBytes-take, IsBytes-drop, number-below}
+use Rattle.fit_base.proofs.NumberLaws.{number-below}
+use Rattle.fit_base.proofs.ByteLists.{IsBytes-take, IsBytes-drop, IsBytes-back}
 use Rattle.fit_sum.specs.Checksum.{checksum}
 use Rattle.fit_frame.specs.Header.{header_bytes}
 use Rattle.fit_frame.specs.Beginning.{Seen}
@@ -20,7 +21,6 @@ use Rattle.fit_decode.specs.Answers.{Seen as Fed}
 use Rattle.fit_decode.specs.Scans.{sum_part}
 use Rattle.fit_decode.specs.Kept.{Fields, HoldsAt, Holds, to_come}
 use Rattle.fit_decode.specs.Invariant.{IsKept, fields_of}
-use Rattle.fit_decode.proofs.Splits.{IsBytes-back}
 use Rattle.fit_decode.proofs.Walked.{come}
 
 -- the number in four bytes

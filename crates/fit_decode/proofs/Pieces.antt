@@ -31,7 +31,3 @@ when_ok (Err y) h is = absurd cc
 pub when_err : {X Y P : Type 0} (r : Result X Y) → OnErr r P → is_ok r ≡ false → P
 when_err (Ok x) h is = absurd cc
 when_err (Err y) h is = h
-
--- the bytes of the code's slices
-pub are_bytes : (bytes : List ℕ) → ((k : ℕ) → Fits w8 (get_or bytes k 0)) → IsBytes bytes
-are_bytes bytes h k = let fits : Fits w8 (get_or bytes k 0) = h k in omega arith

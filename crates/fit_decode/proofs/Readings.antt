@@ -1,11 +1,10 @@
 -- A walk over bytes of a record, one byte more, and what can fill the data section behind it.
 use Rattle.std.proofs.Common.{◌≡◌, inl, inr, ℕ, zero, ◌<◌, ◌≤◌, true, List, [], ◌∷◌, ◌++◌, length, refl, sym, ap, ◌∙◌, subst, arith, None, Ok}
 use Rattle.fit_base.specs.Numbers.{IsBytes}
-use Rattle.fit_base.proofs.NumberLaws.{IsBytes-append}
+use Rattle.fit_base.proofs.ByteLists.{IsBytes-append, IsBytes-cons, IsBytes-none, IsBytes-tail}
 use Rattle.fit_record.specs.declared.message.Record.{Record}
 use Rattle.fit_record.specs.Environment.{Environment, learn}
 use Rattle.fit_record.specs.Rooms.{can_fill}
-use Rattle.fit_record.proofs.ByteLists.{IsBytes-cons, IsBytes-none}
 use Rattle.fit_step.specs.declared.phase.DefinitionPhase.TheVariants.{Reserved, Architecture as AtArchitecture, GlobalFirst, GlobalSecond, FieldCount, FieldNumber, FieldSize, FieldCode, DevCount, DevNumber, DevSize, DevIndex}
 use Rattle.fit_step.specs.Machine.{State, start, step, Walks, Ends, least_rest}
 use Rattle.fit_step.specs.Parts.{Part, nothing, in_definition, in_fields, in_dev_fields, part_bytes, IsPart, HasBegun, state_of}
@@ -14,7 +13,6 @@ use Rattle.fit_step.specs.Tests.{tests_of}
 use Rattle.fit_step.specs.GoingOn.{goes_on}
 use Rattle.fit_step.proofs.GoingOn.{GoesOn}
 use Rattle.fit_step.proofs.Runs.{walks_join}
-use Rattle.fit_step.proofs.Takes.{IsBytes-tail}
 use Rattle.fit_decode.specs.Scans.{Reading}
 use Rattle.fit_decode.proofs.Walked.{Come, come, step_goes_on}
 

@@ -4,7 +4,7 @@ use Rattle.std.specs.Prelude.{Option, Result, IsOk}
 use Rattle.std.proofs.lemmas.Bool.Decides.{eqb_tells}
 use Rattle.std.proofs.lemmas.List.{append-nil}
 use Rattle.fit_base.specs.Numbers.{IsBytes, little_bytes}
-use Rattle.fit_base.proofs.NumberLaws.{IsBytes-append, IsBytes-take}
+use Rattle.fit_base.proofs.ByteLists.{IsBytes-append, IsBytes-take}
 use Rattle.fit_sum.specs.Checksum.{checksum}
 use Rattle.fit_frame.specs.declared.header.Header.{Header as FileHeader}
 use Rattle.fit_frame.specs.Header.{header_bytes}

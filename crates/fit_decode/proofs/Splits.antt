@@ -1,8 +1,5 @@
--- Two ways to begin one list, and bytes of a part of a list.
-use Rattle.std.proofs.Common.{◌≡◌, ◌⊎◌, inl, inr, ℕ, List, [], ◌∷◌, ◌++◌, length, refl, subst}
-use Rattle.std.proofs.Math.Seq.{take-append_seam, drop-append_seam}
-use Rattle.fit_base.specs.Numbers.{IsBytes}
-use Rattle.fit_base.proofs.NumberLaws.{IsBytes-take, IsBytes-drop}
+-- Two ways to begin one list.
+use Rattle.std.proofs.Common.{◌≡◌, ◌⊎◌, inl, inr, ℕ, List, [], ◌∷◌, ◌++◌, refl}
 
 -- the second goes on behind the first
 pub record GoesPast (a b x y : List ℕ) : Type 0 where
@@ -27,9 +24,3 @@ split (c ∷ a) (d ∷ b) x y e =
       | inl s ↦ let second = s.second in inl (record { more = s.more; second = cc; behind = s.behind })
       | inr s ↦ let first = s.first in inr (record { next = s.next; more = s.more; first = cc; behind = s.behind })
     ]
-
-pub IsBytes-front : (a b : List ℕ) → IsBytes (a ++ b) → IsBytes a
-IsBytes-front a b are = subst IsBytes (take-append_seam a b) (IsBytes-take (length a) (a ++ b) are)
-
-pub IsBytes-back : (a b : List ℕ) → IsBytes (a ++ b) → IsBytes b
-IsBytes-back a b are = subst IsBytes (drop-append_seam a b) (IsBytes-drop (length a) (a ++ b) are)

@@ -4,7 +4,7 @@ use Rattle.std.proofs.lemmas.Bool.{eq-eqb}
 use Rattle.std.proofs.lemmas.List.{length-take-le}
 use Rattle.fit_base.specs.Numbers.{IsBytes, little_bytes}
 use Rattle.fit_base.proofs.Bytes.{length-little_bytes}
-use Rattle.fit_base.proofs.NumberLaws.{IsBytes-append, IsBytes-take}
+use Rattle.fit_base.proofs.ByteLists.{IsBytes-append, IsBytes-take}
 use Rattle.fit_sum.specs.Checksum.{checksum}
 use Rattle.fit_frame.specs.declared.header.Header.{Header}
 use Rattle.fit_frame.specs.declared.reason.Reason.TheVariants.{FileSum}

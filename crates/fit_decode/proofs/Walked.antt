@@ -2,7 +2,7 @@
 use Rattle.std.proofs.Common.{◌≡◌, inl, inr, ℕ, ◌+◌, ◌-◌, ◌≤◌, true, List, [], ◌∷◌, ◌++◌, length, refl, sym, ap, ◌∙◌, subst, arith, append_assoc, length-append}
 use Rattle.std.proofs.lemmas.List.{append-nil}
 use Rattle.fit_base.specs.Numbers.{IsBytes}
-use Rattle.fit_base.proofs.NumberLaws.{IsBytes-append}
+use Rattle.fit_base.proofs.ByteLists.{IsBytes-append, IsBytes-front, IsBytes-back}
 use Rattle.fit_record.specs.Environment.{Environment, learn}
 use Rattle.fit_record.specs.Records.{record_bytes, records_bytes}
 use Rattle.fit_record.specs.Rooms.{can_fill}
@@ -15,7 +15,7 @@ use Rattle.fit_step.proofs.GoingOn.{GoesOn, goes}
 use Rattle.fit_step.proofs.Runs.{walks_are_cuts, one_more}
 use Rattle.fit_step.proofs.Rest.{rooms_are_kept}
 use Rattle.fit_decode.specs.GoingOn.{FillFrom}
-use Rattle.fit_decode.proofs.Splits.{split, IsBytes-front, IsBytes-back}
+use Rattle.fit_decode.proofs.Splits.{split}
 use Rattle.fit_decode.proofs.Whole.{NoRecord, part_of_record}
 use Rattle.fit_decode.proofs.Continuing.{continues}
 

@@ -34,7 +34,7 @@ pub enum Fault {
     /// The bytes end at this place, and they begin a chain of files but aren't one.
     #[error("truncated")]
     Truncated { place: u64 },
-    /// Memory was refused. So many bytes of the piece count as fed.
+    /// Memory was refused. So many bytes of the piece count as fed; a reader says how many it has taken.
     #[error("out of memory")]
     NoMemory { used: u64 },
     /// The source failed behind so many bytes.

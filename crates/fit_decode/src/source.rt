@@ -67,13 +67,13 @@ impl<'a> Source for &'a [u8] {
 #[derive(Drop)]
 pub struct ReadSource<R: Read> {
     reader: R,
-    failed: bool,
+    broken: bool,
 }
 
 impl<R: Read> Model for ReadSource<R> {
     ghost Value = { Told };
 
-    ghost view = { λ s. record { left = R.remaining s.reader; failed = s.failed } };
+    ghost view = { λ s. record { left = R.remaining s.reader; failed = s.broken } };
 }
 
 impl<R: Read> ReadSource<R> {
@@ -83,7 +83,7 @@ impl<R: Read> ReadSource<R> {
     {
         ReadSource {
             reader,
-            failed: false,
+            broken: false,
         }
     }
 }
@@ -94,20 +94,20 @@ impl<R: Read> Source for ReadSource<R> {
     ghost has_failed = { λ s. s.failed };
 
     fn take(&mut self, buffer: &mut [u8]) -> Result<usize, SourceFailed> {
-        if self.failed {
+        if self.broken {
             return Err(SourceFailed);
         }
         match self.reader.read(buffer) {
             Ok(n) => Ok(n),
             Err(_) => {
-                self.failed = true;
+                self.broken = true;
                 Err(SourceFailed)
             }
         }
     }
 
     fn failed(&self) -> bool {
-        self.failed
+        self.broken
     }
 }
 

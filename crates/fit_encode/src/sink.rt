@@ -58,13 +58,13 @@ pub fn put_all<K: Sink>(sink: &mut K, bytes: &[u8]) -> Result<(), u64>
 #[derive(Drop)]
 pub struct WriteSink<W: Write> {
     writer: W,
-    failed: bool,
+    broken: bool,
 }
 
 impl<W: Write> Model for WriteSink<W> {
     ghost Value = { Written };
 
-    ghost view = { λ s. record { held = W.contents s.writer; failed = s.failed } };
+    ghost view = { λ s. record { held = W.contents s.writer; failed = s.broken } };
 }
 
 impl<W: Write> WriteSink<W> {
@@ -74,7 +74,7 @@ impl<W: Write> WriteSink<W> {
     {
         WriteSink {
             writer,
-            failed: false,
+            broken: false,
         }
     }
 
@@ -92,23 +92,23 @@ impl<W: Write> Sink for WriteSink<W> {
     ghost has_failed = { λ s. s.failed };
 
     fn put(&mut self, bytes: &[u8]) -> Result<usize, SinkFailed> {
-        if self.failed {
+        if self.broken {
             return Err(SinkFailed);
         }
         match self.writer.write(bytes) {
             Ok(n) => {
-                self.failed = n == 0 && !bytes.is_empty();
+                self.broken = n == 0 && !bytes.is_empty();
                 Ok(n)
             }
             Err(_) => {
-                self.failed = true;
+                self.broken = true;
                 Err(SinkFailed)
             }
         }
     }
 
     fn failed(&self) -> bool {
-        self.failed
+        self.broken
     }
 }
 

@@ -1,1 +1,4 @@
 pub mod RoundTrip
+pub mod Uploading
+pub mod TableText
+pub mod Holding

@@ -1,8 +1,14 @@
 //! First programs over the library: what `docs/USE.md` shows.
 #![tactic(auto)]
 
+mod recording;
 mod round_trip;
+mod tables;
 #[cfg(test)]
 mod tests;
+mod upload;
 
+pub use recording::ride_file;
 pub use round_trip::written_and_read;
+pub use tables::ride_table;
+pub use upload::check_upload;

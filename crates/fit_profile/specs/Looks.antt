@@ -14,8 +14,3 @@ known (r ∷ earlier) = learn (known earlier) r
 abbrev pub first_field : {A : Type 0} → List FieldDef → List (Items A) → ℕ → Option (FieldDef × Items A)
 first_field (f ∷ fields) (i ∷ items) number = if f.number == number then Some (f, i) else first_field fields items number
 first_field _ _ number = None
-
--- the first of two, where it is there, and else the second
-abbrev pub or_else : {X : Type 0} → Option X → Option X → Option X
-or_else (Some x) other = Some x
-or_else None other = other

@@ -5,8 +5,9 @@ use Rattle.fit_record.specs.declared.message.Values.{Values}
 use Rattle.fit_record.specs.declared.message.Record.{Record}
 use Rattle.fit_record.specs.declared.message.Record.TheVariants.{Define, Values as Data}
 use Rattle.fit_record.specs.Environment.{Environment, defined_at, only}
+use Rattle.fit_record.specs.Faults.{or_else}
 use Rattle.fit_profile.specs.Least.{least_from}
-use Rattle.fit_profile.specs.Looks.{known, first_field, or_else}
+use Rattle.fit_profile.specs.Looks.{known, first_field}
 
 -- a timestamp of 32 bits, of which the greatest number stands for none
 abbrev pub valid_time : ℕ → Option ℕ

@@ -5,10 +5,10 @@ use Rattle.fit_record.specs.declared.message.Values.{Values}
 use Rattle.fit_record.specs.declared.message.Record.{Record}
 use Rattle.fit_record.specs.declared.message.Record.TheVariants.{Define, Values as Data}
 use Rattle.fit_record.specs.Environment.{Environment, defined_at}
+use Rattle.fit_record.specs.Faults.{or_else}
 use Rattle.fit_profile.specs.declared.component.Component.{Component}
 use Rattle.fit_profile.specs.declared.told.Told.{Told}
 use Rattle.fit_profile.specs.declared.told.Last.{Last}
-use Rattle.fit_profile.specs.Looks.{or_else}
 use Rattle.fit_profile.specs.Times.{time, header_time, previous_time, field_time}
 use Rattle.fit_profile.specs.Accumulated.{accumulated, next_from, number_of, previous_value, speed, distance, total_cycles, accumulated_power}
 

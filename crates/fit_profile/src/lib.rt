@@ -34,3 +34,4 @@ pub use message::{FieldView, Message};
 pub use profile::{Info, field_info, message_name};
 pub use scaled::{degrees, fixed};
 pub use stream::Stream;
+pub use text::text_len;

@@ -11,8 +11,8 @@ use std::str;
 
 const STRING: u8 = 0x07;
 
-/// How many bytes there are before the closing zeros.
-fn text_len(bytes: &[u64]) -> usize
+/// How many bytes of a string's field there are before its closing zeros.
+pub fn text_len(bytes: &[u64]) -> usize
     ensures before { take result bytes.now ≡ before_closing_zeros bytes.now }
     ensures within { result ≤ length bytes.now }
 {

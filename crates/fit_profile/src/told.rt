@@ -1,7 +1,7 @@
 //! Times and accumulated values of a message.
 ghost use Rattle.std.specs.Prelude.{◌≡◌, ◌≤◌, ◌<◌, ◌^◌, ◌%◌, ◌/◌, option_map, option_and_then, unwrap_or};
 ghost use Rattle.fit_record.specs.Environment.{defined_at};
-ghost use Rattle.fit_profile.specs.Looks as looks;
+ghost use Rattle.fit_record.specs.Faults.{or_else};
 ghost use Rattle.fit_profile.specs.Times as times;
 ghost use Rattle.fit_profile.specs.Accumulated as sums;
 ghost use Rattle.fit_profile.specs.Told as telling;
@@ -92,7 +92,7 @@ fn time<A: Allocator>(
     definition: &MessageDef<A>,
     values: &Values<A>,
 ) -> Option<u32>
-    ensures { result ≡ looks.or_else (times.field_time definition.now values.now) (times.header_time previous values.now.offset) }
+    ensures { result ≡ or_else (times.field_time definition.now values.now) (times.header_time previous values.now.offset) }
 {
     match field_time(definition, values) {
         Some(time) => Some(time),

@@ -4,6 +4,7 @@ use Rattle.std.specs.Prelude.{Option, option_map, nat_le, ◌&&◌, IfSome, IsSo
 use Rattle.std.specs.Option.{option_map_or}
 use Rattle.std.proofs.lemmas.Bool.{true≢false, and_parts, and_from, and_left, leb-true, le-leb, lt-leb}
 use Rattle.fit_base.specs.Numbers.{IsBytes}
+use Rattle.fit_base.proofs.ByteLists.{IsBytes-append, IsBytes-zeros}
 use Rattle.fit_record.specs.declared.message.Values.{Values}
 use Rattle.fit_record.specs.declared.message.Record.TheVariants.{Values as Data}
 use Rattle.fit_record.specs.declared.environment.Defined.{Defined}
@@ -14,11 +15,9 @@ use Rattle.fit_record.specs.Files.{CanFill}
 use Rattle.fit_record.specs.Rooms.{fills, has_length, can_fill}
 use Rattle.fit_record.specs.Unfinished.{CanCarry, can_carry}
 use Rattle.fit_record.proofs.OneRecord.{same_header}
-use Rattle.fit_base.proofs.NumberLaws.{IsBytes-append}
 use Rattle.std.proofs.lemmas.List.{length-replicate}
 use Rattle.fit_record.proofs.Lengths.{length-data}
 use Rattle.fit_record.proofs.MessageBytes.{message_of, message_fits}
-use Rattle.fit_record.proofs.ByteLists.{IsBytes-zeros}
 use Rattle.fit_record.proofs.FilledRooms.{can_fill_is, same_places}
 
 -- A data message changes no lengths.

@@ -5,6 +5,7 @@ use Rattle.std.proofs.lemmas.Bool.{or_right, eq-eqb, leb-true, le-leb}
 use Rattle.fit_base.specs.declared.number.Order.{Order}
 use Rattle.fit_base.specs.declared.number.Order.TheVariants.{Little, Big}
 use Rattle.fit_base.specs.Numbers.{IsBytes, number_bytes, number}
+use Rattle.fit_base.proofs.ByteLists.{IsBytes-cons, IsBytes-none}
 use Rattle.fit_record.specs.declared.definition.DevDef.{DevDef}
 use Rattle.fit_record.specs.declared.definition.MessageDef.{MessageDef}
 use Rattle.fit_record.specs.Environment.{Environment, dev_defs}
@@ -12,7 +13,6 @@ use Rattle.fit_record.specs.Records.{architecture, field_bytes, dev_part, defini
 use Rattle.fit_record.specs.Rooms.{others_have}
 use Rattle.fit_record.specs.Unfinished.{can_complete_front, CanComplete}
 use Rattle.fit_record.proofs.RoomSums.{fills_by_ones}
-use Rattle.fit_record.proofs.ByteLists.{IsBytes-cons, IsBytes-none}
 use Rattle.fit_record.specs.Records.{body_length}
 use Rattle.fit_record.proofs.DefinitionInPlace.{can_fill_after}
 

@@ -7,6 +7,7 @@ use Rattle.fit_base.specs.declared.number.Order.{Order}
 use Rattle.fit_base.specs.declared.number.Order.TheVariants.{Little, Big}
 use Rattle.fit_base.specs.Numbers.{IsBytes, number_bytes}
 use Rattle.fit_base.proofs.Bytes.{front_back}
+use Rattle.fit_base.proofs.ByteLists.{IsBytes-append, IsBytes-cons, IsBytes-none}
 use Rattle.fit_record.specs.declared.definition.FieldDef.{FieldDef}
 use Rattle.fit_record.specs.declared.definition.DevDef.{DevDef}
 use Rattle.fit_record.specs.declared.definition.MessageDef.{MessageDef}
@@ -15,8 +16,6 @@ use Rattle.fit_record.specs.Records.{architecture, field_bytes, dev_field_bytes,
 use Rattle.fit_record.specs.Rooms.{others_have, can_fill_with, can_fill_from}
 use Rattle.fit_record.specs.Unfinished.{finishes, can_complete, can_complete_dev, CanComplete, IsCut, fields_part, dev_fields_part, size_so_far}
 use Rattle.fit_record.proofs.RoomSums.{fills_6}
-use Rattle.fit_base.proofs.NumberLaws.{IsBytes-append}
-use Rattle.fit_record.proofs.ByteLists.{IsBytes-cons, IsBytes-none}
 use Rattle.fit_record.proofs.EntryParts.{spell, sizes_known, Goes, goes_on, length-entries}
 use Rattle.fit_record.specs.Records.{body_length}
 use Rattle.fit_record.proofs.DefinitionInPlace.{can_fill_after, open_from, open_to, IsOpenSize, finishes_from, finishes_to, IsSize}

@@ -3,7 +3,7 @@ use Rattle.std.proofs.Common.{◌≡◌, ℕ, zero, suc, ◌+◌, ◌*◌, ◌<�
 use Rattle.std.specs.Prelude.{flat_map, sum_by}
 use Rattle.std.proofs.lemmas.List.Sums.{sum_by-cons}
 use Rattle.fit_base.specs.Numbers.{IsBytes}
-use Rattle.fit_record.proofs.ByteLists.{IsBytes-cons, IsBytes-none}
+use Rattle.fit_base.proofs.ByteLists.{IsBytes-cons, IsBytes-none}
 
 abbrev pub spell : {X : Type 0} → (X → ℕ) → (X → ℕ) → (X → ℕ) → X → List ℕ
 spell first size last x = first x ∷ size x ∷ last x ∷ []

@@ -17,10 +17,9 @@ use Rattle.fit_record.specs.Records.{message_size}
 use Rattle.fit_record.specs.Rooms.{fills, has_length, can_fill}
 use Rattle.fit_record.proofs.LargeRooms.{six_and_more}
 use Rattle.fit_record.proofs.RoomSums.{fills_6, fills_more, of_filled}
-use Rattle.fit_base.proofs.NumberLaws.{IsBytes-append}
+use Rattle.fit_base.proofs.ByteLists.{IsBytes-append, IsBytes-cons, IsBytes-none, IsBytes-zeros}
 use Rattle.fit_record.proofs.Lengths.{length-definition, length-data}
 use Rattle.fit_record.proofs.MessageBytes.{message_of, message_fits}
-use Rattle.fit_record.proofs.ByteLists.{IsBytes-cons, IsBytes-none, IsBytes-zeros}
 
 -- ---- messages alone
 

@@ -2,6 +2,7 @@
 use Rattle.std.proofs.Common.{◌≡◌, ℕ, zero, suc, ◌+◌, ◌<◌, [], ◌∷◌, length, replicate, refl, sym, ap, ◌∙◌, subst, lit<, arith, None, Some, get_or-set_same}
 use Rattle.std.specs.Prelude.{option_and_then}
 use Rattle.fit_base.specs.declared.number.Order.TheVariants.{Little}
+use Rattle.fit_base.proofs.ByteLists.{IsBytes-append, IsBytes-cons, IsBytes-zeros}
 use Rattle.fit_record.specs.declared.definition.MessageDef.{MessageDef}
 use Rattle.fit_record.specs.declared.message.Values.{Values}
 use Rattle.fit_record.specs.declared.message.Record.TheVariants.{Define, Values as Data}
@@ -10,8 +11,6 @@ use Rattle.fit_record.specs.Environment.{Environment, defined_at, describe, desc
 use Rattle.fit_record.specs.Records.{Fits, AllFit, record_bytes, records_bytes}
 use Rattle.fit_record.specs.Files.{CanFill}
 use Rattle.std.proofs.lemmas.List.{length-replicate}
-use Rattle.fit_base.proofs.NumberLaws.{IsBytes-append}
-use Rattle.fit_record.proofs.ByteLists.{IsBytes-cons, IsBytes-zeros}
 
 abbrev no_fields : {A : Type 0} → MessageDef A
 no_fields = record { local = 0; reserved = 0; order = Little; global = 0; fields = []; dev = None }

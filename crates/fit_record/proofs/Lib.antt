@@ -9,7 +9,6 @@ pub mod LengthFacts
 pub mod KeptFacts
 pub mod Firsts
 pub mod MessageSizes
-pub mod ByteLists
 pub mod MessageBytes
 pub mod RoomSums
 pub mod LargeRooms

@@ -9,8 +9,9 @@ use Rattle.fit_base.specs.declared.number.Order.{Order}
 use Rattle.fit_base.specs.BaseTypes.{item_width}
 use Rattle.fit_base.specs.Fields.{HasShape, items_bytes}
 use Rattle.fit_base.specs.Numbers.{IsBytes, number, number_bytes}
-use Rattle.fit_base.proofs.NumberLaws.{IsBytes-take, IsBytes-drop, number-below, number_bytes-number}
+use Rattle.fit_base.proofs.NumberLaws.{number-below, number_bytes-number}
 use Rattle.fit_base.proofs.Shapes.{item_width_divides}
+use Rattle.fit_base.proofs.ByteLists.{IsBytes-take, IsBytes-drop}
 use Rattle.fit_record.specs.declared.environment.Defined.{Defined}
 pub use Rattle.fit_record.specs.ReadMessages.{numbers_of, field_of, fields_of, sizes, message_of}
 use Rattle.fit_record.specs.Records.{layout, dev_layout, message_size, HaveShape, DataHeaderFits, data_bytes, DataFits}

@@ -7,6 +7,7 @@ use Rattle.fit_base.specs.declared.number.Order.{Order}
 use Rattle.fit_base.specs.declared.number.Order.TheVariants.{Little, Big}
 use Rattle.fit_base.specs.Numbers.{IsBytes, number_bytes}
 use Rattle.fit_base.proofs.Bytes.{length-number_bytes}
+use Rattle.fit_base.proofs.ByteLists.{IsBytes-tail}
 use Rattle.fit_record.specs.declared.definition.DevDef.{DevDef}
 use Rattle.fit_record.specs.declared.definition.MessageDef.{MessageDef}
 use Rattle.fit_record.specs.declared.message.Record.{Record}
@@ -22,7 +23,6 @@ use Rattle.fit_step.specs.declared.phase.DefinitionPhase.TheVariants.{Reserved, 
 use Rattle.fit_step.specs.Parts.{fields_front, dev_front, definition_part, HasNone, AwaitsFields, AwaitsDev, IsDefinitionPart}
 use Rattle.fit_step.specs.Tests.{entries_complete}
 use Rattle.fit_step.specs.GoingOn.{has_dev, definition_goes_on, Continues}
-use Rattle.fit_step.proofs.Takes.{IsBytes-tail}
 use Rattle.fit_step.proofs.HeaderBits.{definition_bits}
 use Rattle.fit_step.proofs.HeaderSteps.{message_first}
 

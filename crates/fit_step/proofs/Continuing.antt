@@ -7,6 +7,7 @@ use Rattle.std.proofs.lemmas.List.Sums.{sum_by-append}
 use Rattle.std.proofs.Math.ListN.{length-set}
 use Rattle.fit_base.specs.Numbers.{IsBytes}
 use Rattle.fit_base.specs.Fields.{items_bytes}
+use Rattle.fit_base.proofs.ByteLists.{IsBytes-tail}
 use Rattle.fit_frame.specs.declared.reason.Reason.{Reason}
 use Rattle.fit_frame.specs.declared.reason.Reason.TheVariants.{NoFit, Overrun}
 use Rattle.fit_record.specs.declared.definition.MessageDef.{MessageDef}
@@ -30,7 +31,6 @@ use Rattle.fit_step.specs.Parts.{Part, nothing, in_definition, in_fields, in_dev
 use Rattle.fit_step.specs.Reasons.{least_definition}
 use Rattle.fit_step.specs.Runs.{Fails}
 use Rattle.fit_step.specs.Tests.{tests_of, entries_complete}
-use Rattle.fit_step.proofs.Takes.{IsBytes-tail}
 use Rattle.fit_step.proofs.Lengths.{length-data, length-shaped}
 use Rattle.fit_step.proofs.HeaderSteps.{message_first, definition_first}
 use Rattle.fit_step.proofs.MessageSteps.{fields_to_come, dev_to_come}

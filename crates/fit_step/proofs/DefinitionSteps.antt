@@ -5,6 +5,8 @@ use Rattle.std.proofs.lemmas.Bool.{cases_Bool, cases_eq, cases_lt, both_ways, co
 use Rattle.std.proofs.lemmas.List.{append-nil, flat_map_more}
 use Rattle.fit_base.specs.Numbers.{number as number_of, number_bytes}
 use Rattle.fit_base.proofs.Bytes.{front_back, length-number_bytes}
+use Rattle.fit_base.proofs.ByteLists.{IsBytes-none, IsBytes-cons}
+use Rattle.fit_base.proofs.NumberLaws.{number_bytes-number, number-below}
 use Rattle.fit_frame.specs.declared.reason.Reason.TheVariants.{NoFit, Overrun, Architecture}
 use Rattle.fit_record.specs.declared.definition.FieldDef.{FieldDef}
 use Rattle.fit_record.specs.declared.definition.DevDef.{DevDef}
@@ -18,7 +20,6 @@ use Rattle.fit_record.specs.Records.{architecture, field_bytes, dev_field_bytes,
 use Rattle.fit_step.specs.Machine.{Tests, Step, step, definition_move, next_field, next_dev, after_fields, dev_count_byte}
 use Rattle.fit_step.specs.Parts.{in_definition, definition_front, fields_front, dev_front, definition_part, HasNone, IsNew, AwaitsFields, AwaitsDev, IsDefinitionPart, IsShut}
 use Rattle.fit_record.proofs.OneRecord.{same_fields}
-use Rattle.fit_step.proofs.Takes.{IsBytes-none, IsBytes-cons, number_bytes-number, number-below}
 use Rattle.fit_step.proofs.Lengths.{dev_size_of, length-field_bytes, length-dev_field_bytes, length-dev_part, length-fields_front}
 use Rattle.fit_step.proofs.HeaderBits.{definition_bits, is_some_dev}
 use Rattle.fit_step.proofs.HeaderSteps.{message_first}

@@ -4,6 +4,7 @@ use Rattle.std.specs.Prelude.{Option, ◌==◌, nat_lt}
 use Rattle.std.proofs.lemmas.Bool.{cond_both}
 use Rattle.std.proofs.lemmas.List.{append-nil}
 use Rattle.fit_base.specs.Numbers.{IsBytes}
+use Rattle.fit_base.proofs.ByteLists.{IsBytes-tail}
 use Rattle.fit_frame.specs.declared.reason.Reason.TheVariants.{NoFit}
 use Rattle.fit_record.specs.declared.definition.MessageDef.{MessageDef}
 use Rattle.fit_record.specs.declared.environment.Defined.{Defined}
@@ -16,7 +17,6 @@ use Rattle.fit_record.specs.Records.{message_size}
 use Rattle.fit_step.specs.Machine.{Tests, State, Step, step, header_move, message_move, definition_move, field_move, dev_move, dev_count_byte, RoomsFill}
 use Rattle.fit_step.specs.Parts.{Part, nothing, in_definition, in_fields, in_dev_fields, part_bytes, IsPart, state_of}
 use Rattle.fit_step.specs.Runs.{Fails, NoFitFails, TestsFill}
-use Rattle.fit_step.proofs.Takes.{IsBytes-tail}
 use Rattle.fit_step.proofs.Runs.{step_goes, one_less, one_more}
 
 -- where a step refuses for want of records, P holds

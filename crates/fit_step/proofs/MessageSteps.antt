@@ -9,13 +9,14 @@ use Rattle.fit_base.specs.BaseTypes.{item_width}
 use Rattle.fit_base.specs.Fields.{HasShape, items_bytes}
 use Rattle.fit_step.specs.declared.phase.Phase.TheVariants.{FieldItems, DevItems}
 use Rattle.fit_base.proofs.SameItems.{item_width_positive}
+use Rattle.fit_base.proofs.ByteLists.{IsBytes-none}
 use Rattle.fit_record.specs.declared.environment.Defined.{Defined}
 use Rattle.fit_record.specs.declared.message.Record.TheVariants.{Values as Data}
 use Rattle.fit_record.specs.Environment.{Environment, defined_at}
 use Rattle.fit_record.specs.Records.{layout, dev_layout, HaveShape, data_header, DataHeaderFits, order_at}
 use Rattle.fit_step.specs.Machine.{Tests, Step, reading, no_items, begin_dev, begin_fields, layout_at, dev_layout_at, field_move, dev_move, step}
 use Rattle.fit_step.specs.Parts.{Taking, in_fields, in_dev_fields, taken, IsTaking, part_bytes, IsPart, state_of}
-use Rattle.fit_step.proofs.Takes.{IsBytes-none, HaveShape-last, grown, grown-items, grown-rest, grown-bytes, grown-stands, grown-whole}
+use Rattle.fit_step.proofs.Takes.{HaveShape-last, grown, grown-items, grown-rest, grown-bytes, grown-stands, grown-whole}
 use Rattle.fit_step.proofs.Outcomes.{Moves}
 
 -- a field that begins

@@ -4,6 +4,7 @@ use Rattle.std.specs.Prelude.{Option, drop, ◌==◌, nat_lt, option_map, unwrap
 use Rattle.std.proofs.lemmas.Bool.{cond_both, eqb-true, eqb-false, ltb-false}
 use Rattle.std.proofs.lemmas.List.Sums.{sum_by-append, sum_by-cons}
 use Rattle.fit_base.specs.Numbers.{IsBytes}
+use Rattle.fit_base.proofs.ByteLists.{IsBytes-tail}
 use Rattle.fit_record.specs.declared.definition.DevDef.{DevDef}
 use Rattle.fit_record.specs.declared.definition.MessageDef.{MessageDef}
 use Rattle.fit_record.specs.declared.message.Values.{Values}
@@ -19,7 +20,6 @@ use Rattle.fit_record.specs.Records.{message_size}
 use Rattle.fit_step.specs.Machine.{Tests, State, Step, Next, start, step, sizes, least_rest, begin_dev, begin_fields, layout_at, dev_layout_at, fields_rest, dev_rest, field_move, dev_move, definition_move, next_field, next_dev, after_fields, dev_count_byte, new_definition, new_message, new_dev, header_move, message_move, Walks, Ends}
 use Rattle.fit_step.specs.Parts.{Part, nothing, in_definition, in_fields, in_dev_fields, IsDefinitionPart, IsPart, state_of}
 use Rattle.fit_step.specs.Runs.{RoomsAreKept, EndsAreWithin}
-use Rattle.fit_step.proofs.Takes.{IsBytes-tail}
 use Rattle.fit_step.proofs.Runs.{step_goes}
 
 -- what a step leaves of a room

@@ -2,6 +2,7 @@
 use Rattle.std.proofs.Common.{◌≡◌, inl, inr, ℕ, zero, suc, ◌-◌, ◌<◌, ◌≤◌, List, [], ◌∷◌, ◌++◌, length, replicate, refl, sym, ap, ◌∙◌, subst, arith, append_assoc, Some, None, Ok, Err}
 use Rattle.std.proofs.lemmas.List.{append-nil}
 use Rattle.fit_base.specs.Numbers.{IsBytes}
+use Rattle.fit_base.proofs.ByteLists.{IsBytes-tail}
 use Rattle.fit_frame.specs.declared.reason.Reason.{Reason}
 use Rattle.fit_frame.specs.declared.reason.Reason.TheVariants.{NoFit, Overrun}
 use Rattle.fit_record.specs.declared.message.Record.{Record}
@@ -11,7 +12,6 @@ use Rattle.fit_step.specs.Reasons.{record_reason}
 use Rattle.fit_step.specs.Machine.{Tests, State, Next, start, step, Walks, Ends, RoomsFill}
 use Rattle.fit_step.specs.Parts.{Part, nothing, in_definition, in_fields, in_dev_fields, part_bytes, IsPart, HasBegun, state_of, IsShut}
 use Rattle.fit_step.specs.Runs.{RecordsRunThrough, EndsAreRecords, WalksAreCuts, RefusalsArePlaced}
-use Rattle.fit_step.proofs.Takes.{IsBytes-tail}
 use Rattle.fit_record.proofs.OneRecord.{same_record, no_bytes}
 use Rattle.fit_step.proofs.GoOn.{cuts_go_on}
 use Rattle.fit_step.proofs.OneByte.{outcome}

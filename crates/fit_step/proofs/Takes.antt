@@ -8,61 +8,15 @@ use Rattle.std.proofs.Math.Nat.{pow-suc, mul-le-mul_right}
 use Rattle.fit_base.specs.declared.items.Items.{Items}
 use Rattle.fit_base.specs.declared.number.Order.{Order}
 use Rattle.fit_base.specs.declared.number.Order.TheVariants.{Little, Big}
-use Rattle.fit_base.specs.Numbers.{IsBytes, little, number, little_bytes, number_bytes}
+use Rattle.fit_base.specs.Numbers.{IsBytes, number, number_bytes}
 use Rattle.fit_base.specs.Fields.{HasShape, items_bytes}
+use Rattle.fit_base.proofs.ByteLists.{IsBytes-append, IsBytes-cons, IsBytes-none}
+use Rattle.fit_base.proofs.NumberLaws.{number_bytes-number, number-below}
 use Rattle.fit_base.proofs.SameItems.{item_width_positive}
 use Rattle.fit_base.proofs.Shapes.{item_width_divides}
 use Rattle.fit_record.specs.Records.{HaveShape}
 use Rattle.fit_step.specs.Machine.{no_items, add_number, with_number, beyond_number}
 use Rattle.fit_step.specs.Parts.{Taking, width_of, taken, all_items, IsTaking}
-
--- ---- bytes and numbers
-
-pub IsBytes-tail : (b : ℕ) (bytes : List ℕ) → IsBytes (b ∷ bytes) → IsBytes bytes
-IsBytes-tail b bytes h = λ i. h (suc i)
-
-pub IsBytes-cons : (b : ℕ) (bytes : List ℕ) → b < 256 → IsBytes bytes → IsBytes (b ∷ bytes)
-IsBytes-cons b bytes l h zero = l
-IsBytes-cons b bytes l h (suc i) = h i
-
-pub IsBytes-none : IsBytes []
-IsBytes-none i = lit< tt
-
-pub IsBytes-append : (xs ys : List ℕ) → IsBytes xs → IsBytes ys → IsBytes (xs ++ ys)
-IsBytes-append [] ys h g = g
-IsBytes-append (x ∷ xs) ys h g = IsBytes-cons x (xs ++ ys) (h zero) (IsBytes-append xs ys (IsBytes-tail x xs h) g)
-
-pub IsBytes-reverse : (xs : List ℕ) → IsBytes xs → IsBytes (reverse xs)
-IsBytes-reverse [] h = IsBytes-none
-IsBytes-reverse (x ∷ xs) h =
-    subst IsBytes (sym (Rattle.std.proofs.lemmas.List.reverse-append (x ∷ []) xs)) (IsBytes-append (reverse xs) (x ∷ []) (IsBytes-reverse xs (IsBytes-tail x xs h)) (IsBytes-cons x [] (h zero) IsBytes-none))
-
-little_bytes-little : (xs : List ℕ) → IsBytes xs → little_bytes (length xs) (little xs) ≡ xs
-little_bytes-little [] h = refl
-little_bytes-little (x ∷ xs) h =
-    let low : x < 256 = h zero in
-    let first : (x + 256 * little xs) % 256 ≡ x = omega arith in
-    let rest : (x + 256 * little xs) / 256 ≡ little xs = omega arith in
-    let others = little_bytes-little xs (IsBytes-tail x xs h) in
-    rw (first, rest, others) refl
-
-little-below : (xs : List ℕ) → IsBytes xs → little xs < 256 ^ length xs
-little-below [] h = lit< tt
-little-below (x ∷ xs) h =
-    let low : x < 256 = h zero in
-    let others = little-below xs (IsBytes-tail x xs h) in
-    rw pow-suc (omega arith)
-
-pub number_bytes-number : (o : Order) (xs : List ℕ) → IsBytes xs → number_bytes o (length xs) (number o xs) ≡ xs
-number_bytes-number Little xs h = little_bytes-little xs h
-number_bytes-number Big xs h =
-    ap reverse (ap (λ n. little_bytes n (little (reverse xs))) (sym (length-reverse xs)) ∙ little_bytes-little (reverse xs) (IsBytes-reverse xs h)) ∙ reverse-reverse xs
-
-pub number-below : (o : Order) (xs : List ℕ) → IsBytes xs → number o xs < 256 ^ length xs
-number-below Little xs h = little-below xs h
-number-below Big xs h = subst (λ n. little (reverse xs) < 256 ^ n) (length-reverse xs) (little-below (reverse xs) (IsBytes-reverse xs h))
-
--- ---- the field of a place
 
 pub add_number-at : {A : Type 0} (items more : List (Items A)) (i : Items A) (n : ℕ) → add_number (length items) (items ++ i ∷ more) n ≡ items ++ (record i { bits = i.bits ++ n ∷ [] }) ∷ more
 add_number-at [] more i n = refl

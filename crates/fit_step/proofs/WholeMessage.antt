@@ -1,5 +1,5 @@
 -- A data message read at once is the record that its bytes end.
-use Rattle.std.proofs.Common.{Fits as FitsIn, w8, get_or, ◌≡◌, cond, ℕ, zero, suc, ◌+◌, ◌-◌, ◌%◌, ◌<◌, ◌≤◌, true, false, List, [], ◌∷◌, length, take, drop, refl, sym, ap, ◌∙◌, subst, arith, Some, None}
+use Rattle.std.proofs.Common.{◌≡◌, cond, ℕ, zero, suc, ◌+◌, ◌-◌, ◌%◌, ◌<◌, ◌≤◌, true, false, List, [], ◌∷◌, length, take, drop, refl, sym, ap, ◌∙◌, subst, arith, Some, None}
 use Rattle.std.specs.Prelude.{Option, map, zip, sum_by, nat_le, ◌&&◌, IsSomeAnd, option_map, unwrap_or}
 use Rattle.std.specs.Option.{option_map_or}
 use Rattle.std.proofs.lemmas.Bool.{leb-true}
@@ -9,7 +9,7 @@ use Rattle.fit_base.specs.declared.items.Items.{Items}
 use Rattle.fit_base.specs.declared.number.Order.TheVariants.{Little}
 use Rattle.fit_base.specs.Numbers.{IsBytes}
 use Rattle.fit_base.proofs.Bytes.{both}
-use Rattle.fit_base.proofs.NumberLaws.{IsBytes-take}
+use Rattle.fit_base.proofs.ByteLists.{IsBytes-take, IsBytes-cons, IsBytes-tail}
 use Rattle.fit_record.specs.declared.definition.DevDef.{DevDef}
 use Rattle.fit_record.specs.declared.definition.FieldDef.{FieldDef}
 use Rattle.fit_record.specs.declared.environment.Defined.{Defined}
@@ -22,14 +22,12 @@ use Rattle.fit_record.specs.ReadMessages.{fields_of, sizes, message_of}
 use Rattle.fit_record.specs.Records.{layout, dev_layout, message_size, data_header, DataHeaderFits, data_bytes, DataFits, Fits, order_at, IsRecord}
 use Rattle.fit_record.specs.Rooms.{can_fill, fills, has_length}
 use Rattle.fit_record.specs.Unfinished.{can_carry}
-use Rattle.fit_record.proofs.ByteLists.{IsBytes-cons}
 use Rattle.fit_record.proofs.FilledRooms.{can_fill_is, same_places}
 use Rattle.fit_record.proofs.MessageBytes.{message_fits}
 use Rattle.fit_step.specs.Machine.{start, Ends}
 use Rattle.fit_step.specs.Tests.{tests_of}
 use Rattle.fit_step.proofs.Continuing.{records_end}
 use Rattle.fit_step.proofs.HeaderBits.{data_spelled}
-use Rattle.fit_step.proofs.Takes.{IsBytes-tail}
 
 zip_none : (codes : List ℕ) → zip codes (map (λ (f : DevDef). f.size) []) ≡ []
 zip_none [] = refl
@@ -121,10 +119,6 @@ module _ {A : Type 0} (e : Environment A) (p : Defined A) (b size room local : �
       subst (λ l. Ends e (tests_of e) (start room) l (start (room - (1 + size))) (Data message)) all
       (subst (λ n. Ends e (tests_of e) (start n) (b ∷ body) (start (room - (1 + size))) (Data message)) total
       (records_end e (Data message) (b ∷ body) (room - (1 + size)) sixteen is_record (IsBytes-cons b body (all_are zero) body_are) filled))
-
--- the bytes of the code's slices
-pub are_bytes : (bytes : List ℕ) → ((k : ℕ) → FitsIn w8 (get_or bytes k 0)) → IsBytes bytes
-are_bytes bytes h k = let fits : FitsIn w8 (get_or bytes k 0) = h k in omega arith
 
 -- the length that is kept is that of the definition's messages
 pub same_size : {A : Type 0} (p : Defined A) (o : Option (Defined A)) (size : ℕ) → Some p ≡ o → Some size ≡ option_map message_size o → size ≡ message_size p

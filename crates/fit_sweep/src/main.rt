@@ -1,28 +1,72 @@
-//! Writes a file of 52 bytes and prints how many went out, so that `tests/program` can refuse each
-//! growth of memory in turn: `write_one` takes `Global`, which a test in the language can't make
-//! refuse.
+//! Writes a file of 52 bytes by each writer and prints how many went out, so that `tests/program` can
+//! refuse each growth of memory in turn: the writers take `Global`, which a test in the language can't
+//! make refuse.
 #![tactic(auto)]
 
 use arrayvec::ArrayVec;
 use fit_base::{Bits, Entries, Items, Order};
-use fit_encode::{CutSink, write_one};
+use fit_encode::{CutSink, EncodeFault, Encoder, write_chain, write_one};
 use fit_frame::{Header, HeaderSum};
 use fit_record::{FieldDef, FitFile, MessageDef, Record, Values};
 use std::alloc::{AllocError, Global};
 use std::io;
 
-/// Where memory is refused, the line says whether that was before the writing.
+/// Where memory is refused, a line says whether that was before the writing.
 fn main(rt: HostRuntime) -> io::Result<()> {
-    let Ok(file) = file(rt.alloc()) else {
+    let alloc = rt.alloc();
+    let Ok(file) = file(alloc) else {
         return println!(rt; "out of memory, no file");
     };
+    let files = [file];
     let mut sink = CutSink::<52>::new(52);
-    let answer = write_one(rt.alloc(), &mut sink, &file);
-    let count = sink.bytes().len();
-    match answer {
-        Ok(()) => println!(rt; "{count} bytes"),
-        Err(fault) => println!(rt; "{fault}, {count} bytes"),
+    let answer = write_one(alloc, &mut sink, &files[0]);
+    tell(&rt, "one", answer, sink.bytes().len())?;
+    let mut sink = CutSink::<52>::new(52);
+    let answer = write_chain(alloc, &mut sink, &files);
+    tell(&rt, "chain", answer, sink.bytes().len())?;
+    let mut sink = CutSink::<52>::new(52);
+    match record_by_record(alloc, &mut sink, &files[0]) {
+        Ok(again) => println!(rt;
+            "record by record: {} bytes, {again} put again",
+            sink.bytes().len()
+        ),
+        Err(fault) => println!(rt; "record by record: {fault}, {} bytes", sink.bytes().len()),
     }
+}
+
+/// Prints how many bytes went out, and the fault.
+fn tell(
+    rt: &HostRuntime,
+    name: &str,
+    answer: Result<(), EncodeFault>,
+    count: usize,
+) -> io::Result<()> {
+    match answer {
+        Ok(()) => println!(rt; "{name}: {count} bytes"),
+        Err(fault) => println!(rt; "{name}: {fault}, {count} bytes"),
+    }
+}
+
+/// Writes a file of 36 bytes of data record by record. A record for which memory was refused is put once
+/// more. Answers how many were.
+fn record_by_record(
+    alloc: Global,
+    sink: &mut CutSink<52>,
+    file: &FitFile,
+) -> Result<u8, EncodeFault> {
+    let mut encoder = Encoder::begin(alloc, sink, &file.header, 36)?;
+    let mut again = 0u8;
+    for record in file.records.as_slice() {
+        match encoder.put(sink, record) {
+            Err(EncodeFault::NoMemory) => {
+                again = again.saturating_add(1);
+                encoder.put(sink, record)?;
+            }
+            answer => answer?,
+        }
+    }
+    encoder.finish(sink)?;
+    Ok(again)
 }
 
 /// A definition message and a data message in each architecture.

@@ -1,13 +1,20 @@
-use Rattle.std.proofs.Common.{◌∙◌, sym, ap, map, option_map, Some, codes, List, ℕ, string_bytes}
-use Rattle.clap.specs.Words.{App, takes}
-use Rattle.fit_cmd.proofs.LineFacts.{plain-takes, plain-command, first-is}
+use Rattle.std.proofs.Common.{◌∙◌, sym, ap, subst, inr, refl, map, option_map, Some, codes, List, ℕ, string_bytes}
+use Rattle.clap.specs.Words.{App, app_of, takes, fault_of as clap_faults}
+use Rattle.fit_cmd.specs.CommandLine.{IsRefusedFor, line_fault}
+use Rattle.fit_cmd.proofs.LineFacts.{plain-takes, plain-command, first-is, free-as, refused-by}
 use Rattle.fit_cmd.proofs.command_line.parse_line.Goals as goal
 use Rattle.fit_cmd.proofs.command_line.parse_line.Goals.{in-None, in-Some-get_str+in-Ok-from_str}
 
 pub returns-in-Err-clause-memory : goal.returns-in-Err-clause-memory
 returns-in-Err-clause-memory c = λ command plain.
     let words = map string_bytes c.args.words.now in
-    c.fault_of.ensures (c.in-Err.ensures.passes (ap (λ (a : App). takes a words) c.in-Ok.ensures ∙ plain-takes command words plain))
+    c.fault_of.ensures ∙ ap line_fault (c.in-Err.ensures.passes (ap (λ (a : App). takes a words) c.in-Ok.ensures ∙ plain-takes command words plain))
+
+pub returns-in-Err-clause-refused : goal.returns-in-Err-clause-refused
+returns-in-Err-clause-refused c =
+    let words = map string_bytes c.args.words.now in
+    let a = app_of c.in-Ok.clap in
+    subst (IsRefusedFor words) (sym c.fault_of.ensures) (refused-by a words c.in-Err.error c.in-Ok.ensures (c.in-Err.ensures.kinds (free-as a c.in-Ok.ensures)))
 
 pub returns-in_default-get_str-clause-memory : goal.returns-in_default-get_str-clause-memory
 returns-in_default-get_str-clause-memory c = λ command plain.
@@ -15,6 +22,28 @@ returns-in_default-get_str-clause-memory c = λ command plain.
     let is = first-is c.in-Ok.clap words c.in-Ok-try_get_matches_from.matches (codes "command") c.in-Ok.ensures c.in-Ok-try_get_matches_from.ensures.matches in
     let some = c.get_str.ensures ∙ is ∙ plain-command command words plain in
     cc (rw c.in_default-get_str.is at some)
+
+pub returns-in_default-get_str-clause-refused : goal.returns-in_default-get_str-clause-refused
+returns-in_default-get_str-clause-refused c =
+    let words = map string_bytes c.args.words.now in
+    let a = app_of c.in-Ok.clap in
+    let is = first-is c.in-Ok.clap words c.in-Ok-try_get_matches_from.matches (codes "command") c.in-Ok.ensures c.in-Ok-try_get_matches_from.ensures.matches in
+    inr (inr (
+      ap (λ (b : App). clap_faults b words) (sym c.in-Ok.ensures) ∙ c.in-Ok-try_get_matches_from.ensures.kinds (free-as a c.in-Ok.ensures),
+      (λ command named. let some = c.get_str.ensures ∙ is ∙ named in cc (rw c.in_default-get_str.is at some)),
+      refl,
+    ))
+
+pub returns-in_default-command_of-clause-refused : goal.returns-in_default-command_of-clause-refused
+returns-in_default-command_of-clause-refused c =
+    let words = map string_bytes c.args.words.now in
+    let a = app_of c.in-Ok.clap in
+    let is = first-is c.in-Ok.clap words c.in-Ok-try_get_matches_from.matches (codes "command") c.in-Ok.ensures c.in-Ok-try_get_matches_from.ensures.matches in
+    inr (inr (
+      ap (λ (b : App). clap_faults b words) (sym c.in-Ok.ensures) ∙ c.in-Ok-try_get_matches_from.ensures.kinds (free-as a c.in-Ok.ensures),
+      (λ command named. let some = rw c.in-Some.is at (c.get_str.ensures ∙ is ∙ named) in c.in_default-command_of.ensures.none command (cc some)),
+      refl,
+    ))
 
 pub returns-in_default-command_of-clause-memory : goal.returns-in_default-command_of-clause-memory
 returns-in_default-command_of-clause-memory c = λ command plain.

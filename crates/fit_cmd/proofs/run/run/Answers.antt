@@ -1,17 +1,35 @@
--- The lines of a chain, and the text that `from-csv` reads.
-use Rattle.std.proofs.Common.{◌≡◌, ◌⊎◌, ◌++◌, sym, subst}
+-- What is written of a chain, and the text that `from-csv` reads.
+use Rattle.std.proofs.Common.{◌++◌, sym, subst}
+use Rattle.std.specs.Prelude.{flat_map}
 use Rattle.std.specs.Global.{Global}
-use Rattle.std.specs.Io.KnownBytes.{Appends}
+use Rattle.fit_decode.specs.Events.{file_events}
+use Rattle.fit_csv.specs.ChainRows.{chain_rows}
+use Rattle.fit_csv.specs.Table.{table_of}
 use Rattle.fit_cmd.specs.Lines.{ok_line}
-use Rattle.fit_cmd.specs.Run.{RunsCommand}
+use Rattle.fit_cmd.specs.Run.{IsWritten, RunsCommand}
+use Rattle.fit_cmd.proofs.Concluded.{concluded, text_concluded}
 use Rattle.fit_cmd.proofs.Counts.{chains_have_lines}
 use Rattle.fit_cmd.proofs.TextRead.{text_read}
 use Rattle.fit_cmd.proofs.run.run.Goals as goal
 
-pub returns-in-Check-clause-chain : goal.returns-in-Check-clause-chain
-returns-in-Check-clause-chain g c = λ check fs b input are chain well good.
-    subst (λ lines. (c.run_report.result ≡ 3) ⊎ ((c.run_report.result ≡ 0) × Appends (g.K.Sink.contents c.args.output.now) (g.K.Sink.contents c.run_report.new.output) (lines ++ ok_line)))
+pub returns-in-Check-clause-checks : goal.returns-in-Check-clause-checks
+returns-in-Check-clause-checks g c = λ command fs b input are chain well good.
+    subst (λ lines. IsWritten (lines ++ ok_line) (record { before = g.K.Sink.contents c.args.output.now; after = g.K.Sink.contents c.run_report.new.output; failed = g.K.Sink.has_failed c.run_report.new.output }) c.run_report.result)
     (chains_have_lines {A = Global} fs) (c.run_report.ensures.chain fs b input are chain well good)
+
+pub returns-in-ToCsv-clause-converts : goal.returns-in-ToCsv-clause-converts
+returns-in-ToCsv-clause-converts g c = λ command fs b input are chain well good.
+    concluded (chain_rows fs) (record { before = g.S.Source.remaining c.args.source.now; after = g.S.Source.remaining c.to_csv-answer.new.source; failed = g.S.Source.has_failed c.to_csv-answer.new.source })
+    (record { before = g.K.Sink.contents c.args.output.now; after = g.K.Sink.contents c.to_csv-answer.new.sink; failed = g.K.Sink.has_failed c.to_csv-answer.new.sink })
+    (record { before = g.E.Sink.contents c.args.faults.now; after = g.E.Sink.contents c.conclude.new.faults; failed = g.E.Sink.has_failed c.conclude.new.faults })
+    c.conclude.result c.to_csv-answer.result well good (c.to_csv-answer.ensures.chain fs b input are chain) c.conclude.ensures
+
+pub returns-in-Table-clause-tables : goal.returns-in-Table-clause-tables
+returns-in-Table-clause-tables g c = λ command fs b input are chain well good.
+    concluded (table_of (flat_map file_events fs)) (record { before = g.S.Source.remaining c.args.source.now; after = g.S.Source.remaining c.table-answer.new.source; failed = g.S.Source.has_failed c.table-answer.new.source })
+    (record { before = g.K.Sink.contents c.args.output.now; after = g.K.Sink.contents c.table-answer.new.sink; failed = g.K.Sink.has_failed c.table-answer.new.sink })
+    (record { before = g.E.Sink.contents c.args.faults.now; after = g.E.Sink.contents c.conclude-in-Table.new.faults; failed = g.E.Sink.has_failed c.conclude-in-Table.new.faults })
+    c.conclude-in-Table.result c.table-answer.result well good (c.table-answer.ensures.chain fs b input are chain) c.conclude-in-Table.ensures
 
 pub returns-in-FromCsv-clause-runs : goal.returns-in-FromCsv-clause-runs
 returns-in-FromCsv-clause-runs g c =
@@ -24,3 +42,10 @@ returns-in-FromCsv-clause-runs g c =
       (λ text input. text_read text (record { before = g.S.Source.remaining c.args.source.now; after = g.S.Source.remaining c.from_csv-answer.new.source; failed = g.S.Source.has_failed c.from_csv-answer.new.source }) g.K.Sink.contents c.args.output.now c.from_csv-answer.new.sink _ c.from_csv-answer.result (c.from_csv-answer.ensures.ok text input) (c.from_csv-answer.ensures.err text input) c.from_csv-answer.ensures.unchanged),
       c.conclude-in-FromCsv.ensures,
     )
+
+pub returns-in-FromCsv-clause-from_text : goal.returns-in-FromCsv-clause-from_text
+returns-in-FromCsv-clause-from_text g c = λ command text fs b input is well good.
+    text_concluded b (record { before = g.S.Source.remaining c.args.source.now; after = g.S.Source.remaining c.from_csv-answer.new.source; failed = g.S.Source.has_failed c.from_csv-answer.new.source })
+    (record { before = g.K.Sink.contents c.args.output.now; after = g.K.Sink.contents c.from_csv-answer.new.sink; failed = g.K.Sink.has_failed c.from_csv-answer.new.sink })
+    (record { before = g.E.Sink.contents c.args.faults.now; after = g.E.Sink.contents c.conclude-in-FromCsv.new.faults; failed = g.E.Sink.has_failed c.conclude-in-FromCsv.new.faults })
+    c.conclude-in-FromCsv.result c.from_csv-answer.result well good (c.from_csv-answer.ensures.chain text fs b input is) c.conclude-in-FromCsv.ensures

@@ -4,10 +4,10 @@ use Rattle.fit_csv.specs.Rows.{csv_text}
 use Rattle.fit_csv.specs.TableCells.{rows_in}
 use Rattle.fit_csv.proofs.table_report.put_text.Goals as goal
 
-pub returns-in-Some : goal.returns-in-Some
-returns-in-Some c =
-    subst (λ row. OnOk c.put_cells.result (c.put_cells.new.text.items ≡ c.args.text.now.items ++ csv_text (rows_in row))) (sym c.in-Some.is) c.put_cells.ensures
+pub returns-in-Some-clause-text : goal.returns-in-Some-clause-text
+returns-in-Some-clause-text c =
+    subst (λ row. OnOk c.put_written-result.result (c.put_written-result.new.text.items ≡ c.args.text.now.items ++ csv_text (rows_in c.args.file row))) (sym c.in-Some.is) c.put_written-result.ensures.text
 
-pub returns-in-None : goal.returns-in-None
+pub returns-in-None-clause-text : goal.returns-in-None-clause-text
 unfolding csv_text
-returns-in-None c = sym (ap (λ row. c.args.text.now.items ++ csv_text (rows_in row)) c.in-None.is ∙ append-nil c.args.text.now.items)
+returns-in-None-clause-text c = sym (ap (λ row. c.args.text.now.items ++ csv_text (rows_in c.args.file row)) c.in-None.is ∙ append-nil c.args.text.now.items)

@@ -1,4 +1,4 @@
-use Rattle.std.proofs.Common.{◌≡◌, ◌++◌, [], Some, ap, ◌∙◌, refl}
+use Rattle.std.proofs.Common.{◌++◌, Some, ap, ◌∙◌, refl}
 use Rattle.fit_record.specs.Files.{file_bytes, IsWellFormed}
 use Rattle.fit_encode.specs.Sinks.{Written}
 use Rattle.fit_examples.proofs.RoundTrip.{got, longer, well_formed}

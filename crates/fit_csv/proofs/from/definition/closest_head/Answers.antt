@@ -1,4 +1,3 @@
-use Rattle.std.proofs.Common.{◌≡◌}
 use Rattle.fit_csv.proofs.ClosestRows.{head-closest}
 use Rattle.fit_csv.proofs.from.definition.closest_head.Goals as goal
 

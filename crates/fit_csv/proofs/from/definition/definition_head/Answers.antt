@@ -1,4 +1,4 @@
-use Rattle.std.proofs.Common.{◌≡◌, ◌∙◌, refl}
+use Rattle.std.proofs.Common.{◌∙◌, refl}
 use Rattle.fit_csv.specs.Misfits.{IsHeadRow, head_row}
 use Rattle.fit_csv.specs.Seven.{DifferAt, row_of}
 use Rattle.fit_csv.proofs.Closest.{closest}

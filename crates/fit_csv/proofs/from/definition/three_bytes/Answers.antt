@@ -1,8 +1,8 @@
-use Rattle.std.proofs.Common.{◌≡◌, ◌∙◌, [], decimal, refl, ap, ap₂, subst}
+use Rattle.std.proofs.Common.{◌∙◌, [], decimal, refl}
 use Rattle.fit_csv.specs.ChainRows.{row}
 use Rattle.fit_csv.specs.Misfits.{IsRowOfThree}
 use Rattle.fit_csv.specs.Rows.{Row}
-use Rattle.fit_csv.specs.Seven.{AsFar, DifferAt, row_of}
+use Rattle.fit_csv.specs.Seven.{DifferAt, row_of}
 use Rattle.fit_csv.proofs.Closest.{closest}
 use Rattle.fit_csv.proofs.ClosestRows.{three-closest}
 use Rattle.fit_csv.proofs.from.definition.three_bytes.Goals as goal

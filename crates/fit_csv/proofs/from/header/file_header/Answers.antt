@@ -1,4 +1,4 @@
-use Rattle.std.proofs.Common.{◌≡◌, refl}
+use Rattle.std.proofs.Common.{refl}
 use Rattle.fit_csv.specs.ChainRows.{file_row}
 use Rattle.fit_csv.specs.Misfits.{IsFileRow}
 use Rattle.fit_csv.specs.Seven.{DifferAt, row_of}

@@ -1,4 +1,4 @@
-use Rattle.std.proofs.Common.{◌≡◌, subst, option_map}
+use Rattle.std.proofs.Common.{subst, option_map}
 use Rattle.std.specs.Str.{IsUtf8}
 use Rattle.fit_profile.specs.Names.{meaning}
 use Rattle.fit_csv.proofs.TextFacts.{utf8-cell}

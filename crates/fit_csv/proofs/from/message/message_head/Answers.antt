@@ -1,5 +1,4 @@
-use Rattle.std.proofs.Common.{◌≡◌, ◌∙◌, [], ◌∷◌, ap}
-use Rattle.std.specs.Prelude.{codes}
+use Rattle.std.proofs.Common.{[], ◌∷◌, ap}
 use Rattle.std.proofs.lemmas.Result.{MatchResult-weaker}
 use Rattle.fit_csv.specs.Rows.{Cell}
 use Rattle.fit_csv.specs.Seven.{row_of}

@@ -1,8 +1,6 @@
-use Rattle.std.proofs.Common.{◌≡◌, ◌∙◌, ℕ, [], Option, refl, sym, subst}
+use Rattle.std.proofs.Common.{◌≡◌, [], refl, sym, subst}
 use Rattle.std.specs.Prelude.{option_map}
-use Rattle.std.specs.Global.{Global}
 use Rattle.fit_base.specs.Fields.{HasShape}
-use Rattle.fit_base.specs.declared.items.Items.{Items}
 use Rattle.fit_profile.specs.Names.{meaning}
 use Rattle.fit_csv.specs.Cells.{cell}
 use Rattle.fit_csv.specs.ChainRows.{row}

@@ -1,14 +1,13 @@
-use Rattle.std.proofs.Common.{◌≡◌, ◌∙◌, Some, length, refl, sym, ap, subst}
+use Rattle.std.proofs.Common.{◌≡◌, Some, length, refl, sym, subst}
 use Rattle.std.specs.Prelude.{List, ℕ, slice_get}
 use Rattle.std.proofs.lemmas.Option.{slice_get_read}
 use Rattle.std.proofs.lemmas.Result.{err_from_is_err_and, on_ok_weaker}
 use Rattle.std.specs.Global.{Global}
 use Rattle.fit_base.specs.declared.items.Items.{Items}
 use Rattle.fit_record.specs.Environment.{dev_defs}
-use Rattle.fit_record.specs.declared.definition.DevDef.{DevDef}
 use Rattle.fit_csv.specs.ChainRows.{dev_row}
 use Rattle.fit_csv.specs.Misfits.{IsDevRow, IsMisfit}
-use Rattle.fit_csv.specs.Progress.{DevStep, naming_at, with_dev_items}
+use Rattle.fit_csv.specs.Progress.{DevStep, naming_at}
 use Rattle.fit_csv.specs.Seven.{row_of}
 use Rattle.fit_csv.proofs.ValueSteps.{dev-misfit, dev-step}
 use Rattle.fit_csv.proofs.from.open_message.take_dev_field.Goals as goal

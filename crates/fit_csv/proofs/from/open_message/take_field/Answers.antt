@@ -1,4 +1,3 @@
-use Rattle.std.proofs.Common.{◌≡◌}
 use Rattle.std.proofs.lemmas.Result.{err_from_is_err_and}
 use Rattle.fit_csv.specs.Seven.{row_of}
 use Rattle.fit_csv.proofs.ValueSteps.{field-misfit}

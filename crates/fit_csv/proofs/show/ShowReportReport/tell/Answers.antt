@@ -1,5 +1,5 @@
 -- The text of an event is its line.
-use Rattle.std.proofs.Common.{◌≡◌, ◌∙◌, ◌++◌, List, Option, ℕ, OnOk, sym, ap, subst}
+use Rattle.std.proofs.Common.{◌≡◌, ◌∙◌, ◌++◌, List, OnOk, sym, ap, subst}
 use Rattle.std.specs.Global.{Global}
 use Rattle.fit_decode.specs.Events.{Event}
 use Rattle.fit_report.specs.Heard.{hear, latest_records}

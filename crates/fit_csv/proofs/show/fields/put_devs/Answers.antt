@@ -1,5 +1,5 @@
 -- The developer fields go behind one another.
-use Rattle.std.proofs.Common.{◌≡◌, ◌∙◌, ◌<◌, ◌+◌, ◌++◌, ℕ, ◌∷◌, [], None, length, get_or, ap, ap₂, subst, arith}
+use Rattle.std.proofs.Common.{◌≡◌, ◌∙◌, ◌<◌, ◌+◌, ◌++◌, [], None, length, get_or, ap, ap₂, arith}
 use Rattle.std.specs.Prelude.{option_and_then, unwrap_or, zip}
 use Rattle.std.proofs.lemmas.Option.{slice_get-get_or}
 use Rattle.std.proofs.lemmas.Slice.Zip.{length-zip}

@@ -1,5 +1,5 @@
 -- The line of a message is its front, its fields and its developer fields.
-use Rattle.std.proofs.Common.{ℕ, ◌≡◌, ◌∙◌, ◌++◌, ◌∷◌, [], length, map, sym, ap, ap₂, subst, arith}
+use Rattle.std.proofs.Common.{ℕ, ◌∙◌, ◌++◌, length, map, sym, ap, ap₂, arith}
 use Rattle.std.specs.Prelude.{zip}
 use Rattle.std.proofs.lemmas.List.{length-map}
 use Rattle.std.proofs.lemmas.Slice.Zip.{length-zip}

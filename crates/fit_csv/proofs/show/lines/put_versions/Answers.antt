@@ -1,4 +1,4 @@
-use Rattle.std.proofs.Common.{◌≡◌, ◌∙◌, ◌++◌, ◌∷◌, [], List, ℕ, OnOk, map, ap, subst}
+use Rattle.std.proofs.Common.{◌≡◌, ◌∙◌, ◌++◌, ◌∷◌, [], OnOk, map, ap, subst}
 use Rattle.std.specs.Prelude.{codes, decimal}
 use Rattle.fit_csv.specs.ShowLines.{joined}
 use Rattle.fit_csv.proofs.show.lines.put_versions.Goals as goal

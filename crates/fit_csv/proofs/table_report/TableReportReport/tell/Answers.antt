@@ -20,8 +20,7 @@ hear-requires-clause-few c =
 
 pub returns-clause-text : goal.returns-clause-text
 returns-clause-text c =
-    subst (λ line. OnOk c.put_text.result (c.put_text.new.text.items ≡ c.args.text.now.items ++ line))
-    (ap csv_text c.in_ok-row.ensures.row
-    ∙ ap₂ (λ files before. csv_text (table_answer_rows files before c.args.event.now)) (c.self.invariant.1 ∙ ap files_heard c.self.view_is) (c.self.invariant.0 ∙ ap latest_records c.self.view_is)
+    subst (λ line. OnOk c.in_ok-put.put (c.hear.new.text.items ≡ c.args.text.now.items ++ line))
+    (ap₂ (λ files before. csv_text (table_answer_rows files before c.args.event.now)) (c.self.invariant.1 ∙ ap files_heard c.self.view_is) (c.self.invariant.0 ∙ ap latest_records c.self.view_is)
     ∙ table_answer_text c.args.self.now c.args.event.now)
-    c.put_text.ensures
+    c.in_ok-put.ensures.text

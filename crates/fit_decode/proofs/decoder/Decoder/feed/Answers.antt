@@ -4,7 +4,7 @@ use Rattle.fit_step.specs.declared.stop.Stop.TheVariants as stops
 use Rattle.fit_decode.specs.contracts.decoder.Decoder.{the_row}
 use Rattle.fit_decode.specs.contracts.decoder.Decoder.feed.{A-row}
 use Rattle.fit_decode.specs.declared.event.Fault.TheVariants.{Refused}
-use Rattle.fit_decode.proofs.Pieces.{are_bytes}
+use Rattle.fit_base.proofs.ByteLists.{slice_is_bytes}
 use Rattle.fit_decode.proofs.Sizes.{fourth_is_within}
 use Rattle.fit_decode.proofs.Feeding.{stopped, stands, within, few_bytes, still_kept, refused_kept, not_refused, not_for_memory, was_viable, place_seen, reason_seen, no_event, one_event, refuses, wants}
 use Rattle.fit_decode.proofs.decoder.Decoder.feed.Goals as goal
@@ -32,17 +32,17 @@ overflow_add-self g c = few_bytes c.self.inside c.self.invariant c.in_default.is
 
 pub invariant_of-self : goal.invariant_of-self
 invariant_of-self g c =
-    still_kept c.self.inside c.self.invariant c.in_default.is c.args.piece.now _ c.feed_section-used.result.0 c.feed_section-used.result.1 c.feed_section-used.ensures (are_bytes c.args.piece.now c.type_inv.piece) _
+    still_kept c.self.inside c.self.invariant c.in_default.is c.args.piece.now _ c.feed_section-used.result.0 c.feed_section-used.result.1 c.feed_section-used.ensures (slice_is_bytes c.args.piece.now c.type_inv.piece) _
     (c.note.ensures ∙ ap (λ b. c.self.inside.history.items ++ b) c.split_at.ensures.front) refl refl (not_refused c.feed_section-used.result.1 c.in-Ok.event c.in-Ok.is) c.in_default.is
 
 pub invariant_of-self-in-Refused : goal.invariant_of-self-in-Refused
 invariant_of-self-in-Refused g c =
-    refused_kept c.self.inside c.self.invariant c.in_default.is c.args.piece.now _ c.feed_section-used.result.0 c.feed_section-used.result.1 c.feed_section-used.ensures (are_bytes c.args.piece.now c.type_inv.piece) _
+    refused_kept c.self.inside c.self.invariant c.in_default.is c.args.piece.now _ c.feed_section-used.result.0 c.feed_section-used.result.1 c.feed_section-used.ensures (slice_is_bytes c.args.piece.now c.type_inv.piece) _
     (c.note.ensures ∙ ap (λ b. c.self.inside.history.items ++ b) c.split_at.ensures.front) refl c.in-Refused.reason refl c.let_go.ensures.known c.let_go.ensures.idle
 
 pub invariant_of-self-in-NoMemory : goal.invariant_of-self-in-NoMemory
 invariant_of-self-in-NoMemory g c =
-    still_kept c.self.inside c.self.invariant c.in_default.is c.args.piece.now _ c.feed_section-used.result.0 c.feed_section-used.result.1 c.feed_section-used.ensures (are_bytes c.args.piece.now c.type_inv.piece) _
+    still_kept c.self.inside c.self.invariant c.in_default.is c.args.piece.now _ c.feed_section-used.result.0 c.feed_section-used.result.1 c.feed_section-used.ensures (slice_is_bytes c.args.piece.now c.type_inv.piece) _
     (c.note.ensures ∙ ap (λ b. c.self.inside.history.items ++ b) c.split_at.ensures.front) refl refl
     (not_for_memory c.feed_section-used.result.1 (stopped c.feed_section-used.result.1 c.in-Err.stop stops.NoMemory c.in-Err.is c.in-NoMemory.is)) c.in_default.is
 

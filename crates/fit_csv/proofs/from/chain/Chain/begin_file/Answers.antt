@@ -1,6 +1,5 @@
-use Rattle.std.proofs.Common.{◌≡◌, ◌<◌, length, arith}
+use Rattle.std.proofs.Common.{arith}
 use Rattle.std.proofs.lemmas.Result.{err_from_is_err_and}
-use Rattle.fit_record.specs.Files.{chain_limit}
 use Rattle.fit_csv.specs.Seven.{row_of}
 use Rattle.fit_csv.proofs.ChainSteps.{begin-misfit}
 use Rattle.fit_csv.proofs.from.chain.Chain.begin_file.Goals as goal

@@ -1,4 +1,3 @@
-use Rattle.std.proofs.Common.{◌≡◌}
 use Rattle.std.proofs.lemmas.Result.{MatchResult-weaker}
 use Rattle.fit_csv.specs.Seven.{row_of}
 use Rattle.fit_csv.proofs.ChainSteps.{current-misfit}

@@ -1,4 +1,4 @@
-use Rattle.std.proofs.Common.{◌≡◌, sym, subst}
+use Rattle.std.proofs.Common.{sym, subst}
 use Rattle.fit_csv.specs.Progress.{PartHasRoom, PartStep}
 use Rattle.fit_csv.specs.Seven.{row_of}
 use Rattle.fit_csv.specs.declared.from.open_file.Part.{Part}

@@ -1,0 +1,60 @@
+-- Why files that rows gave aren't written.
+use Rattle.std.proofs.Common.{◌≡◌, ℕ, ◌≤◌, ◌^◌, Bool, List, [], ◌∷◌, ◌++◌, length, Option, Some, refl, subst}
+use Rattle.std.specs.Global.{Global}
+use Rattle.std.specs.List.{AllByRecursion}
+use Rattle.std.specs.Io.KnownBytes.{Appends}
+use Rattle.fit_record.specs.declared.file.FitFile.{FitFile}
+use Rattle.fit_record.specs.declared.fits.ShapeFault.{ShapeFault}
+use Rattle.fit_record.specs.declared.message.Record.{Record}
+use Rattle.fit_record.specs.Environment.{Environment, empty_environment, learn, learn_all}
+use Rattle.fit_record.specs.Faults.{first_fault}
+use Rattle.fit_record.specs.Files.{IsWellFormedChain, chain_bytes, chain_limit}
+use Rattle.fit_record.specs.Laws.{FaultsAreExact}
+use Rattle.fit_record.specs.Records.{AllFit, Fits}
+use Rattle.fit_encode.specs.declared.fault.EncodeFault.{EncodeFault}
+use Rattle.fit_encode.specs.declared.fault.EncodeFault.TheVariants.{BadHeader, BadLocal, BadOffset, ChainLength, DeclaredLength, NoMemory, TooLong, UndefinedLocal, WrongShape, Write, ZeroIsSum}
+use Rattle.fit_encode.specs.Faults.{AtFile, AtRecord, IfRefused, IfWrite, IsFirstFault, StopsAt}
+use Rattle.fit_csv.specs.FromText.{FromFault, FromText, IsTextOf, written_fault}
+use Rattle.fit_csv.specs.Judged.{AreFilesOf, IsFileOfRows}
+use Rattle.fit_csv.proofs.InRange.{chain-bytes}
+
+fits-between : {A : Type 0} (e : Environment A) (front : List (Record A)) (r : Record A) (back : List (Record A)) → AllFit e (front ++ r ∷ back) → Fits (learn_all e front) r
+fits-between e [] r back h = h.0
+fits-between e (x ∷ front) r back h = fits-between (learn e x) front r back h.1
+
+good-between : (front : List (FitFile Global)) (f : FitFile Global) (back : List (FitFile Global)) → AllByRecursion IsFileOfRows (front ++ f ∷ back) → IsFileOfRows f
+good-between [] f back h = h.0
+good-between (x ∷ front) f back h = good-between front f back h.1
+
+no-shape : FaultsAreExact Global → (f : FitFile Global) (index : ℕ) (s : ShapeFault) → IsFileOfRows f → AtRecord f.records index (λ e n r. first_fault e r ≡ Some s) → ⊥
+no-shape exact f index s good h =
+    let fits = fits-between empty_environment h.front h.this h.back (subst (AllFit empty_environment) h.joined good.records) in
+    let none = ((exact (learn_all empty_environment h.front) h.this).0 fits).0 in
+    let some = h.holds in
+    cc
+
+-- the file that is at fault is one that rows can give
+at-fault : (files : List (FitFile Global)) (P : ℕ → FitFile Global → Type 0) → AllByRecursion IsFileOfRows files → (h : AtFile files P) → IsFileOfRows h.this
+at-fault files P good h = good-between h.front h.this h.back (subst (AllByRecursion IsFileOfRows) h.joined good)
+
+module _ (exact : FaultsAreExact Global) (text : List ℕ) (files : List (FitFile Global)) (short : length text ≤ 2 ^ 62) (are : AreFilesOf text files)
+    (failed sink_failed : Bool) (before after : Option (List ℕ)) where
+  text-of : IsWellFormedChain chain_limit files → IsTextOf text files (chain_bytes files)
+  text-of good = record { short = short; rows = are.0; are_bytes = chain-bytes files are.1; chain = (good, refl) }
+
+  pub from-text : IsWellFormedChain chain_limit files → Appends before after (chain_bytes files) → FromText text before after
+  from-text good put = (files, chain_bytes files, text-of good, put)
+
+  pub from-fault : (fault : EncodeFault) → IfRefused fault (IsFirstFault files fault) → IfWrite fault (λ written. IsWellFormedChain chain_limit files)
+      → IfWrite fault (StopsAt before after sink_failed (chain_bytes files)) → FromFault text failed before after sink_failed (written_fault fault)
+  from-fault NoMemory wrong good stops = tt
+  from-fault (Write written) wrong good stops = (files, chain_bytes files, text-of good, stops)
+  from-fault (TooLong file index) wrong good stops = (short, (files, are, wrong))
+  from-fault (ZeroIsSum file) wrong good stops = (short, (files, are, wrong))
+  from-fault ChainLength wrong good stops = wrong (are.2, are.1.0)
+  from-fault (BadHeader file) wrong good stops = wrong.1.holds.1 (at-fault files _ are.1.1 wrong.1).header.form
+  from-fault (BadLocal file index) wrong good stops = no-shape exact wrong.1.this index _ (at-fault files _ are.1.1 wrong.1) wrong.1.holds.1.1
+  from-fault (BadOffset file index) wrong good stops = no-shape exact wrong.1.this index _ (at-fault files _ are.1.1 wrong.1) wrong.1.holds.1.1
+  from-fault (UndefinedLocal file index) wrong good stops = no-shape exact wrong.1.this index _ (at-fault files _ are.1.1 wrong.1) wrong.1.holds.1.1
+  from-fault (WrongShape file index field) wrong good stops = no-shape exact wrong.1.this index _ (at-fault files _ are.1.1 wrong.1) wrong.1.holds.1.1
+  from-fault DeclaredLength wrong good stops = wrong.1.holds.1

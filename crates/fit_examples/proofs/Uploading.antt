@@ -1,0 +1,102 @@
+-- An upload is fed to a decoder from its front: what was fed, and the rest.
+use Rattle.std.proofs.Common.{◌≡◌, ℕ, suc, ◌+◌, ◌<◌, List, [], ◌∷◌, ◌++◌, length, take, drop, get_or, None, Result, Ok, Err, refl, sym, ap, ◌∙◌, subst, append_assoc, length-append, arith}
+use Rattle.std.specs.Prelude.{IfErr, IsErr, IsOk, OnOk, ◌↔◌}
+use Rattle.std.specs.declared.alloc.Global.{Global}
+use Rattle.std.proofs.lemmas.List.{append-nil, get_or-append-add, take-append-drop}
+use Rattle.std.proofs.Math.Seq.{drop-cons, take-append-add}
+use Rattle.fit_base.specs.Numbers.{IsBytes}
+use Rattle.fit_frame.specs.declared.reason.Reason.{Reason}
+use Rattle.fit_record.specs.Files.{IsChain, IsViable, chain_limit}
+use Rattle.fit_decode.specs.declared.event.Fault.{Fault}
+use Rattle.fit_decode.specs.declared.event.Fault.TheVariants.{Refused, Truncated, NoMemory, Read}
+use Rattle.fit_decode.specs.Answers.{AreChain, Refuses, Seen, fed}
+use Rattle.fit_decode.specs.Refusals.{IsRefused}
+use Rattle.fit_examples.specs.Uploads.{IsFaultOf, IsWantOfMemory}
+
+-- ---- feeding
+
+-- the bytes fed and the rest are the upload
+pub record Feeds (upload : List ℕ) (seen : Seen) (rest : List ℕ) : Type 0 where
+  pub joined : seen.bytes ++ rest ≡ upload
+  pub fresh : seen.refusal ≡ None
+  pub viable : IsViable Global chain_limit seen.bytes
+
+pub feeds_on : (upload : List ℕ) (old new : Seen) (rest : List ℕ) (used : ℕ) → Feeds upload old rest → new ≡ fed old rest used
+    → IsViable Global chain_limit new.bytes → Feeds upload new (drop used rest)
+feeds_on upload old new rest used f after viable = record {
+  joined =
+      ap (λ (v : Seen). v.bytes ++ drop used rest) after
+      ∙ append_assoc old.bytes (take used rest) (drop used rest)
+      ∙ ap (λ (x : List ℕ). old.bytes ++ x) (take-append-drop used rest) ∙ f.joined;
+  fresh = ap (λ (v : Seen). v.refusal) after;
+  viable = viable;
+}
+
+-- ---- faults
+
+refused_in : (front rest : List ℕ) (used place : ℕ) (reason : Reason) → place ≡ length front + used → used < length rest
+    → IsRefused Global chain_limit (front ++ take used rest) (get_or rest used 0) reason → IsFaultOf (front ++ rest) (Refused place reason)
+refused_in front rest used place reason is within why = (
+  omega (arith, length-append front rest),
+  subst (λ bytes. IsRefused Global chain_limit bytes (get_or (front ++ rest) place 0) reason)
+      (sym (take-append-add front rest used) ∙ ap (λ n. take n (front ++ rest)) (sym is))
+      (subst (λ b. IsRefused Global chain_limit (front ++ take used rest) b reason)
+      (sym (get_or-append-add front rest used 0) ∙ ap (λ n. get_or (front ++ rest) n 0) (sym is)) why),
+)
+
+-- what a decoder says that isn't fed on
+pub record Stops (old : Seen) (rest : List ℕ) (new : Seen) (fault : Fault) : Type 0 where
+  pub refused : (place : ℕ) (reason : Reason) → fault ≡ Refused place reason → Refuses Global old rest new place reason
+  pub others : (place : ℕ) → (fault ≡ Truncated place → ⊥) × (fault ≡ Read place → ⊥)
+
+pub stopped : (upload : List ℕ) (old new : Seen) (rest : List ℕ) (fault : Fault) → Feeds upload old rest → Stops old rest new fault → IsFaultOf upload fault
+stopped upload old new rest (Refused place reason) f s =
+    let r = s.refused place reason refl in
+    subst (λ bytes. IsFaultOf bytes (Refused place reason)) f.joined (refused_in old.bytes rest r.used place reason r.is_place r.within r.why)
+stopped upload old new rest (Truncated place) f s = absurd ((s.others place).0 refl)
+stopped upload old new rest (NoMemory used) f s = tt
+stopped upload old new rest (Read place) f s = absurd ((s.others place).1 refl)
+
+-- ---- chains
+
+at_place : (bytes : List ℕ) (place : ℕ) → place < length bytes → (take place bytes ++ get_or bytes place 0 ∷ []) ++ drop (suc place) bytes ≡ bytes
+at_place bytes place within =
+    append_assoc (take place bytes) (get_or bytes place 0 ∷ []) (drop (suc place) bytes)
+    ∙ ap (λ t. take place bytes ++ t) (sym (drop-cons bytes place 0 within)) ∙ take-append-drop place bytes
+
+pub fault_of_chain : (bytes : List ℕ) (fault : Fault) → IsBytes bytes → IsFaultOf bytes fault → AreChain Global bytes → IsWantOfMemory fault
+fault_of_chain bytes (Refused place reason) are (within, why) (files, chain) =
+    let all = sym (at_place bytes place within) in
+    absurd (why.refused (drop (suc place) bytes, files, subst IsBytes all are, subst (IsChain chain_limit files) all chain))
+fault_of_chain bytes (Truncated place) are (end, viable, none) chain = absurd (none chain)
+fault_of_chain bytes (NoMemory used) are fault chain = tt
+fault_of_chain bytes (Read place) are fault chain = fault
+
+-- ---- the end
+
+at_end : (upload : List ℕ) (seen : Seen) (rest : List ℕ) → Feeds upload seen rest → length rest ≡ 0 → seen.bytes ≡ upload
+at_end upload seen [] f none = sym (append-nil seen.bytes) ∙ f.joined
+at_end upload seen (b ∷ rest) f none = absurd (omega arith)
+
+-- what `finish` says of what was fed
+pub record Finishes (seen : Seen) (result : Result (Unit {0}) Fault) : Type 0 where
+  pub good : IsOk result ↔ ((seen.refusal ≡ None) × AreChain Global seen.bytes)
+  pub truncated : seen.refusal ≡ None → IsErr result → result ≡ Err (Truncated (length seen.bytes))
+
+pub good_end : (upload : List ℕ) (seen : Seen) (rest : List ℕ) (result : Result (Unit {0}) Fault) → Feeds upload seen rest → length rest ≡ 0 → Finishes seen result
+    → OnOk result (AreChain Global upload)
+good_end upload seen rest (Ok u) f none e = subst (AreChain Global) (at_end upload seen rest f none) ((e.good.0 refl).1)
+good_end upload seen rest (Err fault) f none e = tt
+
+pub bad_end : (upload : List ℕ) (seen : Seen) (rest : List ℕ) (result : Result (Unit {0}) Fault) → Feeds upload seen rest → length rest ≡ 0 → Finishes seen result
+    → IfErr result (IsFaultOf upload)
+bad_end upload seen rest (Ok u) f none e = tt
+bad_end upload seen rest (Err fault) f none e =
+    let all = at_end upload seen rest f none in
+    let same : fault ≡ Truncated (length seen.bytes) = let t = e.truncated f.fresh refl in cc in
+    let whole : IsFaultOf seen.bytes (Truncated (length seen.bytes)) = (refl, f.viable, λ done. let ok = e.good.1 (f.fresh, done) in absurd cc) in
+    rw same (subst (λ bytes. IsFaultOf bytes (Truncated (length seen.bytes))) all whole)
+
+pub chain_end : (upload : List ℕ) (result : Result (Unit {0}) Fault) → IsBytes upload → IfErr result (IsFaultOf upload) → AreChain Global upload → IfErr result IsWantOfMemory
+chain_end upload (Ok u) are fault chain = tt
+chain_end upload (Err fault) are is chain = fault_of_chain upload fault are is chain

@@ -1,0 +1,9 @@
+use Rattle.std.proofs.Common.{length}
+use Rattle.fit_examples.proofs.Uploading.{Feeds}
+use Rattle.fit_examples.proofs.upload.check_upload.Given as goal
+
+abbrev pub invariant-loop-rest : goal.invariant-loop-rest
+invariant-loop-rest l = Feeds l.upload l.decoder l.rest
+
+abbrev pub decreases-loop-rest : goal.decreases-loop-rest
+decreases-loop-rest l = length l.rest

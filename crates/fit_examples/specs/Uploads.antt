@@ -1,0 +1,21 @@
+-- What is wrong with an upload.
+use Rattle.std.specs.Prelude.{◌≡◌, ℕ, ◌<◌, List, take, length, slice_index}
+use Rattle.std.specs.declared.alloc.Global.{Global}
+use Rattle.fit_record.specs.Files.{IsViable, chain_limit}
+use Rattle.fit_decode.specs.declared.event.Fault.{Fault}
+use Rattle.fit_decode.specs.declared.event.Fault.TheVariants.{Refused, Truncated, NoMemory, Read}
+use Rattle.fit_decode.specs.Answers.{AreChain}
+use Rattle.fit_decode.specs.Refusals.{IsRefused}
+
+-- Why these bytes aren't known to be a chain of files: the byte at the place is the first one with which none begins; or they begin
+-- one, and are none; or memory was refused.
+abbrev pub IsFaultOf : List ℕ → Fault → Type 0
+IsFaultOf bytes (Refused place reason) = (place < length bytes) × IsRefused Global chain_limit (take place bytes) (slice_index bytes place) reason
+IsFaultOf bytes (Truncated place) = (place ≡ length bytes) × IsViable Global chain_limit bytes × (AreChain Global bytes → ⊥)
+IsFaultOf bytes (NoMemory used) = Unit {0}
+IsFaultOf bytes (Read place) = ⊥
+
+-- Memory was refused.
+abbrev pub IsWantOfMemory : Fault → Type 0
+IsWantOfMemory (NoMemory used) = Unit {0}
+IsWantOfMemory _ = ⊥

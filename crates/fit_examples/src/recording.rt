@@ -1,0 +1,91 @@
+//! A ride, written record by record.
+ghost use Rattle.std.specs.Prelude.{◌≡◌, ◌∷◌, [], IfOk, IfSome};
+ghost use Rattle.fit_record.specs.declared.message.Record.TheVariants.{Define as Defines};
+ghost use Rattle.fit_examples.specs.Recordings.{IsRecording, definition, message, lone};
+
+use arrayvec::ArrayVec;
+use fit_base::{Bits, Entries, Items, Order};
+use fit_encode::{Encoder, WriteSink};
+use fit_frame::{Header, HeaderSum};
+use fit_record::{FieldDef, MessageDef, Record, Values};
+use std::alloc::{AllocError, Global};
+
+/// A field with one number of so many bytes.
+fn field(alloc: Global, width: u8, number: u64) -> Result<Items, AllocError>
+    ensures { IfOk result (λ items. items ≡ lone width number) }
+{
+    let mut bits = Bits::new(alloc);
+    bits.push(number)?;
+    Ok(Items { width, bits })
+}
+
+/// The definition message: record messages have a timestamp and a heart rate.
+fn definition(alloc: Global) -> Result<Record, AllocError>
+    ensures { IfOk result (λ r. r ≡ Defines definition) }
+{
+    let timestamp = FieldDef {
+        number: 253,
+        size: 4,
+        code: 0x86,
+    };
+    let heart_rate = FieldDef {
+        number: 3,
+        size: 1,
+        code: 0x02,
+    };
+    let fields = Vec::from_slice(alloc, &[timestamp, heart_rate])?;
+    Ok(Record::Define(MessageDef {
+        local: 0,
+        reserved: 0,
+        order: Order::Little,
+        global: 20,
+        fields: Entries::from_vec(fields),
+        dev: None,
+    }))
+}
+
+/// A record message.
+fn message(alloc: Global, time: u32, heart_rate: u8) -> Result<Record, AllocError>
+    ensures { IfOk result (λ r. r ≡ message (time, heart_rate)) }
+{
+    let mut fields = Entries::new(alloc);
+    fields.push(field(alloc, 4, time as u64)?)?;
+    fields.push(field(alloc, 1, heart_rate as u64)?)?;
+    Ok(Record::Values(Values {
+        local: 0,
+        offset: None,
+        fields,
+        dev: Entries::new(alloc),
+    }))
+}
+
+/// How many bytes of data there are: 12 of the definition message, and 6 of each record message.
+fn data_len(points: usize) -> Option<u32> {
+    u32::try_from(points).ok()?.checked_mul(6)?.checked_add(12)
+}
+
+/// A FIT file of a ride: a record message for each time, in seconds since 1989-12-31T00:00:00 UTC, and heart rate, in beats per minute.
+///
+/// None where memory is refused, or the data would have 2^32 bytes.
+pub fn ride_file(alloc: Global, points: &[(u32, u8)]) -> Option<Vec<u8>>
+    ensures { IfSome result (λ bytes. IsRecording points.now bytes.items) }
+{
+    let header = Header {
+        size: 14,
+        protocol: 0x20,
+        profile: 0,
+        sum: HeaderSum::True,
+        rest: ArrayVec::new(),
+    };
+    let mut sink = WriteSink::new(Vec::new(alloc));
+    let data_len = data_len(points.len())?;
+    let mut encoder = Encoder::begin(alloc, &mut sink, &header, data_len).ok()?;
+    let first = definition(alloc).ok()?;
+    encoder.put(&mut sink, &first).ok()?;
+    for point in points {
+        let next = message(alloc, point.0, point.1).ok()?;
+        encoder.put(&mut sink, &next).ok()?;
+    }
+    encoder.finish(&mut sink).ok()?;
+    Some(sink.into_inner())
+}

@@ -1,0 +1,29 @@
+//! The table of a ride.
+ghost use Rattle.std.specs.Prelude.{◌≡◌, IfErr, IfOk, List, OnOk, flat_map};
+ghost use Rattle.std.specs.declared.alloc.Global.{Global};
+ghost use Rattle.fit_record.specs.declared.file.FitFile.{FitFile};
+ghost use Rattle.fit_record.specs.Files.{IsChain, chain_limit};
+ghost use Rattle.fit_decode.specs.Answers.{AreChain};
+ghost use Rattle.fit_decode.specs.Events.{file_events};
+ghost use Rattle.fit_csv.specs.Rows.{csv_text};
+ghost use Rattle.fit_csv.specs.Table.{table_of};
+ghost use Rattle.fit_examples.specs.Tables.{IsWantOfMemory};
+
+use fit_csv::{CsvFault, table};
+use fit_encode::WriteSink;
+use std::alloc::Global;
+
+/// The table of a FIT file, or of a chain of such files, as CSV text: a row for each record message.
+///
+/// `Decode` where the bytes are no chain of files. `NoMemory` where memory was refused, and `Write` where it was refused to the text.
+pub fn ride_table(alloc: Global, ride: &[u8]) -> Result<Vec<u8>, CsvFault>
+    ensures good { OnOk result (AreChain Global ride.now) }
+    ensures rows { (fs : List (FitFile Global)) → IsChain chain_limit fs ride.now → IfOk result (λ text. text.items ≡ csv_text (table_of (flat_map file_events fs))) }
+    // A chain of files fails for want of memory alone.
+    ensures memory { AreChain Global ride.now → IfErr result IsWantOfMemory }
+{
+    let mut source = ride;
+    let mut sink = WriteSink::new(Vec::new(alloc));
+    table(alloc, &mut source, &mut sink)?;
+    Ok(sink.into_inner())
+}

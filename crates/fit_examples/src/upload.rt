@@ -1,0 +1,28 @@
+//! Whether an upload is a FIT file, or a chain of such files.
+ghost use Rattle.std.specs.Prelude.{IfErr, OnOk};
+ghost use Rattle.std.specs.declared.alloc.Global.{Global};
+ghost use Rattle.fit_decode.specs.Answers.{AreChain};
+ghost use Rattle.fit_examples.specs.Uploads.{IsFaultOf, IsWantOfMemory};
+
+use fit_decode::{Decoder, Fault};
+use std::alloc::Global;
+
+/// Checks that an upload is a FIT file, or a chain of such files.
+///
+/// `Refused` names the first byte with which no chain of files goes on, counted from 0, and why; `Truncated` the end of an upload
+/// that ends too soon. `NoMemory` says nothing of the upload.
+pub fn check_upload(alloc: Global, upload: &[u8]) -> Result<(), Fault>
+    ensures good { OnOk result (AreChain Global upload.now) }
+    ensures fault { IfErr result (IsFaultOf upload.now) }
+    // A chain of files fails for want of memory alone.
+    ensures memory { AreChain Global upload.now → IfErr result IsWantOfMemory }
+{
+    let mut decoder = Decoder::new(alloc);
+    let mut rest = upload;
+    while !rest.is_empty() {
+        let fed = decoder.feed(rest)?;
+        let (_, left) = rest.split_at(fed.used);
+        rest = left;
+    }
+    decoder.finish()
+}
