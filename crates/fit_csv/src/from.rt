@@ -16,8 +16,6 @@ mod number;
 mod open_definition;
 mod open_file;
 mod open_message;
-#[cfg(test)]
-mod tests;
 mod text;
 
 use crate::CsvFault;

@@ -3,8 +3,6 @@
 
 mod cell;
 mod conversion;
-#[cfg(test)]
-mod conversion_tests;
 mod definition_rows;
 mod dev_rows;
 mod fault;
@@ -22,8 +20,6 @@ mod show;
 mod strings;
 mod table_report;
 mod table_rows;
-#[cfg(test)]
-mod tests;
 
 pub use cell::{cell_text, put_cell};
 pub use conversion::{table, to_csv};

@@ -11,8 +11,6 @@ mod record;
 mod scan;
 mod section;
 mod source;
-#[cfg(test)]
-mod tests;
 
 pub use decoder::Decoder;
 pub use event::{Event, Fault, Fed};

@@ -9,8 +9,6 @@ mod length;
 mod message;
 mod sink;
 mod spelling;
-#[cfg(test)]
-mod tests;
 mod write;
 
 pub use encoder::Encoder;

@@ -16,12 +16,6 @@ mod names;
 mod profile;
 mod scaled;
 mod stream;
-#[cfg(test)]
-mod stream_tests;
-#[cfg(test)]
-mod table_tests;
-#[cfg(test)]
-mod tests;
 mod text;
 mod time;
 mod told;

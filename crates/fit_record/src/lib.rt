@@ -20,6 +20,3 @@ pub use fits::ShapeFault;
 pub use held::entry_count;
 pub use message::{Record, Values};
 pub use unfinished::can_complete_front;
-
-#[cfg(test)]
-mod tests;

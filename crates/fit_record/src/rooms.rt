@@ -5,9 +5,6 @@ ghost use Rattle.fit_record.specs.Environment.{defined_at};
 ghost use Rattle.fit_record.specs.Files.{CanFill};
 ghost use Rattle.fit_record.specs.Rooms.{fills, has_length_at, has_length, others_have, can_fill_with, can_fill_from};
 
-#[cfg(test)]
-mod tests;
-
 use crate::Env;
 use crate::environment::Defined;
 use std::alloc::Allocator;

@@ -25,6 +25,3 @@ pub use position::Position;
 pub use stop::Stop;
 pub use undone::undo;
 pub use whole::whole_message;
-
-#[cfg(test)]
-mod tests;

@@ -4,6 +4,10 @@
 #[cfg(test)]
 mod built;
 #[cfg(test)]
+mod bytes_to_come;
+#[cfg(test)]
+mod descriptions;
+#[cfg(test)]
 mod fed;
 #[cfg(test)]
 mod files;
@@ -12,6 +16,12 @@ mod reading;
 #[cfg(test)]
 mod refused;
 #[cfg(test)]
+mod rooms;
+#[cfg(test)]
 mod sources;
 #[cfg(test)]
 mod starved;
+#[cfg(test)]
+mod steps;
+#[cfg(test)]
+mod written;

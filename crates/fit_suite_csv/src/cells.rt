@@ -1,8 +1,10 @@
 //! Cells and rows that are known from outside.
 
-use crate::*;
 use csv::ByteRecord;
 use fit_base::{Bits, Code, Items, has_shape, width_of};
+use fit_csv::{
+    cell_items, cell_text, next_row, put_cell, put_row, row_reader, row_writer, rows_text,
+};
 use fit_profile::field_info;
 use std::alloc::{AllocError, Global};
 

@@ -1,6 +1,6 @@
 //! Messages by the records before them.
-use crate::{Fixed, Message, Stream};
 use fit_base::{Bits, Entries, Items, Order};
+use fit_profile::{Fixed, Message, Stream};
 use fit_record::{DevDef, FieldDef, MessageDef, Record, Values};
 use std::alloc::{AllocError, Global};
 

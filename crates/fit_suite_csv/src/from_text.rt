@@ -1,10 +1,10 @@
 //! Texts and their chains of files, which are known from outside.
 
-use crate::conversion_tests::{
+use crate::conversions::{
     BOTH, BOTH_TEXT, DESCRIBED, DESCRIBED_TEXT, EMPTY, EMPTY_TEXT, LONGER, LONGER_TEXT, QUOTED,
     QUOTED_TEXT,
 };
-use crate::{CsvFault, from_csv};
+use fit_csv::{CsvFault, from_csv};
 use fit_decode::CutSource;
 use fit_encode::{CutSink, EncodeFault};
 use std::alloc::{AllocError, Global};

@@ -1,7 +1,7 @@
 //! Files of which the bytes are known, and the faults that no clause puts at a place.
-use crate::{CutSink, EncodeFault, Encoder, write_chain, write_one};
 use arrayvec::ArrayVec;
 use fit_base::{Bits, Entries, Items, Order};
+use fit_encode::{CutSink, EncodeFault, Encoder, write_chain, write_one};
 use fit_frame::{Header, HeaderSum};
 use fit_record::{DevDef, FieldDef, FitFile, MessageDef, Record, Values};
 use std::alloc::{AllocError, Global};

@@ -1,5 +1,5 @@
 //! The whole table of the profile: message, field, name, unit, scale and offset.
-use crate::{Info, field_info};
+use fit_profile::{Info, field_info};
 
 const ROWS: &str = "\
 0,0,type,,1,0

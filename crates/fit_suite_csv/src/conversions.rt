@@ -1,6 +1,6 @@
 //! Chains of files and their texts, which are known from outside.
 
-use crate::{CsvFault, table, to_csv};
+use fit_csv::{CsvFault, table, to_csv};
 use fit_decode::{CutSource, Fault};
 use fit_encode::{CutSink, put_all};
 use std::alloc::Global;

@@ -1,8 +1,7 @@
 //! Rooms, and records that aren't whole, whose answers are known from outside.
-use crate::*;
 use fit_base::{Entries, Order};
+use fit_record::{Env, FieldDef, MessageDef, Record, can_complete_front};
 use std::alloc::{AllocError, Global};
-use std::test::*;
 
 /// Defines data messages with so many bytes after the record header.
 fn define(env: &mut Env, alloc: Global, local: u8, size: u8) -> Result<bool, AllocError> {

@@ -2,14 +2,14 @@
 ghost use Rattle.std.specs.Prelude.{OnOk};
 ghost use Rattle.fit_step.specs.Places.{state_at, Stands};
 
-use crate::{Position, Stop, step};
 use fit_base::{Bits, Entries, Items, Order};
 use fit_frame::Reason;
 use fit_record::{Env, FieldDef, MessageDef, Record, Values};
+use fit_step::{Position, Stop, step};
 use std::alloc::{AllocError, Global};
 
 /// Takes a byte, and learns the record that is whole with it.
-#[tactic(auto, using(crate::proofs::Kept::beginnings_stand))]
+#[tactic(auto, using(fit_step::proofs::Kept::beginnings_stand))]
 fn take(
     alloc: Global,
     env: &mut Env,
@@ -38,7 +38,7 @@ fn take(
 }
 
 /// How many bytes are taken, why no more are, and the last record.
-#[tactic(auto, using(crate::proofs::Kept::beginnings_stand))]
+#[tactic(auto, using(fit_step::proofs::Kept::beginnings_stand))]
 fn read(alloc: Global, room: u32, bytes: &[u8]) -> (usize, Option<Stop>, Option<Record>) {
     let mut env = Env::new(alloc);
     let mut position = Position::new(room);

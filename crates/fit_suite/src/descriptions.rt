@@ -1,7 +1,7 @@
 //! What is known of a developer field after its description.
 
-use crate::*;
 use fit_base::{Bits, Entries, Items, Order};
+use fit_record::{DevDef, Env, FieldDef, MessageDef, Record, Values};
 use std::alloc::{AllocError, Global};
 
 /// A message of local type 1 with one developer field, number 5 of index 0, of two bytes.

@@ -1,5 +1,5 @@
 //! A file of a definition message and a data message, both without fields.
-use crate::{Decoder, Event, Fault};
+use fit_decode::{Decoder, Event, Fault};
 use fit_frame::Reason;
 use fit_record::Record;
 

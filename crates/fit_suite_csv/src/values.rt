@@ -1,8 +1,8 @@
 //! Names, scaled values, positions and instants that are known from outside.
-use crate::{
+use arrayvec::ArrayString;
+use fit_profile::{
     Fixed, degrees, field_info, field_label, fixed, message_label, message_name, utc_text,
 };
-use arrayvec::ArrayString;
 
 #[test]
 fn names_and_labels(rt: HostRuntime) {
