@@ -6,7 +6,7 @@ use Rattle.fit_csv.specs.declared.fault.CsvFault.{CsvFault}
 use Rattle.fit_csv.specs.declared.fault.CsvFault.TheVariants as csv
 use Rattle.fit_csv.specs.Conversions.{ConvertsTo}
 use Rattle.fit_csv.specs.FromText.{FromTextOf}
-use Rattle.fit_csv.specs.Rows.{Row, csv_text}
+use Rattle.fit_cells.specs.Rows.{Row, csv_text}
 use Rattle.fit_cmd.specs.Run.{Concludes, IsWritten}
 
 pub concluded : (rows : List Row) (source output faults : Channel) (status : ℕ) (answer : Result (Unit {0}) CsvFault) → source.failed ≡ false → output.failed ≡ false

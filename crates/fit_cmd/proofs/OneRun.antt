@@ -14,7 +14,7 @@ use Rattle.fit_csv.specs.declared.fault.CsvFault.{CsvFault}
 use Rattle.fit_csv.specs.declared.fault.CsvFault.TheVariants as csv
 use Rattle.fit_csv.specs.ChainRows.{rows_of}
 use Rattle.fit_csv.specs.Conversions.{Converts, RowsOf}
-use Rattle.fit_csv.specs.Rows.{csv_text}
+use Rattle.fit_cells.specs.Rows.{csv_text}
 use Rattle.fit_csv.specs.ShowLines.{show_line}
 use Rattle.fit_csv.specs.Table.{table_of}
 use Rattle.fit_cmd.specs.declared.command_line.Command.{Command}

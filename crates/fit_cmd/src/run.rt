@@ -3,7 +3,7 @@ ghost use Rattle.std.specs.Prelude.{◌≡◌, ◌++◌, [], flat_map, reverse};
 ghost use Rattle.fit_decode.specs.Events.{file_events};
 ghost use Rattle.fit_report.specs.Heard.{text_of};
 ghost use Rattle.fit_csv.specs.ChainRows.{chain_rows};
-ghost use Rattle.fit_csv.specs.Rows.{csv_text};
+ghost use Rattle.fit_cells.specs.Rows.{csv_text};
 ghost use Rattle.fit_csv.specs.ShowLines.{show_line};
 ghost use Rattle.fit_csv.specs.Table.{table_of};
 ghost use Rattle.fit_cmd.specs.Finishing.{FaultSaid, Finishes};

@@ -7,7 +7,7 @@ use Rattle.fit_record.specs.Files.{chain_limit}
 use Rattle.fit_csv.specs.Judged.{Agree}
 use Rattle.fit_csv.specs.Misfits.{IsCellFault, IsEndRow, IsFileRow, IsMisfit, head_row, message_row}
 use Rattle.fit_csv.specs.Progress.{CanGoOn, ChainStep, OpenStep, PartStep, begun, settled, with_file}
-use Rattle.fit_csv.specs.Rows.{Row}
+use Rattle.fit_cells.specs.Rows.{Row}
 use Rattle.fit_csv.specs.declared.from.chain.Chain.{Chain}
 use Rattle.fit_csv.specs.declared.from.misfit.Misfit.{Misfit}
 use Rattle.fit_csv.specs.declared.from.open_file.OpenFile.{OpenFile}

@@ -1,7 +1,7 @@
 -- The first cell in which a row differs from the closest row that can stand there.
 use Rattle.std.proofs.Common.{◌≡◌, ◌∙◌, ℕ, zero, suc, ◌≤◌, [], ◌∷◌, take, refl, sym, ap, ap₂, arith, inl}
 use Rattle.std.proofs.lemmas.List.{take-take}
-use Rattle.fit_csv.specs.Rows.{Row}
+use Rattle.fit_cells.specs.Rows.{Row}
 use Rattle.fit_csv.specs.Judged.{Agree, IsBadCell}
 use Rattle.fit_csv.specs.Seven.{AsFar, DifferAt}
 use Rattle.fit_csv.specs.Misfits.{IsCellFault, IsMisfit}

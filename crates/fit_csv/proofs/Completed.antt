@@ -19,7 +19,7 @@ use Rattle.fit_profile.specs.Looks.{known}
 use Rattle.fit_csv.specs.ChainRows.{chain_rows, data_rows, dev_def_row, dev_row, end_row, field_def_row, field_row, file_row, file_rows, record_rows, records_rows}
 use Rattle.fit_csv.specs.Judged.{DevDefInRange, FieldDefInRange, IsFileOfRows, MayGoOn, RecordInRange}
 use Rattle.fit_csv.specs.Progress.{DefinitionStep, DevStep, FieldStep, definition_of, dev_total, has_all, is_whole, naming_at, with_dev_field, with_dev_items, with_field, with_items, with_record}
-use Rattle.fit_csv.specs.Rows.{Row, first_line}
+use Rattle.fit_cells.specs.Rows.{Row, first_line}
 use Rattle.fit_csv.specs.SoundChain.{IsSoundChain, IsSoundCurrent, IsSoundDefinition, IsSoundFile, IsSoundMessage, IsSoundSoFar, current_rows, open_file_rows, open_rows, part_rows, rows_so_far}
 use Rattle.fit_csv.specs.declared.from.chain.Chain.{Chain}
 use Rattle.fit_csv.specs.declared.from.definition.OpenDefinition.{OpenDefinition}

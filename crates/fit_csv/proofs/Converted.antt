@@ -16,7 +16,7 @@ use Rattle.fit_report.proofs.Outcomes.{nothing_heard}
 use Rattle.fit_report.proofs.Texts.{Appends-append}
 use Rattle.fit_csv.specs.declared.fault.CsvFault.{CsvFault}
 use Rattle.fit_csv.specs.declared.fault.CsvFault.TheVariants as csv
-use Rattle.fit_csv.specs.Rows.{csv_text}
+use Rattle.fit_cells.specs.Rows.{csv_text}
 use Rattle.fit_csv.specs.Conversions.{Converts, ConvertsTo, RowsOf, Writes}
 use Rattle.fit_csv.specs.Reporting.{HasText, csv_fault}
 

@@ -1,7 +1,7 @@
 -- Rows of definition messages.
 use Rattle.std.proofs.Common.{◌≡◌, ◌<◌, length, refl}
 use Rattle.std.specs.Prelude.{codes}
-use Rattle.fit_csv.specs.Rows.{Row}
+use Rattle.fit_cells.specs.Rows.{Row}
 use Rattle.fit_csv.specs.Misfits.{IsCellFault, IsDevDefRow, IsFieldDefRow, IsMisfit, IsRowOfThree}
 use Rattle.fit_csv.specs.Progress.{DevDefStep, FieldDefStep, with_dev_field, with_field}
 use Rattle.fit_csv.specs.declared.from.definition.OpenDefinition.{OpenDefinition}

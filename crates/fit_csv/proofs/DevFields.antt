@@ -9,7 +9,7 @@ use Rattle.fit_base.specs.Fields.{HasShape}
 use Rattle.fit_record.specs.declared.definition.DevDef.{DevDef}
 use Rattle.fit_record.specs.Records.{HaveShape}
 use Rattle.fit_profile.specs.Described.{Naming, nameless}
-use Rattle.fit_csv.specs.Cells.{cell}
+use Rattle.fit_cells.specs.Cells.{cell}
 use Rattle.fit_csv.specs.ChainRows.{dev_label, dev_row, row}
 use Rattle.fit_csv.proofs.Shapes.{as_long, shape_at}
 

@@ -16,11 +16,11 @@ use Rattle.fit_csv.specs.ChainRows.{chain_rows}
 use Rattle.fit_csv.specs.FromText.{FromFault, FromText, FromTextOf, IsTextOf, IsUnwritable}
 use Rattle.fit_csv.specs.Judged.{CanFollow, HasNoHeader, IsChainOfRows, IsCutOff, IsRefusedRow}
 use Rattle.fit_csv.specs.Laws.{ChainsHaveOwnRows}
-use Rattle.fit_csv.specs.Rows.{RowsOfText}
+use Rattle.fit_cells.specs.Rows.{RowsOfText}
 use Rattle.fit_csv.specs.declared.fault.CsvFault.{CsvFault}
 use Rattle.fit_csv.specs.declared.fault.CsvFault.TheVariants as faults
 use Rattle.fit_csv.proofs.InRange.{chain-of-rows}
-use Rattle.fit_csv.proofs.RowFacts.{reached-first, reads-one-way}
+use Rattle.fit_cells.proofs.RowFacts.{reached-first, reads-one-way}
 use Rattle.fit_csv.proofs.SevenRows.{row-seven}
 
 module _ (text : List ℕ) (fs : List (FitFile Global)) (read : RowsOfText text (chain_rows fs)) (good : IsChainOfRows fs) where

@@ -7,10 +7,10 @@ use Rattle.fit_frame.specs.declared.header.HeaderSum.TheVariants.{Absent, Zero, 
 use Rattle.fit_frame.specs.Header.{SizeFits}
 use Rattle.fit_csv.specs.ChainRows.{file_row, rest_text, row, sum_word}
 use Rattle.fit_csv.specs.Misfits.{HasSum, IsFileRow, IsHeaderSize}
-use Rattle.fit_csv.specs.Rows.{Cell, Row}
+use Rattle.fit_cells.specs.Rows.{Cell, Row}
 use Rattle.fit_csv.specs.Seven.{AsFar}
-use Rattle.fit_csv.specs.Steps.{read_pairs}
-use Rattle.fit_csv.proofs.ReadFacts.{bytes-shown}
+use Rattle.fit_cells.specs.Steps.{read_pairs}
+use Rattle.fit_cells.proofs.ReadFacts.{bytes-shown}
 
 pub rest-shown : (bytes text : List ℕ) (count : ℕ) → rest_text bytes ≡ text → length bytes ≡ count → All (λ b. b < 2 ^ 8) bytes → read_pairs count (drop 2 text) ≡ bytes
 unfolding read_pairs

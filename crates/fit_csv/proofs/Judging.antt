@@ -8,7 +8,7 @@ use Rattle.fit_profile.specs.Laws.{TextHasOneNumber}
 use Rattle.fit_csv.specs.ChainRows.{chain_rows, file_rows}
 use Rattle.fit_csv.specs.Judged.{AreFilesOf, AreWhole, CanFollow, FirstRows, IsBadCell, IsChainOfRows, IsCutOff, IsRefusedRow, IsRowFault, IsTextFault, MayGoOn}
 use Rattle.fit_csv.specs.Progress.{ChainStep, Run, nothing_yet}
-use Rattle.fit_csv.specs.Rows.{HasRead, Row, RowsOfText, first_line}
+use Rattle.fit_cells.specs.Rows.{HasRead, Row, RowsOfText, first_line}
 use Rattle.fit_csv.specs.SoundChain.{IsSoundChain, IsSoundCurrent, current_rows, rows_so_far}
 use Rattle.fit_csv.specs.declared.fault.CsvFault.{CsvFault}
 use Rattle.fit_csv.specs.declared.fault.CsvFault.TheVariants as faults
@@ -17,7 +17,7 @@ use Rattle.fit_csv.proofs.ChainSteps.{CanStep}
 use Rattle.fit_csv.proofs.Completed.{may-go-on}
 use Rattle.fit_csv.proofs.MoreRows.{chain-more, chain-sound}
 use Rattle.fit_csv.proofs.OneWay.{first-of-run, one-run, run-join, run-one, run-split}
-use Rattle.fit_csv.proofs.RowsWithin.{rows-of-text}
+use Rattle.fit_cells.proofs.RowsWithin.{rows-of-text}
 use Rattle.fit_csv.proofs.WholeRuns.{chain-run}
 
 sound-run : (c : Chain) (rows : List Row) (t : Chain) → IsSoundChain c → Run c rows t → IsSoundChain t × (rows_so_far t ≡ rows_so_far c ++ rows)

@@ -7,9 +7,9 @@ use Rattle.fit_frame.specs.declared.header.HeaderSum.TheVariants as sums
 use Rattle.fit_record.proofs.KnownFiles.{both_architectures, described_field, empty_file, one_byte_message}
 use Rattle.fit_decode.specs.Events.{file_events}
 use Rattle.fit_profile.specs.FixedText.{last_digits}
-use Rattle.fit_csv.specs.Cells.{hex_digits}
+use Rattle.fit_cells.specs.Cells.{hex_digits}
 use Rattle.fit_csv.specs.InstantText.{date_after, date_in_year, instant_text}
-use Rattle.fit_csv.specs.Rows.{csv_text}
+use Rattle.fit_cells.specs.Rows.{csv_text}
 use Rattle.fit_csv.specs.ChainRows.{chain_rows, field_row, file_row, records_rows}
 use Rattle.fit_csv.specs.Table.{table_events_rows, table_of}
 use Rattle.csv.specs.Writing.{escaped, fields_text, is_blank}

@@ -1,27 +1,14 @@
-mod KnownCells
 mod KnownRows
 pub mod RowsOfEvents
-mod AddedRows
 mod ToldRows
-mod Converted
 mod ProfileScales
+mod Converted
 mod ToldTable
 mod Shapes
 mod NamingFacts
 mod DevFields
 mod InstantFacts
 mod DegreeFacts
-mod HexFacts
-mod ReadFacts
-mod NumberFacts
-mod StringFacts
-mod ClassFacts
-mod TextFacts
-mod SplitFacts
-mod ItemFacts
-mod RowFacts
-mod ReaderFacts
-mod OneCell
 mod SevenCells
 mod Closest
 mod ClosestRows
@@ -43,7 +30,6 @@ mod OneStep
 mod ProfileOffsets
 mod OneWay
 mod WholeRuns
-mod RowsWithin
 mod Judging
 mod OneChain
 mod InRange

@@ -14,7 +14,7 @@ use Rattle.fit_csv.specs.Judged.{IsBadCell}
 use Rattle.fit_csv.specs.declared.from.misfit.Misfit.{Misfit}
 use Rattle.fit_csv.specs.InstantText.{instant_text}
 use Rattle.fit_csv.specs.Misfits.{IsCellFault, IsMessageOrEnd, IsMessageRow, global_at, message_row}
-use Rattle.fit_csv.specs.Rows.{Cell, Row}
+use Rattle.fit_cells.specs.Rows.{Cell, Row}
 use Rattle.fit_csv.specs.Seven.{AsFar}
 use Rattle.fit_csv.proofs.Closest.{of-kind}
 use Rattle.fit_csv.proofs.ClosestRows.{none-shown}

@@ -21,7 +21,7 @@ use Rattle.fit_csv.specs.ChainRows.{data_row, data_rows, end_row, field_rows, fi
 use Rattle.fit_csv.specs.Judged.{IsFileOfRows}
 use Rattle.fit_csv.specs.Misfits.{IsMessageStart, global_at, message_row}
 use Rattle.fit_csv.specs.Progress.{ChainStep, DevStep, FieldStep, FileStep, OpenStep, PartStep, begun, definition_of, is_whole, is_whole_message, settled, with_record}
-use Rattle.fit_csv.specs.Rows.{Row}
+use Rattle.fit_cells.specs.Rows.{Row}
 use Rattle.fit_csv.specs.SoundChain.{IsSoundChain, IsSoundCurrent, IsSoundFile, IsSoundMessage, IsSoundPart, current_rows, open_file_rows, part_rows, rows_so_far}
 use Rattle.fit_csv.specs.declared.from.chain.Chain.{Chain}
 use Rattle.fit_csv.specs.declared.from.open_file.OpenFile.{OpenFile}

@@ -13,7 +13,7 @@ use Rattle.fit_profile.specs.Looks.{known}
 use Rattle.fit_csv.specs.ChainRows.{chain_rows, file_rows, record_rows}
 use Rattle.fit_csv.specs.Judged.{IsChainOfRows, RecordInRange}
 use Rattle.fit_csv.specs.Progress.{FileStep, PartStep, Run, definition_of, is_whole, is_whole_message, nothing_yet, settled, with_record}
-use Rattle.fit_csv.specs.Rows.{Row, first_line}
+use Rattle.fit_cells.specs.Rows.{Row, first_line}
 use Rattle.fit_csv.specs.declared.from.chain.Chain.{Chain}
 use Rattle.fit_csv.specs.declared.from.open_file.OpenFile.{OpenFile}
 use Rattle.fit_csv.specs.declared.from.open_file.Part.{Part}

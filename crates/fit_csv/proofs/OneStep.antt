@@ -16,7 +16,7 @@ use Rattle.fit_record.specs.Records.{DataHeaderFits}
 use Rattle.fit_csv.specs.ChainRows.{dev_def_row, field_def_row, file_row, optional_number, order_word, rest_text, sum_word}
 use Rattle.fit_csv.specs.Judged.{DevDefInRange, FieldDefInRange, HeaderInRange}
 use Rattle.fit_csv.specs.Misfits.{HeadInRange, IsMessageStart, head_row, message_row}
-use Rattle.fit_csv.specs.Rows.{Cell, Row}
+use Rattle.fit_cells.specs.Rows.{Cell, Row}
 use Rattle.fit_csv.specs.declared.from.definition.DefinitionHead.{DefinitionHead}
 use Rattle.fit_csv.proofs.HeaderRows.{rest-long, rest-shown}
 use Rattle.fit_csv.proofs.MessageRows.{small-local}

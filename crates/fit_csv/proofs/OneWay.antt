@@ -16,7 +16,7 @@ use Rattle.fit_profile.specs.Looks.{known}
 use Rattle.fit_csv.specs.ChainRows.{dev_row, end_row, field_row}
 use Rattle.fit_csv.specs.Misfits.{head_row, message_row}
 use Rattle.fit_csv.specs.Progress.{ChainStep, DefinitionStep, DevStep, FieldStep, OpenStep, PartStep, Run, begun, naming_at, opened, settled, with_dev_field, with_dev_items, with_field, with_items}
-use Rattle.fit_csv.specs.Rows.{Row}
+use Rattle.fit_cells.specs.Rows.{Row}
 use Rattle.fit_csv.specs.declared.from.chain.Chain.{Chain}
 use Rattle.fit_csv.specs.declared.from.definition.OpenDefinition.{OpenDefinition}
 use Rattle.fit_csv.specs.declared.from.open_file.OpenFile.{OpenFile}

@@ -8,7 +8,7 @@ use Rattle.fit_csv.specs.ChainRows.{end_row}
 use Rattle.fit_csv.specs.Judged.{Agree}
 use Rattle.fit_csv.specs.Misfits.{IsCellFault, IsHeadRow, IsMessageOrEnd, IsMisfit, head_row, message_row}
 use Rattle.fit_csv.specs.Progress.{CanGoOn, DefinitionStep, MessageStep, opened}
-use Rattle.fit_csv.specs.Rows.{Cell, Row}
+use Rattle.fit_cells.specs.Rows.{Cell, Row}
 use Rattle.fit_csv.specs.declared.from.definition.OpenDefinition.{OpenDefinition}
 use Rattle.fit_csv.specs.declared.from.misfit.Misfit.{Misfit}
 use Rattle.fit_csv.specs.declared.from.open_file.Part.TheVariants.{Nothing, Definition, Message}

@@ -15,7 +15,7 @@ use Rattle.fit_profile.specs.Names.{field, field_of, message_of}
 use Rattle.fit_profile.specs.Profile.{Field, Meaning, Message, message_index, messages, timestamp}
 use Rattle.fit_profile.specs.Scaled.{IsScale}
 use Rattle.fit_csv.specs.ChainRows.{dev_row, field_row}
-use Rattle.fit_csv.proofs.OneCell.{one-cell}
+use Rattle.fit_cells.proofs.OneCell.{one-cell}
 use Rattle.fit_csv.proofs.OneStep.{cell_at}
 use Rattle.fit_csv.proofs.ProfileScales.{found, known_scale, some_same}
 

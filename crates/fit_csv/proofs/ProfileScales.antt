@@ -16,7 +16,7 @@ use Rattle.fit_profile.specs.Looks.{first_field}
 use Rattle.fit_profile.specs.Values.{IsValueOf, first_number, known_number}
 use Rattle.fit_csv.specs.Table.{amount_text, value_text}
 use Rattle.fit_csv.specs.TableCells.{shown_text}
-use Rattle.fit_csv.proofs.NumberFacts.{is_scaled}
+use Rattle.fit_cells.proofs.NumberFacts.{is_scaled}
 
 abbrev is_scale : ℕ → Bool
 is_scale s = (s == 1) || (s == 5) || (s == 10) || (s == 100) || (s == 1000) || (s == 16) || (s == 256)

@@ -5,7 +5,7 @@ use Rattle.std.specs.Prelude.{flat_map}
 use Rattle.fit_record.specs.declared.file.FitFile.{FitFile}
 use Rattle.fit_record.specs.declared.message.Record.{Record}
 use Rattle.fit_decode.specs.Events.{Event, item, file_end, file_events}
-use Rattle.fit_csv.specs.Rows.{Row, first_line}
+use Rattle.fit_cells.specs.Rows.{Row, first_line}
 use Rattle.fit_csv.specs.ChainRows.{chain_rows, end_row, event_rows, events_rows, file_row, file_rows, record_rows, records_behind, records_rows, rows_of}
 
 -- ---- the records of a file

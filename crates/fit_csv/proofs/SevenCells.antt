@@ -2,7 +2,7 @@
 use Rattle.std.proofs.Common.{◌≡◌, ◌∙◌, ℕ, suc, List, [], ◌∷◌, length, Some, refl, ap₂, arith}
 use Rattle.csv.specs.Records.{field_at}
 use Rattle.fit_csv.specs.ChainRows.{row}
-use Rattle.fit_csv.specs.Rows.{Cell}
+use Rattle.fit_cells.specs.Rows.{Cell}
 
 one-more : (fields : List (List ℕ)) (n : ℕ) (x : List ℕ) (xs : List (List ℕ)) → length fields ≡ suc n → field_at fields 0 ≡ Some x
     → ((rest : List (List ℕ)) → length rest ≡ n → ((i : ℕ) → field_at rest i ≡ field_at fields (suc i)) → xs ≡ rest) → x ∷ xs ≡ fields

@@ -13,8 +13,8 @@ use Rattle.fit_profile.specs.Described.{Naming, namings_at}
 use Rattle.fit_profile.specs.Looks.{known}
 use Rattle.fit_profile.specs.Times.{header_time, previous_time}
 use Rattle.fit_csv.specs.ChainRows.{chain_rows, data_row, def_row, definition_rows, dev_def_row, dev_row, dev_rows, end_row, field_def_row, field_row, field_rows, file_row, file_rows, message_rows, record_rows, records_rows}
-use Rattle.fit_csv.specs.Rows.{NoneEmpty, Row, RowsOfText, csv_text}
-use Rattle.fit_csv.proofs.RowFacts.{reads-back}
+use Rattle.fit_cells.specs.Rows.{NoneEmpty, Row, RowsOfText, csv_text}
+use Rattle.fit_cells.proofs.RowFacts.{reads-back}
 
 abbrev AllSeven : List Row → Type 0
 AllSeven rows = AllByRecursion (λ r. length r ≡ 7) rows

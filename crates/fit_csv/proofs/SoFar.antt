@@ -18,7 +18,7 @@ use Rattle.fit_profile.specs.Times.{header_time, previous_time}
 use Rattle.fit_csv.specs.ChainRows.{data_row, data_rows, def_row, definition_rows, dev_count, dev_def_row, dev_row, dev_rows, field_def_row, field_row, field_rows, message_rows, optional_number, order_word, record_rows, records_rows, row}
 use Rattle.fit_csv.specs.Misfits.{head_row}
 use Rattle.fit_csv.specs.Progress.{DefinitionStep, DevStep, FieldStep, definition_of, dev_total, is_whole, naming_at, with_dev_items, with_items}
-use Rattle.fit_csv.specs.Rows.{Row}
+use Rattle.fit_cells.specs.Rows.{Row}
 use Rattle.fit_csv.specs.SoundChain.{IsSoundDefinition, IsSoundMessage, open_rows}
 use Rattle.fit_csv.specs.declared.from.definition.OpenDefinition.{OpenDefinition}
 use Rattle.fit_csv.proofs.NamingFacts.{namings_long}

@@ -21,7 +21,7 @@ use Rattle.fit_csv.specs.ChainRows.{dev_row, field_row}
 use Rattle.fit_csv.specs.Judged.{DefinitionInRange, RecordInRange}
 use Rattle.fit_csv.specs.Misfits.{DevDefInRange, FieldDefInRange, HeadInRange, IsMessageStart}
 use Rattle.fit_csv.specs.Progress.{DefinitionStep, DevStep, FieldStep, FileStep, FitsOnceWhole, PartHasRoom, PartStep, definition_of, dev_total, has_all, is_whole, is_whole_message, naming_at, opened, settled, with_dev_items, with_items, with_record}
-use Rattle.fit_csv.specs.Rows.{Row}
+use Rattle.fit_cells.specs.Rows.{Row}
 use Rattle.fit_csv.specs.SoundChain.{HaveShapeSoFar, IsSoundDefinition, IsSoundFile, IsSoundMessage, IsSoundPart, IsSoundSoFar}
 use Rattle.fit_csv.specs.declared.from.definition.DefinitionHead.{DefinitionHead}
 use Rattle.fit_csv.specs.declared.from.definition.OpenDefinition.{OpenDefinition}

@@ -11,11 +11,11 @@ use Rattle.fit_profile.specs.Looks.{known}
 use Rattle.fit_report.specs.Heard.{AreHeard, hear, latest_records, line_of, text_of}
 use Rattle.fit_report.specs.Laws.{HeardRecordsFit}
 use Rattle.std.specs.Global.{Global}
-use Rattle.fit_csv.specs.Rows.{csv_text}
+use Rattle.fit_cells.specs.Rows.{csv_text}
 use Rattle.fit_csv.specs.ChainRows.{event_rows, events_rows, records_behind, rows_of}
 use Rattle.fit_csv.specs.Conversions.{csv_line}
 use Rattle.fit_csv.specs.Reporting.{AnswerFits, HasText, answer_rows}
-use Rattle.fit_csv.proofs.AddedRows.{text_append}
+use Rattle.fit_cells.proofs.AddedRows.{text_append}
 use Rattle.fit_csv.proofs.RowsOfEvents.{records-more, records_after, rows-more}
 
 -- a record that is heard fits behind the latest records

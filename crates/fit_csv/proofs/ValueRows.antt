@@ -4,11 +4,11 @@ use Rattle.std.specs.Global.{Global}
 use Rattle.fit_base.specs.Fields.{HasShape}
 use Rattle.fit_base.specs.declared.items.Items.{Items}
 use Rattle.fit_profile.specs.Profile.{Meaning}
-use Rattle.fit_csv.specs.Cells.{cell}
+use Rattle.fit_cells.specs.Cells.{cell}
 use Rattle.fit_csv.specs.ChainRows.{row}
 use Rattle.fit_csv.specs.Judged.{IsBadCell}
 use Rattle.fit_csv.specs.Misfits.{IsValueRow}
-use Rattle.fit_csv.specs.Rows.{Cell, Row}
+use Rattle.fit_cells.specs.Rows.{Cell, Row}
 use Rattle.fit_csv.specs.Seven.{AsFar}
 use Rattle.fit_csv.proofs.ZeroItems.{zero-items}
 

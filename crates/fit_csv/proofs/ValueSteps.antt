@@ -13,7 +13,7 @@ use Rattle.fit_record.specs.Environment.{dev_defs}
 use Rattle.fit_csv.specs.ChainRows.{dev_row, field_row}
 use Rattle.fit_csv.specs.Misfits.{IsDevRow, IsFieldRow, IsMisfit}
 use Rattle.fit_csv.specs.Progress.{DevStep, FieldStep, naming_at, with_dev_items, with_items}
-use Rattle.fit_csv.specs.Rows.{Row}
+use Rattle.fit_cells.specs.Rows.{Row}
 use Rattle.fit_csv.specs.declared.from.misfit.Misfit.{Misfit}
 use Rattle.fit_csv.proofs.Closest.{same-rows}
 

@@ -24,7 +24,7 @@ use Rattle.fit_csv.specs.ChainRows.{data_row, data_rows, def_row, definition_row
 use Rattle.fit_csv.specs.Judged.{DefinitionInRange, IsChainOfRows, IsFileOfRows, RecordInRange}
 use Rattle.fit_csv.specs.Misfits.{DevDefInRange, FieldDefInRange, HeadInRange, IsMessageStart, global_at, message_row}
 use Rattle.fit_csv.specs.Progress.{ChainStep, DevStep, FieldStep, FileStep, PartStep, Run, begun, definition_of, dev_total, has_all, is_whole, is_whole_message, naming_at, nothing_yet, opened, settled, with_dev_field, with_dev_items, with_field, with_items, with_record}
-use Rattle.fit_csv.specs.Rows.{Row}
+use Rattle.fit_cells.specs.Rows.{Row}
 use Rattle.fit_csv.specs.declared.from.chain.Chain.{Chain}
 use Rattle.fit_csv.specs.declared.from.definition.DefinitionHead.{DefinitionHead}
 use Rattle.fit_csv.specs.declared.from.definition.OpenDefinition.{OpenDefinition}

@@ -6,7 +6,7 @@ use Rattle.std.proofs.Math.Nat.{pow-suc}
 use Rattle.fit_base.specs.BaseTypes.{item_width}
 use Rattle.fit_base.specs.Fields.{HasShape}
 use Rattle.fit_base.specs.declared.items.Items.{Items}
-use Rattle.fit_csv.proofs.ItemFacts.{shape_whole}
+use Rattle.fit_cells.proofs.ItemFacts.{shape_whole}
 
 power_above : (w : ℕ) → 0 < 256 ^ w
 power_above zero = omega arith

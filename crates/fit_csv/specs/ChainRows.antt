@@ -22,8 +22,8 @@ use Rattle.fit_profile.specs.Names as names
 use Rattle.fit_profile.specs.Looks.{known}
 use Rattle.fit_profile.specs.Times.{header_time, previous_time}
 use Rattle.fit_profile.specs.Described.{Naming, namings_at}
-use Rattle.fit_csv.specs.Cells.{bytes_text, cell}
-use Rattle.fit_csv.specs.Rows.{Cell, Row, first_line}
+use Rattle.fit_cells.specs.Cells.{bytes_text, cell}
+use Rattle.fit_cells.specs.Rows.{Cell, Row, first_line}
 use Rattle.fit_csv.specs.InstantText.{instant_text}
 
 -- A row has seven cells, the first of which says its kind.

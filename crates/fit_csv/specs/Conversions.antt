@@ -10,7 +10,7 @@ use Rattle.fit_report.specs.Heard.{Lines, latest_records}
 use Rattle.fit_report.specs.Reports.{Channel, FailsIn, Faults, before_fault}
 use Rattle.fit_csv.specs.declared.fault.CsvFault.{CsvFault}
 use Rattle.fit_csv.specs.declared.fault.CsvFault.TheVariants as csv
-use Rattle.fit_csv.specs.Rows.{Row, csv_text}
+use Rattle.fit_cells.specs.Rows.{Row, csv_text}
 use Rattle.fit_csv.specs.ChainRows.{event_rows}
 use Rattle.fit_csv.specs.Table.{files_heard, table_event_rows}
 

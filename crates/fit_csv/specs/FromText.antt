@@ -10,7 +10,7 @@ use Rattle.fit_encode.specs.declared.fault.EncodeFault.TheVariants as encode
 use Rattle.fit_encode.specs.Faults.{IsFirstFault, StopsAt}
 use Rattle.fit_csv.specs.ChainRows.{chain_rows}
 use Rattle.fit_csv.specs.Judged.{AreFilesOf, IsTextFault}
-use Rattle.fit_csv.specs.Rows.{RowsOfText}
+use Rattle.fit_cells.specs.Rows.{RowsOfText}
 use Rattle.fit_csv.specs.declared.fault.CsvFault.{CsvFault}
 use Rattle.fit_csv.specs.declared.fault.CsvFault.TheVariants.{Decode, Encode, NoMemory, Read, Write}
 

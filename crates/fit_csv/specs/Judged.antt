@@ -18,7 +18,7 @@ use Rattle.fit_csv.specs.ChainRows.{chain_rows}
 use Rattle.csv.specs.Reading.{Reached, default_config, strip_bom}
 use Rattle.csv.specs.declared.parser.State.{State}
 use Rattle.csv.specs.declared.parser.State.TheVariants as st
-use Rattle.fit_csv.specs.Rows.{Row, RowsOfText, first_line}
+use Rattle.fit_cells.specs.Rows.{Row, RowsOfText, first_line}
 use Rattle.fit_csv.specs.declared.fault.CsvFault.{CsvFault}
 use Rattle.fit_csv.specs.declared.fault.CsvFault.TheVariants.{BadCell, BadRow, Header, NoMemory, Read}
 

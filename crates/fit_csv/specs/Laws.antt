@@ -1,7 +1,5 @@
--- What holds of cells, of rows and of their text, and of the computed texts of instants and positions.
-use Rattle.std.specs.Prelude.{◌≡◌, ◌∷◌, ◌++◌, ◌<◌, ◌≤◌, ◌^◌, ℕ, ℤ, List, Option, IfSome, flat_map, length}
-use Rattle.fit_base.specs.declared.items.Items.{Items}
-use Rattle.fit_base.specs.Fields.{HasShape}
+-- What holds of the rows of records and chains, and of the computed texts of instants and positions.
+use Rattle.std.specs.Prelude.{◌≡◌, ◌++◌, ◌<◌, ◌≤◌, ◌^◌, ℕ, ℤ, List, flat_map, length}
 use Rattle.fit_base.specs.Numbers.{IsBytes}
 use Rattle.std.specs.Global.{Global}
 use Rattle.fit_record.specs.declared.file.FitFile.{FitFile}
@@ -11,33 +9,13 @@ use Rattle.fit_record.specs.Records.{Fits}
 use Rattle.fit_profile.specs.Looks.{known}
 use Rattle.fit_decode.specs.Events.{file_events}
 use Rattle.fit_profile.specs.Instant.{IsInstantText}
-use Rattle.fit_profile.specs.Profile.{Meaning}
-use Rattle.fit_profile.specs.Scaled.{IsDegrees, IsScale, IsScaled}
-use Rattle.fit_csv.specs.Cells.{cell, scaled}
-use Rattle.fit_csv.specs.Rows.{Row, RowsOfText, NoneEmpty, csv_text, first_line}
+use Rattle.fit_profile.specs.Scaled.{IsDegrees}
+use Rattle.fit_cells.specs.Rows.{Row, csv_text}
 use Rattle.fit_csv.specs.InstantText.{instant_text}
 use Rattle.fit_csv.specs.Degrees.{degrees_of}
 use Rattle.fit_csv.specs.ChainRows.{chain_rows, record_rows, rows_of}
 use Rattle.fit_csv.specs.FromText.{IsTextOf}
 use Rattle.fit_csv.specs.Judged.{IsChainOfRows, RecordInRange}
-
--- the text of the first line and other rows reads as those rows
-abbrev pub ReadsBack : Type 0
-ReadsBack = (rows : List Row) → NoneEmpty rows → RowsOfText (csv_text (first_line ∷ rows)) (first_line ∷ rows)
-
--- a text reads as one list of rows
-abbrev pub ReadsOneWay : Type 0
-ReadsOneWay = (text : List ℕ) (a b : List Row) → RowsOfText text a → RowsOfText text b → a ≡ b
-
--- a scaled number is what its raw value stands for
-abbrev pub ScaledIsExact : Type 0
-ScaledIsExact = (raw : ℤ) (scale offset : ℕ) → IsScale scale → IsScaled raw scale offset (scaled raw scale offset)
-
--- items with the shape that a code and a size give have a cell of their own
-abbrev pub CellsAreOne : Type 0 → Type 0
-CellsAreOne A =
-    (code size : ℕ) (info : Option Meaning) (a b : Items A) → IfSome info (λ m. IsScale m.scale × (m.offset < 2 ^ 32)) → HasShape code size a → HasShape code size b →
-    cell code info a ≡ cell code info b → a ≡ b
 
 -- the rows of the events of a chain are the rows of the chain
 abbrev pub EventsHaveTheRows : Type 0 → Type 0

@@ -1,6 +1,3 @@
-pub mod Cells
-pub mod Steps
-pub mod Rows
 pub mod InstantText
 pub mod Degrees
 pub mod ChainRows

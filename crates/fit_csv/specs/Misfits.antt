@@ -16,8 +16,8 @@ use Rattle.fit_profile.specs.Described.{Naming}
 use Rattle.fit_profile.specs.Profile.{Meaning}
 use Rattle.fit_profile.specs.Looks.{known}
 use Rattle.fit_profile.specs.Times.{header_time, previous_time}
-use Rattle.fit_csv.specs.Cells.{cell}
-use Rattle.fit_csv.specs.Rows.{Cell, Row}
+use Rattle.fit_cells.specs.Cells.{cell}
+use Rattle.fit_cells.specs.Rows.{Cell, Row}
 use Rattle.fit_csv.specs.Judged.{HeaderInRange, IsBadCell, MayBeOfKind}
 pub use Rattle.fit_csv.specs.Judged.{DevDefInRange, FieldDefInRange}
 use Rattle.fit_csv.specs.ChainRows.{data_row, dev_def_row, dev_row, end_row, field_row, file_row, field_def_row, optional_number, order_word, row}

@@ -14,7 +14,7 @@ use Rattle.fit_report.specs.declared.fault.ReportFault.TheVariants as report
 use Rattle.fit_report.specs.Heard.{Lines, text_of}
 use Rattle.fit_csv.specs.declared.fault.CsvFault.{CsvFault}
 use Rattle.fit_csv.specs.declared.fault.CsvFault.TheVariants as csv
-use Rattle.fit_csv.specs.Rows.{Row, csv_text}
+use Rattle.fit_cells.specs.Rows.{Row, csv_text}
 use Rattle.fit_csv.specs.ChainRows.{event_rows, records_behind}
 use Rattle.fit_csv.specs.Conversions.{RowsOf}
 

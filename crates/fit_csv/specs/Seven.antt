@@ -1,6 +1,6 @@
 -- Rows of seven cells. No public contract names these definitions.
 use Rattle.std.specs.Prelude.{◌≡◌, ◌≤◌, ◌-◌, ℕ, List, [], ◌∷◌}
-use Rattle.fit_csv.specs.Rows.{Cell, Row}
+use Rattle.fit_cells.specs.Rows.{Cell, Row}
 use Rattle.fit_csv.specs.Judged.{Agree}
 use Rattle.fit_csv.specs.declared.from.cells.Cells.{Cells}
 

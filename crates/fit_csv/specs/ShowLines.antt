@@ -19,7 +19,7 @@ use Rattle.fit_profile.specs.Looks.{known}
 use Rattle.fit_profile.specs.Times.{time}
 use Rattle.fit_profile.specs.Described.{Naming, is_printable, namings_at}
 use Rattle.fit_report.specs.Heard.{Lines, latest_records}
-use Rattle.fit_csv.specs.Cells.{cell}
+use Rattle.fit_cells.specs.Cells.{cell}
 use Rattle.fit_csv.specs.ChainRows.{sum_word, order_word, unit_text, dev_label}
 use Rattle.fit_csv.specs.InstantText.{instant_text}
 

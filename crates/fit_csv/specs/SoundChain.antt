@@ -15,7 +15,7 @@ use Rattle.fit_csv.specs.ChainRows.{data_rows, dev_def_row, field_def_row, file_
 use Rattle.fit_csv.specs.Judged.{HeaderInRange, IsFileOfRows, RecordInRange}
 use Rattle.fit_csv.specs.Misfits.{DevDefInRange, FieldDefInRange, HeadInRange, head_row}
 use Rattle.fit_csv.specs.Progress.{dev_total, is_whole, is_whole_message}
-use Rattle.fit_csv.specs.Rows.{Row}
+use Rattle.fit_cells.specs.Rows.{Row}
 use Rattle.fit_csv.specs.declared.from.chain.Chain.{Chain}
 use Rattle.fit_csv.specs.declared.from.definition.OpenDefinition.{OpenDefinition}
 use Rattle.fit_csv.specs.declared.from.open_file.OpenFile.{OpenFile}

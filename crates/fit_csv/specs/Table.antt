@@ -13,10 +13,10 @@ use Rattle.fit_profile.specs.Looks.{known, first_field}
 use Rattle.fit_profile.specs.Scaled.{decimals}
 use Rattle.fit_profile.specs.Told.{told}
 use Rattle.fit_profile.specs.Values.{first_number, known_number}
-use Rattle.fit_csv.specs.Cells.{scaled}
+use Rattle.fit_cells.specs.Cells.{scaled}
 use Rattle.fit_csv.specs.Degrees.{degrees_of}
 use Rattle.fit_csv.specs.InstantText.{instant_text}
-use Rattle.fit_csv.specs.Rows.{Cell, Row}
+use Rattle.fit_cells.specs.Rows.{Cell, Row}
 use Rattle.fit_csv.specs.ChainRows.{records_behind}
 
 abbrev pub table_line : Row

@@ -10,7 +10,7 @@ use Rattle.fit_profile.specs.declared.message.Message.{Message}
 use Rattle.fit_profile.specs.FixedText.{fixed_text}
 use Rattle.fit_profile.specs.Meant.{shown}
 use Rattle.fit_csv.specs.declared.table_rows.TableRow.{TableRow}
-use Rattle.fit_csv.specs.Rows.{Cell, Row}
+use Rattle.fit_cells.specs.Rows.{Cell, Row}
 use Rattle.fit_csv.specs.Table.{files_behind, table_event_rows, table_row, table_rows}
 
 -- the text of a number, where there is one

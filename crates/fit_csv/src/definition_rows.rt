@@ -1,12 +1,12 @@
 //! The rows of definition messages.
 ghost use Rattle.std.specs.Prelude.{◌≡◌, ◌∷◌, [], OnOk, decimal, map};
 ghost use Rattle.fit_record.specs.Environment.{dev_defs};
-ghost use Rattle.fit_csv.specs.Rows.{HasAdded, IsBetweenRows};
+ghost use Rattle.fit_cells.specs.Rows.{HasAdded, IsBetweenRows};
 ghost use Rattle.fit_csv.specs.ChainRows as rows;
 
-use crate::rows::put_row;
 use csv::Writer;
 use fit_base::{Entries, Order};
+use fit_cells::put_row;
 use fit_record::{DevDef, FieldDef, MessageDef};
 use itoa::Buffer;
 use std::alloc::AllocError;

@@ -3,14 +3,14 @@ ghost use Rattle.std.specs.Prelude.{◌≡◌, ◌<◌, ◌++◌, ◌∷◌, [],
 ghost use Rattle.fit_base.specs.Fields.{HasShape};
 ghost use Rattle.fit_record.specs.Records.{HaveShape};
 ghost use Rattle.fit_profile.specs.Described.{namings_at};
-ghost use Rattle.fit_csv.specs.Cells.{cell};
-ghost use Rattle.fit_csv.specs.Rows.{HasAdded, IsBetweenRows};
+ghost use Rattle.fit_cells.specs.Cells.{cell};
+ghost use Rattle.fit_cells.specs.Rows.{HasAdded, IsBetweenRows};
 ghost use Rattle.fit_csv.specs.ChainRows as rows;
 
-use crate::cell::put_cell;
 use crate::message_rows::put_value;
 use csv::Writer;
 use fit_base::{Code, Items};
+use fit_cells::put_cell;
 use fit_profile::{Label, Stream};
 use fit_record::DevDef;
 use itoa::Buffer;

@@ -1,11 +1,10 @@
 //! The rows in which a file begins and ends.
 ghost use Rattle.std.specs.Prelude.{◌≡◌, ◌∷◌, [], OnOk};
-ghost use Rattle.fit_csv.specs.Rows.{HasAdded, IsBetweenRows};
+ghost use Rattle.fit_cells.specs.Rows.{HasAdded, IsBetweenRows};
 ghost use Rattle.fit_csv.specs.ChainRows as rows;
 
-use crate::hexadecimal::put_digits;
-use crate::rows::put_row;
 use csv::Writer;
+use fit_cells::{put_digits, put_row};
 use fit_frame::{Header, HeaderSum};
 use itoa::Buffer;
 use std::alloc::AllocError;

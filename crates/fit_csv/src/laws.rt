@@ -1,30 +1,8 @@
-//! What holds of cells, of rows and of their text, and of the computed texts of instants and positions.
-ghost use Rattle.fit_csv.specs.Laws.{CellsAreOne, ChainsHaveOwnRows, DegreesAreNearest, EventsHaveTheRows, InstantTextIs, ReadsBack, ReadsOneWay, RecordsHaveOwnRows, ScaledIsExact, TextsComeBack};
+//! What holds of the rows of records and chains, and of the computed texts of instants and positions.
+ghost use Rattle.fit_csv.specs.Laws.{ChainsHaveOwnRows, DegreesAreNearest, EventsHaveTheRows, InstantTextIs, RecordsHaveOwnRows, TextsComeBack};
 
 use fit_profile::laws::text_has_one_number;
 use std::alloc::Allocator;
-
-/// The text of the first line and other rows reads as those rows.
-pub fn text_reads_back()
-    ensures { ReadsBack }
-{}
-
-/// A text reads as one list of rows.
-pub fn text_reads_one_way()
-    ensures { ReadsOneWay }
-{}
-
-/// A scaled number is exactly what its raw value stands for.
-pub fn scaled_is_exact()
-    ensures { ScaledIsExact }
-{}
-
-/// Items with the shape that a code and a size give have a cell of their own.
-pub fn cells_are_one<A: Allocator>()
-    ensures { CellsAreOne A }
-{
-    text_has_one_number();
-}
 
 /// The rows of the events of a chain are the rows of the chain.
 pub fn events_have_the_rows<A: Allocator>()

@@ -8,15 +8,14 @@ ghost use Rattle.fit_profile.specs.Looks.{known};
 ghost use Rattle.fit_profile.specs.Names as names;
 ghost use Rattle.fit_profile.specs.Times as times;
 ghost use Rattle.fit_csv.specs.InstantText.{instant_text};
-ghost use Rattle.fit_csv.specs.Rows.{HasAdded, IsBetweenRows};
+ghost use Rattle.fit_cells.specs.Rows.{HasAdded, IsBetweenRows};
 ghost use Rattle.fit_csv.specs.ChainRows as rows;
 
-use crate::cell::put_cell;
 use crate::definition_rows::{dev_slice, put_definition};
 use crate::dev_rows::put_dev_fields;
-use crate::rows::put_row;
 use csv::Writer;
 use fit_base::{Code, Items};
+use fit_cells::{put_cell, put_row};
 use fit_profile::laws::instant_has_one_text;
 use fit_profile::{Info, Label, Stream, field_info, field_label, message_label, utc_text};
 use fit_record::{Defined, FieldDef, Record, Values};

@@ -1,12 +1,12 @@
 //! The rows of events, told one after another.
 ghost use Rattle.std.specs.Prelude.{◌≡◌, ◌++◌, [], OnOk, OnErr};
-ghost use Rattle.fit_csv.specs.Rows.{HasAdded, IsBetweenRows, csv_text};
+ghost use Rattle.fit_cells.specs.Rows.{HasAdded, IsBetweenRows, csv_text};
 ghost use Rattle.fit_csv.specs.Reporting.{AnswerFits, answer_rows, behind_answer};
 
 use crate::file_rows::{put_end_row, put_file_row};
 use crate::message_rows::put_record;
-use crate::rows::{copy_behind, flushed_len, renew, row_writer};
 use csv::Writer;
+use fit_cells::{copy_behind, flushed_len, renew, row_writer};
 use fit_decode::Event;
 use fit_profile::Stream;
 use fit_profile::laws::looking_back_is_learning;
@@ -16,7 +16,7 @@ use std::alloc::{AllocError, Global};
 use std::marker::Model;
 
 /// Puts the rows of an event behind the records of a stream.
-#[tactic(auto, using(crate::proofs::AddedRows::added_none))]
+#[tactic(auto, using(fit_cells::proofs::AddedRows::added_none))]
 fn put_event(
     writer: &mut Writer<Vec<u8>>,
     value: &mut Vec<u8>,
@@ -107,7 +107,7 @@ impl Model for CsvReport {
     ghost use Rattle.std.specs.Global.{Global};
     ghost use Rattle.fit_decode.specs.Events.{Event as Told};
     ghost use Rattle.fit_report.specs.Heard.{latest_records};
-    ghost use Rattle.fit_csv.specs.Rows.{IsBetweenRows};
+    ghost use Rattle.fit_cells.specs.Rows.{IsBetweenRows};
 
     ghost Value = { List (Told Global) };
 

@@ -5,13 +5,13 @@ ghost use Rattle.fit_record.specs.declared.message.Record.{Record};
 ghost use Rattle.fit_record.specs.Records.{Fits};
 ghost use Rattle.fit_profile.specs.Looks.{known};
 ghost use Rattle.fit_profile.specs.Meant.{MessageOf};
-ghost use Rattle.fit_csv.specs.Rows.{IsBetweenRows, csv_text};
+ghost use Rattle.fit_cells.specs.Rows.{IsBetweenRows, csv_text};
 ghost use Rattle.fit_csv.specs.Reporting.{AnswerFits, behind_answer};
 ghost use Rattle.fit_csv.specs.TableCells.{files_behind_answer, rows_in, table_answer_rows, table_record_rows};
 
-use crate::rows::{copy_behind, flushed_len, renew, row_writer};
 use crate::table_rows::put_table_row;
 use csv::Writer;
+use fit_cells::{copy_behind, flushed_len, renew, row_writer};
 use fit_decode::Event;
 use fit_profile::laws::looking_back_is_learning;
 use fit_profile::{Message, Stream};
@@ -96,7 +96,7 @@ fn take_record(
 
 /// Takes an event in, and puts the text of its row. A header begins a file. Where memory is refused for the event, stream and files
 /// stay as they were; the answer within says whether the text was put.
-#[tactic(auto, using(crate::proofs::AddedRows::text_none))]
+#[tactic(auto, using(fit_cells::proofs::AddedRows::text_none))]
 fn hear(
     alloc: Global,
     writer: &mut Writer<Vec<u8>>,
@@ -142,7 +142,7 @@ impl Model for TableReport {
     ghost use Rattle.std.specs.Global.{Global};
     ghost use Rattle.fit_decode.specs.Events.{Event as Told};
     ghost use Rattle.fit_report.specs.Heard.{latest_records};
-    ghost use Rattle.fit_csv.specs.Rows.{IsBetweenRows};
+    ghost use Rattle.fit_cells.specs.Rows.{IsBetweenRows};
     ghost use Rattle.fit_csv.specs.Table.{files_heard};
 
     ghost Value = { List (Told Global) };

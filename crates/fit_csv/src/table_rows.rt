@@ -5,14 +5,14 @@ ghost use Rattle.fit_profile.specs.Meant.{shown};
 ghost use Rattle.fit_profile.specs.Values as values;
 ghost use Rattle.fit_csv.specs.Degrees.{degrees_of};
 ghost use Rattle.fit_csv.specs.Table as table;
-ghost use Rattle.fit_csv.specs.Rows.{HasAdded, IsBetweenRows};
+ghost use Rattle.fit_cells.specs.Rows.{HasAdded, IsBetweenRows};
 ghost use Rattle.fit_csv.specs.TableCells.{cells_of, shown_text};
 
 use crate::message_rows::time_text;
-use crate::rows::put_row;
 use arrayvec::ArrayString;
 use csv::Writer;
 use fit_base::Items;
+use fit_cells::put_row;
 use fit_profile::laws::degrees_are_one;
 use fit_profile::{Fixed, Label, Message, degrees};
 use itoa::Buffer;

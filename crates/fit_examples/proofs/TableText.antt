@@ -5,7 +5,7 @@ use Rattle.fit_report.specs.Reports.{Channel}
 use Rattle.fit_csv.specs.declared.fault.CsvFault.{CsvFault}
 use Rattle.fit_csv.specs.declared.fault.CsvFault.TheVariants as csv
 use Rattle.fit_csv.specs.Conversions.{ConvertsTo}
-use Rattle.fit_csv.specs.Rows.{Row}
+use Rattle.fit_cells.specs.Rows.{Row}
 use Rattle.fit_examples.specs.Tables.{IsWantOfMemory}
 
 pub wants_memory : (rows : List Row) (source sink : Channel) (fault : CsvFault) → source.failed ≡ false → ConvertsTo rows source sink (Err fault) → IsWantOfMemory fault

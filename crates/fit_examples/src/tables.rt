@@ -5,7 +5,7 @@ ghost use Rattle.fit_record.specs.declared.file.FitFile.{FitFile};
 ghost use Rattle.fit_record.specs.Files.{IsChain, chain_limit};
 ghost use Rattle.fit_decode.specs.Answers.{AreChain};
 ghost use Rattle.fit_decode.specs.Events.{file_events};
-ghost use Rattle.fit_csv.specs.Rows.{csv_text};
+ghost use Rattle.fit_cells.specs.Rows.{csv_text};
 ghost use Rattle.fit_csv.specs.Table.{table_of};
 ghost use Rattle.fit_examples.specs.Tables.{IsWantOfMemory};
 

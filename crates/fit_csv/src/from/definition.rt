@@ -3,7 +3,7 @@ ghost use Rattle.std.specs.Prelude.{◌≡◌, ◌<◌, ◌^◌, [], ℕ, Option
 ghost use Rattle.fit_csv.specs.ChainRows.{dev_def_row, field_def_row, optional_number, order_word, row};
 ghost use Rattle.fit_base.specs.declared.number.Order.{Order};
 ghost use Rattle.fit_csv.specs.Misfits.{DevDefInRange, FieldDefInRange, HeadInRange, IsDevDefRow, IsFieldDefRow, IsHeadRow, IsCellFault, IsRowOfThree, head_row};
-ghost use Rattle.fit_csv.specs.Rows.{Row};
+ghost use Rattle.fit_cells.specs.Rows.{Row};
 ghost use Rattle.fit_csv.specs.Seven.{AsFar, row_of};
 
 use crate::definition_rows::order_word;

@@ -5,15 +5,15 @@ ghost use Rattle.fit_csv.specs.ChainRows.{end_row, file_row};
 ghost use Rattle.fit_csv.specs.ChainRows as rows;
 ghost use Rattle.fit_csv.specs.Judged.{HeaderInRange};
 ghost use Rattle.fit_csv.specs.Misfits.{HasSum, IsEndRow, IsFileRow, IsHeaderSize, IsCellFault};
-ghost use Rattle.fit_csv.specs.Rows.{Row};
+ghost use Rattle.fit_cells.specs.Rows.{Row};
 ghost use Rattle.fit_csv.specs.Seven.{AsFar, DifferAt, row_of};
 
 use crate::file_rows::{put_rest, sum_word};
 use crate::from::cells::{Cells, first_difference, same};
 use crate::from::misfit::Misfit;
 use crate::from::number::{byte_in, number_in};
-use crate::hexadecimal::read_bytes;
 use arrayvec::ArrayVec;
+use fit_cells::read_bytes;
 use fit_frame::{Header, HeaderSum};
 use itoa::Buffer;
 use std::alloc::{AllocError, Global};

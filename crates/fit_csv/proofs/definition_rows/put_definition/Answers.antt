@@ -1,7 +1,7 @@
 use Rattle.std.proofs.Common.{map, subst}
-use Rattle.fit_csv.specs.Rows.{HasAdded}
+use Rattle.fit_cells.specs.Rows.{HasAdded}
 use Rattle.fit_csv.specs.ChainRows.{dev_def_row, field_def_row}
-use Rattle.fit_csv.proofs.AddedRows.{added_both}
+use Rattle.fit_cells.proofs.AddedRows.{added_both}
 use Rattle.fit_csv.proofs.definition_rows.put_definition.Goals as goal
 
 pub returns : goal.returns

@@ -1,5 +1,5 @@
 use Rattle.fit_csv.specs.ChainRows.{dev_def_row}
-use Rattle.fit_csv.proofs.AddedRows.{added_more, added_none}
+use Rattle.fit_cells.proofs.AddedRows.{added_more, added_none}
 use Rattle.fit_csv.proofs.definition_rows.put_dev_defs.Goals as goal
 
 pub loop-field-init : goal.loop-field-init

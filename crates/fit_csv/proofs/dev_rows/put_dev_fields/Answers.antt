@@ -2,9 +2,9 @@ use Rattle.std.proofs.Common.{◌<◌, ◌∷◌, [], length, get_or, subst, ari
 use Rattle.std.specs.Prelude.{zip}
 use Rattle.std.proofs.lemmas.Slice.Zip.{length-zip}
 use Rattle.fit_profile.specs.Described.{nameless, namings_at}
-use Rattle.fit_csv.specs.Rows.{HasAdded}
+use Rattle.fit_cells.specs.Rows.{HasAdded}
 use Rattle.fit_csv.specs.ChainRows.{dev_row}
-use Rattle.fit_csv.proofs.AddedRows.{added_all, added_more, added_none}
+use Rattle.fit_cells.proofs.AddedRows.{added_all, added_more, added_none}
 use Rattle.fit_csv.proofs.DevFields.{dev_long, dev_named, dev_place, dev_shape, nothing}
 use Rattle.fit_csv.proofs.dev_rows.put_dev_fields.Goals as goal
 

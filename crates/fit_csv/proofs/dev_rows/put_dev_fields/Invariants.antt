@@ -1,7 +1,7 @@
 use Rattle.std.proofs.Common.{map, take}
 use Rattle.std.specs.Prelude.{zip}
 use Rattle.fit_profile.specs.Described.{namings_at}
-use Rattle.fit_csv.specs.Rows.{HasAdded}
+use Rattle.fit_cells.specs.Rows.{HasAdded}
 use Rattle.fit_csv.specs.ChainRows.{dev_row}
 use Rattle.fit_csv.proofs.dev_rows.put_dev_fields.Given as goal
 

@@ -1,6 +1,6 @@
 use Rattle.std.proofs.Common.{◌≡◌, ◌++◌, codes, take}
 use Rattle.std.specs.Prelude.{flat_map}
-use Rattle.fit_csv.specs.Cells.{hex_digits}
+use Rattle.fit_cells.specs.Cells.{hex_digits}
 use Rattle.fit_csv.proofs.file_rows.put_rest.Given as goal
 
 abbrev pub invariant-loop-byte : goal.invariant-loop-byte

@@ -4,9 +4,9 @@ use Rattle.std.proofs.lemmas.List.{get_or-map, length-map}
 use Rattle.std.proofs.lemmas.Slice.Zip.{get_or-zip, length-zip}
 use Rattle.fit_base.specs.Fields.{HasShape}
 use Rattle.fit_record.specs.declared.definition.FieldDef.{FieldDef}
-use Rattle.fit_csv.specs.Rows.{HasAdded}
+use Rattle.fit_cells.specs.Rows.{HasAdded}
 use Rattle.fit_csv.specs.ChainRows.{field_row}
-use Rattle.fit_csv.proofs.AddedRows.{added_all, added_more, added_none}
+use Rattle.fit_cells.proofs.AddedRows.{added_all, added_more, added_none}
 use Rattle.fit_csv.proofs.Shapes.{as_long, shape_at}
 use Rattle.fit_csv.proofs.message_rows.put_fields.Goals as goal
 

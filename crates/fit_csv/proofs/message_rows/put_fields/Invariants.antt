@@ -1,6 +1,6 @@
 use Rattle.std.proofs.Common.{map, take}
 use Rattle.std.specs.Prelude.{zip}
-use Rattle.fit_csv.specs.Rows.{HasAdded}
+use Rattle.fit_cells.specs.Rows.{HasAdded}
 use Rattle.fit_csv.specs.ChainRows.{field_row}
 use Rattle.fit_csv.proofs.message_rows.put_fields.Given as goal
 

@@ -2,9 +2,9 @@ use Rattle.std.proofs.Common.{◌∙◌, ◌∷◌, [], length, sym, ap, ap₂, 
 use Rattle.fit_record.specs.Environment.{dev_defs}
 use Rattle.fit_profile.specs.Described.{namings_at}
 use Rattle.fit_profile.specs.Times.{header_time, previous_time}
-use Rattle.fit_csv.specs.Rows.{HasAdded}
+use Rattle.fit_cells.specs.Rows.{HasAdded}
 use Rattle.fit_csv.specs.ChainRows.{data_row, dev_rows, field_rows, message_rows}
-use Rattle.fit_csv.proofs.AddedRows.{added_both}
+use Rattle.fit_cells.proofs.AddedRows.{added_both}
 use Rattle.fit_csv.proofs.NamingFacts.{namings_long}
 use Rattle.fit_csv.proofs.message_rows.put_values.Goals as goal
 

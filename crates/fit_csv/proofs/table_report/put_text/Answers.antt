@@ -1,6 +1,6 @@
 use Rattle.std.proofs.Common.{◌≡◌, ◌∙◌, ◌++◌, OnOk, ap, subst, sym}
 use Rattle.std.proofs.lemmas.List.{append-nil}
-use Rattle.fit_csv.specs.Rows.{csv_text}
+use Rattle.fit_cells.specs.Rows.{csv_text}
 use Rattle.fit_csv.specs.TableCells.{rows_in}
 use Rattle.fit_csv.proofs.table_report.put_text.Goals as goal
 

@@ -1,5 +1,5 @@
 use Rattle.std.proofs.Common.{◌∷◌, [], OnOk, subst}
-use Rattle.fit_csv.specs.Rows.{HasAdded}
+use Rattle.fit_cells.specs.Rows.{HasAdded}
 use Rattle.fit_csv.proofs.table_rows.put_table_row.Goals as goal
 
 pub returns : goal.returns

@@ -1,6 +1,6 @@
 use Rattle.std.proofs.Common.{subst}
 use Rattle.std.proofs.lemmas.Result.{err_from_is_err_and}
-use Rattle.fit_csv.specs.Rows.{Cell}
+use Rattle.fit_cells.specs.Rows.{Cell}
 use Rattle.fit_csv.specs.Misfits.{IsCellFault, IsRowOfThree}
 use Rattle.fit_csv.specs.Seven.{row_of}
 use Rattle.fit_csv.proofs.DefinitionRows.{field_def-misfit}

@@ -1,7 +1,7 @@
 use Rattle.std.proofs.Common.{◌∙◌, [], decimal, refl}
 use Rattle.fit_csv.specs.ChainRows.{row}
 use Rattle.fit_csv.specs.Misfits.{IsRowOfThree}
-use Rattle.fit_csv.specs.Rows.{Row}
+use Rattle.fit_cells.specs.Rows.{Row}
 use Rattle.fit_csv.specs.Seven.{DifferAt, row_of}
 use Rattle.fit_csv.proofs.Closest.{closest}
 use Rattle.fit_csv.proofs.ClosestRows.{three-closest}

@@ -1,6 +1,6 @@
 use Rattle.std.proofs.Common.{Bool, [], ◌∷◌, inl, inr, subst}
 use Rattle.csv.specs.Records.{fields_of}
-use Rattle.fit_csv.specs.Rows.{Follows, HasRead, Row}
+use Rattle.fit_cells.specs.Rows.{Follows, HasRead, Row}
 use Rattle.fit_csv.proofs.Judging.{first-rows}
 use Rattle.fit_csv.proofs.from.judge.judge.Goals as goal
 

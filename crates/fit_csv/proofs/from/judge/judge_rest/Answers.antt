@@ -4,7 +4,7 @@ use Rattle.std.specs.Global.{Global}
 use Rattle.csv.specs.Records.{fields_of}
 use Rattle.fit_record.specs.declared.file.FitFile.{FitFile}
 use Rattle.fit_csv.specs.Judged.{AreFilesOf, IsCutOff, IsTextFault}
-use Rattle.fit_csv.specs.Rows.{Follows, first_line}
+use Rattle.fit_cells.specs.Rows.{Follows, first_line}
 use Rattle.fit_csv.specs.declared.fault.CsvFault.{CsvFault}
 use Rattle.fit_csv.proofs.Judging.{cut-text, judged, one-more, refused-row, too-many, whole-text}
 use Rattle.fit_csv.proofs.OneWay.{run-none}

@@ -4,7 +4,7 @@ use Rattle.fit_csv.specs.InstantText.{instant_text}
 use Rattle.fit_profile.specs.Names.{message_label}
 use Rattle.fit_csv.specs.ChainRows.{optional_number, row}
 use Rattle.fit_csv.specs.Misfits.{IsMessageRow, global_at}
-use Rattle.fit_csv.specs.Rows.{Row}
+use Rattle.fit_cells.specs.Rows.{Row}
 use Rattle.fit_csv.specs.Seven.{DifferAt, row_of}
 use Rattle.fit_csv.proofs.Closest.{closest}
 use Rattle.fit_csv.proofs.SevenCells.{same-cells}

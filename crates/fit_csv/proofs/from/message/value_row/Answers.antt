@@ -2,10 +2,10 @@ use Rattle.std.proofs.Common.{◌≡◌, [], refl, sym, subst}
 use Rattle.std.specs.Prelude.{option_map}
 use Rattle.fit_base.specs.Fields.{HasShape}
 use Rattle.fit_profile.specs.Names.{meaning}
-use Rattle.fit_csv.specs.Cells.{cell}
+use Rattle.fit_cells.specs.Cells.{cell}
 use Rattle.fit_csv.specs.ChainRows.{row}
 use Rattle.fit_csv.specs.Misfits.{IsValueRow}
-use Rattle.fit_csv.specs.Rows.{Row}
+use Rattle.fit_cells.specs.Rows.{Row}
 use Rattle.fit_csv.specs.Seven.{DifferAt, row_of}
 use Rattle.fit_csv.proofs.Closest.{closest}
 use Rattle.fit_csv.proofs.SevenCells.{same-cells}

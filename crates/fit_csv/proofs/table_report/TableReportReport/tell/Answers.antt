@@ -1,6 +1,6 @@
 use Rattle.std.proofs.Common.{◌≡◌, ◌∙◌, ◌++◌, ◌<◌, ◌^◌, OnOk, sym, ap, ap₂, subst}
 use Rattle.fit_report.specs.Heard.{latest_records}
-use Rattle.fit_csv.specs.Rows.{csv_text}
+use Rattle.fit_cells.specs.Rows.{csv_text}
 use Rattle.fit_csv.specs.Reporting.{AnswerFits}
 use Rattle.fit_csv.specs.Table.{files_heard}
 use Rattle.fit_csv.specs.TableCells.{table_answer_rows}

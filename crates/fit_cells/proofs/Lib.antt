@@ -1,0 +1,14 @@
+mod KnownCells
+pub mod AddedRows
+mod HexFacts
+pub mod ReadFacts
+pub mod NumberFacts
+mod StringFacts
+mod ClassFacts
+pub mod TextFacts
+mod SplitFacts
+pub mod ItemFacts
+pub mod RowFacts
+mod ReaderFacts
+pub mod OneCell
+pub mod RowsWithin

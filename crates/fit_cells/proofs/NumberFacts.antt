@@ -1,0 +1,126 @@
+-- Scaled numbers, and items side by side.
+use Rattle.std.proofs.Common.{◌≡◌, ◌∙◌, ℕ, zero, suc, ◌*◌, ◌/◌, ◌%◌, ◌^◌, ◌<◌, ◌≤◌, Bool, true, false, cond, List, [], ◌∷◌, ◌++◌, ℤ, pos, neg_ℤ, ◌*ℤ◌, ◌-ℤ◌, ◌≤ℤ◌, ◌<ℤ◌, unsigned_abs, ◌⊎◌, inl, inr, Option, Some, None, length, refl, sym, ap, arith, length-append, decimal, nat_lt, ◌==◌, to_z, of_z, FitsSigned}
+use Rattle.std.specs.Fmt.{digits, digits_onto, digit_glyph}
+use Rattle.std.proofs.lemmas.Bool.{cases_Bool}
+use Rattle.std.proofs.lemmas.Int.{ints, to_z-of_z}
+use Rattle.std.specs.Int.{w128}
+use Rattle.fit_base.specs.Numbers.{twos_complement}
+use Rattle.fit_profile.specs.Profile.{Meaning}
+use Rattle.fit_profile.specs.FixedText.{fixed_text, fraction, sign, IsIn128}
+use Rattle.fit_profile.specs.Scaled.{IsScale, IsScaled, decimals}
+use Rattle.fit_cells.specs.Cells.{number_text, scaled}
+
+-- a value that a raw one stands for is the scaled one
+pub is_scaled : (raw v : ℤ) (scale offset : ℕ) → IsScale scale → IsScaled raw scale offset v → v ≡ scaled raw scale offset
+is_scaled raw v s offset (inl one) e = let h = rw one at e in rw one (omega (arith, ints, h))
+is_scaled raw v s offset (inr (inl five)) e = let h = rw five at e in rw five (omega (arith, ints, h))
+is_scaled raw v s offset (inr (inr (inl ten))) e = let h = rw ten at e in rw ten (omega (arith, ints, h))
+is_scaled raw v s offset (inr (inr (inr (inl hundred)))) e = let h = rw hundred at e in rw hundred (omega (arith, ints, h))
+is_scaled raw v s offset (inr (inr (inr (inr (inl thousand))))) e = let h = rw thousand at e in rw thousand (omega (arith, ints, h))
+is_scaled raw v s offset (inr (inr (inr (inr (inr (inl sixteen)))))) e = let h = rw sixteen at e in rw sixteen (omega (arith, ints, h))
+is_scaled raw v s offset (inr (inr (inr (inr (inr (inr most)))))) e = let h = rw most at e in rw most (omega (arith, ints, h))
+
+-- what is shown of a usual number is in the range of `i128`
+pub scaled-in : (number : ℤ) (s : ℕ) → IsScale s → neg_ℤ (pos (2 ^ 66)) ≤ℤ number → number ≤ℤ pos (2 ^ 66) → IsIn128 (number *ℤ pos (10 ^ decimals s / s))
+scaled-in v s (inl one) low high = rw one (omega (arith, ints, low), omega (arith, ints, high))
+scaled-in v s (inr (inl five)) low high = rw five (omega (arith, ints, low), omega (arith, ints, high))
+scaled-in v s (inr (inr (inl ten))) low high = rw ten (omega (arith, ints, low), omega (arith, ints, high))
+scaled-in v s (inr (inr (inr (inl hundred)))) low high = rw hundred (omega (arith, ints, low), omega (arith, ints, high))
+scaled-in v s (inr (inr (inr (inr (inl thousand))))) low high = rw thousand (omega (arith, ints, low), omega (arith, ints, high))
+scaled-in v s (inr (inr (inr (inr (inr (inl sixteen)))))) low high = rw sixteen (omega (arith, ints, low), omega (arith, ints, high))
+scaled-in v s (inr (inr (inr (inr (inr (inr most)))))) low high = rw most (omega (arith, ints, low), omega (arith, ints, high))
+
+-- a number's text isn't empty
+digits-some : (k n : ℕ) (acc : List ℕ) → 0 < length acc → 0 < length (digits_onto k 10 false n acc)
+digits-some zero n acc h = h
+digits-some (suc k) n acc h = elim (cases_Bool (n / 10 == 0)) [
+  | inl last ↦ rw last (omega arith)
+  | inr other ↦ rw other (digits-some k (n / 10) (digit_glyph false (n % 10) ∷ acc) (omega arith))
+]
+
+decimal-some : (n : ℕ) → 0 < length (decimal n)
+unfolding digits
+decimal-some n = elim (cases_Bool (n / 10 == 0)) [
+  | inl last ↦ rw last (omega arith)
+  | inr other ↦ rw other (digits-some 63 (n / 10) (digit_glyph false (n % 10) ∷ []) (omega arith))
+]
+
+fixed-some : (v : ℤ) (d : ℕ) → 0 < length (fixed_text v d)
+fixed-some v d =
+    let some = decimal-some (unsigned_abs v / 10 ^ d) in
+    let whole = length-append (sign v) (decimal (unsigned_abs v / 10 ^ d)) in
+    let all = length-append (sign v ++ decimal (unsigned_abs v / 10 ^ d)) (fraction d (unsigned_abs v % 10 ^ d)) in
+    omega (arith, some, whole, all)
+
+pub number-some : (info : Option Meaning) (raw : ℤ) → 0 < length (number_text info raw)
+number-some None raw = fixed-some raw 0
+number-some (Some i) raw = fixed-some _ _
+
+-- just the invalid item is empty
+pub empty-number : (b : Bool) (info : Option Meaning) (raw : ℤ) (text : List ℕ) → length text ≡ 0 → text ≡ cond b [] (number_text info raw) → b ≡ true
+empty-number true info raw text h e = refl
+empty-number false info raw text h e = let same = ap length e in let some = number-some info raw in absurd (omega (arith, same, some, h))
+
+pub some-number : (b : Bool) (info : Option Meaning) (raw : ℤ) (text : List ℕ) → (length text ≡ 0 → ⊥) → text ≡ cond b [] (number_text info raw) → text ≡ number_text info raw
+some-number true info raw text h e = absurd (h (ap length e))
+some-number false info raw text h e = e
+
+-- a signed number is its bits, or those less 256 ^ width
+pub complement-is : (width bits : ℕ) → (twos_complement width bits ≡ pos bits) ⊎ (twos_complement width bits ≡ pos bits -ℤ pos (256 ^ width))
+complement-is width bits = elim (cases_Bool (nat_lt (2 * bits) (256 ^ width))) [
+  | inl low ↦ inl (rw low refl)
+  | inr high ↦ inr (rw high refl)
+]
+
+pub power-bound : (w : ℕ) → (w ≡ 1) ⊎ (w ≡ 2) ⊎ (w ≡ 4) ⊎ (w ≡ 8) → 256 ^ w ≤ 2 ^ 64
+power-bound w (inl one) = rw one (omega arith)
+power-bound w (inr (inl two)) = rw two (omega arith)
+power-bound w (inr (inr (inl four))) = rw four (omega arith)
+power-bound w (inr (inr (inr eight))) = rw eight (omega arith)
+
+pub raw-least : (raw : ℤ) (bits limit : ℕ) → limit ≤ 2 ^ 64 → (raw ≡ pos bits) ⊎ (raw ≡ pos bits -ℤ pos limit) → neg_ℤ (pos (2 ^ 64)) ≤ℤ raw
+raw-least raw bits limit h (inl e) = rw e (omega (arith, ints))
+raw-least raw bits limit h (inr e) = omega (arith, ints, e, h)
+
+pub raw-most : (raw : ℤ) (bits limit : ℕ) → limit ≤ 2 ^ 64 → bits < limit → (raw ≡ pos bits) ⊎ (raw ≡ pos bits -ℤ pos limit) → raw <ℤ pos (2 ^ 64)
+raw-most raw bits limit h below (inl e) = omega (arith, ints, e, h, below)
+raw-most raw bits limit h below (inr e) = omega (arith, ints, e, h, below)
+
+-- a number read back from its 128 bits
+pub kept : (x v : ℤ) → IsIn128 v → x ≡ v → to_z w128 (of_z w128 x) ≡ v
+kept x v inside e = let fits : FitsSigned w128 x = rw e (omega (arith, ints, inside)) in to_z-of_z w128 x fits ∙ e
+
+pub raw-in : (raw : ℤ) → neg_ℤ (pos (2 ^ 64)) ≤ℤ raw → raw <ℤ pos (2 ^ 64) → IsIn128 raw
+raw-in raw least most = (omega (arith, ints, least), omega (arith, ints, most))
+
+pub same-raw : (w v bits : ℕ) (x y : ℤ) → w ≡ v → x ≡ y → (y ≡ pos bits) ⊎ (y ≡ pos bits -ℤ pos (256 ^ v)) → (x ≡ pos bits) ⊎ (x ≡ pos bits -ℤ pos (256 ^ w))
+same-raw w v bits x y d e (inl h) = inl (e ∙ h)
+same-raw w v bits x y d e (inr h) = inr (e ∙ h ∙ ap (λ k. pos bits -ℤ pos (256 ^ k)) (sym d))
+
+pub scaled-exact : (raw : ℤ) (scale offset : ℕ) → IsScale scale → IsScaled raw scale offset (scaled raw scale offset)
+scaled-exact raw s offset (inl one) = rw one (omega (arith, ints))
+scaled-exact raw s offset (inr (inl five)) = rw five (omega (arith, ints))
+scaled-exact raw s offset (inr (inr (inl ten))) = rw ten (omega (arith, ints))
+scaled-exact raw s offset (inr (inr (inr (inl hundred)))) = rw hundred (omega (arith, ints))
+scaled-exact raw s offset (inr (inr (inr (inr (inl thousand))))) = rw thousand (omega (arith, ints))
+scaled-exact raw s offset (inr (inr (inr (inr (inr (inl sixteen)))))) = rw sixteen (omega (arith, ints))
+scaled-exact raw s offset (inr (inr (inr (inr (inr (inr most)))))) = rw most (omega (arith, ints))
+
+-- what is shown has one raw value
+pub one-raw : (x y : ℤ) (s : ℕ) → IsScale s → x *ℤ pos (10 ^ decimals s / s) ≡ y *ℤ pos (10 ^ decimals s / s) → x ≡ y
+one-raw x y s (inl one) e = let h = rw one at e in omega (arith, ints, h)
+one-raw x y s (inr (inl five)) e = let h = rw five at e in omega (arith, ints, h)
+one-raw x y s (inr (inr (inl ten))) e = let h = rw ten at e in omega (arith, ints, h)
+one-raw x y s (inr (inr (inr (inl hundred)))) e = let h = rw hundred at e in omega (arith, ints, h)
+one-raw x y s (inr (inr (inr (inr (inl thousand))))) e = let h = rw thousand at e in omega (arith, ints, h)
+one-raw x y s (inr (inr (inr (inr (inr (inl sixteen)))))) e = let h = rw sixteen at e in omega (arith, ints, h)
+one-raw x y s (inr (inr (inr (inr (inr (inr most)))))) e = let h = rw most at e in omega (arith, ints, h)
+
+pub shift-bound : (offset s : ℕ) → IsScale s → offset < 2 ^ 32 → offset * s ≤ 2 ^ 42
+shift-bound offset s (inl one) h = rw one (omega (arith, h))
+shift-bound offset s (inr (inl five)) h = rw five (omega (arith, h))
+shift-bound offset s (inr (inr (inl ten))) h = rw ten (omega (arith, h))
+shift-bound offset s (inr (inr (inr (inl hundred)))) h = rw hundred (omega (arith, h))
+shift-bound offset s (inr (inr (inr (inr (inl thousand))))) h = rw thousand (omega (arith, h))
+shift-bound offset s (inr (inr (inr (inr (inr (inl sixteen)))))) h = rw sixteen (omega (arith, h))
+shift-bound offset s (inr (inr (inr (inr (inr (inr most)))))) h = rw most (omega (arith, h))

@@ -1,0 +1,86 @@
+-- Texts that can stand as they are.
+use Rattle.std.proofs.Common.{◌≡◌, ◌∙◌, ℕ, zero, suc, ◌<◌, Bool, true, false, List, [], ◌∷◌, ◌++◌, length, drop, get_or, reverse, All, refl, sym, ap, inl, inr, arith, eqb-true}
+use Rattle.std.specs.Prelude.{◌==◌, ◌&&◌, not}
+use Rattle.std.specs.List.{list_all}
+use Rattle.std.specs.Str.{IsUtf8, is_utf8}
+use Rattle.std.proofs.lemmas.Bool.{cases_Bool}
+use Rattle.std.proofs.lemmas.Str.{is_utf8-from_IsUtf8, IsUtf8-from_is_utf8}
+use Rattle.std.proofs.lemmas.List.{reverse-append, reverse-reverse, ext_get_or}
+use Rattle.fit_profile.specs.Described.{before_closing_zeros, without_zeros}
+use Rattle.fit_cells.specs.Cells.{begins_as_bytes, bytes_text, is_plain, string_text}
+use Rattle.fit_cells.specs.Steps.{read_pairs}
+use Rattle.fit_cells.proofs.ReadFacts.{bytes-shown}
+
+pub no_utf8 : (text : List ℕ) → (IsUtf8 text → ⊥) → false ≡ is_plain text
+no_utf8 text h = elim (cases_Bool (is_utf8 text)) [
+  | inl test ↦ absurd (h (IsUtf8-from_is_utf8 text test))
+  | inr test ↦ sym (rw test refl)
+]
+
+pub zero_inside : (text : List ℕ) → IsUtf8 text → list_all (λ b. not (b == 0)) text ≡ false → false ≡ is_plain text
+zero_inside text u z = sym (rw (is_utf8-from_IsUtf8 text u, z) refl)
+
+pub no_zero : (text : List ℕ) → IsUtf8 text → list_all (λ b. not (b == 0)) text ≡ true → not (begins_as_bytes text) ≡ is_plain text
+no_zero text u z = sym (rw (is_utf8-from_IsUtf8 text u, z) refl)
+
+both_parts : (a b : Bool) → (a && b) ≡ true → b ≡ true
+both_parts true b h = h
+both_parts false b h = cc
+
+plain-begins : (text : List ℕ) → is_plain text ≡ true → begins_as_bytes text ≡ false
+plain-begins text h = not-true (begins_as_bytes text) (both_parts (is_utf8 text && list_all (λ b. not (b == 0)) text) (not (begins_as_bytes text)) h)
+  where
+    not-true : (b : Bool) → not b ≡ true → b ≡ false
+    not-true true e = cc
+    not-true false e = refl
+
+-- bytes shown as bytes
+pub string-bytes : (bytes text : List ℕ) (count : ℕ) → text ≡ string_text bytes → begins_as_bytes text ≡ true → length bytes ≡ count → All (λ b. b < 256) bytes
+    → read_pairs count (drop 2 text) ≡ bytes
+string-bytes bytes text count e begins long small = elim (cases_Bool (is_plain (before_closing_zeros bytes))) [
+  | inl plain ↦
+      let same : text ≡ before_closing_zeros bytes = rw plain at e in
+      cc (sym begins ∙ ap begins_as_bytes same ∙ plain-begins (before_closing_zeros bytes) plain)
+  | inr other ↦
+      bytes-shown bytes text count (rw other at e) long small
+]
+
+pad : (xs : List ℕ) (k : ℕ) → get_or (xs ++ (0 ∷ [])) k 0 ≡ get_or xs k 0
+pad [] zero = refl
+pad [] (suc k) = refl
+pad (x ∷ xs) zero = refl
+pad (x ∷ xs) (suc k) = pad xs k
+
+same-reversed : (ys : List ℕ) (k : ℕ) → get_or (reverse (without_zeros ys)) k 0 ≡ get_or (reverse ys) k 0
+same-reversed [] k = refl
+same-reversed (b ∷ ys) k = elim (cases_Bool (b == 0)) [
+  | inl none ↦ rw none (same-reversed ys k ∙ sym (ap (λ xs. get_or xs k 0) (reverse-append (b ∷ []) ys ∙ ap (λ x. reverse ys ++ (x ∷ [])) (eqb-true b 0 none)) ∙ pad (reverse ys) k))
+  | inr some ↦ rw some refl
+]
+
+-- behind the bytes before the closing zeros there are zeros
+before-same : (bytes : List ℕ) (k : ℕ) → get_or (before_closing_zeros bytes) k 0 ≡ get_or bytes k 0
+before-same bytes k = same-reversed (reverse bytes) k ∙ ap (λ xs. get_or xs k 0) (reverse-reverse bytes)
+
+-- bytes shown as text
+pub string-plain : (bytes text bits : List ℕ) (count : ℕ) → text ≡ string_text bytes → begins_as_bytes text ≡ false → length bits ≡ count → length bytes ≡ count
+    → ((k : ℕ) → k < count → get_or bits k 0 ≡ get_or text k 0) → bits ≡ bytes
+string-plain bytes text bits count e begins m n same = elim (cases_Bool (is_plain (before_closing_zeros bytes))) [
+  | inl plain ↦
+      let is : text ≡ before_closing_zeros bytes = rw plain at e in
+      ext_get_or 0 bits bytes (m ∙ sym n) (λ k h. same k (omega (arith, h, m)) ∙ ap (λ t. get_or t k 0) is ∙ before-same bytes k)
+  | inr other ↦
+      let is : text ≡ bytes_text bytes = rw other at e in
+      cc (sym begins ∙ ap begins_as_bytes is)
+]
+
+-- a text that is shown has its string's bytes
+pub plain-same : (bytes text : List ℕ) (k : ℕ) → text ≡ string_text bytes → begins_as_bytes text ≡ false → get_or bytes k 0 ≡ get_or text k 0
+plain-same bytes text k e begins = elim (cases_Bool (is_plain (before_closing_zeros bytes))) [
+  | inl plain ↦
+      let is : text ≡ before_closing_zeros bytes = rw plain at e in
+      sym (ap (λ t. get_or t k 0) is ∙ before-same bytes k)
+  | inr other ↦
+      let is : text ≡ bytes_text bytes = rw other at e in
+      cc (sym begins ∙ ap begins_as_bytes is)
+]

@@ -1,0 +1,27 @@
+//! What holds of cells, of rows and of their text.
+ghost use Rattle.fit_cells.specs.Laws.{CellsAreOne, ReadsBack, ReadsOneWay, ScaledIsExact};
+
+use fit_profile::laws::text_has_one_number;
+use std::alloc::Allocator;
+
+/// The text of the first line and other rows reads as those rows.
+pub fn text_reads_back()
+    ensures { ReadsBack }
+{}
+
+/// A text reads as one list of rows.
+pub fn text_reads_one_way()
+    ensures { ReadsOneWay }
+{}
+
+/// A scaled number is exactly what its raw value stands for.
+pub fn scaled_is_exact()
+    ensures { ScaledIsExact }
+{}
+
+/// Items with the shape that a code and a size give have a cell of their own.
+pub fn cells_are_one<A: Allocator>()
+    ensures { CellsAreOne A }
+{
+    text_has_one_number();
+}

@@ -1,0 +1,18 @@
+//! Cells of fields as CSV has them, and rows of cells as text, both ways.
+#![tactic(auto)]
+
+mod cell;
+mod hexadecimal;
+pub mod laws;
+mod numbers;
+mod raw;
+mod rows;
+mod scan;
+mod strings;
+
+pub use cell::{cell_text, put_cell};
+pub use hexadecimal::{put_digits, read_bytes};
+pub use rows::{
+    copy_behind, flushed_len, next_row, put_row, renew, row_reader, row_writer, rows_text,
+};
+pub use scan::cell_items;

@@ -1,0 +1,116 @@
+//! Numbers, as they stand in a cell.
+ghost use Rattle.std.specs.Prelude.{◌≡◌, ◌<◌, ◌≤◌, ◌++◌, ◌⊎◌, ◌^◌, ◌==◌, ◌+◌, pos, neg_ℤ, ◌≤ℤ◌, ◌<ℤ◌, All, IfSome, OnOk, [], if◌then◌else◌, map, option_map};
+ghost use Rattle.fit_base.specs.BaseTypes.{base_type};
+ghost use Rattle.fit_profile.specs.Names.{meaning};
+ghost use Rattle.fit_profile.specs.Scaled.{decimals, IsScale};
+ghost use Rattle.fit_cells.specs.Cells.{barred, item_text, number_text, scaled};
+ghost use Rattle.fit_cells.specs.Steps.{bar};
+
+use crate::hexadecimal::put_digits;
+use arrayvec::ArrayString;
+use fit_base::{Class, Code, signed};
+use fit_profile::{Fixed, Info, fixed};
+use std::alloc::AllocError;
+
+/// A raw value in units of the last decimal.
+fn scaled(raw: i128, info: Info) -> Fixed
+    requires least { neg_ℤ (pos (2 ^ 63)) ≤ℤ raw }
+    requires most { raw <ℤ pos (2 ^ 64) }
+    requires scale { IsScale info.scale }
+    ensures value { result.value ≡ scaled raw info.scale info.offset }
+    ensures decimals { result.decimals ≡ decimals info.scale }
+    ensures few { result.decimals ≤ 8 }
+{
+    fixed(raw, info)
+}
+
+/// The text of a number.
+fn number_text(info: Option<Info>, raw: i128) -> ArrayString<48>
+    requires least { neg_ℤ (pos (2 ^ 63)) ≤ℤ raw }
+    requires most { raw <ℤ pos (2 ^ 64) }
+    requires scale { IfSome info (λ i. IsScale i.scale) }
+    ensures { result.bytes ≡ number_text (option_map meaning info) raw }
+{
+    match info {
+        Some(info) => scaled(raw, info).print(),
+        None => Fixed {
+            value: raw,
+            decimals: 0,
+        }
+        .print(),
+    }
+}
+
+/// Puts a number behind a text, but nothing where its bits are the invalid ones.
+fn put_number(
+    text: &mut Vec<u8>,
+    code: Code,
+    info: Option<Info>,
+    bits: u64,
+    raw: i128,
+) -> Result<(), AllocError>
+    requires least { neg_ℤ (pos (2 ^ 63)) ≤ℤ raw }
+    requires most { raw <ℤ pos (2 ^ 64) }
+    requires scale { IfSome info (λ i. IsScale i.scale) }
+    ensures { OnOk result (text.new.items ≡ text.old.items ++ (if bits == (base_type code.0).invalid then [] else number_text (option_map meaning info) raw)) }
+{
+    if bits == code.invalid() {
+        return Ok(());
+    }
+    text.extend_from_slice(number_text(info, raw).as_str().as_bytes())
+}
+
+/// Puts an item behind a text.
+fn put_item(
+    text: &mut Vec<u8>,
+    class: Class,
+    code: Code,
+    info: Option<Info>,
+    width: u8,
+    bits: u64,
+) -> Result<(), AllocError>
+    requires scale { IfSome info (λ i. IsScale i.scale) }
+    requires width { (width ≡ 1) ⊎ (width ≡ 2) ⊎ (width ≡ 4) ⊎ (width ≡ 8) }
+    requires bits { bits < 256 ^ width }
+    ensures { OnOk result (text.new.items ≡ text.old.items ++ item_text class code.0 (option_map meaning info) width bits) }
+{
+    match class {
+        Class::Signed => put_number(text, code, info, bits, i128::from(signed(width, bits))),
+        Class::Unsigned => put_number(text, code, info, bits, i128::from(bits)),
+        Class::Text | Class::Float | Class::Bytes => {
+            text.extend_from_slice(b"0x")?;
+            put_digits(text, 2 * width, bits)
+        }
+    }
+}
+
+/// Puts what stands before the item at a place.
+fn put_bar(text: &mut Vec<u8>, place: usize) -> Result<(), AllocError>
+    ensures { OnOk result (text.new.items ≡ text.old.items ++ bar place) }
+{
+    if place == 0 {
+        return Ok(());
+    }
+    text.extend_from_slice(b"|")
+}
+
+/// Puts items behind a text, with a bar between one and the next.
+pub(crate) fn put_items(
+    text: &mut Vec<u8>,
+    class: Class,
+    code: Code,
+    info: Option<Info>,
+    width: u8,
+    bits: &[u64],
+) -> Result<(), AllocError>
+    requires scale { IfSome info (λ i. IsScale i.scale) }
+    requires width { (width ≡ 1) ⊎ (width ≡ 2) ⊎ (width ≡ 4) ⊎ (width ≡ 8) }
+    requires bits { All (λ n. n < 256 ^ width) bits.now }
+    ensures { OnOk result (text.new.items ≡ text.old.items ++ barred (map (item_text class code.0 (option_map meaning info) width) bits.now)) }
+{
+    for (place, item) in bits.iter().enumerate() {
+        put_bar(text, place)?;
+        put_item(text, class, code, info, width, *item)?;
+    }
+    Ok(())
+}

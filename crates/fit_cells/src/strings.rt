@@ -1,0 +1,101 @@
+//! Strings, as they stand in a cell.
+ghost use Rattle.std.specs.Prelude.{◌≡◌, List, ◌<◌, ◌≤◌, ◌++◌, ℕ, All, IfOk, OnOk, slice_index, take, length, not, ◌==◌};
+ghost use Rattle.std.specs.List.{list_all};
+ghost use Rattle.fit_profile.specs.Described.{before_closing_zeros};
+ghost use Rattle.fit_cells.specs.Cells.{begins_as_bytes, is_plain, string_text};
+
+use crate::hexadecimal::{put_bytes, read_bytes};
+use fit_base::Bits;
+use fit_profile::text_len;
+use std::alloc::{AllocError, Global};
+use std::str;
+
+/// Whether a text begins as bytes do in a cell.
+fn begins_as_bytes(text: &[u8]) -> bool
+    ensures { result ≡ begins_as_bytes text.now }
+{
+    if text.len() < 2 {
+        return false;
+    }
+    text[0] == b'0' && text[1] == b'x'
+}
+
+/// Whether a text has no zero.
+fn has_no_zero(text: &[u8]) -> bool
+    ensures { result ≡ list_all (λ b. not (b == 0)) text.now }
+{
+    text.iter().all(|b| *b != 0)
+}
+
+/// Whether a text can stand as it is.
+fn is_plain(text: &[u8]) -> bool
+    ensures { result ≡ is_plain text.now }
+{
+    match str::from_utf8(text) {
+        Ok(_) => has_no_zero(text) && !begins_as_bytes(text),
+        Err(_) => false,
+    }
+}
+
+/// Puts bytes behind a text, as they are.
+fn put_text(text: &mut Vec<u8>, bytes: &[u64]) -> Result<(), AllocError>
+    requires { All (λ b. b < 256) bytes.now }
+    ensures { OnOk result (text.new.items ≡ text.old.items ++ bytes.now) }
+{
+    for byte in bytes {
+        text.push(*byte as u8)?;
+    }
+    Ok(())
+}
+
+/// Puts the text of a string behind a text, or its bytes where that can't stand as it is.
+pub(crate) fn put_string(text: &mut Vec<u8>, bytes: &[u64]) -> Result<(), AllocError>
+    requires { All (λ b. b < 256) bytes.now }
+    ensures { OnOk result (text.new.items ≡ text.old.items ++ string_text bytes.now) }
+{
+    let start = text.len();
+    put_text(text, &bytes[..text_len(bytes)])?;
+    if is_plain(&text.as_slice()[start..]) {
+        return Ok(());
+    }
+    text.truncate(start);
+    put_bytes(text, bytes)
+}
+
+/// The bytes of a string that a cell shows, and some bytes where it shows none.
+pub(crate) fn read_string(alloc: Global, count: u8, text: &[u8]) -> Result<Bits, AllocError>
+    ensures count { IfOk result (λ bits. length bits ≡ count) }
+    ensures below { IfOk result (λ bits. All (λ b. b < 256) bits) }
+    ensures every { IfOk result (λ bits. (bytes : List ℕ) → length bytes ≡ count → All (λ b. b < 256) bytes → text.now ≡ string_text bytes → bits ≡ bytes) }
+{
+    if begins_as_bytes(text) {
+        read_bytes(alloc, count, text)
+    } else {
+        read_text(alloc, count, text)
+    }
+}
+
+/// The bytes of a text, and zeros behind them.
+fn read_text(alloc: Global, count: u8, text: &[u8]) -> Result<Bits, AllocError>
+    ensures count { IfOk result (λ bits. length bits ≡ count) }
+    ensures value { IfOk result (λ bits. (k : ℕ) → k < count → slice_index bits k ≡ slice_index text.now k) }
+    ensures below { IfOk result (λ bits. All (λ b. b < 256) bits) }
+{
+    let mut bits = Bits::with_capacity(alloc, count as usize)?;
+    for place in 0..count as usize {
+        bits.push(byte_at(text, place))?;
+    }
+    Ok(bits)
+}
+
+/// The byte of a text at a place, and zero behind its end.
+fn byte_at(text: &[u8], place: usize) -> u64
+    ensures value { result ≡ slice_index text.now place }
+    ensures below { result < 256 }
+{
+    if place < text.len() {
+        text[place] as u64
+    } else {
+        0
+    }
+}

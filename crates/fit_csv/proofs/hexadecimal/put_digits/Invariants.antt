@@ -1,6 +1,0 @@
-use Rattle.std.proofs.Common.{◌≡◌, ◌++◌, ◌-◌}
-use Rattle.fit_csv.specs.Cells.{hex_digits}
-use Rattle.fit_csv.proofs.hexadecimal.put_digits.Given as goal
-
-abbrev pub invariant-loop-written : goal.invariant-loop-written
-invariant-loop-written l = l.text.items ++ hex_digits (l.digits - l.written) l.number ≡ l.initial.text.items ++ hex_digits l.digits l.number

@@ -1,9 +1,0 @@
-use Rattle.std.proofs.Common.{◌≡◌, ◌<◌, ◌++◌, ◌-◌, All, drop}
-use Rattle.fit_csv.specs.Steps.{read_pairs}
-use Rattle.fit_csv.proofs.hexadecimal.read_bytes.Given as goal
-
-abbrev pub invariant-loop-place : goal.invariant-loop-place
-invariant-loop-place l = record {
-  value : l.bits ++ read_pairs (l.count - l.place) l.rest ≡ read_pairs l.count (drop 2 l.fn.text);
-  below : All (λ b. b < 256) l.bits;
-}

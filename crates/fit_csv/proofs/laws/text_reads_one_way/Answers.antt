@@ -1,5 +1,0 @@
-use Rattle.fit_csv.proofs.RowFacts.{reads-one-way}
-use Rattle.fit_csv.proofs.laws.text_reads_one_way.Goals as goal
-
-pub returns : goal.returns
-returns c = reads-one-way
