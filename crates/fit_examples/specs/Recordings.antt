@@ -1,5 +1,5 @@
 -- A ride of times and heart rates as a file.
-use Rattle.std.specs.Prelude.{◌≡◌, ℕ, List, [], ◌∷◌, None, map}
+use Rattle.std.specs.Prelude.{◌≡◌, ℕ, ◌+◌, ◌*◌, ◌^◌, ◌<◌, ◌≤◌, List, [], ◌∷◌, None, map}
 use Rattle.std.specs.declared.alloc.Global.{Global}
 use Rattle.fit_base.specs.declared.items.Items.{Items}
 use Rattle.fit_base.specs.declared.number.Order.TheVariants.{Little}
@@ -8,7 +8,11 @@ use Rattle.fit_record.specs.declared.definition.MessageDef.{MessageDef}
 use Rattle.fit_record.specs.declared.message.Record.{Record}
 use Rattle.fit_record.specs.declared.message.Record.TheVariants.{Define, Values as Data}
 use Rattle.fit_record.specs.declared.file.FitFile.{FitFile}
+use Rattle.fit_record.specs.Environment.{empty_environment, learn}
+use Rattle.fit_record.specs.Records.{Fits}
 use Rattle.fit_record.specs.Files.{IsFile}
+use Rattle.fit_encode.specs.declared.fault.EncodeFault.{EncodeFault}
+use Rattle.fit_encode.specs.declared.fault.EncodeFault.TheVariants.{NoMemory, TooLong, Write}
 
 -- a record message has two fields: 253, timestamp, a uint32, and 3, heart_rate, a uint8
 abbrev pub definition : MessageDef Global
@@ -41,3 +45,15 @@ pub record IsRecording (points : List (ℕ × ℕ)) (bytes : List ℕ) : Type 0 
   pub sum : file.header.sum ≡ True
   pub records : file.records ≡ ride_records points
   pub spelled : IsFile file bytes
+
+-- behind the definition message this record has its place
+abbrev pub FitsRide : Record Global → Type 0
+FitsRide r = Fits (learn empty_environment (Define definition)) r
+
+-- Why a ride of so many points has no file: behind the definition message, of 12 bytes, the record message at this index, of 6 bytes as
+-- each, is the first with which the data has 2^32 bytes or more; or memory was refused, to a record or to the bytes.
+abbrev pub IsRideFault : ℕ → EncodeFault → Type 0
+IsRideFault points (TooLong file index) = (file ≡ 1) × (index ≤ points) × (2 ^ 32 ≤ 12 + 6 * index) × (6 + 6 * index < 2 ^ 32)
+IsRideFault points NoMemory = Unit {0}
+IsRideFault points (Write written) = Unit {0}
+IsRideFault points _ = ⊥

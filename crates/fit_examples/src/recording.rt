@@ -1,14 +1,17 @@
 //! A ride, written record by record.
-ghost use Rattle.std.specs.Prelude.{◌≡◌, ◌∷◌, [], IfOk, IfSome};
+ghost use Rattle.std.specs.Prelude.{◌≡◌, ◌∷◌, ◌+◌, ◌*◌, ◌^◌, ◌≤◌, [], IfOk, IfErr, IfSome, None, length};
 ghost use Rattle.fit_record.specs.declared.message.Record.TheVariants.{Define as Defines};
-ghost use Rattle.fit_examples.specs.Recordings.{IsRecording, definition, message, lone};
+ghost use Rattle.fit_examples.specs.Recordings.{IsRecording, IsRideFault, definition, message, lone, FitsRide};
 
 use arrayvec::ArrayVec;
 use fit_base::{Bits, Entries, Items, Order};
-use fit_encode::{Encoder, WriteSink};
+use fit_encode::{EncodeFault, Encoder, WriteSink};
 use fit_frame::{Header, HeaderSum};
 use fit_record::{FieldDef, MessageDef, Record, Values};
 use std::alloc::{AllocError, Global};
+
+/// A data section of less than 2^32 bytes has room for so many.
+const MOST_POINTS: u64 = (0xFFFF_FFFF - 12) / 6;
 
 /// A field with one number of so many bytes.
 fn field(alloc: Global, width: u8, number: u64) -> Result<Items, AllocError>
@@ -46,7 +49,8 @@ fn definition(alloc: Global) -> Result<Record, AllocError>
 
 /// A record message.
 fn message(alloc: Global, time: u32, heart_rate: u8) -> Result<Record, AllocError>
-    ensures { IfOk result (λ r. r ≡ message (time, heart_rate)) }
+    ensures value { IfOk result (λ r. r ≡ message (time, heart_rate)) }
+    ensures fits { IfOk result FitsRide }
 {
     let mut fields = Entries::new(alloc);
     fields.push(field(alloc, 4, time as u64)?)?;
@@ -59,16 +63,21 @@ fn message(alloc: Global, time: u32, heart_rate: u8) -> Result<Record, AllocErro
     }))
 }
 
-/// How many bytes of data there are: 12 of the definition message, and 6 of each record message.
-fn data_len(points: usize) -> Option<u32> {
+/// How many bytes of data there are: 12 of the definition message, and 6 of each record message. None where these are 2^32 or more.
+fn data_len(points: usize) -> Option<u32>
+    ensures some { IfSome result (λ len. len ≡ 12 + 6 * points) }
+    ensures none { result ≡ None → 2 ^ 32 ≤ 12 + 6 * points }
+{
     u32::try_from(points).ok()?.checked_mul(6)?.checked_add(12)
 }
 
 /// A FIT file of a ride: a record message for each time, in seconds since 1989-12-31T00:00:00 UTC, and heart rate, in beats per minute.
 ///
-/// None where memory is refused, or the data would have 2^32 bytes.
-pub fn ride_file(alloc: Global, points: &[(u32, u8)]) -> Option<Vec<u8>>
-    ensures { IfSome result (λ bytes. IsRecording points.now bytes.items) }
+/// `TooLong` from 715,827,881 points on, which a file has no room for; else it fails for want of memory alone, with `NoMemory` or,
+/// where the bytes have no room, with `Write`.
+pub fn ride_file(alloc: Global, points: &[(u32, u8)]) -> Result<Vec<u8>, EncodeFault>
+    ensures ok { IfOk result (λ bytes. IsRecording points.now bytes.items) }
+    ensures err { IfErr result (IsRideFault (length points.now)) }
 {
     let header = Header {
         size: 14,
@@ -77,15 +86,24 @@ pub fn ride_file(alloc: Global, points: &[(u32, u8)]) -> Option<Vec<u8>>
         sum: HeaderSum::True,
         rest: ArrayVec::new(),
     };
+    let Some(data_len) = data_len(points.len()) else {
+        return Err(EncodeFault::TooLong {
+            file: 1,
+            index: MOST_POINTS + 1,
+        });
+    };
     let mut sink = WriteSink::new(Vec::new(alloc));
-    let data_len = data_len(points.len())?;
-    let mut encoder = Encoder::begin(alloc, &mut sink, &header, data_len).ok()?;
-    let first = definition(alloc).ok()?;
-    encoder.put(&mut sink, &first).ok()?;
+    let mut encoder = Encoder::begin(alloc, &mut sink, &header, data_len)?;
+    let Ok(first) = definition(alloc) else {
+        return Err(EncodeFault::NoMemory);
+    };
+    encoder.put(&mut sink, &first)?;
     for point in points {
-        let next = message(alloc, point.0, point.1).ok()?;
-        encoder.put(&mut sink, &next).ok()?;
+        let Ok(next) = message(alloc, point.0, point.1) else {
+            return Err(EncodeFault::NoMemory);
+        };
+        encoder.put(&mut sink, &next)?;
     }
-    encoder.finish(&mut sink).ok()?;
-    Some(sink.into_inner())
+    encoder.finish(&mut sink)?;
+    Ok(sink.into_inner())
 }

@@ -107,7 +107,7 @@ fn rides_as_files(rt: HostRuntime) -> Result<(), Fail> {
         (1_000_000_032, 255),
         (1_000_000_033, 121),
     ];
-    let ride = ride_file(rt.alloc(), &points).ok_or("no memory")?;
+    let ride = ride_file(rt.alloc(), &points).map_err(|_| "no memory")?;
     assert_eq!(rt; ride.as_slice(), RIDE.as_slice());
     Ok(())
 }
