@@ -1,3 +1,4 @@
 pub mod Uploads
 pub mod Tables
 pub mod Recordings
+pub mod RoundTrips

@@ -1,33 +1,53 @@
 //! A file is written, and read back from what was written.
-ghost use Rattle.std.specs.Prelude.{◌≡◌, ◌++◌, IfSome, List, ℕ, length};
+ghost use Rattle.std.specs.Prelude.{◌≡◌, ◌++◌, IfErr, IfOk, List, ℕ, [], ◌∷◌, length};
 ghost use Rattle.std.specs.declared.alloc.Global.{Global};
 ghost use Rattle.fit_record.specs.declared.file.FitFile.{FitFile};
-ghost use Rattle.fit_record.specs.Files.{IsFile};
+ghost use Rattle.fit_record.specs.Files.{IsFile, IsWellFormed};
+ghost use Rattle.fit_encode.specs.Faults.{IfRefused, IsFirstFault};
+ghost use Rattle.fit_examples.specs.RoundTrips.{IsWantOfMemory};
+ghost use Rattle.fit_examples.specs.Uploads.{IsWantOfMemory as WantsMemory};
 
-use fit_decode::read_one;
-use fit_encode::{WriteSink, write_one};
+use fit_decode::{Fault, read_one};
+use fit_encode::laws::good_chains_have_no_fault;
+use fit_encode::{EncodeFault, WriteSink, write_one};
 use fit_record::FitFile;
 use std::alloc::Global;
 
 /// Reads the file that begins the bytes, and tells how many bytes are left behind it.
-fn read_front(alloc: Global, bytes: &[u8]) -> Option<(FitFile, usize)>
-    ensures { (f : FitFile Global) (b x : List ℕ) → bytes.now ≡ b ++ x → IsFile f b → IfSome result (λ read. (read.0 ≡ f) × (read.1 ≡ length x)) }
+fn read_front(alloc: Global, bytes: &[u8]) -> Result<(FitFile, usize), Fault>
+    ensures file { (f : FitFile Global) (b x : List ℕ) → bytes.now ≡ b ++ x → IsFile f b → IfOk result (λ read. (read.0 ≡ f) × (read.1 ≡ length x)) }
+    ensures memory { (f : FitFile Global) (b x : List ℕ) → bytes.now ≡ b ++ x → IsFile f b → IfErr result WantsMemory }
 {
     let mut source = bytes;
-    let file = read_one(alloc, &mut source).ok()?;
-    Some((file, source.len()))
+    let file = read_one(alloc, &mut source)?;
+    Ok((file, source.len()))
 }
 
 /// Writes a file, and reads it back from its bytes with others behind them. Whatever these are, it is the same file, and they
 /// are left. Answers the file, and how many bytes are left.
 ///
-/// None where the file isn't well-formed, or memory is refused.
-pub fn written_and_read(alloc: Global, file: &FitFile, behind: &[u8]) -> Option<(FitFile, usize)>
-    ensures { IfSome result (λ read. (read.0 ≡ file.now) × (read.1 ≡ length behind.now)) }
+/// It fails with the first fault of a file that isn't well-formed, or for want of memory, with `NoMemory` or, where the bytes have
+/// no room, with `Write`.
+pub fn written_and_read(
+    alloc: Global,
+    file: &FitFile,
+    behind: &[u8],
+) -> Result<(FitFile, usize), EncodeFault>
+    ensures same { IfOk result (λ read. (read.0 ≡ file.now) × (read.1 ≡ length behind.now)) }
+    ensures fault { IfErr result (λ fault. IfRefused fault (IsFirstFault (file.now ∷ []) fault)) }
+    // A well-formed file fails for want of memory alone.
+    ensures memory { IsWellFormed file.now → IfErr result IsWantOfMemory }
 {
+    good_chains_have_no_fault::<Global>();
     let mut sink = WriteSink::new(Vec::new(alloc));
-    write_one(alloc, &mut sink, file).ok()?;
+    write_one(alloc, &mut sink, file)?;
     let mut bytes = sink.into_inner();
-    bytes.extend_from_slice(behind).ok()?;
-    read_front(alloc, bytes.as_slice())
+    if bytes.extend_from_slice(behind).is_err() {
+        return Err(EncodeFault::NoMemory);
+    }
+    match read_front(alloc, bytes.as_slice()) {
+        Ok(read) => Ok(read),
+        Err(Fault::NoMemory { .. }) => Err(EncodeFault::NoMemory),
+        Err(_) => unreachable!(),
+    }
 }

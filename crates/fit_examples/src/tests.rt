@@ -3,7 +3,8 @@ use crate::{check_upload, ride_file, ride_table, written_and_read};
 use arrayvec::ArrayVec;
 use fit_base::Entries;
 use fit_csv::CsvFault;
-use fit_decode::Fault;
+use fit_decode::{Fault, read_one};
+use fit_encode::EncodeFault;
 use fit_frame::{Header, HeaderSum, Reason};
 use fit_record::FitFile;
 use std::test::Fail;
@@ -21,21 +22,32 @@ const RIDE: [u8; 46] =
     *b"\x0E\x20\0\0\x1E\0\0\0.FIT\x1C\x05\x40\0\0\x14\0\x02\xFD\x04\x86\x03\x01\x02\0\x1F\xCA\x9A\x3B\x78\0\x20\xCA\x9A\x3B\xFF\0\x21\xCA\x9A\x3B\x79\x37\xC9";
 
 #[test]
-fn bytes_behind_are_left(rt: HostRuntime) {
+fn bytes_behind_are_left(rt: HostRuntime) -> Result<(), Fail> {
     let alloc = rt.alloc();
-    let header = Header {
-        size: 14,
-        protocol: 0x20,
-        profile: 0,
-        sum: HeaderSum::True,
-        rest: ArrayVec::new(),
-    };
+    for bytes in [BOTH.as_slice(), DESCRIBED.as_slice(), RIDE.as_slice()] {
+        let mut source = bytes;
+        let file = read_one(alloc, &mut source).map_err(|_| "not read")?;
+        let read = written_and_read(alloc, &file, b"\xFF\x01");
+        assert!(rt; read == Ok((file, 2)));
+    }
+    Ok(())
+}
+
+#[test]
+fn headers_without_bytes(rt: HostRuntime) {
+    let alloc = rt.alloc();
     let file = FitFile {
-        header,
+        header: Header {
+            size: 13,
+            protocol: 0x20,
+            profile: 0,
+            sum: HeaderSum::Absent,
+            rest: ArrayVec::new(),
+        },
         records: Entries::new(alloc),
     };
-    let read = written_and_read(alloc, &file, b"\xFF\x01");
-    assert!(rt; read == Some((file, 2)));
+    let read = written_and_read(alloc, &file, &[]);
+    assert!(rt; read == Err(EncodeFault::BadHeader { file: 1 }));
 }
 
 #[test]

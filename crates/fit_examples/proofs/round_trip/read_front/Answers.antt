@@ -1,10 +1,19 @@
-use Rattle.std.proofs.Common.{Some, ap, subst}
+use Rattle.std.proofs.Common.{◌≡◌, Some, ap, subst, refl, length}
+use Rattle.std.proofs.lemmas.Result.{err_from_is_err_and}
 use Rattle.fit_base.specs.Numbers.{IsBytes}
 use Rattle.fit_base.proofs.ByteLists.{slice_is_bytes, IsBytes-front}
-use Rattle.fit_examples.proofs.RoundTrip.{read_back}
+use Rattle.fit_examples.proofs.RoundTrip.{front_fault}
 use Rattle.fit_examples.proofs.round_trip.read_front.Goals as goal
 
-pub returns : goal.returns
-returns c = λ f b x input file.
+pub returns-in_err-file-clause-memory : goal.returns-in_err-file-clause-memory
+returns-in_err-file-clause-memory c = λ f b x input file.
     let low : IsBytes b = IsBytes-front b x (subst IsBytes input (slice_is_bytes c.args.bytes.now c.type_inv.bytes)) in
-    read_back f c.in_ok-file.file _ x c.read_one.new.source.now _ c.read_one.result c.in_ok-file.ensures.value (c.read_one.ensures.file f b x (ap Some input) low file)
+    let p = err_from_is_err_and c.from_residual.result c.from_residual.ensures.1 in
+    rw (p.1, p.2) (front_fault f (length b) x (Some c.read_one.new.source.now) _ c.in_err-file.field-0.0 refl (c.in_err-file.ensures.file f b x (ap Some input) low file))
+
+pub returns-clause-file : goal.returns-clause-file
+returns-clause-file c = λ f b x input file.
+    let low : IsBytes b = IsBytes-front b x (subst IsBytes input (slice_is_bytes c.args.bytes.now c.type_inv.bytes)) in
+    let given = c.in_ok-file.ensures.file f b x (ap Some input) low file in
+    let left : c.read_one.new.source.now ≡ x = cc in
+    (given.0, ap length left)

@@ -1,0 +1,9 @@
+-- Why a file isn't written and read back.
+use Rattle.fit_encode.specs.declared.fault.EncodeFault.{EncodeFault}
+use Rattle.fit_encode.specs.declared.fault.EncodeFault.TheVariants.{NoMemory, Write}
+
+-- Memory was refused, or there was none for the bytes.
+abbrev pub IsWantOfMemory : EncodeFault → Type 0
+IsWantOfMemory NoMemory = Unit {0}
+IsWantOfMemory (Write written) = Unit {0}
+IsWantOfMemory _ = ⊥
