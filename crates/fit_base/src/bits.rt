@@ -59,6 +59,15 @@ impl<A: Allocator> Bits<A> {
         }
     }
 
+    /// One number, which takes no memory.
+    pub fn one(alloc: A, number: u64) -> Self
+        ensures { result ≡ number ∷ [] }
+    {
+        Bits {
+            held: Held::One(number, alloc),
+        }
+    }
+
     /// The numbers of a vector, which keeps its memory.
     pub fn from_vec(numbers: Vec<u64, A>) -> Self
         ensures { result ≡ numbers.items }

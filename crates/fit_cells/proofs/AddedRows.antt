@@ -1,10 +1,10 @@
 -- Rows written one after another.
-use Rattle.std.proofs.Common.{◌≡◌, ◌∙◌, ◌<◌, ◌≤◌, ◌+◌, ℕ, List, [], ◌∷◌, ◌++◌, length, map, take, get_or, Vec, refl, sym, ap, subst, append_assoc}
+use Rattle.std.proofs.Common.{◌≡◌, ◌∙◌, ◌<◌, ◌≤◌, ◌+◌, ℕ, List, [], ◌∷◌, ◌++◌, length, map, drop, take, Bor, get_or, Vec, refl, sym, ap, subst, append_assoc, arith}
 use Rattle.std.specs.Global.{Global}
-use Rattle.std.proofs.lemmas.List.{append-nil, map-append, take_all, take_more}
-use Rattle.csv.specs.Writing.{default_writer, row_text}
+use Rattle.std.proofs.lemmas.List.{append-nil, length-map, map-append, take_all, take_more}
+use Rattle.csv.specs.Writing.{default_writer, field_text, fields_text, is_blank, row_text}
 use Rattle.csv.specs.declared.writer.Writer.{Writer}
-use Rattle.fit_cells.specs.Rows.{Row, HasAdded, IsBetweenRows, csv_text, written}
+use Rattle.fit_cells.specs.Rows.{Row, HasAdded, HasRows, IsBetweenRows, csv_text, written}
 
 pub text_append : (a b : List Row) → csv_text (a ++ b) ≡ csv_text a ++ csv_text b
 unfolding csv_text
@@ -42,3 +42,63 @@ added_more row xs k d u v w within first second =
 -- the rows of all elements of a list
 pub added_all : {X : Type 0} (row : X → Row) (xs : List X) (k : ℕ) (u v : Writer (Vec ℕ Global)) → length xs ≤ k → HasAdded (map row (take k xs)) u v → HasAdded (map row xs) u v
 added_all row xs k u v end added = subst (λ ys. HasAdded (map row ys) u v) (take_all k xs end) added
+
+-- no row behind a text
+pub rows_none : (v : Vec ℕ Global) → HasRows [] v v
+unfolding csv_text
+rows_none v = record { text = sym (append-nil v.items) }
+
+-- some rows behind a text, and then others
+pub rows_both : {a b : List Row} {u v w : Vec ℕ Global} → HasRows a u v → HasRows b v w → HasRows (a ++ b) u w
+rows_both {a = a} {b = b} {u = u} first second = record {
+  text = second.text ∙ ap (λ text. text ++ csv_text b) first.text ∙ append_assoc u.items (csv_text a) (csv_text b) ∙ ap (λ text. u.items ++ text) (sym (text_append a b));
+}
+
+-- the row of one more element of a list
+pub rows_more : {X : Type 0} (row : X → Row) (xs : List X) (k : ℕ) (d : X) (u v w : Vec ℕ Global) → k < length xs
+    → HasRows (map row (take k xs)) u v → HasRows (row (get_or xs k d) ∷ []) v w → HasRows (map row (take (k + 1) xs)) u w
+rows_more row xs k d u v w within first second =
+    let longer : map row (take (k + 1) xs) ≡ map row (take k xs) ++ (row (get_or xs k d) ∷ []) =
+    ap (map row) (take_more xs k d within) ∙ map-append row (take k xs) (get_or xs k d ∷ []) in
+    rw longer (rows_both first second)
+
+-- the rows of all elements of a list
+pub rows_all : {X : Type 0} (row : X → Row) (xs : List X) (k : ℕ) (u v : Vec ℕ Global) → length xs ≤ k → HasRows (map row (take k xs)) u v → HasRows (map row xs) u v
+rows_all row xs k u v end added = subst (λ ys. HasRows (map row ys) u v) (take_all k xs end) added
+
+-- more cells of a row
+pub fields_none : (text : List ℕ) → text ++ fields_text default_writer [] ≡ text
+unfolding fields_text
+fields_none text = append-nil text
+
+pub fields_one : (cell : List ℕ) → fields_text default_writer (cell ∷ []) ≡ 44 ∷ field_text default_writer cell
+unfolding fields_text
+fields_one cell = ap (λ text. 44 ∷ text) (append-nil (field_text default_writer cell))
+
+pub fields_append : (a b : Row) → fields_text default_writer (a ++ b) ≡ fields_text default_writer a ++ fields_text default_writer b
+unfolding fields_text
+fields_append [] b = refl
+fields_append (cell ∷ a) b = ap (λ text. 44 ∷ (field_text default_writer cell ++ text)) (fields_append a b) ∙ sym (append_assoc (44 ∷ field_text default_writer cell) (fields_text default_writer a) (fields_text default_writer b))
+
+pub fields_more : {X : Type 0} (cell : X → List ℕ) (text : List ℕ) (xs : List X) (k : ℕ) (d : X) → k < length xs
+    → (text ++ fields_text default_writer (map cell (take k xs))) ++ fields_text default_writer (cell (get_or xs k d) ∷ []) ≡ text ++ fields_text default_writer (map cell (take (k + 1) xs))
+fields_more cell text xs k d within =
+    let longer : map cell (take (k + 1) xs) ≡ map cell (take k xs) ++ (cell (get_or xs k d) ∷ []) =
+    ap (map cell) (take_more xs k d within) ∙ map-append cell (take k xs) (get_or xs k d ∷ []) in
+    append_assoc text (fields_text default_writer (map cell (take k xs))) (fields_text default_writer (cell (get_or xs k d) ∷ []))
+    ∙ ap (λ ds. text ++ ds) (sym (fields_append (map cell (take k xs)) (cell (get_or xs k d) ∷ [])) ∙ ap (fields_text default_writer) (sym longer))
+
+-- a row of two cells or more
+pub whole_row : (text : List ℕ) (first : List ℕ) (others : Row) → 0 < length others
+    → ((text ++ field_text default_writer first) ++ fields_text default_writer others) ++ (10 ∷ []) ≡ text ++ csv_text ((first ∷ others) ∷ [])
+unfolding csv_text is_blank
+whole_row text first [] some = absurd (omega (arith, some))
+whole_row text first (next ∷ rest) some =
+    append_assoc (text ++ field_text default_writer first) (fields_text default_writer (next ∷ rest)) (10 ∷ [])
+    ∙ append_assoc text (field_text default_writer first) (fields_text default_writer (next ∷ rest) ++ (10 ∷ []))
+    ∙ ap (λ ds. text ++ ds) (sym (append_assoc (field_text default_writer first) (fields_text default_writer (next ∷ rest)) (10 ∷ [])) ∙ sym (append-nil _))
+
+pub row_of_cells : (text : List ℕ) (cells : List (Bor (List ℕ))) (d : Bor (List ℕ)) → 1 < length cells
+    → ((text ++ field_text default_writer (get_or cells 0 d).now) ++ fields_text default_writer (map (λ f. f.now) (drop 1 cells))) ++ (10 ∷ []) ≡ text ++ csv_text (map (λ f. f.now) cells ∷ [])
+row_of_cells text [] d some = absurd (omega (arith, some))
+row_of_cells text (first ∷ others) d some = whole_row text first.now (map (λ (f : Bor (List ℕ)). f.now) others) (omega (arith, some, length-map others (λ (f : Bor (List ℕ)). f.now)))

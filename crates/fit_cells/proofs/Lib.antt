@@ -12,3 +12,5 @@ pub mod RowFacts
 mod ReaderFacts
 pub mod OneCell
 pub mod RowsWithin
+pub mod FormFacts
+pub mod PlainFacts

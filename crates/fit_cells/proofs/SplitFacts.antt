@@ -1,5 +1,6 @@
 -- The items of a cell, cut at its bars.
-use Rattle.std.proofs.Common.{◌≡◌, ◌∙◌, ℕ, suc, ◌+◌, ◌<◌, false, List, [], ◌∷◌, ◌++◌, length, map, drop, get_or, refl, sym, ap, arith, add-one, append-nil, drop-cons}
+use Rattle.std.proofs.lemmas.List.Elements.{All-head}
+use Rattle.std.proofs.Common.{All, ◌≡◌, ◌∙◌, ℕ, suc, ◌+◌, ◌<◌, false, List, [], ◌∷◌, ◌++◌, length, map, drop, get_or, refl, sym, ap, arith, add-one, append-nil, drop-cons}
 use Rattle.std.specs.List.{position_or_len, before_first, after_first}
 use Rattle.std.proofs.lemmas.Bool.{ne_eqb}
 use Rattle.std.proofs.Math.Numerals.{one-add}
@@ -57,3 +58,10 @@ piece f bits rest k low h e = ap (before_first is_bar) (e ∙ from-here f bits k
 
 pub behind-piece : (f : ℕ → List ℕ) (bits rest : List ℕ) (k : ℕ) → ((n : ℕ) → Low (f n)) → k < length bits → rest ≡ barred (map f (drop k bits)) → after_first is_bar rest ≡ barred (map f (drop (k + 1) bits))
 behind-piece f bits rest k low h e = ap (after_first is_bar) (e ∙ from-here f bits k h) ∙ other-texts (f (get_or bits k 0)) (map f (drop (k + 1) bits)) (low (get_or bits k 0))
+
+-- an item that stands alone
+pub lone_list : (f : ℕ → List ℕ) (limit count : ℕ) (text bits : List ℕ) → count ≡ 1 → ((n : ℕ) → n < limit → text ≡ f n → bits ≡ n ∷ [])
+    → (numbers : List ℕ) → length numbers ≡ count → All (λ n. n < limit) numbers → text ≡ barred (map f numbers) → bits ≡ numbers
+lone_list f limit count text bits one every [] len all e = absurd (omega (arith, one, len))
+lone_list f limit count text bits one every (n ∷ []) len all e = every n (All-head (λ m. m < limit) n [] all) (e ∙ append-nil (f n))
+lone_list f limit count text bits one every (n ∷ m ∷ rest) len all e = absurd (omega (arith, one, len))

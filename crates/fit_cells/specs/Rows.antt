@@ -20,6 +20,10 @@ unfoldable pub csv_text : List Row → List ℕ
 csv_text [] = []
 csv_text (row ∷ rows) = row_text default_writer row ++ csv_text rows
 
+-- these rows were put behind a text
+pub record HasRows (rows : List Row) (old new : Vec ℕ Global) : Type 0 where
+  pub text : new.items ≡ old.items ++ csv_text rows
+
 -- the rows of a text: no header row, no trimming, rows of any length
 abbrev pub RowsOfText : List ℕ → List Row → Type 0
 RowsOfText text rows = AreRecords default_config st.StartRecord (strip_bom text) rows

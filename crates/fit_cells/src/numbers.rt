@@ -7,7 +7,6 @@ ghost use Rattle.fit_cells.specs.Cells.{barred, item_text, number_text, scaled};
 ghost use Rattle.fit_cells.specs.Steps.{bar};
 
 use crate::hexadecimal::put_digits;
-use arrayvec::ArrayString;
 use fit_base::{Class, Code, signed};
 use fit_profile::{Fixed, Info, fixed};
 use std::alloc::AllocError;
@@ -24,20 +23,20 @@ fn scaled(raw: i128, info: Info) -> Fixed
     fixed(raw, info)
 }
 
-/// The text of a number.
-fn number_text(info: Option<Info>, raw: i128) -> ArrayString<48>
+/// Puts the text of a number behind another one.
+fn put_text(text: &mut Vec<u8>, info: Option<Info>, raw: i128) -> Result<(), AllocError>
     requires least { neg_ℤ (pos (2 ^ 63)) ≤ℤ raw }
     requires most { raw <ℤ pos (2 ^ 64) }
     requires scale { IfSome info (λ i. IsScale i.scale) }
-    ensures { result.bytes ≡ number_text (option_map meaning info) raw }
+    ensures { OnOk result (text.new.items ≡ text.old.items ++ number_text (option_map meaning info) raw) }
 {
     match info {
-        Some(info) => scaled(raw, info).print(),
+        Some(info) => scaled(raw, info).put(text),
         None => Fixed {
             value: raw,
             decimals: 0,
         }
-        .print(),
+        .put(text),
     }
 }
 
@@ -57,7 +56,7 @@ fn put_number(
     if bits == code.invalid() {
         return Ok(());
     }
-    text.extend_from_slice(number_text(info, raw).as_str().as_bytes())
+    put_text(text, info, raw)
 }
 
 /// Puts an item behind a text.

@@ -62,7 +62,7 @@ fn read_scaled(text: &str, info: Info) -> Option<i128>
     ensures { (raw : ℤ) → neg_ℤ (pos (2 ^ 64)) ≤ℤ raw → raw <ℤ pos (2 ^ 64) → text.now ≡ number_text (Some (meaning info)) raw → result ≡ Some raw }
 {
     let shift = shift(info.offset, info.scale);
-    let number = Fixed::scan(text, fixed(0, info).decimals)?;
+    let number = Fixed::read(text, fixed(0, info).decimals)?;
     unscaled(number.value, info.scale, shift)
 }
 
@@ -70,7 +70,7 @@ fn read_scaled(text: &str, info: Info) -> Option<i128>
 fn read_whole(text: &str) -> Option<i128>
     ensures { (raw : ℤ) → neg_ℤ (pos (2 ^ 64)) ≤ℤ raw → raw <ℤ pos (2 ^ 64) → text.now ≡ number_text None raw → result ≡ Some raw }
 {
-    let number = Fixed::scan(text, 0)?;
+    let number = Fixed::read(text, 0)?;
     Some(number.value)
 }
 

@@ -1,5 +1,5 @@
 //! The items that a cell shows.
-ghost use Rattle.std.specs.Prelude.{◌≡◌, ◌<◌, ◌⊎◌, ◌^◌, ℕ, List, All, IfOk, IfSome, Some, length, map, option_map};
+ghost use Rattle.std.specs.Prelude.{◌≡◌, ◌<◌, ◌∷◌, [], ◌⊎◌, ◌^◌, ℕ, List, All, IfOk, IfSome, Some, length, map, option_map};
 ghost use Rattle.std.specs.Global.{Global};
 ghost use Rattle.std.specs.List.{after_first, before_first};
 ghost use Rattle.fit_base.specs.BaseTypes.{base_type};
@@ -42,8 +42,8 @@ fn read_item(class: Class, code: Code, info: Option<Info>, text: &str) -> u64
     }
 }
 
-/// The bits of items that are shown side by side, and some bits where none are.
-fn read_items(
+/// The bits of items that are shown side by side, one after another, and some bits where none are.
+fn read_several(
     alloc: Global,
     class: Class,
     code: Code,
@@ -64,6 +64,45 @@ fn read_items(
         rest = behind;
     }
     Ok(bits)
+}
+
+/// The bits of an item that stands alone, and some bits where none does.
+fn read_lone(
+    alloc: Global,
+    class: Class,
+    code: Code,
+    info: Option<Info>,
+    text: &str,
+) -> Result<Bits, AllocError>
+    requires { IfSome info (λ i. IsScale i.scale) }
+    ensures count { IfOk result (λ bits. length bits ≡ 1) }
+    ensures below { IfOk result (λ bits. All (λ n. n < 256 ^ (base_type code.0).width) bits) }
+    ensures every { IfOk result (λ bits. (n : ℕ) → n < 256 ^ (base_type code.0).width → text.now ≡ item_text class code.0 (option_map meaning info) (base_type code.0).width n → bits ≡ n ∷ []) }
+{
+    let mut bits = Bits::new(alloc);
+    bits.push(read_item(class, code, info, text))?;
+    Ok(bits)
+}
+
+/// The bits of items that are shown side by side, and some bits where none are.
+fn read_items(
+    alloc: Global,
+    class: Class,
+    code: Code,
+    info: Option<Info>,
+    count: u8,
+    text: &str,
+) -> Result<Bits, AllocError>
+    requires { IfSome info (λ i. IsScale i.scale) }
+    ensures count { IfOk result (λ bits. length bits ≡ count) }
+    ensures below { IfOk result (λ bits. All (λ n. n < 256 ^ (base_type code.0).width) bits) }
+    ensures every { IfOk result (λ bits. (numbers : List ℕ) → length numbers ≡ count → All (λ n. n < 256 ^ (base_type code.0).width) numbers → text.now ≡ barred (map (item_text class code.0 (option_map meaning info) (base_type code.0).width) numbers) → bits ≡ numbers) }
+{
+    if count == 1 {
+        Ok(read_lone(alloc, class, code, info, text)?)
+    } else {
+        read_several(alloc, class, code, info, count, text)
+    }
 }
 
 /// The bits of items that a cell shows, and some bits where it shows none.
@@ -88,9 +127,11 @@ fn read_bits(
     }
 }
 
-/// The items of a field of this code and size that the cell shows; None where it is the cell of none.
-pub fn cell_items(
+/// The items of a field of this code and size that the cell shows; None where it is the cell of none. The memory of `written` is
+/// used on.
+pub fn cell_items_by(
     alloc: Global,
+    written: &mut Vec<u8>,
     code: Code,
     size: u8,
     info: Option<Info>,
@@ -103,11 +144,27 @@ pub fn cell_items(
     let width = width_of(code, size);
     let bits = read_bits(alloc, code, width, size / width, info, text)?;
     let items = Items { width, bits };
-    let mut written = Vec::new(alloc);
-    put_cell(&mut written, code, info, &items)?;
+    written.clear();
+    put_cell(written, code, info, &items)?;
     if written.as_slice() == text.as_bytes() {
         Ok(Some(items))
     } else {
         Ok(None)
     }
+}
+
+/// The items of a field of this code and size that the cell shows; None where it is the cell of none.
+pub fn cell_items(
+    alloc: Global,
+    code: Code,
+    size: u8,
+    info: Option<Info>,
+    text: &str,
+) -> Result<Option<Items>, AllocError>
+    requires { IfSome info (λ i. IsScale i.scale) }
+    ensures some { IfOk result (λ found. IfSome found (λ items. HasShape code.0 size items × (cell code.0 (option_map meaning info) items ≡ text.now))) }
+    ensures every { IfOk result (λ found. (items : Items Global) → HasShape code.0 size items → cell code.0 (option_map meaning info) items ≡ text.now → found ≡ Some items) }
+{
+    let mut written = Vec::new(alloc);
+    cell_items_by(alloc, &mut written, code, size, info, text)
 }

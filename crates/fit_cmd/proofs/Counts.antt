@@ -1,5 +1,5 @@
 -- The counts of what was heard, and the lines of it.
-use Rattle.std.proofs.Common.{◌≡◌, ℕ, ◌+◌, ◌≤◌, List, [], ◌∷◌, ◌++◌, length, map, reverse, refl, sym, ap, ◌∙◌, arith, append_assoc}
+use Rattle.std.proofs.Common.{◌≡◌, ℕ, ◌+◌, ◌<◌, ◌≤◌, List, [], ◌∷◌, ◌++◌, length, map, reverse, refl, sym, ap, ◌∙◌, subst, arith, append_assoc}
 use Rattle.std.specs.Prelude.{codes, decimal, flat_map}
 use Rattle.std.proofs.lemmas.List.{append-nil, length-reverse, reverse-append}
 use Rattle.fit_frame.specs.declared.header.Header.{Header}
@@ -7,10 +7,10 @@ use Rattle.fit_record.specs.declared.file.FitFile.{FitFile}
 use Rattle.fit_record.specs.declared.message.Record.{Record}
 use Rattle.fit_record.specs.Files.{body}
 use Rattle.fit_decode.specs.Events.{Event, header, item, file_end, file_events}
-use Rattle.fit_report.specs.Heard.{latest_records, text_of}
-use Rattle.fit_report.proofs.Records.{records_behind, reverse-map}
+use Rattle.fit_report.specs.Heard.{AreHeard, hear_records, latest_records, text_of}
+use Rattle.fit_report.proofs.Records.{heard_are_few, records_behind, reverse-map}
 use Rattle.fit_cmd.specs.Laws.{ChainsHaveLines}
-use Rattle.fit_cmd.specs.Lines.{ended_files, latest_size, check_line, file_line, file_lines}
+use Rattle.fit_cmd.specs.Lines.{Counts, ended_files, latest_size, check_line, file_line, file_lines}
 
 pub few_files : {A : Type 0} (heard : List (Event A)) → ended_files heard ≤ length heard
 few_files [] = omega arith
@@ -34,6 +34,58 @@ pub line_put : (old one two all : List ℕ) (k n records : ℕ) → one ≡ old 
 line_put old one two all k n records first second third =
     third ∙ ap (λ t. t ++ (codes "" ++ decimal records ++ codes " records\n")) (second ∙ ap (λ t. t ++ (codes "" ++ decimal n ++ codes " data bytes, ")) first)
     ∙ line_parts old (decimal k) (decimal n) (decimal records)
+
+-- ---- one event more, and records that were passed over
+
+pub header_counted : {A : Type 0} (h : Header) (n files size records : ℕ) (heard : List (Event A)) → Counts files size records heard → Counts files n 0 (header h n ∷ heard)
+header_counted h n files size records heard c = record { of_files = c.of_files; of_size = refl; of_records = refl }
+
+pub item_counted : {A : Type 0} (r : Record A) (files size records : ℕ) (heard : List (Event A)) → Counts files size records heard → Counts files size (records + 1) (item r ∷ heard)
+item_counted r files size records heard c = record { of_files = c.of_files; of_size = c.of_size; of_records = let of_records = c.of_records in omega arith }
+
+pub end_counted : {A : Type 0} (files size records : ℕ) (heard : List (Event A)) → Counts files size records heard → Counts (files + 1) size records (file_end ∷ heard)
+end_counted files size records heard c = record { of_files = ap (λ k. k + 1) c.of_files; of_size = c.of_size; of_records = c.of_records }
+
+pub end_line : {A : Type 0} (files size records : ℕ) (heard : List (Event A)) → Counts files size records (file_end ∷ heard) → file_line files size records ≡ check_line heard file_end
+end_line files size records heard c = λ i. file_line (c.of_files i) (c.of_size i) (c.of_records i)
+
+module _ {A : Type 0} (heard : List (Event A)) where
+  text_over : (rs : List (Record A)) → text_of check_line (map item rs ++ heard) ≡ text_of check_line heard
+  text_over [] = refl
+  text_over (r ∷ rs) = append-nil (text_of check_line (map item rs ++ heard)) ∙ text_over rs
+
+  ended_over : (rs : List (Record A)) → ended_files (map item rs ++ heard) ≡ ended_files heard
+  ended_over [] = refl
+  ended_over (r ∷ rs) = ended_over rs
+
+  size_over : (rs : List (Record A)) → latest_size (map item rs ++ heard) ≡ latest_size heard
+  size_over [] = refl
+  size_over (r ∷ rs) = size_over rs
+
+  records_over : (rs : List (Record A)) → length (latest_records (map item rs ++ heard)) ≡ length rs + length (latest_records heard)
+  records_over [] = omega arith
+  records_over (r ∷ rs) = omega (arith, records_over rs)
+
+  over : (rs : List (Record A)) → map item (reverse rs) ++ heard ≡ hear_records rs heard
+  over rs = ap (λ es. es ++ heard) (sym (reverse-map item rs))
+
+  pub silent_over : (rs : List (Record A)) → text_of check_line (hear_records rs heard) ≡ text_of check_line heard
+  silent_over rs = ap (text_of check_line) (sym (over rs)) ∙ text_over (reverse rs)
+
+  pub records_counted : (rs : List (Record A)) (files size records count : ℕ) → length rs ≡ count → Counts files size records heard → Counts files size (records + count) (hear_records rs heard)
+  records_counted rs files size records count long c =
+      subst (Counts files size (records + count)) (over rs) (record {
+        of_files = c.of_files ∙ sym (ended_over (reverse rs));
+        of_size = c.of_size ∙ sym (size_over (reverse rs));
+        of_records = let of_records = c.of_records in omega (arith, of_records, long, records_over (reverse rs), length-reverse rs);
+      })
+
+pub few_counted : {A : Type 0} (files size records : ℕ) (heard : List (Event A)) → Counts files size records heard → AreHeard heard → (files < 144115188075855872) × (records < 144115188075855872)
+few_counted files size records heard c are =
+    let few = heard_are_few heard are in
+    let of_files = c.of_files in
+    let of_records = c.of_records in
+    (omega (arith, few, of_files, few_files heard), omega (arith, few, of_records, few_records heard))
 
 -- ---- the lines of a chain
 

@@ -1,7 +1,7 @@
 -- What a command did: a report, and what was said of it.
 use Rattle.std.proofs.Common.{◌≡◌, ◌⊎◌, inl, inr, Bool, false, ℕ, ◌+◌, List, ◌++◌, length, take, reverse, Option, Result, Ok, Err, sym, ap, ◌∙◌, subst, arith, length-append}
 use Rattle.std.specs.Prelude.{flat_map}
-use Rattle.std.specs.Io.KnownBytes.{Appends}
+use Rattle.std.specs.Io.KnownBytes.{Appends, Consumes}
 use Rattle.std.proofs.Math.Seq.{take-append-add}
 use Rattle.fit_record.specs.declared.file.FitFile.{FitFile}
 use Rattle.fit_decode.specs.declared.event.Fault.TheVariants.{Refused, Truncated, NoMemory, Read}
@@ -9,7 +9,7 @@ use Rattle.fit_decode.specs.Events.{Event, file_events}
 use Rattle.fit_report.specs.declared.fault.ReportFault.{ReportFault}
 use Rattle.fit_report.specs.declared.fault.ReportFault.TheVariants as report
 use Rattle.fit_report.specs.Heard.{Lines, text_of}
-use Rattle.fit_report.specs.Reports.{Channel, Reports, ReportsChain}
+use Rattle.fit_report.specs.Reports.{Channel, HasTold, Reports, ReportsChain}
 use Rattle.fit_report.proofs.Texts.{Appends-append}
 use Rattle.fit_cmd.specs.Finishing.{Finishes}
 use Rattle.fit_cmd.specs.Lines.{ok_line}
@@ -43,20 +43,23 @@ module _ {K : Type 0} (contents : K → Option (List ℕ)) (has_failed : K → B
     on : (lines : List ℕ) (wanted : ℕ) → Appends start (contents old) (text_of line heard) → Writes lines wanted said faults status → Writes (text_of line heard ++ lines) wanted all faults status
     on lines wanted put writes = writes_on start (contents old) (contents new) (has_failed new) faults status (text_of line heard) lines wanted put writes
 
-    pub ran : (answer : Result (Unit {0}) ReportFault) → Reports line source told heard answer → Finishes answer old new said faults status → Runs line source all faults status
-    ran (Ok x) (taken, eats, (end, chain, tells)) writes = (taken, eats, inl (Ok tt, heard, (end, chain), tells.0, on _ 0 tells.1 writes))
-    ran (Err (report.Decode (Refused place reason))) (taken, eats, (fault, tells)) writes = (taken, eats, inl (Err (Refused place reason), heard, fault, tells.0, on _ 1 tells.1 writes))
-    ran (Err (report.Decode (Truncated place))) (taken, eats, (fault, tells)) writes = (taken, eats, inl (Err (Truncated place), heard, fault, tells.0, on _ 1 tells.1 writes))
-    ran (Err (report.Decode (NoMemory used))) (taken, eats, none) writes = absurd none
-    ran (Err (report.Decode (Read place))) (taken, eats, (fault, tells)) (same, puts, is) =
+    ran_so : (answer : Result (Unit {0}) ReportFault) → (taken : List ℕ) × Consumes source.before source.after taken × HasTold line taken source told heard answer → Finishes answer old new said faults status → Runs line source all faults status
+    ran_so (Ok x) (taken, eats, (end, chain, tells)) writes = (taken, eats, inl (Ok tt, heard, (end, chain), tells.0, on _ 0 tells.1 writes))
+    ran_so (Err (report.Decode (Refused place reason))) (taken, eats, (fault, tells)) writes = (taken, eats, inl (Err (Refused place reason), heard, fault, tells.0, on _ 1 tells.1 writes))
+    ran_so (Err (report.Decode (Truncated place))) (taken, eats, (fault, tells)) writes = (taken, eats, inl (Err (Truncated place), heard, fault, tells.0, on _ 1 tells.1 writes))
+    ran_so (Err (report.Decode (NoMemory used))) (taken, eats, none) writes = absurd none
+    ran_so (Err (report.Decode (Read place))) (taken, eats, (fault, tells)) (same, puts, is) =
         (taken, eats, inl (Err (Read place), heard, fault, tells.0, (subst (λ k. Appends start (contents k) (text_of line heard)) (sym same) tells.1, puts, is)))
-    ran (Err report.NoMemory) (taken, eats, (k, some, (are, put))) (same, puts, is) =
+    ran_so (Err report.NoMemory) (taken, eats, (k, some, (are, put))) (same, puts, is) =
         (taken, eats, inr (k, some, are, inl (subst (λ o. Appends start (contents o) (text_of line some)) (sym same) put, puts, is)))
-    ran (Err (report.Write written)) (taken, eats, (k, some, are, (bad, n, short, put, counted))) (same, puts, is) = (
+    ran_so (Err (report.Write written)) (taken, eats, (k, some, are, (bad, n, short, put, counted))) (same, puts, is) = (
       taken,
       eats,
       inr (k, some, are, inr (ap has_failed same ∙ bad, n, short, subst (λ o. Appends start (contents o) (take n (text_of line some))) (sym same) put, puts, is)),
     )
+
+  pub ran : {A : Type 0} (line : Lines A) (answer : Result (Unit {0}) ReportFault) → Reports line source told answer → Finishes answer old new said faults status → Runs line source all faults status
+  ran line answer (taken, heard, eats, says) = ran_so line heard answer (taken, eats, says)
 
   -- Where the input is a chain and neither the source nor the output has failed.
   module _ {A : Type 0} (line : Lines A) (fs : List (FitFile A)) (well : source.failed ≡ false) (good : has_failed new ≡ false) where

@@ -1,5 +1,5 @@
 -- The lines that the program writes.
-use Rattle.std.specs.Prelude.{ℕ, ◌+◌, List, [], ◌∷◌, ◌++◌, length, codes, decimal}
+use Rattle.std.specs.Prelude.{◌≡◌, ℕ, ◌+◌, List, [], ◌∷◌, ◌++◌, length, codes, decimal}
 use Rattle.fit_frame.specs.declared.reason.Reason.{Reason}
 use Rattle.fit_frame.specs.ReasonNames.{reason_name}
 use Rattle.fit_record.specs.declared.file.FitFile.{FitFile}
@@ -70,6 +70,12 @@ latest_size [] = 0
 latest_size (header h n ∷ heard) = n
 latest_size (item r ∷ heard) = latest_size heard
 latest_size (file_end ∷ heard) = latest_size heard
+
+-- These are the files that have ended, the bytes of data that the last header states, and the records behind it.
+pub record Counts {A : Type 0} (files size records : ℕ) (heard : List (Event A)) : Type 0 where
+  pub of_files : files ≡ ended_files heard
+  pub of_size : size ≡ latest_size heard
+  pub of_records : records ≡ length (latest_records heard)
 
 -- What `check` writes of an event behind those before it: at the end of a file its line.
 abbrev pub check_line : {A : Type 0} → Lines A

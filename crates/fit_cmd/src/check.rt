@@ -1,45 +1,30 @@
 //! What `check` writes: a line for each file.
-ghost use Rattle.std.specs.Prelude.{◌≡◌, ◌++◌, [], OnOk, length};
-ghost use Rattle.fit_report.specs.Heard.{AreHeard, hear, latest_records};
-ghost use Rattle.fit_cmd.specs.Lines.{check_line, ended_files, file_line, latest_size};
+ghost use Rattle.std.specs.Prelude.{◌≡◌, ◌++◌, ℕ, [], List, OnOk, length};
+ghost use Rattle.std.specs.Global.{Global};
+ghost use Rattle.fit_decode.specs.Events.{Event as Told};
+ghost use Rattle.fit_report.specs.Heard.{AreHeard, hear};
+ghost use Rattle.fit_cmd.specs.Lines.{check_line, file_line, Counts};
 
 use crate::lines::put_numbered;
 use fit_decode::Event;
-use fit_report::{Heard, Report};
+use fit_report::Report;
 use std::alloc::AllocError;
-use std::marker::Model;
 
 /// Writes a line at the end of each file: its number, how many bytes of data its header states, and how many records it has.
-/// Clauses see the events that it has heard, the latest first.
+/// It counts, and keeps nothing else of what it is told.
 #[derive(Drop)]
 pub struct CheckReport {
-    heard: Heard,
     files: u64,
     data_size: u32,
     records: u64,
 }
 
-impl Model for CheckReport {
-    ghost use Rattle.std.specs.Prelude.{◌≡◌, List, length};
-    ghost use Rattle.std.specs.Global.{Global};
-    ghost use Rattle.fit_decode.specs.Events.{Event as Told};
-    ghost use Rattle.fit_report.specs.Heard.{latest_records};
-    ghost use Rattle.fit_cmd.specs.Lines.{ended_files, latest_size};
-
-    ghost Value = { List (Told Global) };
-
-    ghost view = { λ r. r.heard };
-
-    ghost invariant = { λ r. (r.files ≡ ended_files r.heard) × (r.data_size ≡ latest_size r.heard) × (r.records ≡ length (latest_records r.heard)) };
-}
-
 impl CheckReport {
     /// It has heard nothing.
     pub fn new() -> Self
-        ensures { result ≡ [] }
+        ensures { Counts {A = Global} result.files result.data_size result.records [] }
     {
         CheckReport {
-            heard: Heard::new(),
             files: 0,
             data_size: 0,
             records: 0,
@@ -48,8 +33,8 @@ impl CheckReport {
 
     /// Counts an event.
     fn note(&mut self, event: &Event)
-        requires { AreHeard (hear event.now self.old) }
-        ensures { self.new ≡ hear event.now self.old }
+        requires { (heard : List (Told Global)) × Counts self.old.files self.old.data_size self.old.records heard × AreHeard (hear event.now heard) }
+        ensures { (heard : List (Told Global)) → Counts self.old.files self.old.data_size self.old.records heard → Counts self.new.files self.new.data_size self.new.records (hear event.now heard) }
     {
         match event {
             Event::More => {}
@@ -60,12 +45,11 @@ impl CheckReport {
             Event::Item(_) => self.records += 1,
             Event::FileEnd => self.files += 1,
         }
-        self.heard.add(event);
     }
 
     /// Puts the line of the file that has just ended.
     fn put_line(&self, text: &mut Vec<u8>) -> Result<(), AllocError>
-        ensures { OnOk result (text.new.items ≡ text.old.items ++ file_line (ended_files self.now) (latest_size self.now) (length (latest_records self.now))) }
+        ensures { OnOk result (text.new.items ≡ text.old.items ++ file_line self.now.files self.now.data_size self.now.records) }
     {
         put_numbered(text, "file ", self.files, ": ")?;
         put_numbered(text, "", u64::from(self.data_size), " data bytes, ")?;
@@ -75,9 +59,13 @@ impl CheckReport {
 }
 
 impl Report for CheckReport {
-    ghost heard = { λ r. r };
+    ghost use Rattle.std.specs.Prelude.{true};
+
+    ghost has_heard = { λ r heard. Counts r.files r.data_size r.records heard };
 
     ghost line = { check_line };
+
+    ghost passes = { true };
 
     fn tell(&mut self, event: &Event, text: &mut Vec<u8>) -> Result<(), AllocError> {
         self.note(event);
@@ -87,5 +75,13 @@ impl Report for CheckReport {
             Event::Header(..) => Ok(()),
             Event::Item(_) => Ok(()),
         }
+    }
+
+    fn passes(&self) -> bool {
+        true
+    }
+
+    fn pass(&mut self, count: u64) {
+        self.records += count;
     }
 }

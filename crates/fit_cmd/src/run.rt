@@ -98,7 +98,7 @@ fn run_report<S: Source, K: Sink, E: Sink, R: Report>(
     faults: &mut E,
     reporter: &mut R,
 ) -> u8
-    requires { R.heard reporter.old ≡ [] }
+    requires { R.has_heard reporter.old [] }
     ensures runs { Runs R.line
         (record { before = S.remaining source.old; after = S.remaining source.new; failed = S.has_failed source.new })
         (record { before = K.contents output.old; after = K.contents output.new; failed = K.has_failed output.new })

@@ -48,15 +48,15 @@ module _ (first : List ℕ) (line : Lines Global) (rows : RowsOf) (text : HasTex
         omega (arith, counted),
       )
 
-  pub converted : (source : Channel) (heard : List (Event Global)) (result : Result (Unit {0}) ReportFault) → Appends start mid first → Reports line source (channel mid end bad) heard result
+  pub converted : (source : Channel) (result : Result (Unit {0}) ReportFault) → Appends start mid first → Reports line source (channel mid end bad) result
       → Converts rows source (channel start end bad) (csv_answer result (length first))
-  converted source heard (Ok u) put (taken, eaten, (ended, chain, tells)) = (taken, eaten, (ended, chain, writes taken heard put tells))
-  converted source heard (Err (report.Decode (faults.Refused place reason))) put (taken, eaten, (why, tells)) = (taken, eaten, (why, writes (take place taken) heard put tells))
-  converted source heard (Err (report.Decode (faults.Truncated place))) put (taken, eaten, (why, tells)) = (taken, eaten, (why, writes taken heard put tells))
-  converted source heard (Err (report.Decode (faults.NoMemory used))) put (taken, eaten, never) = absurd never
-  converted source heard (Err (report.Decode (faults.Read place))) put (taken, eaten, (why, tells)) = (taken, eaten, (why, writes taken heard put tells))
-  converted source heard (Err report.NoMemory) put (taken, eaten, (k, told, tells)) = (taken, eaten, (k, writes (take k taken) told put tells))
-  converted source heard (Err (report.Write written)) put (taken, eaten, (k, told, are, part)) = (taken, eaten, (k, reverse told, are, fails told written put part))
+  converted source (Ok u) put (taken, heard, eaten, (ended, chain, tells)) = (taken, eaten, (ended, chain, writes taken heard put tells))
+  converted source (Err (report.Decode (faults.Refused place reason))) put (taken, heard, eaten, (why, tells)) = (taken, eaten, (why, writes (take place taken) heard put tells))
+  converted source (Err (report.Decode (faults.Truncated place))) put (taken, heard, eaten, (why, tells)) = (taken, eaten, (why, writes taken heard put tells))
+  converted source (Err (report.Decode (faults.NoMemory used))) put (taken, heard, eaten, never) = absurd never
+  converted source (Err (report.Decode (faults.Read place))) put (taken, heard, eaten, (why, tells)) = (taken, eaten, (why, writes taken heard put tells))
+  converted source (Err report.NoMemory) put (taken, heard, eaten, (k, told, tells)) = (taken, eaten, (k, writes (take k taken) told put tells))
+  converted source (Err (report.Write written)) put (taken, heard, eaten, (k, told, are, part)) = (taken, eaten, (k, reverse told, are, fails told written put part))
 
   -- of a chain
   pub chain_converted : (source : Channel) (fs : List (FitFile Global)) (result : Result (Unit {0}) ReportFault) → Appends start mid first → ReportsChain line fs source (channel mid end bad) result

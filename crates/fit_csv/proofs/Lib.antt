@@ -36,3 +36,6 @@ mod InRange
 mod SevenRows
 mod FromChain
 mod Unwritten
+pub mod FramedRows
+pub mod PlainRows
+pub mod TableNumbers

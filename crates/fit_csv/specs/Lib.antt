@@ -14,3 +14,4 @@ pub mod SoundChain
 pub mod Laws
 pub mod ShowLines
 pub mod Showing
+pub mod Frames

@@ -1,5 +1,5 @@
 -- How the cells of the table are put together. No public contract names these.
-use Rattle.std.specs.Prelude.{ℕ, List, [], ◌∷◌, option_map, Option, None, Some, decimal}
+use Rattle.std.specs.Prelude.{ℕ, ◌≤◌, List, [], ◌∷◌, option_map, unwrap_or, IfSome, Option, None, Some, decimal}
 use Rattle.std.specs.Option.{option_map_or}
 use Rattle.fit_record.specs.declared.message.Record.{Record}
 use Rattle.fit_record.specs.declared.message.Record.TheVariants.{Define, Values as Data}
@@ -17,11 +17,30 @@ use Rattle.fit_csv.specs.Table.{files_behind, table_event_rows, table_row, table
 abbrev pub shown_text : Option Fixed → Option Cell
 shown_text value = option_map (λ v. fixed_text v.value v.decimals) value
 
+-- the cell of a number, empty where there is none
+abbrev pub number_cell : Option Fixed → Cell
+number_cell value = unwrap_or (shown_text value) []
+
 -- the cells of a row
 abbrev pub cells_of : TableRow → Row
 cells_of r =
-    decimal r.file ∷ r.timestamp.bytes ∷ r.position_lat.bytes ∷ r.position_long.bytes ∷ r.altitude.bytes ∷ r.distance.bytes ∷ r.speed.bytes
-    ∷ r.heart_rate.bytes ∷ r.cadence.bytes ∷ r.power.bytes ∷ r.temperature.bytes ∷ []
+    decimal r.file ∷ r.timestamp.bytes ∷ number_cell r.position_lat ∷ number_cell r.position_long ∷ number_cell r.altitude ∷ number_cell r.distance ∷ number_cell r.speed
+    ∷ number_cell r.heart_rate ∷ number_cell r.cadence ∷ number_cell r.power ∷ number_cell r.temperature ∷ []
+
+abbrev pub FewDecimals : Option Fixed → Type 0
+FewDecimals value = IfSome value (λ v. v.decimals ≤ 8)
+
+-- no number of a row has more than eight decimals
+pub record HasFewDecimals (r : TableRow) : Type 0 where
+  pub position_lat : FewDecimals r.position_lat
+  pub position_long : FewDecimals r.position_long
+  pub altitude : FewDecimals r.altitude
+  pub distance : FewDecimals r.distance
+  pub speed : FewDecimals r.speed
+  pub heart_rate : FewDecimals r.heart_rate
+  pub cadence : FewDecimals r.cadence
+  pub power : FewDecimals r.power
+  pub temperature : FewDecimals r.temperature
 
 -- the row of a record message in the file of this number, or none
 abbrev pub rows_in : {A : Type 0} → ℕ → Option (Message A) → List Row

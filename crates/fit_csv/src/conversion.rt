@@ -43,7 +43,7 @@ pub(crate) fn convert<S: Source, K: Sink, R: Report>(
     first: &[u8],
     reporter: &mut R,
 ) -> Result<(), CsvFault>
-    requires silent { R.heard reporter.old ≡ [] }
+    requires silent { R.has_heard reporter.old [] }
     requires short { length first.now < 1000 }
     ensures converts { (rows : RowsOf) → HasText first.now R.line rows → Converts rows
         (record { before = S.remaining source.old; after = S.remaining source.new; failed = S.has_failed source.new })

@@ -1,12 +1,11 @@
 //! The rows of definition messages.
 ghost use Rattle.std.specs.Prelude.{◌≡◌, ◌∷◌, [], OnOk, decimal, map};
 ghost use Rattle.fit_record.specs.Environment.{dev_defs};
-ghost use Rattle.fit_cells.specs.Rows.{HasAdded, IsBetweenRows};
+ghost use Rattle.fit_cells.specs.Rows.{HasRows};
 ghost use Rattle.fit_csv.specs.ChainRows as rows;
 
-use csv::Writer;
 use fit_base::{Entries, Order};
-use fit_cells::put_row;
+use fit_cells::put_row_text;
 use fit_record::{DevDef, FieldDef, MessageDef};
 use itoa::Buffer;
 use std::alloc::AllocError;
@@ -32,9 +31,8 @@ fn dev_count<'a>(digits: &'a mut Buffer, dev: &Option<Entries<DevDef>>) -> &'a [
 }
 
 /// Puts the row of a definition.
-fn put_def_row(writer: &mut Writer<Vec<u8>>, definition: &MessageDef) -> Result<(), AllocError>
-    requires { IsBetweenRows writer.old }
-    ensures { OnOk result (HasAdded (rows.def_row definition.now ∷ []) writer.old writer.new) }
+fn put_def_row(text: &mut Vec<u8>, definition: &MessageDef) -> Result<(), AllocError>
+    ensures { OnOk result (HasRows (rows.def_row definition.now ∷ []) text.old text.new) }
 {
     let mut locals = Buffer::new();
     let mut reserved = Buffer::new();
@@ -50,19 +48,18 @@ fn put_def_row(writer: &mut Writer<Vec<u8>>, definition: &MessageDef) -> Result<
         fields.format(definition.fields.len()).as_bytes(),
         dev_count(&mut dev, &definition.dev),
     ];
-    put_row(writer, cells.as_slice())
+    put_row_text(text, cells.as_slice())
 }
 
 /// Puts the row of three numbers behind a word.
 fn put_numbers(
-    writer: &mut Writer<Vec<u8>>,
+    text: &mut Vec<u8>,
     kind: &[u8],
     number: u8,
     size: u8,
     last: u8,
 ) -> Result<(), AllocError>
-    requires { IsBetweenRows writer.old }
-    ensures { OnOk result (HasAdded (rows.row kind.now (decimal number) (decimal size) (decimal last) [] [] [] ∷ []) writer.old writer.new) }
+    ensures { OnOk result (HasRows (rows.row kind.now (decimal number) (decimal size) (decimal last) [] [] [] ∷ []) text.old text.new) }
 {
     let mut numbers = Buffer::new();
     let mut sizes = Buffer::new();
@@ -76,27 +73,25 @@ fn put_numbers(
         b"".as_slice(),
         b"".as_slice(),
     ];
-    put_row(writer, cells.as_slice())
+    put_row_text(text, cells.as_slice())
 }
 
 /// Puts the rows of the fields of a definition.
-fn put_field_defs(writer: &mut Writer<Vec<u8>>, fields: &[FieldDef]) -> Result<(), AllocError>
-    requires { IsBetweenRows writer.old }
-    ensures { OnOk result (HasAdded (map rows.field_def_row fields.now) writer.old writer.new) }
+fn put_field_defs(text: &mut Vec<u8>, fields: &[FieldDef]) -> Result<(), AllocError>
+    ensures { OnOk result (HasRows (map rows.field_def_row fields.now) text.old text.new) }
 {
     for field in fields {
-        put_numbers(writer, b"fdef", field.number, field.size, field.code)?;
+        put_numbers(text, b"fdef", field.number, field.size, field.code)?;
     }
     Ok(())
 }
 
 /// Puts the rows of the developer fields of a definition.
-fn put_dev_defs(writer: &mut Writer<Vec<u8>>, fields: &[DevDef]) -> Result<(), AllocError>
-    requires { IsBetweenRows writer.old }
-    ensures { OnOk result (HasAdded (map rows.dev_def_row fields.now) writer.old writer.new) }
+fn put_dev_defs(text: &mut Vec<u8>, fields: &[DevDef]) -> Result<(), AllocError>
+    ensures { OnOk result (HasRows (map rows.dev_def_row fields.now) text.old text.new) }
 {
     for field in fields {
-        put_numbers(writer, b"ddef", field.number, field.size, field.index)?;
+        put_numbers(text, b"ddef", field.number, field.size, field.index)?;
     }
     Ok(())
 }
@@ -112,15 +107,11 @@ pub(crate) fn dev_slice(dev: &Option<Entries<DevDef>>) -> &[DevDef]
 }
 
 /// Puts the rows of a definition message.
-pub(crate) fn put_definition(
-    writer: &mut Writer<Vec<u8>>,
-    definition: &MessageDef,
-) -> Result<(), AllocError>
-    requires { IsBetweenRows writer.old }
-    ensures { OnOk result (HasAdded (rows.definition_rows definition.now) writer.old writer.new) }
+pub(crate) fn put_definition(text: &mut Vec<u8>, definition: &MessageDef) -> Result<(), AllocError>
+    ensures { OnOk result (HasRows (rows.definition_rows definition.now) text.old text.new) }
 {
-    put_def_row(writer, definition)?;
-    put_field_defs(writer, definition.fields.as_slice())?;
-    put_dev_defs(writer, dev_slice(&definition.dev))?;
+    put_def_row(text, definition)?;
+    put_field_defs(text, definition.fields.as_slice())?;
+    put_dev_defs(text, dev_slice(&definition.dev))?;
     Ok(())
 }

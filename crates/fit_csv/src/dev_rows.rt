@@ -4,11 +4,10 @@ ghost use Rattle.fit_base.specs.Fields.{HasShape};
 ghost use Rattle.fit_record.specs.Records.{HaveShape};
 ghost use Rattle.fit_profile.specs.Described.{namings_at};
 ghost use Rattle.fit_cells.specs.Cells.{cell};
-ghost use Rattle.fit_cells.specs.Rows.{HasAdded, IsBetweenRows};
+ghost use Rattle.fit_cells.specs.Rows.{HasRows};
 ghost use Rattle.fit_csv.specs.ChainRows as rows;
 
 use crate::message_rows::put_value;
-use csv::Writer;
 use fit_base::{Code, Items};
 use fit_cells::put_cell;
 use fit_profile::{Label, Stream};
@@ -50,7 +49,7 @@ pub(crate) fn dev_unit(stream: &Stream, local: u8, place: u8) -> &str
 
 /// Puts the row of a developer field by its described code, its label and its unit.
 fn put_dev_field<'a>(
-    writer: &mut Writer<Vec<u8>>,
+    text: &mut Vec<u8>,
     value: &'a mut Vec<u8>,
     field: &DevDef,
     code: u8,
@@ -58,21 +57,20 @@ fn put_dev_field<'a>(
     label: &'a str,
     unit: &'a str,
 ) -> Result<(), AllocError>
-    requires between { IsBetweenRows writer.old }
-    requires shape { HasShape code field.now.size items.now }
-    ensures { OnOk result (HasAdded (rows.row (codes "dev") label.now (cell code None items.now) unit.now [] [] [] ∷ []) writer.old writer.new) }
+    requires { HasShape code field.now.size items.now }
+    ensures { OnOk result (HasRows (rows.row (codes "dev") label.now (cell code None items.now) unit.now [] [] [] ∷ []) text.old text.new) }
 {
     value.clear();
     put_cell(value, Code(code), None, items)?;
     let name = label.as_bytes();
     let unit = unit.as_bytes();
-    put_value(writer, b"dev", name, value.as_slice(), unit)
+    put_value(text, b"dev", name, value.as_slice(), unit)
 }
 
 /// Puts the rows of the developer fields of a message of this local message type, with the names and units that they have after
 /// the records of a stream.
 pub(crate) fn put_dev_fields(
-    writer: &mut Writer<Vec<u8>>,
+    text: &mut Vec<u8>,
     value: &mut Vec<u8>,
     stream: &Stream,
     local: u8,
@@ -80,19 +78,18 @@ pub(crate) fn put_dev_fields(
     dev_codes: &[u8],
     items: &[Items],
 ) -> Result<(), AllocError>
-    requires between { IsBetweenRows writer.old }
     requires few { length fields.now < 256 }
     requires codes { length dev_codes.now ≡ length fields.now }
     requires namings { length (namings_at stream.now local) ≡ length fields.now }
     requires shapes { HaveShape (zip dev_codes.now (map (λ f. f.size) fields.now)) items.now }
-    ensures { OnOk result (HasAdded (rows.dev_rows fields.now dev_codes.now (namings_at stream.now local) items.now) writer.old writer.new) }
+    ensures { OnOk result (HasRows (rows.dev_rows fields.now dev_codes.now (namings_at stream.now local) items.now) text.old text.new) }
 {
     for (place, field) in fields.iter().enumerate() {
         let numbered = numbered_label(field);
         let label = dev_name(stream, local, place as u8, &numbered);
         let unit = dev_unit(stream, local, place as u8);
         let code = dev_codes[place];
-        put_dev_field(writer, value, field, code, &items[place], label, unit)?;
+        put_dev_field(text, value, field, code, &items[place], label, unit)?;
     }
     Ok(())
 }

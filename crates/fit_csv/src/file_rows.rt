@@ -1,10 +1,9 @@
 //! The rows in which a file begins and ends.
 ghost use Rattle.std.specs.Prelude.{◌≡◌, ◌∷◌, [], OnOk};
-ghost use Rattle.fit_cells.specs.Rows.{HasAdded, IsBetweenRows};
+ghost use Rattle.fit_cells.specs.Rows.{HasRows};
 ghost use Rattle.fit_csv.specs.ChainRows as rows;
 
-use csv::Writer;
-use fit_cells::{put_digits, put_row};
+use fit_cells::{put_digits, put_row_text};
 use fit_frame::{Header, HeaderSum};
 use itoa::Buffer;
 use std::alloc::AllocError;
@@ -22,15 +21,14 @@ pub(crate) fn sum_word(sum: HeaderSum) -> &'static str
 
 /// Puts the row of a header by the word of its sum and the cell of its bytes from place 14 on.
 fn put_header_cells<'a>(
-    writer: &mut Writer<Vec<u8>>,
+    text: &mut Vec<u8>,
     header: &Header,
     word: &'a [u8],
     rest: &'a [u8],
 ) -> Result<(), AllocError>
-    requires between { IsBetweenRows writer.old }
     requires word { word.now ≡ rows.sum_word header.now.sum }
     requires rest { rest.now ≡ rows.rest_text header.now.rest.items }
-    ensures { OnOk result (HasAdded (rows.file_row header.now ∷ []) writer.old writer.new) }
+    ensures { OnOk result (HasRows (rows.file_row header.now ∷ []) text.old text.new) }
 {
     let mut sizes = Buffer::new();
     let mut protocols = Buffer::new();
@@ -44,21 +42,20 @@ fn put_header_cells<'a>(
         rest,
         b"".as_slice(),
     ];
-    put_row(writer, cells.as_slice())
+    put_row_text(text, cells.as_slice())
 }
 
 /// Puts the row of a header.
 pub(crate) fn put_file_row(
-    writer: &mut Writer<Vec<u8>>,
+    text: &mut Vec<u8>,
     value: &mut Vec<u8>,
     header: &Header,
 ) -> Result<(), AllocError>
-    requires { IsBetweenRows writer.old }
-    ensures { OnOk result (HasAdded (rows.file_row header.now ∷ []) writer.old writer.new) }
+    ensures { OnOk result (HasRows (rows.file_row header.now ∷ []) text.old text.new) }
 {
     put_rest(value, header.rest.as_slice())?;
     let word = sum_word(header.sum).as_bytes();
-    put_header_cells(writer, header, word, value.as_slice())
+    put_header_cells(text, header, word, value.as_slice())
 }
 
 /// Makes a cell of the bytes of a header from place 14 on.
@@ -77,9 +74,8 @@ pub(crate) fn put_rest(value: &mut Vec<u8>, rest: &[u8]) -> Result<(), AllocErro
 }
 
 /// Puts the row that ends a file.
-pub(crate) fn put_end_row(writer: &mut Writer<Vec<u8>>) -> Result<(), AllocError>
-    requires { IsBetweenRows writer.old }
-    ensures { OnOk result (HasAdded (rows.end_row ∷ []) writer.old writer.new) }
+pub(crate) fn put_end_row(text: &mut Vec<u8>) -> Result<(), AllocError>
+    ensures { OnOk result (HasRows (rows.end_row ∷ []) text.old text.new) }
 {
-    put_row(writer, &[b"end", b"", b"", b"", b"", b"", b""])
+    put_row_text(text, &[b"end", b"", b"", b"", b"", b"", b""])
 }

@@ -16,6 +16,7 @@ mod number;
 mod open_definition;
 mod open_file;
 mod open_message;
+mod plain;
 mod text;
 
 use crate::CsvFault;

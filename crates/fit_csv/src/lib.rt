@@ -6,6 +6,7 @@ mod definition_rows;
 mod dev_rows;
 mod fault;
 mod file_rows;
+mod frames;
 mod from;
 pub mod laws;
 mod message_rows;

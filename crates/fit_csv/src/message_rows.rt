@@ -1,6 +1,5 @@
 //! The rows of data messages.
 ghost use Rattle.std.specs.Prelude.{◌≡◌, ◌∷◌, ◌<◌, [], OnOk, Some, option_map, unwrap_or, length, map, zip};
-ghost use Rattle.fit_base.specs.Fields.{HasShape};
 ghost use Rattle.fit_record.specs.Environment.{defined_at};
 ghost use Rattle.fit_record.specs.Records.{DataFits, Fits, HaveShape};
 ghost use Rattle.fit_record.specs.Sound.{IsSound};
@@ -8,16 +7,16 @@ ghost use Rattle.fit_profile.specs.Looks.{known};
 ghost use Rattle.fit_profile.specs.Names as names;
 ghost use Rattle.fit_profile.specs.Times as times;
 ghost use Rattle.fit_csv.specs.InstantText.{instant_text};
-ghost use Rattle.fit_cells.specs.Rows.{HasAdded, IsBetweenRows};
+ghost use Rattle.fit_cells.specs.Rows.{HasRows};
 ghost use Rattle.fit_csv.specs.ChainRows as rows;
 
 use crate::definition_rows::{dev_slice, put_definition};
 use crate::dev_rows::put_dev_fields;
-use csv::Writer;
-use fit_base::{Code, Items};
-use fit_cells::{put_cell, put_row};
+use crate::frames::Frames;
+use fit_base::Items;
+use fit_cells::put_row_text;
 use fit_profile::laws::instant_has_one_text;
-use fit_profile::{Info, Label, Stream, field_info, field_label, message_label, utc_text};
+use fit_profile::{Info, Label, Stream, message_label, utc_text};
 use fit_record::{Defined, FieldDef, Record, Values};
 use itoa::Buffer;
 use std::alloc::AllocError;
@@ -62,13 +61,12 @@ pub(crate) fn unit_text(info: Option<Info>) -> &'static str
 
 /// Puts the row with which a data message begins, by the time of its header.
 pub(crate) fn put_data_row(
-    writer: &mut Writer<Vec<u8>>,
+    text: &mut Vec<u8>,
     values: &Values,
     global: u16,
     time: Option<u32>,
 ) -> Result<(), AllocError>
-    requires { IsBetweenRows writer.old }
-    ensures { OnOk result (HasAdded (rows.data_row values.now global time ∷ []) writer.old writer.new) }
+    ensures { OnOk result (HasRows (rows.data_row values.now global time ∷ []) text.old text.new) }
 {
     let mut locals = Buffer::new();
     let mut offsets = Buffer::new();
@@ -83,19 +81,18 @@ pub(crate) fn put_data_row(
         b"".as_slice(),
         b"".as_slice(),
     ];
-    put_row(writer, cells.as_slice())
+    put_row_text(text, cells.as_slice())
 }
 
 /// Puts the row of a name, a value and a unit behind a word.
 pub(crate) fn put_value<'a>(
-    writer: &mut Writer<Vec<u8>>,
+    text: &mut Vec<u8>,
     kind: &'a [u8],
     name: &'a [u8],
     value: &'a [u8],
     unit: &'a [u8],
 ) -> Result<(), AllocError>
-    requires { IsBetweenRows writer.old }
-    ensures { OnOk result (HasAdded (rows.row kind.now name.now value.now unit.now [] [] [] ∷ []) writer.old writer.new) }
+    ensures { OnOk result (HasRows (rows.row kind.now name.now value.now unit.now [] [] [] ∷ []) text.old text.new) }
 {
     let cells = [
         kind,
@@ -106,45 +103,24 @@ pub(crate) fn put_value<'a>(
         b"".as_slice(),
         b"".as_slice(),
     ];
-    put_row(writer, cells.as_slice())
-}
-
-/// Puts the row of a field.
-fn put_field(
-    writer: &mut Writer<Vec<u8>>,
-    value: &mut Vec<u8>,
-    global: u16,
-    field: &FieldDef,
-    items: &Items,
-) -> Result<(), AllocError>
-    requires between { IsBetweenRows writer.old }
-    requires shape { HasShape field.now.code field.now.size items.now }
-    ensures { OnOk result (HasAdded (rows.field_row global field.now items.now ∷ []) writer.old writer.new) }
-{
-    let info = field_info(global, field.number);
-    value.clear();
-    put_cell(value, Code(field.code), info, items)?;
-    let label = field_label(global, field.number);
-    let name = label.as_str().as_bytes();
-    let unit = unit_text(info).as_bytes();
-    put_value(writer, b"field", name, value.as_slice(), unit)
+    put_row_text(text, cells.as_slice())
 }
 
 /// Puts the rows of the fields of a message.
 pub(crate) fn put_fields(
-    writer: &mut Writer<Vec<u8>>,
+    text: &mut Vec<u8>,
     value: &mut Vec<u8>,
+    frames: &mut Frames,
     global: u16,
     fields: &[FieldDef],
     items: &[Items],
 ) -> Result<(), AllocError>
-    requires between { IsBetweenRows writer.old }
     requires few { length fields.now < 256 }
     requires shapes { HaveShape (map (λ f. (f.code, f.size)) fields.now) items.now }
-    ensures { OnOk result (HasAdded (rows.field_rows global fields.now items.now) writer.old writer.new) }
+    ensures { OnOk result (HasRows (rows.field_rows global fields.now items.now) text.old text.new) }
 {
     for (place, field) in fields.iter().enumerate() {
-        put_field(writer, value, global, field, &items[place])?;
+        frames.put_field(text, value, global, field, &items[place])?;
     }
     Ok(())
 }
@@ -161,25 +137,26 @@ pub(crate) fn header_time(stream: &Stream, offset: Option<u8>) -> Option<u32>
 
 /// Puts the rows of a data message of this definition behind the records of a stream.
 fn put_values(
-    writer: &mut Writer<Vec<u8>>,
+    text: &mut Vec<u8>,
     value: &mut Vec<u8>,
+    frames: &mut Frames,
     stream: &Stream,
     defined: &Defined,
     values: &Values,
 ) -> Result<(), AllocError>
-    requires between { IsBetweenRows writer.old }
     requires place { defined_at (known stream.now) values.now.local ≡ Some defined.now }
     requires sound { IsSound defined.now }
     requires fits { DataFits values.now defined.now }
-    ensures { OnOk result (HasAdded (rows.data_rows stream.now values.now) writer.old writer.new) }
+    ensures { OnOk result (HasRows (rows.data_rows stream.now values.now) text.old text.new) }
 {
     let definition = &defined.definition;
     let time = header_time(stream, values.offset);
-    put_data_row(writer, values, definition.global, time)?;
+    put_data_row(text, values, definition.global, time)?;
     let fields = definition.fields.as_slice();
     put_fields(
-        writer,
+        text,
         value,
+        frames,
         definition.global,
         fields,
         values.fields.as_slice(),
@@ -187,25 +164,25 @@ fn put_values(
     let fields = dev_slice(&definition.dev);
     let codes = defined.dev_codes.as_slice();
     let items = values.dev.as_slice();
-    put_dev_fields(writer, value, stream, values.local, fields, codes, items)?;
+    put_dev_fields(text, value, stream, values.local, fields, codes, items)?;
     Ok(())
 }
 
 /// Puts the rows of a record behind the records of a stream.
 pub(crate) fn put_record(
-    writer: &mut Writer<Vec<u8>>,
+    text: &mut Vec<u8>,
     value: &mut Vec<u8>,
+    frames: &mut Frames,
     stream: &Stream,
     record_: &Record,
 ) -> Result<(), AllocError>
-    requires between { IsBetweenRows writer.old }
     requires fits { Fits (known stream.now) record_.now }
-    ensures { OnOk result (HasAdded (rows.record_rows stream.now record_.now) writer.old writer.new) }
+    ensures { OnOk result (HasRows (rows.record_rows stream.now record_.now) text.old text.new) }
 {
     match record_ {
-        Record::Define(definition) => put_definition(writer, definition),
+        Record::Define(definition) => put_definition(text, definition),
         Record::Values(values) => match stream.env().defined(values.local) {
-            Some(defined) => put_values(writer, value, stream, defined, values),
+            Some(defined) => put_values(text, value, frames, stream, defined, values),
             None => unreachable!(),
         },
     }

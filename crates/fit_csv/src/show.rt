@@ -90,16 +90,32 @@ impl ShowReport {
 }
 
 impl Report for ShowReport {
+    ghost use Rattle.std.specs.Prelude.{false};
+    ghost use Rattle.fit_report.specs.Heard.{line_of};
     ghost use Rattle.fit_csv.specs.ShowLines.{show_line};
 
-    ghost heard = { λ r. r };
+    ghost has_heard = { λ r heard. r ≡ heard };
 
     ghost line = { show_line };
 
-    fn tell(&mut self, event: &Event, text: &mut Vec<u8>) -> Result<(), AllocError> {
+    ghost passes = { false };
+
+    fn tell(&mut self, event: &Event, text: &mut Vec<u8>) -> Result<(), AllocError>
+        requires { AreHeard (hear event.now self.old) }
+        ensures heard { OnOk result (self.new ≡ hear event.now self.old) }
+        ensures text { OnOk result (text.new.items ≡ text.old.items ++ line_of show_line self.old event.now) }
+    {
         heard_records_fit::<Global>();
         looking_back_is_learning::<Global>();
         let time = self.note(event)?;
         put_event(text, self.files, &self.stream, time, event)
+    }
+
+    fn passes(&self) -> bool {
+        false
+    }
+
+    fn pass(&mut self, _count: u64) {
+        unreachable!()
     }
 }

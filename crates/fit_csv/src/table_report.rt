@@ -5,13 +5,11 @@ ghost use Rattle.fit_record.specs.declared.message.Record.{Record};
 ghost use Rattle.fit_record.specs.Records.{Fits};
 ghost use Rattle.fit_profile.specs.Looks.{known};
 ghost use Rattle.fit_profile.specs.Meant.{MessageOf};
-ghost use Rattle.fit_cells.specs.Rows.{IsBetweenRows, csv_text};
+ghost use Rattle.fit_cells.specs.Rows.{csv_text};
 ghost use Rattle.fit_csv.specs.Reporting.{AnswerFits, behind_answer};
 ghost use Rattle.fit_csv.specs.TableCells.{files_behind_answer, rows_in, table_answer_rows, table_record_rows};
 
 use crate::table_rows::put_table_row;
-use csv::Writer;
-use fit_cells::{copy_behind, flushed_len, renew, row_writer};
 use fit_decode::Event;
 use fit_profile::laws::looking_back_is_learning;
 use fit_profile::{Message, Stream};
@@ -35,40 +33,12 @@ fn row_of(message: Option<Message>) -> Option<Message>
     Some(message)
 }
 
-/// Writes the row of a record message, and puts its text in another one.
-fn put_written(
-    writer: &mut Writer<Vec<u8>>,
-    text: &mut Vec<u8>,
-    message: &Message,
-    file: u64,
-) -> Result<(), AllocError>
-    requires { IsBetweenRows writer.old }
-    ensures between { OnOk result (IsBetweenRows writer.new) }
-    ensures text { OnOk result (text.new.items ≡ text.old.items ++ csv_text (rows_in file (Some message.now))) }
-{
-    let start = flushed_len(writer)?;
-    put_table_row(writer, message, file)?;
-    copy_behind(writer, start, text)
-}
-
-/// Puts the text of the row of a record message, where there is one. The writer stays fit for the next row.
-fn put_text(
-    alloc: Global,
-    writer: &mut Writer<Vec<u8>>,
-    text: &mut Vec<u8>,
-    message: &Option<Message>,
-    file: u64,
-) -> Result<(), AllocError>
-    requires { IsBetweenRows writer.old }
-    ensures between { IsBetweenRows writer.new }
-    ensures text { OnOk result (text.new.items ≡ text.old.items ++ csv_text (rows_in file message.now)) }
+/// Puts the text of the row of a record message, where there is one.
+fn put_text(text: &mut Vec<u8>, message: &Option<Message>, file: u64) -> Result<(), AllocError>
+    ensures { OnOk result (text.new.items ≡ text.old.items ++ csv_text (rows_in file message.now)) }
 {
     match message {
-        Some(message) => {
-            let result = put_written(writer, text, message, file);
-            renew(alloc, writer, result.is_err());
-            result
-        }
+        Some(message) => put_table_row(text, message, file),
         None => Ok(()),
     }
 }
@@ -76,39 +46,31 @@ fn put_text(
 /// Takes a record in, and puts the text of its row in the file of this number. Where memory is refused for the record, the stream
 /// stays as it was; the answer within says whether the text was put.
 fn take_record(
-    alloc: Global,
-    writer: &mut Writer<Vec<u8>>,
     text: &mut Vec<u8>,
     stream: &mut Stream,
     file: u64,
     record_: &Record,
 ) -> Result<Result<(), AllocError>, AllocError>
-    requires between { IsBetweenRows writer.old }
-    requires fits { Fits (known stream.old) record_.now }
-    ensures between { IsBetweenRows writer.new }
+    requires { Fits (known stream.old) record_.now }
     ensures text { IfOk result (λ put. OnOk put (text.new.items ≡ text.old.items ++ csv_text (table_record_rows file stream.old record_.now))) }
     ensures ok { OnOk result (stream.new ≡ record_.now ∷ stream.old) }
     ensures err { OnErr result (stream.new ≡ stream.old) }
 {
     let message = row_of(stream.push(record_)?);
-    Ok(put_text(alloc, writer, text, &message, file))
+    Ok(put_text(text, &message, file))
 }
 
 /// Takes an event in, and puts the text of its row. A header begins a file. Where memory is refused for the event, stream and files
 /// stay as they were; the answer within says whether the text was put.
 #[tactic(auto, using(fit_cells::proofs::AddedRows::text_none))]
 fn hear(
-    alloc: Global,
-    writer: &mut Writer<Vec<u8>>,
     text: &mut Vec<u8>,
     stream: &mut Stream,
     files: &mut u64,
     event: &Event,
 ) -> Result<Result<(), AllocError>, AllocError>
-    requires between { IsBetweenRows writer.old }
     requires fits { AnswerFits stream.old event.now }
     requires few { files.old < 2 ^ 60 }
-    ensures between { IsBetweenRows writer.new }
     ensures text { IfOk result (λ put. OnOk put (text.new.items ≡ text.old.items ++ csv_text (table_answer_rows files.old stream.old event.now))) }
     ensures stream { OnOk result (stream.new ≡ behind_answer stream.old event.now) }
     ensures files { OnOk result (files.new ≡ files_behind_answer files.old event.now) }
@@ -121,7 +83,7 @@ fn hear(
             *files += 1;
             Ok(Ok(()))
         }
-        Event::Item(record_) => take_record(alloc, writer, text, stream, *files, record_),
+        Event::Item(record_) => take_record(text, stream, *files, record_),
         Event::More | Event::FileEnd => Ok(Ok(())),
     }
 }
@@ -132,8 +94,6 @@ pub(crate) struct TableReport {
     stream: Stream,
     /// How many files have begun.
     files: u64,
-    writer: Writer<Vec<u8>>,
-    alloc: Global,
     heard: Heard,
 }
 
@@ -142,14 +102,13 @@ impl Model for TableReport {
     ghost use Rattle.std.specs.Global.{Global};
     ghost use Rattle.fit_decode.specs.Events.{Event as Told};
     ghost use Rattle.fit_report.specs.Heard.{latest_records};
-    ghost use Rattle.fit_cells.specs.Rows.{IsBetweenRows};
     ghost use Rattle.fit_csv.specs.Table.{files_heard};
 
     ghost Value = { List (Told Global) };
 
     ghost view = { λ r. r.heard };
 
-    ghost invariant = { λ r. (r.stream ≡ latest_records r.heard) × (r.files ≡ files_heard r.heard) × IsBetweenRows r.writer };
+    ghost invariant = { λ r. (r.stream ≡ latest_records r.heard) × (r.files ≡ files_heard r.heard) };
 }
 
 impl TableReport {
@@ -160,33 +119,40 @@ impl TableReport {
         TableReport {
             stream: Stream::new(alloc),
             files: 0,
-            writer: row_writer(Vec::new(alloc)),
-            alloc,
             heard: Heard::new(),
         }
     }
 }
 
 impl Report for TableReport {
+    ghost use Rattle.std.specs.Prelude.{false};
+    ghost use Rattle.fit_report.specs.Heard.{AreHeard, hear, line_of};
     ghost use Rattle.fit_csv.specs.Conversions.{table_text};
 
-    ghost heard = { λ r. r };
+    ghost has_heard = { λ r heard. r ≡ heard };
 
     ghost line = { table_text };
 
-    fn tell(&mut self, event: &Event, text: &mut Vec<u8>) -> Result<(), AllocError> {
+    ghost passes = { false };
+
+    fn tell(&mut self, event: &Event, text: &mut Vec<u8>) -> Result<(), AllocError>
+        requires { AreHeard (hear event.now self.old) }
+        ensures heard { OnOk result (self.new ≡ hear event.now self.old) }
+        ensures text { OnOk result (text.new.items ≡ text.old.items ++ line_of table_text self.old event.now) }
+    {
         heard_records_fit::<Global>();
         heard_are_few::<Global>();
         looking_back_is_learning::<Global>();
-        let put = hear(
-            self.alloc,
-            &mut self.writer,
-            text,
-            &mut self.stream,
-            &mut self.files,
-            event,
-        )?;
+        let put = hear(text, &mut self.stream, &mut self.files, event)?;
         self.heard.add(event);
         put
+    }
+
+    fn passes(&self) -> bool {
+        false
+    }
+
+    fn pass(&mut self, _count: u64) {
+        unreachable!()
     }
 }

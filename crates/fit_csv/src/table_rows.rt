@@ -1,50 +1,47 @@
 //! The rows of the table.
-ghost use Rattle.std.specs.Prelude.{◌≡◌, ◌≤◌, ◌∷◌, IfSome, OnOk, [], option_and_then, option_map, pos, slice_get, unwrap_or};
+ghost use Rattle.std.specs.Prelude.{◌≡◌, ◌≤◌, ◌++◌, ◌∷◌, IfSome, OnOk, [], decimal, option_and_then, option_map, pos, slice_get, unwrap_or};
+ghost use Rattle.csv.specs.Writing.{default_writer, fields_text};
 ghost use Rattle.fit_record.specs.Faults.{or_else};
 ghost use Rattle.fit_profile.specs.Meant.{shown};
 ghost use Rattle.fit_profile.specs.Values as values;
 ghost use Rattle.fit_csv.specs.Degrees.{degrees_of};
 ghost use Rattle.fit_csv.specs.Table as table;
-ghost use Rattle.fit_cells.specs.Rows.{HasAdded, IsBetweenRows};
-ghost use Rattle.fit_csv.specs.TableCells.{cells_of, shown_text};
+ghost use Rattle.fit_cells.specs.Rows.{HasRows};
+ghost use Rattle.fit_csv.specs.TableCells.{HasFewDecimals, cells_of, shown_text};
 
 use crate::message_rows::time_text;
-use arrayvec::ArrayString;
-use csv::Writer;
 use fit_base::Items;
-use fit_cells::put_row;
+use fit_cells::put_next;
 use fit_profile::laws::degrees_are_one;
-use fit_profile::{Fixed, Label, Message, degrees};
-use itoa::Buffer;
+use fit_profile::{Fixed, Label, Message, degrees, put_whole};
 use std::alloc::AllocError;
 
-/// The text of a number, or an empty one.
-type Cell = ArrayString<48>;
-
-/// The cells of a row of the table.
+/// The numbers of a row of the table.
 #[derive(Drop)]
 struct TableRow {
     file: u64,
     timestamp: Label,
-    position_lat: Cell,
-    position_long: Cell,
-    altitude: Cell,
-    distance: Cell,
-    speed: Cell,
-    heart_rate: Cell,
-    cadence: Cell,
-    power: Cell,
-    temperature: Cell,
+    position_lat: Option<Fixed>,
+    position_long: Option<Fixed>,
+    altitude: Option<Fixed>,
+    distance: Option<Fixed>,
+    speed: Option<Fixed>,
+    heart_rate: Option<Fixed>,
+    cadence: Option<Fixed>,
+    power: Option<Fixed>,
+    temperature: Option<Fixed>,
 }
 
-/// The cell of a number, which is empty where there is none.
-fn cell(value: Option<Fixed>) -> Cell
-    requires { IfSome value (λ v. v.decimals ≤ 8) }
-    ensures { result.bytes ≡ unwrap_or (shown_text value) [] }
+/// Puts the cell of a number that isn't the first of its row behind a text. It is empty where there is no number.
+#[tactic(auto, using(crate::proofs::TableNumbers::number_cell, crate::proofs::TableNumbers::empty_cell))]
+fn put_number(text: &mut Vec<u8>, value: &Option<Fixed>) -> Result<(), AllocError>
+    requires { IfSome value.now (λ v. v.decimals ≤ 8) }
+    ensures { OnOk result (text.new.items ≡ text.old.items ++ fields_text default_writer (unwrap_or (shown_text value.now) [] ∷ [])) }
 {
+    text.push(b',')?;
     match value {
-        Some(value) => value.print(),
-        None => Cell::new(),
+        Some(value) => value.put(text),
+        None => Ok(()),
     }
 }
 
@@ -120,57 +117,62 @@ fn position(message: &Message, number: u8) -> Option<Fixed>
 
 /// The row of a record message of a file.
 fn table_row(message: &Message, file: u64) -> TableRow
-    ensures { cells_of result ≡ table.table_row file (shown message.now).definition (shown message.now).values (shown message.now).told }
+    ensures cells { cells_of result ≡ table.table_row file (shown message.now).definition (shown message.now).values (shown message.now).told }
+    ensures few { HasFewDecimals result }
 {
     TableRow {
         file,
         timestamp: time_text(message.time()),
-        position_lat: cell(position(message, 0)),
-        position_long: cell(position(message, 1)),
-        altitude: cell(either(value(message, 78), value(message, 2))),
-        distance: cell(either(value(message, 5), distance(message))),
-        speed: cell(either(
+        position_lat: position(message, 0),
+        position_long: position(message, 1),
+        altitude: either(value(message, 78), value(message, 2)),
+        distance: either(value(message, 5), distance(message)),
+        speed: either(
             value(message, 73),
             either(value(message, 6), speed(message)),
-        )),
-        heart_rate: cell(value(message, 3)),
-        cadence: cell(value(message, 4)),
-        power: cell(value(message, 7)),
-        temperature: cell(value(message, 13)),
+        ),
+        heart_rate: value(message, 3),
+        cadence: value(message, 4),
+        power: value(message, 7),
+        temperature: value(message, 13),
     }
 }
 
-/// Writes a row.
-fn put_cells(writer: &mut Writer<Vec<u8>>, row: &TableRow) -> Result<(), AllocError>
-    requires { IsBetweenRows writer.old }
-    ensures { OnOk result (HasAdded (cells_of row.now ∷ []) writer.old writer.new) }
+/// Puts the first two cells of a row behind a text.
+fn put_first(text: &mut Vec<u8>, row: &TableRow) -> Result<(), AllocError>
+    ensures { OnOk result (text.new.items ≡ text.old.items ++ (decimal row.now.file ++ fields_text default_writer (row.now.timestamp.bytes ∷ []))) }
 {
-    let mut files = Buffer::new();
-    let cells = [
-        files.format(row.file).as_bytes(),
-        row.timestamp.as_str().as_bytes(),
-        row.position_lat.as_str().as_bytes(),
-        row.position_long.as_str().as_bytes(),
-        row.altitude.as_str().as_bytes(),
-        row.distance.as_str().as_bytes(),
-        row.speed.as_str().as_bytes(),
-        row.heart_rate.as_str().as_bytes(),
-        row.cadence.as_str().as_bytes(),
-        row.power.as_str().as_bytes(),
-        row.temperature.as_str().as_bytes(),
-    ];
-    put_row(writer, cells.as_slice())
+    put_whole(text, row.file)?;
+    put_next(text, row.timestamp.as_str().as_bytes())
 }
 
-/// Writes the row of a record message of a file.
+/// Puts a row behind a text.
+fn put_cells(text: &mut Vec<u8>, row: &TableRow) -> Result<(), AllocError>
+    requires { HasFewDecimals row.now }
+    ensures { OnOk result (HasRows (cells_of row.now ∷ []) text.old text.new) }
+{
+    put_first(text, row)?;
+    put_number(text, &row.position_lat)?;
+    put_number(text, &row.position_long)?;
+    put_number(text, &row.altitude)?;
+    put_number(text, &row.distance)?;
+    put_number(text, &row.speed)?;
+    put_number(text, &row.heart_rate)?;
+    put_number(text, &row.cadence)?;
+    put_number(text, &row.power)?;
+    put_number(text, &row.temperature)?;
+    text.push(b'\n')?;
+    Ok(())
+}
+
+/// Puts the row of a record message of a file behind a text.
 pub(crate) fn put_table_row(
-    writer: &mut Writer<Vec<u8>>,
+    text: &mut Vec<u8>,
     message: &Message,
     file: u64,
 ) -> Result<(), AllocError>
-    requires { IsBetweenRows writer.old }
-    ensures { OnOk result (HasAdded (table.table_row file (shown message.now).definition (shown message.now).values (shown message.now).told ∷ []) writer.old writer.new) }
+    ensures { OnOk result (HasRows (table.table_row file (shown message.now).definition (shown message.now).values (shown message.now).told ∷ []) text.old text.new) }
 {
     let row = table_row(message, file);
-    put_cells(writer, &row)
+    put_cells(text, &row)
 }

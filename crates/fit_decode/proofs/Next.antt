@@ -19,7 +19,7 @@ use Rattle.fit_decode.proofs.OneReason.{one_list_of_events}
 use Rattle.fit_decode.proofs.Whole.{NoHeader, unfinished, NoRecord, partial, partial_nothing}
 
 -- the same files, and more of the next one
-more_of : {A : Type 0} (fs : List (FitFile A)) (g k : Progress A) (bytes y : List ℕ) → HasCome fs g bytes → IsUnfinished k → progress_bytes k ≡ progress_bytes g ++ y → HasCome fs k (bytes ++ y)
+pub more_of : {A : Type 0} (fs : List (FitFile A)) (g k : Progress A) (bytes y : List ℕ) → HasCome fs g bytes → IsUnfinished k → progress_bytes k ≡ progress_bytes g ++ y → HasCome fs k (bytes ++ y)
 more_of fs g k bytes y come u spelled = record {
   files = come.files;
   next = u;
@@ -147,3 +147,22 @@ end_told {A} fs h n records part size =
     let f : FitFile A = record { header = h; records = records } in
     append-nil (flat_map file_events (fs ++ f ∷ [])) ∙ flat_map-last fs f ∙ ap (λ m. flat_map file_events fs ++ (header h m ∷ map item records ++ file_end ∷ [])) (sym size)
     ∙ sym (append_assoc (flat_map file_events fs) (header h n ∷ map item records) (file_end ∷ []))
+
+-- ---- some records more
+
+map_item-append : {A : Type 0} (rs ss : List (Record A)) → map item (rs ++ ss) ≡ map item rs ++ map item ss
+map_item-append [] ss = refl
+map_item-append (r ∷ rs) ss = ap (λ es. item r ∷ es) (map_item-append rs ss)
+
+pub items_told : {A : Type 0} (fs : List (FitFile A)) (h : Header) (n : ℕ) (records rs : List (Record A)) (part other : List ℕ)
+    → events_of fs (at_data h n (records ++ rs) other) ≡ events_of fs (at_data h n records part) ++ map item rs
+unfolding events_of
+items_told fs h n records rs part other =
+    ap (λ es. flat_map file_events fs ++ header h n ∷ es) (map_item-append records rs) ∙ sym (append_assoc (flat_map file_events fs) (header h n ∷ map item records) (map item rs))
+
+pub all_told : {A : Type 0} (fs gs : List (FitFile A)) (g k : Progress A) (p q : List ℕ) (xs : List (Event A)) → HasCome fs g p → HasCome gs k q → events_of gs k ≡ events_of fs g ++ xs
+    → (events : List (Event A)) → AreEvents p events → AreEvents q (events ++ xs)
+unfolding events_of
+all_told fs gs g k p q xs come next more events are =
+    let one = one_list_of_events p events (events_of fs g) are (are_events fs g p come) in
+    (gs, k, next, ap (λ es. es ++ xs) one ∙ sym more)

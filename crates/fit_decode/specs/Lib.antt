@@ -10,6 +10,7 @@ pub mod Answers
 pub mod Scans
 pub mod Sections
 pub mod Kept
+pub mod Skims
 pub mod InProgress
 pub mod Invariant
 pub mod Sources

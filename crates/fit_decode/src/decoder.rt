@@ -1,8 +1,9 @@
 //! The resumable decoder.
-ghost use Rattle.std.specs.Prelude.{◌≡◌, ◌↔◌, ℕ, ◌<◌, ◌≤◌, [], length, Some, None, Ok, Err, IfOk, IsErr, IsOk, IsTrue};
+ghost use Rattle.std.specs.Prelude.{◌≡◌, ◌↔◌, ℕ, ◌<◌, ◌≤◌, List, [], ◌++◌, length, map, take, Some, None, Ok, Err, IfOk, IsErr, IsOk, IsTrue};
 ghost use Rattle.fit_frame.specs.declared.reason.Reason.{Reason};
 ghost use Rattle.fit_record.specs.Files.{chain_limit, IsViable};
-ghost use Rattle.fit_decode.specs.Events.{Event as Told};
+ghost use Rattle.fit_record.specs.declared.message.Record.{Record};
+ghost use Rattle.fit_decode.specs.Events.{Event as Told, AreEvents, item};
 ghost use Rattle.fit_decode.specs.Held.{bound_limit, IsHeld};
 ghost use Rattle.fit_decode.specs.Needs.{Needs, NoFileEndsBefore};
 ghost use Rattle.fit_decode.specs.Answers.{told, fed, Quiet, Least, Refuses, Wants, AreChain};
@@ -13,7 +14,7 @@ mod tests;
 use crate::held::in_progress_size;
 use crate::need::bytes_to_come;
 use crate::record::let_go;
-use crate::section::{Section, feed_section};
+use crate::section::{Section, feed_section, skim_data};
 use crate::{Event, Fault, Fed};
 use fit_frame::{HeadReader, Reason};
 use fit_history::History;
@@ -141,6 +142,35 @@ impl<A: Allocator + Copy> Decoder<A> {
                 Stop::NoMemory => Err(Fault::NoMemory { used: used as u64 }),
             },
         }
+    }
+
+    /// Passes over data messages at the front of the piece: they count as fed, and no record is made of them. Answers how many
+    /// bytes were used, and how many messages these are. It takes no memory, and refuses nothing.
+    ///
+    /// It ends before a byte that it can't pass over: one that doesn't begin a data message which is whole in the piece and describes
+    /// no developer field, and one of the last bytes of a data section. Those are for `feed`.
+    pub fn skim(&mut self, piece: &[u8]) -> (usize, u64)
+        ensures within { result.0 ≤ length piece.now }
+        ensures used { self.new ≡ record self.old { bytes = self.old.bytes ++ take result.0 piece.now } }
+        // The bytes used tell so many records, and nothing else.
+        ensures records { (events : List (Told A)) → AreEvents self.old.bytes events → (records : List (Record A)) × (length records ≡ result.1) × AreEvents self.new.bytes (events ++ map item records) }
+        ensures viable { IsViable A chain_limit self.new.bytes }
+    {
+        if self.refusal.is_some() {
+            return (0, 0);
+        }
+        let (skimmed, count) = skim_data(
+            self.section,
+            &self.env,
+            &mut self.sum,
+            &mut self.position,
+            &self.in_progress,
+            piece,
+        );
+        let (taken, _) = piece.split_at(skimmed);
+        self.history.note(taken);
+        self.count += skimmed as u64;
+        (skimmed, count)
     }
 
     /// Whether the bytes fed are a chain of files. Where they only begin one, `Truncated` names the place behind the

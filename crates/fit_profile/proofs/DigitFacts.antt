@@ -10,7 +10,7 @@ use Rattle.std.proofs.lemmas.Bool.{cases_Bool, ne_eqb}
 use Rattle.fit_profile.specs.FixedText.{last_digits, fixed_text, fraction, sign}
 use Rattle.fit_profile.specs.Digits.{digits_in, next_value}
 
-last_digits-none : (n : ℕ) → last_digits 0 n ≡ []
+pub last_digits-none : (n : ℕ) → last_digits 0 n ≡ []
 unfolding last_digits
 last_digits-none n = refl
 
@@ -18,7 +18,7 @@ pub power_above : (k : ℕ) → 0 < 10 ^ k
 power_above zero = omega arith
 power_above (suc k) = let h = power_above k in rw (pow-suc 10 k) (omega (arith, h))
 
-last_digits-end : (k n : ℕ) → last_digits (suc k) n ≡ last_digits k (n / 10) ++ ((48 + n % 10) ∷ [])
+pub last_digits-end : (k n : ℕ) → last_digits (suc k) n ≡ last_digits k (n / 10) ++ ((48 + n % 10) ∷ [])
 unfolding last_digits
 last_digits-end zero n = let e : n / 1 ≡ n = omega arith in rw e refl
 last_digits-end (suc k) n =

@@ -1,6 +1,7 @@
 mod DayFacts
 mod DegreeFacts
 mod DigitFacts
+mod PutFacts
 pub mod FirstField
 mod Kept
 mod KnownFacts

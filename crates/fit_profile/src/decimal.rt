@@ -1,11 +1,13 @@
 //! Numbers with a fixed number of decimals, as text.
-ghost use Rattle.std.specs.Prelude.{◌≡◌, ◌≤◌, ◌++◌, ◌/◌, ◌%◌, ◌^◌, ℤ, Some, IfSome, decimal};
+ghost use Rattle.std.specs.Prelude.{◌≡◌, ◌≤◌, ◌++◌, ◌/◌, ◌%◌, ◌^◌, ℤ, Some, IfSome, OnOk, decimal};
 ghost use Rattle.arrayvec.specs.ArrayString.{array_string_len};
 ghost use Rattle.fit_profile.specs.FixedText.{fixed_text, fraction, sign, IsIn128};
 
 use crate::digits::{is_below, power, push_fraction, size_of, with_sign};
+use crate::put::put_fixed;
 use arrayvec::ArrayString;
 use itoa::Buffer;
+use std::alloc::AllocError;
 
 type Text = ArrayString<48>;
 
@@ -64,6 +66,26 @@ impl Fixed {
             Err(_) => push_large(&mut text, size, self.decimals),
         }
         text
+    }
+
+    /// Puts the text of the number behind another one.
+    pub fn put(&self, text: &mut Vec<u8>) -> Result<(), AllocError>
+        requires { self.now.decimals ≤ 8 }
+        ensures { OnOk result (text.new.items ≡ text.old.items ++ fixed_text self.now.value self.now.decimals) }
+    {
+        match i64::try_from(self.value) {
+            Ok(value) => put_fixed(text, value, self.decimals),
+            Err(_) => text.extend_from_slice(self.print().as_str().as_bytes()),
+        }
+    }
+
+    /// The number that `print` writes as this text, and some number, or None, where it writes none so.
+    pub fn read(text: &str, decimals: u8) -> Option<Fixed>
+        ensures { (v : ℤ) → IsIn128 v → text.now ≡ fixed_text v decimals → result ≡ Some (record { value = v; decimals = decimals }) }
+    {
+        let size = size_of(text.as_bytes())?;
+        let value = with_sign(is_below(text.as_bytes()), size)?;
+        Some(Fixed { value, decimals })
     }
 
     /// The number that `print` writes as this text; None where it writes none so.

@@ -66,16 +66,43 @@ fn with_byte(size: u128, byte: u8) -> Option<u128>
     }
 }
 
+/// The number that a text's digits write behind those of another number, other bytes passed over, where it fits.
+fn size_behind(before: u128, text: &[u8]) -> Option<u128>
+    ensures some { IfSome result (λ n. n ≡ digits_in before text.now) }
+    ensures none { IsNone result → 2 ^ 128 ≤ digits_in before text.now }
+{
+    let mut size = before;
+    for byte in text {
+        size = with_byte(size, *byte)?;
+    }
+    Some(size)
+}
+
+/// A number with one more byte of a text.
+fn next_small(size: u64, byte: u8) -> u64
+    requires { size ≤ 1_000_000_000_000_000_000 }
+    ensures { result ≡ next_value size byte }
+{
+    if byte.is_ascii_digit() {
+        size * 10 + (byte - b'0') as u64
+    } else {
+        size
+    }
+}
+
 /// The number that a text's digits write, other bytes passed over, where it fits.
 pub(crate) fn size_of(text: &[u8]) -> Option<u128>
     ensures some { IfSome result (λ n. n ≡ digits_in 0 text.now) }
     ensures none { IsNone result → 2 ^ 128 ≤ digits_in 0 text.now }
 {
-    let mut size = 0u128;
-    for byte in text {
-        size = with_byte(size, *byte)?;
+    let mut size = 0u64;
+    for (place, byte) in text.iter().enumerate() {
+        if size > 1_000_000_000_000_000_000 {
+            return size_behind(size as u128, &text[place..]);
+        }
+        size = next_small(size, *byte);
     }
-    Some(size)
+    Some(size as u128)
 }
 
 /// The number of this size, below zero or not, where it fits.

@@ -5,9 +5,10 @@ ghost use Rattle.fit_profile.specs.Scaled.{decimals, IsScale, IsScaled, IsDegree
 use crate::{Fixed, Info};
 
 /// How many decimals a scale has.
-fn decimals_of(scale: u32) -> u8
+pub fn decimals_of(scale: u32) -> u8
     requires { IsScale scale }
-    ensures { result ≡ decimals scale }
+    ensures value { result ≡ decimals scale }
+    ensures few { result ≤ 8 }
 {
     match scale {
         5 | 10 => 1,

@@ -64,7 +64,7 @@ module _ {A : Type 0} (line : Lines A) (fs : List (FitFile A)) (b : List ℕ) (a
   taken_of None taken eats = absurd eats
   taken_of (Some y) taken eats = (y, refl, eats)
 
-  pub reports_chain : (heard : List (Event A)) (source sink : Channel) (result : Result (Unit {0}) ReportFault) → source.before ≡ Some b → Reports line source sink heard result → ReportsChain line fs source sink result
-  reports_chain heard source sink result input (taken, eats, says) =
+  pub reports_chain : (source sink : Channel) (result : Result (Unit {0}) ReportFault) → source.before ≡ Some b → Reports line source sink result → ReportsChain line fs source sink result
+  reports_chain source sink result input (taken, heard, eats, says) =
       let t = taken_of source.after taken (subst (λ h. Consumes h source.after taken) input eats) in
       told taken t.0 heard source sink result t.1 t.2 says

@@ -4,3 +4,4 @@ pub mod Pieces
 pub mod Outcomes
 pub mod Chains
 pub mod Records
+pub mod Skipped

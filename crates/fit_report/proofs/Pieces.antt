@@ -1,5 +1,5 @@
 -- What the telling of a piece did.
-use Rattle.std.proofs.Common.{◌≡◌, Bool, ℕ, ◌+◌, ◌<◌, List, ◌++◌, length, take, drop, get_or, reverse, Option, Ok, Err, refl, sym, ap, ◌∙◌, subst, arith, length-append}
+use Rattle.std.proofs.Common.{◌≡◌, Bool, ℕ, ◌+◌, ◌≤◌, List, ◌++◌, length, take, drop, get_or, reverse, Option, Ok, Err, refl, sym, ap, ◌∙◌, subst, arith, length-append}
 use Rattle.std.proofs.lemmas.List.{length-drop, length-take, get_or-drop}
 use Rattle.fit_frame.specs.declared.reason.Reason.{Reason}
 use Rattle.fit_record.specs.Files.{chain_limit, IsViable}
@@ -36,12 +36,11 @@ module _ {A : Type 0} (line : Lines A) (old mid new : Seen) (piece : List ℕ) (
   placed = ap (λ (v : Seen). v.bytes) after ∙ joined old mid piece at used is
 
   -- an answer was passed on
-  pub passes : Passed line heard answer next sink written count (Ok tt) → Stands line new.bytes next start sink.after count
-  passes (same, put, counted) =
-      subst (λ es. Stands line new.bytes es start sink.after count) (sym same) (stands_on line mid.bytes heard start sink.before written s answer new.bytes sink.after count events put counted)
+  pub passes : Passed line heard answer sink written count (Ok tt) → Stands line new.bytes (hear answer heard) start sink.after count
+  passes (put, counted) = stands_on line mid.bytes heard start sink.before written s answer new.bytes sink.after count events put counted
 
   -- or was not
-  pub breaks : (fault : ReportFault) → Passed line heard answer next sink written count (Err fault)
+  pub breaks : (fault : ReportFault) → Passed line heard answer sink written count (Err fault)
       → PieceTold line old.bytes piece new next (record { before = start; after = sink.after; failed = sink.failed }) count (Err fault)
   breaks (Decode fault) none = absurd none
   breaks NoMemory keeps = (
@@ -62,7 +61,7 @@ pub record Stopped (A : Type 0) (mid : Seen) (piece : List ℕ) (new : Seen) (fa
   pub others : (place : ℕ) → (fault ≡ faults.Truncated place → ⊥) × (fault ≡ faults.Read place → ⊥)
 
 module _ {A : Type 0} (line : Lines A) (old mid new : Seen) (piece : List ℕ) (at : ℕ) (heard : List (Event A)) (start now : Option (List ℕ)) (failed : Bool) (written : ℕ)
-    (within : at < length piece) (is : mid ≡ fed old piece at) (s : Stands line mid.bytes heard start now written) where
+    (within : at ≤ length piece) (is : mid ≡ fed old piece at) (s : Stands line mid.bytes heard start now written) where
   abbrev pub sink : Channel
   sink = record { before = start; after = now; failed = failed }
 

@@ -1,5 +1,5 @@
 -- What a reporter hears, and the text of it. Events are listed with the latest first.
-use Rattle.std.specs.Prelude.{ℕ, List, [], ◌∷◌, ◌++◌, reverse}
+use Rattle.std.specs.Prelude.{ℕ, List, [], ◌∷◌, ◌++◌, map, reverse}
 use Rattle.std.specs.Option.{option_map_or}
 use Rattle.fit_record.specs.declared.message.Record.{Record}
 use Rattle.fit_record.specs.Files.{chain_limit, IsViable}
@@ -10,6 +10,10 @@ use Rattle.fit_decode.specs.Events.{Event, header, item, file_end, AreEvents}
 -- what is heard behind an answer of a decoder
 abbrev pub hear : {A : Type 0} → Answer A → List (Event A) → List (Event A)
 hear answer heard = option_map_or (λ x. x ∷ heard) (told answer) heard
+
+-- what is heard behind records
+abbrev pub hear_records : {A : Type 0} → List (Record A) → List (Event A) → List (Event A)
+hear_records records heard = reverse (map item records) ++ heard
 
 -- Some bytes with which a chain of files begins have these events.
 abbrev pub AreHeard : {A : Type 0} → List (Event A) → Type 0

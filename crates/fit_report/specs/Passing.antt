@@ -1,15 +1,15 @@
 -- What the parts of a report do. No public contract names these.
-use Rattle.std.specs.Prelude.{◌≡◌, ℕ, ◌+◌, ◌-◌, ◌^◌, ◌<◌, min, true, List, ◌++◌, Option, None, Result, Ok, Err, take, length, reverse, slice_index}
+use Rattle.std.specs.Prelude.{◌≡◌, ℕ, ◌+◌, ◌-◌, ◌^◌, ◌<◌, ◌≤◌, min, true, List, ◌++◌, Option, None, Result, Ok, Err, take, length, reverse, slice_index}
 use Rattle.std.specs.Io.KnownBytes.{Appends, Keeps}
-use Rattle.fit_record.specs.Files.{chain_limit}
+use Rattle.fit_record.specs.Files.{chain_limit, IsViable}
 use Rattle.fit_decode.specs.declared.event.Event.{Event as Answer}
 use Rattle.fit_decode.specs.declared.event.Fault.TheVariants.{Refused}
-use Rattle.fit_decode.specs.Answers.{Seen}
+use Rattle.fit_decode.specs.Answers.{Seen, fed}
 use Rattle.fit_decode.specs.Events.{Event, AreEvents}
 use Rattle.fit_decode.specs.Refusals.{IsRefused}
 use Rattle.fit_report.specs.declared.fault.ReportFault.{ReportFault}
 use Rattle.fit_report.specs.declared.fault.ReportFault.TheVariants.{Decode, NoMemory, Write}
-use Rattle.fit_report.specs.Heard.{Lines, hear, line_of, text_of}
+use Rattle.fit_report.specs.Heard.{Lines, line_of, text_of}
 use Rattle.fit_report.specs.Reports.{Channel, Tells, FailsIn}
 
 -- The events of the bytes were heard, a sink that held `start` has their text behind it, and so long is that text; the count
@@ -20,14 +20,22 @@ pub record Stands {A : Type 0} (line : Lines A) (bytes : List ℕ) (heard : List
   pub counted : written ≡ min (length (text_of line heard)) (2 ^ 64 - 1)
 
 -- What the passing on of an answer did, behind the events heard before and so many bytes of text.
-abbrev pub Passed : {A : Type 0} → Lines A → List (Event A) → Answer A → List (Event A) → Channel → ℕ → ℕ → Result (Unit {0}) ReportFault → Type 0
-Passed line before answer heard sink old new (Ok _) =
-    (heard ≡ hear answer before) × Appends sink.before sink.after (line_of line before answer) × (new ≡ min (old + length (line_of line before answer)) (2 ^ 64 - 1))
-Passed line before answer heard sink old new (Err (Decode fault)) = ⊥
-Passed line before answer heard sink old new (Err NoMemory) = Keeps sink.before sink.after
-Passed line before answer heard sink old new (Err (Write written)) =
+abbrev pub Passed : {A : Type 0} → Lines A → List (Event A) → Answer A → Channel → ℕ → ℕ → Result (Unit {0}) ReportFault → Type 0
+Passed line before answer sink old new (Ok _) =
+    Appends sink.before sink.after (line_of line before answer) × (new ≡ min (old + length (line_of line before answer)) (2 ^ 64 - 1))
+Passed line before answer sink old new (Err (Decode fault)) = ⊥
+Passed line before answer sink old new (Err NoMemory) = Keeps sink.before sink.after
+Passed line before answer sink old new (Err (Write written)) =
     (sink.failed ≡ true) × (n : ℕ) × (n < length (line_of line before answer))
     × Appends sink.before sink.after (take n (line_of line before answer)) × (written ≡ min (old + n) (2 ^ 64 - 1))
+
+-- Records were passed over: the bytes used are fed, and nothing else is told by them; and they have no text.
+pub record PassedOver {A R : Type 0} (has_heard : R → List (Event A) → Type 0) (line : Lines A) (old new : Seen) (bytes : List ℕ) (before after : R) (used : ℕ) : Type 0 where
+  pub within : used ≤ length bytes
+  pub is_fed : old.refusal ≡ None → new ≡ fed old bytes used
+  pub viable : IsViable A chain_limit new.bytes
+  pub told : (heard : List (Event A)) → has_heard before heard → AreEvents old.bytes (reverse heard)
+      → (now : List (Event A)) × has_heard after now × AreEvents new.bytes (reverse now) × (text_of line now ≡ text_of line heard)
 
 abbrev pub unrefused : List ℕ → Seen
 unrefused bytes = record { bytes = bytes; refusal = None }

@@ -61,8 +61,8 @@ HasTold {A} line taken source sink heard (Err (report.Decode fault)) =
 HasTold line taken source sink heard (Err report.NoMemory) = TellsSome line taken sink
 HasTold line taken source sink heard (Err (report.Write written)) = BreaksOff line taken sink written
 
-abbrev pub Reports : {A : Type 0} → Lines A → Channel → Channel → List (Event A) → Result (Unit {0}) ReportFault → Type 0
-Reports line source sink heard result = (taken : List ℕ) × Consumes source.before source.after taken × HasTold line taken source sink heard result
+abbrev pub Reports : {A : Type 0} → Lines A → Channel → Channel → Result (Unit {0}) ReportFault → Type 0
+Reports {A} line source sink result = (taken : List ℕ) × (heard : List (Event A)) × Consumes source.before source.after taken × HasTold line taken source sink heard result
 
 -- The answer where the input is the bytes of this chain: its text was put; or the source or the sink has failed, or memory was
 -- refused.

@@ -1,12 +1,12 @@
 //! Passes the events of a source's bytes to a reporter, and its text to a sink.
-ghost use Rattle.std.specs.Prelude.{◌≡◌, ℕ, [], List, Option, None, Some, reverse};
+ghost use Rattle.std.specs.Prelude.{◌≡◌, ℕ, [], List, OnOk, Option, None, Some, reverse};
 ghost use Rattle.std.specs.Global.{Global};
 ghost use Rattle.fit_base.specs.Numbers.{IsBytes};
 ghost use Rattle.fit_record.specs.declared.file.FitFile.{FitFile};
 ghost use Rattle.fit_record.specs.Files.{chain_limit, IsChain, IsViable};
-ghost use Rattle.fit_decode.specs.Events.{AreEvents};
+ghost use Rattle.fit_decode.specs.Events.{Event as Told, AreEvents};
 ghost use Rattle.fit_report.specs.Heard.{AreHeard, hear};
-ghost use Rattle.fit_report.specs.Passing.{Passed, PieceTold, Stands};
+ghost use Rattle.fit_report.specs.Passing.{Passed, PassedOver, PieceTold, Stands};
 ghost use Rattle.fit_report.specs.Reports.{Reports, ReportsChain};
 
 use crate::{Report, ReportFault};
@@ -25,9 +25,10 @@ fn pass_on<K: Sink, R: Report>(
     written: &mut u64,
     event: Event,
 ) -> Result<(), ReportFault>
-    requires { AreHeard (hear event (R.heard reporter.old)) }
-    ensures { Passed R.line (R.heard reporter.old) event (R.heard reporter.new)
-        (record { before = K.contents sink.old; after = K.contents sink.new; failed = K.has_failed sink.new }) written.old written.new result }
+    requires { (heard : List (Told Global)) × R.has_heard reporter.old heard × AreHeard (hear event heard) }
+    ensures heard { OnOk result ((heard : List (Told Global)) → R.has_heard reporter.old heard → AreHeard (hear event heard) → R.has_heard reporter.new (hear event heard)) }
+    ensures passed { (heard : List (Told Global)) → R.has_heard reporter.old heard → AreHeard (hear event heard)
+        → Passed R.line heard event (record { before = K.contents sink.old; after = K.contents sink.new; failed = K.has_failed sink.new }) written.old written.new result }
 {
     text.clear();
     if reporter.tell(&event, text).is_err() {
@@ -44,6 +45,19 @@ fn pass_on<K: Sink, R: Report>(
     }
 }
 
+/// Passes over records at the front of the bytes, where the reporter takes them so: how many bytes were used.
+fn pass_over<R: Report>(decoder: &mut Decoder, reporter: &mut R, bytes: &[u8]) -> usize
+    requires { (heard : List (Told Global)) × R.has_heard reporter.old heard × AreEvents decoder.old.bytes (reverse heard) × IsViable Global chain_limit decoder.old.bytes }
+    ensures { PassedOver R.has_heard R.line decoder.old decoder.new bytes.now reporter.old reporter.new result }
+{
+    if !reporter.passes() {
+        return 0;
+    }
+    let (used, count) = decoder.skim(bytes);
+    reporter.pass(count);
+    used
+}
+
 /// Feeds a piece, and passes on what it tells.
 fn tell_piece<K: Sink, R: Report>(
     decoder: &mut Decoder,
@@ -54,13 +68,17 @@ fn tell_piece<K: Sink, R: Report>(
     piece: &[u8],
 ) -> Result<(), ReportFault>
     requires fresh { decoder.old.refusal ≡ None }
-    requires told { AreEvents decoder.old.bytes (reverse (R.heard reporter.old)) }
-    ensures piece { (start : Option (List ℕ)) → Stands R.line decoder.old.bytes (R.heard reporter.old) start (K.contents sink.old) written.old
-        → PieceTold R.line decoder.old.bytes piece.now decoder.new (R.heard reporter.new) (record { before = start; after = K.contents sink.new; failed = K.has_failed sink.new }) written.new result }
-    ensures viable { IsViable Global chain_limit decoder.old.bytes → IsViable Global chain_limit decoder.new.bytes }
+    requires told { (heard : List (Told Global)) × R.has_heard reporter.old heard × AreEvents decoder.old.bytes (reverse heard) }
+    requires viable { IsViable Global chain_limit decoder.old.bytes }
+    ensures piece { (start : Option (List ℕ)) (before : List (Told Global)) → R.has_heard reporter.old before → Stands R.line decoder.old.bytes before start (K.contents sink.old) written.old
+        → (heard : List (Told Global)) × OnOk result (R.has_heard reporter.new heard)
+        × PieceTold R.line decoder.old.bytes piece.now decoder.new heard (record { before = start; after = K.contents sink.new; failed = K.has_failed sink.new }) written.new result }
+    ensures viable { IsViable Global chain_limit decoder.new.bytes }
 {
     let mut at = 0;
     while at < piece.len() {
+        let (_, rest) = piece.split_at(at);
+        at += pass_over(decoder, reporter, rest);
         let (_, rest) = piece.split_at(at);
         let fed = decoder.feed(rest)?;
         at += fed.used;
@@ -76,11 +94,10 @@ fn tell_pieces<S: Source, K: Sink, R: Report>(
     sink: &mut K,
     reporter: &mut R,
 ) -> Result<(), ReportFault>
-    requires { R.heard reporter.old ≡ [] }
+    requires { R.has_heard reporter.old [] }
     ensures { Reports R.line
         (record { before = S.remaining source.old; after = S.remaining source.new; failed = S.has_failed source.new })
-        (record { before = K.contents sink.old; after = K.contents sink.new; failed = K.has_failed sink.new })
-        (R.heard reporter.new) result }
+        (record { before = K.contents sink.old; after = K.contents sink.new; failed = K.has_failed sink.new }) result }
 {
     let mut decoder = Decoder::new(alloc);
     let mut text = Vec::new(alloc);
@@ -113,11 +130,10 @@ pub fn report<S: Source, K: Sink, R: Report>(
     sink: &mut K,
     reporter: &mut R,
 ) -> Result<(), ReportFault>
-    requires { R.heard reporter.old ≡ [] }
+    requires { R.has_heard reporter.old [] }
     ensures reports { Reports R.line
         (record { before = S.remaining source.old; after = S.remaining source.new; failed = S.has_failed source.new })
-        (record { before = K.contents sink.old; after = K.contents sink.new; failed = K.has_failed sink.new })
-        (R.heard reporter.new) result }
+        (record { before = K.contents sink.old; after = K.contents sink.new; failed = K.has_failed sink.new }) result }
     // Where the input is a chain's bytes, its text is put, unless memory is refused or the source or the sink fails.
     ensures chain { (fs : List (FitFile Global)) (b : List ℕ) → S.remaining source.old ≡ Some b → IsBytes b → IsChain chain_limit fs b
         → ReportsChain R.line fs

@@ -1,5 +1,5 @@
 //! A dot for each event.
-ghost use Rattle.std.specs.Prelude.{[], ◌∷◌};
+ghost use Rattle.std.specs.Prelude.{◌≡◌, [], ◌∷◌, false};
 
 use crate::{Heard, Report, ReportFault, report};
 use fit_decode::{CutSource, Event, Fault};
@@ -18,9 +18,11 @@ struct Dots {
 }
 
 impl Report for Dots {
-    ghost heard = { λ s. s.heard };
+    ghost has_heard = { λ s heard. s.heard ≡ heard };
 
     ghost line = { λ heard x. 46 ∷ [] };
+
+    ghost passes = { false };
 
     fn tell(&mut self, event: &Event, text: &mut Vec<u8>) -> Result<(), AllocError> {
         match event {
@@ -31,6 +33,14 @@ impl Report for Dots {
         }
         self.heard.add(event);
         Ok(())
+    }
+
+    fn passes(&self) -> bool {
+        false
+    }
+
+    fn pass(&mut self, _count: u64) {
+        unreachable!()
     }
 }
 

@@ -25,3 +25,4 @@ pub mod Continuing
 pub mod Undoing
 pub mod Gathering
 pub mod WholeMessage
+pub mod PassedMessages

@@ -26,6 +26,13 @@ fn read_field<A: Allocator + Copy>(
 {
     let width = width_of(Code(code), size);
     let count = size / width;
+    if count == 1 {
+        let number = bits_at(order, width, bytes);
+        return Ok(Items {
+            width,
+            bits: Bits::one(alloc, number),
+        });
+    }
     let mut bits = Bits::with_capacity(alloc, count as usize)?;
     let mut rest = bytes;
     for _ in 0..count {

@@ -90,7 +90,12 @@ impl Chain {
     }
 
     /// Takes the next row.
-    pub(crate) fn take_row(&mut self, alloc: Global, cells: &Cells) -> Result<(), Misfit>
+    pub(crate) fn take_row(
+        &mut self,
+        alloc: Global,
+        written: &mut Vec<u8>,
+        cells: &Cells,
+    ) -> Result<(), Misfit>
         requires { IsSoundChain self.old }
         ensures ok { OnOk result (ChainStep self.old (row_of cells.now) self.new) }
         ensures err { IfErr result (IsMisfit (λ r. (t : Chain) × ChainStep self.old r t) (row_of cells.now)) }
@@ -99,7 +104,7 @@ impl Chain {
             return self.end_file(cells);
         }
         match &mut self.current {
-            Some(file) => file.take_row(alloc, cells),
+            Some(file) => file.take_row(alloc, written, cells),
             None => self.begin_file(alloc, cells),
         }
     }

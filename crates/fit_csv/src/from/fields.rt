@@ -24,6 +24,7 @@ use std::alloc::Global;
 /// The row of a field of a message.
 pub(crate) fn field_items(
     alloc: Global,
+    written: &mut Vec<u8>,
     cells: &Cells,
     global: u16,
     field: FieldDef,
@@ -35,24 +36,43 @@ pub(crate) fn field_items(
     if !same(cells.kind, b"field") {
         return Err(Misfit::Kind);
     }
-    let label = field_label(global, field.number);
     let info = field_info(global, field.number);
     let unit = unit_text(info).as_bytes();
-    let label = label.as_str().as_bytes();
-    value_row(
-        alloc,
-        cells,
-        label,
-        Code(field.code),
-        field.size,
-        info,
-        unit,
-    )
+    match info {
+        Some(known) => {
+            let label = known.name.as_bytes();
+            value_row(
+                alloc,
+                written,
+                cells,
+                label,
+                Code(field.code),
+                field.size,
+                info,
+                unit,
+            )
+        }
+        None => {
+            let label = field_label(global, field.number);
+            let label = label.as_str().as_bytes();
+            value_row(
+                alloc,
+                written,
+                cells,
+                label,
+                Code(field.code),
+                field.size,
+                info,
+                unit,
+            )
+        }
+    }
 }
 
 /// The row of a developer field of this code in a message of a local message type.
 pub(crate) fn dev_items(
     alloc: Global,
+    written: &mut Vec<u8>,
     cells: &Cells,
     before: &Stream,
     local: u8,
@@ -70,5 +90,14 @@ pub(crate) fn dev_items(
     let numbered = numbered_label(&field);
     let label = dev_name(before, local, place, &numbered).as_bytes();
     let unit = dev_unit(before, local, place).as_bytes();
-    value_row(alloc, cells, label, Code(code), field.size, None, unit)
+    value_row(
+        alloc,
+        written,
+        cells,
+        label,
+        Code(code),
+        field.size,
+        None,
+        unit,
+    )
 }

@@ -18,7 +18,7 @@ use crate::from::misfit::Misfit;
 use crate::from::number::byte_in;
 use crate::message_rows::{header_time, optional_number, time_text};
 use fit_base::{Code, Entries, Items};
-use fit_cells::cell_items;
+use fit_cells::cell_items_by;
 use fit_profile::{Info, Stream, message_label};
 use fit_record::Values;
 use itoa::Buffer;
@@ -54,6 +54,14 @@ fn global_at(before: &Stream, local: u8) -> u16
 {
     match before.env().definition(local) {
         Some(definition) => definition.global,
+        None => 0,
+    }
+}
+
+/// How many fields the messages of a local message type have.
+fn field_count(before: &Stream, local: u8) -> usize {
+    match before.env().definition(local) {
+        Some(definition) => definition.fields.len(),
         None => 0,
     }
 }
@@ -106,7 +114,7 @@ fn rest_of_message(
         None => Ok(Values {
             local,
             offset,
-            fields: Entries::new(alloc),
+            fields: Entries::with_capacity(alloc, field_count(before, local))?,
             dev: Entries::new(alloc),
         }),
         Some(column) => Err(Misfit::Cell(column)),
@@ -129,6 +137,7 @@ pub(crate) fn message_head(alloc: Global, cells: &Cells, before: &Stream) -> Res
 /// The items that a cell shows, where it is the cell of some.
 fn items_in(
     alloc: Global,
+    written: &mut Vec<u8>,
     shown: &[u8],
     code: Code,
     size: u8,
@@ -140,7 +149,7 @@ fn items_in(
     ensures memory { IfErr result (λ misfit. misfit ≡ Misfit.NoMemory) }
 {
     match str::from_utf8(shown) {
-        Ok(text) => Ok(cell_items(alloc, code, size, info, text)?),
+        Ok(text) => Ok(cell_items_by(alloc, written, code, size, info, text)?),
         Err(_) => Ok(None),
     }
 }
@@ -148,6 +157,7 @@ fn items_in(
 /// The row of a field with this label, code and size, and with this unit.
 pub(crate) fn value_row(
     alloc: Global,
+    written: &mut Vec<u8>,
     cells: &Cells,
     label: &[u8],
     code: Code,
@@ -163,7 +173,7 @@ pub(crate) fn value_row(
     if !same(cells.a, label) {
         return Err(Misfit::Cell(2));
     }
-    let Some(items) = items_in(alloc, cells.b, code, size, info)? else {
+    let Some(items) = items_in(alloc, written, cells.b, code, size, info)? else {
         return Err(Misfit::Cell(3));
     };
     let shown = Cells {

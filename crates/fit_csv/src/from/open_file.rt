@@ -80,7 +80,13 @@ fn begin_record(alloc: Global, before: &Stream, cells: &Cells) -> Result<Part, M
 }
 
 /// Takes the next row of a record. It isn't one in which a file ends.
-fn next_part(alloc: Global, before: &Stream, part: Part, cells: &Cells) -> Result<Part, Misfit>
+fn next_part(
+    alloc: Global,
+    written: &mut Vec<u8>,
+    before: &Stream,
+    part: Part,
+    cells: &Cells,
+) -> Result<Part, Misfit>
     requires room { PartHasRoom before.now part }
     requires kind { part ≡ Part.Nothing → cells.now.kind.now ≡ codes "end" → ⊥ }
     ensures ok { IfOk result (PartStep before.now part (row_of cells.now)) }
@@ -93,7 +99,7 @@ fn next_part(alloc: Global, before: &Stream, part: Part, cells: &Cells) -> Resul
             Ok(Part::Definition(definition))
         }
         Part::Message(mut values) => {
-            take_message(alloc, cells, before, &mut values)?;
+            take_message(alloc, written, cells, before, &mut values)?;
             Ok(Part::Message(values))
         }
     }
@@ -149,14 +155,19 @@ impl OpenFile {
     }
 
     /// Takes the next row. It isn't one in which the file ends.
-    pub(crate) fn take_row(&mut self, alloc: Global, cells: &Cells) -> Result<(), Misfit>
+    pub(crate) fn take_row(
+        &mut self,
+        alloc: Global,
+        written: &mut Vec<u8>,
+        cells: &Cells,
+    ) -> Result<(), Misfit>
         requires sound { IsSoundFile self.old }
         requires kind { self.old.part ≡ Part.Nothing → cells.now.kind.now ≡ codes "end" → ⊥ }
         ensures ok { OnOk result (FileStep self.old (row_of cells.now) self.new) }
         ensures err { IfErr result (IsMisfit (CanGoOn self.old.before self.old.part) (row_of cells.now)) }
     {
         let part = mem::replace(&mut self.part, Part::Nothing);
-        let part = next_part(alloc, &self.before, part, cells)?;
+        let part = next_part(alloc, written, &self.before, part, cells)?;
         self.settle(part)
     }
 }

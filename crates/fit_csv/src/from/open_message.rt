@@ -32,6 +32,7 @@ fn add(list: &mut Entries<Items>, items: Items) -> Result<(), Misfit>
 /// Takes the row of a field.
 fn take_field(
     alloc: Global,
+    written: &mut Vec<u8>,
     cells: &Cells,
     defined: &Defined,
     values: &mut Values,
@@ -41,13 +42,14 @@ fn take_field(
     ensures ok { OnOk result (FieldStep defined.now values.old (row_of cells.now) values.new) }
     ensures err { IfErr result (IsMisfit (λ r. (w : Values Global) × FieldStep defined.now values.old r w) (row_of cells.now)) }
 {
-    let items = field_items(alloc, cells, defined.definition.global, field)?;
+    let items = field_items(alloc, written, cells, defined.definition.global, field)?;
     add(&mut values.fields, items)
 }
 
 /// Takes the row of a developer field.
 fn take_dev_field(
     alloc: Global,
+    written: &mut Vec<u8>,
     cells: &Cells,
     before: &Stream,
     defined: &Defined,
@@ -67,6 +69,7 @@ fn take_dev_field(
     };
     let items = dev_items(
         alloc,
+        written,
         cells,
         before,
         values.local,
@@ -80,6 +83,7 @@ fn take_dev_field(
 /// Takes the next row of a data message of this definition.
 fn take_by(
     alloc: Global,
+    written: &mut Vec<u8>,
     cells: &Cells,
     before: &Stream,
     defined: &Defined,
@@ -96,14 +100,15 @@ fn take_by(
         .as_slice()
         .get(values.fields.len())
     {
-        Some(field) => take_field(alloc, cells, defined, values, *field),
-        None => take_dev_field(alloc, cells, before, defined, values),
+        Some(field) => take_field(alloc, written, cells, defined, values, *field),
+        None => take_dev_field(alloc, written, cells, before, defined, values),
     }
 }
 
 /// Takes the next row of a data message behind the records of a stream.
 pub(crate) fn take_message(
     alloc: Global,
+    written: &mut Vec<u8>,
     cells: &Cells,
     before: &Stream,
     values: &mut Values,
@@ -113,7 +118,7 @@ pub(crate) fn take_message(
     ensures err { IfErr result (IsMisfit (λ r. (w : Values Global) × MessageStep before.now values.old r w) (row_of cells.now)) }
 {
     match before.env().defined(values.local) {
-        Some(defined) => take_by(alloc, cells, before, defined, values),
+        Some(defined) => take_by(alloc, written, cells, before, defined, values),
         None => Err(Misfit::Kind),
     }
 }

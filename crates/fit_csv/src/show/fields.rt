@@ -120,17 +120,32 @@ fn put_field(
     ensures { OnOk result (text.new.items ≡ text.old.items ++ (lines.separator before ++ lines.shown_field global field.now items.now)) }
 {
     let info = field_info(global, field.number);
-    let label = field_label(global, field.number);
-    let name = label.as_str();
-    put_shown(
-        text,
-        before,
-        name,
-        Code(field.code),
-        info,
-        items,
-        unit_text(info),
-    )
+    match info {
+        Some(known) => {
+            let unit = unit_text(info);
+            put_shown(
+                text,
+                before,
+                known.name,
+                Code(field.code),
+                info,
+                items,
+                unit,
+            )
+        }
+        None => {
+            let label = field_label(global, field.number);
+            put_shown(
+                text,
+                before,
+                label.as_str(),
+                Code(field.code),
+                info,
+                items,
+                "",
+            )
+        }
+    }
 }
 
 /// Puts the fields of a message.

@@ -14,7 +14,7 @@ returns-in_err-number c raw least most e =
     let inside : IsIn128 (scaled raw c.args.info.scale c.args.info.offset) =
     scaled-in (raw -ℤ pos (c.args.info.offset * c.args.info.scale)) c.args.info.scale c.requires (omega (arith, ints, least, shift, c.shift-shift.ensures.bound)) (omega (arith, ints, most, shift, c.shift-shift.ensures.bound)) in
     let text : c.args.text.now ≡ fixed_text (scaled raw c.args.info.scale c.args.info.offset) c.fixed.result.decimals = e ∙ ap (fixed_text (scaled raw c.args.info.scale c.args.info.offset)) (sym c.fixed.ensures.decimals) in
-    absurd (none-some _ (c.in_err-number.ensures.every (scaled raw c.args.info.scale c.args.info.offset) inside text))
+    absurd (none-some _ (c.in_err-number.ensures (scaled raw c.args.info.scale c.args.info.offset) inside text))
 
 pub returns : goal.returns
 returns c raw least most e =
@@ -22,7 +22,7 @@ returns c raw least most e =
     let inside : IsIn128 (scaled raw c.args.info.scale c.args.info.offset) =
     scaled-in (raw -ℤ pos (c.args.info.offset * c.args.info.scale)) c.args.info.scale c.requires (omega (arith, ints, least, shift, c.shift-shift.ensures.bound)) (omega (arith, ints, most, shift, c.shift-shift.ensures.bound)) in
     let text : c.args.text.now ≡ fixed_text (scaled raw c.args.info.scale c.args.info.offset) c.fixed.result.decimals = e ∙ ap (fixed_text (scaled raw c.args.info.scale c.args.info.offset)) (sym c.fixed.ensures.decimals) in
-    let value : c.in_ok-number.number.value ≡ scaled raw c.args.info.scale c.args.info.offset = ap (λ (f : Fixed). f.value) (same_Some _ _ (c.in_ok-number.ensures.every (scaled raw c.args.info.scale c.args.info.offset) inside text)) in
+    let value : c.in_ok-number.number.value ≡ scaled raw c.args.info.scale c.args.info.offset = ap (λ (f : Fixed). f.value) (same_Some _ _ (c.in_ok-number.ensures (scaled raw c.args.info.scale c.args.info.offset) inside text)) in
     c.unscaled.ensures raw least most
     (kept c.in_ok-number.number.value (scaled raw c.args.info.scale c.args.info.offset) inside value
     ∙ ap (λ (n : ℕ). (raw -ℤ pos n) *ℤ pos (10 ^ decimals c.args.info.scale / c.args.info.scale)) (sym shift))

@@ -15,7 +15,7 @@ pub returns-in-Ok-clause-converts : goal.returns-in-Ok-clause-converts
 returns-in-Ok-clause-converts g c rows text =
     let source : Channel = record { before = g.S.Source.remaining c.args.source.now; after = g.S.Source.remaining c.report.new.source; failed = g.S.Source.has_failed c.report.new.source } in
     converted c.args.first.now g.R.Report.line rows text (g.K.Sink.contents c.args.sink.now) (g.K.Sink.contents c.put_all.new.sink) (g.K.Sink.contents c.report.new.sink) (g.K.Sink.has_failed c.report.new.sink)
-    source (g.R.Report.heard c.report.new.reporter) (Ok c.in-Ok.field-0) c.in_default.ensures.ok c.in-Ok.ensures.reports
+    source (Ok c.in-Ok.field-0) c.in_default.ensures.ok c.in-Ok.ensures.reports
 
 pub returns-in-Ok-clause-chain : goal.returns-in-Ok-clause-chain
 returns-in-Ok-clause-chain g c rows text fs b is are chain =
@@ -29,7 +29,7 @@ returns-in-Err-report-clause-converts g c rows text =
     let sink : Channel = record { before = g.K.Sink.contents c.args.sink.now; after = g.K.Sink.contents c.report.new.sink; failed = g.K.Sink.has_failed c.report.new.sink } in
     subst (λ fault. Converts rows source sink (Err fault)) (sym c.csv_fault.ensures)
     (converted c.args.first.now g.R.Report.line rows text (g.K.Sink.contents c.args.sink.now) (g.K.Sink.contents c.put_all.new.sink) (g.K.Sink.contents c.report.new.sink) (g.K.Sink.has_failed c.report.new.sink)
-    source (g.R.Report.heard c.report.new.reporter) (Err c.in-Err-report.fault) c.in_default.ensures.ok c.in-Err-report.ensures.reports)
+    source (Err c.in-Err-report.fault) c.in_default.ensures.ok c.in-Err-report.ensures.reports)
 
 pub returns-in-Err-report-clause-chain : goal.returns-in-Err-report-clause-chain
 returns-in-Err-report-clause-chain g c rows text fs b is are chain =

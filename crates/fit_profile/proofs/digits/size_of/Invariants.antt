@@ -2,5 +2,5 @@ use Rattle.std.proofs.Common.{◌≡◌, drop}
 use Rattle.fit_profile.specs.Digits.{digits_in}
 use Rattle.fit_profile.proofs.digits.size_of.Given as goal
 
-abbrev pub invariant-loop-byte : goal.invariant-loop-byte
-invariant-loop-byte l = digits_in 0 l.fn.text ≡ digits_in l.size (drop l.byte-index l.fn.text)
+abbrev pub invariant-loop-place : goal.invariant-loop-place
+invariant-loop-place l = digits_in 0 l.fn.text ≡ digits_in l.size (drop l.place l.fn.text)

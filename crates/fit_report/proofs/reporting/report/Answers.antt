@@ -7,4 +7,4 @@ pub returns-clause-chain : goal.returns-clause-chain
 returns-clause-chain g c = λ fs b input are chain.
     let source : Channel = record { before = g.S.Source.remaining c.args.source.now; after = g.S.Source.remaining c.tell_pieces.new.source; failed = g.S.Source.has_failed c.tell_pieces.new.source } in
     let sink : Channel = record { before = g.K.Sink.contents c.args.sink.now; after = g.K.Sink.contents c.tell_pieces.new.sink; failed = g.K.Sink.has_failed c.tell_pieces.new.sink } in
-    reports_chain g.R.Report.line fs b are chain (g.R.Report.heard c.tell_pieces.new.reporter) source sink c.tell_pieces.result input c.tell_pieces.ensures
+    reports_chain g.R.Report.line fs b are chain source sink c.tell_pieces.result input c.tell_pieces.ensures

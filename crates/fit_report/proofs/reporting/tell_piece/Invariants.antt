@@ -2,7 +2,7 @@ use Rattle.std.proofs.Common.{◌≡◌, ℕ, ◌-◌, ◌≤◌, List, Option, 
 use Rattle.std.specs.Global.{Global}
 use Rattle.fit_record.specs.Files.{chain_limit, IsViable}
 use Rattle.fit_decode.specs.Answers.{fed}
-use Rattle.fit_decode.specs.Events.{AreEvents}
+use Rattle.fit_decode.specs.Events.{Event, AreEvents}
 use Rattle.fit_report.specs.Passing.{Stands}
 use Rattle.fit_report.proofs.reporting.tell_piece.Given as goal
 
@@ -10,10 +10,11 @@ abbrev pub invariant-loop-at : goal.invariant-loop-at
 invariant-loop-at g l = record {
   within : l.at ≤ length l.piece;
   is_fed : l.decoder ≡ fed l.initial.decoder l.piece l.at;
-  told : AreEvents l.decoder.bytes (reverse (g.R.Report.heard l.reporter));
-  stands : (start : Option (List ℕ)) → Stands g.R.Report.line l.initial.decoder.bytes (g.R.Report.heard l.initial.reporter) start (g.K.Sink.contents l.initial.sink) l.initial.written
-      → Stands g.R.Report.line l.decoder.bytes (g.R.Report.heard l.reporter) start (g.K.Sink.contents l.sink) l.written;
-  viable : IsViable Global chain_limit l.initial.decoder.bytes → IsViable Global chain_limit l.decoder.bytes;
+  told : (heard : List (Event Global)) × g.R.Report.has_heard l.reporter heard × AreEvents l.decoder.bytes (reverse heard);
+  stands : (start : Option (List ℕ)) (before : List (Event Global)) → g.R.Report.has_heard l.initial.reporter before
+      → Stands g.R.Report.line l.initial.decoder.bytes before start (g.K.Sink.contents l.initial.sink) l.initial.written
+      → (heard : List (Event Global)) × g.R.Report.has_heard l.reporter heard × Stands g.R.Report.line l.decoder.bytes heard start (g.K.Sink.contents l.sink) l.written;
+  viable : IsViable Global chain_limit l.decoder.bytes;
 }
 
 abbrev pub decreases-loop-at : goal.decreases-loop-at

@@ -1,5 +1,5 @@
 -- A report goes on piece by piece.
-use Rattle.std.proofs.Common.{◌++◌, length, sym, ap, subst, arith, length-append}
+use Rattle.std.proofs.Common.{◌++◌, [], length, refl, sym, ap, subst, arith, length-append}
 use Rattle.std.specs.Global.{Global}
 use Rattle.std.specs.Io.KnownBytes.{Consumes}
 use Rattle.std.proofs.lemmas.Result.{err_from_is_err_and}
@@ -21,7 +21,7 @@ pieces-init g c =
       viable = subst (IsViable Global chain_limit) (sym none) (nothing_viable Global);
       counted = ap length (sym none);
       eaten = subst (Consumes (g.S.Source.remaining c.args.source.now) (g.S.Source.remaining c.args.source.now)) (sym none) (Consumes-nothing (g.S.Source.remaining c.args.source.now));
-      stands = stands_before g.R.Report.line c.new-decoder.result.bytes (g.R.Report.heard c.args.reporter.now) (g.K.Sink.contents c.args.sink.now) none c.requires;
+      stands = ([], c.requires, stands_before g.R.Report.line c.new-decoder.result.bytes [] (g.K.Sink.contents c.args.sink.now) none refl);
     }
 
 pub returns-in_err-finish : goal.returns-in_err-finish
@@ -31,10 +31,11 @@ returns-in_err-finish g c =
     let source : Channel = record { before = g.S.Source.remaining c.args.source.now; after = g.S.Source.remaining c.take.new.self; failed = g.S.Source.has_failed c.take.new.self } in
     let sink : Channel = record { before = g.K.Sink.contents c.args.sink.now; after = g.K.Sink.contents c.pieces.sink; failed = g.K.Sink.has_failed c.pieces.sink } in (
       c.pieces.decoder.bytes,
+      i.stands.0,
       ate_nothing _ _ _ c.pieces.decoder.bytes _ c.in-Ok.got i.eaten c.in-Ok.ensures.bytes.0 c.if-got-eq0.true,
       rw (p.1, p.2)
-          (end_fault g.R.Report.line c.pieces.decoder (g.R.Report.heard c.pieces.reporter) source sink c.pieces.written c.finish.result c.in_err-finish.field-0.0 i.fresh i.viable
-          (c.in-Ok.ensures.bytes.1 c.if-got-eq0.true (omega arith)) i.stands c.finish.ensures.good c.finish.ensures.truncated c.in_err-finish.was),
+          (end_fault g.R.Report.line c.pieces.decoder i.stands.0 source sink c.pieces.written c.finish.result c.in_err-finish.field-0.0 i.fresh i.viable
+          (c.in-Ok.ensures.bytes.1 c.if-got-eq0.true (omega arith)) i.stands.2 c.finish.ensures.good c.finish.ensures.truncated c.in_err-finish.was),
     )
 
 pub returns-in_err-tell_piece : goal.returns-in_err-tell_piece
@@ -42,34 +43,39 @@ returns-in_err-tell_piece g c =
     let p = err_from_is_err_and c.from_residual-in_err-tell_piece.result c.from_residual-in_err-tell_piece.ensures.1 in
     let i = c.pieces.invariant in
     let piece = c.split_at.result.0.now in
+    let told = c.in_err-tell_piece.ensures.piece (g.K.Sink.contents c.args.sink.now) i.stands.0 i.stands.1 i.stands.2 in
     let source : Channel = record { before = g.S.Source.remaining c.args.source.now; after = g.S.Source.remaining c.take.new.self; failed = g.S.Source.has_failed c.take.new.self } in
     let sink : Channel = record { before = g.K.Sink.contents c.args.sink.now; after = g.K.Sink.contents c.tell_piece.new.sink; failed = g.K.Sink.has_failed c.tell_piece.new.sink } in (
       c.pieces.decoder.bytes ++ piece,
+      told.0,
       Consumes-append _ _ _ c.pieces.decoder.bytes piece i.eaten (rw (← c.split_at.ensures.front) at c.in-Ok.ensures.bytes.0),
       rw (p.1, p.2)
-          (piece_fault g.R.Report.line c.pieces.decoder.bytes piece c.tell_piece.new.decoder (g.R.Report.heard c.tell_piece.new.reporter) source sink c.tell_piece.new.written (omega arith)
-          c.in_err-tell_piece.field-0.0 (c.in_err-tell_piece.ensures.piece (g.K.Sink.contents c.args.sink.now) i.stands)),
+          (piece_fault g.R.Report.line c.pieces.decoder.bytes piece c.tell_piece.new.decoder told.0 source sink c.tell_piece.new.written (omega arith)
+          c.in_err-tell_piece.field-0.0 told.2),
     )
 
 pub pieces-preserved : goal.pieces-preserved
 pieces-preserved g c =
     let i = c.pieces.invariant in
     let piece = c.split_at.result.0.now in
-    let told = c.in_ok-tell_piece.ensures.piece (g.K.Sink.contents c.args.sink.now) i.stands in
-    let all = ap (λ (v : Seen). v.bytes) told.0 in
+    let told = c.in_ok-tell_piece.ensures.piece (g.K.Sink.contents c.args.sink.now) i.stands.0 i.stands.1 i.stands.2 in
+    let all = ap (λ (v : Seen). v.bytes) told.2.0 in
     record {
-      fresh = ap (λ (v : Seen). v.refusal) told.0;
-      viable = c.in_ok-tell_piece.ensures.viable i.viable;
+      fresh = ap (λ (v : Seen). v.refusal) told.2.0;
+      viable = c.in_ok-tell_piece.ensures.viable;
       counted = omega (arith, i.counted, ap length all, length-append c.pieces.decoder.bytes piece, c.split_at.ensures.front_len);
       eaten = subst (Consumes (g.S.Source.remaining c.args.source.now) (g.S.Source.remaining c.take.new.self)) (sym all)
           (Consumes-append _ _ _ c.pieces.decoder.bytes piece i.eaten (rw (← c.split_at.ensures.front) at c.in-Ok.ensures.bytes.0));
-      stands = subst (λ b. Stands g.R.Report.line b (g.R.Report.heard c.tell_piece.new.reporter) (g.K.Sink.contents c.args.sink.now) (g.K.Sink.contents c.tell_piece.new.sink) c.tell_piece.new.written) (sym all) told.1;
+      stands = (told.0, told.1, subst (λ b. Stands g.R.Report.line b told.0 (g.K.Sink.contents c.args.sink.now) (g.K.Sink.contents c.tell_piece.new.sink) c.tell_piece.new.written) (sym all) told.2.1);
     }
 
 pub pieces-smaller : goal.pieces-smaller
 pieces-smaller g c =
     let i = c.pieces.invariant in
     let piece = c.split_at.result.0.now in
-    let told = c.in_ok-tell_piece.ensures.piece (g.K.Sink.contents c.args.sink.now) i.stands in
-    let all = ap (λ (v : Seen). v.bytes) told.0 in
-    omega (arith, short_bytes c.tell_piece.new.decoder.bytes (c.in_ok-tell_piece.ensures.viable i.viable), ap length all, length-append c.pieces.decoder.bytes piece, c.split_at.ensures.front_len)
+    let told = c.in_ok-tell_piece.ensures.piece (g.K.Sink.contents c.args.sink.now) i.stands.0 i.stands.1 i.stands.2 in
+    let all = ap (λ (v : Seen). v.bytes) told.2.0 in
+    omega (arith, short_bytes c.tell_piece.new.decoder.bytes c.in_ok-tell_piece.ensures.viable, ap length all, length-append c.pieces.decoder.bytes piece, c.split_at.ensures.front_len)
+
+pub tell_piece-requires-clause-told : goal.tell_piece-requires-clause-told
+tell_piece-requires-clause-told g c = let s = c.pieces.invariant.stands in (s.0, s.1, s.2.are)

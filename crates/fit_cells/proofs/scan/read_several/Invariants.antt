@@ -4,7 +4,7 @@ use denote.Shadow.{shadow}
 use Rattle.fit_base.specs.BaseTypes.{base_type}
 use Rattle.fit_profile.specs.Names.{meaning}
 use Rattle.fit_cells.specs.Cells.{barred, item_text}
-use Rattle.fit_cells.proofs.scan.read_items.Given as goal
+use Rattle.fit_cells.proofs.scan.read_several.Given as goal
 
 abbrev pub invariant-loop-place : goal.invariant-loop-place
 invariant-loop-place l = record {

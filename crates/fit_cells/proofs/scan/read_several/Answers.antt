@@ -1,0 +1,28 @@
+use Rattle.std.proofs.Common.{◌≡◌, ◌∙◌, ◌<◌, ◌^◌, ◌++◌, ◌∷◌, [], All, rules, arith, sym, ap, ap₂, subst, length, get_or, length-append, option_map}
+use Rattle.std.proofs.lemmas.List.{take_more}
+use Rattle.std.proofs.lemmas.List.Elements.{All-push}
+use Rattle.fit_base.specs.BaseTypes.{base_type}
+use Rattle.fit_profile.specs.Names.{meaning}
+use Rattle.fit_cells.specs.Cells.{item_text}
+use Rattle.fit_cells.proofs.TextFacts.{low-item}
+use Rattle.fit_cells.proofs.SplitFacts.{piece, behind-piece}
+use Rattle.fit_cells.proofs.scan.read_several.Goals as goal
+
+pub loop-place-preserved : goal.loop-place-preserved
+loop-place-preserved c =
+    let pushed = c.in_ok-push.ensures.ok in
+    let longer = ap length pushed in
+    record {
+      text = search rules;
+      count = let one = length-append c.loop-place.bits (c.read_item.result ∷ []) in omega (arith, longer, one, c.loop-place.invariant.count);
+      below = subst (λ bits. All (λ n. n < 256 ^ (base_type c.args.code.0).width) bits) (sym pushed) (All-push (λ n. n < 256 ^ (base_type c.args.code.0).width) c.loop-place.bits c.read_item.result c.loop-place.invariant.below c.read_item.ensures.below);
+      every = λ numbers long small e.
+          let so_far = c.loop-place.invariant.every numbers long small e in
+          let within : c.loop-place.place < length numbers = omega (arith, long, c.loop-place-test.true) in
+          let low = low-item c.args.class c.args.code.0 (option_map meaning c.args.info) (base_type c.args.code.0).width in
+          let shown = c.split_at_bar.ensures.before ∙ piece (item_text c.args.class c.args.code.0 (option_map meaning c.args.info) (base_type c.args.code.0).width) numbers c.loop-place.rest.now c.loop-place.place low within so_far.1 in
+          let item : c.read_item.result ≡ get_or numbers c.loop-place.place 0 = c.read_item.ensures.every (get_or numbers c.loop-place.place 0) (small c.loop-place.place 0 within) shown in (
+            pushed ∙ ap₂ (λ bits x. bits ++ (x ∷ [])) so_far.0 item ∙ sym (take_more numbers c.loop-place.place 0 within),
+            c.split_at_bar.ensures.behind ∙ behind-piece (item_text c.args.class c.args.code.0 (option_map meaning c.args.info) (base_type c.args.code.0).width) numbers c.loop-place.rest.now c.loop-place.place low within so_far.1,
+          );
+    }

@@ -1,0 +1,117 @@
+//! How the numbers of a field are shown, found out once for many of them.
+ghost use Rattle.std.specs.Prelude.{◌≡◌, ◌≤◌, ◌<◌, ◌⊎◌, ◌++◌, ◌^◌, ◌/◌, ◌*◌, pos, neg_ℤ, ◌*ℤ◌, ◌-ℤ◌, ◌≤ℤ◌, ℕ, ℤ, Option, IfSome, OnOk, option_map, if◌then◌else◌};
+ghost use Rattle.fit_base.specs.BaseTypes.{base_type};
+ghost use Rattle.fit_base.specs.Numbers.{twos_complement};
+ghost use Rattle.fit_profile.specs.FixedText.{fixed_text};
+ghost use Rattle.fit_profile.specs.Names.{meaning};
+ghost use Rattle.fit_profile.specs.Profile.{Meaning};
+ghost use Rattle.fit_profile.specs.Scaled.{decimals, IsScale};
+ghost use Rattle.fit_cells.specs.Cells.{item_text, number_text};
+ghost use Rattle.fit_cells.specs.Forms.{IsFormOf, IsSmall};
+
+use fit_base::{Class, Code, signed};
+use fit_profile::{Info, decimals_of, put_fixed};
+use std::alloc::AllocError;
+
+/// How the items of a field are shown, where they are numbers of at most four bytes.
+#[derive(Clone, Copy)]
+pub struct NumberForm {
+    pub signed: bool,
+    pub width: u8,
+    /// The bits of an item without a value.
+    pub invalid: u64,
+    pub scale: u32,
+    /// The offset in units of the raw value.
+    pub shift: u64,
+    pub decimals: u8,
+}
+
+/// The form of numbers of this width that mean what the profile says.
+fn form_by(signed: bool, width: u8, invalid: u64, info: Option<Info>) -> NumberForm
+    requires width { (width ≡ 1) ⊎ (width ≡ 2) ⊎ (width ≡ 4) }
+    requires scale { IfSome info (λ i. IsScale i.scale) }
+    ensures signed { result.signed ≡ signed }
+    ensures width { result.width ≡ width }
+    ensures invalid { result.invalid ≡ invalid }
+    ensures small { IsSmall result }
+    ensures text { (raw : ℤ) → number_text (option_map meaning info) raw ≡ fixed_text ((raw -ℤ pos result.shift) *ℤ pos (10 ^ decimals result.scale / result.scale)) result.decimals }
+{
+    match info {
+        Some(info) => NumberForm {
+            signed,
+            width,
+            invalid,
+            scale: info.scale,
+            shift: info.offset as u64 * info.scale as u64,
+            decimals: decimals_of(info.scale),
+        },
+        None => NumberForm {
+            signed,
+            width,
+            invalid,
+            scale: 1,
+            shift: 0,
+            decimals: 0,
+        },
+    }
+}
+
+/// The form of a field of this base type, where its items are numbers of at most four bytes.
+pub fn number_form(code: Code, info: Option<Info>) -> Option<NumberForm>
+    requires { IfSome info (λ i. IsScale i.scale) }
+    ensures small { IfSome result IsSmall }
+    ensures form { IfSome result (IsFormOf code.0 (option_map meaning info)) }
+{
+    let width = code.width();
+    if width > 4 {
+        return None;
+    }
+    match code.class() {
+        Class::Signed => Some(form_by(true, width, code.invalid(), info)),
+        Class::Unsigned => Some(form_by(false, width, code.invalid(), info)),
+        Class::Text | Class::Float | Class::Bytes => None,
+    }
+}
+
+/// A number of whole units in units of the last decimal, over the scale.
+fn in_decimals(number: i64, scale: u32) -> i64
+    requires least { neg_ℤ (pos (2 ^ 43)) ≤ℤ number }
+    requires most { number ≤ℤ pos (2 ^ 43) }
+    requires scale { IsScale scale }
+    ensures { result ≡ number *ℤ pos (10 ^ decimals scale / scale) }
+{
+    match scale {
+        5 => number * 2,
+        16 => number * 625,
+        256 => number * 390_625,
+        _ => number,
+    }
+}
+
+/// The number that the bits of an item are.
+fn raw(form: NumberForm, bits: u64) -> i64
+    requires small { IsSmall form }
+    requires bits { bits < 256 ^ form.width }
+    ensures value { result ≡ (if form.signed then twos_complement form.width bits else pos bits) }
+    ensures least { neg_ℤ (pos (2 ^ 32)) ≤ℤ result }
+    ensures most { result ≤ℤ pos (2 ^ 32) }
+{
+    if form.signed {
+        signed(form.width, bits)
+    } else {
+        bits as i64
+    }
+}
+
+/// Puts an item behind a text.
+pub fn put_formed(text: &mut Vec<u8>, form: NumberForm, bits: u64) -> Result<(), AllocError>
+    requires small { IsSmall form }
+    requires bits { bits < 256 ^ form.width }
+    ensures { (code : ℕ) (info : Option Meaning) → IsFormOf code info form → OnOk result (text.new.items ≡ text.old.items ++ item_text (base_type code).class code info form.width bits) }
+{
+    if bits == form.invalid {
+        return Ok(());
+    }
+    let number = raw(form, bits) - form.shift as i64;
+    put_fixed(text, in_decimals(number, form.scale), form.decimals)
+}

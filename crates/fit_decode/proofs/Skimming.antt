@@ -1,0 +1,228 @@
+-- What the passing over of records makes of the fields and of the events.
+use Rattle.std.proofs.Common.{◌≡◌, cond, inl, inr, ℕ, ◌+◌, ◌-◌, ◌≤◌, Bool, true, false, List, [], ◌++◌, length, take, refl, sym, ap, ◌∙◌, subst, arith, append_assoc, length-append, Fits, w64, Some, None}
+use Rattle.std.specs.Prelude.{Option, is_some, map}
+use Rattle.std.proofs.lemmas.Bool.{ne_eqb}
+use Rattle.std.proofs.lemmas.List.{append-nil, length-take-le}
+use Rattle.fit_base.specs.Numbers.{IsBytes}
+use Rattle.fit_base.proofs.ByteLists.{IsBytes-append, IsBytes-take, IsBytes-back}
+use Rattle.fit_frame.specs.declared.header.Header.{Header}
+use Rattle.fit_frame.specs.Header.{header_bytes}
+use Rattle.fit_record.specs.declared.file.FitFile.{FitFile}
+use Rattle.fit_record.specs.declared.message.Record.{Record}
+use Rattle.fit_record.specs.Environment.{Environment, empty_environment, learn_all}
+use Rattle.fit_record.specs.Files.{chain_bytes, chain_limit, IsViable}
+use Rattle.fit_record.specs.Records.{AllFit, records_bytes}
+use Rattle.fit_record.specs.Rooms.{can_fill}
+use Rattle.fit_record.proofs.FilledRooms.{can_fill_is}
+use Rattle.fit_record.proofs.LargeRooms.{six_and_more}
+use Rattle.fit_record.proofs.SixteenPlaces.{sixteen_places}
+use Rattle.fit_step.specs.declared.position.Position.{Position}
+use Rattle.fit_step.specs.Machine.{State, start}
+use Rattle.fit_step.specs.Parts.{Part, nothing, in_definition, in_fields, in_dev_fields, part_bytes, state_of}
+use Rattle.fit_step.specs.Places.{state_at}
+use Rattle.fit_frame.specs.declared.reason.Reason.{Reason}
+use Rattle.fit_decode.specs.declared.decoder.Decoder.TheInside.{Inside}
+use Rattle.fit_decode.specs.Answers.{Seen}
+use Rattle.fit_decode.specs.Invariant.{IsKept, fields_of}
+use Rattle.fit_decode.proofs.Bounds.{short_bytes}
+use Rattle.fit_decode.specs.declared.section.Section.TheVariants.{Data, ClosingSum}
+use Rattle.fit_decode.specs.Progress.{at_data, progress_bytes, HasCome}
+use Rattle.fit_decode.specs.Events.{Event, item, AreEvents}
+use Rattle.fit_decode.specs.Kept.{Fields, InData, Holds, HoldsAt}
+use Rattle.fit_decode.specs.Sections.{section_of}
+use Rattle.fit_decode.specs.Skims.{Passed, DataSkimmed, Skimmed}
+use Rattle.fit_decode.proofs.Completions.{goes_viable, all_fit-append, records_bytes-append, learn_all-append}
+use Rattle.fit_decode.proofs.DataFed.{data_starts}
+use Rattle.fit_decode.proofs.Next.{more_of, items_told, all_told}
+use Rattle.fit_decode.proofs.Sections.{begins_records}
+use Rattle.fit_decode.proofs.Walked.{come}
+use Rattle.fit_decode.proofs.Whole.{partial_nothing}
+
+-- ---- where no record is in progress none has begun
+
+none_begun : {A : Type 0} (e : Environment A) (s : State A) (f : Part A) → s ≡ state_of s.room f → s.in_progress ≡ None → part_bytes e f ≡ []
+none_begun e s nothing is none = refl
+none_begun {A} e s (in_definition k d) is none = absurd (let some = sym none ∙ ap (λ (t : State A). t.in_progress) is in cc)
+none_begun {A} e s (in_fields local offset t dev) is none = absurd (let some = sym none ∙ ap (λ (t : State A). t.in_progress) is in cc)
+none_begun {A} e s (in_dev_fields local offset items t) is none = absurd (let some = sym none ∙ ap (λ (t : State A). t.in_progress) is in cc)
+
+-- ---- records behind records
+
+module _ {A : Type 0} (fs : List (FitFile A)) (h : Header) (n : ℕ) (records rs : List (Record A)) (bytes y : List ℕ) (here : HasCome fs (at_data h n records []) bytes) where
+  abbrev known : Environment A
+  known = learn_all empty_environment records
+
+  abbrev taken : ℕ
+  taken = length (records_bytes empty_environment records)
+
+  module _ (fits : AllFit known rs) (spelled : y ≡ records_bytes known rs) (within : length y ≤ n - taken) where
+    all_bytes : records_bytes empty_environment (records ++ rs) ≡ records_bytes empty_environment records ++ y
+    all_bytes = records_bytes-append empty_environment records rs ∙ ap (λ b. records_bytes empty_environment records ++ b) (sym spelled)
+
+    pub total : length (records_bytes empty_environment (records ++ rs)) ≡ taken + length y
+    total = ap length all_bytes ∙ length-append (records_bytes empty_environment records) y
+
+    pub records_come : HasCome fs (at_data h n (records ++ rs) []) (bytes ++ y)
+    records_come =
+        more_of fs (at_data h n records []) (at_data h n (records ++ rs) []) bytes y here (
+          here.next.0,
+          all_fit-append empty_environment records rs here.next.1 fits,
+          omega (arith, total, within, here.next.2),
+          partial_nothing (learn_all empty_environment (records ++ rs)) (n - length (records_bytes empty_environment (records ++ rs))),
+        )
+        (append-nil (header_bytes h n ++ records_bytes empty_environment (records ++ rs)) ∙ ap (λ b. header_bytes h n ++ b) all_bytes
+        ∙ sym (append_assoc (header_bytes h n) (records_bytes empty_environment records) y)
+        ∙ ap (λ b. b ++ y) (sym (append-nil (header_bytes h n ++ records_bytes empty_environment records))))
+
+    pub records_told : (events : List (Event A)) → AreEvents bytes events → AreEvents (bytes ++ y) (events ++ map item rs)
+    records_told =
+        all_told fs fs (at_data h n records []) (at_data h n (records ++ rs) []) bytes (bytes ++ y) (map item rs) here records_come (items_told fs h n records rs [] [])
+
+-- ---- the fields
+
+large_fills : {A : Type 0} (e : Environment A) (room : ℕ) → length e.places ≡ 16 → 6 ≤ room → can_fill e room ≡ true
+large_fills e room sixteen large =
+    let same : 6 + (room - 6) ≡ room = omega (arith, large) in
+    subst (λ m. can_fill e m ≡ true) same ((can_fill_is e (6 + (room - 6)) sixteen).1 (six_and_more e (room - 6) (omega (arith, sixteen))))
+
+module _ {A : Type 0} (d : Fields A) (bytes piece sum : List ℕ) (position : Position) (used count : ℕ) (are : IsBytes bytes) (low : IsBytes piece) where
+  abbrev now : Fields A
+  now = record d { sum = sum; position = position }
+
+  abbrev y : List ℕ
+  y = take used piece
+
+  module _ (s : Passed d.section d.env d.sum d.position d.in_progress sum position piece used count) (k : InData d bytes) where
+    abbrev room : ℕ
+    room = k.size - length (records_bytes empty_environment k.records)
+
+    abbrev rs : List (Record A)
+    rs = s.passed.0
+
+    abbrev all : List (Record A)
+    all = k.records ++ rs
+
+    part_are : IsBytes k.part
+    part_are =
+        let next : List ℕ = progress_bytes (at_data k.header k.size k.records k.part) in
+        IsBytes-back (header_bytes k.header k.size ++ records_bytes empty_environment k.records) k.part (IsBytes-back (chain_bytes k.files) next (subst IsBytes k.come.spelled are))
+
+    no_part : k.part ≡ []
+    no_part =
+        let c = come d.env room k.part (state_at d.position d.in_progress) k.walk part_are in
+        sym c.spelled ∙ none_begun d.env (state_at d.position d.in_progress) c.of c.is s.begins
+
+    all_room : d.position.room ≡ room
+    all_room = let c = come d.env room k.part (state_at d.position d.in_progress) k.walk part_are in omega (arith, c.total, ap length no_part)
+
+    here : HasCome k.files (at_data k.header k.size k.records []) bytes
+    here = subst (λ p. HasCome k.files (at_data k.header k.size k.records p) bytes) no_part k.come
+
+    fits : AllFit (learn_all empty_environment k.records) rs
+    fits = subst (λ e. AllFit e rs) k.known s.passed.1.0
+
+    spelled : y ≡ records_bytes (learn_all empty_environment k.records) rs
+    spelled = s.passed.1.1 ∙ ap (λ e. records_bytes e rs) k.known
+
+    long : length y ≡ used
+    long = length-take-le used piece s.within
+
+    within_room : length y ≤ room
+    within_room = omega (arith, long, s.room, all_room)
+
+    left : k.size - length (records_bytes empty_environment all) ≡ room - used
+    left = omega (arith, total k.files k.header k.size k.records rs bytes y here fits spelled within_room, long)
+
+    learnt : d.env ≡ learn_all empty_environment all
+    learnt = sym s.passed.2 ∙ ap (λ e. learn_all e rs) k.known ∙ sym (learn_all-append empty_environment k.records rs)
+
+    fill : can_fill (learn_all empty_environment all) (k.size - length (records_bytes empty_environment all)) ≡ true
+    fill = large_fills (learn_all empty_environment all) (k.size - length (records_bytes empty_environment all)) (sixteen_places all) (omega (arith, left, s.room, all_room))
+
+    all_come : HasCome k.files (at_data k.header k.size all []) (bytes ++ y)
+    all_come = records_come k.files k.header k.size k.records rs bytes y here fits spelled within_room
+
+    all_summed : sum ≡ header_bytes k.header k.size ++ records_bytes empty_environment all
+    all_summed =
+        s.summed ∙ ap (λ l. l ++ y) (k.summed ∙ ap (λ p. (header_bytes k.header k.size ++ records_bytes empty_environment k.records) ++ p) no_part ∙ append-nil (header_bytes k.header k.size ++ records_bytes empty_environment k.records))
+        ∙ append_assoc (header_bytes k.header k.size) (records_bytes empty_environment k.records) y
+        ∙ ap (λ b. header_bytes k.header k.size ++ b) (ap (λ b. records_bytes empty_environment k.records ++ b) spelled ∙ sym (records_bytes-append empty_environment k.records rs))
+
+    at : state_at position d.in_progress ≡ start (k.size - length (records_bytes empty_environment all))
+    at = let here_room = s.left ∙ ap (λ m. m - used) all_room ∙ sym left in
+        λ i. record { phase = s.begun.phase i; room = here_room i; in_progress = s.begins i; partial = s.begun.partial i }
+
+    in_data : section_of (k.size - length (records_bytes empty_environment all)) ≡ Data
+    in_data = ap (λ c. cond c ClosingSum Data) (ne_eqb (k.size - length (records_bytes empty_environment all)) 0 (λ none. omega (arith, none, left, s.room, all_room)))
+
+    holds_behind : Holds now (bytes ++ y)
+    holds_behind =
+        subst (λ c. HoldsAt c now (bytes ++ y)) (in_data ∙ sym s.in_data)
+        (begins_records k.files now (bytes ++ y) k.header k.size all all_come k.few k.counted k.whole k.fresh all_summed learnt at fill)
+
+    viable_behind : IsViable A chain_limit (bytes ++ y)
+    viable_behind =
+        goes_viable chain_limit k.files (at_data k.header k.size all []) (bytes ++ y) all_come (IsBytes-append bytes y are (IsBytes-take used piece low))
+        (let few = k.few in omega (arith, few), let few = k.few in omega (arith, few), data_starts (learn_all empty_environment all) (k.size - length (records_bytes empty_environment all)) _ (sixteen_places all) fill)
+
+    pub passed_over : Skimmed now bytes piece used count
+    passed_over = record {
+      within = s.within;
+      told = λ events are_told. (rs, s.passed.3, records_told k.files k.header k.size k.records rs bytes y here fits spelled within_room events are_told);
+      viable = viable_behind;
+      holds = holds_behind;
+    }
+
+  nothing_over : used ≡ 0 → count ≡ 0 → sum ≡ d.sum → position ≡ d.position → IsViable A chain_limit bytes → Holds d bytes → Skimmed now bytes piece used count
+  nothing_over none no_count same there viable holds =
+      let stay : bytes ≡ bytes ++ y = sym (append-nil bytes) ∙ ap (λ n. bytes ++ take n piece) (sym none) in
+      let fields : d ≡ now = λ i. record d { sum = sym same i; position = sym there i } in
+      record {
+        within = omega (arith, none);
+        told = λ events are_told. ([], sym no_count, subst (λ l. AreEvents l (events ++ [])) stay (subst (AreEvents bytes) (sym (append-nil events)) are_told));
+        viable = subst (IsViable A chain_limit) stay viable;
+        holds = subst (λ f. Holds f (bytes ++ y)) fields (subst (Holds d) stay holds);
+      }
+
+  pub skims : DataSkimmed d.section d.env d.sum d.position d.in_progress sum position piece used count → IsViable A chain_limit bytes → Holds d bytes → Skimmed now bytes piece used count
+  skims (inl (none, no_count, same, there)) viable holds = nothing_over none no_count same there viable holds
+  skims (inr s) viable holds = passed_over s (subst (λ c. HoldsAt c d bytes) s.in_data holds)
+
+-- ---- what a caller of a decoder sees
+
+pub fresh : (refusal : Option Reason) (some : Bool) → some ≡ is_some refusal → some ≡ false → refusal ≡ None
+fresh None some is isnt = refl
+fresh (Some reason) some is isnt = absurd (let both : true ≡ false = sym is ∙ isnt in cc)
+
+module _ {A : Type 0} (d : Inside A) (k : IsKept d) (none : d.refusal ≡ None) (piece sum : List ℕ) (position : Position) (used count : ℕ) (low : IsBytes piece)
+    (s : DataSkimmed d.section d.env d.sum d.position d.in_progress sum position piece used count) where
+  pub skimmed : Skimmed (record (fields_of d) { sum = sum; position = position }) d.history.items piece used count
+  skimmed = skims (fields_of d) d.history.items piece sum position used count k.are low s k.viable (k.holds none)
+
+  pub within_piece : used ≤ length piece
+  within_piece = skimmed.within
+
+  more_bytes : length (d.history.items ++ take used piece) ≡ d.count + used
+  more_bytes = omega (arith, length-append d.history.items (take used piece), k.counted, length-take-le used piece skimmed.within)
+
+  pub few_skimmed : Fits w64 (d.count + used)
+  few_skimmed = omega (arith, more_bytes, short_bytes (d.history.items ++ take used piece) skimmed.viable)
+
+  pub skimmed_kept : (n : Inside A) → n.history.items ≡ d.history.items ++ take used piece → fields_of n ≡ record (fields_of d) { sum = sum; position = position } → n.count ≡ d.count + used → n.refusal ≡ None → IsKept n
+  skimmed_kept n took same counted fresh = record {
+    viable = subst (IsViable A chain_limit) (sym took) skimmed.viable;
+    are = subst IsBytes (sym took) (IsBytes-append d.history.items (take used piece) k.are (IsBytes-take used piece low));
+    counted = counted ∙ sym more_bytes ∙ ap length (sym took);
+    holds = λ _. subst (λ f. Holds f n.history.items) (sym same) (subst (Holds (record (fields_of d) { sum = sum; position = position })) (sym took) skimmed.holds);
+    let_go = λ reason is. absurd (let both : Some reason ≡ None = sym is ∙ fresh in cc);
+  }
+
+  pub records_skimmed : (old : Seen) → record { bytes = d.history.items; refusal = d.refusal } ≡ old → (bytes : List ℕ) → bytes ≡ d.history.items ++ take used piece
+      → (events : List (Event A)) → AreEvents old.bytes events → (records : List (Record A)) × (length records ≡ count) × AreEvents bytes (events ++ map item records)
+  records_skimmed old seen bytes took events are_told =
+      let told = skimmed.told events (subst (λ b. AreEvents b events) (sym (ap (λ (o : Seen). o.bytes) seen)) are_told) in
+      (told.0, told.1, subst (λ b. AreEvents b (events ++ map item told.0)) (sym took) told.2)
+
+-- where nothing was used
+pub none_skimmed : {A : Type 0} (bytes : List ℕ) (events : List (Event A)) → AreEvents bytes events → (records : List (Record A)) × (length records ≡ 0) × AreEvents bytes (events ++ map item records)
+none_skimmed bytes events are_told = ([], refl, subst (AreEvents bytes) (sym (append-nil events)) are_told)

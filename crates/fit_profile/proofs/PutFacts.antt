@@ -1,0 +1,65 @@
+-- The digits of numbers that are put one after another.
+use Rattle.std.proofs.Common.{◌≡◌, ◌∙◌, ◌++◌, ◌∷◌, [], ◌+◌, ◌*◌, ◌/◌, ◌%◌, ◌^◌, ◌<◌, ◌≤◌, zero, suc, ℕ, decimal, List, refl, ap, ap₂, sym, arith, append_assoc}
+use Rattle.std.proofs.Math.Nat.{pow-succ', div-div-eq-div-mul}
+use Rattle.std.proofs.lemmas.Fmt.{decimal_by_steps_wide, decimal_step_wide}
+use Rattle.fit_profile.specs.FixedText.{last_digits}
+use Rattle.fit_profile.proofs.DigitFacts.{last_digits-end, last_digits-none, power_above}
+use Rattle.std.proofs.lemmas.List.{append-nil}
+
+pub one_digit : (n : ℕ) → n < 10 → decimal n ≡ (48 + n) ∷ []
+one_digit n h = decimal_by_steps_wide (λ m ds. m < 10 → ds ≡ (48 + m) ∷ []) (λ m l less. refl) (λ m ds l more less. absurd (omega (arith, l, less))) n (omega (arith, h)) h
+
+pub two_digits : (n : ℕ) → 10 ≤ n → n < 100 → decimal n ≡ (48 + n / 10) ∷ (48 + n % 10) ∷ []
+two_digits n low high = decimal_step_wide n low (omega (arith, high)) ∙ ap (λ ds. ds ++ ((48 + n % 10) ∷ [])) (one_digit (n / 10) (omega (arith, high)))
+
+pub three_digits : (n : ℕ) → 100 ≤ n → n < 1000 → decimal n ≡ (48 + n / 100) ∷ (48 + n / 10 % 10) ∷ (48 + n % 10) ∷ []
+three_digits n low high =
+    let tens : n / 10 / 10 ≡ n / 100 = omega arith in
+    decimal_step_wide n (omega (arith, low)) (omega (arith, high)) ∙ ap (λ ds. ds ++ ((48 + n % 10) ∷ [])) (two_digits (n / 10) (omega (arith, low)) (omega (arith, high)))
+    ∙ ap (λ m. (48 + m) ∷ (48 + n / 10 % 10) ∷ (48 + n % 10) ∷ []) tens
+
+pub four_digits : (n : ℕ) → 1000 ≤ n → n < 10_000 → decimal n ≡ (48 + n / 1000) ∷ (48 + n / 100 % 10) ∷ (48 + n / 10 % 10) ∷ (48 + n % 10) ∷ []
+four_digits n low high =
+    let hundreds : n / 10 / 100 ≡ n / 1000 = omega arith in
+    let tens : n / 10 / 10 % 10 ≡ n / 100 % 10 = omega arith in
+    decimal_step_wide n (omega (arith, low)) (omega (arith, high)) ∙ ap (λ ds. ds ++ ((48 + n % 10) ∷ [])) (three_digits (n / 10) (omega (arith, low)) (omega (arith, high)))
+    ∙ ap₂ (λ a b. (48 + a) ∷ (48 + b) ∷ (48 + n / 10 % 10) ∷ (48 + n % 10) ∷ []) hundreds tens
+
+pub last_four : (n : ℕ) → last_digits 4 n ≡ (48 + n / 1000 % 10) ∷ (48 + n / 100 % 10) ∷ (48 + n / 10 % 10) ∷ (48 + n % 10) ∷ []
+unfolding last_digits
+last_four n = let one : n / 1 % 10 ≡ n % 10 = omega arith in ap (λ d. (48 + n / 1000 % 10) ∷ (48 + n / 100 % 10) ∷ (48 + n / 10 % 10) ∷ (48 + d) ∷ []) one
+
+-- a number is what stands before its last digits, and those
+pub split_digits : (k n : ℕ) → 10 ^ k ≤ n → n < 10 ^ 64 → decimal n ≡ decimal (n / 10 ^ k) ++ last_digits k n
+split_digits zero n low high = rw last_digits-none (let e : n / 1 ≡ n = omega arith in rw e (sym (append-nil (decimal n))))
+split_digits (suc k) n low high =
+    let above = power_above k in
+    let tens : 10 ^ suc k ≡ 10 * 10 ^ k = pow-succ' 10 k in
+    let least : 10 * 10 ^ k ≤ n = rw tens at low in
+    let parts : n / 10 ^ suc k ≡ n / 10 / 10 ^ k = ap (λ p. n / p) tens ∙ sym (div-div-eq-div-mul n 10 (10 ^ k)) in
+    decimal_step_wide n (omega (arith, least, above)) high
+    ∙ ap (λ ds. ds ++ ((48 + n % 10) ∷ [])) (split_digits k (n / 10) (omega (arith, least)) (omega (arith, high)))
+    ∙ append_assoc (decimal (n / 10 / 10 ^ k)) (last_digits k (n / 10)) ((48 + n % 10) ∷ [])
+    ∙ ap₂ (λ q ds. decimal q ++ ds) (sym parts) (sym (last_digits-end k n))
+
+-- behind a text, in two parts
+pub put_parts : (n : ℕ) (text : List ℕ) → 10_000 ≤ n → n < 2 ^ 64 → (text ++ decimal (n / 10_000)) ++ last_digits 4 n ≡ text ++ decimal n
+put_parts n text low high = append_assoc text (decimal (n / 10_000)) (last_digits 4 n) ∙ ap (λ ds. text ++ ds) (sym (split_digits 4 n low (omega (arith, high))))
+
+pub one_decimal : (n : ℕ) → n < 10 → last_digits 1 n ≡ (48 + n) ∷ []
+unfolding last_digits
+one_decimal n h = let one : n / 1 % 10 ≡ n = omega (arith, h) in ap (λ d. (48 + d) ∷ []) one
+
+pub two_decimals : (n : ℕ) → n < 100 → last_digits 2 n ≡ (48 + n / 10) ∷ (48 + n % 10) ∷ []
+unfolding last_digits
+two_decimals n h =
+    let first : n / 10 % 10 ≡ n / 10 = omega (arith, h) in
+    let last : n / 1 % 10 ≡ n % 10 = omega arith in
+    ap₂ (λ a b. (48 + a) ∷ (48 + b) ∷ []) first last
+
+pub three_decimals : (n : ℕ) → n < 1000 → last_digits 3 n ≡ (48 + n / 100) ∷ (48 + n / 10 % 10) ∷ (48 + n % 10) ∷ []
+unfolding last_digits
+three_decimals n h =
+    let first : n / 100 % 10 ≡ n / 100 = omega (arith, h) in
+    let last : n / 1 % 10 ≡ n % 10 = omega arith in
+    ap₂ (λ a b. (48 + a) ∷ (48 + n / 10 % 10) ∷ (48 + b) ∷ []) first last

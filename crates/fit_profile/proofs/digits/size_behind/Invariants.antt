@@ -1,0 +1,6 @@
+use Rattle.std.proofs.Common.{◌≡◌, drop}
+use Rattle.fit_profile.specs.Digits.{digits_in}
+use Rattle.fit_profile.proofs.digits.size_behind.Given as goal
+
+abbrev pub invariant-loop-byte : goal.invariant-loop-byte
+invariant-loop-byte l = digits_in l.fn.before l.fn.text ≡ digits_in l.size (drop l.byte-index l.fn.text)
