@@ -6,7 +6,7 @@ ghost use Rattle.fit_report.specs.Heard.{AreHeard, hear};
 ghost use Rattle.fit_cmd.specs.Lines.{check_line, file_line, Counts};
 
 use crate::lines::put_numbered;
-use fit_decode::Event;
+use fit_decode::{Decoder, Event};
 use fit_report::Report;
 use std::alloc::AllocError;
 
@@ -59,13 +59,9 @@ impl CheckReport {
 }
 
 impl Report for CheckReport {
-    ghost use Rattle.std.specs.Prelude.{true};
-
     ghost has_heard = { λ r heard. Counts r.files r.data_size r.records heard };
 
     ghost line = { check_line };
-
-    ghost passes = { true };
 
     fn tell(&mut self, event: &Event, text: &mut Vec<u8>) -> Result<(), AllocError> {
         self.note(event);
@@ -77,11 +73,9 @@ impl Report for CheckReport {
         }
     }
 
-    fn passes(&self) -> bool {
-        true
-    }
-
-    fn pass(&mut self, count: u64) {
+    fn skip(&mut self, decoder: &mut Decoder, piece: &[u8]) -> usize {
+        let (used, count) = decoder.skip_messages(piece);
         self.records += count;
+        used
     }
 }

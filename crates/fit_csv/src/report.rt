@@ -91,15 +91,12 @@ impl CsvReport {
 }
 
 impl Report for CsvReport {
-    ghost use Rattle.std.specs.Prelude.{false};
     ghost use Rattle.fit_report.specs.Heard.{AreHeard, hear, line_of};
     ghost use Rattle.fit_csv.specs.Conversions.{csv_line};
 
     ghost has_heard = { λ r heard. r ≡ heard };
 
     ghost line = { csv_line };
-
-    ghost passes = { false };
 
     fn tell(&mut self, event: &Event, text: &mut Vec<u8>) -> Result<(), AllocError>
         requires { AreHeard (hear event.now self.old) }
@@ -112,13 +109,5 @@ impl Report for CsvReport {
         follow(&mut self.stream, event)?;
         self.heard.add(event);
         Ok(())
-    }
-
-    fn passes(&self) -> bool {
-        false
-    }
-
-    fn pass(&mut self, _count: u64) {
-        unreachable!()
     }
 }

@@ -90,15 +90,12 @@ impl ShowReport {
 }
 
 impl Report for ShowReport {
-    ghost use Rattle.std.specs.Prelude.{false};
     ghost use Rattle.fit_report.specs.Heard.{line_of};
     ghost use Rattle.fit_csv.specs.ShowLines.{show_line};
 
     ghost has_heard = { λ r heard. r ≡ heard };
 
     ghost line = { show_line };
-
-    ghost passes = { false };
 
     fn tell(&mut self, event: &Event, text: &mut Vec<u8>) -> Result<(), AllocError>
         requires { AreHeard (hear event.now self.old) }
@@ -109,13 +106,5 @@ impl Report for ShowReport {
         looking_back_is_learning::<Global>();
         let time = self.note(event)?;
         put_event(text, self.files, &self.stream, time, event)
-    }
-
-    fn passes(&self) -> bool {
-        false
-    }
-
-    fn pass(&mut self, _count: u64) {
-        unreachable!()
     }
 }

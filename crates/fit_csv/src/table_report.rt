@@ -125,15 +125,12 @@ impl TableReport {
 }
 
 impl Report for TableReport {
-    ghost use Rattle.std.specs.Prelude.{false};
     ghost use Rattle.fit_report.specs.Heard.{AreHeard, hear, line_of};
     ghost use Rattle.fit_csv.specs.Conversions.{table_text};
 
     ghost has_heard = { λ r heard. r ≡ heard };
 
     ghost line = { table_text };
-
-    ghost passes = { false };
 
     fn tell(&mut self, event: &Event, text: &mut Vec<u8>) -> Result<(), AllocError>
         requires { AreHeard (hear event.now self.old) }
@@ -146,13 +143,5 @@ impl Report for TableReport {
         let put = hear(text, &mut self.stream, &mut self.files, event)?;
         self.heard.add(event);
         put
-    }
-
-    fn passes(&self) -> bool {
-        false
-    }
-
-    fn pass(&mut self, _count: u64) {
-        unreachable!()
     }
 }

@@ -13,27 +13,13 @@ use Rattle.fit_frame.specs.Header.{HeaderFits, header_bytes}
 use Rattle.fit_frame.specs.Beginning.{IsDataSize, BeginsHeader}
 use Rattle.fit_record.specs.declared.file.FitFile.{FitFile}
 use Rattle.fit_record.specs.declared.message.Record.{Record}
-use Rattle.fit_record.specs.Environment.{Environment, empty_environment, learn, learn_all}
-use Rattle.fit_record.specs.Records.{record_bytes, AllFit, records_bytes}
+use Rattle.fit_record.specs.Environment.{empty_environment, learn_all}
+use Rattle.fit_record.specs.Records.{AllFit, records_bytes}
 use Rattle.fit_record.specs.Files.{file_bytes, chain_bytes, IsWellFormed, IsViable, CanFill}
 use Rattle.fit_record.proofs.LargeRooms.{six_and_more}
+use Rattle.fit_record.proofs.RecordLists.{all_fit-append, records_bytes-append}
 use Rattle.fit_decode.specs.Progress.{Progress, at_header, at_data, progress_bytes, IsUnfinished, HasCome}
 use Rattle.fit_decode.specs.GoingOn.{DataGoesOn, GoesOn, ChainGoesOn}
-
--- ---- records behind records
-
-pub all_fit-append : {A : Type 0} (e : Environment A) (rs ss : List (Record A)) → AllFit e rs → AllFit (learn_all e rs) ss → AllFit e (rs ++ ss)
-all_fit-append e [] ss p q = q
-all_fit-append e (r ∷ rs) ss p q = (p.0, all_fit-append (learn e r) rs ss p.1 q)
-
-pub records_bytes-append : {A : Type 0} (e : Environment A) (rs ss : List (Record A)) → records_bytes e (rs ++ ss) ≡ records_bytes e rs ++ records_bytes (learn_all e rs) ss
-records_bytes-append e [] ss = refl
-records_bytes-append e (r ∷ rs) ss =
-    ap (λ b. record_bytes e r ++ b) (records_bytes-append (learn e r) rs ss) ∙ sym (append_assoc (record_bytes e r) (records_bytes (learn e r) rs) (records_bytes (learn_all (learn e r) rs) ss))
-
-pub learn_all-append : {A : Type 0} (e : Environment A) (rs ss : List (Record A)) → learn_all e (rs ++ ss) ≡ learn_all (learn_all e rs) ss
-learn_all-append e [] ss = refl
-learn_all-append e (r ∷ rs) ss = learn_all-append (learn e r) rs ss
 
 -- ---- one file
 

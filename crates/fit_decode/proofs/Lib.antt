@@ -45,4 +45,4 @@ pub mod EntriesSoFar
 pub mod Holding
 pub mod NextRead
 pub mod ChainRead
-pub mod Skimming
+pub mod Skipping

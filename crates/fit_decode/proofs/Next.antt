@@ -12,9 +12,10 @@ use Rattle.fit_record.specs.declared.message.Record.{Record}
 use Rattle.fit_record.specs.Environment.{Environment, empty_environment, learn, learn_all}
 use Rattle.fit_record.specs.Records.{Fits, record_bytes, records_bytes}
 use Rattle.fit_record.specs.Files.{file_bytes, chain_bytes}
+use Rattle.fit_record.proofs.RecordLists.{all_fit-append, records_bytes-append, learn_all-append}
 use Rattle.fit_decode.specs.Progress.{Progress, at_header, at_data, progress_bytes, IsPartial, IsUnfinished, HasCome}
 use Rattle.fit_decode.specs.Events.{Event, header, item, file_end, file_events, progress_events, AreEvents}
-use Rattle.fit_decode.proofs.Completions.{all_append, chain_bytes-append, all_fit-append, records_bytes-append, learn_all-append}
+use Rattle.fit_decode.proofs.Completions.{all_append, chain_bytes-append}
 use Rattle.fit_decode.proofs.OneReason.{one_list_of_events}
 use Rattle.fit_decode.proofs.Whole.{NoHeader, unfinished, NoRecord, partial, partial_nothing}
 

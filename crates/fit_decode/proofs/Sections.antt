@@ -16,6 +16,7 @@ use Rattle.fit_record.specs.Records.{record_bytes, records_bytes}
 use Rattle.fit_record.specs.Rooms.{can_fill}
 use Rattle.fit_record.specs.Files.{chain_limit, IsViable}
 use Rattle.fit_record.proofs.FilledRooms.{can_fill_is}
+use Rattle.fit_record.proofs.RecordLists.{records_bytes-append, learn_all-append}
 use Rattle.fit_step.specs.declared.position.Position.{Position}
 use Rattle.fit_step.specs.declared.stop.Stop.{Stop}
 use Rattle.fit_step.specs.declared.stop.Stop.TheVariants.{Refused, NoMemory}
@@ -35,7 +36,7 @@ use Rattle.fit_decode.specs.GoingOn.{files_begun, ChainGoesOn}
 use Rattle.fit_decode.specs.Scans.{IsOpen, HeadsNoEmptyMessage, sum_part}
 use Rattle.fit_decode.specs.Sections.{section_of, position_of, HeaderFed, DataFed, SumFed}
 use Rattle.fit_decode.specs.Kept.{Fields, InHeader, InData, InSum, Holds, HoldsAt, Next}
-use Rattle.fit_decode.proofs.Completions.{goes_viable, fill_data, records_bytes-append, learn_all-append}
+use Rattle.fit_decode.proofs.Completions.{goes_viable, fill_data}
 use Rattle.fit_decode.proofs.Next.{whole_header}
 use Rattle.fit_decode.proofs.Whole.{begun_header}
 use Rattle.fit_decode.proofs.HeaderFed.{header_fronts, header_quiet, header_least, header_refuses, full_refuses}

@@ -10,7 +10,7 @@ pub mod Answers
 pub mod Scans
 pub mod Sections
 pub mod Kept
-pub mod Skims
+pub mod Skips
 pub mod InProgress
 pub mod Invariant
 pub mod Sources

@@ -1,12 +1,11 @@
 //! The resumable decoder.
-ghost use Rattle.std.specs.Prelude.{◌≡◌, ◌↔◌, ℕ, ◌<◌, ◌≤◌, List, [], ◌++◌, length, map, take, Some, None, Ok, Err, IfOk, IsErr, IsOk, IsTrue};
+ghost use Rattle.std.specs.Prelude.{◌≡◌, ◌↔◌, ℕ, ◌<◌, ◌≤◌, List, [], ◌++◌, length, take, Some, None, Ok, Err, IfOk, IsErr, IsOk, IsTrue};
 ghost use Rattle.fit_frame.specs.declared.reason.Reason.{Reason};
 ghost use Rattle.fit_record.specs.Files.{chain_limit, IsViable};
-ghost use Rattle.fit_record.specs.declared.message.Record.{Record};
-ghost use Rattle.fit_decode.specs.Events.{Event as Told, AreEvents, item};
+ghost use Rattle.fit_decode.specs.Events.{Event as Told, AreEvents};
 ghost use Rattle.fit_decode.specs.Held.{bound_limit, IsHeld};
 ghost use Rattle.fit_decode.specs.Needs.{Needs, NoFileEndsBefore};
-ghost use Rattle.fit_decode.specs.Answers.{told, fed, Quiet, Least, Refuses, Wants, AreChain};
+ghost use Rattle.fit_decode.specs.Answers.{told, fed, Quiet, Least, Refuses, Wants, AreChain, TellsMessages};
 
 #[cfg(test)]
 mod tests;
@@ -14,7 +13,7 @@ mod tests;
 use crate::held::in_progress_size;
 use crate::need::bytes_to_come;
 use crate::record::let_go;
-use crate::section::{Section, feed_section, skim_data};
+use crate::section::{Section, feed_section, skip_data};
 use crate::{Event, Fault, Fed};
 use fit_frame::{HeadReader, Reason};
 use fit_history::History;
@@ -144,22 +143,24 @@ impl<A: Allocator + Copy> Decoder<A> {
         }
     }
 
-    /// Passes over data messages at the front of the piece: they count as fed, and no record is made of them. Answers how many
-    /// bytes were used, and how many messages these are. It takes no memory, and refuses nothing.
+    /// Skips data messages at the front of the piece: they count as fed, and no record is made of them. Returns how many bytes
+    /// were used, and how many messages they are. It takes no memory, and refuses nothing.
     ///
-    /// It ends before a byte that it can't pass over: one that doesn't begin a data message which is whole in the piece and describes
-    /// no developer field, and one of the last bytes of a data section. Those are for `feed`.
-    pub fn skim(&mut self, piece: &[u8]) -> (usize, u64)
+    /// It ends before the first byte that is for `feed`: that of anything but a data message, of one that isn't whole in the
+    /// piece or may describe a developer field, and of one that ends in the last six bytes of a data section.
+    pub fn skip_messages(&mut self, piece: &[u8]) -> (usize, u64)
         ensures within { result.0 ≤ length piece.now }
         ensures used { self.new ≡ record self.old { bytes = self.old.bytes ++ take result.0 piece.now } }
-        // The bytes used tell so many records, and nothing else.
-        ensures records { (events : List (Told A)) → AreEvents self.old.bytes events → (records : List (Record A)) × (length records ≡ result.1) × AreEvents self.new.bytes (events ++ map item records) }
+        // The bytes used tell that many data messages, and nothing else.
+        ensures messages { (events : List (Told A)) → AreEvents self.old.bytes events → TellsMessages self.new.bytes events result.1 }
+        // After a refusal nothing is used.
+        ensures refused { (reason : Reason) → self.old.refusal ≡ Some reason → (result ≡ (0, 0)) × (self.new ≡ self.old) }
         ensures viable { IsViable A chain_limit self.new.bytes }
     {
         if self.refusal.is_some() {
             return (0, 0);
         }
-        let (skimmed, count) = skim_data(
+        let (skipped, count) = skip_data(
             self.section,
             &self.env,
             &mut self.sum,
@@ -167,10 +168,10 @@ impl<A: Allocator + Copy> Decoder<A> {
             &self.in_progress,
             piece,
         );
-        let (taken, _) = piece.split_at(skimmed);
+        let (taken, _) = piece.split_at(skipped);
         self.history.note(taken);
-        self.count += skimmed as u64;
-        (skimmed, count)
+        self.count += skipped as u64;
+        (skipped, count)
     }
 
     /// Whether the bytes fed are a chain of files. Where they only begin one, `Truncated` names the place behind the

@@ -4,14 +4,14 @@ ghost use Rattle.fit_step.specs.Places.{state_at};
 ghost use Rattle.fit_decode.specs.Kept.{Stand, Advances};
 ghost use Rattle.fit_decode.specs.Scans.{IsOpen, Reading};
 ghost use Rattle.fit_decode.specs.Sections.{section_of, HeaderFed, DataFed, SumFed};
-ghost use Rattle.fit_decode.specs.Skims.{DataSkimmed};
+ghost use Rattle.fit_decode.specs.Skips.{DataSkipped};
 
 use crate::Event;
 use crate::record::scan_record;
 use crate::scan::{scan_header, scan_sum};
 use fit_frame::{HeadReader, Reason};
 use fit_record::{Env, Record};
-use fit_step::{Position, Stop, pass_messages};
+use fit_step::{Position, Stop, messages_to_skip};
 use fit_sum::Sum;
 use std::alloc::Allocator;
 
@@ -95,9 +95,8 @@ pub(crate) fn feed_data<A: Allocator + Copy>(
     }
 }
 
-/// Whole data messages that are passed over, behind which six bytes of data at least are to come: how many bytes they have, and
-/// how many they are.
-pub(crate) fn skim_data<A: Allocator + Copy>(
+/// Skips whole data messages after which at least six bytes of data are to come: how many bytes they have, and how many they are.
+pub(crate) fn skip_data<A: Allocator + Copy>(
     section: Section,
     env: &Env<A>,
     sum: &mut Sum,
@@ -105,7 +104,7 @@ pub(crate) fn skim_data<A: Allocator + Copy>(
     in_progress: &Option<Record<A>>,
     piece: &[u8],
 ) -> (usize, u64)
-    ensures { DataSkimmed section env.now sum.old position.old in_progress.now sum.new position.new piece.now result.0 result.1 }
+    ensures { DataSkipped section env.now sum.old position.old in_progress.now sum.new position.new piece.now result.0 result.1 }
 {
     match section {
         Section::Data => {}
@@ -121,7 +120,7 @@ pub(crate) fn skim_data<A: Allocator + Copy>(
     }
     let most = piece.len().min((position.room - 6) as usize);
     let (front, _) = piece.split_at(most);
-    let (used, count) = pass_messages(env, front);
+    let (used, count) = messages_to_skip(env, front);
     let (taken, _) = piece.split_at(used);
     sum.add_all(taken);
     *position = Position::new(position.room - used as u32);

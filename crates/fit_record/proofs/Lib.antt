@@ -1,5 +1,6 @@
 pub mod KnownFiles
 pub mod OneRecord
+pub mod RecordLists
 pub mod OneFile
 pub mod ChainOfOne
 pub mod Lengths

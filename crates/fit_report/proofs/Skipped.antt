@@ -1,13 +1,13 @@
--- What the passing over of records leaves, in a piece that isn't over.
-use Rattle.std.proofs.Common.{◌≡◌, ℕ, ◌+◌, ◌-◌, ◌^◌, ◌≤◌, min, List, ◌++◌, length, drop, map, reverse, Option, None, sym, ap, ◌∙◌, subst, arith}
+-- What skipping leaves, in a piece that isn't over.
+use Rattle.std.proofs.Common.{◌≡◌, ℕ, ◌+◌, ◌-◌, ◌^◌, ◌≤◌, min, List, [], ◌++◌, length, drop, map, reverse, Option, None, sym, ap, ◌∙◌, subst, arith}
 use Rattle.std.specs.Io.KnownBytes.{Appends}
-use Rattle.std.proofs.lemmas.List.{length-drop, reverse-append, reverse-reverse}
+use Rattle.std.proofs.lemmas.List.{append-nil, length-drop, reverse-append, reverse-reverse}
 use Rattle.fit_record.specs.declared.message.Record.{Record}
 use Rattle.fit_decode.specs.Answers.{Seen, fed}
 use Rattle.fit_decode.specs.Events.{Event, AreEvents, item}
 use Rattle.fit_decode.proofs.PieceTold.{fed_on}
-use Rattle.fit_report.specs.Heard.{Lines, hear_records}
-use Rattle.fit_report.specs.Passing.{PassedOver, Stands}
+use Rattle.fit_report.specs.Heard.{Lines, Skips, hear_records}
+use Rattle.fit_report.specs.Passing.{Stands}
 
 pub records_heard : {A : Type 0} (bytes : List ℕ) (records : List (Record A)) (heard : List (Event A)) → AreEvents bytes (reverse heard ++ map item records) → AreEvents bytes (reverse (hear_records records heard))
 records_heard bytes records heard are =
@@ -16,7 +16,7 @@ records_heard bytes records heard are =
 pub fed_so : (old new : Seen) (bytes more : List ℕ) → new ≡ record old { bytes = bytes ++ more } → old.refusal ≡ None → new ≡ record { bytes = bytes ++ more; refusal = None }
 fed_so old new bytes more is fresh = is ∙ (λ i. record { bytes = bytes ++ more; refusal = fresh i })
 
-module _ {A R : Type 0} (has_heard : R → List (Event A) → Type 0) (line : Lines A) (old seen mid : Seen) (piece : List ℕ) (at used : ℕ) (before after : R) (p : PassedOver has_heard line seen mid (drop at piece) before after used)
+module _ {A R : Type 0} (has_heard : R → List (Event A) → Type 0) (line : Lines A) (old seen mid : Seen) (piece : List ℕ) (at used : ℕ) (before after : R) (p : Skips has_heard line seen mid (drop at piece) before after used)
     (is : seen ≡ fed old piece at) (within : at ≤ length piece) where
   pub mid_within : at + used ≤ length piece
   mid_within = omega (arith, p.within, length-drop at piece, within)
@@ -32,3 +32,7 @@ module _ {A R : Type 0} (has_heard : R → List (Event A) → Type 0) (line : Li
   mid_stands start now written (heard, has, s) =
       let t = p.told heard has s.are in
       (t.0, t.1, record { are = t.2; put = subst (Appends start now) (sym t.3) s.put; counted = s.counted ∙ ap (λ (text : List ℕ). min (length text) (2 ^ 64 - 1)) (sym t.3) })
+
+-- nothing fed is all that was there
+pub none_fed : (old : Seen) → old.refusal ≡ None → old ≡ record { bytes = old.bytes ++ []; refusal = None }
+none_fed old fresh = λ i. record { bytes = sym (append-nil old.bytes) i; refusal = fresh i }

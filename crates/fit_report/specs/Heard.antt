@@ -1,10 +1,10 @@
 -- What a reporter hears, and the text of it. Events are listed with the latest first.
-use Rattle.std.specs.Prelude.{ℕ, List, [], ◌∷◌, ◌++◌, map, reverse}
+use Rattle.std.specs.Prelude.{◌≡◌, ℕ, ◌≤◌, List, [], ◌∷◌, ◌++◌, None, length, map, reverse}
 use Rattle.std.specs.Option.{option_map_or}
 use Rattle.fit_record.specs.declared.message.Record.{Record}
 use Rattle.fit_record.specs.Files.{chain_limit, IsViable}
 use Rattle.fit_decode.specs.declared.event.Event.{Event as Answer}
-use Rattle.fit_decode.specs.Answers.{told}
+use Rattle.fit_decode.specs.Answers.{Seen, fed, told}
 use Rattle.fit_decode.specs.Events.{Event, header, item, file_end, AreEvents}
 
 -- what is heard behind an answer of a decoder
@@ -40,6 +40,16 @@ line_of line heard answer = option_map_or (line heard) (told answer) []
 abbrev pub text_of : {A : Type 0} → Lines A → List (Event A) → List ℕ
 text_of line [] = []
 text_of line (x ∷ heard) = text_of line heard ++ line heard x
+
+-- ---- skipping
+
+-- The first bytes of a piece, so many, are fed, and what was heard is now the events of all bytes fed. The new ones have no text.
+pub record Skips {A R : Type 0} (has_heard : R → List (Event A) → Type 0) (line : Lines A) (old new : Seen) (piece : List ℕ) (before after : R) (used : ℕ) : Type 0 where
+  pub within : used ≤ length piece
+  pub is_fed : old.refusal ≡ None → new ≡ fed old piece used
+  pub viable : IsViable A chain_limit new.bytes
+  pub told : (heard : List (Event A)) → has_heard before heard → AreEvents old.bytes (reverse heard)
+      → (now : List (Event A)) × has_heard after now × AreEvents new.bytes (reverse now) × (text_of line now ≡ text_of line heard)
 
 -- ---- for a list of answers. No public contract names this.
 

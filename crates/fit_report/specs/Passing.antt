@@ -1,10 +1,10 @@
 -- What the parts of a report do. No public contract names these.
-use Rattle.std.specs.Prelude.{◌≡◌, ℕ, ◌+◌, ◌-◌, ◌^◌, ◌<◌, ◌≤◌, min, true, List, ◌++◌, Option, None, Result, Ok, Err, take, length, reverse, slice_index}
+use Rattle.std.specs.Prelude.{◌≡◌, ℕ, ◌+◌, ◌-◌, ◌^◌, ◌<◌, min, true, List, ◌++◌, Option, None, Result, Ok, Err, take, length, reverse, slice_index}
 use Rattle.std.specs.Io.KnownBytes.{Appends, Keeps}
-use Rattle.fit_record.specs.Files.{chain_limit, IsViable}
+use Rattle.fit_record.specs.Files.{chain_limit}
 use Rattle.fit_decode.specs.declared.event.Event.{Event as Answer}
 use Rattle.fit_decode.specs.declared.event.Fault.TheVariants.{Refused}
-use Rattle.fit_decode.specs.Answers.{Seen, fed}
+use Rattle.fit_decode.specs.Answers.{Seen}
 use Rattle.fit_decode.specs.Events.{Event, AreEvents}
 use Rattle.fit_decode.specs.Refusals.{IsRefused}
 use Rattle.fit_report.specs.declared.fault.ReportFault.{ReportFault}
@@ -28,14 +28,6 @@ Passed line before answer sink old new (Err NoMemory) = Keeps sink.before sink.a
 Passed line before answer sink old new (Err (Write written)) =
     (sink.failed ≡ true) × (n : ℕ) × (n < length (line_of line before answer))
     × Appends sink.before sink.after (take n (line_of line before answer)) × (written ≡ min (old + n) (2 ^ 64 - 1))
-
--- Records were passed over: the bytes used are fed, and nothing else is told by them; and they have no text.
-pub record PassedOver {A R : Type 0} (has_heard : R → List (Event A) → Type 0) (line : Lines A) (old new : Seen) (bytes : List ℕ) (before after : R) (used : ℕ) : Type 0 where
-  pub within : used ≤ length bytes
-  pub is_fed : old.refusal ≡ None → new ≡ fed old bytes used
-  pub viable : IsViable A chain_limit new.bytes
-  pub told : (heard : List (Event A)) → has_heard before heard → AreEvents old.bytes (reverse heard)
-      → (now : List (Event A)) × has_heard after now × AreEvents new.bytes (reverse now) × (text_of line now ≡ text_of line heard)
 
 abbrev pub unrefused : List ℕ → Seen
 unrefused bytes = record { bytes = bytes; refusal = None }

@@ -1,11 +1,11 @@
 //! What makes text of events.
-ghost use Rattle.std.specs.Prelude.{◌≡◌, ◌++◌, [], ℕ, Bool, List, OnOk, length, true};
+ghost use Rattle.std.specs.Prelude.{◌≡◌, ◌++◌, [], ℕ, List, OnOk, reverse};
 ghost use Rattle.std.specs.Global.{Global};
-ghost use Rattle.fit_record.specs.declared.message.Record.{Record};
-ghost use Rattle.fit_decode.specs.Events.{Event as Told};
-ghost use Rattle.fit_report.specs.Heard.{AreHeard, hear, hear_records, line_of, text_of};
+ghost use Rattle.fit_record.specs.Files.{chain_limit, IsViable};
+ghost use Rattle.fit_decode.specs.Events.{Event as Told, AreEvents};
+ghost use Rattle.fit_report.specs.Heard.{AreHeard, hear, line_of, Skips};
 
-use fit_decode::Event;
+use fit_decode::{Decoder, Event};
 use fit_history::History;
 use std::alloc::AllocError;
 use std::marker::Model;
@@ -18,9 +18,6 @@ pub trait Report {
     // The text of an event behind these events, the latest first.
     ghost line: { List (Told Global) → Told Global → List ℕ };
 
-    // Records may be passed over.
-    ghost passes: { Bool };
-
     /// Takes the next event, and puts its text behind the old text. Where memory is refused, the text is of no use, and the
     /// reporter is told no more.
     fn tell(&mut self, event: &Event, text: &mut Vec<u8>) -> Result<(), AllocError>
@@ -30,17 +27,17 @@ pub trait Report {
         ensures text { OnOk result ((heard : List (Told Global)) → has_heard self.old heard → AreHeard (hear event.now heard)
             → text.new.items ≡ text.old.items ++ line_of line heard event.now) };
 
-    /// Whether data messages may be passed over: then it may be told how many they were, and not each of them.
-    fn passes(&self) -> bool
-        ensures { result ≡ passes };
-
-    /// Takes so many records that were passed over, which have no text.
-    fn pass(&mut self, count: u64)
-        requires passes { passes ≡ true }
-        requires told { (heard : List (Told Global)) × (records : List (Record Global)) × (length records ≡ count) × has_heard self.old heard × AreHeard (hear_records records heard) }
-        ensures heard { (heard : List (Told Global)) (records : List (Record Global)) → length records ≡ count → has_heard self.old heard → AreHeard (hear_records records heard)
-            → has_heard self.new (hear_records records heard) }
-        ensures silent { (heard : List (Told Global)) (records : List (Record Global)) → text_of line (hear_records records heard) ≡ text_of line heard };
+    /// Skips bytes at the front of the piece whose events it needn't be told one by one, and which have no text. Returns how many
+    /// bytes were used, all of them fed to the decoder.
+    ///
+    /// A reporter that wants to be told each event leaves this method out, and skips nothing.
+    fn skip(&mut self, decoder: &mut Decoder, piece: &[u8]) -> usize
+        requires told { (heard : List (Told Global)) × has_heard self.old heard × AreEvents decoder.old.bytes (reverse heard) }
+        requires viable { IsViable Global chain_limit decoder.old.bytes }
+        ensures { Skips has_heard line decoder.old decoder.new piece.now self.old self.new result }
+    {
+        0
+    }
 }
 
 /// The events told to a reporter so far, for contracts alone: it has no bytes, and its calls do nothing at run time. Clauses see

@@ -6,7 +6,7 @@ ghost use Rattle.fit_record.specs.declared.file.FitFile.{FitFile};
 ghost use Rattle.fit_record.specs.Files.{chain_limit, IsChain, IsViable};
 ghost use Rattle.fit_decode.specs.Events.{Event as Told, AreEvents};
 ghost use Rattle.fit_report.specs.Heard.{AreHeard, hear};
-ghost use Rattle.fit_report.specs.Passing.{Passed, PassedOver, PieceTold, Stands};
+ghost use Rattle.fit_report.specs.Passing.{Passed, PieceTold, Stands};
 ghost use Rattle.fit_report.specs.Reports.{Reports, ReportsChain};
 
 use crate::{Report, ReportFault};
@@ -45,19 +45,6 @@ fn pass_on<K: Sink, R: Report>(
     }
 }
 
-/// Passes over records at the front of the bytes, where the reporter takes them so: how many bytes were used.
-fn pass_over<R: Report>(decoder: &mut Decoder, reporter: &mut R, bytes: &[u8]) -> usize
-    requires { (heard : List (Told Global)) × R.has_heard reporter.old heard × AreEvents decoder.old.bytes (reverse heard) × IsViable Global chain_limit decoder.old.bytes }
-    ensures { PassedOver R.has_heard R.line decoder.old decoder.new bytes.now reporter.old reporter.new result }
-{
-    if !reporter.passes() {
-        return 0;
-    }
-    let (used, count) = decoder.skim(bytes);
-    reporter.pass(count);
-    used
-}
-
 /// Feeds a piece, and passes on what it tells.
 fn tell_piece<K: Sink, R: Report>(
     decoder: &mut Decoder,
@@ -78,7 +65,7 @@ fn tell_piece<K: Sink, R: Report>(
     let mut at = 0;
     while at < piece.len() {
         let (_, rest) = piece.split_at(at);
-        at += pass_over(decoder, reporter, rest);
+        at += reporter.skip(decoder, rest);
         let (_, rest) = piece.split_at(at);
         let fed = decoder.feed(rest)?;
         at += fed.used;

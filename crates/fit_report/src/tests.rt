@@ -1,5 +1,5 @@
 //! A dot for each event.
-ghost use Rattle.std.specs.Prelude.{◌≡◌, [], ◌∷◌, false};
+ghost use Rattle.std.specs.Prelude.{◌≡◌, [], ◌∷◌};
 
 use crate::{Heard, Report, ReportFault, report};
 use fit_decode::{CutSource, Event, Fault};
@@ -22,8 +22,6 @@ impl Report for Dots {
 
     ghost line = { λ heard x. 46 ∷ [] };
 
-    ghost passes = { false };
-
     fn tell(&mut self, event: &Event, text: &mut Vec<u8>) -> Result<(), AllocError> {
         match event {
             Event::More => {}
@@ -33,14 +31,6 @@ impl Report for Dots {
         }
         self.heard.add(event);
         Ok(())
-    }
-
-    fn passes(&self) -> bool {
-        false
-    }
-
-    fn pass(&mut self, _count: u64) {
-        unreachable!()
     }
 }
 

@@ -25,4 +25,4 @@ pub mod Continuing
 pub mod Undoing
 pub mod Gathering
 pub mod WholeMessage
-pub mod PassedMessages
+pub mod SkippedMessages

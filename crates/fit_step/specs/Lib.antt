@@ -8,4 +8,4 @@ pub mod Steps
 pub mod Places
 pub mod Laws
 pub mod Undone
-pub mod Passing
+pub mod Skipping

@@ -1,4 +1,4 @@
--- What the passing over of records makes of the fields and of the events.
+-- What the skipping of data messages makes of the fields and of the events.
 use Rattle.std.proofs.Common.{◌≡◌, cond, inl, inr, ℕ, ◌+◌, ◌-◌, ◌≤◌, Bool, true, false, List, [], ◌++◌, length, take, refl, sym, ap, ◌∙◌, subst, arith, append_assoc, length-append, Fits, w64, Some, None}
 use Rattle.std.specs.Prelude.{Option, is_some, map}
 use Rattle.std.proofs.lemmas.Bool.{ne_eqb}
@@ -9,6 +9,7 @@ use Rattle.fit_frame.specs.declared.header.Header.{Header}
 use Rattle.fit_frame.specs.Header.{header_bytes}
 use Rattle.fit_record.specs.declared.file.FitFile.{FitFile}
 use Rattle.fit_record.specs.declared.message.Record.{Record}
+use Rattle.fit_record.specs.declared.message.Record.TheVariants.{Values as Data}
 use Rattle.fit_record.specs.Environment.{Environment, empty_environment, learn_all}
 use Rattle.fit_record.specs.Files.{chain_bytes, chain_limit, IsViable}
 use Rattle.fit_record.specs.Records.{AllFit, records_bytes}
@@ -16,22 +17,23 @@ use Rattle.fit_record.specs.Rooms.{can_fill}
 use Rattle.fit_record.proofs.FilledRooms.{can_fill_is}
 use Rattle.fit_record.proofs.LargeRooms.{six_and_more}
 use Rattle.fit_record.proofs.SixteenPlaces.{sixteen_places}
+use Rattle.fit_record.proofs.RecordLists.{all_fit-append, records_bytes-append, learn_all-append}
 use Rattle.fit_step.specs.declared.position.Position.{Position}
 use Rattle.fit_step.specs.Machine.{State, start}
 use Rattle.fit_step.specs.Parts.{Part, nothing, in_definition, in_fields, in_dev_fields, part_bytes, state_of}
 use Rattle.fit_step.specs.Places.{state_at}
 use Rattle.fit_frame.specs.declared.reason.Reason.{Reason}
 use Rattle.fit_decode.specs.declared.decoder.Decoder.TheInside.{Inside}
-use Rattle.fit_decode.specs.Answers.{Seen}
+use Rattle.fit_decode.specs.Answers.{Seen, TellsMessages}
 use Rattle.fit_decode.specs.Invariant.{IsKept, fields_of}
 use Rattle.fit_decode.proofs.Bounds.{short_bytes}
-use Rattle.fit_decode.specs.declared.section.Section.TheVariants.{Data, ClosingSum}
+use Rattle.fit_decode.specs.declared.section.Section.TheVariants.{Data as InSection, ClosingSum}
 use Rattle.fit_decode.specs.Progress.{at_data, progress_bytes, HasCome}
 use Rattle.fit_decode.specs.Events.{Event, item, AreEvents}
 use Rattle.fit_decode.specs.Kept.{Fields, InData, Holds, HoldsAt}
 use Rattle.fit_decode.specs.Sections.{section_of}
-use Rattle.fit_decode.specs.Skims.{Passed, DataSkimmed, Skimmed}
-use Rattle.fit_decode.proofs.Completions.{goes_viable, all_fit-append, records_bytes-append, learn_all-append}
+use Rattle.fit_decode.specs.Skips.{SkipsSome, DataSkipped, Skipped}
+use Rattle.fit_decode.proofs.Completions.{goes_viable}
 use Rattle.fit_decode.proofs.DataFed.{data_starts}
 use Rattle.fit_decode.proofs.Next.{more_of, items_told, all_told}
 use Rattle.fit_decode.proofs.Sections.{begins_records}
@@ -92,12 +94,12 @@ module _ {A : Type 0} (d : Fields A) (bytes piece sum : List ℕ) (position : Po
   abbrev y : List ℕ
   y = take used piece
 
-  module _ (s : Passed d.section d.env d.sum d.position d.in_progress sum position piece used count) (k : InData d bytes) where
+  module _ (s : SkipsSome d.section d.env d.sum d.position d.in_progress sum position piece used count) (k : InData d bytes) where
     abbrev room : ℕ
     room = k.size - length (records_bytes empty_environment k.records)
 
     abbrev rs : List (Record A)
-    rs = s.passed.0
+    rs = map Data s.messages.0
 
     abbrev all : List (Record A)
     all = k.records ++ rs
@@ -119,10 +121,10 @@ module _ {A : Type 0} (d : Fields A) (bytes piece sum : List ℕ) (position : Po
     here = subst (λ p. HasCome k.files (at_data k.header k.size k.records p) bytes) no_part k.come
 
     fits : AllFit (learn_all empty_environment k.records) rs
-    fits = subst (λ e. AllFit e rs) k.known s.passed.1.0
+    fits = subst (λ e. AllFit e rs) k.known s.messages.1.0
 
     spelled : y ≡ records_bytes (learn_all empty_environment k.records) rs
-    spelled = s.passed.1.1 ∙ ap (λ e. records_bytes e rs) k.known
+    spelled = s.messages.1.1 ∙ ap (λ e. records_bytes e rs) k.known
 
     long : length y ≡ used
     long = length-take-le used piece s.within
@@ -134,7 +136,7 @@ module _ {A : Type 0} (d : Fields A) (bytes piece sum : List ℕ) (position : Po
     left = omega (arith, total k.files k.header k.size k.records rs bytes y here fits spelled within_room, long)
 
     learnt : d.env ≡ learn_all empty_environment all
-    learnt = sym s.passed.2 ∙ ap (λ e. learn_all e rs) k.known ∙ sym (learn_all-append empty_environment k.records rs)
+    learnt = sym s.messages.2 ∙ ap (λ e. learn_all e rs) k.known ∙ sym (learn_all-append empty_environment k.records rs)
 
     fill : can_fill (learn_all empty_environment all) (k.size - length (records_bytes empty_environment all)) ≡ true
     fill = large_fills (learn_all empty_environment all) (k.size - length (records_bytes empty_environment all)) (sixteen_places all) (omega (arith, left, s.room, all_room))
@@ -152,8 +154,8 @@ module _ {A : Type 0} (d : Fields A) (bytes piece sum : List ℕ) (position : Po
     at = let here_room = s.left ∙ ap (λ m. m - used) all_room ∙ sym left in
         λ i. record { phase = s.begun.phase i; room = here_room i; in_progress = s.begins i; partial = s.begun.partial i }
 
-    in_data : section_of (k.size - length (records_bytes empty_environment all)) ≡ Data
-    in_data = ap (λ c. cond c ClosingSum Data) (ne_eqb (k.size - length (records_bytes empty_environment all)) 0 (λ none. omega (arith, none, left, s.room, all_room)))
+    in_data : section_of (k.size - length (records_bytes empty_environment all)) ≡ InSection
+    in_data = ap (λ c. cond c ClosingSum InSection) (ne_eqb (k.size - length (records_bytes empty_environment all)) 0 (λ none. omega (arith, none, left, s.room, all_room)))
 
     holds_behind : Holds now (bytes ++ y)
     holds_behind =
@@ -165,16 +167,16 @@ module _ {A : Type 0} (d : Fields A) (bytes piece sum : List ℕ) (position : Po
         goes_viable chain_limit k.files (at_data k.header k.size all []) (bytes ++ y) all_come (IsBytes-append bytes y are (IsBytes-take used piece low))
         (let few = k.few in omega (arith, few), let few = k.few in omega (arith, few), data_starts (learn_all empty_environment all) (k.size - length (records_bytes empty_environment all)) _ (sixteen_places all) fill)
 
-    pub passed_over : Skimmed now bytes piece used count
-    passed_over = record {
+    pub skips_some : Skipped now bytes piece used count
+    skips_some = record {
       within = s.within;
-      told = λ events are_told. (rs, s.passed.3, records_told k.files k.header k.size k.records rs bytes y here fits spelled within_room events are_told);
+      told = λ events are_told. (s.messages.0, s.messages.3, records_told k.files k.header k.size k.records rs bytes y here fits spelled within_room events are_told);
       viable = viable_behind;
       holds = holds_behind;
     }
 
-  nothing_over : used ≡ 0 → count ≡ 0 → sum ≡ d.sum → position ≡ d.position → IsViable A chain_limit bytes → Holds d bytes → Skimmed now bytes piece used count
-  nothing_over none no_count same there viable holds =
+  skips_none : used ≡ 0 → count ≡ 0 → sum ≡ d.sum → position ≡ d.position → IsViable A chain_limit bytes → Holds d bytes → Skipped now bytes piece used count
+  skips_none none no_count same there viable holds =
       let stay : bytes ≡ bytes ++ y = sym (append-nil bytes) ∙ ap (λ n. bytes ++ take n piece) (sym none) in
       let fields : d ≡ now = λ i. record d { sum = sym same i; position = sym there i } in
       record {
@@ -184,9 +186,9 @@ module _ {A : Type 0} (d : Fields A) (bytes piece sum : List ℕ) (position : Po
         holds = subst (λ f. Holds f (bytes ++ y)) fields (subst (Holds d) stay holds);
       }
 
-  pub skims : DataSkimmed d.section d.env d.sum d.position d.in_progress sum position piece used count → IsViable A chain_limit bytes → Holds d bytes → Skimmed now bytes piece used count
-  skims (inl (none, no_count, same, there)) viable holds = nothing_over none no_count same there viable holds
-  skims (inr s) viable holds = passed_over s (subst (λ c. HoldsAt c d bytes) s.in_data holds)
+  pub skips : DataSkipped d.section d.env d.sum d.position d.in_progress sum position piece used count → IsViable A chain_limit bytes → Holds d bytes → Skipped now bytes piece used count
+  skips (inl (none, no_count, same, there)) viable holds = skips_none none no_count same there viable holds
+  skips (inr s) viable holds = skips_some s (subst (λ c. HoldsAt c d bytes) s.in_data holds)
 
 -- ---- what a caller of a decoder sees
 
@@ -195,34 +197,34 @@ fresh None some is isnt = refl
 fresh (Some reason) some is isnt = absurd (let both : true ≡ false = sym is ∙ isnt in cc)
 
 module _ {A : Type 0} (d : Inside A) (k : IsKept d) (none : d.refusal ≡ None) (piece sum : List ℕ) (position : Position) (used count : ℕ) (low : IsBytes piece)
-    (s : DataSkimmed d.section d.env d.sum d.position d.in_progress sum position piece used count) where
-  pub skimmed : Skimmed (record (fields_of d) { sum = sum; position = position }) d.history.items piece used count
-  skimmed = skims (fields_of d) d.history.items piece sum position used count k.are low s k.viable (k.holds none)
+    (s : DataSkipped d.section d.env d.sum d.position d.in_progress sum position piece used count) where
+  pub skipped : Skipped (record (fields_of d) { sum = sum; position = position }) d.history.items piece used count
+  skipped = skips (fields_of d) d.history.items piece sum position used count k.are low s k.viable (k.holds none)
 
   pub within_piece : used ≤ length piece
-  within_piece = skimmed.within
+  within_piece = skipped.within
 
   more_bytes : length (d.history.items ++ take used piece) ≡ d.count + used
-  more_bytes = omega (arith, length-append d.history.items (take used piece), k.counted, length-take-le used piece skimmed.within)
+  more_bytes = omega (arith, length-append d.history.items (take used piece), k.counted, length-take-le used piece skipped.within)
 
-  pub few_skimmed : Fits w64 (d.count + used)
-  few_skimmed = omega (arith, more_bytes, short_bytes (d.history.items ++ take used piece) skimmed.viable)
+  pub few_skipped : Fits w64 (d.count + used)
+  few_skipped = omega (arith, more_bytes, short_bytes (d.history.items ++ take used piece) skipped.viable)
 
-  pub skimmed_kept : (n : Inside A) → n.history.items ≡ d.history.items ++ take used piece → fields_of n ≡ record (fields_of d) { sum = sum; position = position } → n.count ≡ d.count + used → n.refusal ≡ None → IsKept n
-  skimmed_kept n took same counted fresh = record {
-    viable = subst (IsViable A chain_limit) (sym took) skimmed.viable;
+  pub skipped_kept : (n : Inside A) → n.history.items ≡ d.history.items ++ take used piece → fields_of n ≡ record (fields_of d) { sum = sum; position = position } → n.count ≡ d.count + used → n.refusal ≡ None → IsKept n
+  skipped_kept n took same counted fresh = record {
+    viable = subst (IsViable A chain_limit) (sym took) skipped.viable;
     are = subst IsBytes (sym took) (IsBytes-append d.history.items (take used piece) k.are (IsBytes-take used piece low));
     counted = counted ∙ sym more_bytes ∙ ap length (sym took);
-    holds = λ _. subst (λ f. Holds f n.history.items) (sym same) (subst (Holds (record (fields_of d) { sum = sum; position = position })) (sym took) skimmed.holds);
+    holds = λ _. subst (λ f. Holds f n.history.items) (sym same) (subst (Holds (record (fields_of d) { sum = sum; position = position })) (sym took) skipped.holds);
     let_go = λ reason is. absurd (let both : Some reason ≡ None = sym is ∙ fresh in cc);
   }
 
-  pub records_skimmed : (old : Seen) → record { bytes = d.history.items; refusal = d.refusal } ≡ old → (bytes : List ℕ) → bytes ≡ d.history.items ++ take used piece
-      → (events : List (Event A)) → AreEvents old.bytes events → (records : List (Record A)) × (length records ≡ count) × AreEvents bytes (events ++ map item records)
-  records_skimmed old seen bytes took events are_told =
-      let told = skimmed.told events (subst (λ b. AreEvents b events) (sym (ap (λ (o : Seen). o.bytes) seen)) are_told) in
-      (told.0, told.1, subst (λ b. AreEvents b (events ++ map item told.0)) (sym took) told.2)
+  pub messages_skipped : (old : Seen) → record { bytes = d.history.items; refusal = d.refusal } ≡ old → (bytes : List ℕ) → bytes ≡ d.history.items ++ take used piece
+      → (events : List (Event A)) → AreEvents old.bytes events → TellsMessages bytes events count
+  messages_skipped old seen bytes took events are_told =
+      let told = skipped.told events (subst (λ b. AreEvents b events) (sym (ap (λ (o : Seen). o.bytes) seen)) are_told) in
+      (told.0, told.1, subst (λ b. AreEvents b (events ++ map item (map Data told.0))) (sym took) told.2)
 
 -- where nothing was used
-pub none_skimmed : {A : Type 0} (bytes : List ℕ) (events : List (Event A)) → AreEvents bytes events → (records : List (Record A)) × (length records ≡ 0) × AreEvents bytes (events ++ map item records)
-none_skimmed bytes events are_told = ([], refl, subst (AreEvents bytes) (sym (append-nil events)) are_told)
+pub none_skipped : {A : Type 0} (bytes : List ℕ) (events : List (Event A)) → AreEvents bytes events → TellsMessages bytes events 0
+none_skipped bytes events are_told = ([], refl, subst (AreEvents bytes) (sym (append-nil events)) are_told)

@@ -1,9 +1,9 @@
 use Rattle.std.proofs.Common.{◌≡◌, ℕ, ◌<◌, length, slice_index}
-use Rattle.fit_step.specs.Passing.{passed_size}
-use Rattle.fit_step.proofs.passing.passed_sizes.Given as goal
+use Rattle.fit_step.specs.Skipping.{size_to_skip}
+use Rattle.fit_step.proofs.skipping.sizes_to_skip.Given as goal
 
 abbrev pub invariant-loop-local : goal.invariant-loop-local
 invariant-loop-local g l = record {
   long : length l.sizes ≡ 16;
-  told : (k : ℕ) → k < l.local → slice_index l.sizes k ≡ passed_size l.env k;
+  told : (k : ℕ) → k < l.local → slice_index l.sizes k ≡ size_to_skip l.env k;
 }

@@ -4,7 +4,7 @@ use Rattle.std.proofs.lemmas.Bool.{ne_eqb}
 use Rattle.fit_record.specs.declared.environment.Defined.{Defined}
 use Rattle.fit_record.specs.Records.{message_size}
 use Rattle.fit_step.proofs.WholeMessage.{same_size}
-use Rattle.fit_step.proofs.passing.passed_size.Goals as goal
+use Rattle.fit_step.proofs.skipping.size_to_skip.Goals as goal
 
 pub returns-else-defined-eq-FIELD_DESCRIPTION : goal.returns-else-defined-eq-FIELD_DESCRIPTION
 returns-else-defined-eq-FIELD_DESCRIPTION g c =

@@ -1,7 +1,7 @@
-//! Data messages that are passed over: their bytes are counted, and no record is made of them.
+//! Data messages that a reader may skip: it counts them, and makes no record of them.
 ghost use Rattle.std.specs.Prelude.{◌≡◌, ℕ, ◌<◌, ◌≤◌, false, ◌∷◌, List, length, slice_index, take};
 ghost use Rattle.fit_record.specs.HeaderByte.{has_reserved_bit, is_definition, local_type};
-ghost use Rattle.fit_step.specs.Passing.{passed_size, HeadsMessage, PassesOver};
+ghost use Rattle.fit_step.specs.Skipping.{size_to_skip, HeadsMessage, AreMessages};
 
 use crate::header::{has_reserved_bit, is_definition, local_type};
 use fit_record::Env;
@@ -11,8 +11,8 @@ use std::alloc::Allocator;
 const FIELD_DESCRIPTION: u16 = 206;
 
 /// How many bytes a data message of a local message type has, or 0 where it may describe a developer field or isn't defined.
-fn passed_size<A: Allocator>(env: &Env<A>, local: u8) -> u32
-    ensures { result ≡ passed_size env.now local }
+fn size_to_skip<A: Allocator>(env: &Env<A>, local: u8) -> u32
+    ensures { result ≡ size_to_skip env.now local }
 {
     let Some(defined) = env.defined(local) else {
         return 0;
@@ -28,18 +28,18 @@ fn passed_size<A: Allocator>(env: &Env<A>, local: u8) -> u32
 }
 
 /// The same for each local message type.
-fn passed_sizes<A: Allocator>(env: &Env<A>) -> [u32; 16]
-    ensures { (local : ℕ) → local < 16 → slice_index result local ≡ passed_size env.now local }
+fn sizes_to_skip<A: Allocator>(env: &Env<A>) -> [u32; 16]
+    ensures { (local : ℕ) → local < 16 → slice_index result local ≡ size_to_skip env.now local }
 {
     let mut sizes = [0; 16];
     for local in 0..16 {
-        sizes[local as usize] = passed_size(env, local);
+        sizes[local as usize] = size_to_skip(env, local);
     }
     sizes
 }
 
-/// How many bytes the data message has that begins these bytes, where it is passed over and all of it stands there, or else 0.
-fn passed_front(sizes: &[u32; 16], bytes: &[u8]) -> usize
+/// How many bytes the data message has that begins these bytes, where it may be skipped and all of it stands there, or else 0.
+fn front_to_skip(sizes: &[u32; 16], bytes: &[u8]) -> usize
     ensures within { result ≤ length bytes.now }
     ensures heads { 0 < result → HeadsMessage sizes.now bytes.now result }
 {
@@ -56,17 +56,17 @@ fn passed_front(sizes: &[u32; 16], bytes: &[u8]) -> usize
     size
 }
 
-/// The data messages at the front of these bytes that describe no developer field: how many bytes they have, and how many they
-/// are. It ends before the first record that isn't one of them, or isn't whole. No record is made of them.
-pub fn pass_messages<A: Allocator>(env: &Env<A>, bytes: &[u8]) -> (usize, u64)
+/// The whole data messages at the front of these bytes that describe no developer field: how many bytes they have, and how many
+/// they are. It ends before the first record that isn't one of them. No record is made of them.
+pub fn messages_to_skip<A: Allocator>(env: &Env<A>, bytes: &[u8]) -> (usize, u64)
     ensures within { result.0 ≤ length bytes.now }
-    ensures passed { PassesOver env.now (take result.0 bytes.now) result.1 }
+    ensures messages { AreMessages env.now (take result.0 bytes.now) result.1 }
 {
-    let sizes = passed_sizes(env);
+    let sizes = sizes_to_skip(env);
     let mut used = 0;
     for count in 0..bytes.len() {
         let (_, rest) = bytes.split_at(used);
-        let size = passed_front(&sizes, rest);
+        let size = front_to_skip(&sizes, rest);
         if size == 0 {
             return (used, count as u64);
         }

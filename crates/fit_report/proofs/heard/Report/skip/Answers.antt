@@ -1,0 +1,12 @@
+-- Nothing is skipped.
+use Rattle.std.proofs.Common.{refl, arith}
+use Rattle.fit_report.proofs.Skipped.{none_fed}
+use Rattle.fit_report.proofs.heard.Report.skip.Goals as goal
+
+pub returns : goal.returns
+returns g c = record {
+  within = omega arith;
+  is_fed = none_fed c.args.decoder.now;
+  viable = c.requires.viable;
+  told = λ heard has are. (heard, has, are, refl);
+}
