@@ -40,20 +40,20 @@ all_taken b taken y e none = e ∙ ap (λ t. taken ++ t) none ∙ append-nil tak
 
 -- the bytes of a chain are read as that chain
 given : (fs : List (FitFile Global)) (b : List ℕ) (has : Option (List ℕ)) (failed : Bool) (result : Result (Vec (FitFile Global) Global) Fault) → IsBytes b → IsChain chain_limit fs b
-    → ReadsChain (Some b) has failed result → GivesChain fs failed result
-given fs b None failed (Ok files) are chain (taken, eats, end, other) = absurd eats
-given fs b (Some y) failed (Ok files) are chain (taken, eats, end, other) =
+    → ReadsChain (record { before = Some b; after = has; failed = failed }) result → GivesChain fs (record { before = Some b; after = has; failed = failed }) result
+given fs b None failed (Ok files) are chain (taken, eats, end, other, good) = absurd eats
+given fs b (Some y) failed (Ok files) are chain (taken, eats, end, other, good) =
     let whole = subst (IsChain chain_limit fs) (all_taken b taken y eats end) chain in
     (one_place files.items fs (at_header []) (at_header []) taken (chain_comes chain_limit files.items taken other) (chain_comes chain_limit fs taken whole)).0
 given fs b None failed (Err fault) are chain (taken, eats, told) = absurd eats
 given fs b (Some y) failed (Err (Refused place reason)) are chain (taken, eats, (within, near, why)) = chain_byte fs b taken y place reason are chain eats within why
-given fs b (Some y) failed (Err (Truncated place)) are chain (taken, eats, (is, end, viable, short)) = short (fs, subst (IsChain chain_limit fs) (all_taken b taken y eats end) chain)
+given fs b (Some y) failed (Err (Truncated place)) are chain (taken, eats, (is, end, viable, short, good)) = short (fs, subst (IsChain chain_limit fs) (all_taken b taken y eats end) chain)
 given fs b (Some y) failed (Err (NoMemory used)) are chain (taken, eats, told) = tt
 given fs b (Some y) failed (Err (Read place)) are chain (taken, eats, (is, bad, viable)) = bad
 
 pub gives_chain : (fs : List (FitFile Global)) (b : List ℕ) (had has : Option (List ℕ)) (failed : Bool) (result : Result (Vec (FitFile Global) Global) Fault) → had ≡ Some b → IsBytes b
-    → IsChain chain_limit fs b → ReadsChain had has failed result → GivesChain fs failed result
-gives_chain fs b had has failed result input are chain reads = given fs b has failed result are chain (subst (λ h. ReadsChain h has failed result) input reads)
+    → IsChain chain_limit fs b → ReadsChain (record { before = had; after = has; failed = failed }) result → GivesChain fs (record { before = had; after = has; failed = failed }) result
+gives_chain fs b had has failed result input are chain reads = given fs b has failed result are chain (subst (λ h. ReadsChain (record { before = h; after = has; failed = failed }) result) input reads)
 
 -- ---- file by file
 
@@ -80,10 +80,10 @@ module _ (files : List (FitFile Global)) (before : Seen) (count : ℕ) (old take
       omega (arith, some_bytes f r.got file, ap length r.noted, length-append old r.got)
 
   pub chain_ended : (fault : Fault) → FileRead files before.bytes old taken had has failed new (Err fault) → IsEnd Global new fault true
-      → (all : List ℕ) × Consumes first has all × IsAtEnd has × IsChain chain_limit files all
+      → (all : List ℕ) × Consumes first has all × IsAtEnd has × IsChain chain_limit files all × (failed ≡ false)
   chain_ended fault r end =
       let e = next_end files before count old taken had has failed new now behind counted viable fault r end in
-      (taken, eats_all (Err fault) r, e.end, subst (IsChain chain_limit files) (sym e.same) e.whole)
+      (taken, eats_all (Err fault) r, e.end, subst (IsChain chain_limit files) (sym e.same) e.whole, e.good)
 
   pub chain_stopped : (fault : Fault) → FileRead files before.bytes old taken had has failed new (Err fault) → IsEnd Global new fault false
       → (all : List ℕ) × Consumes first has all × EndsReading Global chain_limit (AreChain Global) all has failed fault

@@ -10,13 +10,13 @@ use Rattle.fit_record.specs.declared.message.Values.{Values}
 use Rattle.fit_record.specs.Environment.{Environment, defined_at, only_byte, description, DescribesNothing}
 use Rattle.fit_record.specs.HeaderByte.{is_definition, has_reserved_bit, local_type}
 use Rattle.fit_record.specs.Records.{layout, dev_layout, message_size}
-use Rattle.fit_record.specs.Sizes.{HasNoFields}
+use Rattle.fit_record.specs.Sizes.{HasNoFields, HeadsEmptyMessage}
 use Rattle.fit_step.specs.declared.phase.Phase.TheVariants.{RecordHeader}
 use Rattle.fit_step.specs.declared.position.Position.{Position}
 use Rattle.fit_step.specs.declared.stop.Stop.{Stop}
 use Rattle.fit_step.specs.declared.stop.Stop.TheVariants.{Refused, NoMemory}
 use Rattle.fit_step.specs.Machine.{Tests, State, Step, Next, begin_dev, begin_fields, new_message, message_move, header_move, step, step_at}
-use Rattle.fit_step.specs.Places.{HeadsEmptyMessage, Steps, TakesNone, WantsNone}
+use Rattle.fit_step.specs.Places.{Steps, TakesNone, WantsNone}
 use Rattle.fit_decode.specs.Scans.{RecordByte}
 
 undescribed : {A : Type 0} (d : MessageDef A) (v : Values A) → d.fields ≡ [] → description d v ≡ None

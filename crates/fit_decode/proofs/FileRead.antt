@@ -66,6 +66,7 @@ module _ {A : Type 0} (files : List (FitFile A)) (bytes old mid taken : List ℕ
         told = (
           t.told.0 ∙ ap unrefused (same (Ok true) t),
           subst (λ b. Ended files (record { header = h; records = records }) b) (same (Ok true) t) (subst (λ d. Ended files (record { header = d; records = records }) (now.bytes ++ t.got)) one ended),
+          t.told.4,
         );
       }
 

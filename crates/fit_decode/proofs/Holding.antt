@@ -1,5 +1,5 @@
 -- How much a decoder holds, by the bytes that were fed.
-use Rattle.std.proofs.Common.{◌≡◌, cond, false, ℕ, ◌+◌, ◌-◌, ◌≤◌, List, ◌++◌, length, refl, sym, ap, ◌∙◌, subst, arith, Some, None}
+use Rattle.std.proofs.Common.{◌≡◌, cond, Bool, true, false, ℕ, ◌+◌, ◌-◌, ◌≤◌, List, ◌++◌, length, refl, sym, ap, ◌∙◌, subst, arith, Some, None}
 use Rattle.std.specs.Prelude.{Option, ◌==◌}
 use Rattle.std.proofs.lemmas.Bool.{cond-true, cond-false, eq-eqb, ne_eqb}
 use Rattle.fit_base.specs.Numbers.{IsBytes}
@@ -54,8 +54,12 @@ module _ {A : Type 0} (files : List (FitFile A)) (h : Rattle.fit_frame.specs.dec
       all_limited empty_environment records here.next.1
       (IsBytes-back (header_bytes h n) (records_bytes empty_environment records) (IsBytes-front (header_bytes h n ++ records_bytes empty_environment records) part next_are)) (nothing_limited A)
 
+  none_or : (b : Bool) (m : ℕ) → cond b 0 m ≤ m
+  none_or true m = omega arith
+  none_or false m = omega arith
+
   limited_data : bound (at_data h n records part) ≤ bound_limit
-  limited_data = omega (arith, environment_limited (learn_all empty_environment records) (sixteen_places records) records_limited, part_limited (learn_all empty_environment records) part records_limited part_are)
+  limited_data = omega (arith, none_or (length (records_bytes empty_environment records) == n) (part_size (learn_all empty_environment records) part), environment_limited (learn_all empty_environment records) (sixteen_places records) records_limited, part_limited (learn_all empty_environment records) part records_limited part_are)
 
 pub limited_bound : {A : Type 0} → BoundsAreLimited A
 limited_bound files (at_header front) bytes here are = omega arith
@@ -86,17 +90,18 @@ module _ {A : Type 0} (d : Fields A) (bytes : List ℕ) (are : IsBytes bytes) wh
       ap (λ (t : State A). in_progress_size t.in_progress) place.is ∙ part_is d.env now.room place.of limited place.is_part ∙ ap (held_of_record d.env) place.spelled ∙ ap (λ f. held_of_record f k.part) k.known
       ∙ sym (cond-false (length (records_bytes empty_environment k.records) == k.size) 0 (held_of_record e k.part) some) in
       let at_part = ap (λ f. part_size f k.part) k.known in
+      let counted = cond-false (length (records_bytes empty_environment k.records) == k.size) 0 (part_size e k.part) some in
       record {
         files = k.files;
         progress = at_data k.header k.size k.records k.part;
         come = k.come;
         is = omega (arith, known, exact);
-        within = omega (arith, known, at_part, same);
+        within = omega (arith, known, at_part, same, counted);
         all = λ idle.
             let begins : start room ≡ now = subst (λ l. Walks d.env (tests_of d.env) (start room) l now) idle k.walk in
             let none : in_progress_size d.in_progress ≡ 0 = ap (λ (t : State A). in_progress_size t.in_progress) (sym begins) in
             let no_part : part_size e k.part ≡ 0 = ap (part_size e) idle in
-            omega (arith, known, none, no_part);
+            omega (arith, known, none, no_part, counted);
       }
   held_at ClosingSum k =
       let known = ap environment_size k.known in
@@ -108,7 +113,9 @@ module _ {A : Type 0} (d : Fields A) (bytes : List ℕ) (are : IsBytes bytes) wh
         come = k.come;
         is = omega (arith, known, none, cond-true (length (records_bytes empty_environment k.records) == k.size) 0 (held_of_record (learn_all empty_environment k.records) (sum_part (checksum d.sum) d.half)) over);
         within = omega (arith, known, none);
-        all = λ idle. let no_part = ap (part_size (learn_all empty_environment k.records)) idle in omega (arith, known, none, no_part);
+        all = λ _.
+            let uncounted = cond-true (length (records_bytes empty_environment k.records) == k.size) 0 (part_size (learn_all empty_environment k.records) (sum_part (checksum d.sum) d.half)) over in
+            omega (arith, known, none, uncounted);
       }
 
   small_at : (s : Section) → HoldsAt s d bytes → IsSmall d.in_progress

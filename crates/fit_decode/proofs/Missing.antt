@@ -15,7 +15,7 @@ use Rattle.fit_decode.proofs.NoSooner.{no_sooner}
 use Rattle.fit_decode.proofs.OnePlace.{one_place}
 
 -- files and one more are a chain
-ended_chain : {A : Type 0} (files : List (FitFile A)) (f : FitFile A) (bytes : List ℕ) → Ended files f bytes → IsChain (length (files ++ f ∷ [])) (files ++ f ∷ []) bytes
+pub ended_chain : {A : Type 0} (files : List (FitFile A)) (f : FitFile A) (bytes : List ℕ) → Ended files f bytes → IsChain (length (files ++ f ∷ [])) (files ++ f ∷ []) bytes
 ended_chain files f bytes ended = (
   record { some = omega (arith, length-append files (f ∷ [])); within = omega arith; each = ended.files },
   ended.spelled ∙ append-nil (chain_bytes (files ++ f ∷ [])),

@@ -10,10 +10,13 @@ use Rattle.fit_decode.specs.declared.event.Fault.TheVariants.{Refused, Truncated
 use Rattle.fit_decode.specs.Answers.{Seen, AreChain}
 use Rattle.fit_decode.specs.Between.{IsBehind, IsEnd}
 use Rattle.fit_decode.specs.Progress.{at_header, HasCome}
-use Rattle.fit_decode.specs.Reads.{EndsReading, GivesFile, GivesNext}
+use Rattle.fit_decode.specs.Reads.{EndsReading, EndsChain, GivesFile, GivesNext, Past, Taking}
 use Rattle.fit_decode.specs.Turns.{ComesTo, Ended, FaultIn, FileTold, FileRead, unrefused}
 use Rattle.fit_decode.proofs.FileGiven.{given, next_bytes}
 use Rattle.fit_decode.proofs.FileRead.{no_file_yet, nothing_viable}
+use Rattle.fit_decode.proofs.Goes.{viable_goes}
+use Rattle.fit_decode.proofs.Missing.{ended_chain}
+use Rattle.fit_decode.proofs.Nearly.{nearly}
 use Rattle.fit_decode.proofs.OnePlace.{one_place}
 use Rattle.fit_decode.proofs.Whole.{unfinished}
 
@@ -53,17 +56,28 @@ module _ {A : Type 0} (files : List (FitFile A)) (before : Seen) (count : ℕ) (
         come = is.1;
       }
 
+  pub next_chain : (f : FitFile A) → FileRead files before.bytes old taken had has failed new (Ok f) → EndsChain f taken
+  next_chain f r =
+      let behind = behind_file f r in
+      let chain = ended_chain files f taken behind.come in
+      let goes = viable_goes chain_limit (files ++ f ∷ []) (at_header []) taken behind.come behind.viable in
+      (files, (record { some = chain.0.some; within = goes.1; each = chain.0.each }, chain.1))
+
+  pub next_good : (f : FitFile A) → FileRead files before.bytes old taken had has failed new (Ok f) → failed ≡ false
+  next_good f r = (told (Ok f) r).2
+
   -- ---- a fault
 
   fault_told : (fault : Fault) → FaultIn files taken has failed new fault → IsEnd A new fault false → EndsReading A chain_limit (AreChain A) taken has failed fault
   fault_told (Refused place reason) (within, near, comes, why) open_ = (within, near, why)
-  fault_told (Truncated place) (is, end, comes, after) open_ = (
+  fault_told (Truncated place) (is, end, comes, after, good) open_ = (
     is,
     end,
     subst (λ (v : Seen). IsViable A chain_limit v.bytes) after viable,
     λ whole. let no : false ≡ true = open_.1 (ap (λ (v : Seen). v.refusal) after, subst (AreChain A) (sym (ap (λ (v : Seen). v.bytes) after)) whole) in cc,
+    good,
   )
-  fault_told (NoMemory used) is open_ = is
+  fault_told (NoMemory used) (is, last) open_ = (is, nearly chain_limit last.before last.piece taken last.parts last.short last.viable)
   fault_told (Read place) (is, bad, comes, after) open_ = (is, bad, subst (λ (v : Seen). IsViable A chain_limit v.bytes) after viable)
 
   pub next_fault : (fault : Fault) → FileRead files before.bytes old taken had has failed new (Err fault) → IsEnd A new fault false → EndsReading A chain_limit (AreChain A) taken has failed fault
@@ -81,6 +95,7 @@ module _ {A : Type 0} (files : List (FitFile A)) (before : Seen) (count : ℕ) (
   -- nothing more was taken, and the files are a chain
   pub record AtEnd : Type 0 where
     pub end : IsAtEnd has
+    pub good : failed ≡ false
     pub same : taken ≡ old
     pub kept : Consumes had has []
     pub whole : IsChain chain_limit files old
@@ -98,6 +113,7 @@ module _ {A : Type 0} (files : List (FitFile A)) (before : Seen) (count : ℕ) (
       let one = one_place files chain.0 (at_header []) (at_header []) taken (subst (HasCome files (at_header [])) (sym same) behind.come) (chain_comes chain_limit chain.0 taken chain.1) in
       record {
         end = is.1;
+        good = is.4;
         same = same;
         kept = subst (Consumes had has) none r.eats;
         whole = subst (λ fs. IsChain chain_limit fs old) (sym one.0) (subst (IsChain chain_limit chain.0) same chain.1);
@@ -112,23 +128,29 @@ module _ {A : Type 0} (files : List (FitFile A)) (before : Seen) (count : ℕ) (
   -- ---- where a file's bytes begin what is left
 
   pub next_given : (f : FitFile A) (b x : List ℕ) (gs : List (FitFile A)) (result : Result (FitFile A) Fault) → had ≡ Some (b ++ x) → IsBytes b → IsFile f b → IsChain chain_limit gs (old ++ b)
-      → FileRead files before.bytes old taken had has failed new result → GivesFile f (length (old ++ b)) x has failed result
+      → FileRead files before.bytes old taken had has failed new result
+      → GivesFile f (length (old ++ b)) x (record { before = had; after = has; failed = failed }) result
   next_given f b x gs result input are file chain r =
       given files old behind.come f b x are file (gs, chain) r.got has failed new result (subst (λ h. Consumes h has r.got) input r.eats)
       (subst (λ t. FileTold files t has failed new result) r.noted (told result r))
 
--- where the reading ended behind a whole chain, no file is given
-pub end_not_given : {A : Type 0} (f : FitFile A) (n : ℕ) (x : List ℕ) (has : Option (List ℕ)) (failed : Bool) (new : Seen) (fault : Fault) → IsEnd A new fault true → GivesFile f n x has failed (Err fault) → ⊥
-end_not_given f n x has failed new (Refused place reason) end never = never
-end_not_given f n x has failed new (Truncated place) end never = never
-end_not_given f n x has failed new (NoMemory used) end gives = absurd cc
-end_not_given f n x has failed new (Read place) end gives = absurd cc
+-- What `next` gives where a file's bytes begin what is left.
+abbrev pub NextGiven : {A S : Type 0} → (S → Option (List ℕ)) → Option (List ℕ) → Bool → Result (Option (FitFile A)) Fault → Past S → Type 0
+NextGiven {A} remaining has failed result old = old.fault ≡ None → (fs : List (FitFile A)) (f : FitFile A) (b x : List ℕ) → remaining old.source ≡ Some (b ++ x) → IsBytes b → IsFile f b
+    → IsChain chain_limit (fs ++ f ∷ []) (old.taken ++ b) → GivesNext f (length (old.taken ++ b)) x (record { before = remaining old.source; after = has; failed = failed }) result
 
-pub fault_given : {A : Type 0} (f : FitFile A) (n : ℕ) (x : List ℕ) (has : Option (List ℕ)) (failed : Bool) (fault : Fault) → GivesFile f n x has failed (Err fault) → GivesNext f x has failed (Err fault)
-fault_given f n x has failed (Refused place reason) never = never
-fault_given f n x has failed (Truncated place) never = never
-fault_given f n x has failed (NoMemory used) gives = tt
-fault_given f n x has failed (Read place) gives = gives.0
+-- where the reading ended behind a whole chain, no file is given
+pub end_not_given : {A : Type 0} (f : FitFile A) (n : ℕ) (x : List ℕ) (source : Taking) (new : Seen) (fault : Fault) → IsEnd A new fault true → GivesFile f n x source (Err fault) → ⊥
+end_not_given f n x source new (Refused place reason) end never = never
+end_not_given f n x source new (Truncated place) end never = never
+end_not_given f n x source new (NoMemory used) end gives = absurd cc
+end_not_given f n x source new (Read place) end gives = absurd cc
+
+pub fault_given : {A : Type 0} (f : FitFile A) (n : ℕ) (x : List ℕ) (source : Taking) (fault : Fault) → GivesFile f n x source (Err fault) → GivesNext f n x source (Err fault)
+fault_given f n x source (Refused place reason) never = never
+fault_given f n x source (Truncated place) never = never
+fault_given f n x source (NoMemory used) gives = gives
+fault_given f n x source (Read place) gives = gives
 
 pub keeps : (a b : Option (List ℕ)) → Consumes a b [] → Keeps a b
 keeps None b h = tt

@@ -39,3 +39,35 @@ fourth_is_within (ty_param ι) limit small = omega (arith, small)
 fourth_is_within (ty_const ι) limit small = omega (arith, small)
 fourth_is_within (ty_array_p υ ι) limit small = omega (arith, small)
 fourth_is_within (ty_named name θ) limit small = omega (arith, small)
+
+abbrev first : Tys → Ty
+first (tcons a rest) = a
+first τs = ty_unit
+
+-- the first field's type
+abbrev pub first_field : Ty → Ty
+first_field (ty_struct name τs) = first τs
+first_field τ = ty_unit
+
+first_ends : (τs : Tys) → size (first τs) ≤ end_of zero τs
+first_ends (tcons a rest) =
+    let e : ℕ = zero + pad (align a) zero + size a in
+    let ends : e ≤ end_of e rest = ends_behind rest e in
+    let here : size a ≤ end_of e rest = omega (arith, ends) in
+    here
+first_ends tnil = omega arith
+
+pub first_is_within : (τ : Ty) (limit : ℕ) → size τ < limit → size (first_field τ) < limit
+first_is_within (ty_struct name τs) limit small = omega (arith, small, first_ends τs)
+first_is_within (ty_int w) limit small = omega (arith, small)
+first_is_within ty_bool limit small = omega (arith, small)
+first_is_within (ty_float f) limit small = omega (arith, small)
+first_is_within ty_ptr limit small = omega (arith, small)
+first_is_within (ty_ref κ μ υ) limit small = omega (arith, small)
+first_is_within (ty_array υ n) limit small = omega (arith, small)
+first_is_within ty_unit limit small = omega (arith, small)
+first_is_within (ty_enum name τss) limit small = omega (arith, small)
+first_is_within (ty_param ι) limit small = omega (arith, small)
+first_is_within (ty_const ι) limit small = omega (arith, small)
+first_is_within (ty_array_p υ ι) limit small = omega (arith, small)
+first_is_within (ty_named name θ) limit small = omega (arith, small)

@@ -1,12 +1,12 @@
 -- A turn of a reader: a piece taken and fed.
-use Rattle.std.proofs.Common.{◌≡◌, Bool, true, false, ℕ, ◌<◌, ◌≤◌, List, [], ◌++◌, length, take, get_or, Option, None, Result, Ok, Err, sym, ap, ◌∙◌, subst, arith, length-append}
+use Rattle.std.proofs.Common.{◌≡◌, Bool, true, false, ℕ, ◌<◌, ◌≤◌, List, [], ◌++◌, length, take, get_or, Option, None, Result, Ok, Err, refl, sym, ap, ◌∙◌, subst, arith, length-append}
 use Rattle.std.specs.Io.KnownBytes.{IsAtEnd}
 use Rattle.std.proofs.lemmas.List.{append-nil, length-take, get_or-append-add}
 use Rattle.std.proofs.Math.Seq.{take-length, take-append-add}
 use Rattle.fit_frame.specs.declared.header.Header.{Header}
 use Rattle.fit_record.specs.declared.file.FitFile.{FitFile}
 use Rattle.fit_record.specs.declared.message.Record.{Record}
-use Rattle.fit_record.specs.Files.{chain_limit}
+use Rattle.fit_record.specs.Files.{chain_limit, IsViable}
 use Rattle.fit_decode.specs.declared.event.Fault.{Fault}
 use Rattle.fit_decode.specs.declared.event.Fault.TheVariants.{Refused, Truncated, NoMemory, Read}
 use Rattle.fit_decode.specs.Answers.{Seen}
@@ -15,10 +15,10 @@ use Rattle.fit_decode.specs.Turns.{Stands, ComesTo, Ended, PieceFed, TurnTold, N
 
 -- what feeding the piece told is what the turn told
 pub turn_of : {A : Type 0} (files : List (FitFile A)) (bytes piece : List ℕ) (n : ℕ) (has : Option (List ℕ)) (failed : Bool) (new : Seen) (head : Option Header) (records : List (Record A)) (result : Result Bool Fault)
-    → NoSooner files bytes n → length piece ≤ n → 0 < length piece → length piece ≤ 4096
+    → NoSooner files bytes n → length piece ≤ n → 0 < length piece → length piece ≤ 4096 → failed ≡ false → IsViable A chain_limit bytes → ComesTo files bytes
     → PieceFed files bytes piece new head records result → TurnTold files bytes piece has failed new head records result
-turn_of files bytes piece n has failed new head records (Ok false) least short some small (after, stands) = (some, after, stands)
-turn_of files bytes piece n has failed new head records (Ok true) least short some small (k, within, after, h, is, ended) =
+turn_of files bytes piece n has failed new head records (Ok false) least short some small good viable come (after, stands) = (some, after, stands)
+turn_of files bytes piece n has failed new head records (Ok true) least short some small good viable come (k, within, after, h, is, ended) =
     let long = least (record { header = h; records = records }) (take k piece) ended in
     let k_is : k ≡ length piece = omega (arith, long, within, short, length-take k piece) in
     let all : take k piece ≡ piece = ap (λ m. take m piece) k_is ∙ take-length piece in (
@@ -26,8 +26,9 @@ turn_of files bytes piece n has failed new head records (Ok true) least short so
       h,
       is,
       subst (λ t. Ended files (record { header = h; records = records }) (bytes ++ t)) all ended,
+      good,
     )
-turn_of {A} files bytes piece n has failed new head records (Err (Refused place reason)) least short some small (k, within, is, comes, why) =
+turn_of {A} files bytes piece n has failed new head records (Err (Refused place reason)) least short some small good viable come (k, within, is, comes, why) =
     let front : take place (bytes ++ piece) ≡ bytes ++ take k piece = ap (λ m. take m (bytes ++ piece)) is ∙ take-append-add bytes piece k in
     let byte : get_or (bytes ++ piece) place 0 ≡ get_or piece k 0 = ap (λ m. get_or (bytes ++ piece) m 0) is ∙ get_or-append-add bytes piece k 0 in (
       omega (arith, is, within, length-append bytes piece),
@@ -35,9 +36,20 @@ turn_of {A} files bytes piece n has failed new head records (Err (Refused place 
       subst (ComesTo files) (sym front) comes,
       subst (λ b. IsRefused A chain_limit (take place (bytes ++ piece)) b reason) (sym byte) (subst (λ t. IsRefused A chain_limit t (get_or piece k 0) reason) (sym front) why),
     )
-turn_of files bytes piece n has failed new head records (Err (NoMemory used)) least short some small is = omega (arith, is, length-append bytes piece)
-turn_of files bytes piece n has failed new head records (Err (Truncated place)) least short some small never = absurd never
-turn_of files bytes piece n has failed new head records (Err (Read place)) least short some small never = absurd never
+turn_of files bytes piece n has failed new head records (Err (NoMemory used)) least short some small good viable come is = (
+  omega (arith, is, length-append bytes piece),
+  record {
+    before = bytes;
+    piece = piece;
+    parts = refl;
+    short = small;
+    viable = viable;
+    come = come;
+    within = λ f more ended. omega (arith, short, least f more ended);
+  },
+)
+turn_of files bytes piece n has failed new head records (Err (Truncated place)) least short some small good viable come never = absurd never
+turn_of files bytes piece n has failed new head records (Err (Read place)) least short some small good viable come never = absurd never
 
 -- nothing more was taken
 module _ {A : Type 0} (files : List (FitFile A)) (head : Option Header) (records : List (Record A)) (old : Seen) (place : ℕ) (has : Option (List ℕ)) (failed : Bool)
@@ -54,8 +66,8 @@ module _ {A : Type 0} (files : List (FitFile A)) (head : Option Header) (records
   counts : place ≡ length (old.bytes ++ [])
   counts = counted ∙ ap length (sym nothing)
 
-  pub turn_ends : IsAtEnd has → TurnTold files old.bytes [] has failed old head records (Err (Truncated place))
-  turn_ends end = (counts, end, comes, same)
+  pub turn_ends : IsAtEnd has → failed ≡ false → TurnTold files old.bytes [] has failed old head records (Err (Truncated place))
+  turn_ends end good = (counts, end, comes, same, good)
 
   pub turn_fails : failed ≡ true → TurnTold files old.bytes [] has failed old head records (Err (Read place))
   turn_fails bad = (counts, bad, comes, same)

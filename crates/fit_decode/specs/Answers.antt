@@ -26,7 +26,8 @@ told answers.FileEnd = Some file_end
 abbrev pub fed : Seen → List ℕ → ℕ → Seen
 fed old piece k = record { bytes = old.bytes ++ take k piece; refusal = None }
 
--- Each front of the piece of at most k bytes leaves the events as they are.
+-- Each front of the piece of at most k bytes leaves the events as they are. The bytes that a decoder was fed are viable, and such bytes
+-- have one list of events (laws `viable_bytes_have_events`, `events_are_one`): so `Quiet` and `Least` speak of just one list.
 abbrev pub Quiet : Type 0 → List ℕ → List ℕ → ℕ → Type 0
 Quiet A bytes piece k = (events : List (Event A)) → AreEvents bytes events → (j : ℕ) → j ≤ k → AreEvents (bytes ++ take j piece) events
 

@@ -1,5 +1,5 @@
 -- The events of a stream of files, and how much a reader of it has to hold.
-use Rattle.std.specs.Prelude.{◌≡◌, ℕ, ◌+◌, ◌*◌, ◌/◌, if◌then◌else◌, List, [], ◌∷◌, ◌++◌, length, map, flat_map, sum_by, slice_index}
+use Rattle.std.specs.Prelude.{◌≡◌, ℕ, ◌+◌, ◌*◌, ◌/◌, ◌==◌, if◌then◌else◌, List, [], ◌∷◌, ◌++◌, length, map, flat_map, sum_by, slice_index}
 use Rattle.std.specs.Option.{option_map_or}
 use Rattle.fit_base.specs.BaseTypes.{item_width}
 use Rattle.fit_frame.specs.declared.header.Header.{Header}
@@ -7,7 +7,7 @@ use Rattle.fit_record.specs.declared.file.FitFile.{FitFile}
 use Rattle.fit_record.specs.declared.message.Record.{Record}
 use Rattle.fit_record.specs.declared.environment.Defined.{Defined}
 use Rattle.fit_record.specs.Environment.{Environment, empty_environment, defined_at, learn_all}
-use Rattle.fit_record.specs.Records.{layout, dev_layout}
+use Rattle.fit_record.specs.Records.{layout, dev_layout, records_bytes}
 use Rattle.fit_record.specs.Sizes.{entry_count, environment_size}
 use Rattle.fit_record.specs.Files.{body}
 use Rattle.fit_record.specs.HeaderByte.{is_definition, has_developer_fields, local_type}
@@ -50,8 +50,10 @@ part_size e (b ∷ bytes) =
     if is_definition b then counts_so_far b bytes
     else option_map_or (λ p. entry_count p.definition + item_count p) (defined_at e (local_type b)) 0
 
--- The most entries, described developer fields and items that a reader holds.
+-- The most entries, described developer fields and items that a reader holds. Behind the data the bytes are those of the closing
+-- sum, and no part of a record. `proofs/HeldRows` computes it for known bytes.
 abbrev pub bound : {A : Type 0} → Progress A → ℕ
 bound (at_header front) = 0
 bound (at_data h n records part) =
-    let e = learn_all empty_environment records in environment_size e + part_size e part
+    let e = learn_all empty_environment records in
+    environment_size e + (if length (records_bytes empty_environment records) == n then 0 else part_size e part)

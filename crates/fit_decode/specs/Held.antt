@@ -15,14 +15,17 @@ abbrev pub IsIdle : {A : Type 0} → Progress A → Type 0
 IsIdle (at_header front) = Unit {0}
 IsIdle (at_data h n records part) = part ≡ []
 
--- the entries that are whole in some bytes of a definition message after its record header
+-- The entries that are whole in some bytes of a definition message after its record header: the fields begin behind five bytes, an
+-- entry has three, and one byte stands between the fields and the developer fields. `proofs/HeldRows` computes it after each byte of
+-- a definition message.
 abbrev pub entries_so_far : List ℕ → ℕ
 entries_so_far bytes =
     let fields_end = 5 + 3 * slice_index bytes 4 in
     if nat_le (length bytes) fields_end then (length bytes - 5) / 3
     else slice_index bytes 4 + (length bytes - 1 - fields_end) / 3
 
--- the items that are whole in so many bytes of fields, by code and size of each field
+-- The items that are whole in that many bytes of fields, by code and size of each field. `proofs/HeldRows` computes it after each
+-- byte of a message.
 abbrev pub items_so_far : List (ℕ × ℕ) → ℕ → ℕ
 items_so_far [] count = 0
 items_so_far (f ∷ fields) count = min count f.1 / item_width f.0 f.1 + items_so_far fields (count - f.1)
@@ -35,7 +38,8 @@ held_of_record e (b ∷ bytes) =
     if is_definition b then entries_so_far bytes
     else option_map_or (λ p. entry_count p.definition + items_so_far (layout p ++ dev_layout p) (length bytes)) (defined_at e (local_type b)) 0
 
--- What the records have defined and described, and the record in progress.
+-- What the records have defined and described, and the record in progress; behind the data the bytes are those of the closing sum.
+-- `proofs/HeldRows` computes it for known bytes.
 abbrev pub held_behind : {A : Type 0} → Progress A → ℕ
 held_behind (at_header front) = 0
 held_behind (at_data h n records part) =

@@ -11,6 +11,10 @@ use Rattle.fit_decode.specs.Held.{bound_limit}
 use Rattle.fit_decode.specs.Refusals.{IsRefused}
 use Rattle.fit_decode.specs.Needs.{missing}
 
+-- The bytes of a chain have come to one place: there is one list of files, and one rest that isn't whole.
+abbrev pub ProgressIsOne : Type 0 → Type 0
+ProgressIsOne A = (files others : List (FitFile A)) (progress other : Progress A) (bytes : List ℕ) → HasCome files progress bytes → HasCome others other bytes → (files ≡ others) × (progress ≡ other)
+
 -- Bytes have one list of events.
 abbrev pub EventsAreOne : Type 0 → Type 0
 EventsAreOne A = (bytes : List ℕ) (events others : List (Event A)) → AreEvents bytes events → AreEvents bytes others → events ≡ others

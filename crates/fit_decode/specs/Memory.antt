@@ -3,7 +3,7 @@ use Rattle.std.specs.Prelude.{◌≡◌, ℕ, ◌⊎◌, List, [], length}
 use Rattle.fit_record.specs.declared.file.FitFile.{FitFile}
 use Rattle.fit_record.specs.Environment.{empty_environment, learn_all}
 use Rattle.fit_record.specs.Records.{records_bytes}
-use Rattle.fit_step.specs.Places.{HeadsEmptyMessage}
+use Rattle.fit_record.specs.Sizes.{HeadsEmptyMessage}
 use Rattle.fit_decode.specs.Progress.{Progress, at_header, at_data, HasCome}
 
 -- A byte of a header, of a closing sum, or of a data message without fields and developer fields.

@@ -8,7 +8,7 @@ use Rattle.fit_step.specs.declared.stop.Stop.{Stop}
 use Rattle.fit_step.specs.declared.stop.Stop.TheVariants.{Refused, NoMemory}
 use Rattle.fit_step.specs.declared.phase.Phase.TheVariants.{RecordHeader}
 use Rattle.fit_step.specs.Machine.{State, Step, start, step, Walks, Ends}
-use Rattle.fit_step.specs.Places.{HeadsEmptyMessage}
+use Rattle.fit_record.specs.Sizes.{HeadsEmptyMessage}
 use Rattle.fit_step.specs.Tests.{tests_of}
 use Rattle.fit_frame.specs.declared.header.Header.{Header}
 use Rattle.fit_frame.specs.declared.reason.Reason.{Reason}

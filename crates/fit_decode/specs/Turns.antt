@@ -4,7 +4,7 @@ use Rattle.std.specs.Io.KnownBytes.{Consumes, IsAtEnd}
 use Rattle.fit_frame.specs.declared.header.Header.{Header}
 use Rattle.fit_record.specs.declared.file.FitFile.{FitFile}
 use Rattle.fit_record.specs.declared.message.Record.{Record}
-use Rattle.fit_record.specs.Files.{chain_limit}
+use Rattle.fit_record.specs.Files.{chain_limit, IsViable}
 use Rattle.fit_decode.specs.declared.event.Fault.{Fault}
 use Rattle.fit_decode.specs.declared.event.Fault.TheVariants.{Refused, Truncated, NoMemory, Read}
 use Rattle.fit_decode.specs.Progress.{Progress, at_header, at_data, HasCome}
@@ -54,12 +54,23 @@ PieceFed {A} files bytes piece new head records (Err (Refused place reason)) =
 PieceFed files bytes piece new head records (Err (NoMemory used)) = used ≡ length bytes + length piece
 PieceFed files bytes piece new head records (Err fault) = ⊥
 
+-- The last piece that was taken: at most 4,096 bytes, behind bytes with which some chain begins, and no further than the next
+-- file goes.
+pub record LastPiece {A : Type 0} (files : List (FitFile A)) (taken : List ℕ) : Type 0 where
+  pub before : List ℕ
+  pub piece : List ℕ
+  pub parts : taken ≡ before ++ piece
+  pub short : length piece ≤ 4096
+  pub viable : IsViable A chain_limit before
+  pub come : ComesTo files before
+  pub within : NoSooner files before (length piece)
+
 -- The fault that ended the reading of the file behind these files, after all these bytes.
 abbrev pub FaultIn : {A : Type 0} → List (FitFile A) → List ℕ → Option (List ℕ) → Bool → Seen → Fault → Type 0
 FaultIn {A} files taken has failed new (Refused place reason) =
     (place < length taken) × (length taken ≤ place + 4096) × ComesTo files (take place taken) × IsRefused A chain_limit (take place taken) (slice_index taken place) reason
-FaultIn files taken has failed new (Truncated place) = (place ≡ length taken) × IsAtEnd has × ComesTo files taken × (new ≡ unrefused taken)
-FaultIn files taken has failed new (NoMemory used) = used ≡ length taken
+FaultIn files taken has failed new (Truncated place) = (place ≡ length taken) × IsAtEnd has × ComesTo files taken × (new ≡ unrefused taken) × (failed ≡ false)
+FaultIn files taken has failed new (NoMemory used) = (used ≡ length taken) × LastPiece files taken
 FaultIn files taken has failed new (Read place) = (place ≡ length taken) × (failed ≡ true) × ComesTo files taken × (new ≡ unrefused taken)
 
 -- What the taking and feeding of one piece, got, told.
@@ -67,6 +78,7 @@ abbrev pub TurnTold : {A : Type 0} → List (FitFile A) → List ℕ → List �
 TurnTold files bytes got has failed new head records (Ok false) = (0 < length got) × (new ≡ unrefused (bytes ++ got)) × Stands files head records (bytes ++ got)
 TurnTold files bytes got has failed new head records (Ok true) =
     (new ≡ unrefused (bytes ++ got)) × (h : Header) × (head ≡ Some h) × Ended files (record { header = h; records = records }) (bytes ++ got)
+    × (failed ≡ false)
 TurnTold files bytes got has failed new head records (Err fault) = FaultIn files (bytes ++ got) has failed new fault
 
 pub record Turned {A : Type 0} (files : List (FitFile A)) (bytes old taken : List ℕ) (had has : Option (List ℕ)) (failed : Bool) (new : Seen) (head : Option Header) (records : List (Record A)) (result : Result Bool Fault) : Type 0 where
@@ -77,7 +89,7 @@ pub record Turned {A : Type 0} (files : List (FitFile A)) (bytes old taken : Lis
 
 -- What the reading of one file told.
 abbrev pub FileTold : {A : Type 0} → List (FitFile A) → List ℕ → Option (List ℕ) → Bool → Seen → Result (FitFile A) Fault → Type 0
-FileTold files taken has failed new (Ok f) = (new ≡ unrefused taken) × Ended files f taken
+FileTold files taken has failed new (Ok f) = (new ≡ unrefused taken) × Ended files f taken × (failed ≡ false)
 FileTold files taken has failed new (Err fault) = FaultIn files taken has failed new fault
 
 pub record FileRead {A : Type 0} (files : List (FitFile A)) (bytes old taken : List ℕ) (had has : Option (List ℕ)) (failed : Bool) (new : Seen) (result : Result (FitFile A) Fault) : Type 0 where

@@ -1,7 +1,18 @@
 //! What holds of events and refusals. These functions do nothing: what they ensure is what they are for.
-ghost use Rattle.fit_decode.specs.Laws.{BoundsAreLimited, ChainsGoOn, EventsAreOne, FilesEndNoSooner, FirstFilesAreFiles, ReasonsAreOne, RefusedHaveReasons, ViableHaveEvents};
+ghost use Rattle.fit_record.specs.Laws.{FilesHaveOneSpelling};
+ghost use Rattle.fit_decode.specs.Laws.{BoundsAreLimited, ChainsGoOn, EventsAreOne, FilesEndNoSooner, FirstFilesAreFiles, ProgressIsOne, ReasonsAreOne, RefusedHaveReasons, ViableHaveEvents};
 
 use std::alloc::Allocator;
+
+/// A file and its bytes determine each other, and no file's bytes begin another's: the law of `fit_record` of the same name.
+pub fn files_have_one_spelling<A: Allocator>()
+    ensures { FilesHaveOneSpelling A }
+{}
+
+/// Bytes have come to one place in a chain: what `held`, `need` and want of memory say of it, they say of the only one.
+pub fn progress_is_one<A: Allocator>()
+    ensures { ProgressIsOne A }
+{}
 
 /// The bytes of a chain that have come have one list of events.
 pub fn events_are_one<A: Allocator>()

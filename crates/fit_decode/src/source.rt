@@ -20,13 +20,16 @@ pub trait Source {
     ghost has_failed: { Self → Bool };
 
     /// Takes some bytes into the front of the buffer, and answers how many. 0 bytes into a buffer
-    /// that isn't empty is the end of the input.
+    /// that isn't empty is the end of the input. An empty buffer gets 0 bytes, where no call has
+    /// failed.
     fn take(&mut self, buffer: &mut [u8]) -> Result<usize, SourceFailed>
         ensures bound { ReadsAtMost result buffer.new }
         ensures bytes { ReadConsumes (remaining self.old) (remaining self.new) result buffer.new }
         ensures good { OnOk result (has_failed self.new ≡ false) }
         ensures bad { OnErr result (has_failed self.new ≡ true) }
-        ensures latched { has_failed self.old ≡ true → IsErr result };
+        ensures latched { has_failed self.old ≡ true → IsErr result }
+        // An empty buffer fails no source.
+        ensures empty { has_failed self.old ≡ false → length buffer.old ≡ 0 → IsOk result };
 
     /// Whether a call has failed.
     fn failed(&self) -> bool
@@ -63,7 +66,7 @@ impl<'a> Source for &'a [u8] {
 }
 
 /// A source over any reader. Every error of the reader counts as a failure, and no read is tried
-/// again. What it tells is what the reader tells.
+/// again. An empty buffer isn't passed on. What it tells is what the reader tells.
 #[derive(Drop)]
 pub struct ReadSource<R: Read> {
     reader: R,
@@ -96,6 +99,9 @@ impl<R: Read> Source for ReadSource<R> {
     fn take(&mut self, buffer: &mut [u8]) -> Result<usize, SourceFailed> {
         if self.broken {
             return Err(SourceFailed);
+        }
+        if buffer.is_empty() {
+            return Ok(0);
         }
         match self.reader.read(buffer) {
             Ok(n) => Ok(n),
@@ -148,6 +154,7 @@ impl<'a> Source for CutSource<'a> {
         ensures good { OnOk result (self.new.failed ≡ false) }
         ensures bad { OnErr result (self.new.failed ≡ true) }
         ensures latched { self.old.failed ≡ true → IsErr result }
+        ensures empty { self.old.failed ≡ false → length buffer.old ≡ 0 → IsOk result }
 
         // It fails only where no byte is left, and always does so there.
         ensures gives { self.old.failed ≡ false → 0 < length self.old.left → IsOk result }

@@ -24,3 +24,4 @@ pub mod CarriedMessages
 pub mod RoomRows
 pub mod KnownRecords
 pub mod KnownFaults
+pub mod RoomAnswers

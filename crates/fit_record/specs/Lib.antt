@@ -10,4 +10,5 @@ pub mod Sound
 pub mod Kept
 pub mod Rooms
 pub mod Unfinished
+pub mod RoomAnswers
 pub mod RoomLaws

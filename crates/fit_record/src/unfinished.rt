@@ -1,8 +1,12 @@
 //! Whether a record that isn't whole can be completed so that records fill the room behind it.
-ghost use Rattle.std.specs.Prelude.{◌≡◌, ◌<◌};
+ghost use Rattle.std.specs.Prelude.{◌≡◌, ◌<◌, length};
+ghost use Rattle.std.specs.declared.alloc.Global.{Global};
+ghost use Rattle.fit_record.specs.Environment.{Environment};
+ghost use Rattle.fit_record.specs.RoomAnswers.{AnswersDevFields, AnswersDevNumber, AnswersFields, AnswersFront, AnswersMessage};
 ghost use Rattle.fit_record.specs.Unfinished.{finishes, can_complete, can_complete_dev, can_complete_front, can_carry};
 
 use crate::Env;
+use crate::environment::Defined;
 use std::alloc::Allocator;
 
 impl<A: Allocator> Env<A> {
@@ -13,7 +17,8 @@ impl<A: Allocator> Env<A> {
     ///
     /// Each of the message's bytes may be any, so the answer holds until its last one.
     pub fn can_carry(&self, local: u8, room: u32) -> bool
-        ensures { result ≡ can_carry self.now local room }
+        ensures test { result ≡ can_carry self.now local room }
+        ensures message { AnswersMessage self.now local room result }
     {
         match self.length(local) {
             Some(size) => size <= room && self.can_fill(room - size),
@@ -30,6 +35,18 @@ impl<A: Allocator> Env<A> {
     /// of the one that its local message type had.
     pub fn can_complete(&self, local: u8, to_come: u32, size: u32, room: u32) -> bool
         requires { local < 16 }
+        ensures test { result ≡ can_complete self.now local to_come size room }
+        ensures fields { AnswersFields self.now local to_come size room result }
+        ensures dev_fields { AnswersDevFields self.now local to_come size room result }
+    {
+        // The check knows that there are sixteen places where they are named.
+        let _: &[Option<Defined<A>>] = &self.places;
+        self.completes(local, to_come, size, room)
+    }
+
+    /// The same, by the test alone.
+    fn completes(&self, local: u8, to_come: u32, size: u32, room: u32) -> bool
+        requires { local < 16 }
         ensures { result ≡ can_complete self.now local to_come size room }
     {
         if room < to_come {
@@ -41,6 +58,16 @@ impl<A: Allocator> Env<A> {
     /// The same where the number of developer fields is to come behind these entries (section
     /// "Developer Fields"), and is chosen as suits the room.
     pub fn can_complete_dev(&self, local: u8, to_come: u32, size: u32, room: u32) -> bool
+        requires { local < 16 }
+        ensures test { result ≡ can_complete_dev self.now local to_come size room }
+        ensures dev_number { AnswersDevNumber self.now local to_come size room result }
+    {
+        let _: &[Option<Defined<A>>] = &self.places;
+        self.completes_dev(local, to_come, size, room)
+    }
+
+    /// The same, by the test alone.
+    fn completes_dev(&self, local: u8, to_come: u32, size: u32, room: u32) -> bool
         requires { local < 16 }
         ensures { result ≡ can_complete_dev self.now local to_come size room }
     {
@@ -74,6 +101,17 @@ impl<A: Allocator> Env<A> {
 /// fill the room behind it, where `come` bytes after its record header have come and the number of
 /// its fields has not.
 pub fn can_complete_front(dev: bool, come: u32, room: u32) -> bool
+    requires { come < 5 }
+    ensures test { result ≡ can_complete_front dev come room }
+    // Whatever was defined before; what allocator it is kept by plays no part.
+    ensures front { (e : Environment Global) → length e.places ≡ 16
+        → AnswersFront e dev come room result }
+{
+    completes_front(dev, come, room)
+}
+
+/// The same, by the test alone.
+fn completes_front(dev: bool, come: u32, room: u32) -> bool
     requires { come < 5 }
     ensures { result ≡ can_complete_front dev come room }
 {

@@ -48,7 +48,7 @@ module _ {A : Type 0} (line : Lines A) (fs : List (FitFile A)) (b : List ℕ) (a
 
   told : (taken y : List ℕ) (heard : List (Event A)) (source sink : Channel) (result : Result (Unit {0}) ReportFault) → source.after ≡ Some y → b ≡ taken ++ y
       → HasTold line taken source sink heard result → ReportsChain line fs source sink result
-  told taken y heard source sink (Ok x) after eats (end, files, tells) =
+  told taken y heard source sink (Ok x) after eats (end, well, files, tells) =
       let all : b ≡ taken = whole taken y eats (subst IsAtEnd after end) in
       let same : reverse heard ≡ flat_map file_events fs = one_list_of_events b (reverse heard) (flat_map file_events fs) (subst (λ t. AreEvents t (reverse heard)) (sym all) tells.0) (chain_events chain_limit fs b chain) in
       subst (λ es. Appends sink.before sink.after (text_of line es)) (sym (reverse-reverse heard) ∙ ap reverse same) tells.1
@@ -58,7 +58,7 @@ module _ {A : Type 0} (line : Lines A) (fs : List (FitFile A)) (b : List ℕ) (a
   told taken y heard source sink (Err (Decode (NoRoom used))) after eats none = none
   told taken y heard source sink (Err (Decode (Read place))) after eats (fault, tells) = fault.1
   told taken y heard source sink (Err NoMemory) after eats some = tt
-  told taken y heard source sink (Err (Write count)) after eats (k, part, some, fails) = fails.0
+  told taken y heard source sink (Err (Write count)) after eats ((k, part, some, fails), viable) = fails.0
 
   taken_of : (has : Option (List ℕ)) (taken : List ℕ) → Consumes (Some b) has taken → (y : List ℕ) × (has ≡ Some y) × (b ≡ taken ++ y)
   taken_of None taken eats = absurd eats

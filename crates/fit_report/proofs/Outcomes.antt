@@ -1,5 +1,5 @@
 -- How a report begins and ends.
-use Rattle.std.proofs.Common.{◌≡◌, ℕ, ◌+◌, ◌≤◌, List, [], ◌++◌, length, take, get_or, reverse, Option, None, Result, Ok, Err, IsOk, IsErr, ◌↔◌, refl, sym, ap, ◌∙◌, subst, arith, length-append}
+use Rattle.std.proofs.Common.{◌≡◌, ℕ, ◌+◌, ◌≤◌, List, [], ◌++◌, length, take, get_or, reverse, Option, None, false, Result, Ok, Err, IsOk, IsErr, ◌↔◌, refl, sym, ap, ◌∙◌, subst, arith, length-append}
 use Rattle.std.specs.Io.KnownBytes.{Consumes, IsAtEnd}
 use Rattle.std.proofs.lemmas.List.{append-nil, get_or-append-add}
 use Rattle.std.proofs.Math.Seq.{take-append-add}
@@ -11,6 +11,7 @@ use Rattle.fit_decode.specs.Events.{Event, AreEvents}
 use Rattle.fit_decode.specs.Progress.{at_header}
 use Rattle.fit_decode.specs.Refusals.{IsRefused}
 use Rattle.fit_decode.proofs.FileRead.{no_file_yet}
+use Rattle.fit_decode.proofs.Nearly.{nearly}
 use Rattle.fit_report.specs.declared.fault.ReportFault.{ReportFault}
 use Rattle.fit_report.specs.declared.fault.ReportFault.TheVariants.{Decode, NoMemory, Write}
 use Rattle.fit_report.specs.Heard.{Lines}
@@ -31,7 +32,8 @@ stands_before {A} line bytes heard start none silent =
 
 -- ---- a fault in a piece
 
-module _ {A : Type 0} (line : Lines A) (bytes piece : List ℕ) (new : Seen) (heard : List (Event A)) (source sink : Channel) (written : ℕ) (short : length piece ≤ 4096) where
+module _ {A : Type 0} (line : Lines A) (bytes piece : List ℕ) (new : Seen) (heard : List (Event A)) (source sink : Channel) (written : ℕ) (short : length piece ≤ 4096)
+    (viable : IsViable A chain_limit bytes) where
   front : (k : ℕ) → bytes ++ take k piece ≡ take (length bytes + k) (bytes ++ piece)
   front k = sym (take-append-add bytes piece k)
 
@@ -49,19 +51,20 @@ module _ {A : Type 0} (line : Lines A) (bytes piece : List ℕ) (new : Seen) (he
   piece_fault (Decode (Truncated place)) none = absurd none
   piece_fault (Decode (NoRoom used)) none = absurd none
   piece_fault (Decode (Read place)) none = absurd none
-  piece_fault NoMemory (k, told, tells) = (length bytes + k, told, subst (λ t. Tells line t told sink) (front k) tells)
-  piece_fault (Write count) (k, told, are, fails) = (length bytes + k, told, subst (λ t. AreEvents t (reverse told)) (front k) are, fails)
+  piece_fault NoMemory (k, told, tells) = ((length bytes + k, told, subst (λ t. Tells line t told sink) (front k) tells), nearly chain_limit bytes piece (bytes ++ piece) refl short viable)
+  piece_fault (Write count) (k, told, are, fails) =
+      ((length bytes + k, told, subst (λ t. AreEvents t (reverse told)) (front k) are, fails), nearly chain_limit bytes piece (bytes ++ piece) refl short viable)
 
 -- ---- the end of the input
 
 -- The bytes that were fed are no chain.
 pub end_fault : {A : Type 0} (line : Lines A) (now : Seen) (heard : List (Event A)) (source sink : Channel) (written : ℕ) (result : Result (Unit {0}) Fault) (fault : Fault) → now.refusal ≡ None → IsViable A chain_limit now.bytes
-    → IsAtEnd source.after → Stands line now.bytes heard sink.before sink.after written → IsOk result ↔ ((now.refusal ≡ None) × AreChain A now.bytes)
+    → IsAtEnd source.after → source.failed ≡ false → Stands line now.bytes heard sink.before sink.after written → IsOk result ↔ ((now.refusal ≡ None) × AreChain A now.bytes)
     → (now.refusal ≡ None → IsErr result → result ≡ Err (Truncated (length now.bytes))) → result ≡ Err fault → HasTold line now.bytes source sink heard (Err (report_fault fault))
-end_fault line now heard source sink written (Ok x) fault fresh viable end s good truncated is = absurd cc
-end_fault {A} line now heard source sink written (Err other) fault fresh viable end s good truncated is =
+end_fault line now heard source sink written (Ok x) fault fresh viable end well s good truncated is = absurd cc
+end_fault {A} line now heard source sink written (Err other) fault fresh viable end well s good truncated is =
     let same : fault ≡ Truncated (length now.bytes) = let t = truncated fresh refl in cc in
-    rw same ((refl, end, viable, λ done. let ok = good.1 (fresh, done) in absurd cc), (s.are, s.put))
+    rw same ((refl, end, viable, λ done. let ok = good.1 (fresh, done) in absurd cc, well), (s.are, s.put))
 
 -- nothing more was taken
 pub ate_nothing : (a b c : Option (List ℕ)) (taken piece : List ℕ) (n : ℕ) → Consumes a b taken → Consumes b c (take n piece) → n ≡ 0 → Consumes a c taken

@@ -1,5 +1,5 @@
 -- What a report of the bytes of a source puts in a sink.
-use Rattle.std.specs.Prelude.{◌≡◌, ℕ, ◌-◌, ◌^◌, ◌<◌, min, Bool, true, List, Option, Result, Ok, Err, take, length, reverse, flat_map}
+use Rattle.std.specs.Prelude.{◌≡◌, ℕ, ◌-◌, ◌^◌, ◌<◌, min, Bool, true, false, List, Option, Result, Ok, Err, take, length, reverse, flat_map}
 use Rattle.std.specs.Io.KnownBytes.{Appends, Consumes, IsAtEnd}
 use Rattle.fit_record.specs.declared.file.FitFile.{FitFile}
 use Rattle.fit_record.specs.Files.{chain_limit}
@@ -7,7 +7,7 @@ use Rattle.fit_decode.specs.declared.event.Fault.{Fault}
 use Rattle.fit_decode.specs.declared.event.Fault.TheVariants.{Refused, NoMemory, Read}
 use Rattle.fit_decode.specs.Answers.{AreChain}
 use Rattle.fit_decode.specs.Events.{Event, AreEvents, file_events}
-use Rattle.fit_decode.specs.Reads.{EndsReading}
+use Rattle.fit_decode.specs.Reads.{EndsReading, IsNearlyViable}
 use Rattle.fit_report.specs.declared.fault.ReportFault.{ReportFault}
 use Rattle.fit_report.specs.declared.fault.ReportFault.TheVariants as report
 use Rattle.fit_report.specs.Heard.{Lines, text_of}
@@ -52,14 +52,14 @@ abbrev pub BreaksOff : {A : Type 0} → Lines A → List ℕ → Channel → ℕ
 BreaksOff {A} line bytes sink written = (k : ℕ) × (heard : List (Event A)) × AreEvents (take k bytes) (reverse heard) × FailsIn (text_of line heard) sink written
 
 -- What a report told that took these bytes: all of the input, which is a chain, was told; or what is before a fault; or, where
--- memory was refused or the sink failed, some of it.
+-- memory was refused or the sink failed, some of it, and all but at most a piece of the bytes begins a chain.
 abbrev pub HasTold : {A : Type 0} → Lines A → List ℕ → Channel → Channel → List (Event A) → Result (Unit {0}) ReportFault → Type 0
-HasTold {A} line taken source sink heard (Ok _) = IsAtEnd source.after × AreChain A taken × Tells line taken heard sink
+HasTold {A} line taken source sink heard (Ok _) = IsAtEnd source.after × (source.failed ≡ false) × AreChain A taken × Tells line taken heard sink
 HasTold line taken source sink heard (Err (report.Decode (NoMemory used))) = ⊥
 HasTold {A} line taken source sink heard (Err (report.Decode fault)) =
     Faults A chain_limit taken source.after source.failed fault × Tells line (before_fault fault taken) heard sink
-HasTold line taken source sink heard (Err report.NoMemory) = TellsSome line taken sink
-HasTold line taken source sink heard (Err (report.Write written)) = BreaksOff line taken sink written
+HasTold {A} line taken source sink heard (Err report.NoMemory) = TellsSome line taken sink × IsNearlyViable A chain_limit taken
+HasTold {A} line taken source sink heard (Err (report.Write written)) = BreaksOff line taken sink written × IsNearlyViable A chain_limit taken
 
 abbrev pub Reports : {A : Type 0} → Lines A → Channel → Channel → Result (Unit {0}) ReportFault → Type 0
 Reports {A} line source sink result = (taken : List ℕ) × (heard : List (Event A)) × Consumes source.before source.after taken × HasTold line taken source sink heard result

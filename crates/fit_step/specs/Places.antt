@@ -1,10 +1,10 @@
 -- Where a reader of records is: a part of a record has come, and what is left of the data section has room for the rest.
 use Rattle.std.specs.Prelude.{◌≡◌, ℕ, ◌+◌, ◌<◌, ◌≤◌, ◌⊎◌, Bool, true, false, IsTrue, List, [], length, Option, None, Result, Ok, Err, IsOk, IsSomeAnd}
 use Rattle.fit_record.specs.declared.message.Record.{Record}
-use Rattle.fit_record.specs.Environment.{Environment, defined_at}
+use Rattle.fit_record.specs.Environment.{Environment}
 use Rattle.fit_record.specs.Records.{Fits}
-use Rattle.fit_record.specs.Sizes.{HasNoFields}
-use Rattle.fit_record.specs.HeaderByte.{is_definition, local_type}
+use Rattle.fit_record.specs.Sizes.{HeadsEmptyMessage}
+use Rattle.fit_record.specs.HeaderByte.{is_definition}
 use Rattle.fit_step.specs.declared.phase.DefinitionPhase.TheVariants.{FieldCode, DevIndex}
 use Rattle.fit_step.specs.declared.phase.Phase.{Phase}
 use Rattle.fit_step.specs.declared.phase.Phase.TheVariants.{RecordHeader, Definition, FieldItems, DevItems}
@@ -37,10 +37,6 @@ Steps after (Ok (p, true)) made = made ≡ Ok (state_at p None, after)
 Steps after (Ok (p, false)) made = made ≡ Ok (state_at p after, None)
 Steps after (Err (Refused reason)) made = made ≡ Err reason
 Steps after (Err NoMemory) made = IsOk made
-
--- The byte heads a data message of a definition without fields and developer fields.
-abbrev pub HeadsEmptyMessage : {A : Type 0} → Environment A → ℕ → Type 0
-HeadsEmptyMessage e b = (is_definition b ≡ false) × IsSomeAnd (defined_at e (local_type b)) (λ p. HasNoFields p.definition)
 
 -- For these bytes no memory is wanted: the record header of a definition message, or of a data message without fields and
 -- developer fields, the bytes of a definition message that end no entry, and those of a data message, behind its record

@@ -4,10 +4,10 @@ ghost use Rattle.fit_record.specs.Environment.{defined_at};
 ghost use Rattle.fit_record.specs.HeaderByte.{is_definition, local_type};
 ghost use Rattle.fit_record.specs.Kept.{IsSound};
 ghost use Rattle.fit_record.specs.Records.{layout, dev_layout};
-ghost use Rattle.fit_record.specs.Sizes.{HasNoFields};
+ghost use Rattle.fit_record.specs.Sizes.{HasNoFields, HeadsEmptyMessage};
 ghost use Rattle.fit_step.specs.Reasons.{least_definition};
 ghost use Rattle.fit_step.specs.Machine.{begin_fields, header_move, message_move, new_message};
-ghost use Rattle.fit_step.specs.Places.{HeadsEmptyMessage, WantsNone};
+ghost use Rattle.fit_step.specs.Places.{WantsNone};
 ghost use Rattle.fit_step.specs.Steps.{Enters};
 ghost use Rattle.fit_step.specs.Tests.{tests_of};
 

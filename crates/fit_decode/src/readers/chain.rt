@@ -17,12 +17,13 @@ use std::alloc::Global;
 ///
 /// `Refused` names the first byte with which no chain begins, and why; from there on at most 4,096 bytes were taken.
 /// `Truncated` names the end of a source that ends inside a file, or before the first, and `Read` the place where it
-/// failed. With `NoMemory`, `used` is the number of bytes taken.
+/// failed. With `NoMemory`, `used` is the number of bytes taken, at most a piece of them after bytes with which a chain
+/// begins.
 pub fn read_chain<S: Source>(alloc: Global, source: &mut S) -> Result<Vec<FitFile>, Fault>
     // Where the input is a chain's bytes, its files are answered.
     ensures chain { (fs : List (FitFile Global)) (b : List ℕ) → S.remaining source.old ≡ Some b → IsBytes b → IsChain chain_limit fs b
-        → GivesChain fs (S.has_failed source.new) result }
-    ensures exact { ReadsChain (S.remaining source.old) (S.remaining source.new) (S.has_failed source.new) result }
+        → GivesChain fs (record { before = S.remaining source.old; after = S.remaining source.new; failed = S.has_failed source.new }) result }
+    ensures exact { ReadsChain (record { before = S.remaining source.old; after = S.remaining source.new; failed = S.has_failed source.new }) result }
 {
     let mut decoder = Decoder::new(alloc);
     let mut count = 0;

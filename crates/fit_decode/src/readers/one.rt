@@ -12,17 +12,18 @@ use fit_history::History;
 use fit_record::FitFile;
 use std::alloc::Global;
 
-/// Reads one file, and leaves the bytes behind it. It takes pieces of at most 4,096 bytes, and its memory from `Global`;
+/// Reads one file, and leaves the bytes after it. It takes pieces of at most 4,096 bytes, and its memory from `Global`;
 /// `Reading` takes any allocator.
 ///
 /// `Refused` names the first byte with which no file begins, and why; from there on at most 4,096 bytes were taken.
 /// `Truncated` names the end of a source that ends before a file does, and `Read` the place where it failed. With
-/// `NoMemory`, `used` is the number of bytes taken.
+/// `NoMemory`, `used` is the number of bytes taken: none after a whole file, and at most a piece after bytes with which a
+/// file begins.
 pub fn read_one<S: Source>(alloc: Global, source: &mut S) -> Result<FitFile, Fault>
     // Where a file's bytes begin the input, that file is answered, and the bytes behind it are left.
     ensures file { (f : FitFile Global) (b x : List ℕ) → S.remaining source.old ≡ Some (b ++ x) → IsBytes b → IsFile f b
-        → GivesFile f (length b) x (S.remaining source.new) (S.has_failed source.new) result }
-    ensures exact { ReadsOne (S.remaining source.old) (S.remaining source.new) (S.has_failed source.new) result }
+        → GivesFile f (length b) x (record { before = S.remaining source.old; after = S.remaining source.new; failed = S.has_failed source.new }) result }
+    ensures exact { ReadsOne (record { before = S.remaining source.old; after = S.remaining source.new; failed = S.has_failed source.new }) result }
 {
     let mut decoder = Decoder::new(alloc);
     let mut count = 0;

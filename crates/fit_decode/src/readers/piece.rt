@@ -1,5 +1,5 @@
 //! Takes a piece from a source, and feeds a piece to a decoder.
-ghost use Rattle.std.specs.Prelude.{◌≡◌, ◌+◌, ◌<◌, ◌≤◌, IfOk, OnErr, List, [], ◌∷◌, ◌++◌, length, take, None, true};
+ghost use Rattle.std.specs.Prelude.{◌≡◌, ◌+◌, ◌<◌, ◌≤◌, IfOk, OnOk, OnErr, List, [], ◌∷◌, ◌++◌, length, take, None, true, false};
 ghost use Rattle.std.specs.Io.KnownBytes.{Consumes, Keeps, IsAtEnd};
 ghost use Rattle.fit_record.specs.declared.file.FitFile.{FitFile};
 ghost use Rattle.fit_record.specs.Files.{chain_limit, IsViable};
@@ -21,6 +21,7 @@ pub(crate) fn take_some<S: Source>(
     ensures bound { IfOk result (λ n. n ≤ wanted) }
     ensures bytes { IfOk result (λ n. Consumes (S.remaining source.old) (S.remaining source.new) (take n buffer.new) × (n ≡ 0 → IsAtEnd (S.remaining source.new))) }
     ensures room { length buffer.new ≡ length buffer.old }
+    ensures good { OnOk result (S.has_failed source.new ≡ false) }
     ensures bad { OnErr result ((S.has_failed source.new ≡ true) × Keeps (S.remaining source.old) (S.remaining source.new)) }
 {
     source.take(&mut buffer[..wanted])

@@ -1,5 +1,5 @@
 //! Reads the files of a chain from a source, one after another.
-ghost use Rattle.std.specs.Prelude.{◌≡◌, ℕ, [], ◌∷◌, List, ◌++◌, None, Some, Err};
+ghost use Rattle.std.specs.Prelude.{◌≡◌, ℕ, [], ◌∷◌, List, ◌++◌, length, None, Some, Err};
 ghost use Rattle.fit_decode.specs.declared.event.Fault.{Fault};
 ghost use Rattle.fit_base.specs.Numbers.{IsBytes};
 ghost use Rattle.fit_record.specs.declared.file.FitFile.{FitFile};
@@ -13,7 +13,7 @@ use fit_record::FitFile;
 use std::alloc::{Allocator, Global};
 use std::marker::Model;
 
-/// Reads a chain from a source, file by file. It takes pieces of at most 4,096 bytes, and none behind the file that it answers.
+/// Reads a chain from a source, file by file. It takes pieces of at most 4,096 bytes, and none after the file that it answers.
 ///
 /// Clauses see the source, the bytes taken since `new`, and the fault if there was one.
 #[derive(Drop)]
@@ -52,16 +52,27 @@ impl<S: Source, A: Allocator + Copy> Reading<S, A> {
         }
     }
 
+    /// Gives the source back. What is left in it is what the calls of `next` left.
+    pub fn into_source(self) -> S
+        ensures { result ≡ self.source }
+    {
+        let Reading { source, .. } = self;
+        source
+    }
+
     /// The next file, or `None` where the source ends behind at least one. After a fault each call answers it again.
     ///
-    /// Places count from the start of the chain. With `NoMemory`, `used` is the number of bytes taken since `new`.
+    /// Places count from the start of the chain. With `NoMemory`, `used` is the number of bytes taken since `new`: none after a
+    /// whole file that is there, and at most a piece after bytes with which a chain begins.
     pub fn next(&mut self) -> Result<Option<FitFile<A>>, Fault>
         // After a fault each call answers it again.
         ensures latched { (fault : Fault) → self.old.fault ≡ Some fault → (result ≡ Err fault) × (self.new ≡ self.old) }
-        ensures exact { self.old.fault ≡ None → ReadsNext self.old.taken (S.remaining self.old.source) self.new.taken (S.remaining self.new.source) (S.has_failed self.new.source) self.new.fault result }
+        ensures exact { self.old.fault ≡ None → ReadsNext self.old self.new
+            (record { before = S.remaining self.old.source; after = S.remaining self.new.source; failed = S.has_failed self.new.source }) result }
         // Where a file's bytes begin what is left, and with the bytes taken make a chain, that file is answered, and the bytes behind it are left.
         ensures file { self.old.fault ≡ None → (fs : List (FitFile A)) (f : FitFile A) (b x : List ℕ) → S.remaining self.old.source ≡ Some (b ++ x) → IsBytes b → IsFile f b
-            → IsChain chain_limit (fs ++ f ∷ []) (self.old.taken ++ b) → GivesNext f x (S.remaining self.new.source) (S.has_failed self.new.source) result }
+            → IsChain chain_limit (fs ++ f ∷ []) (self.old.taken ++ b) → GivesNext f (length (self.old.taken ++ b)) x
+            (record { before = S.remaining self.old.source; after = S.remaining self.new.source; failed = S.has_failed self.new.source }) result }
     {
         if let Some(fault) = self.fault {
             return Err(fault);

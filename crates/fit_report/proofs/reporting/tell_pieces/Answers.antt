@@ -35,7 +35,7 @@ returns-in_err-finish g c =
       ate_nothing _ _ _ c.pieces.decoder.bytes _ c.in-Ok.got i.eaten c.in-Ok.ensures.bytes.0 c.if-got-eq0.true,
       rw (p.1, p.2)
           (end_fault g.R.Report.line c.pieces.decoder i.stands.0 source sink c.pieces.written c.finish.result c.in_err-finish.field-0.0 i.fresh i.viable
-          (c.in-Ok.ensures.bytes.1 c.if-got-eq0.true (omega arith)) i.stands.2 c.finish.ensures.good c.finish.ensures.truncated c.in_err-finish.was),
+          (c.in-Ok.ensures.bytes.1 c.if-got-eq0.true (omega arith)) c.in-Ok.ensures.good i.stands.2 c.finish.ensures.good c.finish.ensures.truncated c.in_err-finish.was),
     )
 
 pub returns-in_err-tell_piece : goal.returns-in_err-tell_piece
@@ -50,7 +50,7 @@ returns-in_err-tell_piece g c =
       told.0,
       Consumes-append _ _ _ c.pieces.decoder.bytes piece i.eaten (rw (← c.split_at.ensures.front) at c.in-Ok.ensures.bytes.0),
       rw (p.1, p.2)
-          (piece_fault g.R.Report.line c.pieces.decoder.bytes piece c.tell_piece.new.decoder told.0 source sink c.tell_piece.new.written (omega arith)
+          (piece_fault g.R.Report.line c.pieces.decoder.bytes piece c.tell_piece.new.decoder told.0 source sink c.tell_piece.new.written (omega arith) i.viable
           c.in_err-tell_piece.field-0.0 told.2),
     )
 

@@ -11,9 +11,9 @@ returns-then-room-size-clause-err g c =
 
 pub returns-then-not-can_carry-clause-err : goal.returns-then-not-can_carry-clause-err
 returns-then-not-can_carry-clause-err g c =
-    no_fit_at c.args.env.now c.args.room c.args.byte c.local_type-local.result c.local_type-local.ensures c.in-Some-length.size c.in-Some-length.ensures.size (omega (arith, c.if-room-size.false)) c.if-not-can_carry.ensures
+    no_fit_at c.args.env.now c.args.room c.args.byte c.local_type-local.result c.local_type-local.ensures c.in-Some-length.size c.in-Some-length.ensures.size (omega (arith, c.if-room-size.false)) c.if-not-can_carry.ensures.test
 
 pub returns-clause-goes : goal.returns-clause-goes
 returns-clause-goes g c =
     goes_at c.args.env.now c.args.room c.args.byte c.local_type-local.result c.local_type-local.ensures c.in-Some-length.size c.in-Some.defined.now c.in-Some.ensures.place c.in-Some-length.ensures.size
-    (omega (arith, c.if-room-size.false)) c.if-not-can_carry.ensures
+    (omega (arith, c.if-room-size.false)) c.if-not-can_carry.ensures.test

@@ -18,7 +18,7 @@ returns-clause-within g c =
     message_within c.args.env.now c.in_ok-defined.defined.now c.in_ok-first.first.now c.in_ok-size.size c.args.room c.local_type-local.result c.time_offset.result c.in_ok-first.rest.now c.args.piece.now c.in-Ok.fields c.new.result
     c.in_ok-size.ensures.places c.in_ok-first.ensures.cases.0 (slice_is_bytes c.args.piece.now c.type_inv.piece) (sym c.has_reserved_bit.ensures ∙ c.if-has_reserved_bit.false) (sym c.is_definition.ensures ∙ c.if-is_definition.false)
     c.local_type-local.ensures c.time_offset.ensures (sym c.in_ok-defined.ensures.place) (c.has_dev_fields.ensures c.if-has_dev_fields.false) (same_size c.in_ok-defined.defined.now _ c.in_ok-size.size c.in_ok-defined.ensures.place c.in_ok-size.ensures.size)
-    c.if-rest-size.false c.requires (sym c.if-not-can_carry.ensures)
+    c.if-rest-size.false c.requires (sym c.if-not-can_carry.ensures.test)
     (c.in-Ok.ensures ∙ ap (λ l. fields_of c.in_ok-defined.defined.now.definition.order (map pair l) c.split_at.result.0.now) c.as_slice.ensures ∙ ap (fields_of c.in_ok-defined.defined.now.definition.order (layout c.in_ok-defined.defined.now)) c.split_at.ensures.front) c.new.ensures
 
 pub returns-clause-fits : goal.returns-clause-fits
@@ -26,7 +26,7 @@ returns-clause-fits g c =
     message_can_stand c.args.env.now c.in_ok-defined.defined.now c.in_ok-first.first.now c.in_ok-size.size c.args.room c.local_type-local.result c.time_offset.result c.in_ok-first.rest.now c.args.piece.now c.in-Ok.fields c.new.result
     c.in_ok-size.ensures.places c.in_ok-first.ensures.cases.0 (slice_is_bytes c.args.piece.now c.type_inv.piece) (sym c.has_reserved_bit.ensures ∙ c.if-has_reserved_bit.false) (sym c.is_definition.ensures ∙ c.if-is_definition.false)
     c.local_type-local.ensures c.time_offset.ensures (sym c.in_ok-defined.ensures.place) (c.has_dev_fields.ensures c.if-has_dev_fields.false) (same_size c.in_ok-defined.defined.now _ c.in_ok-size.size c.in_ok-defined.ensures.place c.in_ok-size.ensures.size)
-    c.if-rest-size.false c.requires (sym c.if-not-can_carry.ensures)
+    c.if-rest-size.false c.requires (sym c.if-not-can_carry.ensures.test)
     (c.in-Ok.ensures ∙ ap (λ l. fields_of c.in_ok-defined.defined.now.definition.order (map pair l) c.split_at.result.0.now) c.as_slice.ensures ∙ ap (fields_of c.in_ok-defined.defined.now.definition.order (layout c.in_ok-defined.defined.now)) c.split_at.ensures.front) c.new.ensures
 
 pub returns-clause-ends : goal.returns-clause-ends
@@ -34,5 +34,5 @@ returns-clause-ends g c =
     message_ends c.args.env.now c.in_ok-defined.defined.now c.in_ok-first.first.now c.in_ok-size.size c.args.room c.local_type-local.result c.time_offset.result c.in_ok-first.rest.now c.args.piece.now c.in-Ok.fields c.new.result
     c.in_ok-size.ensures.places c.in_ok-first.ensures.cases.0 (slice_is_bytes c.args.piece.now c.type_inv.piece) (sym c.has_reserved_bit.ensures ∙ c.if-has_reserved_bit.false) (sym c.is_definition.ensures ∙ c.if-is_definition.false)
     c.local_type-local.ensures c.time_offset.ensures (sym c.in_ok-defined.ensures.place) (c.has_dev_fields.ensures c.if-has_dev_fields.false) (same_size c.in_ok-defined.defined.now _ c.in_ok-size.size c.in_ok-defined.ensures.place c.in_ok-size.ensures.size)
-    c.if-rest-size.false c.requires (sym c.if-not-can_carry.ensures)
+    c.if-rest-size.false c.requires (sym c.if-not-can_carry.ensures.test)
     (c.in-Ok.ensures ∙ ap (λ l. fields_of c.in_ok-defined.defined.now.definition.order (map pair l) c.split_at.result.0.now) c.as_slice.ensures ∙ ap (fields_of c.in_ok-defined.defined.now.definition.order (layout c.in_ok-defined.defined.now)) c.split_at.ensures.front) c.new.ensures

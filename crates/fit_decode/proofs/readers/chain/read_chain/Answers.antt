@@ -4,7 +4,9 @@ use Rattle.std.specs.declared.alloc.Global.{Global}
 use Rattle.fit_decode.specs.Between.{IsBehind, IsEnd}
 use Rattle.fit_decode.proofs.Bounds.{short_bytes}
 use Rattle.fit_decode.proofs.ChainRead.{chain_ended, chain_stopped, gives_chain, one_longer, one_more, pushed}
+use Rattle.fit_decode.proofs.Nearly.{all_viable}
 use Rattle.fit_decode.proofs.NextRead.{comes_behind}
+use Rattle.fit_record.specs.Files.{chain_limit}
 use Rattle.fit_decode.proofs.readers.chain.read_chain.Goals as goal
 
 pub returns-then-is_err-clause-exact : goal.returns-then-is_err-clause-exact
@@ -13,7 +15,7 @@ returns-then-is_err-clause-exact g c =
     let r = c.in-Ok.ensures.read c.files.files.items (comes_behind c.files.files.items _ _ _ behind) in
     let more = one_more c.files.files.items _ _ _ c.read_file.new.taken.items _ _ _ _ c.read_file.new.decoder c.read_file.new.count behind c.files.invariant.eats c.in-Ok.ensures.counted
     c.in-Ok.ensures.viable c.in-Ok.file r in
-    (c.read_file.new.taken.items, more.1, more.0.counted)
+    (c.read_file.new.taken.items, more.1, (more.0.counted, all_viable chain_limit c.read_file.new.taken.items more.0.viable))
 
 pub files-smaller : goal.files-smaller
 files-smaller g c =

@@ -29,7 +29,7 @@ returns-then-got-eq0-clause-turned g c = λ files stands.
       got = [];
       noted = sym (append-nil c.args.taken.now.items);
       eats = rw c.if-got-eq0.true at bytes.0;
-      told = turn_ends files c.args.head.now c.args.records.now c.args.decoder.now c.args.count.now (g.S.Source.remaining c.take_some.new.source) (g.S.Source.has_failed c.take_some.new.source) c.requires.counted c.requires.fresh stands (bytes.1 c.if-got-eq0.true);
+      told = turn_ends files c.args.head.now c.args.records.now c.args.decoder.now c.args.count.now (g.S.Source.remaining c.take_some.new.source) (g.S.Source.has_failed c.take_some.new.source) c.requires.counted c.requires.fresh stands (bytes.1 c.if-got-eq0.true) c.in-Ok.ensures.good;
     }
 
 pub overflow_add-count : goal.overflow_add-count
@@ -48,7 +48,7 @@ returns-clause-turned g c = λ files stands.
       eats = rw (← c.split_at.ensures.front) at c.in-Ok.ensures.bytes.0;
       told = turn_of files c.args.decoder.now.bytes piece c.need.result _ _ c.take_piece.new.decoder c.take_piece.new.head c.take_piece.new.records c.take_piece.result
           (needs_no_sooner c.args.decoder.now.bytes c.need.result files stands.progress needs stands.come)
-          (omega (arith, c.min-wanted.ensures)) (omega arith) (omega (arith, c.min-wanted.ensures)) (c.take_piece.ensures.fed files stands);
+          (omega (arith, c.min-wanted.ensures)) (omega arith) (omega (arith, c.min-wanted.ensures)) c.in-Ok.ensures.good c.requires.viable (stands.progress, stands.come) (c.take_piece.ensures.fed files stands);
     }
 
 pub returns-clause-counted : goal.returns-clause-counted

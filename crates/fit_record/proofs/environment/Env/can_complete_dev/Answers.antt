@@ -1,11 +1,8 @@
-use Rattle.std.proofs.Common.{◌∙◌, sym, arith}
-use Rattle.fit_record.proofs.RoomWalks.{too_short, with_one}
+use Rattle.std.proofs.Common.{rules, ◌≡◌, length}
+use Rattle.fit_record.proofs.RoomAnswers.{dev_number_answered}
 use Rattle.fit_record.proofs.environment.Env.can_complete_dev.Goals as goal
 
-pub returns-then-left-lt3 : goal.returns-then-left-lt3
-returns-then-left-lt3 g c =
-    too_short c.args.self.now c.args.local c.args.to_come c.args.size c.args.room (omega arith) (sym c.finishes.ensures ∙ c.if-finishes.false) (omega arith)
-
-pub returns : goal.returns
-returns g c =
-    with_one c.args.self.now c.args.local c.args.to_come c.args.size c.args.room (omega arith) (sym c.finishes.ensures ∙ c.if-finishes.false) c.can_fill_from.result (omega arith) c.can_fill_from.ensures
+pub returns-clause-dev_number : goal.returns-clause-dev_number
+returns-clause-dev_number g c =
+    let sixteen : length c.args.self.now.places ≡ 16 = search rules in
+    dev_number_answered c.args.self.now c.args.local c.args.to_come c.args.size c.args.room c.completes_dev.result c.requires sixteen c.completes_dev.ensures

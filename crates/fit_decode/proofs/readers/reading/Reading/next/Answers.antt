@@ -6,7 +6,8 @@ use Rattle.fit_decode.specs.contracts.readers.reading.Reading.{the_row}
 use Rattle.fit_decode.specs.contracts.readers.reading.Reading.next.{S-row, A-row}
 use Rattle.fit_decode.specs.Answers.{Seen}
 use Rattle.fit_decode.specs.Between.{IsEnd}
-use Rattle.fit_decode.proofs.NextRead.{behind_file, comes_behind, end_not_given, fault_given, keeps, next_end, next_fault, next_file, next_given}
+use Rattle.fit_decode.specs.Reads.{Taking}
+use Rattle.fit_decode.proofs.NextRead.{behind_file, comes_behind, end_not_given, fault_given, keeps, next_chain, next_end, next_fault, next_file, next_given, next_good, NextGiven}
 use Rattle.fit_decode.proofs.Sizes.{fourth_is_within}
 use Rattle.fit_decode.proofs.readers.reading.Reading.next.Goals as goal
 
@@ -45,7 +46,9 @@ returns-in-Ok-clause-exact g c =
     let behind = (c.self.invariant c.in_default.is).1 in
     let r = c.in-Ok.ensures.read files (comes_behind files _ _ _ behind) in
     let file = next_file files _ _ _ _ _ _ _ c.read_file.new.decoder c.read_file.new.count behind c.in-Ok.ensures.counted c.in-Ok.ensures.viable c.in-Ok.file r in
-    rw (← c.self.view_is) (λ fresh. (r.got, r.eats, r.noted, file, c.in_default.is))
+    let chain = next_chain files _ _ _ _ _ _ _ c.read_file.new.decoder c.read_file.new.count behind c.in-Ok.ensures.counted c.in-Ok.ensures.viable c.in-Ok.file r in
+    let good = next_good files _ _ _ _ _ _ _ c.read_file.new.decoder c.read_file.new.count behind c.in-Ok.ensures.counted c.in-Ok.ensures.viable c.in-Ok.file r in
+    rw (← c.self.view_is) (λ fresh. (r.got, r.eats, r.noted, file, chain, c.in_default.is, good))
 
 pub returns-in-Ok-clause-file : goal.returns-in-Ok-clause-file
 returns-in-Ok-clause-file g c =
@@ -73,7 +76,7 @@ returns-then-is_end-clause-exact g c =
     let r = c.in-Err.ensures.read files (comes_behind files _ _ _ behind) in
     let end = subst (IsEnd g.row.A.Denot c.read_file.new.decoder c.in-Err.fault) c.if-is_end.true c.is_end.ensures in
     let e = next_end files _ _ _ _ _ _ _ c.read_file.new.decoder c.read_file.new.count behind c.in-Err.ensures.counted c.in-Err.ensures.viable c.in-Err.fault r end in
-    rw (← c.self.view_is) (λ fresh. (keeps _ _ e.kept, e.end, e.same, (files, e.whole), c.in_default.is))
+    rw (← c.self.view_is) (λ fresh. (keeps _ _ e.kept, e.end, e.same, (files, e.whole), c.in_default.is, e.good))
 
 pub returns-then-is_end-clause-file : goal.returns-then-is_end-clause-file
 returns-then-is_end-clause-file g c =
@@ -81,9 +84,10 @@ returns-then-is_end-clause-file g c =
     let behind = (c.self.invariant c.in_default.is).1 in
     let r = c.in-Err.ensures.read files (comes_behind files _ _ _ behind) in
     let end = subst (IsEnd g.row.A.Denot c.read_file.new.decoder c.in-Err.fault) c.if-is_end.true c.is_end.ensures in
+    let source : Taking = record { before = g.S.Source.remaining c.self.inside.source; after = g.S.Source.remaining c.read_file.new.source; failed = g.S.Source.has_failed c.read_file.new.source } in
     rw (← c.self.view_is)
     (λ fresh fs f b x input are file chain.
-    end_not_given f _ x (g.S.Source.remaining c.read_file.new.source) (g.S.Source.has_failed c.read_file.new.source) c.read_file.new.decoder c.in-Err.fault end
+    end_not_given f _ x source c.read_file.new.decoder c.in-Err.fault end
     (next_given files _ _ _ _ _ _ _ c.read_file.new.decoder c.read_file.new.count behind c.in-Err.ensures.counted c.in-Err.ensures.viable f b x (fs ++ f ∷ []) (Err c.in-Err.fault) input are file chain r))
 
 -- ---- a fault
@@ -102,7 +106,8 @@ returns-else-is_end-clause-file g c =
     let files = (c.self.invariant c.in_default.is).0 in
     let behind = (c.self.invariant c.in_default.is).1 in
     let r = c.in-Err.ensures.read files (comes_behind files _ _ _ behind) in
-    rw (← c.self.view_is)
+    let source : Taking = record { before = g.S.Source.remaining c.self.inside.source; after = g.S.Source.remaining c.read_file.new.source; failed = g.S.Source.has_failed c.read_file.new.source } in
+    subst (NextGiven g.S.Source.remaining source.after source.failed (Err c.in-Err.fault)) c.self.view_is
     (λ fresh fs f b x input are file chain.
-    fault_given f _ x (g.S.Source.remaining c.read_file.new.source) (g.S.Source.has_failed c.read_file.new.source) c.in-Err.fault
+    fault_given f _ x source c.in-Err.fault
     (next_given files _ _ _ _ _ _ _ c.read_file.new.decoder c.read_file.new.count behind c.in-Err.ensures.counted c.in-Err.ensures.viable f b x (fs ++ f ∷ []) (Err c.in-Err.fault) input are file chain r))
