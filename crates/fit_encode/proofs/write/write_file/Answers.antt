@@ -50,4 +50,4 @@ returns g c =
     let both = Spells-on head records in
     let whole = Spells-on both (Spells-as (ap (λ x. little_bytes 2 (checksum x)) (all_spelled both)) c.in_ok-end.ensures.sends) in
     let out = went_out whole refl c.in_ok-end.ensures.empty in
-    (out.0, λ fits. c.count.ensures ∙ out.2 fits)
+    (out.0, (λ fits. c.count.ensures ∙ out.2 fits), out.3)
