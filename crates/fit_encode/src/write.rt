@@ -21,9 +21,9 @@ use std::alloc::{Allocator, Global};
 
 /// Writes a file.
 ///
-/// It answers the first fault in the order of `EncodeFault` from `BadHeader` to `TooLong` for each
-/// record, and `ZeroIsSum` last, before a byte goes out. `NoMemory` may come in place of these. The
-/// writing itself takes no memory.
+/// Before a byte goes out it answers the first fault: `BadHeader`, then the faults of the records in
+/// their order, and last `ZeroIsSum`. `NoMemory` may come in place of these. The writing itself takes
+/// no memory.
 pub fn write_one<K: Sink>(alloc: Global, sink: &mut K, file: &FitFile) -> Result<(), EncodeFault>
     ensures ok { OnOk result (IsWellFormed file.now) }
     ensures spelled { OnOk result (Appends (K.contents sink.old) (K.contents sink.new) (file_bytes file.now)) }
