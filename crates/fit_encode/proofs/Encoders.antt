@@ -22,6 +22,7 @@ use Rattle.fit_encode.specs.declared.fault.EncodeFault.TheVariants.{BadHeader, Z
 use Rattle.fit_encode.specs.Encoding.{Encoding, data_so_far, BreaksOff, HasPlace, IsWhole, IsPlaceFault, fault_when}
 use Rattle.fit_encode.specs.Faults.{shape_fault, StopsAt, IfWrite}
 use Rattle.fit_encode.specs.Open.{IsOpen}
+use Rattle.fit_encode.specs.Sinks.{Written}
 use Rattle.fit_encode.specs.Spelling.{bytes_in_order}
 use Rattle.fit_encode.specs.Sending.{Sending, Breaks, IsCounted, fresh}
 use Rattle.fit_encode.proofs.Sendings.{Breaks-from}
@@ -70,9 +71,9 @@ pub in_order_of : {A : Type 0} (e : Environment A) (r : Record A) (v : Values A)
 in_order_of e r v d is defined = rw is (ap (λ o. data_header v.local v.offset ∷ data_bytes o v) (order_at_place (defined_at e v.local) d defined))
 
 -- The sink failed in the middle of the bytes: how many of them went out, and how many bytes in all.
-pub broke : {a b : Option (List ℕ)} {s : Sending} {p : List ℕ} {w : ℕ} (failed : Bool) → s.held ≡ [] → s.count + length p < 2 ^ 64 → Breaks a b s p w → failed ≡ true
-    → (sent : ℕ) × StopsAt a b failed p sent × (w ≡ s.count + sent)
-broke {a} {b} {s} {p} {w} failed held fits broken stopped =
+pub broke : {a b : Written} {s : Sending} {p : List ℕ} {w : ℕ} → s.held ≡ [] → s.count + length p < 2 ^ 64 → Breaks a b s p w → b.failed ≡ true
+    → (sent : ℕ) × StopsAt a.held b.held b.failed p sent × (w ≡ s.count + sent)
+broke {a} {b} {s} {p} {w} held fits broken stopped =
     let all : broken.went ++ broken.rest ≡ p = broken.joined ∙ ap (λ (x : List ℕ). x ++ p) held in
     let parts = length-append broken.went broken.rest in
     let whole = ap length all in
@@ -81,7 +82,7 @@ broke {a} {b} {s} {p} {w} failed held fits broken stopped =
       length broken.went,
       record {
         part = omega arith;
-        first = subst (Appends a b) (sym (ap (take (length broken.went)) (sym all) ∙ take-append_seam broken.went broken.rest)) broken.appended;
+        first = subst (Appends a.held b.held) (sym (ap (take (length broken.went)) (sym all) ∙ take-append_seam broken.went broken.rest)) broken.appended;
         stopped = stopped;
       },
       there,
@@ -96,18 +97,18 @@ in_terms {A} P {env} {out} {declared} {size} {count} {head} {records} h here =
     (subst (λ (n : ℕ). P (learn_all empty_environment records) n size) h.place (subst (λ (e : Environment A). P e count size) h.known here))
 
 -- the sink failed in the middle of some bytes that are still small
-pub breaks_off : {A : Type 0} {a b : Option (List ℕ)} {f : Bool} {env : Environment A} {out : Sending} {declared size count w : ℕ} {head bytes : List ℕ} {records : List (Record A)}
-    (failed : Option ℕ) (finished : Bool) → IsOpen env out declared size count head records → length bytes < 2 ^ 33 → Breaks a b out bytes w → f ≡ true
-    → BreaksOff a b f (record { head = head; declared = declared; records = records; failed = failed; finished = finished })
+pub breaks_off : {A : Type 0} {a b : Written} {env : Environment A} {out : Sending} {declared size count w : ℕ} {head bytes : List ℕ} {records : List (Record A)}
+    (failed : Option ℕ) (finished : Bool) → IsOpen env out declared size count head records → length bytes < 2 ^ 33 → Breaks a b out bytes w → b.failed ≡ true
+    → BreaksOff a.held b.held b.failed (record { head = head; declared = declared; records = records; failed = failed; finished = finished })
     (record { head = head; declared = declared; records = records; failed = Some w; finished = finished }) bytes w
-breaks_off {A} {a} {b} {f} {env} {out} {declared} {size} {count} {w} {head} {bytes} {records} failed finished h less broken stopped =
+breaks_off {A} {a} {b} {env} {out} {declared} {size} {count} {w} {head} {bytes} {records} failed finished h less broken stopped =
     let total = h.total in
     let within = h.within in
     let small = h.small in
     let size_is = h.data_size in
     let short = h.short in
     let halves = length-append head (records_bytes {A = A} empty_environment records) in
-    let there = broke f h.held (omega arith) broken stopped in
+    let there = broke h.held (omega arith) broken stopped in
     record { sent = there.0; stops = there.1; total = there.2 ∙ ap (λ (n : ℕ). n + there.0) total; latched = refl }
 
 -- a record that can be put is small
@@ -116,13 +117,13 @@ pub small_record : {A : Type 0} {env : Environment A} {out : Sending} {declared 
 small_record h place = omega (arith, h.small, place.within)
 
 -- the sink failed in the middle of the first bytes
-pub first_broke : {a b : Option (List ℕ)} {f : Bool} {s : Sending} {bytes head : List ℕ} {w : ℕ} → s ≡ fresh 0 → bytes ≡ head → length bytes < 2 ^ 64 → Breaks a b s bytes w → f ≡ true
-    → StopsAt a b f head w
-first_broke {a} {b} {f} {s} {bytes} {head} {w} new same short broken stopped =
-    let there = broke f refl (omega arith) (Breaks-from new broken) stopped in
+pub first_broke : {a b : Written} {s : Sending} {bytes head : List ℕ} {w : ℕ} → s ≡ fresh 0 → bytes ≡ head → length bytes < 2 ^ 64 → Breaks a b s bytes w → b.failed ≡ true
+    → StopsAt a.held b.held b.failed head w
+first_broke {a} {b} {s} {bytes} {head} {w} new same short broken stopped =
+    let there = broke refl (omega arith) (Breaks-from new broken) stopped in
     let total : w ≡ 0 + there.0 = there.2 in
     let all : there.0 ≡ w = omega arith in
-    subst (λ (x : List ℕ). StopsAt a b f x w) same (subst (StopsAt a b f bytes) all there.1)
+    subst (λ (x : List ℕ). StopsAt a.held b.held b.failed x w) same (subst (StopsAt a.held b.held b.failed bytes) all there.1)
 
 -- nothing is held back, and all bytes so far went out
 pub sent_so_far : {A : Type 0} {env : Environment A} {out : Sending} {declared size count : ℕ} {head : List ℕ} {records : List (Record A)}
@@ -130,7 +131,7 @@ pub sent_so_far : {A : Type 0} {env : Environment A} {out : Sending} {declared s
 sent_so_far {A} {env} {out} {declared} {size} {count} {head} {records} h =
     ap (λ (x : List ℕ). out.sent ++ x) h.held ∙ append-nil out.sent ∙ h.sent
 
-some_byte : {A : Type 0} (e : Environment A) (r : Record A) → 0 < length (record_bytes e r)
+pub some_byte : {A : Type 0} (e : Environment A) (r : Record A) → 0 < length (record_bytes e r)
 some_byte e (Define d) = omega arith
 some_byte e (Data v) = omega arith
 

@@ -99,6 +99,11 @@ file_short f good =
     let data_fits = good.header.data_fits in
     omega (arith, length-append head (body f), length-append (head ++ body f) sum, length-little_bytes 2 (checksum (summed f)))
 
+pub some_file_byte : {A : Type 0} (f : FitFile A) → 0 < length (file_bytes f)
+some_file_byte f =
+    let sum = little_bytes 2 (checksum (summed f)) in
+    omega (arith, length-append (summed f) sum, length-little_bytes 2 (checksum (summed f)))
+
 chain_bound : {A : Type 0} (fs : List (FitFile A)) → AllByRecursion IsWellFormed fs → length (chain_bytes fs) ≤ 4294967552 * length fs
 chain_bound [] good = omega arith
 chain_bound (f ∷ fs) good =

@@ -7,4 +7,6 @@ pub mod Lengths
 pub mod Orders
 pub mod Spellable
 pub mod NoFault
+pub mod OneFault
+pub mod SomeFault
 pub mod Encoders

@@ -15,11 +15,11 @@ use Rattle.fit_encode.specs.Faults.{AtRecord, IsRecordFault, IsFileFault, AtFile
 use Rattle.fit_encode.specs.Laws.{GoodChainsHaveNoFault}
 use Rattle.fit_encode.proofs.Spellable.{records_joined}
 
-fits_between : {A : Type 0} (e : Environment A) (front : List (Record A)) (r : Record A) (back : List (Record A)) → AllFit e (front ++ r ∷ back) → Fits (learn_all e front) r
+pub fits_between : {A : Type 0} (e : Environment A) (front : List (Record A)) (r : Record A) (back : List (Record A)) → AllFit e (front ++ r ∷ back) → Fits (learn_all e front) r
 fits_between e [] r back h = h.0
 fits_between e (x ∷ front) r back h = fits_between (learn e x) front r back h.1
 
-good_between : {A : Type 0} (front : List (FitFile A)) (f : FitFile A) (back : List (FitFile A)) → AllByRecursion IsWellFormed (front ++ f ∷ back) → IsWellFormed f
+pub good_between : {A : Type 0} (front : List (FitFile A)) (f : FitFile A) (back : List (FitFile A)) → AllByRecursion IsWellFormed (front ++ f ∷ back) → IsWellFormed f
 good_between [] f back h = h.0
 good_between (x ∷ front) f back h = good_between front f back h.1
 
@@ -57,7 +57,7 @@ no_record_fault exact number f ChainLength good h = h
 no_record_fault exact number f NoMemory good h = h
 no_record_fault exact number f (Write written) good h = h
 
-no_file_fault : {A : Type 0} → FaultsAreExact A → (number : ℕ) (f : FitFile A) (fault : EncodeFault) → IsWellFormed f → IsFileFault number f fault → ⊥
+pub no_file_fault : {A : Type 0} → FaultsAreExact A → (number : ℕ) (f : FitFile A) (fault : EncodeFault) → IsWellFormed f → IsFileFault number f fault → ⊥
 no_file_fault exact number f (BadHeader file) good h = h.1 good.header.form
 no_file_fault exact number f (ZeroIsSum file) good h = good.header.sum h.4
 no_file_fault exact number f (BadLocal file index) good h = no_record_fault exact number f (BadLocal file index) good h.1

@@ -43,7 +43,8 @@ bytes_so_far e = e.head ++ data_so_far e
 abbrev pub closing_bytes : {A : Type 0} → Encoding A → List ℕ
 closing_bytes e = little_bytes 2 (checksum (bytes_so_far e))
 
--- With the closing bytes it is the file of the header and the records.
+-- With the closing bytes it is the file of the header and the records. There is such a header: `begin` starts with the bytes
+-- of one.
 abbrev pub IsWhole : {A : Type 0} → Encoding A → Type 0
 IsWhole {A} e = (h : Header) → IsHeader h e.declared e.head → IsFile {A = A} (record { header = h; records = e.records }) (bytes_so_far e ++ closing_bytes e)
 

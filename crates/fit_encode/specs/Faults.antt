@@ -1,4 +1,7 @@
--- Why files can't be written: the first reason, in the order of the faults.
+-- Why files can't be written: the first reason. The number of files comes first. Then each file is looked at in its turn:
+-- its header, its records in their order, and last the zeros for a sum of 0. Laws say that files have one such fault at most
+-- (`faults_are_one`), none where they can be written (`good_chains_have_no_fault`), and one where they can't
+-- (`bad_chains_have_a_fault`).
 use Rattle.std.specs.Prelude.{◌≡◌, ℕ, ◌+◌, ◌<◌, ◌≤◌, ◌^◌, List, ◌∷◌, ◌++◌, length, take, Bool, true, Option, Some}
 use Rattle.std.specs.Io.KnownBytes.{Appends}
 use Rattle.std.specs.List.{AllByRecursion}
@@ -21,8 +24,9 @@ shape_fault file index NoOffset = BadOffset file index
 shape_fault file index NotDefined = UndefinedLocal file index
 shape_fault file index (WrongField field) = WrongShape file index field
 
--- The record at a place, counted from 0, of which something holds: where the records before it are known, behind so many
--- bytes. Those records fit, and their bytes are not too many.
+-- A record of the list, of which something holds: its index is how many records stand before it. P speaks of what these
+-- make known, of how many bytes they have, and of the record. They fit, and their bytes are not too many, so none of them is
+-- at fault, and this record is the first.
 pub record AtRecord {A : Type 0} (records : List (Record A)) (index : ℕ) (P : Environment A → ℕ → Record A → Type 0) : Type 0 where
   pub front : List (Record A)
   pub this : Record A
@@ -55,7 +59,8 @@ IsFileFault number f fault = FormFits f.header × IsRecordFault number f.records
 abbrev pub IsChainLength : ℕ → Type 0
 IsChainLength n = (0 < n) × (n ≤ chain_limit)
 
--- A file of which something holds, with its number, counted from 1. The files before it can be written.
+-- A file of the list, of which something holds: its number is how many files stand before it, and one. Those can be written,
+-- so none of them is at fault, and this file is the first.
 pub record AtFile {A : Type 0} (fs : List (FitFile A)) (P : ℕ → FitFile A → Type 0) : Type 0 where
   pub front : List (FitFile A)
   pub this : FitFile A

@@ -1,6 +1,7 @@
 -- Bytes on their way to a sink. No public contract names what stands here.
-use Rattle.std.specs.Prelude.{◌≡◌, ℕ, ◌+◌, ◌<◌, ◌^◌, Bool, true, List, [], ◌++◌, Option, Result, Ok, Err, length}
+use Rattle.std.specs.Prelude.{◌≡◌, ℕ, ◌+◌, ◌<◌, ◌^◌, Bool, true, false, List, [], ◌++◌, Option, Result, Ok, Err, length}
 use Rattle.std.specs.Io.KnownBytes.{Appends}
+use Rattle.fit_encode.specs.Sinks.{Written}
 
 -- The bytes of a file that went out, those that are held back for the next put, and how many went out in all, with those
 -- of earlier files.
@@ -9,37 +10,45 @@ pub record Sending : Type 0 where
   pub held : List ℕ
   pub count : ℕ
 
+-- a sink: the bytes that it holds, where it tells them, and whether a call failed
+abbrev pub told : Option (List ℕ) → Bool → Written
+told held failed = record { held = held; failed = failed }
+
 -- the count after so many bytes more, where it has room for it
 abbrev pub IsCounted : ℕ → ℕ → ℕ → Type 0
 IsCounted old more new = old + more < 2 ^ 64 → new ≡ old + more
 
--- The bytes were spelled behind the held ones, and of all these some went out, from the front.
-pub record Spells (before after : Option (List ℕ)) (old new : Sending) (bytes : List ℕ) : Type 0 where
+-- The bytes were spelled after the held ones, and of all these some went out, from the front. A sink that took some, or
+-- that hadn't failed, hasn't failed now.
+pub record Spells (before after : Written) (old new : Sending) (bytes : List ℕ) : Type 0 where
   pub went : List ℕ
-  pub appended : Appends before after went
+  pub appended : Appends before.held after.held went
   pub sent : new.sent ≡ old.sent ++ went
   pub joined : went ++ new.held ≡ old.held ++ bytes
   pub total : IsCounted old.count (length went) new.count
+  pub works : 0 < length went → after.failed ≡ false
+  pub keeps : before.failed ≡ false → after.failed ≡ false
 
 -- The sink failed after some bytes from the front of the held ones and these, and not after all of them.
-pub record Breaks (before after : Option (List ℕ)) (old : Sending) (bytes : List ℕ) (written : ℕ) : Type 0 where
+pub record Breaks (before after : Written) (old : Sending) (bytes : List ℕ) (written : ℕ) : Type 0 where
   pub went : List ℕ
   pub rest : List ℕ
-  pub appended : Appends before after went
+  pub appended : Appends before.held after.held went
   pub joined : went ++ rest ≡ old.held ++ bytes
   pub some : 0 < length rest
   pub total : IsCounted old.count (length went) written
 
 -- what a call that spells these bytes leaves, by its answer
-abbrev pub Sends : {T : Type 0} → Option (List ℕ) → Option (List ℕ) → Bool → Sending → Sending → List ℕ → Result T ℕ → Type 0
-Sends before after failed old new bytes (Ok _) = Spells before after old new bytes
-Sends before after failed old new bytes (Err written) = Breaks before after old bytes written × (failed ≡ true)
+abbrev pub Sends : {T : Type 0} → Written → Written → Sending → Sending → List ℕ → Result T ℕ → Type 0
+Sends before after old new bytes (Ok _) = Spells before after old new bytes
+Sends before after old new bytes (Err written) = Breaks before after old bytes written × (after.failed ≡ true)
 
 -- nothing of a file is spelled, and so many bytes went out before it
 abbrev pub fresh : ℕ → Sending
 fresh count = record { sent = []; held = []; count = count }
 
 -- What a call that puts all these bytes leaves, by its answer. So many bytes went out before, and it counts on.
-abbrev pub Puts : Option (List ℕ) → Option (List ℕ) → Bool → ℕ → List ℕ → Result ℕ ℕ → Type 0
-Puts before after failed count bytes (Ok total) = Appends before after bytes × IsCounted count (length bytes) total
-Puts before after failed count bytes (Err written) = Breaks before after (fresh count) bytes written × (failed ≡ true)
+abbrev pub Puts : Written → Written → ℕ → List ℕ → Result ℕ ℕ → Type 0
+Puts before after count bytes (Ok total) =
+    Appends before.held after.held bytes × IsCounted count (length bytes) total × (0 < length bytes → after.failed ≡ false)
+Puts before after count bytes (Err written) = Breaks before after (fresh count) bytes written × (after.failed ≡ true)

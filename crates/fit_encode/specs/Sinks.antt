@@ -1,7 +1,7 @@
 -- What clauses see of a sink.
 use Rattle.std.specs.Prelude.{ℕ, Bool, List, Option}
 
--- of a sink over a writer: the bytes that it holds, where the writer tells them, and whether a call failed
+-- of a sink: the bytes that it holds, where it tells them, and whether a call failed
 pub record Written : Type 0 where
   pub held : Option (List ℕ)
   pub failed : Bool

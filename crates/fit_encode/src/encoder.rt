@@ -1,11 +1,11 @@
 //! The streaming encoder: a file record by record.
-ghost use Rattle.std.specs.Prelude.{◌≡◌, ◌+◌, ◌≤◌, [], ◌∷◌, ◌++◌, OnOk, IfOk, IfErr, IfSome, length, Some, None, Err, true};
+ghost use Rattle.std.specs.Prelude.{◌≡◌, ◌+◌, ◌≤◌, [], ◌∷◌, ◌++◌, OnOk, IfOk, IfErr, IfSome, length, Some, None, Err, true, false};
 ghost use Rattle.std.specs.Io.KnownBytes.{Appends};
 ghost use Rattle.fit_frame.specs.Header.{HeaderFits, header_bytes};
 ghost use Rattle.fit_record.specs.Records.{Fits, record_bytes};
 ghost use Rattle.fit_encode.specs.Encoding.{known, CanPut, IsComplete, IsPutFault, IsFinishFault, IsHeaderFault, BreaksOff, begun, closed_fault, closing_bytes, IsWhole, IsPlaceFault, HasPlace, fault_when};
 ghost use Rattle.fit_encode.specs.Faults.{StopsAt, IfWrite, UnlessWrite};
-ghost use Rattle.fit_encode.specs.Sending.{Sends};
+ghost use Rattle.fit_encode.specs.Sending.{told, Sends};
 ghost use Rattle.fit_encode.specs.Spelling.{bytes_in_order, IsSpellable};
 
 use crate::check::shape_fault;
@@ -67,6 +67,7 @@ impl Encoder {
         ensures ok { IfOk result (λ e. e ≡ begun header.now data_len) }
         ensures good { OnOk result (HeaderFits header.now data_len) }
         ensures spelled { OnOk result (Appends (K.contents sink.old) (K.contents sink.new) (header_bytes header.now data_len)) }
+        ensures works { OnOk result (K.has_failed sink.new ≡ false) }
 
         // Before a byte went out, or where the sink failed.
         ensures refused { IfErr result (λ fault. UnlessWrite fault (IsHeaderFault header.now data_len fault × (sink.new ≡ sink.old))) }
@@ -105,6 +106,7 @@ impl Encoder {
     pub fn put<K: Sink>(&mut self, sink: &mut K, r: &Record) -> Result<(), EncodeFault>
         ensures ok { OnOk result (CanPut self.old r.now) }
         ensures spelled { OnOk result (Appends (K.contents sink.old) (K.contents sink.new) (record_bytes (known self.old) r.now)) }
+        ensures works { OnOk result (K.has_failed sink.new ≡ false) }
         ensures kept { OnOk result (self.new ≡ record self.old { records = self.old.records ++ r.now ∷ [] }) }
 
         // The file is finished, or a sink failed before.
@@ -139,6 +141,7 @@ impl Encoder {
     pub fn finish<K: Sink>(&mut self, sink: &mut K) -> Result<(), EncodeFault>
         ensures ok { OnOk result (IsComplete self.old) }
         ensures spelled { OnOk result (Appends (K.contents sink.old) (K.contents sink.new) (closing_bytes self.old)) }
+        ensures works { OnOk result (K.has_failed sink.new ≡ false) }
         ensures finished { OnOk result (self.new ≡ record self.old { finished = true }) }
 
         // What went out since `begin` is the file of the header and the records.
@@ -219,7 +222,7 @@ fn order_of<A: Allocator>(env: &Env<A>, r: &Record<A>) -> Order
 /// Sends bytes.
 fn send<K: Sink>(out: &mut Spelling, sink: &mut K, bytes: &[u8]) -> Result<(), u64>
     requires { length bytes.now ≤ 4096 }
-    ensures sends { Sends (K.contents sink.old) (K.contents sink.new) (K.has_failed sink.new) out.old out.new bytes.now result }
+    ensures sends { Sends (told (K.contents sink.old) (K.has_failed sink.old)) (told (K.contents sink.new) (K.has_failed sink.new)) out.old out.new bytes.now result }
     ensures empty { OnOk result (out.new.held ≡ []) }
 {
     out.bytes(sink, bytes)?;
@@ -234,7 +237,7 @@ fn send_record<K: Sink, A: Allocator>(
     r: &Record<A>,
 ) -> Result<(), u64>
     requires { IsSpellable r.now }
-    ensures sends { Sends (K.contents sink.old) (K.contents sink.new) (K.has_failed sink.new) out.old out.new (bytes_in_order order r.now) result }
+    ensures sends { Sends (told (K.contents sink.old) (K.has_failed sink.old)) (told (K.contents sink.new) (K.has_failed sink.new)) out.old out.new (bytes_in_order order r.now) result }
     ensures empty { OnOk result (out.new.held ≡ []) }
 {
     spell_record(out, sink, order, r)?;

@@ -1,5 +1,5 @@
 //! Where writers put their bytes.
-ghost use Rattle.std.specs.Prelude.{◌≡◌, ℕ, ◌+◌, ◌<◌, ◌≤◌, min, Bool, true, false, Option, Some, List, [], ◌++◌, IfOk, IfErr, IsErr, IsOkAnd, OnOk, OnErr, length, take};
+ghost use Rattle.std.specs.Prelude.{◌≡◌, ℕ, ◌+◌, ◌<◌, ◌≤◌, min, Bool, true, false, Option, Some, List, [], ◌++◌, IfOk, IfErr, IsOk, IsErr, IsOkAnd, OnOk, OnErr, length, take};
 ghost use Rattle.std.specs.Io.KnownBytes.{Appends, WriteAppends};
 ghost use Rattle.fit_encode.specs.Sinks.{Kept, Written};
 
@@ -12,7 +12,7 @@ use std::marker::Model;
 pub struct SinkFailed;
 
 /// Takes the bytes of an output, piece by piece. Once a call has failed, every later call fails. An
-/// answer of 0 for a slice that isn't empty is a failure too.
+/// answer of 0 for a slice that isn't empty is a failure too. An empty slice changes nothing.
 pub trait Sink {
     // The bytes that the sink holds, where it tells them.
     ghost contents: { Self → Option (List ℕ) };
@@ -27,7 +27,8 @@ pub trait Sink {
         ensures zero { IfOk result (λ n. n ≡ 0 → 0 < length bytes.now → has_failed self.new ≡ true) }
         ensures some { IfOk result (λ n. 0 < n → has_failed self.new ≡ false) }
         ensures bad { OnErr result (has_failed self.new ≡ true) }
-        ensures latched { has_failed self.old ≡ true → IsErr result };
+        ensures latched { has_failed self.old ≡ true → IsErr result }
+        ensures empty { bytes.now ≡ [] → has_failed self.old ≡ false → IsOk result × (self.new ≡ self.old) };
 
     /// Whether a call has failed.
     fn failed(&self) -> bool
@@ -40,6 +41,8 @@ pub fn put_all<K: Sink>(sink: &mut K, bytes: &[u8]) -> Result<(), u64>
     ensures err { IfErr result (λ written. written < length bytes.now) }
     ensures part { IfErr result (λ written. Appends (K.contents sink.old) (K.contents sink.new) (take written bytes.now)) }
     ensures failed { OnErr result (K.has_failed sink.new ≡ true) }
+    ensures works { OnOk result (0 < length bytes.now → K.has_failed sink.new ≡ false) }
+    ensures empty { bytes.now ≡ [] → IsOk result × (sink.new ≡ sink.old) }
 {
     let mut written = 0;
     while written < bytes.len() {
@@ -54,7 +57,7 @@ pub fn put_all<K: Sink>(sink: &mut K, bytes: &[u8]) -> Result<(), u64>
 }
 
 /// A sink over any writer. Every error of the writer counts as a failure, and no write is tried
-/// again. What it tells is what the writer tells.
+/// again. An empty slice isn't handed to the writer. What the sink tells is what the writer tells.
 #[derive(Drop)]
 pub struct WriteSink<W: Write> {
     writer: W,
@@ -95,9 +98,12 @@ impl<W: Write> Sink for WriteSink<W> {
         if self.broken {
             return Err(SinkFailed);
         }
+        if bytes.is_empty() {
+            return Ok(0);
+        }
         match self.writer.write(bytes) {
             Ok(n) => {
-                self.broken = n == 0 && !bytes.is_empty();
+                self.broken = n == 0;
                 Ok(n)
             }
             Err(_) => {
@@ -160,6 +166,7 @@ impl<const N: usize> Sink for CutSink<N> {
         ensures some { IfOk result (λ n. 0 < n → self.new.failed ≡ false) }
         ensures bad { OnErr result (self.new.failed ≡ true) }
         ensures latched { self.old.failed ≡ true → IsErr result }
+        ensures empty { bytes.now ≡ [] → self.old.failed ≡ false → IsOk result × (self.new ≡ self.old) }
 
         // It takes what there is room for, and fails only where there is none.
         ensures takes { self.old.failed ≡ false → 0 < self.old.room → IsOkAnd result (λ n. n ≡ min (length bytes.now) self.old.room) }

@@ -2,7 +2,7 @@
 ghost use Rattle.std.specs.Prelude.{◌≡◌, ◌⊎◌, ◌+◌, ◌≤◌, ◌<◌, ◌^◌, [], ◌++◌, OnOk, length};
 ghost use Rattle.fit_base.specs.Numbers.{number_bytes, little_bytes};
 ghost use Rattle.fit_sum.specs.Checksum.{checksum};
-ghost use Rattle.fit_encode.specs.Sending.{Sends};
+ghost use Rattle.fit_encode.specs.Sending.{told, Sends};
 
 use crate::{Sink, put_all};
 use arrayvec::ArrayVec;
@@ -41,7 +41,7 @@ impl Spelling {
 
     /// Sends what is held back.
     pub(crate) fn flush<K: Sink>(&mut self, sink: &mut K) -> Result<(), u64>
-        ensures sends { Sends (K.contents sink.old) (K.contents sink.new) (K.has_failed sink.new) self.old self.new [] result }
+        ensures sends { Sends (told (K.contents sink.old) (K.has_failed sink.old)) (told (K.contents sink.new) (K.has_failed sink.new)) self.old self.new [] result }
         ensures empty { OnOk result (self.new.held ≡ []) }
     {
         if let Err(written) = put_all(sink, self.run.as_slice()) {
@@ -56,7 +56,7 @@ impl Spelling {
     /// Makes room for so many bytes.
     fn make_room<K: Sink>(&mut self, sink: &mut K, more: usize) -> Result<(), u64>
         requires { more ≤ 4096 }
-        ensures sends { Sends (K.contents sink.old) (K.contents sink.new) (K.has_failed sink.new) self.old self.new [] result }
+        ensures sends { Sends (told (K.contents sink.old) (K.has_failed sink.old)) (told (K.contents sink.new) (K.has_failed sink.new)) self.old self.new [] result }
         ensures room { OnOk result (length self.new.held + more ≤ 4096) }
     {
         if self.run.remaining_capacity() < more {
@@ -68,7 +68,7 @@ impl Spelling {
     /// Spells some bytes.
     pub(crate) fn bytes<K: Sink>(&mut self, sink: &mut K, bytes: &[u8]) -> Result<(), u64>
         requires { length bytes.now ≤ 4096 }
-        ensures { Sends (K.contents sink.old) (K.contents sink.new) (K.has_failed sink.new) self.old self.new bytes.now result }
+        ensures { Sends (told (K.contents sink.old) (K.has_failed sink.old)) (told (K.contents sink.new) (K.has_failed sink.new)) self.old self.new bytes.now result }
     {
         self.make_room(sink, bytes.len())?;
         if self.run.try_extend_from_slice(bytes).is_err() {
@@ -87,7 +87,7 @@ impl Spelling {
     ) -> Result<(), u64>
         requires width { (width ≡ 1) ⊎ (width ≡ 2) ⊎ (width ≡ 4) ⊎ (width ≡ 8) }
         requires bits { bits < 256 ^ width }
-        ensures { Sends (K.contents sink.old) (K.contents sink.new) (K.has_failed sink.new) self.old self.new (number_bytes order width bits) result }
+        ensures { Sends (told (K.contents sink.old) (K.has_failed sink.old)) (told (K.contents sink.new) (K.has_failed sink.new)) self.old self.new (number_bytes order width bits) result }
     {
         match width {
             1 => self.bytes(sink, &bytes_of::<1>(order, bits)),
@@ -99,7 +99,7 @@ impl Spelling {
 
     /// Sends what is held back, and then the checksum of all bytes of the file (FIT protocol, "CRC").
     pub(crate) fn end<K: Sink>(&mut self, sink: &mut K) -> Result<(), u64>
-        ensures sends { Sends (K.contents sink.old) (K.contents sink.new) (K.has_failed sink.new) self.old self.new (little_bytes 2 (checksum (self.old.sent ++ self.old.held))) result }
+        ensures sends { Sends (told (K.contents sink.old) (K.has_failed sink.old)) (told (K.contents sink.new) (K.has_failed sink.new)) self.old self.new (little_bytes 2 (checksum (self.old.sent ++ self.old.held))) result }
         ensures empty { OnOk result (self.new.held ≡ []) }
     {
         self.flush(sink)?;

@@ -1,11 +1,11 @@
 //! Writes files and chains of files.
-ghost use Rattle.std.specs.Prelude.{◌≡◌, ◌∷◌, [], OnOk, IfErr, length};
+ghost use Rattle.std.specs.Prelude.{◌≡◌, ◌∷◌, [], OnOk, IfErr, length, false};
 ghost use Rattle.std.specs.Io.KnownBytes.{Appends};
 ghost use Rattle.fit_record.specs.Environment.{empty_environment};
 ghost use Rattle.fit_record.specs.Records.{AllFit, records_bytes};
 ghost use Rattle.fit_record.specs.Files.{IsWellFormed, IsWellFormedChain, body, file_bytes, chain_bytes, chain_limit};
 ghost use Rattle.fit_encode.specs.Faults.{IsFirstFault, IfWrite, UnlessWrite, IfRefused, StopsAt};
-ghost use Rattle.fit_encode.specs.Sending.{Sends, Puts};
+ghost use Rattle.fit_encode.specs.Sending.{told, Sends, Puts};
 ghost use Rattle.fit_frame.specs.Header.{HeaderFits, header_bytes};
 ghost use Rattle.fit_encode.specs.Spelling.{order_in, orders_after};
 
@@ -21,12 +21,13 @@ use std::alloc::{Allocator, Global};
 
 /// Writes a file.
 ///
-/// It answers the first fault in the order of `EncodeFault` from `BadHeader` to `TooLong` for each
-/// record, and `ZeroIsSum` last, before a byte goes out. `NoMemory` may come in place of these. The
-/// writing itself takes no memory.
+/// Before a byte goes out it answers the first fault: `BadHeader`, then the faults of the records in
+/// their order, and last `ZeroIsSum`. `NoMemory` may come in place of these. The writing itself takes
+/// no memory.
 pub fn write_one<K: Sink>(alloc: Global, sink: &mut K, file: &FitFile) -> Result<(), EncodeFault>
     ensures ok { OnOk result (IsWellFormed file.now) }
     ensures spelled { OnOk result (Appends (K.contents sink.old) (K.contents sink.new) (file_bytes file.now)) }
+    ensures works { OnOk result (K.has_failed sink.new ≡ false) }
 
     // Before a byte went out.
     ensures refused { IfErr result (λ fault. IfRefused fault (IsFirstFault (file.now ∷ []) fault)) }
@@ -57,6 +58,7 @@ pub fn write_chain<K: Sink>(
 ) -> Result<(), EncodeFault>
     ensures ok { OnOk result (IsWellFormedChain chain_limit files.now) }
     ensures spelled { OnOk result (Appends (K.contents sink.old) (K.contents sink.new) (chain_bytes files.now)) }
+    ensures works { OnOk result (K.has_failed sink.new ≡ false) }
 
     // Before a byte went out.
     ensures refused { IfErr result (λ fault. IfRefused fault (IsFirstFault files.now fault)) }
@@ -81,6 +83,7 @@ fn write_files<K: Sink, A: Allocator>(sink: &mut K, files: &[FitFile<A>]) -> Res
     requires { IsWellFormedChain chain_limit files.now }
     ensures ok { OnOk result (Appends (K.contents sink.old) (K.contents sink.new) (chain_bytes files.now)) }
     ensures err { IfErr result (StopsAt (K.contents sink.old) (K.contents sink.new) (K.has_failed sink.new) (chain_bytes files.now)) }
+    ensures works { OnOk result (K.has_failed sink.new ≡ false) }
 {
     let mut count = 0;
     for file in files {
@@ -99,7 +102,7 @@ fn write_file<K: Sink, A: Allocator>(
 ) -> Result<u64, u64>
     requires good { IsWellFormed file.now }
     requires size { data_len ≡ length (body file.now) }
-    ensures { Puts (K.contents sink.old) (K.contents sink.new) (K.has_failed sink.new) count (file_bytes file.now) result }
+    ensures { Puts (told (K.contents sink.old) (K.has_failed sink.old)) (told (K.contents sink.new) (K.has_failed sink.new)) count (file_bytes file.now) result }
 {
     let mut out = Spelling::new(count);
     spell_head(&mut out, sink, &file.header, data_len)?;
@@ -116,7 +119,7 @@ fn spell_head<K: Sink>(
     data_len: u32,
 ) -> Result<(), u64>
     requires { HeaderFits header.now data_len }
-    ensures { Sends (K.contents sink.old) (K.contents sink.new) (K.has_failed sink.new) out.old out.new (header_bytes header.now data_len) result }
+    ensures { Sends (told (K.contents sink.old) (K.has_failed sink.old)) (told (K.contents sink.new) (K.has_failed sink.new)) out.old out.new (header_bytes header.now data_len) result }
 {
     match head_bytes(header, data_len) {
         Ok(bytes) => out.bytes(sink, bytes.as_slice()),
@@ -132,7 +135,7 @@ fn spell_records<K: Sink, A: Allocator>(
     records: &[Record<A>],
 ) -> Result<(), u64>
     requires { AllFit empty_environment records.now }
-    ensures { Sends (K.contents sink.old) (K.contents sink.new) (K.has_failed sink.new) out.old out.new (records_bytes empty_environment records.now) result }
+    ensures { Sends (told (K.contents sink.old) (K.has_failed sink.old)) (told (K.contents sink.new) (K.has_failed sink.new)) out.old out.new (records_bytes empty_environment records.now) result }
 {
     let mut orders = [Order::Little; 16];
     for r in records {

@@ -28,4 +28,4 @@ returns g c =
     let d = c.args.d.now in
     let head = Spells-as c.definition_head.ensures c.in_ok-bytes.ensures in
     let fields = Spells-as (ap (flat_map field_bytes) c.as_slice.ensures) c.in_ok-spell_fields.ensures in
-    Sends-on _ _ _ _ _ _ _ _ (dev_part d.dev) _ c.spell_dev_part.result (definition_parts d) (Spells-on head fields) c.spell_dev_part.ensures
+    Sends-on _ _ _ _ _ _ _ (dev_part d.dev) _ c.spell_dev_part.result (definition_parts d) (Spells-on head fields) c.spell_dev_part.ensures

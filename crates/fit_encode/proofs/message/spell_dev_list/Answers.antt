@@ -12,4 +12,4 @@ returns-in_err-bytes g c =
     rw (p.1, p.2) (Breaks-more (flat_map dev_field_bytes c.args.fields.now) broken.0, broken.1)
 
 pub returns : goal.returns
-returns g c = Sends-on _ _ _ _ _ _ _ _ _ _ c.spell_dev_fields.result refl c.in_ok-bytes.ensures c.spell_dev_fields.ensures
+returns g c = Sends-on _ _ _ _ _ _ _ _ _ c.spell_dev_fields.result refl c.in_ok-bytes.ensures c.spell_dev_fields.ensures

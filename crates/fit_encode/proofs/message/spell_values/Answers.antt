@@ -31,5 +31,5 @@ returns g c =
     let head = Spells-as (ap (λ n. n ∷ []) c.data_header.ensures) c.in_ok-bytes.ensures in
     let fields = Spells-as (ap (flat_map f) c.as_slice.ensures) c.in_ok-spell_lists.ensures in
     let joined = ap (λ y. (data_header c.args.v.now.local c.args.v.now.offset ∷ flat_map f c.args.v.now.fields) ++ flat_map f y) c.as_slice-2.ensures in
-    Sends-on _ _ _ _ _ _ _ _ (flat_map f c.as_slice-2.result.now) _ c.spell_lists-2.result
+    Sends-on _ _ _ _ _ _ _ (flat_map f c.as_slice-2.result.now) _ c.spell_lists-2.result
     joined (Spells-on head fields) c.spell_lists-2.ensures

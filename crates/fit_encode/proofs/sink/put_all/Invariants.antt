@@ -1,4 +1,4 @@
-use Rattle.std.proofs.Common.{◌≤◌, ◌-◌, length, take}
+use Rattle.std.proofs.Common.{◌≡◌, ◌<◌, ◌≤◌, ◌-◌, false, length, take}
 use Rattle.std.specs.Io.KnownBytes.{Appends}
 use Rattle.fit_encode.proofs.sink.put_all.Given as goal
 
@@ -6,6 +6,8 @@ abbrev pub invariant-loop-written : goal.invariant-loop-written
 invariant-loop-written g l = record {
   within : l.written ≤ length l.bytes;
   appended : Appends (g.K.Sink.contents l.initial.sink) (g.K.Sink.contents l.sink) (take l.written l.bytes);
+  works : 0 < l.written → g.K.Sink.has_failed l.sink ≡ false;
+  none : l.written ≡ 0 → l.sink ≡ l.initial.sink;
 }
 
 abbrev pub decreases-loop-written : goal.decreases-loop-written

@@ -1,4 +1,4 @@
-use Rattle.std.proofs.Common.{◌∙◌, refl, sym, ap, subst, length}
+use Rattle.std.proofs.Common.{◌∙◌, refl, sym, ap, subst}
 use Rattle.std.proofs.lemmas.Result.{err_from_is_err_and}
 use Rattle.fit_base.specs.Numbers.{little_bytes}
 use Rattle.fit_sum.specs.Checksum.{checksum}
@@ -50,4 +50,4 @@ returns g c =
     let both = Spells-on head records in
     let whole = Spells-on both (Spells-as (ap (λ x. little_bytes 2 (checksum x)) (all_spelled both)) c.in_ok-end.ensures.sends) in
     let out = went_out whole refl c.in_ok-end.ensures.empty in
-    (out.0, λ fits. c.count.ensures ∙ out.2 fits)
+    (out.0, (λ fits. c.count.ensures ∙ out.2 fits), out.3)

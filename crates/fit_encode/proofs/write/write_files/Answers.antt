@@ -4,7 +4,7 @@ use Rattle.std.proofs.KnownBytes.{Appends-trans}
 use Rattle.std.proofs.lemmas.Result.{err_from_is_err_and}
 use Rattle.fit_record.specs.Files.{file_bytes}
 use Rattle.fit_encode.proofs.Sendings.{IsCounted-more, next_part_of, parts_of, stops_at, StopsAt-as, Appends-as, IsCounted-as}
-use Rattle.fit_encode.proofs.Lengths.{chain_short}
+use Rattle.fit_encode.proofs.Lengths.{chain_short, some_file_byte}
 use Rattle.fit_encode.proofs.write.write_files.Goals as goal
 
 pub returns-in_err-count-clause-err : goal.returns-in_err-count-clause-err
@@ -31,4 +31,8 @@ loop-file-preserved g c =
       appended = Appends-as _ _ next (Appends-trans _ _ _ _ _ inv.appended c.in_ok-count.ensures.0);
       total = IsCounted-as 0 c.in_ok-count.count next
           (IsCounted-more 0 c.loop-file.count c.in_ok-count.count (flat_map bytes (take i fs)) (bytes c.file-item.result) inv.total c.in_ok-count.ensures.1);
+      works = λ _. c.in_ok-count.ensures.2 (some_file_byte c.file-item.result);
     }
+
+pub returns-clause-works : goal.returns-clause-works
+returns-clause-works g c = c.loop-file.invariant.works (omega (arith, c.requires.some))

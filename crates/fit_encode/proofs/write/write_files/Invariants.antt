@@ -1,4 +1,4 @@
-use Rattle.std.proofs.Common.{take, length}
+use Rattle.std.proofs.Common.{◌≡◌, ◌<◌, false, take, length}
 use Rattle.std.specs.Prelude.{flat_map}
 use Rattle.std.specs.Io.KnownBytes.{Appends}
 use Rattle.fit_record.specs.Files.{file_bytes}
@@ -9,4 +9,5 @@ abbrev pub invariant-loop-file : goal.invariant-loop-file
 invariant-loop-file g l = record {
   appended : Appends (g.K.Sink.contents l.initial.sink) (g.K.Sink.contents l.sink) (flat_map file_bytes (take l.file-index l.files));
   total : IsCounted 0 (length (flat_map file_bytes (take l.file-index l.files))) l.count;
+  works : 0 < l.file-index → g.K.Sink.has_failed l.sink ≡ false;
 }

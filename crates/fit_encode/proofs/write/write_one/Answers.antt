@@ -1,6 +1,6 @@
-use Rattle.std.proofs.Common.{◌^◌, ◌≤◌, ◌<◌, length, arith}
+use Rattle.std.proofs.Common.{arith}
 use Rattle.fit_record.specs.Files.{file_bytes}
-use Rattle.fit_encode.proofs.Lengths.{file_short}
+use Rattle.fit_encode.proofs.Lengths.{file_short, some_file_byte}
 use Rattle.fit_encode.proofs.Sendings.{stops_in}
 use Rattle.fit_encode.proofs.write.write_one.Goals as goal
 
@@ -10,3 +10,6 @@ returns-in-Err-write_file-clause-written g c =
     let broken = c.in-Err-write_file.ensures in
     let short = file_short f c.in-Ok.ensures.ok.0 in
     stops_in (file_bytes f) (omega (arith, short)) broken.0 broken.1
+
+pub returns-clause-works : goal.returns-clause-works
+returns-clause-works g c = c.in_default.ensures.2 (some_file_byte c.args.file.now)

@@ -1,4 +1,4 @@
-use Rattle.std.proofs.Common.{◌≡◌, ◌∙◌, ◌++◌, List, ℕ, refl, sym, ap, arith}
+use Rattle.std.proofs.Common.{◌≡◌, ◌∙◌, ◌++◌, List, ℕ, refl, sym, ap, length, arith}
 use Rattle.std.specs.Prelude.{Err}
 use Rattle.fit_encode.proofs.Encoders.{first_broke, open_begun}
 use Rattle.fit_encode.proofs.Sendings.{Appends-as, Spells-from, went_out}
@@ -37,3 +37,10 @@ returns-clause-spelled g c =
     let sent = c.in_default.ensures in
     let out = went_out (Spells-from c.new-out.ensures sent.sends) refl sent.empty in
     Appends-as _ _ (c.as_slice.ensures.value ∙ c.in-Ok.ensures.bytes) out.0
+
+pub returns-clause-works : goal.returns-clause-works
+returns-clause-works g c =
+    let sent = c.in_default.ensures in
+    let out = went_out (Spells-from c.new-out.ensures sent.sends) refl sent.empty in
+    let long = ap length (c.as_slice.ensures.value ∙ c.in-Ok.ensures.bytes) in
+    out.3 (omega (arith, long))

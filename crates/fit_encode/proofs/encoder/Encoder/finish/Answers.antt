@@ -65,3 +65,10 @@ returns-clause-whole g c =
       finished = c.self.inside.finished;
     } in
     subst (λ (e : Encoding Global). IsWhole e) c.self.view_is (is_whole old inv.fit complete)
+
+pub returns-clause-works : goal.returns-clause-works
+returns-clause-works g c =
+    let still = when_open c.self.inside.finished c.self.inside.failed (sym c.closed_fault.ensures ∙ c.in_default.is) in
+    let inv = c.self.invariant still.0 still.1 in
+    let spelled = c.in_default-end.ensures in
+    (went_out spelled.sends inv.held spelled.empty).3 (omega arith)

@@ -4,7 +4,7 @@ use Rattle.std.proofs.lemmas.Result.{err_from_is_err_and}
 use Rattle.fit_record.specs.Environment.{Environment, learn}
 use Rattle.fit_record.specs.Records.{record_bytes}
 use Rattle.fit_encode.specs.Encoding.{Encoding, known, BreaksOff, CanPut, HasPlace, IsPlaceFault, IsPutFault}
-use Rattle.fit_encode.proofs.Encoders.{breaks_off, in_terms, next_open, not_written, on_err_at, small_record, when_open}
+use Rattle.fit_encode.proofs.Encoders.{breaks_off, in_terms, next_open, not_written, on_err_at, small_record, some_byte, when_open}
 use Rattle.fit_encode.proofs.FaultSteps.{on_ok_at, unless_write}
 use Rattle.fit_encode.proofs.Sendings.{Appends-as, Breaks-as, Spells-as, went_out}
 use Rattle.fit_encode.proofs.Spellable.{spellable}
@@ -101,3 +101,10 @@ returns-clause-spelled g c =
     let spelled = c.in_default-send_record.ensures in
     let out = went_out (Spells-as c.order_of-order.ensures spelled.sends) inv.held spelled.empty in
     Appends-as _ _ (ap (λ (e : Environment Global). record_bytes e r) inv.known ∙ ap (λ (e : Encoding Global). record_bytes (known e) r) c.self.view_is) out.0
+
+pub returns-clause-works : goal.returns-clause-works
+returns-clause-works g c =
+    let still = when_open c.self.inside.finished c.self.inside.failed (sym c.closed_fault.ensures ∙ c.in_default.is) in
+    let inv = c.self.invariant still.0 still.1 in
+    let spelled = c.in_default-send_record.ensures in
+    (went_out (Spells-as c.order_of-order.ensures spelled.sends) inv.held spelled.empty).3 (some_byte c.self.inside.env c.args.r.now)
