@@ -123,8 +123,8 @@ pub struct Field {
     width: usize,
     class: Class,
     invalid: u64,
-    scale: u32,
     shift: i64,
+    factor: i64,
     decimals: usize,
 }
 
@@ -133,10 +133,12 @@ impl Field {
         let (width, invalid, class) = base_type(code);
         let size = usize::from(size);
         let (width, class) = if size % width == 0 { (width, class) } else { (1, Class::Bytes) };
-        let mut head = kind.to_vec();
+        let mut head = Vec::with_capacity(kind.len() + name.len() + 3);
+        head.extend_from_slice(kind);
         put_quoted(&mut head, name);
         head.push(b',');
-        let mut tail = vec![b','];
+        let mut tail = Vec::with_capacity(unit.len() + 8);
+        tail.push(b',');
         put_quoted(&mut tail, unit);
         tail.extend_from_slice(b",,,\n");
         let decimals = match scale {
@@ -147,7 +149,8 @@ impl Field {
             _ => 0,
         };
         let shift = i64::from(offset) * i64::from(scale);
-        Field { head, tail, number, code, size, width, class, invalid, scale, shift, decimals }
+        let factor = 10_i64.pow(decimals as u32) / i64::from(scale);
+        Field { head, tail, number, code, size, width, class, invalid, shift, factor, decimals }
     }
 
     pub fn put_row(&self, out: &mut Vec<u8>, big: bool, bytes: &[u8]) {
@@ -178,30 +181,39 @@ impl Field {
             return;
         }
         let unused = 64 - 8 * self.width as u32;
-        let raw = if self.class == Class::Signed { i128::from((bits << unused) as i64 >> unused) } else { i128::from(bits) };
-        let units = 10_u32.pow(self.decimals as u32);
-        match i64::try_from(raw) {
-            Ok(raw) if raw.unsigned_abs() < 1 << 40 => {
-                let value = (raw - self.shift) * i64::from(units / self.scale);
-                let size = value.unsigned_abs();
-                if value < 0 {
-                    out.push(b'-');
-                }
-                put_digits(out, size / u64::from(units));
-                if self.decimals > 0 {
-                    out.push(b'.');
-                    put_last(out, size % u64::from(units), self.decimals);
-                }
-            }
-            _ => {
-                let value = (raw - i128::from(self.shift)) * i128::from(units / self.scale);
-                let (whole, rest) = (value.unsigned_abs() / u128::from(units), value.unsigned_abs() % u128::from(units));
-                let _ = write!(out, "{}{whole}", if value < 0 { "-" } else { "" });
-                if self.decimals > 0 {
-                    out.push(b'.');
-                    put_last(out, rest as u64, self.decimals);
-                }
-            }
+        let signed = (bits << unused) as i64 >> unused;
+        if self.width == 8 {
+            let raw = if self.class == Class::Signed { i128::from(signed) } else { i128::from(bits) };
+            self.put_wide(out, (raw - i128::from(self.shift)) * i128::from(self.factor));
+            return;
+        }
+        let raw = if self.class == Class::Signed { signed } else { bits as i64 };
+        let value = (raw - self.shift) * self.factor;
+        if value < 0 {
+            out.push(b'-');
+        }
+        let size = value.unsigned_abs();
+        let (whole, rest) = match self.decimals {
+            0 => (size, 0),
+            1 => (size / 10, size % 10),
+            2 => (size / 100, size % 100),
+            3 => (size / 1000, size % 1000),
+            _ => (size / 100_000_000, size % 100_000_000),
+        };
+        put_digits(out, whole);
+        if self.decimals > 0 {
+            out.push(b'.');
+            put_last(out, rest, self.decimals);
+        }
+    }
+
+    /// A number of 64 bits, in units of its last decimal.
+    fn put_wide(&self, out: &mut Vec<u8>, value: i128) {
+        let units = 10_u128.pow(self.decimals as u32);
+        let _ = write!(out, "{}{}", if value < 0 { "-" } else { "" }, value.unsigned_abs() / units);
+        if self.decimals > 0 {
+            out.push(b'.');
+            put_last(out, (value.unsigned_abs() % units) as u64, self.decimals);
         }
     }
 }

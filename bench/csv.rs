@@ -34,6 +34,21 @@ struct Known {
     previous: Option<u32>,
 }
 
+/// A number and a comma.
+fn put_number(out: &mut Vec<u8>, number: impl Into<u64>) {
+    put_digits(out, number.into());
+    out.push(b',');
+}
+
+/// The row of a field's or a developer field's definition.
+fn put_entry(out: &mut Vec<u8>, kind: &[u8], entry: &[u8]) {
+    out.extend_from_slice(kind);
+    for number in entry {
+        put_number(out, *number);
+    }
+    out.extend_from_slice(b",,\n");
+}
+
 /// The rows of a definition message; answers how many bytes it has.
 fn define(known: &mut Known, out: &mut Vec<u8>, bytes: &[u8]) -> usize {
     let (local, big, count) = (bytes[0] & 15, bytes[2] == 1, usize::from(bytes[5]));
@@ -42,8 +57,12 @@ fn define(known: &mut Known, out: &mut Vec<u8>, bytes: &[u8]) -> usize {
     let mut at = 6 + 3 * count;
     let entries = &bytes[6..at];
     let own = if developer { &bytes[at + 1..at + 1 + 3 * usize::from(bytes[at])] } else { &[] };
-    let order = if big { "big" } else { "little" };
-    let _ = write!(out, "def,{local},{},{order},{global},{count},", bytes[1]);
+    out.extend_from_slice(b"def,");
+    put_number(out, local);
+    put_number(out, bytes[1]);
+    out.extend_from_slice(if big { b"big," } else { b"little," });
+    put_number(out, global);
+    put_number(out, bytes[5]);
     if developer {
         put_digits(out, u64::from(bytes[at]));
         at += 1 + own.len();
@@ -54,7 +73,7 @@ fn define(known: &mut Known, out: &mut Vec<u8>, bytes: &[u8]) -> usize {
     let mut length = 0;
     for entry in entries.chunks_exact(3) {
         let (number, size, code) = (entry[0], entry[1], entry[2]);
-        let _ = writeln!(out, "fdef,{number},{size},{code},,,");
+        put_entry(out, b"fdef,", entry);
         if number == 253 && timestamp.is_none() {
             timestamp = Some((code == 0x86 && size == 4).then_some(length));
         }
@@ -68,7 +87,7 @@ fn define(known: &mut Known, out: &mut Vec<u8>, bytes: &[u8]) -> usize {
     }
     for entry in own.chunks_exact(3) {
         let (number, size, index) = (entry[0], entry[1], entry[2]);
-        let _ = writeln!(out, "ddef,{number},{size},{index},,,");
+        put_entry(out, b"ddef,", entry);
         let described = known.described.get(&(index, number));
         let label = format!("dev_{index}_{number}").into_bytes();
         let name = described.and_then(|d| d.name.as_ref()).unwrap_or(&label);
@@ -77,7 +96,6 @@ fn define(known: &mut Known, out: &mut Vec<u8>, bytes: &[u8]) -> usize {
         length += usize::from(size);
     }
     let label = message_row(global).map_or_else(|| format!("message_{global}"), |m| m.1.to_string()).into_bytes();
-    fields.shrink_to_fit();
     let timestamp = timestamp.flatten();
     known.definitions[usize::from(local)] = Some(Definition { big, global, label, fields, length, timestamp });
     at
@@ -95,8 +113,7 @@ fn message(known: &mut Known, out: &mut Vec<u8>, bytes: &[u8]) -> usize {
     let definition = known.definitions[usize::from(local)].as_ref().expect("a definition");
     let body = &bytes[1..1 + definition.length];
     out.extend_from_slice(b"data,");
-    put_digits(out, u64::from(local));
-    out.push(b',');
+    put_number(out, local);
     if let Some(offset) = offset {
         put_digits(out, u64::from(offset));
     }
