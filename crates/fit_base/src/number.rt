@@ -19,20 +19,22 @@ pub fn bits_at(order: Order, width: u8, bytes: &[u8]) -> u64
     requires length { length bytes.now ≡ width }
     ensures { result ≡ number order bytes.now }
 {
+    if width == 1 {
+        return u64::from(bytes[0]);
+    }
     match order {
         Order::Little => read::<LittleEndian>(width, bytes),
         Order::Big => read::<BigEndian>(width, bytes),
     }
 }
 
-/// The number in one byte order. A read of a known width is a single load.
+/// The number of several bytes in one byte order. A read of a known width is a single load.
 fn read<O: ByteOrder>(width: u8, bytes: &[u8]) -> u64
-    requires width { (width ≡ 1) ⊎ (width ≡ 2) ⊎ (width ≡ 4) ⊎ (width ≡ 8) }
+    requires width { (width ≡ 2) ⊎ (width ≡ 4) ⊎ (width ≡ 8) }
     requires length { length bytes.now ≡ width }
     ensures { result ≡ O.number_of width bytes.now }
 {
     match width {
-        1 => O::read_uint(bytes, 1),
         2 => u64::from(O::read_u16(bytes)),
         4 => u64::from(O::read_u32(bytes)),
         _ => O::read_u64(bytes),

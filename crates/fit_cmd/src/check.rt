@@ -74,7 +74,7 @@ impl Report for CheckReport {
     }
 
     fn skip(&mut self, decoder: &mut Decoder, piece: &[u8]) -> usize {
-        let (used, count) = decoder.skip_messages(piece);
+        let (used, count) = decoder.skip_records(piece);
         self.records += count;
         used
     }

@@ -1,4 +1,4 @@
--- What the skipping of data messages makes of the fields and of the events.
+-- What the skipping of records makes of the fields and of the events.
 use Rattle.std.proofs.Common.{◌≡◌, cond, inl, inr, ℕ, ◌+◌, ◌-◌, ◌≤◌, Bool, true, false, List, [], ◌++◌, length, take, refl, sym, ap, ◌∙◌, subst, arith, append_assoc, length-append, Fits, w64, Some, None}
 use Rattle.std.specs.Prelude.{Option, is_some, map}
 use Rattle.std.proofs.lemmas.Bool.{ne_eqb}
@@ -9,7 +9,6 @@ use Rattle.fit_frame.specs.declared.header.Header.{Header}
 use Rattle.fit_frame.specs.Header.{header_bytes}
 use Rattle.fit_record.specs.declared.file.FitFile.{FitFile}
 use Rattle.fit_record.specs.declared.message.Record.{Record}
-use Rattle.fit_record.specs.declared.message.Record.TheVariants.{Values as Data}
 use Rattle.fit_record.specs.Environment.{Environment, empty_environment, learn_all}
 use Rattle.fit_record.specs.Files.{chain_bytes, chain_limit, IsViable}
 use Rattle.fit_record.specs.Records.{AllFit, records_bytes}
@@ -24,7 +23,7 @@ use Rattle.fit_step.specs.Parts.{Part, nothing, in_definition, in_fields, in_dev
 use Rattle.fit_step.specs.Places.{state_at}
 use Rattle.fit_frame.specs.declared.reason.Reason.{Reason}
 use Rattle.fit_decode.specs.declared.decoder.Decoder.TheInside.{Inside}
-use Rattle.fit_decode.specs.Answers.{Seen, TellsMessages}
+use Rattle.fit_decode.specs.Answers.{Seen, TellsRecords}
 use Rattle.fit_decode.specs.Invariant.{IsKept, fields_of}
 use Rattle.fit_decode.proofs.Bounds.{short_bytes}
 use Rattle.fit_decode.specs.declared.section.Section.TheVariants.{Data as InSection, ClosingSum}
@@ -87,19 +86,19 @@ large_fills e room sixteen large =
     let same : 6 + (room - 6) ≡ room = omega (arith, large) in
     subst (λ m. can_fill e m ≡ true) same ((can_fill_is e (6 + (room - 6)) sixteen).1 (six_and_more e (room - 6) (omega (arith, sixteen))))
 
-module _ {A : Type 0} (d : Fields A) (bytes piece sum : List ℕ) (position : Position) (used count : ℕ) (are : IsBytes bytes) (low : IsBytes piece) where
+module _ {A : Type 0} (d : Fields A) (bytes piece : List ℕ) (after : Environment A) (sum : List ℕ) (position : Position) (used count : ℕ) (are : IsBytes bytes) (low : IsBytes piece) where
   abbrev now : Fields A
-  now = record d { sum = sum; position = position }
+  now = record d { env = after; sum = sum; position = position }
 
   abbrev y : List ℕ
   y = take used piece
 
-  module _ (s : SkipsSome d.section d.env d.sum d.position d.in_progress sum position piece used count) (k : InData d bytes) where
+  module _ (s : SkipsSome d.section d.env d.sum d.position d.in_progress after sum position piece used count) (k : InData d bytes) where
     abbrev room : ℕ
     room = k.size - length (records_bytes empty_environment k.records)
 
     abbrev rs : List (Record A)
-    rs = map Data s.messages.0
+    rs = s.records.0
 
     abbrev all : List (Record A)
     all = k.records ++ rs
@@ -121,10 +120,10 @@ module _ {A : Type 0} (d : Fields A) (bytes piece sum : List ℕ) (position : Po
     here = subst (λ p. HasCome k.files (at_data k.header k.size k.records p) bytes) no_part k.come
 
     fits : AllFit (learn_all empty_environment k.records) rs
-    fits = subst (λ e. AllFit e rs) k.known s.messages.1.0
+    fits = subst (λ e. AllFit e rs) k.known s.records.1.0
 
     spelled : y ≡ records_bytes (learn_all empty_environment k.records) rs
-    spelled = s.messages.1.1 ∙ ap (λ e. records_bytes e rs) k.known
+    spelled = s.records.1.1 ∙ ap (λ e. records_bytes e rs) k.known
 
     long : length y ≡ used
     long = length-take-le used piece s.within
@@ -135,8 +134,8 @@ module _ {A : Type 0} (d : Fields A) (bytes piece sum : List ℕ) (position : Po
     left : k.size - length (records_bytes empty_environment all) ≡ room - used
     left = omega (arith, total k.files k.header k.size k.records rs bytes y here fits spelled within_room, long)
 
-    learnt : d.env ≡ learn_all empty_environment all
-    learnt = sym s.messages.2 ∙ ap (λ e. learn_all e rs) k.known ∙ sym (learn_all-append empty_environment k.records rs)
+    learnt : after ≡ learn_all empty_environment all
+    learnt = sym s.records.2 ∙ ap (λ e. learn_all e rs) k.known ∙ sym (learn_all-append empty_environment k.records rs)
 
     fill : can_fill (learn_all empty_environment all) (k.size - length (records_bytes empty_environment all)) ≡ true
     fill = large_fills (learn_all empty_environment all) (k.size - length (records_bytes empty_environment all)) (sixteen_places all) (omega (arith, left, s.room, all_room))
@@ -170,15 +169,15 @@ module _ {A : Type 0} (d : Fields A) (bytes piece sum : List ℕ) (position : Po
     pub skips_some : Skipped now bytes piece used count
     skips_some = record {
       within = s.within;
-      told = λ events are_told. (s.messages.0, s.messages.3, records_told k.files k.header k.size k.records rs bytes y here fits spelled within_room events are_told);
+      told = λ events are_told. (s.records.0, s.records.3, records_told k.files k.header k.size k.records rs bytes y here fits spelled within_room events are_told);
       viable = viable_behind;
       holds = holds_behind;
     }
 
-  skips_none : used ≡ 0 → count ≡ 0 → sum ≡ d.sum → position ≡ d.position → IsViable A chain_limit bytes → Holds d bytes → Skipped now bytes piece used count
-  skips_none none no_count same there viable holds =
+  skips_none : used ≡ 0 → count ≡ 0 → after ≡ d.env → sum ≡ d.sum → position ≡ d.position → IsViable A chain_limit bytes → Holds d bytes → Skipped now bytes piece used count
+  skips_none none no_count learnt same there viable holds =
       let stay : bytes ≡ bytes ++ y = sym (append-nil bytes) ∙ ap (λ n. bytes ++ take n piece) (sym none) in
-      let fields : d ≡ now = λ i. record d { sum = sym same i; position = sym there i } in
+      let fields : d ≡ now = λ i. record d { env = sym learnt i; sum = sym same i; position = sym there i } in
       record {
         within = omega (arith, none);
         told = λ events are_told. ([], sym no_count, subst (λ l. AreEvents l (events ++ [])) stay (subst (AreEvents bytes) (sym (append-nil events)) are_told));
@@ -186,8 +185,8 @@ module _ {A : Type 0} (d : Fields A) (bytes piece sum : List ℕ) (position : Po
         holds = subst (λ f. Holds f (bytes ++ y)) fields (subst (Holds d) stay holds);
       }
 
-  pub skips : DataSkipped d.section d.env d.sum d.position d.in_progress sum position piece used count → IsViable A chain_limit bytes → Holds d bytes → Skipped now bytes piece used count
-  skips (inl (none, no_count, same, there)) viable holds = skips_none none no_count same there viable holds
+  pub skips : DataSkipped d.section d.env d.sum d.position d.in_progress after sum position piece used count → IsViable A chain_limit bytes → Holds d bytes → Skipped now bytes piece used count
+  skips (inl (none, no_count, learnt, same, there)) viable holds = skips_none none no_count learnt same there viable holds
   skips (inr s) viable holds = skips_some s (subst (λ c. HoldsAt c d bytes) s.in_data holds)
 
 -- ---- what a caller of a decoder sees
@@ -196,10 +195,10 @@ pub fresh : (refusal : Option Reason) (some : Bool) → some ≡ is_some refusal
 fresh None some is isnt = refl
 fresh (Some reason) some is isnt = absurd (let both : true ≡ false = sym is ∙ isnt in cc)
 
-module _ {A : Type 0} (d : Inside A) (k : IsKept d) (none : d.refusal ≡ None) (piece sum : List ℕ) (position : Position) (used count : ℕ) (low : IsBytes piece)
-    (s : DataSkipped d.section d.env d.sum d.position d.in_progress sum position piece used count) where
-  pub skipped : Skipped (record (fields_of d) { sum = sum; position = position }) d.history.items piece used count
-  skipped = skips (fields_of d) d.history.items piece sum position used count k.are low s k.viable (k.holds none)
+module _ {A : Type 0} (d : Inside A) (k : IsKept d) (none : d.refusal ≡ None) (piece : List ℕ) (after : Environment A) (sum : List ℕ) (position : Position) (used count : ℕ) (low : IsBytes piece)
+    (s : DataSkipped d.section d.env d.sum d.position d.in_progress after sum position piece used count) where
+  pub skipped : Skipped (record (fields_of d) { env = after; sum = sum; position = position }) d.history.items piece used count
+  skipped = skips (fields_of d) d.history.items piece after sum position used count k.are low s k.viable (k.holds none)
 
   pub within_piece : used ≤ length piece
   within_piece = skipped.within
@@ -210,21 +209,21 @@ module _ {A : Type 0} (d : Inside A) (k : IsKept d) (none : d.refusal ≡ None) 
   pub few_skipped : Fits w64 (d.count + used)
   few_skipped = omega (arith, more_bytes, short_bytes (d.history.items ++ take used piece) skipped.viable)
 
-  pub skipped_kept : (n : Inside A) → n.history.items ≡ d.history.items ++ take used piece → fields_of n ≡ record (fields_of d) { sum = sum; position = position } → n.count ≡ d.count + used → n.refusal ≡ None → IsKept n
+  pub skipped_kept : (n : Inside A) → n.history.items ≡ d.history.items ++ take used piece → fields_of n ≡ record (fields_of d) { env = after; sum = sum; position = position } → n.count ≡ d.count + used → n.refusal ≡ None → IsKept n
   skipped_kept n took same counted fresh = record {
     viable = subst (IsViable A chain_limit) (sym took) skipped.viable;
     are = subst IsBytes (sym took) (IsBytes-append d.history.items (take used piece) k.are (IsBytes-take used piece low));
     counted = counted ∙ sym more_bytes ∙ ap length (sym took);
-    holds = λ _. subst (λ f. Holds f n.history.items) (sym same) (subst (Holds (record (fields_of d) { sum = sum; position = position })) (sym took) skipped.holds);
+    holds = λ _. subst (λ f. Holds f n.history.items) (sym same) (subst (Holds (record (fields_of d) { env = after; sum = sum; position = position })) (sym took) skipped.holds);
     let_go = λ reason is. absurd (let both : Some reason ≡ None = sym is ∙ fresh in cc);
   }
 
-  pub messages_skipped : (old : Seen) → record { bytes = d.history.items; refusal = d.refusal } ≡ old → (bytes : List ℕ) → bytes ≡ d.history.items ++ take used piece
-      → (events : List (Event A)) → AreEvents old.bytes events → TellsMessages bytes events count
-  messages_skipped old seen bytes took events are_told =
+  pub records_skipped : (old : Seen) → record { bytes = d.history.items; refusal = d.refusal } ≡ old → (bytes : List ℕ) → bytes ≡ d.history.items ++ take used piece
+      → (events : List (Event A)) → AreEvents old.bytes events → TellsRecords bytes events count
+  records_skipped old seen bytes took events are_told =
       let told = skipped.told events (subst (λ b. AreEvents b events) (sym (ap (λ (o : Seen). o.bytes) seen)) are_told) in
-      (told.0, told.1, subst (λ b. AreEvents b (events ++ map item (map Data told.0))) (sym took) told.2)
+      (told.0, told.1, subst (λ b. AreEvents b (events ++ map item told.0)) (sym took) told.2)
 
 -- where nothing was used
-pub none_skipped : {A : Type 0} (bytes : List ℕ) (events : List (Event A)) → AreEvents bytes events → TellsMessages bytes events 0
+pub none_skipped : {A : Type 0} (bytes : List ℕ) (events : List (Event A)) → AreEvents bytes events → TellsRecords bytes events 0
 none_skipped bytes events are_told = ([], refl, subst (AreEvents bytes) (sym (append-nil events)) are_told)

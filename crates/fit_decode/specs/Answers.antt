@@ -2,8 +2,7 @@
 use Rattle.std.specs.Prelude.{◌≡◌, ℕ, ◌+◌, ◌<◌, ◌≤◌, List, [], ◌∷◌, ◌++◌, Option, Some, None, take, length, map, slice_index}
 use Rattle.fit_frame.specs.declared.reason.Reason.{Reason}
 use Rattle.fit_record.specs.declared.file.FitFile.{FitFile}
-use Rattle.fit_record.specs.declared.message.Record.TheVariants.{Values as Data}
-use Rattle.fit_record.specs.declared.message.Values.{Values}
+use Rattle.fit_record.specs.declared.message.Record.{Record}
 use Rattle.fit_record.specs.Files.{chain_limit, IsChain, IsViable}
 use Rattle.fit_decode.specs.declared.event.Event.{Event as Answer}
 use Rattle.fit_decode.specs.declared.event.Event.TheVariants as answers
@@ -54,10 +53,10 @@ pub record Wants (A : Type 0) (old : Seen) (piece : List ℕ) (new : Seen) (used
   pub next : IsViable A chain_limit (old.bytes ++ take (used + 1) piece)
   pub takes : MayTakeMemory A (old.bytes ++ take used piece) (slice_index piece used)
 
--- The bytes have these events, and after them those of that many data messages, and no other.
-abbrev pub TellsMessages : {A : Type 0} → List ℕ → List (Event A) → ℕ → Type 0
-TellsMessages {A} bytes events count =
-    (messages : List (Values A)) × (length messages ≡ count) × AreEvents bytes (events ++ map item (map Data messages))
+-- The bytes have these events, and after them those of that many records, and no other.
+abbrev pub TellsRecords : {A : Type 0} → List ℕ → List (Event A) → ℕ → Type 0
+TellsRecords {A} bytes events count =
+    (records : List (Record A)) × (length records ≡ count) × AreEvents bytes (events ++ map item records)
 
 -- Some files, one after another, have these bytes.
 abbrev pub AreChain : Type 0 → List ℕ → Type 0

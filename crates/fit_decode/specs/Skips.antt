@@ -1,36 +1,36 @@
--- What the skipping of data messages does. No public contract names these.
+-- What the skipping of records does. No public contract names these.
 use Rattle.std.specs.Prelude.{◌≡◌, ◌⊎◌, ℕ, ◌+◌, ◌-◌, ◌≤◌, List, ◌++◌, take, length, Option, None}
 use Rattle.fit_record.specs.declared.message.Record.{Record}
 use Rattle.fit_record.specs.Environment.{Environment}
 use Rattle.fit_record.specs.Files.{chain_limit, IsViable}
 use Rattle.fit_step.specs.declared.position.Position.{Position}
-use Rattle.fit_step.specs.Skipping.{AreMessages}
+use Rattle.fit_step.specs.Skipping.{AreSkipped}
 use Rattle.fit_step.specs.Places.{Begins}
 use Rattle.fit_decode.specs.declared.section.Section.{Section}
 use Rattle.fit_decode.specs.declared.section.Section.TheVariants.{Data}
-use Rattle.fit_decode.specs.Answers.{TellsMessages}
+use Rattle.fit_decode.specs.Answers.{TellsRecords}
 use Rattle.fit_decode.specs.Events.{Event, AreEvents}
 use Rattle.fit_decode.specs.Kept.{Fields, Holds}
 
--- That many data messages have these bytes, and after them at least six bytes are to come in the data section.
-pub record SkipsSome {A : Type 0} (section : Section) (e : Environment A) (covered : List ℕ) (before : Position) (idle : Option (Record A)) (sum : List ℕ) (after : Position) (piece : List ℕ) (used count : ℕ) : Type 0 where
+-- That many records have these bytes, and after them at least six bytes are to come in the data section.
+pub record SkipsSome {A : Type 0} (section : Section) (e : Environment A) (covered : List ℕ) (before : Position) (idle : Option (Record A)) (known : Environment A) (sum : List ℕ) (after : Position) (piece : List ℕ) (used count : ℕ) : Type 0 where
   pub in_data : section ≡ Data
   pub begins : idle ≡ None
   pub within : used ≤ length piece
   pub room : used + 6 ≤ before.room
-  pub messages : AreMessages e (take used piece) count
+  pub records : AreSkipped e known (take used piece) count
   pub summed : sum ≡ covered ++ take used piece
   pub begun : Begins after
   pub left : after.room ≡ before.room - used
 
--- Nothing was used, or some data messages were skipped.
-abbrev pub DataSkipped : {A : Type 0} → Section → Environment A → List ℕ → Position → Option (Record A) → List ℕ → Position → List ℕ → ℕ → ℕ → Type 0
-DataSkipped section e covered before idle sum after piece used count =
-    ((used ≡ 0) × (count ≡ 0) × (sum ≡ covered) × (after ≡ before)) ⊎ SkipsSome section e covered before idle sum after piece used count
+-- Nothing was used, or some records were skipped.
+abbrev pub DataSkipped : {A : Type 0} → Section → Environment A → List ℕ → Position → Option (Record A) → Environment A → List ℕ → Position → List ℕ → ℕ → ℕ → Type 0
+DataSkipped section e covered before idle known sum after piece used count =
+    ((used ≡ 0) × (count ≡ 0) × (known ≡ e) × (sum ≡ covered) × (after ≡ before)) ⊎ SkipsSome section e covered before idle known sum after piece used count
 
--- The bytes used tell that many data messages and nothing else, and the fields are those after them.
+-- The bytes used tell that many records and nothing else, and the fields are those after them.
 pub record Skipped {A : Type 0} (d : Fields A) (bytes piece : List ℕ) (used count : ℕ) : Type 0 where
   pub within : used ≤ length piece
-  pub told : (events : List (Event A)) → AreEvents bytes events → TellsMessages (bytes ++ take used piece) events count
+  pub told : (events : List (Event A)) → AreEvents bytes events → TellsRecords (bytes ++ take used piece) events count
   pub viable : IsViable A chain_limit (bytes ++ take used piece)
   pub holds : Holds d (bytes ++ take used piece)

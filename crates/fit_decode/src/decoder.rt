@@ -5,7 +5,7 @@ ghost use Rattle.fit_record.specs.Files.{chain_limit, IsViable};
 ghost use Rattle.fit_decode.specs.Events.{Event as Told, AreEvents};
 ghost use Rattle.fit_decode.specs.Held.{bound_limit, IsHeld};
 ghost use Rattle.fit_decode.specs.Needs.{Needs, NoFileEndsBefore};
-ghost use Rattle.fit_decode.specs.Answers.{told, fed, Quiet, Least, Refuses, Wants, AreChain, TellsMessages};
+ghost use Rattle.fit_decode.specs.Answers.{told, fed, Quiet, Least, Refuses, Wants, AreChain, TellsRecords};
 
 #[cfg(test)]
 mod tests;
@@ -143,16 +143,18 @@ impl<A: Allocator + Copy> Decoder<A> {
         }
     }
 
-    /// Skips data messages at the front of the piece: they count as fed, and no record is made of them. Returns how many bytes
-    /// were used, and how many messages they are. It takes no memory, and refuses nothing.
+    /// Skips records at the front of the piece: they count as fed, what they define is learned, and no event is made of them.
+    /// Returns how many bytes were used, and how many records they are. It refuses nothing, and takes memory for definition
+    /// messages alone.
     ///
-    /// It ends before the first byte that is for `feed`: that of anything but a data message, of one that isn't whole in the
-    /// piece or may describe a developer field, and of one that ends in the last six bytes of a data section.
-    pub fn skip_messages(&mut self, piece: &[u8]) -> (usize, u64)
+    /// It ends before the first record that is for `feed`: one that isn't whole in the piece, or can't stand there; a definition
+    /// message that has developer fields, or for which memory is refused; a data message that may describe a developer field; and
+    /// one that ends in the last six bytes of a data section.
+    pub fn skip_records(&mut self, piece: &[u8]) -> (usize, u64)
         ensures within { result.0 ≤ length piece.now }
         ensures used { self.new ≡ record self.old { bytes = self.old.bytes ++ take result.0 piece.now } }
-        // The bytes used tell that many data messages, and nothing else.
-        ensures messages { (events : List (Told A)) → AreEvents self.old.bytes events → TellsMessages self.new.bytes events result.1 }
+        // The bytes used tell that many records, and nothing else.
+        ensures records { (events : List (Told A)) → AreEvents self.old.bytes events → TellsRecords self.new.bytes events result.1 }
         // After a refusal nothing is used.
         ensures refused { (reason : Reason) → self.old.refusal ≡ Some reason → (result ≡ (0, 0)) × (self.new ≡ self.old) }
         ensures viable { IsViable A chain_limit self.new.bytes }
@@ -161,8 +163,9 @@ impl<A: Allocator + Copy> Decoder<A> {
             return (0, 0);
         }
         let (skipped, count) = skip_data(
+            self.alloc,
             self.section,
-            &self.env,
+            &mut self.env,
             &mut self.sum,
             &mut self.position,
             &self.in_progress,

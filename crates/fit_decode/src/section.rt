@@ -11,7 +11,7 @@ use crate::record::scan_record;
 use crate::scan::{scan_header, scan_sum};
 use fit_frame::{HeadReader, Reason};
 use fit_record::{Env, Record};
-use fit_step::{Position, Stop, messages_to_skip};
+use fit_step::{Position, Stop, skip_records};
 use fit_sum::Sum;
 use std::alloc::Allocator;
 
@@ -95,16 +95,17 @@ pub(crate) fn feed_data<A: Allocator + Copy>(
     }
 }
 
-/// Skips whole data messages after which at least six bytes of data are to come: how many bytes they have, and how many they are.
+/// Skips whole records after which at least six bytes of data are to come: how many bytes they have, and how many they are.
 pub(crate) fn skip_data<A: Allocator + Copy>(
+    alloc: A,
     section: Section,
-    env: &Env<A>,
+    env: &mut Env<A>,
     sum: &mut Sum,
     position: &mut Position,
     in_progress: &Option<Record<A>>,
     piece: &[u8],
 ) -> (usize, u64)
-    ensures { DataSkipped section env.now sum.old position.old in_progress.now sum.new position.new piece.now result.0 result.1 }
+    ensures { DataSkipped section env.old sum.old position.old in_progress.now env.new sum.new position.new piece.now result.0 result.1 }
 {
     match section {
         Section::Data => {}
@@ -120,7 +121,7 @@ pub(crate) fn skip_data<A: Allocator + Copy>(
     }
     let most = piece.len().min((position.room - 6) as usize);
     let (front, _) = piece.split_at(most);
-    let (used, count) = messages_to_skip(env, front);
+    let (used, count) = skip_records(alloc, env, front);
     let (taken, _) = piece.split_at(used);
     sum.add_all(taken);
     *position = Position::new(position.room - used as u32);

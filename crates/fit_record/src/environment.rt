@@ -1,7 +1,8 @@
 //! What a reader of records knows: the definition of each local message type, and the described
 //! developer fields.
-ghost use Rattle.std.specs.Prelude.{◌≡◌, ◌+◌, ◌<◌, ◌≤◌, IfOk, IfErr, map, option_map, option_and_then, option_copied, slice_get, slice_set, IsOk, IsSomeAnd, OnOk, OnErr, IfSome, Some, None, length};
-ghost use Rattle.fit_record.specs.Environment.{DescribesNothing, empty_environment, defined_at, defined_by, describe, described_by, dev_code, dev_defs, learn};
+ghost use Rattle.std.specs.Prelude.{◌≡◌, ◌+◌, ◌<◌, ◌≤◌, IfOk, IfErr, map, option_map, option_and_then, option_copied, slice_get, slice_set, IsOk, IsSomeAnd, OnOk, OnErr, IfSome, Some, None, [], length};
+ghost use Rattle.fit_record.specs.declared.message.Record.TheVariants.{Define};
+ghost use Rattle.fit_record.specs.Environment.{DescribesNothing, empty_environment, defined_at, describe, described_by, dev_code, dev_defs, learn};
 ghost use Rattle.fit_record.specs.Records.{Fits, DefinitionFits, DataFits, body_length, message_size, record_bytes};
 ghost use Rattle.fit_record.specs.Faults.{first_fault};
 ghost use Rattle.fit_record.specs.Sound.{IsSound};
@@ -131,21 +132,30 @@ impl<A: Allocator + Copy> Env<A> {
         ensures free { DescribesNothing self.old r.now → IsOk result }
     {
         match r {
-            Record::Define(d) => self.define(d),
+            Record::Define(d) => {
+                let copy = definition_copy(self.alloc, d)?;
+                self.define(copy)
+            }
             Record::Values(v) => self.take_in(v),
         }
     }
 
-    /// Takes a definition in.
-    fn define(&mut self, d: &MessageDef<A>) -> Result<(), AllocError>
-        requires { DefinitionFits d.now }
-        ensures ok { OnOk result (self.new ≡ record self.old { places = slice_set self.old.places d.now.local (Some (defined_by self.old d.now)) }) }
+    /// Takes a definition in, as `learn` does, and keeps its memory. More is taken for the codes of developer fields alone.
+    pub fn define(&mut self, d: MessageDef<A>) -> Result<(), AllocError>
+        requires { DefinitionFits d }
+        ensures ok { OnOk result (self.new ≡ learn self.old (Define d)) }
         ensures err { OnErr result (self.new ≡ self.old) }
+        ensures free { dev_defs d.dev ≡ [] → IsOk result }
     {
-        let defined = self.defined_by(d)?;
-        let length = body_length(d);
-        set_place(&mut self.places, d.local, defined);
-        self.lengths[d.local as usize] = length;
+        let dev_codes = self.codes_for(&d)?;
+        let local = d.local;
+        let length = body_length(&d);
+        let defined = Defined {
+            definition: d,
+            dev_codes,
+        };
+        set_place(&mut self.places, local, defined);
+        self.lengths[local as usize] = length;
         Ok(())
     }
 
@@ -196,7 +206,8 @@ impl<A: Allocator + Copy> Env<A> {
 
     /// The code of each developer field.
     fn codes_of(&self, fields: &[DevDef]) -> Result<Entries<u8, A>, AllocError>
-        ensures { IfOk result (λ codes. codes ≡ map (dev_code self.now) fields.now) }
+        ensures codes { IfOk result (λ codes. codes ≡ map (dev_code self.now) fields.now) }
+        ensures free { fields.now ≡ [] → IsOk result }
     {
         let mut codes = Entries::new(self.alloc);
         for f in fields {
@@ -207,24 +218,13 @@ impl<A: Allocator + Copy> Env<A> {
 
     /// The code of each developer field of a definition.
     fn codes_for(&self, d: &MessageDef<A>) -> Result<Entries<u8, A>, AllocError>
-        ensures { IfOk result (λ codes. codes ≡ map (dev_code self.now) (dev_defs d.now.dev)) }
+        ensures codes { IfOk result (λ codes. codes ≡ map (dev_code self.now) (dev_defs d.now.dev)) }
+        ensures free { dev_defs d.now.dev ≡ [] → IsOk result }
     {
         match &d.dev {
             None => Ok(Entries::new(self.alloc)),
             Some(fields) => self.codes_of(fields.as_slice()),
         }
-    }
-
-    /// A definition with the codes that its developer fields have now.
-    fn defined_by(&self, d: &MessageDef<A>) -> Result<Defined<A>, AllocError>
-        ensures { IfOk result (λ p. p ≡ defined_by self.now d.now) }
-    {
-        let dev_codes = self.codes_for(d)?;
-        let definition = definition_copy(self.alloc, d)?;
-        Ok(Defined {
-            definition,
-            dev_codes,
-        })
     }
 }
 

@@ -25,4 +25,5 @@ pub mod Continuing
 pub mod Undoing
 pub mod Gathering
 pub mod WholeMessage
-pub mod SkippedMessages
+pub mod ReadDefinitions
+pub mod SkippedRecords

@@ -1,22 +1,28 @@
--- Data messages that are skipped.
-use Rattle.std.specs.Prelude.{◌≡◌, ℕ, ◌+◌, ◌==◌, if◌then◌else◌, false, List, ◌∷◌, length, map, slice_index}
+-- Records that are skipped.
+use Rattle.std.specs.Prelude.{◌≡◌, ℕ, ◌+◌, ◌==◌, if◌then◌else◌, false, List, ◌∷◌, ◌<◌, length, slice_index}
 use Rattle.std.specs.Option.{option_map_or}
-use Rattle.fit_record.specs.declared.message.Record.TheVariants.{Values as Data}
-use Rattle.fit_record.specs.declared.message.Values.{Values}
-use Rattle.fit_record.specs.Environment.{Environment, defined_at, learn_all}
+use Rattle.fit_record.specs.declared.message.Record.{Record}
+use Rattle.fit_record.specs.Environment.{Environment, defined_at, learn, learn_all}
 use Rattle.fit_record.specs.HeaderByte.{has_reserved_bit, is_definition, local_type}
-use Rattle.fit_record.specs.Records.{AreRecords, message_size}
+use Rattle.fit_record.specs.Records.{AreRecords, IsRecord, message_size}
 
--- The bytes are those of that many data messages, and these leave what is known as it is.
-abbrev pub AreMessages : {A : Type 0} → Environment A → List ℕ → ℕ → Type 0
-AreMessages {A} e bytes count =
-    (messages : List (Values A)) × AreRecords e (map Data messages) bytes × (learn_all e (map Data messages) ≡ e) × (length messages ≡ count)
+-- The bytes are those of that many records, and with them what is known becomes `after`.
+abbrev pub AreSkipped : {A : Type 0} → Environment A → Environment A → List ℕ → ℕ → Type 0
+AreSkipped {A} e after bytes count = (records : List (Record A)) × AreRecords e records bytes × (learn_all e records ≡ after) × (length records ≡ count)
 
 -- ---- for private functions
 
 -- how many bytes a data message of this local message type has; 0 where it may describe a developer field, or isn't defined
 abbrev pub size_to_skip : {A : Type 0} → Environment A → ℕ → ℕ
 size_to_skip e local = option_map_or (λ p. if p.definition.global == 206 then 0 else 1 + message_size p) (defined_at e local) 0
+
+-- the same of each local message type
+abbrev pub AreSizesToSkip : {A : Type 0} → Environment A → List ℕ → Type 0
+AreSizesToSkip e sizes = (local : ℕ) → local < 16 → slice_index sizes local ≡ size_to_skip e local
+
+-- The bytes are those of one record, with which what is known becomes `after`.
+abbrev pub IsSkipped : {A : Type 0} → Environment A → Environment A → List ℕ → Type 0
+IsSkipped {A} e after bytes = (r : Record A) × IsRecord e r bytes × (learn e r ≡ after)
 
 -- The first byte heads a data message, of which the size stands here.
 abbrev pub HeadsMessage : List ℕ → List ℕ → ℕ → Type 0

@@ -1,9 +1,10 @@
-//! Data messages that a reader may skip: it counts them, and makes no record of them.
+//! Records that a reader skips: it counts them and learns their definitions, and makes no record of data messages.
 ghost use Rattle.std.specs.Prelude.{◌≡◌, ℕ, ◌<◌, ◌≤◌, false, ◌∷◌, List, length, slice_index, take};
 ghost use Rattle.fit_record.specs.HeaderByte.{has_reserved_bit, is_definition, local_type};
-ghost use Rattle.fit_step.specs.Skipping.{size_to_skip, HeadsMessage, AreMessages};
+ghost use Rattle.fit_step.specs.Skipping.{size_to_skip, AreSizesToSkip, HeadsMessage, IsSkipped, AreSkipped};
 
 use crate::header::{has_reserved_bit, is_definition, local_type};
+use crate::whole_definition;
 use fit_record::Env;
 use std::alloc::Allocator;
 
@@ -29,7 +30,7 @@ fn size_to_skip<A: Allocator>(env: &Env<A>, local: u8) -> u32
 
 /// The same for each local message type.
 fn sizes_to_skip<A: Allocator>(env: &Env<A>) -> [u32; 16]
-    ensures { (local : ℕ) → local < 16 → slice_index result local ≡ size_to_skip env.now local }
+    ensures { AreSizesToSkip env.now result }
 {
     let mut sizes = [0; 16];
     for local in 0..16 {
@@ -39,7 +40,7 @@ fn sizes_to_skip<A: Allocator>(env: &Env<A>) -> [u32; 16]
 }
 
 /// How many bytes the data message has that begins these bytes, where it may be skipped and all of it stands there, or else 0.
-fn front_to_skip(sizes: &[u32; 16], bytes: &[u8]) -> usize
+fn message_to_skip(sizes: &[u32; 16], bytes: &[u8]) -> usize
     ensures within { result ≤ length bytes.now }
     ensures heads { 0 < result → HeadsMessage sizes.now bytes.now result }
 {
@@ -56,17 +57,65 @@ fn front_to_skip(sizes: &[u32; 16], bytes: &[u8]) -> usize
     size
 }
 
-/// The whole data messages at the front of these bytes that describe no developer field: how many bytes they have, and how many
-/// they are. It ends before the first record that isn't one of them. No record is made of them.
-pub fn messages_to_skip<A: Allocator>(env: &Env<A>, bytes: &[u8]) -> (usize, u64)
-    ensures within { result.0 ≤ length bytes.now }
-    ensures messages { AreMessages env.now (take result.0 bytes.now) result.1 }
+/// Learns the definition message that begins these bytes, where all of it stands there and it has no developer fields: how many
+/// bytes it has, or else 0.
+fn skip_definition<A: Allocator + Copy>(
+    alloc: A,
+    env: &mut Env<A>,
+    sizes: &mut [u32; 16],
+    bytes: &[u8],
+) -> usize
+    requires { AreSizesToSkip env.old sizes.old }
+    ensures within { result ≤ length bytes.now }
+    ensures sizes { AreSizesToSkip env.new sizes.new }
+    ensures none { result ≡ 0 → env.new ≡ env.old }
+    ensures skipped { 0 < result → IsSkipped env.old env.new (take result bytes.now) }
 {
-    let sizes = sizes_to_skip(env);
+    let Some((definition, size)) = whole_definition(alloc, bytes) else {
+        return 0;
+    };
+    let local = definition.local;
+    match env.define(definition) {
+        Ok(()) => {}
+        Err(_) => return 0,
+    }
+    sizes[local as usize] = size_to_skip(env, local);
+    size
+}
+
+/// Skips the record that begins these bytes: how many bytes it has, or 0 where it is none to be skipped.
+fn skip_record<A: Allocator + Copy>(
+    alloc: A,
+    env: &mut Env<A>,
+    sizes: &mut [u32; 16],
+    bytes: &[u8],
+) -> usize
+    requires { AreSizesToSkip env.old sizes.old }
+    ensures within { result ≤ length bytes.now }
+    ensures sizes { AreSizesToSkip env.new sizes.new }
+    ensures none { result ≡ 0 → env.new ≡ env.old }
+    ensures skipped { 0 < result → IsSkipped env.old env.new (take result bytes.now) }
+{
+    let size = message_to_skip(sizes, bytes);
+    if size > 0 {
+        return size;
+    }
+    skip_definition(alloc, env, sizes, bytes)
+}
+
+/// Skips whole records at the front of these bytes: how many bytes they have, and how many they are. What they define is learned.
+///
+/// It ends before the first record that isn't whole, or can't stand there; before a definition message that has developer fields,
+/// or for which memory is refused; and before a data message that may describe a developer field.
+pub fn skip_records<A: Allocator + Copy>(alloc: A, env: &mut Env<A>, bytes: &[u8]) -> (usize, u64)
+    ensures within { result.0 ≤ length bytes.now }
+    ensures records { AreSkipped env.old env.new (take result.0 bytes.now) result.1 }
+{
+    let mut sizes = sizes_to_skip(env);
     let mut used = 0;
     for count in 0..bytes.len() {
         let (_, rest) = bytes.split_at(used);
-        let size = front_to_skip(&sizes, rest);
+        let size = skip_record(alloc, env, &mut sizes, rest);
         if size == 0 {
             return (used, count as u64);
         }

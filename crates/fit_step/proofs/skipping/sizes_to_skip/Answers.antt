@@ -1,5 +1,5 @@
 use Rattle.std.proofs.Common.{arith, rules}
-use Rattle.fit_step.proofs.SkippedMessages.{table_more}
+use Rattle.fit_step.proofs.SkippedRecords.{table_more}
 use Rattle.fit_step.proofs.skipping.sizes_to_skip.Goals as goal
 
 pub loop-local-preserved : goal.loop-local-preserved

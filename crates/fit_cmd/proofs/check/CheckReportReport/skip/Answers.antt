@@ -1,9 +1,7 @@
 -- The records skipped are counted, and have no text.
 use Rattle.std.proofs.Common.{◌+◌, ◌∙◌, map, length, take, reverse, arith}
-use Rattle.std.proofs.lemmas.List.{length-map}
 use Rattle.std.specs.Global.{Global}
 use Rattle.fit_record.specs.declared.message.Record.{Record}
-use Rattle.fit_record.specs.declared.message.Record.TheVariants.{Values as Data}
 use Rattle.fit_report.specs.Heard.{hear_records}
 use Rattle.fit_report.proofs.Skipped.{records_heard, fed_so}
 use Rattle.fit_cmd.proofs.Counts.{few_counted, records_counted, silent_over}
@@ -13,27 +11,27 @@ pub overflow_add-self : goal.overflow_add-self
 overflow_add-self c =
     let self = c.args.self.now in
     let (heard, has, are) = c.requires.told in
-    let t = c.skip_messages-used.ensures.messages (reverse heard) are in
-    let new = c.skip_messages-used.new.self.bytes in
-    let count = c.skip_messages-used.result.1 in
-    let records = map Data t.0 in
+    let t = c.skip_records-used.ensures.records (reverse heard) are in
+    let new = c.skip_records-used.new.self.bytes in
+    let count = c.skip_records-used.result.1 in
+    let records = t.0 in
     let few = few_counted self.files self.data_size (self.records + count) (hear_records records heard)
-    (records_counted heard records self.files self.data_size self.records count (length-map Data t.0 ∙ t.1) has)
-    (new, c.skip_messages-used.ensures.viable, records_heard new records heard t.2) in
+    (records_counted heard records self.files self.data_size self.records count t.1 has)
+    (new, c.skip_records-used.ensures.viable, records_heard new records heard t.2) in
     omega (arith, few.1)
 
 pub returns : goal.returns
 returns c = record {
-  within = c.skip_messages-used.ensures.within;
-  is_fed = fed_so c.args.decoder.now c.skip_messages-used.new.self c.args.decoder.now.bytes (take c.skip_messages-used.result.0 c.args.piece.now) c.skip_messages-used.ensures.used;
-  viable = c.skip_messages-used.ensures.viable;
+  within = c.skip_records-used.ensures.within;
+  is_fed = fed_so c.args.decoder.now c.skip_records-used.new.self c.args.decoder.now.bytes (take c.skip_records-used.result.0 c.args.piece.now) c.skip_records-used.ensures.used;
+  viable = c.skip_records-used.ensures.viable;
   told = λ heard has are.
       let self = c.args.self.now in
-      let t = c.skip_messages-used.ensures.messages (reverse heard) are in
-      let records = map Data t.0 in (
+      let t = c.skip_records-used.ensures.records (reverse heard) are in
+      let records = t.0 in (
         hear_records records heard,
-        records_counted heard records self.files self.data_size self.records c.skip_messages-used.result.1 (length-map Data t.0 ∙ t.1) has,
-        records_heard c.skip_messages-used.new.self.bytes records heard t.2,
+        records_counted heard records self.files self.data_size self.records c.skip_records-used.result.1 t.1 has,
+        records_heard c.skip_records-used.new.self.bytes records heard t.2,
         silent_over heard records,
       );
 }

@@ -1,12 +1,12 @@
 use Rattle.std.proofs.Common.{◌++◌, refl, ap, ◌∙◌, rules}
 use denote.Param.{layout}
 use Rattle.fit_decode.specs.contracts.decoder.Decoder.{the_row}
-use Rattle.fit_decode.specs.contracts.decoder.Decoder.skip_messages.{A-row}
+use Rattle.fit_decode.specs.contracts.decoder.Decoder.skip_records.{A-row}
 use Rattle.fit_base.proofs.ByteLists.{slice_is_bytes}
 use Rattle.fit_decode.proofs.Sizes.{fourth_is_within}
 use Rattle.fit_decode.proofs.Feeding.{was_viable}
-use Rattle.fit_decode.proofs.Skipping.{fresh, within_piece, few_skipped, skipped_kept, messages_skipped}
-use Rattle.fit_decode.proofs.decoder.Decoder.skip_messages.Goals as goal
+use Rattle.fit_decode.proofs.Skipping.{fresh, within_piece, few_skipped, skipped_kept, records_skipped}
+use Rattle.fit_decode.proofs.decoder.Decoder.skip_records.Goals as goal
 
 pub returns-then-is_some-clause-viable : goal.returns-then-is_some-clause-viable
 returns-then-is_some-clause-viable g c = was_viable c.self.inside c.self.invariant c.args.self.now c.self.view_is
@@ -16,24 +16,24 @@ skip_data-skipped-requires g c = fourth_is_within (layout (the_row (A-row g.row.
 
 pub split_at-requires : goal.split_at-requires
 split_at-requires g c =
-    within_piece c.self.inside c.self.invariant (fresh c.self.inside.refusal c.is_some.result c.is_some.ensures c.if-is_some.false) c.args.piece.now c.skip_data-skipped.new.sum c.skip_data-skipped.new.position c.skip_data-skipped.result.0 c.skip_data-skipped.result.1
+    within_piece c.self.inside c.self.invariant (fresh c.self.inside.refusal c.is_some.result c.is_some.ensures c.if-is_some.false) c.args.piece.now c.skip_data-skipped.new.env c.skip_data-skipped.new.sum c.skip_data-skipped.new.position c.skip_data-skipped.result.0 c.skip_data-skipped.result.1
     (slice_is_bytes c.args.piece.now c.type_inv.piece) c.skip_data-skipped.ensures
 
 pub overflow_add-self : goal.overflow_add-self
 overflow_add-self g c =
-    few_skipped c.self.inside c.self.invariant (fresh c.self.inside.refusal c.is_some.result c.is_some.ensures c.if-is_some.false) c.args.piece.now c.skip_data-skipped.new.sum c.skip_data-skipped.new.position c.skip_data-skipped.result.0 c.skip_data-skipped.result.1
+    few_skipped c.self.inside c.self.invariant (fresh c.self.inside.refusal c.is_some.result c.is_some.ensures c.if-is_some.false) c.args.piece.now c.skip_data-skipped.new.env c.skip_data-skipped.new.sum c.skip_data-skipped.new.position c.skip_data-skipped.result.0 c.skip_data-skipped.result.1
     (slice_is_bytes c.args.piece.now c.type_inv.piece) c.skip_data-skipped.ensures
 
 pub invariant_of-self : goal.invariant_of-self
 invariant_of-self g c =
     let none = fresh c.self.inside.refusal c.is_some.result c.is_some.ensures c.if-is_some.false in
-    skipped_kept c.self.inside c.self.invariant none c.args.piece.now c.skip_data-skipped.new.sum c.skip_data-skipped.new.position c.skip_data-skipped.result.0 c.skip_data-skipped.result.1
+    skipped_kept c.self.inside c.self.invariant none c.args.piece.now c.skip_data-skipped.new.env c.skip_data-skipped.new.sum c.skip_data-skipped.new.position c.skip_data-skipped.result.0 c.skip_data-skipped.result.1
     (slice_is_bytes c.args.piece.now c.type_inv.piece) c.skip_data-skipped.ensures _
     (c.note.ensures ∙ ap (λ b. c.self.inside.history.items ++ b) c.split_at.ensures.front) refl refl none
 
-pub returns-clause-messages : goal.returns-clause-messages
-returns-clause-messages g c =
-    messages_skipped c.self.inside c.self.invariant (fresh c.self.inside.refusal c.is_some.result c.is_some.ensures c.if-is_some.false) c.args.piece.now c.skip_data-skipped.new.sum c.skip_data-skipped.new.position c.skip_data-skipped.result.0 c.skip_data-skipped.result.1
+pub returns-clause-records : goal.returns-clause-records
+returns-clause-records g c =
+    records_skipped c.self.inside c.self.invariant (fresh c.self.inside.refusal c.is_some.result c.is_some.ensures c.if-is_some.false) c.args.piece.now c.skip_data-skipped.new.env c.skip_data-skipped.new.sum c.skip_data-skipped.new.position c.skip_data-skipped.result.0 c.skip_data-skipped.result.1
     (slice_is_bytes c.args.piece.now c.type_inv.piece) c.skip_data-skipped.ensures c.args.self.now c.self.view_is c.note.new.self.items
     (c.note.ensures ∙ ap (λ b. c.self.inside.history.items ++ b) c.split_at.ensures.front)
 

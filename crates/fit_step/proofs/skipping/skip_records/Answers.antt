@@ -1,0 +1,20 @@
+use Rattle.std.proofs.Common.{◌+◌, ◌<◌, ◌≤◌, ap, take, length, length-drop, subst, arith}
+use Rattle.fit_step.specs.Skipping.{IsSkipped}
+use Rattle.fit_step.proofs.SkippedRecords.{one_more}
+use Rattle.fit_step.proofs.skipping.skip_records.Goals as goal
+
+pub loop-count-preserved : goal.loop-count-preserved
+loop-count-preserved g c =
+    let i = c.loop-count.invariant in
+    let bytes = c.args.bytes.now in
+    let used = c.loop-count.used in
+    let size = c.skip_record-size.result in
+    let some : 0 < size = omega (arith, c.if-size-eq0.false) in
+    let back = c.split_at.ensures.back in
+    let within : used + size ≤ length bytes = omega (arith, c.skip_record-size.ensures.within, ap length back, length-drop used bytes, i.within) in
+    record {
+      within = within;
+      sizes = c.skip_record-size.ensures.sizes;
+      records = one_more c.args.env.now c.loop-count.env c.skip_record-size.new.env bytes used size c.loop-count.count within i.records
+          (subst (λ l. IsSkipped c.loop-count.env c.skip_record-size.new.env (take size l)) back (c.skip_record-size.ensures.skipped some));
+    }

@@ -1,0 +1,95 @@
+//! Definition messages of which all bytes stand in one piece.
+ghost use Rattle.std.specs.Prelude.{◌≡◌, ◌*◌, ◌<◌, ◌≤◌, IfOk, IfSome, [], ◌∷◌, flat_map, length, take};
+ghost use Rattle.fit_base.specs.Numbers.{number};
+ghost use Rattle.fit_record.specs.declared.message.Record.TheVariants.{Define};
+ghost use Rattle.fit_record.specs.Environment.{Environment};
+ghost use Rattle.fit_record.specs.Records.{architecture, field_bytes, IsRecord};
+
+use crate::header::{has_developer_fields, has_reserved_bit, is_definition, local_type};
+use fit_base::{Entries, Order};
+use fit_record::{FieldDef, MessageDef};
+use std::alloc::{AllocError, Allocator};
+
+/// The byte order that an architecture names.
+fn order_of(byte: u8) -> Option<Order>
+    ensures { IfSome result (λ order. architecture order ≡ byte) }
+{
+    match byte {
+        0 => Some(Order::Little),
+        1 => Some(Order::Big),
+        _ => None,
+    }
+}
+
+/// The number of two bytes.
+fn global_of(order: Order, first: u8, second: u8) -> u16
+    ensures { result ≡ number order (first ∷ second ∷ []) }
+{
+    match order {
+        Order::Little => u16::from(first) + 256 * u16::from(second),
+        Order::Big => u16::from(second) + 256 * u16::from(first),
+    }
+}
+
+/// The fields of a definition message, which has three bytes for each.
+fn read_entries<A: Allocator>(
+    alloc: A,
+    count: u8,
+    bytes: &[u8],
+) -> Result<Entries<FieldDef, A>, AllocError>
+    requires { length bytes.now ≡ count * 3 }
+    ensures count { IfOk result (λ fields. length fields ≡ count) }
+    ensures bytes { IfOk result (λ fields. flat_map field_bytes fields ≡ bytes.now) }
+{
+    let mut fields = Entries::with_capacity(alloc, count as usize)?;
+    let mut rest = bytes;
+    for _ in 0..count {
+        let (entry, behind) = rest.split_at(3);
+        fields.push(FieldDef {
+            number: entry[0],
+            size: entry[1],
+            code: entry[2],
+        })?;
+        rest = behind;
+    }
+    Ok(fields)
+}
+
+/// The definition message that begins the piece, where all its bytes stand there, and how many they are. There is none where the
+/// message has developer fields, where a byte is to be refused, and where memory is refused: then its bytes come one by one.
+pub fn whole_definition<A: Allocator + Copy>(
+    alloc: A,
+    piece: &[u8],
+) -> Option<(MessageDef<A>, usize)>
+    ensures within { IfSome result (λ found. (0 < found.1) × (found.1 ≤ length piece.now)) }
+    ensures record { (e : Environment A) → IfSome result (λ found. IsRecord e (Define found.0) (take found.1 piece.now)) }
+{
+    let (header, rest) = piece.split_first()?;
+    let byte = *header;
+    if has_reserved_bit(byte) || !is_definition(byte) || has_developer_fields(byte) {
+        return None;
+    }
+    if rest.len() < 5 {
+        return None;
+    }
+    let (front, behind) = rest.split_at(5);
+    let order = order_of(front[1])?;
+    let count = front[4];
+    let size = count as usize * 3;
+    if behind.len() < size {
+        return None;
+    }
+    let (entries, _) = behind.split_at(size);
+    let Ok(fields) = read_entries(alloc, count, entries) else {
+        return None;
+    };
+    let definition = MessageDef {
+        local: local_type(byte),
+        reserved: front[0],
+        order,
+        global: global_of(order, front[2], front[3]),
+        fields,
+        dev: None,
+    };
+    Some((definition, 6 + size))
+}
