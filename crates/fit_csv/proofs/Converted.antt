@@ -50,13 +50,13 @@ module _ (first : List ℕ) (line : Lines Global) (rows : RowsOf) (text : HasTex
 
   pub converted : (source : Channel) (result : Result (Unit {0}) ReportFault) → Appends start mid first → Reports line source (channel mid end bad) result
       → Converts rows source (channel start end bad) (csv_answer result (length first))
-  converted source (Ok u) put (taken, heard, eaten, (ended, chain, tells)) = (taken, eaten, (ended, chain, writes taken heard put tells))
+  converted source (Ok u) put (taken, heard, eaten, (ended, well, chain, tells)) = (taken, eaten, (ended, well, chain, writes taken heard put tells))
   converted source (Err (report.Decode (faults.Refused place reason))) put (taken, heard, eaten, (why, tells)) = (taken, eaten, (why, writes (take place taken) heard put tells))
   converted source (Err (report.Decode (faults.Truncated place))) put (taken, heard, eaten, (why, tells)) = (taken, eaten, (why, writes taken heard put tells))
   converted source (Err (report.Decode (faults.NoMemory used))) put (taken, heard, eaten, never) = absurd never
   converted source (Err (report.Decode (faults.Read place))) put (taken, heard, eaten, (why, tells)) = (taken, eaten, (why, writes taken heard put tells))
-  converted source (Err report.NoMemory) put (taken, heard, eaten, (k, told, tells)) = (taken, eaten, (k, writes (take k taken) told put tells))
-  converted source (Err (report.Write written)) put (taken, heard, eaten, (k, told, are, part)) = (taken, eaten, (k, reverse told, are, fails told written put part))
+  converted source (Err report.NoMemory) put (taken, heard, eaten, ((k, told, tells), near)) = (taken, eaten, (k, writes (take k taken) told put tells))
+  converted source (Err (report.Write written)) put (taken, heard, eaten, ((k, told, are, part), near)) = (taken, eaten, (k, reverse told, are, fails told written put part))
 
   -- of a chain
   pub chain_converted : (source : Channel) (fs : List (FitFile Global)) (result : Result (Unit {0}) ReportFault) → Appends start mid first → ReportsChain line fs source (channel mid end bad) result

@@ -1,5 +1,5 @@
 -- What `to_csv` and `table` put in a sink.
-use Rattle.std.specs.Prelude.{◌≡◌, ℕ, true, List, Result, Ok, Err, take}
+use Rattle.std.specs.Prelude.{◌≡◌, ℕ, true, false, List, Result, Ok, Err, take}
 use Rattle.std.specs.Global.{Global}
 use Rattle.std.specs.Io.KnownBytes.{Appends, Consumes, IsAtEnd}
 use Rattle.fit_record.specs.Files.{chain_limit}
@@ -29,7 +29,7 @@ BreaksOff rows bytes sink written = (k : ℕ) × (events : List (Event Global)) 
 -- What was written of the input after so much of it was taken: all rows of a chain; the rows before a fault; or, where memory was
 -- refused or the sink failed, the rows of some first bytes, or a part of them.
 abbrev pub HasWritten : RowsOf → List ℕ → Channel → Channel → Result (Unit {0}) CsvFault → Type 0
-HasWritten rows taken source sink (Ok _) = IsAtEnd source.after × AreChain Global taken × Writes rows taken sink
+HasWritten rows taken source sink (Ok _) = IsAtEnd source.after × (source.failed ≡ false) × AreChain Global taken × Writes rows taken sink
 HasWritten rows taken source sink (Err (csv.Decode (faults.NoMemory used))) = ⊥
 HasWritten rows taken source sink (Err (csv.Decode fault)) =
     Faults Global chain_limit taken source.after source.failed fault × Writes rows (before_fault fault taken) sink
