@@ -1,15 +1,27 @@
 //! The cells of `csv.rs`: numbers, texts, times, and the value of a field.
-use crate::profile::{Class, base_type};
+use crate::profile::{base_type, Class};
 use std::io::Write;
 
 pub fn number(big: bool, bytes: &[u8]) -> u64 {
     match *bytes {
         [a] => u64::from(a),
-        [a, b] => u64::from(if big { u16::from_be_bytes([a, b]) } else { u16::from_le_bytes([a, b]) }),
-        [a, b, c, d] => u64::from(if big { u32::from_be_bytes([a, b, c, d]) } else { u32::from_le_bytes([a, b, c, d]) }),
+        [a, b] => u64::from(if big {
+            u16::from_be_bytes([a, b])
+        } else {
+            u16::from_le_bytes([a, b])
+        }),
+        [a, b, c, d] => u64::from(if big {
+            u32::from_be_bytes([a, b, c, d])
+        } else {
+            u32::from_le_bytes([a, b, c, d])
+        }),
         _ => {
             let eight = bytes.try_into().unwrap();
-            if big { u64::from_be_bytes(eight) } else { u64::from_le_bytes(eight) }
+            if big {
+                u64::from_be_bytes(eight)
+            } else {
+                u64::from_le_bytes(eight)
+            }
         }
     }
 }
@@ -67,7 +79,10 @@ pub fn put_hex(out: &mut Vec<u8>, bytes: &[u8]) {
 
 /// A cell, in quotes where it needs them.
 pub fn put_quoted(out: &mut Vec<u8>, text: &[u8]) {
-    if !text.iter().any(|b| matches!(b, b',' | b'"' | b'\n' | b'\r')) {
+    if !text
+        .iter()
+        .any(|b| matches!(b, b',' | b'"' | b'\n' | b'\r'))
+    {
         out.extend_from_slice(text);
         return;
     }
@@ -96,9 +111,13 @@ pub fn put_time(out: &mut Vec<u8>, instant: u32) {
     let of_year = of_era - (365 * year_of_era + year_of_era / 4 - year_of_era / 100);
     let month_from_march = (5 * of_year + 2) / 153;
     let day_of_month = of_year - (153 * month_from_march + 2) / 5 + 1;
-    let month = if month_from_march < 10 { month_from_march + 3 } else { month_from_march - 9 };
+    let month = if month_from_march < 10 {
+        month_from_march + 3
+    } else {
+        month_from_march - 9
+    };
     let year = 400 * era + year_of_era + u64::from(month <= 2);
-    for (value, width, behind) in [
+    for (value, width, after) in [
         (year, 4, b'-'),
         (month, 2, b'-'),
         (day_of_month, 2, b'T'),
@@ -107,7 +126,7 @@ pub fn put_time(out: &mut Vec<u8>, instant: u32) {
         (second % 60, 2, b'Z'),
     ] {
         put_last(out, value, width);
-        out.push(behind);
+        out.push(after);
     }
 }
 
@@ -129,10 +148,23 @@ pub struct Field {
 }
 
 impl Field {
-    pub fn new(kind: &[u8], name: &[u8], unit: &[u8], number: u8, code: u8, size: u8, scale: u32, offset: u32) -> Field {
+    pub fn new(
+        kind: &[u8],
+        name: &[u8],
+        unit: &[u8],
+        number: u8,
+        code: u8,
+        size: u8,
+        scale: u32,
+        offset: u32,
+    ) -> Field {
         let (width, invalid, class) = base_type(code);
         let size = usize::from(size);
-        let (width, class) = if size % width == 0 { (width, class) } else { (1, Class::Bytes) };
+        let (width, class) = if size % width == 0 {
+            (width, class)
+        } else {
+            (1, Class::Bytes)
+        };
         let mut head = Vec::with_capacity(kind.len() + name.len() + 3);
         head.extend_from_slice(kind);
         put_quoted(&mut head, name);
@@ -150,7 +182,19 @@ impl Field {
         };
         let shift = i64::from(offset) * i64::from(scale);
         let factor = 10_i64.pow(decimals as u32) / i64::from(scale);
-        Field { head, tail, number, code, size, width, class, invalid, shift, factor, decimals }
+        Field {
+            head,
+            tail,
+            number,
+            code,
+            size,
+            width,
+            class,
+            invalid,
+            shift,
+            factor,
+            decimals,
+        }
     }
 
     pub fn put_row(&self, out: &mut Vec<u8>, big: bool, bytes: &[u8]) {
@@ -183,11 +227,22 @@ impl Field {
         let unused = 64 - 8 * self.width as u32;
         let signed = (bits << unused) as i64 >> unused;
         if self.width == 8 {
-            let raw = if self.class == Class::Signed { i128::from(signed) } else { i128::from(bits) };
-            self.put_wide(out, (raw - i128::from(self.shift)) * i128::from(self.factor));
+            let raw = if self.class == Class::Signed {
+                i128::from(signed)
+            } else {
+                i128::from(bits)
+            };
+            self.put_wide(
+                out,
+                (raw - i128::from(self.shift)) * i128::from(self.factor),
+            );
             return;
         }
-        let raw = if self.class == Class::Signed { signed } else { bits as i64 };
+        let raw = if self.class == Class::Signed {
+            signed
+        } else {
+            bits as i64
+        };
         let value = (raw - self.shift) * self.factor;
         if value < 0 {
             out.push(b'-');
@@ -210,7 +265,12 @@ impl Field {
     /// A number of 64 bits, in units of its last decimal.
     fn put_wide(&self, out: &mut Vec<u8>, value: i128) {
         let units = 10_u128.pow(self.decimals as u32);
-        let _ = write!(out, "{}{}", if value < 0 { "-" } else { "" }, value.unsigned_abs() / units);
+        let _ = write!(
+            out,
+            "{}{}",
+            if value < 0 { "-" } else { "" },
+            value.unsigned_abs() / units
+        );
         if self.decimals > 0 {
             out.push(b'.');
             put_last(out, (value.unsigned_abs() % units) as u64, self.decimals);

@@ -1,5 +1,6 @@
-/* Writes a short chain of files that is good, or was changed a little: each seed makes another one. usage: changed SEED >FILE
-   Its definitions have small sizes and its data sections few bytes, so that many of them can't be filled, or only in one way. */
+/* Writes a short chain of files that is good, or was changed a little: each seed makes another one. usage:
+   changed SEED >FILE Its definitions have small sizes and its data sections few bytes, so that many of them
+   can't be filled, or only in one way. */
 #include <stdint.h>
 #include <stdio.h>
 #include <stdlib.h>
@@ -20,7 +21,7 @@ static unsigned any(unsigned limit)
     return (unsigned)((z ^ z >> 31) % limit);
 }
 
-/* true in so many of a hundred cases */
+/* true in that many of a hundred cases */
 static int in_hundred(unsigned cases) { return any(100) < cases; }
 
 /* a byte, often one that means something */
@@ -56,7 +57,8 @@ static unsigned any_size(int small) { return small ? any(5) * any(2) : in_hundre
 
 static unsigned any_code(void)
 {
-    static const uint8_t codes[] = {0, 1, 2, 7, 7, 0x0A, 0x0D, 0x83, 0x84, 0x85, 0x86, 0x88, 0x89, 0x8B, 0x8C, 0x8E, 0x8F, 0x90, 4, 0x1F};
+    static const uint8_t codes[] = {0,    1,    2,    7,    7,    0x0A, 0x0D, 0x83, 0x84, 0x85,
+                                    0x86, 0x88, 0x89, 0x8B, 0x8C, 0x8E, 0x8F, 0x90, 4,    0x1F};
     return codes[any(sizeof codes)];
 }
 
@@ -83,7 +85,8 @@ static void put_fields(unsigned local, unsigned global, int small)
     put(fields);
     for (unsigned k = 0; k < fields; k++) {
         int time = in_hundred(15);
-        put_entry(time ? 253 : numbers[any(sizeof numbers)], time ? 4 : any_size(small), time ? 0x86 : any_code(), local);
+        put_entry(time ? 253 : numbers[any(sizeof numbers)], time ? 4 : any_size(small),
+                  time ? 0x86 : any_code(), local);
     }
 }
 
@@ -154,7 +157,7 @@ static void put_file(int small)
     put(size);
     put(in_hundred(97) ? 0x20 : any(256));
     for (unsigned k = 2; k < length; k++)
-        put(k < 8 || k >= 14 ? any_byte() : k < 12 ? (uint8_t)".FIT"[k - 8] : 0);
+        put(k < 8 || k >= 14 ? any_byte() : k < 12 ? (uint8_t) ".FIT"[k - 8] : 0);
     for (unsigned local = 0; local < 16; local++)
         size_of[local] = -1;
     if (in_hundred(25))

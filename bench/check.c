@@ -1,5 +1,5 @@
-/* What `fit check` does, written by hand in C, to measure it against: the same lines, the same status, and the same byte
-   refused for the same reason. usage: check_c [FILE]; without FILE it reads standard input. */
+/* What `fit check` does, written by hand in C, to measure it against: the same lines, the same status, and
+   the same byte refused for the same reason. usage: check_c [FILE]; without FILE it reads standard input. */
 #include <fcntl.h>
 #include <stdint.h>
 #include <stdio.h>
@@ -63,7 +63,7 @@ static void truncated(void)
     exit(REFUSED);
 }
 
-/* Reads until n bytes stand behind `at`, or the input ends. Answers how many there are then. */
+/* Reads until there are n bytes from `at` on, or the input ends. Returns how many there are then. */
 static size_t fill(size_t n)
 {
     add_judged();
@@ -85,7 +85,7 @@ static size_t fill(size_t n)
     return end;
 }
 
-/* how many of n bytes stand behind `at`: all, or fewer where the input ends */
+/* how many of n bytes there are from `at` on: all, or fewer where the input ends */
 static size_t have(size_t n)
 {
     size_t there = end - at;
@@ -120,7 +120,8 @@ static unsigned lengths_without(unsigned local)
     return lengths & ~1u;
 }
 
-/* Six bytes hold a definition message without fields, whose data messages have one byte. Fewer hold data messages alone. */
+/* Six bytes hold a definition message without fields, whose data messages have one byte. Fewer hold data
+   messages alone. */
 static int fills(unsigned lengths, uint32_t room)
 {
     if (room > 5)
@@ -133,14 +134,15 @@ static int fills(unsigned lengths, uint32_t room)
     return sums >> room & 1;
 }
 
-/* the same where this local message type will have messages of one byte more than `least`, or of any number above that */
+/* the same where this local message type will have messages of one byte more than `least`, or of any number
+   above that */
 static int fills_from(unsigned local, uint32_t least, uint32_t room)
 {
     return least < room || fills(lengths_without(local), room);
 }
 
-/* The same behind a definition message whose sizes so far are `size`. With `open` a further size is to come. */
-static int fills_behind(unsigned local, uint32_t size, int open, uint32_t room)
+/* The same after a definition message whose sizes so far are `size`. With `open` a further size is to come. */
+static int fills_after(unsigned local, uint32_t size, int open, uint32_t room)
 {
     if (room > 5)
         return 1;
@@ -149,10 +151,11 @@ static int fills_behind(unsigned local, uint32_t size, int open, uint32_t room)
     return fills(lengths_without(local) | (size < 5 ? 2u << size : 0), room);
 }
 
-/* The same where the number of developer fields is to come too: there will be none, or one of a size that suits the room. */
-static int fills_behind_some(unsigned local, uint32_t size, int open, uint32_t room)
+/* The same where the number of developer fields is to come too: there will be none, or one of a size that
+   suits the room. */
+static int fills_after_some(unsigned local, uint32_t size, int open, uint32_t room)
 {
-    return fills_behind(local, size, open, room) || (room >= 3 && fills_from(local, size, room - 3));
+    return fills_after(local, size, open, room) || (room >= 3 && fills_from(local, size, room - 3));
 }
 
 /* ---- headers */
@@ -167,14 +170,17 @@ static const char *wrong_header(const uint8_t *h, unsigned k, uint16_t own)
     case 7:
         size = h[4] | h[5] << 8 | h[6] << 16 | (uint32_t)h[7] << 24;
         return size >= 1 && size <= 5 ? "NoFit" : NULL;
-    case 8: case 9: case 10: case 11: return h[k] != ".FIT"[k - 8] ? "Signature" : NULL;
+    case 8:
+    case 9:
+    case 10:
+    case 11: return h[k] != ".FIT"[k - 8] ? "Signature" : NULL;
     case 12: return h[12] != 0 && h[12] != (own & 255) ? "HeaderSum" : NULL;
     case 13: return (h[12] | h[13] << 8) != own && (h[12] | h[13]) != 0 ? "HeaderSum" : NULL;
     default: return NULL;
     }
 }
 
-/* a file's header; answers the size of its data section */
+/* a file's header; returns the size of its data section */
 static uint32_t header(void)
 {
     uint16_t own = 0;
@@ -197,8 +203,9 @@ static uint32_t header(void)
 
 /* ---- records */
 
-/* Entries of three bytes, in each of which the second is a size. `to_fill` is the room behind them. Answers the sum of the sizes
-   with those before. Where `some` is set, the number of developer fields is to come behind them. */
+/* Entries of three bytes, in each of which the second is a size. `to_fill` is the room after them. Returns
+   the sum of the sizes with those before. Where `some` is set, the number of developer fields is to come
+   after them. */
 static uint32_t entries(unsigned local, unsigned count, uint32_t size, uint32_t to_fill, int some)
 {
     size_t there = have(3 * count);
@@ -212,7 +219,7 @@ static uint32_t entries(unsigned local, unsigned count, uint32_t size, uint32_t 
     for (unsigned k = 0; 3 * k + 1 < there; k++) {
         int open = k + 1 < count;
         size += p[3 * k + 1];
-        if (!(some ? fills_behind_some : fills_behind)(local, size, open, to_fill))
+        if (!(some ? fills_after_some : fills_after)(local, size, open, to_fill))
             refuse(place() + 3 * k + 1, "NoFit");
     }
     if (there < 3 * count)
@@ -221,7 +228,7 @@ static uint32_t entries(unsigned local, unsigned count, uint32_t size, uint32_t 
     return size;
 }
 
-/* a definition message behind its record header; answers how much room is left */
+/* a definition message after its record header; returns how much room is left */
 static uint32_t definition(uint8_t head, uint32_t room)
 {
     unsigned local = head & 15, some = head >> 5 & 1;
@@ -246,7 +253,7 @@ static uint32_t definition(uint8_t head, uint32_t room)
         if (room < 3 * count)
             refuse(place(), "Overrun");
         room -= 3 * count;
-        if (!fills_behind(local, size, count > 0, room))
+        if (!fills_after(local, size, count > 0, room))
             refuse(place(), "NoFit");
         at++;
         size = entries(local, count, size, room, 0);
@@ -255,7 +262,7 @@ static uint32_t definition(uint8_t head, uint32_t room)
     return room;
 }
 
-/* a data message; answers how much room is left */
+/* a data message; returns how much room is left */
 static uint32_t message(uint8_t head, uint32_t room)
 {
     uint32_t length = length_of[head & 0x80 ? head >> 5 & 3 : head & 15];
@@ -269,7 +276,8 @@ static uint32_t message(uint8_t head, uint32_t room)
     return room - length;
 }
 
-/* Goes past data messages that stand whole in the buffer and leave six bytes of room or more. Answers how many. */
+/* Goes past data messages that stand whole in the buffer and leave six bytes of room or more. Returns how
+   many. */
 static uint64_t messages(uint32_t *room)
 {
     uint64_t count = 0;
@@ -293,7 +301,7 @@ static uint64_t messages(uint32_t *room)
     return count;
 }
 
-/* the records of a data section; answers how many */
+/* the records of a data section; returns how many */
 static uint64_t records(uint32_t room)
 {
     uint64_t count = 0;

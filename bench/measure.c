@@ -1,6 +1,6 @@
-/* Runs a program once and prints the seconds that it took by the clock, the seconds that a processor worked for it, and the most
-   memory that it had, in KiB. Its standard input is this program's own, and its output is thrown away.
-   usage: measure PROGRAM [WORD..]; it answers the program's status. */
+/* Runs a program once and prints the seconds that it took by the clock, the seconds that a processor worked
+   for it, and the most memory that it had, in KiB. Its standard input is this program's own, and its output
+   is thrown away. usage: measure PROGRAM [WORD..]; it ends with the program's status. */
 #define _DEFAULT_SOURCE
 #include <fcntl.h>
 #include <stdio.h>

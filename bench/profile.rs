@@ -6,6 +6,7 @@ pub type Row = (u8, &'static str, &'static str, u32, u32);
 const TIMESTAMP: Row = (253, "timestamp", "s", 1, 0);
 const MESSAGE_INDEX: Row = (254, "message_index", "", 1, 0);
 
+#[rustfmt::skip]
 const MESSAGES: &[(u16, &str, &[Row])] = &[
     (0, "file_id", &[
         (0, "type", "", 1, 0), (1, "manufacturer", "", 1, 0), (2, "product", "", 1, 0), (3, "serial_number", "", 1, 0),

@@ -1,11 +1,10 @@
-/* Makes a recording to measure with. usage: recording KIND SIZE FILE; SIZE is in bytes, or with k or m behind it. Each run makes
-   the same bytes: a header of 14 bytes, records up to the size or a little less, and the right sums. The kinds:
-     plain         a ride: a message of 26 bytes with ten fields each second, and laps and events between
-     developer     the same with three developer fields, which are described first
-     compressed    the same with compressed timestamp headers, and a timestamp only where one is needed
-     turns         the same with the definition before each message
-     definitions   definitions alone
-     strings       messages of texts, some of which need quotes in a row of CSV */
+/* Makes a recording to measure with. usage: recording KIND SIZE FILE; SIZE is in bytes, or with k or m after
+   it. Each run makes the same bytes: a header of 14 bytes, records up to the size or a little less, and the
+   right sums. The kinds: plain         a ride: a message of 26 bytes with ten fields each second, and laps
+   and events between developer     the same with three developer fields, which are described first compressed
+   the same with compressed timestamp headers, and a timestamp only where one is needed turns         the same
+   with the definition before each message definitions   definitions alone strings       messages of texts,
+   some of which need quotes in a row of CSV */
 #include <stdint.h>
 #include <stdio.h>
 #include <stdlib.h>
@@ -58,24 +57,56 @@ static unsigned any(unsigned limit)
 
 /* ---- definitions */
 
-enum { FILE_ID = 0, SESSION = 18, LAP = 19, RECORD = 20, EVENT = 21, DEVICE = 23, ACTIVITY = 34, DESCRIPTION = 206, DEVELOPER = 207 };
-enum { ENUM = 0x00, SINT8 = 0x01, UINT8 = 0x02, STRING = 0x07, BYTE = 0x0D, UINT16 = 0x84, SINT32 = 0x85, UINT32 = 0x86, FLOAT32 = 0x88, UINT32Z = 0x8C };
+enum {
+    FILE_ID = 0,
+    SESSION = 18,
+    LAP = 19,
+    RECORD = 20,
+    EVENT = 21,
+    DEVICE = 23,
+    ACTIVITY = 34,
+    DESCRIPTION = 206,
+    DEVELOPER = 207
+};
+enum {
+    ENUM = 0x00,
+    SINT8 = 0x01,
+    UINT8 = 0x02,
+    STRING = 0x07,
+    BYTE = 0x0D,
+    UINT16 = 0x84,
+    SINT32 = 0x85,
+    UINT32 = 0x86,
+    FLOAT32 = 0x88,
+    UINT32Z = 0x8C
+};
 
 /* number, size and base type of a field, or number, size and index of a developer field */
-struct entry { uint8_t first, size, last; };
+struct entry {
+    uint8_t first, size, last;
+};
 
-static const struct entry file_id[] = {{0, 1, ENUM}, {1, 2, UINT16}, {2, 2, UINT16}, {3, 4, UINT32Z}, {4, 4, UINT32}};
-static const struct entry device[] = {{253, 4, UINT32}, {0, 1, UINT8}, {1, 1, UINT8}, {2, 2, UINT16}, {3, 4, UINT32Z}, {4, 2, UINT16}, {5, 2, UINT16}};
-static const struct entry event[] = {{253, 4, UINT32}, {0, 1, ENUM}, {1, 1, ENUM}, {3, 4, UINT32}, {4, 1, UINT8}};
-static const struct entry lap[] = {{253, 4, UINT32}, {2, 4, UINT32}, {3, 4, SINT32}, {4, 4, SINT32}, {7, 4, UINT32}, {8, 4, UINT32},
-    {9, 4, UINT32}, {13, 2, UINT16}, {15, 1, UINT8}, {16, 1, UINT8}, {0, 1, ENUM}, {1, 1, ENUM}, {24, 1, ENUM}};
-static const struct entry session[] = {{253, 4, UINT32}, {2, 4, UINT32}, {7, 4, UINT32}, {8, 4, UINT32}, {9, 4, UINT32}, {14, 2, UINT16},
-    {5, 1, ENUM}, {6, 1, ENUM}, {26, 2, UINT16}};
-static const struct entry activity[] = {{253, 4, UINT32}, {0, 4, UINT32}, {1, 2, UINT16}, {2, 1, ENUM}, {3, 1, ENUM}, {4, 1, ENUM}};
+static const struct entry file_id[] = {
+    {0, 1, ENUM}, {1, 2, UINT16}, {2, 2, UINT16}, {3, 4, UINT32Z}, {4, 4, UINT32}};
+static const struct entry device[] = {{253, 4, UINT32}, {0, 1, UINT8},  {1, 1, UINT8}, {2, 2, UINT16},
+                                      {3, 4, UINT32Z},  {4, 2, UINT16}, {5, 2, UINT16}};
+static const struct entry event[] = {
+    {253, 4, UINT32}, {0, 1, ENUM}, {1, 1, ENUM}, {3, 4, UINT32}, {4, 1, UINT8}};
+static const struct entry lap[] = {{253, 4, UINT32}, {2, 4, UINT32}, {3, 4, SINT32}, {4, 4, SINT32},
+                                   {7, 4, UINT32},   {8, 4, UINT32}, {9, 4, UINT32}, {13, 2, UINT16},
+                                   {15, 1, UINT8},   {16, 1, UINT8}, {0, 1, ENUM},   {1, 1, ENUM},
+                                   {24, 1, ENUM}};
+static const struct entry session[] = {{253, 4, UINT32}, {2, 4, UINT32}, {7, 4, UINT32},
+                                       {8, 4, UINT32},   {9, 4, UINT32}, {14, 2, UINT16},
+                                       {5, 1, ENUM},     {6, 1, ENUM},   {26, 2, UINT16}};
+static const struct entry activity[] = {{253, 4, UINT32}, {0, 4, UINT32}, {1, 2, UINT16},
+                                        {2, 1, ENUM},     {3, 1, ENUM},   {4, 1, ENUM}};
 static const struct entry developer[] = {{1, 16, BYTE}, {3, 1, UINT8}, {4, 4, UINT32}};
-static const struct entry description[] = {{0, 1, UINT8}, {1, 1, UINT8}, {2, 1, UINT8}, {3, 16, STRING}, {8, 8, STRING}};
-static const struct entry record[] = {{253, 4, UINT32}, {0, 4, SINT32}, {1, 4, SINT32}, {2, 2, UINT16}, {3, 1, UINT8}, {4, 1, UINT8},
-    {5, 4, UINT32}, {6, 2, UINT16}, {7, 2, UINT16}, {13, 1, SINT8}};
+static const struct entry description[] = {
+    {0, 1, UINT8}, {1, 1, UINT8}, {2, 1, UINT8}, {3, 16, STRING}, {8, 8, STRING}};
+static const struct entry record[] = {{253, 4, UINT32}, {0, 4, SINT32}, {1, 4, SINT32}, {2, 2, UINT16},
+                                      {3, 1, UINT8},    {4, 1, UINT8},  {5, 4, UINT32}, {6, 2, UINT16},
+                                      {7, 2, UINT16},   {13, 1, SINT8}};
 static const struct entry own[] = {{0, 2, 0}, {1, 4, 0}, {2, 1, 0}};
 static const struct entry course[] = {{4, 1, ENUM}, {5, 16, STRING}};
 static const struct entry sport[] = {{0, 1, ENUM}, {1, 1, ENUM}, {3, 24, STRING}};
@@ -136,7 +167,7 @@ static void put_lap(void)
     laps++;
 }
 
-/* the fields of a record message behind its timestamp */
+/* the fields of a record message after its timestamp */
 static void put_point(unsigned k)
 {
     unsigned speed = 2500 + any(5000);
@@ -156,7 +187,10 @@ static void put_point(unsigned k)
 
 static void put_own_fields(void)
 {
-    union { float value; uint32_t bits; } strain = {.value = (float)any(10000) / 16};
+    union {
+        float value;
+        uint32_t bits;
+    } strain = {.value = (float)any(10000) / 16};
     put(any(2000), 2);
     put(strain.bits, 4);
     put(any(100), 1);
@@ -200,7 +234,8 @@ static void put_descriptions(void)
     describe(2, UINT8, "Balance, left", "%");
 }
 
-/* A message of a ride. With `compressed` its time is in its header, but for each sixteenth, which has a timestamp. */
+/* A message of a ride. With `compressed` its time is in its header, but for each sixteenth, which has a
+   timestamp. */
 static void put_record(unsigned k, int with_own, int compressed)
 {
     if (compressed && k % 16 != 0) {
@@ -246,7 +281,8 @@ static void make_definitions(size_t size)
 
 static void make_strings(size_t size)
 {
-    static const char *const names[] = {"Lake loop", "Kaltern am See", "Up, and down", "The \"wall\"", "Côte d'Azur"};
+    static const char *const names[] = {"Lake loop", "Kaltern am See", "Up, and down", "The \"wall\"",
+                                        "Côte d'Azur"};
     define(AT_RECORD, 31, course, LENGTH(course));
     define(AT_PLAIN_RECORD, 12, sport, LENGTH(sport));
     while (count + 400 < size) {
