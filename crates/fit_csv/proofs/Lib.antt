@@ -8,6 +8,7 @@ mod Shapes
 mod NamingFacts
 mod DevFields
 mod InstantFacts
+mod PlainInstants
 mod DegreeFacts
 mod SevenCells
 mod Closest
