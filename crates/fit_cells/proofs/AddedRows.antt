@@ -68,10 +68,6 @@ pub rows_all : {X : Type 0} (row : X → Row) (xs : List X) (k : ℕ) (u v : Vec
 rows_all row xs k u v end added = subst (λ ys. HasRows (map row ys) u v) (take_all k xs end) added
 
 -- more cells of a row
-pub fields_none : (text : List ℕ) → text ++ fields_text default_writer [] ≡ text
-unfolding fields_text
-fields_none text = append-nil text
-
 pub fields_one : (cell : List ℕ) → fields_text default_writer (cell ∷ []) ≡ 44 ∷ field_text default_writer cell
 unfolding fields_text
 fields_one cell = ap (λ text. 44 ∷ text) (append-nil (field_text default_writer cell))

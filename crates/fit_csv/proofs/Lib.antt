@@ -38,5 +38,4 @@ mod SevenRows
 mod FromChain
 mod Unwritten
 pub mod FramedRows
-pub mod PlainRows
 pub mod TableNumbers
