@@ -2,6 +2,7 @@
 use Rattle.std.proofs.Common.{◌≡◌, ◌∙◌, ◌<◌, ◌≤◌, ◌+◌, ℕ, List, [], ◌∷◌, ◌++◌, length, map, drop, take, Bor, get_or, Vec, refl, sym, ap, subst, append_assoc, arith}
 use Rattle.std.specs.Global.{Global}
 use Rattle.std.proofs.lemmas.List.{append-nil, length-map, map-append, take_all, take_more}
+use Rattle.std.proofs.Math.Seq.{drop-append_seam}
 use Rattle.csv.specs.Writing.{default_writer, field_text, fields_text, is_blank, row_text}
 use Rattle.csv.specs.declared.writer.Writer.{Writer}
 use Rattle.fit_cells.specs.Rows.{Row, HasAdded, HasRows, IsBetweenRows, csv_text, written}
@@ -67,10 +68,6 @@ pub rows_all : {X : Type 0} (row : X → Row) (xs : List X) (k : ℕ) (u v : Vec
 rows_all row xs k u v end added = subst (λ ys. HasRows (map row ys) u v) (take_all k xs end) added
 
 -- more cells of a row
-pub fields_none : (text : List ℕ) → text ++ fields_text default_writer [] ≡ text
-unfolding fields_text
-fields_none text = append-nil text
-
 pub fields_one : (cell : List ℕ) → fields_text default_writer (cell ∷ []) ≡ 44 ∷ field_text default_writer cell
 unfolding fields_text
 fields_one cell = ap (λ text. 44 ∷ text) (append-nil (field_text default_writer cell))
@@ -79,14 +76,6 @@ pub fields_append : (a b : Row) → fields_text default_writer (a ++ b) ≡ fiel
 unfolding fields_text
 fields_append [] b = refl
 fields_append (cell ∷ a) b = ap (λ text. 44 ∷ (field_text default_writer cell ++ text)) (fields_append a b) ∙ sym (append_assoc (44 ∷ field_text default_writer cell) (fields_text default_writer a) (fields_text default_writer b))
-
-pub fields_more : {X : Type 0} (cell : X → List ℕ) (text : List ℕ) (xs : List X) (k : ℕ) (d : X) → k < length xs
-    → (text ++ fields_text default_writer (map cell (take k xs))) ++ fields_text default_writer (cell (get_or xs k d) ∷ []) ≡ text ++ fields_text default_writer (map cell (take (k + 1) xs))
-fields_more cell text xs k d within =
-    let longer : map cell (take (k + 1) xs) ≡ map cell (take k xs) ++ (cell (get_or xs k d) ∷ []) =
-    ap (map cell) (take_more xs k d within) ∙ map-append cell (take k xs) (get_or xs k d ∷ []) in
-    append_assoc text (fields_text default_writer (map cell (take k xs))) (fields_text default_writer (cell (get_or xs k d) ∷ []))
-    ∙ ap (λ ds. text ++ ds) (sym (fields_append (map cell (take k xs)) (cell (get_or xs k d) ∷ [])) ∙ ap (fields_text default_writer) (sym longer))
 
 -- a row of two cells or more
 pub whole_row : (text : List ℕ) (first : List ℕ) (others : Row) → 0 < length others
@@ -98,7 +87,8 @@ whole_row text first (next ∷ rest) some =
     ∙ append_assoc text (field_text default_writer first) (fields_text default_writer (next ∷ rest) ++ (10 ∷ []))
     ∙ ap (λ ds. text ++ ds) (sym (append_assoc (field_text default_writer first) (fields_text default_writer (next ∷ rest)) (10 ∷ [])) ∙ sym (append-nil _))
 
-pub row_of_cells : (text : List ℕ) (cells : List (Bor (List ℕ))) (d : Bor (List ℕ)) → 1 < length cells
-    → ((text ++ field_text default_writer (get_or cells 0 d).now) ++ fields_text default_writer (map (λ f. f.now) (drop 1 cells))) ++ (10 ∷ []) ≡ text ++ csv_text (map (λ f. f.now) cells ∷ [])
-row_of_cells text [] d some = absurd (omega (arith, some))
-row_of_cells text (first ∷ others) d some = whole_row text first.now (map (λ (f : Bor (List ℕ)). f.now) others) (omega (arith, some, length-map others (λ (f : Bor (List ℕ)). f.now)))
+-- what was written behind a beginning is put behind another text
+pub rows_copied : {rows : List Row} {u v : Writer (Vec ℕ Global)} (old new : Vec ℕ Global) → HasAdded rows u v → new.items ≡ old.items ++ drop (length (written u)) (written v) → HasRows rows old new
+rows_copied {rows = rows} {u = u} {v = v} old new added copied = record {
+  text = copied ∙ ap (λ text. old.items ++ text) (ap (drop (length (written u))) added.text ∙ drop-append_seam (written u) (csv_text rows));
+}

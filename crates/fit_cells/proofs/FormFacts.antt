@@ -1,9 +1,7 @@
--- Items by the form of their field, and cells between quotes.
+-- Items by the form of their field.
 use Rattle.std.proofs.Common.{◌≡◌, ◌∙◌, ◌++◌, ◌∷◌, [], ◌+◌, ◌<◌, ◌/◌, ◌^◌, ℕ, ℤ, pos, ◌-ℤ◌, ◌*ℤ◌, List, Option, length, take, get_or, refl, sym, ap, false, inl, inr, append_assoc, ◌==◌}
 use Rattle.std.specs.Prelude.{if◌then◌else◌}
 use Rattle.std.proofs.lemmas.Bool.{cases_Bool, ne_eqb}
-use Rattle.std.proofs.lemmas.List.{append-nil, take_more}
-use Rattle.csv.specs.Writing.{default_writer, escaped}
 use Rattle.fit_base.specs.declared.code.Class.TheVariants.{Signed, Unsigned}
 use Rattle.fit_base.specs.BaseTypes.{base_type}
 use Rattle.fit_base.specs.Numbers.{twos_complement}
@@ -29,29 +27,3 @@ formed_item f code info bits number form other is =
           let class : (base_type code).class ≡ Unsigned = rw plain at form.class in
           rw (class, valid, raw) (sym (form.text (pos bits)))
     ]
-
-pub escaped_quote : (b : ℕ) → b ≡ 34 → escaped default_writer (b ∷ []) ≡ 34 ∷ 34 ∷ []
-unfolding escaped
-escaped_quote b e = rw e refl
-
-pub escaped_other : (b : ℕ) → (b ≡ 34 → ⊥) → escaped default_writer (b ∷ []) ≡ b ∷ []
-unfolding escaped
-escaped_other b e = rw (ne_eqb b 34 e) refl
-
-pub escaped_none : (text : List ℕ) → text ++ escaped default_writer [] ≡ text
-unfolding escaped
-escaped_none text = append-nil text
-
-escaped_append : (a b : List ℕ) → escaped default_writer (a ++ b) ≡ escaped default_writer a ++ escaped default_writer b
-unfolding escaped
-escaped_append [] b = refl
-escaped_append (x ∷ a) b = elim (cases_Bool (x == 34)) [
-  | inl quote ↦ rw (quote, escaped_append a b) refl
-  | inr other ↦ rw (other, escaped_append a b) refl
-]
-
--- one more byte
-pub escaped_more : (text cell : List ℕ) (k : ℕ) → k < length cell → (text ++ escaped default_writer (take k cell)) ++ escaped default_writer (get_or cell k 0 ∷ []) ≡ text ++ escaped default_writer (take (k + 1) cell)
-escaped_more text cell k h =
-    append_assoc text (escaped default_writer (take k cell)) (escaped default_writer (get_or cell k 0 ∷ []))
-    ∙ ap (λ ds. text ++ ds) (sym (escaped_append (take k cell) (get_or cell k 0 ∷ [])) ∙ ap (escaped default_writer) (sym (take_more cell k 0 h)))

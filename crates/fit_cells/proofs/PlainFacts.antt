@@ -77,7 +77,7 @@ plain-byte b h =
     let lf : (b == 10) ≡ false = ne_eqb b 10 (λ e. absurd (omega (arith, e, h))) in
     rw (comma, quote, cr, lf) refl
 
-plain : (text : List ℕ) → High text → needs_quotes default_writer text ≡ false
+pub plain : (text : List ℕ) → High text → needs_quotes default_writer text ≡ false
 plain [] h = refl
 plain (b ∷ text) h = rw (plain-byte b h.0) (plain text h.1)
 

@@ -1,17 +1,13 @@
 //! The cells of fields.
-ghost use Rattle.std.specs.Prelude.{◌≡◌, ◌<◌, ◌++◌, ◌∷◌, [], ◌⊎◌, ◌^◌, All, IfOk, IfSome, OnOk, option_map};
+ghost use Rattle.std.specs.Prelude.{◌≡◌, ◌<◌, ◌++◌, ◌⊎◌, ◌^◌, All, IfOk, IfSome, OnOk, option_map};
 ghost use Rattle.std.specs.String.{string_bytes};
 ghost use Rattle.fit_base.specs.BaseTypes.{base_type};
 ghost use Rattle.fit_profile.specs.Names.{meaning};
 ghost use Rattle.fit_profile.specs.Scaled.{IsScale};
-ghost use Rattle.csv.specs.Writing.{default_writer, field_text};
 ghost use Rattle.fit_cells.specs.Cells.{cell, class_of};
-ghost use Rattle.fit_cells.specs.Forms.{IsFormOf, IsSmall};
 
-use crate::form::{NumberForm, put_formed};
 use crate::hexadecimal::put_bytes;
 use crate::numbers::put_items;
-use crate::shown::put_shown;
 use crate::strings::put_string;
 use fit_base::{Class, Code, Items};
 use fit_profile::Info;
@@ -49,47 +45,6 @@ pub fn put_cell(
         Class::Bytes => put_bytes(text, bits),
         class => put_items(text, class, code, info, items.width, bits),
     }
-}
-
-/// The item where there is just one.
-#[tactic(auto, using(crate::proofs::PlainFacts::only_one))]
-fn only(bits: &[u64]) -> Option<u64>
-    ensures { IfSome result (λ b. bits.now ≡ b ∷ []) }
-{
-    match bits {
-        [b] => Some(*b),
-        _ => None,
-    }
-}
-
-/// Puts the cell of a field behind a text, as a row has it. A number of a known form needs no quotes. The memory of `value` is
-/// used for other cells.
-#[tactic(auto, using(crate::proofs::PlainFacts::lone_cell))]
-pub fn put_row_cell(
-    text: &mut Vec<u8>,
-    value: &mut Vec<u8>,
-    code: Code,
-    info: Option<Info>,
-    form: Option<NumberForm>,
-    items: &Items,
-) -> Result<(), AllocError>
-    requires scale { IfSome info (λ i. IsScale i.scale) }
-    requires width { (items.now.width ≡ (base_type code.0).width) ⊎ (items.now.width ≡ 1) }
-    requires bits { All (λ n. n < 256 ^ items.now.width) items.now.bits }
-    requires small { IfSome form IsSmall }
-    requires form { IfSome form (IsFormOf code.0 (option_map meaning info)) }
-    ensures { OnOk result (text.new.items ≡ text.old.items ++ field_text default_writer (cell code.0 (option_map meaning info) items.now)) }
-{
-    if let Some(form) = form {
-        if let Some(bits) = only(items.bits.as_slice()) {
-            if items.width == form.width {
-                return put_formed(text, form, bits);
-            }
-        }
-    }
-    value.clear();
-    put_cell(value, code, info, items)?;
-    put_shown(text, value.as_slice())
 }
 
 /// The cell of a field: numbers with a bar between one and the next, an invalid one empty, scaled where

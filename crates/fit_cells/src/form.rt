@@ -1,5 +1,5 @@
 //! How the numbers of a field are shown, found out once for many of them.
-ghost use Rattle.std.specs.Prelude.{◌≡◌, ◌≤◌, ◌<◌, ◌⊎◌, ◌++◌, ◌^◌, ◌/◌, ◌*◌, pos, neg_ℤ, ◌*ℤ◌, ◌-ℤ◌, ◌≤ℤ◌, ℕ, ℤ, Option, IfSome, OnOk, option_map, if◌then◌else◌};
+ghost use Rattle.std.specs.Prelude.{◌≡◌, ◌≤◌, ◌<◌, ◌⊎◌, ◌++◌, ◌^◌, ◌/◌, ◌*◌, pos, neg_ℤ, ◌*ℤ◌, ◌-ℤ◌, ◌≤ℤ◌, ◌∷◌, [], ℕ, ℤ, Option, IfSome, IsNone, OnOk, length, option_map, if◌then◌else◌};
 ghost use Rattle.fit_base.specs.BaseTypes.{base_type};
 ghost use Rattle.fit_base.specs.Numbers.{twos_complement};
 ghost use Rattle.fit_profile.specs.FixedText.{fixed_text};
@@ -9,7 +9,7 @@ ghost use Rattle.fit_profile.specs.Scaled.{decimals, IsScale};
 ghost use Rattle.fit_cells.specs.Cells.{item_text, number_text};
 ghost use Rattle.fit_cells.specs.Forms.{IsFormOf, IsSmall};
 
-use fit_base::{Class, Code, signed};
+use fit_base::{Class, Code, Items, signed};
 use fit_profile::{Info, decimals_of, put_fixed};
 use std::alloc::AllocError;
 
@@ -70,6 +70,18 @@ pub fn number_form(code: Code, info: Option<Info>) -> Option<NumberForm>
         Class::Signed => Some(form_by(true, width, code.invalid(), info)),
         Class::Unsigned => Some(form_by(false, width, code.invalid(), info)),
         Class::Text | Class::Float | Class::Bytes => None,
+    }
+}
+
+/// The item, where it is the only one and has the width of a form.
+#[tactic(auto, using(crate::proofs::PlainFacts::only_one))]
+pub fn lone_number(form: NumberForm, items: &Items) -> Option<u64>
+    ensures some { IfSome result (λ bits. (items.now.width ≡ form.width) × (items.now.bits ≡ bits ∷ [])) }
+    ensures none { IsNone result → items.now.width ≡ form.width → length items.now.bits ≡ 1 → ⊥ }
+{
+    match items.bits.as_slice() {
+        [bits] if items.width == form.width => Some(*bits),
+        _ => None,
     }
 }
 

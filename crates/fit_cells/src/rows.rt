@@ -1,13 +1,10 @@
 //! Rows of cells as text, through the crate `csv`.
-ghost use Rattle.std.specs.Prelude.{◌≡◌, ◌≤◌, ◌++◌, ◌∷◌, [], ℕ, List, IfOk, OnOk, drop, false, length, map};
+ghost use Rattle.std.specs.Prelude.{◌≡◌, ◌∷◌, [], ℕ, List, IfOk, OnOk, map};
 ghost use Rattle.csv.specs.Records.{fields_of};
-ghost use Rattle.fit_cells.specs.Rows.{Follows, HasAdded, HasRead, IsBetweenRows, Row, written};
+ghost use Rattle.fit_cells.specs.Rows.{Follows, HasAdded, HasRead, IsBetweenRows, Row, csv_text, written};
 
 use csv::{ByteRecord, Reader, ReaderBuilder, Writer, WriterBuilder};
 use std::alloc::{AllocError, Global};
-
-/// A writer whose text is longer than this is let go.
-const LONG: usize = 64 * 1024;
 
 /// A writer of rows behind a text. The text's memory is used on.
 pub fn row_writer(text: Vec<u8>) -> Writer<Vec<u8>>
@@ -40,46 +37,13 @@ pub fn rows_text(writer: Writer<Vec<u8>>) -> Result<Vec<u8>, AllocError>
     }
 }
 
-/// Brings all that was written to the text underneath, and answers how long that is.
-pub fn flushed_len(writer: &mut Writer<Vec<u8>>) -> Result<usize, AllocError>
-    requires { IsBetweenRows writer.old }
-    ensures between { OnOk result (IsBetweenRows writer.new) }
-    ensures same { OnOk result (written writer.new ≡ written writer.old) }
-    ensures len { IfOk result (λ len. len ≡ length (written writer.new)) }
+/// The text of a row.
+pub fn row_text(alloc: Global, cells: &[&[u8]]) -> Result<Vec<u8>, AllocError>
+    ensures { IfOk result (λ text. text.items ≡ csv_text (map (λ f. f.now) cells.now ∷ [])) }
 {
-    match writer.flush() {
-        Ok(()) => Ok(writer.get_ref().len()),
-        Err(_) => Err(AllocError),
-    }
-}
-
-/// Puts what was written behind so many bytes in a text.
-pub fn copy_behind(
-    writer: &mut Writer<Vec<u8>>,
-    start: usize,
-    text: &mut Vec<u8>,
-) -> Result<(), AllocError>
-    requires between { IsBetweenRows writer.old }
-    requires start { start ≤ length (written writer.old) }
-    ensures between { OnOk result (IsBetweenRows writer.new) }
-    ensures text { OnOk result (text.new.items ≡ text.old.items ++ drop start (written writer.old)) }
-{
-    if writer.flush().is_err() {
-        return Err(AllocError);
-    }
-    let rows = writer.get_ref().as_slice();
-    text.extend_from_slice(&rows[start..])
-}
-
-/// Makes a writer fit for the next rows, after it wrote some with this result. It is used again, as a new one would move its
-/// buffer of 8 KiB several times; it is made anew where it failed, and where its text has become long.
-pub fn renew(alloc: Global, writer: &mut Writer<Vec<u8>>, failed: bool)
-    requires { (failed ≡ false) → IsBetweenRows writer.old }
-    ensures { IsBetweenRows writer.new }
-{
-    if failed || writer.get_ref().len() > LONG {
-        *writer = row_writer(Vec::new(alloc));
-    }
+    let mut writer = row_writer(Vec::new(alloc));
+    put_row(&mut writer, cells)?;
+    rows_text(writer)
 }
 
 /// A reader of the rows of a text, of any length each.

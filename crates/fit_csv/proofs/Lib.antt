@@ -8,6 +8,7 @@ mod Shapes
 mod NamingFacts
 mod DevFields
 mod InstantFacts
+mod PlainInstants
 mod DegreeFacts
 mod SevenCells
 mod Closest
@@ -37,5 +38,4 @@ mod SevenRows
 mod FromChain
 mod Unwritten
 pub mod FramedRows
-pub mod PlainRows
 pub mod TableNumbers

@@ -1,12 +1,18 @@
 -- The cells of numbers in a row of the table.
-use Rattle.std.proofs.Common.{◌≡◌, ◌∙◌, ◌++◌, ◌∷◌, [], ℕ, List, Option, Some, None, decimal, sym, ap, append_assoc, arith}
-use Rattle.csv.specs.Writing.{default_writer, fields_text}
+use Rattle.std.proofs.Common.{◌≡◌, ◌∙◌, ◌++◌, ◌∷◌, [], ℕ, List, Option, Some, None, decimal, false, refl, sym, ap, append_assoc, arith}
+use Rattle.csv.specs.Writing.{default_writer, field_text, fields_text, needs_quotes}
 use Rattle.fit_profile.specs.declared.decimal.Fixed.{Fixed}
 use Rattle.fit_profile.specs.FixedText.{fixed_text}
 use Rattle.fit_cells.specs.Rows.{Cell, Row, csv_text}
 use Rattle.fit_cells.proofs.AddedRows.{fields_append, fields_one, whole_row}
 use Rattle.fit_cells.proofs.PlainFacts.{high-decimal, high-fixed, unquoted}
 use Rattle.fit_csv.specs.TableCells.{number_cell as cell_of}
+
+-- a cell that needs no quotes
+pub plain_cell : (text cell : List ℕ) → needs_quotes default_writer cell ≡ false → (text ++ (44 ∷ [])) ++ cell ≡ text ++ fields_text default_writer (cell ∷ [])
+plain_cell text cell plain =
+    let same : field_text default_writer cell ≡ cell = rw plain refl in
+    append_assoc text (44 ∷ []) cell ∙ ap (λ (t : List ℕ). text ++ (44 ∷ t)) (sym same) ∙ ap (λ (t : List ℕ). text ++ t) (sym (fields_one cell))
 
 pub number_cell : (text : List ℕ) (o : Option Fixed) (v : Fixed) → o ≡ Some v → (text ++ (44 ∷ [])) ++ fixed_text v.value v.decimals ≡ text ++ fields_text default_writer (cell_of o ∷ [])
 number_cell text o v e =
@@ -33,3 +39,8 @@ pub last_cells : (text t w : List ℕ) (n : ℕ) (next : Cell) (rest : Row) → 
 last_cells text t w n next rest before end =
     end ∙ ap (λ (s : List ℕ). s ++ (10 ∷ [])) (before ∙ ap (λ (s : List ℕ). (text ++ s) ++ fields_text default_writer (next ∷ rest)) (sym (unquoted (decimal n) (high-decimal n))))
     ∙ whole_row text (decimal n) (next ∷ rest) (omega arith)
+
+-- a number and a cell that needs no quotes, with which a row begins
+pub first_plain : (text : List ℕ) (n : ℕ) (cell : Cell) → needs_quotes default_writer cell ≡ false
+    → ((text ++ decimal n) ++ (44 ∷ [])) ++ cell ≡ text ++ (decimal n ++ fields_text default_writer (cell ∷ []))
+first_plain text n cell plain = plain_cell (text ++ decimal n) cell plain ∙ append_assoc text (decimal n) (fields_text default_writer (cell ∷ []))

@@ -1,6 +1,7 @@
 -- How the cells of the table are put together. No public contract names these.
-use Rattle.std.specs.Prelude.{ℕ, ◌≤◌, List, [], ◌∷◌, option_map, unwrap_or, IfSome, Option, None, Some, decimal}
+use Rattle.std.specs.Prelude.{◌≡◌, ◌≤◌, ℕ, false, List, [], ◌∷◌, option_map, unwrap_or, IfSome, Option, None, Some, decimal}
 use Rattle.std.specs.Option.{option_map_or}
+use Rattle.csv.specs.Writing.{default_writer, needs_quotes}
 use Rattle.fit_record.specs.declared.message.Record.{Record}
 use Rattle.fit_record.specs.declared.message.Record.TheVariants.{Define, Values as Data}
 use Rattle.fit_decode.specs.declared.event.Event.{Event as Answer}
@@ -30,8 +31,9 @@ cells_of r =
 abbrev pub FewDecimals : Option Fixed → Type 0
 FewDecimals value = IfSome value (λ v. v.decimals ≤ 8)
 
--- no number of a row has more than eight decimals
-pub record HasFewDecimals (r : TableRow) : Type 0 where
+-- no number of a row has more than eight decimals, and its timestamp needs no quotes
+pub record IsPlain (r : TableRow) : Type 0 where
+  pub timestamp : needs_quotes default_writer r.timestamp.bytes ≡ false
   pub position_lat : FewDecimals r.position_lat
   pub position_long : FewDecimals r.position_long
   pub altitude : FewDecimals r.altitude

@@ -5,7 +5,7 @@ ghost use Rattle.fit_cells.specs.Rows.{HasRows};
 ghost use Rattle.fit_csv.specs.ChainRows as rows;
 
 use fit_base::{Entries, Order};
-use fit_cells::put_row_text;
+use fit_cells::RowWriter;
 use fit_record::{DevDef, FieldDef, MessageDef};
 use itoa::Buffer;
 use std::alloc::AllocError;
@@ -31,7 +31,11 @@ fn dev_count<'a>(digits: &'a mut Buffer, dev: &Option<Entries<DevDef>>) -> &'a [
 }
 
 /// Puts the row of a definition.
-fn put_def_row(text: &mut Vec<u8>, definition: &MessageDef) -> Result<(), AllocError>
+fn put_def_row(
+    text: &mut Vec<u8>,
+    writer: &mut RowWriter,
+    definition: &MessageDef,
+) -> Result<(), AllocError>
     ensures { OnOk result (HasRows (rows.def_row definition.now ∷ []) text.old text.new) }
 {
     let mut locals = Buffer::new();
@@ -48,12 +52,13 @@ fn put_def_row(text: &mut Vec<u8>, definition: &MessageDef) -> Result<(), AllocE
         fields.format(definition.fields.len()).as_bytes(),
         dev_count(&mut dev, &definition.dev),
     ];
-    put_row_text(text, cells.as_slice())
+    writer.put(text, cells.as_slice())
 }
 
 /// Puts the row of three numbers behind a word.
 fn put_numbers(
     text: &mut Vec<u8>,
+    writer: &mut RowWriter,
     kind: &[u8],
     number: u8,
     size: u8,
@@ -73,25 +78,33 @@ fn put_numbers(
         b"".as_slice(),
         b"".as_slice(),
     ];
-    put_row_text(text, cells.as_slice())
+    writer.put(text, cells.as_slice())
 }
 
 /// Puts the rows of the fields of a definition.
-fn put_field_defs(text: &mut Vec<u8>, fields: &[FieldDef]) -> Result<(), AllocError>
+fn put_field_defs(
+    text: &mut Vec<u8>,
+    writer: &mut RowWriter,
+    fields: &[FieldDef],
+) -> Result<(), AllocError>
     ensures { OnOk result (HasRows (map rows.field_def_row fields.now) text.old text.new) }
 {
     for field in fields {
-        put_numbers(text, b"fdef", field.number, field.size, field.code)?;
+        put_numbers(text, writer, b"fdef", field.number, field.size, field.code)?;
     }
     Ok(())
 }
 
 /// Puts the rows of the developer fields of a definition.
-fn put_dev_defs(text: &mut Vec<u8>, fields: &[DevDef]) -> Result<(), AllocError>
+fn put_dev_defs(
+    text: &mut Vec<u8>,
+    writer: &mut RowWriter,
+    fields: &[DevDef],
+) -> Result<(), AllocError>
     ensures { OnOk result (HasRows (map rows.dev_def_row fields.now) text.old text.new) }
 {
     for field in fields {
-        put_numbers(text, b"ddef", field.number, field.size, field.index)?;
+        put_numbers(text, writer, b"ddef", field.number, field.size, field.index)?;
     }
     Ok(())
 }
@@ -107,11 +120,15 @@ pub(crate) fn dev_slice(dev: &Option<Entries<DevDef>>) -> &[DevDef]
 }
 
 /// Puts the rows of a definition message.
-pub(crate) fn put_definition(text: &mut Vec<u8>, definition: &MessageDef) -> Result<(), AllocError>
+pub(crate) fn put_definition(
+    text: &mut Vec<u8>,
+    writer: &mut RowWriter,
+    definition: &MessageDef,
+) -> Result<(), AllocError>
     ensures { OnOk result (HasRows (rows.definition_rows definition.now) text.old text.new) }
 {
-    put_def_row(text, definition)?;
-    put_field_defs(text, definition.fields.as_slice())?;
-    put_dev_defs(text, dev_slice(&definition.dev))?;
+    put_def_row(text, writer, definition)?;
+    put_field_defs(text, writer, definition.fields.as_slice())?;
+    put_dev_defs(text, writer, dev_slice(&definition.dev))?;
     Ok(())
 }

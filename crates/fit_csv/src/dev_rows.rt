@@ -9,7 +9,7 @@ ghost use Rattle.fit_csv.specs.ChainRows as rows;
 
 use crate::message_rows::put_value;
 use fit_base::{Code, Items};
-use fit_cells::put_cell;
+use fit_cells::{RowWriter, put_cell};
 use fit_profile::{Label, Stream};
 use fit_record::DevDef;
 use itoa::Buffer;
@@ -50,6 +50,7 @@ pub(crate) fn dev_unit(stream: &Stream, local: u8, place: u8) -> &str
 /// Puts the row of a developer field by its described code, its label and its unit.
 fn put_dev_field<'a>(
     text: &mut Vec<u8>,
+    writer: &mut RowWriter,
     value: &'a mut Vec<u8>,
     field: &DevDef,
     code: u8,
@@ -64,13 +65,14 @@ fn put_dev_field<'a>(
     put_cell(value, Code(code), None, items)?;
     let name = label.as_bytes();
     let unit = unit.as_bytes();
-    put_value(text, b"dev", name, value.as_slice(), unit)
+    put_value(text, writer, b"dev", name, value.as_slice(), unit)
 }
 
 /// Puts the rows of the developer fields of a message of this local message type, with the names and units that they have after
 /// the records of a stream.
 pub(crate) fn put_dev_fields(
     text: &mut Vec<u8>,
+    writer: &mut RowWriter,
     value: &mut Vec<u8>,
     stream: &Stream,
     local: u8,
@@ -89,7 +91,7 @@ pub(crate) fn put_dev_fields(
         let label = dev_name(stream, local, place as u8, &numbered);
         let unit = dev_unit(stream, local, place as u8);
         let code = dev_codes[place];
-        put_dev_field(text, value, field, code, &items[place], label, unit)?;
+        put_dev_field(text, writer, value, field, code, &items[place], label, unit)?;
     }
     Ok(())
 }

@@ -3,7 +3,7 @@ ghost use Rattle.std.specs.Prelude.{◌≡◌, ◌∷◌, [], OnOk};
 ghost use Rattle.fit_cells.specs.Rows.{HasRows};
 ghost use Rattle.fit_csv.specs.ChainRows as rows;
 
-use fit_cells::{put_digits, put_row_text};
+use fit_cells::{RowWriter, put_digits};
 use fit_frame::{Header, HeaderSum};
 use itoa::Buffer;
 use std::alloc::AllocError;
@@ -22,6 +22,7 @@ pub(crate) fn sum_word(sum: HeaderSum) -> &'static str
 /// Puts the row of a header by the word of its sum and the cell of its bytes from place 14 on.
 fn put_header_cells<'a>(
     text: &mut Vec<u8>,
+    writer: &mut RowWriter,
     header: &Header,
     word: &'a [u8],
     rest: &'a [u8],
@@ -42,12 +43,13 @@ fn put_header_cells<'a>(
         rest,
         b"".as_slice(),
     ];
-    put_row_text(text, cells.as_slice())
+    writer.put(text, cells.as_slice())
 }
 
 /// Puts the row of a header.
 pub(crate) fn put_file_row(
     text: &mut Vec<u8>,
+    writer: &mut RowWriter,
     value: &mut Vec<u8>,
     header: &Header,
 ) -> Result<(), AllocError>
@@ -55,7 +57,7 @@ pub(crate) fn put_file_row(
 {
     put_rest(value, header.rest.as_slice())?;
     let word = sum_word(header.sum).as_bytes();
-    put_header_cells(text, header, word, value.as_slice())
+    put_header_cells(text, writer, header, word, value.as_slice())
 }
 
 /// Makes a cell of the bytes of a header from place 14 on.
@@ -74,8 +76,8 @@ pub(crate) fn put_rest(value: &mut Vec<u8>, rest: &[u8]) -> Result<(), AllocErro
 }
 
 /// Puts the row that ends a file.
-pub(crate) fn put_end_row(text: &mut Vec<u8>) -> Result<(), AllocError>
+pub(crate) fn put_end_row(text: &mut Vec<u8>, writer: &mut RowWriter) -> Result<(), AllocError>
     ensures { OnOk result (HasRows (rows.end_row ∷ []) text.old text.new) }
 {
-    put_row_text(text, &[b"end", b"", b"", b"", b"", b"", b""])
+    writer.put(text, &[b"end", b"", b"", b"", b"", b"", b""])
 }

@@ -1,5 +1,5 @@
 //! What stands around the values of fields in their rows, found out once for many messages.
-ghost use Rattle.std.specs.Prelude.{◌≡◌, ◌<◌, ◌++◌, ◌∷◌, [], IfOk, IfSome, IsTrue, OnOk, option_map};
+ghost use Rattle.std.specs.Prelude.{◌≡◌, ◌∷◌, [], IfOk, IfSome, IsTrue, OnOk, option_map};
 ghost use Rattle.fit_base.specs.Fields.{HasShape};
 ghost use Rattle.fit_profile.specs.Names as names;
 ghost use Rattle.fit_profile.specs.Scaled.{IsScale};
@@ -8,9 +8,9 @@ ghost use Rattle.fit_cells.specs.Rows.{HasRows};
 ghost use Rattle.fit_csv.specs.ChainRows as rows;
 ghost use Rattle.fit_csv.specs.Frames.{head_text, tail_text};
 
-use crate::message_rows::unit_text;
+use crate::message_rows::{put_value, unit_text};
 use fit_base::{Code, Items};
-use fit_cells::{NumberForm, number_form, put_row_cell, put_shown};
+use fit_cells::{NumberForm, RowWriter, lone_number, number_form, put_cell, put_formed, row_text};
 use fit_profile::{Info, field_info, field_label};
 use fit_record::FieldDef;
 use std::alloc::{AllocError, Global};
@@ -20,18 +20,24 @@ use std::marker::Model;
 const KEPT: usize = 1024;
 
 /// What stands before the value of a field in its row.
+#[tactic(auto, using(crate::proofs::FramedRows::front_of_row))]
 fn head_of(alloc: Global, global: u16, number: u8) -> Result<Vec<u8>, AllocError>
     ensures { IfOk result (λ head. head.items ≡ head_text global number) }
 {
-    let mut head = Vec::new(alloc);
     let label = field_label(global, number);
-    head.extend_from_slice(b"field,")?;
-    put_shown(&mut head, label.as_str().as_bytes())?;
-    head.extend_from_slice(b",")?;
+    let cells = [
+        b"field".as_slice(),
+        label.as_str().as_bytes(),
+        b"".as_slice(),
+    ];
+    let mut head = row_text(alloc, cells.as_slice())?;
+    // without the line feed
+    head.truncate(head.len().saturating_sub(1));
     Ok(head)
 }
 
-/// What stands behind the value of a field in its row.
+/// What stands after the value of a field in its row.
+#[tactic(auto, using(crate::proofs::FramedRows::rest_of_row))]
 fn tail_of(
     alloc: Global,
     global: u16,
@@ -41,11 +47,35 @@ fn tail_of(
     requires { option_map names.meaning info ≡ names.field global number }
     ensures { IfOk result (λ tail. tail.items ≡ tail_text global number) }
 {
-    let mut tail = Vec::new(alloc);
-    tail.extend_from_slice(b",")?;
-    put_shown(&mut tail, unit_text(info).as_bytes())?;
-    tail.extend_from_slice(b",,,\n")?;
-    Ok(tail)
+    let cells = [
+        b"".as_slice(),
+        unit_text(info).as_bytes(),
+        b"".as_slice(),
+        b"".as_slice(),
+        b"".as_slice(),
+    ];
+    row_text(alloc, cells.as_slice())
+}
+
+/// Puts the row of a field through the crate csv.
+fn put_any(
+    text: &mut Vec<u8>,
+    writer: &mut RowWriter,
+    value: &mut Vec<u8>,
+    global: u16,
+    field: &FieldDef,
+    items: &Items,
+) -> Result<(), AllocError>
+    requires { HasShape field.now.code field.now.size items.now }
+    ensures { OnOk result (HasRows (rows.field_row global field.now items.now ∷ []) text.old text.new) }
+{
+    let info = field_info(global, field.number);
+    value.clear();
+    put_cell(value, Code(field.code), info, items)?;
+    let label = field_label(global, field.number);
+    let name = label.as_str().as_bytes();
+    let unit = unit_text(info).as_bytes();
+    put_value(text, writer, b"field", name, value.as_slice(), unit)
 }
 
 /// What stands around the value of a field of a base type in its row.
@@ -101,10 +131,22 @@ impl Frame {
         self.number == field.number && self.code == field.code && self.global == global
     }
 
-    /// Puts the row of its field.
+    /// The form and the bits of a value of its field that is just one number.
+    fn number(&self, items: &Items) -> Option<(NumberForm, u64)>
+        ensures small { IfSome result (λ p. IsSmall p.0) }
+        ensures form { IfSome result (λ p. IsFormOf self.now.code (names.field self.now.global self.now.number) p.0) }
+        ensures lone { IfSome result (λ p. (items.now.width ≡ p.0.width) × (items.now.bits ≡ p.1 ∷ [])) }
+    {
+        let form = self.form?;
+        let bits = lone_number(form, items)?;
+        Some((form, bits))
+    }
+
+    /// Puts the row of its field: a number alone between what stands around it, and any other value as the crate csv does.
     fn put(
         &self,
         text: &mut Vec<u8>,
+        writer: &mut RowWriter,
         value: &mut Vec<u8>,
         global: u16,
         field: &FieldDef,
@@ -114,8 +156,11 @@ impl Frame {
         requires shape { HasShape field.now.code field.now.size items.now }
         ensures { OnOk result (HasRows (rows.field_row global field.now items.now ∷ []) text.old text.new) }
     {
+        let Some((form, bits)) = self.number(items) else {
+            return put_any(text, writer, value, global, field, items);
+        };
         text.extend_from_slice(self.head.as_slice())?;
-        put_row_cell(text, value, Code(self.code), self.info, self.form, items)?;
+        put_formed(text, form, bits)?;
         text.extend_from_slice(self.tail.as_slice())?;
         Ok(())
     }
@@ -157,6 +202,7 @@ impl Frames {
     pub(crate) fn put_field(
         &mut self,
         text: &mut Vec<u8>,
+        writer: &mut RowWriter,
         value: &mut Vec<u8>,
         global: u16,
         field: &FieldDef,
@@ -168,11 +214,11 @@ impl Frames {
         let place = place_of(global, field.number);
         if let Some(Some(frame)) = self.kept.as_slice().get(place) {
             if frame.is_of(global, field) {
-                return frame.put(text, value, global, field, items);
+                return frame.put(text, writer, value, global, field, items);
             }
         }
         let frame = Frame::new(self.alloc, global, field)?;
-        frame.put(text, value, global, field, items)?;
+        frame.put(text, writer, value, global, field, items)?;
         self.keep(place, frame)
     }
 }

@@ -16,7 +16,6 @@ mod number;
 mod open_definition;
 mod open_file;
 mod open_message;
-mod plain;
 mod text;
 
 use crate::CsvFault;

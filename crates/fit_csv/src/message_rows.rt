@@ -1,5 +1,6 @@
 //! The rows of data messages.
-ghost use Rattle.std.specs.Prelude.{◌≡◌, ◌∷◌, ◌<◌, [], OnOk, Some, option_map, unwrap_or, length, map, zip};
+ghost use Rattle.std.specs.Prelude.{◌≡◌, ◌∷◌, ◌<◌, [], OnOk, Some, false, option_map, unwrap_or, length, map, zip};
+ghost use Rattle.csv.specs.Writing.{default_writer, needs_quotes};
 ghost use Rattle.fit_record.specs.Environment.{defined_at};
 ghost use Rattle.fit_record.specs.Records.{DataFits, Fits, HaveShape};
 ghost use Rattle.fit_record.specs.Sound.{IsSound};
@@ -14,7 +15,7 @@ use crate::definition_rows::{dev_slice, put_definition};
 use crate::dev_rows::put_dev_fields;
 use crate::frames::Frames;
 use fit_base::Items;
-use fit_cells::put_row_text;
+use fit_cells::RowWriter;
 use fit_profile::laws::instant_has_one_text;
 use fit_profile::{Info, Label, Stream, message_label, utc_text};
 use fit_record::{Defined, FieldDef, Record, Values};
@@ -23,7 +24,8 @@ use std::alloc::AllocError;
 
 /// The text of an instant.
 fn instant_text(time: u32) -> Label
-    ensures { result.bytes ≡ instant_text time }
+    ensures text { result.bytes ≡ instant_text time }
+    ensures plain { needs_quotes default_writer result.bytes ≡ false }
 {
     instant_has_one_text();
     utc_text(time)
@@ -31,7 +33,8 @@ fn instant_text(time: u32) -> Label
 
 /// The text of an instant, where there is one.
 pub(crate) fn time_text(time: Option<u32>) -> Label
-    ensures { result.bytes ≡ unwrap_or (option_map instant_text time) [] }
+    ensures text { result.bytes ≡ unwrap_or (option_map instant_text time) [] }
+    ensures plain { needs_quotes default_writer result.bytes ≡ false }
 {
     match time {
         Some(time) => instant_text(time),
@@ -62,6 +65,7 @@ pub(crate) fn unit_text(info: Option<Info>) -> &'static str
 /// Puts the row with which a data message begins, by the time of its header.
 pub(crate) fn put_data_row(
     text: &mut Vec<u8>,
+    writer: &mut RowWriter,
     values: &Values,
     global: u16,
     time: Option<u32>,
@@ -81,12 +85,13 @@ pub(crate) fn put_data_row(
         b"".as_slice(),
         b"".as_slice(),
     ];
-    put_row_text(text, cells.as_slice())
+    writer.put(text, cells.as_slice())
 }
 
 /// Puts the row of a name, a value and a unit behind a word.
 pub(crate) fn put_value<'a>(
     text: &mut Vec<u8>,
+    writer: &mut RowWriter,
     kind: &'a [u8],
     name: &'a [u8],
     value: &'a [u8],
@@ -103,12 +108,13 @@ pub(crate) fn put_value<'a>(
         b"".as_slice(),
         b"".as_slice(),
     ];
-    put_row_text(text, cells.as_slice())
+    writer.put(text, cells.as_slice())
 }
 
 /// Puts the rows of the fields of a message.
 pub(crate) fn put_fields(
     text: &mut Vec<u8>,
+    writer: &mut RowWriter,
     value: &mut Vec<u8>,
     frames: &mut Frames,
     global: u16,
@@ -120,7 +126,7 @@ pub(crate) fn put_fields(
     ensures { OnOk result (HasRows (rows.field_rows global fields.now items.now) text.old text.new) }
 {
     for (place, field) in fields.iter().enumerate() {
-        frames.put_field(text, value, global, field, &items[place])?;
+        frames.put_field(text, writer, value, global, field, &items[place])?;
     }
     Ok(())
 }
@@ -138,6 +144,7 @@ pub(crate) fn header_time(stream: &Stream, offset: Option<u8>) -> Option<u32>
 /// Puts the rows of a data message of this definition behind the records of a stream.
 fn put_values(
     text: &mut Vec<u8>,
+    writer: &mut RowWriter,
     value: &mut Vec<u8>,
     frames: &mut Frames,
     stream: &Stream,
@@ -151,10 +158,11 @@ fn put_values(
 {
     let definition = &defined.definition;
     let time = header_time(stream, values.offset);
-    put_data_row(text, values, definition.global, time)?;
+    put_data_row(text, writer, values, definition.global, time)?;
     let fields = definition.fields.as_slice();
     put_fields(
         text,
+        writer,
         value,
         frames,
         definition.global,
@@ -164,13 +172,23 @@ fn put_values(
     let fields = dev_slice(&definition.dev);
     let codes = defined.dev_codes.as_slice();
     let items = values.dev.as_slice();
-    put_dev_fields(text, value, stream, values.local, fields, codes, items)?;
+    put_dev_fields(
+        text,
+        writer,
+        value,
+        stream,
+        values.local,
+        fields,
+        codes,
+        items,
+    )?;
     Ok(())
 }
 
 /// Puts the rows of a record behind the records of a stream.
 pub(crate) fn put_record(
     text: &mut Vec<u8>,
+    writer: &mut RowWriter,
     value: &mut Vec<u8>,
     frames: &mut Frames,
     stream: &Stream,
@@ -180,9 +198,9 @@ pub(crate) fn put_record(
     ensures { OnOk result (HasRows (rows.record_rows stream.now record_.now) text.old text.new) }
 {
     match record_ {
-        Record::Define(definition) => put_definition(text, definition),
+        Record::Define(definition) => put_definition(text, writer, definition),
         Record::Values(values) => match stream.env().defined(values.local) {
-            Some(defined) => put_values(text, value, frames, stream, defined, values),
+            Some(defined) => put_values(text, writer, value, frames, stream, defined, values),
             None => unreachable!(),
         },
     }

@@ -6,6 +6,7 @@ ghost use Rattle.fit_csv.specs.Reporting.{AnswerFits, answer_rows, behind_answer
 use crate::file_rows::{put_end_row, put_file_row};
 use crate::frames::Frames;
 use crate::message_rows::put_record;
+use fit_cells::RowWriter;
 use fit_decode::Event;
 use fit_profile::Stream;
 use fit_profile::laws::looking_back_is_learning;
@@ -18,6 +19,7 @@ use std::marker::Model;
 #[tactic(auto, using(fit_cells::proofs::AddedRows::rows_none))]
 fn put_event(
     text: &mut Vec<u8>,
+    writer: &mut RowWriter,
     value: &mut Vec<u8>,
     frames: &mut Frames,
     stream: &Stream,
@@ -28,9 +30,9 @@ fn put_event(
 {
     match event {
         Event::More => Ok(()),
-        Event::Header(header, _) => put_file_row(text, value, header),
-        Event::Item(record_) => put_record(text, value, frames, stream, record_),
-        Event::FileEnd => put_end_row(text),
+        Event::Header(header, _) => put_file_row(text, writer, value, header),
+        Event::Item(record_) => put_record(text, writer, value, frames, stream, record_),
+        Event::FileEnd => put_end_row(text, writer),
     }
 }
 
@@ -57,6 +59,7 @@ pub(crate) fn follow(stream: &mut Stream, event: &Event) -> Result<(), AllocErro
 #[derive(Drop)]
 pub(crate) struct CsvReport {
     stream: Stream,
+    writer: RowWriter,
     /// The memory of a cell.
     value: Vec<u8>,
     frames: Frames,
@@ -83,6 +86,7 @@ impl CsvReport {
     {
         CsvReport {
             stream: Stream::new(alloc),
+            writer: RowWriter::new(alloc),
             value: Vec::new(alloc),
             frames: Frames::new(alloc),
             heard: Heard::new(),
@@ -105,7 +109,14 @@ impl Report for CsvReport {
     {
         heard_records_fit::<Global>();
         looking_back_is_learning::<Global>();
-        put_event(text, &mut self.value, &mut self.frames, &self.stream, event)?;
+        put_event(
+            text,
+            &mut self.writer,
+            &mut self.value,
+            &mut self.frames,
+            &self.stream,
+            event,
+        )?;
         follow(&mut self.stream, event)?;
         self.heard.add(event);
         Ok(())

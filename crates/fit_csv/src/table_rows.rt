@@ -1,17 +1,16 @@
 //! The rows of the table.
-ghost use Rattle.std.specs.Prelude.{◌≡◌, ◌≤◌, ◌++◌, ◌∷◌, IfSome, OnOk, [], decimal, option_and_then, option_map, pos, slice_get, unwrap_or};
-ghost use Rattle.csv.specs.Writing.{default_writer, fields_text};
+ghost use Rattle.std.specs.Prelude.{◌≡◌, ◌≤◌, ◌++◌, ◌∷◌, IfSome, OnOk, [], decimal, false, option_and_then, option_map, pos, slice_get, unwrap_or};
+ghost use Rattle.csv.specs.Writing.{default_writer, fields_text, needs_quotes};
 ghost use Rattle.fit_record.specs.Faults.{or_else};
 ghost use Rattle.fit_profile.specs.Meant.{shown};
 ghost use Rattle.fit_profile.specs.Values as values;
 ghost use Rattle.fit_csv.specs.Degrees.{degrees_of};
 ghost use Rattle.fit_csv.specs.Table as table;
 ghost use Rattle.fit_cells.specs.Rows.{HasRows};
-ghost use Rattle.fit_csv.specs.TableCells.{HasFewDecimals, cells_of, shown_text};
+ghost use Rattle.fit_csv.specs.TableCells.{IsPlain, cells_of, shown_text};
 
 use crate::message_rows::time_text;
 use fit_base::Items;
-use fit_cells::put_next;
 use fit_profile::laws::degrees_are_one;
 use fit_profile::{Fixed, Label, Message, degrees, put_whole};
 use std::alloc::AllocError;
@@ -118,7 +117,7 @@ fn position(message: &Message, number: u8) -> Option<Fixed>
 /// The row of a record message of a file.
 fn table_row(message: &Message, file: u64) -> TableRow
     ensures cells { cells_of result ≡ table.table_row file (shown message.now).definition (shown message.now).values (shown message.now).told }
-    ensures few { HasFewDecimals result }
+    ensures plain { IsPlain result }
 {
     TableRow {
         file,
@@ -140,15 +139,18 @@ fn table_row(message: &Message, file: u64) -> TableRow
 
 /// Puts the first two cells of a row behind a text.
 fn put_first(text: &mut Vec<u8>, row: &TableRow) -> Result<(), AllocError>
+    requires { needs_quotes default_writer row.now.timestamp.bytes ≡ false }
     ensures { OnOk result (text.new.items ≡ text.old.items ++ (decimal row.now.file ++ fields_text default_writer (row.now.timestamp.bytes ∷ []))) }
 {
     put_whole(text, row.file)?;
-    put_next(text, row.timestamp.as_str().as_bytes())
+    text.push(b',')?;
+    text.extend_from_slice(row.timestamp.as_str().as_bytes())?;
+    Ok(())
 }
 
 /// Puts a row behind a text.
 fn put_cells(text: &mut Vec<u8>, row: &TableRow) -> Result<(), AllocError>
-    requires { HasFewDecimals row.now }
+    requires { IsPlain row.now }
     ensures { OnOk result (HasRows (cells_of row.now ∷ []) text.old text.new) }
 {
     put_first(text, row)?;

@@ -1,10 +1,10 @@
 //! Judges the rows of a text.
-ghost use Rattle.std.specs.Prelude.{◌≡◌, ◌↔◌, ◌<◌, ◌+◌, ◌^◌, ◌∷◌, ◌++◌, [], None, IfErr, IfOk, IfSome, IsTrue, OnOk, OnSome, length};
+ghost use Rattle.std.specs.Prelude.{◌≡◌, ◌↔◌, ◌<◌, ◌+◌, ◌^◌, ◌∷◌, [], None, IfErr, IfOk, IsTrue, OnOk, length};
 ghost use Rattle.csv.specs.Records.{fields_of};
 ghost use Rattle.fit_csv.specs.declared.from.chain.Chain.{Chain};
 ghost use Rattle.fit_csv.specs.Judged.{AreFilesOf, IsRowFault, IsTextFault};
 ghost use Rattle.fit_csv.specs.Progress.{ChainStep};
-ghost use Rattle.fit_cells.specs.Rows.{HasRead, csv_text, first_line};
+ghost use Rattle.fit_cells.specs.Rows.{HasRead, first_line};
 ghost use Rattle.fit_csv.specs.Seven.{row_of};
 ghost use Rattle.fit_csv.specs.SoundChain.{IsSoundChain};
 
@@ -12,7 +12,6 @@ use crate::CsvFault;
 use crate::from::cells::{Cells, cells_of, same};
 use crate::from::chain::Chain;
 use crate::from::misfit::Misfit;
-use crate::from::plain::plain_row;
 use csv::{ByteRecord, Reader};
 use fit_base::Entries;
 use fit_cells::{next_row, row_reader};
@@ -110,64 +109,11 @@ fn judge_rest(
     unreachable!()
 }
 
-/// What stands behind the first line of a text, where that stands as `to_csv` writes it.
-fn behind_first_line(text: &[u8]) -> Option<&[u8]>
-    ensures { IfSome result (λ rest. text.now ≡ csv_text (first_line ∷ []) ++ rest.now) }
-{
-    let (cells, rest) = plain_row(text)?;
-    if !are_first_line(&cells) {
-        return None;
-    }
-    Some(rest)
-}
-
-/// The files of a chain that is whole.
-fn files_of(chain: Chain) -> Option<Entries<FitFile>>
-    ensures { IfSome result (λ files. (chain.current ≡ None) × (files ≡ chain.files) × (0 < length files)) }
-{
-    match whole_files(chain, 0) {
-        Ok(files) => Some(files),
-        Err(_) => None,
-    }
-}
-
-/// Takes the next row of a chain.
-fn take_plain(alloc: Global, written: &mut Vec<u8>, chain: &mut Chain, cells: &Cells) -> Option<()>
-    requires { IsSoundChain chain.old }
-    ensures { OnSome result (ChainStep chain.old (row_of cells.now) chain.new) }
-{
-    match chain.take_row(alloc, written, cells) {
-        Ok(()) => Some(()),
-        Err(_) => None,
-    }
-}
-
-/// The files whose rows are those of a text, where these stand as `to_csv` writes them, without quotes.
-fn judge_plain(alloc: Global, text: &[u8]) -> Option<Entries<FitFile>>
-    ensures { IfSome result (AreFilesOf text.now) }
-{
-    let mut rest = behind_first_line(text)?;
-    let mut chain = Chain::new(alloc);
-    let mut written = Vec::new(alloc);
-    for _ in 0..text.len() {
-        if rest.is_empty() {
-            return files_of(chain);
-        }
-        let (cells, left) = plain_row(rest)?;
-        take_plain(alloc, &mut written, &mut chain, &cells)?;
-        rest = left;
-    }
-    None
-}
-
 /// The files whose rows are those of a text, or the first fault of its rows.
 pub(crate) fn judge(alloc: Global, text: &[u8]) -> Result<Entries<FitFile>, CsvFault>
     ensures ok { IfOk result (AreFilesOf text.now) }
     ensures err { IfErr result (IsTextFault text.now) }
 {
-    if let Some(files) = judge_plain(alloc, text) {
-        return Ok(files);
-    }
     let mut reader = row_reader(alloc, text);
     let mut row = ByteRecord::new(alloc);
     let Ok(found) = next_row(&mut reader, &mut row) else {

@@ -21,7 +21,7 @@ returns-in-Some-clause-err c =
     (time_cell c.args.before.now c.offset_in-offset.result) [] [] in
     let ec : c.as_bytes.result.now ≡ message_label (global_at c.args.before.now c.args.local) =
     c.as_bytes.ensures.value ∙ c.as_str.ensures.value ∙ c.message_label-label.ensures ∙ ap message_label c.global_at.ensures in
-    let ed : c.as_bytes-2.result.now ≡ time_cell c.args.before.now c.offset_in-offset.result = c.as_bytes-2.ensures.value ∙ c.as_str-2.ensures.value ∙ c.time_text-time.ensures ∙ ap (λ t. unwrap_or (option_map instant_text t) []) c.header_time.ensures in
+    let ed : c.as_bytes-2.result.now ≡ time_cell c.args.before.now c.offset_in-offset.result = c.as_bytes-2.ensures.value ∙ c.as_str-2.ensures.value ∙ c.time_text-time.ensures.text ∙ ap (λ t. unwrap_or (option_map instant_text t) []) c.header_time.ensures in
     let differs : DifferAt c.in-Some.column shown (row_of c.args.cells.now) =
     subst (λ (r : Row). DifferAt c.in-Some.column r (row_of c.args.cells.now)) (same-cells c.requires.kind (sym c.requires.shown) c.optional_number.ensures ec ed refl refl) c.in-Some.ensures.some in
     closest (IsMessageRow before) (row_of c.args.cells.now) shown c.in-Some.column

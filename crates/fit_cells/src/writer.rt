@@ -1,0 +1,105 @@
+//! Rows put behind texts, through the crate `csv`.
+ghost use Rattle.std.specs.Prelude.{◌≡◌, ◌≤◌, ◌++◌, ◌∷◌, [], IfOk, OnOk, drop, false, length, map};
+ghost use Rattle.fit_cells.specs.Rows.{HasRows, IsBetweenRows, written};
+
+use crate::rows::{put_row, row_writer};
+use csv::Writer;
+use std::alloc::{AllocError, Global};
+use std::marker::Model;
+
+/// A writer whose text is longer than this is let go.
+const LONG: usize = 64 * 1024;
+
+/// Brings all that was written to the text underneath, and answers how long that is.
+fn flushed_len(writer: &mut Writer<Vec<u8>>) -> Result<usize, AllocError>
+    requires { IsBetweenRows writer.old }
+    ensures between { OnOk result (IsBetweenRows writer.new) }
+    ensures same { OnOk result (written writer.new ≡ written writer.old) }
+    ensures len { IfOk result (λ len. len ≡ length (written writer.new)) }
+{
+    match writer.flush() {
+        Ok(()) => Ok(writer.get_ref().len()),
+        Err(_) => Err(AllocError),
+    }
+}
+
+/// Puts what was written after that many bytes behind a text.
+fn copy_behind(
+    writer: &mut Writer<Vec<u8>>,
+    start: usize,
+    text: &mut Vec<u8>,
+) -> Result<(), AllocError>
+    requires between { IsBetweenRows writer.old }
+    requires start { start ≤ length (written writer.old) }
+    ensures between { OnOk result (IsBetweenRows writer.new) }
+    ensures text { OnOk result (text.new.items ≡ text.old.items ++ drop start (written writer.old)) }
+{
+    if writer.flush().is_err() {
+        return Err(AllocError);
+    }
+    let rows = writer.get_ref().as_slice();
+    text.extend_from_slice(&rows[start..])
+}
+
+/// Makes a writer fit for the next rows, after it wrote some with this result. It is used again, as a new one would move its
+/// buffer of 8 KiB several times; it is made anew where it failed, and where its text has become long.
+fn renew(alloc: Global, writer: &mut Writer<Vec<u8>>, failed: bool)
+    requires { (failed ≡ false) → IsBetweenRows writer.old }
+    ensures { IsBetweenRows writer.new }
+{
+    if failed || writer.get_ref().len() > LONG {
+        *writer = row_writer(Vec::new(alloc));
+    }
+}
+
+/// Writes a row, and puts its text behind another one.
+#[tactic(auto, using(crate::proofs::AddedRows::rows_copied))]
+fn put_behind(
+    writer: &mut Writer<Vec<u8>>,
+    text: &mut Vec<u8>,
+    cells: &[&[u8]],
+) -> Result<(), AllocError>
+    requires { IsBetweenRows writer.old }
+    ensures between { OnOk result (IsBetweenRows writer.new) }
+    ensures rows { OnOk result (HasRows (map (λ f. f.now) cells.now ∷ []) text.old text.new) }
+{
+    let start = flushed_len(writer)?;
+    put_row(writer, cells)?;
+    copy_behind(writer, start, text)
+}
+
+/// Puts rows behind texts, through the crate `csv`. All rows of one have the same number of cells.
+#[derive(Drop)]
+pub struct RowWriter {
+    writer: Writer<Vec<u8>>,
+    alloc: Global,
+}
+
+impl Model for RowWriter {
+    ghost use Rattle.fit_cells.specs.Rows.{IsBetweenRows};
+
+    ghost Value = { Unit {0} };
+
+    ghost view = { λ w. tt };
+
+    ghost invariant = { λ w. IsBetweenRows w.writer };
+}
+
+impl RowWriter {
+    /// It has written nothing.
+    pub fn new(alloc: Global) -> Self {
+        RowWriter {
+            writer: row_writer(Vec::new(alloc)),
+            alloc,
+        }
+    }
+
+    /// Puts a row behind a text: each cell in quotes where it needs them.
+    pub fn put(&mut self, text: &mut Vec<u8>, cells: &[&[u8]]) -> Result<(), AllocError>
+        ensures { OnOk result (HasRows (map (λ f. f.now) cells.now ∷ []) text.old text.new) }
+    {
+        let put = put_behind(&mut self.writer, text, cells);
+        renew(self.alloc, &mut self.writer, put.is_err());
+        put
+    }
+}
