@@ -46,3 +46,5 @@ pub mod Holding
 pub mod NextRead
 pub mod ChainRead
 pub mod Skimming
+pub mod Checking
+pub mod FilesEnded
