@@ -197,7 +197,9 @@ impl<A: Allocator + Copy> Decoder<A> {
 
     /// How many files have ended; after a refusal 0.
     pub fn files(&self) -> u64
-        ensures files { self.now.refusal ≡ None → (fs : List (FitFile A)) (g : Progress A) → HasCome fs g self.now.bytes → result ≡ length fs }
+        // They are those that are whole in the bytes fed.
+        ensures files { self.now.refusal ≡ None → (fs : List (FitFile A)) (g : Progress A)
+            → HasCome fs g self.now.bytes → result ≡ length fs }
         ensures refused { (reason : Reason) → self.now.refusal ≡ Some reason → result ≡ 0 }
     {
         if self.refusal.is_some() {
