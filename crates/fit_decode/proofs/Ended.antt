@@ -16,6 +16,10 @@ use Rattle.fit_decode.proofs.Whole.{unfinished}
 abbrev pub HasEnded : {A : Type 0} → Fields A → Type 0
 HasEnded d = (d.section ≡ Header) × (0 < d.count) × (d.reader.bytes ≡ [])
 
+-- all files of a chain have come, and nothing of a next one
+pub chain_come : {A : Type 0} (bytes : List ℕ) (chain : AreChain A bytes) → HasCome chain.0 (at_header []) bytes
+chain_come {A} bytes chain = record { files = chain.1.0.each; next = unfinished A [] (λ h n rest fits is. cc); spelled = chain.1.1 ∙ sym (append-nil (chain_bytes chain.0)) }
+
 module _ {A : Type 0} (d : Fields A) (bytes : List ℕ) where
   pub ended_chain : Holds d bytes → HasEnded d → AreChain A bytes
   ended_chain holds (at, some, none) =
@@ -24,15 +28,12 @@ module _ {A : Type 0} (d : Fields A) (bytes : List ℕ) where
       let within : length k.files ≤ chain_limit = subst (λ l. files_begun k.files (at_header l) ≤ chain_limit) empty k.goes.1 in
       (k.files, (record { some = omega (arith, some, k.counted); within = within; each = k.come.files }, k.come.spelled ∙ ap (λ l. chain_bytes k.files ++ l) empty ∙ append-nil (chain_bytes k.files)))
 
-  chain_come : (chain : AreChain A bytes) → HasCome chain.0 (at_header []) bytes
-  chain_come chain = record { files = chain.1.0.each; next = unfinished A [] (λ h n rest fits is. cc); spelled = chain.1.1 ∙ sym (append-nil (chain_bytes chain.0)) }
-
   no_data : {P : Type 0} (files : List (FitFile A)) (g : Progress A) → HasCome files g bytes → AreChain A bytes → (g ≡ at_header [] → P) → P
-  no_data files g come chain go = go (one_place files chain.0 g (at_header []) bytes come (chain_come chain)).1
+  no_data files g come chain go = go (one_place files chain.0 g (at_header []) bytes come (chain_come bytes chain)).1
 
   chain_at : (s : Section) → HoldsAt s d bytes → d.section ≡ s → AreChain A bytes → HasEnded d
   chain_at Header k at chain =
-      let same = one_place k.files chain.0 (at_header d.sum) (at_header []) bytes k.come (chain_come chain) in
+      let same = one_place k.files chain.0 (at_header d.sum) (at_header []) bytes k.come (chain_come bytes chain) in
       let empty : d.sum ≡ [] = cc same.1 in
       (at, omega (arith, chain.1.0.some, k.counted, ap length same.0), ap (λ (r : Seen). r.bytes) k.read ∙ empty)
   chain_at Data k at chain = no_data k.files (at_data k.header k.size k.records k.part) k.come chain (λ e. absurd cc)

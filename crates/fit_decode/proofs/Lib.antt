@@ -48,3 +48,5 @@ pub mod ChainRead
 pub mod Skipping
 pub mod Nearly
 pub mod HeldRows
+pub mod Checking
+pub mod FilesEnded

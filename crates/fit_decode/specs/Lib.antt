@@ -17,3 +17,4 @@ pub mod Sources
 pub mod Reads
 pub mod Turns
 pub mod Between
+pub mod Checks

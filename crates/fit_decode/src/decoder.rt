@@ -2,8 +2,10 @@
 ghost use Rattle.std.specs.Prelude.{◌≡◌, ◌↔◌, ℕ, ◌<◌, ◌≤◌, List, [], ◌++◌, length, take, Some, None, Ok, Err, IfOk, IsErr, IsOk, IsTrue};
 ghost use Rattle.fit_frame.specs.declared.reason.Reason.{Reason};
 ghost use Rattle.fit_record.specs.Files.{chain_limit, IsViable};
+ghost use Rattle.fit_record.specs.declared.file.FitFile.{FitFile};
 ghost use Rattle.fit_decode.specs.Events.{Event as Told, AreEvents};
 ghost use Rattle.fit_decode.specs.Held.{bound_limit, IsHeld};
+ghost use Rattle.fit_decode.specs.Progress.{HasCome, Progress};
 ghost use Rattle.fit_decode.specs.Needs.{Needs, NoFileEndsBefore};
 ghost use Rattle.fit_decode.specs.Answers.{told, fed, Quiet, Least, Refuses, Wants, AreChain, TellsRecords};
 
@@ -195,6 +197,19 @@ impl<A: Allocator + Copy> Decoder<A> {
         } else {
             Err(Fault::Truncated { place: self.count })
         }
+    }
+
+    /// How many files have ended; after a refusal 0.
+    pub fn files(&self) -> u64
+        // They are those that are whole in the bytes fed.
+        ensures files { self.now.refusal ≡ None → (fs : List (FitFile A)) (g : Progress A)
+            → HasCome fs g self.now.bytes → result ≡ length fs }
+        ensures refused { (reason : Reason) → self.now.refusal ≡ Some reason → result ≡ 0 }
+    {
+        if self.refusal.is_some() {
+            return 0;
+        }
+        u64::from(self.files)
     }
 
     /// How many bytes are to come at least until a file ends: before a file 14, or 1 where no file may follow, and

@@ -1,6 +1,7 @@
 //! Reads FIT files: what the bytes of a chain of files tell, piece by piece.
 #![tactic(auto)]
 
+mod check;
 mod decoder;
 mod event;
 mod held;
@@ -12,6 +13,7 @@ mod scan;
 mod section;
 mod source;
 
+pub use check::check_bytes;
 pub use decoder::Decoder;
 pub use event::{Event, Fault, Fed};
 pub use readers::{Reading, read_chain, read_one};

@@ -5,7 +5,7 @@ use Rattle.fit_record.specs.declared.file.FitFile.{FitFile}
 use Rattle.fit_decode.specs.declared.event.Fault.{Fault}
 use Rattle.fit_decode.specs.declared.event.Fault.TheVariants.{Refused, Truncated, NoMemory, Read}
 use Rattle.fit_decode.specs.Reads.{GivesFile}
-use Rattle.fit_examples.specs.Uploads.{IsWantOfMemory}
+use Rattle.fit_decode.specs.Checks.{IsWantOfMemory}
 
 -- where a file begins the bytes of a source that doesn't fail, memory alone can be wanting
 pub front_fault : (f : FitFile Global) (n : ℕ) (x : List ℕ) (left : Option (List ℕ)) (failed : Bool) (fault : Fault) → failed ≡ false → GivesFile f n x left failed (Err fault) → IsWantOfMemory fault

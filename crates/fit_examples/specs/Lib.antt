@@ -1,4 +1,3 @@
-pub mod Uploads
 pub mod Tables
 pub mod Recordings
 pub mod RoundTrips

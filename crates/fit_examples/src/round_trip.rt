@@ -5,7 +5,7 @@ ghost use Rattle.fit_record.specs.declared.file.FitFile.{FitFile};
 ghost use Rattle.fit_record.specs.Files.{IsFile, IsWellFormed};
 ghost use Rattle.fit_encode.specs.Faults.{IfRefused, IsFirstFault};
 ghost use Rattle.fit_examples.specs.RoundTrips.{IsWantOfMemory};
-ghost use Rattle.fit_examples.specs.Uploads.{IsWantOfMemory as WantsMemory};
+ghost use Rattle.fit_decode.specs.Checks.{IsWantOfMemory as WantsMemory};
 
 use fit_decode::{Fault, read_one};
 use fit_encode::laws::good_chains_have_no_fault;

@@ -2,7 +2,7 @@
 ghost use Rattle.std.specs.Prelude.{IfErr, OnOk};
 ghost use Rattle.std.specs.declared.alloc.Global.{Global};
 ghost use Rattle.fit_decode.specs.Answers.{AreChain};
-ghost use Rattle.fit_examples.specs.Uploads.{IsFaultOf, IsWantOfMemory};
+ghost use Rattle.fit_decode.specs.Checks.{IsFaultOf, IsWantOfMemory};
 
 use fit_decode::{Decoder, Fault};
 use std::alloc::Global;

@@ -3,7 +3,7 @@ use Rattle.std.proofs.Common.{Err, ap, length, subst, sym, ◌∙◌}
 use Rattle.std.proofs.lemmas.Bool.{eqb-true}
 use Rattle.std.proofs.lemmas.Result.{err_from_is_err_and}
 use Rattle.fit_base.proofs.ByteLists.{slice_is_bytes}
-use Rattle.fit_examples.proofs.Uploading.{Feeds, bad_end, chain_end, feeds_on, good_end, stopped}
+use Rattle.fit_decode.proofs.Checking.{Feeds, bad_end, chain_end, feeds_on, good_end, stopped}
 use Rattle.fit_examples.proofs.upload.check_upload.Goals as goal
 
 pub loop-rest-preserved-in_ok-fed : goal.loop-rest-preserved-in_ok-fed

@@ -1,5 +1,5 @@
 use Rattle.std.proofs.Common.{length}
-use Rattle.fit_examples.proofs.Uploading.{Feeds}
+use Rattle.fit_decode.proofs.Checking.{Feeds}
 use Rattle.fit_examples.proofs.upload.check_upload.Given as goal
 
 abbrev pub invariant-loop-rest : goal.invariant-loop-rest

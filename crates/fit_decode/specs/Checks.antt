@@ -1,11 +1,16 @@
--- What is wrong with an upload.
+-- What is found of bytes that are all in memory.
 use Rattle.std.specs.Prelude.{◌≡◌, ℕ, ◌<◌, List, take, length, slice_index}
 use Rattle.std.specs.declared.alloc.Global.{Global}
-use Rattle.fit_record.specs.Files.{IsViable, chain_limit}
+use Rattle.fit_record.specs.declared.file.FitFile.{FitFile}
+use Rattle.fit_record.specs.Files.{IsChain, IsViable, chain_limit}
 use Rattle.fit_decode.specs.declared.event.Fault.{Fault}
 use Rattle.fit_decode.specs.declared.event.Fault.TheVariants.{Refused, Truncated, NoMemory, Read}
 use Rattle.fit_decode.specs.Answers.{AreChain}
 use Rattle.fit_decode.specs.Refusals.{IsRefused}
+
+-- That many files, one after another, have these bytes.
+abbrev pub AreFiles : List ℕ → ℕ → Type 0
+AreFiles bytes count = (files : List (FitFile Global)) × IsChain chain_limit files bytes × (length files ≡ count)
 
 -- Why these bytes aren't known to be a chain of files: the byte at the place is the first one with which none begins; or they begin
 -- one, and are none; or memory was refused.

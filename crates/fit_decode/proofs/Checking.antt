@@ -1,4 +1,4 @@
--- An upload is fed to a decoder from its front: what was fed, and the rest.
+-- Bytes in memory are fed to a decoder from their front: what was fed, and the rest.
 use Rattle.std.proofs.Common.{◌≡◌, ℕ, suc, ◌+◌, ◌<◌, List, [], ◌∷◌, ◌++◌, length, take, drop, get_or, None, Result, Ok, Err, refl, sym, ap, ◌∙◌, subst, append_assoc, length-append, arith}
 use Rattle.std.specs.Prelude.{IfErr, IsErr, IsOk, OnOk, ◌↔◌}
 use Rattle.std.specs.declared.alloc.Global.{Global}
@@ -6,12 +6,15 @@ use Rattle.std.proofs.lemmas.List.{append-nil, get_or-append-add, take-append-dr
 use Rattle.std.proofs.Math.Seq.{drop-cons, take-append-add}
 use Rattle.fit_base.specs.Numbers.{IsBytes}
 use Rattle.fit_frame.specs.declared.reason.Reason.{Reason}
+use Rattle.fit_record.specs.declared.file.FitFile.{FitFile}
 use Rattle.fit_record.specs.Files.{IsChain, IsViable, chain_limit}
 use Rattle.fit_decode.specs.declared.event.Fault.{Fault}
 use Rattle.fit_decode.specs.declared.event.Fault.TheVariants.{Refused, Truncated, NoMemory, Read}
+use Rattle.fit_decode.specs.Progress.{Progress, at_header, HasCome}
 use Rattle.fit_decode.specs.Answers.{AreChain, Refuses, Seen, fed}
 use Rattle.fit_decode.specs.Refusals.{IsRefused}
-use Rattle.fit_examples.specs.Uploads.{IsFaultOf, IsWantOfMemory}
+use Rattle.fit_decode.specs.Checks.{AreFiles, IsFaultOf, IsWantOfMemory}
+use Rattle.fit_decode.proofs.Ended.{chain_come}
 
 -- ---- feeding
 
@@ -31,6 +34,12 @@ feeds_on upload old new rest used f after viable = record {
   fresh = ap (λ (v : Seen). v.refusal) after;
   viable = viable;
 }
+
+-- what was passed over counts as fed
+pub feeds_over : (upload : List ℕ) (old new : Seen) (rest : List ℕ) (used : ℕ) → Feeds upload old rest → new ≡ record old { bytes = old.bytes ++ take used rest }
+    → IsViable Global chain_limit new.bytes → Feeds upload new (drop used rest)
+feeds_over upload old new rest used f after viable =
+    feeds_on upload old new rest used f (after ∙ ap (λ r. record { bytes = old.bytes ++ take used rest; refusal = r }) f.fresh) viable
 
 -- ---- faults
 
@@ -97,6 +106,13 @@ bad_end upload seen rest (Err fault) f none e =
     let whole : IsFaultOf seen.bytes (Truncated (length seen.bytes)) = (refl, f.viable, λ done. let ok = e.good.1 (f.fresh, done) in absurd cc) in
     rw same (subst (λ bytes. IsFaultOf bytes (Truncated (length seen.bytes))) all whole)
 
-pub chain_end : (upload : List ℕ) (result : Result (Unit {0}) Fault) → IsBytes upload → IfErr result (IsFaultOf upload) → AreChain Global upload → IfErr result IsWantOfMemory
-chain_end upload (Ok u) are fault chain = tt
+-- the files that have ended are all files of the chain
+pub counted_end : (upload : List ℕ) (seen : Seen) (rest : List ℕ) (count : ℕ) → Feeds upload seen rest → length rest ≡ 0 → AreChain Global upload
+    → (seen.refusal ≡ None → (fs : List (FitFile Global)) (g : Progress Global) → HasCome fs g seen.bytes → count ≡ length fs) → AreFiles upload count
+counted_end upload seen rest count f none (files, chain) counts =
+    let come = subst (HasCome files (at_header [])) (sym (at_end upload seen rest f none)) (chain_come upload (files, chain)) in
+    (files, chain, sym (counts f.fresh files (at_header []) come))
+
+pub chain_end : {X : Type 0} (upload : List ℕ) (result : Result X Fault) → IsBytes upload → IfErr result (IsFaultOf upload) → AreChain Global upload → IfErr result IsWantOfMemory
+chain_end upload (Ok x) are fault chain = tt
 chain_end upload (Err fault) are is chain = fault_of_chain upload fault are is chain

@@ -1,0 +1,60 @@
+/* Says of a file whether it is a FIT file, and writes the first lines of its table: demo FILE */
+#include "fit.h"
+
+#include <stdio.h>
+
+/* The bytes of a file; NULL where it can't be read. */
+static uint8_t *load(const char *path, size_t *length)
+{
+    FILE *file = fopen(path, "rb");
+    uint8_t *bytes = NULL;
+    *length = 0;
+    if (file == NULL)
+        return NULL;
+    for (size_t room = 65536;; room *= 2) {
+        uint8_t *more = (uint8_t *)realloc(bytes, room);
+        if (more == NULL)
+            break;
+        bytes = more;
+        *length += fread(bytes + *length, 1, room - *length, file);
+        if (*length < room) {
+            if (ferror(file))
+                break;
+            fclose(file);
+            return bytes;
+        }
+    }
+    free(bytes);
+    fclose(file);
+    return NULL;
+}
+
+int main(int argc, char **argv)
+{
+    size_t length;
+    uint8_t *bytes = argc == 2 ? load(argv[1], &length) : NULL;
+    if (bytes == NULL) {
+        fprintf(stderr, "usage: demo FILE\n");
+        return 2;
+    }
+
+    fit_answer found = fit_check(bytes, length);
+    switch (found.status) {
+    case FIT_GOOD: printf("good, %llu file(s)\n", (unsigned long long)found.files); break;
+    case FIT_REFUSED: printf("refused at byte %llu, reason %u\n", (unsigned long long)found.place, (unsigned)found.reason); break;
+    case FIT_TRUNCATED: printf("truncated at byte %llu\n", (unsigned long long)found.place); break;
+    default: printf("out of memory\n");
+    }
+
+    /* Also of a file that is refused there is a table, of what comes before. */
+    fit_text table = FIT_NO_TEXT;
+    fit_table(bytes, length, &table);
+    size_t end = 0;
+    for (int lines = 0; end < table.length && lines < 3; end++)
+        lines += table.bytes[end] == '\n';
+    fwrite(table.bytes, 1, end, stdout);
+    fit_free(table);
+
+    free(bytes);
+    return found.status == FIT_GOOD ? 0 : 1;
+}

@@ -1,0 +1,54 @@
+-- What a text has that was handed over.
+use Rattle.std.proofs.Common.{◌≡◌, inr, inl, true, false, Bool, ℕ, List, [], Option, Some, None, Result, Ok, Err, ◌++◌, refl, sym, ap, ◌∙◌, subst}
+use Rattle.std.specs.Prelude.{OnOk, flat_map, is_ok, reverse}
+use Rattle.std.specs.declared.alloc.Global.{Global}
+use Rattle.std.specs.Io.KnownBytes.{Appends}
+use Rattle.fit_record.specs.declared.file.FitFile.{FitFile}
+use Rattle.fit_decode.specs.declared.event.Fault.TheVariants as faults
+use Rattle.fit_decode.specs.Events.{file_events}
+use Rattle.fit_report.specs.declared.fault.ReportFault.{ReportFault}
+use Rattle.fit_report.specs.declared.fault.ReportFault.TheVariants as reports
+use Rattle.fit_report.specs.Heard.{Lines, text_of}
+use Rattle.fit_report.specs.Reports.{Channel, ReportsChain}
+use Rattle.fit_csv.specs.declared.fault.CsvFault.{CsvFault}
+use Rattle.fit_csv.specs.declared.fault.CsvFault.TheVariants as csv
+use Rattle.fit_csv.specs.FromText.{FromText, FromTextOf, IsTextOf}
+use Rattle.fit_c.specs.Answers.{IsTextUnlessWant, answer, report_answer}
+use Rattle.fit_c.proofs.Said.{conversion_bad}
+
+-- what was put in a sink that was empty is all that it has
+put : (before after : Option (List ℕ)) (items text : List ℕ) → before ≡ Some [] → Some items ≡ after → Appends before after text → items ≡ text
+put (Some zs) (Some xs) items text none is more = let one : items ≡ xs = cc in let two : zs ≡ [] = cc in one ∙ more ∙ ap (λ z. z ++ text) two
+put (Some zs) None items text none is more = absurd more
+put None after items text none is more = absurd cc
+
+pub shown_chain : (line : Lines Global) (fs : List (FitFile Global)) (source sink : Channel) (r : Result (Unit {0}) ReportFault) (items : List ℕ)
+    → source.failed ≡ false → sink.before ≡ Some [] → Some items ≡ sink.after → ReportsChain line fs source sink r
+    → IsTextUnlessWant (text_of line (reverse (flat_map file_events fs))) (report_answer r) items
+shown_chain line fs source sink (Ok u) items works none is told = inr (refl, put sink.before sink.after items _ none is told)
+shown_chain line fs source sink (Err (reports.Decode (faults.Read place))) items works none is bad = let both : true ≡ false = sym bad ∙ works in absurd cc
+shown_chain line fs source sink (Err (reports.Decode (faults.Refused place reason))) items works none is bad = absurd bad
+shown_chain line fs source sink (Err (reports.Decode (faults.Truncated place))) items works none is bad = absurd bad
+shown_chain line fs source sink (Err (reports.Decode (faults.NoMemory used))) items works none is bad = absurd bad
+shown_chain line fs source sink (Err reports.NoMemory) items works none is some = inl refl
+shown_chain line fs source sink (Err (reports.Write written)) items works none is some = inl refl
+
+-- ---- the bytes of a text, which are handed over where all was good
+
+module _ (before after : Option (List ℕ)) (good : Bool) (items : List ℕ) (none : before ≡ Some []) (is : good ≡ true → Some items ≡ after) where
+  pub text_good : (text : List ℕ) (r : Result (Unit {0}) CsvFault) → good ≡ is_ok r → OnOk r (FromText text before after) → (answer r).status ≡ 0
+      → (files : List (FitFile Global)) × IsTextOf text files items
+  text_good text (Ok u) so (files, bytes, of, more) zero = (files, subst (IsTextOf text files) (sym (put before after items bytes none (is so) more)) of)
+  text_good text (Err fault) so bad zero = absurd (conversion_bad fault zero)
+
+  pub bytes_back : (bytes : List ℕ) (failed sink_failed : Bool) (r : Result (Unit {0}) CsvFault) → failed ≡ false → good ≡ is_ok r
+      → FromTextOf bytes failed before after sink_failed r → IsTextUnlessWant bytes (answer r) items
+  bytes_back bytes failed sink_failed (Ok u) works so more = inr (refl, put before after items bytes none (is so) more)
+  bytes_back bytes failed sink_failed (Err (csv.Decode fault)) works so bad = absurd bad
+  bytes_back bytes failed sink_failed (Err csv.Header) works so bad = absurd bad
+  bytes_back bytes failed sink_failed (Err (csv.BadRow row)) works so bad = absurd bad
+  bytes_back bytes failed sink_failed (Err (csv.BadCell row column)) works so bad = absurd bad
+  bytes_back bytes failed sink_failed (Err (csv.Encode fault)) works so bad = absurd bad
+  bytes_back bytes failed sink_failed (Err csv.NoMemory) works so some = inl refl
+  bytes_back bytes failed sink_failed (Err csv.Read) works so bad = let both : true ≡ false = sym bad ∙ works in absurd cc
+  bytes_back bytes failed sink_failed (Err (csv.Write written)) works so some = inl refl

@@ -1,0 +1,18 @@
+use Rattle.std.proofs.Common.{false, Some, refl, subst, sym}
+use Rattle.std.specs.Prelude.{flat_map, reverse}
+use Rattle.fit_base.proofs.ByteLists.{slice_is_bytes}
+use Rattle.fit_decode.specs.Events.{file_events}
+use Rattle.fit_report.specs.Heard.{text_of}
+use Rattle.fit_report.specs.Reports.{Channel}
+use Rattle.fit_csv.specs.ShowLines.{show_line}
+use Rattle.fit_c.specs.Answers.{IsTextUnlessWant}
+use Rattle.fit_c.proofs.Handed.{shown_chain}
+use Rattle.fit_c.proofs.texts.fit_show.Goals as goal
+
+pub returns-clause-chain : goal.returns-clause-chain
+returns-clause-chain c = λ fs chain.
+    let source : Channel = record { before = Some c.args.bytes.now; after = Some c.report-answered.new.source.now; failed = false } in
+    let sink : Channel = record { before = c.memory-sink.result.held; after = c.report-answered.new.sink.held; failed = c.report-answered.new.sink.failed } in
+    let told = c.report-answered.ensures.chain fs c.args.bytes.now refl (slice_is_bytes c.args.bytes.now c.type_inv.bytes) chain in
+    subst (λ a. IsTextUnlessWant (text_of show_line (reverse (flat_map file_events fs))) a c.handed.result.now) (sym c.of_report.ensures)
+    (shown_chain show_line fs source sink c.report-answered.result c.handed.result.now refl c.memory-sink.ensures.held c.handed.ensures told)

@@ -1,0 +1,99 @@
+-- What the calls for C answer: a status, and where and why.
+use Rattle.std.specs.Prelude.{◌≡◌, ◌⊎◌, ℕ, Bool, false, List, [], Option, Some, Result, Ok, Err, IfErr, IfOk, OnOk}
+use Rattle.std.specs.declared.alloc.Global.{Global}
+use Rattle.fit_frame.specs.declared.reason.Reason.{Reason}
+use Rattle.fit_frame.specs.declared.reason.Reason.TheVariants.{HeaderSize, Protocol, NoFit, Signature, HeaderSum, ReservedBit, UndefinedLocal, Overrun, Architecture, FileSum, TooManyFiles}
+use Rattle.fit_decode.specs.declared.event.Fault.{Fault}
+use Rattle.fit_decode.specs.declared.event.Fault.TheVariants as faults
+use Rattle.fit_decode.specs.Checks.{AreFiles, IsFaultOf}
+use Rattle.fit_report.specs.declared.fault.ReportFault.{ReportFault}
+use Rattle.fit_report.specs.declared.fault.ReportFault.TheVariants as reports
+use Rattle.fit_report.specs.Heard.{Lines}
+use Rattle.fit_report.specs.Reports.{Channel, Reports}
+use Rattle.fit_csv.specs.declared.fault.CsvFault.{CsvFault}
+use Rattle.fit_csv.specs.declared.fault.CsvFault.TheVariants as csv
+use Rattle.fit_csv.specs.Conversions.{Converts, RowsOf}
+use Rattle.fit_csv.specs.FromText.{FromFault, FromText}
+use Rattle.fit_c.specs.declared.answer.FitAnswer.{FitAnswer}
+
+-- the number of a reason, as `fit.h` has it
+abbrev pub reason_code : Reason → ℕ
+reason_code HeaderSize = 1
+reason_code Protocol = 2
+reason_code NoFit = 3
+reason_code Signature = 4
+reason_code HeaderSum = 5
+reason_code ReservedBit = 6
+reason_code UndefinedLocal = 7
+reason_code Overrun = 8
+reason_code Architecture = 9
+reason_code FileSum = 10
+reason_code TooManyFiles = 11
+
+-- nothing but a status
+abbrev pub plain : ℕ → FitAnswer
+plain status = record { status = status; reason = 0; place = 0; row = 0; column = 0; files = 0 }
+
+-- what is said of a fault of the bytes
+abbrev pub fault_answer : Fault → FitAnswer
+fault_answer (faults.Refused place reason) = record (plain 1) { reason = reason_code reason; place = place }
+fault_answer (faults.Truncated place) = record (plain 2) { place = place }
+fault_answer (faults.NoMemory used) = plain 3
+fault_answer (faults.Read place) = plain 3
+
+-- what is said of bytes that were checked
+abbrev pub check_answer : Result ℕ Fault → FitAnswer
+check_answer (Ok count) = record (plain 0) { files = count }
+check_answer (Err fault) = fault_answer fault
+
+-- what is said of what a conversion answered
+abbrev pub answer : {X : Type 0} → Result X CsvFault → FitAnswer
+answer (Ok _) = plain 0
+answer (Err (csv.Decode fault)) = fault_answer fault
+answer (Err csv.Header) = record (plain 4) { row = 1 }
+answer (Err (csv.BadRow row)) = record (plain 4) { row = row }
+answer (Err (csv.BadCell row column)) = record (plain 4) { row = row; column = column }
+answer (Err (csv.Encode fault)) = plain 5
+answer (Err csv.NoMemory) = plain 3
+answer (Err csv.Read) = plain 3
+answer (Err (csv.Write written)) = plain 3
+
+-- what is said of what a report answered
+abbrev pub report_answer : {X : Type 0} → Result X ReportFault → FitAnswer
+report_answer (Ok _) = plain 0
+report_answer (Err (reports.Decode fault)) = fault_answer fault
+report_answer (Err reports.NoMemory) = plain 3
+report_answer (Err (reports.Write written)) = plain 3
+
+-- The bytes are that many files, one after another; or this is why they aren't known to be a chain of files.
+abbrev pub IsFinding : List ℕ → FitAnswer → Type 0
+IsFinding bytes a = (r : Result ℕ Fault) × (a ≡ check_answer r) × IfOk r (AreFiles bytes) × IfErr r (IsFaultOf bytes)
+
+-- This is the text, unless memory was refused.
+abbrev pub IsTextUnlessWant : List ℕ → FitAnswer → List ℕ → Type 0
+IsTextUnlessWant wanted a text = (a.status ≡ 3) ⊎ ((a.status ≡ 0) × (text ≡ wanted))
+
+-- a source of these bytes, of which those are left, and a sink that began with nothing and has this text
+abbrev pub given : List ℕ → List ℕ → Channel
+given bytes left = record { before = Some bytes; after = Some left; failed = false }
+
+abbrev pub kept : List ℕ → Bool → Channel
+kept text failed = record { before = Some []; after = Some text; failed = failed }
+
+-- The text is what a conversion of the bytes to these rows has written, and the answer is that conversion's: behind a fault, the
+-- rows of all events before it.
+abbrev pub IsConverted : RowsOf → List ℕ → FitAnswer → List ℕ → Type 0
+IsConverted rows bytes a text =
+    (r : Result (Unit {0}) CsvFault) × (left : List ℕ) × (failed : Bool) × (a ≡ answer r) × Converts rows (given bytes left) (kept text failed) r
+
+-- The text is what a report of the bytes has told by these lines, and the answer is that report's.
+abbrev pub IsReported : Lines Global → List ℕ → FitAnswer → List ℕ → Type 0
+IsReported line bytes a text =
+    (r : Result (Unit {0}) ReportFault) × (left : List ℕ) × (failed : Bool) × (a ≡ report_answer r) × Reports line (given bytes left) (kept text failed) r
+
+-- The answer is that of reading the text: its rows are those of a chain; or the first row that can't stand where it is and its
+-- first such cell; or why the files of its rows have no bytes.
+abbrev pub IsTextRead : List ℕ → FitAnswer → Type 0
+IsTextRead text a =
+    (r : Result (Unit {0}) CsvFault) × (held : Option (List ℕ)) × (failed : Bool) × (a ≡ answer r)
+    × OnOk r (FromText text (Some []) held) × IfErr r (FromFault text false (Some []) held failed)

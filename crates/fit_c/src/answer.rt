@@ -1,0 +1,114 @@
+//! What the calls answer.
+ghost use Rattle.std.specs.Prelude.{◌≡◌};
+ghost use Rattle.fit_c.specs.Answers.{answer, check_answer, fault_answer, plain, reason_code, report_answer};
+
+use fit_csv::CsvFault;
+use fit_decode::Fault;
+use fit_frame::Reason;
+use fit_report::ReportFault;
+
+/// A status, and where and why. A number that the status doesn't speak of is 0.
+#[repr(C)]
+#[derive(Clone, Copy)]
+pub struct FitAnswer {
+    /// 0 good, 1 refused, 2 truncated, 3 out of memory, 4 a row or a cell of a text refused, 5 no file has such rows.
+    pub status: u32,
+    /// With status 1 the number of the reason.
+    pub reason: u32,
+    /// With status 1 and 2 the place of the byte, counted from 0.
+    pub place: u64,
+    /// With status 4 the row, counted from 1.
+    pub row: u64,
+    /// With status 4 the column of a cell, counted from 1; 0 where the row as a whole is refused.
+    pub column: u64,
+    /// With status 0 how many files there are, in the answer of `fit_check`.
+    pub files: u64,
+}
+
+/// An answer that says nothing but its status.
+fn plain(status: u32) -> FitAnswer
+    ensures { result ≡ plain status }
+{
+    FitAnswer {
+        status,
+        reason: 0,
+        place: 0,
+        row: 0,
+        column: 0,
+        files: 0,
+    }
+}
+
+/// The number of a reason.
+fn code(reason: Reason) -> u32
+    ensures { result ≡ reason_code reason }
+{
+    match reason {
+        Reason::HeaderSize => 1,
+        Reason::Protocol => 2,
+        Reason::NoFit => 3,
+        Reason::Signature => 4,
+        Reason::HeaderSum => 5,
+        Reason::ReservedBit => 6,
+        Reason::UndefinedLocal => 7,
+        Reason::Overrun => 8,
+        Reason::Architecture => 9,
+        Reason::FileSum => 10,
+        Reason::TooManyFiles => 11,
+    }
+}
+
+/// What is said of a fault of the bytes. A slice is a source that doesn't fail.
+fn of_fault(fault: Fault) -> FitAnswer
+    ensures { result ≡ fault_answer fault }
+{
+    match fault {
+        Fault::Refused { place, reason } => FitAnswer {
+            reason: code(reason),
+            place,
+            ..plain(1)
+        },
+        Fault::Truncated { place } => FitAnswer { place, ..plain(2) },
+        Fault::NoMemory { .. } | Fault::Read { .. } => plain(3),
+    }
+}
+
+/// What is said of bytes that were checked.
+pub(crate) fn of_check(checked: Result<u64, Fault>) -> FitAnswer
+    ensures { result ≡ check_answer checked }
+{
+    match checked {
+        Ok(files) => FitAnswer { files, ..plain(0) },
+        Err(fault) => of_fault(fault),
+    }
+}
+
+/// What is said of what a conversion answered.
+pub(crate) fn of_conversion(answered: Result<(), CsvFault>) -> FitAnswer
+    ensures { result ≡ answer answered }
+{
+    match answered {
+        Ok(()) => plain(0),
+        Err(CsvFault::Decode(fault)) => of_fault(fault),
+        Err(CsvFault::Header) => FitAnswer { row: 1, ..plain(4) },
+        Err(CsvFault::BadRow { row }) => FitAnswer { row, ..plain(4) },
+        Err(CsvFault::BadCell { row, column }) => FitAnswer {
+            row,
+            column,
+            ..plain(4)
+        },
+        Err(CsvFault::Encode(_)) => plain(5),
+        Err(CsvFault::NoMemory | CsvFault::Read | CsvFault::Write { .. }) => plain(3),
+    }
+}
+
+/// What is said of what a report answered.
+pub(crate) fn of_report(answered: Result<(), ReportFault>) -> FitAnswer
+    ensures { result ≡ report_answer answered }
+{
+    match answered {
+        Ok(()) => plain(0),
+        Err(ReportFault::Decode(fault)) => of_fault(fault),
+        Err(ReportFault::NoMemory | ReportFault::Write { .. }) => plain(3),
+    }
+}

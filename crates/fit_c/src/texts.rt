@@ -1,0 +1,106 @@
+//! Texts of files, and files of texts. A text is handed over: the caller frees it, where it isn't empty.
+ghost use Rattle.std.specs.Prelude.{◌≡◌, ◌≢◌, ℕ, List, Some, [], false, true, flat_map, reverse};
+ghost use Rattle.std.specs.declared.alloc.Global.{Global};
+ghost use Rattle.fit_record.specs.declared.file.FitFile.{FitFile};
+ghost use Rattle.fit_record.specs.Files.{IsChain, chain_limit};
+ghost use Rattle.fit_decode.specs.Answers.{AreChain};
+ghost use Rattle.fit_decode.specs.Events.{file_events};
+ghost use Rattle.fit_report.specs.Heard.{text_of};
+ghost use Rattle.fit_cells.specs.Rows.{csv_text};
+ghost use Rattle.fit_csv.specs.ChainRows.{chain_rows, rows_of};
+ghost use Rattle.fit_csv.specs.FromText.{IsTextOf};
+ghost use Rattle.fit_csv.specs.ShowLines.{show_line};
+ghost use Rattle.fit_csv.specs.Table.{table_of};
+ghost use Rattle.fit_c.specs.Answers.{IsConverted, IsReported, IsTextRead, IsTextUnlessWant};
+
+use crate::FitAnswer;
+use crate::answer::{of_conversion, of_report};
+use fit_csv::{ShowReport, from_csv, table, to_csv};
+use fit_encode::WriteSink;
+use fit_report::report;
+use std::alloc::Global;
+
+/// A sink that keeps its bytes in memory, and has none yet.
+fn memory(alloc: Global) -> WriteSink<Vec<u8>>
+    ensures held { result.held ≡ Some [] }
+    ensures works { result.failed ≡ false }
+{
+    WriteSink::new(Vec::new(alloc))
+}
+
+/// The bytes of a sink, for good.
+fn handed(sink: WriteSink<Vec<u8>>) -> &'static [u8]
+    ensures { Some result.now ≡ sink.held }
+{
+    sink.into_inner().leak()
+}
+
+/// The bytes of a sink for good, where they are to be handed over; else none.
+fn handed_where(good: bool, sink: WriteSink<Vec<u8>>) -> &'static [u8]
+    ensures good { good ≡ true → Some result.now ≡ sink.held }
+    ensures nothing { good ≡ false → result.now ≡ [] }
+{
+    if good { handed(sink) } else { &[] }
+}
+
+/// The table of a chain of files as CSV text. Where the bytes are none, the text has the rows before the fault.
+#[unsafe(no_mangle)]
+pub extern "C" fn fit_table(alloc: Global, bytes: &[u8], text: &mut &'static [u8]) -> FitAnswer
+    ensures converted { IsConverted table_of bytes.now result text.new.now }
+    ensures good { result.status ≡ 0 → AreChain Global bytes.now }
+    ensures chain { (fs : List (FitFile Global)) → IsChain chain_limit fs bytes.now
+        → IsTextUnlessWant (csv_text (table_of (flat_map file_events fs))) result text.new.now }
+{
+    let mut source = bytes;
+    let mut sink = memory(alloc);
+    let answered = table(alloc, &mut source, &mut sink);
+    *text = handed(sink);
+    of_conversion(answered)
+}
+
+/// A chain of files as CSV text. Where the bytes are none, the text has the rows before the fault.
+#[unsafe(no_mangle)]
+pub extern "C" fn fit_to_csv(alloc: Global, bytes: &[u8], text: &mut &'static [u8]) -> FitAnswer
+    ensures converted { IsConverted rows_of bytes.now result text.new.now }
+    ensures good { result.status ≡ 0 → AreChain Global bytes.now }
+    ensures chain { (fs : List (FitFile Global)) → IsChain chain_limit fs bytes.now
+        → IsTextUnlessWant (csv_text (chain_rows fs)) result text.new.now }
+{
+    let mut source = bytes;
+    let mut sink = memory(alloc);
+    let answered = to_csv(alloc, &mut source, &mut sink);
+    *text = handed(sink);
+    of_conversion(answered)
+}
+
+/// The lines of `fit show` of a chain of files, without the last. Where the bytes are none, the text has the lines before the fault.
+#[unsafe(no_mangle)]
+pub extern "C" fn fit_show(alloc: Global, bytes: &[u8], text: &mut &'static [u8]) -> FitAnswer
+    ensures reported { IsReported show_line bytes.now result text.new.now }
+    ensures good { result.status ≡ 0 → AreChain Global bytes.now }
+    ensures chain { (fs : List (FitFile Global)) → IsChain chain_limit fs bytes.now
+        → IsTextUnlessWant (text_of show_line (reverse (flat_map file_events fs))) result text.new.now }
+{
+    let mut source = bytes;
+    let mut sink = memory(alloc);
+    let answered = report(alloc, &mut source, &mut sink, &mut ShowReport::new(alloc));
+    *text = handed(sink);
+    of_report(answered)
+}
+
+/// The bytes of the chain of files whose rows are those of a text. No bytes where the text is refused, and none where memory is.
+#[unsafe(no_mangle)]
+pub extern "C" fn fit_from_csv(alloc: Global, text: &[u8], bytes: &mut &'static [u8]) -> FitAnswer
+    ensures read { IsTextRead text.now result }
+    ensures good { result.status ≡ 0
+        → (files : List (FitFile Global)) × IsTextOf text.now files bytes.new.now }
+    ensures nothing { result.status ≢ 0 → bytes.new.now ≡ [] }
+    ensures chain { (files : List (FitFile Global)) (b : List ℕ) → IsTextOf text.now files b
+        → IsTextUnlessWant b result bytes.new.now }
+{
+    let mut source = text;
+    let mut sink = memory(alloc);
+    let answered = from_csv(alloc, &mut source, &mut sink);
+    *bytes = handed_where(answered.is_ok(), sink);
+    of_conversion(answered)
+}

@@ -1,0 +1,46 @@
+"""Loads the tables of many rides into a database of sqlite3: load_rides.py DATABASE PROCESSES FILE..
+
+Each process reads and converts files, and this one fills the database: a row of `ride` for each file with what was found of it,
+and a row of `record` for each record message, also of those before a fault. Run it with PYTHONPATH naming the folder python/."""
+import datetime
+import multiprocessing
+import os
+import sqlite3
+import sys
+import time
+
+import fit
+
+
+def load(path):
+    rows = []
+    try:
+        for row in fit.table(path, partial=True):
+            when = row.timestamp
+            rows.append((row.file, when.isoformat(" ") if isinstance(when, datetime.datetime) else when, *row[2:]))
+        return path, "ok", rows
+    except fit.FitError as error:
+        return path, str(error), rows
+
+
+def main(database, processes, paths):
+    started = time.perf_counter()
+    into = sqlite3.connect(database)
+    into.execute("create table ride (id integer primary key, path text, finding text)")
+    into.execute(
+        "create table record (ride integer, file integer, timestamp text, position_lat real, position_long real, altitude real,"
+        " distance real, speed real, heart_rate real, cadence real, power real, temperature real)"
+    )
+    count = size = bad = 0
+    with multiprocessing.Pool(processes) as pool:
+        for number, (path, finding, rows) in enumerate(pool.imap_unordered(load, paths, chunksize=4)):
+            into.execute("insert into ride values (?, ?, ?)", (number, path, finding))
+            into.executemany("insert into record values (?, ?, ?, ?, ?, ?, ?, ?, ?, ?, ?, ?)", ((number, *row) for row in rows))
+            count, size, bad = count + len(rows), size + os.path.getsize(path), bad + (finding != "ok")
+    into.commit()
+    took = time.perf_counter() - started
+    print(f"{len(paths)} files, {bad} not good, {count} rows, {size / 1e6:.1f} MB in {took:.2f} s with {processes} processes")
+
+
+if __name__ == "__main__":
+    main(sys.argv[1], int(sys.argv[2]), sys.argv[3:])

@@ -1,0 +1,230 @@
+"""FIT files from Python: check them, read their tables, and convert them to text and back.
+
+    import fit
+
+    answer = fit.check("ride.fit")          # or bytes
+    if not answer.good:
+        print(answer)                       # refused at byte 3258: FileSum
+    for row in fit.table("ride.fit"):
+        print(row.timestamp, row.heart_rate)
+
+Each call reads the whole file, hands its bytes to the proved library of Gazhdor, and keeps nothing. The library lets other
+threads run meanwhile. This module needs Python 3.7 or later, its standard library, and libfit.so, which `c/build` makes: it is
+looked for where the variable FIT_LIBRARY says, then beside this file, in c/out, and where the system keeps libraries.
+
+From a shell: python3 -m fit check|show|table|to-csv|from-csv [FILE..]
+"""
+import collections
+import csv
+import ctypes
+import datetime
+import io
+import itertools
+import os
+import sys
+
+__all__ = ["check", "table", "files", "table_text", "to_csv", "show", "from_csv", "Answer", "Row", "FitError", "Refused", "Truncated", "TextRefused"]
+
+_REASONS = ("HeaderSize", "Protocol", "NoFit", "Signature", "HeaderSum", "ReservedBit", "UndefinedLocal", "Overrun", "Architecture", "FileSum", "TooManyFiles")
+_GOOD, _REFUSED, _TRUNCATED, _NO_MEMORY, _TEXT, _UNWRITABLE = range(6)
+
+
+class Answer(ctypes.Structure):
+    """What `check` found. It is true where the bytes are a FIT file or several, one after another.
+
+    good    whether they are
+    files   how many files they are, where they are good
+    place   the place of the byte that is refused, or where the bytes end too soon, counted from 0; else None
+    reason  the name of the reason, as 'FileSum', where a byte is refused; else None
+    row     of a text: the first row that can't stand where it is, counted from 1; else None
+    column  of a text: its first cell that can't stand there, counted from 1; None where the row as a whole is refused
+    """
+
+    _fields_ = [("_status", ctypes.c_uint32), ("_reason", ctypes.c_uint32), ("_place", ctypes.c_uint64), ("_row", ctypes.c_uint64), ("_column", ctypes.c_uint64), ("files", ctypes.c_uint64)]
+
+    good = property(lambda self: self._status == _GOOD)
+    place = property(lambda self: self._place if self._status in (_REFUSED, _TRUNCATED) else None)
+    reason = property(lambda self: _REASONS[self._reason - 1] if self._status == _REFUSED else None)
+    row = property(lambda self: self._row if self._status == _TEXT else None)
+    column = property(lambda self: self._column or None)
+
+    def __bool__(self):
+        return self.good
+
+    def __str__(self):
+        return (
+            "ok",
+            f"refused at byte {self.place}: {self.reason}",
+            f"truncated at byte {self.place}",
+            "out of memory",
+            f"row {self.row} column {self.column} refused" if self.column else f"row {self.row} refused",
+            "no file has such rows",
+        )[self._status]
+
+    def __repr__(self):
+        return f"<fit.Answer: {self}>"
+
+
+class FitError(ValueError):
+    """The bytes or the text are no FIT file. `answer` says where and why, and so do `place`, `reason`, `row` and `column`."""
+
+    def __init__(self, answer):
+        super().__init__(str(answer))
+        self.answer = answer
+        self.place, self.reason, self.row, self.column = answer.place, answer.reason, answer.row, answer.column
+
+
+class Refused(FitError):
+    """No FIT file goes on with the byte at `place`; `reason` says why."""
+
+
+class Truncated(FitError):
+    """The bytes end too soon, at `place`."""
+
+
+class TextRefused(FitError):
+    """A text that `from_csv` can't read, at `row` and `column`, or whose files have no bytes; then these are None."""
+
+
+class _Text(ctypes.Structure):
+    _fields_ = [("bytes", ctypes.c_void_p), ("length", ctypes.c_size_t)]
+
+
+def _load():
+    here = os.path.dirname(os.path.abspath(__file__))
+    places = [os.environ.get("FIT_LIBRARY"), os.path.join(here, "libfit.so"), os.path.join(here, "..", "c", "out", "libfit.so")]
+    found = next((place for place in places if place and os.path.exists(place)), "libfit.so.0")
+    try:
+        library = ctypes.CDLL(found)
+    except OSError as error:
+        raise ImportError(f"libfit.so can't be loaded ({error}): make it by c/build, or set FIT_LIBRARY") from error
+    library.fit_check.argtypes, library.fit_check.restype = (ctypes.c_char_p, ctypes.c_size_t), Answer
+    for name in ("fit_table", "fit_to_csv", "fit_show", "fit_from_csv"):
+        call = getattr(library, name)
+        call.argtypes, call.restype = (ctypes.c_char_p, ctypes.c_size_t, ctypes.POINTER(_Text)), Answer
+    return library
+
+
+_library = _load()
+_free = ctypes.CDLL(None).free
+_free.argtypes, _free.restype = (ctypes.c_void_p,), None
+_nothing = ctypes.create_string_buffer(1)
+
+
+def _bytes_of(source):
+    if isinstance(source, (bytes, bytearray, memoryview)):
+        return bytes(source)
+    with open(source, "rb") as file:
+        return file.read()
+
+
+def _text_of(call, data):
+    text = _Text(ctypes.addressof(_nothing), 0)
+    answer = call(data, len(data), ctypes.byref(text))
+    if not text.length:
+        return answer, b""
+    try:
+        return answer, ctypes.string_at(text.bytes, text.length)
+    finally:
+        _free(text.bytes)
+
+
+def _judge(answer):
+    if answer._status == _NO_MEMORY:
+        raise MemoryError("fit: out of memory")
+    if not answer.good:
+        raise {_REFUSED: Refused, _TRUNCATED: Truncated}.get(answer._status, TextRefused)(answer)
+
+
+def check(source):
+    """Answers whether `source` is a FIT file or several, one after another. `source` is a path, or bytes."""
+    data = _bytes_of(source)
+    answer = _library.fit_check(data, len(data))
+    if answer._status == _NO_MEMORY:
+        _judge(answer)
+    return answer
+
+
+def _converted(call, source, partial):
+    answer, text = _text_of(call, _bytes_of(source))
+    if answer._status == _NO_MEMORY or not partial:
+        _judge(answer)
+    return text.decode()
+
+
+def table_text(source, partial=False):
+    """The table of the record messages as CSV text. With `partial` the text of what comes before a fault; else a fault is raised."""
+    return _converted(_library.fit_table, source, partial)
+
+
+def to_csv(source, partial=False):
+    """All of the file as CSV text, of which `from_csv` makes the same bytes again. `partial` as for `table_text`."""
+    return _converted(_library.fit_to_csv, source, partial)
+
+
+def show(source, partial=False):
+    """The messages with their names, units and times, a line each. `partial` as for `table_text`."""
+    return _converted(_library.fit_show, source, partial)
+
+
+def from_csv(text):
+    """The bytes of the FIT file or files that a CSV text stands for."""
+    answer, data = _text_of(_library.fit_from_csv, text.encode() if isinstance(text, str) else bytes(text))
+    _judge(answer)
+    return data
+
+
+Row = collections.namedtuple("Row", "file timestamp position_lat position_long altitude distance speed heart_rate cadence power temperature")
+Row.__doc__ = """A record message: the file's number, counted from 1, and an aware datetime; then floats, in degrees, metres, metres
+a second, beats and turns a minute, watts and degrees Celsius. None stands where the file says nothing. Where a recorder didn't
+know the time, the timestamp is the text that the table has of it."""
+
+
+def _when(cell):
+    return datetime.datetime.fromisoformat(cell[:-1] + "+00:00") if cell.endswith("Z") else cell or None
+
+
+def table(source, partial=False):
+    """Yields a Row for each record message of a path or of bytes. With `partial` a fault is raised after the rows before it, else
+    before the first row."""
+    answer, text = _text_of(_library.fit_table, _bytes_of(source))
+    if answer._status == _NO_MEMORY or not partial:
+        _judge(answer)
+    rows = csv.reader(io.StringIO(text.decode(), newline=""))
+    next(rows, None)
+    for cells in rows:
+        yield Row(int(cells[0]), _when(cells[1]), *(float(cell) if cell else None for cell in cells[2:]))
+    _judge(answer)
+
+
+def files(source, partial=False):
+    """Yields (number, rows) for each file that has record messages, the rows being those of `table`."""
+    return itertools.groupby(table(source, partial), key=lambda row: row.file)
+
+
+def _main(words):
+    calls = {"show": show, "table": table_text, "to-csv": to_csv}
+    if not words or words[0] not in ("check", "from-csv", *calls):
+        print("usage: python3 -m fit check|show|to-csv|from-csv|table [FILE..]", file=sys.stderr)
+        return 2
+    command, paths = words[0], words[1:] or ["-"]
+    worst = 0
+    for path in paths:
+        try:
+            data = sys.stdin.buffer.read() if path == "-" else _bytes_of(path)
+            if command == "check":
+                answer = check(data)
+                print(f"{path}: {answer}" + (f", {answer.files} file{'s' * (answer.files > 1)}" if answer else ""))
+                worst = max(worst, 0 if answer else 1)
+            elif command == "from-csv":
+                sys.stdout.buffer.write(from_csv(data))
+            else:
+                sys.stdout.write(calls[command](data))
+        except (FitError, OSError) as error:
+            print(f"{path}: {error}", file=sys.stderr)
+            worst = max(worst, 1 if isinstance(error, FitError) else 4)
+    return worst
+
+
+if __name__ == "__main__":
+    sys.exit(_main(sys.argv[1:]))

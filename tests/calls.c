@@ -1,0 +1,233 @@
+/* Tests of the calls of fit.h on a ride, by what must be so of any file: calls RIDE STEP. STEP 1 tries each front and each byte.
+ * Blocks are counted, and each growth of memory is refused in turn: link with --wrap=malloc, realloc and free. */
+#include "fit.h"
+
+#include <pthread.h>
+#include <stdio.h>
+#include <string.h>
+
+/* ---- memory: how many blocks there are, and which growth is to be refused; 0 for none */
+
+static __thread long blocks, growths, refused;
+
+void *__real_malloc(size_t size);
+void *__real_realloc(void *block, size_t size);
+void __real_free(void *block);
+
+static int refuses(void)
+{
+    return ++growths == refused;
+}
+
+void *__wrap_malloc(size_t size)
+{
+    void *block = refuses() ? NULL : __real_malloc(size);
+    blocks += block != NULL;
+    return block;
+}
+
+void *__wrap_realloc(void *old, size_t size)
+{
+    void *block = refuses() ? NULL : __real_realloc(old, size);
+    blocks += old == NULL && block != NULL;
+    return block;
+}
+
+void __wrap_free(void *block)
+{
+    blocks -= block != NULL;
+    __real_free(block);
+}
+
+/* ---- what is wanted */
+
+#define WANT(what)                                                                  \
+    do {                                                                            \
+        if (!(what)) {                                                              \
+            fprintf(stderr, "calls.c:%d: not so: %s\n", __LINE__, #what);           \
+            exit(1);                                                                \
+        }                                                                           \
+    } while (0)
+
+typedef fit_answer call(const uint8_t *bytes, size_t length, fit_text *text);
+static call *const calls[] = { fit_table, fit_to_csv, fit_show, fit_from_csv };
+static const char *const names[] = { "table", "to-csv", "show", "from-csv" };
+
+static int is(fit_answer a, uint32_t status, uint32_t reason, uint64_t place, uint64_t row, uint64_t column, uint64_t files)
+{
+    return a.status == status && a.reason == reason && a.place == place && a.row == row && a.column == column && a.files == files;
+}
+
+static int same(fit_text a, fit_text b)
+{
+    return a.length == b.length && memcmp(a.bytes, b.bytes, a.length) == 0;
+}
+
+static int begins(fit_text front, fit_text whole)
+{
+    return front.length <= whole.length && memcmp(front.bytes, whole.bytes, front.length) == 0;
+}
+
+static uint8_t *ride;
+static size_t length;
+static fit_text texts[4];
+
+/* Each call on the whole ride; and its text is what the program writes, in the files that the folder has. */
+static void whole(const char *folder)
+{
+    WANT(is(fit_check(ride, length), FIT_GOOD, 0, 0, 0, 0, 1));
+    for (int i = 0; i < 4; i++) {
+        fit_text none = FIT_NO_TEXT;
+        texts[i] = none;
+        const uint8_t *given = i == 3 ? texts[1].bytes : ride;
+        WANT(is(calls[i](given, i == 3 ? texts[1].length : length, &texts[i]), FIT_GOOD, 0, 0, 0, 0, 0));
+        char path[4096];
+        snprintf(path, sizeof path, "%s/%s", folder, names[i]);
+        FILE *file = fopen(path, "rb");
+        WANT(file != NULL);
+        for (size_t at = 0; at < texts[i].length; at++)
+            WANT(fgetc(file) == texts[i].bytes[at]);
+        WANT(fgetc(file) == EOF);
+        fclose(file);
+    }
+    fit_text bytes = { ride, length };
+    WANT(same(texts[3], bytes));
+}
+
+/* A front of a file is truncated at its end, and the text of what has come is a front of the text. The block has just that many
+ * bytes, so that valgrind sees a read past them. */
+static void fronts(size_t step)
+{
+    for (size_t end = 0; end < length; end += step) {
+        uint8_t *front = malloc(end + (end == 0));
+        memcpy(front, ride, end);
+        WANT(is(fit_check(front, end), FIT_TRUNCATED, 0, end, 0, 0, 0));
+        for (int i = 0; i < 3; i++) {
+            fit_text text = FIT_NO_TEXT;
+            WANT(is(calls[i](front, end, &text), FIT_TRUNCATED, 0, end, 0, 0, 0));
+            WANT(begins(text, texts[i]));
+            fit_free(text);
+        }
+        free(front);
+    }
+}
+
+/* With one byte changed the bytes aren't good, since the closing sum sees each such change; the bytes before it still begin a file.
+ * The calls agree on what is wrong. */
+static void changed(size_t step)
+{
+    for (size_t at = 0; at < length; at += step) {
+        ride[at] ^= 0x55;
+        fit_answer found = fit_check(ride, length);
+        WANT(found.status == FIT_REFUSED ? at <= found.place && found.place < length && 1 <= found.reason && found.reason <= 11
+                                         : is(found, FIT_TRUNCATED, 0, length, 0, 0, 0));
+        for (int i = 0; i < 3; i++) {
+            fit_text text = FIT_NO_TEXT;
+            WANT(is(calls[i](ride, length, &text), found.status, found.reason, found.place, 0, 0, 0));
+            fit_free(text);
+        }
+        ride[at] ^= 0x55;
+    }
+}
+
+/* Texts that stand for no file, by their rows and cells; and the chain of the ride twice. */
+static void others(void)
+{
+    static const struct { const char *text; uint64_t row, column; } bad[] = {
+        { "", 1, 0 },
+        { "row,a,b,c,d,e\n", 1, 0 },
+        { "row,a,b,c,d,e,f\n", 2, 0 },
+        { "row,a,b,c,d,e,f\nfile,14,32,0,sum,,\n", 3, 0 },
+        { "row,a,b,c,d,e,f\nfield,14,32,0,sum,,\n", 2, 0 },
+        { "row,a,b,c,d,e,f\nfile,14,32,65536,sum,,\nend,,,,,,\n", 2, 4 },
+    };
+    for (size_t i = 0; i < sizeof bad / sizeof *bad; i++) {
+        fit_text none = FIT_NO_TEXT;
+        WANT(is(fit_from_csv((const uint8_t *)bad[i].text, strlen(bad[i].text), &none), FIT_TEXT, 0, 0, bad[i].row, bad[i].column, 0));
+        WANT(none.length == 0);
+    }
+    /* The true sum of this header is 0, which zeros in its place can't say. */
+    const char *zeros = "row,a,b,c,d,e,f\nfile,14,32,46477,zero,,\nend,,,,,,\n";
+    fit_text none = FIT_NO_TEXT;
+    WANT(is(fit_from_csv((const uint8_t *)zeros, strlen(zeros), &none), FIT_UNWRITABLE, 0, 0, 0, 0, 0));
+    WANT(none.length == 0);
+    uint8_t *twice = malloc(2 * length);
+    memcpy(twice, ride, length);
+    memcpy(twice + length, ride, length);
+    WANT(is(fit_check(twice, 2 * length), FIT_GOOD, 0, 0, 0, 0, 2));
+    WANT(is(fit_check(twice, 2 * length - 1), FIT_TRUNCATED, 0, 2 * length - 1, 0, 0, 0));
+    twice[length] = 0x0D;
+    WANT(is(fit_check(twice, 2 * length), FIT_REFUSED, FIT_HEADER_SIZE, length, 0, 0, 0));
+    free(twice);
+}
+
+/* Each growth of memory refused in turn: no memory, with a front of the text; or, where another way needs less, the same answer as
+ * ever. No block is left. */
+static void want(void)
+{
+    long before = blocks;
+    for (refused = 1;; refused++) {
+        growths = 0;
+        fit_answer a = fit_check(ride, length);
+        WANT(blocks == before);
+        if (growths < refused)
+            break;
+        WANT(is(a, FIT_NO_MEMORY, 0, 0, 0, 0, 0) || is(a, FIT_GOOD, 0, 0, 0, 0, 1));
+    }
+    for (int i = 0; i < 4; i++)
+        for (refused = 1;; refused++) {
+            growths = 0;
+            fit_text text = FIT_NO_TEXT;
+            fit_answer a = calls[i](i == 3 ? texts[1].bytes : ride, i == 3 ? texts[1].length : length, &text);
+            long made = growths;
+            WANT(made < refused || is(a, FIT_NO_MEMORY, 0, 0, 0, 0, 0) || (a.status == FIT_GOOD && same(text, texts[i])));
+            WANT(i == 3 && a.status != FIT_GOOD ? text.length == 0 : begins(text, texts[i]));
+            fit_free(text);
+            WANT(blocks == before);
+            if (made < refused)
+                break;
+        }
+    refused = 0;
+}
+
+static void *in_thread(void *given)
+{
+    for (long i = 0; i < *(long *)given; i++) {
+        fit_text text = FIT_NO_TEXT;
+        WANT(is(fit_check(ride, length), FIT_GOOD, 0, 0, 0, 0, 1));
+        WANT(is(calls[i % 3](ride, length, &text), FIT_GOOD, 0, 0, 0, 0, 0));
+        WANT(same(text, texts[i % 3]));
+        fit_free(text);
+    }
+    return NULL;
+}
+
+static void threads(long rounds)
+{
+    pthread_t four[4];
+    for (int i = 0; i < 4; i++)
+        WANT(pthread_create(&four[i], NULL, in_thread, &rounds) == 0);
+    for (int i = 0; i < 4; i++)
+        WANT(pthread_join(four[i], NULL) == 0);
+}
+
+int main(int argc, char **argv)
+{
+    WANT(argc == 4);
+    size_t step = (size_t)atol(argv[3]);
+    FILE *file = fopen(argv[1], "rb");
+    ride = malloc(1 << 20);
+    WANT(file != NULL && ride != NULL);
+    length = fread(ride, 1, 1 << 20, file);
+    fclose(file);
+    whole(argv[2]);
+    fronts(step);
+    changed(step);
+    others();
+    want();
+    threads(600 / (long)step);
+    for (int i = 0; i < 4; i++)
+        fit_free(texts[i]);
+    free(ride);
+    return 0;
+}

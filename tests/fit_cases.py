@@ -1,0 +1,178 @@
+"""What python/fit.py must answer: of the ride by the points of examples/ride.gpx, of which another program made it; of other bytes by
+what the FIT protocol says."""
+import datetime
+import os
+import sqlite3
+import subprocess
+import sys
+import threading
+import unittest
+import xml.etree.ElementTree
+
+import fit
+
+RIDE = "examples/ride.fit"
+WORK = sys.argv.pop()
+with open(RIDE, "rb") as file:
+    BYTES = file.read()
+
+
+def points():
+    name = "{http://www.topografix.com/GPX/1/1}"
+    for point in xml.etree.ElementTree.parse("examples/ride.gpx").iter(name + "trkpt"):
+        when = datetime.datetime.fromisoformat(point.find(name + "time").text.replace("Z", "+00:00"))
+        yield when, float(point.get("lat")), float(point.get("lon")), float(point.find(name + "ele").text)
+
+
+def run(*words, **how):
+    return subprocess.run([sys.executable, *words], stdout=subprocess.PIPE, stderr=subprocess.PIPE, **how)
+
+
+class Checks(unittest.TestCase):
+    def test_good(self):
+        for source in (RIDE, BYTES, bytearray(BYTES), memoryview(BYTES)):
+            answer = fit.check(source)
+            self.assertTrue(answer.good and bool(answer))
+            self.assertEqual((answer.files, answer.place, answer.reason, answer.row, answer.column, str(answer)), (1, None, None, None, None, "ok"))
+        self.assertEqual(fit.check(3 * BYTES).files, 3)
+
+    def test_truncated(self):
+        for end in (0, 1, 13, 14, 2000, len(BYTES) - 1):
+            answer = fit.check(BYTES[:end])
+            self.assertFalse(answer)
+            self.assertEqual((answer.place, answer.reason, str(answer)), (end, None, f"truncated at byte {end}"))
+
+    def test_refused(self):
+        changed = bytearray(BYTES)
+        changed[-1] ^= 1
+        answer = fit.check(changed)
+        self.assertEqual((answer.good, answer.place, answer.reason), (False, len(BYTES) - 1, "FileSum"))
+        self.assertEqual(str(answer), f"refused at byte {len(BYTES) - 1}: FileSum")
+        self.assertEqual((fit.check(b"\x0d").reason, fit.check(b"\x0e\x30").reason), ("HeaderSize", "Protocol"))
+
+    def test_no_file(self):
+        with self.assertRaises(FileNotFoundError):
+            fit.check(os.path.join(WORK, "none.fit"))
+
+
+class Tables(unittest.TestCase):
+    def test_rows_are_the_points(self):
+        wanted = list(points())
+        rows = [row for row in fit.table(RIDE) if row.position_lat is not None]
+        self.assertEqual(len(rows), len(wanted))
+        for row, (when, lat, lon, elevation) in zip(rows, wanted):
+            self.assertEqual(row.file, 1)
+            self.assertEqual(row.timestamp, when)
+            self.assertEqual(row.timestamp.utcoffset(), datetime.timedelta(0))
+            # a semicircle is 180 / 2^31 degrees, and an altitude is told in fifths of a metre
+            self.assertAlmostEqual(row.position_lat, lat, delta=180 / 2**31)
+            self.assertAlmostEqual(row.position_long, lon, delta=180 / 2**31)
+            self.assertAlmostEqual(row.altitude, elevation, delta=0.2)
+            self.assertIsNone(row.heart_rate)
+
+    def test_files(self):
+        count = len(list(fit.table(RIDE)))
+        found = [(number, len(list(rows))) for number, rows in fit.files(2 * BYTES)]
+        self.assertEqual(found, [(1, count), (2, count)])
+
+    def test_partial(self):
+        whole = list(fit.table(RIDE))
+        with self.assertRaises(fit.Truncated) as caught:
+            next(fit.table(BYTES[:2000]))
+        self.assertEqual((caught.exception.place, caught.exception.reason, caught.exception.answer.good), (2000, None, False))
+        rows = []
+        with self.assertRaises(fit.Truncated):
+            for row in fit.table(BYTES[:2000], partial=True):
+                rows.append(row)
+        self.assertTrue(0 < len(rows) < len(whole))
+        self.assertEqual(rows, whole[: len(rows)])
+
+    def test_text(self):
+        lines = fit.table_text(RIDE).splitlines()
+        self.assertEqual(lines[0], ",".join(fit.Row._fields))
+        self.assertEqual(len(lines), 1 + len(list(fit.table(RIDE))))
+
+
+class Texts(unittest.TestCase):
+    def test_both_ways(self):
+        for chain in (BYTES, 2 * BYTES):
+            self.assertEqual(fit.from_csv(fit.to_csv(chain)), chain)
+            self.assertEqual(fit.from_csv(fit.to_csv(chain).encode()), chain)
+
+    def test_bad_texts(self):
+        head = "row,a,b,c,d,e,f\n"
+        for text, row, column in (("", 1, None), (head, 2, None), (head + "end,,,,,,\n", 2, None), (head + "file,14,32,65536,sum,,\nend,,,,,,\n", 2, 4)):
+            with self.assertRaises(fit.TextRefused) as caught:
+                fit.from_csv(text)
+            self.assertEqual((caught.exception.row, caught.exception.column, caught.exception.place), (row, column, None))
+        # the true checksum of this header is 0, for which zeros can't stand
+        with self.assertRaises(fit.TextRefused) as caught:
+            fit.from_csv(head + "file,14,32,46477,zero,,\nend,,,,,,\n")
+        self.assertIsNone(caught.exception.row)
+
+    def test_show(self):
+        self.assertTrue(fit.show(RIDE).startswith("file 1: header 14, "))
+        with self.assertRaises(fit.Refused):
+            fit.show(BYTES + b"\xff\xff")
+        self.assertEqual(fit.show(BYTES + b"\xff\xff", partial=True), fit.show(BYTES))
+
+
+class Threads(unittest.TestCase):
+    def test_four(self):
+        wanted, found = fit.table_text(BYTES), []
+        work = lambda: found.extend(fit.table_text(BYTES) == wanted and fit.check(BYTES).files == 1 for _ in range(100))
+        four = [threading.Thread(target=work) for _ in range(4)]
+        for thread in four:
+            thread.start()
+        for thread in four:
+            thread.join()
+        self.assertEqual(found, 400 * [True])
+
+
+class Shell(unittest.TestCase):
+    def test_check(self):
+        done = run("-m", "fit", "check", RIDE)
+        self.assertEqual((done.returncode, done.stdout, done.stderr), (0, f"{RIDE}: ok, 1 file\n".encode(), b""))
+        done = run("-m", "fit", "check", RIDE, "-", input=BYTES[:20])
+        self.assertEqual((done.returncode, done.stdout), (1, f"{RIDE}: ok, 1 file\n-: truncated at byte 20\n".encode()))
+
+    def test_both_ways(self):
+        text = run("-m", "fit", "to-csv", RIDE).stdout
+        self.assertEqual(run("-m", "fit", "from-csv", input=text).stdout, BYTES)
+
+    def test_errors(self):
+        self.assertEqual(run("-m", "fit").returncode, 2)
+        self.assertEqual(run("-m", "fit", "check", os.path.join(WORK, "none.fit")).returncode, 4)
+        self.assertEqual(run("-m", "fit", "table", input=b"\x0d").returncode, 1)
+
+
+class Examples(unittest.TestCase):
+    def test_many_rides(self):
+        """Ten rides of two minutes, and one that is cut, loaded by two processes."""
+        folder, database = os.path.join(WORK, "rides"), os.path.join(WORK, "rides.db")
+        self.assertEqual(run("examples/python/make_rides.py", folder, "10", "2").returncode, 0)
+        paths = sorted(os.path.join(folder, name) for name in os.listdir(folder))
+        self.assertEqual(len(paths), 10)
+        cut = os.path.join(WORK, "cut.fit")
+        with open(paths[0], "rb") as whole, open(cut, "wb") as file:
+            file.write(whole.read()[:1000])
+        done = run("examples/python/load_rides.py", database, "2", *paths, cut)
+        self.assertEqual((done.returncode, done.stderr), (0, b""))
+        self.assertIn(b"11 files, 1 not good, ", done.stdout)
+        with sqlite3.connect(database) as into:
+            self.assertEqual(into.execute("select count(*) from ride where finding = 'ok'").fetchone(), (10,))
+            self.assertEqual(into.execute("select finding from ride where path = ?", (cut,)).fetchone(), ("truncated at byte 1000",))
+            counts = into.execute("select count(*) from record join ride on ride.id = record.ride where finding = 'ok' group by record.ride").fetchall()
+            self.assertEqual(counts, 10 * [(120,)])
+        into.close()
+
+    def test_pandas(self):
+        if run("-c", "import pandas").returncode:
+            self.skipTest("there is no pandas")
+        done = run("examples/python/pandas_table.py", RIDE)
+        self.assertEqual(done.returncode, 0, done.stderr)
+        self.assertIn(b"datetime64[ns, UTC]", done.stdout)
+
+
+if __name__ == "__main__":
+    unittest.main()
