@@ -20,7 +20,7 @@ pub fn check_bytes(alloc: Global, bytes: &[u8]) -> Result<u64, Fault>
     let mut decoder = Decoder::new(alloc);
     let mut rest = bytes;
     while !rest.is_empty() {
-        let (passed, _) = decoder.skim(rest);
+        let (passed, _) = decoder.skip_records(rest);
         let (_, left) = rest.split_at(passed);
         let fed = decoder.feed(left)?;
         let (_, behind) = left.split_at(fed.used);

@@ -12,12 +12,12 @@ use Rattle.fit_decode.proofs.check.check_bytes.Goals as goal
 pub returns-in_err-fed-clause-fault : goal.returns-in_err-fed-clause-fault
 returns-in_err-fed-clause-fault c =
     let p = err_from_is_err_and c.from_residual.result c.from_residual.ensures.1 in
-    let passed : Feeds c.args.bytes.now c.skim-passed.new.self c.split_at.result.1.now =
-    subst (Feeds c.args.bytes.now c.skim-passed.new.self) (sym c.split_at.ensures.back)
-    (feeds_over c.args.bytes.now c.loop-rest.decoder c.skim-passed.new.self c.loop-rest.rest.now c.skim-passed.result.0 c.loop-rest.invariant
-    c.skim-passed.ensures.used c.skim-passed.ensures.viable) in
+    let passed : Feeds c.args.bytes.now c.skip_records-passed.new.self c.split_at.result.1.now =
+    subst (Feeds c.args.bytes.now c.skip_records-passed.new.self) (sym c.split_at.ensures.back)
+    (feeds_over c.args.bytes.now c.loop-rest.decoder c.skip_records-passed.new.self c.loop-rest.rest.now c.skip_records-passed.result.0 c.loop-rest.invariant
+    c.skip_records-passed.ensures.used c.skip_records-passed.ensures.viable) in
     rw (p.1, p.2)
-    (stopped c.args.bytes.now c.skim-passed.new.self c.feed.new.self c.split_at.result.1.now c.in_err-fed.field-0.0 passed
+    (stopped c.args.bytes.now c.skip_records-passed.new.self c.feed.new.self c.split_at.result.1.now c.in_err-fed.field-0.0 passed
     (record {
       refused = λ place reason is. c.feed.ensures.refused place reason passed.fresh (c.in_err-fed.was ∙ ap Err is);
       others = λ place. (λ is. (c.feed.ensures.others place).0 (c.in_err-fed.was ∙ ap Err is), λ is. (c.feed.ensures.others place).1 (c.in_err-fed.was ∙ ap Err is));
