@@ -36,7 +36,7 @@ pub trait Report {
         requires viable { IsViable Global chain_limit decoder.old.bytes }
         ensures { Skips has_heard line decoder.old decoder.new piece.now self.old self.new result }
     {
-        0
+        0usize
     }
 }
 
