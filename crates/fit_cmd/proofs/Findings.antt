@@ -105,10 +105,10 @@ module _ (A : Type 0) where
   -- what was found says so of the whole input
   finding_of_all : (before : Option (List ℕ)) (taken rest : List ℕ) (failed : Bool) (found : Result (Unit {0}) Fault) → failed ≡ false
       → Finds A taken (record { before = before; after = Some rest; failed = failed }) found → IsFinding (taken ++ rest) found × (good_bytes found taken ≡ good_bytes found (taken ++ rest))
-  finding_of_all before taken rest failed (Ok x) works (end, chain) = (subst (AreChain A) (whole taken rest end) chain, whole taken rest end)
+  finding_of_all before taken rest failed (Ok x) works (end, well, chain) = (subst (AreChain A) (whole taken rest end) chain, whole taken rest end)
   finding_of_all before taken rest failed (Err (Refused place reason)) works (within, near, why) =
       ((omega (arith, within, length-append taken rest), in_all taken rest place reason within why), sym (front taken rest place reason within))
-  finding_of_all before taken rest failed (Err (Truncated place)) works (is, end, viable, short) =
+  finding_of_all before taken rest failed (Err (Truncated place)) works (is, end, viable, short, well) =
       let all : taken ≡ taken ++ rest = whole taken rest end in
       ((is ∙ ap length all, subst (IsViable A chain_limit) all viable, λ chain. short (subst (AreChain A) (sym all) chain)), all)
   finding_of_all before taken rest failed (Err (NoMemory used)) works none = absurd none

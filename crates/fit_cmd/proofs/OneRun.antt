@@ -67,8 +67,8 @@ module _ (texts : Texts) (input : List ℕ) where
 
     module _ (rows : RowsOf) (texts_is : (answer : Result (Unit {0}) Fault) (events : List (Event Global)) → csv_text (rows events) ≡ texts answer events) where
       converted : (answer : Result (Unit {0}) CsvFault) → Converts rows source output answer → Concludes answer faults status → HasWritten output status
-      converted (Ok x) (taken, took, (end, chain, (events, are, put))) (keeps, is) =
-          has_written taken (Ok x) events took (end, chain) are is (subst (Appends output.before output.after) (texts_is (Ok x) events) put)
+      converted (Ok x) (taken, took, (end, well, chain, (events, are, put))) (keeps, is) =
+          has_written taken (Ok x) events took (end, well, chain) are is (subst (Appends output.before output.after) (texts_is (Ok x) events) put)
       converted (Err (csv.Decode (Refused place reason))) (taken, took, (fault, (events, are, put))) (puts, is) =
           has_written taken (Err (Refused place reason)) events took fault are is (subst (Appends output.before output.after) (texts_is (Err (Refused place reason)) events) put)
       converted (Err (csv.Decode (Truncated place))) (taken, took, (fault, (events, are, put))) (puts, is) =

@@ -44,15 +44,15 @@ module _ {K : Type 0} (contents : K → Option (List ℕ)) (has_failed : K → B
     on lines wanted put writes = writes_on start (contents old) (contents new) (has_failed new) faults status (text_of line heard) lines wanted put writes
 
     ran_so : (answer : Result (Unit {0}) ReportFault) → (taken : List ℕ) × Consumes source.before source.after taken × HasTold line taken source told heard answer → Finishes answer old new said faults status → Runs line source all faults status
-    ran_so (Ok x) (taken, eats, (end, chain, tells)) writes = (taken, eats, inl (Ok tt, heard, (end, chain), tells.0, on _ 0 tells.1 writes))
+    ran_so (Ok x) (taken, eats, (end, well, chain, tells)) writes = (taken, eats, inl (Ok tt, heard, (end, well, chain), tells.0, on _ 0 tells.1 writes))
     ran_so (Err (report.Decode (Refused place reason))) (taken, eats, (fault, tells)) writes = (taken, eats, inl (Err (Refused place reason), heard, fault, tells.0, on _ 1 tells.1 writes))
     ran_so (Err (report.Decode (Truncated place))) (taken, eats, (fault, tells)) writes = (taken, eats, inl (Err (Truncated place), heard, fault, tells.0, on _ 1 tells.1 writes))
     ran_so (Err (report.Decode (NoMemory used))) (taken, eats, none) writes = absurd none
     ran_so (Err (report.Decode (Read place))) (taken, eats, (fault, tells)) (same, puts, is) =
         (taken, eats, inl (Err (Read place), heard, fault, tells.0, (subst (λ k. Appends start (contents k) (text_of line heard)) (sym same) tells.1, puts, is)))
-    ran_so (Err report.NoMemory) (taken, eats, (k, some, (are, put))) (same, puts, is) =
+    ran_so (Err report.NoMemory) (taken, eats, ((k, some, (are, put)), near)) (same, puts, is) =
         (taken, eats, inr (k, some, are, inl (subst (λ o. Appends start (contents o) (text_of line some)) (sym same) put, puts, is)))
-    ran_so (Err (report.Write written)) (taken, eats, (k, some, are, (bad, n, short, put, counted))) (same, puts, is) = (
+    ran_so (Err (report.Write written)) (taken, eats, ((k, some, are, (bad, n, short, put, counted)), near)) (same, puts, is) = (
       taken,
       eats,
       inr (k, some, are, inr (ap has_failed same ∙ bad, n, short, subst (λ o. Appends start (contents o) (take n (text_of line some))) (sym same) put, puts, is)),

@@ -44,7 +44,7 @@ Writes lines wanted output faults status =
 -- What the bytes taken from the input are: all of it, and a chain of files; or what a fault ended. That memory was refused is
 -- nothing found.
 abbrev pub Finds : {X : Type 0} → Type 0 → List ℕ → Channel → Result X Fault → Type 0
-Finds A taken source (Ok _) = IsAtEnd source.after × AreChain A taken
+Finds A taken source (Ok _) = IsAtEnd source.after × (source.failed ≡ false) × AreChain A taken
 Finds A taken source (Err (NoMemory used)) = ⊥
 Finds A taken source (Err fault) = Faults A chain_limit taken source.after source.failed fault
 
