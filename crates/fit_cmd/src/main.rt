@@ -13,7 +13,7 @@ use crate::command_line::{Command, Line, LineFault, parse_line};
 use crate::lines::{OUT_OF_MEMORY, WRITE_FAULT};
 use crate::run::{BAD_USAGE, FAILED, GOOD, NO_MEMORY, run};
 use fit_decode::ReadSource;
-use fit_encode::WriteSink;
+use fit_encode::{CutSink, WriteSink};
 use std::alloc::Global;
 use std::fs::File;
 use std::io;
@@ -24,6 +24,9 @@ const USAGE: &str = "usage: fit check|show|to-csv|from-csv|table [FILE]";
 
 /// How many bytes are read from a file, and written to the output, at once.
 const BUFFER: usize = 64 * 1024;
+
+/// Room for the fault lines of a run: two at most, of 64 bytes each.
+const FAULTS: usize = 128;
 
 fn main(rt: HostRuntime) -> ExitCode {
     let status = match words(&rt) {
@@ -52,8 +55,8 @@ fn words(rt: &HostRuntime) -> Result<Vec<String>, ErrorKind> {
 fn run_line(rt: &HostRuntime, words: &[String]) -> u8 {
     match parse_line(rt.alloc(), words) {
         Ok(Line { command, path }) => match path {
-            Some(path) => run_file(rt, command, path.as_str()),
-            None => run_reader(rt, command, rt.stdin()),
+            Some(path) if path.as_str() != "-" => run_file(rt, command, path.as_str()),
+            _ => run_reader(rt, command, rt.stdin()),
         },
         Err(LineFault::Usage) => bad_usage(rt),
         Err(LineFault::Help) => {
@@ -64,19 +67,27 @@ fn run_line(rt: &HostRuntime, words: &[String]) -> u8 {
     }
 }
 
-/// Runs a command on a file.
+/// Runs a command on a file. Where it can't be opened, a second line says why; a folder can be opened, but not read.
 fn run_file(rt: &HostRuntime, command: Command, path: &str) -> u8 {
     match File::open(rt, path) {
-        Ok(file) => run_reader(rt, command, file),
-        Err(_) => {
+        Ok(file) => {
+            let is_folder = file.metadata().is_ok_and(|about| about.is_dir());
+            let status = run_reader(rt, command, file);
+            if is_folder {
+                let _ = eprintln!(rt; "{path} is a folder");
+            }
+            status
+        }
+        Err(error) => {
             let _ = eprintln!(rt; "cannot open {path}");
+            let _ = eprintln!(rt; "{error}");
             FAILED
         }
     }
 }
 
 /// Runs a command on what a reader gives. The output goes through a buffer, which is flushed before
-/// the status is made.
+/// the status is made. Where the output is a pipe that nobody reads any more, nothing is said of that.
 fn run_reader<R: Read + Drop>(rt: &HostRuntime, command: Command, reader: R) -> u8 {
     let alloc: Global = rt.alloc();
     let Ok(reader) = BufReader::with_capacity(alloc, BUFFER, reader) else {
@@ -87,12 +98,19 @@ fn run_reader<R: Read + Drop>(rt: &HostRuntime, command: Command, reader: R) -> 
     };
     let mut source = ReadSource::new(reader);
     let mut output = WriteSink::new(&mut writer);
-    let mut faults = WriteSink::new(rt.stderr());
+    let mut faults = CutSink::<FAULTS>::new(FAULTS);
     let status = run(alloc, command, &mut source, &mut output, &mut faults);
-    if writer.flush().is_ok() || status == FAILED {
+    let flushed = writer.flush();
+    let closed = flushed.is_err_and(|error| error.kind() == ErrorKind::BrokenPipe);
+    if !closed || faults.bytes() != WRITE_FAULT.as_bytes() {
+        let _ = rt.stderr().write_all(faults.bytes());
+    }
+    if flushed.is_ok() || status == FAILED {
         return status;
     }
-    let _ = eprint!(rt; "{WRITE_FAULT}");
+    if !closed {
+        let _ = eprint!(rt; "{WRITE_FAULT}");
+    }
     FAILED
 }
 
