@@ -31,7 +31,9 @@ mod ProfileOffsets
 mod OneWay
 mod WholeRuns
 mod Judging
+pub mod Following
 mod OneChain
+pub mod OneFinding
 mod InRange
 mod SevenRows
 mod FromChain
