@@ -25,8 +25,8 @@ concluded rows source output faults status (Err csv.Read) well good none said = 
 concluded rows source output faults status (Err (csv.Write written)) well good bad said = absurd cc
 
 pub text_concluded : (bytes : List ℕ) (source output faults : Channel) (status : ℕ) (answer : Result (Unit {0}) CsvFault) → source.failed ≡ false → output.failed ≡ false
-    → FromTextOf bytes source.failed output.before output.after output.failed answer → Concludes answer faults status → IsWritten bytes output status
-text_concluded bytes source output faults status (Ok x) well good put (keeps, is) = inr (is, put)
+    → FromTextOf bytes source output answer → Concludes answer faults status → IsWritten bytes output status
+text_concluded bytes source output faults status (Ok x) well good put (keeps, is) = inr (is, put.0)
 text_concluded bytes source output faults status (Err (csv.Decode fault)) well good none said = absurd none
 text_concluded bytes source output faults status (Err (csv.Encode fault)) well good none said = absurd none
 text_concluded bytes source output faults status (Err csv.Header) well good none said = absurd none

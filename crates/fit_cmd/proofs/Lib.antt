@@ -5,5 +5,6 @@ pub mod Counts
 pub mod Ran
 pub mod TextRead
 pub mod Findings
+pub mod OneText
 pub mod OneRun
 pub mod Concluded

@@ -19,6 +19,8 @@ use Rattle.fit_csv.specs.ShowLines.{show_line}
 use Rattle.fit_csv.specs.Table.{table_of}
 use Rattle.fit_cmd.specs.declared.command_line.Command.{Command}
 use Rattle.fit_cmd.specs.declared.command_line.Command.TheVariants.{Check, Show, ToCsv, FromCsv, Table}
+use Rattle.fit_csv.specs.Laws.{TextsHaveOneFinding}
+use Rattle.fit_cmd.proofs.OneText.{made, made_alike}
 use Rattle.fit_cmd.specs.Laws.{HasRun, RunsAreOne}
 use Rattle.fit_cmd.specs.Lines.{check_line, ok_line, refused_line, truncated_line}
 use Rattle.fit_cmd.specs.Run.{Concludes, Finds, Runs, Says, good_bytes}
@@ -131,11 +133,31 @@ text_put : (before after : Option (List ℕ)) (old text put : List ℕ) → befo
 text_put before after old text put held wrote puts =
     append_cancel_left old text put (subst (λ b. Appends b (Some (old ++ text)) put) held (subst (λ a. Appends before a put) wrote puts))
 
-pub runs_are_one : ReasonsAreOne Global → EventsAreOne Global → RunsAreOne
-runs_are_one reasons lists command input status again text other chains are h k =
-    let p : HasWritten (command_texts command) input h.output status = run_written command input status text chains h in
-    let q : HasWritten (command_texts command) input k.output again = run_written command input again other chains k in
-    let one = one_written (command_texts command) input are reasons lists h.output k.output status again p q in
-    let first : text ≡ command_texts command p.answer p.events = text_put h.output.before h.output.after h.old text (command_texts command p.answer p.events) h.held h.wrote p.put in
-    let second : other ≡ command_texts command q.answer q.events = text_put k.output.before k.output.after k.old other (command_texts command q.answer q.events) k.held k.wrote q.put in
+-- a command that reads files
+module _ (reasons : ReasonsAreOne Global) (lists : EventsAreOne Global) (command : Command) (reads : command ≢ FromCsv) (input : List ℕ) (are : IsBytes input) where
+  read_alike : (status again : ℕ) (text other : List ℕ) → HasRun command input status text → HasRun command input again other → (status ≡ again) × (text ≡ other)
+  read_alike status again text other h k =
+      let p : HasWritten (command_texts command) input h.output status = run_written command input status text reads h in
+      let q : HasWritten (command_texts command) input k.output again = run_written command input again other reads k in
+      let one = one_written (command_texts command) input are reasons lists h.output k.output status again p q in
+      let first : text ≡ command_texts command p.answer p.events = text_put h.output.before h.output.after h.old text (command_texts command p.answer p.events) h.held h.wrote p.put in
+      let second : other ≡ command_texts command q.answer q.events = text_put k.output.before k.output.after k.old other (command_texts command q.answer q.events) k.held k.wrote q.put in
+      (one.0, first ∙ one.1 ∙ sym second)
+
+-- `from-csv`
+text_alike : TextsHaveOneFinding → (input : List ℕ) (status again : ℕ) (text other : List ℕ) → HasRun FromCsv input status text → HasRun FromCsv input again other
+    → (status ≡ again) × (text ≡ other)
+text_alike law input status again text other h k =
+    let p = made input h.source h.output h.faults status h.read h.works h.good h.memory h.runs.0 h.runs.1 h.runs.2 h.runs.3 in
+    let q = made input k.source k.output k.faults again k.read k.works k.good k.memory k.runs.0 k.runs.1 k.runs.2 k.runs.3 in
+    let one = made_alike law input h.output k.output status again p q in
+    let first : text ≡ p.bytes = text_put h.output.before h.output.after h.old text p.bytes h.held h.wrote p.put in
+    let second : other ≡ q.bytes = text_put k.output.before k.output.after k.old other q.bytes k.held k.wrote q.put in
     (one.0, first ∙ one.1 ∙ sym second)
+
+pub runs_are_one : ReasonsAreOne Global → EventsAreOne Global → TextsHaveOneFinding → RunsAreOne
+runs_are_one reasons lists texts Check input status again text other are h k = read_alike reasons lists Check (λ e. cc e) input are status again text other h k
+runs_are_one reasons lists texts Show input status again text other are h k = read_alike reasons lists Show (λ e. cc e) input are status again text other h k
+runs_are_one reasons lists texts ToCsv input status again text other are h k = read_alike reasons lists ToCsv (λ e. cc e) input are status again text other h k
+runs_are_one reasons lists texts FromCsv input status again text other are h k = text_alike texts input status again text other h k
+runs_are_one reasons lists texts Table input status again text other are h k = read_alike reasons lists Table (λ e. cc e) input are status again text other h k

@@ -8,7 +8,6 @@ use Rattle.fit_decode.specs.Events.{file_events}
 use Rattle.fit_report.specs.Heard.{text_of}
 use Rattle.fit_report.specs.Reports.{Channel}
 use Rattle.fit_cmd.specs.declared.command_line.Command.{Command}
-use Rattle.fit_cmd.specs.declared.command_line.Command.TheVariants.{FromCsv}
 use Rattle.fit_cmd.specs.Lines.{check_line, file_lines}
 use Rattle.fit_cmd.specs.Run.{Finds, RunsCommand, good_bytes}
 
@@ -44,8 +43,8 @@ pub record HasRun (command : Command) (input : List ℕ) (status : ℕ) (text : 
   pub good : output.failed ≡ false
   pub memory : status ≢ 3
 
--- Two such runs of a command that reads files answered the same status and wrote the same text.
+-- Two such runs of a command answered the same status and wrote the same text, or the same bytes.
 abbrev pub RunsAreOne : Type 0
 RunsAreOne =
-    (command : Command) (input : List ℕ) (status again : ℕ) (text other : List ℕ) → command ≢ FromCsv → IsBytes input
+    (command : Command) (input : List ℕ) (status again : ℕ) (text other : List ℕ) → IsBytes input
     → HasRun command input status text → HasRun command input again other → (status ≡ again) × (text ≡ other)

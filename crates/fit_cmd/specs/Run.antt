@@ -1,5 +1,5 @@
 -- What the program writes, and the status that it answers.
-use Rattle.std.specs.Prelude.{◌≡◌, ℕ, ◌<◌, ◌⊎◌, true, false, List, ◌++◌, Result, Ok, Err, Some, length, reverse, take}
+use Rattle.std.specs.Prelude.{◌≡◌, ℕ, ◌<◌, ◌⊎◌, true, false, List, ◌++◌, Result, Ok, Err, IfErr, Some, length, reverse, take}
 use Rattle.std.specs.Global.{Global}
 use Rattle.std.specs.Io.KnownBytes.{Appends, Consumes, IsAtEnd, Keeps}
 use Rattle.fit_base.specs.Numbers.{IsBytes}
@@ -15,7 +15,7 @@ use Rattle.fit_csv.specs.declared.fault.CsvFault.{CsvFault}
 use Rattle.fit_csv.specs.declared.fault.CsvFault.TheVariants as csv
 use Rattle.fit_csv.specs.ChainRows.{rows_of}
 use Rattle.fit_csv.specs.Conversions.{Converts, RowsOf}
-use Rattle.fit_csv.specs.FromText.{FromFault, FromText, IsTextOf, UnlessWritten}
+use Rattle.fit_csv.specs.FromText.{IsTextOf, ReadsText, UnlessWritten}
 use Rattle.fit_csv.specs.ShowLines.{show_line}
 use Rattle.fit_csv.specs.Table.{table_of}
 use Rattle.fit_cmd.specs.declared.command_line.Command.{Command}
@@ -98,16 +98,12 @@ Concludes (Err (csv.Write written)) faults status = Puts faults write_fault_line
 abbrev pub RunsConversion : RowsOf → Channel → Channel → Channel → ℕ → Type 0
 RunsConversion rows source output faults status = (answer : Result (Unit {0}) CsvFault) × Converts rows source output answer × Concludes answer faults status
 
--- What `from-csv` makes of a text: a chain of files, whose bytes are written; or a fault, before which nothing was written but by
--- a sink that fails.
-abbrev pub ReadsText : List ℕ → Channel → Channel → Result (Unit {0}) CsvFault → Type 0
-ReadsText text source output (Ok _) = FromText text output.before output.after
-ReadsText text source output (Err fault) =
-    FromFault text source.failed output.before output.after output.failed fault × UnlessWritten fault (output.after ≡ output.before)
-
+-- What `from-csv` did: it read a text and wrote the chain of files that it stands for, or there is a fault, before which nothing
+-- was written but by a sink that fails.
 abbrev pub RunsFromCsv : Channel → Channel → Channel → ℕ → Type 0
 RunsFromCsv source output faults status =
-    (answer : Result (Unit {0}) CsvFault) × ((text : List ℕ) → source.before ≡ Some text → ReadsText text source output answer) × Concludes answer faults status
+    (answer : Result (Unit {0}) CsvFault) × ReadsText source output answer
+    × IfErr answer (λ fault. UnlessWritten fault (output.after ≡ output.before)) × Concludes answer faults status
 
 -- ---- the commands
 

@@ -1,6 +1,6 @@
 //! The command line of `fit`: a command, and at most one FILE.
-ghost use Rattle.std.specs.Prelude.{◌≡◌, ◌≢◌, IfErr, IfNone, IfOk, IfSome, map, option_map, string_bytes};
-ghost use Rattle.clap.specs.Words.{app_of, kind_of};
+ghost use Rattle.std.specs.Prelude.{◌≡◌, ◌≢◌, [], IfErr, IfNone, IfOk, IfSome, OnOk, map, option_map, string_bytes};
+ghost use Rattle.clap.specs.Words.{app_of, fault_of, kind_of};
 ghost use Rattle.fit_cmd.specs.CommandLine.{IsPlainLine, IsRefusedFor, Names, command_word, fit_app, line_fault};
 ghost use Rattle.fit_cmd.specs.declared.command_line.Command.{Command};
 
@@ -81,10 +81,12 @@ fn fault_of(error: Error) -> LineFault
 /// Reads the command line. The first word is the program's name.
 ///
 /// A command word with at most one FILE, which isn't empty and doesn't begin with `-`, is refused
-/// for memory alone. Which of `Usage` and `Help` other words get is clap's own answer: `--help`
-/// anywhere is `Help`. Words that clap takes, and that name no command, get `Usage`.
+/// for memory alone. Only words that clap takes are taken.
+/// Which of `Usage` and `Help` other words get is clap's own answer: `--help` anywhere is `Help`.
+/// Words that clap takes, and that name no command, get `Usage`.
 pub fn parse_line(alloc: Global, words: &[String]) -> Result<Line, LineFault>
     ensures names { IfOk result (λ line. Names (map string_bytes words.now) line.command (option_map string_bytes line.path)) }
+    ensures taken { OnOk result (fault_of fit_app (map string_bytes words.now) ≡ []) }
     ensures memory { IfErr result (λ fault. (command : Command) → IsPlainLine command (map string_bytes words.now) → fault ≡ LineFault.NoMemory) }
     ensures refused { IfErr result (λ fault. IsRefusedFor (map string_bytes words.now) fault) }
 {

@@ -2,6 +2,7 @@
 //! are for.
 ghost use Rattle.fit_cmd.specs.Laws.{ChainsHaveLines, FindingsAreOne, RunsAreOne};
 
+use fit_csv::laws::texts_have_one_finding;
 use fit_decode::laws::{events_are_one, reasons_are_one};
 use std::alloc::{Allocator, Global};
 
@@ -19,11 +20,12 @@ pub fn findings_are_one<A: Allocator>()
     reasons_are_one::<A>();
 }
 
-/// What a command that reads files writes of an input, and the status that it answers, are determined by the input, unless memory
-/// is refused or the source or the output fails.
+/// What a command writes of an input, and the status that it answers, are determined by the input, unless memory is refused or the
+/// source or the output fails.
 pub fn runs_are_one()
     ensures { RunsAreOne }
 {
     reasons_are_one::<Global>();
     events_are_one::<Global>();
+    texts_have_one_finding();
 }

@@ -32,7 +32,9 @@ mod ProfileOffsets
 mod OneWay
 mod WholeRuns
 mod Judging
+pub mod Following
 mod OneChain
+pub mod OneFinding
 mod InRange
 mod SevenRows
 mod FromChain

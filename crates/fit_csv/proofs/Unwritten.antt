@@ -1,5 +1,5 @@
 -- Why files that rows gave aren't written.
-use Rattle.std.proofs.Common.{◌≡◌, ℕ, ◌≤◌, ◌^◌, Bool, List, [], ◌∷◌, ◌++◌, length, Option, Some, refl, subst}
+use Rattle.std.proofs.Common.{◌≡◌, ℕ, ◌≤◌, ◌^◌, false, List, [], ◌∷◌, ◌++◌, length, Err, Some, refl, subst}
 use Rattle.std.specs.Global.{Global}
 use Rattle.std.specs.List.{AllByRecursion}
 use Rattle.std.specs.Io.KnownBytes.{Appends}
@@ -14,8 +14,11 @@ use Rattle.fit_record.specs.Records.{AllFit, Fits}
 use Rattle.fit_encode.specs.declared.fault.EncodeFault.{EncodeFault}
 use Rattle.fit_encode.specs.declared.fault.EncodeFault.TheVariants.{BadHeader, BadLocal, BadOffset, ChainLength, DeclaredLength, NoMemory, TooLong, UndefinedLocal, WrongShape, Write, ZeroIsSum}
 use Rattle.fit_encode.specs.Faults.{AtFile, AtRecord, IfRefused, IfWrite, IsFirstFault, StopsAt}
-use Rattle.fit_csv.specs.FromText.{FromFault, FromText, IsTextOf, written_fault}
-use Rattle.fit_csv.specs.Judged.{AreFilesOf, IsFileOfRows}
+use Rattle.fit_report.specs.Reports.{Channel}
+use Rattle.fit_csv.specs.declared.fault.CsvFault.{CsvFault}
+use Rattle.fit_csv.specs.declared.fault.CsvFault.TheVariants as faults
+use Rattle.fit_csv.specs.FromText.{Answers, FromText, IsReadOut, IsTextOf, ReadsText, written_fault}
+use Rattle.fit_csv.specs.Judged.{AreFilesOf, IsFileOfRows, IsReadFault, IsTextFault}
 use Rattle.fit_csv.proofs.InRange.{chain-bytes}
 
 fits-between : {A : Type 0} (e : Environment A) (front : List (Record A)) (r : Record A) (back : List (Record A)) → AllFit e (front ++ r ∷ back) → Fits (learn_all e front) r
@@ -38,23 +41,45 @@ at-fault : (files : List (FitFile Global)) (P : ℕ → FitFile Global → Type 
 at-fault files P good h = good-between h.front h.this h.back (subst (AllByRecursion IsFileOfRows) h.joined good)
 
 module _ (exact : FaultsAreExact Global) (text : List ℕ) (files : List (FitFile Global)) (short : length text ≤ 2 ^ 62) (are : AreFilesOf text files)
-    (failed sink_failed : Bool) (before after : Option (List ℕ)) where
+    (source sink : Channel) (out : IsReadOut source) where
   text-of : IsWellFormedChain chain_limit files → IsTextOf text files (chain_bytes files)
   text-of good = record { short = short; rows = are.0; are_bytes = chain-bytes files are.1; chain = (good, refl) }
 
-  pub from-text : IsWellFormedChain chain_limit files → Appends before after (chain_bytes files) → FromText text before after
-  from-text good put = (files, chain_bytes files, text-of good, put)
+  pub from-text : IsWellFormedChain chain_limit files → Appends sink.before sink.after (chain_bytes files) → sink.failed ≡ false → IsReadOut source × FromText text sink
+  from-text good put works = (out, (files, chain_bytes files, text-of good, put, works))
 
   pub from-fault : (fault : EncodeFault) → IfRefused fault (IsFirstFault files fault) → IfWrite fault (λ written. IsWellFormedChain chain_limit files)
-      → IfWrite fault (StopsAt before after sink_failed (chain_bytes files)) → FromFault text failed before after sink_failed (written_fault fault)
+      → IfWrite fault (StopsAt sink.before sink.after sink.failed (chain_bytes files)) → Answers text source sink (Err (written_fault fault))
   from-fault NoMemory wrong good stops = tt
-  from-fault (Write written) wrong good stops = (files, chain_bytes files, text-of good, stops)
-  from-fault (TooLong file index) wrong good stops = (short, (files, are, wrong))
-  from-fault (ZeroIsSum file) wrong good stops = (short, (files, are, wrong))
-  from-fault ChainLength wrong good stops = wrong (are.2, are.1.0)
-  from-fault (BadHeader file) wrong good stops = wrong.1.holds.1 (at-fault files _ are.1.1 wrong.1).header.form
-  from-fault (BadLocal file index) wrong good stops = no-shape exact wrong.1.this index _ (at-fault files _ are.1.1 wrong.1) wrong.1.holds.1.1
-  from-fault (BadOffset file index) wrong good stops = no-shape exact wrong.1.this index _ (at-fault files _ are.1.1 wrong.1) wrong.1.holds.1.1
-  from-fault (UndefinedLocal file index) wrong good stops = no-shape exact wrong.1.this index _ (at-fault files _ are.1.1 wrong.1) wrong.1.holds.1.1
-  from-fault (WrongShape file index field) wrong good stops = no-shape exact wrong.1.this index _ (at-fault files _ are.1.1 wrong.1) wrong.1.holds.1.1
-  from-fault DeclaredLength wrong good stops = wrong.1.holds.1
+  from-fault (Write written) wrong good stops = (out, (files, chain_bytes files, text-of good, stops))
+  from-fault (TooLong file index) wrong good stops = (out, (short, (files, are, wrong)))
+  from-fault (ZeroIsSum file) wrong good stops = (out, (short, (files, are, wrong)))
+  from-fault ChainLength wrong good stops = absurd (wrong (are.2, are.1.0))
+  from-fault (BadHeader file) wrong good stops = absurd (wrong.1.holds.1 (at-fault files _ are.1.1 wrong.1).header.form)
+  from-fault (BadLocal file index) wrong good stops = absurd (no-shape exact wrong.1.this index _ (at-fault files _ are.1.1 wrong.1) wrong.1.holds.1.1)
+  from-fault (BadOffset file index) wrong good stops = absurd (no-shape exact wrong.1.this index _ (at-fault files _ are.1.1 wrong.1) wrong.1.holds.1.1)
+  from-fault (UndefinedLocal file index) wrong good stops = absurd (no-shape exact wrong.1.this index _ (at-fault files _ are.1.1 wrong.1) wrong.1.holds.1.1)
+  from-fault (WrongShape file index field) wrong good stops = absurd (no-shape exact wrong.1.this index _ (at-fault files _ are.1.1 wrong.1) wrong.1.holds.1.1)
+  from-fault DeclaredLength wrong good stops = absurd (wrong.1.holds.1)
+
+-- the source gave no whole text
+pub from-unread : (source sink : Channel) (fault : CsvFault) → IsReadFault source.before source.after source.failed fault → ReadsText source sink (Err fault)
+from-unread source sink faults.Read h = h
+from-unread source sink faults.NoMemory h = h
+from-unread source sink faults.Header h = absurd h.2
+from-unread source sink (faults.BadRow row) h = absurd h.2
+from-unread source sink (faults.BadCell row column) h = absurd h.2
+from-unread source sink (faults.Decode fault) h = absurd h.2
+from-unread source sink (faults.Encode fault) h = absurd h.2
+from-unread source sink (faults.Write written) h = absurd h.2
+
+-- its rows aren't those of files
+pub from-judged : (text : List ℕ) (source sink : Channel) (fault : CsvFault) → length text ≤ 2 ^ 62 → IsReadOut source → IsTextFault text fault → Answers text source sink (Err fault)
+from-judged text source sink faults.Header short out h = (out, (short, h))
+from-judged text source sink (faults.BadRow row) short out h = (out, (short, h))
+from-judged text source sink (faults.BadCell row column) short out h = (out, (short, h))
+from-judged text source sink faults.NoMemory short out h = tt
+from-judged text source sink faults.Read short out h = absurd h
+from-judged text source sink (faults.Decode fault) short out h = absurd h
+from-judged text source sink (faults.Encode fault) short out h = absurd h
+from-judged text source sink (faults.Write written) short out h = absurd h

@@ -13,7 +13,8 @@ unfoldable pub date_after : ℕ → ℕ → ℕ → List ℕ
 date_after zero y n = date_in_year 11 y 1 n
 date_after (suc later) y n = if nat_lt n (days_in_year (pos y)) then date_in_year 11 y 1 n else date_after later (y + 1) (n - days_in_year (pos y))
 
--- The text of an instant of 32 bits. Day 0 is 31 December 1989, the 365th day of its year, and the last one lies in 2126.
+-- The text of an instant of 32 bits. Day 0 is 31 December 1989, the 365th day of its year, and the last one lies in 2126. That it
+-- is the text of the instant's day in the calendar, and of its time, is the law `instant_text_is`.
 abbrev pub instant_text : ℕ → List ℕ
 instant_text t =
     if nat_lt t 0x10000000 then codes "system+" ++ decimal t

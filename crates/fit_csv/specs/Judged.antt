@@ -1,4 +1,5 @@
--- Which rows can stand where, and the first cell of a row that can't.
+-- Which rows can stand where, and the first cell of a row that can't. A row can stand where some chain's rows go on with it; which
+-- rows these are, kind by kind, says the table of Follows.antt, with the law `rows_that_follow`.
 use Rattle.std.specs.Prelude.{◌≡◌, ◌⊎◌, ◌<◌, ◌≤◌, ◌+◌, ◌-◌, ◌^◌, ℕ, Bool, true, List, [], ◌∷◌, ◌++◌, length, Option, All, codes, take}
 use Rattle.std.specs.Io.KnownBytes.{Consumes}
 use Rattle.std.specs.Global.{Global}
@@ -27,7 +28,8 @@ abbrev pub Agree : ℕ → Row → Row → Type 0
 Agree count a b = take count a ≡ take count b
 
 -- The second row may have the kind of the first one, as its first cell says it. A data message may stand where a file may
--- end, whatever is defined.
+-- end, whatever is defined: so `data,3` where local message type 3 isn't defined is refused for its second column, also where
+-- nothing is defined and no row of a data message can stand.
 abbrev pub MayBeOfKind : Row → Row → Type 0
 MayBeOfKind other r = Agree 1 other r ⊎ (Agree 1 other (codes "end" ∷ []) × Agree 1 r (codes "data" ∷ []))
 
@@ -103,7 +105,7 @@ abbrev pub AreFilesOf : List ℕ → List (FitFile Global) → Type 0
 AreFilesOf text files = RowsOfText text (chain_rows files) × IsChainOfRows files × (0 < length files)
 
 -- What is wrong with the row of this number where these can stand: it hasn't seven cells, or none of its kind can stand there,
--- or one of its cells is bad.
+-- or one of its cells is bad. Private functions use it with want of memory too; no public contract does.
 abbrev pub IsRowFault : (Row → Type 0) → Row → ℕ → CsvFault → Type 0
 IsRowFault CanStand r number (BadRow row) = (row ≡ number) × ((length r ≡ 7 → ⊥) ⊎ ((other : Row) → CanStand other → MayBeOfKind other r → ⊥))
 IsRowFault CanStand r number (BadCell row column) = (row ≡ number) × (length r ≡ 7) × IsBadCell CanStand r column
@@ -132,7 +134,8 @@ pub record IsCutOff (text : List ℕ) (row : ℕ) : Type 0 where
 abbrev pub HasNoHeader : List ℕ → Type 0
 HasNoHeader text = RowsOfText text [] ⊎ ((r : Row) × FirstRows text (r ∷ []) × (r ≡ first_line → ⊥))
 
--- why the rows of a text aren't those of a chain
+-- Why the rows of a text aren't those of a chain, or want of memory. No public contract names this: `IsWrong` of FromText has the
+-- faults alone.
 abbrev pub IsTextFault : List ℕ → CsvFault → Type 0
 IsTextFault text Header = HasNoHeader text
 IsTextFault text (BadRow row) = IsRefusedRow text (BadRow row) ⊎ IsCutOff text row
@@ -140,8 +143,14 @@ IsTextFault text (BadCell row column) = IsRefusedRow text (BadCell row column)
 IsTextFault text NoMemory = Unit {0}
 IsTextFault text _ = ⊥
 
--- The source of a text failed, or gave more than 2^62 bytes; or memory was refused.
+-- ---- what a source gave; no public contract names these
+
+-- why these bytes aren't a whole text: the source failed, or they are more than 2^62; or memory was refused
+abbrev pub IsUnread : List ℕ → Bool → CsvFault → Type 0
+IsUnread taken failed Read = (failed ≡ true) ⊎ (2 ^ 62 < length taken)
+IsUnread taken failed NoMemory = Unit {0}
+IsUnread taken failed _ = ⊥
+
+-- the same of a call
 abbrev pub IsReadFault : Option (List ℕ) → Option (List ℕ) → Bool → CsvFault → Type 0
-IsReadFault before after failed Read = (failed ≡ true) ⊎ ((taken : List ℕ) × Consumes before after taken × (2 ^ 62 < length taken))
-IsReadFault before after failed NoMemory = Unit {0}
-IsReadFault before after failed _ = ⊥
+IsReadFault before after failed fault = (taken : List ℕ) × Consumes before after taken × IsUnread taken failed fault

@@ -1,5 +1,5 @@
 -- What holds of the rows of records and chains, and of the computed texts of instants and positions.
-use Rattle.std.specs.Prelude.{◌≡◌, ◌++◌, ◌<◌, ◌≤◌, ◌^◌, ℕ, ℤ, List, flat_map, length}
+use Rattle.std.specs.Prelude.{◌≡◌, ◌++◌, ◌<◌, ◌≤◌, ◌^◌, ℕ, ℤ, List, Result, flat_map, length}
 use Rattle.fit_base.specs.Numbers.{IsBytes}
 use Rattle.std.specs.Global.{Global}
 use Rattle.fit_record.specs.declared.file.FitFile.{FitFile}
@@ -13,8 +13,9 @@ use Rattle.fit_profile.specs.Scaled.{IsDegrees}
 use Rattle.fit_cells.specs.Rows.{Row, csv_text}
 use Rattle.fit_csv.specs.InstantText.{instant_text}
 use Rattle.fit_csv.specs.Degrees.{degrees_of}
+use Rattle.fit_csv.specs.declared.fault.CsvFault.{CsvFault}
 use Rattle.fit_csv.specs.ChainRows.{chain_rows, record_rows, rows_of}
-use Rattle.fit_csv.specs.FromText.{IsTextOf}
+use Rattle.fit_csv.specs.FromText.{Finds, IsTextOf}
 use Rattle.fit_csv.specs.Judged.{IsChainOfRows, RecordInRange}
 
 -- the rows of the events of a chain are the rows of the chain
@@ -38,6 +39,14 @@ RecordsHaveOwnRows =
 -- a chain has rows of its own
 abbrev pub ChainsHaveOwnRows : Type 0
 ChainsHaveOwnRows = (a b : List (FitFile Global)) → IsChainOfRows a → IsChainOfRows b → chain_rows a ≡ chain_rows b → a ≡ b
+
+-- A chain with bytes is one that rows can give, so that it has rows of its own.
+abbrev pub ChainsAreOfRows : Type 0
+ChainsAreOfRows = (files : List (FitFile Global)) (bytes : List ℕ) → IsBytes bytes → IsChain chain_limit files bytes → IsChainOfRows files
+
+-- A text has one finding at most: the bytes of one chain, or one fault with one row and column.
+abbrev pub TextsHaveOneFinding : Type 0
+TextsHaveOneFinding = (text : List ℕ) (a b : Result (List ℕ) CsvFault) → Finds text a → Finds text b → a ≡ b
 
 -- the text of the rows of a chain is one of that chain, if it isn't too long
 abbrev pub TextsComeBack : Type 0

@@ -15,3 +15,4 @@ pub mod Laws
 pub mod ShowLines
 pub mod Showing
 pub mod Frames
+pub mod Follows

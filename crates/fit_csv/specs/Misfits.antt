@@ -1,4 +1,5 @@
--- Rows that can be read at a place, and why others can't. No public contract names these definitions.
+-- Rows that can be read at a place, and why others can't. Of these the law `rows_that_follow` names the kinds of rows, and no public
+-- contract names the others.
 use Rattle.std.specs.Prelude.{◌≡◌, ◌⊎◌, ◌<◌, ◌≤◌, ◌^◌, ℕ, List, [], Option, codes, decimal, IfSome, IsSome, option_map, unwrap_or}
 use Rattle.std.specs.Global.{Global}
 use Rattle.fit_base.specs.declared.items.Items.{Items}

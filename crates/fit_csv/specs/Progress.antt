@@ -1,4 +1,4 @@
--- What has been read of a chain, and how one more row goes on. No public contract names these definitions.
+-- What has been read of a chain, and how one more row goes on. Of these the law `rows_that_follow` names `naming_at` alone.
 use Rattle.std.specs.Prelude.{◌≡◌, ◌⊎◌, ◌<◌, ◌≤◌, ℕ, ◌==◌, ◌&&◌, Bool, true, if◌then◌else◌, List, [], ◌∷◌, ◌++◌, length, Option, Some, None, IfSome, IsSomeAnd, option_map, unwrap_or, slice_get}
 use Rattle.std.specs.Option.{option_map_or}
 use Rattle.std.specs.Global.{Global}

@@ -1,4 +1,4 @@
--- What holds of what has been read of a chain, and the rows that it was read from. No public contract names these definitions.
+-- What holds of what has been read of a chain, and the rows that it was read from. The law `rows_that_follow` names these.
 use Rattle.std.specs.Prelude.{◌≡◌, ◌<◌, ◌≤◌, ℕ, false, List, [], ◌∷◌, ◌++◌, length, map, flat_map, reverse, Option, Some, None, IsSomeAnd}
 use Rattle.std.specs.Global.{Global}
 use Rattle.std.specs.List.{AllByRecursion}

@@ -1,8 +1,8 @@
 //! Rows back to files.
-ghost use Rattle.std.specs.Prelude.{◌≡◌, ℕ, List, IfErr, OnOk, Some};
+ghost use Rattle.std.specs.Prelude.{◌≡◌, ℕ, List, IfErr, Some};
 ghost use Rattle.std.specs.Global.{Global};
 ghost use Rattle.fit_record.specs.declared.file.FitFile.{FitFile};
-ghost use Rattle.fit_csv.specs.FromText.{FromFault, FromText, FromTextOf, IsTextOf, UnlessWritten, written_fault};
+ghost use Rattle.fit_csv.specs.FromText.{FromTextOf, IsTextOf, ReadsText, UnlessWritten, written_fault};
 
 mod cells;
 mod chain;
@@ -41,9 +41,9 @@ fn from_fault(fault: EncodeFault) -> CsvFault
 
 /// Writes the files whose rows are those of a text.
 fn convert<S: Source, K: Sink>(alloc: Global, source: &mut S, sink: &mut K) -> Result<(), CsvFault>
-    ensures ok { (text : List ℕ) → S.remaining source.old ≡ Some text → OnOk result (FromText text (K.contents sink.old) (K.contents sink.new)) }
-    ensures err { (text : List ℕ) → S.remaining source.old ≡ Some text
-        → IfErr result (FromFault text (S.has_failed source.new) (K.contents sink.old) (K.contents sink.new) (K.has_failed sink.new)) }
+    ensures reads { ReadsText
+        (record { before = S.remaining source.old; after = S.remaining source.new; failed = S.has_failed source.new })
+        (record { before = K.contents sink.old; after = K.contents sink.new; failed = K.has_failed sink.new }) result }
     ensures unchanged { IfErr result (λ fault. UnlessWritten fault (sink.new ≡ sink.old)) }
 {
     faults_are_exact::<Global>();
@@ -61,21 +61,25 @@ fn convert<S: Source, K: Sink>(alloc: Global, source: &mut S, sink: &mut K) -> R
 /// `Read` where the source failed or the text is longer; `Header` where the first row isn't the first
 /// line; `BadRow` and `BadCell` for the first row that can't stand where it is, and its first such cell.
 /// `Encode` where the rows are those of files that can't be written: the data is too long, or zeros stand
-/// for a checksum that is 0 itself. Up to here nothing is written. `Write` where the sink failed behind so
-/// many bytes of the files. `NoMemory` where memory was refused.
+/// for a checksum that is 0 itself. Up to here nothing is written. `Write` where the sink failed after that
+/// many bytes of the files. `NoMemory` where memory was refused. All answers but `Read` and `NoMemory` leave
+/// the source at its end.
 pub fn from_csv<S: Source, K: Sink>(
     alloc: Global,
     source: &mut S,
     sink: &mut K,
 ) -> Result<(), CsvFault>
-    // The rows are those of a well-formed chain, and its bytes are written.
-    ensures ok { (text : List ℕ) → S.remaining source.old ≡ Some text → OnOk result (FromText text (K.contents sink.old) (K.contents sink.new)) }
-    ensures err { (text : List ℕ) → S.remaining source.old ≡ Some text
-        → IfErr result (FromFault text (S.has_failed source.new) (K.contents sink.old) (K.contents sink.new) (K.has_failed sink.new)) }
+    // It takes the whole text, but where the source fails or memory is refused. Its rows are those of a well-formed chain, whose
+    // bytes are written; or there is a fault.
+    ensures reads { ReadsText
+        (record { before = S.remaining source.old; after = S.remaining source.new; failed = S.has_failed source.new })
+        (record { before = K.contents sink.old; after = K.contents sink.new; failed = K.has_failed sink.new }) result }
     ensures unchanged { IfErr result (λ fault. UnlessWritten fault (sink.new ≡ sink.old)) }
     // Where the rows of the text are those of a chain, its bytes are written, unless memory is refused or the source or the sink fails.
     ensures chain { (text : List ℕ) (files : List (FitFile Global)) (bytes : List ℕ) → S.remaining source.old ≡ Some text → IsTextOf text files bytes
-        → FromTextOf bytes (S.has_failed source.new) (K.contents sink.old) (K.contents sink.new) (K.has_failed sink.new) result }
+        → FromTextOf bytes
+        (record { before = S.remaining source.old; after = S.remaining source.new; failed = S.has_failed source.new })
+        (record { before = K.contents sink.old; after = K.contents sink.new; failed = K.has_failed sink.new }) result }
 {
     chains_have_own_rows();
     good_chains_have_no_fault::<Global>();

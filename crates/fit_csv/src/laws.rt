@@ -1,8 +1,10 @@
 //! What holds of the rows of records and chains, and of the computed texts of instants and positions.
-ghost use Rattle.fit_csv.specs.Laws.{ChainsHaveOwnRows, DegreesAreNearest, EventsHaveTheRows, InstantTextIs, RecordsHaveOwnRows, TextsComeBack};
+ghost use Rattle.fit_csv.specs.Follows.{RowsThatFollow};
+ghost use Rattle.fit_csv.specs.Laws.{ChainsAreOfRows, ChainsHaveOwnRows, DegreesAreNearest, EventsHaveTheRows, InstantTextIs, RecordsHaveOwnRows, TextsComeBack, TextsHaveOneFinding};
 
+use fit_encode::laws::{faults_are_one, good_chains_have_no_fault};
 use fit_profile::laws::text_has_one_number;
-use std::alloc::Allocator;
+use std::alloc::{Allocator, Global};
 
 /// The rows of the events of a chain are the rows of the chain.
 pub fn events_have_the_rows<A: Allocator>()
@@ -32,6 +34,27 @@ pub fn chains_have_own_rows()
     ensures { ChainsHaveOwnRows }
 {
     text_has_one_number();
+}
+
+/// A chain with bytes is one that rows can give. So it has rows of its own.
+pub fn chains_are_of_rows()
+    ensures { ChainsAreOfRows }
+{}
+
+/// Which rows can follow others is a table of the kinds of rows with their ranges.
+pub fn rows_that_follow()
+    ensures { RowsThatFollow }
+{
+    text_has_one_number();
+}
+
+/// A text has one finding at most: the bytes of one chain, or one fault with one row and column.
+pub fn texts_have_one_finding()
+    ensures { TextsHaveOneFinding }
+{
+    chains_have_own_rows();
+    good_chains_have_no_fault::<Global>();
+    faults_are_one::<Global>();
 }
 
 /// What `to_csv` writes of a chain is a text of that chain, from which `from_csv` makes the same bytes,

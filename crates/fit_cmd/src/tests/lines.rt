@@ -31,6 +31,10 @@ fn lines(rt: HostRuntime) -> Result<(), Fail> {
         ("fit ", Err(LineFault::Usage)),
         ("fit check a b", Err(LineFault::Usage)),
         ("fit --help", Err(LineFault::Help)),
+        ("fit check --help", Err(LineFault::Help)),
+        ("fit check -x", Err(LineFault::Usage)),
+        ("fit check -- -a", Ok((Command::Check, Some("-a")))),
+        ("fit check -", Ok((Command::Check, Some("-")))),
     ] {
         let words = words(rt.alloc(), line)?;
         let found = parse_line(rt.alloc(), words.as_slice());

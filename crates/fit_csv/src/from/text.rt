@@ -1,5 +1,5 @@
 //! Reads a whole text.
-ghost use Rattle.std.specs.Prelude.{◌≡◌, ◌≤◌, ◌^◌, IfErr, IfOk, length};
+ghost use Rattle.std.specs.Prelude.{◌≡◌, ◌≤◌, ◌^◌, IfErr, IfOk, false, length};
 ghost use Rattle.std.specs.Io.KnownBytes.{Consumes, IsAtEnd};
 ghost use Rattle.fit_csv.specs.Judged.{IsReadFault};
 
@@ -17,6 +17,7 @@ const PIECE: usize = 4096;
 pub(crate) fn read_text<S: Source>(alloc: Global, source: &mut S) -> Result<Vec<u8>, CsvFault>
     ensures all { IfOk result (λ text. Consumes (S.remaining source.old) (S.remaining source.new) text.items) }
     ensures end { IfOk result (λ text. IsAtEnd (S.remaining source.new)) }
+    ensures works { IfOk result (λ text. S.has_failed source.new ≡ false) }
     ensures short { IfOk result (λ text. length text.items ≤ 2 ^ 62) }
     ensures err { IfErr result (IsReadFault (S.remaining source.old) (S.remaining source.new) (S.has_failed source.new)) }
 {

@@ -52,6 +52,11 @@ returns-in_default-command_of-clause-memory c = λ command plain.
     let some = rw c.in-Some.is at (c.get_str.ensures ∙ is ∙ plain-command command words plain) in
     absurd (c.in_default-command_of.ensures.none command (cc some))
 
+pub returns-clause-taken : goal.returns-clause-taken
+returns-clause-taken c =
+    let words = map string_bytes c.args.words.now in
+    ap (λ (b : App). clap_faults b words) (sym c.in-Ok.ensures) ∙ c.in-Ok-try_get_matches_from.ensures.kinds (free-as (app_of c.in-Ok.clap) c.in-Ok.ensures)
+
 pub returns-clause-names : goal.returns-clause-names
 returns-clause-names c =
     let words = map string_bytes c.args.words.now in

@@ -9,7 +9,7 @@ use Rattle.fit_cmd.specs.Lines.{ok_line}
 use Rattle.fit_cmd.specs.Run.{IsWritten, RunsCommand}
 use Rattle.fit_cmd.proofs.Concluded.{concluded, text_concluded}
 use Rattle.fit_cmd.proofs.Counts.{chains_have_lines}
-use Rattle.fit_cmd.proofs.TextRead.{text_read}
+use Rattle.fit_cmd.proofs.TextRead.{text_kept}
 use Rattle.fit_cmd.proofs.run.run.Goals as goal
 
 pub returns-in-Check-clause-checks : goal.returns-in-Check-clause-checks
@@ -39,7 +39,8 @@ returns-in-FromCsv-clause-runs g c =
     (record { before = g.E.Sink.contents c.args.faults.now; after = g.E.Sink.contents c.conclude-in-FromCsv.new.faults; failed = g.E.Sink.has_failed c.conclude-in-FromCsv.new.faults })
     c.conclude-in-FromCsv.result) (sym c.in-FromCsv.is) (
       c.from_csv-answer.result,
-      (λ text input. text_read text (record { before = g.S.Source.remaining c.args.source.now; after = g.S.Source.remaining c.from_csv-answer.new.source; failed = g.S.Source.has_failed c.from_csv-answer.new.source }) g.K.Sink.contents c.args.output.now c.from_csv-answer.new.sink _ c.from_csv-answer.result (c.from_csv-answer.ensures.ok text input) (c.from_csv-answer.ensures.err text input) c.from_csv-answer.ensures.unchanged),
+      c.from_csv-answer.ensures.reads,
+      text_kept g.K.Sink.contents c.args.output.now c.from_csv-answer.new.sink c.from_csv-answer.result c.from_csv-answer.ensures.unchanged,
       c.conclude-in-FromCsv.ensures,
     )
 
