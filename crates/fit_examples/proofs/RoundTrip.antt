@@ -1,5 +1,5 @@
 -- Why bytes that a file begins aren't read.
-use Rattle.std.proofs.Common.{◌≡◌, Bool, true, false, ℕ, List, Option, Err, sym, ◌∙◌}
+use Rattle.std.proofs.Common.{◌≡◌, true, false, ℕ, List, Err, sym, ◌∙◌}
 use Rattle.std.specs.declared.alloc.Global.{Global}
 use Rattle.fit_record.specs.declared.file.FitFile.{FitFile}
 use Rattle.fit_decode.specs.declared.event.Fault.{Fault}
