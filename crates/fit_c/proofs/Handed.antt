@@ -1,6 +1,7 @@
 -- What a text has that was handed over.
 use Rattle.std.proofs.Common.{◌≡◌, inr, inl, true, false, Bool, ℕ, List, [], Option, Some, None, Result, Ok, Err, ◌++◌, refl, sym, ap, ◌∙◌, subst}
-use Rattle.std.specs.Prelude.{OnOk, flat_map, is_ok, reverse}
+use Rattle.std.specs.Prelude.{flat_map, is_ok, reverse}
+use Rattle.std.proofs.lemmas.List.{append-nil}
 use Rattle.std.specs.declared.alloc.Global.{Global}
 use Rattle.std.specs.Io.KnownBytes.{Appends}
 use Rattle.fit_record.specs.declared.file.FitFile.{FitFile}
@@ -12,8 +13,8 @@ use Rattle.fit_report.specs.Heard.{Lines, text_of}
 use Rattle.fit_report.specs.Reports.{Channel, ReportsChain}
 use Rattle.fit_csv.specs.declared.fault.CsvFault.{CsvFault}
 use Rattle.fit_csv.specs.declared.fault.CsvFault.TheVariants as csv
-use Rattle.fit_csv.specs.FromText.{FromText, FromTextOf, IsTextOf}
-use Rattle.fit_c.specs.Answers.{IsTextUnlessWant, answer, report_answer}
+use Rattle.fit_csv.specs.FromText.{FromText, FromTextOf, IsTextOf, ReadsText}
+use Rattle.fit_c.specs.Answers.{IsTextUnlessWant, answer, given, report_answer}
 use Rattle.fit_c.proofs.Said.{conversion_bad}
 
 -- what was put in a sink that was empty is all that it has
@@ -35,20 +36,28 @@ shown_chain line fs source sink (Err (reports.Write written)) items works none i
 
 -- ---- the bytes of a text, which are handed over where all was good
 
-module _ (before after : Option (List ℕ)) (good : Bool) (items : List ℕ) (none : before ≡ Some []) (is : good ≡ true → Some items ≡ after) where
-  pub text_good : (text : List ℕ) (r : Result (Unit {0}) CsvFault) → good ≡ is_ok r → OnOk r (FromText text before after) → (answer r).status ≡ 0
-      → (files : List (FitFile Global)) × IsTextOf text files items
-  text_good text (Ok u) so (files, bytes, of, more) zero = (files, subst (IsTextOf text files) (sym (put before after items bytes none (is so) more)) of)
-  text_good text (Err fault) so bad zero = absurd (conversion_bad fault zero)
+-- a text that was taken to its end is the whole text
+whole : (text taken left : List ℕ) → text ≡ taken ++ left → left ≡ [] → taken ≡ text
+whole text taken left joined none = let same : taken ++ left ≡ taken ++ [] = ap (λ l. taken ++ l) none in sym (joined ∙ same ∙ append-nil taken)
 
-  pub bytes_back : (bytes : List ℕ) (failed sink_failed : Bool) (r : Result (Unit {0}) CsvFault) → failed ≡ false → good ≡ is_ok r
-      → FromTextOf bytes failed before after sink_failed r → IsTextUnlessWant bytes (answer r) items
-  bytes_back bytes failed sink_failed (Ok u) works so more = inr (refl, put before after items bytes none (is so) more)
-  bytes_back bytes failed sink_failed (Err (csv.Decode fault)) works so bad = absurd bad
-  bytes_back bytes failed sink_failed (Err csv.Header) works so bad = absurd bad
-  bytes_back bytes failed sink_failed (Err (csv.BadRow row)) works so bad = absurd bad
-  bytes_back bytes failed sink_failed (Err (csv.BadCell row column)) works so bad = absurd bad
-  bytes_back bytes failed sink_failed (Err (csv.Encode fault)) works so bad = absurd bad
-  bytes_back bytes failed sink_failed (Err csv.NoMemory) works so some = inl refl
-  bytes_back bytes failed sink_failed (Err csv.Read) works so bad = let both : true ≡ false = sym bad ∙ works in absurd cc
-  bytes_back bytes failed sink_failed (Err (csv.Write written)) works so some = inl refl
+module _ (sink : Channel) (good : Bool) (items : List ℕ) (none : sink.before ≡ Some []) (is : good ≡ true → Some items ≡ sink.after) where
+  pub text_good : (text left : List ℕ) (r : Result (Unit {0}) CsvFault) → good ≡ is_ok r → ReadsText (given text left) sink r → (answer r).status ≡ 0
+      → (files : List (FitFile Global)) × IsTextOf text files items
+  text_good text left (Ok u) so (taken, joined, rest) zero =
+      let found : FromText taken sink = rest.1 in
+      let (files, bytes, of, more, fine) = found in
+      let all : IsTextOf text files bytes = subst (λ t. IsTextOf t files bytes) (whole text taken left joined rest.0.0) of in
+      (files, subst (IsTextOf text files) (sym (put sink.before sink.after items bytes none (is so) more)) all)
+  text_good text left (Err fault) so bad zero = absurd (conversion_bad fault zero)
+
+  pub bytes_back : (bytes : List ℕ) (source : Channel) (r : Result (Unit {0}) CsvFault) → source.failed ≡ false → good ≡ is_ok r
+      → FromTextOf bytes source sink r → IsTextUnlessWant bytes (answer r) items
+  bytes_back bytes source (Ok u) works so (more, fine) = inr (refl, put sink.before sink.after items bytes none (is so) more)
+  bytes_back bytes source (Err (csv.Decode fault)) works so bad = absurd bad
+  bytes_back bytes source (Err csv.Header) works so bad = absurd bad
+  bytes_back bytes source (Err (csv.BadRow row)) works so bad = absurd bad
+  bytes_back bytes source (Err (csv.BadCell row column)) works so bad = absurd bad
+  bytes_back bytes source (Err (csv.Encode fault)) works so bad = absurd bad
+  bytes_back bytes source (Err csv.NoMemory) works so some = inl refl
+  bytes_back bytes source (Err csv.Read) works so bad = let both : true ≡ false = sym bad ∙ works in absurd cc
+  bytes_back bytes source (Err (csv.Write written)) works so some = inl refl

@@ -1,5 +1,5 @@
 -- What the calls for C answer: a status, and where and why.
-use Rattle.std.specs.Prelude.{◌≡◌, ◌⊎◌, ℕ, Bool, false, List, [], Option, Some, Result, Ok, Err, IfErr, IfOk, OnOk}
+use Rattle.std.specs.Prelude.{◌≡◌, ◌⊎◌, ℕ, Bool, false, List, [], Option, Some, Result, Ok, Err, IfErr, IfOk}
 use Rattle.std.specs.declared.alloc.Global.{Global}
 use Rattle.fit_frame.specs.declared.reason.Reason.{Reason}
 use Rattle.fit_frame.specs.declared.reason.Reason.TheVariants.{HeaderSize, Protocol, NoFit, Signature, HeaderSum, ReservedBit, UndefinedLocal, Overrun, Architecture, FileSum, TooManyFiles}
@@ -13,7 +13,7 @@ use Rattle.fit_report.specs.Reports.{Channel, Reports}
 use Rattle.fit_csv.specs.declared.fault.CsvFault.{CsvFault}
 use Rattle.fit_csv.specs.declared.fault.CsvFault.TheVariants as csv
 use Rattle.fit_csv.specs.Conversions.{Converts, RowsOf}
-use Rattle.fit_csv.specs.FromText.{FromFault, FromText}
+use Rattle.fit_csv.specs.FromText.{ReadsText}
 use Rattle.fit_c.specs.declared.answer.FitAnswer.{FitAnswer}
 
 -- the number of a reason, as `fit.h` has it
@@ -91,9 +91,9 @@ abbrev pub IsReported : Lines Global → List ℕ → FitAnswer → List ℕ →
 IsReported line bytes a text =
     (r : Result (Unit {0}) ReportFault) × (left : List ℕ) × (failed : Bool) × (a ≡ report_answer r) × Reports line (given bytes left) (kept text failed) r
 
--- The answer is that of reading the text: its rows are those of a chain; or the first row that can't stand where it is and its
--- first such cell; or why the files of its rows have no bytes.
+-- The answer is that of reading the text to its end: its rows are those of a chain; or the first row that can't stand where it is and
+-- its first such cell; or why the files of its rows have no bytes.
 abbrev pub IsTextRead : List ℕ → FitAnswer → Type 0
 IsTextRead text a =
-    (r : Result (Unit {0}) CsvFault) × (held : Option (List ℕ)) × (failed : Bool) × (a ≡ answer r)
-    × OnOk r (FromText text (Some []) held) × IfErr r (FromFault text false (Some []) held failed)
+    (r : Result (Unit {0}) CsvFault) × (left : List ℕ) × (held : Option (List ℕ)) × (failed : Bool) × (a ≡ answer r)
+    × ReadsText (given text left) (record { before = Some []; after = held; failed = failed }) r
