@@ -1,15 +1,12 @@
 -- What is held, and what is missing, behind the bytes of a known file, counted by hand.
-use Rattle.std.proofs.Common.{◌≡◌, ℕ, List, [], ◌∷◌, take, refl, None, Some}
+use Rattle.std.proofs.Common.{◌≡◌, ℕ, List, [], ◌∷◌, take, refl, None}
 use Rattle.std.specs.Prelude.{map}
 use Rattle.fit_base.specs.declared.number.Order.TheVariants as orders
 use Rattle.fit_frame.specs.declared.header.HeaderSum.TheVariants as sums
-use Rattle.fit_record.specs.declared.definition.FieldDef.{FieldDef}
 use Rattle.fit_record.specs.declared.message.Record.{Record}
 use Rattle.fit_record.specs.declared.message.Record.TheVariants.{Define, Values}
-use Rattle.fit_record.specs.Environment.{empty_environment}
-use Rattle.fit_record.specs.Files.{chain_limit}
 use Rattle.fit_decode.specs.Events.{bound, counts_so_far}
-use Rattle.fit_decode.specs.Held.{entries_so_far, items_so_far, held_behind, held_of_record}
+use Rattle.fit_decode.specs.Held.{entries_so_far, items_so_far, held_behind}
 use Rattle.fit_decode.specs.Needs.{missing}
 use Rattle.fit_decode.specs.Progress.{Progress, at_header, at_data}
 use Rattle.fit_record.proofs.KnownFiles.{header_of, field, item, both_architectures}
