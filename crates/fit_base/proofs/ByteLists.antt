@@ -39,7 +39,8 @@ IsBytes-back a b are = subst IsBytes (drop-append_seam a b) (IsBytes-drop (lengt
 
 pub IsBytes-reverse : (a : List ℕ) → IsBytes a → IsBytes (reverse a)
 IsBytes-reverse [] p = p
-IsBytes-reverse (x ∷ a) p = subst IsBytes (sym (reverse-append (x ∷ []) a)) (IsBytes-append (reverse a) (x ∷ []) (IsBytes-reverse a (λ k. p (suc k))) (IsBytes-cons x [] (p 0) IsBytes-none))
+IsBytes-reverse (x ∷ a) p = subst IsBytes (sym (reverse-append (x ∷ []) a))
+    (IsBytes-append (reverse a) (x ∷ []) (IsBytes-reverse a (λ k. p (suc k))) (IsBytes-cons x [] (p 0) IsBytes-none))
 
 pub IsBytes-zeros : (n : ℕ) → IsBytes (replicate n 0)
 IsBytes-zeros zero = IsBytes-none

@@ -1,5 +1,6 @@
 -- Lists of bytes, and numbers as bytes.
-use Rattle.std.proofs.Common.{◌≡◌, ℕ, zero, suc, ◌*◌, ◌/◌, ◌^◌, ◌<◌, Bool, true, false, cond, List, [], ◌∷◌, ◌++◌, length, refl, sym, ap, ◌∙◌, ltb, lit<, arith, append_assoc}
+use Rattle.std.proofs.Common.{◌≡◌, ℕ, zero, suc, ◌*◌, ◌/◌, ◌^◌, ◌<◌, Bool, true, false, cond, List, [], ◌∷◌, ◌++◌, length, refl, sym, ap, ◌∙◌, ltb, lit<, arith}
+use Rattle.std.proofs.Common.{append_assoc}
 use Rattle.std.specs.Prelude.{◌&&◌, flat_map, Some, unwrap_or, find}
 use Rattle.std.proofs.lemmas.List.{reverse-reverse, length-reverse}
 use Rattle.std.proofs.Math.Nat.{pow-suc}
@@ -57,19 +58,22 @@ one_number o w m n x y p q e =
     (sym (number-number_bytes o w m p) ∙ ap (number o) r.0 ∙ number-number_bytes o w n q, r.1)
 
 -- and so are as many numbers, one after another
-pub same_numbers : (o : Order) (w : ℕ) (ms ns x y : List ℕ) → length ms ≡ length ns → AllByRecursion (λ n. n < 256 ^ w) ms → AllByRecursion (λ n. n < 256 ^ w) ns
+pub same_numbers : (o : Order) (w : ℕ) (ms ns x y : List ℕ) → length ms ≡ length ns → AllByRecursion (λ n. n < 256 ^ w) ms
+    → AllByRecursion (λ n. n < 256 ^ w) ns
     → flat_map (number_bytes o w) ms ++ x ≡ flat_map (number_bytes o w) ns ++ y → (ms ≡ ns) × (x ≡ y)
 same_numbers o w [] [] x y l p q e = (refl, e)
 same_numbers o w [] (n ∷ ns) x y l p q e = absurd (omega arith)
 same_numbers o w (m ∷ ms) [] x y l p q e = absurd (omega arith)
 same_numbers o w (m ∷ ms) (n ∷ ns) x y l p q e =
-    let regrouped = sym (append_assoc (number_bytes o w m) (flat_map (number_bytes o w) ms) x) ∙ e ∙ append_assoc (number_bytes o w n) (flat_map (number_bytes o w) ns) y in
+    let regrouped = sym (append_assoc (number_bytes o w m) (flat_map (number_bytes o w) ms) x) ∙ e
+    ∙ append_assoc (number_bytes o w n) (flat_map (number_bytes o w) ns) y in
     let first = one_number o w m n _ _ p.0 q.0 regrouped in
     let others = same_numbers o w ms ns x y (omega arith) p.1 q.1 first.1 in
     (cc (first.0, others.0), others.1)
 
 -- what each element passes, the one that is found passes too
-pub found_passes : {X : Type 0} → (test passes : X → Bool) (d : X) (xs : List X) → passes d ≡ true → list_all passes xs ≡ true → passes (unwrap_or (find test xs) d) ≡ true
+pub found_passes : {X : Type 0} → (test passes : X → Bool) (d : X) (xs : List X) → passes d ≡ true → list_all passes xs ≡ true
+    → passes (unwrap_or (find test xs) d) ≡ true
 found_passes test passes d [] h k = h
 found_passes test passes d (x ∷ xs) h k =
     elim (test x) as (λ b. passes (unwrap_or (cond b (Some x) (find test xs)) d) ≡ true) [

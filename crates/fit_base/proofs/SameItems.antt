@@ -26,7 +26,9 @@ pub same_items : {A : Type 0} (o : Order) (code size : ℕ) (a b : Items A) (x y
     → items_bytes o a ++ x ≡ items_bytes o b ++ y → (a ≡ b) × (x ≡ y)
 same_items o code size a b x y p q e =
     let widths : a.width ≡ b.width = p.width ∙ sym q.width in
-    let count : length a.bits ≡ length b.bits = same_count _ _ a.width size (subst (λ w. 0 < w) (sym p.width) (item_width_positive code size)) p.whole (subst (λ w. length b.bits * w ≡ size) (sym widths) q.whole) in
+    let count : length a.bits ≡ length b.bits =
+    same_count _ _ a.width size (subst (λ w. 0 < w) (sym p.width) (item_width_positive code size)) p.whole
+    (subst (λ w. length b.bits * w ≡ size) (sym widths) q.whole) in
     let r = same_numbers o a.width a.bits b.bits x y count p.fits
     (subst (λ w. AllByRecursion (λ n. n < 256 ^ w) b.bits) (sym widths) q.fits)
     (subst (λ w. flat_map (number_bytes o a.width) a.bits ++ x ≡ flat_map (number_bytes o w) b.bits ++ y) (sym widths) e) in

@@ -1,5 +1,6 @@
 -- The test of a field's shape says what the shape is, and the shape says how many bytes there are.
-use Rattle.std.proofs.Common.{◌≡◌, ℕ, ◌*◌, ◌^◌, ◌<◌, ◌↔◌, Bool, true, false, IsTrue, List, [], ◌∷◌, length, refl, sym, ◌∙◌, arith, ltb, ltb-true, lt-ltb, eqb-true, eq-eqb, length-append}
+use Rattle.std.proofs.Common.{◌≡◌, ℕ, ◌*◌, ◌^◌, ◌<◌, ◌↔◌, Bool, true, false, IsTrue, List, [], ◌∷◌, length, refl, sym, ◌∙◌, arith, ltb, ltb-true, lt-ltb}
+use Rattle.std.proofs.Common.{eqb-true, eq-eqb, length-append}
 use Rattle.std.specs.Prelude.{◌&&◌, flat_map}
 use Rattle.std.specs.List.{list_all, AllByRecursion}
 use Rattle.std.proofs.Math.Nat.{suc-mul}

@@ -11,7 +11,8 @@ one_value :
 one_value top bits z true t fits from below same = grind (arith, ints, ltb-true (2 * bits) top t)
 one_value top bits z false t fits from below same = grind (arith, ints, ltb-false (2 * bits) top t)
 
-low_end : (top bits : ℕ) (z : ℤ) (low : Bool) → nat_lt (2 * bits) top ≡ low → bits < top → z ≡ cond low (pos bits) (pos bits -ℤ pos top) → neg_ℤ (pos top) ≤ℤ (z +ℤ z)
+low_end : (top bits : ℕ) (z : ℤ) (low : Bool) → nat_lt (2 * bits) top ≡ low → bits < top → z ≡ cond low (pos bits) (pos bits -ℤ pos top)
+    → neg_ℤ (pos top) ≤ℤ (z +ℤ z)
 low_end top bits z true t fits e = grind (arith, ints, ltb-true (2 * bits) top t)
 low_end top bits z false t fits e = grind (arith, ints, ltb-false (2 * bits) top t)
 

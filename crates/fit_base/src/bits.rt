@@ -22,7 +22,7 @@ pub struct Bits<A: Allocator = Global> {
 
 impl<A: Allocator> Model for Bits<A> {
     ghost use Rattle.std.specs.Prelude.{List, ℕ};
-    ghost use Rattle.fit_base.specs.Held.{numbers};
+    ghost use Rattle.fit_base.specs.inner.Held.{numbers};
 
     ghost Value = { List ℕ };
 
@@ -74,6 +74,18 @@ impl<A: Allocator> Bits<A> {
     {
         Bits {
             held: Held::Many(numbers),
+        }
+    }
+
+    /// The numbers of a slice. None and a lone one take no memory.
+    pub fn from_slice(alloc: A, numbers: &[u64]) -> Result<Self, AllocError>
+        ensures same { IfOk result (λ bits. bits ≡ numbers.now) }
+        ensures one { length numbers.now ≤ 1 → IsOk result }
+    {
+        match numbers {
+            [] => Ok(Bits::new(alloc)),
+            [number] => Ok(Bits::one(alloc, *number)),
+            _ => Ok(Bits::from_vec(Vec::from_slice(alloc, numbers)?)),
         }
     }
 

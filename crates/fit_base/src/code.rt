@@ -2,6 +2,11 @@
 ghost use Rattle.std.specs.Prelude.{◌≡◌, ◌⊎◌, ◌/◌, ◌%◌, ◌==◌};
 ghost use Rattle.fit_base.specs.BaseTypes.{base_type, item_width};
 
+use crate::base_type::{
+    ENUM, FLOAT32, FLOAT64, SINT8, SINT16, SINT32, SINT64, STRING, UINT8, UINT8Z, UINT16, UINT16Z,
+    UINT32, UINT32Z, UINT64, UINT64Z,
+};
+
 /// What the items of a base type stand for.
 #[derive(Clone, Copy, Debug, PartialEq, Eq)]
 pub enum Class {
@@ -27,9 +32,9 @@ impl Code {
         ensures { result ≡ (base_type self.0).width }
     {
         match self.0 {
-            0x83 | 0x84 | 0x8B => 2,
-            0x85 | 0x86 | 0x88 | 0x8C => 4,
-            0x89 | 0x8E | 0x8F | 0x90 => 8,
+            SINT16 | UINT16 | UINT16Z => 2,
+            SINT32 | UINT32 | FLOAT32 | UINT32Z => 4,
+            FLOAT64 | SINT64 | UINT64 | UINT64Z => 8,
             _ => 1,
         }
     }
@@ -39,14 +44,14 @@ impl Code {
         ensures { result ≡ (base_type self.0).invalid }
     {
         match self.0 {
-            0x01 => 0x7F,
-            0x07 | 0x0A | 0x8B | 0x8C | 0x90 => 0,
-            0x83 => 0x7FFF,
-            0x84 => 0xFFFF,
-            0x85 => 0x7FFF_FFFF,
-            0x86 | 0x88 => 0xFFFF_FFFF,
-            0x8E => 0x7FFF_FFFF_FFFF_FFFF,
-            0x89 | 0x8F => u64::MAX,
+            SINT8 => 0x7F,
+            STRING | UINT8Z | UINT16Z | UINT32Z | UINT64Z => 0,
+            SINT16 => 0x7FFF,
+            UINT16 => 0xFFFF,
+            SINT32 => 0x7FFF_FFFF,
+            UINT32 | FLOAT32 => 0xFFFF_FFFF,
+            SINT64 => 0x7FFF_FFFF_FFFF_FFFF,
+            FLOAT64 | UINT64 => u64::MAX,
             _ => 0xFF,
         }
     }
@@ -56,10 +61,11 @@ impl Code {
         ensures { result ≡ (base_type self.0).class }
     {
         match self.0 {
-            0x01 | 0x83 | 0x85 | 0x8E => Class::Signed,
-            0x00 | 0x02 | 0x0A | 0x84 | 0x86 | 0x8B | 0x8C | 0x8F | 0x90 => Class::Unsigned,
-            0x07 => Class::Text,
-            0x88 | 0x89 => Class::Float,
+            SINT8 | SINT16 | SINT32 | SINT64 => Class::Signed,
+            ENUM | UINT8 | UINT16 | UINT32 | UINT64 => Class::Unsigned,
+            UINT8Z | UINT16Z | UINT32Z | UINT64Z => Class::Unsigned,
+            STRING => Class::Text,
+            FLOAT32 | FLOAT64 => Class::Float,
             _ => Class::Bytes,
         }
     }

@@ -31,6 +31,15 @@ impl<T: PartialEq, A: Allocator> PartialEq for Entries<T, A> {
     }
 }
 
+impl<T: Copy, A: Allocator> Entries<T, A> {
+    /// The elements of a slice.
+    pub fn from_slice(alloc: A, elements: &[T]) -> Result<Self, AllocError>
+        ensures { IfOk result (λ entries. entries ≡ elements.now) }
+    {
+        Ok(Entries::from_vec(Vec::from_slice(alloc, elements)?))
+    }
+}
+
 impl<T, A: Allocator> Entries<T, A> {
     /// No elements.
     pub fn new(alloc: A) -> Self

@@ -1,10 +1,10 @@
 //! The items of a field, and whether they are of the shape that its definition gives.
-ghost use Rattle.std.specs.Prelude.{◌≡◌, ◌⊎◌, ◌^◌, ◌↔◌, ◌+◌, ◌≤◌, IsTrue, All};
+ghost use Rattle.std.specs.Prelude.{◌≡◌, ◌⊎◌, ◌^◌, ◌↔◌, ◌+◌, ◌≤◌, [], ◌∷◌, IfOk, IsOk, IsTrue, All, length};
 ghost use Rattle.fit_base.specs.Fields.{HasShape};
 
 use crate::code::items_in;
 use crate::{Bits, Code, width_of};
-use std::alloc::{Allocator, Global};
+use std::alloc::{AllocError, Allocator, Global};
 
 /// The numbers of one field, each of `width` bytes.
 #[derive(Drop)]
@@ -14,6 +14,30 @@ pub struct Items<A: Allocator = Global> {
     pub width: u8,
     /// The items, each below `256 ^ width`.
     pub bits: Bits<A>,
+}
+
+impl<A: Allocator> Items<A> {
+    /// One number of this many bytes, which takes no memory.
+    pub fn one(alloc: A, width: u8, number: u64) -> Self
+        ensures { result ≡ record { width = width; bits = number ∷ [] } }
+    {
+        Items {
+            width,
+            bits: Bits::one(alloc, number),
+        }
+    }
+
+    /// These numbers, each of this many bytes. None and a lone one take no memory.
+    pub fn from_slice(alloc: A, width: u8, numbers: &[u64]) -> Result<Self, AllocError>
+        ensures same { IfOk result (λ items.
+            items ≡ record { width = width; bits = numbers.now }) }
+        ensures one { length numbers.now ≤ 1 → IsOk result }
+    {
+        Ok(Items {
+            width,
+            bits: Bits::from_slice(alloc, numbers)?,
+        })
+    }
 }
 
 /// Whether the items are as many, as wide and as large as a field of this code and size has.

@@ -1,6 +1,7 @@
 //! Base types of the FIT protocol, numbers in either byte order, and the items of a field.
 #![tactic(auto)]
 
+pub mod base_type;
 mod bits;
 mod code;
 mod entries;

@@ -99,3 +99,18 @@ fn lists_of_elements(rt: HostRuntime) -> Result<(), AllocError> {
     assert_eq!(rt; Entries::from_vec(vec), same);
     Ok(())
 }
+
+#[test]
+fn made_of_slices(rt: HostRuntime) -> Result<(), AllocError> {
+    assert_eq!(rt; base_type::codes()[9], base_type::UINT32);
+    let one = Items::one(rt.alloc(), 4, 1_000_000_000);
+    assert_eq!(rt; one, Items::from_slice(rt.alloc(), 4, &[1_000_000_000])?);
+    assert!(rt; has_shape(Code(base_type::UINT32), 4, &one));
+    let empty = Items::from_slice(rt.alloc(), 2, &[])?;
+    assert!(rt; has_shape(Code(base_type::UINT16), 0, &empty));
+    let three = Items::from_slice(rt.alloc(), 2, &[812, 65_535, 0])?;
+    assert!(rt; three.bits.as_slice() == [812, 65_535, 0].as_slice());
+    let codes = Entries::from_slice(rt.alloc(), &[base_type::UINT16, base_type::BYTE])?;
+    assert!(rt; codes.as_slice() == [0x84, 0x0D].as_slice());
+    Ok(())
+}

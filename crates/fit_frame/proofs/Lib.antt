@@ -1,5 +1,5 @@
 pub mod OneHeader
 mod HeaderRows
-mod Whole
-mod Judged
-mod Continued
+mod JudgedBytesAreHeaders
+mod HeadersAreJudged
+mod JudgedBytesBegin

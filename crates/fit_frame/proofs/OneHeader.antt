@@ -3,7 +3,7 @@ use Rattle.std.proofs.Common.{◌≡◌, ◌≤◌, ◌⊎◌, inl, inr, ℕ, �
 use Rattle.std.proofs.lemmas.List.{append-nil}
 use Rattle.fit_base.proofs.Bytes.{front_back}
 use Rattle.fit_sum.specs.Checksum.{checksum}
-use Rattle.fit_sum.proofs.Bound.{checksum-below}
+use Rattle.fit_sum.proofs.SixteenBits.{checksum-below}
 use Rattle.fit_frame.specs.declared.header.Header.{Header}
 use Rattle.fit_frame.specs.declared.header.HeaderSum.{HeaderSum}
 use Rattle.fit_frame.specs.declared.header.HeaderSum.TheVariants.{Absent, Zero, True}
@@ -17,7 +17,8 @@ four_bytes : (m n : ℕ) → m < 4294967296 → n < 4294967296 → m % 256 ≡ n
     → m / 256 / 256 / 256 % 256 ≡ n / 256 / 256 / 256 % 256 → m ≡ n
 four_bytes m n p q a b c d = omega arith
 
-one_sum : (s t : HeaderSum) (size : ℕ) (fixed u v : List ℕ) → SizeFits s size u → SizeFits t size v → ((s ≡ Zero) × (checksum fixed ≡ 0) → ⊥) → ((t ≡ Zero) × (checksum fixed ≡ 0) → ⊥)
+one_sum : (s t : HeaderSum) (size : ℕ) (fixed u v : List ℕ) → SizeFits s size u → SizeFits t size v → ((s ≡ Zero) × (checksum fixed ≡ 0) → ⊥)
+    → ((t ≡ Zero) × (checksum fixed ≡ 0) → ⊥)
     → sum_part s fixed ++ u ≡ sum_part t fixed ++ v → (s ≡ t) × (u ≡ v)
 one_sum Absent Absent size fixed u v p q r w e = (refl, e)
 one_sum Absent Zero size fixed u v p q r w e = absurd (omega (arith, p.0))
@@ -44,7 +45,8 @@ length-header_bytes h n p = go h.sum p.size
     go Zero q = omega arith
     go True q = omega arith
 
-pub one_header : (h k : Header) (m n : ℕ) (x y : List ℕ) → HeaderFits h m → HeaderFits k n → header_bytes h m ++ x ≡ header_bytes k n ++ y → (h ≡ k) × (m ≡ n) × (x ≡ y)
+pub one_header : (h k : Header) (m n : ℕ) (x y : List ℕ) → HeaderFits h m → HeaderFits k n → header_bytes h m ++ x ≡ header_bytes k n ++ y
+    → (h ≡ k) × (m ≡ n) × (x ≡ y)
 one_header h k m n x y p q e =
     let size : h.size ≡ k.size = cc in
     let whole = front_back (header_bytes h m) (header_bytes k n) x y (length-header_bytes h m p.form ∙ size ∙ sym (length-header_bytes k n q.form)) e in
@@ -82,8 +84,10 @@ headers_have_their_size h n b p = (ap length p.1 ∙ length-header_bytes h n p.0
 pub headers_end_once : HeadersEndOnce
 headers_end_once h n bytes x p begins =
     let whole = begins.whole.is.0 in
-    let joined : bytes ++ (x ++ begins.more) ≡ ((bytes ++ x) ++ begins.more) ++ [] = sym (append_assoc bytes x begins.more) ∙ sym (append-nil ((bytes ++ x) ++ begins.more)) in
-    let one = headers_have_one_spelling h begins.whole.header n begins.whole.data_size bytes ((bytes ++ x) ++ begins.more) (x ++ begins.more) [] p whole joined in
+    let joined : bytes ++ (x ++ begins.more) ≡ ((bytes ++ x) ++ begins.more) ++ [] =
+    sym (append_assoc bytes x begins.more) ∙ sym (append-nil ((bytes ++ x) ++ begins.more)) in
+    let one = headers_have_one_spelling h begins.whole.header n begins.whole.data_size bytes ((bytes ++ x) ++ begins.more) (x ++ begins.more) [] p whole joined
+    in
     front_empty x begins.more one.3
   where
     front_empty : (x y : List ℕ) → x ++ y ≡ [] → x ≡ []

@@ -14,13 +14,13 @@ signature = 0x2E ∷ 0x46 ∷ 0x49 ∷ 0x54 ∷ []
 abbrev pub fixed_part : Header → ℕ → List ℕ
 fixed_part h n = h.size ∷ h.protocol ∷ little_bytes 2 h.profile ++ little_bytes 4 n ++ signature
 
--- the two bytes behind them, where there are any
+-- the two bytes after them, where there are any
 abbrev pub sum_part : HeaderSum → List ℕ → List ℕ
 sum_part Absent fixed = []
 sum_part Zero fixed = 0 ∷ 0 ∷ []
 sum_part True fixed = little_bytes 2 (checksum fixed)
 
--- the one spelling of a header that stands before n bytes of data
+-- the one spelling of a header before n bytes of data
 abbrev pub header_bytes : Header → ℕ → List ℕ
 header_bytes h n = fixed_part h n ++ sum_part h.sum (fixed_part h n) ++ h.rest.items
 
@@ -39,13 +39,17 @@ pub record FormFits (h : Header) : Type 0 where
 abbrev pub ZeroIsSum : Header → ℕ → Type 0
 ZeroIsSum h n = (h.sum ≡ Zero) × (checksum (fixed_part h n) ≡ 0)
 
--- The header can stand before n bytes of data: it has that form, its numbers have the width of their places, and zeros stand
+-- the number from which on a data size doesn't have room in its four bytes
+abbrev pub data_limit : ℕ
+data_limit = 2 ^ 32
+
+-- The header can come before n bytes of data: it has that form, its numbers have the width of their places, and zeros stand
 -- for no sum of 0.
 pub record HeaderFits (h : Header) (n : ℕ) : Type 0 where
   pub form : FormFits h
   pub size_fits : h.size < 2 ^ 8
   pub profile_fits : h.profile < 2 ^ 16
-  pub data_fits : n < 2 ^ 32
+  pub data_fits : n < data_limit
   pub sum : ZeroIsSum h n → ⊥
 
 -- The bytes are the header of a file with n bytes of data.

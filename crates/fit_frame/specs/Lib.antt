@@ -1,4 +1,4 @@
 pub mod Header
 pub mod Beginning
 pub mod ReasonNames
-pub mod Judgement
+pub mod inner

@@ -1,7 +1,12 @@
 //! The header of a file.
+ghost use Rattle.std.specs.Prelude.{◌≡◌, []};
+
 use arrayvec::ArrayVec;
 
-/// What the two bytes behind the fixed part of a header hold, the header's own CRC (section "File
+/// Protocol version 2.0, the first with developer fields and with numbers of eight bytes.
+pub const PROTOCOL_2_0: u8 = 0x20;
+
+/// What the two bytes after the fixed part of a header hold, the header's own CRC (section "File
 /// Header").
 #[derive(Clone, Copy, Debug, PartialEq, Eq)]
 pub enum HeaderSum {
@@ -26,7 +31,27 @@ pub struct Header {
     pub protocol: u8,
     /// The profile version.
     pub profile: u16,
+    /// The two bytes after the first twelve, where there are any.
     pub sum: HeaderSum,
     /// The bytes from place 14 on. They may be any, and no header checksum covers them.
     pub rest: ArrayVec<u8, 241>,
+}
+
+impl Header {
+    /// A header of 14 bytes, the last two of which are its checksum.
+    pub fn new(protocol: u8, profile: u16) -> Header
+        ensures size { result.size ≡ 14 }
+        ensures protocol { result.protocol ≡ protocol }
+        ensures profile { result.profile ≡ profile }
+        ensures sum { result.sum ≡ HeaderSum.True }
+        ensures rest { result.rest.items ≡ [] }
+    {
+        Header {
+            size: 14,
+            protocol,
+            profile,
+            sum: HeaderSum::True,
+            rest: ArrayVec::new(),
+        }
+    }
 }

@@ -13,7 +13,7 @@ pub fn headers_have_their_size()
     ensures { HeadersHaveTheirSize }
 {}
 
-/// No bytes behind a whole header still begin a header: it ends in one place.
+/// A complete header with bytes after it doesn't begin a header: it ends in one place.
 pub fn headers_end_once()
     ensures { HeadersEndOnce }
 {}

@@ -9,7 +9,7 @@ mod spelling;
 #[cfg(test)]
 mod tests;
 
-pub use header::{Header, HeaderSum};
+pub use header::{Header, HeaderSum, PROTOCOL_2_0};
 pub use reader::HeadReader;
 pub use reason::{HeadFault, Reason};
 pub use spelling::head_bytes;

@@ -2,8 +2,8 @@
 ghost use Rattle.std.specs.Prelude.{◌≡◌, ◌<◌, ◌≤◌, ◌↔◌, ◌⊎◌, ℕ, [], ◌∷◌, ◌++◌, length, drop, Some, None, Ok, Err, IsOk, IsTrue, OnOk};
 ghost use Rattle.fit_frame.specs.declared.header.Header.{Header};
 ghost use Rattle.fit_frame.specs.declared.reason.Reason.{Reason};
-ghost use Rattle.fit_frame.specs.Beginning.{IsDataSize, IsFileHeader, IsWholeHeader, BeginsHeader, RefusesByte, header_reason};
-ghost use Rattle.fit_frame.specs.Judgement.{MayFollow, HasItsSize, ReadsAs, ReadsWord};
+ghost use Rattle.fit_frame.specs.Beginning.{IsDataSize, IsFileHeader, IsUnfinishedHeader, IsWholeHeader, RefusesByte, has_refused, has_seen, header_reason};
+ghost use Rattle.fit_frame.specs.inner.Judgement.{MayFollow, HasItsSize, ReadsAs, ReadsWord};
 
 use crate::spelling::checksum;
 use crate::{Header, HeaderSum, Reason};
@@ -26,7 +26,7 @@ impl Model for HeadReader {
 
     ghost Value = { Seen };
 
-    ghost use Rattle.fit_frame.specs.Judgement.{IsReading};
+    ghost use Rattle.fit_frame.specs.inner.Judgement.{IsReading};
 
     ghost view = { λ r. record { bytes = r.bytes.items; refusal = r.refusal } };
 
@@ -36,8 +36,8 @@ impl Model for HeadReader {
 impl HeadReader {
     /// A reader that has seen no byte.
     pub fn new() -> HeadReader
-        ensures seen { result ≡ record { bytes = []; refusal = None } }
-        ensures begins { BeginsHeader result.bytes × (IsWholeHeader result.bytes → ⊥) }
+        ensures seen { result ≡ has_seen [] }
+        ensures begins { IsUnfinishedHeader result.bytes }
     {
         HeadReader {
             bytes: ArrayVec::new(),
@@ -49,15 +49,18 @@ impl HeadReader {
     ///
     /// A byte is refused where the bytes before it begin a header of a file, and with it they don't:
     /// `HeaderSize`, `Protocol`, `NoFit` (no records fill 1 to 5 bytes of data), `Signature` or
-    /// `HeaderSum`. After a refusal each call answers it again and changes nothing.
+    /// `HeaderSum`. After a refusal each call returns it again and changes nothing.
     pub fn put(&mut self, byte: u8) -> Result<Option<(Header, u32)>, Reason>
         requires { IsWholeHeader self.old.bytes → ⊥ }
-        ensures taken { OnOk result (self.new ≡ record { bytes = self.old.bytes ++ byte ∷ []; refusal = None }) }
-        ensures some { (h : Header) (n : ℕ) → result ≡ Ok (Some (h, n)) → IsFileHeader h n self.new.bytes }
-        ensures none { result ≡ Ok None → BeginsHeader self.new.bytes × (IsWholeHeader self.new.bytes → ⊥) }
+        ensures taken { OnOk result (self.new ≡ has_seen (self.old.bytes ++ byte ∷ [])) }
+        ensures some { (h : Header) (n : ℕ) → result ≡ Ok (Some (h, n))
+            → IsFileHeader h n self.new.bytes }
+        ensures none { result ≡ Ok None → IsUnfinishedHeader self.new.bytes }
         ensures refused { (reason : Reason) → self.old.refusal ≡ None → result ≡ Err reason
-            → (self.new ≡ record { bytes = self.old.bytes; refusal = Some reason }) × RefusesByte self.old.bytes byte reason }
-        ensures latched { (reason : Reason) → self.old.refusal ≡ Some reason → (result ≡ Err reason) × (self.new ≡ self.old) }
+            → (self.new ≡ has_refused self.old.bytes reason)
+            × RefusesByte self.old.bytes byte reason }
+        ensures latched { (reason : Reason) → self.old.refusal ≡ Some reason
+            → (result ≡ Err reason) × (self.new ≡ self.old) }
     {
         if let Some(reason) = self.refusal {
             return Err(reason);
@@ -74,7 +77,7 @@ impl HeadReader {
         Ok(Some(header_of(self.bytes.as_slice())))
     }
 
-    /// Whether the bytes put are a whole header.
+    /// Whether the bytes put are a complete header.
     pub fn done(&self) -> bool
         ensures { IsTrue result ↔ IsWholeHeader self.now.bytes }
     {
@@ -89,7 +92,7 @@ impl HeadReader {
     }
 }
 
-/// The reason of a byte that is refused behind so many others.
+/// The reason of a byte that is refused after this many others.
 fn reason_at(place: usize) -> Reason
     ensures { result ≡ header_reason place }
 {
@@ -102,7 +105,7 @@ fn reason_at(place: usize) -> Reason
     }
 }
 
-/// Whether the byte may stand behind these ones.
+/// Whether the byte may follow these.
 fn may_follow(bytes: &[u8], byte: u8) -> bool
     ensures { IsTrue result ↔ MayFollow bytes.now byte }
 {
@@ -160,7 +163,7 @@ fn header_of(bytes: &[u8]) -> (Header, u32)
     (header, LittleEndian::read_u32(&bytes[4..]))
 }
 
-/// What the two bytes behind the fixed part hold.
+/// What the two bytes after the fixed part hold.
 fn sum_word(bytes: &[u8]) -> HeaderSum
     requires { 14 ≤ length bytes.now }
     ensures { ReadsWord result bytes.now (drop 14 bytes.now) }

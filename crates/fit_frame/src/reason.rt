@@ -1,4 +1,4 @@
-//! Why a byte is refused, and why a header has no bytes.
+//! Why a byte is refused, and why a header can't be written.
 ghost use Rattle.std.specs.Prelude.{◌≡◌};
 ghost use Rattle.fit_frame.specs.ReasonNames.{reason_name};
 
@@ -8,37 +8,37 @@ use thiserror::Error;
 #[derive(Clone, Copy, Debug, PartialEq, Eq, Error)]
 pub enum Reason {
     /// The first byte of a header is neither 12 nor from 14 to 255.
-    #[error("header size")]
+    #[error("the header size is neither 12 nor 14 or more")]
     HeaderSize,
     /// The major protocol version is above 2.
-    #[error("protocol version")]
+    #[error("the major protocol version is above 2")]
     Protocol,
-    /// No records fill the room that would be left in the data section.
-    #[error("no records fit")]
+    /// No records fill the bytes that would be left of the data section.
+    #[error("no records fill the bytes of data that would be left")]
     NoFit,
     /// A byte differs from the letters `.FIT`.
-    #[error("signature")]
+    #[error("not the letters .FIT")]
     Signature,
-    /// Neither the checksum of the header's fixed part nor two zeros begin so.
-    #[error("header checksum")]
+    /// The checksum of the header's fixed part doesn't begin like this, and neither do two zeros.
+    #[error("the header checksum differs")]
     HeaderSum,
     /// A reserved bit of a record header is set.
-    #[error("reserved bit")]
+    #[error("a reserved bit of the record header is set")]
     ReservedBit,
     /// A data message of a local message type that isn't defined.
-    #[error("undefined local message type")]
+    #[error("the local message type isn't defined")]
     UndefinedLocal,
     /// A message is longer than what is left of the data section.
-    #[error("overrun")]
+    #[error("the message is longer than what is left of the data")]
     Overrun,
     /// The architecture is neither 0 nor 1.
-    #[error("architecture")]
+    #[error("the architecture is neither 0 nor 1")]
     Architecture,
     /// The checksum at the end of a file differs.
-    #[error("file checksum")]
+    #[error("the file checksum differs")]
     FileSum,
-    /// A byte behind the last file that a chain may have.
-    #[error("too many files")]
+    /// A byte after the last file that a chain may have.
+    #[error("the chain has more files than it may")]
     TooManyFiles,
 }
 
@@ -63,14 +63,14 @@ impl Reason {
     }
 }
 
-/// Why a header has no bytes before a given number of data bytes.
+/// Why a header can't be written before a given number of data bytes.
 #[derive(Clone, Copy, Debug, PartialEq, Eq, Error)]
 pub enum HeadFault {
     /// The size, the major protocol version or the sum word isn't allowed, or `rest` has another
     /// length than the size says.
-    #[error("bad header")]
+    #[error("the size, the protocol version or the checksum word of the header isn't allowed")]
     BadHeader,
     /// The word is `Zero`, and the checksum of the fixed part is 0.
-    #[error("the header checksum is zero")]
+    #[error("the header checksum is 0 itself, so zeros don't stand for it")]
     ZeroIsSum,
 }

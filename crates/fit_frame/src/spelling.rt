@@ -11,12 +11,13 @@ use fit_sum::Sum;
 
 /// The bytes of a header before `data_len` bytes of data (section "File Header").
 ///
-/// It says nothing of whether records can fill that length.
+/// Whether records can fill that length isn't asked.
 pub fn head_bytes(header: &Header, data_len: u32) -> Result<ArrayVec<u8, 255>, HeadFault>
     ensures ok { IsOk result ↔ HeaderFits header.now data_len }
     ensures bytes { IfOk result (λ bytes. bytes.items ≡ header_bytes header.now data_len) }
     ensures bad_header { (result ≡ Err HeadFault.BadHeader) ↔ (FormFits header.now → ⊥) }
-    ensures zero_is_sum { (result ≡ Err HeadFault.ZeroIsSum) ↔ (FormFits header.now × ZeroIsSum header.now data_len) }
+    ensures zero_is_sum { (result ≡ Err HeadFault.ZeroIsSum)
+        ↔ (FormFits header.now × ZeroIsSum header.now data_len) }
 {
     if !has_form(header) {
         return Err(HeadFault::BadHeader);
@@ -59,7 +60,8 @@ fn is_zero(word: HeaderSum, sum: u16) -> bool
 
 /// The first twelve bytes.
 fn fixed_part(size: u8, protocol: u8, profile: u16, data_len: u32) -> [u8; 12]
-    ensures bytes { result ≡ size ∷ protocol ∷ little_bytes 2 profile ++ little_bytes 4 data_len ++ signature }
+    ensures bytes { result
+        ≡ size ∷ protocol ∷ little_bytes 2 profile ++ little_bytes 4 data_len ++ signature }
     ensures in_range { (size < 2 ^ 8) × (profile < 2 ^ 16) }
 {
     let mut bytes = [size, protocol, 0, 0, 0, 0, 0, 0, b'.', b'F', b'I', b'T'];
@@ -103,7 +105,7 @@ fn joined(fixed: &[u8; 12], word: HeaderSum, sum: u16, rest: &[u8]) -> ArrayVec<
     bytes
 }
 
-/// The bytes at the end of these ones.
+/// Puts more bytes at the end.
 fn append(bytes: &mut ArrayVec<u8, 255>, more: &[u8])
     requires { length bytes.old.items + length more.now ≤ 255 }
     ensures { bytes.new.items ≡ bytes.old.items ++ more.now }

@@ -1,5 +1,5 @@
 //! Headers and refusals that are known from outside.
-use crate::{HeadFault, HeadReader, Header, HeaderSum, Reason, head_bytes};
+use crate::{HeadFault, HeadReader, Header, HeaderSum, PROTOCOL_2_0, Reason, head_bytes};
 use arrayvec::ArrayVec;
 
 /// A header of protocol version 2.0.
@@ -19,7 +19,7 @@ fn header(size: u8, profile: u16, sum: HeaderSum, rest: &[u8]) -> Header {
     }
 }
 
-/// What a reader answers to the last byte that it takes, and how many it had taken before.
+/// What a reader returns for the last byte that it takes, and how many it had taken before.
 fn last_answer(bytes: &[u8]) -> (usize, Result<Option<(Header, u32)>, Reason>) {
     let mut reader = HeadReader::new();
     for (i, byte) in bytes.iter().enumerate() {
@@ -38,7 +38,7 @@ fn last_answer(bytes: &[u8]) -> (usize, Result<Option<(Header, u32)>, Reason>) {
 fn headers_both_ways(rt: HostRuntime) {
     let rows = [
         (
-            header(14, 0, HeaderSum::True, b""),
+            Header::new(PROTOCOL_2_0, 0),
             b"\x0E\x20\0\0\0\0\0\0.FIT\x9C\x85".as_slice(),
         ),
         (

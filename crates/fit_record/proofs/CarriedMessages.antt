@@ -1,5 +1,6 @@
 -- Which data messages can stand in a room: the test and what it means.
-use Rattle.std.proofs.Common.{◌≡◌, ℕ, ◌+◌, ◌-◌, List, ◌++◌, replicate, length-append, ◌<◌, ◌≤◌, ◌↔◌, IsTrue, Bool, true, false, length, refl, sym, ap, ◌∙◌, subst, arith, None, Some}
+use Rattle.std.proofs.Common.{◌≡◌, ℕ, ◌+◌, ◌-◌, List, ◌++◌, replicate, length-append, ◌<◌, ◌≤◌, ◌↔◌, IsTrue, Bool, true, false, length, refl, sym, ap, ◌∙◌}
+use Rattle.std.proofs.Common.{subst, arith, None, Some}
 use Rattle.std.specs.Prelude.{Option, option_map, nat_le, ◌&&◌, IfSome, IsSomeAnd}
 use Rattle.std.specs.Option.{option_map_or}
 use Rattle.std.proofs.lemmas.Bool.{true≢false, and_parts, and_from, and_left, leb-true, le-leb, lt-leb}
@@ -16,36 +17,41 @@ use Rattle.fit_record.specs.Rooms.{fills, has_length, can_fill}
 use Rattle.fit_record.specs.Unfinished.{CanCarry, can_carry}
 use Rattle.fit_record.proofs.OneRecord.{same_header}
 use Rattle.std.proofs.lemmas.List.{length-replicate}
-use Rattle.fit_record.proofs.Lengths.{length-data}
-use Rattle.fit_record.proofs.MessageBytes.{message_of, message_fits}
+use Rattle.fit_record.proofs.RecordLengths.{length-data}
+use Rattle.fit_record.proofs.MessageBytes.{values_from, message_fits}
 use Rattle.fit_record.proofs.FilledRooms.{can_fill_is, same_places}
 
 -- A data message changes no lengths.
 same_filling : {A : Type 0} (e : Environment A) (v : Values A) (room : ℕ) → can_fill (learn e (Data v)) room ≡ can_fill e room
 same_filling e v room = ap (λ places. fills (has_length places) room) (same_places e v)
 
-pub can_fill_after_data : {A : Type 0} (e : Environment A) (v : Values A) (room : ℕ) → length e.places ≡ 16 → IsTrue (can_fill e room) ↔ CanFill (learn e (Data v)) room
+pub can_fill_after_data : {A : Type 0} (e : Environment A) (v : Values A) (room : ℕ) → length e.places ≡ 16 → IsTrue (can_fill e room)
+    ↔ CanFill (learn e (Data v)) room
 can_fill_after_data e v room sixteen =
-    subst (λ b. IsTrue b ↔ CanFill (learn e (Data v)) room) (same_filling e v room) (can_fill_is (learn e (Data v)) room (ap length (same_places e v) ∙ sixteen))
+    subst (λ b. IsTrue b ↔ CanFill (learn e (Data v)) room) (same_filling e v room)
+    (can_fill_is (learn e (Data v)) room (ap length (same_places e v) ∙ sixteen))
 
 header_of : {A : Type 0} (o : Option (Defined A)) (v : Values A) → IsSomeAnd o (DataFits v) → DataHeaderFits v.local v.offset
 header_of None v h = absurd h
 header_of (Some p) v h = h.header
 
 module _ {A : Type 0} (e : Environment A) (local : ℕ) (offset : Option ℕ) (part : List ℕ) (room : ℕ)
-    (sixteen : length e.places ≡ 16) (header : DataHeaderFits local offset) (are : IsBytes part) (begun : IfSome (defined_at e local) (λ p. length part ≤ message_size p)) where
+    (sixteen : length e.places ≡ 16) (header : DataHeaderFits local offset) (are : IsBytes part)
+    (begun : IfSome (defined_at e local) (λ p. length part ≤ message_size p)) where
   abbrev carry_at : Option (Defined A) → Bool
   carry_at o = option_map_or (λ p. nat_le (message_size p) (length part + room) && can_fill e (length part + room - message_size p)) o false
 
-  carries : (o : Option (Defined A)) → defined_at e local ≡ o → IfSome o (λ p. length part ≤ message_size p) → carry_at o ≡ true → CanCarry e (data_header local offset) part room
+  carries : (o : Option (Defined A)) → defined_at e local ≡ o → IfSome o (λ p. length part ≤ message_size p) → carry_at o ≡ true
+      → CanCarry e (data_header local offset) part room
   carries None q k h = absurd (true≢false (sym h))
   carries (Some p) q k h =
       let o = order_at e local in
       let rest : List ℕ = replicate (message_size p - length part) 0 in
       let rest_bytes : IsBytes rest = IsBytes-zeros (message_size p - length part) in
       let to_come : length rest ≡ message_size p - length part = length-replicate (message_size p - length part) 0 in
-      let v : Values A = message_of local offset o p (part ++ rest) in
-      let fits = message_fits {A = A} local offset o p (part ++ rest) header (IsBytes-append part rest are rest_bytes) (length-append part rest ∙ omega (arith, to_come, k)) in
+      let v : Values A = values_from local offset o p (part ++ rest) in
+      let fits = message_fits {A = A} local offset o p (part ++ rest) header (IsBytes-append part rest are rest_bytes)
+      (length-append part rest ∙ omega (arith, to_come, k)) in
       let parts = and_parts (nat_le (message_size p) (length part + room)) (can_fill e (length part + room - message_size p)) h in
       let enough : message_size p ≤ length part + room = leb-true (message_size p) (length part + room) parts.0 in (
         v,
@@ -59,7 +65,8 @@ module _ {A : Type 0} (e : Environment A) (local : ℕ) (offset : Option ℕ) (p
         omega (arith, enough, to_come, k),
       )
 
-  carried : (v : Values A) (rest : List ℕ) (left : ℕ) → data_bytes (order_at e v.local) v ≡ part ++ rest → CanFill (learn e (Data v)) left → length rest + left ≡ room
+  carried : (v : Values A) (rest : List ℕ) (left : ℕ) → data_bytes (order_at e v.local) v ≡ part ++ rest → CanFill (learn e (Data v)) left
+      → length rest + left ≡ room
       → (o : Option (Defined A)) → defined_at e local ≡ o → IsSomeAnd o (DataFits v) → carry_at o ≡ true
   carried v rest left spelled fill total None q h = absurd h
   carried v rest left spelled fill total (Some p) q h =

@@ -1,5 +1,6 @@
 -- Which definitions can be completed while the number of their fields, or something before it, is to come.
-use Rattle.std.proofs.Common.{◌≡◌, ℕ, zero, suc, ◌+◌, ◌-◌, ◌*◌, ◌/◌, ◌%◌, ◌<◌, ◌≤◌, ◌^◌, ◌↔◌, IsTrue, Bool, true, false, List, [], ◌∷◌, ◌++◌, length, refl, sym, ap, ◌∙◌, subst, arith, lit<, length-append, None, Some}
+use Rattle.std.proofs.Common.{◌≡◌, ℕ, zero, suc, ◌+◌, ◌-◌, ◌*◌, ◌/◌, ◌%◌, ◌<◌, ◌≤◌, ◌^◌, ◌↔◌, IsTrue, Bool, true, false, List, [], ◌∷◌, ◌++◌, length, refl, sym}
+use Rattle.std.proofs.Common.{ap, ◌∙◌, subst, arith, lit<, length-append, None, Some}
 use Rattle.std.specs.Prelude.{Option, sum_by, flat_map, ◌==◌, ◌||◌, if◌then◌else◌, unwrap_or, option_map, slice_index}
 use Rattle.std.proofs.lemmas.Bool.{or_right, eq-eqb, leb-true, le-leb}
 use Rattle.fit_base.specs.declared.number.Order.{Order}
@@ -36,7 +37,8 @@ two_bytes Big a b p q =
 module _ (dev : Bool) where
   header_is : (local : ℕ) → 0x40 + local + unwrap_or (option_map (λ _. 0x20) (no_devs dev)) 0 ≡ 0x40 + local + (if dev then 0x20 else 0)
   unfolding no_devs
-  header_is local = elim dev as (λ b. 0x40 + local + unwrap_or (option_map (λ _. 0x20) (no_devs b)) 0 ≡ 0x40 + local + (if b then 0x20 else 0)) [ true ↦ refl | false ↦ refl ]
+  header_is local = elim dev as (λ b. 0x40 + local + unwrap_or (option_map (λ _. 0x20) (no_devs b)) 0 ≡ 0x40 + local + (if b then 0x20 else 0))
+      [ true ↦ refl | false ↦ refl ]
 
   dev_bytes : IsBytes (dev_part (no_devs dev))
   unfolding no_devs
@@ -83,7 +85,8 @@ module _ {A : Type 0} (e : Environment A) (local : ℕ) (dev : Bool) (room : ℕ
         ap (λ bs. ((r ∷ architecture o ∷ bs) ++ (0 ∷ [])) ++ dev_part (no_devs dev)) two.0 ∙ spelled,
         are,
         (can_fill_after e c (room - length rest) sixteen below).0
-            (fills_by_ones (λ n. others_have e local n || (1 + body_length c == n)) (or_right (others_have e local 1) _ (eq-eqb (1 + body_length c) 1 (omega (arith, none)))) (room - length rest)),
+            (fills_by_ones (λ n. others_have e local n || (1 + body_length c == n))
+            (or_right (others_have e local 1) _ (eq-eqb (1 + body_length c) 1 (omega (arith, none)))) (room - length rest)),
         omega arith,
       )
 
@@ -122,7 +125,8 @@ past_entries Big g n xs ys = omega (arith, length-append xs ys)
 least_length : {A : Type 0} (c : MessageDef A) → 5 + length (dev_part c.dev) ≤ length (definition_bytes c)
 least_length c = let k = past_entries c.order c.global (length c.fields) (flat_map field_bytes c.fields) (dev_part c.dev) in omega (arith, k)
 
-least_dev : (dev : Bool) (u : Option (List DevDef)) (l m : ℕ) → l < 16 → m < 16 → 0x40 + l + unwrap_or (option_map (λ _. 0x20) u) 0 ≡ 0x40 + m + (if dev then 0x20 else 0)
+least_dev : (dev : Bool) (u : Option (List DevDef)) (l m : ℕ) → l < 16 → m < 16
+    → 0x40 + l + unwrap_or (option_map (λ _. 0x20) u) 0 ≡ 0x40 + m + (if dev then 0x20 else 0)
     → (if dev then 6 else 5) ≤ 5 + length (dev_part u)
 least_dev true None l m p q e = absurd (omega arith)
 least_dev true (Some u) l m p q e = omega arith

@@ -1,5 +1,6 @@
 -- What can be filled once a definition has taken its place.
-use Rattle.std.proofs.Common.{◌≡◌, ℕ, zero, suc, ◌+◌, ◌-◌, ◌<◌, ◌≤◌, ◌⊎◌, inl, inr, ◌↔◌, IsTrue, Bool, true, false, cond, List, [], ◌∷◌, length, refl, sym, ap, ◌∙◌, subst, arith, lit<, None, Some}
+use Rattle.std.proofs.Common.{◌≡◌, ℕ, zero, suc, ◌+◌, ◌-◌, ◌<◌, ◌≤◌, ◌⊎◌, inl, inr, ◌↔◌, IsTrue, Bool, true, false, cond, List, [], ◌∷◌, length, refl, sym, ap}
+use Rattle.std.proofs.Common.{◌∙◌, subst, arith, lit<, None, Some}
 use Rattle.std.specs.Prelude.{Option, slice_set, ◌==◌, ◌||◌, nat_le}
 use Rattle.std.specs.Option.{option_map_or}
 use Rattle.std.proofs.lemmas.Bool.{or_cases, or_left, or_right, cases_lt, eqb-true, eq-eqb, leb-true, le-leb, lt-leb}
@@ -75,10 +76,12 @@ module _ (has : ℕ → Bool) (size : ℕ) where
 
   alone : (room : ℕ) → 1 + size ≡ room → fills more room ≡ true
   alone room h =
-      subst (λ n. fills more n ≡ true) (let z : room + 0 ≡ room = omega arith in z) (fills_more more room 0 (omega arith) (or_right (has room) _ (eq-eqb (1 + size) room h)) refl)
+      subst (λ n. fills more n ≡ true) (let z : room + 0 ≡ room = omega arith in z)
+      (fills_more more room 0 (omega arith) (or_right (has room) _ (eq-eqb (1 + size) room h)) refl)
 
 -- with an open size, some size from the least one on
-pub open_from : {A : Type 0} (e : Environment A) (local least size room : ℕ) → least ≤ size → can_fill_with e local size room ≡ true → can_fill_from e local least room ≡ true
+pub open_from : {A : Type 0} (e : Environment A) (local least size room : ℕ) → least ≤ size → can_fill_with e local size room ≡ true
+    → can_fill_from e local least room ≡ true
 open_from e local least size room l h = go (cases_lt room 6) (cases_lt room (1 + least)) where
   go : (room < 6) ⊎ (6 ≤ room) → (room < 1 + least) ⊎ (1 + least ≤ room) → can_fill_from e local least room ≡ true
   go (inr b) c = or_right (nat_le (1 + least) room) _ (fills_6 (others_have e local) room b)
@@ -103,7 +106,8 @@ pub finishes_from : {A : Type 0} (e : Environment A) (local t size found left : 
     → can_fill_with e local found left ≡ true → finishes e local t size left ≡ true
 finishes_from e local t size found left l k h = go (cases_lt t 2) where
   go : (t < 2) ⊎ (2 ≤ t) → finishes e local t size left ≡ true
-  go (inl b) = ap (λ c. cond c (can_fill_from e local size left) (can_fill_with e local size left)) (lt-leb 2 t b) ∙ subst (λ s. can_fill_with e local s left ≡ true) (k b) h
+  go (inl b) = ap (λ c. cond c (can_fill_from e local size left) (can_fill_with e local size left)) (lt-leb 2 t b)
+      ∙ subst (λ s. can_fill_with e local s left ≡ true) (k b) h
   go (inr b) = ap (λ c. cond c (can_fill_from e local size left) (can_fill_with e local size left)) (le-leb 2 t b) ∙ open_from e local size found left l h
 
 abbrev pub IsSize : {A : Type 0} → Environment A → ℕ → ℕ → ℕ → ℕ → Type 0
@@ -116,9 +120,11 @@ finishes_to e local t size left h = go (cases_lt t 2) where
 
   go : (t < 2) ⊎ (2 ≤ t) → IsSize e local t size left
   go (inl b) =
-      let k : can_fill_with e local size left ≡ true = sym (ap (λ c. cond c (can_fill_from e local size left) (can_fill_with e local size left)) (lt-leb 2 t b)) ∙ h in
+      let k : can_fill_with e local size left ≡ true =
+      sym (ap (λ c. cond c (can_fill_from e local size left) (can_fill_with e local size left)) (lt-leb 2 t b)) ∙ h in
       let z : size ≡ size + 0 = omega arith in
       (0, lit< tt, (λ c. refl), subst (λ s. can_fill_with e local s left ≡ true) z k)
   go (inr b) =
-      let k : can_fill_from e local size left ≡ true = sym (ap (λ c. cond c (can_fill_from e local size left) (can_fill_with e local size left)) (le-leb 2 t b)) ∙ h in
+      let k : can_fill_from e local size left ≡ true =
+      sym (ap (λ c. cond c (can_fill_from e local size left) (can_fill_with e local size left)) (le-leb 2 t b)) ∙ h in
       some b (open_to e local size left k)

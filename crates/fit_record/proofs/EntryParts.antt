@@ -22,7 +22,8 @@ module _ {X : Type 0} (first size last : X → ℕ) where
   sums [] (y ∷ ys) entry rest z t l c e = absurd (omega arith)
   sums (x ∷ xs) [] [] rest z t l c e = (omega arith, λ h. absurd (omega arith))
   sums (x ∷ xs) [] (a ∷ []) rest z t l c e = (omega arith, λ h. absurd (omega arith))
-  sums (x ∷ []) [] (a ∷ b ∷ []) rest z t l c e = let s : size x ≡ b = cc in (omega (arith, s, sum_by-cons size x []), λ h. omega (arith, s, sum_by-cons size x []))
+  sums (x ∷ []) [] (a ∷ b ∷ []) rest z t l c e = let s : size x ≡ b = cc in
+      (omega (arith, s, sum_by-cons size x []), λ h. omega (arith, s, sum_by-cons size x []))
   sums (x ∷ w ∷ xs) [] (a ∷ b ∷ []) rest z t l c e = let s : size x ≡ b = cc in (omega (arith, s, sum_by-cons size x (w ∷ xs)), λ h. absurd (omega arith))
   sums (x ∷ xs) [] (a ∷ b ∷ d ∷ entry) rest z t l c e = absurd (omega arith)
   sums (x ∷ xs) (y ∷ ys) entry rest z t l c e =
@@ -72,7 +73,8 @@ module _ {X : Type 0} (first size last : X → ℕ) (make : ℕ → ℕ → ℕ 
         counted = ap suc r.counted;
         sized = omega (arith, sum_by-cons size x r.entries, size_is 0 0 0, r.sized);
         spelled = ap (λ bs. first x ∷ size x ∷ last x ∷ bs) r.spelled;
-        are_bytes = IsBytes-cons (first x) (size x ∷ last x ∷ r.rest) (omega (arith, first_is 0 0 0)) (IsBytes-cons (size x) (last x ∷ r.rest) (omega (arith, size_is 0 0 0)) (IsBytes-cons (last x) r.rest (omega (arith, last_is 0 0 0)) r.are_bytes));
+        are_bytes = IsBytes-cons (first x) (size x ∷ last x ∷ r.rest) (omega (arith, first_is 0 0 0))
+            (IsBytes-cons (size x) (last x ∷ r.rest) (omega (arith, size_is 0 0 0)) (IsBytes-cons (last x) r.rest (omega (arith, last_is 0 0 0)) r.are_bytes));
         to_come = omega (arith, r.to_come);
       }
 
@@ -87,14 +89,24 @@ module _ {X : Type 0} (first size last : X → ℕ) (make : ℕ → ℕ → ℕ 
         counted = ap suc r.counted;
         sized = omega (arith, sum_by-cons size x r.entries, size_is a extra 0, r.sized);
         spelled = ap (λ bs. first x ∷ size x ∷ last x ∷ bs) r.spelled ∙ ap (λ b. b ∷ size x ∷ last x ∷ r.rest) (first_is a extra 0);
-        are_bytes = IsBytes-cons (size x) (last x ∷ r.rest) (omega (arith, size_is a extra 0)) (IsBytes-cons (last x) r.rest (omega (arith, last_is a extra 0)) r.are_bytes);
+        are_bytes = IsBytes-cons (size x) (last x ∷ r.rest) (omega (arith, size_is a extra 0))
+            (IsBytes-cons (last x) r.rest (omega (arith, last_is a extra 0)) r.are_bytes);
         to_come = omega (arith, r.to_come);
       }
 
   all_open : (k extra : ℕ) → extra < 256 → Goes first size last [] 0 (suc k) (3 + 3 * k) extra
   all_open k extra small =
       let r = one_open 0 k extra small in
-      record { entries = r.entries; rest = 0 ∷ r.rest; counted = r.counted; sized = r.sized; spelled = r.spelled; are_bytes = IsBytes-cons 0 r.rest (lit< tt) r.are_bytes; to_come = omega (arith, r.to_come) }
+      record {
+        entries = r.entries;
+        rest = 0 ∷ r.rest;
+        counted = r.counted;
+        sized = r.sized;
+        spelled = r.spelled;
+        are_bytes =
+            IsBytes-cons 0 r.rest (lit< tt) r.are_bytes;
+        to_come = omega (arith, r.to_come);
+      }
 
   -- an entry of which only the last byte is to come
   after_size : (a b k t extra : ℕ) → Goes first size last [] 0 k t extra → Goes first size last (a ∷ b ∷ []) (0 + b) (suc k) (suc t) extra
@@ -105,12 +117,14 @@ module _ {X : Type 0} (first size last : X → ℕ) (make : ℕ → ℕ → ℕ 
         rest = last x ∷ r.rest;
         counted = ap suc r.counted;
         sized = omega (arith, sum_by-cons size x r.entries, size_is a b 0, r.sized);
-        spelled = ap (λ bs. first x ∷ size x ∷ last x ∷ bs) r.spelled ∙ ap (λ n. n ∷ size x ∷ last x ∷ r.rest) (first_is a b 0) ∙ ap (λ n. a ∷ n ∷ last x ∷ r.rest) (size_is a b 0);
+        spelled = ap (λ bs. first x ∷ size x ∷ last x ∷ bs) r.spelled ∙ ap (λ n. n ∷ size x ∷ last x ∷ r.rest) (first_is a b 0)
+            ∙ ap (λ n. a ∷ n ∷ last x ∷ r.rest) (size_is a b 0);
         are_bytes = IsBytes-cons (last x) r.rest (omega (arith, last_is a b 0)) r.are_bytes;
         to_come = omega (arith, r.to_come);
       }
 
-  at_length : (before : List ℕ) (known count t u extra : ℕ) → t ≡ u → Goes first size last before known count t extra → Goes first size last before known count u extra
+  at_length : (before : List ℕ) (known count t u extra : ℕ) → t ≡ u → Goes first size last before known count t extra
+      → Goes first size last before known count u extra
   at_length before known count t u extra h r = subst (λ n. Goes first size last before known count n extra) h r
 
   pub goes_on : (ys : List X) (entry : List ℕ) (t count extra : ℕ) → length entry < 3 → 3 * length ys + length entry + t ≡ 3 * count
@@ -123,7 +137,8 @@ module _ {X : Type 0} (first size last : X → ℕ) (make : ℕ → ℕ → ℕ 
   goes_on [] (a ∷ []) t (suc k) extra l c none small = at_length (a ∷ []) 0 (suc k) _ t extra (omega arith) (one_open a k extra small)
   goes_on [] (a ∷ b ∷ []) t zero extra l c none small = absurd (omega arith)
   goes_on [] (a ∷ b ∷ []) t (suc zero) extra l c none small =
-      subst (λ n. Goes first size last (a ∷ b ∷ []) (0 + b) 1 t n) (omega (arith, none)) (at_length (a ∷ b ∷ []) (0 + b) 1 _ t 0 (omega arith) (after_size a b 0 0 0 (zeros 0)))
+      subst (λ n. Goes first size last (a ∷ b ∷ []) (0 + b) 1 t n) (omega (arith, none))
+      (at_length (a ∷ b ∷ []) (0 + b) 1 _ t 0 (omega arith) (after_size a b 0 0 0 (zeros 0)))
   goes_on [] (a ∷ b ∷ []) t (suc (suc k)) extra l c none small =
       at_length (a ∷ b ∷ []) (0 + b) (suc (suc k)) _ t extra (omega arith) (after_size a b (suc k) _ extra (all_open k extra small))
   goes_on [] (a ∷ b ∷ d ∷ entry) t count extra l c none small = absurd (omega arith)

@@ -1,5 +1,6 @@
 -- Which rooms records can fill: the test and what it means.
-use Rattle.std.proofs.Common.{◌≡◌, ℕ, suc, ◌+◌, ◌<◌, ◌≤◌, ◌⊎◌, inl, inr, ◌↔◌, ◌-◌, IsTrue, true, false, List, [], ◌∷◌, ◌++◌, length, replicate, refl, sym, ap, ◌∙◌, subst, arith, length-append, None, Some, get_or}
+use Rattle.std.proofs.Common.{◌≡◌, ℕ, suc, ◌+◌, ◌<◌, ◌≤◌, ◌⊎◌, inl, inr, ◌↔◌, ◌-◌, IsTrue, true, false, List, [], ◌∷◌, ◌++◌, length, replicate, refl, sym, ap}
+use Rattle.std.proofs.Common.{◌∙◌, subst, arith, length-append, None, Some, get_or}
 use Rattle.std.specs.Prelude.{Option, option_and_then, IsSomeAnd, ◌==◌}
 use Rattle.std.specs.Option.{option_map_or}
 use Rattle.std.proofs.lemmas.Bool.{true≢false, eqb-true, eq-eqb, or_cases, cases_lt}
@@ -18,8 +19,8 @@ use Rattle.fit_record.specs.Rooms.{fills, has_length, can_fill}
 use Rattle.fit_record.proofs.LargeRooms.{six_and_more}
 use Rattle.fit_record.proofs.RoomSums.{fills_6, fills_more, of_filled}
 use Rattle.fit_base.proofs.ByteLists.{IsBytes-append, IsBytes-cons, IsBytes-none, IsBytes-zeros}
-use Rattle.fit_record.proofs.Lengths.{length-definition, length-data}
-use Rattle.fit_record.proofs.MessageBytes.{message_of, message_fits}
+use Rattle.fit_record.proofs.RecordLengths.{length-definition, length-data}
+use Rattle.fit_record.proofs.MessageBytes.{values_from, message_fits}
 
 -- ---- messages alone
 
@@ -55,13 +56,16 @@ message_first {A} e n room sixteen h others = go (found n e.places h) where
   go (local, p, l, q, s) =
       let o = order_at e local in
       let zeros : List ℕ = replicate (message_size p) 0 in
-      let v : Values A = message_of local None o p zeros in
+      let v : Values A = values_from local None o p zeros in
       let fits = message_fits {A = A} local None o p zeros (omega arith) (IsBytes-zeros (message_size p)) (length-replicate (message_size p) 0) in
       let rest = others (learn e (Data v)) (same_places e v) in (
         Data v ∷ rest.0,
         (local ∷ zeros) ++ rest.1,
         IsBytes-append (local ∷ zeros) rest.1 (IsBytes-cons local zeros (omega arith) (IsBytes-zeros (message_size p))) rest.2,
-        ((subst (λ o. IsSomeAnd o (DataFits v)) (sym q) fits.0, rest.3.0), ap (λ bs. (local ∷ zeros) ++ bs) rest.3.1 ∙ ap (λ bs. (local ∷ bs) ++ records_bytes (learn e (Data v)) rest.0) (sym fits.1)),
+        (
+          (subst (λ o. IsSomeAnd o (DataFits v)) (sym q) fits.0, rest.3.0),
+          ap (λ bs. (local ∷ zeros) ++ bs) rest.3.1 ∙ ap (λ bs. (local ∷ bs) ++ records_bytes (learn e (Data v)) rest.0) (sym fits.1),
+        ),
         omega (arith, length-append (local ∷ zeros) rest.1, length-replicate {A = ℕ} (message_size p) 0),
       )
 
@@ -92,7 +96,8 @@ messages_fill {A} e (Data v ∷ records) sixteen fits below =
           let has : has_length e.places (1 + message_size d) ≡ true =
           list_any_at (λ o. option_map_or (λ p. 1 + message_size p == 1 + message_size d) o false) e.places v.local None (omega arith) here in
           let size = length-data (order_at e v.local) v d p in
-          let room : (1 + message_size d) + length (records_bytes (learn e (Data v)) records) ≡ length (records_bytes e (Data v ∷ records)) = omega (arith, both, size) in
+          let room : (1 + message_size d) + length (records_bytes (learn e (Data v)) records) ≡ length (records_bytes e (Data v ∷ records)) =
+          omega (arith, both, size) in
           subst (λ n. can_fill e n ≡ true) room (fills_more (has_length e.places) (1 + message_size d) _ (omega arith) has others)
 
 -- ---- the law
@@ -102,7 +107,8 @@ module _ {A : Type 0} (places : List (Option (Defined A))) (sixteen : length pla
   below_6 : (room : ℕ) → room < 6 → fills (has_length places) room ≡ true → (e : Environment A) → e.places ≡ places → CanFill e room
   below_6 = of_filled (has_length places) (λ room. (e : Environment A) → e.places ≡ places → CanFill e room)
       (λ e same. ([], [], IsBytes-none, (tt, refl), refl))
-      (λ n room positive has others e same. message_first e n room (ap length same ∙ sixteen) (subst (λ ps. has_length ps n ≡ true) (sym same) has) (λ f again. others f (again ∙ same)))
+      (λ n room positive has others e same. message_first e n room (ap length same ∙ sixteen) (subst (λ ps. has_length ps n ≡ true) (sym same) has)
+      (λ f again. others f (again ∙ same)))
 
 can_fill-true : {A : Type 0} (e : Environment A) (room : ℕ) → length e.places ≡ 16 → can_fill e room ≡ true → CanFill e room
 can_fill-true e room sixteen h = go (cases_lt room 6) where

@@ -28,7 +28,14 @@ abbrev pub item : ℕ → List ℕ → Items (Unit {0})
 item width bits = record { width = width; bits = bits }
 
 true_header : (n : ℕ) → n < 2 ^ 32 → HeaderFits (header_of 14 sums.True) n
-true_header n below = record { form = record { size = refl; version = lit≤ tt }; size_fits = lit< tt; profile_fits = lit< tt; data_fits = below; sum = λ z. let word = z.0 in cc }
+true_header n below = record {
+  form = record { size = refl; version = lit≤ tt };
+  size_fits = lit< tt;
+  profile_fits = lit< tt;
+  data_fits = below;
+  sum =
+      λ z. let word = z.0 in cc;
+}
 
 -- an empty file
 abbrev pub empty_file : FitFile (Unit {0})
@@ -44,7 +51,21 @@ zeros_for_a_sum = file_of (header_of 14 sums.Zero) []
 
 pub zeros_for_a_sum_bytes : IsFile zeros_for_a_sum (0x0E ∷ 0x20 ∷ 0 ∷ 0 ∷ 0 ∷ 0 ∷ 0 ∷ 0 ∷ 0x2E ∷ 0x46 ∷ 0x49 ∷ 0x54 ∷ 0 ∷ 0 ∷ 0xA8 ∷ 0xA3 ∷ [])
 unfolding checksum
-zeros_for_a_sum_bytes = (record { header = record { form = record { size = refl; version = lit≤ tt }; size_fits = lit< tt; profile_fits = lit< tt; data_fits = lit< tt; sum = λ z. let zero_sum = z.1 in cc }; records = tt }, refl)
+zeros_for_a_sum_bytes = (
+  record {
+    header =
+        record {
+          form = record { size = refl; version = lit≤ tt };
+          size_fits = lit< tt;
+          profile_fits = lit< tt;
+          data_fits = lit< tt;
+          sum = λ z. let zero_sum = z.1
+              in cc;
+        };
+    records = tt;
+  },
+  refl,
+)
 
 -- a header of twelve bytes
 abbrev pub short_header : FitFile (Unit {0})
@@ -52,7 +73,20 @@ short_header = file_of (header_of 12 sums.Absent) []
 
 pub short_header_bytes : IsFile short_header (0x0C ∷ 0x20 ∷ 0 ∷ 0 ∷ 0 ∷ 0 ∷ 0 ∷ 0 ∷ 0x2E ∷ 0x46 ∷ 0x49 ∷ 0x54 ∷ 0x65 ∷ 0x42 ∷ [])
 unfolding checksum
-short_header_bytes = (record { header = record { form = record { size = (refl, refl); version = lit≤ tt }; size_fits = lit< tt; profile_fits = lit< tt; data_fits = lit< tt; sum = λ z. let word = z.0 in cc }; records = tt }, refl)
+short_header_bytes = (
+  record {
+    header = record {
+      form = record { size = (refl, refl); version = lit≤ tt };
+      size_fits = lit< tt;
+      profile_fits =
+          lit< tt;
+      data_fits = lit< tt;
+      sum = λ z. let word = z.0 in cc;
+    };
+    records = tt;
+  },
+  refl,
+)
 
 -- a definition without fields, and a message of one byte
 abbrev pub one_byte_message : FitFile (Unit {0})
@@ -60,12 +94,16 @@ one_byte_message = file_of (header_of 14 sums.True)
     (Define (record { local = 0; reserved = 0; order = orders.Little; global = 20; fields = []; dev = None })
     ∷ Values (record { local = 0; offset = None; fields = []; dev = [] }) ∷ [])
 
-pub one_byte_message_bytes : IsFile one_byte_message (0x0E ∷ 0x20 ∷ 0 ∷ 0 ∷ 7 ∷ 0 ∷ 0 ∷ 0 ∷ 0x2E ∷ 0x46 ∷ 0x49 ∷ 0x54 ∷ 0xDD ∷ 0x63 ∷ 0x40 ∷ 0 ∷ 0 ∷ 0x14 ∷ 0 ∷ 0 ∷ 0 ∷ 0x44 ∷ 0x34 ∷ [])
+pub one_byte_message_bytes : IsFile one_byte_message
+    (0x0E ∷ 0x20 ∷ 0 ∷ 0 ∷ 7 ∷ 0 ∷ 0 ∷ 0 ∷ 0x2E ∷ 0x46 ∷ 0x49 ∷ 0x54 ∷ 0xDD ∷ 0x63 ∷ 0x40 ∷ 0 ∷ 0 ∷ 0x14 ∷ 0 ∷ 0 ∷ 0 ∷ 0x44 ∷ 0x34 ∷ [])
 unfolding checksum
 one_byte_message_bytes = (
   record {
     header = true_header _ (lit< tt);
-    records = (record { local = lit< tt; global = lit< tt; fields = lit< tt; dev_fields = lit< tt }, (record { header = lit< tt; fields = tt; dev_fields = tt }, tt));
+    records = (
+      record { local = lit< tt; global = lit< tt; fields = lit< tt; dev_fields = lit< tt },
+      (record { header = lit< tt; fields = tt; dev_fields = tt }, tt),
+    );
   },
   refl,
 )
@@ -93,11 +131,25 @@ both_architectures_bytes = (
     records = (
       record { local = lit< tt; global = lit< tt; fields = lit< tt; dev_fields = lit< tt },
       (
-        record { header = lit< tt; fields = (record { width = refl; whole = refl; fits = (lit< tt, tt) }, (record { width = refl; whole = refl; fits = (lit< tt, tt) }, tt)); dev_fields = tt },
+        record {
+          header = lit< tt;
+          fields = (
+            record { width = refl; whole = refl; fits = (lit< tt, tt) },
+            (record { width = refl; whole = refl; fits = (lit< tt, tt) }, tt),
+          );
+          dev_fields = tt;
+        },
         (
           record { local = lit< tt; global = lit< tt; fields = lit< tt; dev_fields = lit< tt },
           (
-            record { header = (lit< tt, lit< tt); fields = (record { width = refl; whole = refl; fits = (lit< tt, tt) }, (record { width = refl; whole = refl; fits = (lit< tt, (lit< tt, (lit< tt, tt))) }, tt)); dev_fields = tt },
+            record {
+              header = (lit< tt, lit< tt);
+              fields = (
+                record { width = refl; whole = refl; fits = (lit< tt, tt) },
+                (record { width = refl; whole = refl; fits = (lit< tt, (lit< tt, (lit< tt, tt))) }, tt),
+              );
+              dev_fields = tt;
+            },
             tt,
           ),
         ),
@@ -119,10 +171,24 @@ dev_data items = Values (record { local = 1; offset = None; fields = []; dev = i
 -- a developer field before and after its description
 abbrev pub described_field : FitFile (Unit {0})
 described_field = file_of (header_of 14 sums.True)
-    (Define (record { local = 0; reserved = 0; order = orders.Little; global = 206; fields = field 0 1 2 ∷ field 1 1 2 ∷ field 2 1 2 ∷ field 3 3 7 ∷ []; dev = None })
+    (Define (record {
+      local = 0;
+      reserved = 0;
+      order = orders.Little;
+      global = 206;
+      fields = field 0 1 2 ∷ field 1 1 2 ∷ field 2 1 2 ∷ field 3 3 7 ∷ [];
+      dev =
+          None;
+    })
     ∷ dev_definition
     ∷ dev_data (item 1 (0x34 ∷ 0x12 ∷ []))
-    ∷ Values (record { local = 0; offset = None; fields = item 1 (0 ∷ []) ∷ item 1 (5 ∷ []) ∷ item 1 (0x84 ∷ []) ∷ item 1 (0x6D ∷ 0x6F ∷ 0 ∷ []) ∷ []; dev = [] })
+    ∷ Values (record {
+      local = 0;
+      offset = None;
+      fields = item 1 (0 ∷ []) ∷ item 1 (5 ∷ []) ∷ item 1 (0x84 ∷ []) ∷ item 1 (0x6D ∷ 0x6F ∷ 0 ∷ []) ∷ [];
+      dev =
+          [];
+    })
     ∷ dev_data (item 1 (0x34 ∷ 0x12 ∷ []))
     ∷ dev_definition
     ∷ dev_data (item 2 (4660 ∷ []))
@@ -149,7 +215,20 @@ described_field_bytes = (
         (
           record { header = lit< tt; fields = tt; dev_fields = (record { width = refl; whole = refl; fits = (lit< tt, (lit< tt, tt)) }, tt) },
           (
-            record { header = lit< tt; fields = (record { width = refl; whole = refl; fits = (lit< tt, tt) }, (record { width = refl; whole = refl; fits = (lit< tt, tt) }, (record { width = refl; whole = refl; fits = (lit< tt, tt) }, (record { width = refl; whole = refl; fits = (lit< tt, (lit< tt, (lit< tt, tt))) }, tt)))); dev_fields = tt },
+            record {
+              header = lit< tt;
+              fields = (
+                record { width = refl; whole = refl; fits = (lit< tt, tt) },
+                (
+                  record { width = refl; whole = refl; fits = (lit< tt, tt) },
+                  (
+                    record { width = refl; whole = refl; fits = (lit< tt, tt) },
+                    (record { width = refl; whole = refl; fits = (lit< tt, (lit< tt, (lit< tt, tt))) }, tt),
+                  ),
+                ),
+              );
+              dev_fields = tt;
+            },
             (
               record { header = lit< tt; fields = tt; dev_fields = (record { width = refl; whole = refl; fits = (lit< tt, (lit< tt, tt)) }, tt) },
               (
@@ -174,7 +253,20 @@ long_header = file_of (record { size = 16; protocol = 32; profile = 0; sum = sum
 
 pub long_header_bytes : IsFile long_header (0x10 ∷ 0x20 ∷ 0 ∷ 0 ∷ 0 ∷ 0 ∷ 0 ∷ 0 ∷ 0x2E ∷ 0x46 ∷ 0x49 ∷ 0x54 ∷ 0xB4 ∷ 0xAD ∷ 0x41 ∷ 0x42 ∷ 0xB0 ∷ 0x61 ∷ [])
 unfolding checksum
-long_header_bytes = (record { header = record { form = record { size = refl; version = lit≤ tt }; size_fits = lit< tt; profile_fits = lit< tt; data_fits = lit< tt; sum = λ z. let word = z.0 in cc }; records = tt }, refl)
+long_header_bytes = (
+  record {
+    header = record {
+      form = record { size = refl; version = lit≤ tt };
+      size_fits = lit< tt;
+      profile_fits = lit< tt;
+      data_fits =
+          lit< tt;
+      sum = λ z. let word = z.0 in cc;
+    };
+    records = tt;
+  },
+  refl,
+)
 
 -- a true sum of 0
 abbrev pub sum_of_zero : FitFile (Unit {0})
@@ -182,4 +274,17 @@ sum_of_zero = file_of (record { size = 14; protocol = 32; profile = 46477; sum =
 
 pub sum_of_zero_bytes : IsFile sum_of_zero (0x0E ∷ 0x20 ∷ 0x8D ∷ 0xB5 ∷ 0 ∷ 0 ∷ 0 ∷ 0 ∷ 0x2E ∷ 0x46 ∷ 0x49 ∷ 0x54 ∷ 0 ∷ 0 ∷ 0 ∷ 0 ∷ [])
 unfolding checksum
-sum_of_zero_bytes = (record { header = record { form = record { size = refl; version = lit≤ tt }; size_fits = lit< tt; profile_fits = lit< tt; data_fits = lit< tt; sum = λ z. let word = z.0 in cc }; records = tt }, refl)
+sum_of_zero_bytes = (
+  record {
+    header = record {
+      form = record { size = refl; version = lit≤ tt };
+      size_fits = lit< tt;
+      profile_fits = lit< tt;
+      data_fits =
+          lit< tt;
+      sum = λ z. let word = z.0 in cc;
+    };
+    records = tt;
+  },
+  refl,
+)

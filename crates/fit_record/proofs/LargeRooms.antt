@@ -46,6 +46,9 @@ six_and_more {A} e n some =
       Define no_fields ∷ replicate n (Data one_byte),
       0x40 ∷ 0 ∷ 0 ∷ 0 ∷ 0 ∷ 0 ∷ replicate n 0,
       IsBytes-append (0x40 ∷ replicate 5 0) (replicate n 0) (IsBytes-cons 0x40 (replicate 5 0) (lit< tt) (IsBytes-zeros 5)) (IsBytes-zeros n),
-      ((record { local = lit< tt; global = lit< tt; fields = lit< tt; dev_fields = lit< tt }, all_fit n after known), ap (λ bs. 0x40 ∷ 0 ∷ 0 ∷ 0 ∷ 0 ∷ 0 ∷ bs) (sym (all_bytes n after known))),
+      (
+        (record { local = lit< tt; global = lit< tt; fields = lit< tt; dev_fields = lit< tt }, all_fit n after known),
+        ap (λ bs. 0x40 ∷ 0 ∷ 0 ∷ 0 ∷ 0 ∷ 0 ∷ bs) (sym (all_bytes n after known)),
+      ),
       omega (arith, length-replicate {A = ℕ} n 0),
     )

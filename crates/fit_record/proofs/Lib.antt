@@ -3,12 +3,12 @@ pub mod OneRecord
 pub mod RecordLists
 pub mod OneFile
 pub mod ChainOfOne
-pub mod Lengths
+pub mod RecordLengths
 pub mod WrongPlace
-pub mod FaultFacts
-pub mod LengthFacts
-pub mod KeptFacts
-pub mod Firsts
+pub mod NoFaultWhereFits
+pub mod LengthOfFitting
+pub mod KeptInPlaces
+pub mod FirstOfNumber
 pub mod MessageSizes
 pub mod MessageBytes
 pub mod RoomSums
@@ -24,4 +24,4 @@ pub mod CarriedMessages
 pub mod RoomRows
 pub mod KnownRecords
 pub mod KnownFaults
-pub mod RoomAnswers
+pub mod RoomTestsAnswer

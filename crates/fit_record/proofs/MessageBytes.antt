@@ -13,7 +13,8 @@ use Rattle.fit_base.proofs.NumberLaws.{number-below, number_bytes-number}
 use Rattle.fit_base.proofs.Shapes.{item_width_divides}
 use Rattle.fit_base.proofs.ByteLists.{IsBytes-take, IsBytes-drop}
 use Rattle.fit_record.specs.declared.environment.Defined.{Defined}
-pub use Rattle.fit_record.specs.ReadMessages.{numbers_of, field_of, fields_of, sizes, message_of}
+pub use Rattle.fit_record.specs.inner.ReadMessages.{numbers_of, field_from, fields_from, values_from}
+pub use Rattle.fit_record.specs.Records.{sizes}
 use Rattle.fit_record.specs.Records.{layout, dev_layout, message_size, HaveShape, DataHeaderFits, data_bytes, DataFits}
 
 no_elements : {X : Type 0} (xs : List X) → length xs ≡ 0 → xs ≡ []
@@ -36,13 +37,14 @@ numbers_spell o w (suc n) bytes b l =
     let wide : length piece ≡ w = length-take-le w bytes (omega (arith, long)) in
     let others = numbers_spell o w n rest (IsBytes-drop w bytes b) (length-drop w bytes ∙ omega (arith, long)) in
     let below : number o piece < 256 ^ w = subst (λ k. number o piece < 256 ^ k) wide (number-below o piece (IsBytes-take w bytes b)) in
-    let spelled : number_bytes o w (number o piece) ≡ piece = ap (λ k. number_bytes o k (number o piece)) (sym wide) ∙ number_bytes-number o piece (IsBytes-take w bytes b) in
+    let spelled : number_bytes o w (number o piece) ≡ piece =
+    ap (λ k. number_bytes o k (number o piece)) (sym wide) ∙ number_bytes-number o piece (IsBytes-take w bytes b) in
     ((below, others.0), ap (λ x. x ++ flat_map (number_bytes o w) (numbers_of o w n rest)) spelled ∙ ap (λ x. piece ++ x) others.1 ∙ take-append-drop w bytes)
 
 -- ---- fields
 
 field_fits : (A : Type 0) (o : Order) (f : ℕ × ℕ) (bytes : List ℕ) → IsBytes bytes → length bytes ≡ f.1
-    → HasShape f.0 f.1 (field_of {A = A} o f bytes) × (items_bytes o (field_of {A = A} o f bytes) ≡ bytes)
+    → HasShape f.0 f.1 (field_from {A = A} o f bytes) × (items_bytes o (field_from {A = A} o f bytes) ≡ bytes)
 field_fits A o f bytes b l =
     let w = item_width f.0 f.1 in
     let n = f.1 / w in
@@ -50,25 +52,29 @@ field_fits A o f bytes b l =
     (record { width = refl; whole = ap (λ k. k * w) (length-numbers_of o w n bytes) ∙ item_width_divides f.0 f.1; fits = r.0 }, r.1)
 
 fields_fit : (A : Type 0) (o : Order) (fs : List (ℕ × ℕ)) (bytes : List ℕ) → IsBytes bytes → length bytes ≡ sizes fs
-    → HaveShape fs (fields_of {A = A} o fs bytes) × (flat_map (items_bytes o) (fields_of {A = A} o fs bytes) ≡ bytes)
+    → HaveShape fs (fields_from {A = A} o fs bytes) × (flat_map (items_bytes o) (fields_from {A = A} o fs bytes) ≡ bytes)
 fields_fit A o [] bytes b l = (tt, sym (no_elements bytes l))
 fields_fit A o (f ∷ fs) bytes b l =
     let piece = take f.1 bytes in
     let rest = drop f.1 bytes in
     let long : length bytes ≡ f.1 + sizes fs = l ∙ sum_by-cons (λ (f : ℕ × ℕ). f.1) f fs in
     let first = field_fits A o f piece (IsBytes-take f.1 bytes b) (length-take-le f.1 bytes (omega (arith, long))) in
-    let others = fields_fit A o fs rest (IsBytes-drop f.1 bytes b) (length-drop f.1 bytes ∙ omega (arith, long)) in
-    ((first.0, others.0), ap (λ x. x ++ flat_map (items_bytes o) (fields_of {A = A} o fs rest)) first.1 ∙ ap (λ x. piece ++ x) others.1 ∙ take-append-drop f.1 bytes)
+    let others = fields_fit A o fs rest (IsBytes-drop f.1 bytes b) (length-drop f.1 bytes ∙ omega (arith, long)) in (
+      (first.0, others.0),
+      ap (λ x. x ++ flat_map (items_bytes o) (fields_from {A = A} o fs rest)) first.1 ∙ ap (λ x. piece ++ x) others.1
+          ∙ take-append-drop f.1 bytes,
+    )
 
 -- ---- data messages
 
 pub message_fits : {A : Type 0} (local : ℕ) (offset : Option ℕ) (o : Order) (p : Defined A) (bytes : List ℕ) → DataHeaderFits local offset → IsBytes bytes
-    → length bytes ≡ message_size p → DataFits (message_of local offset o p bytes) p × (data_bytes o (message_of local offset o p bytes) ≡ bytes)
+    → length bytes ≡ message_size p → DataFits (values_from local offset o p bytes) p × (data_bytes o (values_from local offset o p bytes) ≡ bytes)
 message_fits {A} local offset o p bytes header b l =
     let n = sizes (layout p) in
     let long : length bytes ≡ n + sizes (dev_layout p) = l ∙ sum_by-append (λ (f : ℕ × ℕ). f.1) (layout p) (dev_layout p) in
     let fields = fields_fit A o (layout p) (take n bytes) (IsBytes-take n bytes b) (length-take-le n bytes (omega (arith, long))) in
     let dev = fields_fit A o (dev_layout p) (drop n bytes) (IsBytes-drop n bytes b) (length-drop n bytes ∙ omega (arith, long)) in (
       record { header = header; fields = fields.0; dev_fields = dev.0 },
-      ap (λ x. x ++ flat_map (items_bytes o) (fields_of {A = A} o (dev_layout p) (drop n bytes))) fields.1 ∙ ap (λ x. take n bytes ++ x) dev.1 ∙ take-append-drop n bytes,
+      ap (λ x. x ++ flat_map (items_bytes o) (fields_from {A = A} o (dev_layout p) (drop n bytes))) fields.1 ∙ ap (λ x. take n bytes ++ x) dev.1
+          ∙ take-append-drop n bytes,
     )

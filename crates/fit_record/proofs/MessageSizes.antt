@@ -7,25 +7,41 @@ use Rattle.fit_record.specs.declared.definition.FieldDef.{FieldDef}
 use Rattle.fit_record.specs.declared.definition.DevDef.{DevDef}
 use Rattle.fit_record.specs.declared.environment.Defined.{Defined}
 use Rattle.fit_record.specs.Environment.{dev_defs}
-use Rattle.fit_record.specs.Kept.{MayBeKept}
+use Rattle.fit_record.specs.inner.Kept.{MayBeKept}
 use Rattle.fit_record.specs.Records.{body_length}
 use Rattle.fit_record.specs.Records.{layout, dev_layout, message_size}
 
 sum-fields : (fs : List FieldDef) → sum_by (λ (f : ℕ × ℕ). f.1) (map (λ f. (f.code, f.size)) fs) ≡ sum_by (λ (f : FieldDef). f.size) fs
 sum-fields [] = refl
-sum-fields (f ∷ fs) = omega (arith, sum-fields fs, sum_by-cons (λ (f : FieldDef). f.size) f fs, sum_by-cons (λ (f : ℕ × ℕ). f.1) (f.code, f.size) (map (λ f. (f.code, f.size)) fs))
+sum-fields (f ∷ fs) = omega (
+  arith,
+  sum-fields fs,
+  sum_by-cons (λ (f : FieldDef). f.size) f fs,
+  sum_by-cons (λ (f : ℕ × ℕ). f.1) (f.code, f.size) (map (λ f. (f.code, f.size)) fs),
+)
 
-sum-dev_fields : (codes : List ℕ) (fs : List DevDef) → length codes ≡ length fs → sum_by (λ (f : ℕ × ℕ). f.1) (zip codes (map (λ f. f.size) fs)) ≡ sum_by (λ (f : DevDef). f.size) fs
+sum-dev_fields : (codes : List ℕ) (fs : List DevDef) → length codes ≡ length fs
+    → sum_by (λ (f : ℕ × ℕ). f.1) (zip codes (map (λ f. f.size) fs)) ≡ sum_by (λ (f : DevDef). f.size) fs
 sum-dev_fields [] [] h = refl
 sum-dev_fields [] (f ∷ fs) h = absurd (omega arith)
 sum-dev_fields (c ∷ codes) [] h = absurd (omega arith)
 sum-dev_fields (c ∷ codes) (f ∷ fs) h =
-    omega (arith, sum-dev_fields codes fs (omega arith), sum_by-cons (λ (f : DevDef). f.size) f fs, sum_by-cons (λ (f : ℕ × ℕ). f.1) (c, f.size) (zip codes (map (λ f. f.size) fs)))
+    omega (
+      arith,
+      sum-dev_fields codes fs (omega arith),
+      sum_by-cons (λ (f : DevDef). f.size) f fs,
+      sum_by-cons (λ (f : ℕ × ℕ). f.1) (c, f.size) (zip codes (map (λ f. f.size) fs)),
+    )
 
 -- Each developer field has a code.
 pub message_size_is : {A : Type 0} (p : Defined A) → length p.dev_codes ≡ length (dev_defs p.definition.dev) → message_size p ≡ body_length p.definition
 message_size_is p h =
-    omega (arith, sum_by-append (λ (f : ℕ × ℕ). f.1) (layout p) (dev_layout p), sum-fields p.definition.fields, sum-dev_fields p.dev_codes (dev_defs p.definition.dev) h)
+    omega (
+      arith,
+      sum_by-append (λ (f : ℕ × ℕ). f.1) (layout p) (dev_layout p),
+      sum-fields p.definition.fields,
+      sum-dev_fields p.dev_codes (dev_defs p.definition.dev) h,
+    )
 
 -- ---- what is kept beside a place
 

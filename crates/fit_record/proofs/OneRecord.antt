@@ -16,7 +16,9 @@ use Rattle.fit_record.specs.declared.message.Record.{Record}
 use Rattle.fit_record.specs.declared.message.Record.TheVariants.{Define, Values as Data}
 use Rattle.fit_record.specs.declared.environment.Defined.{Defined}
 use Rattle.fit_record.specs.Environment.{Environment, defined_at, learn}
-use Rattle.fit_record.specs.Records.{architecture, field_bytes, dev_field_bytes, dev_part, definition_header, definition_bytes, DefinitionFits, layout, dev_layout, HaveShape, data_header, DataHeaderFits, data_bytes, DataFits, Fits, order_at, record_bytes, AllFit, records_bytes}
+use Rattle.fit_record.specs.Records.{architecture, field_bytes, dev_field_bytes, dev_part, definition_header, definition_bytes, DefinitionFits, layout}
+use Rattle.fit_record.specs.Records.{dev_layout, HaveShape, data_header, DataHeaderFits, data_bytes, DataFits, Fits, order_at, record_bytes, AllFit}
+use Rattle.fit_record.specs.Records.{records_bytes}
 use Rattle.fit_record.specs.Laws.{RecordsHaveOneSpelling}
 
 regroup : {X : Type 0} → (a b c d : List X) → (a ++ b ++ c) ++ d ≡ a ++ (b ++ (c ++ d))
@@ -30,31 +32,41 @@ one_order Little Big e = cc
 one_order Big Little e = cc
 one_order Big Big e = refl
 
-pub same_fields : (fs gs : List FieldDef) (x y : List ℕ) → length fs ≡ length gs → flat_map field_bytes fs ++ x ≡ flat_map field_bytes gs ++ y → (fs ≡ gs) × (x ≡ y)
-same_fields [] [] x y l e = (refl, e)
-same_fields [] (g ∷ gs) x y l e = absurd (omega arith)
-same_fields (f ∷ fs) [] x y l e = absurd (omega arith)
-same_fields (f ∷ fs) (g ∷ gs) x y l e =
+-- lists of entries, as long as each other, of which each is known from its bytes
+module _ {F : Type 0} (bytes : F → List ℕ) (one : (f g : F) (x y : List ℕ) → bytes f ++ x ≡ bytes g ++ y → (f ≡ g) × (x ≡ y)) where
+  same_entries : (fs gs : List F) (x y : List ℕ) → length fs ≡ length gs → flat_map bytes fs ++ x ≡ flat_map bytes gs ++ y → (fs ≡ gs) × (x ≡ y)
+  same_entries [] [] x y l e = (refl, e)
+  same_entries [] (g ∷ gs) x y l e = absurd (omega arith)
+  same_entries (f ∷ fs) [] x y l e = absurd (omega arith)
+  same_entries (f ∷ fs) (g ∷ gs) x y l e =
+      let k = one f g (flat_map bytes fs ++ x) (flat_map bytes gs ++ y)
+      (sym (append_assoc (bytes f) (flat_map bytes fs) x) ∙ e ∙ append_assoc (bytes g) (flat_map bytes gs) y) in
+      let r = same_entries fs gs x y (omega arith) k.1 in
+      (cc (k.0, r.0), r.1)
+
+one_field : (f g : FieldDef) (x y : List ℕ) → field_bytes f ++ x ≡ field_bytes g ++ y → (f ≡ g) × (x ≡ y)
+one_field f g x y e =
     let a : f.number ≡ g.number = cc in
     let b : f.size ≡ g.size = cc in
     let c : f.code ≡ g.code = cc in
-    let t : flat_map field_bytes fs ++ x ≡ flat_map field_bytes gs ++ y = cc in
-    let r = same_fields fs gs x y (omega arith) t in
-    let h : f ≡ g = λ i. record { number = a i; size = b i; code = c i } in
-    (cc (h, r.0), r.1)
+    let t : x ≡ y = cc in
+    (λ i. record { number = a i; size = b i; code = c i }, t)
 
-pub same_dev_fields : (fs gs : List DevDef) (x y : List ℕ) → length fs ≡ length gs → flat_map dev_field_bytes fs ++ x ≡ flat_map dev_field_bytes gs ++ y → (fs ≡ gs) × (x ≡ y)
-same_dev_fields [] [] x y l e = (refl, e)
-same_dev_fields [] (g ∷ gs) x y l e = absurd (omega arith)
-same_dev_fields (f ∷ fs) [] x y l e = absurd (omega arith)
-same_dev_fields (f ∷ fs) (g ∷ gs) x y l e =
+one_dev_field : (f g : DevDef) (x y : List ℕ) → dev_field_bytes f ++ x ≡ dev_field_bytes g ++ y → (f ≡ g) × (x ≡ y)
+one_dev_field f g x y e =
     let a : f.number ≡ g.number = cc in
     let b : f.size ≡ g.size = cc in
     let c : f.index ≡ g.index = cc in
-    let t : flat_map dev_field_bytes fs ++ x ≡ flat_map dev_field_bytes gs ++ y = cc in
-    let r = same_dev_fields fs gs x y (omega arith) t in
-    let h : f ≡ g = λ i. record { number = a i; size = b i; index = c i } in
-    (cc (h, r.0), r.1)
+    let t : x ≡ y = cc in
+    (λ i. record { number = a i; size = b i; index = c i }, t)
+
+pub same_fields : (fs gs : List FieldDef) (x y : List ℕ) → length fs ≡ length gs → flat_map field_bytes fs ++ x ≡ flat_map field_bytes gs ++ y
+    → (fs ≡ gs) × (x ≡ y)
+same_fields = same_entries field_bytes one_field
+
+pub same_dev_fields : (fs gs : List DevDef) (x y : List ℕ) → length fs ≡ length gs → flat_map dev_field_bytes fs ++ x ≡ flat_map dev_field_bytes gs ++ y
+    → (fs ≡ gs) × (x ≡ y)
+same_dev_fields = same_entries dev_field_bytes one_dev_field
 
 -- the local type and whether there are developer fields, from the record header
 same_dev : (u v : Option (List DevDef)) (l m : ℕ) (x y : List ℕ) → l < 16 → m < 16
@@ -106,13 +118,15 @@ same_values o (f ∷ fs) (u ∷ us) (v ∷ vs) x y p q e =
     (cc (first.0, others.0), others.1)
 
 same_data : {A : Type 0} (o : Option (Defined A)) (v w : Values A) (x y : List ℕ) → IsSomeAnd o (DataFits v) → IsSomeAnd o (DataFits w)
-    → data_bytes (unwrap_or (option_map (λ p. p.definition.order) o) Little) v ++ x ≡ data_bytes (unwrap_or (option_map (λ p. p.definition.order) o) Little) w ++ y
+    → data_bytes (unwrap_or (option_map (λ p. p.definition.order) o) Little) v ++ x
+    ≡ data_bytes (unwrap_or (option_map (λ p. p.definition.order) o) Little) w ++ y
     → (v.fields ≡ w.fields) × (v.dev ≡ w.dev) × (x ≡ y)
 same_data None v w x y p q e = absurd p
 same_data (Some d) v w x y p q e =
     let o = d.definition.order in
     let fields = same_values o (layout d) v.fields w.fields (flat_map (items_bytes o) v.dev ++ x) (flat_map (items_bytes o) w.dev ++ y) p.fields q.fields
-    (sym (append_assoc (flat_map (items_bytes o) v.fields) (flat_map (items_bytes o) v.dev) x) ∙ e ∙ append_assoc (flat_map (items_bytes o) w.fields) (flat_map (items_bytes o) w.dev) y) in
+    (sym (append_assoc (flat_map (items_bytes o) v.fields) (flat_map (items_bytes o) v.dev) x) ∙ e
+    ∙ append_assoc (flat_map (items_bytes o) w.fields) (flat_map (items_bytes o) w.dev) y) in
     let dev = same_values o (dev_layout d) v.dev w.dev x y p.dev_fields q.dev_fields fields.1 in
     (fields.0, dev.0, dev.1)
 
@@ -127,14 +141,16 @@ header_fits None v p = absurd p
 header_fits (Some d) v p = p.header
 
 -- the two kinds of record differ in their headers
-two_kinds : (l m : ℕ) (u : Option (List DevDef)) (t : Option ℕ) → l < 16 → DataHeaderFits m t → 0x40 + l + unwrap_or (option_map (λ _. 0x20) u) 0 ≡ data_header m t → ⊥
+two_kinds : (l m : ℕ) (u : Option (List DevDef)) (t : Option ℕ) → l < 16 → DataHeaderFits m t
+    → 0x40 + l + unwrap_or (option_map (λ _. 0x20) u) 0 ≡ data_header m t → ⊥
 two_kinds l m None None p q e = omega arith
 two_kinds l m None (Some t) p q e = omega arith
 two_kinds l m (Some u) None p q e = omega arith
 two_kinds l m (Some u) (Some t) p q e = omega arith
 
 -- what follows the bytes of a record tells it from no other
-pub same_record : {A : Type 0} (e : Environment A) (r s : Record A) (x y : List ℕ) → Fits e r → Fits e s → record_bytes e r ++ x ≡ record_bytes e s ++ y → (r ≡ s) × (x ≡ y)
+pub same_record : {A : Type 0} (e : Environment A) (r s : Record A) (x y : List ℕ) → Fits e r → Fits e s → record_bytes e r ++ x ≡ record_bytes e s ++ y
+    → (r ≡ s) × (x ≡ y)
 same_record e (Define c) (Define d) x y p q h = let k = same_definition c d x y p q h in (ap Define k.0, k.1)
 same_record e (Define c) (Data w) x y p q h =
     let head : definition_header c ≡ data_header w.local w.offset = cc in

@@ -8,10 +8,12 @@ pub all_fit-append : {A : Type 0} (e : Environment A) (rs ss : List (Record A)) 
 all_fit-append e [] ss p q = q
 all_fit-append e (r ∷ rs) ss p q = (p.0, all_fit-append (learn e r) rs ss p.1 q)
 
-pub records_bytes-append : {A : Type 0} (e : Environment A) (rs ss : List (Record A)) → records_bytes e (rs ++ ss) ≡ records_bytes e rs ++ records_bytes (learn_all e rs) ss
+pub records_bytes-append : {A : Type 0} (e : Environment A) (rs ss : List (Record A))
+    → records_bytes e (rs ++ ss) ≡ records_bytes e rs ++ records_bytes (learn_all e rs) ss
 records_bytes-append e [] ss = refl
 records_bytes-append e (r ∷ rs) ss =
-    ap (λ b. record_bytes e r ++ b) (records_bytes-append (learn e r) rs ss) ∙ sym (append_assoc (record_bytes e r) (records_bytes (learn e r) rs) (records_bytes (learn_all (learn e r) rs) ss))
+    ap (λ b. record_bytes e r ++ b) (records_bytes-append (learn e r) rs ss)
+    ∙ sym (append_assoc (record_bytes e r) (records_bytes (learn e r) rs) (records_bytes (learn_all (learn e r) rs) ss))
 
 pub learn_all-append : {A : Type 0} (e : Environment A) (rs ss : List (Record A)) → learn_all e (rs ++ ss) ≡ learn_all (learn_all e rs) ss
 learn_all-append e [] ss = refl

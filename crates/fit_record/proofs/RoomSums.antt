@@ -50,7 +50,8 @@ module _ (has : ℕ → Bool) where
   fills_more (suc (suc (suc (suc (suc zero))))) (suc room) p h k = fills_6 _ (omega arith)
   fills_more (suc (suc (suc (suc (suc (suc n)))))) room p h k = fills_6 _ (omega arith)
 
-  pub fills_same : (other : ℕ → Bool) → other 1 ≡ has 1 → other 2 ≡ has 2 → other 3 ≡ has 3 → other 4 ≡ has 4 → other 5 ≡ has 5 → (room : ℕ) → fills other room ≡ fills has room
+  pub fills_same : (other : ℕ → Bool) → other 1 ≡ has 1 → other 2 ≡ has 2 → other 3 ≡ has 3 → other 4 ≡ has 4 → other 5 ≡ has 5 → (room : ℕ)
+      → fills other room ≡ fills has room
   fills_same other a b c d e zero = refl
   fills_same other a b c d e (suc zero) = a
   fills_same other a b c d e (suc (suc zero)) = cc

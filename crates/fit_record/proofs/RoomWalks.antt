@@ -23,7 +23,8 @@ module _ {A : Type 0} (places : List (Option (Defined A))) (local n other : ℕ)
 
   pub left_out : other ≡ local → has_length (take other others) n ≡ false → has_length (take (other + 1) others) n ≡ false
   left_out same before =
-      more before (ap (λ o. has_length_at o n) (ap (λ i. get_or others i None) same ∙ get_or-set_same places local None None (subst (λ i. i < length places) same below)))
+      more before (ap (λ o. has_length_at o n)
+      (ap (λ i. get_or others i None) same ∙ get_or-set_same places local None None (subst (λ i. i < length places) same below)))
 
   pub not_here : has_length_at (get_or places other None) n ≡ false → has_length (take other others) n ≡ false → has_length (take (other + 1) others) n ≡ false
   not_here lacks before = go (cases_eq other local) where
@@ -33,14 +34,17 @@ module _ {A : Type 0} (places : List (Option (Defined A))) (local n other : ℕ)
 
   pub here : other ≢ local → has_length_at (get_or places other None) n ≡ true → has_length others n ≡ true
   here differs has =
-      list_any_at (λ o. has_length_at o n) others other None below_set (ap (λ o. has_length_at o n) (get_or-set_other places local other None None differs) ∙ has)
+      list_any_at (λ o. has_length_at o n) others other None below_set
+      (ap (λ o. has_length_at o n) (get_or-set_other places local other None None differs) ∙ has)
 
 module _ {A : Type 0} (e : Environment A) (local t size room : ℕ) (enough : t + 1 ≤ room) (not_without : finishes e local t size (room - (t + 1)) ≡ false) where
   pub too_short : room - (t + 1) < 3 → false ≡ can_complete_dev e local t size room
-  too_short l = sym (and_right (nat_le (t + 1) room) _ (or_from (finishes e local t size (room - (t + 1))) _ not_without (and_left (nat_le 3 (room - (t + 1))) _ (lt-leb 3 (room - (t + 1)) l))))
+  too_short l = sym (and_right (nat_le (t + 1) room) _
+      (or_from (finishes e local t size (room - (t + 1))) _ not_without (and_left (nat_le 3 (room - (t + 1))) _ (lt-leb 3 (room - (t + 1)) l))))
 
   pub with_one : (r : Bool) → 3 ≤ room - (t + 1) → r ≡ can_fill_from e local size (room - (t + 1) - 3) → r ≡ can_complete_dev e local t size room
   with_one r l h =
-      h ∙ sym (ap (λ b. b && (finishes e local t size (room - (t + 1)) || (nat_le 3 (room - (t + 1)) && can_fill_from e local size (room - (t + 1) - 3)))) (le-leb (t + 1) room enough)
+      h ∙ sym (ap (λ b. b && (finishes e local t size (room - (t + 1)) || (nat_le 3 (room - (t + 1)) && can_fill_from e local size (room - (t + 1) - 3))))
+      (le-leb (t + 1) room enough)
       ∙ ap (λ b. b || (nat_le 3 (room - (t + 1)) && can_fill_from e local size (room - (t + 1) - 3))) not_without
       ∙ ap (λ b. b && can_fill_from e local size (room - (t + 1) - 3)) (le-leb 3 (room - (t + 1)) l))

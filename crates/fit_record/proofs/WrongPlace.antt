@@ -1,5 +1,6 @@
 -- How the first wrong place is found by going over the fields.
-use Rattle.std.proofs.Common.{◌≡◌, ℕ, zero, suc, ◌+◌, ◌<◌, Bool, true, false, cond, List, [], ◌∷◌, length, map, drop, get_or, refl, sym, ap, ◌∙◌, subst, arith, Some, None, ltb, ltb-true, ltb-false}
+use Rattle.std.proofs.Common.{◌≡◌, ℕ, zero, suc, ◌+◌, ◌<◌, Bool, true, false, cond, List, [], ◌∷◌, length, map, drop, get_or, refl, sym, ap, ◌∙◌, subst, arith}
+use Rattle.std.proofs.Common.{Some, None, ltb, ltb-true, ltb-false}
 use Rattle.std.specs.Prelude.{Option, slice_get, zip}
 use Rattle.std.proofs.lemmas.Option.{slice_get_read, slice_get_past}
 use Rattle.fit_base.specs.declared.items.Items.{Items}
@@ -40,7 +41,8 @@ pass_suc p zero (g ∷ fs) (j ∷ is) f i e d h =
     ap (λ t. cond t (wrong_from (p + 1) fs is) (Some p)) (subst (λ x. has_shape x.0 x.1 j ≡ true) (sym a) (subst (λ x. has_shape f.0 f.1 x ≡ true) (sym b) h))
 pass_suc p (suc k) (g ∷ fs) (j ∷ is) f i e d h = pass_suc p k fs is f i e d h
 
-pub pass : {A : Type 0} (p q k : ℕ) (fs : List (ℕ × ℕ)) (is : List (Items A)) (f : ℕ × ℕ) (i : Items A) → q ≡ p + 1 → slice_get fs k ≡ Some f → slice_get is k ≡ Some i
+pub pass : {A : Type 0} (p q k : ℕ) (fs : List (ℕ × ℕ)) (is : List (Items A)) (f : ℕ × ℕ) (i : Items A) → q ≡ p + 1 → slice_get fs k ≡ Some f
+    → slice_get is k ≡ Some i
     → has_shape f.0 f.1 i ≡ true → wrong_from p (drop k fs) (drop k is) ≡ wrong_from q (drop (k + 1) fs) (drop (k + 1) is)
 pass p q k fs is f i n e d h =
     let next : suc k ≡ k + 1 = omega arith in
@@ -100,7 +102,8 @@ not_found xs k h = slice_get_past xs k (ltb-false k (length xs) (sym h))
 -- ---- layouts
 
 pub field_at : (fs : List FieldDef) (k : ℕ) → k < length fs
-    → slice_get {X = ℕ × ℕ} (map (λ f. (f.code, f.size)) fs) k ≡ Some ((get_or fs k (record { number = 0; size = 0; code = 0 })).code, (get_or fs k (record { number = 0; size = 0; code = 0 })).size)
+    → slice_get {X = ℕ × ℕ} (map (λ f. (f.code, f.size)) fs) k
+    ≡ Some ((get_or fs k (record { number = 0; size = 0; code = 0 })).code, (get_or fs k (record { number = 0; size = 0; code = 0 })).size)
 field_at [] k h = absurd (omega arith)
 field_at (f ∷ fs) zero h = refl
 field_at (f ∷ fs) (suc k) h = field_at fs k (omega arith)

@@ -1,6 +1,7 @@
 -- What a reader of records knows: the definition of each local message type, and the described developer fields
 -- (sections "Definition Message" and "Developer Data").
-use Rattle.std.specs.Prelude.{◌≡◌, ℕ, ◌==◌, if◌then◌else◌, List, [], ◌∷◌, map, replicate, slice_index_or, slice_set, unwrap_or, option_and_then, Option, Some, None}
+use Rattle.std.specs.Prelude.{◌≡◌, ℕ, ◌==◌, if◌then◌else◌, List, [], ◌∷◌, map, replicate, slice_get, slice_index_or, slice_set, unwrap_or}
+use Rattle.std.specs.Prelude.{Option, Some, None, option_and_then, option_map}
 use Rattle.std.specs.Ordering.{nat_cmp, ordering_then}
 use Rattle.std.specs.declared.cmp.Ordering.{Ordering}
 use Rattle.std.specs.Map.{lookup}
@@ -37,6 +38,14 @@ defined_at e local = slice_index_or e.places local None
 -- the code of a developer field that is defined now: that of its description, or else byte
 abbrev pub dev_code : {A : Type 0} → Environment A → DevDef → ℕ
 dev_code e f = unwrap_or (lookup (is_at (dev_key_cmp (record { index = f.index; number = f.number }))) e.described) 0x0D
+
+-- the definition of a local message type
+abbrev pub definition_at : {A : Type 0} → Environment A → ℕ → Option (MessageDef A)
+definition_at e local = option_map (λ p. p.definition) (defined_at e local)
+
+-- the code that a developer field of a local message type had when it was defined
+abbrev pub dev_code_at : {A : Type 0} → Environment A → ℕ → ℕ → Option ℕ
+dev_code_at e local place = option_and_then (λ p. slice_get p.dev_codes place) (defined_at e local)
 
 -- the items of the first field of this number
 abbrev pub first_items : {A : Type 0} → List FieldDef → List (Items A) → ℕ → Option (Items A)

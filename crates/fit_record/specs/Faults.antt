@@ -1,5 +1,5 @@
--- Why a record can't stand where an environment is known: the first reason, in the order of the faults.
-use Rattle.std.specs.Prelude.{ℕ, ◌+◌, ◌*◌, ◌<◌, ◌^◌, nat_lt, if◌then◌else◌, List, [], ◌∷◌, length, Option, Some, None, option_map}
+-- Why a record can't be next in an environment: the first reason, in the order of the faults.
+use Rattle.std.specs.Prelude.{ℕ, ◌+◌, ◌<◌, ◌^◌, nat_lt, if◌then◌else◌, List, [], ◌∷◌, length, Option, Some, None, option_map}
 use Rattle.fit_base.specs.declared.items.Items.{Items}
 use Rattle.fit_base.specs.Fields.{has_shape}
 use Rattle.fit_record.specs.declared.definition.MessageDef.{MessageDef}
@@ -7,7 +7,6 @@ use Rattle.fit_record.specs.declared.message.Values.{Values}
 use Rattle.fit_record.specs.declared.message.Record.{Record}
 use Rattle.fit_record.specs.declared.message.Record.TheVariants.{Define, Values as Data}
 use Rattle.fit_record.specs.declared.environment.Defined.{Defined}
-use Rattle.fit_record.specs.declared.definition.DevDef.{DevDef}
 use Rattle.fit_record.specs.declared.fits.ShapeFault.{ShapeFault}
 use Rattle.fit_record.specs.declared.fits.ShapeFault.TheVariants.{BadLocal, BadOffset, UndefinedLocal, WrongShape}
 use Rattle.fit_record.specs.Environment.{Environment, defined_at, dev_defs}
@@ -60,14 +59,3 @@ first_fault e (Data v) = data_fault e v
 abbrev pub HasRange : {A : Type 0} → Record A → Type 0
 HasRange (Define d) = d.global < 2 ^ 16
 HasRange (Data v) = Unit {0}
-
--- ---- lengths
-
--- the number of developer fields, and three bytes for each
-abbrev pub dev_length : Option (List DevDef) → ℕ
-dev_length None = 0
-dev_length (Some fields) = 1 + 3 * length fields
-
--- the record header, five bytes, and three for each field
-abbrev pub definition_length : {A : Type 0} → MessageDef A → ℕ
-definition_length d = 6 + 3 * length d.fields + dev_length d.dev

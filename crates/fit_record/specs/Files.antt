@@ -17,11 +17,11 @@ body f = records_bytes empty_environment f.records
 abbrev pub summed : {A : Type 0} → FitFile A → List ℕ
 summed f = header_bytes f.header (length (body f)) ++ body f
 
--- The checksum at the end covers header and data, and stands low byte first (section "CRC").
+-- The checksum at the end covers header and data, and has its low byte first (section "CRC").
 abbrev pub file_bytes : {A : Type 0} → FitFile A → List ℕ
 file_bytes f = summed f ++ little_bytes 2 (checksum (summed f))
 
--- The header can announce the data section, and each record can stand where it is.
+-- The header can announce the data section, and each record can be where it is.
 pub record IsWellFormed {A : Type 0} (f : FitFile A) : Type 0 where
   pub header : HeaderFits f.header (length (body f))
   pub records : AllFit empty_environment f.records
@@ -32,7 +32,7 @@ IsFile f bytes = IsWellFormed f × (bytes ≡ file_bytes f)
 
 -- ---- chains
 
--- the most files that follow one another
+-- the most files that follow one another, 2 ^ 24 - 1: a chain has fewer than 2 ^ 57 bytes
 abbrev pub chain_limit : ℕ
 chain_limit = 16777215
 
@@ -50,7 +50,7 @@ pub record IsWellFormedChain {A : Type 0} (limit : ℕ) (fs : List (FitFile A)) 
 abbrev pub IsChain : {A : Type 0} → ℕ → List (FitFile A) → List ℕ → Type 0
 IsChain limit fs bytes = IsWellFormedChain limit fs × (bytes ≡ chain_bytes fs)
 
--- Some bytes after these make a chain of them, of at most so many files.
+-- Some bytes after these make a chain of them, of at most that many files.
 abbrev pub IsViable : Type 0 → ℕ → List ℕ → Type 0
 IsViable A limit bytes = (more : List ℕ) × (fs : List (FitFile A)) × IsBytes (bytes ++ more) × IsChain limit fs (bytes ++ more)
 

@@ -1,14 +1,13 @@
 pub mod Environment
 pub mod Sizes
 pub mod Records
-pub mod ReadMessages
 pub mod HeaderByte
 pub mod Files
 pub mod Faults
 pub mod Laws
 pub mod Sound
-pub mod Kept
 pub mod Rooms
 pub mod Unfinished
 pub mod RoomAnswers
 pub mod RoomLaws
+pub mod inner

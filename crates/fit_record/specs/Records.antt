@@ -1,5 +1,6 @@
 -- The bytes of records (sections "Record Header", "Definition Message", "Data Message" and "Developer Fields").
-use Rattle.std.specs.Prelude.{◌≡◌, ℕ, ◌+◌, ◌*◌, ◌<◌, ◌^◌, List, [], ◌∷◌, ◌++◌, length, map, flat_map, zip, sum_by, Option, Some, None, IsSomeAnd, unwrap_or, option_map}
+use Rattle.std.specs.Prelude.{◌≡◌, ℕ, ◌+◌, ◌*◌, ◌<◌, ◌^◌, List, [], ◌∷◌, ◌++◌, length, map, flat_map, zip, sum_by, Option, Some, None, IsSomeAnd, unwrap_or}
+use Rattle.std.specs.Prelude.{option_map}
 use Rattle.fit_base.specs.declared.items.Items.{Items}
 use Rattle.fit_base.specs.declared.number.Order.{Order}
 use Rattle.fit_base.specs.declared.number.Order.TheVariants.{Little, Big}
@@ -61,6 +62,10 @@ layout p = map (λ f. (f.code, f.size)) p.definition.fields
 abbrev pub dev_layout : {A : Type 0} → Defined A → List (ℕ × ℕ)
 dev_layout p = zip p.dev_codes (map (λ f. f.size) (dev_defs p.definition.dev))
 
+-- the sum of the sizes of fields
+abbrev pub sizes : List (ℕ × ℕ) → ℕ
+sizes fs = sum_by (λ f. f.1) fs
+
 -- how many bytes follow the record header of a data message
 abbrev pub message_size : {A : Type 0} → Defined A → ℕ
 message_size p = sum_by (λ f. f.1) (layout p ++ dev_layout p)
@@ -97,7 +102,7 @@ pub record DataFits {A : Type 0} (v : Values A) (p : Defined A) : Type 0 where
 
 -- ---- records
 
--- the record can stand where this is known
+-- the record can be next where this is known
 abbrev pub Fits : {A : Type 0} → Environment A → Record A → Type 0
 Fits e (Define d) = DefinitionFits d
 Fits e (Data v) = IsSomeAnd (defined_at e v.local) (DataFits v)

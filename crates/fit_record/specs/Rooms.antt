@@ -29,7 +29,7 @@ has_length places n = list_any (λ place. has_length_at place n) places
 abbrev pub can_fill : {A : Type 0} → Environment A → ℕ → Bool
 can_fill e room = fills (has_length e.places) room
 
--- ---- behind a definition message that isn't whole
+-- ---- after an unfinished definition message
 
 -- data messages of another local message type have this length
 abbrev pub others_have : {A : Type 0} → Environment A → ℕ → ℕ → Bool

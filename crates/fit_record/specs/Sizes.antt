@@ -1,9 +1,13 @@
 -- How much a reader of records keeps.
-use Rattle.std.specs.Prelude.{◌≡◌, ℕ, ◌+◌, false, [], length, sum_by, IsSomeAnd}
+use Rattle.std.specs.Prelude.{◌≡◌, ℕ, ◌+◌, ◌*◌, false, [], length, sum_by, IsSomeAnd}
 use Rattle.std.specs.Option.{option_map_or}
 use Rattle.fit_record.specs.declared.definition.MessageDef.{MessageDef}
 use Rattle.fit_record.specs.Environment.{Environment, defined_at, dev_defs}
 use Rattle.fit_record.specs.HeaderByte.{is_definition, local_type}
+
+-- the most bytes after the record header of a data message: those of 255 fields and 255 developer fields, 255 bytes each
+abbrev pub body_limit : ℕ
+body_limit = 2 * 255 * 255
 
 -- no fields, and no developer fields
 abbrev pub HasNoFields : {A : Type 0} → MessageDef A → Type 0

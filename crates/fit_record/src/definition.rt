@@ -1,8 +1,10 @@
 //! Definition messages (FIT protocol, "Definition Message").
-ghost use Rattle.std.specs.Prelude.{◌≡◌, ◌<◌, ◌≤◌, IfOk, length, sum_by};
+ghost use Rattle.std.specs.Prelude.{◌≡◌, ◌<◌, ◌≤◌, IfOk, None, Some, length, sum_by};
+ghost use Rattle.fit_base.specs.BaseTypes.{base_type};
 ghost use Rattle.fit_record.specs.Records.{DefinitionFits, body_length};
+ghost use Rattle.fit_record.specs.Sizes.{body_limit};
 
-use fit_base::{Entries, Order};
+use fit_base::{Code, Entries, Order};
 use std::alloc::{AllocError, Allocator, Global};
 
 /// A field of a definition message: its number in the profile, its size in bytes, and its base type
@@ -14,6 +16,27 @@ pub struct FieldDef {
     pub code: u8,
 }
 
+impl FieldDef {
+    /// A field of this number, size in bytes and base type code.
+    pub fn new(number: u8, size: u8, code: u8) -> FieldDef
+        ensures { result ≡ record { number = number; size = size; code = code } }
+    {
+        FieldDef { number, size, code }
+    }
+
+    /// A field of one item of this base type.
+    pub fn one(number: u8, code: u8) -> FieldDef
+        ensures { result
+            ≡ record { number = number; size = (base_type code).width; code = code } }
+    {
+        FieldDef {
+            number,
+            size: Code(code).width(),
+            code,
+        }
+    }
+}
+
 /// A developer field of a definition message: its number, its size in bytes, and its developer data
 /// index.
 #[derive(Clone, Copy, Debug, PartialEq, Eq)]
@@ -21,6 +44,19 @@ pub struct DevDef {
     pub number: u8,
     pub size: u8,
     pub index: u8,
+}
+
+impl DevDef {
+    /// A developer field of this number, size in bytes and developer data index.
+    pub fn new(number: u8, size: u8, index: u8) -> DevDef
+        ensures { result ≡ record { number = number; size = size; index = index } }
+    {
+        DevDef {
+            number,
+            size,
+            index,
+        }
+    }
 }
 
 /// A definition message: what data messages of a local message type look like.
@@ -42,6 +78,39 @@ pub struct MessageDef<A: Allocator = Global> {
     pub dev: Option<Entries<DevDef, A>>,
 }
 
+impl<A: Allocator> MessageDef<A> {
+    /// A definition message without developer fields. Its reserved byte is 0.
+    pub fn new(local: u8, order: Order, global: u16, fields: Entries<FieldDef, A>) -> Self
+        ensures { result ≡ record {
+          local = local;
+          reserved = 0;
+          order = order;
+          global = global;
+          fields = fields;
+          dev = None;
+        } }
+    {
+        MessageDef {
+            local,
+            reserved: 0,
+            order,
+            global,
+            fields,
+            dev: None,
+        }
+    }
+
+    /// The same definition message with these developer fields.
+    pub fn with_dev(self, dev: Entries<DevDef, A>) -> Self
+        ensures { result ≡ record self { dev = Some dev } }
+    {
+        MessageDef {
+            dev: Some(dev),
+            ..self
+        }
+    }
+}
+
 /// The same definition, in memory of its own.
 pub(crate) fn definition_copy<A: Allocator + Copy>(
     alloc: A,
@@ -49,7 +118,7 @@ pub(crate) fn definition_copy<A: Allocator + Copy>(
 ) -> Result<MessageDef<A>, AllocError>
     ensures { IfOk result (λ copy. copy ≡ d.now) }
 {
-    let fields = copy_of(alloc, &d.fields)?;
+    let fields = Entries::from_slice(alloc, d.fields.as_slice())?;
     let dev = dev_copy(alloc, &d.dev)?;
     Ok(MessageDef {
         local: d.local,
@@ -59,16 +128,6 @@ pub(crate) fn definition_copy<A: Allocator + Copy>(
         fields,
         dev,
     })
-}
-
-/// The same elements, in memory of their own.
-fn copy_of<T: Copy, A: Allocator>(
-    alloc: A,
-    entries: &Entries<T, A>,
-) -> Result<Entries<T, A>, AllocError>
-    ensures { IfOk result (λ copy. copy ≡ entries.now) }
-{
-    Ok(Entries::from_vec(Vec::from_slice(alloc, entries.as_slice())?))
 }
 
 /// The same developer fields, in memory of their own.
@@ -81,7 +140,7 @@ fn dev_copy<A: Allocator>(
     match dev {
         None => Ok(None),
         Some(fields) => {
-            let fields = copy_of(alloc, fields)?;
+            let fields = Entries::from_slice(alloc, fields.as_slice())?;
             Ok(Some(fields))
         }
     }
@@ -91,7 +150,7 @@ fn dev_copy<A: Allocator>(
 pub fn body_length<A: Allocator>(d: &MessageDef<A>) -> u32
     requires { DefinitionFits d.now }
     ensures length { result ≡ body_length d.now }
-    ensures small { result ≤ 130050 }
+    ensures small { result ≤ body_limit }
 {
     let fields = sizes_of_fields(d.fields.as_slice());
     match &d.dev {

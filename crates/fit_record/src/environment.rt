@@ -2,9 +2,10 @@
 //! developer fields.
 ghost use Rattle.std.specs.Prelude.{◌≡◌, ◌+◌, ◌<◌, ◌≤◌, IfOk, IfErr, map, option_map, option_and_then, option_copied, slice_get, slice_set, IsOk, IsSomeAnd, OnOk, OnErr, IfSome, Some, None, [], length};
 ghost use Rattle.fit_record.specs.declared.message.Record.TheVariants.{Define};
-ghost use Rattle.fit_record.specs.Environment.{DescribesNothing, empty_environment, defined_at, describe, described_by, dev_code, dev_defs, learn};
+ghost use Rattle.fit_record.specs.Environment.{DescribesNothing, empty_environment, defined_at, definition_at, describe, described_by, dev_code, dev_code_at, dev_defs, learn};
 ghost use Rattle.fit_record.specs.Records.{Fits, DefinitionFits, DataFits, body_length, message_size, record_bytes};
 ghost use Rattle.fit_record.specs.Faults.{first_fault};
+ghost use Rattle.fit_record.specs.Sizes.{body_limit};
 ghost use Rattle.fit_record.specs.Sound.{IsSound};
 
 use crate::definition::{body_length, definition_copy};
@@ -12,6 +13,7 @@ use crate::fits::{data_fits, definition_fits};
 use crate::learn::{Description, DevKey, description_of};
 use crate::{DevDef, MessageDef, Record, ShapeFault, Values};
 use fit_base::Entries;
+use fit_base::base_type::BYTE;
 use std::alloc::{AllocError, Allocator, Global};
 use std::collections::BTreeMap;
 use std::marker::Model;
@@ -37,7 +39,7 @@ pub struct Env<A: Allocator = Global> {
 
 impl<A: Allocator> Model for Env<A> {
     ghost use Rattle.fit_record.specs.Environment.{Environment};
-    ghost use Rattle.fit_record.specs.Kept.{AreKept};
+    ghost use Rattle.fit_record.specs.inner.Kept.{AreKept};
 
     ghost Value = { Environment A };
 
@@ -75,7 +77,7 @@ impl<A: Allocator> Env<A> {
 
     /// The definition of a local message type. One of 16 or more has none.
     pub fn definition(&self, local: u8) -> Option<&MessageDef<A>>
-        ensures { option_copied result ≡ option_map (λ p. p.definition) (defined_at self.now local) }
+        ensures { option_copied result ≡ definition_at self.now local }
     {
         let place = self.places.get(local as usize)?;
         match place {
@@ -85,9 +87,9 @@ impl<A: Allocator> Env<A> {
     }
 
     /// The base type code of a developer field of a local message type: that of its last description
-    /// before the definition, or else 0x0D, byte. `place` counts from 0 among the developer fields.
+    /// before the definition, or else `BYTE`. `place` counts from 0 among the developer fields.
     pub fn dev_code(&self, local: u8, place: u8) -> Option<u8>
-        ensures { result ≡ option_and_then (λ p. slice_get p.dev_codes place) (defined_at self.now local) }
+        ensures { result ≡ dev_code_at self.now local place }
     {
         let defined = self.defined(local)?;
         byte_at(defined.dev_codes.as_slice(), place)
@@ -95,10 +97,11 @@ impl<A: Allocator> Env<A> {
 
     /// How many bytes follow the record header of a data message: the sum of the definition's sizes.
     pub fn length(&self, local: u8) -> Option<u32>
-        ensures length { result ≡ option_map (λ p. body_length p.definition) (defined_at self.now local) }
-        // So many bytes each data message of the type has.
+        ensures length { result
+            ≡ option_map (λ p. body_length p.definition) (defined_at self.now local) }
+        // Each data message of the type has that many bytes.
         ensures size { result ≡ option_map message_size (defined_at self.now local) }
-        ensures small { IfSome result (λ n. n ≤ 130050) }
+        ensures small { IfSome result (λ n. n ≤ body_limit) }
         ensures places { length self.now.places ≡ 16 }
     {
         let place = self.places.get(local as usize)?;
@@ -108,10 +111,11 @@ impl<A: Allocator> Env<A> {
         }
     }
 
-    /// The length of a record's bytes, or the first fault for which it can't stand here, in the order
-    /// of `ShapeFault`.
+    /// The length of a record's bytes, or the first fault for which it can't be next, in the order of
+    /// `ShapeFault`.
     pub fn fits(&self, r: &Record<A>) -> Result<u32, ShapeFault>
-        ensures ok { IfOk result (λ n. Fits self.now r.now × (n ≡ length (record_bytes self.now r.now))) }
+        ensures ok { IfOk result (λ n. Fits self.now r.now
+            × (n ≡ length (record_bytes self.now r.now))) }
         ensures refused { OnErr result (Fits self.now r.now → ⊥) }
         ensures err { IfErr result (λ fault. first_fault self.now r.now ≡ Some fault) }
     {
@@ -124,7 +128,8 @@ impl<A: Allocator> Env<A> {
 
 impl<A: Allocator + Copy> Env<A> {
     /// Takes a record in: a definition takes its place, and a field description sets the code of its
-    /// developer field. Where memory is refused, nothing changes. A data message that describes nothing takes none.
+    /// developer field. Where an allocation fails, nothing changes. A data message that describes
+    /// nothing takes no memory.
     pub fn learn(&mut self, r: &Record<A>) -> Result<(), AllocError>
         requires { Fits self.old r.now }
         ensures ok { OnOk result (self.new ≡ learn self.old r.now) }
@@ -140,7 +145,8 @@ impl<A: Allocator + Copy> Env<A> {
         }
     }
 
-    /// Takes a definition in, as `learn` does, and keeps its memory. More is taken for the codes of developer fields alone.
+    /// Takes a definition in, as `learn` does, and keeps its memory. More is taken only for the codes
+    /// of developer fields.
     pub fn define(&mut self, d: MessageDef<A>) -> Result<(), AllocError>
         requires { DefinitionFits d }
         ensures ok { OnOk result (self.new ≡ learn self.old (Define d)) }
@@ -200,7 +206,7 @@ impl<A: Allocator + Copy> Env<A> {
         };
         match self.described.get(&key) {
             Some(code) => *code,
-            None => 0x0D,
+            None => BYTE,
         }
     }
 
@@ -218,7 +224,8 @@ impl<A: Allocator + Copy> Env<A> {
 
     /// The code of each developer field of a definition.
     fn codes_for(&self, d: &MessageDef<A>) -> Result<Entries<u8, A>, AllocError>
-        ensures codes { IfOk result (λ codes. codes ≡ map (dev_code self.now) (dev_defs d.now.dev)) }
+        ensures codes { IfOk result (λ codes. codes
+            ≡ map (dev_code self.now) (dev_defs d.now.dev)) }
         ensures free { dev_defs d.now.dev ≡ [] → IsOk result }
     {
         match &d.dev {

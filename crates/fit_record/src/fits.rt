@@ -1,8 +1,9 @@
-//! Whether a record can stand where an environment is known, and how long its bytes are.
+//! Whether a record can be next in an environment, and how long its bytes are.
 ghost use Rattle.std.specs.Prelude.{◌≡◌, ℕ, ◌+◌, ◌<◌, ◌≤◌, IfOk, IfErr, OnOk, IfSome, Some, None, IsSomeAnd, length, map, zip};
 ghost use Rattle.fit_record.specs.Records.{DefinitionFits, DataHeaderFits, HaveShape, layout, dev_layout, DataFits, body_length};
 ghost use Rattle.fit_record.specs.Environment.{defined_at, dev_defs};
-ghost use Rattle.fit_record.specs.Faults.{wrong_from, wrong_place, header_fault, body_fault, data_fault, definition_fault, definition_length};
+ghost use Rattle.fit_record.specs.Faults.{wrong_from, wrong_place, header_fault, body_fault, data_fault, definition_fault};
+ghost use Rattle.fit_record.specs.inner.DefinitionLengths.{definition_length};
 ghost use Rattle.fit_record.specs.Sound.{IsSound};
 
 use crate::environment::Defined;
@@ -11,14 +12,14 @@ use fit_base::{Code, Items, has_shape};
 use std::alloc::Allocator;
 use thiserror::Error;
 
-/// Why a record can't stand where it is.
+/// Why a record can't be where it is.
 #[derive(Clone, Copy, PartialEq, Eq, Debug, Drop, Error)]
 pub enum ShapeFault {
     /// The local message type is 16 or more, or with a time offset 4 or more.
-    #[error("no such local message type")]
+    #[error("the local message type is 16 or more, or 4 or more with a time offset")]
     BadLocal,
     /// The time offset is 32 or more.
-    #[error("no such time offset")]
+    #[error("the time offset is 32 or more")]
     BadOffset,
     /// A data message of a local message type without a definition.
     #[error("the local message type isn't defined")]
@@ -141,7 +142,8 @@ fn wrong_dev<A: Allocator>(p: &Defined<A>, items: &[Items<A>]) -> Option<u64>
 /// Whether the items of a data message are as defined.
 fn body_fits<A: Allocator>(p: &Defined<A>, v: &Values<A>) -> Result<(), ShapeFault>
     requires { IsSound p.now }
-    ensures ok { OnOk result (HaveShape (layout p.now) v.now.fields × HaveShape (dev_layout p.now) v.now.dev) }
+    ensures ok { OnOk result (HaveShape (layout p.now) v.now.fields
+        × HaveShape (dev_layout p.now) v.now.dev) }
     ensures err { IfErr result (λ fault. body_fault (Some p.now) v.now ≡ Some fault) }
 {
     if let Some(field) = wrong_field(p.definition.fields.as_slice(), v.fields.as_slice()) {
@@ -155,7 +157,8 @@ fn body_fits<A: Allocator>(p: &Defined<A>, v: &Values<A>) -> Result<(), ShapeFau
 
 /// The length of a data message's bytes.
 pub(crate) fn data_fits<A: Allocator>(env: &Env<A>, v: &Values<A>) -> Result<u32, ShapeFault>
-    ensures ok { IfOk result (λ n. IsSomeAnd (defined_at env.now v.now.local) (λ p. DataFits v.now p × (n ≡ 1 + body_length p.definition) × IsSound p)) }
+    ensures ok { IfOk result (λ n. IsSomeAnd (defined_at env.now v.now.local) (λ p.
+        DataFits v.now p × (n ≡ 1 + body_length p.definition) × IsSound p)) }
     ensures err { IfErr result (λ fault. data_fault env.now v.now ≡ Some fault) }
 {
     header_fits(v.local, v.offset)?;

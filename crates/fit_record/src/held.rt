@@ -23,8 +23,8 @@ pub fn entry_count<A: Allocator>(d: &MessageDef<A>) -> u64
 }
 
 impl<A: Allocator> Env<A> {
-    /// How many entries are kept: the fields and developer fields of all definitions, and the described developer
-    /// fields.
+    /// How many entries are kept: the fields and developer fields of all definitions, and the
+    /// described developer fields.
     pub fn held(&self) -> u64
         ensures size { result ≡ environment_size self.now }
         ensures small { result < 2 ^ 63 + 8160 }
@@ -38,7 +38,8 @@ impl<A: Allocator> Env<A> {
 
     /// How many fields and developer fields the definition of a local message type has.
     fn entries_at(&self, local: u8) -> u64
-        ensures count { result ≡ option_map_or (λ p. entry_count p.definition) (defined_at self.now local) 0 }
+        ensures count { result
+            ≡ option_map_or (λ p. entry_count p.definition) (defined_at self.now local) 0 }
         ensures small { result ≤ 510 }
         ensures places { length self.now.places ≡ 16 }
     {

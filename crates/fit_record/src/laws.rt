@@ -31,7 +31,7 @@ pub fn environments_have_sixteen_places<A: Allocator>()
     ensures { HaveSixteenPlaces A }
 {}
 
-/// Which definition messages that aren't whole can be completed so that records fill the room.
+/// Which unfinished definition messages can be completed so that records fill the room.
 pub fn definitions_are_tested<A: Allocator>()
     ensures front { FrontsAreTested A }
     ensures fields { FieldsAreTested A }

@@ -15,7 +15,7 @@ mod unfinished;
 
 pub use definition::{DevDef, FieldDef, MessageDef, body_length};
 pub use environment::{Defined, Env};
-pub use file::FitFile;
+pub use file::{CHAIN_LIMIT, FitFile};
 pub use fits::ShapeFault;
 pub use held::entry_count;
 pub use message::{Record, Values};

@@ -1,4 +1,6 @@
 //! Data messages, and records (FIT protocol, "Data Message" and "Record Header").
+ghost use Rattle.std.specs.Prelude.{◌≡◌, [], None, Some};
+
 use crate::MessageDef;
 use fit_base::{Entries, Items};
 use std::alloc::{Allocator, Global};
@@ -14,6 +16,37 @@ pub struct Values<A: Allocator = Global> {
     pub offset: Option<u8>,
     pub fields: Entries<Items<A>, A>,
     pub dev: Entries<Items<A>, A>,
+}
+
+impl<A: Allocator> Values<A> {
+    /// A data message with a normal record header, and without developer fields.
+    pub fn new(alloc: A, local: u8, fields: Entries<Items<A>, A>) -> Self
+        ensures { result ≡ record { local = local; offset = None; fields = fields; dev = [] } }
+    {
+        Values {
+            local,
+            offset: None,
+            fields,
+            dev: Entries::new(alloc),
+        }
+    }
+
+    /// The same data message with a compressed timestamp header of this time offset, in seconds.
+    pub fn with_offset(self, offset: u8) -> Self
+        ensures { result ≡ record self { offset = Some offset } }
+    {
+        Values {
+            offset: Some(offset),
+            ..self
+        }
+    }
+
+    /// The same data message with these items of developer fields.
+    pub fn with_dev(self, dev: Entries<Items<A>, A>) -> Self
+        ensures { result ≡ record self { dev = dev } }
+    {
+        Values { dev, ..self }
+    }
 }
 
 /// A record: one message with its record header.

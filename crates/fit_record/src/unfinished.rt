@@ -1,4 +1,4 @@
-//! Whether a record that isn't whole can be completed so that records fill the room behind it.
+//! Whether an unfinished record can be completed so that records fill the room after it.
 ghost use Rattle.std.specs.Prelude.{◌≡◌, ◌<◌, length};
 ghost use Rattle.std.specs.declared.alloc.Global.{Global};
 ghost use Rattle.fit_record.specs.Environment.{Environment};
@@ -10,12 +10,12 @@ use crate::environment::Defined;
 use std::alloc::Allocator;
 
 impl<A: Allocator> Env<A> {
-    /// Whether records can fill the room behind a data message of this local message type, where
+    /// Whether records can fill the room after a data message of this local message type, where
     /// its record header has come and `room` is what is left of the data section then (section
     /// "Data Message"). No where the local message type isn't defined, and where the message is
     /// longer than the room.
     ///
-    /// Each of the message's bytes may be any, so the answer holds until its last one.
+    /// Each of the message's bytes may be any, so the result holds until its last one.
     pub fn can_carry(&self, local: u8, room: u32) -> bool
         ensures test { result ≡ can_carry self.now local room }
         ensures message { AnswersMessage self.now local room result }
@@ -26,7 +26,7 @@ impl<A: Allocator> Env<A> {
         }
     }
 
-    /// Whether a definition message can be completed so that records fill the room behind it, where
+    /// Whether a definition message can be completed so that records fill the room after it, where
     /// `to_come` bytes of its entries and nothing else are to come (section "Definition Message").
     /// `local` is its local message type, `size` the sum of the sizes that have come, and `room`
     /// what is left of the data section.
@@ -55,7 +55,7 @@ impl<A: Allocator> Env<A> {
         self.finishes(local, to_come, size, room - to_come)
     }
 
-    /// The same where the number of developer fields is to come behind these entries (section
+    /// The same where the number of developer fields is to come after these entries (section
     /// "Developer Fields"), and is chosen as suits the room.
     pub fn can_complete_dev(&self, local: u8, to_come: u32, size: u32, room: u32) -> bool
         requires { local < 16 }
@@ -84,7 +84,7 @@ impl<A: Allocator> Env<A> {
         self.can_fill_from(local, size, left - 3)
     }
 
-    /// Whether what is left behind a definition message can be filled.
+    /// Whether what is left after a definition message can be filled.
     fn finishes(&self, local: u8, to_come: u32, size: u32, left: u32) -> bool
         requires { local < 16 }
         ensures { result ≡ finishes self.now local to_come size left }
@@ -98,7 +98,7 @@ impl<A: Allocator> Env<A> {
 }
 
 /// Whether a definition message, with or without developer fields, can be completed so that records
-/// fill the room behind it, where `come` bytes after its record header have come and the number of
+/// fill the room after it, where `come` bytes after its record header have come and the number of
 /// its fields has not.
 pub fn can_complete_front(dev: bool, come: u32, room: u32) -> bool
     requires { come < 5 }

@@ -1,14 +1,14 @@
-pub mod Bound
-mod Shifts
-mod Lengths
+pub mod SixteenBits
+mod ShiftsOfSums
+mod PolynomialLengths
 mod KnownSums
 mod Division
-mod Added
-mod Entries
-mod Eights
-mod Chunks
-mod Power
-mod Turns
-mod Numbers
-mod Spelled
-mod Blocks
+mod RegisterOfAdded
+mod TableEntries
+mod EightBytes
+mod PiecesOfLists
+mod DivisorPower
+mod TurnsAreShifts
+mod BytesOfWords
+mod SpelledWords
+mod BlocksOfWords

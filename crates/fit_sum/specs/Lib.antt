@@ -1,3 +1,2 @@
 pub mod Checksum
-pub mod Register
-pub mod Words
+pub mod inner

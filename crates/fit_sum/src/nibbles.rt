@@ -1,6 +1,6 @@
 //! One byte, by the table of sixteen entries that the FIT protocol prints in its section "CRC".
 ghost use Rattle.std.specs.Prelude.{◌≡◌, ◌<◌, bit_xor};
-ghost use Rattle.fit_sum.specs.Register.{steps};
+ghost use Rattle.fit_sum.specs.inner.Register.{shifts};
 
 // Entry n is what four shifts leave of a register that holds n.
 static NIBBLES: [u16; 16] = [
@@ -10,14 +10,14 @@ static NIBBLES: [u16; 16] = [
 
 fn add_nibble(register: u16, nibble: u16) -> u16
     requires { nibble < 16 }
-    ensures { result ≡ steps 4 (bit_xor register nibble) }
+    ensures { result ≡ shifts 4 (bit_xor register nibble) }
 {
     (register >> 4) ^ NIBBLES[(register & 15) as usize] ^ NIBBLES[nibble as usize]
 }
 
 /// The register after one more byte, its low four bits first.
 pub(crate) fn add_byte(register: u16, byte: u8) -> u16
-    ensures { result ≡ steps 8 (bit_xor register byte) }
+    ensures { result ≡ shifts 8 (bit_xor register byte) }
 {
     let low = add_nibble(register, u16::from(byte % 16));
     add_nibble(low, u16::from(byte / 16))

@@ -1,13 +1,13 @@
 //! Eight bytes at once: the part that each of them has in the register, from a table of its own.
 ghost use Rattle.std.specs.Prelude.{◌≡◌, bit_xor};
-ghost use Rattle.fit_sum.specs.Register.{steps, run};
+ghost use Rattle.fit_sum.specs.inner.Register.{shifts, run};
 
 use crate::tables::{
     after_8, after_16, after_24, after_32, after_40, after_48, after_56, after_64,
 };
 
 fn add_one(register: u16, byte: u8) -> u16
-    ensures { result ≡ steps 8 (bit_xor register byte) }
+    ensures { result ≡ shifts 8 (bit_xor register byte) }
 {
     let low = (register % 256) as u8;
     (register >> 8) ^ after_8(low ^ byte)

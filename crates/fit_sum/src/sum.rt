@@ -1,7 +1,7 @@
 //! A running checksum, which contracts see as the bytes that were added to it.
 ghost use Rattle.std.specs.Prelude.{◌≡◌, ℕ, List, [], ◌∷◌, ◌++◌};
 ghost use Rattle.fit_sum.specs.Checksum.{checksum};
-ghost use Rattle.fit_sum.specs.Register.{IsSumOf};
+ghost use Rattle.fit_sum.specs.inner.Register.{IsSumOf};
 
 use crate::nibbles::add_byte;
 use crate::words::add_bytes;

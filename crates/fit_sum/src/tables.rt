@@ -1,60 +1,60 @@
 //! Tables of the register after many shifts. `TABLE_N[byte]` is what N shifts leave of a register
 //! that holds the byte, and `after_N` reads it.
 ghost use Rattle.std.specs.Prelude.{◌≡◌};
-ghost use Rattle.fit_sum.specs.Register.{steps};
+ghost use Rattle.fit_sum.specs.inner.Register.{shifts};
 
 #[inline]
 pub(crate) fn after_8(byte: u8) -> u16
-    ensures { result ≡ steps 8 byte }
+    ensures { result ≡ shifts 8 byte }
 {
     TABLE_8[byte as usize]
 }
 
 #[inline]
 pub(crate) fn after_16(byte: u8) -> u16
-    ensures { result ≡ steps 16 byte }
+    ensures { result ≡ shifts 16 byte }
 {
     TABLE_16[byte as usize]
 }
 
 #[inline]
 pub(crate) fn after_24(byte: u8) -> u16
-    ensures { result ≡ steps 24 byte }
+    ensures { result ≡ shifts 24 byte }
 {
     TABLE_24[byte as usize]
 }
 
 #[inline]
 pub(crate) fn after_32(byte: u8) -> u16
-    ensures { result ≡ steps 32 byte }
+    ensures { result ≡ shifts 32 byte }
 {
     TABLE_32[byte as usize]
 }
 
 #[inline]
 pub(crate) fn after_40(byte: u8) -> u16
-    ensures { result ≡ steps 40 byte }
+    ensures { result ≡ shifts 40 byte }
 {
     TABLE_40[byte as usize]
 }
 
 #[inline]
 pub(crate) fn after_48(byte: u8) -> u16
-    ensures { result ≡ steps 48 byte }
+    ensures { result ≡ shifts 48 byte }
 {
     TABLE_48[byte as usize]
 }
 
 #[inline]
 pub(crate) fn after_56(byte: u8) -> u16
-    ensures { result ≡ steps 56 byte }
+    ensures { result ≡ shifts 56 byte }
 {
     TABLE_56[byte as usize]
 }
 
 #[inline]
 pub(crate) fn after_64(byte: u8) -> u16
-    ensures { result ≡ steps 64 byte }
+    ensures { result ≡ shifts 64 byte }
 {
     TABLE_64[byte as usize]
 }

@@ -5,8 +5,8 @@
 //! word that is shifted out goes into three places, and no table is needed.
 ghost use Rattle.std.specs.Prelude.{◌≡◌, ◌<◌, ◌++◌, ◌*◌, take, drop};
 ghost use Rattle.std.specs.List.{concat};
-ghost use Rattle.fit_sum.specs.Register.{run, IsBytes};
-ghost use Rattle.fit_sum.specs.Words.{number, turns, words_from, mix, spelled};
+ghost use Rattle.fit_sum.specs.inner.Register.{run, AllBytes};
+ghost use Rattle.fit_sum.specs.inner.Words.{bytes_number, turns, words_from, mix, spelled};
 
 use crate::slices::{add_by_eights, add_eight};
 
@@ -14,7 +14,7 @@ use crate::slices::{add_by_eights, add_eight};
 #[inline]
 fn word(block: &[u8; 128], at: usize) -> u64
     requires { at < 16 }
-    ensures { result ≡ number (take 8 (drop (8 * at) block.now)) }
+    ensures { result ≡ bytes_number (take 8 (drop (8 * at) block.now)) }
 {
     let i = 8 * at;
     u64::from_le_bytes([
@@ -33,7 +33,7 @@ fn word(block: &[u8; 128], at: usize) -> u64
 #[inline]
 fn mixed(register: &[u64; 16], block: &[u8; 128]) -> [u64; 16]
     ensures sums { result ≡ mix register.now (words_from 0 16 block.now) }
-    ensures bytes { IsBytes block.now }
+    ensures bytes { AllBytes block.now }
 {
     [
         register[0] ^ word(block, 0),

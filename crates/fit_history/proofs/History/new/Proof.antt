@@ -68,7 +68,8 @@ module _ (T : RattleType) where
         sets ! (agg ! (no_more !)) refl (tt, tt) $
         sets ! (agg ! (and_then ! (get ! refl) (no_more !))) refl (tt, (tt, tt)) $
         returns ! (look_at ! 0 refl) $ free_all ! refl $
-        pure_i ! ((C.the_row (param 0 T)).own_val empty (history ∷ [])) ((λ vss. (tt, ((λ uss. (tt, tt)), tt))), tt) (((marker ∷ [], tt), (refl, ((tt, (refl, tt)), tt))), tt) $
+        pure_i ! ((C.the_row (param 0 T)).own_val empty (history ∷ [])) ((λ vss. (tt, ((λ uss. (tt, tt)), tt))), tt)
+        (((marker ∷ [], tt), (refl, ((tt, (refl, tt)), tt))), tt) $
         suffices ! _ (ends_at 𝓛 ended tt held ((κs, qs, bounds, a, tt), g) history empty tt tt) $ says ! refl $
         nothing ! $ move ! (2 ∷ 0 ∷ 1 ∷ []) $ done !)))
 

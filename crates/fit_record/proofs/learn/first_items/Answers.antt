@@ -1,6 +1,6 @@
 use Rattle.std.proofs.Common.{◌∙◌, ne_eqb}
 use Rattle.std.proofs.lemmas.Option.{slice_get-get_or}
-use Rattle.fit_record.proofs.Firsts.{after_other}
+use Rattle.fit_record.proofs.FirstOfNumber.{after_other}
 use Rattle.fit_record.proofs.learn.first_items.Goals as goal
 
 pub loop-place-preserved : goal.loop-place-preserved

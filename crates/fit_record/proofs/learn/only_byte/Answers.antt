@@ -1,5 +1,5 @@
 use Rattle.std.proofs.Common.{◌<◌, get_or, sym, ◌∙◌, arith}
-use Rattle.fit_record.proofs.Firsts.{first_below, one_of}
+use Rattle.fit_record.proofs.FirstOfNumber.{first_below, one_of}
 use Rattle.fit_record.proofs.learn.only_byte.Goals as goal
 
 pub overflow_cast-result : goal.overflow_cast-result

@@ -1,4 +1,4 @@
-use Rattle.fit_record.proofs.RoomAnswers.{front_answered}
+use Rattle.fit_record.proofs.RoomTestsAnswer.{front_answered}
 use Rattle.fit_record.proofs.unfinished.can_complete_front.Goals as goal
 
 pub returns-clause-front : goal.returns-clause-front

@@ -1,5 +1,5 @@
 use Rattle.std.proofs.Common.{rules}
-use Rattle.fit_sum.proofs.Entries.{byte-nibbles}
+use Rattle.fit_sum.proofs.TableEntries.{byte-nibbles}
 use Rattle.fit_sum.proofs.nibbles.add_byte.Goals as goal
 
 pub returns : goal.returns

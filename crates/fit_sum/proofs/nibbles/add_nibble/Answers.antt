@@ -1,4 +1,4 @@
-use Rattle.fit_sum.proofs.Entries.{nibble-step}
+use Rattle.fit_sum.proofs.TableEntries.{nibble-step}
 use Rattle.fit_sum.proofs.nibbles.add_nibble.Goals as goal
 
 pub returns : goal.returns

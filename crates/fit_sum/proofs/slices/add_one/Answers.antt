@@ -1,5 +1,5 @@
 use Rattle.std.proofs.Common.{rules}
-use Rattle.fit_sum.proofs.Entries.{byte-step}
+use Rattle.fit_sum.proofs.TableEntries.{byte-step}
 use Rattle.fit_sum.proofs.slices.add_one.Goals as goal
 
 pub returns : goal.returns

@@ -1,10 +1,10 @@
 use Rattle.std.proofs.Common.{◌≡◌, [], ◌++◌, get_or, take, ap, sym, ◌∙◌, rules}
 use Rattle.std.specs.List.{concat}
 use Rattle.std.proofs.lemmas.List.{take_all}
-use Rattle.fit_sum.specs.Register.{run}
-use Rattle.fit_sum.specs.Words.{spelled}
-use Rattle.fit_sum.proofs.Blocks.{keeps-none, keeps-block, keeps-last}
-use Rattle.fit_sum.proofs.Chunks.{concat-turn}
+use Rattle.fit_sum.specs.inner.Register.{run}
+use Rattle.fit_sum.specs.inner.Words.{spelled}
+use Rattle.fit_sum.proofs.BlocksOfWords.{keeps-none, keeps-block, keeps-last}
+use Rattle.fit_sum.proofs.PiecesOfLists.{concat-turn}
 use Rattle.fit_sum.proofs.words.add_blocks.Goals as goal
 
 pub loop-block-init : goal.loop-block-init
@@ -16,7 +16,8 @@ loop-block-preserved c =
     let i = c.loop-block.block-index in
     let within = c.loop-block-test.true in
     rw (c.shifted-words.ensures, c.mixed.ensures.sums, concat-turn front i within)
-    (keeps-block c.args.register (concat (take i front)) (get_or front i []) c.loop-block.words c.mixed.ensures.bytes (c.told-front i within) c.loop-block.invariant)
+    (keeps-block c.args.register (concat (take i front)) (get_or front i []) c.loop-block.words c.mixed.ensures.bytes (c.told-front i within)
+    c.loop-block.invariant)
 
 pub returns : goal.returns
 returns c =

@@ -1,6 +1,6 @@
 use Rattle.std.proofs.Common.{take}
 use Rattle.std.specs.List.{concat}
-use Rattle.fit_sum.proofs.Blocks.{Keeps}
+use Rattle.fit_sum.proofs.BlocksOfWords.{Keeps}
 use Rattle.fit_sum.proofs.words.add_blocks.Given as goal
 
 abbrev pub invariant-loop-block : goal.invariant-loop-block

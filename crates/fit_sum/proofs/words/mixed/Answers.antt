@@ -1,7 +1,7 @@
 use Rattle.std.proofs.Common.{ap, sym}
-use Rattle.fit_sum.specs.Words.{mix, words_from}
-use Rattle.fit_sum.proofs.Added.{IsBytes-below}
-use Rattle.fit_sum.proofs.Turns.{sixteen}
+use Rattle.fit_sum.specs.inner.Words.{mix, words_from}
+use Rattle.fit_sum.proofs.RegisterOfAdded.{IsBytes-below}
+use Rattle.fit_sum.proofs.TurnsAreShifts.{sixteen}
 use Rattle.fit_sum.proofs.words.mixed.Goals as goal
 
 pub returns-clause-bytes : goal.returns-clause-bytes

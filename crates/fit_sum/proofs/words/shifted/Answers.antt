@@ -1,6 +1,6 @@
 use Rattle.std.proofs.Common.{ap, sym}
-use Rattle.fit_sum.specs.Words.{xor_into, turn, turns}
-use Rattle.fit_sum.proofs.Turns.{sixteen}
+use Rattle.fit_sum.specs.inner.Words.{xor_into, turn, turns}
+use Rattle.fit_sum.proofs.TurnsAreShifts.{sixteen}
 use Rattle.fit_sum.proofs.words.shifted.Goals as goal
 
 pub returns : goal.returns

@@ -1,10 +1,10 @@
 use Rattle.std.proofs.Common.{◌≡◌, Some, lit<, sym, ap, ◌∙◌, subst}
 use Rattle.fit_frame.specs.declared.reason.Reason.{Reason}
 use Rattle.fit_frame.specs.Beginning.{Seen, IsWholeHeader, RefusesByte, header_reason}
-use Rattle.fit_frame.specs.Judgement.{MayFollow, HasItsSize, IsReading, ReadsAs}
-use Rattle.fit_frame.proofs.Whole.{whole}
-use Rattle.fit_frame.proofs.Judged.{has_its_size}
-use Rattle.fit_frame.proofs.Continued.{begins, one_more, room, refused}
+use Rattle.fit_frame.specs.inner.Judgement.{MayFollow, HasItsSize, IsReading, ReadsAs}
+use Rattle.fit_frame.proofs.JudgedBytesAreHeaders.{whole}
+use Rattle.fit_frame.proofs.HeadersAreJudged.{has_its_size}
+use Rattle.fit_frame.proofs.JudgedBytesBegin.{begins, one_more, room, refused}
 use Rattle.fit_frame.proofs.reader.HeadReader.put.Goals as goal
 
 pub returns-then-not-may_follow-clause-refused : goal.returns-then-not-may_follow-clause-refused
@@ -13,7 +13,8 @@ returns-then-not-may_follow-clause-refused c = rw (← c.self.view_is) (λ reaso
     let bytes = c.self.inside.bytes.items in
     let fails : MayFollow bytes c.args.byte → ⊥ = λ m. cc (c.may_follow.ensures.1 (subst (λ x. MayFollow x c.args.byte) (sym c.as_slice.ensures.value) m)) in (
       ap (λ (r : Reason). record { bytes = bytes; refusal = Some r }) is,
-      subst (RefusesByte bytes c.args.byte) (ap header_reason (sym c.len.ensures.value) ∙ sym c.reason_at-reason.ensures ∙ is) (refused bytes c.args.byte c.self.invariant fails),
+      subst (RefusesByte bytes c.args.byte) (ap header_reason (sym c.len.ensures.value) ∙ sym c.reason_at-reason.ensures ∙ is)
+          (refused bytes c.args.byte c.self.invariant fails),
     ))
 
 pub push-requires : goal.push-requires
@@ -24,19 +25,22 @@ push-requires c =
 pub invariant_of-self-then-not-has_its_size : goal.invariant_of-self-then-not-has_its_size
 invariant_of-self-then-not-has_its_size c =
     let fresh : IsWholeHeader c.self.inside.bytes.items → ⊥ = λ w. c.requires (subst IsWholeHeader (ap (λ (s : Seen). s.bytes) c.self.view_is) w) in
-    let follows : MayFollow c.self.inside.bytes.items c.args.byte = subst (λ x. MayFollow x c.args.byte) c.as_slice.ensures.value (c.may_follow.ensures.0 c.if-not-may_follow.false) in
+    let follows : MayFollow c.self.inside.bytes.items c.args.byte =
+    subst (λ x. MayFollow x c.args.byte) c.as_slice.ensures.value (c.may_follow.ensures.0 c.if-not-may_follow.false) in
     subst IsReading (sym c.push.ensures.items) (one_more c.self.inside.bytes.items c.args.byte c.self.invariant fresh c.ranges.byte.fits follows)
 
 pub returns-then-not-has_its_size-clause-none : goal.returns-then-not-has_its_size-clause-none
 returns-then-not-has_its_size-clause-none c = λ e.
     let reading = invariant_of-self-then-not-has_its_size c in
-    let fails : IsWholeHeader c.push.new.self.items → ⊥ = λ w. cc (c.has_its_size.ensures.1 (subst HasItsSize (sym c.as_slice-2.ensures.value) (has_its_size c.push.new.self.items w))) in
+    let fails : IsWholeHeader c.push.new.self.items → ⊥ =
+    λ w. cc (c.has_its_size.ensures.1 (subst HasItsSize (sym c.as_slice-2.ensures.value) (has_its_size c.push.new.self.items w))) in
     (begins c.push.new.self.items reading, fails)
 
 pub invariant_of-self-2 : goal.invariant_of-self-2
 invariant_of-self-2 c =
     let fresh : IsWholeHeader c.self.inside.bytes.items → ⊥ = λ w. c.requires (subst IsWholeHeader (ap (λ (s : Seen). s.bytes) c.self.view_is) w) in
-    let follows : MayFollow c.self.inside.bytes.items c.args.byte = subst (λ x. MayFollow x c.args.byte) c.as_slice.ensures.value (c.may_follow.ensures.0 c.if-not-may_follow.false) in
+    let follows : MayFollow c.self.inside.bytes.items c.args.byte =
+    subst (λ x. MayFollow x c.args.byte) c.as_slice.ensures.value (c.may_follow.ensures.0 c.if-not-may_follow.false) in
     subst IsReading (sym c.push.ensures.items) (one_more c.self.inside.bytes.items c.args.byte c.self.invariant fresh c.ranges.byte.fits follows)
 
 pub returns-clause-some : goal.returns-clause-some
@@ -44,7 +48,9 @@ returns-clause-some c = λ h n e.
     let reading = invariant_of-self-2 c in
     let bytes = c.push.new.self.items in
     let size : HasItsSize bytes = subst HasItsSize c.as_slice-2.ensures.value (c.has_its_size.ensures.0 c.if-not-has_its_size.false) in
-    let reads : ReadsAs c.header_of.result.0 c.header_of.result.1 bytes = subst (ReadsAs c.header_of.result.0 c.header_of.result.1) c.as_slice-3.ensures.value c.header_of.ensures in
+    let reads : ReadsAs c.header_of.result.0 c.header_of.result.1 bytes =
+    subst (ReadsAs c.header_of.result.0 c.header_of.result.1) c.as_slice-3.ensures.value c.header_of.ensures in
     let is_header : c.header_of.result.0 ≡ h = cc in
     let is_size : c.header_of.result.1 ≡ n = cc in
-    whole h n bytes reading.judged reading.are_bytes size (subst (λ x. ReadsAs h x bytes) is_size (subst (λ x. ReadsAs x c.header_of.result.1 bytes) is_header reads))
+    whole h n bytes reading.judged reading.are_bytes size
+    (subst (λ x. ReadsAs h x bytes) is_size (subst (λ x. ReadsAs x c.header_of.result.1 bytes) is_header reads))

@@ -1,6 +1,6 @@
 use Rattle.std.proofs.Common.{◌∙◌, arith, None, Some}
 use Rattle.fit_record.proofs.CarriedMessages.{carried_by_size, behind_it, too_long}
-use Rattle.fit_record.proofs.RoomAnswers.{message_answered}
+use Rattle.fit_record.proofs.RoomTestsAnswer.{message_answered}
 use Rattle.fit_record.proofs.environment.Env.can_carry.Goals as goal
 
 pub returns-then-size-room-clause-test : goal.returns-then-size-room-clause-test
@@ -18,10 +18,12 @@ pub returns-in-None-clause-test : goal.returns-in-None-clause-test
 returns-in-None-clause-test g c = carried_by_size c.args.self.now c.args.local c.args.room None c.in-None.ensures.size
 
 pub returns-then-size-room-clause-message : goal.returns-then-size-room-clause-message
-returns-then-size-room-clause-message g c = message_answered c.args.self.now c.args.local c.args.room _ c.length.ensures.places (returns-then-size-room-clause-test g c)
+returns-then-size-room-clause-message g c =
+    message_answered c.args.self.now c.args.local c.args.room _ c.length.ensures.places (returns-then-size-room-clause-test g c)
 
 pub returns-else-size-room-clause-message : goal.returns-else-size-room-clause-message
-returns-else-size-room-clause-message g c = message_answered c.args.self.now c.args.local c.args.room _ c.length.ensures.places (returns-else-size-room-clause-test g c)
+returns-else-size-room-clause-message g c =
+    message_answered c.args.self.now c.args.local c.args.room _ c.length.ensures.places (returns-else-size-room-clause-test g c)
 
 pub returns-in-None-clause-message : goal.returns-in-None-clause-message
 returns-in-None-clause-message g c = message_answered c.args.self.now c.args.local c.args.room _ c.length.ensures.places (returns-in-None-clause-test g c)

@@ -1,5 +1,5 @@
 use Rattle.std.proofs.Common.{rules, ◌≡◌, length}
-use Rattle.fit_record.proofs.RoomAnswers.{fields_answered, dev_fields_answered}
+use Rattle.fit_record.proofs.RoomTestsAnswer.{fields_answered, dev_fields_answered}
 use Rattle.fit_record.proofs.environment.Env.can_complete.Goals as goal
 
 pub returns-clause-fields : goal.returns-clause-fields

@@ -1,5 +1,5 @@
 use Rattle.std.proofs.Common.{rules, ◌≡◌, length}
-use Rattle.fit_record.proofs.RoomAnswers.{dev_number_answered}
+use Rattle.fit_record.proofs.RoomTestsAnswer.{dev_number_answered}
 use Rattle.fit_record.proofs.environment.Env.can_complete_dev.Goals as goal
 
 pub returns-clause-dev_number : goal.returns-clause-dev_number

@@ -15,5 +15,6 @@ pub returns : goal.returns
 returns g c =
     let computed = c.is_filled.ensures ∙ fills_same (has_length c.args.self.now.places)
     (λ n. get_or (false ∷ c.has_length.result ∷ c.has_length-2.result ∷ c.has_length-3.result ∷ c.has_length-4.result ∷ c.has_length-5.result ∷ []) n false)
-    c.has_length.ensures.value c.has_length-2.ensures.value c.has_length-3.ensures.value c.has_length-4.ensures.value c.has_length-5.ensures.value c.args.room in
+    c.has_length.ensures.value c.has_length-2.ensures.value c.has_length-3.ensures.value c.has_length-4.ensures.value c.has_length-5.ensures.value c.args.room
+    in
     subst (λ b. IsTrue b ↔ CanFill c.args.self.now c.args.room) (sym computed) (can_fill_is c.args.self.now c.args.room c.has_length.ensures.places)

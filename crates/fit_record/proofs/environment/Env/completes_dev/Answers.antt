@@ -8,4 +8,5 @@ returns-then-left-lt3 g c =
 
 pub returns : goal.returns
 returns g c =
-    with_one c.args.self.now c.args.local c.args.to_come c.args.size c.args.room (omega arith) (sym c.finishes.ensures ∙ c.if-finishes.false) c.can_fill_from.result (omega arith) c.can_fill_from.ensures
+    with_one c.args.self.now c.args.local c.args.to_come c.args.size c.args.room (omega arith) (sym c.finishes.ensures ∙ c.if-finishes.false)
+    c.can_fill_from.result (omega arith) c.can_fill_from.ensures

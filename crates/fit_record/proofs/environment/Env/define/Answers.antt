@@ -1,8 +1,8 @@
 use Rattle.std.proofs.Common.{◌≡◌, length, set, sym, ap, ◌∙◌, subst, arith}
 use Rattle.std.proofs.lemmas.List.{length-map}
 use Rattle.fit_record.specs.Environment.{dev_code, dev_defs}
-use Rattle.fit_record.specs.Kept.{IsKept, AreKept}
-use Rattle.fit_record.proofs.KeptFacts.{kept_set}
+use Rattle.fit_record.specs.inner.Kept.{IsKept, AreKept}
+use Rattle.fit_record.proofs.KeptInPlaces.{kept_set}
 use Rattle.fit_record.proofs.environment.Env.define.Goals as goal
 
 pub invariant_of-self : goal.invariant_of-self
@@ -11,8 +11,14 @@ invariant_of-self g c =
     let n = c.body_length-length.result in
     let as_long : length c.self.inside.places ≡ length c.self.inside.lengths = omega (arith, c.set_place.ensures.length) in
     let kept : IsKept (record { definition = d; dev_codes = c.in_ok-dev_codes.dev_codes }) n = record {
-      sound = record { fields = c.requires.fields; dev_fields = c.requires.dev_fields; codes = ap length c.in_ok-dev_codes.ensures.codes ∙ length-map (dev_defs d.dev) (dev_code c.args.self.now) };
+      sound = record {
+        fields = c.requires.fields;
+        dev_fields = c.requires.dev_fields;
+        codes =
+            ap length c.in_ok-dev_codes.ensures.codes ∙ length-map (dev_defs d.dev) (dev_code c.args.self.now);
+      };
       total = c.body_length-length.ensures.length;
       small = c.body_length-length.ensures.small;
     } in
-    subst (λ places. AreKept places (set c.self.inside.lengths d.local n)) (sym c.set_place.ensures.place) (kept_set c.self.inside.places c.self.inside.lengths d.local _ n as_long c.self.invariant kept)
+    subst (λ places. AreKept places (set c.self.inside.lengths d.local n)) (sym c.set_place.ensures.place)
+    (kept_set c.self.inside.places c.self.inside.lengths d.local _ n as_long c.self.invariant kept)

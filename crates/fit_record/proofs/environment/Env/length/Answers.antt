@@ -2,7 +2,8 @@ use Rattle.std.proofs.Common.{get_or, sym, ap, ◌∙◌, subst, Some, None}
 use Rattle.std.specs.Prelude.{option_map}
 use Rattle.std.proofs.lemmas.Option.{get_or_from_slice_get}
 use Rattle.fit_record.specs.Environment.{defined_at}
-use Rattle.fit_record.specs.Kept.{MayBeKept, body_length}
+use Rattle.fit_record.specs.inner.Kept.{MayBeKept}
+use Rattle.fit_record.specs.Records.{body_length}
 use Rattle.fit_record.proofs.WrongPlace.{found}
 use Rattle.fit_record.specs.Records.{message_size}
 use Rattle.fit_record.proofs.MessageSizes.{kept_size}
@@ -10,16 +11,19 @@ use Rattle.fit_record.proofs.environment.Env.length.Goals as goal
 
 pub returns-in-Some-clause-length : goal.returns-in-Some-clause-length
 returns-in-Some-clause-length g c =
-    let at = get_or_from_slice_get c.self.inside.places c.args.local _ None (found c.self.inside.places c.args.local _ c.in_ok-place.ensures.lookup.0 c.in_ok-place.ensures.lookup.1) ∙ c.in-Some.is in
+    let at = get_or_from_slice_get c.self.inside.places c.args.local _ None
+    (found c.self.inside.places c.args.local _ c.in_ok-place.ensures.lookup.0 c.in_ok-place.ensures.lookup.1) ∙ c.in-Some.is in
     let kept = subst (λ p. MayBeKept p (get_or c.self.inside.lengths c.args.local 0)) at (c.self.invariant c.args.local) in
     ap Some kept.total ∙ ap (option_map (λ p. body_length p.definition)) (sym at ∙ ap (λ e. defined_at e c.args.local) c.self.view_is)
 
 pub returns-in-Some-clause-small : goal.returns-in-Some-clause-small
 returns-in-Some-clause-small g c =
-    let at = get_or_from_slice_get c.self.inside.places c.args.local _ None (found c.self.inside.places c.args.local _ c.in_ok-place.ensures.lookup.0 c.in_ok-place.ensures.lookup.1) ∙ c.in-Some.is in
+    let at = get_or_from_slice_get c.self.inside.places c.args.local _ None
+    (found c.self.inside.places c.args.local _ c.in_ok-place.ensures.lookup.0 c.in_ok-place.ensures.lookup.1) ∙ c.in-Some.is in
     (subst (λ p. MayBeKept p (get_or c.self.inside.lengths c.args.local 0)) at (c.self.invariant c.args.local)).small
 
 pub returns-in-Some-clause-size : goal.returns-in-Some-clause-size
 returns-in-Some-clause-size g c =
-    let at = get_or_from_slice_get c.self.inside.places c.args.local _ None (found c.self.inside.places c.args.local _ c.in_ok-place.ensures.lookup.0 c.in_ok-place.ensures.lookup.1) ∙ c.in-Some.is in
+    let at = get_or_from_slice_get c.self.inside.places c.args.local _ None
+    (found c.self.inside.places c.args.local _ c.in_ok-place.ensures.lookup.0 c.in_ok-place.ensures.lookup.1) ∙ c.in-Some.is in
     kept_size _ _ _ at (c.self.invariant c.args.local) ∙ ap (λ e. option_map message_size (defined_at e c.args.local)) c.self.view_is

@@ -1,4 +1,4 @@
-use Rattle.fit_record.proofs.KeptFacts.{kept_none}
+use Rattle.fit_record.proofs.KeptInPlaces.{kept_none}
 use Rattle.fit_record.proofs.environment.Env.new.Goals as goal
 
 pub invariant_of-result : goal.invariant_of-result

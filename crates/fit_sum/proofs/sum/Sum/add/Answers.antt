@@ -1,5 +1,5 @@
 use Rattle.std.proofs.Common.{rules}
-use Rattle.fit_sum.proofs.Added.{IsSumOf-one}
+use Rattle.fit_sum.proofs.RegisterOfAdded.{IsSumOf-one}
 use Rattle.fit_sum.proofs.sum.Sum.add.Goals as goal
 
 pub invariant_of-self : goal.invariant_of-self

@@ -1,4 +1,4 @@
-use Rattle.fit_sum.proofs.Added.{IsSumOf-none}
+use Rattle.fit_sum.proofs.RegisterOfAdded.{IsSumOf-none}
 use Rattle.fit_sum.proofs.sum.Sum.new.Goals as goal
 
 pub invariant_of-result : goal.invariant_of-result

@@ -1,0 +1,37 @@
+-- A list cut into pieces of one length, and loops over bytes and pieces.
+use Rattle.std.proofs.Common.{◌≡◌, ℕ, zero, suc, ◌+◌, ◌*◌, ◌<◌, List, [], ◌∷◌, ◌++◌, length, take, drop, get_or, refl, ap, ◌∙◌, arith, add-one, append_assoc}
+use Rattle.std.proofs.Common.{drop-drop}
+use Rattle.std.specs.Int.Bits.{bit_xor}
+use Rattle.std.specs.List.{concat}
+use Rattle.std.specs.Simd.{first_chunks}
+use Rattle.std.proofs.Math.Seq.{take-suc}
+use Rattle.std.proofs.lemmas.List.{take-append-drop, append-nil}
+use Rattle.std.proofs.lemmas.List.Folds.{concat-append}
+use Rattle.fit_sum.specs.inner.Register.{shifts, run}
+use Rattle.fit_sum.proofs.Division.{run-append}
+
+pub chunks-whole : (n k : ℕ) (xs : List ℕ) → concat (first_chunks n k xs) ++ drop (k * n) xs ≡ xs
+chunks-whole n zero xs = let e : 0 * n ≡ 0 = omega arith in rw e refl
+chunks-whole n (suc k) xs =
+    let count : suc k * n ≡ n + k * n = grind arith in
+    rw (count, append_assoc, ← drop-drop)
+    (ap (λ t. take n xs ++ t) (chunks-whole n k (drop n xs)) ∙ take-append-drop n xs)
+
+pub concat-turn : (xss : List (List ℕ)) (i : ℕ) → i < length xss → concat (take (i + 1) xss) ≡ concat (take i xss) ++ get_or xss i []
+concat-turn xss i h = rw (add-one, take-suc xss i [] h)
+    (concat-append (take i xss) (get_or xss i [] ∷ []) ∙ ap (λ t. concat (take i xss) ++ t) (append-nil (get_or xss i [])))
+
+pub run-none : (register : ℕ) → run register [] ≡ register
+unfolding run
+run-none register = refl
+
+-- one byte more
+pub run-byte : (register : ℕ) (bytes : List ℕ) (i : ℕ) → i < length bytes
+    → run register (take (i + 1) bytes) ≡ shifts 8 (bit_xor (run register (take i bytes)) (get_or bytes i 0))
+unfolding run
+run-byte register bytes i h = rw (add-one, take-suc bytes i 0 h) (run-append register (take i bytes) (get_or bytes i 0 ∷ []))
+
+-- one piece more
+pub run-piece : (register : ℕ) (xss : List (List ℕ)) (i : ℕ) → i < length xss
+    → run register (concat (take (i + 1) xss)) ≡ run (run register (concat (take i xss))) (get_or xss i [])
+run-piece register xss i h = ap (run register) (concat-turn xss i h) ∙ run-append register (concat (take i xss)) (get_or xss i [])

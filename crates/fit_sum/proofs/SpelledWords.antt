@@ -1,0 +1,53 @@
+-- Words spelled as bytes.
+use Rattle.std.proofs.Common.{◌≡◌, ℕ, ◌+◌, ◌*◌, ◌^◌, ◌<◌, List, [], ◌∷◌, ◌++◌, length, take, get_or, refl, ap, sym, ◌∙◌, arith, add-one, append_assoc}
+use Rattle.std.specs.Int.{to_le_bytes, w64}
+use Rattle.std.proofs.Math.Seq.{take-suc}
+use Rattle.std.proofs.lemmas.Nat.{from_le_bytes-to_le_bytes_8}
+use Rattle.std.proofs.lemmas.List.{append-nil}
+use Rattle.fit_sum.specs.inner.Register.{run, AllBytes}
+use Rattle.fit_sum.specs.inner.Words.{bytes_number, spelled}
+use Rattle.fit_sum.proofs.Division.{run-append}
+use Rattle.fit_sum.proofs.RegisterOfAdded.{IsBytes-append}
+use Rattle.fit_sum.proofs.TurnsAreShifts.{IsWords, joined}
+use Rattle.fit_sum.proofs.BytesOfWords.{number-none, number-eight, number-append}
+
+number-word : (w : ℕ) → w < 2 ^ 64 → bytes_number (to_le_bytes w64 w) ≡ w
+number-word w h = number-eight _ _ _ _ _ _ _ _ ∙ from_le_bytes-to_le_bytes_8 w h
+
+IsBytes-word : (w : ℕ) → AllBytes (to_le_bytes w64 w)
+IsBytes-word w = (omega arith, (omega arith, (omega arith, (omega arith, (omega arith, (omega arith, (omega arith, (omega arith, tt))))))))
+
+pub IsBytes-spelled : (words : List ℕ) → AllBytes (spelled words)
+unfolding spelled
+IsBytes-spelled [] = tt
+IsBytes-spelled (w ∷ words) = IsBytes-append (to_le_bytes w64 w) (spelled words) (IsBytes-word w) (IsBytes-spelled words)
+
+pub length-spelled : (words : List ℕ) → length (spelled words) ≡ 8 * length words
+unfolding spelled
+length-spelled [] = refl
+length-spelled (w ∷ words) = omega (arith, length-spelled words)
+
+pub number-spelled : (words : List ℕ) → IsWords words → bytes_number (spelled words) ≡ joined words
+unfolding spelled joined
+number-spelled [] h = number-none
+number-spelled (w ∷ words) h =
+    number-append (to_le_bytes w64 w) (spelled words)
+    ∙ ap (λ n. n + 2 ^ 64 * bytes_number (spelled words)) (number-word w h.0)
+    ∙ ap (λ n. w + 2 ^ 64 * n) (number-spelled words h.1)
+
+spelled-append : (xs ys : List ℕ) → spelled (xs ++ ys) ≡ spelled xs ++ spelled ys
+unfolding spelled
+spelled-append [] ys = refl
+spelled-append (x ∷ xs) ys = ap (λ t. to_le_bytes w64 x ++ t) (spelled-append xs ys) ∙ sym (append_assoc (to_le_bytes w64 x) (spelled xs) (spelled ys))
+
+pub spelled-none : 0 ≡ run 0 (spelled [])
+unfolding run spelled
+spelled-none = refl
+
+-- one word more
+pub spelled-turn : (register : ℕ) (words : List ℕ) (i : ℕ) → i < length words
+    → run register (spelled (take (i + 1) words)) ≡ run (run register (spelled (take i words))) (to_le_bytes w64 (get_or words i 0))
+unfolding spelled
+spelled-turn register words i h =
+    rw (add-one, take-suc words i 0 h, spelled-append, append-nil)
+    (run-append register (spelled (take i words)) (to_le_bytes w64 (get_or words i 0)))

@@ -1,0 +1,57 @@
+-- What the tables hold, and a byte by a table.
+use Rattle.std.proofs.Common.{◌≡◌, ℕ, zero, suc, ◌+◌, ◌*◌, ◌/◌, ◌%◌, ◌^◌, ◌<◌, ◌==◌, ◌&&◌, Bool, true, false, List, [], ◌∷◌, length, get_or, refl, arith, ap}
+use Rattle.std.proofs.Common.{sym, ◌∙◌}
+use Rattle.std.specs.Int.Bits.{bit_xor, bit_and, xor_assoc}
+use Rattle.std.proofs.lemmas.Bool.{eqb-true}
+use Rattle.std.proofs.lemmas.Nat.{and_mask}
+use Rattle.fit_sum.specs.inner.Register.{shift, shifts}
+use Rattle.fit_sum.specs.declared.nibbles.TheConstants.{NIBBLES}
+use Rattle.fit_sum.proofs.ShiftsOfSums.{steps-parts, steps-xor, steps-shift, xor_apart}
+
+-- entry j of the list is what k shifts leave of i + j: a test, which computes over a whole table
+unfoldable pub is_table : ℕ → ℕ → List ℕ → Bool
+is_table k i [] = true
+is_table k i (x ∷ xs) = (x == shifts k i) && is_table k (suc i) xs
+
+both : (a b : Bool) → (a && b) ≡ true → (a ≡ true) × (b ≡ true)
+both true b h = (refl, h)
+both false b h = cc
+
+entry_from : (k i : ℕ) (xs : List ℕ) (j : ℕ) → is_table k i xs ≡ true → j < length xs → get_or xs j 0 ≡ shifts k (i + j)
+unfolding is_table
+entry_from k i [] j t h = absurd (omega arith)
+entry_from k i (x ∷ xs) zero t h =
+    let e = eqb-true x (shifts k i) (both (x == shifts k i) (is_table k (suc i) xs) t).0 in
+    e ∙ ap (shifts k) (omega arith)
+entry_from k i (x ∷ xs) (suc j) t h =
+    let e = entry_from k (suc i) xs j (both (x == shifts k i) (is_table k (suc i) xs) t).1 (omega arith) in
+    e ∙ ap (shifts k) (omega arith)
+
+pub entry : (k : ℕ) (table : List ℕ) (j : ℕ) → is_table k 0 table ≡ true → j < length table → get_or table j 0 ≡ shifts k j
+entry k table j t h = entry_from k 0 table j t h ∙ ap (shifts k) (omega arith)
+
+-- ---- nibbles
+nibbles : is_table 4 0 NIBBLES ≡ true
+unfolding is_table shifts shift
+nibbles = refl
+
+pub nibble-step : (c n : ℕ) → n < 16 → bit_xor (bit_xor (c / 16) (get_or NIBBLES (bit_and c 15) 0)) (get_or NIBBLES n 0) ≡ shifts 4 (bit_xor c n)
+nibble-step c n h =
+    let low : c % 16 < 16 = omega arith in
+    rw (and_mask c 4, entry 4 NIBBLES (c % 16) nibbles low, entry 4 NIBBLES n nibbles h, ← steps-parts 4 c) (sym (steps-xor 4 c n))
+
+-- a byte is two nibbles
+pub byte-nibbles : (c b : ℕ) → b < 256 → shifts 4 (bit_xor (shifts 4 (bit_xor c (b % 16))) (b / 16)) ≡ shifts 8 (bit_xor c b)
+unfolding shifts
+byte-nibbles c b h =
+    let low = b % 16 in
+    let high = b / 16 in
+    let parts : bit_xor (b % 16) (2 ^ 4 * (b / 16)) ≡ b = xor_apart 4 low high (omega arith) ∙ omega arith in
+    let whole : bit_xor (bit_xor c low) (2 ^ 4 * high) ≡ bit_xor c b = xor_assoc c low (2 ^ 4 * high) ∙ ap (bit_xor c) parts in
+    let four : shifts 4 (bit_xor c b) ≡ bit_xor (shifts 4 (bit_xor c low)) high
+    = sym (ap (shifts 4) whole) ∙ steps-xor 4 (bit_xor c low) (2 ^ 4 * high) ∙ ap (bit_xor (shifts 4 (bit_xor c low))) (steps-shift 4 high) in
+    ap (shifts 4) (sym four)
+
+-- ---- a byte at once
+pub byte-step : (c b : ℕ) → b < 256 → bit_xor (c / 256) (shifts 8 (bit_xor (c % 256) b)) ≡ shifts 8 (bit_xor c b)
+byte-step c b h = rw (steps-xor 8 (c % 256) b, ← xor_assoc (c / 256) (shifts 8 (c % 256)) (shifts 8 b), ← steps-parts 8 c) (sym (steps-xor 8 c b))
