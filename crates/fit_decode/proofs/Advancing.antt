@@ -17,9 +17,9 @@ use Rattle.fit_decode.specs.declared.event.Event.{Event as Answer}
 use Rattle.fit_decode.specs.declared.section.Section.{Section}
 use Rattle.fit_decode.specs.declared.section.Section.TheVariants.{Header, Data, ClosingSum}
 use Rattle.fit_decode.specs.Progress.{at_data, progress_bytes}
-use Rattle.fit_decode.specs.Scans.{IsOpen, Reading}
-use Rattle.fit_decode.specs.Sections.{HeaderFed, DataFed, SumFed}
-use Rattle.fit_decode.specs.Kept.{Fields, InHeader, InData, InSum, HoldsAt, Stand, Advances}
+use Rattle.fit_decode.specs.inner.Scans.{IsHeaderPart, Reading}
+use Rattle.fit_decode.specs.inner.Sections.{HeaderFed, DataFed, SumFed}
+use Rattle.fit_decode.specs.inner.Kept.{Fields, InHeader, InData, InSum, HoldsAt, Stand, Advances}
 use Rattle.fit_decode.proofs.Whole.{no_header_in}
 use Rattle.fit_decode.proofs.Sections.{header_fed, data_fed, sum_fed}
 
@@ -30,13 +30,18 @@ module _ {A : Type 0} {d : Fields A} (s : Stand d) (at : d.section ≡ Header) w
   pub header_fresh : d.reader.refusal ≡ None
   header_fresh = ap (λ (r : Seen). r.refusal) (in_header s.bytes s.holds).read
 
-  pub header_open : IsOpen d.reader.bytes
+  pub header_open : IsHeaderPart d.reader.bytes
   header_open =
       let k = in_header s.bytes s.holds in
       let same : d.sum ≡ d.reader.bytes = sym (ap (λ (r : Seen). r.bytes) k.read) in
-      subst IsOpen same (k.goes.2, λ whole. no_header_in A d.sum k.come.next whole.header whole.data_size [] whole.is.0.0 (whole.is.0.1 ∙ sym (append-nil (header_bytes whole.header whole.data_size))))
+      subst IsHeaderPart same (
+        k.goes.2,
+        λ whole. no_header_in A d.sum k.come.next whole.header whole.data_size [] whole.is.0.0
+            (whole.is.0.1 ∙ sym (append-nil (header_bytes whole.header whole.data_size))),
+      )
 
-  pub header_advances : (piece : List ℕ) → IsBytes piece → (reader : Seen) (sum : List ℕ) (section : Section) (position : Position) (used : ℕ) (answer : Result (Answer A) Stop)
+  pub header_advances : (piece : List ℕ) → IsBytes piece
+      → (reader : Seen) (sum : List ℕ) (section : Section) (position : Position) (used : ℕ) (answer : Result (Answer A) Stop)
       → HeaderFed d.count d.reader.bytes d.sum d.section d.position reader sum section position piece used answer
       → Advances d (record d { section = section; reader = reader; sum = sum; position = position }) piece used answer
   header_advances piece low reader sum section position used answer fed = λ bytes are holds.
@@ -55,11 +60,14 @@ module _ {A : Type 0} {d : Fields A} (s : Stand d) (at : d.section ≡ Data) whe
         room = k.size - length (records_bytes empty_environment k.records);
         part = k.part;
         some = k.some;
-        are_bytes = IsBytes-back (header_bytes k.header k.size ++ records_bytes empty_environment k.records) k.part (IsBytes-back (chain_bytes k.files) next (subst IsBytes k.come.spelled s.are));
+        are_bytes = IsBytes-back (header_bytes k.header k.size ++ records_bytes empty_environment k.records) k.part
+            (IsBytes-back (chain_bytes k.files) next (subst IsBytes k.come.spelled s.are));
         walk = k.walk;
       }
 
-  pub data_advances : (piece : List ℕ) → IsBytes piece → (sum : List ℕ) (section : Section) (env : Environment A) (position : Position) (in_progress : Option (Record A)) (used : ℕ) (answer : Result (Answer A) Stop)
+  pub data_advances : (piece : List ℕ) → IsBytes piece
+      → (sum : List ℕ) (section : Section) (env : Environment A) (position : Position) (in_progress : Option (Record A)) (used : ℕ)
+      (answer : Result (Answer A) Stop)
       → DataFed d.env d.sum (state_at d.position d.in_progress) env sum section (state_at position in_progress) piece used answer
       → Advances d (record d { env = env; section = section; sum = sum; position = position; in_progress = in_progress }) piece used answer
   data_advances piece low sum section env position in_progress used answer fed = λ bytes are holds.
@@ -72,7 +80,8 @@ module _ {A : Type 0} {d : Fields A} (s : Stand d) (at : d.section ≡ ClosingSu
   pub sum_few : d.count < chain_limit
   sum_few = let k = in_sum s.bytes s.holds in omega (arith, k.few, k.counted)
 
-  pub sum_advances : (piece : List ℕ) → IsBytes piece → (half : Bool) (sum : List ℕ) (now : ℕ) (env : Environment A) (section : Section) (used : ℕ) (answer : Result (Answer A) Stop)
+  pub sum_advances : (piece : List ℕ) → IsBytes piece
+      → (half : Bool) (sum : List ℕ) (now : ℕ) (env : Environment A) (section : Section) (used : ℕ) (answer : Result (Answer A) Stop)
       → SumFed d.half d.sum d.count d.env half sum now env section piece used answer
       → Advances d (record d { count = now; env = env; section = section; half = half; sum = sum }) piece used answer
   sum_advances piece low half sum now env section used answer fed = λ bytes are holds.

@@ -14,7 +14,15 @@ short_file f well =
     let head : List ℕ = header_bytes f.header (length (body f)) in
     let all = length-append (head ++ body f) (little_bytes 2 (checksum (summed f))) in
     let both = length-append head (body f) in
-    omega (arith, all, both, length-little_bytes 2 (checksum (summed f)), length-header_bytes f.header (length (body f)) well.header.form, well.header.size_fits, well.header.data_fits)
+    omega (
+      arith,
+      all,
+      both,
+      length-little_bytes 2 (checksum (summed f)),
+      length-header_bytes f.header (length (body f)) well.header.form,
+      well.header.size_fits,
+      well.header.data_fits,
+    )
 
 short_chain : {A : Type 0} (fs : List (FitFile A)) → AllByRecursion IsWellFormed fs → length (chain_bytes fs) ≤ 4294967552 * length fs
 short_chain [] each = omega arith

@@ -1,5 +1,6 @@
 -- What the reading of all files tells.
-use Rattle.std.proofs.Common.{◌≡◌, Bool, true, false, ℕ, ◌+◌, ◌<◌, suc, List, [], ◌∷◌, ◌++◌, length, take, drop, get_or, Option, Some, None, Result, Ok, Err, sym, ap, ◌∙◌, subst, append_assoc, arith, length-append}
+use Rattle.std.proofs.Common.{◌≡◌, Bool, true, false, ℕ, ◌+◌, ◌<◌, suc, List, [], ◌∷◌, ◌++◌, length, take, drop, get_or, Option, Some, None, Result, Ok, Err}
+use Rattle.std.proofs.Common.{sym, ap, ◌∙◌, subst, append_assoc, arith, length-append}
 use Rattle.std.specs.Prelude.{Vec, if◌then◌else◌}
 use Rattle.std.specs.Result.{is_ok, is_err}
 use Rattle.std.specs.declared.alloc.Global.{Global}
@@ -14,18 +15,19 @@ use Rattle.fit_record.specs.Files.{summed, IsFile, IsChain, IsViable, chain_limi
 use Rattle.fit_decode.specs.declared.event.Fault.{Fault}
 use Rattle.fit_decode.specs.declared.event.Fault.TheVariants.{Refused, Truncated, NoMemory, Read}
 use Rattle.fit_decode.specs.Answers.{Seen, AreChain}
-use Rattle.fit_decode.specs.Between.{IsBehind, IsEnd}
+use Rattle.fit_decode.specs.inner.Between.{IsBehind, IsEnd}
 use Rattle.fit_decode.specs.Progress.{at_header}
 use Rattle.fit_decode.specs.Reads.{EndsReading, ReadsChain, GivesChain}
 use Rattle.fit_decode.specs.Refusals.{IsRefused}
-use Rattle.fit_decode.specs.Turns.{FileRead}
+use Rattle.fit_decode.specs.inner.Turns.{FileRead}
 use Rattle.fit_decode.proofs.Consumed.{Consumes-append}
 use Rattle.fit_decode.proofs.FileGiven.{at_place}
 use Rattle.fit_decode.proofs.NextRead.{chain_comes, behind_file, next_file, next_fault, next_end}
 use Rattle.fit_decode.proofs.OnePlace.{one_place}
 
 -- no byte of a chain is refused
-chain_byte : {A : Type 0} (fs : List (FitFile A)) (b taken y : List ℕ) (place : ℕ) (reason : Reason) → IsBytes b → IsChain chain_limit fs b → b ≡ taken ++ y → place < length taken
+chain_byte : {A : Type 0} (fs : List (FitFile A)) (b taken y : List ℕ) (place : ℕ) (reason : Reason) → IsBytes b → IsChain chain_limit fs b → b ≡ taken ++ y
+    → place < length taken
     → IsRefused A chain_limit (take place taken) (get_or taken place 0) reason → ⊥
 chain_byte fs b taken y place reason are chain e within why =
     let front : List ℕ = take place taken in
@@ -39,39 +41,55 @@ all_taken : (b taken y : List ℕ) → b ≡ taken ++ y → y ≡ [] → b ≡ t
 all_taken b taken y e none = e ∙ ap (λ t. taken ++ t) none ∙ append-nil taken
 
 -- the bytes of a chain are read as that chain
-given : (fs : List (FitFile Global)) (b : List ℕ) (has : Option (List ℕ)) (failed : Bool) (result : Result (Vec (FitFile Global) Global) Fault) → IsBytes b → IsChain chain_limit fs b
-    → ReadsChain (record { before = Some b; after = has; failed = failed }) result → GivesChain fs (record { before = Some b; after = has; failed = failed }) result
+given : (fs : List (FitFile Global)) (b : List ℕ) (has : Option (List ℕ)) (failed : Bool) (result : Result (Vec (FitFile Global) Global) Fault) → IsBytes b
+    → IsChain chain_limit fs b
+    → ReadsChain (record { before = Some b; after = has; failed = failed }) result
+    → GivesChain fs (record { before = Some b; after = has; failed = failed }) result
 given fs b None failed (Ok files) are chain (taken, eats, end, other, good) = absurd eats
 given fs b (Some y) failed (Ok files) are chain (taken, eats, end, other, good) =
     let whole = subst (IsChain chain_limit fs) (all_taken b taken y eats end) chain in
     (one_place files.items fs (at_header []) (at_header []) taken (chain_comes chain_limit files.items taken other) (chain_comes chain_limit fs taken whole)).0
 given fs b None failed (Err fault) are chain (taken, eats, told) = absurd eats
-given fs b (Some y) failed (Err (Refused place reason)) are chain (taken, eats, (within, near, why)) = chain_byte fs b taken y place reason are chain eats within why
-given fs b (Some y) failed (Err (Truncated place)) are chain (taken, eats, (is, end, viable, short, good)) = short (fs, subst (IsChain chain_limit fs) (all_taken b taken y eats end) chain)
+given fs b (Some y) failed (Err (Refused place reason)) are chain (taken, eats, (within, near, why, good)) =
+    chain_byte fs b taken y place reason are chain eats within why
+given fs b (Some y) failed (Err (Truncated place)) are chain (taken, eats, (is, end, viable, short, good)) =
+    short (fs, subst (IsChain chain_limit fs) (all_taken b taken y eats end) chain)
 given fs b (Some y) failed (Err (NoMemory used)) are chain (taken, eats, told) = tt
 given fs b (Some y) failed (Err (Read place)) are chain (taken, eats, (is, bad, viable)) = bad
 
-pub gives_chain : (fs : List (FitFile Global)) (b : List ℕ) (had has : Option (List ℕ)) (failed : Bool) (result : Result (Vec (FitFile Global) Global) Fault) → had ≡ Some b → IsBytes b
-    → IsChain chain_limit fs b → ReadsChain (record { before = had; after = has; failed = failed }) result → GivesChain fs (record { before = had; after = has; failed = failed }) result
-gives_chain fs b had has failed result input are chain reads = given fs b has failed result are chain (subst (λ h. ReadsChain (record { before = h; after = has; failed = failed }) result) input reads)
+pub gives_chain : (fs : List (FitFile Global)) (b : List ℕ) (had has : Option (List ℕ)) (failed : Bool) (result : Result (Vec (FitFile Global) Global) Fault)
+    → had ≡ Some b → IsBytes b
+    → IsChain chain_limit fs b → ReadsChain (record { before = had; after = has; failed = failed }) result
+    → GivesChain fs (record { before = had; after = has; failed = failed }) result
+gives_chain fs b had has failed result input are chain reads =
+    given fs b has failed result are chain (subst (λ h. ReadsChain (record { before = h; after = has; failed = failed }) result) input reads)
 
 -- ---- file by file
 
 -- a file has bytes
 some_bytes : {A : Type 0} (f : FitFile A) (b : List ℕ) → IsFile f b → 0 < length b
-some_bytes f b file = omega (arith, ap length file.1, length-append (summed f) (little_bytes 2 (checksum (summed f))), length-little_bytes 2 (checksum (summed f)))
+some_bytes f b file = omega (
+  arith,
+  ap length file.1,
+  length-append (summed f) (little_bytes 2 (checksum (summed f))),
+  length-little_bytes 2 (checksum (summed f)),
+)
 
-pub pushed : {X E : Type 0} (r : Result X E) (refused : Bool) {T : Type 0} (was now : List T) (x : T) → refused ≡ is_err r → refused ≡ false → now ≡ (if is_ok r then was ++ x ∷ [] else was) → now ≡ was ++ x ∷ []
+pub pushed : {X E : Type 0} (r : Result X E) (refused : Bool) {T : Type 0} (was now : List T) (x : T) → refused ≡ is_err r → refused ≡ false
+    → now ≡ (if is_ok r then was ++ x ∷ [] else was) → now ≡ was ++ x ∷ []
 pushed (Ok u) refused was now x is good same = same
 pushed (Err e) refused was now x is good same = absurd cc
 
-module _ (files : List (FitFile Global)) (before : Seen) (count : ℕ) (old taken : List ℕ) (first had has : Option (List ℕ)) (failed : Bool) (new : Seen) (now : ℕ)
-    (behind : IsBehind files before count old) (eats : Consumes first had old) (counted : now + length old ≡ count + length taken) (viable : IsViable Global chain_limit new.bytes) where
+module _ (files : List (FitFile Global)) (before : Seen) (count : ℕ) (old taken : List ℕ) (first had has : Option (List ℕ)) (failed : Bool) (new : Seen)
+    (now : ℕ)
+    (behind : IsBehind files before count old) (eats : Consumes first had old) (counted : now + length old ≡ count + length taken)
+    (viable : IsViable Global chain_limit new.bytes) where
   eats_all : (result : Result (FitFile Global) Fault) → FileRead files before.bytes old taken had has failed new result → Consumes first has taken
   eats_all result r = subst (Consumes first has) (sym r.noted) (Consumes-append first had has old r.got eats r.eats)
 
   -- what holds behind one file more
-  pub one_more : (f : FitFile Global) → FileRead files before.bytes old taken had has failed new (Ok f) → IsBehind (files ++ f ∷ []) new now taken × Consumes first has taken
+  pub one_more : (f : FitFile Global) → FileRead files before.bytes old taken had has failed new (Ok f)
+      → IsBehind (files ++ f ∷ []) new now taken × Consumes first has taken
   one_more f r = (behind_file files before count old taken had has failed new now behind counted viable f r, eats_all (Ok f) r)
 
   pub one_longer : (f : FitFile Global) → FileRead files before.bytes old taken had has failed new (Ok f) → length old < length taken

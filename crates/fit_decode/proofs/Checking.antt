@@ -1,5 +1,6 @@
 -- Bytes in memory are fed to a decoder from their front: what was fed, and the rest.
-use Rattle.std.proofs.Common.{◌≡◌, ℕ, suc, ◌+◌, ◌<◌, List, [], ◌∷◌, ◌++◌, length, take, drop, get_or, None, Result, Ok, Err, refl, sym, ap, ◌∙◌, subst, append_assoc, length-append, arith}
+use Rattle.std.proofs.Common.{◌≡◌, ℕ, suc, ◌+◌, ◌<◌, List, [], ◌∷◌, ◌++◌, length, take, drop, get_or, None, Result, Ok, Err, refl, sym, ap, ◌∙◌, subst}
+use Rattle.std.proofs.Common.{append_assoc, length-append, arith}
 use Rattle.std.specs.Prelude.{IfErr, IsErr, IsOk, OnOk, ◌↔◌}
 use Rattle.std.specs.declared.alloc.Global.{Global}
 use Rattle.std.proofs.lemmas.List.{append-nil, get_or-append-add, take-append-drop}
@@ -13,7 +14,7 @@ use Rattle.fit_decode.specs.declared.event.Fault.TheVariants.{Refused, Truncated
 use Rattle.fit_decode.specs.Progress.{Progress, at_header, HasCome}
 use Rattle.fit_decode.specs.Answers.{AreChain, Refuses, Seen, fed}
 use Rattle.fit_decode.specs.Refusals.{IsRefused}
-use Rattle.fit_decode.specs.Checks.{AreFiles, IsFaultOf, IsWantOfMemory}
+use Rattle.fit_decode.specs.Checks.{AreFiles, IsFaultOf, LacksMemory}
 use Rattle.fit_decode.proofs.Ended.{chain_come}
 
 -- ---- feeding
@@ -36,7 +37,8 @@ feeds_on upload old new rest used f after viable = record {
 }
 
 -- what was passed over counts as fed
-pub feeds_over : (upload : List ℕ) (old new : Seen) (rest : List ℕ) (used : ℕ) → Feeds upload old rest → new ≡ record old { bytes = old.bytes ++ take used rest }
+pub feeds_over : (upload : List ℕ) (old new : Seen) (rest : List ℕ) (used : ℕ) → Feeds upload old rest
+    → new ≡ record old { bytes = old.bytes ++ take used rest }
     → IsViable Global chain_limit new.bytes → Feeds upload new (drop used rest)
 feeds_over upload old new rest used f after viable =
     feeds_on upload old new rest used f (after ∙ ap (λ r. record { bytes = old.bytes ++ take used rest; refusal = r }) f.fresh) viable
@@ -73,7 +75,7 @@ at_place bytes place within =
     append_assoc (take place bytes) (get_or bytes place 0 ∷ []) (drop (suc place) bytes)
     ∙ ap (λ t. take place bytes ++ t) (sym (drop-cons bytes place 0 within)) ∙ take-append-drop place bytes
 
-pub fault_of_chain : (bytes : List ℕ) (fault : Fault) → IsBytes bytes → IsFaultOf bytes fault → AreChain Global bytes → IsWantOfMemory fault
+pub fault_of_chain : (bytes : List ℕ) (fault : Fault) → IsBytes bytes → IsFaultOf bytes fault → AreChain Global bytes → LacksMemory fault
 fault_of_chain bytes (Refused place reason) are (within, why) (files, chain) =
     let all = sym (at_place bytes place within) in
     absurd (why.refused (drop (suc place) bytes, files, subst IsBytes all are, subst (IsChain chain_limit files) all chain))
@@ -92,12 +94,14 @@ pub record Finishes (seen : Seen) (result : Result (Unit {0}) Fault) : Type 0 wh
   pub good : IsOk result ↔ ((seen.refusal ≡ None) × AreChain Global seen.bytes)
   pub truncated : seen.refusal ≡ None → IsErr result → result ≡ Err (Truncated (length seen.bytes))
 
-pub good_end : (upload : List ℕ) (seen : Seen) (rest : List ℕ) (result : Result (Unit {0}) Fault) → Feeds upload seen rest → length rest ≡ 0 → Finishes seen result
+pub good_end : (upload : List ℕ) (seen : Seen) (rest : List ℕ) (result : Result (Unit {0}) Fault) → Feeds upload seen rest → length rest ≡ 0
+    → Finishes seen result
     → OnOk result (AreChain Global upload)
 good_end upload seen rest (Ok u) f none e = subst (AreChain Global) (at_end upload seen rest f none) ((e.good.0 refl).1)
 good_end upload seen rest (Err fault) f none e = tt
 
-pub bad_end : (upload : List ℕ) (seen : Seen) (rest : List ℕ) (result : Result (Unit {0}) Fault) → Feeds upload seen rest → length rest ≡ 0 → Finishes seen result
+pub bad_end : (upload : List ℕ) (seen : Seen) (rest : List ℕ) (result : Result (Unit {0}) Fault) → Feeds upload seen rest → length rest ≡ 0
+    → Finishes seen result
     → IfErr result (IsFaultOf upload)
 bad_end upload seen rest (Ok u) f none e = tt
 bad_end upload seen rest (Err fault) f none e =
@@ -113,6 +117,7 @@ counted_end upload seen rest count f none (files, chain) counts =
     let come = subst (HasCome files (at_header [])) (sym (at_end upload seen rest f none)) (chain_come upload (files, chain)) in
     (files, chain, sym (counts f.fresh files (at_header []) come))
 
-pub chain_end : {X : Type 0} (upload : List ℕ) (result : Result X Fault) → IsBytes upload → IfErr result (IsFaultOf upload) → AreChain Global upload → IfErr result IsWantOfMemory
+pub chain_end : {X : Type 0} (upload : List ℕ) (result : Result X Fault) → IsBytes upload → IfErr result (IsFaultOf upload) → AreChain Global upload
+    → IfErr result LacksMemory
 chain_end upload (Ok x) are fault chain = tt
 chain_end upload (Err fault) are is chain = fault_of_chain upload fault are is chain

@@ -1,5 +1,6 @@
 -- A file is completed from what can go on.
-use Rattle.std.proofs.Common.{◌≡◌, inl, inr, ℕ, zero, suc, ◌+◌, ◌-◌, ◌≤◌, List, [], ◌∷◌, ◌++◌, length, refl, sym, ap, ◌∙◌, subst, arith, append_assoc, length-append, lit<}
+use Rattle.std.proofs.Common.{◌≡◌, inl, inr, ℕ, zero, suc, ◌+◌, ◌-◌, ◌≤◌, List, [], ◌∷◌, ◌++◌, length, refl, sym, ap, ◌∙◌, subst, arith, append_assoc}
+use Rattle.std.proofs.Common.{length-append, lit<}
 use Rattle.std.specs.List.{AllByRecursion}
 use Rattle.std.proofs.lemmas.Bool.{cases_lt}
 use Rattle.std.proofs.lemmas.List.{append-nil}
@@ -35,19 +36,23 @@ pub record Completion (A : Type 0) (front : List ℕ) : Type 0 where
   pub spelled : file_bytes file ≡ front ++ more
 
 -- a header and records that fill the data section
-of_records : {A : Type 0} (h : Header) (n : ℕ) (rs : List (Record A)) (front more : List ℕ) → HeaderFits h n → AllFit empty_environment rs → length (records_bytes empty_environment rs) ≡ n
-    → IsBytes more → (header_bytes h n ++ records_bytes empty_environment rs) ++ little_bytes 2 (checksum (header_bytes h n ++ records_bytes empty_environment rs)) ≡ front ++ more → Completion A front
+of_records : {A : Type 0} (h : Header) (n : ℕ) (rs : List (Record A)) (front more : List ℕ) → HeaderFits h n → AllFit empty_environment rs
+    → length (records_bytes empty_environment rs) ≡ n
+    → IsBytes more → (header_bytes h n ++ records_bytes empty_environment rs)
+    ++ little_bytes 2 (checksum (header_bytes h n ++ records_bytes empty_environment rs)) ≡ front ++ more → Completion A front
 of_records {A} h n rs front more header fit size are spelled = record {
   file = record { header = h; records = rs };
   more = more;
   are_bytes = are;
   well = record { header = subst (HeaderFits h) (sym size) header; records = fit };
-  spelled = ap (λ m. (header_bytes h m ++ records_bytes empty_environment rs) ++ little_bytes 2 (checksum (header_bytes h m ++ records_bytes empty_environment rs))) size ∙ spelled;
+  spelled = ap (λ m. (header_bytes h m ++ records_bytes empty_environment rs)
+      ++ little_bytes 2 (checksum (header_bytes h m ++ records_bytes empty_environment rs))) size ∙ spelled;
 }
 
 pub fill_data : {A : Type 0} (n : ℕ) → IsDataSize n → CanFill {A = A} empty_environment n
 fill_data n (inl none) = ([], [], IsBytes-none, (tt, refl), sym none)
-fill_data {A} n (inr many) = let same : 6 + (n - 6) ≡ n = omega (arith, many) in subst (CanFill {A = A} empty_environment) same (six_and_more empty_environment (n - 6) (lit< tt))
+fill_data {A} n (inr many) = let same : 6 + (n - 6) ≡ n = omega (arith, many) in
+    subst (CanFill {A = A} empty_environment) same (six_and_more empty_environment (n - 6) (lit< tt))
 
 regroup : (a b c d : List ℕ) → ((a ++ b) ++ c) ++ d ≡ a ++ (b ++ (c ++ d))
 regroup a b c d = simp append_assoc
@@ -62,7 +67,9 @@ of_header {A} front begins =
     let (rs, filled, are, fit, size) = fill_data {A = A} n begins.whole.is.1 in
     let sum : List ℕ = little_bytes 2 (checksum (header_bytes h n ++ records_bytes empty_environment rs)) in
     of_records h n rs front (begins.more ++ (records_bytes empty_environment rs ++ sum)) begins.whole.is.0.0 fit.0 (ap length (sym fit.1) ∙ size)
-    (IsBytes-append begins.more _ begins.are_bytes (IsBytes-append (records_bytes empty_environment rs) sum (subst IsBytes fit.1 are) (sum_bytes (checksum (header_bytes h n ++ records_bytes empty_environment rs)))))
+    (IsBytes-append begins.more _ begins.are_bytes
+    (IsBytes-append (records_bytes empty_environment rs) sum (subst IsBytes fit.1 are)
+    (sum_bytes (checksum (header_bytes h n ++ records_bytes empty_environment rs)))))
     (ap (λ b. (b ++ records_bytes empty_environment rs) ++ sum) (sym begins.whole.is.0.1) ∙ regroup front begins.more (records_bytes empty_environment rs) sum)
 
 module _ {A : Type 0} (h : Header) (n : ℕ) (records : List (Record A)) (part : List ℕ) (u : IsUnfinished (at_data h n records part)) where
@@ -90,7 +97,8 @@ completed (at_data h n records part) u goes = of_data h n records part u (n - le
 
 -- ---- a chain
 
-pub all_append : {A : Type 0} (fs : List (FitFile A)) (f : FitFile A) → AllByRecursion IsWellFormed fs → IsWellFormed f → AllByRecursion IsWellFormed (fs ++ f ∷ [])
+pub all_append : {A : Type 0} (fs : List (FitFile A)) (f : FitFile A) → AllByRecursion IsWellFormed fs → IsWellFormed f
+    → AllByRecursion IsWellFormed (fs ++ f ∷ [])
 all_append [] f p q = (q, tt)
 all_append (d ∷ fs) f p q = (p.0, all_append fs f p.1 q)
 
@@ -99,7 +107,8 @@ chain_bytes-append [] f = append-nil (file_bytes f)
 chain_bytes-append (d ∷ fs) f = ap (λ b. file_bytes d ++ b) (chain_bytes-append fs f) ∙ sym (append_assoc (file_bytes d) (chain_bytes fs) (file_bytes f))
 
 -- with one file more
-one_more : {A : Type 0} (limit : ℕ) (fs : List (FitFile A)) (g : Progress A) (bytes : List ℕ) → HasCome fs g bytes → IsBytes bytes → length fs + 1 ≤ limit → GoesOn g → IsViable A limit bytes
+one_more : {A : Type 0} (limit : ℕ) (fs : List (FitFile A)) (g : Progress A) (bytes : List ℕ) → HasCome fs g bytes → IsBytes bytes → length fs + 1 ≤ limit
+    → GoesOn g → IsViable A limit bytes
 one_more {A} limit fs g bytes come are within goes =
     let c = completed g come.next goes in (
       c.more,
@@ -111,12 +120,14 @@ one_more {A} limit fs g bytes come are within goes =
           within = omega (arith, length-append fs (c.file ∷ []), within);
           each = all_append fs c.file come.files c.well;
         },
-        ap (λ b. b ++ c.more) come.spelled ∙ append_assoc (chain_bytes fs) (progress_bytes g) c.more ∙ ap (λ b. chain_bytes fs ++ b) (sym c.spelled) ∙ sym (chain_bytes-append fs c.file),
+        ap (λ b. b ++ c.more) come.spelled ∙ append_assoc (chain_bytes fs) (progress_bytes g) c.more ∙ ap (λ b. chain_bytes fs ++ b) (sym c.spelled)
+            ∙ sym (chain_bytes-append fs c.file),
       ),
     )
 
 -- bytes that have come to where a chain can go on begin one
-pub goes_viable : {A : Type 0} (limit : ℕ) (fs : List (FitFile A)) (g : Progress A) (bytes : List ℕ) → HasCome fs g bytes → IsBytes bytes → ChainGoesOn limit fs g → IsViable A limit bytes
+pub goes_viable : {A : Type 0} (limit : ℕ) (fs : List (FitFile A)) (g : Progress A) (bytes : List ℕ) → HasCome fs g bytes → IsBytes bytes
+    → ChainGoesOn limit fs g → IsViable A limit bytes
 goes_viable {A} limit fs (at_header []) bytes come are (some, begun, goes) =
     elim (cases_lt (length fs) limit) [
       | inl less ↦ one_more limit fs (at_header []) bytes come are (omega (arith, less)) goes

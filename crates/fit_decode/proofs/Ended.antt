@@ -9,7 +9,7 @@ use Rattle.fit_decode.specs.declared.section.Section.TheVariants.{Header, Data, 
 use Rattle.fit_decode.specs.Progress.{Progress, at_header, at_data, HasCome}
 use Rattle.fit_decode.specs.GoingOn.{files_begun}
 use Rattle.fit_decode.specs.Answers.{AreChain}
-use Rattle.fit_decode.specs.Kept.{Fields, InHeader, Holds, HoldsAt}
+use Rattle.fit_decode.specs.inner.Kept.{Fields, InHeader, Holds, HoldsAt}
 use Rattle.fit_decode.proofs.OnePlace.{one_place}
 use Rattle.fit_decode.proofs.Whole.{unfinished}
 
@@ -18,15 +18,25 @@ HasEnded d = (d.section ≡ Header) × (0 < d.count) × (d.reader.bytes ≡ [])
 
 -- all files of a chain have come, and nothing of a next one
 pub chain_come : {A : Type 0} (bytes : List ℕ) (chain : AreChain A bytes) → HasCome chain.0 (at_header []) bytes
-chain_come {A} bytes chain = record { files = chain.1.0.each; next = unfinished A [] (λ h n rest fits is. cc); spelled = chain.1.1 ∙ sym (append-nil (chain_bytes chain.0)) }
+chain_come {A} bytes chain = record {
+  files = chain.1.0.each;
+  next = unfinished A [] (λ h n rest fits is. cc);
+  spelled =
+      chain.1.1 ∙ sym (append-nil (chain_bytes chain.0));
+}
 
 module _ {A : Type 0} (d : Fields A) (bytes : List ℕ) where
   pub ended_chain : Holds d bytes → HasEnded d → AreChain A bytes
   ended_chain holds (at, some, none) =
       let k : InHeader d bytes = subst (λ s. HoldsAt s d bytes) at holds in
       let empty : d.sum ≡ [] = sym (ap (λ (r : Seen). r.bytes) k.read) ∙ none in
-      let within : length k.files ≤ chain_limit = subst (λ l. files_begun k.files (at_header l) ≤ chain_limit) empty k.goes.1 in
-      (k.files, (record { some = omega (arith, some, k.counted); within = within; each = k.come.files }, k.come.spelled ∙ ap (λ l. chain_bytes k.files ++ l) empty ∙ append-nil (chain_bytes k.files)))
+      let within : length k.files ≤ chain_limit = subst (λ l. files_begun k.files (at_header l) ≤ chain_limit) empty k.goes.1 in (
+        k.files,
+        (
+          record { some = omega (arith, some, k.counted); within = within; each = k.come.files },
+          k.come.spelled ∙ ap (λ l. chain_bytes k.files ++ l) empty ∙ append-nil (chain_bytes k.files),
+        ),
+      )
 
   no_data : {P : Type 0} (files : List (FitFile A)) (g : Progress A) → HasCome files g bytes → AreChain A bytes → (g ≡ at_header [] → P) → P
   no_data files g come chain go = go (one_place files chain.0 g (at_header []) bytes come (chain_come bytes chain)).1

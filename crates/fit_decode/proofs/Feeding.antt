@@ -1,5 +1,6 @@
 -- What a caller of `feed` sees: that the invariant is kept, and what is told of the bytes used.
-use Rattle.std.proofs.Common.{◌≡◌, ℕ, ◌+◌, ◌<◌, ◌≤◌, List, ◌++◌, length, take, slice_index, sym, ap, ◌∙◌, subst, arith, length-append, Fits, w64, Some, None, Ok, Err}
+use Rattle.std.proofs.Common.{◌≡◌, ℕ, ◌+◌, ◌<◌, ◌≤◌, List, ◌++◌, length, take, slice_index, sym, ap, ◌∙◌, subst, arith, length-append, Fits, w64, Some, None}
+use Rattle.std.proofs.Common.{Ok, Err}
 use Rattle.std.specs.Prelude.{Result}
 use Rattle.std.proofs.lemmas.List.{length-take-le}
 use Rattle.fit_base.specs.Numbers.{IsBytes}
@@ -13,10 +14,10 @@ use Rattle.fit_decode.specs.declared.decoder.Decoder.TheInside.{Inside}
 use Rattle.fit_decode.specs.declared.event.Event.{Event as Answer}
 use Rattle.fit_decode.specs.declared.event.Event.TheVariants as answers
 use Rattle.fit_decode.specs.Events.{Event, header, item, file_end}
-use Rattle.fit_decode.specs.Answers.{Seen, told, Quiet, Least, Refuses, Wants, AreChain}
+use Rattle.fit_decode.specs.Answers.{Seen, event_of, Quiet, Least, Refuses, Wants, AreChain}
 use Rattle.fit_decode.specs.Refusals.{IsRefused}
-use Rattle.fit_decode.specs.Kept.{Fields, Advanced, Advances, NotRefused, Next, Stand, Holds}
-use Rattle.fit_decode.specs.Invariant.{IsKept, fields_of}
+use Rattle.fit_decode.specs.inner.Kept.{Fields, Advanced, Advances, NotRefused, NextAnswer, Stand, Holds}
+use Rattle.fit_decode.specs.inner.Invariant.{IsSoundDecoder, fields_inside}
 use Rattle.fit_decode.proofs.Bounds.{short_bytes}
 use Rattle.fit_decode.proofs.Ended.{HasEnded, ended_chain, chain_ended}
 
@@ -30,13 +31,15 @@ used_at_most bytes piece used (Ok answers.FileEnd) t = t.1
 used_at_most bytes piece used (Err (Refused reason)) t = omega (arith, t.0)
 used_at_most bytes piece used (Err NoMemory) t = omega (arith, t.0)
 
-tells_none : {A : Type 0} (bytes piece : List ℕ) (used : ℕ) (event : Answer A) → Advanced bytes piece used (Ok event) → told event ≡ None → (used ≡ length piece) × Quiet A bytes piece used
+tells_none : {A : Type 0} (bytes piece : List ℕ) (used : ℕ) (event : Answer A) → Advanced bytes piece used (Ok event) → event_of event ≡ None
+    → (used ≡ length piece) × Quiet A bytes piece used
 tells_none bytes piece used answers.More t is = t
 tells_none bytes piece used (answers.Header h n) t is = absurd cc
 tells_none bytes piece used (answers.Item r) t is = absurd cc
 tells_none bytes piece used answers.FileEnd t is = absurd cc
 
-tells_one : {A : Type 0} (bytes piece : List ℕ) (used : ℕ) (event : Answer A) → Advanced bytes piece used (Ok event) → (x : Event A) → told event ≡ Some x → (0 < used) × Least A bytes piece used x
+tells_one : {A : Type 0} (bytes piece : List ℕ) (used : ℕ) (event : Answer A) → Advanced bytes piece used (Ok event) → (x : Event A) → event_of event ≡ Some x
+    → (0 < used) × Least A bytes piece used x
 tells_one bytes piece used answers.More t x is = absurd cc
 tells_one {A} bytes piece used (answers.Header h n) t x is = let same : header h n ≡ x = cc in (t.0, subst (Least A bytes piece used) same t.2)
 tells_one {A} bytes piece used (answers.Item r) t x is = let same : item r ≡ x = cc in (t.0, subst (Least A bytes piece used) same t.2)
@@ -53,11 +56,13 @@ stopped answer stop other is same = is ∙ ap Err same
 
 -- ---- the invariant
 
-pub stands : {A : Type 0} (d : Inside A) → IsKept d → d.refusal ≡ None → Stand (fields_of d)
+pub stands : {A : Type 0} (d : Inside A) → IsSoundDecoder d → d.refusal ≡ None → Stand (fields_inside d)
 stands d k none = record { bytes = d.history.items; are = k.are; holds = k.holds none }
 
-module _ {A : Type 0} (d : Inside A) (k : IsKept d) (none : d.refusal ≡ None) (piece : List ℕ) (new : Fields A) (used : ℕ) (answer : Result (Answer A) Stop) (go : Advances (fields_of d) new piece used answer) where
-  next : Next new d.history.items piece used answer
+module _ {A : Type 0} (d : Inside A) (k : IsSoundDecoder d) (none : d.refusal ≡ None) (piece : List ℕ) (new : Fields A) (used : ℕ)
+    (answer : Result (Answer A) Stop)
+    (go : Advances (fields_inside d) new piece used answer) where
+  next : NextAnswer new d.history.items piece used answer
   next = go d.history.items k.are (k.holds none)
 
   pub within : used ≤ length piece
@@ -76,7 +81,7 @@ module _ {A : Type 0} (d : Inside A) (k : IsKept d) (none : d.refusal ≡ None) 
     still_bytes : IsBytes n.history.items
     still_bytes = subst IsBytes (sym took) (IsBytes-append d.history.items (take used piece) k.are (IsBytes-take used piece low))
 
-    pub still_kept : fields_of n ≡ new → n.count ≡ d.count + used → NotRefused answer → n.refusal ≡ None → IsKept n
+    pub still_kept : fields_inside n ≡ new → n.count ≡ d.count + used → NotRefused answer → n.refusal ≡ None → IsSoundDecoder n
     still_kept same counted taken fresh = record {
       viable = still_viable;
       are = still_bytes;
@@ -85,7 +90,8 @@ module _ {A : Type 0} (d : Inside A) (k : IsKept d) (none : d.refusal ≡ None) 
       let_go = λ reason is. absurd (let both : Some reason ≡ None = sym is ∙ fresh in cc);
     }
 
-    pub refused_kept : n.count ≡ d.count + used → (reason : Reason) → n.refusal ≡ Some reason → n.env ≡ empty_environment → n.in_progress ≡ None → IsKept n
+    pub refused_kept : n.count ≡ d.count + used → (reason : Reason) → n.refusal ≡ Some reason → n.env ≡ empty_environment → n.in_progress ≡ None
+        → IsSoundDecoder n
     refused_kept counted reason is known idle = record {
       viable = still_viable;
       are = still_bytes;
@@ -96,7 +102,7 @@ module _ {A : Type 0} (d : Inside A) (k : IsKept d) (none : d.refusal ≡ None) 
 
 -- ---- the clauses
 
-module _ {A : Type 0} (d : Inside A) (k : IsKept d) (old : Seen) (seen : record { bytes = d.history.items; refusal = d.refusal } ≡ old) where
+module _ {A : Type 0} (d : Inside A) (k : IsSoundDecoder d) (old : Seen) (seen : record { bytes = d.history.items; refusal = d.refusal } ≡ old) where
   bytes_seen : d.history.items ≡ old.bytes
   bytes_seen = ap (λ (s : Seen). s.bytes) seen
 
@@ -113,23 +119,29 @@ module _ {A : Type 0} (d : Inside A) (k : IsKept d) (old : Seen) (seen : record 
   reason_kept was kept fresh = let both : Some was ≡ None = sym kept ∙ ap (λ (s : Seen). s.refusal) seen ∙ fresh in cc
 
   module _ (none : d.refusal ≡ None) where
-    pub chain_fed : HasEnded (fields_of d) → (old.refusal ≡ None) × AreChain A old.bytes
-    chain_fed ended = (ap (λ (s : Seen). s.refusal) (sym seen) ∙ none, subst (AreChain A) bytes_seen (ended_chain (fields_of d) d.history.items (k.holds none) ended))
+    pub chain_fed : HasEnded (fields_inside d) → (old.refusal ≡ None) × AreChain A old.bytes
+    chain_fed ended = (
+      ap (λ (s : Seen). s.refusal) (sym seen) ∙ none,
+      subst (AreChain A) bytes_seen (ended_chain (fields_inside d) d.history.items (k.holds none) ended),
+    )
 
-    pub ends_with_chain : AreChain A old.bytes → HasEnded (fields_of d)
-    ends_with_chain chain = chain_ended (fields_of d) d.history.items (k.holds none) (subst (AreChain A) (sym bytes_seen) chain)
+    pub ends_with_chain : AreChain A old.bytes → HasEnded (fields_inside d)
+    ends_with_chain chain = chain_ended (fields_inside d) d.history.items (k.holds none) (subst (AreChain A) (sym bytes_seen) chain)
 
-  module _ (none : d.refusal ≡ None) (piece : List ℕ) (new : Fields A) (used : ℕ) (answer : Result (Answer A) Stop) (go : Advances (fields_of d) new piece used answer) where
+  module _ (none : d.refusal ≡ None) (piece : List ℕ) (new : Fields A) (used : ℕ) (answer : Result (Answer A) Stop)
+      (go : Advances (fields_inside d) new piece used answer) where
     seen_told : (is : Result (Answer A) Stop) → answer ≡ is → Advanced old.bytes piece used is
-    seen_told is same = subst (Advanced old.bytes piece used) same (subst (λ b. Advanced b piece used answer) bytes_seen (next d k none piece new used answer go).told)
+    seen_told is same = subst (Advanced old.bytes piece used) same
+        (subst (λ b. Advanced b piece used answer) bytes_seen (next d k none piece new used answer go).told)
 
-    pub no_event : (event : Answer A) → answer ≡ Ok event → told event ≡ None → (used ≡ length piece) × Quiet A old.bytes piece used
+    pub no_event : (event : Answer A) → answer ≡ Ok event → event_of event ≡ None → (used ≡ length piece) × Quiet A old.bytes piece used
     no_event event is = tells_none old.bytes piece used event (seen_told (Ok event) is)
 
-    pub one_event : (event : Answer A) → answer ≡ Ok event → (x : Event A) → told event ≡ Some x → (0 < used) × Least A old.bytes piece used x
+    pub one_event : (event : Answer A) → answer ≡ Ok event → (x : Event A) → event_of event ≡ Some x → (0 < used) × Least A old.bytes piece used x
     one_event event is = tells_one old.bytes piece used event (seen_told (Ok event) is)
 
-    pub refuses : (reason : Reason) → answer ≡ Err (Refused reason) → (bytes : List ℕ) → bytes ≡ d.history.items ++ take used piece → (place : ℕ) (why : Reason) → d.count + used ≡ place → reason ≡ why
+    pub refuses : (reason : Reason) → answer ≡ Err (Refused reason) → (bytes : List ℕ) → bytes ≡ d.history.items ++ take used piece → (place : ℕ) (why : Reason)
+        → d.count + used ≡ place → reason ≡ why
         → Refuses A old piece (record { bytes = bytes; refusal = Some reason }) place why
     refuses reason is bytes took place why at same =
         let t = seen_told (Err (Refused reason)) is in
@@ -142,7 +154,8 @@ module _ {A : Type 0} (d : Inside A) (k : IsKept d) (old : Seen) (seen : record 
           why = subst (IsRefused A chain_limit (old.bytes ++ take used piece) (slice_index piece used)) same t.2;
         }
 
-    pub wants : answer ≡ Err NoMemory → (bytes : List ℕ) → bytes ≡ d.history.items ++ take used piece → (count : ℕ) → used ≡ count → Wants A old piece (record { bytes = bytes; refusal = d.refusal }) count
+    pub wants : answer ≡ Err NoMemory → (bytes : List ℕ) → bytes ≡ d.history.items ++ take used piece → (count : ℕ) → used ≡ count
+        → Wants A old piece (record { bytes = bytes; refusal = d.refusal }) count
     wants is bytes took count same =
         let t = seen_told (Err NoMemory) is in
         subst (Wants A old piece (record { bytes = bytes; refusal = d.refusal })) same (record {

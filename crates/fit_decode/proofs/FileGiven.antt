@@ -1,5 +1,6 @@
 -- What the reading of a file tells of an input that a file's bytes begin, behind the files that were read.
-use Rattle.std.proofs.Common.{◌≡◌, inl, inr, Bool, ℕ, suc, ◌<◌, ◌≤◌, List, [], ◌∷◌, ◌++◌, length, take, drop, get_or, Option, Some, None, Result, Ok, Err, sym, ap, ◌∙◌, subst, arith, append_assoc, length-append}
+use Rattle.std.proofs.Common.{◌≡◌, inl, inr, Bool, ℕ, suc, ◌<◌, ◌≤◌, List, [], ◌∷◌, ◌++◌, length, take, drop, get_or, Option, Some, None, Result, Ok, Err, sym}
+use Rattle.std.proofs.Common.{ap, ◌∙◌, subst, arith, append_assoc, length-append}
 use Rattle.std.specs.Io.KnownBytes.{Consumes}
 use Rattle.std.specs.List.{AllByRecursion}
 use Rattle.std.proofs.lemmas.List.{append-nil, append_cancel_left, take-append-drop}
@@ -16,7 +17,7 @@ use Rattle.fit_decode.specs.Answers.{Seen}
 use Rattle.fit_decode.specs.Progress.{Progress, at_header, progress_bytes, HasCome}
 use Rattle.fit_decode.specs.Reads.{GivesFile}
 use Rattle.fit_decode.specs.Refusals.{IsRefused}
-use Rattle.fit_decode.specs.Turns.{ComesTo, Ended, FileTold, LastPiece}
+use Rattle.fit_decode.specs.inner.Turns.{ComesTo, Ended, FileTold, LastPiece}
 use Rattle.fit_decode.proofs.Completions.{all_append, chain_bytes-append}
 use Rattle.fit_decode.proofs.OnePlace.{no_file}
 use Rattle.fit_decode.proofs.Splits.{split}
@@ -62,7 +63,8 @@ module _ {A : Type 0} (files : List (FitFile A)) (base : List ℕ) (come : HasCo
         ]
 
     -- no byte of the file is refused, nor one behind it
-    never_refused : (p y : List ℕ) (c : ℕ) (reason : Reason) → ComesTo files (base ++ p) → IsRefused A chain_limit (base ++ p) c reason → b ++ x ≡ p ++ c ∷ y → ⊥
+    never_refused : (p y : List ℕ) (c : ℕ) (reason : Reason) → ComesTo files (base ++ p) → IsRefused A chain_limit (base ++ p) c reason → b ++ x ≡ p ++ c ∷ y
+        → ⊥
     never_refused p y c reason comes why e =
         elim (split b p x (c ∷ y) e) [
           | inl s ↦ none_whole p s.more comes s.second
@@ -97,7 +99,8 @@ module _ {A : Type 0} (files : List (FitFile A)) (base : List ℕ) (come : HasCo
     file_ends = record {
       files = all_append files f come.files file.0;
       next = unfinished A [] (λ h n rest fits is. cc);
-      spelled = ap (λ t. t ++ b) base_is ∙ ap (λ t. chain_bytes files ++ t) file.1 ∙ sym (chain_bytes-append files f) ∙ sym (append-nil (chain_bytes (files ++ f ∷ [])));
+      spelled = ap (λ t. t ++ b) base_is ∙ ap (λ t. chain_bytes files ++ t) file.1 ∙ sym (chain_bytes-append files f)
+          ∙ sym (append-nil (chain_bytes (files ++ f ∷ [])));
     }
 
     -- the last piece goes no further than the file
@@ -105,25 +108,29 @@ module _ {A : Type 0} (files : List (FitFile A)) (base : List ℕ) (come : HasCo
     none_behind got y last e =
         let p : List ℕ = progress_bytes last.come.0 in
         let front : last.before ≡ base ++ p = last.come.1.spelled ∙ ap (λ t. t ++ p) (sym base_is) in
-        let parted : got ≡ p ++ last.piece = append_cancel_left base got (p ++ last.piece) (last.parts ∙ ap (λ t. t ++ last.piece) front ∙ append_assoc base p last.piece) in
+        let parted : got ≡ p ++ last.piece = append_cancel_left base got (p ++ last.piece)
+        (last.parts ∙ ap (λ t. t ++ last.piece) front ∙ append_assoc base p last.piece) in
         let comes : ComesTo files (base ++ p) = subst (ComesTo files) front last.come in
         elim (split b p x (last.piece ++ y) (e ∙ ap (λ t. t ++ y) parted ∙ append_assoc p last.piece y)) [
           | inl s ↦ absurd (none_whole p s.more comes s.second)
           | inr s ↦
-              let all : base ++ b ≡ last.before ++ s.next ∷ s.more = ap (λ t. base ++ t) s.first ∙ sym (append_assoc base p (s.next ∷ s.more)) ∙ ap (λ t. t ++ s.next ∷ s.more) (sym front) in
+              let all : base ++ b ≡ last.before ++ s.next ∷ s.more =
+              ap (λ t. base ++ t) s.first ∙ sym (append_assoc base p (s.next ∷ s.more)) ∙ ap (λ t. t ++ s.next ∷ s.more) (sym front) in
               let short = last.within f (s.next ∷ s.more) (subst (Ended files f) all file_ends) in
               omega (arith, short, ap length all, length-append last.before (s.next ∷ s.more), ap length last.parts, length-append last.before last.piece)
         ]
 
     pub given : (got : List ℕ) (has : Option (List ℕ)) (failed : Bool) (new : Seen) (result : Result (FitFile A) Fault) → Consumes (Some (b ++ x)) has got
-        → FileTold files (base ++ got) has failed new result → GivesFile f (length (base ++ b)) x (record { before = Some (b ++ x); after = has; failed = failed }) result
+        → FileTold files (base ++ got) has failed new result
+        → GivesFile f (length (base ++ b)) x (record { before = Some (b ++ x); after = has; failed = failed }) result
     given got None failed new result eats told = absurd eats
     given got (Some y) failed new (Ok g) eats told =
         let one = one_file f g b got x y file (next_bytes g got told.1) eats in
         (sym one.0, ap Some (sym (append_cancel_left b x y (eats ∙ ap (λ t. t ++ y) (sym one.1)))))
-    given got (Some y) failed new (Err (Refused place reason)) eats (within, near, comes, why) = refused_byte got y place reason within comes why eats
+    given got (Some y) failed new (Err (Refused place reason)) eats (within, near, comes, why, good) =
+        refused_byte got y place reason within comes why eats
     given got (Some y) failed new (Err (Truncated place)) eats (is, end, comes, after, good) =
         omega (arith, shorter got y comes eats, ap length eats, length-append b x, length-append got y, ap length end)
-    given got (Some y) failed new (Err (NoMemory used)) eats (is, last) = omega (arith, is, none_behind got y last eats)
+    given got (Some y) failed new (Err (NoMemory used)) eats (is, last, good) = omega (arith, is, none_behind got y last eats)
     given got (Some y) failed new (Err (Read place)) eats (is, bad, comes, after) =
         (bad, omega (arith, is, shorter got y comes eats, length-append base got, length-append base b))

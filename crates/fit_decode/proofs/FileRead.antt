@@ -1,5 +1,6 @@
 -- The turns that read one file.
-use Rattle.std.proofs.Common.{◌≡◌, Bool, true, false, ℕ, ◌-◌, ◌<◌, List, [], ◌++◌, length, Option, Some, None, Result, Ok, Err, refl, sym, ap, ◌∙◌, subst, arith, append_assoc, length-append}
+use Rattle.std.proofs.Common.{◌≡◌, Bool, true, false, ℕ, ◌-◌, ◌<◌, List, [], ◌++◌, length, Option, Some, None, Result, Ok, Err, refl, sym, ap, ◌∙◌, subst}
+use Rattle.std.proofs.Common.{arith, append_assoc, length-append}
 use Rattle.std.specs.Io.KnownBytes.{Consumes}
 use Rattle.std.proofs.lemmas.List.{append-nil}
 use Rattle.fit_frame.specs.declared.header.Header.{Header}
@@ -10,11 +11,11 @@ use Rattle.fit_base.proofs.ByteLists.{IsBytes-none}
 use Rattle.fit_decode.specs.declared.event.Fault.{Fault}
 use Rattle.fit_decode.specs.Answers.{Seen}
 use Rattle.fit_decode.specs.Progress.{at_header, HasCome}
-use Rattle.fit_decode.specs.Turns.{Stands, Ended, Turned, FaultIn, FileRead, Eaten, unrefused}
+use Rattle.fit_decode.specs.inner.Turns.{ComesToRecords, Ended, Turned, FaultIn, FileRead, Eaten, unrefused}
 use Rattle.fit_decode.proofs.Bounds.{short_bytes}
 use Rattle.fit_decode.proofs.Completions.{goes_viable}
 use Rattle.fit_decode.proofs.Consumed.{Consumes-nothing, Consumes-append}
-use Rattle.fit_decode.proofs.Goes.{begins_nothing}
+use Rattle.fit_decode.proofs.ViableGoesOn.{begins_nothing}
 use Rattle.fit_decode.proofs.Whole.{unfinished}
 
 -- of no bytes, no file and nothing of a next one have come
@@ -24,7 +25,7 @@ no_file_yet A = record { files = tt; next = unfinished A [] (λ h n rest fits is
 pub nothing_viable : (A : Type 0) → IsViable A chain_limit []
 nothing_viable A = goes_viable chain_limit [] (at_header []) [] (no_file_yet A) IsBytes-none (omega arith, omega arith, begins_nothing)
 
-pub stands_before : {A : Type 0} (files : List (FitFile A)) (bytes : List ℕ) → HasCome files (at_header []) bytes → Stands files None [] bytes
+pub stands_before : {A : Type 0} (files : List (FitFile A)) (bytes : List ℕ) → HasCome files (at_header []) bytes → ComesToRecords files None [] bytes
 stands_before files bytes come = record { progress = at_header []; come = come; head_is = refl; records_are = refl }
 
 pub eaten_nothing : (old : List ℕ) (had : Option (List ℕ)) (now : Seen) → now.refusal ≡ None → Eaten now.bytes old old had had now
@@ -35,7 +36,8 @@ eaten_nothing old had now fresh = record {
   fed = (λ i. record { bytes = now.bytes; refusal = fresh i }) ∙ ap unrefused (sym (append-nil now.bytes));
 }
 
-module _ {A : Type 0} (files : List (FitFile A)) (bytes old mid taken : List ℕ) (had half has : Option (List ℕ)) (failed : Bool) (now new : Seen) (head : Option Header) (records : List (Record A))
+module _ {A : Type 0} (files : List (FitFile A)) (bytes old mid taken : List ℕ) (had half has : Option (List ℕ)) (failed : Bool) (now new : Seen)
+    (head : Option Header) (records : List (Record A))
     (e : Eaten bytes old mid had half now) where
   module _ (result : Result Bool Fault) (t : Turned files now.bytes mid taken half has failed new head records result) where
     abbrev all : List ℕ
@@ -53,7 +55,8 @@ module _ {A : Type 0} (files : List (FitFile A)) (bytes old mid taken : List ℕ
   pub eaten_more : Turned files now.bytes mid taken half has failed new head records (Ok false) → Eaten bytes old taken had has new
   eaten_more t = record { got = all (Ok false) t; noted = notes (Ok false) t; eats = eats_all (Ok false) t; fed = t.told.1 ∙ ap unrefused (same (Ok false) t) }
 
-  pub file_ended : (h : Header) → head ≡ Some h → Turned files now.bytes mid taken half has failed new head records (Ok true) → FileRead files bytes old taken had has failed new (Ok (record { header = h; records = records }))
+  pub file_ended : (h : Header) → head ≡ Some h → Turned files now.bytes mid taken half has failed new head records (Ok true)
+      → FileRead files bytes old taken had has failed new (Ok (record { header = h; records = records }))
   file_ended h is t =
       let k : Header = t.told.1 in
       let both : Some h ≡ Some k = sym is ∙ t.told.2 in
@@ -65,12 +68,14 @@ module _ {A : Type 0} (files : List (FitFile A)) (bytes old mid taken : List ℕ
         eats = eats_all (Ok true) t;
         told = (
           t.told.0 ∙ ap unrefused (same (Ok true) t),
-          subst (λ b. Ended files (record { header = h; records = records }) b) (same (Ok true) t) (subst (λ d. Ended files (record { header = d; records = records }) (now.bytes ++ t.got)) one ended),
+          subst (λ b. Ended files (record { header = h; records = records }) b) (same (Ok true) t)
+              (subst (λ d. Ended files (record { header = d; records = records }) (now.bytes ++ t.got)) one ended),
           t.told.4,
         );
       }
 
-  pub file_stopped : (fault : Fault) → Turned files now.bytes mid taken half has failed new head records (Err fault) → FileRead files bytes old taken had has failed new (Err fault)
+  pub file_stopped : (fault : Fault) → Turned files now.bytes mid taken half has failed new head records (Err fault)
+      → FileRead files bytes old taken had has failed new (Err fault)
   file_stopped fault t = record {
     got = all (Err fault) t;
     noted = notes (Err fault) t;
@@ -79,9 +84,11 @@ module _ {A : Type 0} (files : List (FitFile A)) (bytes old mid taken : List ℕ
   }
 
 -- a turn goes on
-pub goes_on_standing : {A : Type 0} (files : List (FitFile A)) (bytes old taken : List ℕ) (had has : Option (List ℕ)) (failed : Bool) (new : Seen) (head : Option Header) (records : List (Record A))
-    → Turned files bytes old taken had has failed new head records (Ok false) → Stands files head records new.bytes
-goes_on_standing files bytes old taken had has failed new head records t = subst (λ (v : Seen). Stands files head records v.bytes) (sym t.told.1) t.told.2
+pub goes_on_standing : {A : Type 0} (files : List (FitFile A)) (bytes old taken : List ℕ) (had has : Option (List ℕ)) (failed : Bool) (new : Seen)
+    (head : Option Header) (records : List (Record A))
+    → Turned files bytes old taken had has failed new head records (Ok false) → ComesToRecords files head records new.bytes
+goes_on_standing files bytes old taken had has failed new head records t =
+    subst (λ (v : Seen). ComesToRecords files head records v.bytes) (sym t.told.1) t.told.2
 
 pub fewer_left : (A : Type 0) (before after got : List ℕ) → IsViable A chain_limit before → 0 < length got → after ≡ before ++ got
     → 144115188075855872 - length after < 144115188075855872 - length before

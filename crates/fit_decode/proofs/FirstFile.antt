@@ -4,7 +4,7 @@ use Rattle.fit_base.specs.Numbers.{IsBytes}
 use Rattle.fit_record.specs.Files.{IsViable}
 use Rattle.fit_decode.specs.Progress.{Progress, at_header, at_data, HasCome}
 use Rattle.fit_decode.specs.GoingOn.{files_begun}
-use Rattle.fit_decode.proofs.Goes.{viable_goes}
+use Rattle.fit_decode.proofs.ViableGoesOn.{viable_goes}
 use Rattle.fit_decode.proofs.Completions.{goes_viable}
 
 one_at_most : {A : Type 0} (g : Progress A) → files_begun {A = A} [] g ≤ 1
@@ -12,7 +12,8 @@ one_at_most (at_header []) = omega arith
 one_at_most (at_header (b ∷ front)) = omega arith
 one_at_most (at_data h n records part) = omega arith
 
-pub other_limit : {A : Type 0} (limit other : ℕ) (g : Progress A) (bytes : List ℕ) → HasCome [] g bytes → IsBytes bytes → 0 < other → IsViable A limit bytes → IsViable A other bytes
+pub other_limit : {A : Type 0} (limit other : ℕ) (g : Progress A) (bytes : List ℕ) → HasCome [] g bytes → IsBytes bytes → 0 < other → IsViable A limit bytes
+    → IsViable A other bytes
 other_limit limit other g bytes come are some viable =
     let goes = viable_goes limit [] g bytes come viable in
     goes_viable other [] g bytes come are (some, omega (arith, one_at_most g, some), goes.2)

@@ -1,5 +1,6 @@
 -- What a chain tells of the bytes that have come of it: its first files are the whole ones, and its next file begins with the rest.
-use Rattle.std.proofs.Common.{◌≡◌, ◌⊎◌, inl, inr, ℕ, ◌+◌, ◌-◌, ◌<◌, ◌≤◌, List, [], ◌∷◌, ◌++◌, length, refl, sym, ap, ◌∙◌, subst, arith, append_assoc, length-append}
+use Rattle.std.proofs.Common.{◌≡◌, ◌⊎◌, inl, inr, ℕ, ◌+◌, ◌-◌, ◌<◌, ◌≤◌, List, [], ◌∷◌, ◌++◌, length, refl, sym, ap, ◌∙◌, subst, arith, append_assoc}
+use Rattle.std.proofs.Common.{length-append}
 use Rattle.std.specs.List.{AllByRecursion}
 use Rattle.std.proofs.lemmas.List.{append_cancel_left}
 use Rattle.fit_base.specs.Numbers.{little_bytes}
@@ -123,10 +124,12 @@ pub record SumFollows {A : Type 0} (room : ℕ) (part x tail : List ℕ) (others
   pub comes : part ++ x ≡ tail
 
 part_follows : {A : Type 0} (e : Environment A) (room : ℕ) (others : List (Record A)) (part x tail : List ℕ) → IsPartial e room part → AllFit e others
-    → room ≡ length (records_bytes e others) → part ++ x ≡ records_bytes e others ++ tail → RecordFollows e room part x tail ⊎ SumFollows room part x tail others
+    → room ≡ length (records_bytes e others) → part ++ x ≡ records_bytes e others ++ tail
+    → RecordFollows e room part x tail ⊎ SumFollows room part x tail others
 part_follows e room [] part x tail u p l h = inr (record { over = l; none = refl; comes = h })
 part_follows e room (r ∷ after) part x tail u p l h =
-    let parts : part ++ x ≡ record_bytes e r ++ (records_bytes (learn e r) after ++ tail) = h ∙ append_assoc (record_bytes e r) (records_bytes (learn e r) after) tail in
+    let parts : part ++ x ≡ record_bytes e r ++ (records_bytes (learn e r) after ++ tail) =
+    h ∙ append_assoc (record_bytes e r) (records_bytes (learn e r) after) tail in
     let both = length-append (record_bytes e r) (records_bytes (learn e r) after) in
     elim (split part (record_bytes e r) x (records_bytes (learn e r) after ++ tail) parts) [
       | inl s ↦ inl (record {
@@ -156,14 +159,17 @@ pub record DataFollows {A : Type 0} (h : Header) (n : ℕ) (records : List (Reco
       RecordFollows (learn_all empty_environment records) room part x tail ⊎ SumFollows room part x tail next
 
 pub data_follows : {A : Type 0} (h : Header) (n : ℕ) (records : List (Record A)) (part x : List ℕ) (others : List (FitFile A))
-    → IsUnfinished (at_data h n records part) → AllByRecursion IsWellFormed others → progress_bytes (at_data h n records part) ++ x ≡ chain_bytes others → DataFollows h n records part x others
+    → IsUnfinished (at_data h n records part) → AllByRecursion IsWellFormed others → progress_bytes (at_data h n records part) ++ x ≡ chain_bytes others
+    → DataFollows h n records part x others
 data_follows h n records part x [] u p e = absurd cc
 data_follows h n records part x (f ∷ after) u p e =
     let tail : List ℕ = little_bytes 2 (checksum (summed f)) ++ chain_bytes after in
     let parts : header_bytes h n ++ (records_bytes empty_environment records ++ (part ++ x)) ≡ header_bytes f.header (length (body f)) ++ (body f ++ tail) =
-    sym (regroup (header_bytes h n) (records_bytes empty_environment records) part x) ∙ e ∙ regroup (header_bytes f.header (length (body f))) (body f) (little_bytes 2 (checksum (summed f))) (chain_bytes after) in
+    sym (regroup (header_bytes h n) (records_bytes empty_environment records) part x) ∙ e
+    ∙ regroup (header_bytes f.header (length (body f))) (body f) (little_bytes 2 (checksum (summed f))) (chain_bytes after) in
     let header = one_header h f.header n (length (body f)) _ _ u.0 p.0.header parts in
-    let within : length (records_bytes empty_environment records) ≤ length (body f) = subst (λ m. length (records_bytes empty_environment records) ≤ m) header.1 u.2 in
+    let within : length (records_bytes empty_environment records) ≤ length (body f) =
+    subst (λ m. length (records_bytes empty_environment records) ≤ m) header.1 u.2 in
     let rest = remain empty_environment records f.records (part ++ x) tail u.1 p.0.records within header.2 in
     record {
       file = f;

@@ -1,5 +1,6 @@
 -- What bytes of a header make of the place, of the events and of what can follow.
-use Rattle.std.proofs.Common.{◌≡◌, cond, ℕ, zero, suc, ◌+◌, ◌-◌, ◌<◌, ◌≤◌, List, [], ◌∷◌, ◌++◌, length, take, drop, slice_index, length-drop, refl, sym, ap, ◌∙◌, subst, arith, append_assoc, Some}
+use Rattle.std.proofs.Common.{◌≡◌, cond, ℕ, zero, suc, ◌+◌, ◌-◌, ◌<◌, ◌≤◌, List, [], ◌∷◌, ◌++◌, length, take, drop, slice_index, length-drop, refl, sym, ap}
+use Rattle.std.proofs.Common.{◌∙◌, subst, arith, append_assoc, Some}
 use Rattle.std.proofs.lemmas.Bool.{ne_eqb, eq-eqb}
 use Rattle.std.proofs.lemmas.List.{length-take-le}
 use Rattle.fit_base.specs.Numbers.{IsBytes}
@@ -14,8 +15,8 @@ use Rattle.fit_decode.specs.Events.{header}
 use Rattle.fit_decode.specs.GoingOn.{files_begun}
 use Rattle.fit_decode.specs.Refusals.{IsRefused, reason_at, reason_in_file}
 use Rattle.fit_decode.specs.Answers.{Quiet, Least}
-use Rattle.fit_decode.specs.Scans.{IsOpen}
-use Rattle.fit_decode.proofs.Goes.{next_goes}
+use Rattle.fit_decode.specs.inner.Scans.{IsHeaderPart}
+use Rattle.fit_decode.proofs.ViableGoesOn.{next_goes}
 use Rattle.fit_decode.proofs.Completions.{goes_viable}
 use Rattle.fit_decode.proofs.Whole.{NoHeader, no_header_before, begun_header, before_header}
 use Rattle.fit_decode.proofs.Next.{more_header, whole_header, quiet, told, header_told}
@@ -29,38 +30,46 @@ pub front_of : (y : List ℕ) (j k : ℕ) → j ≤ k → k ≤ length y → tak
 front_of y zero k less within = ap (λ n. take n y) (omega arith)
 front_of [] (suc j) k less within = absurd (omega arith)
 front_of (x ∷ y) (suc j) zero less within = absurd (omega arith)
-front_of (x ∷ y) (suc j) (suc k) less within = ap (λ l. x ∷ l) (front_of y j k (omega (arith, less)) (omega (arith, within)) ∙ ap (λ n. take j y ++ take n (drop j y)) (omega arith))
+front_of (x ∷ y) (suc j) (suc k) less within =
+    ap (λ l. x ∷ l) (front_of y j k (omega (arith, less)) (omega (arith, within)) ∙ ap (λ n. take j y ++ take n (drop j y)) (omega arith))
 
 module _ {A : Type 0} (files : List (FitFile A)) (front bytes piece : List ℕ) (come : HasCome files (at_header front) bytes) where
-  pub header_fronts : (k : ℕ) → k ≤ length piece → NoHeader (front ++ take k piece) → (j : ℕ) → j ≤ k → HasCome files (at_header (front ++ take j piece)) (bytes ++ take j piece)
+  pub header_fronts : (k : ℕ) → k ≤ length piece → NoHeader (front ++ take k piece) → (j : ℕ) → j ≤ k
+      → HasCome files (at_header (front ++ take j piece)) (bytes ++ take j piece)
   header_fronts k within none j less =
-      let parts : front ++ take k piece ≡ (front ++ take j piece) ++ take (k - j) (drop j piece) = ap (λ l. front ++ l) (front_of piece j k less within) ∙ sym (append_assoc front (take j piece) (take (k - j) (drop j piece))) in
+      let parts : front ++ take k piece ≡ (front ++ take j piece) ++ take (k - j) (drop j piece) =
+      ap (λ l. front ++ l) (front_of piece j k less within) ∙ sym (append_assoc front (take j piece) (take (k - j) (drop j piece))) in
       more_header files front bytes (take j piece) come (no_header_before (front ++ take j piece) (take (k - j) (drop j piece)) (subst NoHeader parts none))
 
   -- bytes with which the header isn't whole tell nothing
   pub header_quiet : (k : ℕ) → k ≤ length piece → NoHeader (front ++ take k piece) → Quiet A bytes piece k
-  header_quiet k within none = λ events are j less. quiet files (at_header front) (at_header (front ++ take j piece)) bytes (bytes ++ take j piece) come (header_fronts k within none j less) refl events are
+  header_quiet k within none = λ events are j less.
+      quiet files (at_header front) (at_header (front ++ take j piece)) bytes (bytes ++ take j piece) come (header_fronts k within none j less) refl events are
 
   -- those with which it is whole tell it, and fewer nothing
   pub header_least : (k : ℕ) (h : Header) (n : ℕ) → k ≤ length piece → IsFileHeader h n (front ++ take k piece) → Least A bytes piece k (header h n)
   header_least k h n within whole = λ events are. (
-    told files files (at_header front) (at_data h n [] []) bytes (bytes ++ take k piece) (header h n) come (whole_header files front bytes (take k piece) h n come whole) (header_told files front h n) events are,
+    told files files (at_header front) (at_data h n [] []) bytes (bytes ++ take k piece) (header h n) come
+        (whole_header files front bytes (take k piece) h n come whole) (header_told files front h n) events are,
     λ j less.
         let left : length (take (k - j) (drop j piece)) ≡ k - j = length-take-le (k - j) (drop j piece) (omega (arith, length-drop j piece, within)) in
         let parts : front ++ take k piece ≡ (front ++ take j piece) ++ take (k - j) (drop j piece) =
         ap (λ l. front ++ l) (front_of piece j k (omega (arith, less)) within) ∙ sym (append_assoc front (take j piece) (take (k - j) (drop j piece))) in
-        let none : NoHeader (front ++ take j piece) = before_header (front ++ take j piece) (take (k - j) (drop j piece)) h n (subst (IsFileHeader h n) parts whole) (omega (arith, left, less)) in
+        let none : NoHeader (front ++ take j piece) =
+        before_header (front ++ take j piece) (take (k - j) (drop j piece)) h n (subst (IsFileHeader h n) parts whole) (omega (arith, left, less)) in
         header_quiet j (omega (arith, less, within)) none events are j (omega arith),
   )
 
   -- a refused byte
-  pub header_refuses : (k : ℕ) (reason : Reason) → k < length piece → length files < chain_limit → IsBytes (bytes ++ take k piece) → IsOpen (front ++ take k piece)
+  pub header_refuses : (k : ℕ) (reason : Reason) → k < length piece → length files < chain_limit → IsBytes (bytes ++ take k piece)
+      → IsHeaderPart (front ++ take k piece)
       → RefusesByte (front ++ take k piece) (slice_index piece k) reason → IsRefused A chain_limit (bytes ++ take k piece) (slice_index piece k) reason
   header_refuses k reason within few are begun refuses =
       let now = front ++ take k piece in
       let here = header_fronts k (omega (arith, within)) (begun_header now begun.0 begun.1) k (omega arith) in
       record {
-        viable = goes_viable chain_limit files (at_header now) (bytes ++ take k piece) here are (omega (arith, few), omega (arith, few, begun_at files now), begun.0);
+        viable = goes_viable chain_limit files (at_header now) (bytes ++ take k piece) here are
+            (omega (arith, few), omega (arith, few, begun_at files now), begun.0);
         refused = λ more. refuses.ends (next_goes chain_limit files (at_header now) (bytes ++ take k piece) (slice_index piece k) here more).2;
         files = files;
         progress = at_header now;

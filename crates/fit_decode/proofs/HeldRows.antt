@@ -77,7 +77,8 @@ of_one records part = at_data (header_of 14 sums.Zero) 11 records part
 -- behind the definition; behind the message's record header; behind the message; and behind one byte of the closing sum, which looks like
 -- a record header of the same local message type and is none
 abbrev known_file : List (Progress (Unit {0}))
-known_file = of_one (one_field ∷ []) [] ∷ of_one (one_field ∷ []) (3 ∷ []) ∷ of_one (one_field ∷ one_byte ∷ []) [] ∷ of_one (one_field ∷ one_byte ∷ []) (0x13 ∷ []) ∷ []
+known_file = of_one (one_field ∷ []) [] ∷ of_one (one_field ∷ []) (3 ∷ []) ∷ of_one (one_field ∷ one_byte ∷ []) []
+    ∷ of_one (one_field ∷ one_byte ∷ []) (0x13 ∷ []) ∷ []
 
 held : (map held_behind known_file) ≡ 1 ∷ 2 ∷ 1 ∷ 1 ∷ []
 held = refl

@@ -25,10 +25,10 @@ use Rattle.fit_decode.specs.Progress.{at_header, at_data, progress_bytes, HasCom
 use Rattle.fit_decode.specs.Events.{part_size, bound}
 use Rattle.fit_decode.specs.Answers.{Seen, AreChain}
 use Rattle.fit_decode.specs.Held.{IsHeld, bound_limit, held_of_record}
-use Rattle.fit_decode.specs.InProgress.{in_progress_size, IsSmall}
-use Rattle.fit_decode.specs.Kept.{Fields, InHeader, HoldsAt}
-use Rattle.fit_decode.specs.Invariant.{IsKept, fields_of}
-use Rattle.fit_decode.specs.Scans.{sum_part}
+use Rattle.fit_decode.specs.inner.InProgress.{in_progress_size, IsCountable}
+use Rattle.fit_decode.specs.inner.Kept.{Fields, InHeader, HoldsAt}
+use Rattle.fit_decode.specs.inner.Invariant.{IsSoundDecoder, fields_inside}
+use Rattle.fit_decode.specs.inner.Scans.{half_sum}
 use Rattle.fit_decode.specs.Laws.{BoundsAreLimited}
 use Rattle.fit_decode.proofs.Walked.{come}
 use Rattle.fit_decode.proofs.Ended.{chain_ended}
@@ -41,7 +41,8 @@ nothing_known A = refl
 
 -- ---- the limit
 
-module _ {A : Type 0} (files : List (FitFile A)) (h : Rattle.fit_frame.specs.declared.header.Header.Header) (n : ℕ) (records : List (Record A)) (part bytes : List ℕ)
+module _ {A : Type 0} (files : List (FitFile A)) (h : Rattle.fit_frame.specs.declared.header.Header.Header) (n : ℕ) (records : List (Record A))
+    (part bytes : List ℕ)
     (here : HasCome files (at_data h n records part) bytes) (are : IsBytes bytes) where
   next_are : IsBytes ((header_bytes h n ++ records_bytes empty_environment records) ++ part)
   next_are = IsBytes-back (chain_bytes files) (progress_bytes (at_data h n records part)) (subst IsBytes here.spelled are)
@@ -52,14 +53,20 @@ module _ {A : Type 0} (files : List (FitFile A)) (h : Rattle.fit_frame.specs.dec
   pub records_limited : AreLimited (learn_all empty_environment records)
   records_limited =
       all_limited empty_environment records here.next.1
-      (IsBytes-back (header_bytes h n) (records_bytes empty_environment records) (IsBytes-front (header_bytes h n ++ records_bytes empty_environment records) part next_are)) (nothing_limited A)
+      (IsBytes-back (header_bytes h n) (records_bytes empty_environment records)
+      (IsBytes-front (header_bytes h n ++ records_bytes empty_environment records) part next_are)) (nothing_limited A)
 
   none_or : (b : Bool) (m : ℕ) → cond b 0 m ≤ m
   none_or true m = omega arith
   none_or false m = omega arith
 
   limited_data : bound (at_data h n records part) ≤ bound_limit
-  limited_data = omega (arith, none_or (length (records_bytes empty_environment records) == n) (part_size (learn_all empty_environment records) part), environment_limited (learn_all empty_environment records) (sixteen_places records) records_limited, part_limited (learn_all empty_environment records) part records_limited part_are)
+  limited_data = omega (
+    arith,
+    none_or (length (records_bytes empty_environment records) == n) (part_size (learn_all empty_environment records) part),
+    environment_limited (learn_all empty_environment records) (sixteen_places records) records_limited,
+    part_limited (learn_all empty_environment records) part records_limited part_are,
+  )
 
 pub limited_bound : {A : Type 0} → BoundsAreLimited A
 limited_bound files (at_header front) bytes here are = omega arith
@@ -82,12 +89,15 @@ module _ {A : Type 0} (d : Fields A) (bytes : List ℕ) (are : IsBytes bytes) wh
       let place = come d.env room k.part now k.walk (part_are k.files k.header k.size k.records k.part bytes k.come are) in
       let held = part_held d.env now.room place.of place.is_part in
       let same : in_progress_size d.in_progress ≤ part_size d.env k.part =
-      subst (λ l. in_progress_size d.in_progress ≤ part_size d.env l) place.spelled (subst (λ (t : State A). in_progress_size t.in_progress ≤ part_size d.env (part_bytes d.env place.of)) (sym place.is) held) in
+      subst (λ l. in_progress_size d.in_progress ≤ part_size d.env l) place.spelled
+      (subst (λ (t : State A). in_progress_size t.in_progress ≤ part_size d.env (part_bytes d.env place.of)) (sym place.is) held) in
       let known = ap environment_size k.known in
       let limited : AreLimited d.env = subst AreLimited (sym k.known) (records_limited k.files k.header k.size k.records k.part bytes k.come are) in
-      let some : (length (records_bytes empty_environment k.records) == k.size) ≡ false = ne_eqb (length (records_bytes empty_environment k.records)) k.size (λ all. let more = k.some in omega (arith, more, all)) in
+      let some : (length (records_bytes empty_environment k.records) == k.size) ≡ false =
+      ne_eqb (length (records_bytes empty_environment k.records)) k.size (λ all. let more = k.some in omega (arith, more, all)) in
       let exact : in_progress_size d.in_progress ≡ cond (length (records_bytes empty_environment k.records) == k.size) 0 (held_of_record e k.part) =
-      ap (λ (t : State A). in_progress_size t.in_progress) place.is ∙ part_is d.env now.room place.of limited place.is_part ∙ ap (held_of_record d.env) place.spelled ∙ ap (λ f. held_of_record f k.part) k.known
+      ap (λ (t : State A). in_progress_size t.in_progress) place.is ∙ part_is d.env now.room place.of limited place.is_part
+      ∙ ap (held_of_record d.env) place.spelled ∙ ap (λ f. held_of_record f k.part) k.known
       ∙ sym (cond-false (length (records_bytes empty_environment k.records) == k.size) 0 (held_of_record e k.part) some) in
       let at_part = ap (λ f. part_size f k.part) k.known in
       let counted = cond-false (length (records_bytes empty_environment k.records) == k.size) 0 (part_size e k.part) some in
@@ -106,70 +116,79 @@ module _ {A : Type 0} (d : Fields A) (bytes : List ℕ) (are : IsBytes bytes) wh
   held_at ClosingSum k =
       let known = ap environment_size k.known in
       let none : in_progress_size d.in_progress ≡ 0 = ap in_progress_size k.idle in
-      let over = eq-eqb (length (records_bytes empty_environment k.records)) k.size (let less = k.come.next.2 in let all = k.over in omega (arith, less, all)) in
+      let over = eq-eqb (length (records_bytes empty_environment k.records)) k.size (let less = k.come.next.2 in let all = k.over in omega (arith, less, all))
+      in
       record {
         files = k.files;
         progress = at_data k.header k.size k.records _;
         come = k.come;
-        is = omega (arith, known, none, cond-true (length (records_bytes empty_environment k.records) == k.size) 0 (held_of_record (learn_all empty_environment k.records) (sum_part (checksum d.sum) d.half)) over);
+        is = omega (
+          arith,
+          known,
+          none,
+          cond-true (length (records_bytes empty_environment k.records) == k.size) 0
+              (held_of_record (learn_all empty_environment k.records) (half_sum (checksum d.sum) d.half)) over,
+        );
         within = omega (arith, known, none);
         all = λ _.
-            let uncounted = cond-true (length (records_bytes empty_environment k.records) == k.size) 0 (part_size (learn_all empty_environment k.records) (sum_part (checksum d.sum) d.half)) over in
+            let uncounted = cond-true (length (records_bytes empty_environment k.records) == k.size) 0
+            (part_size (learn_all empty_environment k.records) (half_sum (checksum d.sum) d.half)) over in
             omega (arith, known, none, uncounted);
       }
 
-  small_at : (s : Section) → HoldsAt s d bytes → IsSmall d.in_progress
-  small_at Header k = subst IsSmall (sym k.idle) tt
-  small_at ClosingSum k = subst IsSmall (sym k.idle) tt
+  small_at : (s : Section) → HoldsAt s d bytes → IsCountable d.in_progress
+  small_at Header k = subst IsCountable (sym k.idle) tt
+  small_at ClosingSum k = subst IsCountable (sym k.idle) tt
   small_at Data k =
       let now : State A = state_at d.position d.in_progress in
       let part = part_are k.files k.header k.size k.records k.part bytes k.come are in
       let place = come d.env (k.size - length (records_bytes empty_environment k.records)) k.part now k.walk part in
       let limited : AreLimited d.env = subst AreLimited (sym k.known) (records_limited k.files k.header k.size k.records k.part bytes k.come are) in
       let few = subst (λ l. part_size d.env l ≤ 130560) (sym place.spelled) (part_limited d.env k.part limited part) in
-      subst (λ (t : State A). IsSmall t.in_progress) (sym place.is) (part_small d.env now.room place.of place.is_part few)
+      subst (λ (t : State A). IsCountable t.in_progress) (sym place.is) (part_small d.env now.room place.of place.is_part few)
 
 -- ---- what a caller sees
 
-pub small_seen : {A : Type 0} (d : Inside A) → IsKept d → IsSmall d.in_progress
+pub small_seen : {A : Type 0} (d : Inside A) → IsSoundDecoder d → IsCountable d.in_progress
 small_seen {A} d k = go d.refusal refl
   where
-    go : (o : Option Reason) → d.refusal ≡ o → IsSmall d.in_progress
-    go None is = small_at (fields_of d) d.history.items k.are d.section (k.holds is)
-    go (Some reason) is = subst IsSmall (sym (k.let_go reason is).1) tt
+    go : (o : Option Reason) → d.refusal ≡ o → IsCountable d.in_progress
+    go None is = small_at (fields_inside d) d.history.items k.are d.section (k.holds is)
+    go (Some reason) is = subst IsCountable (sym (k.let_go reason is).1) tt
 
-module _ {A : Type 0} (d : Inside A) (k : IsKept d) (n m : ℕ) (env : n ≡ environment_size d.env) (in_progress : m ≡ in_progress_size d.in_progress) where
-  fresh_held : d.refusal ≡ None → IsHeld A d.history.items (n + m)
-  fresh_held none =
-      let count : environment_size d.env + in_progress_size d.in_progress ≡ n + m = omega (arith, env, in_progress) in
-      subst (IsHeld A d.history.items) count (held_at (fields_of d) d.history.items k.are d.section (k.holds none))
+module _ {A : Type 0} (d : Inside A) (k : IsSoundDecoder d) (n m : ℕ) (env : n ≡ environment_size d.env) (in_progress : m ≡ in_progress_size d.in_progress)
+  where
+    fresh_held : d.refusal ≡ None → IsHeld A d.history.items (n + m)
+    fresh_held none =
+        let count : environment_size d.env + in_progress_size d.in_progress ≡ n + m = omega (arith, env, in_progress) in
+        subst (IsHeld A d.history.items) count (held_at (fields_inside d) d.history.items k.are d.section (k.holds none))
 
-  let_go : (reason : Reason) → d.refusal ≡ Some reason → n + m ≡ 0
-  let_go reason is = let gone = k.let_go reason is in omega (arith, env, in_progress, nothing_held (fields_of d) d.history.items k.are gone.0 gone.1)
+    let_go : (reason : Reason) → d.refusal ≡ Some reason → n + m ≡ 0
+    let_go reason is = let gone = k.let_go reason is in omega (arith, env, in_progress, nothing_held (fields_inside d) d.history.items k.are gone.0 gone.1)
 
-  pub limited_seen : n + m ≤ bound_limit
-  limited_seen = go d.refusal refl
-    where
-      go : (o : Option Reason) → d.refusal ≡ o → n + m ≤ bound_limit
-      go None is = let h = fresh_held is in omega (arith, h.within, limited_bound h.files h.progress d.history.items h.come k.are)
-      go (Some reason) is = omega (arith, let_go reason is)
-
-  module _ (old : Seen) (seen : record { bytes = d.history.items; refusal = d.refusal } ≡ old) where
-    pub held_seen : old.refusal ≡ None → IsHeld A old.bytes (n + m)
-    held_seen fresh = subst (λ b. IsHeld A b (n + m)) (ap (λ (s : Seen). s.bytes) seen) (fresh_held (ap (λ (s : Seen). s.refusal) seen ∙ fresh))
-
-    pub let_go_seen : (reason : Reason) → old.refusal ≡ Some reason → n + m ≡ 0
-    let_go_seen reason is = let_go reason (ap (λ (s : Seen). s.refusal) seen ∙ is)
-
-    pub ended_seen : AreChain A old.bytes → n + m ≡ 0
-    ended_seen chain = go d.refusal refl
+    pub limited_seen : n + m ≤ bound_limit
+    limited_seen = go d.refusal refl
       where
-        at_end : d.refusal ≡ None → n + m ≡ 0
-        at_end none =
-            let ended = chain_ended (fields_of d) d.history.items (k.holds none) (subst (AreChain A) (sym (ap (λ (s : Seen). s.bytes) seen)) chain) in
-            let h : InHeader (fields_of d) d.history.items = subst (λ s. HoldsAt s (fields_of d) d.history.items) ended.0 (k.holds none) in
-            omega (arith, env, in_progress, nothing_held (fields_of d) d.history.items k.are h.known h.idle)
+        go : (o : Option Reason) → d.refusal ≡ o → n + m ≤ bound_limit
+        go None is = let h = fresh_held is in omega (arith, h.within, limited_bound h.files h.progress d.history.items h.come k.are)
+        go (Some reason) is = omega (arith, let_go reason is)
 
-        go : (o : Option Reason) → d.refusal ≡ o → n + m ≡ 0
-        go None is = at_end is
-        go (Some reason) is = let_go reason is
+    module _ (old : Seen) (seen : record { bytes = d.history.items; refusal = d.refusal } ≡ old) where
+      pub held_seen : old.refusal ≡ None → IsHeld A old.bytes (n + m)
+      held_seen fresh = subst (λ b. IsHeld A b (n + m)) (ap (λ (s : Seen). s.bytes) seen) (fresh_held (ap (λ (s : Seen). s.refusal) seen ∙ fresh))
+
+      pub let_go_seen : (reason : Reason) → old.refusal ≡ Some reason → n + m ≡ 0
+      let_go_seen reason is = let_go reason (ap (λ (s : Seen). s.refusal) seen ∙ is)
+
+      pub ended_seen : AreChain A old.bytes → n + m ≡ 0
+      ended_seen chain = go d.refusal refl
+        where
+          at_end : d.refusal ≡ None → n + m ≡ 0
+          at_end none =
+              let ended = chain_ended (fields_inside d) d.history.items (k.holds none) (subst (AreChain A) (sym (ap (λ (s : Seen). s.bytes) seen)) chain) in
+              let h : InHeader (fields_inside d) d.history.items = subst (λ s. HoldsAt s (fields_inside d) d.history.items) ended.0 (k.holds none) in
+              omega (arith, env, in_progress, nothing_held (fields_inside d) d.history.items k.are h.known h.idle)
+
+          go : (o : Option Reason) → d.refusal ≡ o → n + m ≡ 0
+          go None is = at_end is
+          go (Some reason) is = let_go reason is

@@ -1,5 +1,6 @@
 -- How much there is of a record in progress, by its bytes.
-use Rattle.std.proofs.Common.{◌≡◌, cond, ℕ, suc, ◌+◌, ◌-◌, ◌*◌, ◌/◌, ◌<◌, ◌≤◌, List, [], ◌∷◌, ◌++◌, length, length-append, refl, sym, ap, ◌∙◌, subst, arith, append_assoc, Some, None}
+use Rattle.std.proofs.Common.{◌≡◌, cond, ℕ, suc, ◌+◌, ◌-◌, ◌*◌, ◌/◌, ◌<◌, ◌≤◌, List, [], ◌∷◌, ◌++◌, length, length-append, refl, sym, ap, ◌∙◌, subst, arith}
+use Rattle.std.proofs.Common.{append_assoc, Some, None}
 use Rattle.std.specs.Prelude.{Option, map, flat_map, zip, sum_by, slice_index}
 use Rattle.std.specs.Option.{option_map_or}
 use Rattle.std.proofs.lemmas.Bool.{cond_both}
@@ -16,20 +17,23 @@ use Rattle.fit_record.specs.declared.definition.MessageDef.{MessageDef}
 use Rattle.fit_record.specs.declared.environment.Defined.{Defined}
 use Rattle.fit_record.specs.Environment.{Environment, defined_at, dev_defs}
 use Rattle.fit_record.specs.HeaderByte.{is_definition, has_developer_fields, local_type}
-use Rattle.fit_record.specs.Records.{architecture, field_bytes, dev_field_bytes, definition_header, layout, dev_layout, HaveShape, data_header, DataHeaderFits, DefinitionFits, order_at}
+use Rattle.fit_record.specs.Records.{architecture, field_bytes, dev_field_bytes, definition_header, layout, dev_layout, HaveShape, data_header, DataHeaderFits}
+use Rattle.fit_record.specs.Records.{DefinitionFits, order_at}
 use Rattle.fit_record.specs.Sizes.{entry_count}
 use Rattle.fit_step.specs.declared.phase.DefinitionPhase.{DefinitionPhase}
-use Rattle.fit_step.specs.declared.phase.DefinitionPhase.TheVariants.{Reserved, Architecture as AtArchitecture, GlobalFirst, GlobalSecond, FieldCount, FieldNumber, FieldSize, FieldCode, DevCount, DevNumber, DevSize, DevIndex}
+use Rattle.fit_step.specs.declared.phase.DefinitionPhase.TheVariants.{Reserved, Architecture as AtArchitecture, GlobalFirst, GlobalSecond, FieldCount}
+use Rattle.fit_step.specs.declared.phase.DefinitionPhase.TheVariants.{FieldNumber, FieldSize, FieldCode, DevCount, DevNumber, DevSize, DevIndex}
 use Rattle.fit_step.specs.Machine.{no_items}
-use Rattle.fit_step.specs.Steps.{IsDefining}
-use Rattle.fit_step.specs.Parts.{Part, nothing, in_definition, in_fields, in_dev_fields, Taking, width_of, taken, all_items, definition_part, part_bytes, HasNone, IsNew, AwaitsFields, AwaitsDev, IsDefinitionPart, IsTaking, IsPart, state_of}
+use Rattle.fit_step.specs.inner.Steps.{IsDefining}
+use Rattle.fit_step.specs.Parts.{RecordPart, nothing, in_definition, in_fields, in_dev_fields, TakenFields, width_of, taken, all_items, definition_part}
+use Rattle.fit_step.specs.Parts.{part_bytes, HasNone, IsNew, AwaitsFields, AwaitsDev, IsDefinitionPart, IsTaking, IsPart, state_of}
 use Rattle.fit_step.proofs.DefinitionReasons.{count_at, count_before, count_in_dev}
 use Rattle.fit_step.proofs.HeaderBits.{is_some_dev, definition_bits, data_bits}
 use Rattle.fit_step.proofs.Lengths.{length-fields_front}
 use Rattle.fit_step.proofs.Preconditions.{is_defining}
 use Rattle.fit_step.proofs.Takes.{as_many}
 use Rattle.fit_decode.specs.Events.{counts_so_far, item_count, part_size}
-use Rattle.fit_decode.specs.InProgress.{items_in, in_progress_size, IsSmall}
+use Rattle.fit_decode.specs.inner.InProgress.{items_in, in_progress_size, IsCountable}
 use Rattle.fit_decode.proofs.Limits.{IsLimited, AreLimited}
 
 -- ---- the items of a data message
@@ -48,13 +52,14 @@ whole_items [] [] h = refl
 whole_items [] (i ∷ items) h = absurd h
 whole_items (f ∷ fields) [] h = absurd h
 whole_items {A} (f ∷ fields) (i ∷ items) h =
-    sum_by-cons (λ (j : Items A). length j.bits) i items ∙ ap (λ n. n + items_in items) (items_of_field f.0 f.1 i h.0) ∙ ap (λ n. items_of f + n) (whole_items fields items h.1) ∙ sym (sum_by-cons items_of f fields)
+    sum_by-cons (λ (j : Items A). length j.bits) i items ∙ ap (λ n. n + items_in items) (items_of_field f.0 f.1 i h.0)
+    ∙ ap (λ n. items_of f + n) (whole_items fields items h.1) ∙ sym (sum_by-cons items_of f fields)
 
 pub no_items_yet : (A : Type 0) (fields : List (ℕ × ℕ)) → items_in (map (no_items {A = A}) fields) ≡ 0
 no_items_yet A [] = refl
 no_items_yet A (f ∷ fields) = omega (arith, sum_by-cons (λ (j : Items A). length j.bits) (no_items f) (map no_items fields), no_items_yet A fields)
 
-module _ {A : Type 0} (all : List (ℕ × ℕ)) (t : Taking A) (h : IsTaking all t) where
+module _ {A : Type 0} (all : List (ℕ × ℕ)) (t : TakenFields A) (h : IsTaking all t) where
   abbrev now : Items A
   now = record { width = width_of t; bits = t.bits }
 
@@ -85,11 +90,13 @@ module _ {A : Type 0} (all : List (ℕ × ℕ)) (t : Taking A) (h : IsTaking all
 
 -- ---- by the bytes of a data message
 
-module _ {A : Type 0} (e : Environment A) (local : ℕ) (offset : Option ℕ) (p : Defined A) (known : defined_at e local ≡ Some p) (fits : DataHeaderFits local offset) (more : List ℕ) where
+module _ {A : Type 0} (e : Environment A) (local : ℕ) (offset : Option ℕ) (p : Defined A) (known : defined_at e local ≡ Some p)
+    (fits : DataHeaderFits local offset) (more : List ℕ) where
   pub message_part : part_size e (data_header local offset ∷ more) ≡ entry_count p.definition + item_count p
   message_part =
       let bits = data_bits (data_header local offset) local offset refl fits in
-      ap (λ c. cond c (counts_so_far (data_header local offset) more) (option_map_or (λ q. entry_count q.definition + item_count q) (defined_at e (local_type (data_header local offset))) 0)) bits.kind
+      ap (λ c. cond c (counts_so_far (data_header local offset) more)
+      (option_map_or (λ q. entry_count q.definition + item_count q) (defined_at e (local_type (data_header local offset))) 0)) bits.kind
       ∙ ap (λ l. option_map_or (λ q. entry_count q.definition + item_count q) (defined_at e l) 0) bits.type
       ∙ ap (λ o. option_map_or (λ q. entry_count q.definition + item_count q) o 0) known
 
@@ -110,7 +117,8 @@ no_dev_fields (Some fields) none = ap length none
 module _ {A : Type 0} (e : Environment A) (d : MessageDef A) (local : d.local < 16) (more : List ℕ) where
   definition_size : part_size e (definition_header d ∷ more) ≡ counts_so_far (definition_header d) more
   definition_size =
-      ap (λ c. cond c (counts_so_far (definition_header d) more) (option_map_or (λ q. entry_count q.definition + item_count q) (defined_at e (local_type (definition_header d))) 0))
+      ap (λ c. cond c (counts_so_far (definition_header d) more)
+      (option_map_or (λ q. entry_count q.definition + item_count q) (defined_at e (local_type (definition_header d))) 0))
       (definition_bits (definition_header d) d.local d.dev refl local).kind
 
   -- no developer field has come
@@ -118,17 +126,20 @@ module _ {A : Type 0} (e : Environment A) (d : MessageDef A) (local : d.local < 
   fields_counted none within = omega (arith, definition_size, within, no_dev_fields d.dev none)
 
   -- all fields have come, and some developer fields
-  dev_counted : (defs : List DevDef) (count : ℕ) → d.dev ≡ Some defs → slice_index more 4 ≡ length d.fields → slice_index more (5 + 3 * length d.fields) ≡ count → length (dev_defs d.dev) ≤ count
+  dev_counted : (defs : List DevDef) (count : ℕ) → d.dev ≡ Some defs → slice_index more 4 ≡ length d.fields → slice_index more (5 + 3 * length d.fields) ≡ count
+      → length (dev_defs d.dev) ≤ count
       → entry_count d ≤ part_size e (definition_header d ∷ more)
   dev_counted defs count dev at_fields at_count within =
       let some = (definition_bits (definition_header d) d.local d.dev refl local).with_dev ∙ ap is_some_dev dev in
       let both : counts_so_far (definition_header d) more ≡ length d.fields + count =
-      ap (λ c. slice_index more 4 + cond c (slice_index more (5 + 3 * slice_index more 4)) 0) some ∙ ap (λ n. n + slice_index more (5 + 3 * n)) at_fields ∙ ap (λ m. length d.fields + m) at_count in
+      ap (λ c. slice_index more 4 + cond c (slice_index more (5 + 3 * slice_index more 4)) 0) some ∙ ap (λ n. n + slice_index more (5 + 3 * n)) at_fields
+      ∙ ap (λ m. length d.fields + m) at_count in
       omega (arith, definition_size, both, within)
 
 -- the number behind so many bytes
 behind : (front : List ℕ) (n count : ℕ) (more : List ℕ) → length front ≡ n → slice_index (front ++ count ∷ more) n ≡ count
-behind front n count more long = get_or-append_right front (count ∷ more) n n 0 long (omega arith) ∙ ap (slice_index (count ∷ more)) (let none : n - n ≡ 0 = omega arith in none)
+behind front n count more long = get_or-append_right front (count ∷ more) n n 0 long (omega arith)
+    ∙ ap (slice_index (count ∷ more)) (let none : n - n ≡ 0 = omega arith in none)
 
 behind_both : (front : List ℕ) (n count : ℕ) (more last : List ℕ) → length front ≡ n → slice_index ((front ++ count ∷ more) ++ last) n ≡ count
 behind_both front n count more last long = ap (λ l. slice_index l n) (append_assoc front (count ∷ more) last) ∙ behind front n count (more ++ last) long
@@ -148,10 +159,12 @@ module _ {A : Type 0} (e : Environment A) (d : MessageDef A) where
   new_counted : (more : List ℕ) → IsNew d → entry_count d ≤ part_size e (definition_header d ∷ more)
   new_counted more h = fields_counted e d h.local more h.dev (omega (arith, ap length h.fields))
 
-  fields_part : (left : ℕ) (more : List ℕ) → AwaitsFields d left → slice_index more 4 ≡ length d.fields + left → entry_count d ≤ part_size e (definition_header d ∷ more)
+  fields_part : (left : ℕ) (more : List ℕ) → AwaitsFields d left → slice_index more 4 ≡ length d.fields + left
+      → entry_count d ≤ part_size e (definition_header d ∷ more)
   fields_part left more h at = fields_counted e d h.local more h.dev (omega (arith, at))
 
-  dev_part : (left : ℕ) (more : List ℕ) → AwaitsDev d left → slice_index more 4 ≡ length d.fields → slice_index more (5 + 3 * length d.fields) ≡ length (dev_defs d.dev) + left
+  dev_part : (left : ℕ) (more : List ℕ) → AwaitsDev d left → slice_index more 4 ≡ length d.fields
+      → slice_index more (5 + 3 * length d.fields) ≡ length (dev_defs d.dev) + left
       → entry_count d ≤ part_size e (definition_header d ∷ more)
   dev_part left more h at_fields at_count = dev_counted e d h.local more h.defs (length (dev_defs d.dev) + left) h.dev at_fields at_count (omega arith)
 
@@ -162,7 +175,8 @@ module _ {A : Type 0} (e : Environment A) (d : MessageDef A) where
   definition_held (GlobalSecond first) h = new_counted (d.reserved ∷ architecture d.order ∷ first ∷ []) h.0
   definition_held FieldCount h = new_counted (d.reserved ∷ architecture d.order ∷ number_bytes d.order 2 d.global) h
   definition_held (FieldNumber left) h =
-      fields_part left (front_of d (length d.fields + left)) h (count_before d.order d.global d.reserved (architecture d.order) (length d.fields + left) (flat_map field_bytes d.fields))
+      fields_part left (front_of d (length d.fields + left)) h
+      (count_before d.order d.global d.reserved (architecture d.order) (length d.fields + left) (flat_map field_bytes d.fields))
   definition_held (FieldSize left number) h =
       fields_part left (front_of d (length d.fields + left) ++ number ∷ []) h
       (count_at d.order d.global d.reserved (architecture d.order) (length d.fields + left) (flat_map field_bytes d.fields) (number ∷ []))
@@ -173,16 +187,20 @@ module _ {A : Type 0} (e : Environment A) (d : MessageDef A) where
       fields_counted e d h.0.local (front_of d (length d.fields)) (subst HasNone (sym h.1) refl)
       (let at = count_before d.order d.global d.reserved (architecture d.order) (length d.fields) (flat_map field_bytes d.fields) in omega (arith, at))
   definition_held (DevNumber left) h =
-      dev_part left (front_of d (length d.fields) ++ devs_of d left) h.0 (count_at d.order d.global d.reserved (architecture d.order) (length d.fields) (flat_map field_bytes d.fields) (devs_of d left))
-      (behind (front_of d (length d.fields)) (5 + 3 * length d.fields) (length (dev_defs d.dev) + left) (flat_map dev_field_bytes (dev_defs d.dev)) (length-front_of d))
+      dev_part left (front_of d (length d.fields) ++ devs_of d left) h.0
+      (count_at d.order d.global d.reserved (architecture d.order) (length d.fields) (flat_map field_bytes d.fields) (devs_of d left))
+      (behind (front_of d (length d.fields)) (5 + 3 * length d.fields) (length (dev_defs d.dev) + left) (flat_map dev_field_bytes (dev_defs d.dev))
+      (length-front_of d))
   definition_held (DevSize left number) h =
       dev_part left ((front_of d (length d.fields) ++ devs_of d left) ++ number ∷ []) h.0
       (count_in_dev d.order d.global d.reserved (architecture d.order) (length d.fields) (flat_map field_bytes d.fields) (devs_of d left) (number ∷ []))
-      (behind_both (front_of d (length d.fields)) (5 + 3 * length d.fields) (length (dev_defs d.dev) + left) (flat_map dev_field_bytes (dev_defs d.dev)) (number ∷ []) (length-front_of d))
+      (behind_both (front_of d (length d.fields)) (5 + 3 * length d.fields) (length (dev_defs d.dev) + left) (flat_map dev_field_bytes (dev_defs d.dev))
+      (number ∷ []) (length-front_of d))
   definition_held (DevIndex left number size) h =
       dev_part left ((front_of d (length d.fields) ++ devs_of d left) ++ number ∷ size ∷ []) h.0
       (count_in_dev d.order d.global d.reserved (architecture d.order) (length d.fields) (flat_map field_bytes d.fields) (devs_of d left) (number ∷ size ∷ []))
-      (behind_both (front_of d (length d.fields)) (5 + 3 * length d.fields) (length (dev_defs d.dev) + left) (flat_map dev_field_bytes (dev_defs d.dev)) (number ∷ size ∷ []) (length-front_of d))
+      (behind_both (front_of d (length d.fields)) (5 + 3 * length d.fields) (length (dev_defs d.dev) + left) (flat_map dev_field_bytes (dev_defs d.dev))
+      (number ∷ size ∷ []) (length-front_of d))
 
 -- ---- all of it
 
@@ -190,7 +208,8 @@ layout_items : {A : Type 0} (p : Defined A) → item_count p ≡ sum_by items_of
 layout_items p = sum_by-append items_of (layout p) (dev_layout p)
 
 -- what there is of a record is no more than its bytes tell
-pub part_held : {A : Type 0} (e : Environment A) (room : ℕ) (f : Part A) → IsPart e f → in_progress_size (state_of room f).in_progress ≤ part_size e (part_bytes e f)
+pub part_held : {A : Type 0} (e : Environment A) (room : ℕ) (f : RecordPart A) → IsPart e f
+    → in_progress_size (state_of room f).in_progress ≤ part_size e (part_bytes e f)
 part_held e room nothing h = omega arith
 part_held e room (in_definition k d) h = definition_held e d k h
 part_held {A} e room (in_fields local offset t dev) (p, known, fits, taking, same) =
@@ -208,7 +227,8 @@ part_held {A} e room (in_fields local offset t dev) (p, known, fits, taking, sam
       length-map {B = ℕ × ℕ} p.definition.fields (λ f. (f.code, f.size)),
     )
 part_held {A} e room (in_dev_fields local offset items t) (p, known, fits, shape, taking) =
-    let all = message_part e local offset p known fits (flat_map (items_bytes (order_at e local)) items ++ (flat_map (items_bytes (order_at e local)) (taken t) ++ t.partial)) in
+    let all = message_part e local offset p known fits
+    (flat_map (items_bytes (order_at e local)) items ++ (flat_map (items_bytes (order_at e local)) (taken t) ++ t.partial)) in
     omega (
       arith,
       all,
@@ -237,7 +257,8 @@ fits_of (DevNumber left) d h = h.0
 fits_of (DevSize left number) d h = h.0
 fits_of (DevIndex left number size) d h = h.0
 
-pub part_small : {A : Type 0} (e : Environment A) (room : ℕ) (f : Part A) → IsPart e f → part_size e (part_bytes e f) ≤ 130560 → IsSmall (state_of room f).in_progress
+pub part_small : {A : Type 0} (e : Environment A) (room : ℕ) (f : RecordPart A) → IsPart e f → part_size e (part_bytes e f) ≤ 130560
+    → IsCountable (state_of room f).in_progress
 part_small e room nothing h few = tt
 part_small e room (in_definition k d) h few = let fits = fits_of k d (is_defining k d h) in (fits.fields, fits.dev_fields)
 part_small e room (in_fields local offset t dev) h few = omega (arith, part_held e room (in_fields local offset t dev) h, few)

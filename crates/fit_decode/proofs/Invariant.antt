@@ -8,10 +8,10 @@ use Rattle.fit_decode.specs.declared.decoder.Decoder.TheInside.{Inside}
 use Rattle.fit_decode.specs.declared.section.Section.TheVariants.{Header}
 use Rattle.fit_decode.specs.Progress.{at_header, HasCome}
 use Rattle.fit_decode.specs.GoingOn.{ChainGoesOn}
-use Rattle.fit_decode.specs.Kept.{HoldsAt}
-use Rattle.fit_decode.specs.Invariant.{IsKept, fields_of}
+use Rattle.fit_decode.specs.inner.Kept.{HoldsAt}
+use Rattle.fit_decode.specs.inner.Invariant.{IsSoundDecoder, fields_inside}
 use Rattle.fit_decode.proofs.Completions.{goes_viable}
-use Rattle.fit_decode.proofs.Goes.{begins_nothing}
+use Rattle.fit_decode.proofs.ViableGoesOn.{begins_nothing}
 use Rattle.fit_decode.proofs.Whole.{unfinished}
 
 -- of no bytes, no file and nothing of a next one have come
@@ -21,16 +21,19 @@ nothing_come A = record { files = tt; next = unfinished A [] (λ h n rest fits i
 nothing_goes : (A : Type 0) → ChainGoesOn {A = A} chain_limit [] (at_header [])
 nothing_goes A = (omega arith, omega arith, begins_nothing)
 
-pub begins_kept : {A : Type 0} (d : Inside A) → d.section ≡ Header → d.half ≡ false → d.reader ≡ record { bytes = []; refusal = None } → d.sum ≡ [] → d.env ≡ empty_environment → d.in_progress ≡ None
-    → d.files ≡ 0 → d.count ≡ 0 → d.history.items ≡ [] → IsKept d
+pub begins_kept : {A : Type 0} (d : Inside A) → d.section ≡ Header → d.half ≡ false → d.reader ≡ record { bytes = []; refusal = None } → d.sum ≡ []
+    → d.env ≡ empty_environment → d.in_progress ≡ None
+    → d.files ≡ 0 → d.count ≡ 0 → d.history.items ≡ [] → IsSoundDecoder d
 begins_kept {A} d at whole read none known idle no_files no_bytes nothing =
-    let come : HasCome {A = A} [] (at_header d.sum) d.history.items = subst (λ b. HasCome {A = A} [] (at_header d.sum) b) (sym nothing) (subst (λ l. HasCome {A = A} [] (at_header l) []) (sym none) (nothing_come A)) in
-    let goes : ChainGoesOn {A = A} chain_limit [] (at_header d.sum) = subst (λ l. ChainGoesOn {A = A} chain_limit [] (at_header l)) (sym none) (nothing_goes A) in
+    let come : HasCome {A = A} [] (at_header d.sum) d.history.items =
+    subst (λ b. HasCome {A = A} [] (at_header d.sum) b) (sym nothing) (subst (λ l. HasCome {A = A} [] (at_header l) []) (sym none) (nothing_come A)) in
+    let goes : ChainGoesOn {A = A} chain_limit [] (at_header d.sum) = subst (λ l. ChainGoesOn {A = A} chain_limit [] (at_header l)) (sym none) (nothing_goes A)
+    in
     record {
       viable = subst (IsViable A chain_limit) (sym nothing) (goes_viable chain_limit [] (at_header []) [] (nothing_come A) IsBytes-none (nothing_goes A));
       are = subst IsBytes (sym nothing) IsBytes-none;
       counted = no_bytes ∙ ap length (sym nothing);
-      holds = λ _. subst (λ s. HoldsAt s (fields_of d) d.history.items) (sym at) (record {
+      holds = λ _. subst (λ s. HoldsAt s (fields_inside d) d.history.items) (sym at) (record {
         files = [];
         come = come;
         goes = goes;

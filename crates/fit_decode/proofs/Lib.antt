@@ -3,12 +3,12 @@ pub mod OneReason
 pub mod HasReason
 pub mod Splits
 pub mod Following
-pub mod Goes
+pub mod ViableGoesOn
 pub mod Completions
 pub mod Whole
 pub mod Next
 pub mod Pieces
-pub mod Continuing
+pub mod RecordCanGoOn
 pub mod Walked
 pub mod RefusedBytes
 pub mod Readings
@@ -20,7 +20,7 @@ pub mod Scanned
 pub mod Places
 pub mod Sections
 pub mod Bounds
-mod Refused
+mod KnownRefusals
 pub mod FirstFile
 pub mod Gathered
 pub mod FileEnds
@@ -33,7 +33,7 @@ pub mod Feeding
 pub mod Needed
 pub mod NoSooner
 pub mod Consumed
-pub mod Turning
+pub mod PieceTaken
 pub mod Missing
 pub mod FileRead
 pub mod FileGiven

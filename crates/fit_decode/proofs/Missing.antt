@@ -9,25 +9,28 @@ use Rattle.fit_record.specs.Files.{chain_bytes, chain_limit, IsChain, IsViable}
 use Rattle.fit_decode.specs.Progress.{Progress, at_header, at_data, IsPartial, HasCome}
 use Rattle.fit_decode.specs.GoingOn.{DataGoesOn}
 use Rattle.fit_decode.specs.Needs.{missing, Needs}
-use Rattle.fit_decode.specs.Turns.{Ended, NoSooner}
-use Rattle.fit_decode.proofs.Goes.{viable_goes}
+use Rattle.fit_decode.specs.inner.Turns.{Ended, NoSooner}
+use Rattle.fit_decode.proofs.ViableGoesOn.{viable_goes}
 use Rattle.fit_decode.proofs.NoSooner.{no_sooner}
 use Rattle.fit_decode.proofs.OnePlace.{one_place}
 
 -- files and one more are a chain
-pub ended_chain : {A : Type 0} (files : List (FitFile A)) (f : FitFile A) (bytes : List ℕ) → Ended files f bytes → IsChain (length (files ++ f ∷ [])) (files ++ f ∷ []) bytes
+pub ended_chain : {A : Type 0} (files : List (FitFile A)) (f : FitFile A) (bytes : List ℕ) → Ended files f bytes
+    → IsChain (length (files ++ f ∷ [])) (files ++ f ∷ []) bytes
 ended_chain files f bytes ended = (
   record { some = omega (arith, length-append files (f ∷ [])); within = omega arith; each = ended.files },
   ended.spelled ∙ append-nil (chain_bytes (files ++ f ∷ [])),
 )
 
 -- a file's end comes with the last of the bytes that are missing, or later
-pub needs_no_sooner : {A : Type 0} (bytes : List ℕ) (n : ℕ) (files : List (FitFile A)) (g : Progress A) → Needs A bytes n → HasCome files g bytes → NoSooner files bytes n
+pub needs_no_sooner : {A : Type 0} (bytes : List ℕ) (n : ℕ) (files : List (FitFile A)) (g : Progress A) → Needs A bytes n → HasCome files g bytes
+    → NoSooner files bytes n
 needs_no_sooner {A} bytes n files g needs come = λ f more ended.
     let one = one_place files needs.files g needs.progress bytes come needs.come in
     let fs : List (FitFile A) = needs.files ++ f ∷ [] in
     let same : Ended needs.files f (bytes ++ more) = subst (λ gs. Ended gs f (bytes ++ more)) one.0 ended in
-    let least = no_sooner (length fs) needs.files fs needs.progress bytes more needs.come (ended_chain needs.files f (bytes ++ more) same) (omega (arith, length-append needs.files (f ∷ []))) in
+    let least = no_sooner (length fs) needs.files fs needs.progress bytes more needs.come (ended_chain needs.files f (bytes ++ more) same)
+    (omega (arith, length-append needs.files (f ∷ []))) in
     omega (arith, needs.is, least)
 
 -- ---- something is missing
@@ -40,7 +43,8 @@ part_fits : {A : Type 0} (e : Environment A) (room : ℕ) (sum part : List ℕ) 
 part_fits e zero sum part open_ goes = open_
 part_fits e (suc room) sum part open_ goes = omega (arith, goes.5)
 
-some_missing : {A : Type 0} (files : List (FitFile A)) (g : Progress A) (bytes : List ℕ) → HasCome files g bytes → IsViable A chain_limit bytes → 0 < missing (length files) g
+some_missing : {A : Type 0} (files : List (FitFile A)) (g : Progress A) (bytes : List ℕ) → HasCome files g bytes → IsViable A chain_limit bytes
+    → 0 < missing (length files) g
 some_missing files (at_header []) bytes come viable = before_a_file (nat_lt (length files) chain_limit)
 some_missing files (at_header (size ∷ front)) bytes come viable = omega arith
 some_missing files (at_data h n records part) bytes come viable =

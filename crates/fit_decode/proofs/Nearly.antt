@@ -3,9 +3,10 @@ use Rattle.std.proofs.Common.{◌≡◌, ℕ, ◌≤◌, List, [], ◌++◌, len
 use Rattle.std.proofs.lemmas.List.{append-nil}
 use Rattle.std.proofs.Math.Seq.{take-append_seam}
 use Rattle.fit_record.specs.Files.{IsViable}
-use Rattle.fit_decode.specs.Reads.{IsNearlyViable}
+use Rattle.fit_decode.specs.Reads.{IsNearlyViable, piece_size}
 
-pub nearly : {A : Type 0} (limit : ℕ) (before piece taken : List ℕ) → taken ≡ before ++ piece → length piece ≤ 4096 → IsViable A limit before → IsNearlyViable A limit taken
+pub nearly : {A : Type 0} (limit : ℕ) (before piece taken : List ℕ) → taken ≡ before ++ piece → length piece ≤ piece_size → IsViable A limit before
+    → IsNearlyViable A limit taken
 nearly {A} limit before piece taken parts short viable = (
   length before,
   omega (arith, ap length parts, length-append before piece),

@@ -18,13 +18,14 @@ use Rattle.fit_decode.specs.declared.section.Section.TheVariants.{Header, Data, 
 use Rattle.fit_decode.specs.Progress.{at_header, at_data, progress_bytes}
 use Rattle.fit_decode.specs.Needs.{missing, Needs}
 use Rattle.fit_decode.specs.Answers.{Seen as Fed}
-use Rattle.fit_decode.specs.Scans.{sum_part}
-use Rattle.fit_decode.specs.Kept.{Fields, HoldsAt, Holds, to_come}
-use Rattle.fit_decode.specs.Invariant.{IsKept, fields_of}
+use Rattle.fit_decode.specs.inner.Scans.{half_sum}
+use Rattle.fit_decode.specs.inner.Kept.{Fields, HoldsAt, Holds, to_come}
+use Rattle.fit_decode.specs.inner.Invariant.{IsSoundDecoder, fields_inside}
 use Rattle.fit_decode.proofs.Walked.{come}
 
 -- the number in four bytes
-pub four_bytes_below : (all some bytes : List ℕ) (n : ℕ) → IsBytes all → some ≡ drop 4 all → bytes ≡ take 4 some → length bytes ≡ 4 → n ≡ number Little bytes → n < 4294967296
+pub four_bytes_below : (all some bytes : List ℕ) (n : ℕ) → IsBytes all → some ≡ drop 4 all → bytes ≡ take 4 some → length bytes ≡ 4 → n ≡ number Little bytes
+    → n < 4294967296
 four_bytes_below all some bytes n are behind is four same =
     let low : IsBytes bytes = subst IsBytes (sym is) (IsBytes-take 4 some (subst IsBytes (sym behind) (IsBytes-drop 4 all are))) in
     let below : number Little bytes < 4294967296 = subst (λ k. number Little bytes < 256 ^ k) four (number-below Little bytes low) in
@@ -34,7 +35,7 @@ same_missing : (A B : Type 0) (files : ℕ) (front : List ℕ) → missing {A = 
 same_missing A B files [] = refl
 same_missing A B files (b ∷ front) = refl
 
-sum_left : (n : ℕ) (half : Bool) → (if half then 1 else 2) + length (sum_part n half) ≡ 2
+sum_left : (n : ℕ) (half : Bool) → (if half then 1 else 2) + length (half_sum n half) ≡ 2
 sum_left n true = refl
 sum_left n false = refl
 
@@ -54,7 +55,7 @@ module _ {A : Type 0} (d : Fields A) (bytes : List ℕ) (are : IsBytes bytes) wh
       record { files = k.files; progress = at_data k.header k.size k.records k.part; come = k.come; is = omega (arith, place.total, k.come.next.2) }
   needed_at ClosingSum k = record {
     files = k.files;
-    progress = at_data k.header k.size k.records (sum_part (checksum d.sum) d.half);
+    progress = at_data k.header k.size k.records (half_sum (checksum d.sum) d.half);
     come = k.come;
     is = omega (arith, sum_left (checksum d.sum) d.half, k.over, k.come.next.2);
   }
@@ -62,10 +63,13 @@ module _ {A : Type 0} (d : Fields A) (bytes : List ℕ) (are : IsBytes bytes) wh
   pub needed : Holds d bytes → Needs A bytes (to_come d.count d.section d.half d.reader.bytes d.position.room)
   needed holds = needed_at d.section holds
 
-pub needed_seen : {A : Type 0} (d : Inside A) → IsKept d → (old : Fed) → record { bytes = d.history.items; refusal = d.refusal } ≡ old → (front : List ℕ) (n : ℕ) → front ≡ d.reader.bytes
+pub needed_seen : {A : Type 0} (d : Inside A) → IsSoundDecoder d → (old : Fed) → record { bytes = d.history.items; refusal = d.refusal } ≡ old
+    → (front : List ℕ) (n : ℕ) → front ≡ d.reader.bytes
     → n ≡ to_come d.files d.section d.half front d.position.room → old.refusal ≡ None → Needs A old.bytes n
 needed_seen {A} d k old seen front n read is fresh =
     let none : d.refusal ≡ None = ap (λ (s : Fed). s.refusal) seen ∙ fresh in
-    let same : to_come d.files d.section d.half d.reader.bytes d.position.room ≡ n = sym (is ∙ ap (λ l. to_come d.files d.section d.half l d.position.room) read) in
+    let same : to_come d.files d.section d.half d.reader.bytes d.position.room ≡ n =
+    sym (is ∙ ap (λ l. to_come d.files d.section d.half l d.position.room) read) in
     subst (Needs A old.bytes) same
-    (subst (λ b. Needs A b (to_come d.files d.section d.half d.reader.bytes d.position.room)) (ap (λ (s : Fed). s.bytes) seen) (needed (fields_of d) d.history.items k.are (k.holds none)))
+    (subst (λ b. Needs A b (to_come d.files d.section d.half d.reader.bytes d.position.room)) (ap (λ (s : Fed). s.bytes) seen)
+    (needed (fields_inside d) d.history.items k.are (k.holds none)))

@@ -1,5 +1,6 @@
 -- What the reading of the next file of a chain tells.
-use Rattle.std.proofs.Common.{◌≡◌, Bool, true, false, ℕ, ◌+◌, List, [], ◌∷◌, ◌++◌, length, Option, Some, None, Result, Ok, Err, refl, sym, ap, ◌∙◌, subst, arith}
+use Rattle.std.proofs.Common.{◌≡◌, Bool, true, false, ℕ, ◌+◌, List, [], ◌∷◌, ◌++◌, length, Option, Some, None, Result, Ok, Err, refl, sym, ap, ◌∙◌, subst}
+use Rattle.std.proofs.Common.{arith}
 use Rattle.std.specs.Io.KnownBytes.{Consumes, Keeps, IsAtEnd}
 use Rattle.std.proofs.lemmas.List.{append-nil, append_cancel_left}
 use Rattle.fit_base.specs.Numbers.{IsBytes}
@@ -8,13 +9,13 @@ use Rattle.fit_record.specs.Files.{IsFile, IsChain, IsViable, chain_bytes, chain
 use Rattle.fit_decode.specs.declared.event.Fault.{Fault}
 use Rattle.fit_decode.specs.declared.event.Fault.TheVariants.{Refused, Truncated, NoMemory, Read}
 use Rattle.fit_decode.specs.Answers.{Seen, AreChain}
-use Rattle.fit_decode.specs.Between.{IsBehind, IsEnd}
+use Rattle.fit_decode.specs.inner.Between.{IsBehind, IsEnd}
 use Rattle.fit_decode.specs.Progress.{at_header, HasCome}
 use Rattle.fit_decode.specs.Reads.{EndsReading, EndsChain, GivesFile, GivesNext, Past, Taking}
-use Rattle.fit_decode.specs.Turns.{ComesTo, Ended, FaultIn, FileTold, FileRead, unrefused}
+use Rattle.fit_decode.specs.inner.Turns.{ComesTo, Ended, FaultIn, FileTold, FileRead, unrefused}
 use Rattle.fit_decode.proofs.FileGiven.{given, next_bytes}
 use Rattle.fit_decode.proofs.FileRead.{no_file_yet, nothing_viable}
-use Rattle.fit_decode.proofs.Goes.{viable_goes}
+use Rattle.fit_decode.proofs.ViableGoesOn.{viable_goes}
 use Rattle.fit_decode.proofs.Missing.{ended_chain}
 use Rattle.fit_decode.proofs.Nearly.{nearly}
 use Rattle.fit_decode.proofs.OnePlace.{one_place}
@@ -28,7 +29,8 @@ chain_comes {A} limit fs bytes chain = record {
   spelled = chain.1 ∙ sym (append-nil (chain_bytes fs));
 }
 
-module _ {A : Type 0} (files : List (FitFile A)) (before : Seen) (count : ℕ) (old taken : List ℕ) (had has : Option (List ℕ)) (failed : Bool) (new : Seen) (now : ℕ)
+module _ {A : Type 0} (files : List (FitFile A)) (before : Seen) (count : ℕ) (old taken : List ℕ) (had has : Option (List ℕ)) (failed : Bool) (new : Seen)
+    (now : ℕ)
     (behind : IsBehind files before count old) (counted : now + length old ≡ count + length taken) (viable : IsViable A chain_limit new.bytes) where
   module _ (result : Result (FitFile A) Fault) (r : FileRead files before.bytes old taken had has failed new result) where
     -- the bytes fed before are those taken before
@@ -68,8 +70,9 @@ module _ {A : Type 0} (files : List (FitFile A)) (before : Seen) (count : ℕ) (
 
   -- ---- a fault
 
-  fault_told : (fault : Fault) → FaultIn files taken has failed new fault → IsEnd A new fault false → EndsReading A chain_limit (AreChain A) taken has failed fault
-  fault_told (Refused place reason) (within, near, comes, why) open_ = (within, near, why)
+  fault_told : (fault : Fault) → FaultIn files taken has failed new fault → IsEnd A new fault false
+      → EndsReading A chain_limit (AreChain A) taken has failed fault
+  fault_told (Refused place reason) (within, near, comes, why, good) open_ = (within, near, why, good)
   fault_told (Truncated place) (is, end, comes, after, good) open_ = (
     is,
     end,
@@ -77,10 +80,12 @@ module _ {A : Type 0} (files : List (FitFile A)) (before : Seen) (count : ℕ) (
     λ whole. let no : false ≡ true = open_.1 (ap (λ (v : Seen). v.refusal) after, subst (AreChain A) (sym (ap (λ (v : Seen). v.bytes) after)) whole) in cc,
     good,
   )
-  fault_told (NoMemory used) (is, last) open_ = (is, nearly chain_limit last.before last.piece taken last.parts last.short last.viable)
+  fault_told (NoMemory used) (is, last, good) open_ =
+      (is, nearly chain_limit last.before last.piece taken last.parts last.short last.viable, good)
   fault_told (Read place) (is, bad, comes, after) open_ = (is, bad, subst (λ (v : Seen). IsViable A chain_limit v.bytes) after viable)
 
-  pub next_fault : (fault : Fault) → FileRead files before.bytes old taken had has failed new (Err fault) → IsEnd A new fault false → EndsReading A chain_limit (AreChain A) taken has failed fault
+  pub next_fault : (fault : Fault) → FileRead files before.bytes old taken had has failed new (Err fault) → IsEnd A new fault false
+      → EndsReading A chain_limit (AreChain A) taken has failed fault
   next_fault fault r open_ = fault_told fault (told (Err fault) r) open_
 
   -- ---- the end of the input, behind a whole chain
@@ -110,7 +115,8 @@ module _ {A : Type 0} (files : List (FitFile A)) (before : Seen) (count : ℕ) (
       let chain : AreChain A taken = subst (λ (v : Seen). AreChain A v.bytes) is.3 (end.0 refl).1 in
       let none : r.got ≡ [] = nothing_taken r.got (subst (ComesTo files) r.noted is.2) (subst (AreChain A) r.noted chain) in
       let same : taken ≡ old = r.noted ∙ ap (λ t. old ++ t) none ∙ append-nil old in
-      let one = one_place files chain.0 (at_header []) (at_header []) taken (subst (HasCome files (at_header [])) (sym same) behind.come) (chain_comes chain_limit chain.0 taken chain.1) in
+      let one = one_place files chain.0 (at_header []) (at_header []) taken (subst (HasCome files (at_header [])) (sym same) behind.come)
+      (chain_comes chain_limit chain.0 taken chain.1) in
       record {
         end = is.1;
         good = is.4;
@@ -127,7 +133,8 @@ module _ {A : Type 0} (files : List (FitFile A)) (before : Seen) (count : ℕ) (
 
   -- ---- where a file's bytes begin what is left
 
-  pub next_given : (f : FitFile A) (b x : List ℕ) (gs : List (FitFile A)) (result : Result (FitFile A) Fault) → had ≡ Some (b ++ x) → IsBytes b → IsFile f b → IsChain chain_limit gs (old ++ b)
+  pub next_given : (f : FitFile A) (b x : List ℕ) (gs : List (FitFile A)) (result : Result (FitFile A) Fault) → had ≡ Some (b ++ x) → IsBytes b → IsFile f b
+      → IsChain chain_limit gs (old ++ b)
       → FileRead files before.bytes old taken had has failed new result
       → GivesFile f (length (old ++ b)) x (record { before = had; after = has; failed = failed }) result
   next_given f b x gs result input are file chain r =
@@ -136,17 +143,21 @@ module _ {A : Type 0} (files : List (FitFile A)) (before : Seen) (count : ℕ) (
 
 -- What `next` gives where a file's bytes begin what is left.
 abbrev pub NextGiven : {A S : Type 0} → (S → Option (List ℕ)) → Option (List ℕ) → Bool → Result (Option (FitFile A)) Fault → Past S → Type 0
-NextGiven {A} remaining has failed result old = old.fault ≡ None → (fs : List (FitFile A)) (f : FitFile A) (b x : List ℕ) → remaining old.source ≡ Some (b ++ x) → IsBytes b → IsFile f b
-    → IsChain chain_limit (fs ++ f ∷ []) (old.taken ++ b) → GivesNext f (length (old.taken ++ b)) x (record { before = remaining old.source; after = has; failed = failed }) result
+NextGiven {A} remaining has failed result old =
+    old.fault ≡ None → (fs : List (FitFile A)) (f : FitFile A) (b x : List ℕ) → remaining old.source ≡ Some (b ++ x) → IsBytes b → IsFile f b
+    → IsChain chain_limit (fs ++ f ∷ []) (old.taken ++ b)
+    → GivesNext f (length (old.taken ++ b)) x (record { before = remaining old.source; after = has; failed = failed }) result
 
 -- where the reading ended behind a whole chain, no file is given
-pub end_not_given : {A : Type 0} (f : FitFile A) (n : ℕ) (x : List ℕ) (source : Taking) (new : Seen) (fault : Fault) → IsEnd A new fault true → GivesFile f n x source (Err fault) → ⊥
+pub end_not_given : {A : Type 0} (f : FitFile A) (n : ℕ) (x : List ℕ) (source : Taking) (new : Seen) (fault : Fault) → IsEnd A new fault true
+    → GivesFile f n x source (Err fault) → ⊥
 end_not_given f n x source new (Refused place reason) end never = never
 end_not_given f n x source new (Truncated place) end never = never
 end_not_given f n x source new (NoMemory used) end gives = absurd cc
 end_not_given f n x source new (Read place) end gives = absurd cc
 
-pub fault_given : {A : Type 0} (f : FitFile A) (n : ℕ) (x : List ℕ) (source : Taking) (fault : Fault) → GivesFile f n x source (Err fault) → GivesNext f n x source (Err fault)
+pub fault_given : {A : Type 0} (f : FitFile A) (n : ℕ) (x : List ℕ) (source : Taking) (fault : Fault) → GivesFile f n x source (Err fault)
+    → GivesNext f n x source (Err fault)
 fault_given f n x source (Refused place reason) never = never
 fault_given f n x source (Truncated place) never = never
 fault_given f n x source (NoMemory used) gives = gives
@@ -158,7 +169,8 @@ keeps (Some x) None h = absurd h
 keeps (Some x) (Some y) h = sym h
 
 -- the decoder has come behind the files
-pub comes_behind : {A : Type 0} (files : List (FitFile A)) (decoder : Seen) (count : ℕ) (taken : List ℕ) → IsBehind files decoder count taken → HasCome files (at_header []) decoder.bytes
+pub comes_behind : {A : Type 0} (files : List (FitFile A)) (decoder : Seen) (count : ℕ) (taken : List ℕ) → IsBehind files decoder count taken
+    → HasCome files (at_header []) decoder.bytes
 comes_behind files decoder count taken behind = subst (λ (v : Seen). HasCome files (at_header []) v.bytes) (sym behind.fed) behind.come
 
 -- no file yet

@@ -1,5 +1,6 @@
 -- No file ends before the bytes have come that are missing.
-use Rattle.std.proofs.Common.{◌≡◌, cond, inl, inr, ℕ, ◌+◌, ◌<◌, ◌≤◌, ◌^◌, nat_le, nat_lt, Bool, true, false, List, [], ◌∷◌, ◌++◌, length, take, drop, refl, sym, ap, ◌∙◌, arith, length-append}
+use Rattle.std.proofs.Common.{◌≡◌, cond, inl, inr, ℕ, ◌+◌, ◌<◌, ◌≤◌, ◌^◌, nat_le, nat_lt, Bool, true, false, List, [], ◌∷◌, ◌++◌, length, take, drop, refl, sym}
+use Rattle.std.proofs.Common.{ap, ◌∙◌, arith, length-append}
 use Rattle.std.proofs.lemmas.Bool.{leb-true}
 use Rattle.fit_base.specs.Numbers.{little, little_bytes}
 use Rattle.fit_base.proofs.Bytes.{length-little_bytes, little-little_bytes}
@@ -45,19 +46,22 @@ size_told : (h : Header) (n : ℕ) (front more : List ℕ) → n < 2 ^ 32 → he
 size_told h n front more small is long = sym (same_size front more long) ∙ sym (ap (λ l. little (take 4 (drop 4 l))) is) ∙ little-little_bytes 4 n small
 
 -- the data size counts from eight bytes on
-counted : (front : List ℕ) (n : ℕ) → (8 ≤ length front → little (take 4 (drop 4 front)) ≡ n) → (c : Bool) → (c ≡ true → 8 ≤ length front) → cond c (little (take 4 (drop 4 front))) 0 ≤ n
+counted : (front : List ℕ) (n : ℕ) → (8 ≤ length front → little (take 4 (drop 4 front)) ≡ n) → (c : Bool) → (c ≡ true → 8 ≤ length front)
+    → cond c (little (take 4 (drop 4 front))) 0 ≤ n
 counted front n told true long = let same = told (long refl) in omega (arith, same)
 counted front n told false long = omega arith
 
 long_enough : (m : ℕ) → nat_le 8 m ≡ true → 8 ≤ m
 long_enough m is = leb-true 8 m is
 
-header_missing : (A : Type 0) (files : ℕ) (h : Header) (n : ℕ) (front more : List ℕ) → HeaderFits h n → header_bytes h n ≡ front ++ more → missing {A = A} files (at_header front) ≤ length more + n + 2
+header_missing : (A : Type 0) (files : ℕ) (h : Header) (n : ℕ) (front more : List ℕ) → HeaderFits h n → header_bytes h n ≡ front ++ more
+    → missing {A = A} files (at_header front) ≤ length more + n + 2
 header_missing A files h n [] more fits is =
     omega (arith, at_most_14 (nat_lt files chain_limit), least_size h.sum h.size h.rest.items fits.form.size, length-header_bytes h n fits.form, ap length is)
 header_missing A files h n (size ∷ front) more fits is =
     let same : h.size ≡ size = cc is in
-    let few = counted (size ∷ front) n (size_told h n (size ∷ front) more fits.data_fits is) (nat_le 8 (length (size ∷ front))) (long_enough (length (size ∷ front))) in
+    let few = counted (size ∷ front) n (size_told h n (size ∷ front) more fits.data_fits is) (nat_le 8 (length (size ∷ front)))
+    (long_enough (length (size ∷ front))) in
     omega (arith, same, few, length-header_bytes h n fits.form, ap length is, length-append (size ∷ front) more)
 
 -- ---- all of it
@@ -65,7 +69,8 @@ header_missing A files h n (size ∷ front) more fits is =
 behind_header : (x a b s c : List ℕ) → x ≡ a ++ (b ++ (s ++ c)) → length a + length b + length s ≤ length x
 behind_header x a b s c is = omega (arith, ap length is, length-append a (b ++ (s ++ c)), length-append b (s ++ c), length-append s c)
 
-pub no_sooner : {A : Type 0} (limit : ℕ) (fs gs : List (FitFile A)) (g : Progress A) (bytes x : List ℕ) → HasCome fs g bytes → IsChain limit gs (bytes ++ x) → length fs < length gs
+pub no_sooner : {A : Type 0} (limit : ℕ) (fs gs : List (FitFile A)) (g : Progress A) (bytes x : List ℕ) → HasCome fs g bytes → IsChain limit gs (bytes ++ x)
+    → length fs < length gs
     → missing (length fs) g ≤ length x
 no_sooner {A} limit fs gs (at_header front) bytes x come chain fewer =
     let next = chain_follows limit fs (at_header front) bytes x gs come chain in
@@ -82,8 +87,21 @@ no_sooner {A} limit fs gs (at_data h n records part) bytes x come chain fewer =
     let e = learn_all empty_environment records in
     let sum = little_bytes 2 (checksum (summed d.file)) in
     elim d.goes [
-      | inl s ↦ omega (arith, s.total, behind_header x s.more (records_bytes (learn e s.whole) s.after) sum (chain_bytes d.after) s.behind, length-little_bytes 2 (checksum (summed d.file)))
-      | inr s ↦ omega (arith, s.over, come.next.2, ap length s.comes, length-append part x, length-append sum (chain_bytes d.after), length-little_bytes 2 (checksum (summed d.file)))
+      | inl s ↦ omega (
+        arith,
+        s.total,
+        behind_header x s.more (records_bytes (learn e s.whole) s.after) sum (chain_bytes d.after) s.behind,
+        length-little_bytes 2 (checksum (summed d.file)),
+      )
+      | inr s ↦ omega (
+        arith,
+        s.over,
+        come.next.2,
+        ap length s.comes,
+        length-append part x,
+        length-append sum (chain_bytes d.after),
+        length-little_bytes 2 (checksum (summed d.file)),
+      )
     ]
 
 pub need_is_least : {A : Type 0} (bytes : List ℕ) (n : ℕ) → Needs A bytes n → NoFileEndsBefore A bytes n

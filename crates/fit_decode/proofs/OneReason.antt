@@ -9,7 +9,8 @@ use Rattle.fit_decode.proofs.OnePlace.{one_place}
 pub one_reason : {A : Type 0} (limit : ℕ) (bytes : List ℕ) (b : ℕ) (r s : Reason) → IsRefused A limit bytes b r → IsRefused A limit bytes b s → r ≡ s
 one_reason limit bytes b r s p q =
     let place = one_place p.files q.files p.progress q.progress bytes p.come q.come in
-    let same : reason_at limit (length p.files) p.progress b ≡ reason_at limit (length q.files) q.progress b = λ i. reason_at limit (length (place.0 i)) (place.1 i) b in
+    let same : reason_at limit (length p.files) p.progress b ≡ reason_at limit (length q.files) q.progress b =
+    λ i. reason_at limit (length (place.0 i)) (place.1 i) b in
     let both : Some r ≡ Some s = sym p.because ∙ same ∙ q.because in
     cc
 

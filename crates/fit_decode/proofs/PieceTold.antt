@@ -1,5 +1,6 @@
 -- What feeding a piece tells a reader, event by event.
-use Rattle.std.proofs.Common.{◌≡◌, true, false, ℕ, ◌+◌, ◌≤◌, List, [], ◌∷◌, ◌++◌, length, take, drop, get_or, Option, Some, None, Ok, Err, refl, sym, ap, ◌∙◌, subst, arith, append_assoc, length-append}
+use Rattle.std.proofs.Common.{◌≡◌, true, false, ℕ, ◌+◌, ◌≤◌, List, [], ◌∷◌, ◌++◌, length, take, drop, get_or, Option, Some, None, Ok, Err, refl, sym, ap, ◌∙◌}
+use Rattle.std.proofs.Common.{subst, arith, append_assoc, length-append}
 use Rattle.std.proofs.lemmas.List.{length-drop, length-take, get_or-drop}
 use Rattle.std.proofs.Math.Seq.{take-add, take-length}
 use Rattle.fit_frame.specs.declared.header.Header.{Header}
@@ -11,47 +12,51 @@ use Rattle.fit_decode.specs.declared.event.Fault.TheVariants.{Refused}
 use Rattle.fit_decode.specs.Events.{Event, AreEvents, header, item, file_end}
 use Rattle.fit_decode.specs.Answers.{Seen, fed, Quiet, Least, Refuses}
 use Rattle.fit_decode.specs.Refusals.{IsRefused}
-use Rattle.fit_decode.specs.Turns.{Stands, ComesTo, Ended, PieceFed, unrefused}
+use Rattle.fit_decode.specs.inner.Turns.{ComesToRecords, ComesTo, Ended, PieceFed, unrefused}
 use Rattle.fit_decode.proofs.Gathered.{stands_quiet, stands_header, stands_item}
 use Rattle.fit_decode.proofs.FileEnds.{ends_file}
 
 pub fed_on : (old mid new : Seen) (piece : List ℕ) (at used : ℕ) → mid ≡ fed old piece at → new ≡ fed mid (drop at piece) used → new ≡ fed old piece (at + used)
 fed_on old mid new piece at used is after =
     after ∙ ap (λ (v : Seen). fed v (drop at piece) used) is
-    ∙ ap (λ (b : List ℕ). record { bytes = b; refusal = None }) (append_assoc old.bytes (take at piece) (take used (drop at piece)) ∙ ap (λ (x : List ℕ). old.bytes ++ x) (sym (take-add at used piece)))
+    ∙ ap (λ (b : List ℕ). record { bytes = b; refusal = None })
+    (append_assoc old.bytes (take at piece) (take used (drop at piece)) ∙ ap (λ (x : List ℕ). old.bytes ++ x) (sym (take-add at used piece)))
 
 module _ {A : Type 0} (files : List (FitFile A)) (head : Option Header) (records : List (Record A)) (mid new : Seen) (piece : List ℕ) (used : ℕ)
-    (s : Stands files head records mid.bytes) (after : new ≡ fed mid piece used) where
+    (s : ComesToRecords files head records mid.bytes) (after : new ≡ fed mid piece used) where
   here : (xs : List (Event A)) → AreEvents (mid.bytes ++ take used piece) xs → AreEvents new.bytes xs
   here xs are = subst (λ (v : Seen). AreEvents v.bytes xs) (sym after) are
 
-  pub feeds_nothing : Quiet A mid.bytes piece used → Stands files head records new.bytes
+  pub feeds_nothing : Quiet A mid.bytes piece used → ComesToRecords files head records new.bytes
   feeds_nothing quiet = stands_quiet files head records mid.bytes new.bytes s (λ events told. here events (quiet events told used (omega arith)))
 
-  pub feeds_header : (h : Header) (n : ℕ) → Least A mid.bytes piece used (header h n) → Stands files (Some h) records new.bytes
+  pub feeds_header : (h : Header) (n : ℕ) → Least A mid.bytes piece used (header h n) → ComesToRecords files (Some h) records new.bytes
   feeds_header h n least = stands_header files head records mid.bytes new.bytes s h n (λ events told. here (events ++ header h n ∷ []) (least events told).0)
 
-  pub feeds_item : (r : Record A) → Least A mid.bytes piece used (item r) → Stands files head (records ++ r ∷ []) new.bytes
+  pub feeds_item : (r : Record A) → Least A mid.bytes piece used (item r) → ComesToRecords files head (records ++ r ∷ []) new.bytes
   feeds_item r least = stands_item files head records mid.bytes new.bytes s r (λ events told. here (events ++ item r ∷ []) (least events told).0)
 
 -- the whole piece was fed
 pub piece_over : {A : Type 0} (files : List (FitFile A)) (head : Option Header) (records : List (Record A)) (old new : Seen) (piece : List ℕ) (k : ℕ)
-    → new ≡ fed old piece k → k ≡ length piece → Stands files head records new.bytes → PieceFed files old.bytes piece new head records (Ok false)
+    → new ≡ fed old piece k → k ≡ length piece → ComesToRecords files head records new.bytes → PieceFed files old.bytes piece new head records (Ok false)
 piece_over files head records old new piece k after all s =
-    let same : new ≡ unrefused (old.bytes ++ piece) = after ∙ ap (λ (b : List ℕ). unrefused (old.bytes ++ b)) (ap (λ n. take n piece) all ∙ take-length piece) in
-    (same, subst (λ (v : Seen). Stands files head records v.bytes) same s)
+    let same : new ≡ unrefused (old.bytes ++ piece) = after ∙ ap (λ (b : List ℕ). unrefused (old.bytes ++ b)) (ap (λ n. take n piece) all ∙ take-length piece)
+    in
+    (same, subst (λ (v : Seen). ComesToRecords files head records v.bytes) same s)
 
 module _ {A : Type 0} (files : List (FitFile A)) (head : Option Header) (records : List (Record A)) (old mid new : Seen) (piece : List ℕ) (at : ℕ)
-    (within : at ≤ length piece) (is : mid ≡ fed old piece at) (s : Stands files head records mid.bytes) where
+    (within : at ≤ length piece) (is : mid ≡ fed old piece at) (s : ComesToRecords files head records mid.bytes) where
   joined : (u : ℕ) → mid.bytes ++ take u (drop at piece) ≡ old.bytes ++ take (at + u) piece
   joined u = ap (λ (v : Seen). v.bytes) (fed_on old mid (fed mid (drop at piece) u) piece at u is refl)
 
-  pub piece_more : (used : ℕ) → new ≡ fed mid (drop at piece) used → used ≡ length (drop at piece) → Quiet A mid.bytes (drop at piece) used → PieceFed files old.bytes piece new head records (Ok false)
+  pub piece_more : (used : ℕ) → new ≡ fed mid (drop at piece) used → used ≡ length (drop at piece) → Quiet A mid.bytes (drop at piece) used
+      → PieceFed files old.bytes piece new head records (Ok false)
   piece_more used after all quiet =
       piece_over files head records old new piece (at + used) (fed_on old mid new piece at used is after) (omega (arith, all, length-drop at piece, within))
       (feeds_nothing files head records mid new (drop at piece) used s after quiet)
 
-  pub piece_end : (used : ℕ) → new ≡ fed mid (drop at piece) used → used ≤ length (drop at piece) → Least A mid.bytes (drop at piece) used file_end → PieceFed files old.bytes piece new head records (Ok true)
+  pub piece_end : (used : ℕ) → new ≡ fed mid (drop at piece) used → used ≤ length (drop at piece) → Least A mid.bytes (drop at piece) used file_end
+      → PieceFed files old.bytes piece new head records (Ok true)
   piece_end used after below least =
       let there = ends_file files head records mid.bytes (drop at piece) used s least in (
         at + used,
@@ -62,10 +67,12 @@ module _ {A : Type 0} (files : List (FitFile A)) (head : Option Header) (records
         subst (Ended files (record { header = there.0; records = records })) (joined used) there.2,
       )
 
-  pub piece_refused : (place : ℕ) (reason : Reason) → Refuses A mid (drop at piece) new place reason → PieceFed files old.bytes piece new head records (Err (Refused place reason))
+  pub piece_refused : (place : ℕ) (reason : Reason) → Refuses A mid (drop at piece) new place reason
+      → PieceFed files old.bytes piece new head records (Err (Refused place reason))
   piece_refused place reason refuses =
       let u : ℕ = refuses.used in
-      let begun = stands_quiet files head records mid.bytes (mid.bytes ++ take u (drop at piece)) s (λ events told. refuses.quiet events told u (omega arith)) in (
+      let begun = stands_quiet files head records mid.bytes (mid.bytes ++ take u (drop at piece)) s (λ events told. refuses.quiet events told u (omega arith))
+      in (
         at + u,
         omega (arith, refuses.within, length-drop at piece),
         omega (arith, refuses.is_place, ap (λ (v : Seen). length v.bytes) is, length-append old.bytes (take at piece), length-take at piece),

@@ -1,11 +1,12 @@
 -- Fronts of a piece, one byte more each.
-use Rattle.std.proofs.Common.{◌≡◌, ℕ, ◌+◌, ◌<◌, List, [], ◌∷◌, ◌++◌, length, take, get_or, sym, ap, ◌∙◌, subst, arith, append_assoc, Some, None, Ok, Err, true, false}
+use Rattle.std.proofs.Common.{◌≡◌, ℕ, ◌+◌, ◌<◌, List, [], ◌∷◌, ◌++◌, length, take, get_or, sym, ap, ◌∙◌, subst, arith, append_assoc, Some, None, Ok, Err, true}
+use Rattle.std.proofs.Common.{false}
 use Rattle.std.specs.Prelude.{Result, OnOk, OnErr}
 use Rattle.std.specs.Result.{is_ok}
 use Rattle.std.proofs.lemmas.List.{take_more}
 use Rattle.fit_frame.specs.declared.header.Header.{Header}
 use Rattle.fit_frame.specs.Beginning.{Seen, IsFileHeader}
-use Rattle.fit_decode.specs.Scans.{HeaderScanned}
+use Rattle.fit_decode.specs.inner.Scans.{HeaderScanned}
 
 -- one byte more of the piece
 pub bytes_more : (front piece : List ℕ) (i : ℕ) → i < length piece → (front ++ take i piece) ++ get_or piece i 0 ∷ [] ≡ front ++ take (i + 1) piece
@@ -19,7 +20,8 @@ header_scanned front piece i old new whole within before after is =
     let all : new.bytes ≡ front ++ take (i + 1) piece =
     ap (λ (s : Seen). s.bytes) after ∙ ap (λ (s : Seen). s.bytes ++ get_or piece i 0 ∷ []) before ∙ bytes_more front piece i within in
     let seen : new ≡ record { bytes = front ++ take (i + 1) piece; refusal = None } =
-    after ∙ ap (λ (s : Seen). record { bytes = s.bytes ++ get_or piece i 0 ∷ []; refusal = None }) before ∙ ap (λ b. record { bytes = b; refusal = None }) (bytes_more front piece i within) in
+    after ∙ ap (λ (s : Seen). record { bytes = s.bytes ++ get_or piece i 0 ∷ []; refusal = None }) before
+    ∙ ap (λ b. record { bytes = b; refusal = None }) (bytes_more front piece i within) in
     (omega arith, omega (arith, within), seen, subst (IsFileHeader whole.0 whole.1) all is)
 
 -- what holds of a good answer, and of a fault

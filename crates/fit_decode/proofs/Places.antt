@@ -1,5 +1,6 @@
 -- Bytes with which a chain begins have come somewhere: to some whole files and some of the next one.
-use Rattle.std.proofs.Common.{◌≡◌, inl, inr, ℕ, zero, suc, ◌-◌, ◌<◌, ◌≤◌, List, [], ◌∷◌, ◌++◌, length, refl, sym, ap, ◌∙◌, subst, arith, append_assoc, length-append}
+use Rattle.std.proofs.Common.{◌≡◌, inl, inr, ℕ, zero, suc, ◌-◌, ◌<◌, ◌≤◌, List, [], ◌∷◌, ◌++◌, length, refl, sym, ap, ◌∙◌, subst, arith, append_assoc}
+use Rattle.std.proofs.Common.{length-append}
 use Rattle.std.specs.List.{AllByRecursion}
 use Rattle.std.proofs.lemmas.List.{append-nil}
 use Rattle.fit_base.specs.Numbers.{little_bytes}
@@ -34,18 +35,22 @@ short_sum : {A : Type 0} (e : Environment A) (room : ℕ) (q : List ℕ) → roo
 short_sum e zero q over short = short
 short_sum e (suc room) q over short = absurd (omega arith)
 
-placed : {A : Type 0} (e : Environment A) (rs : List (Record A)) (q sum : List ℕ) (c : ℕ) (m : List ℕ) → AllFit e rs → length sum ≡ 2 → records_bytes e rs ++ sum ≡ q ++ c ∷ m → Placed e (length (records_bytes e rs)) q
+placed : {A : Type 0} (e : Environment A) (rs : List (Record A)) (q sum : List ℕ) (c : ℕ) (m : List ℕ) → AllFit e rs → length sum ≡ 2
+    → records_bytes e rs ++ sum ≡ q ++ c ∷ m → Placed e (length (records_bytes e rs)) q
 placed e [] q sum c m fit two joined = none_done e 0 q (short_sum e 0 q refl (omega (arith, two, ap length joined, length-append q (c ∷ m))))
 placed {A} e (r ∷ rs) q sum c m fit two joined =
     let after : List ℕ = records_bytes (learn e r) rs in
     let parts : q ++ c ∷ m ≡ record_bytes e r ++ (after ++ sum) = sym joined ∙ append_assoc (record_bytes e r) after sum in
-    let again : (front : List ℕ) → records_bytes (learn e r) rs ++ sum ≡ front ++ c ∷ m → Placed (learn e r) (length (records_bytes (learn e r) rs)) front = λ front behind. placed (learn e r) rs front sum c m fit.1 two behind in
+    let again : (front : List ℕ) → records_bytes (learn e r) rs ++ sum ≡ front ++ c ∷ m → Placed (learn e r) (length (records_bytes (learn e r) rs)) front =
+    λ front behind. placed (learn e r) rs front sum c m fit.1 two behind in
     elim (split q (record_bytes e r) (c ∷ m) (after ++ sum) parts) [
       | inl s ↦ go again s.more s.second s.behind
       | inr s ↦ onward again (s.next ∷ s.more) s.first s.behind
     ]
   where
-    onward : ((front : List ℕ) → records_bytes (learn e r) rs ++ sum ≡ front ++ c ∷ m → Placed (learn e r) (length (records_bytes (learn e r) rs)) front) → (front : List ℕ) → q ≡ record_bytes e r ++ front → records_bytes (learn e r) rs ++ sum ≡ front ++ c ∷ m → Placed e (length (records_bytes e (r ∷ rs))) q
+    onward : ((front : List ℕ) → records_bytes (learn e r) rs ++ sum ≡ front ++ c ∷ m → Placed (learn e r) (length (records_bytes (learn e r) rs)) front)
+        → (front : List ℕ) → q ≡ record_bytes e r ++ front → records_bytes (learn e r) rs ++ sum ≡ front ++ c ∷ m
+        → Placed e (length (records_bytes e (r ∷ rs))) q
     onward again front first behind =
         let k = again front behind in
         let all = length-append (record_bytes e r) (records_bytes (learn e r) rs) in
@@ -60,12 +65,15 @@ placed {A} e (r ∷ rs) q sum c m fit two joined =
           spelled = first ∙ ap (λ l. record_bytes e r ++ l) k.spelled ∙ sym (append_assoc (record_bytes e r) (records_bytes (learn e r) k.done) k.part);
         }
 
-    go : ((front : List ℕ) → records_bytes (learn e r) rs ++ sum ≡ front ++ c ∷ m → Placed (learn e r) (length (records_bytes (learn e r) rs)) front) → (more : List ℕ) → record_bytes e r ≡ q ++ more → c ∷ m ≡ more ++ (records_bytes (learn e r) rs ++ sum) → Placed e (length (records_bytes e (r ∷ rs))) q
+    go : ((front : List ℕ) → records_bytes (learn e r) rs ++ sum ≡ front ++ c ∷ m → Placed (learn e r) (length (records_bytes (learn e r) rs)) front)
+        → (more : List ℕ) → record_bytes e r ≡ q ++ more → c ∷ m ≡ more ++ (records_bytes (learn e r) rs ++ sum)
+        → Placed e (length (records_bytes e (r ∷ rs))) q
     go again [] second behind = onward again [] (sym (append-nil q) ∙ sym second ∙ sym (append-nil (record_bytes e r))) (sym behind)
     go again (d ∷ more) second behind =
         let all = length-append (record_bytes e r) (records_bytes (learn e r) rs) in
         let some : 0 < length (records_bytes e (r ∷ rs)) = omega (arith, all, ap length second, length-append q (d ∷ more)) in
-        none_done e (length (records_bytes e (r ∷ rs))) q (partial e (length (records_bytes e (r ∷ rs))) q some (before_record e q (d ∷ more) r fit.0 second (omega arith)))
+        none_done e (length (records_bytes e (r ∷ rs))) q
+        (partial e (length (records_bytes e (r ∷ rs))) q some (before_record e q (d ∷ more) r fit.0 second (omega arith)))
 
 -- ---- one file
 
@@ -85,7 +93,8 @@ in_data f bytes q c m well is joined =
     record {
       progress = at_data f.header (length (body f)) k.done k.part;
       open_ = (well.header, k.fit, k.within, k.open_);
-      spelled = is ∙ ap (λ l. header_bytes f.header (length (body f)) ++ l) k.spelled ∙ sym (append_assoc (header_bytes f.header (length (body f))) (records_bytes empty_environment k.done) k.part);
+      spelled = is ∙ ap (λ l. header_bytes f.header (length (body f)) ++ l) k.spelled
+          ∙ sym (append_assoc (header_bytes f.header (length (body f))) (records_bytes empty_environment k.done) k.part);
     }
 
 in_file : {A : Type 0} (f : FitFile A) (bytes : List ℕ) (c : ℕ) (m : List ℕ) → IsWellFormed f → file_bytes f ≡ bytes ++ c ∷ m → Begun A bytes
@@ -98,13 +107,16 @@ in_file {A} f bytes c m well joined =
       | inr s ↦ in_data f bytes (s.next ∷ s.more) c m well s.first s.behind
     ]
   where
-    go : (more : List ℕ) → header_bytes f.header (length (body f)) ≡ bytes ++ more → c ∷ m ≡ more ++ (body f ++ little_bytes 2 (checksum (summed f))) → Begun A bytes
-    go [] second behind = in_data f bytes [] c m well (sym (append-nil bytes) ∙ sym second ∙ sym (append-nil (header_bytes f.header (length (body f))))) (sym behind)
+    go : (more : List ℕ) → header_bytes f.header (length (body f)) ≡ bytes ++ more → c ∷ m ≡ more ++ (body f ++ little_bytes 2 (checksum (summed f)))
+        → Begun A bytes
+    go [] second behind = in_data f bytes [] c m well (sym (append-nil bytes) ∙ sym second ∙ sym (append-nil (header_bytes f.header (length (body f)))))
+        (sym behind)
     go (d ∷ more) second behind = record {
       progress = at_header bytes;
       open_ = unfinished A bytes (λ h n over fits is.
           let whole : header_bytes h n ++ (over ++ d ∷ more) ≡ header_bytes f.header (length (body f)) ++ [] =
-          sym (append_assoc (header_bytes h n) over (d ∷ more)) ∙ ap (λ l. l ++ d ∷ more) (sym is) ∙ sym second ∙ sym (append-nil (header_bytes f.header (length (body f)))) in
+          sym (append_assoc (header_bytes h n) over (d ∷ more)) ∙ ap (λ l. l ++ d ∷ more) (sym is) ∙ sym second
+          ∙ sym (append-nil (header_bytes f.header (length (body f)))) in
           no_end over more d (one_header h f.header n (length (body f)) (over ++ d ∷ more) [] fits well.header whole).2);
       spelled = refl;
     }

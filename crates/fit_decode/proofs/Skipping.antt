@@ -1,5 +1,6 @@
 -- What the skipping of records makes of the fields and of the events.
-use Rattle.std.proofs.Common.{◌≡◌, cond, inl, inr, ℕ, ◌+◌, ◌-◌, ◌≤◌, Bool, true, false, List, [], ◌++◌, length, take, refl, sym, ap, ◌∙◌, subst, arith, append_assoc, length-append, Fits, w64, Some, None}
+use Rattle.std.proofs.Common.{◌≡◌, cond, inl, inr, ℕ, ◌+◌, ◌-◌, ◌≤◌, Bool, true, false, List, [], ◌++◌, length, take, refl, sym, ap, ◌∙◌, subst, arith}
+use Rattle.std.proofs.Common.{append_assoc, length-append, Fits, w64, Some, None}
 use Rattle.std.specs.Prelude.{Option, is_some, map}
 use Rattle.std.proofs.lemmas.Bool.{ne_eqb}
 use Rattle.std.proofs.lemmas.List.{append-nil, length-take-le}
@@ -19,19 +20,19 @@ use Rattle.fit_record.proofs.SixteenPlaces.{sixteen_places}
 use Rattle.fit_record.proofs.RecordLists.{all_fit-append, records_bytes-append, learn_all-append}
 use Rattle.fit_step.specs.declared.position.Position.{Position}
 use Rattle.fit_step.specs.Machine.{State, start}
-use Rattle.fit_step.specs.Parts.{Part, nothing, in_definition, in_fields, in_dev_fields, part_bytes, state_of}
+use Rattle.fit_step.specs.Parts.{RecordPart, nothing, in_definition, in_fields, in_dev_fields, part_bytes, state_of}
 use Rattle.fit_step.specs.Places.{state_at}
 use Rattle.fit_frame.specs.declared.reason.Reason.{Reason}
 use Rattle.fit_decode.specs.declared.decoder.Decoder.TheInside.{Inside}
 use Rattle.fit_decode.specs.Answers.{Seen, TellsRecords}
-use Rattle.fit_decode.specs.Invariant.{IsKept, fields_of}
+use Rattle.fit_decode.specs.inner.Invariant.{IsSoundDecoder, fields_inside}
 use Rattle.fit_decode.proofs.Bounds.{short_bytes}
 use Rattle.fit_decode.specs.declared.section.Section.TheVariants.{Data as InSection, ClosingSum}
 use Rattle.fit_decode.specs.Progress.{at_data, progress_bytes, HasCome}
 use Rattle.fit_decode.specs.Events.{Event, item, AreEvents}
-use Rattle.fit_decode.specs.Kept.{Fields, InData, Holds, HoldsAt}
-use Rattle.fit_decode.specs.Sections.{section_of}
-use Rattle.fit_decode.specs.Skips.{SkipsSome, DataSkipped, Skipped}
+use Rattle.fit_decode.specs.inner.Kept.{Fields, InData, Holds, HoldsAt}
+use Rattle.fit_decode.specs.inner.Sections.{section_of}
+use Rattle.fit_decode.specs.inner.Skips.{SkipsSome, DataSkipped, Skipped}
 use Rattle.fit_decode.proofs.Completions.{goes_viable}
 use Rattle.fit_decode.proofs.DataFed.{data_starts}
 use Rattle.fit_decode.proofs.Next.{more_of, items_told, all_told}
@@ -41,7 +42,7 @@ use Rattle.fit_decode.proofs.Whole.{partial_nothing}
 
 -- ---- where no record is in progress none has begun
 
-none_begun : {A : Type 0} (e : Environment A) (s : State A) (f : Part A) → s ≡ state_of s.room f → s.in_progress ≡ None → part_bytes e f ≡ []
+none_begun : {A : Type 0} (e : Environment A) (s : State A) (f : RecordPart A) → s ≡ state_of s.room f → s.in_progress ≡ None → part_bytes e f ≡ []
 none_begun e s nothing is none = refl
 none_begun {A} e s (in_definition k d) is none = absurd (let some = sym none ∙ ap (λ (t : State A). t.in_progress) is in cc)
 none_begun {A} e s (in_fields local offset t dev) is none = absurd (let some = sym none ∙ ap (λ (t : State A). t.in_progress) is in cc)
@@ -49,7 +50,8 @@ none_begun {A} e s (in_dev_fields local offset items t) is none = absurd (let so
 
 -- ---- records behind records
 
-module _ {A : Type 0} (fs : List (FitFile A)) (h : Header) (n : ℕ) (records rs : List (Record A)) (bytes y : List ℕ) (here : HasCome fs (at_data h n records []) bytes) where
+module _ {A : Type 0} (fs : List (FitFile A)) (h : Header) (n : ℕ) (records rs : List (Record A)) (bytes y : List ℕ)
+    (here : HasCome fs (at_data h n records []) bytes) where
   abbrev known : Environment A
   known = learn_all empty_environment records
 
@@ -77,7 +79,8 @@ module _ {A : Type 0} (fs : List (FitFile A)) (h : Header) (n : ℕ) (records rs
 
     pub records_told : (events : List (Event A)) → AreEvents bytes events → AreEvents (bytes ++ y) (events ++ map item rs)
     records_told =
-        all_told fs fs (at_data h n records []) (at_data h n (records ++ rs) []) bytes (bytes ++ y) (map item rs) here records_come (items_told fs h n records rs [] [])
+        all_told fs fs (at_data h n records []) (at_data h n (records ++ rs) []) bytes (bytes ++ y) (map item rs) here records_come
+        (items_told fs h n records rs [] [])
 
 -- ---- the fields
 
@@ -86,7 +89,8 @@ large_fills e room sixteen large =
     let same : 6 + (room - 6) ≡ room = omega (arith, large) in
     subst (λ m. can_fill e m ≡ true) same ((can_fill_is e (6 + (room - 6)) sixteen).1 (six_and_more e (room - 6) (omega (arith, sixteen))))
 
-module _ {A : Type 0} (d : Fields A) (bytes piece : List ℕ) (after : Environment A) (sum : List ℕ) (position : Position) (used count : ℕ) (are : IsBytes bytes) (low : IsBytes piece) where
+module _ {A : Type 0} (d : Fields A) (bytes piece : List ℕ) (after : Environment A) (sum : List ℕ) (position : Position) (used count : ℕ) (are : IsBytes bytes)
+    (low : IsBytes piece) where
   abbrev now : Fields A
   now = record d { env = after; sum = sum; position = position }
 
@@ -106,7 +110,8 @@ module _ {A : Type 0} (d : Fields A) (bytes piece : List ℕ) (after : Environme
     part_are : IsBytes k.part
     part_are =
         let next : List ℕ = progress_bytes (at_data k.header k.size k.records k.part) in
-        IsBytes-back (header_bytes k.header k.size ++ records_bytes empty_environment k.records) k.part (IsBytes-back (chain_bytes k.files) next (subst IsBytes k.come.spelled are))
+        IsBytes-back (header_bytes k.header k.size ++ records_bytes empty_environment k.records) k.part
+        (IsBytes-back (chain_bytes k.files) next (subst IsBytes k.come.spelled are))
 
     no_part : k.part ≡ []
     no_part =
@@ -138,23 +143,27 @@ module _ {A : Type 0} (d : Fields A) (bytes piece : List ℕ) (after : Environme
     learnt = sym s.records.2 ∙ ap (λ e. learn_all e rs) k.known ∙ sym (learn_all-append empty_environment k.records rs)
 
     fill : can_fill (learn_all empty_environment all) (k.size - length (records_bytes empty_environment all)) ≡ true
-    fill = large_fills (learn_all empty_environment all) (k.size - length (records_bytes empty_environment all)) (sixteen_places all) (omega (arith, left, s.room, all_room))
+    fill = large_fills (learn_all empty_environment all) (k.size - length (records_bytes empty_environment all)) (sixteen_places all)
+        (omega (arith, left, s.room, all_room))
 
     all_come : HasCome k.files (at_data k.header k.size all []) (bytes ++ y)
     all_come = records_come k.files k.header k.size k.records rs bytes y here fits spelled within_room
 
     all_summed : sum ≡ header_bytes k.header k.size ++ records_bytes empty_environment all
     all_summed =
-        s.summed ∙ ap (λ l. l ++ y) (k.summed ∙ ap (λ p. (header_bytes k.header k.size ++ records_bytes empty_environment k.records) ++ p) no_part ∙ append-nil (header_bytes k.header k.size ++ records_bytes empty_environment k.records))
+        s.summed ∙ ap (λ l. l ++ y) (k.summed ∙ ap (λ p. (header_bytes k.header k.size ++ records_bytes empty_environment k.records) ++ p) no_part
+        ∙ append-nil (header_bytes k.header k.size ++ records_bytes empty_environment k.records))
         ∙ append_assoc (header_bytes k.header k.size) (records_bytes empty_environment k.records) y
-        ∙ ap (λ b. header_bytes k.header k.size ++ b) (ap (λ b. records_bytes empty_environment k.records ++ b) spelled ∙ sym (records_bytes-append empty_environment k.records rs))
+        ∙ ap (λ b. header_bytes k.header k.size ++ b)
+        (ap (λ b. records_bytes empty_environment k.records ++ b) spelled ∙ sym (records_bytes-append empty_environment k.records rs))
 
     at : state_at position d.in_progress ≡ start (k.size - length (records_bytes empty_environment all))
     at = let here_room = s.left ∙ ap (λ m. m - used) all_room ∙ sym left in
         λ i. record { phase = s.begun.phase i; room = here_room i; in_progress = s.begins i; partial = s.begun.partial i }
 
     in_data : section_of (k.size - length (records_bytes empty_environment all)) ≡ InSection
-    in_data = ap (λ c. cond c ClosingSum InSection) (ne_eqb (k.size - length (records_bytes empty_environment all)) 0 (λ none. omega (arith, none, left, s.room, all_room)))
+    in_data = ap (λ c. cond c ClosingSum InSection)
+        (ne_eqb (k.size - length (records_bytes empty_environment all)) 0 (λ none. omega (arith, none, left, s.room, all_room)))
 
     holds_behind : Holds now (bytes ++ y)
     holds_behind =
@@ -163,18 +172,28 @@ module _ {A : Type 0} (d : Fields A) (bytes piece : List ℕ) (after : Environme
 
     viable_behind : IsViable A chain_limit (bytes ++ y)
     viable_behind =
-        goes_viable chain_limit k.files (at_data k.header k.size all []) (bytes ++ y) all_come (IsBytes-append bytes y are (IsBytes-take used piece low))
-        (let few = k.few in omega (arith, few), let few = k.few in omega (arith, few), data_starts (learn_all empty_environment all) (k.size - length (records_bytes empty_environment all)) _ (sixteen_places all) fill)
+        goes_viable chain_limit k.files (at_data k.header k.size all []) (bytes ++ y) all_come (IsBytes-append bytes y are (IsBytes-take used piece low)) (
+          let few = k.few in omega (arith, few),
+          let few = k.few in
+              omega (arith, few),
+          data_starts (learn_all empty_environment all) (k.size - length (records_bytes empty_environment all)) _ (sixteen_places all)
+              fill,
+        )
 
     pub skips_some : Skipped now bytes piece used count
     skips_some = record {
       within = s.within;
-      told = λ events are_told. (s.records.0, s.records.3, records_told k.files k.header k.size k.records rs bytes y here fits spelled within_room events are_told);
+      told = λ events are_told. (
+        s.records.0,
+        s.records.3,
+        records_told k.files k.header k.size k.records rs bytes y here fits spelled within_room events are_told,
+      );
       viable = viable_behind;
       holds = holds_behind;
     }
 
-  skips_none : used ≡ 0 → count ≡ 0 → after ≡ d.env → sum ≡ d.sum → position ≡ d.position → IsViable A chain_limit bytes → Holds d bytes → Skipped now bytes piece used count
+  skips_none : used ≡ 0 → count ≡ 0 → after ≡ d.env → sum ≡ d.sum → position ≡ d.position → IsViable A chain_limit bytes → Holds d bytes
+      → Skipped now bytes piece used count
   skips_none none no_count learnt same there viable holds =
       let stay : bytes ≡ bytes ++ y = sym (append-nil bytes) ∙ ap (λ n. bytes ++ take n piece) (sym none) in
       let fields : d ≡ now = λ i. record d { env = sym learnt i; sum = sym same i; position = sym there i } in
@@ -185,7 +204,8 @@ module _ {A : Type 0} (d : Fields A) (bytes piece : List ℕ) (after : Environme
         holds = subst (λ f. Holds f (bytes ++ y)) fields (subst (Holds d) stay holds);
       }
 
-  pub skips : DataSkipped d.section d.env d.sum d.position d.in_progress after sum position piece used count → IsViable A chain_limit bytes → Holds d bytes → Skipped now bytes piece used count
+  pub skips : DataSkipped d.section d.env d.sum d.position d.in_progress after sum position piece used count → IsViable A chain_limit bytes → Holds d bytes
+      → Skipped now bytes piece used count
   skips (inl (none, no_count, learnt, same, there)) viable holds = skips_none none no_count learnt same there viable holds
   skips (inr s) viable holds = skips_some s (subst (λ c. HoldsAt c d bytes) s.in_data holds)
 
@@ -195,10 +215,12 @@ pub fresh : (refusal : Option Reason) (some : Bool) → some ≡ is_some refusal
 fresh None some is isnt = refl
 fresh (Some reason) some is isnt = absurd (let both : true ≡ false = sym is ∙ isnt in cc)
 
-module _ {A : Type 0} (d : Inside A) (k : IsKept d) (none : d.refusal ≡ None) (piece : List ℕ) (after : Environment A) (sum : List ℕ) (position : Position) (used count : ℕ) (low : IsBytes piece)
+module _ {A : Type 0} (d : Inside A) (k : IsSoundDecoder d) (none : d.refusal ≡ None) (piece : List ℕ) (after : Environment A) (sum : List ℕ)
+    (position : Position)
+    (used count : ℕ) (low : IsBytes piece)
     (s : DataSkipped d.section d.env d.sum d.position d.in_progress after sum position piece used count) where
-  pub skipped : Skipped (record (fields_of d) { env = after; sum = sum; position = position }) d.history.items piece used count
-  skipped = skips (fields_of d) d.history.items piece after sum position used count k.are low s k.viable (k.holds none)
+  pub skipped : Skipped (record (fields_inside d) { env = after; sum = sum; position = position }) d.history.items piece used count
+  skipped = skips (fields_inside d) d.history.items piece after sum position used count k.are low s k.viable (k.holds none)
 
   pub within_piece : used ≤ length piece
   within_piece = skipped.within
@@ -209,16 +231,20 @@ module _ {A : Type 0} (d : Inside A) (k : IsKept d) (none : d.refusal ≡ None) 
   pub few_skipped : Fits w64 (d.count + used)
   few_skipped = omega (arith, more_bytes, short_bytes (d.history.items ++ take used piece) skipped.viable)
 
-  pub skipped_kept : (n : Inside A) → n.history.items ≡ d.history.items ++ take used piece → fields_of n ≡ record (fields_of d) { env = after; sum = sum; position = position } → n.count ≡ d.count + used → n.refusal ≡ None → IsKept n
+  pub skipped_kept : (n : Inside A) → n.history.items ≡ d.history.items ++ take used piece
+      → fields_inside n ≡ record (fields_inside d) { env = after; sum = sum; position = position } → n.count ≡ d.count + used → n.refusal ≡ None
+      → IsSoundDecoder n
   skipped_kept n took same counted fresh = record {
     viable = subst (IsViable A chain_limit) (sym took) skipped.viable;
     are = subst IsBytes (sym took) (IsBytes-append d.history.items (take used piece) k.are (IsBytes-take used piece low));
     counted = counted ∙ sym more_bytes ∙ ap length (sym took);
-    holds = λ _. subst (λ f. Holds f n.history.items) (sym same) (subst (Holds (record (fields_of d) { env = after; sum = sum; position = position })) (sym took) skipped.holds);
+    holds = λ _. subst (λ f. Holds f n.history.items) (sym same)
+        (subst (Holds (record (fields_inside d) { env = after; sum = sum; position = position })) (sym took) skipped.holds);
     let_go = λ reason is. absurd (let both : Some reason ≡ None = sym is ∙ fresh in cc);
   }
 
-  pub records_skipped : (old : Seen) → record { bytes = d.history.items; refusal = d.refusal } ≡ old → (bytes : List ℕ) → bytes ≡ d.history.items ++ take used piece
+  pub records_skipped : (old : Seen) → record { bytes = d.history.items; refusal = d.refusal } ≡ old → (bytes : List ℕ)
+      → bytes ≡ d.history.items ++ take used piece
       → (events : List (Event A)) → AreEvents old.bytes events → TellsRecords bytes events count
   records_skipped old seen bytes took events are_told =
       let told = skipped.told events (subst (λ b. AreEvents b events) (sym (ap (λ (o : Seen). o.bytes) seen)) are_told) in

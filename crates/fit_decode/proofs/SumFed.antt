@@ -20,7 +20,7 @@ use Rattle.fit_decode.specs.Events.{file_end}
 use Rattle.fit_decode.specs.GoingOn.{DataGoesOn, ChainGoesOn}
 use Rattle.fit_decode.specs.Refusals.{IsRefused}
 use Rattle.fit_decode.specs.Answers.{Quiet, Least}
-use Rattle.fit_decode.proofs.Goes.{next_goes, begins_nothing, no_room}
+use Rattle.fit_decode.proofs.ViableGoesOn.{next_goes, begins_nothing, no_room}
 use Rattle.fit_decode.proofs.Completions.{goes_viable}
 use Rattle.fit_decode.proofs.Next.{more_sum, whole_file, quiet, told, end_told}
 use Rattle.fit_decode.proofs.HeaderFed.{not_full}
@@ -41,18 +41,31 @@ module _ {A : Type 0} (files : List (FitFile A)) (h : Header) (n : ℕ) (records
   abbrev e : Environment A
   e = learn_all empty_environment records
 
-  pub sum_fronts : (k : ℕ) → k ≤ length piece → length (part ++ take k piece) < 2 → (j : ℕ) → j ≤ k → HasCome files (at_data h n records (part ++ take j piece)) (bytes ++ take j piece)
+  pub sum_fronts : (k : ℕ) → k ≤ length piece → length (part ++ take k piece) < 2 → (j : ℕ) → j ≤ k
+      → HasCome files (at_data h n records (part ++ take j piece)) (bytes ++ take j piece)
   sum_fronts k within short j less =
       more_sum files h n records part bytes (take j piece) here over
-      (omega (arith, short, less, length-append part (take j piece), length-append part (take k piece), length-take-le j piece (omega (arith, less, within)), length-take-le k piece within))
+      (omega (
+        arith,
+        short,
+        less,
+        length-append part (take j piece),
+        length-append part (take k piece),
+        length-take-le j piece (omega (arith, less, within)),
+        length-take-le k piece within,
+      ))
 
   pub sum_quiet : (k : ℕ) → k ≤ length piece → length (part ++ take k piece) < 2 → Quiet A bytes piece k
-  sum_quiet k within short = λ events are_told j less. quiet files (at_data h n records part) (at_data h n records (part ++ take j piece)) bytes (bytes ++ take j piece) here (sum_fronts k within short j less) refl events are_told
+  sum_quiet k within short = λ events are_told j less.
+      quiet files (at_data h n records part) (at_data h n records (part ++ take j piece)) bytes (bytes ++ take j piece) here (sum_fronts k within short j less)
+      refl events are_told
 
   -- a part of the sum
-  pub sum_viable : (k : ℕ) (rest : List ℕ) → k ≤ length piece → length (part ++ take k piece) < 2 → sum ≡ (part ++ take k piece) ++ rest → IsViable A chain_limit (bytes ++ take k piece)
+  pub sum_viable : (k : ℕ) (rest : List ℕ) → k ≤ length piece → length (part ++ take k piece) < 2 → sum ≡ (part ++ take k piece) ++ rest
+      → IsViable A chain_limit (bytes ++ take k piece)
   sum_viable k rest within short begins =
-      goes_viable chain_limit files (at_data h n records (part ++ take k piece)) (bytes ++ take k piece) (sum_fronts k within short k (omega arith)) (IsBytes-append bytes (take k piece) are (IsBytes-take k piece low))
+      goes_viable chain_limit files (at_data h n records (part ++ take k piece)) (bytes ++ take k piece) (sum_fronts k within short k (omega arith))
+      (IsBytes-append bytes (take k piece) are (IsBytes-take k piece low))
       (omega (arith, few), omega (arith, few), no_room e (n - length (records_bytes empty_environment records)) sum (part ++ take k piece) rest over begins)
 
   -- all of it
@@ -66,7 +79,8 @@ module _ {A : Type 0} (files : List (FitFile A)) (h : Header) (n : ℕ) (records
   file_goes = (omega (arith, few), omega (arith, few, length-append files (file ∷ [])), begins_nothing)
 
   pub file_viable : (k : ℕ) → part ++ take k piece ≡ sum → IsViable A chain_limit (bytes ++ take k piece)
-  file_viable k whole = goes_viable chain_limit (files ++ file ∷ []) (at_header []) (bytes ++ take k piece) (file_come k whole) (IsBytes-append bytes (take k piece) are (IsBytes-take k piece low)) file_goes
+  file_viable k whole = goes_viable chain_limit (files ++ file ∷ []) (at_header []) (bytes ++ take k piece) (file_come k whole)
+      (IsBytes-append bytes (take k piece) are (IsBytes-take k piece low)) file_goes
 
   pub file_least : (k : ℕ) → k ≤ length piece → part ++ take k piece ≡ sum → Least A bytes piece k file_end
   file_least k within whole = λ events are_told. (
@@ -75,13 +89,22 @@ module _ {A : Type 0} (files : List (FitFile A)) (h : Header) (n : ℕ) (records
     λ j less.
         let two : length (part ++ take k piece) ≡ 2 = ap length whole ∙ length-little_bytes 2 (checksum summed) in
         let short : length (part ++ take j piece) < 2 =
-        omega (arith, two, less, length-append part (take j piece), length-append part (take k piece), length-take-le j piece (omega (arith, less, within)), length-take-le k piece within) in
+        omega (
+          arith,
+          two,
+          less,
+          length-append part (take j piece),
+          length-append part (take k piece),
+          length-take-le j piece (omega (arith, less, within)),
+          length-take-le k piece within,
+        ) in
         sum_quiet j (omega (arith, less, within)) short events are_told j (omega arith),
   )
 
   -- a byte that differs
   pub sum_refuses : (k : ℕ) (rest : List ℕ) → k < length piece → length (part ++ take k piece) < 2 → sum ≡ (part ++ take k piece) ++ rest
-      → ((more : List ℕ) → sum ≡ ((part ++ take k piece) ++ slice_index piece k ∷ []) ++ more → ⊥) → IsRefused A chain_limit (bytes ++ take k piece) (slice_index piece k) FileSum
+      → ((more : List ℕ) → sum ≡ ((part ++ take k piece) ++ slice_index piece k ∷ []) ++ more → ⊥)
+      → IsRefused A chain_limit (bytes ++ take k piece) (slice_index piece k) FileSum
   sum_refuses k rest within short begins differs =
       let at = sum_fronts k (omega (arith, within)) short k (omega arith) in
       let whole : n ≡ length (records_bytes empty_environment records) = let less = here.next.2 in omega (arith, over, less) in
@@ -95,6 +118,7 @@ module _ {A : Type 0} (files : List (FitFile A)) (h : Header) (n : ℕ) (records
         progress = at_data h n records (part ++ take k piece);
         come = at;
         because = not_full A chain_limit (length files) (at_data h n records (part ++ take k piece)) (slice_index piece k) few
-            ∙ ap (λ c. cond c (Some FileSum) (record_reason e (part ++ take k piece) (n - length (records_bytes empty_environment records) - length (part ++ take k piece)) (slice_index piece k)))
+            ∙ ap (λ c. cond c (Some FileSum) (record_reason e (part ++ take k piece)
+            (n - length (records_bytes empty_environment records) - length (part ++ take k piece)) (slice_index piece k)))
             (eq-eqb n (length (records_bytes empty_environment records)) whole);
       }

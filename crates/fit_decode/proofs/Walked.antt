@@ -8,7 +8,7 @@ use Rattle.fit_record.specs.Records.{record_bytes, records_bytes}
 use Rattle.fit_record.specs.Rooms.{can_fill}
 use Rattle.fit_record.proofs.FilledRooms.{can_fill_is}
 use Rattle.fit_step.specs.Machine.{State, start, step, Walks, least_rest}
-use Rattle.fit_step.specs.Parts.{Part, nothing, in_definition, in_fields, in_dev_fields, part_bytes, IsPart, HasBegun, state_of}
+use Rattle.fit_step.specs.Parts.{RecordPart, nothing, in_definition, in_fields, in_dev_fields, part_bytes, IsPart, HasBegun, state_of}
 use Rattle.fit_step.specs.Tests.{tests_of}
 use Rattle.fit_step.specs.GoingOn.{goes_on, Continues}
 use Rattle.fit_step.proofs.GoingOn.{GoesOn, goes}
@@ -17,20 +17,21 @@ use Rattle.fit_step.proofs.Rest.{rooms_are_kept}
 use Rattle.fit_decode.specs.GoingOn.{FillFrom}
 use Rattle.fit_decode.proofs.Splits.{split}
 use Rattle.fit_decode.proofs.Whole.{NoRecord, part_of_record}
-use Rattle.fit_decode.proofs.Continuing.{continues}
+use Rattle.fit_decode.proofs.RecordCanGoOn.{continues}
 
 -- ---- what a walk has come to
 
 -- the part that has come, and the room that is left
 pub record Come {A : Type 0} (e : Environment A) (room : ℕ) (part : List ℕ) (s : State A) : Type 0 where
-  pub of : Part A
+  pub of : RecordPart A
   pub is_part : IsPart e of
   pub spelled : part_bytes e of ≡ part
   pub is : s ≡ state_of s.room of
   pub rest : least_rest e s ≤ s.room
   pub total : s.room + length part ≡ room
 
-pub come : {A : Type 0} (e : Environment A) (room : ℕ) (part : List ℕ) (s : State A) → Walks e (tests_of e) (start room) part s → IsBytes part → Come e room part s
+pub come : {A : Type 0} (e : Environment A) (room : ℕ) (part : List ℕ) (s : State A) → Walks e (tests_of e) (start room) part s → IsBytes part
+    → Come e room part s
 come e room part s walk are =
     let cut = walks_are_cuts e (tests_of e) room part s walk are in
     let kept = rooms_are_kept e (tests_of e) room part s walk are in
@@ -42,7 +43,8 @@ no_record_come e room part s c = subst (NoRecord e) c.spelled (part_of_record e 
 
 -- ---- filling
 
-pub fill_continues : {A : Type 0} (e : Environment A) (room : ℕ) (front : List ℕ) (b : ℕ) → NoRecord e front → FillFrom e room (front ++ b ∷ []) → Continues e (front ++ b ∷ []) (room - length (front ++ b ∷ []))
+pub fill_continues : {A : Type 0} (e : Environment A) (room : ℕ) (front : List ℕ) (b : ℕ) → NoRecord e front → FillFrom e room (front ++ b ∷ [])
+    → Continues e (front ++ b ∷ []) (room - length (front ++ b ∷ []))
 fill_continues {A} e room front b none ([], rest, are, fit, spelled, total) = absurd (impossible front spelled)
   where
     impossible : (front : List ℕ) → [] ≡ (front ++ b ∷ []) ++ rest → ⊥
@@ -56,7 +58,8 @@ fill_continues {A} e room front b none (r ∷ rs, rest, are, fit, spelled, total
       | inr s ↦ absurd (none r (s.next ∷ s.more) fit.0 s.first)
     ]
   where
-    go : (more : List ℕ) → record_bytes e r ≡ front ++ more → b ∷ rest ≡ more ++ records_bytes (learn e r) rs → Continues e (front ++ b ∷ []) (room - length (front ++ b ∷ []))
+    go : (more : List ℕ) → record_bytes e r ≡ front ++ more → b ∷ rest ≡ more ++ records_bytes (learn e r) rs
+        → Continues e (front ++ b ∷ []) (room - length (front ++ b ∷ []))
     go [] second behind = absurd (none r [] fit.0 (sym (append-nil front) ∙ sym second ∙ sym (append-nil (record_bytes e r))))
     go (c ∷ more) second behind =
         let same : c ≡ b = cc in
@@ -101,11 +104,16 @@ module _ {A : Type 0} (e : Environment A) (sixteen : length e.places ≡ 16) (ro
   pub fills : (part : List ℕ) (s : State A) → Come e room part s → IsBytes part → goes_on e s ≡ true → FillFrom e room part
   fills part s c are on = go c.of c.is_part c.spelled c.is
     where
-      go : (f : Part A) → IsPart e f → part_bytes e f ≡ part → s ≡ state_of s.room f → FillFrom e room part
-      go nothing is spelled at = subst (FillFrom e room) spelled (nothing_fills s at (let none : length part ≡ 0 = ap length (sym spelled) in omega (arith, c.total, none)) on)
-      go (in_definition k d) is spelled at = begun_fills part s (record { of = in_definition k d; is_part = is; spelled = spelled; is = at; rest = c.rest; total = c.total }) tt are on
-      go (in_fields local offset t dev) is spelled at = begun_fills part s (record { of = in_fields local offset t dev; is_part = is; spelled = spelled; is = at; rest = c.rest; total = c.total }) tt are on
-      go (in_dev_fields local offset items t) is spelled at = begun_fills part s (record { of = in_dev_fields local offset items t; is_part = is; spelled = spelled; is = at; rest = c.rest; total = c.total }) tt are on
+      go : (f : RecordPart A) → IsPart e f → part_bytes e f ≡ part → s ≡ state_of s.room f → FillFrom e room part
+      go nothing is spelled at = subst (FillFrom e room) spelled
+          (nothing_fills s at (let none : length part ≡ 0 = ap length (sym spelled) in omega (arith, c.total, none)) on)
+      go (in_definition k d) is spelled at = begun_fills part s
+          (record { of = in_definition k d; is_part = is; spelled = spelled; is = at; rest = c.rest; total = c.total }) tt are on
+      go (in_fields local offset t dev) is spelled at =
+          begun_fills part s (record { of = in_fields local offset t dev; is_part = is; spelled = spelled; is = at; rest = c.rest; total = c.total }) tt are on
+      go (in_dev_fields local offset items t) is spelled at =
+          begun_fills part s (record { of = in_dev_fields local offset items t; is_part = is; spelled = spelled; is = at; rest = c.rest; total = c.total }) tt
+          are on
 
   -- ---- a byte more
 

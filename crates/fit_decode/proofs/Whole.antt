@@ -10,7 +10,7 @@ use Rattle.fit_record.specs.declared.message.Record.{Record}
 use Rattle.fit_record.specs.Environment.{Environment}
 use Rattle.fit_record.specs.Records.{Fits, record_bytes}
 use Rattle.fit_record.proofs.OneRecord.{same_record, no_bytes}
-use Rattle.fit_step.specs.Parts.{Part, nothing, in_definition, in_fields, in_dev_fields, part_bytes, IsPart, HasBegun}
+use Rattle.fit_step.specs.Parts.{RecordPart, nothing, in_definition, in_fields, in_dev_fields, part_bytes, IsPart, HasBegun}
 use Rattle.fit_step.proofs.GoOn.{cuts_go_on}
 use Rattle.fit_decode.specs.Progress.{at_header, IsPartial, IsUnfinished}
 use Rattle.fit_decode.proofs.OnePlace.{no_header}
@@ -47,7 +47,8 @@ pub begun_header : (bytes : List ℕ) → BeginsHeader bytes → (IsWholeHeader 
 begun_header bytes begins unended h n rest fits is =
     let whole = begins.whole.is.0 in
     let joined : header_bytes h n ++ (rest ++ begins.more) ≡ header_bytes begins.whole.header begins.whole.data_size ++ [] =
-    sym (append_assoc (header_bytes h n) rest begins.more) ∙ ap (λ z. z ++ begins.more) (sym is) ∙ whole.1 ∙ sym (append-nil (header_bytes begins.whole.header begins.whole.data_size)) in
+    sym (append_assoc (header_bytes h n) rest begins.more) ∙ ap (λ z. z ++ begins.more) (sym is) ∙ whole.1
+    ∙ sym (append-nil (header_bytes begins.whole.header begins.whole.data_size)) in
     let one = one_header h begins.whole.header n begins.whole.data_size (rest ++ begins.more) [] fits whole.0 joined in
     let none = empty_back rest begins.more one.2 in
     let same : bytes ++ begins.more ≡ bytes = ap (λ z. bytes ++ z) none ∙ append-nil bytes in
@@ -89,13 +90,13 @@ before_record e a b s whole spelled some r rest fits is =
     let one = same_record e r s (rest ++ b) [] fits whole joined in
     omega (arith, some, ap length (empty_back rest b one.1))
 
-begun_part : {A : Type 0} (e : Environment A) (f : Part A) → IsPart e f → HasBegun f → NoRecord e (part_bytes e f)
+begun_part : {A : Type 0} (e : Environment A) (f : RecordPart A) → IsPart e f → HasBegun f → NoRecord e (part_bytes e f)
 begun_part e f is begun =
     let (r, k, whole) = cuts_go_on e f is begun in
     before_record e (part_bytes e f) (0 ∷ replicate k 0) r whole.0 (sym whole.1) (omega arith)
 
 -- parts of a record are none
-pub part_of_record : {A : Type 0} (e : Environment A) (f : Part A) → IsPart e f → NoRecord e (part_bytes e f)
+pub part_of_record : {A : Type 0} (e : Environment A) (f : RecordPart A) → IsPart e f → NoRecord e (part_bytes e f)
 part_of_record e nothing is = no_record_yet e
 part_of_record e (in_definition k d) is = begun_part e (in_definition k d) is tt
 part_of_record e (in_fields local offset t dev) is = begun_part e (in_fields local offset t dev) is tt

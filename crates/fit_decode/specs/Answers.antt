@@ -15,11 +15,11 @@ pub record Seen : Type 0 where
   pub refusal : Option Reason
 
 -- what an answer tells
-abbrev pub told : {A : Type 0} → Answer A → Option (Event A)
-told answers.More = None
-told (answers.Header h n) = Some (header h n)
-told (answers.Item r) = Some (item r)
-told answers.FileEnd = Some file_end
+abbrev pub event_of : {A : Type 0} → Answer A → Option (Event A)
+event_of answers.More = None
+event_of (answers.Header h n) = Some (header h n)
+event_of (answers.Item r) = Some (item r)
+event_of answers.FileEnd = Some file_end
 
 -- the bytes fed and the first k of the piece
 abbrev pub fed : Seen → List ℕ → ℕ → Seen

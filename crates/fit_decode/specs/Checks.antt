@@ -21,6 +21,6 @@ IsFaultOf bytes (NoMemory used) = Unit {0}
 IsFaultOf bytes (Read place) = ⊥
 
 -- Memory was refused.
-abbrev pub IsWantOfMemory : Fault → Type 0
-IsWantOfMemory (NoMemory used) = Unit {0}
-IsWantOfMemory _ = ⊥
+abbrev pub LacksMemory : Fault → Type 0
+LacksMemory (NoMemory used) = Unit {0}
+LacksMemory _ = ⊥

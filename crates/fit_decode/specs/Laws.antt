@@ -13,7 +13,8 @@ use Rattle.fit_decode.specs.Needs.{missing}
 
 -- The bytes of a chain have come to one place: there is one list of files, and one rest that isn't whole.
 abbrev pub ProgressIsOne : Type 0 → Type 0
-ProgressIsOne A = (files others : List (FitFile A)) (progress other : Progress A) (bytes : List ℕ) → HasCome files progress bytes → HasCome others other bytes → (files ≡ others) × (progress ≡ other)
+ProgressIsOne A = (files others : List (FitFile A)) (progress other : Progress A) (bytes : List ℕ) → HasCome files progress bytes → HasCome others other bytes
+    → (files ≡ others) × (progress ≡ other)
 
 -- Bytes have one list of events.
 abbrev pub EventsAreOne : Type 0 → Type 0
@@ -25,7 +26,8 @@ ViableHaveEvents A = (limit : ℕ) (bytes : List ℕ) → IsViable A limit bytes
 
 -- A byte is refused for one reason at most.
 abbrev pub ReasonsAreOne : Type 0 → Type 0
-ReasonsAreOne A = (limit : ℕ) (bytes : List ℕ) (b : ℕ) (reason other : Reason) → IsRefused A limit bytes b reason → IsRefused A limit bytes b other → reason ≡ other
+ReasonsAreOne A = (limit : ℕ) (bytes : List ℕ) (b : ℕ) (reason other : Reason) → IsRefused A limit bytes b reason → IsRefused A limit bytes b other
+    → reason ≡ other
 
 -- A byte with which no chain of at most so many files begins, behind bytes with which one does, has a reason.
 abbrev pub RefusedHaveReasons : Type 0 → Type 0
@@ -49,4 +51,5 @@ FirstFilesAreFiles A = (limit : ℕ) (progress : Progress A) (bytes : List ℕ) 
 
 -- What a reader holds behind some bytes is limited.
 abbrev pub BoundsAreLimited : Type 0 → Type 0
-BoundsAreLimited A = (files : List (FitFile A)) (progress : Progress A) (bytes : List ℕ) → HasCome files progress bytes → IsBytes bytes → bound progress ≤ bound_limit
+BoundsAreLimited A = (files : List (FitFile A)) (progress : Progress A) (bytes : List ℕ) → HasCome files progress bytes → IsBytes bytes
+    → bound progress ≤ bound_limit

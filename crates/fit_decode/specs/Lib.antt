@@ -7,14 +7,7 @@ pub mod Refusals
 pub mod Needs
 pub mod Laws
 pub mod Answers
-pub mod Scans
-pub mod Sections
-pub mod Kept
-pub mod Skips
-pub mod InProgress
-pub mod Invariant
 pub mod Sources
 pub mod Reads
-pub mod Turns
-pub mod Between
 pub mod Checks
+pub mod inner

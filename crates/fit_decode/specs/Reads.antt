@@ -1,7 +1,8 @@
 -- What the readers answer. A reader takes bytes from a source. `Reads..` says what each answer means, whatever the source held:
 -- which bytes were taken, and what they are. `Gives..` says which answer comes where the source's bytes begin with a file's, or
 -- are a chain's.
-use Rattle.std.specs.Prelude.{◌≡◌, ℕ, ◌+◌, ◌<◌, ◌≤◌, Bool, true, false, List, [], ◌∷◌, ◌++◌, Option, Some, None, Result, Ok, Err, Vec, take, length, slice_index}
+use Rattle.std.specs.Prelude.{◌≡◌, ℕ, ◌+◌, ◌<◌, ◌≤◌, Bool, true, false, List, [], ◌∷◌, ◌++◌, Option, Some, None, Result, Ok, Err, Vec, take, length}
+use Rattle.std.specs.Prelude.{slice_index}
 use Rattle.std.specs.declared.alloc.Global.{Global}
 use Rattle.std.specs.Io.KnownBytes.{Consumes, Keeps, IsAtEnd}
 use Rattle.fit_record.specs.declared.file.FitFile.{FitFile}
@@ -17,23 +18,32 @@ pub record Taking : Type 0 where
   pub after : Option (List ℕ)
   pub failed : Bool
 
+-- a source over a call, by what tells its bytes, what tells whether it has failed, and its states before and after
+abbrev pub taking : {S : Type 0} → (S → Option (List ℕ)) → (S → Bool) → S → S → Taking
+taking remaining has_failed old new = record { before = remaining old; after = remaining new; failed = has_failed new }
+
 -- Some file's bytes begin these.
 abbrev pub BeginsWithFile : Type 0 → List ℕ → Type 0
 BeginsWithFile A bytes = (f : FitFile A) × (b : List ℕ) × (rest : List ℕ) × IsFile f b × (bytes ≡ b ++ rest)
 
--- Some files of at most that many begin with these bytes, but for a last piece of at most 4,096.
+-- the most bytes that a reader takes at once: a piece
+abbrev pub piece_size : ℕ
+piece_size = 4096
+
+-- Some files of at most that many begin with these bytes, but for a last piece.
 abbrev pub IsNearlyViable : Type 0 → ℕ → List ℕ → Type 0
-IsNearlyViable A limit taken = (k : ℕ) × (k ≤ length taken) × (length taken ≤ k + 4096) × IsViable A limit (take k taken)
+IsNearlyViable A limit taken = (k : ℕ) × (k ≤ length taken) × (length taken ≤ k + piece_size) × IsViable A limit (take k taken)
 
 -- Why the reading of at most that many files ended, after these bytes were taken. The byte at the place is the first one with
 -- which no such files begin, and at most a piece was taken from there on; or the input ended, and its bytes begin such files, but
 -- are none; or memory was refused; or the source failed.
 abbrev pub EndsReading : (A : Type 0) → ℕ → (List ℕ → Type 0) → List ℕ → Option (List ℕ) → Bool → Fault → Type 0
 EndsReading A limit IsDone taken has failed (Refused place reason) =
-    (place < length taken) × (length taken ≤ place + 4096) × IsRefused A limit (take place taken) (slice_index taken place) reason
+    (place < length taken) × (length taken ≤ place + piece_size) × IsRefused A limit (take place taken) (slice_index taken place) reason
+    × (failed ≡ false)
 EndsReading A limit IsDone taken has failed (Truncated place) =
     (place ≡ length taken) × IsAtEnd has × IsViable A limit taken × (IsDone taken → ⊥) × (failed ≡ false)
-EndsReading A limit IsDone taken has failed (NoMemory used) = (used ≡ length taken) × IsNearlyViable A limit taken
+EndsReading A limit IsDone taken has failed (NoMemory used) = (used ≡ length taken) × IsNearlyViable A limit taken × (failed ≡ false)
 EndsReading A limit IsDone taken has failed (Read place) = (place ≡ length taken) × (failed ≡ true) × IsViable A limit taken
 
 -- ---- one file

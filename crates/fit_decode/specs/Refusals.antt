@@ -18,7 +18,7 @@ reason_in_file (at_data h n records part) b =
     if n == taken then Some FileSum
     else record_reason (learn_all empty_environment records) part (n - taken - length part) b
 
--- After so many whole files, where there may be at most `limit`. `proofs/Refused` computes it for known bytes, each kind of byte of a
+-- After so many whole files, where there may be at most `limit`. `proofs/KnownRefusals` computes it for known bytes, each kind of byte of a
 -- definition message among them. With the laws `reasons_are_one` and `refused_bytes_have_reasons` each refused byte has just one.
 abbrev pub reason_at : {A : Type 0} → ℕ → ℕ → Progress A → ℕ → Option Reason
 reason_at limit files g b = if files == limit then Some TooManyFiles else reason_in_file g b

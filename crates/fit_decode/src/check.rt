@@ -2,20 +2,20 @@
 ghost use Rattle.std.specs.Prelude.{IfErr, IfOk};
 ghost use Rattle.std.specs.declared.alloc.Global.{Global};
 ghost use Rattle.fit_decode.specs.Answers.{AreChain};
-ghost use Rattle.fit_decode.specs.Checks.{AreFiles, IsFaultOf, IsWantOfMemory};
+ghost use Rattle.fit_decode.specs.Checks.{AreFiles, IsFaultOf, LacksMemory};
 
 use crate::{Decoder, Fault};
 use std::alloc::Global;
 
-/// Checks that some bytes are a FIT file, or a chain of such files, and answers how many files they are.
+/// Checks that some bytes are a FIT file, or a chain of such files, and returns how many files they are.
 ///
 /// `Refused` names the first byte with which no chain of files goes on, counted from 0, and why; `Truncated` the end of bytes
 /// that end too soon. `NoMemory` says nothing of the bytes.
 pub fn check_bytes(alloc: Global, bytes: &[u8]) -> Result<u64, Fault>
     ensures files { IfOk result (AreFiles bytes.now) }
     ensures fault { IfErr result (IsFaultOf bytes.now) }
-    // A chain of files fails for want of memory alone.
-    ensures memory { AreChain Global bytes.now → IfErr result IsWantOfMemory }
+    // A chain of files fails only where memory is refused.
+    ensures memory { AreChain Global bytes.now → IfErr result LacksMemory }
 {
     let mut decoder = Decoder::new(alloc);
     let mut rest = bytes;

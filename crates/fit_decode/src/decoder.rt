@@ -7,7 +7,7 @@ ghost use Rattle.fit_decode.specs.Events.{Event as Told, AreEvents};
 ghost use Rattle.fit_decode.specs.Held.{bound_limit, IsHeld};
 ghost use Rattle.fit_decode.specs.Progress.{HasCome, Progress};
 ghost use Rattle.fit_decode.specs.Needs.{Needs, NoFileEndsBefore};
-ghost use Rattle.fit_decode.specs.Answers.{told, fed, Quiet, Least, Refuses, Wants, AreChain, TellsRecords};
+ghost use Rattle.fit_decode.specs.Answers.{event_of, fed, Quiet, Least, Refuses, Wants, AreChain, TellsRecords};
 
 #[cfg(test)]
 mod tests;
@@ -46,13 +46,13 @@ pub struct Decoder<A: Allocator + Copy = Global> {
 
 impl<A: Allocator + Copy> Model for Decoder<A> {
     ghost use Rattle.fit_decode.specs.Answers.{Seen};
-    ghost use Rattle.fit_decode.specs.Invariant.{IsKept};
+    ghost use Rattle.fit_decode.specs.inner.Invariant.{IsSoundDecoder};
 
     ghost Value = { Seen };
 
     ghost view = { λ d. record { bytes = d.history.items; refusal = d.refusal } };
 
-    ghost invariant = { IsKept };
+    ghost invariant = { IsSoundDecoder };
 }
 
 /// Whether files have ended, and no byte has come of a next one.
@@ -95,16 +95,25 @@ impl<A: Allocator + Copy> Decoder<A> {
     /// fields.
     pub fn feed(&mut self, piece: &[u8]) -> Result<Fed<A>, Fault>
         // After a refusal each call answers it again.
-        ensures latched { (reason : Reason) → self.old.refusal ≡ Some reason → (result ≡ Err (Fault.Refused (length self.old.bytes) reason)) × (self.new ≡ self.old) }
-        ensures used { IfOk result (λ f. (f.used ≤ length piece.now) × (self.new ≡ fed self.old piece.now f.used)) }
+        ensures latched { (reason : Reason) → self.old.refusal ≡ Some reason
+            → (result ≡ Err (Fault.Refused (length self.old.bytes) reason))
+            × (self.new ≡ self.old) }
+        ensures used { IfOk result (λ f. (f.used ≤ length piece.now)
+            × (self.new ≡ fed self.old piece.now f.used)) }
         // Without an event the whole piece is used, and tells none.
-        ensures more { IfOk result (λ f. told f.event ≡ None → (f.used ≡ length piece.now) × Quiet A self.old.bytes piece.now f.used) }
+        ensures more { IfOk result (λ f. event_of f.event ≡ None
+            → (f.used ≡ length piece.now) × Quiet A self.old.bytes piece.now f.used) }
         // An event is told by the bytes used, and by no fewer.
-        ensures event { IfOk result (λ f. (x : Told A) → told f.event ≡ Some x → (0 < f.used) × Least A self.old.bytes piece.now f.used x) }
+        ensures event { IfOk result (λ f. (x : Told A) → event_of f.event ≡ Some x
+            → (0 < f.used) × Least A self.old.bytes piece.now f.used x) }
         // The first refusal is of the first byte with which the bytes begin no chain.
-        ensures refused { (place : ℕ) (reason : Reason) → self.old.refusal ≡ None → result ≡ Err (Fault.Refused place reason) → Refuses A self.old piece.now self.new place reason }
-        ensures memory { (used : ℕ) → result ≡ Err (Fault.NoMemory used) → Wants A self.old piece.now self.new used }
-        ensures others { (place : ℕ) → (result ≡ Err (Fault.Truncated place) → ⊥) × (result ≡ Err (Fault.Read place) → ⊥) }
+        ensures refused { (place : ℕ) (reason : Reason) → self.old.refusal ≡ None
+            → result ≡ Err (Fault.Refused place reason)
+            → Refuses A self.old piece.now self.new place reason }
+        ensures memory { (used : ℕ) → result ≡ Err (Fault.NoMemory used)
+            → Wants A self.old piece.now self.new used }
+        ensures others { (place : ℕ) → (result ≡ Err (Fault.Truncated place) → ⊥)
+            × (result ≡ Err (Fault.Read place) → ⊥) }
         // Bytes that aren't refused begin a chain.
         ensures viable { IsViable A chain_limit self.new.bytes }
     {
@@ -154,11 +163,14 @@ impl<A: Allocator + Copy> Decoder<A> {
     /// one that ends in the last six bytes of a data section.
     pub fn skip_records(&mut self, piece: &[u8]) -> (usize, u64)
         ensures within { result.0 ≤ length piece.now }
-        ensures used { self.new ≡ record self.old { bytes = self.old.bytes ++ take result.0 piece.now } }
+        ensures used { self.new ≡ record self.old
+            { bytes = self.old.bytes ++ take result.0 piece.now } }
         // The bytes used tell that many records, and nothing else.
-        ensures records { (events : List (Told A)) → AreEvents self.old.bytes events → TellsRecords self.new.bytes events result.1 }
+        ensures records { (events : List (Told A)) → AreEvents self.old.bytes events
+            → TellsRecords self.new.bytes events result.1 }
         // After a refusal nothing is used.
-        ensures refused { (reason : Reason) → self.old.refusal ≡ Some reason → (result ≡ (0, 0)) × (self.new ≡ self.old) }
+        ensures refused { (reason : Reason) → self.old.refusal ≡ Some reason
+            → (result ≡ (0, 0)) × (self.new ≡ self.old) }
         ensures viable { IsViable A chain_limit self.new.bytes }
     {
         if self.refusal.is_some() {
@@ -183,8 +195,10 @@ impl<A: Allocator + Copy> Decoder<A> {
     /// last byte; after a refusal it is answered again.
     pub fn finish(&self) -> Result<(), Fault>
         ensures good { IsOk result ↔ ((self.now.refusal ≡ None) × AreChain A self.now.bytes) }
-        ensures truncated { self.now.refusal ≡ None → IsErr result → result ≡ Err (Fault.Truncated (length self.now.bytes)) }
-        ensures refused { (reason : Reason) → self.now.refusal ≡ Some reason → result ≡ Err (Fault.Refused (length self.now.bytes) reason) }
+        ensures truncated { self.now.refusal ≡ None → IsErr result
+            → result ≡ Err (Fault.Truncated (length self.now.bytes)) }
+        ensures refused { (reason : Reason) → self.now.refusal ≡ Some reason
+            → result ≡ Err (Fault.Refused (length self.now.bytes) reason) }
     {
         if let Some(reason) = self.refusal {
             return Err(Fault::Refused {

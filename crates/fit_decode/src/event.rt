@@ -1,4 +1,4 @@
-//! What a decoder answers.
+//! What a decoder returns.
 use fit_frame::{Header, Reason};
 use fit_record::Record;
 use std::alloc::{Allocator, Global};
@@ -29,15 +29,15 @@ pub struct Fed<A: Allocator = Global> {
 #[derive(Clone, Copy, Debug, PartialEq, Eq, Error)]
 pub enum Fault {
     /// The bytes before this place begin a chain of files, and with the byte there they don't.
-    #[error("refused")]
+    #[error("refused at byte {place}: {reason:?}")]
     Refused { place: u64, reason: Reason },
     /// The bytes end at this place, and they begin a chain of files but aren't one.
-    #[error("truncated")]
+    #[error("truncated at byte {place}")]
     Truncated { place: u64 },
-    /// Memory was refused. So many bytes of the piece count as fed; a reader says how many it has taken.
-    #[error("out of memory")]
+    /// Memory was refused. That many bytes of the piece count as fed; a reader says how many it has taken.
+    #[error("out of memory after {used} bytes")]
     NoMemory { used: u64 },
-    /// The source failed behind so many bytes.
-    #[error("read fault")]
+    /// The source failed after that many bytes.
+    #[error("read fault at byte {place}")]
     Read { place: u64 },
 }

@@ -1,6 +1,6 @@
 //! How much there is of the record in progress.
 ghost use Rattle.std.specs.Prelude.{◌≡◌, ◌≤◌};
-ghost use Rattle.fit_decode.specs.InProgress.{in_progress_size, items_in, IsSmall, values_size};
+ghost use Rattle.fit_decode.specs.inner.InProgress.{in_progress_size, items_in, IsCountable, values_size};
 
 use fit_base::Items;
 use fit_record::{Record, Values, entry_count};
@@ -30,7 +30,7 @@ fn values_size<A: Allocator>(v: &Values<A>) -> u64
 
 /// How many entries and items there are of the record in progress.
 pub(crate) fn in_progress_size<A: Allocator>(in_progress: &Option<Record<A>>) -> u64
-    requires { IsSmall in_progress.now }
+    requires { IsCountable in_progress.now }
     ensures size { result ≡ in_progress_size in_progress.now }
     ensures small { result ≤ 130560 }
 {

@@ -9,7 +9,7 @@ pub fn files_have_one_spelling<A: Allocator>()
     ensures { FilesHaveOneSpelling A }
 {}
 
-/// Bytes have come to one place in a chain: what `held`, `need` and want of memory say of it, they say of the only one.
+/// Bytes have come to one place in a chain: what `held`, `need` and refused memory say of it, they say of the only one.
 pub fn progress_is_one<A: Allocator>()
     ensures { ProgressIsOne A }
 {}
@@ -29,20 +29,20 @@ pub fn reasons_are_one<A: Allocator>()
     ensures { ReasonsAreOne A }
 {}
 
-/// A byte with which no chain begins, behind bytes with which one does, is refused for a reason. With `reasons_are_one`
+/// A byte with which no chain begins, after bytes with which one does, is refused for a reason. With `reasons_are_one`
 /// it has exactly one.
 pub fn refused_bytes_have_reasons<A: Allocator>()
     ensures { RefusedHaveReasons A }
 {}
 
-/// Some chain of at most so many files begins with the bytes that have come exactly where what there is of it can go on:
-/// a header of a file begins with those of the header, records fill the data section behind those that are whole, or the
+/// Some chain of at most that many files begins with the bytes that have come exactly where what there is of it can go on:
+/// a header of a file begins with those of the header, records fill the data section after those that are whole, or the
 /// closing sum begins so.
 pub fn chains_go_on<A: Allocator>()
     ensures { ChainsGoOn A }
 {}
 
-/// No file ends before so many bytes more have come as `need` tells.
+/// No file ends before as many more bytes have come as `need` says.
 pub fn files_end_no_sooner<A: Allocator>()
     ensures { FilesEndNoSooner A }
 {}

@@ -16,5 +16,5 @@ mod source;
 pub use check::check_bytes;
 pub use decoder::Decoder;
 pub use event::{Event, Fault, Fed};
-pub use readers::{Reading, read_chain, read_one};
+pub use readers::{PIECE_SIZE, Reading, read_chain, read_one};
 pub use source::{CutSource, ReadSource, Source, SourceFailed};

@@ -1,9 +1,10 @@
 //! How many bytes are to come until a file ends.
 ghost use Rattle.std.specs.Prelude.{◌≡◌};
-ghost use Rattle.fit_decode.specs.Kept.{to_come};
+ghost use Rattle.fit_decode.specs.inner.Kept.{to_come};
 
-use crate::section::{CHAIN_LIMIT, Section};
+use crate::section::Section;
 use fit_base::{Order, bits_at};
+use fit_record::CHAIN_LIMIT;
 
 /// How many bytes are to come at least. `header` is what there is of a header, and `room` how many bytes of data are to come.
 pub(crate) fn bytes_to_come(

@@ -7,4 +7,5 @@ mod reading;
 
 pub use chain::read_chain;
 pub use one::read_one;
+pub use piece::PIECE_SIZE;
 pub use reading::Reading;

@@ -6,18 +6,20 @@ ghost use Rattle.fit_record.specs.Records.{Fits};
 ghost use Rattle.fit_step.specs.Machine.{step};
 ghost use Rattle.fit_step.specs.Places.{state_at};
 ghost use Rattle.fit_step.specs.Tests.{tests_of};
-ghost use Rattle.fit_decode.specs.Scans.{DataScanned, Reading, RecordByte};
+ghost use Rattle.fit_decode.specs.inner.Scans.{DataScanned, Reading, RecordByte};
 
 use fit_record::{Env, Record};
-use fit_step::{Position, Stop, step, take_inside, undo, whole_message};
+use fit_step::{Position, Stop, step, take_inside, undo, whole_record};
 use std::alloc::Allocator;
 
 /// Learns a whole record. Whether there was memory.
 fn is_learned<A: Allocator + Copy>(env: &mut Env<A>, whole: &Option<Record<A>>) -> bool
     requires { IsSomeAnd whole.now (Fits env.old) }
-    ensures learned { (r : Record A) → whole.now ≡ Some r → result ≡ true → env.new ≡ learn env.old r }
+    ensures learned { (r : Record A) → whole.now ≡ Some r → result ≡ true
+        → env.new ≡ learn env.old r }
     ensures same { result ≡ false → env.new ≡ env.old }
-    ensures free { (r : Record A) → whole.now ≡ Some r → DescribesNothing env.old r → result ≡ true }
+    ensures free { (r : Record A) → whole.now ≡ Some r → DescribesNothing env.old r
+        → result ≡ true }
 {
     match whole {
         Some(record) => env.learn(record).is_ok(),
@@ -34,8 +36,10 @@ fn take_byte<A: Allocator + Copy>(
     byte: u8,
 ) -> Result<Option<Record<A>>, Stop>
     requires { Reading env.old (state_at position.old in_progress.old) }
-    ensures made { RecordByte env.old env.new (state_at position.new in_progress.new) byte result (step env.old (tests_of env.old) (state_at position.old in_progress.old) byte) }
-    ensures err { OnErr result (state_at position.new in_progress.new ≡ state_at position.old in_progress.old) }
+    ensures made { RecordByte env.old env.new (state_at position.new in_progress.new) byte result
+        (step env.old (tests_of env.old) (state_at position.old in_progress.old) byte) }
+    ensures err { OnErr result (state_at position.new in_progress.new
+        ≡ state_at position.old in_progress.old) }
 {
     if take_inside(position, in_progress, byte) {
         return Ok(None);
@@ -52,8 +56,10 @@ fn take_step<A: Allocator + Copy>(
     byte: u8,
 ) -> Result<Option<Record<A>>, Stop>
     requires { Reading env.old (state_at position.old in_progress.old) }
-    ensures made { RecordByte env.old env.new (state_at position.new in_progress.new) byte result (step env.old (tests_of env.old) (state_at position.old in_progress.old) byte) }
-    ensures err { OnErr result (state_at position.new in_progress.new ≡ state_at position.old in_progress.old) }
+    ensures made { RecordByte env.old env.new (state_at position.new in_progress.new) byte result
+        (step env.old (tests_of env.old) (state_at position.old in_progress.old) byte) }
+    ensures err { OnErr result (state_at position.new in_progress.new
+        ≡ state_at position.old in_progress.old) }
 {
     match step(alloc, env, position, in_progress, byte) {
         Err(stop) => Err(stop),
@@ -84,7 +90,8 @@ fn scan_bytes<A: Allocator + Copy>(
     piece: &[u8],
 ) -> (usize, Result<Option<Record<A>>, Stop>)
     requires { Reading env.old (state_at position.old in_progress.old) }
-    ensures { DataScanned env.old env.new (state_at position.old in_progress.old) (state_at position.new in_progress.new) piece.now result.0 result.1 }
+    ensures { DataScanned env.old env.new (state_at position.old in_progress.old)
+        (state_at position.new in_progress.new) piece.now result.0 result.1 }
 {
     for (i, byte) in piece.iter().enumerate() {
         match take_byte(alloc, env, position, in_progress, *byte) {
@@ -96,7 +103,7 @@ fn scan_bytes<A: Allocator + Copy>(
     (piece.len(), Ok(None))
 }
 
-/// A data message of which all bytes stand at the front of the piece, where a record begins there. It is learned.
+/// A record of which all bytes stand at the front of the piece, where one begins there. It is learned.
 fn take_whole<A: Allocator + Copy>(
     alloc: A,
     env: &mut Env<A>,
@@ -105,15 +112,16 @@ fn take_whole<A: Allocator + Copy>(
     piece: &[u8],
 ) -> Option<(Record<A>, usize)>
     requires { Reading env.old (state_at position.old in_progress.now) }
-    ensures told { IfSome result (λ found. DataScanned env.old env.new (state_at position.old in_progress.now) (state_at position.new in_progress.now) piece.now found.1 (Ok (Some found.0))) }
+    ensures told { IfSome result (λ found. DataScanned env.old env.new
+        (state_at position.old in_progress.now) (state_at position.new in_progress.now) piece.now
+        found.1 (Ok (Some found.0))) }
     ensures none { IfNone result ((env.new ≡ env.old) × (position.new ≡ position.old)) }
 {
     match in_progress {
         Some(_) => return None,
         None => {}
     }
-    let (message, used) = whole_message(alloc, env, position.room, piece)?;
-    let record = Record::Values(message);
+    let (record, used) = whole_record(alloc, env, position.room, piece)?;
     match env.learn(&record) {
         Ok(()) => {}
         Err(_) => return None,
@@ -131,7 +139,8 @@ pub(crate) fn scan_record<A: Allocator + Copy>(
     piece: &[u8],
 ) -> (usize, Result<Option<Record<A>>, Stop>)
     requires { Reading env.old (state_at position.old in_progress.old) }
-    ensures { DataScanned env.old env.new (state_at position.old in_progress.old) (state_at position.new in_progress.new) piece.now result.0 result.1 }
+    ensures { DataScanned env.old env.new (state_at position.old in_progress.old)
+        (state_at position.new in_progress.new) piece.now result.0 result.1 }
 {
     match take_whole(alloc, env, position, in_progress, piece) {
         Some((record, used)) => (used, Ok(Some(record))),

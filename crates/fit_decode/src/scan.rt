@@ -1,6 +1,6 @@
 //! Walks over the bytes of a piece that belong to a header, or to a closing sum.
 ghost use Rattle.std.specs.Prelude.{◌≡◌, None};
-ghost use Rattle.fit_decode.specs.Scans.{HeaderScanned, IsOpen, SumScanned};
+ghost use Rattle.fit_decode.specs.inner.Scans.{HeaderScanned, IsHeaderPart, SumScanned};
 
 use fit_frame::{HeadReader, Header, Reason};
 
@@ -10,7 +10,7 @@ pub(crate) fn scan_header(
     piece: &[u8],
 ) -> (usize, Result<Option<(Header, u32)>, Reason>)
     requires fresh { reader.old.refusal ≡ None }
-    requires begun { IsOpen reader.old.bytes }
+    requires begun { IsHeaderPart reader.old.bytes }
     ensures { HeaderScanned reader.old.bytes piece.now reader.new result.0 result.1 }
 {
     for (i, byte) in piece.iter().enumerate() {

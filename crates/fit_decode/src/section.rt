@@ -1,22 +1,20 @@
 //! The bytes of a piece that belong to one section of a file: its header, its data section, or its closing sum.
 ghost use Rattle.std.specs.Prelude.{◌≡◌, ◌<◌, None};
+ghost use Rattle.fit_record.specs.Files.{chain_limit};
 ghost use Rattle.fit_step.specs.Places.{state_at};
-ghost use Rattle.fit_decode.specs.Kept.{Stand, Advances};
-ghost use Rattle.fit_decode.specs.Scans.{IsOpen, Reading};
-ghost use Rattle.fit_decode.specs.Sections.{section_of, HeaderFed, DataFed, SumFed};
-ghost use Rattle.fit_decode.specs.Skips.{DataSkipped};
+ghost use Rattle.fit_decode.specs.inner.Kept.{Stand, Advances};
+ghost use Rattle.fit_decode.specs.inner.Scans.{IsHeaderPart, Reading};
+ghost use Rattle.fit_decode.specs.inner.Sections.{section_of, HeaderFed, DataFed, SumFed};
+ghost use Rattle.fit_decode.specs.inner.Skips.{DataSkipped};
 
 use crate::Event;
 use crate::record::scan_record;
 use crate::scan::{scan_header, scan_sum};
 use fit_frame::{HeadReader, Reason};
-use fit_record::{Env, Record};
+use fit_record::{CHAIN_LIMIT, Env, Record};
 use fit_step::{Position, Stop, skip_records};
 use fit_sum::Sum;
 use std::alloc::Allocator;
-
-/// The most files of a chain.
-pub(crate) const CHAIN_LIMIT: u32 = 16_777_215;
 
 /// The section of a file that the next byte belongs to.
 #[derive(Clone, Copy, Drop)]
@@ -47,8 +45,9 @@ pub(crate) fn feed_header<A: Allocator>(
     piece: &[u8],
 ) -> (usize, Result<Event<A>, Stop>)
     requires fresh { reader.old.refusal ≡ None }
-    requires begun { IsOpen reader.old.bytes }
-    ensures { HeaderFed count reader.old.bytes sum.old section.old position.old reader.new sum.new section.new position.new piece.now result.0 result.1 }
+    requires begun { IsHeaderPart reader.old.bytes }
+    ensures { HeaderFed count reader.old.bytes sum.old section.old position.old reader.new sum.new
+        section.new position.new piece.now result.0 result.1 }
 {
     if count >= CHAIN_LIMIT && !piece.is_empty() {
         return (0, Err(Stop::Refused(Reason::TooManyFiles)));
@@ -80,7 +79,8 @@ pub(crate) fn feed_data<A: Allocator + Copy>(
 ) -> (usize, Result<Event<A>, Stop>)
     requires here { section.old ≡ Section.Data }
     requires reading { Reading env.old (state_at position.old in_progress.old) }
-    ensures { DataFed env.old sum.old (state_at position.old in_progress.old) env.new sum.new section.new (state_at position.new in_progress.new) piece.now result.0 result.1 }
+    ensures { DataFed env.old sum.old (state_at position.old in_progress.old) env.new sum.new
+        section.new (state_at position.new in_progress.new) piece.now result.0 result.1 }
 {
     let (used, answer) = scan_record(alloc, env, position, in_progress, piece);
     let (taken, _) = piece.split_at(used);
@@ -105,7 +105,8 @@ pub(crate) fn skip_data<A: Allocator + Copy>(
     in_progress: &Option<Record<A>>,
     piece: &[u8],
 ) -> (usize, u64)
-    ensures { DataSkipped section env.old sum.old position.old in_progress.now env.new sum.new position.new piece.now result.0 result.1 }
+    ensures { DataSkipped section env.old sum.old position.old in_progress.now env.new sum.new
+        position.new piece.now result.0 result.1 }
 {
     match section {
         Section::Data => {}
@@ -139,8 +140,9 @@ pub(crate) fn feed_sum<A: Allocator + Copy>(
     piece: &[u8],
 ) -> (usize, Result<Event<A>, Stop>)
     requires here { section.old ≡ Section.ClosingSum }
-    requires few { count.old < 16777215 }
-    ensures { SumFed half.old sum.old count.old env.old half.new sum.new count.new env.new section.new piece.now result.0 result.1 }
+    requires few { count.old < chain_limit }
+    ensures { SumFed half.old sum.old count.old env.old half.new sum.new count.new env.new
+        section.new piece.now result.0 result.1 }
 {
     let (used, answer) = scan_sum(sum.value(), half, piece);
     match answer {
@@ -169,10 +171,37 @@ pub(crate) fn feed_section<A: Allocator + Copy>(
     in_progress: &mut Option<Record<A>>,
     piece: &[u8],
 ) -> (usize, Result<Event<A>, Stop>)
-    requires { Stand record { count = files.old; section = section.old; half = half.old; reader = reader.old; sum = sum.old; env = env.old; position = position.old; in_progress = in_progress.old } }
+    requires { Stand record {
+      count = files.old;
+      section = section.old;
+      half = half.old;
+      reader = reader.old;
+      sum = sum.old;
+      env = env.old;
+      position = position.old;
+      in_progress = in_progress.old;
+    } }
     ensures { Advances
-        record { count = files.old; section = section.old; half = half.old; reader = reader.old; sum = sum.old; env = env.old; position = position.old; in_progress = in_progress.old }
-        record { count = files.new; section = section.new; half = half.new; reader = reader.new; sum = sum.new; env = env.new; position = position.new; in_progress = in_progress.new }
+        record {
+          count = files.old;
+          section = section.old;
+          half = half.old;
+          reader = reader.old;
+          sum = sum.old;
+          env = env.old;
+          position = position.old;
+          in_progress = in_progress.old;
+        }
+        record {
+          count = files.new;
+          section = section.new;
+          half = half.new;
+          reader = reader.new;
+          sum = sum.new;
+          env = env.new;
+          position = position.new;
+          in_progress = in_progress.new;
+        }
         piece.now result.0 result.1 }
 {
     match *section {

@@ -19,7 +19,7 @@ pub trait Source {
     // A call has failed.
     ghost has_failed: { Self → Bool };
 
-    /// Takes some bytes into the front of the buffer, and answers how many. 0 bytes into a buffer
+    /// Takes some bytes into the front of the buffer, and returns how many. 0 bytes into a buffer
     /// that isn't empty is the end of the input. An empty buffer gets 0 bytes, where no call has
     /// failed.
     fn take(&mut self, buffer: &mut [u8]) -> Result<usize, SourceFailed>
@@ -36,7 +36,7 @@ pub trait Source {
         ensures { result ≡ has_failed self.now };
 }
 
-/// Copies what fits from the front of the bytes, and answers how many and the rest.
+/// Copies what fits from the front of the bytes, and returns how many and the rest.
 fn copy_front<'a>(bytes: &'a [u8], buffer: &mut [u8]) -> (usize, &'a [u8])
     ensures bound { result.0 ≤ length buffer.new }
     ensures bytes { bytes.now ≡ take result.0 buffer.new ++ result.1.now }

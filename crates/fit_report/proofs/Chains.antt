@@ -1,5 +1,6 @@
 -- What a report answers where the input is the bytes of a chain.
-use Rattle.std.proofs.Common.{◌≡◌, ℕ, suc, ◌<◌, List, [], ◌∷◌, ◌++◌, length, take, drop, get_or, reverse, Option, Some, None, Result, Ok, Err, refl, sym, ap, ◌∙◌, subst, append_assoc}
+use Rattle.std.proofs.Common.{◌≡◌, ℕ, suc, ◌<◌, List, [], ◌∷◌, ◌++◌, length, take, drop, get_or, reverse, Option, Some, None, Result, Ok, Err, refl, sym, ap}
+use Rattle.std.proofs.Common.{◌∙◌, subst, append_assoc}
 use Rattle.std.specs.Prelude.{flat_map}
 use Rattle.std.specs.Io.KnownBytes.{Appends, Consumes, IsAtEnd}
 use Rattle.std.proofs.lemmas.List.{append-nil, take-append-drop, reverse-reverse}
@@ -50,7 +51,9 @@ module _ {A : Type 0} (line : Lines A) (fs : List (FitFile A)) (b : List ℕ) (a
       → HasTold line taken source sink heard result → ReportsChain line fs source sink result
   told taken y heard source sink (Ok x) after eats (end, well, files, tells) =
       let all : b ≡ taken = whole taken y eats (subst IsAtEnd after end) in
-      let same : reverse heard ≡ flat_map file_events fs = one_list_of_events b (reverse heard) (flat_map file_events fs) (subst (λ t. AreEvents t (reverse heard)) (sym all) tells.0) (chain_events chain_limit fs b chain) in
+      let same : reverse heard ≡ flat_map file_events fs =
+      one_list_of_events b (reverse heard) (flat_map file_events fs) (subst (λ t. AreEvents t (reverse heard)) (sym all) tells.0)
+      (chain_events chain_limit fs b chain) in
       subst (λ es. Appends sink.before sink.after (text_of line es)) (sym (reverse-reverse heard) ∙ ap reverse same) tells.1
   told taken y heard source sink (Err (Decode (Refused place reason))) after eats (fault, tells) = fault.2.refused (none_refused taken y place eats fault.0)
   told taken y heard source sink (Err (Decode (Truncated place))) after eats (fault, tells) =
@@ -64,7 +67,8 @@ module _ {A : Type 0} (line : Lines A) (fs : List (FitFile A)) (b : List ℕ) (a
   taken_of None taken eats = absurd eats
   taken_of (Some y) taken eats = (y, refl, eats)
 
-  pub reports_chain : (source sink : Channel) (result : Result (Unit {0}) ReportFault) → source.before ≡ Some b → Reports line source sink result → ReportsChain line fs source sink result
+  pub reports_chain : (source sink : Channel) (result : Result (Unit {0}) ReportFault) → source.before ≡ Some b → Reports line source sink result
+      → ReportsChain line fs source sink result
   reports_chain source sink result input (taken, heard, eats, says) =
       let t = taken_of source.after taken (subst (λ h. Consumes h source.after taken) input eats) in
       told taken t.0 heard source sink result t.1 t.2 says

@@ -3,7 +3,7 @@ use Rattle.std.proofs.Common.{◌≡◌, ℕ, ◌<◌, List, [], ◌∷◌, ◌+
 use Rattle.std.proofs.lemmas.List.{reverse-append}
 use Rattle.fit_decode.specs.declared.event.Event.{Event as Answer}
 use Rattle.fit_decode.specs.declared.event.Event.TheVariants as answers
-use Rattle.fit_decode.specs.Answers.{told, Quiet, Least}
+use Rattle.fit_decode.specs.Answers.{event_of, Quiet, Least}
 use Rattle.fit_decode.specs.Events.{Event, header, item, file_end, AreEvents}
 use Rattle.fit_report.specs.Heard.{hear}
 
@@ -12,11 +12,11 @@ reverse-cons x xs = reverse-append (x ∷ []) xs
 
 -- What the use of so many bytes of a piece told, where nothing is told without an event, and an event by no fewer bytes.
 pub record Told {A : Type 0} (bytes piece : List ℕ) (used : ℕ) (answer : Answer A) : Type 0 where
-  pub more : told answer ≡ None → (used ≡ length piece) × Quiet A bytes piece used
-  pub event : (x : Event A) → told answer ≡ Some x → (0 < used) × Least A bytes piece used x
+  pub more : event_of answer ≡ None → (used ≡ length piece) × Quiet A bytes piece used
+  pub event : (x : Event A) → event_of answer ≡ Some x → (0 < used) × Least A bytes piece used x
 
 module _ {A : Type 0} (bytes piece : List ℕ) (used : ℕ) (heard : List (Event A)) (are : AreEvents bytes (reverse heard)) where
-  one : (answer : Answer A) (x : Event A) → told answer ≡ Some x → Told bytes piece used answer → AreEvents (bytes ++ take used piece) (reverse (x ∷ heard))
+  one : (answer : Answer A) (x : Event A) → event_of answer ≡ Some x → Told bytes piece used answer → AreEvents (bytes ++ take used piece) (reverse (x ∷ heard))
   one answer x is t = subst (AreEvents (bytes ++ take used piece)) (sym (reverse-cons x heard)) ((t.event x is).1 (reverse heard) are).0
 
   pub hears : (answer : Answer A) → Told bytes piece used answer → AreEvents (bytes ++ take used piece) (reverse (hear answer heard))

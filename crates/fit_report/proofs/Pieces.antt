@@ -1,5 +1,6 @@
 -- What the telling of a piece did.
-use Rattle.std.proofs.Common.{◌≡◌, Bool, ℕ, ◌+◌, ◌≤◌, List, ◌++◌, length, take, drop, get_or, reverse, Option, Ok, Err, refl, sym, ap, ◌∙◌, subst, arith, length-append}
+use Rattle.std.proofs.Common.{◌≡◌, Bool, ℕ, ◌+◌, ◌≤◌, List, ◌++◌, length, take, drop, get_or, reverse, Option, Ok, Err, refl, sym, ap, ◌∙◌, subst, arith}
+use Rattle.std.proofs.Common.{length-append}
 use Rattle.std.proofs.lemmas.List.{length-drop, length-take, get_or-drop}
 use Rattle.fit_frame.specs.declared.reason.Reason.{Reason}
 use Rattle.fit_record.specs.Files.{chain_limit, IsViable}
@@ -13,22 +14,26 @@ use Rattle.fit_report.specs.declared.fault.ReportFault.{ReportFault}
 use Rattle.fit_report.specs.declared.fault.ReportFault.TheVariants.{Decode, NoMemory, Write}
 use Rattle.fit_report.specs.Heard.{Lines, hear}
 use Rattle.fit_report.specs.Reports.{Channel, Tells, report_fault}
-use Rattle.fit_report.specs.Passing.{Stands, Passed, PieceTold}
+use Rattle.fit_report.specs.inner.Passing.{HasReported, Passed, PieceTold}
 use Rattle.fit_decode.proofs.PieceTold.{fed_on}
 use Rattle.fit_report.proofs.Hearing.{Told, hears}
 use Rattle.fit_report.proofs.Texts.{stands_on, fails_on, tells}
 
-pub are_heard : {A : Type 0} (new mid : Seen) (piece : List ℕ) (used : ℕ) (heard : List (Event A)) (answer : Answer A) → IsViable A chain_limit new.bytes → new ≡ fed mid piece used
+pub are_heard : {A : Type 0} (new mid : Seen) (piece : List ℕ) (used : ℕ) (heard : List (Event A)) (answer : Answer A) → IsViable A chain_limit new.bytes
+    → new ≡ fed mid piece used
     → AreEvents mid.bytes (reverse heard) → Told mid.bytes piece used answer → AreEvents new.bytes (reverse (hear answer heard))
 are_heard new mid piece used heard answer viable after are told =
     subst (λ (v : Seen). AreEvents v.bytes (reverse (hear answer heard))) (sym after) (hears mid.bytes piece used heard are answer told)
 
 -- the bytes before a piece that isn't over, and those of it that were fed
-pub joined : (old mid : Seen) (piece : List ℕ) (at used : ℕ) → mid ≡ fed old piece at → mid.bytes ++ take used (drop at piece) ≡ old.bytes ++ take (at + used) piece
+pub joined : (old mid : Seen) (piece : List ℕ) (at used : ℕ) → mid ≡ fed old piece at
+    → mid.bytes ++ take used (drop at piece) ≡ old.bytes ++ take (at + used) piece
 joined old mid piece at used is = ap (λ (v : Seen). v.bytes) (fed_on old mid (fed mid (drop at piece) used) piece at used is refl)
 
-module _ {A : Type 0} (line : Lines A) (old mid new : Seen) (piece : List ℕ) (at used : ℕ) (answer : Answer A) (heard next : List (Event A)) (start : Option (List ℕ)) (sink : Channel) (written count : ℕ)
-    (is : mid ≡ fed old piece at) (after : new ≡ fed mid (drop at piece) used) (told : Told mid.bytes (drop at piece) used answer) (s : Stands line mid.bytes heard start sink.before written) where
+module _ {A : Type 0} (line : Lines A) (old mid new : Seen) (piece : List ℕ) (at used : ℕ) (answer : Answer A) (heard next : List (Event A))
+    (start : Option (List ℕ)) (sink : Channel) (written count : ℕ)
+    (is : mid ≡ fed old piece at) (after : new ≡ fed mid (drop at piece) used) (told : Told mid.bytes (drop at piece) used answer)
+    (s : HasReported line mid.bytes heard start sink.before written) where
   events : AreEvents new.bytes (reverse (hear answer heard))
   events = subst (λ (v : Seen). AreEvents v.bytes (reverse (hear answer heard))) (sym after) (hears mid.bytes (drop at piece) used heard s.are answer told)
 
@@ -36,7 +41,7 @@ module _ {A : Type 0} (line : Lines A) (old mid new : Seen) (piece : List ℕ) (
   placed = ap (λ (v : Seen). v.bytes) after ∙ joined old mid piece at used is
 
   -- an answer was passed on
-  pub passes : Passed line heard answer sink written count (Ok tt) → Stands line new.bytes (hear answer heard) start sink.after count
+  pub passes : Passed line heard answer sink written count (Ok tt) → HasReported line new.bytes (hear answer heard) start sink.after count
   passes (put, counted) = stands_on line mid.bytes heard start sink.before written s answer new.bytes sink.after count events put counted
 
   -- or was not
@@ -46,7 +51,8 @@ module _ {A : Type 0} (line : Lines A) (old mid new : Seen) (piece : List ℕ) (
   breaks NoMemory keeps = (
     at,
     heard,
-    subst (λ b. Tells line b heard (record { before = start; after = sink.after; failed = sink.failed })) (ap (λ (v : Seen). v.bytes) is) (tells line mid.bytes heard start sink.before written s sink.after sink.failed keeps),
+    subst (λ b. Tells line b heard (record { before = start; after = sink.after; failed = sink.failed })) (ap (λ (v : Seen). v.bytes) is)
+        (tells line mid.bytes heard start sink.before written s sink.after sink.failed keeps),
   )
   breaks (Write n) (bad, m, short, put, counted) = (
     at + used,
@@ -60,8 +66,9 @@ pub record Stopped (A : Type 0) (mid : Seen) (piece : List ℕ) (new : Seen) (fa
   pub refused : (place : ℕ) (reason : Reason) → fault ≡ faults.Refused place reason → Refuses A mid piece new place reason
   pub others : (place : ℕ) → (fault ≡ faults.Truncated place → ⊥) × (fault ≡ faults.Read place → ⊥)
 
-module _ {A : Type 0} (line : Lines A) (old mid new : Seen) (piece : List ℕ) (at : ℕ) (heard : List (Event A)) (start now : Option (List ℕ)) (failed : Bool) (written : ℕ)
-    (within : at ≤ length piece) (is : mid ≡ fed old piece at) (s : Stands line mid.bytes heard start now written) where
+module _ {A : Type 0} (line : Lines A) (old mid new : Seen) (piece : List ℕ) (at : ℕ) (heard : List (Event A)) (start now : Option (List ℕ)) (failed : Bool)
+    (written : ℕ)
+    (within : at ≤ length piece) (is : mid ≡ fed old piece at) (s : HasReported line mid.bytes heard start now written) where
   abbrev pub sink : Channel
   sink = record { before = start; after = now; failed = failed }
 

@@ -1,5 +1,6 @@
 -- The records that are heard, and the count of events.
-use Rattle.std.proofs.Common.{◌≡◌, ℕ, ◌+◌, ◌<◌, ◌≤◌, List, [], ◌∷◌, ◌++◌, length, map, reverse, refl, sym, ap, ◌∙◌, subst, arith, append_assoc, length-append, ◌⊎◌, inl, inr}
+use Rattle.std.proofs.Common.{◌≡◌, ℕ, ◌+◌, ◌<◌, ◌≤◌, List, [], ◌∷◌, ◌++◌, length, map, reverse, refl, sym, ap, ◌∙◌, subst, arith, append_assoc, length-append}
+use Rattle.std.proofs.Common.{◌⊎◌, inl, inr}
 use Rattle.std.specs.Prelude.{flat_map}
 use Rattle.std.proofs.lemmas.List.{append-nil, length-reverse, map-append, reverse-append, reverse-reverse}
 use Rattle.fit_frame.specs.declared.header.Header.{Header}
@@ -51,7 +52,11 @@ with_more k a b c some few = omega (arith, some, few, length-append (a ++ b) c, 
 few_in_progress : {A : Type 0} (g : Progress A) → length (progress_events g) ≤ length (progress_bytes g)
 few_in_progress (at_header front) = omega arith
 few_in_progress (at_data h n records part) =
-    omega (arith, with_more (length (map item records)) (header_bytes h n) (records_bytes empty_environment records) part (omega arith) (few_records empty_environment records))
+    omega (
+      arith,
+      with_more (length (map item records)) (header_bytes h n) (records_bytes empty_environment records) part (omega arith)
+          (few_records empty_environment records),
+    )
 
 few_events : {A : Type 0} (bytes : List ℕ) (events : List (Event A)) → AreEvents bytes events → length events ≤ length bytes
 few_events bytes events (fs, g, come, is) =
@@ -73,13 +78,16 @@ heard_are_few heard (bytes, viable, are) = omega (arith, few_events bytes (rever
 pub reverse-map : {X Y : Type 0} (f : X → Y) (xs : List X) → reverse (map f xs) ≡ map f (reverse xs)
 reverse-map f [] = refl
 reverse-map f (x ∷ xs) =
-    reverse-append (f x ∷ []) (map f xs) ∙ ap (λ ys. ys ++ f x ∷ []) (reverse-map f xs) ∙ sym (map-append f (reverse xs) (x ∷ [])) ∙ ap (map f) (sym (reverse-append (x ∷ []) xs))
+    reverse-append (f x ∷ []) (map f xs) ∙ ap (λ ys. ys ++ f x ∷ []) (reverse-map f xs) ∙ sym (map-append f (reverse xs) (x ∷ []))
+    ∙ ap (map f) (sym (reverse-append (x ∷ []) xs))
 
 -- whole files end with the end of a file
-whole_end : {A : Type 0} (fs : List (FitFile A)) → (reverse (flat_map file_events fs) ≡ []) ⊎ ((rest : List (Event A)) × (reverse (flat_map file_events fs) ≡ file_end ∷ rest))
+whole_end : {A : Type 0} (fs : List (FitFile A))
+    → (reverse (flat_map file_events fs) ≡ []) ⊎ ((rest : List (Event A)) × (reverse (flat_map file_events fs) ≡ file_end ∷ rest))
 whole_end [] = inl refl
 whole_end {A} (f ∷ fs) =
-    let both : reverse (flat_map file_events (f ∷ fs)) ≡ reverse (flat_map file_events fs) ++ reverse (file_events f) = reverse-append (file_events f) (flat_map file_events fs) in
+    let both : reverse (flat_map file_events (f ∷ fs)) ≡ reverse (flat_map file_events fs) ++ reverse (file_events f) =
+    reverse-append (file_events f) (flat_map file_events fs) in
     let own : reverse (file_events f) ≡ file_end ∷ reverse (header f.header (length (body f)) ∷ map item f.records) =
     reverse-append (header f.header (length (body f)) ∷ map item f.records) (file_end ∷ []) in
     elim (whole_end fs) [
@@ -91,23 +99,27 @@ last_fits : {A : Type 0} (e : Environment A) (rs : List (Record A)) (r : Record 
 last_fits e [] r all = all.0
 last_fits e (s ∷ rs) r all = last_fits (learn e s) rs r all.1
 
-pub records_behind : {A : Type 0} (rs : List (Record A)) (h : Header) (n : ℕ) (before : List (Event A)) → latest_records (map item rs ++ header h n ∷ before) ≡ rs
+pub records_behind : {A : Type 0} (rs : List (Record A)) (h : Header) (n : ℕ) (before : List (Event A))
+    → latest_records (map item rs ++ header h n ∷ before) ≡ rs
 records_behind [] h n before = refl
 records_behind (r ∷ rs) h n before = ap (λ ss. r ∷ ss) (records_behind rs h n before)
 
 item_is : {A : Type 0} (r s : Record A) (xs ys : List (Event A)) → item r ∷ xs ≡ item s ∷ ys → (r ≡ s) × (xs ≡ ys)
 item_is r s xs ys e = (cc, cc)
 
-fits_behind : {A : Type 0} (rs : List (Record A)) (h : Header) (n : ℕ) (before heard : List (Event A)) (r : Record A) → AllFit empty_environment (reverse rs) → item r ∷ heard ≡ map item rs ++ header h n ∷ before
+fits_behind : {A : Type 0} (rs : List (Record A)) (h : Header) (n : ℕ) (before heard : List (Event A)) (r : Record A) → AllFit empty_environment (reverse rs)
+    → item r ∷ heard ≡ map item rs ++ header h n ∷ before
     → Fits (learn_all empty_environment (reverse (latest_records heard))) r
 fits_behind [] h n before heard r all is = absurd cc
 fits_behind {A} (s ∷ rs) h n before heard r all is =
     let same = item_is r s heard (map item rs ++ header h n ∷ before) is in
     let records : latest_records heard ≡ rs = ap latest_records same.1 ∙ records_behind rs h n before in
-    let last : Fits (learn_all empty_environment (reverse rs)) s = last_fits empty_environment (reverse rs) s (subst (AllFit empty_environment) (reverse-append (s ∷ []) rs) all) in
+    let last : Fits (learn_all empty_environment (reverse rs)) s =
+    last_fits empty_environment (reverse rs) s (subst (AllFit empty_environment) (reverse-append (s ∷ []) rs) all) in
     subst (λ ss. Fits (learn_all empty_environment (reverse ss)) r) (sym records) (subst (Fits (learn_all empty_environment (reverse rs))) (sym same.0) last)
 
-heard_fits : {A : Type 0} (fs : List (FitFile A)) (g : Progress A) (heard : List (Event A)) (r : Record A) → IsUnfinished g → item r ∷ heard ≡ reverse (flat_map file_events fs ++ progress_events g)
+heard_fits : {A : Type 0} (fs : List (FitFile A)) (g : Progress A) (heard : List (Event A)) (r : Record A) → IsUnfinished g
+    → item r ∷ heard ≡ reverse (flat_map file_events fs ++ progress_events g)
     → Fits (learn_all empty_environment (reverse (latest_records heard))) r
 heard_fits fs (at_header front) heard r open_ is =
     let all : item r ∷ heard ≡ reverse (flat_map file_events fs) = is ∙ ap reverse (append-nil (flat_map file_events fs)) in
@@ -120,7 +132,8 @@ heard_fits {A} fs (at_data h n records part) heard r open_ is =
     let own : reverse (progress_events (at_data h n records part)) ≡ map item (reverse records) ++ header h n ∷ [] =
     reverse-append (header h n ∷ []) (map item records) ∙ ap (λ es. es ++ header h n ∷ []) (reverse-map item records) in
     let all : item r ∷ heard ≡ map item (reverse records) ++ header h n ∷ before =
-    is ∙ reverse-append (flat_map file_events fs) (progress_events (at_data h n records part)) ∙ ap (λ es. es ++ before) own ∙ append_assoc (map item (reverse records)) (header h n ∷ []) before in
+    is ∙ reverse-append (flat_map file_events fs) (progress_events (at_data h n records part)) ∙ ap (λ es. es ++ before) own
+    ∙ append_assoc (map item (reverse records)) (header h n ∷ []) before in
     fits_behind (reverse records) h n before heard r (subst (AllFit empty_environment) (sym (reverse-reverse records)) open_.1) all
 
 pub heard_records_fit : {A : Type 0} → HeardRecordsFit A

@@ -1,5 +1,6 @@
 -- The text of what was heard, in a sink.
-use Rattle.std.proofs.Common.{◌≡◌, ℕ, ◌+◌, ◌-◌, ◌^◌, ◌<◌, min, true, List, [], ◌++◌, length, take, reverse, Option, Some, None, refl, sym, ap, ◌∙◌, subst, arith, append_assoc, length-append}
+use Rattle.std.proofs.Common.{◌≡◌, ℕ, ◌+◌, ◌-◌, ◌^◌, ◌<◌, min, true, List, [], ◌++◌, length, take, reverse, Option, Some, None, refl, sym, ap, ◌∙◌, subst}
+use Rattle.std.proofs.Common.{arith, append_assoc, length-append}
 use Rattle.std.specs.Io.KnownBytes.{Appends, Keeps}
 use Rattle.std.proofs.lemmas.List.{append-nil}
 use Rattle.std.proofs.Math.Seq.{take-append-add}
@@ -7,8 +8,8 @@ use Rattle.fit_decode.specs.declared.event.Event.{Event as Answer}
 use Rattle.fit_decode.specs.declared.event.Event.TheVariants as answers
 use Rattle.fit_decode.specs.Events.{Event, AreEvents}
 use Rattle.fit_report.specs.Heard.{Lines, hear, line_of, text_of}
-use Rattle.fit_report.specs.Reports.{Tells, FailsIn}
-use Rattle.fit_report.specs.Passing.{Stands}
+use Rattle.fit_report.specs.Reports.{Tells, TextFailsIn}
+use Rattle.fit_report.specs.inner.Passing.{HasReported}
 
 pub Appends-append : (a b c : Option (List ℕ)) (p q : List ℕ) → Appends a b p → Appends b c q → Appends a c (p ++ q)
 Appends-append None b c p q h k = tt
@@ -26,7 +27,8 @@ pub Appends-nothing : (a : Option (List ℕ)) → Appends a a []
 Appends-nothing None = tt
 Appends-nothing (Some x) = sym (append-nil x)
 
-pub text-hear : {A : Type 0} (line : Lines A) (heard : List (Event A)) (answer : Answer A) → text_of line (hear answer heard) ≡ text_of line heard ++ line_of line heard answer
+pub text-hear : {A : Type 0} (line : Lines A) (heard : List (Event A)) (answer : Answer A)
+    → text_of line (hear answer heard) ≡ text_of line heard ++ line_of line heard answer
 text-hear line heard answers.More = sym (append-nil (text_of line heard))
 text-hear line heard (answers.Header h n) = refl
 text-hear line heard (answers.Item r) = refl
@@ -35,19 +37,23 @@ text-hear line heard answers.FileEnd = refl
 most : ℕ
 most = 18446744073709551615
 
-module _ {A : Type 0} (line : Lines A) (bytes : List ℕ) (heard : List (Event A)) (start mid : Option (List ℕ)) (written : ℕ) (s : Stands line bytes heard start mid written) where
+module _ {A : Type 0} (line : Lines A) (bytes : List ℕ) (heard : List (Event A)) (start mid : Option (List ℕ)) (written : ℕ)
+    (s : HasReported line bytes heard start mid written) where
   -- an answer more
-  pub stands_on : (answer : Answer A) (more : List ℕ) (now : Option (List ℕ)) (count : ℕ) → AreEvents more (reverse (hear answer heard)) → Appends mid now (line_of line heard answer)
-      → count ≡ min (written + length (line_of line heard answer)) (2 ^ 64 - 1) → Stands line more (hear answer heard) start now count
+  pub stands_on : (answer : Answer A) (more : List ℕ) (now : Option (List ℕ)) (count : ℕ) → AreEvents more (reverse (hear answer heard))
+      → Appends mid now (line_of line heard answer)
+      → count ≡ min (written + length (line_of line heard answer)) (2 ^ 64 - 1) → HasReported line more (hear answer heard) start now count
   stands_on answer more now count are put counted = record {
     are = are;
-    put = subst (Appends start now) (sym (text-hear line heard answer)) (Appends-append start mid now (text_of line heard) (line_of line heard answer) s.put put);
+    put = subst (Appends start now) (sym (text-hear line heard answer))
+        (Appends-append start mid now (text_of line heard) (line_of line heard answer) s.put put);
     counted = omega (arith, s.counted, counted, ap length (text-hear line heard answer), length-append (text_of line heard) (line_of line heard answer));
   }
 
   -- the sink has failed in the text of an answer
-  pub fails_on : (answer : Answer A) (now : Option (List ℕ)) (failed : _) (n count : ℕ) → failed ≡ true → n < length (line_of line heard answer) → Appends mid now (take n (line_of line heard answer))
-      → count ≡ min (written + n) (2 ^ 64 - 1) → FailsIn (text_of line (hear answer heard)) (record { before = start; after = now; failed = failed }) count
+  pub fails_on : (answer : Answer A) (now : Option (List ℕ)) (failed : _) (n count : ℕ) → failed ≡ true → n < length (line_of line heard answer)
+      → Appends mid now (take n (line_of line heard answer))
+      → count ≡ min (written + n) (2 ^ 64 - 1) → TextFailsIn (text_of line (hear answer heard)) (record { before = start; after = now; failed = failed }) count
   fails_on answer now failed n count bad short put counted =
       let old : List ℕ = text_of line heard in
       let new : List ℕ = line_of line heard answer in
@@ -55,7 +61,8 @@ module _ {A : Type 0} (line : Lines A) (bytes : List ℕ) (heard : List (Event A
         bad,
         length old + n,
         omega (arith, short, ap length (text-hear line heard answer), length-append old new),
-        subst (λ t. Appends start now (take (length old + n) t)) (sym (text-hear line heard answer)) (subst (Appends start now) (sym front) (Appends-append start mid now old (take n new) s.put put)),
+        subst (λ t. Appends start now (take (length old + n) t)) (sym (text-hear line heard answer))
+            (subst (Appends start now) (sym front) (Appends-append start mid now old (take n new) s.put put)),
         omega (arith, s.counted, counted),
       )
 

@@ -4,12 +4,12 @@ use Rattle.std.specs.Option.{option_map_or}
 use Rattle.fit_record.specs.declared.message.Record.{Record}
 use Rattle.fit_record.specs.Files.{chain_limit, IsViable}
 use Rattle.fit_decode.specs.declared.event.Event.{Event as Answer}
-use Rattle.fit_decode.specs.Answers.{Seen, fed, told}
+use Rattle.fit_decode.specs.Answers.{Seen, fed, event_of}
 use Rattle.fit_decode.specs.Events.{Event, header, item, file_end, AreEvents}
 
 -- what is heard behind an answer of a decoder
 abbrev pub hear : {A : Type 0} → Answer A → List (Event A) → List (Event A)
-hear answer heard = option_map_or (λ x. x ∷ heard) (told answer) heard
+hear answer heard = option_map_or (λ x. x ∷ heard) (event_of answer) heard
 
 -- what is heard behind records
 abbrev pub hear_records : {A : Type 0} → List (Record A) → List (Event A) → List (Event A)
@@ -34,7 +34,7 @@ Lines A = List (Event A) → Event A → List ℕ
 
 -- the text of what a decoder answers
 abbrev pub line_of : {A : Type 0} → Lines A → List (Event A) → Answer A → List ℕ
-line_of line heard answer = option_map_or (line heard) (told answer) []
+line_of line heard answer = option_map_or (line heard) (event_of answer) []
 
 -- the text of the events, each behind that of the events before it
 abbrev pub text_of : {A : Type 0} → Lines A → List (Event A) → List ℕ
@@ -44,7 +44,8 @@ text_of line (x ∷ heard) = text_of line heard ++ line heard x
 -- ---- skipping
 
 -- The first bytes of a piece, so many, are fed, and what was heard is now the events of all bytes fed. The new ones have no text.
-pub record Skips {A R : Type 0} (has_heard : R → List (Event A) → Type 0) (line : Lines A) (old new : Seen) (piece : List ℕ) (before after : R) (used : ℕ) : Type 0 where
+pub record Skips {A R : Type 0} (has_heard : R → List (Event A) → Type 0) (line : Lines A) (old new : Seen) (piece : List ℕ) (before after : R) (used : ℕ) :
+    Type 0 where
   pub within : used ≤ length piece
   pub is_fed : old.refusal ≡ None → new ≡ fed old piece used
   pub viable : IsViable A chain_limit new.bytes

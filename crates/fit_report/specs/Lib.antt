@@ -1,4 +1,4 @@
 pub mod Heard
 pub mod Reports
 pub mod Laws
-pub mod Passing
+pub mod inner

@@ -34,6 +34,10 @@ pub record Channel : Type 0 where
   pub after : Option (List ℕ)
   pub failed : Bool
 
+-- a source or a sink over a call, by what tells its bytes, what tells whether it has failed, and its states before and after
+abbrev pub channel : {S : Type 0} → (S → Option (List ℕ)) → (S → Bool) → S → S → Channel
+channel contents has_failed old new = record { before = contents old; after = contents new; failed = has_failed new }
+
 -- The events of the bytes were heard, and their text was put.
 abbrev pub Tells : {A : Type 0} → Lines A → List ℕ → List (Event A) → Channel → Type 0
 Tells line bytes heard sink = AreEvents bytes (reverse heard) × Appends sink.before sink.after (text_of line heard)
@@ -43,13 +47,14 @@ abbrev pub TellsSome : {A : Type 0} → Lines A → List ℕ → Channel → Typ
 TellsSome {A} line bytes sink = (k : ℕ) × (heard : List (Event A)) × Tells line (take k bytes) heard sink
 
 -- The sink has failed behind some first bytes of a text, so many; the count stops at 2^64 - 1.
-abbrev pub FailsIn : List ℕ → Channel → ℕ → Type 0
-FailsIn text sink written =
+abbrev pub TextFailsIn : List ℕ → Channel → ℕ → Type 0
+TextFailsIn text sink written =
     (sink.failed ≡ true) × (n : ℕ) × (n < length text) × Appends sink.before sink.after (take n text) × (written ≡ min n (2 ^ 64 - 1))
 
 -- The sink has failed in the text of the events of some first bytes.
-abbrev pub BreaksOff : {A : Type 0} → Lines A → List ℕ → Channel → ℕ → Type 0
-BreaksOff {A} line bytes sink written = (k : ℕ) × (heard : List (Event A)) × AreEvents (take k bytes) (reverse heard) × FailsIn (text_of line heard) sink written
+abbrev pub TextBreaksOff : {A : Type 0} → Lines A → List ℕ → Channel → ℕ → Type 0
+TextBreaksOff {A} line bytes sink written = (k : ℕ) × (heard : List (Event A)) × AreEvents (take k bytes) (reverse heard)
+    × TextFailsIn (text_of line heard) sink written
 
 -- What a report told that took these bytes: all of the input, which is a chain, was told; or what is before a fault; or, where
 -- memory was refused or the sink failed, some of it, and all but at most a piece of the bytes begins a chain.
@@ -59,10 +64,11 @@ HasTold line taken source sink heard (Err (report.Decode (NoMemory used))) = ⊥
 HasTold {A} line taken source sink heard (Err (report.Decode fault)) =
     Faults A chain_limit taken source.after source.failed fault × Tells line (before_fault fault taken) heard sink
 HasTold {A} line taken source sink heard (Err report.NoMemory) = TellsSome line taken sink × IsNearlyViable A chain_limit taken
-HasTold {A} line taken source sink heard (Err (report.Write written)) = BreaksOff line taken sink written × IsNearlyViable A chain_limit taken
+HasTold {A} line taken source sink heard (Err (report.Write written)) = TextBreaksOff line taken sink written × IsNearlyViable A chain_limit taken
 
 abbrev pub Reports : {A : Type 0} → Lines A → Channel → Channel → Result (Unit {0}) ReportFault → Type 0
-Reports {A} line source sink result = (taken : List ℕ) × (heard : List (Event A)) × Consumes source.before source.after taken × HasTold line taken source sink heard result
+Reports {A} line source sink result = (taken : List ℕ) × (heard : List (Event A)) × Consumes source.before source.after taken
+    × HasTold line taken source sink heard result
 
 -- The answer where the input is the bytes of this chain: its text was put; or the source or the sink has failed, or memory was
 -- refused.

@@ -5,14 +5,14 @@ use thiserror::Error;
 /// Why a report doesn't come to the end of a chain.
 #[derive(Clone, Copy, Debug, PartialEq, Eq, Error)]
 pub enum ReportFault {
-    /// The bytes are refused or end too soon, or the source failed. Want of memory is `NoMemory`, and never this.
-    #[error("no chain of files")]
+    /// The bytes are refused or end too soon, or the source failed. Out of memory is `NoMemory`, and never this.
+    #[error("{0}")]
     Decode(Fault),
     /// Memory was refused.
     #[error("out of memory")]
     NoMemory,
-    /// The sink failed behind so many bytes of the report. The count stops at 2^64 - 1.
-    #[error("write fault")]
+    /// The sink failed after that many bytes of the report. The count stops at 2^64 - 1.
+    #[error("write fault after {written} bytes")]
     Write { written: u64 },
 }
 

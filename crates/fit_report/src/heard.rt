@@ -15,16 +15,19 @@ pub trait Report {
     // These may be the events told so far, the latest first.
     ghost has_heard: { Self → List (Told Global) → Type 0 };
 
-    // The text of an event behind these events, the latest first.
+    // The text of an event after these events, the latest first.
     ghost line: { List (Told Global) → Told Global → List ℕ };
 
-    /// Takes the next event, and puts its text behind the old text. Where memory is refused, the text is of no use, and the
+    /// Takes the next event, and puts its text after the old text. Where memory is refused, the text is of no use, and the
     /// reporter is told no more.
     fn tell(&mut self, event: &Event, text: &mut Vec<u8>) -> Result<(), AllocError>
         // The events are those of bytes with which a chain of files begins.
-        requires { (heard : List (Told Global)) × has_heard self.old heard × AreHeard (hear event.now heard) }
-        ensures heard { OnOk result ((heard : List (Told Global)) → has_heard self.old heard → AreHeard (hear event.now heard) → has_heard self.new (hear event.now heard)) }
-        ensures text { OnOk result ((heard : List (Told Global)) → has_heard self.old heard → AreHeard (hear event.now heard)
+        requires { (heard : List (Told Global)) × has_heard self.old heard
+            × AreHeard (hear event.now heard) }
+        ensures heard { OnOk result ((heard : List (Told Global)) → has_heard self.old heard
+            → AreHeard (hear event.now heard) → has_heard self.new (hear event.now heard)) }
+        ensures text { OnOk result ((heard : List (Told Global)) → has_heard self.old heard
+            → AreHeard (hear event.now heard)
             → text.new.items ≡ text.old.items ++ line_of line heard event.now) };
 
     /// Skips bytes at the front of the piece whose events it needn't be told one by one, and which have no text. Returns how many
@@ -32,7 +35,8 @@ pub trait Report {
     ///
     /// A reporter that wants to be told each event leaves this method out, and skips nothing.
     fn skip(&mut self, decoder: &mut Decoder, piece: &[u8]) -> usize
-        requires told { (heard : List (Told Global)) × has_heard self.old heard × AreEvents decoder.old.bytes (reverse heard) }
+        requires told { (heard : List (Told Global)) × has_heard self.old heard
+            × AreEvents decoder.old.bytes (reverse heard) }
         requires viable { IsViable Global chain_limit decoder.old.bytes }
         ensures { Skips has_heard line decoder.old decoder.new piece.now self.old self.new result }
     {

@@ -6,18 +6,15 @@ ghost use Rattle.fit_record.specs.declared.file.FitFile.{FitFile};
 ghost use Rattle.fit_record.specs.Files.{chain_limit, IsChain, IsViable};
 ghost use Rattle.fit_decode.specs.Events.{Event as Told, AreEvents};
 ghost use Rattle.fit_report.specs.Heard.{AreHeard, hear};
-ghost use Rattle.fit_report.specs.Passing.{Passed, PieceTold, Stands};
-ghost use Rattle.fit_report.specs.Reports.{Reports, ReportsChain};
+ghost use Rattle.fit_report.specs.Reports.{Reports, ReportsChain, channel};
+ghost use Rattle.fit_report.specs.inner.Passing.{Passed, PieceTold, HasReported};
 
 use crate::{Report, ReportFault};
-use fit_decode::{Decoder, Event, Fault, Source};
+use fit_decode::{Decoder, Event, Fault, PIECE_SIZE, Source};
 use fit_encode::{Sink, put_all};
 use std::alloc::Global;
 
-/// The most bytes that are taken at once.
-const PIECE: usize = 4096;
-
-/// Tells an event to a reporter, and puts its text in the sink, where so many bytes of text were put before.
+/// Tells an event to a reporter, and puts its text in the sink, where `written` bytes of text were put before.
 fn pass_on<K: Sink, R: Report>(
     reporter: &mut R,
     sink: &mut K,
@@ -25,10 +22,14 @@ fn pass_on<K: Sink, R: Report>(
     written: &mut u64,
     event: Event,
 ) -> Result<(), ReportFault>
-    requires { (heard : List (Told Global)) × R.has_heard reporter.old heard × AreHeard (hear event heard) }
-    ensures heard { OnOk result ((heard : List (Told Global)) → R.has_heard reporter.old heard → AreHeard (hear event heard) → R.has_heard reporter.new (hear event heard)) }
-    ensures passed { (heard : List (Told Global)) → R.has_heard reporter.old heard → AreHeard (hear event heard)
-        → Passed R.line heard event (record { before = K.contents sink.old; after = K.contents sink.new; failed = K.has_failed sink.new }) written.old written.new result }
+    requires { (heard : List (Told Global)) × R.has_heard reporter.old heard
+        × AreHeard (hear event heard) }
+    ensures heard { OnOk result ((heard : List (Told Global)) → R.has_heard reporter.old heard
+        → AreHeard (hear event heard) → R.has_heard reporter.new (hear event heard)) }
+    ensures passed { (heard : List (Told Global)) → R.has_heard reporter.old heard
+        → AreHeard (hear event heard)
+        → Passed R.line heard event (channel K.contents K.has_failed sink.old sink.new)
+        written.old written.new result }
 {
     text.clear();
     if reporter.tell(&event, text).is_err() {
@@ -55,11 +56,16 @@ fn tell_piece<K: Sink, R: Report>(
     piece: &[u8],
 ) -> Result<(), ReportFault>
     requires fresh { decoder.old.refusal ≡ None }
-    requires told { (heard : List (Told Global)) × R.has_heard reporter.old heard × AreEvents decoder.old.bytes (reverse heard) }
+    requires told { (heard : List (Told Global)) × R.has_heard reporter.old heard
+        × AreEvents decoder.old.bytes (reverse heard) }
     requires viable { IsViable Global chain_limit decoder.old.bytes }
-    ensures piece { (start : Option (List ℕ)) (before : List (Told Global)) → R.has_heard reporter.old before → Stands R.line decoder.old.bytes before start (K.contents sink.old) written.old
+    ensures piece { (start : Option (List ℕ)) (before : List (Told Global))
+        → R.has_heard reporter.old before → HasReported R.line decoder.old.bytes before start
+        (K.contents sink.old) written.old
         → (heard : List (Told Global)) × OnOk result (R.has_heard reporter.new heard)
-        × PieceTold R.line decoder.old.bytes piece.now decoder.new heard (record { before = start; after = K.contents sink.new; failed = K.has_failed sink.new }) written.new result }
+        × PieceTold R.line decoder.old.bytes piece.now decoder.new heard
+        (record { before = start; after = K.contents sink.new; failed = K.has_failed sink.new })
+        written.new result }
     ensures viable { IsViable Global chain_limit decoder.new.bytes }
 {
     let mut at = 0;
@@ -83,14 +89,14 @@ fn tell_pieces<S: Source, K: Sink, R: Report>(
 ) -> Result<(), ReportFault>
     requires { R.has_heard reporter.old [] }
     ensures { Reports R.line
-        (record { before = S.remaining source.old; after = S.remaining source.new; failed = S.has_failed source.new })
-        (record { before = K.contents sink.old; after = K.contents sink.new; failed = K.has_failed sink.new }) result }
+        (channel S.remaining S.has_failed source.old source.new)
+        (channel K.contents K.has_failed sink.old sink.new) result }
 {
     let mut decoder = Decoder::new(alloc);
     let mut text = Vec::new(alloc);
     let mut written = 0;
     let mut place = 0;
-    let mut buffer = [0u8; PIECE];
+    let mut buffer = [0u8; PIECE_SIZE];
     'pieces: loop {
         let Ok(got) = source.take(&mut buffer) else {
             return Err(ReportFault::Decode(Fault::Read { place }));
@@ -110,7 +116,7 @@ fn tell_pieces<S: Source, K: Sink, R: Report>(
 ///
 /// `Decode` where the input is no chain of files or the source failed, and then the text of all that is before the fault was put;
 /// `NoMemory` where memory was refused, and `Write` where the sink failed. Then the text of some first bytes was put, with `Write`
-/// only so many bytes of it.
+/// only `written` bytes of it.
 pub fn report<S: Source, K: Sink, R: Report>(
     alloc: Global,
     source: &mut S,
@@ -119,13 +125,14 @@ pub fn report<S: Source, K: Sink, R: Report>(
 ) -> Result<(), ReportFault>
     requires { R.has_heard reporter.old [] }
     ensures reports { Reports R.line
-        (record { before = S.remaining source.old; after = S.remaining source.new; failed = S.has_failed source.new })
-        (record { before = K.contents sink.old; after = K.contents sink.new; failed = K.has_failed sink.new }) result }
+        (channel S.remaining S.has_failed source.old source.new)
+        (channel K.contents K.has_failed sink.old sink.new) result }
     // Where the input is a chain's bytes, its text is put, unless memory is refused or the source or the sink fails.
-    ensures chain { (fs : List (FitFile Global)) (b : List ℕ) → S.remaining source.old ≡ Some b → IsBytes b → IsChain chain_limit fs b
+    ensures chain { (fs : List (FitFile Global)) (b : List ℕ) → S.remaining source.old ≡ Some b
+        → IsBytes b → IsChain chain_limit fs b
         → ReportsChain R.line fs
-        (record { before = S.remaining source.old; after = S.remaining source.new; failed = S.has_failed source.new })
-        (record { before = K.contents sink.old; after = K.contents sink.new; failed = K.has_failed sink.new }) result }
+        (channel S.remaining S.has_failed source.old source.new)
+        (channel K.contents K.has_failed sink.old sink.new) result }
 {
     tell_pieces(alloc, source, sink, reporter)
 }

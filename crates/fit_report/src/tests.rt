@@ -34,7 +34,7 @@ impl Report for Dots {
     }
 }
 
-/// A sink with so many dots.
+/// A sink with that many dots.
 fn dotted(count: usize) -> CutSink<64> {
     let mut sink = CutSink::new(64);
     for _ in 0..count {
@@ -104,4 +104,31 @@ fn failing_sources_and_sinks(rt: HostRuntime) {
         );
         assert_eq!(rt; sink.bytes(), dotted(limit).bytes());
     }
+}
+
+#[test]
+fn texts_of_faults(rt: HostRuntime) -> Result<(), Fail> {
+    for (fault, text) in [
+        (
+            Fault::Refused {
+                place: 37,
+                reason: Reason::UndefinedLocal,
+            },
+            "refused at byte 37: UndefinedLocal",
+        ),
+        (Fault::Truncated { place: 0 }, "truncated at byte 0"),
+        (
+            Fault::NoMemory { used: 4096 },
+            "out of memory after 4096 bytes",
+        ),
+        (Fault::Read { place: 21 }, "read fault at byte 21"),
+    ] {
+        let told = format!(in rt.alloc(); "{fault}")?;
+        assert_eq!(rt; told.as_str(), text);
+        let told = format!(in rt.alloc(); "{}", ReportFault::Decode(fault))?;
+        assert_eq!(rt; told.as_str(), text);
+    }
+    let told = format!(in rt.alloc(); "{}", ReportFault::Write { written: 5 })?;
+    assert_eq!(rt; told.as_str(), "write fault after 5 bytes");
+    Ok(())
 }

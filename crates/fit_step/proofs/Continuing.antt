@@ -1,5 +1,6 @@
 -- What isn't refused begins records that fill the room, and what is refused begins none.
-use Rattle.std.proofs.Common.{◌≡◌, inl, inr, ℕ, zero, suc, ◌+◌, ◌-◌, ◌*◌, ◌<◌, ◌≤◌, true, false, List, [], ◌∷◌, ◌++◌, length, refl, sym, ap, ◌∙◌, subst, lit<, arith, append_assoc, length-append, Some, None, Err}
+use Rattle.std.proofs.Common.{◌≡◌, inl, inr, ℕ, zero, suc, ◌+◌, ◌-◌, ◌*◌, ◌<◌, ◌≤◌, true, false, List, [], ◌∷◌, ◌++◌, length, refl, sym, ap, ◌∙◌, subst, lit<}
+use Rattle.std.proofs.Common.{arith, append_assoc, length-append, Some, None, Err}
 use Rattle.std.specs.Prelude.{Option, flat_map, nat_lt, option_map, unwrap_or, drop}
 use Rattle.std.proofs.lemmas.Bool.{both_ways, cond_both}
 use Rattle.std.proofs.lemmas.List.{append-nil}
@@ -26,17 +27,20 @@ use Rattle.fit_step.specs.declared.phase.DefinitionPhase.{DefinitionPhase}
 use Rattle.fit_step.specs.declared.phase.DefinitionPhase.TheVariants.{FieldSize, DevCount, DevSize}
 use Rattle.fit_step.specs.GoingOn.{Continues}
 use Rattle.fit_step.specs.Laws.{PartsAreTested, RecordsEnd, TakenBytesGoOn, TakenBytesEnd, RefusedBytesEndAll, TakenBytesStand}
-use Rattle.fit_step.specs.Machine.{Tests, State, Step, start, step, sizes, least_rest, layout_at, dev_layout_at, fields_rest, dev_rest, header_move, message_move, Ends, RoomsFill}
-use Rattle.fit_step.specs.Parts.{Part, nothing, in_definition, in_fields, in_dev_fields, taken, part_bytes, dev_front, fields_front, definition_part, IsPart, IsDefinitionPart, AwaitsDev, state_of, IsShut}
+use Rattle.fit_step.specs.Machine.{Tests, State, Step, start, step, least_rest, layout_at, dev_layout_at, fields_rest, dev_rest, header_move, message_move}
+use Rattle.fit_step.specs.Machine.{Ends, RoomsFill}
+use Rattle.fit_record.specs.Records.{sizes}
+use Rattle.fit_step.specs.Parts.{RecordPart, nothing, in_definition, in_fields, in_dev_fields, taken, part_bytes, dev_front, fields_front, definition_part}
+use Rattle.fit_step.specs.Parts.{IsPart, IsDefinitionPart, AwaitsDev, state_of, IsShut}
 use Rattle.fit_step.specs.Reasons.{least_definition}
-use Rattle.fit_step.specs.Runs.{Fails}
+use Rattle.fit_step.specs.inner.Runs.{Fails}
 use Rattle.fit_step.specs.Tests.{tests_of, entries_complete}
 use Rattle.fit_step.proofs.Lengths.{length-data, length-shaped}
 use Rattle.fit_step.proofs.HeaderSteps.{message_first, definition_first}
 use Rattle.fit_step.proofs.MessageSteps.{fields_to_come, dev_to_come}
 use Rattle.fit_step.proofs.OneByte.{outcome}
 use Rattle.fit_step.proofs.Runs.{step_goes, step_ends, one_more, records_run_through}
-use Rattle.fit_step.proofs.Rest.{keeps, Keeps}
+use Rattle.fit_step.proofs.Rest.{keeps, KeepsRoom}
 use Rattle.fit_step.proofs.Fills.{no_fit_fails}
 use Rattle.fit_step.proofs.GoingOn.{goes, GoesOn}
 use Rattle.fit_step.proofs.Carried.{taken_rest, data_continues}
@@ -69,7 +73,8 @@ parts_are_tested e (in_dev_fields local offset items t) room sixteen (p, known, 
     let rest : ℕ = t.left + dev_rest e (length t.done) local in
     let devs : sizes (drop (suc (length t.done)) (dev_layout_at e local)) ≡ sizes t.to_come = ap sizes (dev_to_come e local p t known s) in
     let whole : length front ≡ sizes (layout p) = length-shaped o (layout p) items shapes in
-    let size : message_size p ≡ length (front ++ here) + rest = omega (arith, message_sizes p, taken_rest o (dev_layout p) t s, devs, whole, length-append front here) in
+    let size : message_size p ≡ length (front ++ here) + rest =
+    omega (arith, message_sizes p, taken_rest o (dev_layout p) t s, devs, whole, length-append front here) in
     data_continues e local offset (front ++ here) rest room sixteen header (IsBytes-tail (data_header local offset) (front ++ here) are) p known size within
 
 -- ---- a byte that isn't refused
@@ -81,7 +86,7 @@ fill_learned e (Data v) room sixteen h = (can_fill_is (learn e (Data v)) room (a
 pub taken_bytes_go_on : {A : Type 0} → TakenBytesGoOn A
 taken_bytes_go_on {A} e part room b t sixteen h low within on made =
     let g = step_goes e (tests_of e) room part b t h low made in
-    let k : (t.room + 1 ≡ room) × (least_rest e t ≤ t.room) = subst (Keeps e room) made (keeps e (tests_of e) room part b h within) in
+    let k : (t.room + 1 ≡ room) × (least_rest e t ≤ t.room) = subst (KeepsRoom e room) made (keeps e (tests_of e) room part b h within) in
     let left : t.room ≡ room - 1 = omega (arith, k.0) in
     (g.0, g.1, g.2, g.3, subst (λ n. least_rest e t ≤ n) left k.1, subst (GoesOn e) made (goes e sixteen room part b h within on))
 
@@ -109,7 +114,8 @@ module _ {A : Type 0} (e : Environment A) (tests : Tests A) (room b : ℕ) where
       (λ z. cond_both (tests.message (room - (1 + message_size p))) _ _ MessageFails (λ y h. absurd cc) (λ y h. (p, known, y)))
 
   abbrev HeaderFails : Step A → Type 0
-  HeaderFails n = n ≡ Err NoFit → (is_definition b ≡ false) × (p : Defined A) × (defined_at e (local_type b) ≡ Some p) × (tests.message (room - (1 + message_size p)) ≡ false)
+  HeaderFails n = n ≡ Err NoFit → (is_definition b ≡ false) × (p : Defined A) × (defined_at e (local_type b) ≡ Some p)
+      × (tests.message (room - (1 + message_size p)) ≡ false)
 
   header_fails : HeaderFails (header_move e tests room b)
   unfolding header_move
@@ -120,10 +126,12 @@ module _ {A : Type 0} (e : Environment A) (tests : Tests A) (room b : ℕ) where
       (λ y h. let k = message_fails (defined_at e (local_type b)) refl h in (y, k.0, k.1, k.2)))
 
 -- a data message with this record header, behind which the room can be filled
-carried : {A : Type 0} (e : Environment A) (room b : ℕ) (p : Defined A) → length e.places ≡ 16 → 0 < room → is_definition b ≡ false → defined_at e (local_type b) ≡ Some p
+carried : {A : Type 0} (e : Environment A) (room b : ℕ) (p : Defined A) → length e.places ≡ 16 → 0 < room → is_definition b ≡ false
+    → defined_at e (local_type b) ≡ Some p
     → (r : Record A) (rest : List ℕ) (left : ℕ) → Fits e r → record_bytes e r ≡ b ∷ rest → CanFill (learn e r) left → length rest + left ≡ room - 1
     → can_fill e (room - (1 + message_size p)) ≡ true
-carried e room b p sixteen some kind known (Define d) rest left fits spelled fill total = absurd (both_ways (is_definition b) kind (definition_first d b rest fits spelled).bits.kind)
+carried e room b p sixteen some kind known (Define d) rest left fits spelled fill total =
+    absurd (both_ways (is_definition b) kind (definition_first d b rest fits spelled).bits.kind)
 carried {A} e room b p sixteen some kind known (Data v) rest left fits spelled fill total =
     let m = message_first e v b rest fits spelled in
     let found : Some m.place ≡ Some p = sym m.known ∙ ap (defined_at e) (sym m.bits.type) ∙ known in
@@ -134,38 +142,46 @@ carried {A} e room b p sixteen some kind known (Data v) rest left fits spelled f
 
 -- a size or a number of developer fields of a definition message that no record goes on with
 module _ {A : Type 0} (e : Environment A) (room : ℕ) (d : MessageDef A) (b : ℕ) (sixteen : length e.places ≡ 16) (low : b < 256) where
-  definition_ends : (k : DefinitionPhase) → IsDefinitionPart k d → Fails e (tests_of e) room (in_definition k d) b → Continues e (definition_part k d ++ b ∷ []) (room - 1) → ⊥
+  definition_ends : (k : DefinitionPhase) → IsDefinitionPart k d → Fails e (tests_of e) room (in_definition k d) b
+      → Continues e (definition_part k d ++ b ∷ []) (room - 1) → ⊥
   definition_ends (FieldSize left number) h bad c =
-      let law = among_fields e d d.dev left (1 + 3 * (left - 1)) (body_length d + b) (room - 1) (number ∷ b ∷ []) sixteen h refl h.dev (lit< tt) (omega (arith, h.some)) refl in
+      let law = among_fields e d d.dev left (1 + 3 * (left - 1)) (body_length d + b) (room - 1) (number ∷ b ∷ []) sixteen h refl h.dev (lit< tt)
+      (omega (arith, h.some)) refl in
       both_ways (entries_complete e d.dev d.local (1 + 3 * (left - 1)) (body_length d + b) (room - 1)) bad
       (law.1 (subst (λ bytes. Continues e bytes (room - 1)) (append_assoc (fields_front d (length d.fields + left)) (number ∷ []) (b ∷ [])) c))
   definition_ends (DevSize left number) h bad c =
-      let law = among_dev_fields e d left (1 + 3 * (left - 1)) (body_length d + b) (room - 1) (number ∷ b ∷ []) sixteen h.0 (lit< tt) (omega (arith, h.1)) refl in
+      let law = among_dev_fields e d left (1 + 3 * (left - 1)) (body_length d + b) (room - 1) (number ∷ b ∷ []) sixteen h.0 (lit< tt) (omega (arith, h.1)) refl
+      in
       both_ways (can_complete e d.local (1 + 3 * (left - 1)) (body_length d + b) (room - 1)) bad
       (law.1 (subst (λ bytes. Continues e bytes (room - 1)) (append_assoc (dev_front d (length (dev_defs d.dev) + left)) (number ∷ []) (b ∷ [])) c))
   definition_ends DevCount h bad c =
       let w = h.0 in
       let none : length (dev_defs d.dev) ≡ 0 = ap (λ o. length (dev_defs o)) h.1 in
       let empty : length w.defs ≡ 0 = ap (λ o. length (dev_defs o)) (sym w.dev) ∙ none in
-      let awaits : AwaitsDev d b = record { local = w.local; global = w.global; fields = w.fields; defs = w.defs; dev = w.dev; few = omega (arith, empty, low) } in
+      let awaits : AwaitsDev d b = record { local = w.local; global = w.global; fields = w.fields; defs = w.defs; dev = w.dev; few = omega (arith, empty, low) }
+      in
       let law = among_dev_fields e d b (3 * b) (body_length d) (room - 1) [] sixteen awaits (lit< tt) (omega arith) (omega arith) in
       let counted : dev_front d (length (dev_defs d.dev) + b) ++ [] ≡ fields_front d (length d.fields) ++ b ∷ [] =
-      append-nil (dev_front d (length (dev_defs d.dev) + b)) ∙ ap (λ n. dev_front d n) (let same : length (dev_defs d.dev) + b ≡ b = omega (arith, none) in same)
+      append-nil (dev_front d (length (dev_defs d.dev) + b))
+      ∙ ap (λ n. dev_front d n) (let same : length (dev_defs d.dev) + b ≡ b = omega (arith, none) in same)
       ∙ ap (λ o. fields_front d (length d.fields) ++ b ∷ flat_map dev_field_bytes (dev_defs o)) h.1 in
       both_ways (can_complete e d.local (3 * b) (body_length d) (room - 1)) bad
       (law.1 (subst (λ bytes. Continues e bytes (room - 1)) (sym counted) c))
   definition_ends k h bad c = bad
 
 -- behind parts of which a test of rooms refuses the byte, no record fills the room
-no_fit_ends : {A : Type 0} (e : Environment A) (room : ℕ) (f : Part A) (b : ℕ) → length e.places ≡ 16 → IsPart e f → 0 < room → b < 256
+no_fit_ends : {A : Type 0} (e : Environment A) (room : ℕ) (f : RecordPart A) (b : ℕ) → length e.places ≡ 16 → IsPart e f → 0 < room → b < 256
     → step e (tests_of e) (state_of room f) b ≡ Err NoFit → Continues e (part_bytes e f ++ b ∷ []) (room - 1) → ⊥
 unfolding step
 no_fit_ends e room nothing b sixteen h some low refused c =
     let k = header_fails e (tests_of e) room b refused in
-    both_ways (can_fill e (room - (1 + message_size k.1))) k.3 (carried e room b k.1 sixteen some k.0 k.2 c.whole c.rest c.left c.fits c.spelled c.filled c.total)
-no_fit_ends {A} e room (in_definition k d) b sixteen h some low refused c = definition_ends e room d b sixteen low k h (no_fit_fails e (tests_of e) room (in_definition k d) b refused) c
+    both_ways (can_fill e (room - (1 + message_size k.1))) k.3
+    (carried e room b k.1 sixteen some k.0 k.2 c.whole c.rest c.left c.fits c.spelled c.filled c.total)
+no_fit_ends {A} e room (in_definition k d) b sixteen h some low refused c =
+    definition_ends e room d b sixteen low k h (no_fit_fails e (tests_of e) room (in_definition k d) b refused) c
 no_fit_ends e room (in_fields local offset t dev) b sixteen h some low refused c = no_fit_fails e (tests_of e) room (in_fields local offset t dev) b refused
-no_fit_ends e room (in_dev_fields local offset items t) b sixteen h some low refused c = no_fit_fails e (tests_of e) room (in_dev_fields local offset items t) b refused
+no_fit_ends e room (in_dev_fields local offset items t) b sixteen h some low refused c =
+    no_fit_fails e (tests_of e) room (in_dev_fields local offset items t) b refused
 
 -- no record begins so that the room can be filled
 shut_ends : {A : Type 0} (e : Environment A) (room : ℕ) (bytes : List ℕ) (b : ℕ) (reason : Reason) → 0 < room → IsShut e room bytes b reason
@@ -191,7 +207,7 @@ refused_bytes_end_all {A} e part room b reason sixteen h some low refused =
 -- ---- records that fill the room
 
 fills_on : {A : Type 0} (e : Environment A) (r : Record A) (left : ℕ) → length e.places ≡ 16 → Fits e r → CanFill (learn e r) left
-    → (bytes : List ℕ) (room : ℕ) (f : Part A) → IsPart e f → IsBytes bytes → record_bytes e r ≡ part_bytes e f ++ bytes → length bytes + left ≡ room
+    → (bytes : List ℕ) (room : ℕ) (f : RecordPart A) → IsPart e f → IsBytes bytes → record_bytes e r ≡ part_bytes e f ++ bytes → length bytes + left ≡ room
     → RoomsFill e (tests_of e) (state_of room f) bytes
 fills_on e r left sixteen fits fill [] room f h low is total = tt
 fills_on {A} e r left sixteen fits fill (b ∷ bytes) room f h low is total =

@@ -21,7 +21,8 @@ at_size h room b n k bytes i l less =
     let size : ((length bytes - 5) % 3 == 1) ≡ true = eq-eqb ((length bytes - 5) % 3) 1 (omega arith) in
     rw (one, low, four, inside, size) refl
 
-pub at_dev_count : (h room b n : ℕ) (bytes : List ℕ) → slice_index bytes 4 ≡ n → length bytes ≡ 5 + 3 * n → definition_reason h bytes room b ≡ Some (overrun_or_no_fit (1 + 3 * b) room)
+pub at_dev_count : (h room b n : ℕ) (bytes : List ℕ) → slice_index bytes 4 ≡ n → length bytes ≡ 5 + 3 * n
+    → definition_reason h bytes room b ≡ Some (overrun_or_no_fit (1 + 3 * b) room)
 at_dev_count h room b n bytes i l =
     let one : (length bytes == 1) ≡ false = ne_eqb (length bytes) 1 (λ e. omega arith) in
     let low : nat_lt (length bytes) 4 ≡ false = le-ltb (length bytes) 4 (omega arith) in
@@ -31,14 +32,16 @@ at_dev_count h room b n bytes i l =
     rw (one, low, four, inside, here) refl
 
 -- the size of the developer field behind k whole ones
-pub at_dev_size : (h room b n k : ℕ) (bytes : List ℕ) → slice_index bytes 4 ≡ n → length bytes ≡ 7 + 3 * n + 3 * k → definition_reason h bytes room b ≡ Some NoFit
+pub at_dev_size : (h room b n k : ℕ) (bytes : List ℕ) → slice_index bytes 4 ≡ n → length bytes ≡ 7 + 3 * n + 3 * k
+    → definition_reason h bytes room b ≡ Some NoFit
 at_dev_size h room b n k bytes i l =
     let one : (length bytes == 1) ≡ false = ne_eqb (length bytes) 1 (λ e. omega arith) in
     let low : nat_lt (length bytes) 4 ≡ false = le-ltb (length bytes) 4 (omega arith) in
     let four : (length bytes == 4) ≡ false = ne_eqb (length bytes) 4 (λ e. omega arith) in
     let inside : nat_lt (length bytes) (5 + 3 * slice_index bytes 4) ≡ false = le-ltb (length bytes) (5 + 3 * slice_index bytes 4) (omega arith) in
     let here : (length bytes == 5 + 3 * slice_index bytes 4) ≡ false = ne_eqb (length bytes) (5 + 3 * slice_index bytes 4) (λ e. omega arith) in
-    let size : ((length bytes - 1 - (5 + 3 * slice_index bytes 4)) % 3 == 1) ≡ true = eq-eqb ((length bytes - 1 - (5 + 3 * slice_index bytes 4)) % 3) 1 (omega arith) in
+    let size : ((length bytes - 1 - (5 + 3 * slice_index bytes 4)) % 3 == 1) ≡ true =
+    eq-eqb ((length bytes - 1 - (5 + 3 * slice_index bytes 4)) % 3) 1 (omega arith) in
     rw (one, low, four, inside, here, size) refl
 
 -- the number of fields stands at place 4

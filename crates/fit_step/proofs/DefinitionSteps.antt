@@ -1,5 +1,6 @@
 -- The bytes of a definition message behind its record header.
-use Rattle.std.proofs.Common.{◌≡◌, inl, inr, ℕ, suc, ◌+◌, ◌-◌, ◌*◌, ◌^◌, ◌<◌, ◌≤◌, true, false, List, [], ◌∷◌, ◌++◌, length, refl, sym, ap, ◌∙◌, arith, append_assoc, length-append, Some, None, Ok}
+use Rattle.std.proofs.Common.{◌≡◌, inl, inr, ℕ, suc, ◌+◌, ◌-◌, ◌*◌, ◌^◌, ◌<◌, ◌≤◌, true, false, List, [], ◌∷◌, ◌++◌, length, refl, sym, ap, ◌∙◌, arith}
+use Rattle.std.proofs.Common.{append_assoc, length-append, Some, None, Ok}
 use Rattle.std.specs.Prelude.{Option, flat_map, option_map, unwrap_or, ◌==◌, nat_lt}
 use Rattle.std.proofs.lemmas.Bool.{cases_Bool, cases_eq, cases_lt, both_ways, cond_both, eq-eqb, ne_eqb, eqb-true, eqb-false, lt-ltb, le-ltb}
 use Rattle.std.proofs.lemmas.List.{append-nil, flat_map_more}
@@ -13,12 +14,14 @@ use Rattle.fit_record.specs.declared.definition.DevDef.{DevDef}
 use Rattle.fit_record.specs.declared.definition.MessageDef.{MessageDef}
 use Rattle.fit_record.specs.declared.message.Record.TheVariants.{Define, Values as Data}
 use Rattle.fit_step.specs.declared.phase.DefinitionPhase.{DefinitionPhase}
-use Rattle.fit_step.specs.declared.phase.DefinitionPhase.TheVariants.{Reserved, Architecture as AtArchitecture, GlobalFirst, GlobalSecond, FieldCount, FieldNumber, FieldSize, FieldCode, DevCount, DevNumber, DevSize, DevIndex}
+use Rattle.fit_step.specs.declared.phase.DefinitionPhase.TheVariants.{Reserved, Architecture as AtArchitecture, GlobalFirst, GlobalSecond, FieldCount}
+use Rattle.fit_step.specs.declared.phase.DefinitionPhase.TheVariants.{FieldNumber, FieldSize, FieldCode, DevCount, DevNumber, DevSize, DevIndex}
 use Rattle.fit_record.specs.Environment.{Environment, dev_defs}
 use Rattle.fit_record.specs.HeaderByte.{is_definition}
 use Rattle.fit_record.specs.Records.{architecture, field_bytes, dev_field_bytes, dev_part, definition_header, definition_bytes, DefinitionFits}
 use Rattle.fit_step.specs.Machine.{Tests, Step, step, definition_move, next_field, next_dev, after_fields, dev_count_byte}
-use Rattle.fit_step.specs.Parts.{in_definition, definition_front, fields_front, dev_front, definition_part, HasNone, IsNew, AwaitsFields, AwaitsDev, IsDefinitionPart, IsShut}
+use Rattle.fit_step.specs.Parts.{in_definition, definition_front, fields_front, dev_front, definition_part, HasNone, IsNew, AwaitsFields, AwaitsDev}
+use Rattle.fit_step.specs.Parts.{IsDefinitionPart, IsShut}
 use Rattle.fit_record.proofs.OneRecord.{same_fields}
 use Rattle.fit_step.proofs.Lengths.{dev_size_of, length-field_bytes, length-dev_field_bytes, length-dev_part, length-fields_front}
 use Rattle.fit_step.proofs.HeaderBits.{definition_bits, is_some_dev}
@@ -50,7 +53,8 @@ fields_end e room d (Some defs) bytes is none l g f s =
     })
 
 fields_go : {A : Type 0} (e : Environment A) (room left : ℕ) (d : MessageDef A) (bytes : List ℕ) → HasNone d.dev
-    → d.local < 16 → d.global < 2 ^ 16 → length d.fields + left < 256 → fields_front d (length d.fields + left) ≡ bytes → Moves e room bytes (Ok (next_field left room d))
+    → d.local < 16 → d.global < 2 ^ 16 → length d.fields + left < 256 → fields_front d (length d.fields + left) ≡ bytes
+    → Moves e room bytes (Ok (next_field left room d))
 fields_go e room left d bytes none l g f s =
     cond_both (left == 0) _ _ (λ n. Moves e room bytes (Ok n))
     (λ h.
@@ -77,7 +81,8 @@ dev_go e room left d bytes w s =
     let few = w.few in
     let count : length w.defs ≡ length (dev_defs d.dev) + left = omega (arith, ap length same) in
     let part : dev_part d.dev ≡ (length (dev_defs d.dev) + left) ∷ flat_map dev_field_bytes (dev_defs d.dev) =
-    ap dev_part w.dev ∙ ap (λ n. n ∷ flat_map dev_field_bytes w.defs) count ∙ ap (λ z. (length (dev_defs d.dev) + left) ∷ flat_map dev_field_bytes z) (sym same) in
+    ap dev_part w.dev ∙ ap (λ n. n ∷ flat_map dev_field_bytes w.defs) count ∙ ap (λ z. (length (dev_defs d.dev) + left) ∷ flat_map dev_field_bytes z) (sym same)
+    in
     inr (record {
       whole = Define d;
       fits = record { local = w.local; global = w.global; fields = w.fields; dev_fields = rw same (omega arith) };
@@ -100,20 +105,25 @@ architecture_at : (o : Rattle.fit_base.specs.declared.number.Order.Order) (b : �
 architecture_at Rattle.fit_base.specs.declared.number.Order.TheVariants.Little b h z o = z (sym h)
 architecture_at Rattle.fit_base.specs.declared.number.Order.TheVariants.Big b h z o = o (sym h)
 
-architecture_shut : {A : Type 0} (e : Environment A) (room b : ℕ) (d : MessageDef A) → d.local < 16 → (b ≡ 0 → ⊥) → (b ≡ 1 → ⊥) → IsShut e room (definition_part AtArchitecture d) b Architecture
+architecture_shut : {A : Type 0} (e : Environment A) (room b : ℕ) (d : MessageDef A) → d.local < 16 → (b ≡ 0 → ⊥) → (b ≡ 1 → ⊥)
+    → IsShut e room (definition_part AtArchitecture d) b Architecture
 architecture_shut e room b d l zero_ one (Define c) rest f s =
     let arch : architecture c.order ≡ b = cc in
     architecture_at c.order b arch zero_ one
 architecture_shut e room b d l zero_ one (Data v) rest f s =
-    absurd (both_ways (is_definition (definition_header d)) (message_first e v (definition_header d) (d.reserved ∷ b ∷ rest) f s).bits.kind (is_a_definition d l))
+    absurd (both_ways (is_definition (definition_header d)) (message_first e v (definition_header d) (d.reserved ∷ b ∷ rest) f s).bits.kind
+    (is_a_definition d l))
 
 -- behind the global number two definitions with the same front go on in the same way
-same_front : {A : Type 0} (c d : MessageDef A) (more : List ℕ) → DefinitionFits c → d.local < 16 → definition_header c ∷ definition_bytes c ≡ definition_front d ++ more
+same_front : {A : Type 0} (c d : MessageDef A) (more : List ℕ) → DefinitionFits c → d.local < 16
+    → definition_header c ∷ definition_bytes c ≡ definition_front d ++ more
     → (is_some_dev c.dev ≡ is_some_dev d.dev) × ((length c.fields ∷ flat_map field_bytes c.fields) ++ dev_part c.dev ≡ more)
 same_front c d more f l s =
     let header : definition_header c ≡ definition_header d = cc in
-    let tail : (number_bytes c.order 2 c.global ++ (length c.fields ∷ flat_map field_bytes c.fields)) ++ dev_part c.dev ≡ number_bytes d.order 2 d.global ++ more = cc in
-    let rest = front_back (number_bytes c.order 2 c.global) (number_bytes d.order 2 d.global) ((length c.fields ∷ flat_map field_bytes c.fields) ++ dev_part c.dev) more
+    let tail : (number_bytes c.order 2 c.global ++ (length c.fields ∷ flat_map field_bytes c.fields)) ++ dev_part c.dev
+    ≡ number_bytes d.order 2 d.global ++ more = cc in
+    let rest = front_back (number_bytes c.order 2 c.global) (number_bytes d.order 2 d.global)
+    ((length c.fields ∷ flat_map field_bytes c.fields) ++ dev_part c.dev) more
     (length-number_bytes c.order 2 c.global ∙ sym (length-number_bytes d.order 2 d.global))
     (sym (append_assoc (number_bytes c.order 2 c.global) (length c.fields ∷ flat_map field_bytes c.fields) (dev_part c.dev)) ∙ tail) in
     let one = definition_bits (definition_header d) c.local c.dev (sym header) f.local in
@@ -126,13 +136,23 @@ counted None (Some _) h = absurd cc
 counted (Some _) None h = omega arith
 counted (Some _) (Some _) h = omega arith
 
-field_count_shut : {A : Type 0} (e : Environment A) (room b : ℕ) (d : MessageDef A) → d.local < 16 → room < 1 + 3 * b + dev_count_byte d.dev → IsShut e room (definition_front d) b Overrun
+field_count_shut : {A : Type 0} (e : Environment A) (room b : ℕ) (d : MessageDef A) → d.local < 16 → room < 1 + 3 * b + dev_count_byte d.dev
+    → IsShut e room (definition_front d) b Overrun
 field_count_shut e room b d l less (Define c) rest f s =
     let k = same_front c d (b ∷ rest) f l s in
     let tail = k.1 in
     let count : length c.fields ≡ b = cc in
     let after : flat_map field_bytes c.fields ++ dev_part c.dev ≡ rest = cc in
-    omega (arith, less, count, ap length (sym after), length-append (flat_map field_bytes c.fields) (dev_part c.dev), length-field_bytes c.fields, length-dev_part c.dev, counted c.dev d.dev k.0)
+    omega (
+      arith,
+      less,
+      count,
+      ap length (sym after),
+      length-append (flat_map field_bytes c.fields) (dev_part c.dev),
+      length-field_bytes c.fields,
+      length-dev_part c.dev,
+      counted c.dev d.dev k.0,
+    )
 field_count_shut e room b d l less (Data v) rest f s =
     absurd (both_ways (is_definition (definition_header d)) (message_first e v (definition_header d) _ f s).bits.kind (is_a_definition d l))
 
@@ -143,7 +163,8 @@ dev_part_first (Some defs) b rest h =
     let after : flat_map dev_field_bytes defs ≡ rest = cc in
     ap length (sym after) ∙ length-dev_field_bytes defs ∙ ap (λ n. 3 * n) count
 
-dev_count_shut : {A : Type 0} (e : Environment A) (room b : ℕ) (d : MessageDef A) → d.local < 16 → room < 1 + 3 * b → IsShut e room (fields_front d (length d.fields)) b Overrun
+dev_count_shut : {A : Type 0} (e : Environment A) (room b : ℕ) (d : MessageDef A) → d.local < 16 → room < 1 + 3 * b
+    → IsShut e room (fields_front d (length d.fields)) b Overrun
 dev_count_shut e room b d l less (Define c) rest f s =
     let whole : definition_header c ∷ definition_bytes c ≡ definition_front d ++ ((length d.fields ∷ flat_map field_bytes d.fields) ++ b ∷ rest) =
     s ∙ append_assoc (definition_front d) (length d.fields ∷ flat_map field_bytes d.fields) (b ∷ rest) in
@@ -168,9 +189,17 @@ At e tests room k d b = Outcome e room (definition_part k d) b (definition_move 
 pub reserved_on : {A : Type 0} (e : Environment A) (tests : Tests A) (room : ℕ) (d : MessageDef A) (b : ℕ) → IsNew d → Onward e tests room Reserved d b
 unfolding definition_move
 reserved_on e tests room d b h =
-    inl (record { next = in_definition AtArchitecture (record d { reserved = b }); stands = record { local = h.local; global = h.global; fields = h.fields; dev = h.dev }; begun = tt; spelled = refl; is = refl })
+    inl (record {
+      next = in_definition AtArchitecture (record d { reserved = b });
+      stands =
+          record { local = h.local; global = h.global; fields = h.fields; dev = h.dev };
+      begun = tt;
+      spelled = refl;
+      is = refl;
+    })
 
-pub little_on : {A : Type 0} (e : Environment A) (tests : Tests A) (room : ℕ) (d : MessageDef A) (b : ℕ) → IsNew d → b ≡ 0 → Onward e tests room AtArchitecture d b
+pub little_on : {A : Type 0} (e : Environment A) (tests : Tests A) (room : ℕ) (d : MessageDef A) (b : ℕ) → IsNew d → b ≡ 0
+    → Onward e tests room AtArchitecture d b
 unfolding definition_move
 little_on e tests room d b h is =
     let zero_ : (b == 0) ≡ true = eq-eqb b 0 is in
@@ -210,12 +239,14 @@ architecture_outcome e tests room d b h =
           ]
     ]
 
-pub global_first_on : {A : Type 0} (e : Environment A) (tests : Tests A) (room : ℕ) (d : MessageDef A) (b : ℕ) → IsNew d → b < 256 → Onward e tests room GlobalFirst d b
+pub global_first_on : {A : Type 0} (e : Environment A) (tests : Tests A) (room : ℕ) (d : MessageDef A) (b : ℕ) → IsNew d → b < 256
+    → Onward e tests room GlobalFirst d b
 unfolding definition_move
 global_first_on e tests room d b h low =
     inl (record { next = in_definition (GlobalSecond b) d; stands = (h, low); begun = tt; spelled = refl; is = refl })
 
-pub global_second_on : {A : Type 0} (e : Environment A) (tests : Tests A) (room : ℕ) (first : ℕ) (d : MessageDef A) (b : ℕ) → IsNew d → first < 256 → b < 256 → Onward e tests room (GlobalSecond first) d b
+pub global_second_on : {A : Type 0} (e : Environment A) (tests : Tests A) (room : ℕ) (first : ℕ) (d : MessageDef A) (b : ℕ) → IsNew d → first < 256 → b < 256
+    → Onward e tests room (GlobalSecond first) d b
 unfolding definition_move
 global_second_on e tests room first d b h low below =
     let bytes = IsBytes-cons first (b ∷ []) low (IsBytes-cons b [] below IsBytes-none) in
@@ -227,7 +258,8 @@ global_second_on e tests room first d b h low below =
       is = refl;
     })
 
-pub field_count_on : {A : Type 0} (e : Environment A) (tests : Tests A) (room : ℕ) (d : MessageDef A) (b : ℕ) → IsNew d → b < 256 → 1 + 3 * b + dev_count_byte d.dev ≤ room → Onward e tests room FieldCount d b
+pub field_count_on : {A : Type 0} (e : Environment A) (tests : Tests A) (room : ℕ) (d : MessageDef A) (b : ℕ) → IsNew d → b < 256
+    → 1 + 3 * b + dev_count_byte d.dev ≤ room → Onward e tests room FieldCount d b
 unfolding definition_move
 field_count_on e tests room d b h low fits =
     let short : nat_lt room (1 + 3 * b + dev_count_byte d.dev) ≡ false = le-ltb room (1 + 3 * b + dev_count_byte d.dev) fits in
@@ -236,7 +268,8 @@ field_count_on e tests room d b h low fits =
     rw short (fields_go e (room - 1) b d _ h.dev h.local h.global (omega arith)
     (ap (λ z. definition_front d ++ (length d.fields + b) ∷ flat_map field_bytes z) h.fields ∙ ap (λ n. definition_front d ++ n ∷ []) count))
 
-field_count_outcome : {A : Type 0} (e : Environment A) (tests : Tests A) (room : ℕ) (d : MessageDef A) (b : ℕ) → IsNew d → b < 256 → At e tests room FieldCount d b
+field_count_outcome : {A : Type 0} (e : Environment A) (tests : Tests A) (room : ℕ) (d : MessageDef A) (b : ℕ) → IsNew d → b < 256
+    → At e tests room FieldCount d b
 unfolding definition_move field_count_on
 field_count_outcome e tests room d b h low =
     elim (cases_lt room (1 + 3 * b + dev_count_byte d.dev)) [
@@ -246,17 +279,21 @@ field_count_outcome e tests room d b h low =
           inr (record {
             reason = Overrun;
             is = rw long refl;
-            because = rw (is_a_definition d h.local) (at_count (definition_header d) room b (d.reserved ∷ architecture d.order ∷ number_bytes d.order 2 d.global) (ap (λ n. suc (suc n)) (length-number_bytes d.order 2 d.global)));
+            because = rw (is_a_definition d h.local)
+                (at_count (definition_header d) room b (d.reserved ∷ architecture d.order ∷ number_bytes d.order 2 d.global)
+                (ap (λ n. suc (suc n)) (length-number_bytes d.order 2 d.global)));
             shut = field_count_shut e room b d h.local less;
           })
     ]
 
-pub field_number_on : {A : Type 0} (e : Environment A) (tests : Tests A) (room left : ℕ) (d : MessageDef A) (b : ℕ) → AwaitsFields d left → Onward e tests room (FieldNumber left) d b
+pub field_number_on : {A : Type 0} (e : Environment A) (tests : Tests A) (room left : ℕ) (d : MessageDef A) (b : ℕ) → AwaitsFields d left
+    → Onward e tests room (FieldNumber left) d b
 unfolding definition_move
 field_number_on e tests room left d b h =
     inl (record { next = in_definition (FieldSize left b) d; stands = h; begun = tt; spelled = refl; is = refl })
 
-pub field_size_on : {A : Type 0} (e : Environment A) (tests : Tests A) (room left number : ℕ) (d : MessageDef A) (b : ℕ) → AwaitsFields d left → tests.field_size d (left - 1) (room - 1) b ≡ true → Onward e tests room (FieldSize left number) d b
+pub field_size_on : {A : Type 0} (e : Environment A) (tests : Tests A) (room left number : ℕ) (d : MessageDef A) (b : ℕ) → AwaitsFields d left
+    → tests.field_size d (left - 1) (room - 1) b ≡ true → Onward e tests room (FieldSize left number) d b
 unfolding definition_move
 field_size_on e tests room left number d b h fills =
     rw fills (inl (record {
@@ -267,7 +304,8 @@ field_size_on e tests room left number d b h fills =
       is = refl;
     }))
 
-field_size_outcome : {A : Type 0} (e : Environment A) (tests : Tests A) (room left number : ℕ) (d : MessageDef A) (b : ℕ) → AwaitsFields d left → At e tests room (FieldSize left number) d b
+field_size_outcome : {A : Type 0} (e : Environment A) (tests : Tests A) (room left number : ℕ) (d : MessageDef A) (b : ℕ) → AwaitsFields d left
+    → At e tests room (FieldSize left number) d b
 unfolding definition_move field_size_on
 field_size_outcome e tests room left number d b h =
     elim (cases_Bool (tests.field_size d (left - 1) (room - 1) b)) [
@@ -280,8 +318,11 @@ field_size_outcome e tests room left number d b h =
           inr (record {
             reason = NoFit;
             is = rw no_fit refl;
-            because = rw (is_a_definition d h.local) (at_size (definition_header d) room b n (length d.fields) (d.reserved ∷ architecture d.order ∷ ((number_bytes d.order 2 d.global ++ n ∷ flat_map field_bytes d.fields) ++ number ∷ []))
-                (count_at d.order d.global d.reserved (architecture d.order) n (flat_map field_bytes d.fields) (number ∷ [])) (omega (arith, place)) (omega arith));
+            because = rw (is_a_definition d h.local)
+                (at_size (definition_header d) room b n (length d.fields)
+                (d.reserved ∷ architecture d.order ∷ ((number_bytes d.order 2 d.global ++ n ∷ flat_map field_bytes d.fields) ++ number ∷ []))
+                (count_at d.order d.global d.reserved (architecture d.order) n (flat_map field_bytes d.fields) (number ∷ [])) (omega (arith, place))
+                (omega arith));
             shut = tt;
           })
     ]
@@ -289,7 +330,8 @@ field_size_outcome e tests room left number d b h =
 regroup_entry : (f y : List ℕ) (n p q b : ℕ) → f ++ (n ∷ (y ++ p ∷ q ∷ b ∷ [])) ≡ ((f ++ n ∷ y) ++ p ∷ q ∷ []) ++ b ∷ []
 regroup_entry f y n p q b = simp append_assoc
 
-pub field_code_on : {A : Type 0} (e : Environment A) (tests : Tests A) (room left number size : ℕ) (d : MessageDef A) (b : ℕ) → AwaitsFields d left → Onward e tests room (FieldCode left number size) d b
+pub field_code_on : {A : Type 0} (e : Environment A) (tests : Tests A) (room left number size : ℕ) (d : MessageDef A) (b : ℕ) → AwaitsFields d left
+    → Onward e tests room (FieldCode left number size) d b
 unfolding definition_move
 field_code_on {A} e tests room left number size d b h =
     let f : FieldDef = record { number = number; size = size; code = b } in
@@ -306,20 +348,24 @@ field_code_on {A} e tests room left number size d b h =
 
 -- ---- developer fields
 
-pub dev_count_on : {A : Type 0} (e : Environment A) (tests : Tests A) (room : ℕ) (d : MessageDef A) (b : ℕ) → AwaitsDev d 0 → d.dev ≡ Some [] → b < 256 → 1 + 3 * b ≤ room → tests.dev_count d (room - 1) b ≡ true → Onward e tests room DevCount d b
+pub dev_count_on : {A : Type 0} (e : Environment A) (tests : Tests A) (room : ℕ) (d : MessageDef A) (b : ℕ) → AwaitsDev d 0 → d.dev ≡ Some [] → b < 256
+    → 1 + 3 * b ≤ room → tests.dev_count d (room - 1) b ≡ true → Onward e tests room DevCount d b
 unfolding definition_move
 dev_count_on e tests room d b h none low fits fills =
     let short : nat_lt room (1 + 3 * b) ≡ false = le-ltb room (1 + 3 * b) fits in
     let same : dev_defs d.dev ≡ [] = ap dev_defs none in
     let count : length (dev_defs d.dev) + b ≡ b = omega (arith, ap length same) in
     rw (short, fills) (dev_go e (room - 1) b d _ (record { local = h.local; global = h.global; fields = h.fields; defs = []; dev = none; few = omega arith })
-    (ap (λ z. fields_front d (length d.fields) ++ (length (dev_defs d.dev) + b) ∷ flat_map dev_field_bytes z) same ∙ ap (λ n. fields_front d (length d.fields) ++ n ∷ []) count))
+    (ap (λ z. fields_front d (length d.fields) ++ (length (dev_defs d.dev) + b) ∷ flat_map dev_field_bytes z) same
+    ∙ ap (λ n. fields_front d (length d.fields) ++ n ∷ []) count))
 
-dev_count_outcome : {A : Type 0} (e : Environment A) (tests : Tests A) (room : ℕ) (d : MessageDef A) (b : ℕ) → AwaitsDev d 0 → d.dev ≡ Some [] → b < 256 → At e tests room DevCount d b
+dev_count_outcome : {A : Type 0} (e : Environment A) (tests : Tests A) (room : ℕ) (d : MessageDef A) (b : ℕ) → AwaitsDev d 0 → d.dev ≡ Some [] → b < 256
+    → At e tests room DevCount d b
 unfolding definition_move dev_count_on
 dev_count_outcome e tests room d b h none low =
     let place : length (fields_front d (length d.fields)) ≡ 6 + 3 * length d.fields = length-fields_front d (length d.fields) in
-    let because = at_dev_count (definition_header d) room b (length d.fields) (d.reserved ∷ architecture d.order ∷ (number_bytes d.order 2 d.global ++ length d.fields ∷ flat_map field_bytes d.fields))
+    let because = at_dev_count (definition_header d) room b (length d.fields)
+    (d.reserved ∷ architecture d.order ∷ (number_bytes d.order 2 d.global ++ length d.fields ∷ flat_map field_bytes d.fields))
     (count_before d.order d.global d.reserved (architecture d.order) (length d.fields) (flat_map field_bytes d.fields)) (omega (arith, place)) in
     elim (cases_lt room (1 + 3 * b)) [
       | inl less ↦
@@ -343,12 +389,14 @@ dev_count_outcome e tests room d b h none low =
       ]
     ]
 
-pub dev_number_on : {A : Type 0} (e : Environment A) (tests : Tests A) (room left : ℕ) (d : MessageDef A) (b : ℕ) → AwaitsDev d left → 0 < left → Onward e tests room (DevNumber left) d b
+pub dev_number_on : {A : Type 0} (e : Environment A) (tests : Tests A) (room left : ℕ) (d : MessageDef A) (b : ℕ) → AwaitsDev d left → 0 < left
+    → Onward e tests room (DevNumber left) d b
 unfolding definition_move
 dev_number_on e tests room left d b h some =
     inl (record { next = in_definition (DevSize left b) d; stands = (h, some); begun = tt; spelled = refl; is = refl })
 
-pub dev_size_on : {A : Type 0} (e : Environment A) (tests : Tests A) (room left number : ℕ) (d : MessageDef A) (b : ℕ) → AwaitsDev d left → 0 < left → tests.dev_size d (left - 1) (room - 1) b ≡ true → Onward e tests room (DevSize left number) d b
+pub dev_size_on : {A : Type 0} (e : Environment A) (tests : Tests A) (room left number : ℕ) (d : MessageDef A) (b : ℕ) → AwaitsDev d left → 0 < left
+    → tests.dev_size d (left - 1) (room - 1) b ≡ true → Onward e tests room (DevSize left number) d b
 unfolding definition_move
 dev_size_on e tests room left number d b h some fills =
     rw fills (inl (record {
@@ -359,7 +407,8 @@ dev_size_on e tests room left number d b h some fills =
       is = refl;
     }))
 
-dev_size_outcome : {A : Type 0} (e : Environment A) (tests : Tests A) (room left number : ℕ) (d : MessageDef A) (b : ℕ) → AwaitsDev d left → 0 < left → At e tests room (DevSize left number) d b
+dev_size_outcome : {A : Type 0} (e : Environment A) (tests : Tests A) (room left number : ℕ) (d : MessageDef A) (b : ℕ) → AwaitsDev d left → 0 < left
+    → At e tests room (DevSize left number) d b
 unfolding definition_move dev_size_on
 dev_size_outcome e tests room left number d b h some =
     elim (cases_Bool (tests.dev_size d (left - 1) (room - 1) b)) [
@@ -369,17 +418,27 @@ dev_size_outcome e tests room left number d b h some =
           let m : ℕ = length (dev_defs d.dev) + left in
           let entries : List ℕ = m ∷ flat_map dev_field_bytes (dev_defs d.dev) in
           let place : length (definition_part (DevSize left number) d) ≡ 8 + 3 * n + 3 * length (dev_defs d.dev) =
-          omega (arith, length-append (dev_front d m) (number ∷ []), length-append (fields_front d n) entries, length-fields_front d n, length-dev_field_bytes (dev_defs d.dev)) in
+          omega (
+            arith,
+            length-append (dev_front d m) (number ∷ []),
+            length-append (fields_front d n) entries,
+            length-fields_front d n,
+            length-dev_field_bytes (dev_defs d.dev),
+          ) in
           inr (record {
             reason = NoFit;
             is = rw no_fit refl;
-            because = rw (is_a_definition d h.local) (at_dev_size (definition_header d) room b n (length (dev_defs d.dev)) (d.reserved ∷ architecture d.order ∷ (((number_bytes d.order 2 d.global ++ n ∷ flat_map field_bytes d.fields) ++ entries) ++ number ∷ []))
-                (count_in_dev d.order d.global d.reserved (architecture d.order) n (flat_map field_bytes d.fields) entries (number ∷ [])) (omega (arith, place)));
+            because = rw (is_a_definition d h.local)
+                (at_dev_size (definition_header d) room b n (length (dev_defs d.dev))
+                (d.reserved ∷ architecture d.order ∷ (((number_bytes d.order 2 d.global ++ n ∷ flat_map field_bytes d.fields) ++ entries) ++ number ∷ []))
+                (count_in_dev d.order d.global d.reserved (architecture d.order) n (flat_map field_bytes d.fields) entries (number ∷ []))
+                (omega (arith, place)));
             shut = tt;
           })
     ]
 
-pub dev_index_on : {A : Type 0} (e : Environment A) (tests : Tests A) (room left number size : ℕ) (d : MessageDef A) (b : ℕ) → AwaitsDev d left → 0 < left → Onward e tests room (DevIndex left number size) d b
+pub dev_index_on : {A : Type 0} (e : Environment A) (tests : Tests A) (room left number size : ℕ) (d : MessageDef A) (b : ℕ) → AwaitsDev d left → 0 < left
+    → Onward e tests room (DevIndex left number size) d b
 unfolding definition_move
 dev_index_on {A} e tests room left number size d b h some =
     let f : DevDef = record { number = number; size = size; index = b } in
@@ -389,18 +448,22 @@ dev_index_on {A} e tests room left number size d b h some =
     let same : old ≡ h.defs = ap dev_defs h.dev in
     let longer : length (old ++ f ∷ []) ≡ length old + 1 = length-append old (f ∷ []) in
     let count : length (old ++ f ∷ []) + (left - 1) ≡ length old + left = omega (arith, longer) in
-    let header : definition_header c ≡ definition_header d = ap (λ (o : Option (List DevDef)). 0x40 + d.local + unwrap_or (option_map (λ _. 0x20) o) 0) (sym h.dev) in
-    let entries : flat_map dev_field_bytes (old ++ f ∷ []) ≡ flat_map dev_field_bytes old ++ number ∷ size ∷ b ∷ [] = sym (flat_map_more dev_field_bytes [] old f) in
+    let header : definition_header c ≡ definition_header d =
+    ap (λ (o : Option (List DevDef)). 0x40 + d.local + unwrap_or (option_map (λ _. 0x20) o) 0) (sym h.dev) in
+    let entries : flat_map dev_field_bytes (old ++ f ∷ []) ≡ flat_map dev_field_bytes old ++ number ∷ size ∷ b ∷ [] =
+    sym (flat_map_more dev_field_bytes [] old f) in
     dev_go e (room - 1) (left - 1) c _
     (record { local = h.local; global = h.global; fields = h.fields; defs = old ++ f ∷ []; dev = refl; few = omega (arith, longer, ap length same) })
-    (ap (λ z. ((z ∷ d.reserved ∷ architecture d.order ∷ number_bytes d.order 2 d.global) ++ length d.fields ∷ flat_map field_bytes d.fields) ++ (length (old ++ f ∷ []) + (left - 1)) ∷ flat_map dev_field_bytes (old ++ f ∷ [])) header
+    (ap (λ z. ((z ∷ d.reserved ∷ architecture d.order ∷ number_bytes d.order 2 d.global) ++ length d.fields ∷ flat_map field_bytes d.fields)
+    ++ (length (old ++ f ∷ []) + (left - 1)) ∷ flat_map dev_field_bytes (old ++ f ∷ [])) header
     ∙ ap (λ n. fields_front d (length d.fields) ++ n ∷ flat_map dev_field_bytes (old ++ f ∷ [])) count
     ∙ ap (λ z. fields_front d (length d.fields) ++ (length old + left) ∷ z) entries
     ∙ regroup_entry (fields_front d (length d.fields)) (flat_map dev_field_bytes old) (length old + left) number size b)
 
 -- ---- all of them
 
-definition_at : {A : Type 0} (e : Environment A) (tests : Tests A) (room : ℕ) (k : DefinitionPhase) (d : MessageDef A) (b : ℕ) → IsDefinitionPart k d → b < 256 → At e tests room k d b
+definition_at : {A : Type 0} (e : Environment A) (tests : Tests A) (room : ℕ) (k : DefinitionPhase) (d : MessageDef A) (b : ℕ) → IsDefinitionPart k d → b < 256
+    → At e tests room k d b
 unfolding reserved_on global_first_on global_second_on field_number_on field_code_on dev_number_on dev_index_on
 definition_at e tests room Reserved d b h low = inl (reserved_on e tests room d b h)
 definition_at e tests room AtArchitecture d b h low = architecture_outcome e tests room d b h
@@ -415,7 +478,8 @@ definition_at e tests room (DevNumber left) d b h low = inl (dev_number_on e tes
 definition_at e tests room (DevSize left number) d b h low = dev_size_outcome e tests room left number d b h.0 h.1
 definition_at e tests room (DevIndex left number size) d b h low = inl (dev_index_on e tests room left number size d b h.0 h.1)
 
-pub definition_outcome : {A : Type 0} (e : Environment A) (tests : Tests A) (room : ℕ) (k : DefinitionPhase) (d : MessageDef A) (b : ℕ) → IsDefinitionPart k d → b < 256
+pub definition_outcome : {A : Type 0} (e : Environment A) (tests : Tests A) (room : ℕ) (k : DefinitionPhase) (d : MessageDef A) (b : ℕ) → IsDefinitionPart k d
+    → b < 256
     → Outcome e room (definition_part k d) b (step e tests (Rattle.fit_step.specs.Machine.defining k room d) b)
 unfolding step
 definition_outcome e tests room k d b h low = definition_at e tests room k d b h low

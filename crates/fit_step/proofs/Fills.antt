@@ -9,21 +9,23 @@ use Rattle.fit_frame.specs.declared.reason.Reason.TheVariants.{NoFit}
 use Rattle.fit_record.specs.declared.definition.MessageDef.{MessageDef}
 use Rattle.fit_record.specs.declared.environment.Defined.{Defined}
 use Rattle.fit_step.specs.declared.phase.DefinitionPhase.{DefinitionPhase}
-use Rattle.fit_step.specs.declared.phase.DefinitionPhase.TheVariants.{Reserved, Architecture as AtArchitecture, GlobalFirst, GlobalSecond, FieldCount, FieldNumber, FieldSize, FieldCode, DevCount, DevNumber, DevSize, DevIndex}
+use Rattle.fit_step.specs.declared.phase.DefinitionPhase.TheVariants.{Reserved, Architecture as AtArchitecture, GlobalFirst, GlobalSecond, FieldCount}
+use Rattle.fit_step.specs.declared.phase.DefinitionPhase.TheVariants.{FieldNumber, FieldSize, FieldCode, DevCount, DevNumber, DevSize, DevIndex}
 use Rattle.fit_record.specs.Environment.{Environment, defined_at}
 use Rattle.fit_record.specs.HeaderByte.{is_definition, has_reserved_bit, local_type}
 use Rattle.fit_step.specs.Reasons.{least_definition}
 use Rattle.fit_record.specs.Records.{message_size}
 use Rattle.fit_step.specs.Machine.{Tests, State, Step, step, header_move, message_move, definition_move, field_move, dev_move, dev_count_byte, RoomsFill}
-use Rattle.fit_step.specs.Parts.{Part, nothing, in_definition, in_fields, in_dev_fields, part_bytes, IsPart, state_of}
-use Rattle.fit_step.specs.Runs.{Fails, NoFitFails, TestsFill}
+use Rattle.fit_step.specs.Parts.{RecordPart, nothing, in_definition, in_fields, in_dev_fields, part_bytes, IsPart, state_of}
+use Rattle.fit_step.specs.inner.Runs.{Fails, NoFitFails, TestsFill}
 use Rattle.fit_step.proofs.Runs.{step_goes, one_less, one_more}
 
 -- where a step refuses for want of records, P holds
 abbrev Tells : {A : Type 0} → Type 0 → Step A → Type 0
 Tells P n = n ≡ Err NoFit → P
 
-message_tells : {A : Type 0} (e : Environment A) (tests : Tests A) (room b : ℕ) (o : Option (Defined A)) → defined_at e (local_type b) ≡ o → Tells (Fails e tests room nothing b) (message_move tests room b o)
+message_tells : {A : Type 0} (e : Environment A) (tests : Tests A) (room b : ℕ) (o : Option (Defined A)) → defined_at e (local_type b) ≡ o
+    → Tells (Fails e tests room nothing b) (message_move tests room b o)
 unfolding message_move
 message_tells e tests room b None known = λ h. absurd cc
 message_tells {A} e tests room b (Some p) known =
@@ -38,7 +40,8 @@ header_tells {A} e tests room b =
     (λ y. cond_both (nat_lt room (least_definition b)) _ _ (Tells (Fails {A = A} e tests room nothing b)) (λ x h. absurd cc) (λ x h. absurd cc))
     (λ y. message_tells e tests room b (defined_at e (local_type b)) refl))
 
-definition_tells : {A : Type 0} (e : Environment A) (tests : Tests A) (room : ℕ) (k : DefinitionPhase) (d : MessageDef A) (b : ℕ) → Tells (Fails e tests room (in_definition k d) b) (definition_move tests k room d b)
+definition_tells : {A : Type 0} (e : Environment A) (tests : Tests A) (room : ℕ) (k : DefinitionPhase) (d : MessageDef A) (b : ℕ)
+    → Tells (Fails e tests room (in_definition k d) b) (definition_move tests k room d b)
 unfolding definition_move
 definition_tells e tests room Reserved d b = λ h. absurd cc
 definition_tells e tests room AtArchitecture d b =
@@ -65,8 +68,9 @@ no_fit_fails e tests room (in_definition k d) b h = definition_tells e tests roo
 no_fit_fails e tests room (in_fields local offset t dev) b h = cond_both (t.left == 1) _ _ (Tells ⊥) (λ z g. absurd cc) (λ z g. absurd cc) h
 no_fit_fails e tests room (in_dev_fields local offset items t) b h = cond_both (t.left == 1) _ _ (Tells ⊥) (λ z g. absurd cc) (λ z g. absurd cc) h
 
-fill_from : {A : Type 0} (e : Environment A) (tests : Tests A) (bytes : List ℕ) (room : ℕ) (f : Part A) → IsPart e f → IsBytes bytes
-    → ((front : List ℕ) (b : ℕ) (back : List ℕ) (part : Part A) → bytes ≡ front ++ b ∷ back → IsPart e part → part_bytes e part ≡ part_bytes e f ++ front → Fails e tests (room - length front) part b → ⊥)
+fill_from : {A : Type 0} (e : Environment A) (tests : Tests A) (bytes : List ℕ) (room : ℕ) (f : RecordPart A) → IsPart e f → IsBytes bytes
+    → ((front : List ℕ) (b : ℕ) (back : List ℕ) (part : RecordPart A) → bytes ≡ front ++ b ∷ back → IsPart e part → part_bytes e part ≡ part_bytes e f ++ front
+    → Fails e tests (room - length front) part b → ⊥)
     → RoomsFill e tests (state_of room f) bytes
 fill_from e tests [] room f h low never = tt
 fill_from {A} e tests (b ∷ bytes) room f h low never = (

@@ -1,7 +1,9 @@
 -- A byte that isn't refused leaves a room that can still be filled.
-use Rattle.std.proofs.Common.{◌≡◌, inl, inr, ◌⊎◌, ℕ, zero, suc, ◌+◌, ◌-◌, ◌*◌, ◌<◌, ◌≤◌, Bool, true, false, cond, List, [], ◌∷◌, ◌++◌, length, refl, sym, ap, ◌∙◌, subst, arith, Some, None, Ok, Err}
+use Rattle.std.proofs.Common.{◌≡◌, inl, inr, ◌⊎◌, ℕ, zero, suc, ◌+◌, ◌-◌, ◌*◌, ◌<◌, ◌≤◌, Bool, true, false, cond, List, [], ◌∷◌, ◌++◌, length, refl, sym, ap}
+use Rattle.std.proofs.Common.{◌∙◌, subst, arith, Some, None, Ok, Err}
 use Rattle.std.specs.Prelude.{Option, drop, ◌==◌, ◌&&◌, ◌||◌, nat_lt, nat_le, option_map, unwrap_or, sum_by}
-use Rattle.std.proofs.lemmas.Bool.{cond_both, eqb-true, eqb-false, ltb-false, leb-true, le-leb, lt-leb, or_left, or_right, or_cases, and_parts, and_from, cases_lt}
+use Rattle.std.proofs.lemmas.Bool.{cond_both, eqb-true, eqb-false, ltb-false, leb-true, le-leb, lt-leb, or_left, or_right, or_cases, and_parts, and_from}
+use Rattle.std.proofs.lemmas.Bool.{cases_lt}
 use Rattle.std.proofs.lemmas.List.Sums.{sum_by-append, sum_by-cons}
 use Rattle.fit_record.specs.declared.definition.DevDef.{DevDef}
 use Rattle.fit_record.specs.declared.definition.FieldDef.{FieldDef}
@@ -18,10 +20,14 @@ use Rattle.fit_record.proofs.FilledRooms.{same_places, can_fill_is}
 use Rattle.fit_record.proofs.DefinitionInPlace.{can_fill_after}
 use Rattle.std.proofs.Math.ListN.{length-set}
 use Rattle.fit_step.specs.declared.phase.DefinitionPhase.{DefinitionPhase}
-use Rattle.fit_step.specs.declared.phase.DefinitionPhase.TheVariants.{Reserved, Architecture as AtArchitecture, GlobalFirst, GlobalSecond, FieldCount, FieldNumber, FieldSize, FieldCode, DevCount, DevNumber, DevSize, DevIndex}
+use Rattle.fit_step.specs.declared.phase.DefinitionPhase.TheVariants.{Reserved, Architecture as AtArchitecture, GlobalFirst, GlobalSecond, FieldCount}
+use Rattle.fit_step.specs.declared.phase.DefinitionPhase.TheVariants.{FieldNumber, FieldSize, FieldCode, DevCount, DevNumber, DevSize, DevIndex}
 use Rattle.fit_step.specs.Reasons.{least_definition}
-use Rattle.fit_step.specs.Machine.{Step, start, step, sizes, least_rest, begin_dev, begin_fields, layout_at, dev_layout_at, fields_rest, dev_rest, field_move, dev_move, definition_move, definition_rest, next_field, next_dev, after_fields, dev_count_byte, new_message, new_dev, header_move, message_move}
-use Rattle.fit_step.specs.Parts.{Part, nothing, in_definition, in_fields, in_dev_fields, IsDefinitionPart, IsNew, HasNone, IsPart, state_of}
+use Rattle.fit_step.specs.Machine.{Step, start, step, least_rest, begin_dev, begin_fields, layout_at, dev_layout_at, fields_rest, dev_rest, field_move}
+use Rattle.fit_step.specs.Machine.{dev_move, definition_move, definition_rest, next_field, next_dev, after_fields, dev_count_byte, new_message, new_dev}
+use Rattle.fit_step.specs.Machine.{header_move, message_move}
+use Rattle.fit_record.specs.Records.{sizes}
+use Rattle.fit_step.specs.Parts.{RecordPart, nothing, in_definition, in_fields, in_dev_fields, IsDefinitionPart, IsNew, HasNone, IsPart, state_of}
 use Rattle.fit_step.specs.Tests.{entries_complete, tests_of}
 use Rattle.fit_step.specs.GoingOn.{has_dev, definition_goes_on, goes_on}
 use Rattle.fit_step.proofs.Rest.{behind}
@@ -38,26 +44,31 @@ module _ {A : Type 0} (e : Environment A) where
   same_room : (m n : ℕ) → m ≡ n → can_fill e m ≡ true → can_fill e n ≡ true
   same_room m n same h = subst (λ k. can_fill e k ≡ true) same h
 
-  dev_on : (left : ℕ) (v : Values A) (place : ℕ) (rest : List (ℕ × ℕ)) → drop place (dev_layout_at e v.local) ≡ rest → can_fill e (left - sizes rest) ≡ true → GoesOn e (Ok (begin_dev left v place rest))
+  dev_on : (left : ℕ) (v : Values A) (place : ℕ) (rest : List (ℕ × ℕ)) → drop place (dev_layout_at e v.local) ≡ rest → can_fill e (left - sizes rest) ≡ true
+      → GoesOn e (Ok (begin_dev left v place rest))
   dev_on left v place [] at h = ap (λ places. fills (has_length places) left) (same_places e v) ∙ same_room (left - sizes []) left (omega arith) h
   dev_on left v place (f ∷ rest) at h =
       let all : sizes (f ∷ rest) ≡ f.1 + sizes rest = sum_by-cons (λ (f : ℕ × ℕ). f.1) f rest in
       let next : drop (suc place) (dev_layout_at e v.local) ≡ rest = behind place (dev_layout_at e v.local) rest f at in
       let others : dev_rest e place v.local ≡ sizes rest = ap sizes next in
       cond_both (f.1 == 0) _ _ (λ n. GoesOn e (Ok n))
-      (λ z. let none = eqb-true f.1 0 z in dev_on left v (suc place) rest next (same_room (left - sizes (f ∷ rest)) (left - sizes rest) (omega (arith, all, none)) h))
+      (λ z. let none = eqb-true f.1 0 z in dev_on left v (suc place) rest next
+      (same_room (left - sizes (f ∷ rest)) (left - sizes rest) (omega (arith, all, none)) h))
       (λ z. same_room (left - sizes (f ∷ rest)) (left - (f.1 + dev_rest e place v.local)) (omega (arith, all, others)) h)
 
-  fields_on : (left : ℕ) (v : Values A) (place : ℕ) (rest : List (ℕ × ℕ)) → drop place (layout_at e v.local) ≡ rest → can_fill e (left - (sizes rest + sizes (dev_layout_at e v.local))) ≡ true
+  fields_on : (left : ℕ) (v : Values A) (place : ℕ) (rest : List (ℕ × ℕ)) → drop place (layout_at e v.local) ≡ rest
+      → can_fill e (left - (sizes rest + sizes (dev_layout_at e v.local))) ≡ true
       → GoesOn e (Ok (begin_fields left v place rest (dev_layout_at e v.local)))
-  fields_on left v place [] at h = dev_on left v 0 (dev_layout_at e v.local) refl (same_room (left - (sizes [] + sizes (dev_layout_at e v.local))) (left - sizes (dev_layout_at e v.local)) (omega arith) h)
+  fields_on left v place [] at h = dev_on left v 0 (dev_layout_at e v.local) refl
+      (same_room (left - (sizes [] + sizes (dev_layout_at e v.local))) (left - sizes (dev_layout_at e v.local)) (omega arith) h)
   fields_on left v place (f ∷ rest) at h =
       let all : sizes (f ∷ rest) ≡ f.1 + sizes rest = sum_by-cons (λ (f : ℕ × ℕ). f.1) f rest in
       let next : drop (suc place) (layout_at e v.local) ≡ rest = behind place (layout_at e v.local) rest f at in
       let others : sizes (drop (suc place) (layout_at e v.local)) ≡ sizes rest = ap sizes next in
       let dev : ℕ = sizes (dev_layout_at e v.local) in
       cond_both (f.1 == 0) _ _ (λ n. GoesOn e (Ok n))
-      (λ z. let none = eqb-true f.1 0 z in fields_on left v (suc place) rest next (same_room (left - (sizes (f ∷ rest) + dev)) (left - (sizes rest + dev)) (omega (arith, all, none)) h))
+      (λ z. let none = eqb-true f.1 0 z in fields_on left v (suc place) rest next
+      (same_room (left - (sizes (f ∷ rest) + dev)) (left - (sizes rest + dev)) (omega (arith, all, none)) h))
       (λ z. same_room (left - (sizes (f ∷ rest) + dev)) (left - (f.1 + fields_rest e place v.local)) (omega (arith, all, others)) h)
 
   field_on : (place width left room : ℕ) (v : Values A) (partial : List ℕ) (b : ℕ) → 0 < left → can_fill e (room - (left + fields_rest e place v.local)) ≡ true
@@ -66,7 +77,8 @@ module _ {A : Type 0} (e : Environment A) where
   field_on place width left room v partial b some h =
       let rest : ℕ = fields_rest e place v.local in
       cond_both (left == 1) _ _ (λ n. GoesOn e n)
-      (λ z. let one = eqb-true left 1 z in fields_on (room - 1) _ (suc place) (drop (suc place) (layout_at e v.local)) refl (same_room (room - (left + rest)) (room - 1 - rest) (omega (arith, one)) h))
+      (λ z. let one = eqb-true left 1 z in fields_on (room - 1) _ (suc place) (drop (suc place) (layout_at e v.local)) refl
+      (same_room (room - (left + rest)) (room - 1 - rest) (omega (arith, one)) h))
       (λ z. same_room (room - (left + rest)) (room - 1 - (left - 1 + rest)) (omega arith) h)
 
   dev_field_on : (place width left room : ℕ) (v : Values A) (partial : List ℕ) (b : ℕ) → 0 < left → can_fill e (room - (left + dev_rest e place v.local)) ≡ true
@@ -75,7 +87,8 @@ module _ {A : Type 0} (e : Environment A) where
   dev_field_on place width left room v partial b some h =
       let rest : ℕ = dev_rest e place v.local in
       cond_both (left == 1) _ _ (λ n. GoesOn e n)
-      (λ z. let one = eqb-true left 1 z in dev_on (room - 1) _ (suc place) (drop (suc place) (dev_layout_at e v.local)) refl (same_room (room - (left + rest)) (room - 1 - rest) (omega (arith, one)) h))
+      (λ z. let one = eqb-true left 1 z in dev_on (room - 1) _ (suc place) (drop (suc place) (dev_layout_at e v.local)) refl
+      (same_room (room - (left + rest)) (room - 1 - rest) (omega (arith, one)) h))
       (λ z. same_room (room - (left + rest)) (room - 1 - (left - 1 + rest)) (omega arith) h)
 
 -- ---- entries of a definition message
@@ -136,17 +149,20 @@ module _ {A : Type 0} (e : Environment A) (local : ℕ) where
       and_from (nat_le (t + 1) (room - 1)) _ (le-leb (t + 1) (room - 1) (omega (arith, enough)))
       (subst (λ n. (finishes e local t size n || (nat_le 3 n && can_fill_from e local size (n - 3))) ≡ true) same either)
     where
-      sooner_or : {other : Bool} → (finishes e local (suc t) size (room - (suc t + 1)) ≡ true) ⊎ (other ≡ true) → (finishes e local t size (room - (suc t + 1)) || other) ≡ true
+      sooner_or : {other : Bool} → (finishes e local (suc t) size (room - (suc t + 1)) ≡ true) ⊎ (other ≡ true)
+          → (finishes e local t size (room - (suc t + 1)) || other) ≡ true
       sooner_or {other} (inl f) = or_left (finishes e local t size (room - (suc t + 1))) other (sooner t size (room - (suc t + 1)) apart f)
       sooner_or {other} (inr o) = or_right (finishes e local t size (room - (suc t + 1))) other o
 
-  less_of_entries : (dev : Option (List DevDef)) (t size room : ℕ) → (t ≡ 1 → ⊥) → entries_complete e dev local (suc t) size room ≡ true → entries_complete e dev local t size (room - 1) ≡ true
+  less_of_entries : (dev : Option (List DevDef)) (t size room : ℕ) → (t ≡ 1 → ⊥) → entries_complete e dev local (suc t) size room ≡ true
+      → entries_complete e dev local t size (room - 1) ≡ true
   less_of_entries None t size room apart h = less_to_come t size room apart h
   less_of_entries (Some defs) t size room apart h = less_before_dev t size room apart h
 
   -- where no field has come
   all_open : (dev : Option (List DevDef)) (t size room : ℕ) → 2 ≤ t → size ≡ 0 → t + dev_count_byte dev ≤ room → entries_complete e dev local t size room ≡ true
-  all_open None t size room more none enough = and_from (nat_le t room) _ (le-leb t room (omega (arith, enough))) (finishes_open t size (room - t) more (fills_open size (room - t) none))
+  all_open None t size room more none enough =
+      and_from (nat_le t room) _ (le-leb t room (omega (arith, enough))) (finishes_open t size (room - t) more (fills_open size (room - t) none))
   all_open (Some defs) t size room more none enough =
       and_from (nat_le (t + 1) room) _ (le-leb (t + 1) room (omega (arith, enough)))
       (or_left (finishes e local t size (room - (t + 1))) _ (finishes_open t size (room - (t + 1)) more (fills_open size (room - (t + 1)) none)))
@@ -158,11 +174,13 @@ module _ {A : Type 0} (e : Environment A) (sixteen : length e.places ≡ 16) whe
   defined_on room d low h =
       (can_fill_is (learn e (Define d)) room (length-set e.places d.local _ ∙ sixteen)).1 ((can_fill_after e d room sixteen low).0 h)
 
-  after_on : (room : ℕ) (d : MessageDef A) (dev : Option (List DevDef)) → d.dev ≡ dev → d.local < 16 → entries_complete e dev d.local 0 (body_length d) room ≡ true → GoesOn e (Ok (after_fields room d dev))
+  after_on : (room : ℕ) (d : MessageDef A) (dev : Option (List DevDef)) → d.dev ≡ dev → d.local < 16
+      → entries_complete e dev d.local 0 (body_length d) room ≡ true → GoesOn e (Ok (after_fields room d dev))
   after_on room d None is low h =
       let parts = and_parts (nat_le 0 room) (finishes e d.local 0 (body_length d) (room - 0)) h in
       let same : room - 0 ≡ room = omega arith in
-      defined_on room d low (subst (λ n. can_fill_with e d.local (body_length d) n ≡ true) same (with_of e d.local 0 (body_length d) (room - 0) (omega arith) parts.1))
+      defined_on room d low (subst (λ n. can_fill_with e d.local (body_length d) n ≡ true) same
+      (with_of e d.local 0 (body_length d) (room - 0) (omega arith) parts.1))
   after_on room d (Some defs) is low h = h
 
   next_on : (room n : ℕ) (d : MessageDef A) → d.local < 16 → ((n ≡ 0 → ⊥) → entries_complete e d.dev d.local (3 + 3 * (n - 1)) (body_length d) room ≡ true)
@@ -179,7 +197,8 @@ module _ {A : Type 0} (e : Environment A) (sixteen : length e.places ≡ 16) whe
       (λ z.
       let parts = and_parts (nat_le 0 room) (finishes e d.local 0 (body_length d) (room - 0)) (none (eqb-true n 0 z)) in
       let same : room - 0 ≡ room = omega arith in
-      defined_on room d low (subst (λ m. can_fill_with e d.local (body_length d) m ≡ true) same (with_of e d.local 0 (body_length d) (room - 0) (omega arith) parts.1)))
+      defined_on room d low (subst (λ m. can_fill_with e d.local (body_length d) m ≡ true) same
+      (with_of e d.local 0 (body_length d) (room - 0) (omega arith) parts.1)))
       (λ z. some (eqb-false n 0 z))
 
 -- the number of fields, or a byte before it
@@ -193,8 +212,10 @@ new_length d h = go d.dev h.dev (ap (sum_by (λ (f : FieldDef). f.size)) h.field
     go None none is = omega (arith, is)
     go (Some defs) none is = let empty : sum_by (λ (f : DevDef). f.size) defs ≡ 0 = ap (sum_by (λ (f : DevDef). f.size)) none in omega (arith, is, empty)
 
-empty_on : {A : Type 0} (e : Environment A) (local : ℕ) (dev : Option (List DevDef)) (size room : ℕ) → size ≡ 0 → dev_count_byte dev ≤ room → entries_complete e dev local 0 size room ≡ true
-empty_on e local None size room none enough = and_from (nat_le 0 room) _ (le-leb 0 room (omega arith)) (finishes_with e local 0 size (room - 0) (omega arith) (fills_empty e local size (room - 0) none))
+empty_on : {A : Type 0} (e : Environment A) (local : ℕ) (dev : Option (List DevDef)) (size room : ℕ) → size ≡ 0 → dev_count_byte dev ≤ room
+    → entries_complete e dev local 0 size room ≡ true
+empty_on e local None size room none enough =
+    and_from (nat_le 0 room) _ (le-leb 0 room (omega arith)) (finishes_with e local 0 size (room - 0) (omega arith) (fills_empty e local size (room - 0) none))
 empty_on e local (Some defs) size room none enough =
     and_from (nat_le 1 room) _ (le-leb 1 room (omega (arith, enough)))
     (or_left (finishes e local 0 size (room - 1)) _ (finishes_with e local 0 size (room - 1) (omega arith) (fills_empty e local size (room - 1) none)))
@@ -202,19 +223,23 @@ empty_on e local (Some defs) size room none enough =
 -- the length of data messages with one field more, and with one developer field more
 one_field : {A : Type 0} (d : MessageDef A) (f : FieldDef) → body_length (record d { fields = d.fields ++ f ∷ [] }) ≡ body_length d + f.size
 one_field d f =
-    let all : sum_by (λ (f : FieldDef). f.size) (d.fields ++ f ∷ []) ≡ sum_by (λ (f : FieldDef). f.size) d.fields + sum_by (λ (f : FieldDef). f.size) (f ∷ []) = sum_by-append (λ (f : FieldDef). f.size) d.fields (f ∷ []) in
+    let all : sum_by (λ (f : FieldDef). f.size) (d.fields ++ f ∷ []) ≡ sum_by (λ (f : FieldDef). f.size) d.fields + sum_by (λ (f : FieldDef). f.size) (f ∷ []) =
+    sum_by-append (λ (f : FieldDef). f.size) d.fields (f ∷ []) in
     let one : sum_by (λ (f : FieldDef). f.size) (f ∷ []) ≡ f.size + sum_by (λ (f : FieldDef). f.size) [] = sum_by-cons (λ (f : FieldDef). f.size) f [] in
     omega (arith, all, one)
 
 one_dev : {A : Type 0} (d : MessageDef A) (f : DevDef) → body_length (record d { dev = Some (dev_defs d.dev ++ f ∷ []) }) ≡ body_length d + f.size
 one_dev d f =
-    let all : sum_by (λ (f : DevDef). f.size) (dev_defs d.dev ++ f ∷ []) ≡ sum_by (λ (f : DevDef). f.size) (dev_defs d.dev) + sum_by (λ (f : DevDef). f.size) (f ∷ []) = sum_by-append (λ (f : DevDef). f.size) (dev_defs d.dev) (f ∷ []) in
+    let all : sum_by (λ (f : DevDef). f.size) (dev_defs d.dev ++ f ∷ [])
+    ≡ sum_by (λ (f : DevDef). f.size) (dev_defs d.dev) + sum_by (λ (f : DevDef). f.size) (f ∷ []) =
+    sum_by-append (λ (f : DevDef). f.size) (dev_defs d.dev) (f ∷ []) in
     let one : sum_by (λ (f : DevDef). f.size) (f ∷ []) ≡ f.size + sum_by (λ (f : DevDef). f.size) [] = sum_by-cons (λ (f : DevDef). f.size) f [] in
     omega (arith, all, one)
 
 module _ {A : Type 0} (e : Environment A) (sixteen : length e.places ≡ 16) where
   -- one byte of entries has come, and the sizes are these
-  fewer : (local : ℕ) (dev : Option (List DevDef)) (t u size total room : ℕ) → t ≡ suc u → (u ≡ 1 → ⊥) → total ≡ size → entries_complete e dev local t size room ≡ true → entries_complete e dev local u total (room - 1) ≡ true
+  fewer : (local : ℕ) (dev : Option (List DevDef)) (t u size total room : ℕ) → t ≡ suc u → (u ≡ 1 → ⊥) → total ≡ size
+      → entries_complete e dev local t size room ≡ true → entries_complete e dev local u total (room - 1) ≡ true
   fewer local dev t u size total room is apart same h =
       subst (λ s. entries_complete e dev local u s (room - 1) ≡ true) (sym same)
       (less_of_entries e local dev u size room apart (subst (λ n. entries_complete e dev local n size room ≡ true) is h))
@@ -243,7 +268,8 @@ module _ {A : Type 0} (e : Environment A) (sixteen : length e.places ≡ 16) whe
       let f : FieldDef = record { number = number; size = size; code = b } in
       let more : MessageDef A = record d { fields = d.fields ++ f ∷ [] } in
       next_on e sixteen (room - 1) (left - 1) more h.local
-      (λ some. fewer d.local d.dev (1 + 3 * (left - 1)) (3 + 3 * (left - 1 - 1)) (body_length d + size) (body_length more) room (omega (arith, some)) (omega arith) (one_field d f) on)
+      (λ some. fewer d.local d.dev (1 + 3 * (left - 1)) (3 + 3 * (left - 1 - 1)) (body_length d + size) (body_length more) room (omega (arith, some))
+      (omega arith) (one_field d f) on)
       (λ none. fewer d.local d.dev (1 + 3 * (left - 1)) 0 (body_length d + size) (body_length more) room (omega (arith, none)) (omega arith) (one_field d f) on)
   definition_on DevCount room d b h less on =
       cond_both (nat_lt room (1 + 3 * b)) _ _ (λ n. GoesOn e n) (λ z. tt)
@@ -260,7 +286,8 @@ module _ {A : Type 0} (e : Environment A) (sixteen : length e.places ≡ 16) whe
       let f : DevDef = record { number = number; size = size; index = b } in
       let more : MessageDef A = record d { dev = Some (dev_defs d.dev ++ f ∷ []) } in
       next_dev_on e sixteen (room - 1) (left - 1) more h.0.local
-      (λ some. fewer d.local None (1 + 3 * (left - 1)) (3 + 3 * (left - 1 - 1)) (body_length d + size) (body_length more) room (omega (arith, some)) (omega arith) (one_dev d f) on)
+      (λ some. fewer d.local None (1 + 3 * (left - 1)) (3 + 3 * (left - 1 - 1)) (body_length d + size) (body_length more) room (omega (arith, some))
+      (omega arith) (one_dev d f) on)
       (λ none. fewer d.local None (1 + 3 * (left - 1)) 0 (body_length d + size) (body_length more) room (omega (arith, none)) (omega arith) (one_dev d f) on)
 
   -- ---- record headers
@@ -295,7 +322,8 @@ module _ {A : Type 0} (e : Environment A) (sixteen : length e.places ≡ 16) whe
 
   -- ---- all of it
 
-  pub goes : (room : ℕ) (f : Part A) (b : ℕ) → IsPart e f → least_rest e (state_of room f) ≤ room → goes_on e (state_of room f) ≡ true → GoesOn e (step e (tests_of e) (state_of room f) b)
+  pub goes : (room : ℕ) (f : RecordPart A) (b : ℕ) → IsPart e f → least_rest e (state_of room f) ≤ room → goes_on e (state_of room f) ≡ true
+      → GoesOn e (step e (tests_of e) (state_of room f) b)
   unfolding step
   goes room nothing b h less on = header_on room b
   goes room (in_definition k d) b h less on = definition_on k room d b h less on

@@ -43,17 +43,21 @@ definition_spelled b l r h =
     rw normal (omega arith, definition_at b (bit 5 b) l normal parts.1 clean.0 refl)
 
 data_at : (b : ℕ) (c : Bool) → b < 256 → has_reserved_bit b ≡ false → is_definition b ≡ false → bit 7 b ≡ c
-    → DataHeaderFits (cond c (b / 32 % 4) (b % 16)) (cond c (Some (b % 32)) None) × (data_header (cond c (b / 32 % 4) (b % 16)) (cond c (Some (b % 32)) None) ≡ b)
+    → DataHeaderFits (cond c (b / 32 % 4) (b % 16)) (cond c (Some (b % 32)) None)
+    × (data_header (cond c (b / 32 % 4) (b % 16)) (cond c (Some (b % 32)) None) ≡ b)
 data_at b true l r h e = ((omega arith, omega arith), omega (arith, on_is (b / 128) e))
 data_at b false l r h e =
     let clean = not_reserved b r e in
-    let six : bit 6 b ≡ false = elim (and_cases (not (bit 7 b)) (bit 6 b) h) [ inl one ↦ absurd (both_ways (bit 7 b) e (not-false (bit 7 b) one)) | inr z ↦ z ] in
-    let five : bit 5 b ≡ false = elim (and_cases (bit 5 b) (not (bit 6 b)) clean.1) [ inl z ↦ z | inr one ↦ absurd (both_ways (bit 6 b) six (not-false (bit 6 b) one)) ] in
+    let six : bit 6 b ≡ false = elim (and_cases (not (bit 7 b)) (bit 6 b) h) [ inl one ↦ absurd (both_ways (bit 7 b) e (not-false (bit 7 b) one)) | inr z ↦ z ]
+    in
+    let five : bit 5 b ≡ false = elim (and_cases (bit 5 b) (not (bit 6 b)) clean.1)
+    [ inl z ↦ z | inr one ↦ absurd (both_ways (bit 6 b) six (not-false (bit 6 b) one)) ] in
     (omega arith, omega (arith, off_is (b / 128) e, off_is (b / 64) six, off_is (b / 32) five, off_is (b / 16) clean.0))
 
 -- a data message's header
 pub data_spelled : (b : ℕ) → b < 256 → has_reserved_bit b ≡ false → is_definition b ≡ false
-    → DataHeaderFits (local_type b) (cond (is_compressed b) (Some (b % 32)) None) × (data_header (local_type b) (cond (is_compressed b) (Some (b % 32)) None) ≡ b)
+    → DataHeaderFits (local_type b) (cond (is_compressed b) (Some (b % 32)) None)
+    × (data_header (local_type b) (cond (is_compressed b) (Some (b % 32)) None) ≡ b)
 data_spelled b l r h = data_at b (bit 7 b) l r h refl
 
 -- ---- from the parts to the bits
@@ -86,7 +90,8 @@ abbrev pub is_some_dev : Option (List DevDef) → Bool
 is_some_dev None = false
 is_some_dev (Some _) = true
 
-pub definition_bits : (b l : ℕ) (dev : Option (List DevDef)) → b ≡ 0x40 + l + unwrap_or (option_map (λ _. 0x20) dev) 0 → l < 16 → DefinitionBits b l (is_some_dev dev)
+pub definition_bits : (b l : ℕ) (dev : Option (List DevDef)) → b ≡ 0x40 + l + unwrap_or (option_map (λ _. 0x20) dev) 0 → l < 16
+    → DefinitionBits b l (is_some_dev dev)
 definition_bits b l None e h = definition_bits_at b l 0 false e h (is_off (b / 32 % 2) (omega arith)) (inl refl)
 definition_bits b l (Some fs) e h = definition_bits_at b l 32 true e h (is_on (b / 32 % 2) (omega arith)) (inr refl)
 

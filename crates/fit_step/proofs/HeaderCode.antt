@@ -13,7 +13,7 @@ use Rattle.fit_record.specs.Records.{layout, dev_layout, message_size}
 use Rattle.fit_record.specs.Rooms.{can_fill}
 use Rattle.fit_record.specs.Unfinished.{can_carry}
 use Rattle.fit_step.specs.declared.phase.Phase.{Phase}
-use Rattle.fit_step.specs.Steps.{begun, entered}
+use Rattle.fit_step.specs.inner.Steps.{message_begun, entered}
 use Rattle.fit_step.specs.Machine.{Step, begin_fields, message_move, new_message}
 use Rattle.fit_step.specs.Tests.{tests_of}
 
@@ -21,12 +21,14 @@ use Rattle.fit_step.specs.Tests.{tests_of}
 abbrev pub begun_message : {A : Type 0} → ℕ → ℕ → Defined A → Step A
 begun_message room b p = Ok (begin_fields (room - 1) (new_message b (layout p) (dev_layout p)) 0 (layout p) (dev_layout p))
 
-pub undefined : {A : Type 0} (e : Environment A) (room b : ℕ) (o : Option (Defined A)) → None ≡ option_map message_size o → message_move (tests_of e) room b o ≡ Err UndefinedLocal
+pub undefined : {A : Type 0} (e : Environment A) (room b : ℕ) (o : Option (Defined A)) → None ≡ option_map message_size o
+    → message_move (tests_of e) room b o ≡ Err UndefinedLocal
 unfolding message_move
 undefined e room b None h = refl
 undefined e room b (Some p) h = absurd cc
 
-pub overrun : {A : Type 0} (e : Environment A) (room b n : ℕ) (o : Option (Defined A)) → Some n ≡ option_map message_size o → room < 1 + n → message_move (tests_of e) room b o ≡ Err Overrun
+pub overrun : {A : Type 0} (e : Environment A) (room b n : ℕ) (o : Option (Defined A)) → Some n ≡ option_map message_size o → room < 1 + n
+    → message_move (tests_of e) room b o ≡ Err Overrun
 unfolding message_move
 overrun e room b n None h less = absurd cc
 overrun e room b n (Some p) h less =
@@ -42,7 +44,8 @@ carry_test e room local p known within =
     ∙ ap (λ c. c && can_fill e (room - 1 - message_size p)) enough
     ∙ ap (can_fill e) left
 
-pub no_fit : {A : Type 0} (e : Environment A) (room b n local : ℕ) (o : Option (Defined A)) → defined_at e local ≡ o → Some n ≡ option_map message_size o → 1 + n ≤ room
+pub no_fit : {A : Type 0} (e : Environment A) (room b n local : ℕ) (o : Option (Defined A)) → defined_at e local ≡ o → Some n ≡ option_map message_size o
+    → 1 + n ≤ room
     → false ≡ can_carry e local (room - 1) → message_move (tests_of e) room b o ≡ Err NoFit
 unfolding message_move
 no_fit e room b n local None known h within test = absurd cc
@@ -52,7 +55,8 @@ no_fit e room b n local (Some p) known h within test =
     cond-false (nat_lt room (1 + message_size p)) _ _ (le-ltb room (1 + message_size p) long)
     ∙ cond-false (can_fill e (room - (1 + message_size p))) _ _ (sym (carry_test e room local p known long) ∙ sym test)
 
-pub message_goes : {A : Type 0} (e : Environment A) (room b n local : ℕ) (p : Defined A) → defined_at e local ≡ Some p → Some n ≡ option_map message_size (defined_at e local) → 1 + n ≤ room
+pub message_goes : {A : Type 0} (e : Environment A) (room b n local : ℕ) (p : Defined A) → defined_at e local ≡ Some p
+    → Some n ≡ option_map message_size (defined_at e local) → 1 + n ≤ room
     → true ≡ can_carry e local (room - 1) → message_move (tests_of e) room b (Some p) ≡ begun_message room b p
 unfolding message_move
 message_goes e room b n local p known h within test =
@@ -65,25 +69,28 @@ message_goes e room b n local p known h within test =
 -- ---- at the local message type that was read
 
 module _ {A : Type 0} (e : Environment A) (room b local : ℕ) (same : local ≡ local_type b) where
-  from_local : (made : Step A) → message_move (tests_of e) room b (defined_at e local) ≡ made → message_move (tests_of e) room b (defined_at e (local_type b)) ≡ made
+  from_local : (made : Step A) → message_move (tests_of e) room b (defined_at e local) ≡ made
+      → message_move (tests_of e) room b (defined_at e (local_type b)) ≡ made
   from_local made h = ap (λ l. message_move (tests_of e) room b (defined_at e l)) (sym same) ∙ h
 
   pub undefined_at : None ≡ defined_at e local → message_move (tests_of e) room b (defined_at e (local_type b)) ≡ Err UndefinedLocal
   undefined_at h = from_local (Err UndefinedLocal) (undefined e room b (defined_at e local) (ap (option_map message_size) h))
 
-  pub overrun_at : (n : ℕ) → Some n ≡ option_map message_size (defined_at e local) → room < 1 + n → message_move (tests_of e) room b (defined_at e (local_type b)) ≡ Err Overrun
+  pub overrun_at : (n : ℕ) → Some n ≡ option_map message_size (defined_at e local) → room < 1 + n
+      → message_move (tests_of e) room b (defined_at e (local_type b)) ≡ Err Overrun
   overrun_at n h less = from_local (Err Overrun) (overrun e room b n (defined_at e local) h less)
 
   pub no_fit_at : (n : ℕ) → Some n ≡ option_map message_size (defined_at e local) → 1 + n ≤ room → false ≡ can_carry e local (room - 1)
       → message_move (tests_of e) room b (defined_at e (local_type b)) ≡ Err NoFit
   no_fit_at n h within test = from_local (Err NoFit) (no_fit e room b n local (defined_at e local) refl h within test)
 
-  pub goes_at : (n : ℕ) (p : Defined A) → Some p ≡ defined_at e local → Some n ≡ option_map message_size (defined_at e local) → 1 + n ≤ room → true ≡ can_carry e local (room - 1)
+  pub goes_at : (n : ℕ) (p : Defined A) → Some p ≡ defined_at e local → Some n ≡ option_map message_size (defined_at e local) → 1 + n ≤ room
+      → true ≡ can_carry e local (room - 1)
       → message_move (tests_of e) room b (defined_at e (local_type b)) ≡ begun_message room b p
   goes_at n p known h within test =
       from_local (begun_message room b p) (ap (message_move (tests_of e) room b) (sym known) ∙ message_goes e room b n local p (sym known) h within test)
 
 -- what is begun is whole, or the message in progress
-pub begun_entered : {A : Type 0} (whole : Bool) (phase : Phase) (room : ℕ) (v : Values A) → begun whole phase room v ≡ entered whole phase room (Data v)
+pub begun_entered : {A : Type 0} (whole : Bool) (phase : Phase) (room : ℕ) (v : Values A) → message_begun whole phase room v ≡ entered whole phase room (Data v)
 begun_entered true phase room v = refl
 begun_entered false phase room v = refl

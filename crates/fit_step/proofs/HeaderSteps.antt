@@ -32,7 +32,8 @@ pub record Definitions {A : Type 0} (b : ℕ) (rest : List ℕ) (d : MessageDef 
   pub header : definition_header d ≡ b
   pub tail : definition_bytes d ≡ rest
 
-pub definition_first : {A : Type 0} (d : MessageDef A) (b : ℕ) (rest : List ℕ) → DefinitionFits d → definition_header d ∷ definition_bytes d ≡ b ∷ rest → Definitions b rest d
+pub definition_first : {A : Type 0} (d : MessageDef A) (b : ℕ) (rest : List ℕ) → DefinitionFits d → definition_header d ∷ definition_bytes d ≡ b ∷ rest
+    → Definitions b rest d
 definition_first d b rest h e =
     let first : definition_header d ≡ b = cc in
     let others : definition_bytes d ≡ rest = cc in
@@ -45,7 +46,8 @@ pub record Messages {A : Type 0} (e : Environment A) (b : ℕ) (rest : List ℕ)
   pub fits : DataFits v place
   pub tail : data_bytes (order_at e v.local) v ≡ rest
 
-pub message_first : {A : Type 0} (e : Environment A) (v : Values A) (b : ℕ) (rest : List ℕ) → IsSomeAnd (defined_at e v.local) (DataFits v) → data_header v.local v.offset ∷ data_bytes (order_at e v.local) v ≡ b ∷ rest → Messages e b rest v
+pub message_first : {A : Type 0} (e : Environment A) (v : Values A) (b : ℕ) (rest : List ℕ) → IsSomeAnd (defined_at e v.local) (DataFits v)
+    → data_header v.local v.offset ∷ data_bytes (order_at e v.local) v ≡ b ∷ rest → Messages e b rest v
 message_first e v b rest h s =
     let first : data_header v.local v.offset ≡ b = cc in
     let others : data_bytes (order_at e v.local) v ≡ rest = cc in
@@ -58,7 +60,8 @@ reserved_shut : {A : Type 0} (e : Environment A) (room b : ℕ) → has_reserved
 reserved_shut e room b h (Define d) rest f s = both_ways (has_reserved_bit b) (definition_first d b rest f s).bits.clean h
 reserved_shut e room b h (Data v) rest f s = both_ways (has_reserved_bit b) (message_first e v b rest f s).bits.clean h
 
-undefined_shut : {A : Type 0} (e : Environment A) (room b : ℕ) → is_definition b ≡ false → defined_at e (local_type b) ≡ None → IsShut e room [] b UndefinedLocal
+undefined_shut : {A : Type 0} (e : Environment A) (room b : ℕ) → is_definition b ≡ false → defined_at e (local_type b) ≡ None
+    → IsShut e room [] b UndefinedLocal
 undefined_shut e room b h n (Define d) rest f s = both_ways (is_definition b) h (definition_first d b rest f s).bits.kind
 undefined_shut e room b h n (Data v) rest f s =
     let m = message_first e v b rest f s in
@@ -80,7 +83,8 @@ long_definition_shut e room b h less (Define d) rest f s =
     omega (arith, less, least, all, dev_takes d.dev)
 long_definition_shut e room b h less (Data v) rest f s = absurd (both_ways (is_definition b) (message_first e v b rest f s).bits.kind h)
 
-long_message_shut : {A : Type 0} (e : Environment A) (room b : ℕ) (p : Defined A) → is_definition b ≡ false → defined_at e (local_type b) ≡ Some p → room < 1 + message_size p → IsShut e room [] b Overrun
+long_message_shut : {A : Type 0} (e : Environment A) (room b : ℕ) (p : Defined A) → is_definition b ≡ false → defined_at e (local_type b) ≡ Some p
+    → room < 1 + message_size p → IsShut e room [] b Overrun
 long_message_shut e room b p h known less (Define d) rest f s = absurd (both_ways (is_definition b) h (definition_first d b rest f s).bits.kind)
 long_message_shut e room b p h known less (Data v) rest f s =
     let m = message_first e v b rest f s in
@@ -107,7 +111,8 @@ message_header {A} e tests room b (Some p) known low clean data_ =
       | inr short ↦ elim (cases_Bool (tests.message (room - (1 + message_size p)))) [
         | inl fills ↦
             let spelled = data_spelled b low clean data_ in
-            rw (short, fills) (inl (fields_begin e (room - 1) (local_type b) (new_message {A = A} b [] []).offset p known spelled.0 (layout p) [] 0 [] (b ∷ []) refl refl tt (ap (λ h. h ∷ []) spelled.1)))
+            rw (short, fills) (inl (fields_begin e (room - 1) (local_type b) (new_message {A = A} b [] []).offset p known spelled.0 (layout p) [] 0 [] (b ∷ [])
+            refl refl tt (ap (λ h. h ∷ []) spelled.1)))
         | inr no_fit ↦ inr (record {
           reason = NoFit;
           is = rw (short, no_fit) refl;

@@ -43,20 +43,34 @@ length-definition d =
 
 length-numbers : (o : Order) (w : ℕ) (ns : List ℕ) → length (flat_map (number_bytes o w) ns) ≡ length ns * w
 length-numbers o w [] = omega arith
-length-numbers o w (n ∷ ns) = omega (arith, length-append (number_bytes o w n) (flat_map (number_bytes o w) ns), length-number_bytes o w n, length-numbers o w ns)
+length-numbers o w (n ∷ ns) = omega (
+  arith,
+  length-append (number_bytes o w n) (flat_map (number_bytes o w) ns),
+  length-number_bytes o w n,
+  length-numbers o w ns,
+)
 
 pub length-items : {A : Type 0} (o : Order) (i : Items A) → length (items_bytes o i) ≡ length i.bits * i.width
 length-items o i = length-numbers o i.width i.bits
 
-pub length-shaped : {A : Type 0} (o : Order) (fs : List (ℕ × ℕ)) (items : List (Items A)) → HaveShape fs items → length (flat_map (items_bytes o) items) ≡ sum_by (λ f. f.1) fs
+pub length-shaped : {A : Type 0} (o : Order) (fs : List (ℕ × ℕ)) (items : List (Items A)) → HaveShape fs items
+    → length (flat_map (items_bytes o) items) ≡ sum_by (λ f. f.1) fs
 length-shaped o [] [] h = refl
 length-shaped o [] (i ∷ items) h = absurd h
 length-shaped o (f ∷ fs) [] h = absurd h
 length-shaped o (f ∷ fs) (i ∷ items) h =
-    let total : length (flat_map (items_bytes o) (i ∷ items)) ≡ length (items_bytes o i) + length (flat_map (items_bytes o) items) = length-append (items_bytes o i) (flat_map (items_bytes o) items) in
+    let total : length (flat_map (items_bytes o) (i ∷ items)) ≡ length (items_bytes o i) + length (flat_map (items_bytes o) items) =
+    length-append (items_bytes o i) (flat_map (items_bytes o) items) in
     let one : length (items_bytes o i) ≡ f.1 = length-items o i ∙ h.0.whole in
-    total ∙ ap (λ n. n + length (flat_map (items_bytes o) items)) one ∙ ap (λ n. f.1 + n) (length-shaped o fs items h.1) ∙ sym (sum_by-cons (λ (f : ℕ × ℕ). f.1) f fs)
+    total ∙ ap (λ n. n + length (flat_map (items_bytes o) items)) one ∙ ap (λ n. f.1 + n) (length-shaped o fs items h.1)
+    ∙ sym (sum_by-cons (λ (f : ℕ × ℕ). f.1) f fs)
 
 pub length-data : {A : Type 0} (o : Order) (v : Values A) (p : Defined A) → DataFits v p → length (data_bytes o v) ≡ message_size p
 length-data o v p h =
-    omega (arith, length-append (flat_map (items_bytes o) v.fields) (flat_map (items_bytes o) v.dev), length-shaped o (layout p) v.fields h.fields, length-shaped o (dev_layout p) v.dev h.dev_fields, sum_by-append (λ (f : ℕ × ℕ). f.1) (layout p) (dev_layout p))
+    omega (
+      arith,
+      length-append (flat_map (items_bytes o) v.fields) (flat_map (items_bytes o) v.dev),
+      length-shaped o (layout p) v.fields h.fields,
+      length-shaped o (dev_layout p) v.dev h.dev_fields,
+      sum_by-append (λ (f : ℕ × ℕ). f.1) (layout p) (dev_layout p),
+    )

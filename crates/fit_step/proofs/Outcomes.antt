@@ -6,11 +6,11 @@ use Rattle.fit_record.specs.Environment.{Environment}
 use Rattle.fit_record.specs.Records.{Fits, record_bytes}
 use Rattle.fit_step.specs.Reasons.{record_reason}
 use Rattle.fit_step.specs.Machine.{Step, start}
-use Rattle.fit_step.specs.Parts.{Part, part_bytes, IsPart, HasBegun, state_of, IsShut}
+use Rattle.fit_step.specs.Parts.{RecordPart, part_bytes, IsPart, HasBegun, state_of, IsShut}
 
 -- the bytes are those of more parts, and this much room is left
 pub record Goes {A : Type 0} (e : Environment A) (room : ℕ) (bytes : List ℕ) (made : Step A) : Type 0 where
-  pub next : Part A
+  pub next : RecordPart A
   pub stands : IsPart e next
   pub begun : HasBegun next
   pub spelled : part_bytes e next ≡ bytes

@@ -7,10 +7,11 @@ use Rattle.fit_record.specs.declared.definition.MessageDef.{MessageDef}
 use Rattle.fit_record.specs.Environment.{dev_defs}
 use Rattle.fit_record.specs.Records.{DefinitionFits}
 use Rattle.fit_step.specs.declared.phase.DefinitionPhase.{DefinitionPhase}
-use Rattle.fit_step.specs.declared.phase.DefinitionPhase.TheVariants.{Reserved, Architecture as AtArchitecture, GlobalFirst, GlobalSecond, FieldCount, FieldNumber, FieldSize, FieldCode, DevCount, DevNumber, DevSize, DevIndex}
+use Rattle.fit_step.specs.declared.phase.DefinitionPhase.TheVariants.{Reserved, Architecture as AtArchitecture, GlobalFirst, GlobalSecond, FieldCount}
+use Rattle.fit_step.specs.declared.phase.DefinitionPhase.TheVariants.{FieldNumber, FieldSize, FieldCode, DevCount, DevNumber, DevSize, DevIndex}
 use Rattle.fit_step.specs.Machine.{no_items}
-use Rattle.fit_step.specs.Parts.{Taking, taken, all_items, IsNew, HasNone, AwaitsFields, AwaitsDev, IsDefinitionPart, IsTaking}
-use Rattle.fit_step.specs.Steps.{IsDefining}
+use Rattle.fit_step.specs.Parts.{TakenFields, taken, all_items, IsNew, HasNone, AwaitsFields, AwaitsDev, IsDefinitionPart, IsTaking}
+use Rattle.fit_step.specs.inner.Steps.{IsDefining}
 use Rattle.fit_step.proofs.Takes.{as_many}
 
 no_dev_fields : (dev : Option (List DevDef)) → HasNone dev → length (dev_defs dev) < 256
@@ -47,7 +48,7 @@ is_defining (DevSize left number) d h = (dev_fits d left h.0, h.1, some_dev d le
 is_defining (DevIndex left number size) d h = (dev_fits d left h.0, h.1, some_dev d left h.0)
 
 -- a data message in progress has as many fields as are defined
-pub as_defined : {A : Type 0} (all : List (ℕ × ℕ)) (t : Taking A) → IsTaking all t → length (all_items t) ≡ length all
+pub as_defined : {A : Type 0} (all : List (ℕ × ℕ)) (t : TakenFields A) → IsTaking all t → length (all_items t) ≡ length all
 as_defined {A} all t s =
     let listed : length all ≡ length t.done + suc (length t.to_come) = ap length s.layout ∙ length-append t.done (t.field ∷ t.to_come) in
     let front : length (taken t) ≡ length t.whole + 1 = length-append t.whole _ in

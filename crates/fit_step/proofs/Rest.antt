@@ -1,5 +1,6 @@
 -- The room inside a record: each byte takes one of it, and what the record still takes is there.
-use Rattle.std.proofs.Common.{◌≡◌, inl, inr, ℕ, zero, suc, ◌+◌, ◌-◌, ◌*◌, ◌<◌, ◌≤◌, Bool, true, false, List, [], ◌∷◌, ◌++◌, length, refl, sym, ap, ◌∙◌, subst, arith, Some, None, Ok, Err}
+use Rattle.std.proofs.Common.{◌≡◌, inl, inr, ℕ, zero, suc, ◌+◌, ◌-◌, ◌*◌, ◌<◌, ◌≤◌, Bool, true, false, List, [], ◌∷◌, ◌++◌, length, refl, sym, ap, ◌∙◌, subst}
+use Rattle.std.proofs.Common.{arith, Some, None, Ok, Err}
 use Rattle.std.specs.Prelude.{Option, drop, ◌==◌, nat_lt, option_map, unwrap_or}
 use Rattle.std.proofs.lemmas.Bool.{cond_both, eqb-true, eqb-false, ltb-false}
 use Rattle.std.proofs.lemmas.List.Sums.{sum_by-append, sum_by-cons}
@@ -11,22 +12,26 @@ use Rattle.fit_record.specs.declared.message.Values.{Values}
 use Rattle.fit_record.specs.declared.environment.Defined.{Defined}
 use Rattle.fit_record.specs.declared.message.Record.{Record}
 use Rattle.fit_step.specs.declared.phase.DefinitionPhase.{DefinitionPhase}
-use Rattle.fit_step.specs.declared.phase.DefinitionPhase.TheVariants.{Reserved, Architecture as AtArchitecture, GlobalFirst, GlobalSecond, FieldCount, FieldNumber, FieldSize, FieldCode, DevCount, DevNumber, DevSize, DevIndex}
+use Rattle.fit_step.specs.declared.phase.DefinitionPhase.TheVariants.{Reserved, Architecture as AtArchitecture, GlobalFirst, GlobalSecond, FieldCount}
+use Rattle.fit_step.specs.declared.phase.DefinitionPhase.TheVariants.{FieldNumber, FieldSize, FieldCode, DevCount, DevNumber, DevSize, DevIndex}
 use Rattle.fit_record.specs.Environment.{Environment, defined_at}
 use Rattle.fit_record.specs.HeaderByte.{is_definition, has_developer_fields, has_reserved_bit, local_type}
 use Rattle.fit_record.specs.Records.{layout, dev_layout}
 use Rattle.fit_step.specs.Reasons.{least_definition}
 use Rattle.fit_record.specs.Records.{message_size}
-use Rattle.fit_step.specs.Machine.{Tests, State, Step, Next, start, step, sizes, least_rest, begin_dev, begin_fields, layout_at, dev_layout_at, fields_rest, dev_rest, field_move, dev_move, definition_move, next_field, next_dev, after_fields, dev_count_byte, new_definition, new_message, new_dev, header_move, message_move, Walks, Ends}
-use Rattle.fit_step.specs.Parts.{Part, nothing, in_definition, in_fields, in_dev_fields, IsDefinitionPart, IsPart, state_of}
-use Rattle.fit_step.specs.Runs.{RoomsAreKept, EndsAreWithin}
+use Rattle.fit_step.specs.Machine.{Tests, State, Step, NextState, start, step, least_rest, begin_dev, begin_fields, layout_at, dev_layout_at, fields_rest}
+use Rattle.fit_step.specs.Machine.{dev_rest, field_move, dev_move, definition_move, next_field, next_dev, after_fields, dev_count_byte, new_definition}
+use Rattle.fit_step.specs.Machine.{new_message, new_dev, header_move, message_move, Walks, Ends}
+use Rattle.fit_record.specs.Records.{sizes}
+use Rattle.fit_step.specs.Parts.{RecordPart, nothing, in_definition, in_fields, in_dev_fields, IsDefinitionPart, IsPart, state_of}
+use Rattle.fit_step.specs.inner.Runs.{RoomsAreKept, EndsAreWithin}
 use Rattle.fit_step.proofs.Runs.{step_goes}
 
 -- what a step leaves of a room
-abbrev pub Keeps : {A : Type 0} → Environment A → ℕ → Step A → Type 0
-Keeps e room (Ok (t, None)) = (t.room + 1 ≡ room) × (least_rest e t ≤ t.room)
-Keeps e room (Ok (t, Some r)) = 0 < room
-Keeps e room (Err reason) = Unit {0}
+abbrev pub KeepsRoom : {A : Type 0} → Environment A → ℕ → Step A → Type 0
+KeepsRoom e room (Ok (t, None)) = (t.room + 1 ≡ room) × (least_rest e t ≤ t.room)
+KeepsRoom e room (Ok (t, Some r)) = 0 < room
+KeepsRoom e room (Err reason) = Unit {0}
 
 -- what is behind the first of the fields from a place on
 pub behind : {X : Type 0} (place : ℕ) (all rest : List X) (f : X) → drop place all ≡ f ∷ rest → drop (suc place) all ≡ rest
@@ -35,104 +40,112 @@ behind zero (x ∷ all) rest f h = cc
 behind (suc place) [] rest f h = absurd cc
 behind (suc place) (x ∷ all) rest f h = behind place all rest f h
 
-dev_keeps : {A : Type 0} (e : Environment A) (room left : ℕ) (v : Values A) (place : ℕ) (rest : List (ℕ × ℕ)) → drop place (dev_layout_at e v.local) ≡ rest → left + 1 ≡ room → sizes rest ≤ left → Keeps e room (Ok (begin_dev left v place rest))
+dev_keeps : {A : Type 0} (e : Environment A) (room left : ℕ) (v : Values A) (place : ℕ) (rest : List (ℕ × ℕ)) → drop place (dev_layout_at e v.local) ≡ rest
+    → left + 1 ≡ room → sizes rest ≤ left → KeepsRoom e room (Ok (begin_dev left v place rest))
 dev_keeps e room left v place [] at h less = omega arith
 dev_keeps e room left v place (f ∷ rest) at h less =
     let all : sizes (f ∷ rest) ≡ f.1 + sizes rest = sum_by-cons (λ (f : ℕ × ℕ). f.1) f rest in
     let next : drop (suc place) (dev_layout_at e v.local) ≡ rest = behind place (dev_layout_at e v.local) rest f at in
     let others : dev_rest e place v.local ≡ sizes rest = ap sizes next in
-    cond_both (f.1 == 0) _ _ (λ n. Keeps e room (Ok n))
+    cond_both (f.1 == 0) _ _ (λ n. KeepsRoom e room (Ok n))
     (λ z. dev_keeps e room left v (suc place) rest next h (omega (arith, all)))
     (λ z. (h, omega (arith, all, others)))
 
-fields_keep : {A : Type 0} (e : Environment A) (room left : ℕ) (v : Values A) (place : ℕ) (rest : List (ℕ × ℕ)) → drop place (layout_at e v.local) ≡ rest → left + 1 ≡ room → sizes rest + sizes (dev_layout_at e v.local) ≤ left
-    → Keeps e room (Ok (begin_fields left v place rest (dev_layout_at e v.local)))
+fields_keep : {A : Type 0} (e : Environment A) (room left : ℕ) (v : Values A) (place : ℕ) (rest : List (ℕ × ℕ)) → drop place (layout_at e v.local) ≡ rest
+    → left + 1 ≡ room → sizes rest + sizes (dev_layout_at e v.local) ≤ left
+    → KeepsRoom e room (Ok (begin_fields left v place rest (dev_layout_at e v.local)))
 fields_keep e room left v place [] at h less = dev_keeps e room left v 0 (dev_layout_at e v.local) refl h (omega arith)
 fields_keep e room left v place (f ∷ rest) at h less =
     let all : sizes (f ∷ rest) ≡ f.1 + sizes rest = sum_by-cons (λ (f : ℕ × ℕ). f.1) f rest in
     let next : drop (suc place) (layout_at e v.local) ≡ rest = behind place (layout_at e v.local) rest f at in
     let others : sizes (drop (suc place) (layout_at e v.local)) ≡ sizes rest = ap sizes next in
-    cond_both (f.1 == 0) _ _ (λ n. Keeps e room (Ok n))
+    cond_both (f.1 == 0) _ _ (λ n. KeepsRoom e room (Ok n))
     (λ z. fields_keep e room left v (suc place) rest next h (omega (arith, all)))
     (λ z. (h, omega (arith, all, others)))
 
 field_keeps : {A : Type 0} (e : Environment A) (place width left room : ℕ) (v : Values A) (partial : List ℕ) (b : ℕ)
-    → 0 < left → left + fields_rest e place v.local ≤ room → Keeps e room (field_move e place width left room v partial b)
+    → 0 < left → left + fields_rest e place v.local ≤ room → KeepsRoom e room (field_move e place width left room v partial b)
 unfolding field_move
 field_keeps e place width left room v partial b some less =
-    cond_both (left == 1) _ _ (λ n. Keeps e room n)
-    (λ h. let one = eqb-true left 1 h in fields_keep e room (room - 1) _ (suc place) (drop (suc place) (layout_at e v.local)) refl (omega arith) (omega (arith, one)))
+    cond_both (left == 1) _ _ (λ n. KeepsRoom e room n)
+    (λ h. let one = eqb-true left 1 h in fields_keep e room (room - 1) _ (suc place) (drop (suc place) (layout_at e v.local)) refl (omega arith)
+    (omega (arith, one)))
     (λ h. (omega arith, omega arith))
 
 dev_field_keeps : {A : Type 0} (e : Environment A) (place width left room : ℕ) (v : Values A) (partial : List ℕ) (b : ℕ)
-    → 0 < left → left + dev_rest e place v.local ≤ room → Keeps e room (dev_move e place width left room v partial b)
+    → 0 < left → left + dev_rest e place v.local ≤ room → KeepsRoom e room (dev_move e place width left room v partial b)
 unfolding dev_move
 dev_field_keeps e place width left room v partial b some less =
-    cond_both (left == 1) _ _ (λ n. Keeps e room n)
-    (λ h. let one = eqb-true left 1 h in dev_keeps e room (room - 1) _ (suc place) (drop (suc place) (dev_layout_at e v.local)) refl (omega arith) (omega (arith, one)))
+    cond_both (left == 1) _ _ (λ n. KeepsRoom e room n)
+    (λ h. let one = eqb-true left 1 h in dev_keeps e room (room - 1) _ (suc place) (drop (suc place) (dev_layout_at e v.local)) refl (omega arith)
+    (omega (arith, one)))
     (λ h. (omega arith, omega arith))
 
 -- ---- definitions
 
-after_keeps : {A : Type 0} (e : Environment A) (room left : ℕ) (d : MessageDef A) (dev : Option (List DevDef)) → left + 1 ≡ room → dev_count_byte dev ≤ left → Keeps e room (Ok (after_fields left d dev))
+after_keeps : {A : Type 0} (e : Environment A) (room left : ℕ) (d : MessageDef A) (dev : Option (List DevDef)) → left + 1 ≡ room → dev_count_byte dev ≤ left
+    → KeepsRoom e room (Ok (after_fields left d dev))
 after_keeps e room left d None h less = omega arith
 after_keeps e room left d (Some defs) h less = (h, less)
 
-next_keeps : {A : Type 0} (e : Environment A) (room left n : ℕ) (d : MessageDef A) → left + 1 ≡ room → 3 * n + dev_count_byte d.dev ≤ left → Keeps e room (Ok (next_field n left d))
+next_keeps : {A : Type 0} (e : Environment A) (room left n : ℕ) (d : MessageDef A) → left + 1 ≡ room → 3 * n + dev_count_byte d.dev ≤ left
+    → KeepsRoom e room (Ok (next_field n left d))
 next_keeps e room left n d h less =
-    cond_both (n == 0) _ _ (λ m. Keeps e room (Ok m))
+    cond_both (n == 0) _ _ (λ m. KeepsRoom e room (Ok m))
     (λ z. after_keeps e room left d d.dev h (omega arith))
     (λ z. let some : n ≡ 0 → ⊥ = eqb-false n 0 z in (h, omega arith))
 
-next_dev_keeps : {A : Type 0} (e : Environment A) (room left n : ℕ) (d : MessageDef A) → left + 1 ≡ room → 3 * n ≤ left → Keeps e room (Ok (next_dev n left d))
+next_dev_keeps : {A : Type 0} (e : Environment A) (room left n : ℕ) (d : MessageDef A) → left + 1 ≡ room → 3 * n ≤ left
+    → KeepsRoom e room (Ok (next_dev n left d))
 next_dev_keeps e room left n d h less =
-    cond_both (n == 0) _ _ (λ m. Keeps e room (Ok m))
+    cond_both (n == 0) _ _ (λ m. KeepsRoom e room (Ok m))
     (λ z. omega arith)
     (λ z. let some : n ≡ 0 → ⊥ = eqb-false n 0 z in (h, omega arith))
 
 definition_keeps : {A : Type 0} (e : Environment A) (tests : Tests A) (k : DefinitionPhase) (room : ℕ) (d : MessageDef A) (b : ℕ) → IsDefinitionPart k d
-    → Rattle.fit_step.specs.Machine.definition_rest k d ≤ room → Keeps e room (definition_move tests k room d b)
+    → Rattle.fit_step.specs.Machine.definition_rest k d ≤ room → KeepsRoom e room (definition_move tests k room d b)
 unfolding definition_move
 definition_keeps e tests Reserved room d b h less = (omega arith, omega arith)
 definition_keeps e tests AtArchitecture room d b h less =
-    cond_both (b == 0) _ _ (λ n. Keeps e room n) (λ z. (omega arith, omega arith))
-    (λ z. cond_both (b == 1) _ _ (λ n. Keeps e room n) (λ y. (omega arith, omega arith)) (λ y. tt))
+    cond_both (b == 0) _ _ (λ n. KeepsRoom e room n) (λ z. (omega arith, omega arith))
+    (λ z. cond_both (b == 1) _ _ (λ n. KeepsRoom e room n) (λ y. (omega arith, omega arith)) (λ y. tt))
 definition_keeps e tests GlobalFirst room d b h less = (omega arith, omega arith)
 definition_keeps e tests (GlobalSecond first) room d b h less = (omega arith, omega arith)
 definition_keeps e tests FieldCount room d b h less =
-    cond_both (nat_lt room (1 + 3 * b + dev_count_byte d.dev)) _ _ (λ n. Keeps e room n) (λ z. tt)
+    cond_both (nat_lt room (1 + 3 * b + dev_count_byte d.dev)) _ _ (λ n. KeepsRoom e room n) (λ z. tt)
     (λ z. let within = ltb-false room (1 + 3 * b + dev_count_byte d.dev) z in next_keeps e room (room - 1) b d (omega arith) (omega arith))
 definition_keeps e tests (FieldNumber left) room d b h less = (omega arith, omega arith)
 definition_keeps e tests (FieldSize left number) room d b h less =
-    cond_both (tests.field_size d (left - 1) (room - 1) b) _ _ (λ n. Keeps e room n) (λ z. (omega arith, omega arith)) (λ z. tt)
+    cond_both (tests.field_size d (left - 1) (room - 1) b) _ _ (λ n. KeepsRoom e room n) (λ z. (omega arith, omega arith)) (λ z. tt)
 definition_keeps e tests (FieldCode left number size) room d b h less =
     next_keeps e room (room - 1) (left - 1) _ (omega arith) (omega arith)
 definition_keeps e tests DevCount room d b h less =
-    cond_both (nat_lt room (1 + 3 * b)) _ _ (λ n. Keeps e room n) (λ z. tt)
-    (λ z. cond_both (tests.dev_count d (room - 1) b) _ _ (λ n. Keeps e room n)
+    cond_both (nat_lt room (1 + 3 * b)) _ _ (λ n. KeepsRoom e room n) (λ z. tt)
+    (λ z. cond_both (tests.dev_count d (room - 1) b) _ _ (λ n. KeepsRoom e room n)
     (λ y. let within = ltb-false room (1 + 3 * b) z in next_dev_keeps e room (room - 1) b d (omega arith) (omega arith))
     (λ y. tt))
 definition_keeps e tests (DevNumber left) room d b h less = (omega arith, omega arith)
 definition_keeps e tests (DevSize left number) room d b h less =
-    cond_both (tests.dev_size d (left - 1) (room - 1) b) _ _ (λ n. Keeps e room n) (λ z. (omega arith, omega arith)) (λ z. tt)
+    cond_both (tests.dev_size d (left - 1) (room - 1) b) _ _ (λ n. KeepsRoom e room n) (λ z. (omega arith, omega arith)) (λ z. tt)
 definition_keeps e tests (DevIndex left number size) room d b h less =
     next_dev_keeps e room (room - 1) (left - 1) _ (omega arith) (omega arith)
 
 -- ---- record headers
 
-message_keeps : {A : Type 0} (e : Environment A) (tests : Tests A) (room b : ℕ) (o : Option (Defined A)) → defined_at e (local_type b) ≡ o → Keeps e room (message_move tests room b o)
+message_keeps : {A : Type 0} (e : Environment A) (tests : Tests A) (room b : ℕ) (o : Option (Defined A)) → defined_at e (local_type b) ≡ o
+    → KeepsRoom e room (message_move tests room b o)
 unfolding message_move
 message_keeps e tests room b None known = tt
 message_keeps {A} e tests room b (Some p) known =
-    cond_both (nat_lt room (1 + message_size p)) _ _ (λ n. Keeps e room n) (λ z. tt)
-    (λ z. cond_both (tests.message (room - (1 + message_size p))) _ _ (λ n. Keeps e room n)
+    cond_both (nat_lt room (1 + message_size p)) _ _ (λ n. KeepsRoom e room n) (λ z. tt)
+    (λ z. cond_both (tests.message (room - (1 + message_size p))) _ _ (λ n. KeepsRoom e room n)
     (λ y.
     let within = ltb-false room (1 + message_size p) z in
     let all : message_size p ≡ sizes (layout p) + sizes (dev_layout p) = sum_by-append (λ (f : ℕ × ℕ). f.1) (layout p) (dev_layout p) in
     let fields : layout_at e (local_type b) ≡ layout p = ap (λ q. unwrap_or (option_map layout q) []) known in
     let dev : dev_layout_at e (local_type b) ≡ dev_layout p = ap (λ q. unwrap_or (option_map dev_layout q) []) known in
     let enough : sizes (layout p) + sizes (dev_layout_at e (local_type b)) ≤ room - 1 = omega (arith, all, within, ap sizes dev) in
-    subst (λ d. Keeps e room (Ok (begin_fields (room - 1) (new_message b (layout p) (dev_layout p)) 0 (layout p) d))) dev
+    subst (λ d. KeepsRoom e room (Ok (begin_fields (room - 1) (new_message b (layout p) (dev_layout p)) 0 (layout p) d))) dev
     (fields_keep e room (room - 1) (new_message b (layout p) (dev_layout p)) 0 (layout p) fields (omega arith) enough))
     (λ y. tt))
 
@@ -140,31 +153,35 @@ counts_one : (c : Bool) → 5 + dev_count_byte (new_dev c) + 1 ≡ Rattle.std.pr
 counts_one true = refl
 counts_one false = refl
 
-header_keeps : {A : Type 0} (e : Environment A) (tests : Tests A) (room b : ℕ) → Keeps e room (header_move e tests room b)
+header_keeps : {A : Type 0} (e : Environment A) (tests : Tests A) (room b : ℕ) → KeepsRoom e room (header_move e tests room b)
 unfolding header_move
 header_keeps {A} e tests room b =
-    cond_both (has_reserved_bit b) _ _ (λ n. Keeps e room n) (λ z. tt)
-    (λ z. cond_both (is_definition b) _ _ (λ n. Keeps e room n)
-    (λ y. cond_both (nat_lt room (least_definition b)) _ _ (λ n. Keeps e room n) (λ x. tt)
-    (λ x. let within = ltb-false room (least_definition b) x in let least = counts_one (has_developer_fields b) in (omega (arith, within, least), omega (arith, within, least))))
+    cond_both (has_reserved_bit b) _ _ (λ n. KeepsRoom e room n) (λ z. tt)
+    (λ z. cond_both (is_definition b) _ _ (λ n. KeepsRoom e room n)
+    (λ y. cond_both (nat_lt room (least_definition b)) _ _ (λ n. KeepsRoom e room n) (λ x. tt)
+    (λ x. let within = ltb-false room (least_definition b) x in let least = counts_one (has_developer_fields b) in
+    (omega (arith, within, least), omega (arith, within, least))))
     (λ y. message_keeps e tests room b (defined_at e (local_type b)) refl))
 
-pub keeps : {A : Type 0} (e : Environment A) (tests : Tests A) (room : ℕ) (f : Part A) (b : ℕ) → IsPart e f → least_rest e (state_of room f) ≤ room → Keeps e room (step e tests (state_of room f) b)
+pub keeps : {A : Type 0} (e : Environment A) (tests : Tests A) (room : ℕ) (f : RecordPart A) (b : ℕ) → IsPart e f → least_rest e (state_of room f) ≤ room
+    → KeepsRoom e room (step e tests (state_of room f) b)
 unfolding step
 keeps e tests room nothing b h less = header_keeps e tests room b
 keeps e tests room (in_definition k d) b h less = definition_keeps e tests k room d b h less
 keeps e tests room (in_fields local offset t dev) b (p, known, header, s, same) less = field_keeps e (length t.done) _ t.left room _ t.partial b s.some less
-keeps e tests room (in_dev_fields local offset items t) b (p, known, header, shapes, s) less = dev_field_keeps e (length t.done) _ t.left room _ t.partial b s.some less
+keeps e tests room (in_dev_fields local offset items t) b (p, known, header, shapes, s) less =
+    dev_field_keeps e (length t.done) _ t.left room _ t.partial b s.some less
 
 -- ---- runs
 
-pub room_of : {A : Type 0} (room : ℕ) (f : Part A) → (state_of room f).room ≡ room
+pub room_of : {A : Type 0} (room : ℕ) (f : RecordPart A) → (state_of room f).room ≡ room
 room_of room nothing = refl
 room_of room (in_definition k d) = refl
 room_of room (in_fields local offset t dev) = refl
 room_of room (in_dev_fields local offset items t) = refl
 
-kept_walk : {A : Type 0} (e : Environment A) (tests : Tests A) (bytes : List ℕ) (room : ℕ) (f : Part A) (t : State A) → IsPart e f → IsBytes bytes → least_rest e (state_of room f) ≤ room → Walks e tests (state_of room f) bytes t
+kept_walk : {A : Type 0} (e : Environment A) (tests : Tests A) (bytes : List ℕ) (room : ℕ) (f : RecordPart A) (t : State A) → IsPart e f → IsBytes bytes
+    → least_rest e (state_of room f) ≤ room → Walks e tests (state_of room f) bytes t
     → (t.room + length bytes ≡ room) × (least_rest e t ≤ t.room)
 kept_walk {A} e tests [] room f t h low less walk =
     let here : (state_of room f).room ≡ t.room = ap (λ (s : State A). s.room) walk in
@@ -172,7 +189,7 @@ kept_walk {A} e tests [] room f t h low less walk =
     (omega (arith, same), subst (λ (s : State A). least_rest e s ≤ t.room) walk (subst (λ n. least_rest e (state_of room f) ≤ n) (sym same) less))
 kept_walk {A} e tests (b ∷ bytes) room f t h low less (u, made, walk) =
     let g = step_goes e tests room f b u h (low zero) made in
-    let k : (u.room + 1 ≡ room) × (least_rest e u ≤ u.room) = subst (λ n. Keeps e room n) made (keeps e tests room f b h less) in
+    let k : (u.room + 1 ≡ room) × (least_rest e u ≤ u.room) = subst (λ n. KeepsRoom e room n) made (keeps e tests room f b h less) in
     let same : u.room ≡ room - 1 = omega (arith, k.0) in
     let l = kept_walk e tests bytes (room - 1) g.0 t g.1 (IsBytes-tail b bytes low)
     (subst (λ (s : State A). least_rest e s ≤ room - 1) g.3 (subst (λ n. least_rest e u ≤ n) same k.1)) (subst (λ s. Walks e tests s bytes t) g.3 walk) in
@@ -181,16 +198,18 @@ kept_walk {A} e tests (b ∷ bytes) room f t h low less (u, made, walk) =
 pub rooms_are_kept : {A : Type 0} → RoomsAreKept A
 rooms_are_kept e tests room bytes t walk low = kept_walk e tests bytes room nothing t tt low (omega arith) walk
 
-within : {A : Type 0} (e : Environment A) (tests : Tests A) (bytes : List ℕ) (room : ℕ) (f : Part A) (t : State A) (r : Record A) → IsPart e f → IsBytes bytes → least_rest e (state_of room f) ≤ room → Ends e tests (state_of room f) bytes t r
+within : {A : Type 0} (e : Environment A) (tests : Tests A) (bytes : List ℕ) (room : ℕ) (f : RecordPart A) (t : State A) (r : Record A) → IsPart e f
+    → IsBytes bytes
+    → least_rest e (state_of room f) ≤ room → Ends e tests (state_of room f) bytes t r
     → length bytes ≤ room
 within e tests [] room f t r h low less ends = absurd ends
 within e tests (b ∷ bytes) room f t r h low less (inl last) =
-    let k : 0 < room = subst (λ n. Keeps e room n) last.1 (keeps e tests room f b h less) in
+    let k : 0 < room = subst (λ n. KeepsRoom e room n) last.1 (keeps e tests room f b h less) in
     let one : length (b ∷ bytes) ≡ 1 = ap (λ z. length (b ∷ z)) last.0 in
     omega (arith, one, k)
 within {A} e tests (b ∷ bytes) room f t r h low less (inr (u, made, ends)) =
     let g = step_goes e tests room f b u h (low zero) made in
-    let k : (u.room + 1 ≡ room) × (least_rest e u ≤ u.room) = subst (λ n. Keeps e room n) made (keeps e tests room f b h less) in
+    let k : (u.room + 1 ≡ room) × (least_rest e u ≤ u.room) = subst (λ n. KeepsRoom e room n) made (keeps e tests room f b h less) in
     let same : u.room ≡ room - 1 = omega (arith, k.0) in
     let l = within e tests bytes (room - 1) g.0 t r g.1 (IsBytes-tail b bytes low)
     (subst (λ (s : State A). least_rest e s ≤ room - 1) g.3 (subst (λ n. least_rest e u ≤ n) same k.1)) (subst (λ s. Ends e tests s bytes t r) g.3 ends) in

@@ -1,5 +1,6 @@
 -- From the machine to the form, and from the form to the machine.
-use Rattle.std.proofs.Common.{◌≡◌, inl, inr, ℕ, zero, suc, ◌-◌, ◌<◌, ◌≤◌, List, [], ◌∷◌, ◌++◌, length, replicate, refl, sym, ap, ◌∙◌, subst, arith, append_assoc, Some, None, Ok, Err}
+use Rattle.std.proofs.Common.{◌≡◌, inl, inr, ℕ, zero, suc, ◌-◌, ◌<◌, ◌≤◌, List, [], ◌∷◌, ◌++◌, length, replicate, refl, sym, ap, ◌∙◌, subst, arith}
+use Rattle.std.proofs.Common.{append_assoc, Some, None, Ok, Err}
 use Rattle.std.proofs.lemmas.List.{append-nil}
 use Rattle.fit_base.specs.Numbers.{IsBytes}
 use Rattle.fit_base.proofs.ByteLists.{IsBytes-tail}
@@ -9,9 +10,9 @@ use Rattle.fit_record.specs.declared.message.Record.{Record}
 use Rattle.fit_record.specs.Environment.{Environment}
 use Rattle.fit_record.specs.Records.{Fits, record_bytes}
 use Rattle.fit_step.specs.Reasons.{record_reason}
-use Rattle.fit_step.specs.Machine.{Tests, State, Next, start, step, Walks, Ends, RoomsFill}
-use Rattle.fit_step.specs.Parts.{Part, nothing, in_definition, in_fields, in_dev_fields, part_bytes, IsPart, HasBegun, state_of, IsShut}
-use Rattle.fit_step.specs.Runs.{RecordsRunThrough, EndsAreRecords, WalksAreCuts, RefusalsArePlaced}
+use Rattle.fit_step.specs.Machine.{Tests, State, NextState, start, step, Walks, Ends, RoomsFill}
+use Rattle.fit_step.specs.Parts.{RecordPart, nothing, in_definition, in_fields, in_dev_fields, part_bytes, IsPart, HasBegun, state_of, IsShut}
+use Rattle.fit_step.specs.inner.Runs.{RecordsRunThrough, EndsAreRecords, WalksAreCuts, RefusalsArePlaced}
 use Rattle.fit_record.proofs.OneRecord.{same_record, no_bytes}
 use Rattle.fit_step.proofs.GoOn.{cuts_go_on}
 use Rattle.fit_step.proofs.OneByte.{outcome}
@@ -25,34 +26,40 @@ pub one_more : (xs : List ℕ) (b : ℕ) (ys : List ℕ) → (xs ++ b ∷ []) ++
 one_more xs b ys = append_assoc xs (b ∷ []) ys
 
 -- what a step to a state was
-pub step_goes : {A : Type 0} (e : Environment A) (tests : Tests A) (room : ℕ) (f : Part A) (b : ℕ) (u : State A) → IsPart e f → b < 256 → step e tests (state_of room f) b ≡ Ok (u, None)
-    → (next : Part A) × IsPart e next × (part_bytes e next ≡ part_bytes e f ++ b ∷ []) × (u ≡ state_of (room - 1) next)
+pub step_goes : {A : Type 0} (e : Environment A) (tests : Tests A) (room : ℕ) (f : RecordPart A) (b : ℕ) (u : State A) → IsPart e f → b < 256
+    → step e tests (state_of room f) b ≡ Ok (u, None)
+    → (next : RecordPart A) × IsPart e next × (part_bytes e next ≡ part_bytes e f ++ b ∷ []) × (u ≡ state_of (room - 1) next)
 step_goes {A} e tests room f b u h low made =
     elim (outcome e tests room f b h low) [
       | inr stops ↦ absurd (cc (made, stops.is))
       | inl moves ↦ elim moves [
-        | inr c ↦ absurd (let same : (u, None) ≡ (start (room - 1), Some c.whole) = cc (made, c.is) in let none : None ≡ Some c.whole = ap (λ (n : Next A). n.1) same in cc)
-        | inl g ↦ let same : (u, None) ≡ (state_of (room - 1) g.next, None) = cc (made, g.is) in (g.next, g.stands, g.spelled, ap (λ (n : Next A). n.0) same)
+        | inr c ↦ absurd (let same : (u, None) ≡ (start (room - 1), Some c.whole) = cc (made, c.is) in let none : None ≡ Some c.whole =
+            ap (λ (n : NextState A). n.1) same in cc)
+        | inl g ↦ let same : (u, None) ≡ (state_of (room - 1) g.next, None) = cc (made, g.is) in
+            (g.next, g.stands, g.spelled, ap (λ (n : NextState A). n.0) same)
       ]
     ]
 
-pub step_ends : {A : Type 0} (e : Environment A) (tests : Tests A) (room : ℕ) (f : Part A) (b : ℕ) (u : State A) (r : Record A) → IsPart e f → b < 256 → step e tests (state_of room f) b ≡ Ok (u, Some r)
+pub step_ends : {A : Type 0} (e : Environment A) (tests : Tests A) (room : ℕ) (f : RecordPart A) (b : ℕ) (u : State A) (r : Record A) → IsPart e f → b < 256
+    → step e tests (state_of room f) b ≡ Ok (u, Some r)
     → Fits e r × (record_bytes e r ≡ part_bytes e f ++ b ∷ []) × (u ≡ start (room - 1))
 step_ends {A} e tests room f b u r h low made =
     elim (outcome e tests room f b h low) [
       | inr stops ↦ absurd (cc (made, stops.is))
       | inl moves ↦ elim moves [
-        | inl g ↦ absurd (let same : (u, Some r) ≡ (state_of (room - 1) g.next, None) = cc (made, g.is) in let none : Some r ≡ None = ap (λ (n : Next A). n.1) same in cc)
+        | inl g ↦ absurd (let same : (u, Some r) ≡ (state_of (room - 1) g.next, None) = cc (made, g.is) in let none : Some r ≡ None =
+            ap (λ (n : NextState A). n.1) same in cc)
         | inr c ↦
             let same : (u, Some r) ≡ (start (room - 1), Some c.whole) = cc (made, c.is) in
-            let wrapped : Some r ≡ Some c.whole = ap (λ (n : Next A). n.1) same in
+            let wrapped : Some r ≡ Some c.whole = ap (λ (n : NextState A). n.1) same in
             let whole : r ≡ c.whole = cc in
-            (subst (Fits e) (sym whole) c.fits, ap (record_bytes e) whole ∙ c.spelled, ap (λ (n : Next A). n.0) same)
+            (subst (Fits e) (sym whole) c.fits, ap (record_bytes e) whole ∙ c.spelled, ap (λ (n : NextState A). n.0) same)
       ]
     ]
 
-pub walk_from : {A : Type 0} (e : Environment A) (tests : Tests A) (bytes : List ℕ) (room : ℕ) (f : Part A) (t : State A) → IsPart e f → IsBytes bytes → Walks e tests (state_of room f) bytes t
-    → (next : Part A) × IsPart e next × (part_bytes e next ≡ part_bytes e f ++ bytes) × (t ≡ state_of (room - length bytes) next)
+pub walk_from : {A : Type 0} (e : Environment A) (tests : Tests A) (bytes : List ℕ) (room : ℕ) (f : RecordPart A) (t : State A) → IsPart e f → IsBytes bytes
+    → Walks e tests (state_of room f) bytes t
+    → (next : RecordPart A) × IsPart e next × (part_bytes e next ≡ part_bytes e f ++ bytes) × (t ≡ state_of (room - length bytes) next)
 walk_from e tests [] room f t h low walk = (f, h, sym (append-nil (part_bytes e f)), sym walk ∙ ap (λ n. state_of n f) (omega arith))
 walk_from e tests (b ∷ bytes) room f t h low (u, made, walk) =
     let g = step_goes e tests room f b u h (low zero) made in
@@ -64,7 +71,8 @@ walks_are_cuts e tests room bytes t walk low =
     let k = walk_from e tests bytes room nothing t tt low walk in
     record { part = k.0; stands = k.1; spelled = k.2; is = k.3 }
 
-pub end_from : {A : Type 0} (e : Environment A) (tests : Tests A) (bytes : List ℕ) (room : ℕ) (f : Part A) (t : State A) (r : Record A) → IsPart e f → IsBytes bytes → Ends e tests (state_of room f) bytes t r
+pub end_from : {A : Type 0} (e : Environment A) (tests : Tests A) (bytes : List ℕ) (room : ℕ) (f : RecordPart A) (t : State A) (r : Record A) → IsPart e f
+    → IsBytes bytes → Ends e tests (state_of room f) bytes t r
     → Fits e r × (record_bytes e r ≡ part_bytes e f ++ bytes) × (t ≡ start (room - length bytes))
 end_from e tests [] room f t r h low ends = absurd ends
 end_from e tests (b ∷ bytes) room f t r h low (inl last) =
@@ -93,13 +101,14 @@ refusals_are_placed e tests room bytes t b reason walk low below made =
       | inr stops ↦
           let same : stops.reason ≡ reason = cc (refused, stops.is) in (
             subst (λ z. record_reason e z (room - length bytes) b ≡ Some reason) k.spelled (stops.because ∙ ap Some same),
-            subst (λ z. IsShut e (room - length bytes) z b reason) k.spelled (subst (λ z. IsShut e (room - length bytes) (part_bytes e k.part) b z) same stops.shut),
+            subst (λ z. IsShut e (room - length bytes) z b reason) k.spelled
+                (subst (λ z. IsShut e (room - length bytes) (part_bytes e k.part) b z) same stops.shut),
           )
     ]
 
 -- ---- from the form to the machine
 
-whole_is_whole : {A : Type 0} (e : Environment A) (f : Part A) (r : Record A) → IsPart e f → HasBegun f → Fits e r → record_bytes e r ≡ part_bytes e f → ⊥
+whole_is_whole : {A : Type 0} (e : Environment A) (f : RecordPart A) (r : Record A) → IsPart e f → HasBegun f → Fits e r → record_bytes e r ≡ part_bytes e f → ⊥
 whole_is_whole e f r h begun fits is =
     let k = cuts_go_on e f h begun in
     let one = same_record e r k.0 (0 ∷ replicate k.1 0) [] fits k.2.0
@@ -108,7 +117,7 @@ whole_is_whole e f r h begun fits is =
     cc
 
 -- the bytes of a record are no part of one
-not_a_part : {A : Type 0} (e : Environment A) (f : Part A) (r : Record A) → IsPart e f → Fits e r → record_bytes e r ≡ part_bytes e f → ⊥
+not_a_part : {A : Type 0} (e : Environment A) (f : RecordPart A) (r : Record A) → IsPart e f → Fits e r → record_bytes e r ≡ part_bytes e f → ⊥
 not_a_part e nothing r h fits is = no_bytes e r [] (ap length (append-nil (record_bytes e r) ∙ is))
 not_a_part e (in_definition k d) r h fits is = whole_is_whole e (in_definition k d) r h tt fits is
 not_a_part e (in_fields local offset t dev) r h fits is = whole_is_whole e (in_fields local offset t dev) r h tt fits is
@@ -121,7 +130,9 @@ shut_out e room bytes b NoFit r rest shut fits is less other = other refl
 shut_out e room bytes b Overrun r rest shut fits is less other = omega (arith, shut r rest fits is, less)
 shut_out e room bytes b reason r rest shut fits is less other = shut r rest fits is
 
-through : {A : Type 0} (e : Environment A) (tests : Tests A) (r : Record A) (bytes : List ℕ) (room : ℕ) (f : Part A) → IsPart e f → IsBytes bytes → Fits e r → record_bytes e r ≡ part_bytes e f ++ bytes
+through : {A : Type 0} (e : Environment A) (tests : Tests A) (r : Record A) (bytes : List ℕ) (room : ℕ) (f : RecordPart A) → IsPart e f → IsBytes bytes
+    → Fits e r
+    → record_bytes e r ≡ part_bytes e f ++ bytes
     → length bytes ≤ room → RoomsFill e tests (state_of room f) bytes → Ends e tests (state_of room f) bytes (start (room - length bytes)) r
 through e tests r [] room f h low fits is within fill = absurd (not_a_part e f r h fits (is ∙ append-nil (part_bytes e f)))
 through {A} e tests r (b ∷ bytes) room f h low fits is within fill =
@@ -146,17 +157,20 @@ records_run_through e tests room r bytes h low within fill = through e tests r b
 
 -- ---- one run behind another
 
-pub walks_are_one : {A : Type 0} (e : Environment A) (tests : Tests A) (s : State A) (bytes : List ℕ) (t u : State A) → Walks e tests s bytes t → Walks e tests s bytes u → t ≡ u
+pub walks_are_one : {A : Type 0} (e : Environment A) (tests : Tests A) (s : State A) (bytes : List ℕ) (t u : State A) → Walks e tests s bytes t
+    → Walks e tests s bytes u → t ≡ u
 walks_are_one e tests s [] t u p q = sym p ∙ q
 walks_are_one {A} e tests s (b ∷ bytes) t u p q =
     let both : (p.0, None) ≡ (q.0, None) = cc (p.1, q.1) in
-    let same : p.0 ≡ q.0 = ap (λ (n : Next A). n.0) both in
+    let same : p.0 ≡ q.0 = ap (λ (n : NextState A). n.0) both in
     walks_are_one e tests q.0 bytes t u (subst (λ z. Walks e tests z bytes t) same p.2) q.2
 
-pub walks_join : {A : Type 0} (e : Environment A) (tests : Tests A) (s : State A) (a b : List ℕ) (t u : State A) → Walks e tests s a t → Walks e tests t b u → Walks e tests s (a ++ b) u
+pub walks_join : {A : Type 0} (e : Environment A) (tests : Tests A) (s : State A) (a b : List ℕ) (t u : State A) → Walks e tests s a t → Walks e tests t b u
+    → Walks e tests s (a ++ b) u
 walks_join e tests s [] b t u p q = subst (λ z. Walks e tests z b u) (sym p) q
 walks_join e tests s (x ∷ a) b t u p q = (p.0, p.1, walks_join e tests p.0 a b t u p.2 q)
 
-pub walk_ends : {A : Type 0} (e : Environment A) (tests : Tests A) (s : State A) (a b : List ℕ) (t u : State A) (r : Record A) → Walks e tests s a t → Ends e tests t b u r → Ends e tests s (a ++ b) u r
+pub walk_ends : {A : Type 0} (e : Environment A) (tests : Tests A) (s : State A) (a b : List ℕ) (t u : State A) (r : Record A) → Walks e tests s a t
+    → Ends e tests t b u r → Ends e tests s (a ++ b) u r
 walk_ends e tests s [] b t u r p q = subst (λ z. Ends e tests z b u r) (sym p) q
 walk_ends e tests s (x ∷ a) b t u r p q = inr (p.0, p.1, walk_ends e tests p.0 a b t u r p.2 q)

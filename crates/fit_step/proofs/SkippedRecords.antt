@@ -1,5 +1,6 @@
 -- What is skipped are records.
-use Rattle.std.proofs.Common.{◌≡◌, cond, ℕ, zero, suc, ◌+◌, ◌<◌, ◌≤◌, ◌==◌, ◌%◌, ◌/◌, inl, inr, Bool, true, false, List, [], ◌∷◌, ◌++◌, length, take, drop, slice_index, refl, sym, ap, ◌∙◌, subst, arith, length-append, Some, None}
+use Rattle.std.proofs.Common.{◌≡◌, cond, ℕ, zero, suc, ◌+◌, ◌<◌, ◌≤◌, ◌==◌, ◌%◌, ◌/◌, inl, inr, Bool, true, false, List, [], ◌∷◌, ◌++◌, length, take, drop}
+use Rattle.std.proofs.Common.{slice_index, refl, sym, ap, ◌∙◌, subst, arith, length-append, Some, None}
 use Rattle.std.specs.Prelude.{Option, slice_set, IsSomeAnd, option_map, option_and_then, unwrap_or}
 use Rattle.std.specs.Option.{option_map_or}
 use Rattle.std.proofs.Math.Seq.{take-add}
@@ -15,7 +16,7 @@ use Rattle.fit_record.specs.declared.message.Record.TheVariants.{Define, Values 
 use Rattle.fit_record.specs.declared.message.Values.{Values}
 use Rattle.fit_record.specs.Environment.{Environment, defined_at, defined_by, describe, description, learn}
 use Rattle.fit_record.specs.HeaderByte.{bit, has_reserved_bit, is_compressed, is_definition, local_type}
-use Rattle.fit_record.specs.ReadMessages.{message_of}
+use Rattle.fit_record.specs.inner.ReadMessages.{values_from}
 use Rattle.fit_record.specs.Records.{message_size, data_header, data_bytes, DataFits, order_at, AllFit, record_bytes, records_bytes}
 use Rattle.fit_record.proofs.MessageBytes.{message_fits}
 use Rattle.fit_record.proofs.RecordLists.{all_fit-append, records_bytes-append, learn_all-append}
@@ -27,31 +28,37 @@ use Rattle.fit_step.proofs.HeaderBits.{data_spelled}
 off : {X : Type 0} (c : Bool) (x : Option X) → c ≡ false → cond c x None ≡ None
 off {X} c x is = ap (λ (d : Bool). cond d x None) is
 
-module _ {A : Type 0} (e : Environment A) (b : ℕ) (rest : List ℕ) (are : IsBytes (b ∷ rest)) (clean : has_reserved_bit b ≡ false) (kind : is_definition b ≡ false) where
-  one_of : (p : Defined A) → defined_at e (local_type b) ≡ Some p → (p.definition.global == 206) ≡ false → (size : ℕ) → size ≡ 1 + message_size p → size ≤ length (b ∷ rest) → IsSkipped e e (take size (b ∷ rest))
+module _ {A : Type 0} (e : Environment A) (b : ℕ) (rest : List ℕ) (are : IsBytes (b ∷ rest)) (clean : has_reserved_bit b ≡ false)
+    (kind : is_definition b ≡ false) where
+  one_of : (p : Defined A) → defined_at e (local_type b) ≡ Some p → (p.definition.global == 206) ≡ false → (size : ℕ) → size ≡ 1 + message_size p
+      → size ≤ length (b ∷ rest) → IsSkipped e e (take size (b ∷ rest))
   one_of p known plain size long within =
       let n = message_size p in
       let body : List ℕ = take n rest in
       let offset = cond (is_compressed b) (Some (b % 32)) None in
       let header = data_spelled b (are zero) clean kind in
       let size_of_body : length body ≡ n = length-take-le n rest (omega (arith, long, within)) in
-      let message : Values A = message_of (local_type b) offset p.definition.order p body in
+      let message : Values A = values_from (local_type b) offset p.definition.order p body in
       let fits = message_fits (local_type b) offset p.definition.order p body header.0 (IsBytes-take n rest (IsBytes-tail b rest are)) size_of_body in
       let order : order_at e (local_type b) ≡ p.definition.order = ap (λ o. unwrap_or (option_map (λ (q : Defined A). q.definition.order) o) Little) known in
       let all : b ∷ body ≡ take size (b ∷ rest) = ap (λ k. take k (b ∷ rest)) (let next : suc n ≡ size = omega (arith, long) in next) in
-      let spelled : b ∷ body ≡ record_bytes e (Data message) = (λ i. sym header.1 i ∷ sym fits.1 i) ∙ ap (λ o. data_header (local_type b) offset ∷ data_bytes o message) (sym order) in
+      let spelled : b ∷ body ≡ record_bytes e (Data message) =
+      (λ i. sym header.1 i ∷ sym fits.1 i) ∙ ap (λ o. data_header (local_type b) offset ∷ data_bytes o message) (sym order) in
       let silent : description p.definition message ≡ None = off (p.definition.global == 206) _ plain in
-      let nothing : option_and_then (λ q. description q.definition message) (defined_at e (local_type b)) ≡ None = ap (λ o. option_and_then (λ (q : Defined A). description q.definition message) o) known ∙ silent in
+      let nothing : option_and_then (λ q. description q.definition message) (defined_at e (local_type b)) ≡ None =
+      ap (λ o. option_and_then (λ (q : Defined A). description q.definition message) o) known ∙ silent in
       (Data message, (subst (λ o. IsSomeAnd o (DataFits message)) (sym known) fits.0, sym all ∙ spelled), ap (describe e) nothing)
 
   pub one_skipped : (size : ℕ) → 0 < size → size ≡ size_to_skip e (local_type b) → size ≤ length (b ∷ rest) → IsSkipped e e (take size (b ∷ rest))
   one_skipped size some is within = go (defined_at e (local_type b)) refl is
     where
-      at : (p : Defined A) → defined_at e (local_type b) ≡ Some p → (c : Bool) → (p.definition.global == 206) ≡ c → size ≡ cond c 0 (1 + message_size p) → IsSkipped e e (take size (b ∷ rest))
+      at : (p : Defined A) → defined_at e (local_type b) ≡ Some p → (c : Bool) → (p.definition.global == 206) ≡ c → size ≡ cond c 0 (1 + message_size p)
+          → IsSkipped e e (take size (b ∷ rest))
       at p known true describes long = absurd (omega (arith, some, long))
       at p known false plain long = one_of p known plain size long within
 
-      go : (o : Option (Defined A)) → defined_at e (local_type b) ≡ o → size ≡ option_map_or (λ p. cond (p.definition.global == 206) 0 (1 + message_size p)) o 0 → IsSkipped e e (take size (b ∷ rest))
+      go : (o : Option (Defined A)) → defined_at e (local_type b) ≡ o → size ≡ option_map_or (λ p. cond (p.definition.global == 206) 0 (1 + message_size p)) o 0
+          → IsSkipped e e (take size (b ∷ rest))
       go None known none = absurd (omega (arith, some, none))
       go (Some p) known long = at p known (p.definition.global == 206) refl long
 
@@ -60,12 +67,14 @@ module _ {A : Type 0} (e : Environment A) (b : ℕ) (rest : List ℕ) (are : IsB
 pub none_skipped : {A : Type 0} (e : Environment A) (bytes : List ℕ) → AreSkipped e e (take 0 bytes) 0
 none_skipped e bytes = ([], (tt, refl), refl, refl)
 
-pub one_more : {A : Type 0} (e f after : Environment A) (bytes : List ℕ) (used size count : ℕ) → used + size ≤ length bytes → AreSkipped e f (take used bytes) count → IsSkipped f after (take size (drop used bytes))
+pub one_more : {A : Type 0} (e f after : Environment A) (bytes : List ℕ) (used size count : ℕ) → used + size ≤ length bytes
+    → AreSkipped e f (take used bytes) count → IsSkipped f after (take size (drop used bytes))
     → AreSkipped e after (take (used + size) bytes) (count + 1)
 one_more e f after bytes used size count within (rs, are, same, long) (r, is, learnt) =
     let fits = subst (λ k. AllFit k (r ∷ [])) (sym same) (is.0, tt) in
     let spelled : records_bytes e (rs ++ r ∷ []) ≡ take used bytes ++ take size (drop used bytes) =
-    records_bytes-append e rs (r ∷ []) ∙ (λ i. sym are.1 i ++ records_bytes (same i) (r ∷ [])) ∙ ap (λ l. take used bytes ++ l) (append-nil (record_bytes f r) ∙ sym is.1) in (
+    records_bytes-append e rs (r ∷ []) ∙ (λ i. sym are.1 i ++ records_bytes (same i) (r ∷ []))
+    ∙ ap (λ l. take used bytes ++ l) (append-nil (record_bytes f r) ∙ sym is.1) in (
       rs ++ r ∷ [],
       (all_fit-append e rs (r ∷ []) are.0 fits, sym (spelled ∙ sym (take-add used size bytes))),
       learn_all-append e rs (r ∷ []) ∙ ap (λ k. learn k r) same ∙ learnt,
@@ -78,12 +87,15 @@ low_local : (c : Bool) (b : ℕ) → cond c (b / 32 % 4) (b % 16) < 16
 low_local true b = omega arith
 low_local false b = omega arith
 
-pub message_skipped : {A : Type 0} (e : Environment A) (sizes bytes : List ℕ) (size : ℕ) → IsBytes bytes → AreSizesToSkip e sizes → 0 < size → size ≤ length bytes → HeadsMessage sizes bytes size → IsSkipped e e (take size bytes)
+pub message_skipped : {A : Type 0} (e : Environment A) (sizes bytes : List ℕ) (size : ℕ) → IsBytes bytes → AreSizesToSkip e sizes → 0 < size
+    → size ≤ length bytes → HeadsMessage sizes bytes size → IsSkipped e e (take size bytes)
 message_skipped e sizes bytes size are told some fits (b, rest, begins, clean, kind, is) =
     let all : IsBytes (b ∷ rest) = subst IsBytes begins are in
-    subst (λ l. IsSkipped e e (take size l)) (sym begins) (one_skipped e b rest all clean kind size some (is ∙ told (local_type b) (low_local (bit 7 b) b)) (omega (arith, fits, ap length begins)))
+    subst (λ l. IsSkipped e e (take size l)) (sym begins)
+    (one_skipped e b rest all clean kind size some (is ∙ told (local_type b) (low_local (bit 7 b) b)) (omega (arith, fits, ap length begins)))
 
-pub table_more : {A : Type 0} (e : Environment A) (sizes : List ℕ) (local size : ℕ) → length sizes ≡ 16 → local < 16 → size ≡ size_to_skip e local → ((k : ℕ) → k < local → slice_index sizes k ≡ size_to_skip e k)
+pub table_more : {A : Type 0} (e : Environment A) (sizes : List ℕ) (local size : ℕ) → length sizes ≡ 16 → local < 16 → size ≡ size_to_skip e local
+    → ((k : ℕ) → k < local → slice_index sizes k ≡ size_to_skip e k)
     → (k : ℕ) → k < local + 1 → slice_index (slice_set sizes local size) k ≡ size_to_skip e k
 table_more e sizes local size long low is told k less =
     elim (eqb_tells k local) [
@@ -92,11 +104,13 @@ table_more e sizes local size long low is told k less =
     ]
 
 -- the sizes after a definition message
-pub sizes_after : {A : Type 0} (e : Environment A) (d : MessageDef A) (sizes : List ℕ) (size : ℕ) → length sizes ≡ 16 → d.local < 16 → AreSizesToSkip e sizes → size ≡ size_to_skip (learn e (Define d)) d.local
+pub sizes_after : {A : Type 0} (e : Environment A) (d : MessageDef A) (sizes : List ℕ) (size : ℕ) → length sizes ≡ 16 → d.local < 16 → AreSizesToSkip e sizes
+    → size ≡ size_to_skip (learn e (Define d)) d.local
     → AreSizesToSkip (learn e (Define d)) (slice_set sizes d.local size)
 sizes_after {A} e d sizes size long low told is k less =
     elim (eqb_tells k d.local) [
       | inl same ↦ get_or-set_at sizes d.local k size 0 same.1 (omega (arith, long, low)) ∙ is ∙ ap (size_to_skip (learn e (Define d))) (sym same.1)
       | inr other ↦ get_or-set_other sizes d.local k size 0 other.1 ∙ told k less
-          ∙ sym (ap (λ (o : Option (Defined A)). option_map_or (λ p. cond (p.definition.global == 206) 0 (1 + message_size p)) o 0) (get_or-set_other e.places d.local k (Some (defined_by e d)) None other.1))
+          ∙ sym (ap (λ (o : Option (Defined A)). option_map_or (λ p. cond (p.definition.global == 206) 0 (1 + message_size p)) o 0)
+          (get_or-set_other e.places d.local k (Some (defined_by e d)) None other.1))
     ]

@@ -1,5 +1,6 @@
 -- One byte more in the fields of a data message.
-use Rattle.std.proofs.Common.{◌≡◌, inl, inr, ℕ, suc, ◌+◌, ◌-◌, ◌*◌, ◌/◌, ◌^◌, ◌<◌, ◌≤◌, Bool, true, false, cond, List, [], ◌∷◌, ◌++◌, length, refl, sym, ap, ◌∙◌, subst, arith, append_assoc, length-append}
+use Rattle.std.proofs.Common.{◌≡◌, inl, inr, ℕ, suc, ◌+◌, ◌-◌, ◌*◌, ◌/◌, ◌^◌, ◌<◌, ◌≤◌, Bool, true, false, cond, List, [], ◌∷◌, ◌++◌, length, refl, sym, ap}
+use Rattle.std.proofs.Common.{◌∙◌, subst, arith, append_assoc, length-append}
 use Rattle.std.specs.Prelude.{map, flat_map, ◌==◌}
 use Rattle.std.specs.List.{AllByRecursion}
 use Rattle.std.proofs.lemmas.Bool.{cond-true, cond-false, eqb-true, eqb-false, cases_lt}
@@ -15,9 +16,10 @@ use Rattle.fit_base.proofs.SameItems.{item_width_positive}
 use Rattle.fit_base.proofs.Shapes.{item_width_divides}
 use Rattle.fit_record.specs.Records.{HaveShape}
 use Rattle.fit_step.specs.Machine.{no_items, add_number, with_number, beyond_number}
-use Rattle.fit_step.specs.Parts.{Taking, width_of, taken, all_items, IsTaking}
+use Rattle.fit_step.specs.Parts.{TakenFields, width_of, taken, all_items, IsTaking}
 
-pub add_number-at : {A : Type 0} (items more : List (Items A)) (i : Items A) (n : ℕ) → add_number (length items) (items ++ i ∷ more) n ≡ items ++ (record i { bits = i.bits ++ n ∷ [] }) ∷ more
+pub add_number-at : {A : Type 0} (items more : List (Items A)) (i : Items A) (n : ℕ)
+    → add_number (length items) (items ++ i ∷ more) n ≡ items ++ (record i { bits = i.bits ++ n ∷ [] }) ∷ more
 add_number-at [] more i n = refl
 add_number-at (j ∷ items) more i n = ap (λ l. j ∷ l) (add_number-at items more i n)
 
@@ -31,7 +33,8 @@ pub AllByRecursion-last : {X : Type 0} (P : X → Type 0) (xs : List X) (x : X) 
 AllByRecursion-last P [] x h p = (p, tt)
 AllByRecursion-last P (y ∷ ys) x h p = (h.0, AllByRecursion-last P ys x h.1 p)
 
-pub HaveShape-last : {A : Type 0} (fs : List (ℕ × ℕ)) (items : List (Items A)) (f : ℕ × ℕ) (i : Items A) → HaveShape fs items → HasShape f.0 f.1 i → HaveShape (fs ++ f ∷ []) (items ++ i ∷ [])
+pub HaveShape-last : {A : Type 0} (fs : List (ℕ × ℕ)) (items : List (Items A)) (f : ℕ × ℕ) (i : Items A) → HaveShape fs items → HasShape f.0 f.1 i
+    → HaveShape (fs ++ f ∷ []) (items ++ i ∷ [])
 HaveShape-last [] [] f i h s = (s, tt)
 HaveShape-last [] (j ∷ items) f i h s = absurd h
 HaveShape-last (g ∷ fs) [] f i h s = absurd h
@@ -48,27 +51,27 @@ no_rest n k w r e p q =
     ]
 
 -- what the field in progress is behind one byte more, where that byte ends a number or doesn't
-abbrev pub grown_at : {A : Type 0} → Bool → Order → Taking A → ℕ → Taking A
+abbrev pub grown_at : {A : Type 0} → Bool → Order → TakenFields A → ℕ → TakenFields A
 grown_at c o t b = record t {
   bits = cond c (t.bits ++ number o (t.partial ++ b ∷ []) ∷ []) t.bits;
   partial = cond c [] (t.partial ++ b ∷ []);
   left = t.left - 1;
 }
 
-abbrev pub ends_number : {A : Type 0} → Taking A → ℕ → Bool
+abbrev pub ends_number : {A : Type 0} → TakenFields A → ℕ → Bool
 ends_number t b = length (t.partial ++ b ∷ []) == width_of t
 
-abbrev pub grown : {A : Type 0} → Order → Taking A → ℕ → Taking A
+abbrev pub grown : {A : Type 0} → Order → TakenFields A → ℕ → TakenFields A
 grown o t b = grown_at (ends_number t b) o t b
 
 -- the tests of the machine
-abbrev IsEnd : {A : Type 0} → Bool → Taking A → ℕ → Type 0
+abbrev IsEnd : {A : Type 0} → Bool → TakenFields A → ℕ → Type 0
 IsEnd c t b = ends_number t b ≡ c
 
-is_end : {A : Type 0} (t : Taking A) (b : ℕ) → IsEnd true t b → length t.partial + 1 ≡ width_of t
+is_end : {A : Type 0} (t : TakenFields A) (b : ℕ) → IsEnd true t b → length t.partial + 1 ≡ width_of t
 is_end t b h = sym (length-append t.partial (b ∷ [])) ∙ eqb-true (length (t.partial ++ b ∷ [])) (width_of t) h
 
-is_inside : {A : Type 0} (t : Taking A) (b : ℕ) → IsEnd false t b → length t.partial < width_of t → length t.partial + 1 < width_of t
+is_inside : {A : Type 0} (t : TakenFields A) (b : ℕ) → IsEnd false t b → length t.partial < width_of t → length t.partial + 1 < width_of t
 is_inside t b h g =
     let apart : length t.partial + 1 ≡ width_of t → ⊥ = λ e. eqb-false (length (t.partial ++ b ∷ [])) (width_of t) h (length-append t.partial (b ∷ []) ∙ e) in
     elim (cases_lt (length t.partial + 1) (width_of t)) [ inl less ↦ less | inr over ↦ absurd (apart (omega arith)) ]
@@ -77,7 +80,8 @@ last_flat : {X : Type 0} (f : X → List ℕ) (xs : List X) (x : X) → flat_map
 last_flat f xs x = sym (flat_map_more f [] xs x)
 
 -- a number more in the field that is read
-with_one : {A : Type 0} (t : Taking A) (n : ℕ) → HaveShape t.done t.whole → add_number (length t.done) (all_items t) n ≡ all_items (record t { bits = t.bits ++ n ∷ [] })
+with_one : {A : Type 0} (t : TakenFields A) (n : ℕ) → HaveShape t.done t.whole
+    → add_number (length t.done) (all_items t) n ≡ all_items (record t { bits = t.bits ++ n ∷ [] })
 with_one {A} t n s =
     let old : Items A = record { width = width_of t; bits = t.bits } in
     let new : Items A = record { width = width_of t; bits = t.bits ++ n ∷ [] } in
@@ -87,37 +91,42 @@ with_one {A} t n s =
     ∙ add_number-at t.whole rest old n
     ∙ sym (append_assoc t.whole (new ∷ []) rest)
 
-items_at : {A : Type 0} (c : Bool) (o : Order) (t : Taking A) (b : ℕ) → IsEnd c t b → HaveShape t.done t.whole → with_number o (width_of t) (length t.done) (all_items t) (t.partial ++ b ∷ []) ≡ all_items (grown_at c o t b)
+items_at : {A : Type 0} (c : Bool) (o : Order) (t : TakenFields A) (b : ℕ) → IsEnd c t b → HaveShape t.done t.whole
+    → with_number o (width_of t) (length t.done) (all_items t) (t.partial ++ b ∷ []) ≡ all_items (grown_at c o t b)
 items_at true o t b h s = cond-true (ends_number t b) _ _ h ∙ with_one t (number o (t.partial ++ b ∷ [])) s
 items_at false o t b h s = cond-false (ends_number t b) _ _ h
 
-rest_at : {A : Type 0} (c : Bool) (o : Order) (t : Taking A) (b : ℕ) → IsEnd c t b → beyond_number (width_of t) (t.partial ++ b ∷ []) ≡ (grown_at c o t b).partial
+rest_at : {A : Type 0} (c : Bool) (o : Order) (t : TakenFields A) (b : ℕ) → IsEnd c t b
+    → beyond_number (width_of t) (t.partial ++ b ∷ []) ≡ (grown_at c o t b).partial
 rest_at true o t b h = cond-true (ends_number t b) _ _ h
 rest_at false o t b h = cond-false (ends_number t b) _ _ h
 
 regroup : (w n p z : List ℕ) → (w ++ (n ++ (p ++ z))) ++ [] ≡ ((w ++ n) ++ p) ++ z
 regroup w n p z = simp (append_assoc, append-nil)
 
-bytes_at : {A : Type 0} (c : Bool) (o : Order) (t : Taking A) (b : ℕ) → IsEnd c t b → IsBytes t.partial → b < 256
+bytes_at : {A : Type 0} (c : Bool) (o : Order) (t : TakenFields A) (b : ℕ) → IsEnd c t b → IsBytes t.partial → b < 256
     → flat_map (items_bytes o) (taken (grown_at c o t b)) ++ (grown_at c o t b).partial ≡ (flat_map (items_bytes o) (taken t) ++ t.partial) ++ b ∷ []
 bytes_at {A} true o t b h g low =
     let w = width_of t in
     let bytes = t.partial ++ b ∷ [] in
     let full : length bytes ≡ w = eqb-true (length bytes) w h in
     let spelled : number_bytes o w (number o bytes) ≡ bytes =
-    subst (λ n. number_bytes o n (number o bytes) ≡ bytes) full (number_bytes-number o bytes (IsBytes-append t.partial (b ∷ []) g (IsBytes-cons b [] low IsBytes-none))) in
+    subst (λ n. number_bytes o n (number o bytes) ≡ bytes) full
+    (number_bytes-number o bytes (IsBytes-append t.partial (b ∷ []) g (IsBytes-cons b [] low IsBytes-none))) in
     let numbers : flat_map (number_bytes o w) (t.bits ++ number o bytes ∷ []) ≡ flat_map (number_bytes o w) t.bits ++ bytes =
     last_flat (number_bytes o w) t.bits (number o bytes) ∙ ap (λ l. flat_map (number_bytes o w) t.bits ++ l) spelled in
     let new : Items A = record { width = w; bits = t.bits ++ number o bytes ∷ [] } in
     let old : Items A = record { width = w; bits = t.bits } in
-    let before : flat_map (items_bytes o) (taken t) ≡ flat_map (items_bytes o) t.whole ++ flat_map (number_bytes o w) t.bits = last_flat (items_bytes o) t.whole old in
+    let before : flat_map (items_bytes o) (taken t) ≡ flat_map (items_bytes o) t.whole ++ flat_map (number_bytes o w) t.bits =
+    last_flat (items_bytes o) t.whole old in
     let after : flat_map (items_bytes o) (t.whole ++ new ∷ []) ≡ flat_map (items_bytes o) t.whole ++ (flat_map (number_bytes o w) t.bits ++ bytes) =
     last_flat (items_bytes o) t.whole new ∙ ap (λ l. flat_map (items_bytes o) t.whole ++ l) numbers in
     ap (λ l. l ++ []) after ∙ regroup (flat_map (items_bytes o) t.whole) (flat_map (number_bytes o w) t.bits) t.partial (b ∷ [])
     ∙ ap (λ l. (l ++ t.partial) ++ b ∷ []) (sym before)
 bytes_at false o t b h g low = sym (append_assoc (flat_map (items_bytes o) (taken t)) t.partial (b ∷ []))
 
-new_number : {A : Type 0} (o : Order) (t : Taking A) (b : ℕ) → IsEnd true t b → IsBytes t.partial → b < 256 → number o (t.partial ++ b ∷ []) < 256 ^ width_of t
+new_number : {A : Type 0} (o : Order) (t : TakenFields A) (b : ℕ) → IsEnd true t b → IsBytes t.partial → b < 256
+    → number o (t.partial ++ b ∷ []) < 256 ^ width_of t
 new_number o t b h g low =
     subst (λ n. number o (t.partial ++ b ∷ []) < 256 ^ n) (eqb-true (length (t.partial ++ b ∷ [])) (width_of t) h)
     (number-below o (t.partial ++ b ∷ []) (IsBytes-append t.partial (b ∷ []) g (IsBytes-cons b [] low IsBytes-none)))
@@ -125,12 +134,14 @@ new_number o t b h g low =
 one_more : (n w p l size : ℕ) → n * w + p + l ≡ size → p + 1 ≡ w → 0 < l → (n + 1) * w + 0 + (l - 1) ≡ size
 one_more n w p l size e f g = omega arith
 
-stands_at : {A : Type 0} (c : Bool) (o : Order) (all : List (ℕ × ℕ)) (t : Taking A) (b : ℕ) → IsEnd c t b → IsTaking all t → b < 256 → 1 < t.left → IsTaking all (grown_at c o t b)
+stands_at : {A : Type 0} (c : Bool) (o : Order) (all : List (ℕ × ℕ)) (t : TakenFields A) (b : ℕ) → IsEnd c t b → IsTaking all t → b < 256 → 1 < t.left
+    → IsTaking all (grown_at c o t b)
 stands_at true o all t b h s low more = record {
   layout = s.layout;
   shapes = s.shapes;
   numbers = AllByRecursion-last (λ n. n < 256 ^ width_of t) t.bits _ s.numbers (new_number o t b h s.bytes low);
-  size = rw (length-append t.bits (number o (t.partial ++ b ∷ []) ∷ [])) (one_more (length t.bits) (width_of t) (length t.partial) t.left t.field.1 s.size (is_end t b h) s.some);
+  size = rw (length-append t.bits (number o (t.partial ++ b ∷ []) ∷ []))
+      (one_more (length t.bits) (width_of t) (length t.partial) t.left t.field.1 s.size (is_end t b h) s.some);
   short = item_width_positive t.field.0 t.field.1;
   some = omega arith;
   bytes = IsBytes-none;
@@ -146,14 +157,15 @@ stands_at false o all t b h s low more = record {
 }
 
 -- behind the last byte of a field it is whole
-whole_at : {A : Type 0} (c : Bool) (o : Order) (all : List (ℕ × ℕ)) (t : Taking A) (b : ℕ) → IsEnd c t b → IsTaking all t → b < 256 → t.left ≡ 1
+whole_at : {A : Type 0} (c : Bool) (o : Order) (all : List (ℕ × ℕ)) (t : TakenFields A) (b : ℕ) → IsEnd c t b → IsTaking all t → b < 256 → t.left ≡ 1
     → ((grown_at c o t b).partial ≡ []) × HaveShape (t.done ++ t.field ∷ []) (taken (grown_at c o t b))
 whole_at true o all t b h s low last = (
   refl,
   HaveShape-last t.done t.whole t.field _ s.shapes (record {
     width = refl;
     whole =
-        let count : (length t.bits + 1) * width_of t + 0 + (t.left - 1) ≡ t.field.1 = one_more (length t.bits) (width_of t) (length t.partial) t.left t.field.1 s.size (is_end t b h) s.some in
+        let count : (length t.bits + 1) * width_of t + 0 + (t.left - 1) ≡ t.field.1 =
+        one_more (length t.bits) (width_of t) (length t.partial) t.left t.field.1 s.size (is_end t b h) s.some in
         rw (length-append t.bits (number o (t.partial ++ b ∷ []) ∷ [])) (omega (arith, count, last));
     fits = AllByRecursion-last (λ n. n < 256 ^ width_of t) t.bits _ s.numbers (new_number o t b h s.bytes low);
   }),
@@ -163,19 +175,21 @@ whole_at false o all t b h s low last =
     absurd (no_rest (length t.bits) (t.field.1 / width_of t) (width_of t) (length t.partial + 1)
     (omega (arith, s.size, last, item_width_divides t.field.0 t.field.1)) (omega arith) inside)
 
-pub grown-items : {A : Type 0} (o : Order) (t : Taking A) (b : ℕ) → HaveShape t.done t.whole → with_number o (width_of t) (length t.done) (all_items t) (t.partial ++ b ∷ []) ≡ all_items (grown o t b)
+pub grown-items : {A : Type 0} (o : Order) (t : TakenFields A) (b : ℕ) → HaveShape t.done t.whole
+    → with_number o (width_of t) (length t.done) (all_items t) (t.partial ++ b ∷ []) ≡ all_items (grown o t b)
 grown-items o t b s = items_at (ends_number t b) o t b refl s
 
-pub grown-rest : {A : Type 0} (o : Order) (t : Taking A) (b : ℕ) → beyond_number (width_of t) (t.partial ++ b ∷ []) ≡ (grown o t b).partial
+pub grown-rest : {A : Type 0} (o : Order) (t : TakenFields A) (b : ℕ) → beyond_number (width_of t) (t.partial ++ b ∷ []) ≡ (grown o t b).partial
 grown-rest o t b = rest_at (ends_number t b) o t b refl
 
-pub grown-bytes : {A : Type 0} (o : Order) (all : List (ℕ × ℕ)) (t : Taking A) (b : ℕ) → IsTaking all t → b < 256
+pub grown-bytes : {A : Type 0} (o : Order) (all : List (ℕ × ℕ)) (t : TakenFields A) (b : ℕ) → IsTaking all t → b < 256
     → flat_map (items_bytes o) (taken (grown o t b)) ++ (grown o t b).partial ≡ (flat_map (items_bytes o) (taken t) ++ t.partial) ++ b ∷ []
 grown-bytes o all t b s low = bytes_at (ends_number t b) o t b refl s.bytes low
 
-pub grown-stands : {A : Type 0} (o : Order) (all : List (ℕ × ℕ)) (t : Taking A) (b : ℕ) → IsTaking all t → b < 256 → 1 < t.left → IsTaking all (grown o t b)
+pub grown-stands : {A : Type 0} (o : Order) (all : List (ℕ × ℕ)) (t : TakenFields A) (b : ℕ) → IsTaking all t → b < 256 → 1 < t.left
+    → IsTaking all (grown o t b)
 grown-stands o all t b s low more = stands_at (ends_number t b) o all t b refl s low more
 
-pub grown-whole : {A : Type 0} (o : Order) (all : List (ℕ × ℕ)) (t : Taking A) (b : ℕ) → IsTaking all t → b < 256 → t.left ≡ 1
+pub grown-whole : {A : Type 0} (o : Order) (all : List (ℕ × ℕ)) (t : TakenFields A) (b : ℕ) → IsTaking all t → b < 256 → t.left ≡ 1
     → ((grown o t b).partial ≡ []) × HaveShape (t.done ++ t.field ∷ []) (taken (grown o t b))
 grown-whole o all t b s low last = whole_at (ends_number t b) o all t b refl s low last

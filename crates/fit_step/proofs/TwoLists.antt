@@ -1,5 +1,6 @@
 -- Developer fields, whose codes and sizes stand in two lists, and the search for the next field that has bytes.
-use Rattle.std.proofs.Common.{◌≡◌, inl, inr, ℕ, zero, suc, ◌+◌, ◌<◌, List, [], ◌∷◌, ◌++◌, length, take, drop, map, get_or, set, refl, ap, ◌∙◌, subst, arith, Some, None, Ok, Err}
+use Rattle.std.proofs.Common.{◌≡◌, inl, inr, ℕ, zero, suc, ◌+◌, ◌<◌, List, [], ◌∷◌, ◌++◌, length, take, drop, map, get_or, set, refl, ap, ◌∙◌, subst, arith}
+use Rattle.std.proofs.Common.{Some, None, Ok, Err}
 use Rattle.std.specs.Prelude.{Option, Result, OnOk, OnErr, zip, ◌==◌, ◌≤◌}
 use Rattle.fit_base.specs.declared.items.Items.{Items}
 use Rattle.std.proofs.lemmas.Bool.{cond-true, eq-eqb, cases_Bool}
@@ -7,15 +8,15 @@ use Rattle.fit_record.specs.declared.definition.DevDef.{DevDef}
 use Rattle.fit_record.specs.declared.message.Record.TheVariants.{Values as Data}
 use Rattle.fit_record.specs.declared.message.Values.{Values}
 use Rattle.fit_step.specs.declared.phase.Phase.TheVariants.{FieldItems, DevItems}
-use Rattle.fit_step.specs.Machine.{Next, start, reading, no_items, add_number, begin_dev, begin_fields}
-use Rattle.fit_step.specs.Steps.{next_from}
+use Rattle.fit_step.specs.Machine.{NextState, start, reading, no_items, add_number, begin_dev, begin_fields}
+use Rattle.fit_step.specs.inner.Steps.{next_with_bytes}
 
 -- code and size of each developer field
 abbrev pub coded : List ℕ → List DevDef → List (ℕ × ℕ)
 coded codes fields = zip codes (map (λ f. f.size) fields)
 
 passed : (codes : List ℕ) (fields : List DevDef) (i k : ℕ) (d : DevDef) → length codes ≡ length fields → i < length fields → (get_or fields i d).size ≤ 0
-    → next_from k (coded (drop i codes) (drop i fields)) ≡ next_from (suc k) (coded (drop (suc i) codes) (drop (suc i) fields))
+    → next_with_bytes k (coded (drop i codes) (drop i fields)) ≡ next_with_bytes (suc k) (coded (drop (suc i) codes) (drop (suc i) fields))
 passed [] [] i k d same below none = absurd (omega arith)
 passed [] (g ∷ gs) i k d same below none = absurd (omega arith)
 passed (c ∷ cs) [] i k d same below none = absurd (omega arith)
@@ -24,9 +25,10 @@ passed (c ∷ cs) (g ∷ gs) (suc i) k d same below none = passed cs gs i k d (o
 
 -- a developer field without bytes is passed by
 pub passed_by : (codes : List ℕ) (fields : List DevDef) (i : ℕ) (d : DevDef) → length codes ≡ length fields → i < length fields → (get_or fields i d).size ≤ 0
-    → next_from i (coded (drop i codes) (drop i fields)) ≡ next_from (i + 1) (coded (drop (i + 1) codes) (drop (i + 1) fields))
+    → next_with_bytes i (coded (drop i codes) (drop i fields)) ≡ next_with_bytes (i + 1) (coded (drop (i + 1) codes) (drop (i + 1) fields))
 passed_by codes fields i d same below none =
-    subst (λ n. next_from i (coded (drop i codes) (drop i fields)) ≡ next_from n (coded (drop n codes) (drop n fields))) (let next : suc i ≡ i + 1 = omega arith in next) (passed codes fields i i d same below none)
+    subst (λ n. next_with_bytes i (coded (drop i codes) (drop i fields)) ≡ next_with_bytes n (coded (drop n codes) (drop n fields)))
+    (let next : suc i ≡ i + 1 = omega arith in next) (passed codes fields i i d same below none)
 
 one_more : (codes : List ℕ) (fields : List DevDef) (i c : ℕ) (d : DevDef) → length codes ≡ length fields → i < length fields
     → coded (take (suc i) codes) (take (suc i) fields) ≡ coded (take i codes) (take i fields) ++ (get_or codes i c, (get_or fields i d).size) ∷ []
@@ -42,10 +44,14 @@ map_last f (x ∷ xs) y = ap (λ l. f x ∷ l) (map_last f xs y)
 
 -- one developer field more, without items
 pub one_more_field : {A : Type 0} (codes : List ℕ) (fields : List DevDef) (i c : ℕ) (d : DevDef) → length codes ≡ length fields → i < length fields
-    → map (no_items {A = A}) (coded (take (i + 1) codes) (take (i + 1) fields)) ≡ map no_items (coded (take i codes) (take i fields)) ++ no_items (get_or codes i c, (get_or fields i d).size) ∷ []
+    → map (no_items {A = A}) (coded (take (i + 1) codes) (take (i + 1) fields))
+    ≡ map no_items (coded (take i codes) (take i fields)) ++ no_items (get_or codes i c, (get_or fields i d).size) ∷ []
 one_more_field {A} codes fields i c d same below =
-    subst (λ n. map (no_items {A = A}) (coded (take n codes) (take n fields)) ≡ map no_items (coded (take i codes) (take i fields)) ++ no_items (get_or codes i c, (get_or fields i d).size) ∷ []) (let next : suc i ≡ i + 1 = omega arith in next)
-    (ap (map no_items) (one_more codes fields i c d same below) ∙ map_last no_items (coded (take i codes) (take i fields)) (get_or codes i c, (get_or fields i d).size))
+    subst (λ n. map (no_items {A = A}) (coded (take n codes) (take n fields))
+    ≡ map no_items (coded (take i codes) (take i fields)) ++ no_items (get_or codes i c, (get_or fields i d).size) ∷ [])
+    (let next : suc i ≡ i + 1 = omega arith in next)
+    (ap (map no_items) (one_more codes fields i c d same below)
+    ∙ map_last no_items (coded (take i codes) (take i fields)) (get_or codes i c, (get_or fields i d).size))
 
 pub drop_map : {X Y : Type 0} (f : X → Y) (xs : List X) (n : ℕ) → drop n (map f xs) ≡ map f (drop n xs)
 drop_map f [] zero = refl
@@ -53,7 +59,8 @@ drop_map f [] (suc n) = refl
 drop_map f (x ∷ xs) zero = refl
 drop_map f (x ∷ xs) (suc n) = drop_map f xs n
 
-pub drop_coded : (codes : List ℕ) (fields : List DevDef) (n : ℕ) → length codes ≡ length fields → drop n (coded codes fields) ≡ coded (drop n codes) (drop n fields)
+pub drop_coded : (codes : List ℕ) (fields : List DevDef) (n : ℕ) → length codes ≡ length fields
+    → drop n (coded codes fields) ≡ coded (drop n codes) (drop n fields)
 drop_coded [] [] zero same = refl
 drop_coded [] [] (suc n) same = refl
 drop_coded [] (g ∷ gs) n same = absurd (omega arith)
@@ -71,13 +78,15 @@ pub on_err : {T E : Type 0} {P Q : Type 0} (r : Result T E) → (P → Q) → On
 on_err (Ok x) f p = tt
 on_err (Err x) f p = f p
 
-set_at : {A : Type 0} (items : List (Items A)) (k n : ℕ) (l : Items A) → l ≡ get_or items k l → set items k (record { width = l.width; bits = l.bits ++ n ∷ [] }) ≡ add_number k items n
+set_at : {A : Type 0} (items : List (Items A)) (k n : ℕ) (l : Items A) → l ≡ get_or items k l
+    → set items k (record { width = l.width; bits = l.bits ++ n ∷ [] }) ≡ add_number k items n
 set_at [] zero n l here = refl
 set_at [] (suc k) n l here = refl
 set_at (i ∷ items) zero n l here = ap (λ (x : Items _). (record { width = x.width; bits = x.bits ++ n ∷ [] }) ∷ items) here
 set_at (i ∷ items) (suc k) n l here = ap (λ t. i ∷ t) (set_at items k n l here)
 
-pub set_number : {A : Type 0} (items fields : List (Items A)) (k n : ℕ) (l : Items A) (bits : List ℕ) → items ≡ fields → l ≡ get_or items k l → bits ≡ l.bits ++ n ∷ []
+pub set_number : {A : Type 0} (items fields : List (Items A)) (k n : ℕ) (l : Items A) (bits : List ℕ) → items ≡ fields → l ≡ get_or items k l
+    → bits ≡ l.bits ++ n ∷ []
     → set items k (record { width = l.width; bits = bits }) ≡ add_number k fields n
 set_number items fields k n l bits same here grown =
     ap (λ b. set items k (record { width = l.width; bits = b })) grown ∙ set_at items k n l here ∙ ap (λ i. add_number k i n) same
@@ -94,18 +103,20 @@ set_back items fields k l bits same here kept =
     ap (λ b. set items k (record { width = l.width; bits = b })) kept ∙ set_same items k l here ∙ same
 
 -- where the next developer field begins, and where the next field does
-abbrev pub dev_begun : {A : Type 0} → ℕ → Values A → Option (ℕ × ℕ × ℕ) → Next A
+abbrev pub dev_begun : {A : Type 0} → ℕ → Values A → Option (ℕ × ℕ × ℕ) → NextState A
 dev_begun room v None = (start room, Some (Data v))
 dev_begun room v (Some (place, width, left)) = (reading (DevItems place width left) room v [], None)
 
-abbrev pub field_begun : {A : Type 0} → ℕ → Values A → List (ℕ × ℕ) → Option (ℕ × ℕ × ℕ) → Next A
+abbrev pub field_begun : {A : Type 0} → ℕ → Values A → List (ℕ × ℕ) → Option (ℕ × ℕ × ℕ) → NextState A
 field_begun room v dev None = begin_dev room v 0 dev
 field_begun room v dev (Some (place, width, left)) = (reading (FieldItems place width left) room v [], None)
 
-pub dev_found : {A : Type 0} (room : ℕ) (v : Values A) (place : ℕ) (rest : List (ℕ × ℕ)) → begin_dev room v place rest ≡ dev_begun room v (next_from place rest)
+pub dev_found : {A : Type 0} (room : ℕ) (v : Values A) (place : ℕ) (rest : List (ℕ × ℕ))
+    → begin_dev room v place rest ≡ dev_begun room v (next_with_bytes place rest)
 dev_found room v place [] = refl
 dev_found room v place (f ∷ rest) = elim (cases_Bool (f.1 == 0)) [ inl z ↦ rw z (dev_found room v (suc place) rest) | inr z ↦ rw z refl ]
 
-pub field_found : {A : Type 0} (room : ℕ) (v : Values A) (place : ℕ) (rest dev : List (ℕ × ℕ)) → begin_fields room v place rest dev ≡ field_begun room v dev (next_from place rest)
+pub field_found : {A : Type 0} (room : ℕ) (v : Values A) (place : ℕ) (rest dev : List (ℕ × ℕ))
+    → begin_fields room v place rest dev ≡ field_begun room v dev (next_with_bytes place rest)
 field_found room v place [] dev = refl
 field_found room v place (f ∷ rest) dev = elim (cases_Bool (f.1 == 0)) [ inl z ↦ rw z (field_found room v (suc place) rest dev) | inr z ↦ rw z refl ]

@@ -1,5 +1,6 @@
 -- The last byte of a record adds an entry or a number to it, or nothing, and that can be taken away again.
-use Rattle.std.proofs.Common.{◌≡◌, ◌↔◌, ℕ, zero, suc, ◌+◌, ◌-◌, ◌*◌, ◌<◌, Bool, true, false, cond, List, [], ◌∷◌, ◌++◌, length, get_or, set, refl, sym, ap, ◌∙◌, subst, arith, length-append, Some, None, Ok}
+use Rattle.std.proofs.Common.{◌≡◌, ◌↔◌, ℕ, zero, suc, ◌+◌, ◌-◌, ◌*◌, ◌<◌, Bool, true, false, cond, List, [], ◌∷◌, ◌++◌, length, get_or, set, refl, sym, ap, ◌∙◌}
+use Rattle.std.proofs.Common.{subst, arith, length-append, Some, None, Ok}
 use Rattle.std.specs.Prelude.{Option, IsSome, option_to_list, ◌==◌, nat_lt, drop, map}
 use Rattle.std.proofs.lemmas.Bool.{cond_both, cond-true, eqb-true}
 use Rattle.fit_base.specs.declared.items.Items.{Items}
@@ -13,13 +14,16 @@ use Rattle.fit_record.specs.Environment.{Environment, dev_defs}
 use Rattle.fit_record.specs.Records.{layout, dev_layout, order_at}
 use Rattle.fit_base.specs.Numbers.{number}
 use Rattle.fit_step.specs.declared.phase.DefinitionPhase.{DefinitionPhase}
-use Rattle.fit_step.specs.declared.phase.DefinitionPhase.TheVariants.{Reserved, Architecture as AtArchitecture, GlobalFirst, GlobalSecond, FieldCount, FieldNumber, FieldSize, FieldCode, DevCount, DevNumber, DevSize, DevIndex}
+use Rattle.fit_step.specs.declared.phase.DefinitionPhase.TheVariants.{Reserved, Architecture as AtArchitecture, GlobalFirst, GlobalSecond, FieldCount}
+use Rattle.fit_step.specs.declared.phase.DefinitionPhase.TheVariants.{FieldNumber, FieldSize, FieldCode, DevCount, DevNumber, DevSize, DevIndex}
 use Rattle.fit_step.specs.declared.phase.Phase.TheVariants.{Definition, FieldItems, DevItems}
-use Rattle.fit_step.specs.Machine.{Tests, State, Step, Next, start, step, no_items, add_number, with_number, begin_dev, begin_fields, layout_at, dev_layout_at, field_move, dev_move, definition_move, after_fields, next_field, next_dev, dev_count_byte}
-use Rattle.fit_step.specs.Parts.{Part, nothing, in_definition, in_fields, in_dev_fields, Taking, IsTaking, IsPart, IsDefinitionPart, state_of, width_of, all_items}
-use Rattle.fit_step.specs.Places.{Stands}
-use Rattle.fit_step.specs.Steps.{next_from}
-use Rattle.fit_step.specs.Undone.{Adds, AddsEntry}
+use Rattle.fit_step.specs.Machine.{Tests, State, Step, NextState, start, step, no_items, add_number, with_number, begin_dev, begin_fields, layout_at}
+use Rattle.fit_step.specs.Machine.{dev_layout_at, field_move, dev_move, definition_move, after_fields, next_field, next_dev, dev_count_byte}
+use Rattle.fit_step.specs.Parts.{RecordPart, nothing, in_definition, in_fields, in_dev_fields, TakenFields, IsTaking, IsPart, IsDefinitionPart, state_of}
+use Rattle.fit_step.specs.Parts.{width_of, all_items}
+use Rattle.fit_step.specs.Places.{PartFitsRoom}
+use Rattle.fit_step.specs.inner.Steps.{next_with_bytes}
+use Rattle.fit_step.specs.inner.Undone.{Adds, AddsEntry}
 use Rattle.fit_step.proofs.Preconditions.{as_defined}
 use Rattle.fit_step.proofs.Takes.{ends_number, grown-whole}
 use Rattle.fit_step.proofs.TwoLists.{dev_begun, field_begun, dev_found, field_found}
@@ -38,13 +42,15 @@ no_element : (X : Type 0) → IsSome {T = X} None → ⊥
 no_element X h = cc
 
 -- what `pop` leaves of a list with one element more
-pub popped : {X : Type 0} (all left xs : List X) (r : Option X) (x : X) → all ≡ left ++ option_to_list r → IsSome r ↔ (0 < length all) → all ≡ xs ++ x ∷ [] → left ≡ xs
+pub popped : {X : Type 0} (all left xs : List X) (r : Option X) (x : X) → all ≡ left ++ option_to_list r → IsSome r ↔ (0 < length all) → all ≡ xs ++ x ∷ []
+    → left ≡ xs
 popped all left xs (Some y) x is some more = same_front left xs y x (sym is ∙ more)
 popped {X} all left xs None x is some more =
     let count : length all ≡ length xs + 1 = ap length more ∙ length-append xs (x ∷ []) in
     absurd (no_element X (some.1 (omega (arith, count))))
 
-set_back_at : {A : Type 0} (before : List (Items A)) (k n : ℕ) (l : Items A) (bits : List ℕ) (r : Option ℕ) → k < length before → l ≡ get_or (add_number k before n) k l
+set_back_at : {A : Type 0} (before : List (Items A)) (k n : ℕ) (l : Items A) (bits : List ℕ) (r : Option ℕ) → k < length before
+    → l ≡ get_or (add_number k before n) k l
     → l.bits ≡ bits ++ option_to_list r → IsSome r ↔ (0 < length l.bits) → set (add_number k before n) k (record { width = l.width; bits = bits }) ≡ before
 set_back_at [] k n l bits r below here is some = absurd (omega arith)
 set_back_at (i ∷ before) zero n l bits r below here is some =
@@ -55,7 +61,8 @@ set_back_at (i ∷ before) zero n l bits r below here is some =
 set_back_at (i ∷ before) (suc k) n l bits r below here is some = ap (λ t. i ∷ t) (set_back_at before k n l bits r (omega arith) here is some)
 
 -- the fields without the number that has come last
-pub number_taken : {A : Type 0} (items fields before : List (Items A)) (k n : ℕ) (l : Items A) (bits : List ℕ) (r : Option ℕ) → items ≡ fields → fields ≡ add_number k before n → k < length before
+pub number_taken : {A : Type 0} (items fields before : List (Items A)) (k n : ℕ) (l : Items A) (bits : List ℕ) (r : Option ℕ) → items ≡ fields
+    → fields ≡ add_number k before n → k < length before
     → l ≡ get_or items k l → l.bits ≡ bits ++ option_to_list r → IsSome r ↔ (0 < length l.bits) → set items k (record { width = l.width; bits = bits }) ≡ before
 number_taken {A} items fields before k n l bits r same more below here is some =
     let all : items ≡ add_number k before n = same ∙ more in
@@ -74,10 +81,10 @@ module _ {A : Type 0} (t : State A) (r : Record A) where
   Ends n = n ≡ Ok (t, Some r)
 
   not_whole : (u : State A) → Ends (Ok (u, None)) → ⊥
-  not_whole u made = let same : (u, None) ≡ (t, Some r) = cc in let none : None ≡ Some r = ap (λ (n : Next A). n.1) same in cc
+  not_whole u made = let same : (u, None) ≡ (t, Some r) = cc in let none : None ≡ Some r = ap (λ (n : NextState A). n.1) same in cc
 
   whole_is : (u : State A) (q : Record A) → Ends (Ok (u, Some q)) → q ≡ r
-  whole_is u q made = let same : (u, Some q) ≡ (t, Some r) = cc in let some : Some q ≡ Some r = ap (λ (n : Next A). n.1) same in cc
+  whole_is u q made = let same : (u, Some q) ≡ (t, Some r) = cc in let some : Some q ≡ Some r = ap (λ (n : NextState A). n.1) same in cc
 
   -- entries of a definition message
   module _ (k : DefinitionPhase) (d c : MessageDef A) (adds : AddsEntry k d c) where
@@ -97,12 +104,14 @@ module _ {A : Type 0} (t : State A) (r : Record A) where
     next_dev_adds : (n room : ℕ) → AddsTo (Ok (next_dev n room c))
     next_dev_adds n room = cond_both (n == 0) _ _ (λ m. AddsTo (Ok m)) (λ z made. definition_adds (start room) made) (λ z made. absurd (not_whole _ made))
 
-  entry_adds : (tests : Tests A) (k : DefinitionPhase) (room : ℕ) (d : MessageDef A) (b : ℕ) → IsDefinitionPart k d → Ends (definition_move tests k room d b) → Adds (Definition k) (Some (Define d)) r
+  entry_adds : (tests : Tests A) (k : DefinitionPhase) (room : ℕ) (d : MessageDef A) (b : ℕ) → IsDefinitionPart k d → Ends (definition_move tests k room d b)
+      → Adds (Definition k) (Some (Define d)) r
   unfolding definition_move
   entry_adds tests Reserved room d b h = λ made. absurd (not_whole _ made)
   entry_adds tests AtArchitecture room d b h =
       cond_both (b == 0) _ _ (λ n. Ends n → Adds (Definition AtArchitecture) (Some (Define d)) r) (λ z made. absurd (not_whole _ made))
-      (λ z. cond_both (b == 1) _ _ (λ n. Ends n → Adds (Definition AtArchitecture) (Some (Define d)) r) (λ y made. absurd (not_whole _ made)) (λ y made. absurd cc))
+      (λ z. cond_both (b == 1) _ _ (λ n. Ends n → Adds (Definition AtArchitecture) (Some (Define d)) r) (λ y made. absurd (not_whole _ made))
+      (λ y made. absurd cc))
   entry_adds tests GlobalFirst room d b h = λ made. absurd (not_whole _ made)
   entry_adds tests (GlobalSecond first) room d b h = λ made. absurd (not_whole _ made)
   entry_adds tests FieldCount room d b h =
@@ -110,16 +119,19 @@ module _ {A : Type 0} (t : State A) (r : Record A) where
       (λ z. next_adds FieldCount d d refl b (room - 1))
   entry_adds tests (FieldNumber left) room d b h = λ made. absurd (not_whole _ made)
   entry_adds tests (FieldSize left number) room d b h =
-      cond_both (tests.field_size d (left - 1) (room - 1) b) _ _ (λ n. Ends n → Adds (Definition (FieldSize left number)) (Some (Define d)) r) (λ z made. absurd (not_whole _ made)) (λ z made. absurd cc)
+      cond_both (tests.field_size d (left - 1) (room - 1) b) _ _ (λ n. Ends n → Adds (Definition (FieldSize left number)) (Some (Define d)) r)
+      (λ z made. absurd (not_whole _ made)) (λ z made. absurd cc)
   entry_adds tests (FieldCode left number size) room d b h =
-      next_adds (FieldCode left number size) d (record d { fields = d.fields ++ (record { number = number; size = size; code = b }) ∷ [] }) (record { number = number; size = size; code = b }, refl) (left - 1) (room - 1)
+      next_adds (FieldCode left number size) d (record d { fields = d.fields ++ (record { number = number; size = size; code = b }) ∷ [] })
+      (record { number = number; size = size; code = b }, refl) (left - 1) (room - 1)
   entry_adds tests DevCount room d b h =
       cond_both (nat_lt room (1 + 3 * b)) _ _ (λ n. Ends n → Adds (Definition DevCount) (Some (Define d)) r) (λ z made. absurd cc)
       (λ z. cond_both (tests.dev_count d (room - 1) b) _ _ (λ n. Ends n → Adds (Definition DevCount) (Some (Define d)) r)
       (λ y. next_dev_adds DevCount d d refl b (room - 1)) (λ y made. absurd cc))
   entry_adds tests (DevNumber left) room d b h = λ made. absurd (not_whole _ made)
   entry_adds tests (DevSize left number) room d b h =
-      cond_both (tests.dev_size d (left - 1) (room - 1) b) _ _ (λ n. Ends n → Adds (Definition (DevSize left number)) (Some (Define d)) r) (λ z made. absurd (not_whole _ made)) (λ z made. absurd cc)
+      cond_both (tests.dev_size d (left - 1) (room - 1) b) _ _ (λ n. Ends n → Adds (Definition (DevSize left number)) (Some (Define d)) r)
+      (λ z made. absurd (not_whole _ made)) (λ z made. absurd cc)
   entry_adds tests (DevIndex left number size) room d b h =
       next_dev_adds (DevIndex left number size) d (record d { dev = Some (dev_defs d.dev ++ (record { number = number; size = size; index = b }) ∷ []) })
       (record { number = number; size = size; index = b }, subst IsSome (sym h.0.dev) refl, refl) (left - 1) (room - 1)
@@ -130,32 +142,34 @@ module _ {A : Type 0} (t : State A) (r : Record A) where
   dev_begun_is room v (Some (place, width, left)) made = absurd (not_whole _ made)
 
   begin_dev_is : (room : ℕ) (v : Values A) (place : ℕ) (rest : List (ℕ × ℕ)) → Ends (Ok (begin_dev room v place rest)) → Data v ≡ r
-  begin_dev_is room v place rest made = dev_begun_is room v (next_from place rest) (ap Ok (sym (dev_found room v place rest)) ∙ made)
+  begin_dev_is room v place rest made = dev_begun_is room v (next_with_bytes place rest) (ap Ok (sym (dev_found room v place rest)) ∙ made)
 
   field_begun_is : (room : ℕ) (v : Values A) (dev : List (ℕ × ℕ)) (o : Option (ℕ × ℕ × ℕ)) → Ends (Ok (field_begun room v dev o)) → Data v ≡ r
   field_begun_is room v dev None made = begin_dev_is room v 0 dev made
   field_begun_is room v dev (Some (place, width, left)) made = absurd (not_whole _ made)
 
   begin_fields_is : (room : ℕ) (v : Values A) (place : ℕ) (rest dev : List (ℕ × ℕ)) → Ends (Ok (begin_fields room v place rest dev)) → Data v ≡ r
-  begin_fields_is room v place rest dev made = field_begun_is room v dev (next_from place rest) (ap Ok (sym (field_found room v place rest dev)) ∙ made)
+  begin_fields_is room v place rest dev made = field_begun_is room v dev (next_with_bytes place rest) (ap Ok (sym (field_found room v place rest dev)) ∙ made)
 
 -- the last byte of a field ends a number
 ends_one : (c : Bool) (bytes : List ℕ) (b : ℕ) → cond c [] (bytes ++ b ∷ []) ≡ [] → c ≡ true
 ends_one true bytes b none = refl
 ends_one false bytes b none = absurd (let count : length (bytes ++ b ∷ []) ≡ 0 = ap length none in omega (arith, count, length-append bytes (b ∷ [])))
 
-number_added : {A : Type 0} (o : Order) (all : List (ℕ × ℕ)) (t : Taking A) (b : ℕ) (items : List (Items A)) (place : ℕ) → IsTaking all t → b < 256 → t.left ≡ 1
+number_added : {A : Type 0} (o : Order) (all : List (ℕ × ℕ)) (t : TakenFields A) (b : ℕ) (items : List (Items A)) (place : ℕ) → IsTaking all t → b < 256
+    → t.left ≡ 1
     → with_number o (width_of t) place items (t.partial ++ b ∷ []) ≡ add_number place items (number o (t.partial ++ b ∷ []))
 number_added o all t b items place s low last =
     cond-true (ends_number t b) _ _ (ends_one (ends_number t b) t.partial b (grown-whole o all t b s low last).0)
 
-place_within : {A : Type 0} (all : List (ℕ × ℕ)) (t : Taking A) → IsTaking all t → length t.done < length (all_items t)
+place_within : {A : Type 0} (all : List (ℕ × ℕ)) (t : TakenFields A) → IsTaking all t → length t.done < length (all_items t)
 place_within all t s =
     let listed : length all ≡ length t.done + suc (length t.to_come) = ap length s.layout ∙ length-append t.done (t.field ∷ t.to_come) in
     omega (arith, listed, as_defined all t s)
 
 module _ {A : Type 0} (e : Environment A) (tests : Tests A) (b : ℕ) (low : b < 256) (t : State A) (r : Record A) where
-  part_adds : (room : ℕ) (f : Part A) → IsPart e f → step e tests (state_of room f) b ≡ Ok (t, Some r) → Adds (state_of room f).phase (state_of room f).in_progress r
+  part_adds : (room : ℕ) (f : RecordPart A) → IsPart e f → step e tests (state_of room f) b ≡ Ok (t, Some r)
+      → Adds (state_of room f).phase (state_of room f).in_progress r
   unfolding step field_move dev_move
   part_adds room nothing h made = refl
   part_adds room (in_definition k d) h made = entry_adds t r tests k room d b h made
@@ -165,7 +179,8 @@ module _ {A : Type 0} (e : Environment A) (tests : Tests A) (b : ℕ) (low : b <
       cond_both (u.left == 1) _ _ (λ n. n ≡ Ok (t, Some r) → Adds (FieldItems (length u.done) (width_of u) u.left) (Some (Data v)) r)
       (λ z ends.
       let last = eqb-true u.left 1 z in
-      subst (Adds (FieldItems (length u.done) (width_of u) u.left) (Some (Data v))) (begin_fields_is t r (room - 1) _ (suc (length u.done)) (drop (suc (length u.done)) (layout_at e local)) (dev_layout_at e local) ends) (
+      subst (Adds (FieldItems (length u.done) (width_of u) u.left) (Some (Data v)))
+      (begin_fields_is t r (room - 1) _ (suc (length u.done)) (drop (suc (length u.done)) (layout_at e local)) (dev_layout_at e local) ends) (
         number o (u.partial ++ b ∷ []),
         place_within (layout p) u s,
         ap (λ i. record v { fields = i }) (number_added o (layout p) u b (all_items u) (length u.done) s low last),
@@ -177,12 +192,14 @@ module _ {A : Type 0} (e : Environment A) (tests : Tests A) (b : ℕ) (low : b <
       cond_both (u.left == 1) _ _ (λ n. n ≡ Ok (t, Some r) → Adds (DevItems (length u.done) (width_of u) u.left) (Some (Data v)) r)
       (λ z ends.
       let last = eqb-true u.left 1 z in
-      subst (Adds (DevItems (length u.done) (width_of u) u.left) (Some (Data v))) (begin_dev_is t r (room - 1) _ (suc (length u.done)) (drop (suc (length u.done)) (dev_layout_at e local)) ends) (
+      subst (Adds (DevItems (length u.done) (width_of u) u.left) (Some (Data v)))
+      (begin_dev_is t r (room - 1) _ (suc (length u.done)) (drop (suc (length u.done)) (dev_layout_at e local)) ends) (
         number o (u.partial ++ b ∷ []),
         place_within (dev_layout p) u s,
         ap (λ i. record v { dev = i }) (number_added o (dev_layout p) u b (all_items u) (length u.done) s low last),
       ))
       (λ z ends. absurd (not_whole t r _ ends)) made
 
-  pub adds : (s : State A) → Stands e s → step e tests s b ≡ Ok (t, Some r) → Adds s.phase s.in_progress r
-  adds s h made = subst (λ (u : State A). Adds u.phase u.in_progress r) (sym h.is) (part_adds s.room h.part h.is_part (ap (λ u. step e tests u b) (sym h.is) ∙ made))
+  pub adds : (s : State A) → PartFitsRoom e s → step e tests s b ≡ Ok (t, Some r) → Adds s.phase s.in_progress r
+  adds s h made = subst (λ (u : State A). Adds u.phase u.in_progress r) (sym h.is)
+      (part_adds s.room h.part h.is_part (ap (λ u. step e tests u b) (sym h.is) ∙ made))

@@ -1,16 +1,16 @@
 -- A data message read at once is the record that its bytes end.
-use Rattle.std.proofs.Common.{◌≡◌, cond, ℕ, zero, suc, ◌+◌, ◌-◌, ◌%◌, ◌<◌, ◌≤◌, true, false, List, [], ◌∷◌, length, take, drop, refl, sym, ap, ◌∙◌, subst, arith, Some, None}
-use Rattle.std.specs.Prelude.{Option, map, zip, sum_by, nat_le, ◌&&◌, IsSomeAnd, option_map, unwrap_or}
+use Rattle.std.proofs.Common.{◌≡◌, cond, ℕ, zero, suc, ◌+◌, ◌-◌, ◌%◌, ◌<◌, ◌≤◌, true, false, List, [], ◌∷◌, length, take, drop, refl, sym, ap, ◌∙◌, subst}
+use Rattle.std.proofs.Common.{arith, Some, None}
+use Rattle.std.specs.Prelude.{Option, map, sum_by, nat_le, ◌&&◌, IsSomeAnd, option_map, unwrap_or}
 use Rattle.std.specs.Option.{option_map_or}
 use Rattle.std.proofs.lemmas.Bool.{leb-true}
-use Rattle.std.proofs.lemmas.List.{take_all, length-take-le}
+use Rattle.std.proofs.lemmas.List.{length-take-le}
 use Rattle.std.proofs.lemmas.List.Sums.{sum_by-append, sum_by-cons}
 use Rattle.fit_base.specs.declared.items.Items.{Items}
 use Rattle.fit_base.specs.declared.number.Order.TheVariants.{Little}
 use Rattle.fit_base.specs.Numbers.{IsBytes}
 use Rattle.fit_base.proofs.Bytes.{both}
 use Rattle.fit_base.proofs.ByteLists.{IsBytes-take, IsBytes-cons, IsBytes-tail}
-use Rattle.fit_record.specs.declared.definition.DevDef.{DevDef}
 use Rattle.fit_record.specs.declared.definition.FieldDef.{FieldDef}
 use Rattle.fit_record.specs.declared.environment.Defined.{Defined}
 use Rattle.fit_record.specs.declared.message.Record.TheVariants.{Values as Data}
@@ -18,39 +18,53 @@ use Rattle.fit_record.specs.declared.message.Values.{Values}
 use Rattle.fit_record.specs.Environment.{Environment, defined_at, dev_defs, learn}
 use Rattle.fit_record.specs.Files.{CanFill}
 use Rattle.fit_record.specs.HeaderByte.{is_compressed, is_definition, has_reserved_bit, local_type}
-use Rattle.fit_record.specs.ReadMessages.{fields_of, sizes, message_of}
+use Rattle.fit_record.specs.inner.ReadMessages.{fields_from, values_from}
+use Rattle.fit_record.specs.Records.{sizes}
 use Rattle.fit_record.specs.Records.{layout, dev_layout, message_size, data_header, DataHeaderFits, data_bytes, DataFits, Fits, order_at, IsRecord}
 use Rattle.fit_record.specs.Rooms.{can_fill, fills, has_length}
 use Rattle.fit_record.specs.Unfinished.{can_carry}
 use Rattle.fit_record.proofs.FilledRooms.{can_fill_is, same_places}
 use Rattle.fit_record.proofs.MessageBytes.{message_fits}
+use Rattle.fit_record.proofs.MessageSizes.{message_size_is}
 use Rattle.fit_step.specs.Machine.{start, Ends}
 use Rattle.fit_step.specs.Tests.{tests_of}
 use Rattle.fit_step.proofs.Continuing.{records_end}
 use Rattle.fit_step.proofs.HeaderBits.{data_spelled}
-
-zip_none : (codes : List ℕ) → zip codes (map (λ (f : DevDef). f.size) []) ≡ []
-zip_none [] = refl
-zip_none (c ∷ codes) = refl
-
-no_dev_layout : {A : Type 0} (p : Defined A) → dev_defs p.definition.dev ≡ [] → dev_layout p ≡ []
-no_dev_layout p none = ap (λ l. zip p.dev_codes (map (λ f. f.size) l)) none ∙ zip_none p.dev_codes
 
 pub sized : {A : Type 0} (p : Defined A) → sum_by (λ f. f.size) p.definition.fields ≡ sizes (layout p)
 sized p = go p.definition.fields
   where
     go : (fields : List FieldDef) → sum_by (λ f. f.size) fields ≡ sizes (map (λ f. (f.code, f.size)) fields)
     go [] = refl
-    go (f ∷ fields) = omega (arith, go fields, sum_by-cons (λ (f : FieldDef). f.size) f fields, sum_by-cons (λ (f : ℕ × ℕ). f.1) (f.code, f.size) (map (λ f. (f.code, f.size)) fields))
+    go (f ∷ fields) = omega (
+      arith,
+      go fields,
+      sum_by-cons (λ (f : FieldDef). f.size) f fields,
+      sum_by-cons (λ (f : ℕ × ℕ). f.1) (f.code, f.size) (map (λ f. (f.code, f.size)) fields),
+    )
 
-pub all_sizes : {A : Type 0} (p : Defined A) → dev_defs p.definition.dev ≡ [] → message_size p ≡ sizes (layout p)
-all_sizes p none = omega (arith, sum_by-append (λ (f : ℕ × ℕ). f.1) (layout p) (dev_layout p), ap sizes (no_dev_layout p none))
+pub all_sizes : {A : Type 0} (p : Defined A) → message_size p ≡ sizes (layout p) + sizes (dev_layout p)
+all_sizes p = sum_by-append (λ (f : ℕ × ℕ). f.1) (layout p) (dev_layout p)
 
-module _ {A : Type 0} (e : Environment A) (p : Defined A) (b size room local : ℕ) (offset : Option ℕ) (rest piece : List ℕ) (fields : List (Items A)) (dev : List (Items A))
+-- each developer field has a code
+pub dev_sized : {A : Type 0} (p : Defined A) → length p.dev_codes ≡ length (dev_defs p.definition.dev)
+    → sum_by (λ f. f.size) (dev_defs p.definition.dev) ≡ sizes (dev_layout p)
+dev_sized p codes = omega (arith, message_size_is p codes, sized p, all_sizes p)
+
+-- the items of the fields, and those of the developer fields, of a message of these bytes
+abbrev pub read_front : {A : Type 0} → Defined A → List ℕ → List (Items A)
+read_front p body = fields_from p.definition.order (layout p) (take (sizes (layout p)) body)
+
+abbrev pub read_back : {A : Type 0} → Defined A → List ℕ → List (Items A)
+read_back p body = fields_from p.definition.order (dev_layout p) (drop (sizes (layout p)) body)
+
+module _ {A : Type 0} (e : Environment A) (p : Defined A) (b size room local : ℕ) (offset : Option ℕ) (rest piece : List ℕ) (fields : List (Items A))
+    (dev : List (Items A))
     (sixteen : length e.places ≡ 16) (begins : piece ≡ b ∷ rest) (are : IsBytes piece) (clean : has_reserved_bit b ≡ false) (kind : is_definition b ≡ false)
-    (same : local ≡ local_type b) (timed : offset ≡ cond (is_compressed b) (Some (b % 32)) None) (known : defined_at e local ≡ Some p) (none : dev_defs p.definition.dev ≡ []) (long : size ≡ message_size p)
+    (same : local ≡ local_type b) (timed : offset ≡ cond (is_compressed b) (Some (b % 32)) None) (known : defined_at e local ≡ Some p)
+    (long : size ≡ message_size p)
     (within : size ≤ length rest) (some : 0 < room) (carry : can_carry e local (room - 1) ≡ true)
-    (read : fields ≡ fields_of p.definition.order (layout p) (take size rest)) (no_dev : dev ≡ []) where
+    (read : fields ≡ read_front p (take size rest)) (read_dev : dev ≡ read_back p (take size rest)) where
   abbrev body : List ℕ
   body = take size rest
 
@@ -58,7 +72,7 @@ module _ {A : Type 0} (e : Environment A) (p : Defined A) (b size room local : �
   message = record { local = local; offset = offset; fields = fields; dev = dev }
 
   abbrev told : Values A
-  told = message_of local offset p.definition.order p body
+  told = values_from local offset p.definition.order p body
 
   all_are : IsBytes (b ∷ rest)
   all_are = subst IsBytes begins are
@@ -70,20 +84,19 @@ module _ {A : Type 0} (e : Environment A) (p : Defined A) (b size room local : �
   body_long = length-take-le size rest within
 
   is_told : told ≡ message
-  is_told =
-      let whole : take (sizes (layout p)) body ≡ body = take_all (sizes (layout p)) body (omega (arith, body_long, long, all_sizes p none)) in
-      let of_fields : fields_of p.definition.order (layout p) (take (sizes (layout p)) body) ≡ fields = ap (fields_of p.definition.order (layout p)) whole ∙ sym read in
-      let of_dev : fields_of p.definition.order (dev_layout p) (drop (sizes (layout p)) body) ≡ dev = ap (λ l. fields_of p.definition.order l (drop (sizes (layout p)) body)) (no_dev_layout p none) ∙ sym no_dev in
-      λ i. record { local = local; offset = offset; fields = of_fields i; dev = of_dev i }
+  is_told = λ i. record { local = local; offset = offset; fields = sym read i; dev = sym read_dev i }
 
   header : DataHeaderFits local offset × (data_header local offset ≡ b)
   header =
       let low : b < 256 = all_are zero in
       let spelled = data_spelled b low clean kind in
-      subst (λ o. DataHeaderFits local o × (data_header local o ≡ b)) (sym timed) (subst (λ l. DataHeaderFits l (cond (is_compressed b) (Some (b % 32)) None) × (data_header l (cond (is_compressed b) (Some (b % 32)) None) ≡ b)) (sym same) spelled)
+      subst (λ o. DataHeaderFits local o × (data_header local o ≡ b)) (sym timed)
+      (subst (λ l. DataHeaderFits l (cond (is_compressed b) (Some (b % 32)) None) × (data_header l (cond (is_compressed b) (Some (b % 32)) None) ≡ b))
+      (sym same) spelled)
 
   is_message : DataFits message p × (data_bytes p.definition.order message ≡ body)
-  is_message = subst (λ v. DataFits v p × (data_bytes p.definition.order v ≡ body)) is_told (message_fits local offset p.definition.order p body header.0 body_are (body_long ∙ long))
+  is_message = subst (λ v. DataFits v p × (data_bytes p.definition.order v ≡ body)) is_told
+      (message_fits local offset p.definition.order p body header.0 body_are (body_long ∙ long))
 
   pub message_can_stand : Fits e (Data message)
   message_can_stand = subst (λ o. IsSomeAnd o (DataFits message)) (sym known) is_message.0
@@ -110,11 +123,13 @@ module _ {A : Type 0} (e : Environment A) (p : Defined A) (b size room local : �
       let left : room - 1 - message_size p ≡ room - (1 + size) = omega (arith, long) in
       let fill : can_fill e (room - (1 + size)) ≡ true = ap (can_fill e) (sym left) ∙ parts.1 in
       let places = same_places e message in
-      (can_fill_is (learn e (Data message)) (room - (1 + size)) (ap length places ∙ sixteen)).0 (ap (λ l. fills (has_length l) (room - (1 + size))) places ∙ fill)
+      (can_fill_is (learn e (Data message)) (room - (1 + size)) (ap length places ∙ sixteen)).0
+      (ap (λ l. fills (has_length l) (room - (1 + size))) places ∙ fill)
 
   pub message_ends : Ends e (tests_of e) (start room) (take (1 + size) piece) (start (room - (1 + size))) (Data message)
   message_ends =
-      let all : b ∷ body ≡ take (1 + size) piece = ap (λ k. take k (b ∷ rest)) (let next : suc size ≡ 1 + size = omega arith in next) ∙ ap (take (1 + size)) (sym begins) in
+      let all : b ∷ body ≡ take (1 + size) piece =
+      ap (λ k. take k (b ∷ rest)) (let next : suc size ≡ 1 + size = omega arith in next) ∙ ap (take (1 + size)) (sym begins) in
       let total : length (b ∷ body) + (room - (1 + size)) ≡ room = omega (arith, body_long, enough) in
       subst (λ l. Ends e (tests_of e) (start room) l (start (room - (1 + size))) (Data message)) all
       (subst (λ n. Ends e (tests_of e) (start n) (b ∷ body) (start (room - (1 + size))) (Data message)) total

@@ -10,10 +10,11 @@ use Rattle.fit_record.specs.Records.{body_length, Fits, record_bytes}
 use Rattle.fit_record.specs.Rooms.{can_fill}
 use Rattle.fit_record.specs.Unfinished.{can_complete, can_complete_dev, can_complete_front}
 use Rattle.fit_step.specs.declared.phase.DefinitionPhase.{DefinitionPhase}
-use Rattle.fit_step.specs.declared.phase.DefinitionPhase.TheVariants.{Reserved, Architecture, GlobalFirst, GlobalSecond, FieldCount, FieldNumber, FieldSize, FieldCode, DevCount, DevNumber, DevSize, DevIndex}
+use Rattle.fit_step.specs.declared.phase.DefinitionPhase.TheVariants.{Reserved, Architecture, GlobalFirst, GlobalSecond, FieldCount, FieldNumber, FieldSize}
+use Rattle.fit_step.specs.declared.phase.DefinitionPhase.TheVariants.{FieldCode, DevCount, DevNumber, DevSize, DevIndex}
 use Rattle.fit_step.specs.declared.phase.Phase.{Phase}
 use Rattle.fit_step.specs.declared.phase.Phase.TheVariants.{RecordHeader, Definition, FieldItems, DevItems}
-use Rattle.fit_step.specs.Machine.{State, definition_of, least_rest}
+use Rattle.fit_step.specs.Machine.{State, definition_in_progress, least_rest}
 use Rattle.fit_step.specs.Tests.{entries_complete}
 
 abbrev pub has_dev : Option (List DevDef) → Bool
@@ -37,7 +38,7 @@ definition_goes_on e (DevIndex left number size) d room = can_complete e d.local
 
 abbrev pub goes_on_at : {A : Type 0} → Environment A → Phase → State A → Bool
 goes_on_at e RecordHeader s = can_fill e s.room
-goes_on_at e (Definition k) s = definition_goes_on e k (definition_of s.in_progress) s.room
+goes_on_at e (Definition k) s = definition_goes_on e k (definition_in_progress s.in_progress) s.room
 goes_on_at e (FieldItems place width left) s = can_fill e (s.room - least_rest e s)
 goes_on_at e (DevItems place width left) s = can_fill e (s.room - least_rest e s)
 

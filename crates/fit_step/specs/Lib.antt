@@ -1,11 +1,9 @@
 pub mod Reasons
 pub mod Machine
 pub mod Parts
-pub mod Runs
 pub mod Tests
 pub mod GoingOn
-pub mod Steps
 pub mod Places
 pub mod Laws
-pub mod Undone
 pub mod Skipping
+pub mod inner

@@ -1,6 +1,7 @@
 -- One record, byte by byte: the state that a reader's fields hold, and what the next byte makes of it.
 -- The environment stays the same inside a record.
-use Rattle.std.specs.Prelude.{◌≡◌, ℕ, zero, suc, ◌+◌, ◌-◌, ◌*◌, ◌%◌, ◌==◌, ◌⊎◌, Bool, if◌then◌else◌, nat_lt, List, [], ◌∷◌, ◌++◌, length, map, drop, sum_by, Option, Some, None, Result, Ok, Err, option_map, unwrap_or}
+use Rattle.std.specs.Prelude.{◌≡◌, ℕ, zero, suc, ◌+◌, ◌-◌, ◌*◌, ◌%◌, ◌==◌, ◌⊎◌, Bool, if◌then◌else◌, nat_lt, List, [], ◌∷◌, ◌++◌, length, map, drop, Option}
+use Rattle.std.specs.Prelude.{Some, None, Result, Ok, Err, option_map, unwrap_or}
 use Rattle.fit_base.specs.declared.items.Items.{Items}
 use Rattle.fit_base.specs.declared.number.Order.{Order}
 use Rattle.fit_base.specs.declared.number.Order.TheVariants.{Little, Big}
@@ -15,10 +16,12 @@ use Rattle.fit_record.specs.declared.environment.Defined.{Defined}
 use Rattle.fit_record.specs.declared.message.Record.{Record}
 use Rattle.fit_record.specs.declared.message.Record.TheVariants.{Define, Values as Data}
 use Rattle.fit_step.specs.declared.phase.DefinitionPhase.{DefinitionPhase}
-use Rattle.fit_step.specs.declared.phase.DefinitionPhase.TheVariants.{Reserved, Architecture as AtArchitecture, GlobalFirst, GlobalSecond, FieldCount, FieldNumber, FieldSize, FieldCode, DevCount, DevNumber, DevSize, DevIndex}
+use Rattle.fit_step.specs.declared.phase.DefinitionPhase.TheVariants.{Reserved, Architecture as AtArchitecture, GlobalFirst, GlobalSecond, FieldCount}
+use Rattle.fit_step.specs.declared.phase.DefinitionPhase.TheVariants.{FieldNumber, FieldSize, FieldCode, DevCount, DevNumber, DevSize, DevIndex}
 use Rattle.fit_step.specs.declared.phase.Phase.{Phase}
 use Rattle.fit_step.specs.declared.phase.Phase.TheVariants.{RecordHeader, Definition, FieldItems, DevItems}
 use Rattle.fit_record.specs.Environment.{Environment, defined_at, dev_defs}
+use Rattle.fit_record.specs.Records.{sizes}
 use Rattle.fit_record.specs.Records.{layout, dev_layout, order_at}
 use Rattle.fit_record.specs.HeaderByte.{is_compressed, is_definition, has_developer_fields, has_reserved_bit, local_type}
 use Rattle.fit_step.specs.Reasons.{least_definition}
@@ -43,11 +46,11 @@ pub record State (A : Type 0) : Type 0 where
   pub partial : List ℕ
 
 -- a state, and the record that has become whole
-abbrev pub Next : Type 0 → Type 0
-Next A = State A × Option (Record A)
+abbrev pub NextState : Type 0 → Type 0
+NextState A = State A × Option (Record A)
 
 abbrev pub Step : Type 0 → Type 0
-Step A = Result (Next A) Reason
+Step A = Result (NextState A) Reason
 
 -- where a record begins
 abbrev pub start : {A : Type 0} → ℕ → State A
@@ -66,14 +69,14 @@ abbrev pub no_items : {A : Type 0} → ℕ × ℕ → Items A
 no_items f = record { width = item_width f.0 f.1; bits = [] }
 
 -- The next developer field that has bytes, from this place on, or the end. The room is that after the byte read.
-abbrev pub begin_dev : {A : Type 0} → ℕ → Values A → ℕ → List (ℕ × ℕ) → Next A
+abbrev pub begin_dev : {A : Type 0} → ℕ → Values A → ℕ → List (ℕ × ℕ) → NextState A
 begin_dev room v place [] = (start room, Some (Data v))
 begin_dev room v place (f ∷ rest) =
     if f.1 == 0 then begin_dev room v (suc place) rest
     else (reading (DevItems place (item_width f.0 f.1) f.1) room v [], None)
 
 -- The next field that has bytes, from this place on, or else the first developer field that has.
-abbrev pub begin_fields : {A : Type 0} → ℕ → Values A → ℕ → List (ℕ × ℕ) → List (ℕ × ℕ) → Next A
+abbrev pub begin_fields : {A : Type 0} → ℕ → Values A → ℕ → List (ℕ × ℕ) → List (ℕ × ℕ) → NextState A
 begin_fields room v place [] dev = begin_dev room v 0 dev
 begin_fields room v place (f ∷ rest) dev =
     if f.1 == 0 then begin_fields room v (suc place) rest dev
@@ -116,14 +119,14 @@ dev_move e place width left room v partial b =
 -- ---- definition messages
 
 -- behind the fields
-abbrev pub after_fields : {A : Type 0} → ℕ → MessageDef A → Option (List DevDef) → Next A
+abbrev pub after_fields : {A : Type 0} → ℕ → MessageDef A → Option (List DevDef) → NextState A
 after_fields room d None = (start room, Some (Define d))
 after_fields room d (Some _) = (defining DevCount room d, None)
 
-abbrev pub next_field : {A : Type 0} → ℕ → ℕ → MessageDef A → Next A
+abbrev pub next_field : {A : Type 0} → ℕ → ℕ → MessageDef A → NextState A
 next_field left room d = if left == 0 then after_fields room d d.dev else (defining (FieldNumber left) room d, None)
 
-abbrev pub next_dev : {A : Type 0} → ℕ → ℕ → MessageDef A → Next A
+abbrev pub next_dev : {A : Type 0} → ℕ → ℕ → MessageDef A → NextState A
 next_dev left room d = if left == 0 then (start room, Some (Define d)) else (defining (DevNumber left) room d, None)
 
 -- the byte that counts the developer fields
@@ -190,9 +193,9 @@ header_move e tests room b =
 -- ---- all of it
 
 -- the definition, or the values, in progress
-abbrev pub definition_of : {A : Type 0} → Option (Record A) → MessageDef A
-definition_of (Some (Define d)) = d
-definition_of _ = new_definition 0
+abbrev pub definition_in_progress : {A : Type 0} → Option (Record A) → MessageDef A
+definition_in_progress (Some (Define d)) = d
+definition_in_progress _ = new_definition 0
 
 abbrev pub values_of : {A : Type 0} → Option (Record A) → Values A
 values_of (Some (Data v)) = v
@@ -200,7 +203,7 @@ values_of _ = new_message 0 [] []
 
 abbrev pub step_at : {A : Type 0} → Environment A → Tests A → Phase → State A → ℕ → Step A
 step_at e tests RecordHeader s b = header_move e tests s.room b
-step_at e tests (Definition k) s b = definition_move tests k s.room (definition_of s.in_progress) b
+step_at e tests (Definition k) s b = definition_move tests k s.room (definition_in_progress s.in_progress) b
 step_at e tests (FieldItems place width left) s b = field_move e place width left s.room (values_of s.in_progress) s.partial b
 step_at e tests (DevItems place width left) s b = dev_move e place width left s.room (values_of s.in_progress) s.partial b
 
@@ -230,9 +233,6 @@ RoomsFill {A} e tests s (b ∷ bytes) =
 
 -- ---- the bytes that a record in progress still takes at least
 
-abbrev pub sizes : List (ℕ × ℕ) → ℕ
-sizes fields = sum_by (λ f. f.1) fields
-
 abbrev pub definition_rest : {A : Type 0} → DefinitionPhase → MessageDef A → ℕ
 definition_rest Reserved d = 5 + dev_count_byte d.dev
 definition_rest AtArchitecture d = 4 + dev_count_byte d.dev
@@ -255,7 +255,7 @@ dev_rest e place local = sizes (drop (suc place) (dev_layout_at e local))
 
 abbrev pub rest_at : {A : Type 0} → Environment A → Phase → State A → ℕ
 rest_at e RecordHeader s = 0
-rest_at e (Definition k) s = definition_rest k (definition_of s.in_progress)
+rest_at e (Definition k) s = definition_rest k (definition_in_progress s.in_progress)
 rest_at e (FieldItems place width left) s = left + fields_rest e place (values_of s.in_progress).local
 rest_at e (DevItems place width left) s = left + dev_rest e place (values_of s.in_progress).local
 

@@ -12,15 +12,17 @@ use Rattle.fit_record.specs.declared.definition.MessageDef.{MessageDef}
 use Rattle.fit_record.specs.declared.environment.Defined.{Defined}
 use Rattle.fit_record.specs.declared.message.Record.{Record}
 use Rattle.fit_step.specs.declared.phase.DefinitionPhase.{DefinitionPhase}
-use Rattle.fit_step.specs.declared.phase.DefinitionPhase.TheVariants.{Reserved, Architecture, GlobalFirst, GlobalSecond, FieldCount, FieldNumber, FieldSize, FieldCode, DevCount, DevNumber, DevSize, DevIndex}
+use Rattle.fit_step.specs.declared.phase.DefinitionPhase.TheVariants.{Reserved, Architecture, GlobalFirst, GlobalSecond, FieldCount, FieldNumber, FieldSize}
+use Rattle.fit_step.specs.declared.phase.DefinitionPhase.TheVariants.{FieldCode, DevCount, DevNumber, DevSize, DevIndex}
 use Rattle.fit_step.specs.declared.phase.Phase.TheVariants.{FieldItems, DevItems}
 use Rattle.fit_record.specs.Environment.{Environment, defined_at, dev_defs}
-use Rattle.fit_record.specs.Records.{architecture, field_bytes, dev_field_bytes, definition_header, layout, dev_layout, HaveShape, data_header, DataHeaderFits, Fits, order_at, record_bytes}
+use Rattle.fit_record.specs.Records.{architecture, field_bytes, dev_field_bytes, definition_header, layout, dev_layout, HaveShape, data_header, DataHeaderFits}
+use Rattle.fit_record.specs.Records.{Fits, order_at, record_bytes}
 use Rattle.fit_step.specs.Machine.{State, start, defining, reading, no_items}
 
 -- The fields of one kind in a data message: those that are whole, with code and size of each; the field that is read, its
 -- whole numbers, the bytes of the next number, and how many bytes are to come; and the fields that haven't begun.
-pub record Taking (A : Type 0) : Type 0 where
+pub record TakenFields (A : Type 0) : Type 0 where
   pub done : List (ℕ × ℕ)
   pub whole : List (Items A)
   pub field : ℕ × ℕ
@@ -29,25 +31,25 @@ pub record Taking (A : Type 0) : Type 0 where
   pub left : ℕ
   pub to_come : List (ℕ × ℕ)
 
-pub data Part (A : Type 0) : Type 0 where
-  nothing : Part A
+pub data RecordPart (A : Type 0) : Type 0 where
+  nothing : RecordPart A
   -- a definition, as far as it has come
-  in_definition : DefinitionPhase → MessageDef A → Part A
+  in_definition : DefinitionPhase → MessageDef A → RecordPart A
   -- local message type and time offset of a data message, its fields as far as they have come, and code and size of its
   -- developer fields
-  in_fields : ℕ → Option ℕ → Taking A → List (ℕ × ℕ) → Part A
+  in_fields : ℕ → Option ℕ → TakenFields A → List (ℕ × ℕ) → RecordPart A
   -- the same with all fields, and its developer fields as far as they have come
-  in_dev_fields : ℕ → Option ℕ → List (Items A) → Taking A → Part A
+  in_dev_fields : ℕ → Option ℕ → List (Items A) → TakenFields A → RecordPart A
 
-abbrev pub width_of : {A : Type 0} → Taking A → ℕ
+abbrev pub width_of : {A : Type 0} → TakenFields A → ℕ
 width_of t = item_width t.field.0 t.field.1
 
 -- the whole fields, and what there is of the one that is read
-abbrev pub taken : {A : Type 0} → Taking A → List (Items A)
+abbrev pub taken : {A : Type 0} → TakenFields A → List (Items A)
 taken t = t.whole ++ (record { width = width_of t; bits = t.bits }) ∷ []
 
 -- all of them, those that haven't begun without items
-abbrev pub all_items : {A : Type 0} → Taking A → List (Items A)
+abbrev pub all_items : {A : Type 0} → TakenFields A → List (Items A)
 all_items t = taken t ++ map no_items t.to_come
 
 -- ---- the bytes
@@ -77,7 +79,7 @@ definition_part (DevNumber left) d = dev_front d (length (dev_defs d.dev) + left
 definition_part (DevSize left number) d = dev_front d (length (dev_defs d.dev) + left) ++ number ∷ []
 definition_part (DevIndex left number size) d = dev_front d (length (dev_defs d.dev) + left) ++ number ∷ size ∷ []
 
-abbrev pub part_bytes : {A : Type 0} → Environment A → Part A → List ℕ
+abbrev pub part_bytes : {A : Type 0} → Environment A → RecordPart A → List ℕ
 part_bytes e nothing = []
 part_bytes e (in_definition k d) = definition_part k d
 part_bytes e (in_fields local offset t dev) =
@@ -130,7 +132,7 @@ IsDefinitionPart (DevSize left number) d = AwaitsDev d left × (0 < left)
 IsDefinitionPart (DevIndex left number size) d = AwaitsDev d left × (0 < left)
 
 -- these are the fields of a layout
-pub record IsTaking {A : Type 0} (all : List (ℕ × ℕ)) (t : Taking A) : Type 0 where
+pub record IsTaking {A : Type 0} (all : List (ℕ × ℕ)) (t : TakenFields A) : Type 0 where
   pub layout : all ≡ t.done ++ t.field ∷ t.to_come
   pub shapes : HaveShape t.done t.whole
   pub numbers : AllByRecursion (λ n. n < 256 ^ width_of t) t.bits
@@ -139,25 +141,27 @@ pub record IsTaking {A : Type 0} (all : List (ℕ × ℕ)) (t : Taking A) : Type
   pub some : 0 < t.left
   pub bytes : IsBytes t.partial
 
-abbrev pub IsPart : {A : Type 0} → Environment A → Part A → Type 0
+abbrev pub IsPart : {A : Type 0} → Environment A → RecordPart A → Type 0
 IsPart e nothing = Unit {0}
 IsPart e (in_definition k d) = IsDefinitionPart k d
-IsPart {A} e (in_fields local offset t dev) = (p : Defined A) × (defined_at e local ≡ Some p) × DataHeaderFits local offset × IsTaking (layout p) t × (dev ≡ dev_layout p)
+IsPart {A} e (in_fields local offset t dev) =
+    (p : Defined A) × (defined_at e local ≡ Some p) × DataHeaderFits local offset × IsTaking (layout p) t × (dev ≡ dev_layout p)
 IsPart {A} e (in_dev_fields local offset items t) =
     (p : Defined A) × (defined_at e local ≡ Some p) × DataHeaderFits local offset × HaveShape (layout p) items × IsTaking (dev_layout p) t
 
 -- something has come
-abbrev pub HasBegun : {A : Type 0} → Part A → Type 0
+abbrev pub HasBegun : {A : Type 0} → RecordPart A → Type 0
 HasBegun nothing = ⊥
 HasBegun part = Unit {0}
 
 -- ---- the state behind them
 
-abbrev pub state_of : {A : Type 0} → ℕ → Part A → State A
+abbrev pub state_of : {A : Type 0} → ℕ → RecordPart A → State A
 state_of room nothing = start room
 state_of room (in_definition k d) = defining k room d
 state_of room (in_fields local offset t dev) =
-    reading (FieldItems (length t.done) (width_of t) t.left) room (record { local = local; offset = offset; fields = all_items t; dev = map no_items dev }) t.partial
+    reading (FieldItems (length t.done) (width_of t) t.left) room (record { local = local; offset = offset; fields = all_items t; dev = map no_items dev })
+    t.partial
 state_of room (in_dev_fields local offset items t) =
     reading (DevItems (length t.done) (width_of t) t.left) room (record { local = local; offset = offset; fields = items; dev = all_items t }) t.partial
 

@@ -12,7 +12,7 @@ use Rattle.fit_step.specs.declared.position.Position.{Position}
 use Rattle.fit_step.specs.declared.stop.Stop.{Stop}
 use Rattle.fit_step.specs.declared.stop.Stop.TheVariants.{Refused, NoMemory}
 use Rattle.fit_step.specs.Machine.{State, Step, least_rest}
-use Rattle.fit_step.specs.Parts.{Part, IsPart, state_of}
+use Rattle.fit_step.specs.Parts.{RecordPart, IsPart, state_of}
 
 -- a position, and the record in progress
 abbrev pub state_at : {A : Type 0} → Position → Option (Record A) → State A
@@ -24,8 +24,8 @@ pub record Begins (p : Position) : Type 0 where
   pub partial : p.partial ≡ []
 
 -- A part of a record has come, and its rest is within the room: for a definition as if the counts to come were 0.
-pub record Stands {A : Type 0} (e : Environment A) (s : State A) : Type 0 where
-  pub part : Part A
+pub record PartFitsRoom {A : Type 0} (e : Environment A) (s : State A) : Type 0 where
+  pub part : RecordPart A
   pub is_part : IsPart e part
   pub is : s ≡ state_of s.room part
   pub within : least_rest e s ≤ s.room
@@ -55,6 +55,6 @@ WantsNone (Err NoMemory) = ⊥
 WantsNone result = Unit {0}
 
 -- A part of a record has come. With true it is all of a record that can stand where this is known, and the next one begins.
-abbrev pub Keeps : {A : Type 0} → Environment A → Option (Record A) → Position × Bool → Type 0
-Keeps e after (p, true) = IsSomeAnd after (Fits e) × Begins p
-Keeps e after (p, false) = Stands e (state_at p after)
+abbrev pub KeepsPart : {A : Type 0} → Environment A → Option (Record A) → Position × Bool → Type 0
+KeepsPart e after (p, true) = IsSomeAnd after (Fits e) × Begins p
+KeepsPart e after (p, false) = PartFitsRoom e (state_at p after)

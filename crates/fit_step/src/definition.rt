@@ -5,7 +5,7 @@ ghost use Rattle.fit_record.specs.Records.{DefinitionFits};
 ghost use Rattle.fit_step.specs.declared.phase.DefinitionPhase.TheVariants.{Reserved, Architecture, GlobalFirst, GlobalSecond, FieldCount, FieldNumber, FieldCode, DevNumber, DevIndex};
 ghost use Rattle.fit_step.specs.Machine.{Tests, definition_move};
 ghost use Rattle.fit_step.specs.Places.{WantsNone};
-ghost use Rattle.fit_step.specs.Steps.{state, Defines, DefinesOn};
+ghost use Rattle.fit_step.specs.inner.Steps.{state, Defines, DefinesOn};
 
 use crate::{DefinitionPhase, Phase, Stop};
 use fit_base::Order;
@@ -22,7 +22,8 @@ pub(crate) fn at_reserved<A: Allocator>(
     byte: u8,
 )
     requires { 0 < room.old }
-    ensures { (tests : Tests A) → definition_move tests Reserved room.old definition.old byte ≡ Ok (state phase.new room.new (Some (Define definition.new)) [], None) }
+    ensures { (tests : Tests A) → definition_move tests Reserved room.old definition.old byte
+        ≡ Ok (state phase.new room.new (Some (Define definition.new)) [], None) }
 {
     definition.reserved = byte;
     *room -= 1;
@@ -38,8 +39,10 @@ pub(crate) fn at_architecture<A: Allocator>(
     byte: u8,
 ) -> Result<(), Stop>
     requires { 0 < room.old }
-    ensures made { (tests : Tests A) → DefinesOn phase.new room.new definition.new result (definition_move tests Architecture room.old definition.old byte) }
-    ensures err { OnErr result ((phase.new ≡ phase.old) × (room.new ≡ room.old) × (definition.new ≡ definition.old)) }
+    ensures made { (tests : Tests A) → DefinesOn phase.new room.new definition.new result
+        (definition_move tests Architecture room.old definition.old byte) }
+    ensures err { OnErr result ((phase.new ≡ phase.old) × (room.new ≡ room.old)
+        × (definition.new ≡ definition.old)) }
     ensures free { WantsNone result }
 {
     definition.order = match byte {
@@ -61,7 +64,8 @@ pub(crate) fn at_global_first<A: Allocator>(
     byte: u8,
 )
     requires { 0 < room.old }
-    ensures { (tests : Tests A) → definition_move tests GlobalFirst room.old definition.now byte ≡ Ok (state phase.new room.new (Some (Define definition.now)) [], None) }
+    ensures { (tests : Tests A) → definition_move tests GlobalFirst room.old definition.now byte
+        ≡ Ok (state phase.new room.new (Some (Define definition.now)) [], None) }
 {
     *room -= 1;
     *phase = Phase::Definition(DefinitionPhase::GlobalSecond { first: byte });
@@ -77,7 +81,8 @@ pub(crate) fn at_global_second<A: Allocator>(
     byte: u8,
 )
     requires { 0 < room.old }
-    ensures { (tests : Tests A) → definition_move tests (GlobalSecond first) room.old definition.old byte ≡ Ok (state phase.new room.new (Some (Define definition.new)) [], None) }
+    ensures { (tests : Tests A) → definition_move tests (GlobalSecond first) room.old definition.old
+        byte ≡ Ok (state phase.new room.new (Some (Define definition.new)) [], None) }
 {
     definition.global = match definition.order {
         Order::Little => u16::from(first) + 256 * u16::from(byte),
@@ -96,7 +101,8 @@ pub(crate) fn at_field_count<A: Allocator>(
     byte: u8,
 ) -> Result<bool, Stop>
     requires { 0 < room.old }
-    ensures made { (tests : Tests A) → Defines phase.new room.new definition.now result (definition_move tests FieldCount room.old definition.now byte) }
+    ensures made { (tests : Tests A) → Defines phase.new room.new definition.now result
+        (definition_move tests FieldCount room.old definition.now byte) }
     ensures err { OnErr result ((phase.new ≡ phase.old) × (room.new ≡ room.old)) }
     ensures free { WantsNone result }
 {
@@ -130,7 +136,8 @@ pub(crate) fn at_field_number<A: Allocator>(
     byte: u8,
 )
     requires { 0 < room.old }
-    ensures { (tests : Tests A) → definition_move tests (FieldNumber left) room.old definition.now byte ≡ Ok (state phase.new room.new (Some (Define definition.now)) [], None) }
+    ensures { (tests : Tests A) → definition_move tests (FieldNumber left) room.old definition.now
+        byte ≡ Ok (state phase.new room.new (Some (Define definition.now)) [], None) }
 {
     *room -= 1;
     *phase = Phase::Definition(DefinitionPhase::FieldSize { left, number: byte });
@@ -149,8 +156,10 @@ pub(crate) fn at_field_code<A: Allocator>(
 ) -> Result<bool, Stop>
     requires room { 0 < room.old }
     requires left { 0 < left }
-    ensures made { (tests : Tests A) → Defines phase.new room.new definition.new result (definition_move tests (FieldCode left number size) room.old definition.old byte) }
-    ensures err { OnErr result ((phase.new ≡ phase.old) × (room.new ≡ room.old) × (definition.new ≡ definition.old)) }
+    ensures made { (tests : Tests A) → Defines phase.new room.new definition.new result
+        (definition_move tests (FieldCode left number size) room.old definition.old byte) }
+    ensures err { OnErr result ((phase.new ≡ phase.old) × (room.new ≡ room.old)
+        × (definition.new ≡ definition.old)) }
 {
     let field = FieldDef {
         number,
@@ -183,7 +192,8 @@ pub(crate) fn at_dev_number<A: Allocator>(
     byte: u8,
 )
     requires { 0 < room.old }
-    ensures { (tests : Tests A) → definition_move tests (DevNumber left) room.old definition.now byte ≡ Ok (state phase.new room.new (Some (Define definition.now)) [], None) }
+    ensures { (tests : Tests A) → definition_move tests (DevNumber left) room.old definition.now
+        byte ≡ Ok (state phase.new room.new (Some (Define definition.now)) [], None) }
 {
     *room -= 1;
     *phase = Phase::Definition(DefinitionPhase::DevSize { left, number: byte });
@@ -203,8 +213,10 @@ pub(crate) fn at_dev_index<A: Allocator>(
     requires room { 0 < room.old }
     requires left { 0 < left }
     requires dev { IsSome definition.old.dev }
-    ensures made { (tests : Tests A) → Defines phase.new room.new definition.new result (definition_move tests (DevIndex left number size) room.old definition.old byte) }
-    ensures err { OnErr result ((phase.new ≡ phase.old) × (room.new ≡ room.old) × (definition.new ≡ definition.old)) }
+    ensures made { (tests : Tests A) → Defines phase.new room.new definition.new result
+        (definition_move tests (DevIndex left number size) room.old definition.old byte) }
+    ensures err { OnErr result ((phase.new ≡ phase.old) × (room.new ≡ room.old)
+        × (definition.new ≡ definition.old)) }
 {
     let field = DevDef {
         number,

@@ -3,7 +3,7 @@ ghost use Rattle.std.specs.Prelude.{◌≡◌, ◌<◌, OnErr, []};
 ghost use Rattle.fit_step.specs.declared.phase.Phase.TheVariants.{Definition};
 ghost use Rattle.fit_step.specs.Machine.{definition_move};
 ghost use Rattle.fit_step.specs.Places.{TakesNone, WantsNone};
-ghost use Rattle.fit_step.specs.Steps.{Defines, IsDefining};
+ghost use Rattle.fit_step.specs.inner.Steps.{Defines, IsDefining};
 ghost use Rattle.fit_step.specs.Tests.{tests_of};
 
 use crate::definition::{
@@ -26,8 +26,10 @@ pub(crate) fn definition_byte<A: Allocator>(
 ) -> Result<bool, Stop>
     requires room { 0 < room.old }
     requires defining { IsDefining part definition.old }
-    ensures made { Defines phase.new room.new definition.new result (definition_move (tests_of env.now) part room.old definition.old byte) }
-    ensures err { OnErr result ((phase.new ≡ phase.old) × (room.new ≡ room.old) × (definition.new ≡ definition.old)) }
+    ensures made { Defines phase.new room.new definition.new result
+        (definition_move (tests_of env.now) part room.old definition.old byte) }
+    ensures err { OnErr result ((phase.new ≡ phase.old) × (room.new ≡ room.old)
+        × (definition.new ≡ definition.old)) }
     ensures free { TakesNone env.now (Definition part) [] byte → WantsNone result }
 {
     match part {

@@ -1,7 +1,7 @@
 //! The record header byte (FIT protocol, "Record Header").
 ghost use Rattle.std.specs.Prelude.{◌≡◌, IfOk, IsOk, [], length, map, zip};
 ghost use Rattle.fit_record.specs.HeaderByte.{is_compressed, is_definition, has_developer_fields, has_reserved_bit, local_type};
-ghost use Rattle.fit_record.specs.Kept.{IsSound};
+ghost use Rattle.fit_record.specs.Sound.{IsSound};
 ghost use Rattle.fit_record.specs.Records.{layout, dev_layout};
 ghost use Rattle.fit_record.specs.Sizes.{HasNoFields};
 ghost use Rattle.fit_step.specs.Machine.{no_items, new_definition, new_message};
@@ -81,7 +81,8 @@ pub(crate) fn new_message<A: Allocator + Copy>(
     byte: u8,
 ) -> Result<Values<A>, AllocError>
     requires { IsSound defined.now }
-    ensures made { IfOk result (λ v. v ≡ new_message byte (layout defined.now) (dev_layout defined.now)) }
+    ensures made { IfOk result (λ v. v ≡ new_message byte (layout defined.now)
+        (dev_layout defined.now)) }
     ensures free { HasNoFields defined.now.definition → IsOk result }
 {
     let fields = empty_fields(alloc, defined.definition.fields.as_slice())?;
@@ -118,7 +119,8 @@ fn empty_fields<A: Allocator + Copy>(
     alloc: A,
     fields: &[FieldDef],
 ) -> Result<Entries<Items<A>, A>, AllocError>
-    ensures made { IfOk result (λ items. items ≡ map no_items (map (λ f. (f.code, f.size)) fields.now)) }
+    ensures made { IfOk result (λ items. items
+        ≡ map no_items (map (λ f. (f.code, f.size)) fields.now)) }
     ensures free { fields.now ≡ [] → IsOk result }
 {
     if fields.is_empty() {
@@ -138,7 +140,8 @@ fn empty_dev_fields<A: Allocator + Copy>(
     fields: &[DevDef],
 ) -> Result<Entries<Items<A>, A>, AllocError>
     requires { length codes.now ≡ length fields.now }
-    ensures made { IfOk result (λ items. items ≡ map no_items (zip codes.now (map (λ f. f.size) fields.now))) }
+    ensures made { IfOk result (λ items. items
+        ≡ map no_items (zip codes.now (map (λ f. f.size) fields.now))) }
     ensures free { fields.now ≡ [] → IsOk result }
 {
     if fields.is_empty() {

@@ -19,7 +19,9 @@ pub fn take_inside<A: Allocator>(
     byte: u8,
 ) -> bool
     requires { 0 < position.old.room }
-    ensures taken { (e : Environment A) → result ≡ true → step e (tests_of e) (state_at position.old in_progress.now) byte ≡ Ok (state_at position.new in_progress.now, None) }
+    ensures taken { (e : Environment A) → result ≡ true
+        → step e (tests_of e) (state_at position.old in_progress.now) byte
+        ≡ Ok (state_at position.new in_progress.now, None) }
     ensures same { result ≡ false → position.new ≡ position.old }
 {
     if !is_message(in_progress) {

@@ -2,12 +2,12 @@
 ghost use Rattle.std.specs.Prelude.{◌≡◌, ℕ, ◌+◌, ◌<◌, ◌≤◌, ◌⊎◌, IsOk, OnOk, OnErr, Some, [], ◌∷◌, ◌++◌, length, drop, map, zip};
 ghost use Rattle.fit_record.specs.declared.message.Values.{Values};
 ghost use Rattle.fit_record.specs.declared.message.Record.TheVariants.{Values as Data};
-ghost use Rattle.fit_record.specs.Kept.{IsSound};
+ghost use Rattle.fit_record.specs.Sound.{IsSound};
 ghost use Rattle.fit_record.specs.Environment.{Environment, dev_defs, defined_at};
 ghost use Rattle.fit_record.specs.Records.{layout, dev_layout};
 ghost use Rattle.fit_step.specs.Machine.{with_number, beyond_number, add_number, begin_dev, begin_fields, field_move, dev_move};
 ghost use Rattle.fit_step.specs.Places.{WantsNone};
-ghost use Rattle.fit_step.specs.Steps.{next_from, begun, IsReading, Made};
+ghost use Rattle.fit_step.specs.inner.Steps.{next_with_bytes, message_begun, IsInField, Made};
 
 use crate::partial::Partial;
 use crate::{Phase, Stop};
@@ -46,7 +46,9 @@ fn take_byte<A: Allocator + Copy>(
     requires width { (width ≡ 1) ⊎ (width ≡ 2) ⊎ (width ≡ 4) ⊎ (width ≡ 8) }
     requires place { place < length fields.old }
     requires short { length partial.old < width }
-    ensures ok { OnOk result ((fields.new ≡ with_number order width place fields.old (partial.old ++ byte ∷ [])) × (partial.new ≡ beyond_number width (partial.old ++ byte ∷ []))) }
+    ensures ok { OnOk result ((fields.new ≡ with_number order width place fields.old
+        (partial.old ++ byte ∷ [])) × (partial.new
+        ≡ beyond_number width (partial.old ++ byte ∷ []))) }
     ensures err { OnErr result ((fields.new ≡ fields.old) × (partial.new ≡ partial.old)) }
     ensures free { length partial.old + 1 < width → IsOk result }
 {
@@ -65,7 +67,7 @@ fn take_byte<A: Allocator + Copy>(
 fn field_from(fields: &[FieldDef], from: usize) -> Option<(u8, u8, u8)>
     requires few { length fields.now < 256 }
     requires from { from ≤ length fields.now }
-    ensures { result ≡ next_from from (map (λ f. (f.code, f.size)) (drop from fields.now)) }
+    ensures { result ≡ next_with_bytes from (map (λ f. (f.code, f.size)) (drop from fields.now)) }
 {
     for i in from..fields.len() {
         let field = fields[i];
@@ -81,7 +83,8 @@ fn dev_from(codes: &[u8], fields: &[DevDef], from: usize) -> Option<(u8, u8, u8)
     requires few { length fields.now < 256 }
     requires codes { length codes.now ≡ length fields.now }
     requires from { from ≤ length fields.now }
-    ensures { result ≡ next_from from (zip (drop from codes.now) (map (λ f. f.size) (drop from fields.now))) }
+    ensures { result ≡ next_with_bytes from (zip (drop from codes.now)
+        (map (λ f. f.size) (drop from fields.now))) }
 {
     for i in from..fields.len() {
         let field = fields[i];
@@ -97,7 +100,7 @@ fn dev_from(codes: &[u8], fields: &[DevDef], from: usize) -> Option<(u8, u8, u8)
 fn first_dev<A: Allocator>(defined: &Defined<A>, from: usize) -> Option<(u8, u8, u8)>
     requires sound { IsSound defined.now }
     requires from { from ≤ length (dev_defs defined.now.definition.dev) }
-    ensures { result ≡ next_from from (drop from (dev_layout defined.now)) }
+    ensures { result ≡ next_with_bytes from (drop from (dev_layout defined.now)) }
 {
     match &defined.definition.dev {
         Some(dev) => dev_from(defined.dev_codes.as_slice(), dev.as_slice(), from),
@@ -109,7 +112,8 @@ fn first_dev<A: Allocator>(defined: &Defined<A>, from: usize) -> Option<(u8, u8,
 pub(crate) fn begin_dev<A: Allocator>(defined: &Defined<A>, from: usize, phase: &mut Phase) -> bool
     requires sound { IsSound defined.now }
     requires from { from ≤ length (dev_defs defined.now.definition.dev) }
-    ensures { (room : ℕ) (v : Values A) → begin_dev room v from (drop from (dev_layout defined.now)) ≡ begun result phase.new room v }
+    ensures { (room : ℕ) (v : Values A) → begin_dev room v from (drop from (dev_layout defined.now))
+        ≡ message_begun result phase.new room v }
 {
     match first_dev(defined, from) {
         Some((place, width, left)) => {
@@ -132,7 +136,8 @@ pub(crate) fn begin_fields<A: Allocator>(
 ) -> bool
     requires sound { IsSound defined.now }
     requires from { from ≤ length defined.now.definition.fields }
-    ensures { (room : ℕ) (v : Values A) → begin_fields room v from (drop from (layout defined.now)) (dev_layout defined.now) ≡ begun result phase.new room v }
+    ensures { (room : ℕ) (v : Values A) → begin_fields room v from (drop from (layout defined.now))
+        (dev_layout defined.now) ≡ message_begun result phase.new room v }
 {
     match field_from(defined.definition.fields.as_slice(), from) {
         Some((place, width, left)) => {
@@ -159,10 +164,14 @@ pub(crate) fn at_field_items<A: Allocator + Copy>(
 ) -> Result<bool, Stop>
     requires room { 0 < room.old }
     requires sound { IsSound defined.now }
-    requires reading { IsReading (length defined.now.definition.fields) place width left partial.old }
+    requires reading { IsInField (length defined.now.definition.fields) place width left
+        partial.old }
     requires fields { length values.old.fields ≡ length defined.now.definition.fields }
-    ensures made { (e : Environment A) → defined_at e values.old.local ≡ Some defined.now → Made phase.new room.new (Some (Data values.new)) partial.new result (field_move e place width left room.old values.old partial.old byte) }
-    ensures err { OnErr result ((phase.new ≡ phase.old) × (room.new ≡ room.old) × (partial.new ≡ partial.old) × (values.new ≡ values.old)) }
+    ensures made { (e : Environment A) → defined_at e values.old.local ≡ Some defined.now
+        → Made phase.new room.new (Some (Data values.new)) partial.new result
+        (field_move e place width left room.old values.old partial.old byte) }
+    ensures err { OnErr result ((phase.new ≡ phase.old) × (room.new ≡ room.old)
+        × (partial.new ≡ partial.old) × (values.new ≡ values.old)) }
     ensures free { length partial.old + 1 < width → WantsNone result }
 {
     let order = defined.definition.order;
@@ -208,10 +217,14 @@ pub(crate) fn at_dev_items<A: Allocator + Copy>(
 ) -> Result<bool, Stop>
     requires room { 0 < room.old }
     requires sound { IsSound defined.now }
-    requires reading { IsReading (length (dev_defs defined.now.definition.dev)) place width left partial.old }
+    requires reading { IsInField (length (dev_defs defined.now.definition.dev)) place width left
+        partial.old }
     requires dev { length values.old.dev ≡ length (dev_defs defined.now.definition.dev) }
-    ensures made { (e : Environment A) → defined_at e values.old.local ≡ Some defined.now → Made phase.new room.new (Some (Data values.new)) partial.new result (dev_move e place width left room.old values.old partial.old byte) }
-    ensures err { OnErr result ((phase.new ≡ phase.old) × (room.new ≡ room.old) × (partial.new ≡ partial.old) × (values.new ≡ values.old)) }
+    ensures made { (e : Environment A) → defined_at e values.old.local ≡ Some defined.now
+        → Made phase.new room.new (Some (Data values.new)) partial.new result
+        (dev_move e place width left room.old values.old partial.old byte) }
+    ensures err { OnErr result ((phase.new ≡ phase.old) × (room.new ≡ room.old)
+        × (partial.new ≡ partial.old) × (values.new ≡ values.old)) }
     ensures free { length partial.old + 1 < width → WantsNone result }
 {
     let order = defined.definition.order;

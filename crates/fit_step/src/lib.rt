@@ -28,4 +28,4 @@ pub use read_definition::whole_definition;
 pub use skipping::skip_records;
 pub use stop::Stop;
 pub use undone::undo;
-pub use whole::whole_message;
+pub use whole::whole_record;

@@ -2,8 +2,8 @@
 ghost use Rattle.std.specs.Prelude.{◌≡◌, ◌+◌, ◌<◌, OnErr, IfOk, Some, []};
 ghost use Rattle.fit_record.specs.declared.message.Record.TheVariants.{Define, Values as Data};
 ghost use Rattle.fit_step.specs.Machine.{step, step_at};
-ghost use Rattle.fit_step.specs.Places.{state_at, Keeps, Stands, Steps, TakesNone, WantsNone};
-ghost use Rattle.fit_step.specs.Steps.{state, Defines, DefinesAt, Made, ReadsAt};
+ghost use Rattle.fit_step.specs.Places.{state_at, KeepsPart, PartFitsRoom, Steps, TakesNone, WantsNone};
+ghost use Rattle.fit_step.specs.inner.Steps.{state, Defines, DefinesAt, Made, ReadsAt};
 ghost use Rattle.fit_step.specs.Tests.{tests_of};
 
 use crate::definition_byte::definition_byte;
@@ -27,12 +27,14 @@ pub fn step<A: Allocator + Copy>(
     byte: u8,
 ) -> Result<(Position, bool), Stop>
     requires room { 0 < position.now.room }
-    requires stands { Stands env.now (state_at position.now in_progress.old) }
-    ensures made { Steps in_progress.new result (step env.now (tests_of env.now) (state_at position.now in_progress.old) byte) }
-    ensures kept { IfOk result (λ next. Keeps env.now in_progress.new next) }
+    requires stands { PartFitsRoom env.now (state_at position.now in_progress.old) }
+    ensures made { Steps in_progress.new result
+        (step env.now (tests_of env.now) (state_at position.now in_progress.old) byte) }
+    ensures kept { IfOk result (λ next. KeepsPart env.now in_progress.new next) }
     ensures room { IfOk result (λ next. next.0.room + 1 ≡ position.now.room) }
     ensures err { OnErr result (in_progress.new ≡ in_progress.old) }
-    ensures free { TakesNone env.now position.now.phase position.now.partial byte → WantsNone result }
+    ensures free { TakesNone env.now position.now.phase position.now.partial byte
+        → WantsNone result }
 {
     let mut phase = position.phase;
     let mut room = position.room;
@@ -66,8 +68,10 @@ fn take<A: Allocator + Copy>(
     byte: u8,
 ) -> Result<bool, Stop>
     requires room { 0 < room.old }
-    requires stands { Stands env.now (state phase.old room.old in_progress.old partial.old) }
-    ensures made { Made phase.new room.new in_progress.new partial.new result (step env.now (tests_of env.now) (state phase.old room.old in_progress.old partial.old) byte) }
+    requires stands { PartFitsRoom env.now (state phase.old room.old in_progress.old partial.old) }
+    ensures made { Made phase.new room.new in_progress.new partial.new result
+        (step env.now (tests_of env.now) (state phase.old room.old in_progress.old partial.old)
+        byte) }
     ensures err { OnErr result (in_progress.new ≡ in_progress.old) }
     ensures free { TakesNone env.now phase.old partial.old byte → WantsNone result }
 {
@@ -94,7 +98,9 @@ fn in_definition<A: Allocator>(
 ) -> Result<bool, Stop>
     requires room { 0 < room.old }
     requires defines { DefinesAt phase.old definition.old }
-    ensures made { Defines phase.new room.new definition.new result (step_at env.now (tests_of env.now) phase.old (state phase.old room.old (Some (Define definition.old)) []) byte) }
+    ensures made { Defines phase.new room.new definition.new result
+        (step_at env.now (tests_of env.now) phase.old
+        (state phase.old room.old (Some (Define definition.old)) []) byte) }
     ensures err { OnErr result (definition.new ≡ definition.old) }
     ensures free { TakesNone env.now phase.old [] byte → WantsNone result }
 {
@@ -116,7 +122,9 @@ fn in_message<A: Allocator + Copy>(
 ) -> Result<bool, Stop>
     requires room { 0 < room.old }
     requires reads { ReadsAt env.now phase.old values.old partial.old }
-    ensures made { Made phase.new room.new (Some (Data values.new)) partial.new result (step_at env.now (tests_of env.now) phase.old (state phase.old room.old (Some (Data values.old)) partial.old) byte) }
+    ensures made { Made phase.new room.new (Some (Data values.new)) partial.new result
+        (step_at env.now (tests_of env.now) phase.old
+        (state phase.old room.old (Some (Data values.old)) partial.old) byte) }
     ensures err { OnErr result (values.new ≡ values.old) }
     ensures free { TakesNone env.now phase.old partial.old byte → WantsNone result }
 {

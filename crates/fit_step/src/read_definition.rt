@@ -1,13 +1,15 @@
 //! Definition messages of which all bytes stand in one piece.
-ghost use Rattle.std.specs.Prelude.{◌≡◌, ◌*◌, ◌<◌, ◌≤◌, IfOk, IfSome, [], ◌∷◌, flat_map, length, take};
+ghost use Rattle.std.specs.Prelude.{◌≡◌, ◌-◌, ◌*◌, ◌<◌, ◌≤◌, IfOk, IfSome, [], ◌∷◌, flat_map, length, take};
 ghost use Rattle.fit_base.specs.Numbers.{number};
 ghost use Rattle.fit_record.specs.declared.message.Record.TheVariants.{Define};
 ghost use Rattle.fit_record.specs.Environment.{Environment};
-ghost use Rattle.fit_record.specs.Records.{architecture, field_bytes, IsRecord};
+ghost use Rattle.fit_record.specs.Records.{architecture, field_bytes, Fits, IsRecord};
+ghost use Rattle.fit_step.specs.Machine.{start, Ends};
+ghost use Rattle.fit_step.specs.Tests.{tests_of};
 
 use crate::header::{has_developer_fields, has_reserved_bit, is_definition, local_type};
 use fit_base::{Entries, Order};
-use fit_record::{FieldDef, MessageDef};
+use fit_record::{Env, FieldDef, MessageDef};
 use std::alloc::{AllocError, Allocator};
 
 /// The byte order that an architecture names.
@@ -62,7 +64,8 @@ pub fn whole_definition<A: Allocator + Copy>(
     piece: &[u8],
 ) -> Option<(MessageDef<A>, usize)>
     ensures within { IfSome result (λ found. (0 < found.1) × (found.1 ≤ length piece.now)) }
-    ensures record { (e : Environment A) → IfSome result (λ found. IsRecord e (Define found.0) (take found.1 piece.now)) }
+    ensures record { (e : Environment A) → IfSome result
+        (λ found. IsRecord e (Define found.0) (take found.1 piece.now)) }
 {
     let (header, rest) = piece.split_first()?;
     let byte = *header;
@@ -92,4 +95,26 @@ pub fn whole_definition<A: Allocator + Copy>(
         dev: None,
     };
     Some((definition, 6 + size))
+}
+
+/// The same where six bytes or more of the data section are to come after it: records can fill them, whatever is defined.
+pub(crate) fn definition_within<A: Allocator + Copy>(
+    alloc: A,
+    env: &Env<A>,
+    room: u32,
+    piece: &[u8],
+) -> Option<(MessageDef<A>, usize)>
+    ensures within { IfSome result (λ found. (0 < found.1) × (found.1 ≤ length piece.now)
+        × (found.1 ≤ room)) }
+    ensures fits { IfSome result (λ found. Fits env.now (Define found.0)) }
+    ensures ends { IfSome result (λ found. Ends env.now (tests_of env.now) (start room)
+        (take found.1 piece.now) (start (room - found.1)) (Define found.0)) }
+{
+    let (definition, used) = whole_definition(alloc, piece)?;
+    if room < 6 || used > (room - 6) as usize {
+        return None;
+    }
+    // The check knows that there are sixteen places where one is asked for its length.
+    let _ = env.length(definition.local);
+    Some((definition, used))
 }

@@ -2,13 +2,13 @@
 ghost use Rattle.std.specs.Prelude.{◌≡◌, ◌-◌, ◌<◌, ◌⊎◌, IfOk, IfErr, IsTrue, IsSomeAnd, Ok, Err, Some};
 ghost use Rattle.fit_record.specs.Environment.{defined_at};
 ghost use Rattle.fit_record.specs.HeaderByte.{is_definition, local_type};
-ghost use Rattle.fit_record.specs.Kept.{IsSound};
+ghost use Rattle.fit_record.specs.Sound.{IsSound};
 ghost use Rattle.fit_record.specs.Records.{layout, dev_layout};
 ghost use Rattle.fit_record.specs.Sizes.{HasNoFields, HeadsEmptyMessage};
 ghost use Rattle.fit_step.specs.Reasons.{least_definition};
 ghost use Rattle.fit_step.specs.Machine.{begin_fields, header_move, message_move, new_message};
 ghost use Rattle.fit_step.specs.Places.{WantsNone};
-ghost use Rattle.fit_step.specs.Steps.{Enters};
+ghost use Rattle.fit_step.specs.inner.Steps.{Enters};
 ghost use Rattle.fit_step.specs.Tests.{tests_of};
 
 use crate::header::{
@@ -23,9 +23,14 @@ use std::alloc::Allocator;
 /// The definition of a data message that begins, or why its record header is refused.
 fn defined_for<A: Allocator>(env: &Env<A>, room: u32, byte: u8) -> Result<&Defined<A>, Reason>
     requires { 0 < room }
-    ensures ok { IfOk result (λ p. (defined_at env.now (local_type byte) ≡ Some p.now) × IsSound p.now) }
-    ensures goes { IfOk result (λ p. message_move (tests_of env.now) room byte (defined_at env.now (local_type byte)) ≡ Ok (begin_fields (room - 1) (new_message byte (layout p.now) (dev_layout p.now)) 0 (layout p.now) (dev_layout p.now))) }
-    ensures err { IfErr result (λ reason. message_move (tests_of env.now) room byte (defined_at env.now (local_type byte)) ≡ Err reason) }
+    ensures ok { IfOk result (λ p. (defined_at env.now (local_type byte) ≡ Some p.now)
+        × IsSound p.now) }
+    ensures goes { IfOk result (λ p. message_move (tests_of env.now) room byte
+        (defined_at env.now (local_type byte))
+        ≡ Ok (begin_fields (room - 1) (new_message byte (layout p.now) (dev_layout p.now)) 0
+        (layout p.now) (dev_layout p.now))) }
+    ensures err { IfErr result (λ reason. message_move (tests_of env.now) room byte
+        (defined_at env.now (local_type byte)) ≡ Err reason) }
 {
     let local = local_type(byte);
     let Some(defined) = env.defined(local) else {
@@ -52,8 +57,10 @@ fn at_message<A: Allocator + Copy>(
     byte: u8,
 ) -> Result<(Record<A>, bool), Stop>
     requires room { 0 < room.old }
-    ensures made { Enters phase.new room.new result (message_move (tests_of env.now) room.old byte (defined_at env.now (local_type byte))) }
-    ensures free { IsSomeAnd (defined_at env.now (local_type byte)) (λ p. HasNoFields p.definition) → WantsNone result }
+    ensures made { Enters phase.new room.new result
+        (message_move (tests_of env.now) room.old byte (defined_at env.now (local_type byte))) }
+    ensures free { IsSomeAnd (defined_at env.now (local_type byte)) (λ p. HasNoFields p.definition)
+        → WantsNone result }
 {
     let defined = match defined_for(env, *room, byte) {
         Ok(defined) => defined,
@@ -77,7 +84,8 @@ pub(crate) fn at_record_header<A: Allocator + Copy>(
     byte: u8,
 ) -> Result<(Record<A>, bool), Stop>
     requires room { 0 < room.old }
-    ensures made { Enters phase.new room.new result (header_move env.now (tests_of env.now) room.old byte) }
+    ensures made { Enters phase.new room.new result
+        (header_move env.now (tests_of env.now) room.old byte) }
     ensures free { IsTrue (is_definition byte) ⊎ HeadsEmptyMessage env.now byte → WantsNone result }
 {
     if has_reserved_bit(byte) {

@@ -4,7 +4,7 @@ ghost use Rattle.fit_record.specs.Records.{DefinitionFits};
 ghost use Rattle.fit_step.specs.declared.phase.DefinitionPhase.TheVariants.{FieldSize, DevCount, DevSize};
 ghost use Rattle.fit_step.specs.Machine.{definition_move};
 ghost use Rattle.fit_step.specs.Places.{WantsNone};
-ghost use Rattle.fit_step.specs.Steps.{Defines, DefinesOn};
+ghost use Rattle.fit_step.specs.inner.Steps.{Defines, DefinesOn};
 ghost use Rattle.fit_step.specs.Tests.{tests_of, entries_complete};
 
 use crate::{DefinitionPhase, Phase, Stop};
@@ -22,7 +22,8 @@ fn entries_complete<A: Allocator>(
     room: u32,
 ) -> bool
     requires { definition.now.local < 16 }
-    ensures { result ≡ entries_complete env.now definition.now.dev definition.now.local to_come size room }
+    ensures { result ≡ entries_complete env.now definition.now.dev definition.now.local to_come size
+        room }
 {
     match &definition.dev {
         None => env.can_complete(definition.local, to_come, size, room),
@@ -44,7 +45,8 @@ pub(crate) fn at_field_size<A: Allocator>(
     requires room { 0 < room.old }
     requires left { 0 < left }
     requires fits { DefinitionFits definition.now }
-    ensures made { DefinesOn phase.new room.new definition.now result (definition_move (tests_of env.now) (FieldSize left number) room.old definition.now byte) }
+    ensures made { DefinesOn phase.new room.new definition.now result
+        (definition_move (tests_of env.now) (FieldSize left number) room.old definition.now byte) }
     ensures err { OnErr result ((phase.new ≡ phase.old) × (room.new ≡ room.old)) }
     ensures free { WantsNone result }
 {
@@ -73,7 +75,8 @@ pub(crate) fn at_dev_count<A: Allocator>(
 ) -> Result<bool, Stop>
     requires room { 0 < room.old }
     requires fits { DefinitionFits definition.now }
-    ensures made { Defines phase.new room.new definition.now result (definition_move (tests_of env.now) DevCount room.old definition.now byte) }
+    ensures made { Defines phase.new room.new definition.now result
+        (definition_move (tests_of env.now) DevCount room.old definition.now byte) }
     ensures err { OnErr result ((phase.new ≡ phase.old) × (room.new ≡ room.old)) }
     ensures free { WantsNone result }
 {
@@ -112,7 +115,8 @@ pub(crate) fn at_dev_size<A: Allocator>(
     requires room { 0 < room.old }
     requires left { 0 < left }
     requires fits { DefinitionFits definition.now }
-    ensures made { DefinesOn phase.new room.new definition.now result (definition_move (tests_of env.now) (DevSize left number) room.old definition.now byte) }
+    ensures made { DefinesOn phase.new room.new definition.now result
+        (definition_move (tests_of env.now) (DevSize left number) room.old definition.now byte) }
     ensures err { OnErr result ((phase.new ≡ phase.old) × (room.new ≡ room.old)) }
     ensures free { WantsNone result }
 {

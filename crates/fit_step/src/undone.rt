@@ -9,9 +9,9 @@ ghost use Rattle.fit_record.specs.declared.message.Record.TheVariants.{Define, V
 ghost use Rattle.fit_record.specs.declared.message.Values.{Values};
 ghost use Rattle.fit_record.specs.Environment.{Environment, dev_defs};
 ghost use Rattle.fit_step.specs.Machine.{State, add_number, step};
-ghost use Rattle.fit_step.specs.Places.{state_at, Stands};
+ghost use Rattle.fit_step.specs.Places.{state_at, PartFitsRoom};
 ghost use Rattle.fit_step.specs.Tests.{tests_of};
-ghost use Rattle.fit_step.specs.Undone.{Adds, AddsEntry};
+ghost use Rattle.fit_step.specs.inner.Undone.{Adds, AddsEntry};
 
 use crate::{DefinitionPhase, Phase, Position};
 use fit_base::{Entries, Items};
@@ -24,7 +24,10 @@ use std::mem;
 /// `position` is that before the byte. The record in progress is then again what it was before the byte, and keeps its
 /// memory, so that the byte can come again.
 pub fn undo<A: Allocator + Copy>(alloc: A, position: &Position, in_progress: &mut Option<Record<A>>)
-    ensures { (e : Environment A) (before : Option (Record A)) (r : Record A) (byte : ℕ) (left : State A) → byte < 256 → Stands e (state_at position.now before) → step e (tests_of e) (state_at position.now before) byte ≡ Ok (left, Some r) → in_progress.old ≡ Some r → in_progress.new ≡ before }
+    ensures { (e : Environment A) (before : Option (Record A)) (r : Record A) (byte : ℕ)
+        (left : State A) → byte < 256 → PartFitsRoom e (state_at position.now before)
+        → step e (tests_of e) (state_at position.now before) byte ≡ Ok (left, Some r)
+        → in_progress.old ≡ Some r → in_progress.new ≡ before }
 {
     let Some(whole) = in_progress.take() else {
         return;
@@ -60,7 +63,8 @@ fn before<A: Allocator + Copy>(alloc: A, phase: Phase, whole: Record<A>) -> Opti
 
 /// Takes the last field or developer field away, where one has just come.
 fn take_entry<A: Allocator>(part: DefinitionPhase, definition: &mut MessageDef<A>)
-    ensures { (before : MessageDef A) → AddsEntry part before definition.old → definition.new ≡ before }
+    ensures { (before : MessageDef A) → AddsEntry part before definition.old
+        → definition.new ≡ before }
 {
     match part {
         DefinitionPhase::FieldCode { .. } => take_field(definition),
@@ -71,14 +75,18 @@ fn take_entry<A: Allocator>(part: DefinitionPhase, definition: &mut MessageDef<A
 
 /// Takes the last field away.
 fn take_field<A: Allocator>(definition: &mut MessageDef<A>)
-    ensures { (before : MessageDef A) (f : FieldDef) → definition.old ≡ record before { fields = before.fields ++ f ∷ [] } → definition.new ≡ before }
+    ensures { (before : MessageDef A) (f : FieldDef)
+        → definition.old ≡ record before { fields = before.fields ++ f ∷ [] }
+        → definition.new ≡ before }
 {
     definition.fields.pop();
 }
 
 /// Takes the last developer field away.
 fn take_dev_field<A: Allocator>(definition: &mut MessageDef<A>)
-    ensures { (before : MessageDef A) (f : DevDef) → IsSome before.dev → definition.old ≡ record before { dev = Some (dev_defs before.dev ++ f ∷ []) } → definition.new ≡ before }
+    ensures { (before : MessageDef A) (f : DevDef) → IsSome before.dev
+        → definition.old ≡ record before { dev = Some (dev_defs before.dev ++ f ∷ []) }
+        → definition.new ≡ before }
 {
     let Some(mut dev) = definition.dev.take() else {
         return;
@@ -89,7 +97,8 @@ fn take_dev_field<A: Allocator>(definition: &mut MessageDef<A>)
 
 /// Takes the last number of a field away.
 fn take_number<A: Allocator + Copy>(alloc: A, fields: &mut Entries<Items<A>, A>, place: u8)
-    ensures { (before : List (Items A)) (n : ℕ) → place < length before → fields.old ≡ add_number place before n → fields.new ≡ before }
+    ensures { (before : List (Items A)) (n : ℕ) → place < length before
+        → fields.old ≡ add_number place before n → fields.new ≡ before }
 {
     if place as usize >= fields.len() {
         return;

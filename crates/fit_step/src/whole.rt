@@ -1,19 +1,21 @@
-//! Data messages of which all bytes stand in one piece.
-ghost use Rattle.std.specs.Prelude.{◌≡◌, ◌-◌, ◌%◌, ◌<◌, ◌≤◌, if◌then◌else◌, IfOk, IfSome, Some, None, false, [], length, map, sum_by, take};
+//! Records of which all bytes stand in one piece.
+ghost use Rattle.std.specs.Prelude.{◌≡◌, ◌-◌, ◌%◌, ◌<◌, ◌≤◌, if◌then◌else◌, IfOk, IfSome, Some, None, length, map, sum_by, take, drop, zip};
 ghost use Rattle.fit_record.specs.declared.message.Record.TheVariants.{Values as Data};
-ghost use Rattle.fit_record.specs.Environment.{dev_defs};
 ghost use Rattle.fit_record.specs.HeaderByte.{is_compressed};
-ghost use Rattle.fit_record.specs.ReadMessages.{field_of, fields_of};
-ghost use Rattle.fit_record.specs.Records.{Fits};
+ghost use Rattle.fit_record.specs.inner.ReadMessages.{field_from, fields_from};
+ghost use Rattle.fit_record.specs.Records.{sizes, layout, dev_layout, message_size, Fits};
+ghost use Rattle.fit_record.specs.Sound.{IsSound};
 ghost use Rattle.fit_step.specs.Machine.{start, Ends};
 ghost use Rattle.fit_step.specs.Tests.{tests_of};
 
 use crate::header::{has_reserved_bit, is_compressed, is_definition, local_type};
+use crate::read_definition::definition_within;
 use fit_base::{Bits, Code, Entries, Items, Order, bits_at, width_of};
-use fit_record::{Defined, Env, FieldDef, Values};
+use fit_record::{Defined, DevDef, Env, FieldDef, Record, Values};
 use std::alloc::{AllocError, Allocator};
 
 /// The items that the bytes of a field are.
+#[inline(always)]
 fn read_field<A: Allocator + Copy>(
     alloc: A,
     order: Order,
@@ -22,7 +24,7 @@ fn read_field<A: Allocator + Copy>(
     bytes: &[u8],
 ) -> Result<Items<A>, AllocError>
     requires { length bytes.now ≡ size }
-    ensures { IfOk result (λ items. items ≡ field_of order (code, size) bytes.now) }
+    ensures { IfOk result (λ items. items ≡ field_from order (code, size) bytes.now) }
 {
     let width = width_of(Code(code), size);
     let count = size / width;
@@ -51,7 +53,8 @@ fn read_fields<A: Allocator + Copy>(
     bytes: &[u8],
 ) -> Result<Entries<Items<A>, A>, AllocError>
     requires { length bytes.now ≡ sum_by (λ f. f.size) fields.now }
-    ensures { IfOk result (λ items. items ≡ fields_of order (map (λ f. (f.code, f.size)) fields.now) bytes.now) }
+    ensures { IfOk result (λ items. items ≡ fields_from order
+        (map (λ f. (f.code, f.size)) fields.now) bytes.now) }
 {
     let mut items = Entries::with_capacity(alloc, fields.len())?;
     let mut rest = bytes;
@@ -63,18 +66,113 @@ fn read_fields<A: Allocator + Copy>(
     Ok(items)
 }
 
-/// The data message that begins the piece, where all its bytes stand there, and how many they are. There is none where the
-/// message has developer fields, where a byte is to be refused, and where memory is refused: then its bytes come one by one.
-pub fn whole_message<A: Allocator + Copy>(
+/// The items that the bytes of developer fields with these base type codes are, one field behind another.
+fn read_dev_fields<A: Allocator + Copy>(
+    alloc: A,
+    order: Order,
+    codes: &[u8],
+    fields: &[DevDef],
+    bytes: &[u8],
+) -> Result<Entries<Items<A>, A>, AllocError>
+    requires codes { length codes.now ≡ length fields.now }
+    requires length { length bytes.now ≡ sizes (zip codes.now (map (λ f. f.size) fields.now)) }
+    ensures { IfOk result (λ items. items ≡ fields_from order
+        (zip codes.now (map (λ f. f.size) fields.now)) bytes.now) }
+{
+    let mut items = Entries::with_capacity(alloc, fields.len())?;
+    let mut rest = bytes;
+    for place in 0..fields.len() {
+        let size = fields[place].size;
+        let (here, behind) = rest.split_at(size as usize);
+        items.push(read_field(alloc, order, codes[place], size, here)?)?;
+        rest = behind;
+    }
+    Ok(items)
+}
+
+/// The same of a definition's developer fields.
+fn read_dev<A: Allocator + Copy>(
+    alloc: A,
+    defined: &Defined<A>,
+    bytes: &[u8],
+) -> Result<Entries<Items<A>, A>, AllocError>
+    requires sound { IsSound defined.now }
+    requires length { length bytes.now ≡ sizes (dev_layout defined.now) }
+    ensures { IfOk result (λ items. items ≡ fields_from defined.now.definition.order
+        (dev_layout defined.now) bytes.now) }
+{
+    match &defined.definition.dev {
+        None => Ok(Entries::new(alloc)),
+        Some(dev) => read_dev_fields(
+            alloc,
+            defined.definition.order,
+            defined.dev_codes.as_slice(),
+            dev.as_slice(),
+            bytes,
+        ),
+    }
+}
+
+/// The sum of the sizes of developer fields.
+fn sum_of_sizes(fields: &[DevDef]) -> usize
+    requires { length fields.now < 256 }
+    ensures { result ≡ sum_by (λ f. f.size) fields.now }
+{
+    let mut sum = 0;
+    for field in fields {
+        sum += field.size as usize;
+    }
+    sum
+}
+
+/// How many bytes the developer fields of a data message have.
+fn dev_size<A: Allocator>(defined: &Defined<A>) -> usize
+    requires { IsSound defined.now }
+    ensures { result ≡ sizes (dev_layout defined.now) }
+{
+    match &defined.definition.dev {
+        None => 0,
+        Some(dev) => sum_of_sizes(dev.as_slice()),
+    }
+}
+
+/// The items of the fields and of the developer fields that the bytes behind a record header are.
+fn read_body<A: Allocator + Copy>(
+    alloc: A,
+    defined: &Defined<A>,
+    bytes: &[u8],
+) -> Result<(Entries<Items<A>, A>, Entries<Items<A>, A>), AllocError>
+    requires sound { IsSound defined.now }
+    requires length { length bytes.now ≡ message_size defined.now }
+    ensures { IfOk result (λ r. (r.0 ≡ fields_from defined.now.definition.order (layout defined.now)
+        (take (sizes (layout defined.now)) bytes.now))
+        × (r.1 ≡ fields_from defined.now.definition.order (dev_layout defined.now)
+        (drop (sizes (layout defined.now)) bytes.now))) }
+{
+    let (front, back) = bytes.split_at(bytes.len() - dev_size(defined));
+    let fields = read_fields(
+        alloc,
+        defined.definition.order,
+        defined.definition.fields.as_slice(),
+        front,
+    )?;
+    Ok((fields, read_dev(alloc, defined, back)?))
+}
+
+/// The data message that begins the piece, where all its bytes stand there, and how many they are. There is none where a byte is
+/// to be refused, and where memory is refused: then its bytes come one by one.
+fn whole_message<A: Allocator + Copy>(
     alloc: A,
     env: &Env<A>,
     room: u32,
     piece: &[u8],
 ) -> Option<(Values<A>, usize)>
     requires { 0 < room }
-    ensures within { IfSome result (λ found. (0 < found.1) × (found.1 ≤ length piece.now) × (found.1 ≤ room)) }
+    ensures within { IfSome result (λ found. (0 < found.1) × (found.1 ≤ length piece.now)
+        × (found.1 ≤ room)) }
     ensures fits { IfSome result (λ found. Fits env.now (Data found.0)) }
-    ensures ends { IfSome result (λ found. Ends env.now (tests_of env.now) (start room) (take found.1 piece.now) (start (room - found.1)) (Data found.0)) }
+    ensures ends { IfSome result (λ found. Ends env.now (tests_of env.now) (start room)
+        (take found.1 piece.now) (start (room - found.1)) (Data found.0)) }
 {
     let (first, rest) = piece.split_first()?;
     let byte = *first;
@@ -84,21 +182,42 @@ pub fn whole_message<A: Allocator + Copy>(
     let local = local_type(byte);
     let defined = env.defined(local)?;
     let size = env.length(local)?;
-    if has_dev_fields(defined) || rest.len() < size as usize || !env.can_carry(local, room - 1) {
+    if rest.len() < size as usize || !env.can_carry(local, room - 1) {
         return None;
     }
     let (body, _) = rest.split_at(size as usize);
-    let order = defined.definition.order;
-    let Ok(fields) = read_fields(alloc, order, defined.definition.fields.as_slice(), body) else {
+    let Ok((fields, dev)) = read_body(alloc, defined, body) else {
         return None;
     };
     let values = Values {
         local,
         offset: time_offset(byte),
         fields,
-        dev: Entries::new(alloc),
+        dev,
     };
     Some((values, 1 + size as usize))
+}
+
+/// The record that begins the piece, where all its bytes stand there, and how many they are. There is none where its bytes are to
+/// come one by one: as where one is to be refused, where memory is refused, and where a definition message has developer fields.
+pub fn whole_record<A: Allocator + Copy>(
+    alloc: A,
+    env: &Env<A>,
+    room: u32,
+    piece: &[u8],
+) -> Option<(Record<A>, usize)>
+    requires { 0 < room }
+    ensures within { IfSome result (λ found. (0 < found.1) × (found.1 ≤ length piece.now)
+        × (found.1 ≤ room)) }
+    ensures fits { IfSome result (λ found. Fits env.now found.0) }
+    ensures ends { IfSome result (λ found. Ends env.now (tests_of env.now) (start room)
+        (take found.1 piece.now) (start (room - found.1)) found.0) }
+{
+    if let Some((message, used)) = whole_message(alloc, env, room, piece) {
+        return Some((Record::Values(message), used));
+    }
+    let (definition, used) = definition_within(alloc, env, room, piece)?;
+    Some((Record::Define(definition), used))
 }
 
 /// The time offset of a record header.
@@ -109,15 +228,5 @@ fn time_offset(byte: u8) -> Option<u8>
         Some(byte % 32)
     } else {
         None
-    }
-}
-
-/// Whether data messages of a definition have developer fields.
-fn has_dev_fields<A: Allocator>(defined: &Defined<A>) -> bool
-    ensures { result ≡ false → dev_defs defined.now.definition.dev ≡ [] }
-{
-    match &defined.definition.dev {
-        Some(dev) => !dev.is_empty(),
-        None => false,
     }
 }

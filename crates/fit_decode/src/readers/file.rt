@@ -2,11 +2,11 @@
 ghost use Rattle.std.specs.Prelude.{◌≡◌, ◌+◌, List, [], length, None};
 ghost use Rattle.fit_record.specs.declared.file.FitFile.{FitFile};
 ghost use Rattle.fit_record.specs.Files.{chain_limit, IsViable};
-ghost use Rattle.fit_decode.specs.Between.{IsEnd};
+ghost use Rattle.fit_decode.specs.inner.Between.{IsEnd};
 ghost use Rattle.fit_decode.specs.Progress.{at_header, HasCome};
-ghost use Rattle.fit_decode.specs.Turns.{FileRead, Stands, Turned};
+ghost use Rattle.fit_decode.specs.inner.Turns.{FileRead, ComesToRecords, Turned};
 
-use crate::readers::piece::{take_piece, take_some};
+use crate::readers::piece::{PIECE_SIZE, take_piece, take_some};
 use crate::{Decoder, Fault, Source};
 use fit_base::Entries;
 use fit_frame::Header;
@@ -14,10 +14,7 @@ use fit_history::History;
 use fit_record::{FitFile, Record};
 use std::alloc::Allocator;
 
-/// The most bytes that are taken at once.
-const PIECE: usize = 4096;
-
-/// Takes one piece and feeds it. Answers whether the file has ended with it.
+/// Takes one piece and feeds it. Returns whether the file has ended with it.
 fn turn<A: Allocator + Copy, S: Source>(
     decoder: &mut Decoder<A>,
     head: &mut Option<Header>,
@@ -29,13 +26,15 @@ fn turn<A: Allocator + Copy, S: Source>(
     requires fresh { decoder.old.refusal ≡ None }
     requires viable { IsViable A chain_limit decoder.old.bytes }
     requires counted { count.old ≡ length decoder.old.bytes }
-    ensures turned { (files : List (FitFile A)) → Stands files head.old records.old decoder.old.bytes
-        → Turned files decoder.old.bytes taken.old.items taken.new.items (S.remaining source.old) (S.remaining source.new) (S.has_failed source.new) decoder.new head.new records.new result }
+    ensures turned { (files : List (FitFile A))
+        → ComesToRecords files head.old records.old decoder.old.bytes
+        → Turned files decoder.old.bytes taken.old.items taken.new.items (S.remaining source.old)
+        (S.remaining source.new) (S.has_failed source.new) decoder.new head.new records.new result }
     ensures viable { IsViable A chain_limit decoder.new.bytes }
     ensures counted { count.new + length taken.old.items ≡ count.old + length taken.new.items }
 {
-    let mut buffer = [0u8; PIECE];
-    let wanted = decoder.need().min(PIECE as u64) as usize;
+    let mut buffer = [0u8; PIECE_SIZE];
+    let wanted = decoder.need().min(PIECE_SIZE as u64) as usize;
     let Ok(got) = take_some(source, &mut buffer, wanted) else {
         return Err(Fault::Read { place: *count });
     };
@@ -48,7 +47,7 @@ fn turn<A: Allocator + Copy, S: Source>(
     take_piece(decoder, head, records, *count, piece)
 }
 
-/// Reads one file, and takes no byte behind it. The count is that of the bytes taken.
+/// Reads one file, and takes no byte after it. The count is that of the bytes taken.
 pub(crate) fn read_file<A: Allocator + Copy, S: Source>(
     alloc: A,
     decoder: &mut Decoder<A>,
@@ -61,7 +60,8 @@ pub(crate) fn read_file<A: Allocator + Copy, S: Source>(
     requires counted { count.old ≡ length decoder.old.bytes }
     requires whole { (files : List (FitFile A)) × HasCome files (at_header []) decoder.old.bytes }
     ensures read { (files : List (FitFile A)) → HasCome files (at_header []) decoder.old.bytes
-        → FileRead files decoder.old.bytes taken.old.items taken.new.items (S.remaining source.old) (S.remaining source.new) (S.has_failed source.new) decoder.new result }
+        → FileRead files decoder.old.bytes taken.old.items taken.new.items (S.remaining source.old)
+        (S.remaining source.new) (S.has_failed source.new) decoder.new result }
     ensures viable { IsViable A chain_limit decoder.new.bytes }
     ensures counted { count.new + length taken.old.items ≡ count.old + length taken.new.items }
 {
@@ -79,7 +79,7 @@ pub(crate) fn read_file<A: Allocator + Copy, S: Source>(
     }
 }
 
-/// Whether the source has ended behind a whole chain.
+/// Whether the source has ended after a whole chain.
 pub(crate) fn is_end<A: Allocator + Copy>(decoder: &Decoder<A>, fault: Fault) -> bool
     ensures { IsEnd A decoder.now fault result }
 {

@@ -3,7 +3,7 @@ ghost use Rattle.std.specs.Prelude.{◌≡◌, ◌+◌, ◌<◌, ◌≤◌, IfOk
 ghost use Rattle.std.specs.Io.KnownBytes.{Consumes, Keeps, IsAtEnd};
 ghost use Rattle.fit_record.specs.declared.file.FitFile.{FitFile};
 ghost use Rattle.fit_record.specs.Files.{chain_limit, IsViable};
-ghost use Rattle.fit_decode.specs.Turns.{PieceFed, Stands};
+ghost use Rattle.fit_decode.specs.inner.Turns.{PieceFed, ComesToRecords};
 
 use crate::{Decoder, Event, Fault, Source, SourceFailed};
 use fit_base::Entries;
@@ -11,7 +11,10 @@ use fit_frame::Header;
 use fit_record::Record;
 use std::alloc::Allocator;
 
-/// Takes at most so many bytes into the front of the buffer.
+/// The most bytes that a reader takes at once.
+pub const PIECE_SIZE: usize = 4096;
+
+/// Takes at most `wanted` bytes into the front of the buffer.
 pub(crate) fn take_some<S: Source>(
     source: &mut S,
     buffer: &mut [u8],
@@ -19,23 +22,25 @@ pub(crate) fn take_some<S: Source>(
 ) -> Result<usize, SourceFailed>
     requires { (0 < wanted) × (wanted ≤ length buffer.old) }
     ensures bound { IfOk result (λ n. n ≤ wanted) }
-    ensures bytes { IfOk result (λ n. Consumes (S.remaining source.old) (S.remaining source.new) (take n buffer.new) × (n ≡ 0 → IsAtEnd (S.remaining source.new))) }
+    ensures bytes { IfOk result (λ n. Consumes (S.remaining source.old) (S.remaining source.new)
+        (take n buffer.new) × (n ≡ 0 → IsAtEnd (S.remaining source.new))) }
     ensures room { length buffer.new ≡ length buffer.old }
     ensures good { OnOk result (S.has_failed source.new ≡ false) }
-    ensures bad { OnErr result ((S.has_failed source.new ≡ true) × Keeps (S.remaining source.old) (S.remaining source.new)) }
+    ensures bad { OnErr result ((S.has_failed source.new ≡ true)
+        × Keeps (S.remaining source.old) (S.remaining source.new)) }
 {
     source.take(&mut buffer[..wanted])
 }
 
-/// Puts a record behind the others. Whether there was memory.
+/// Puts a record after the others. Whether there was memory.
 fn is_kept<A: Allocator + Copy>(records: &mut Entries<Record<A>, A>, next: Record<A>) -> bool
     ensures { result ≡ true → records.new ≡ records.old ++ next ∷ [] }
 {
     records.push(next).is_ok()
 }
 
-/// Feeds a piece that goes no further than the file, and behind which so many bytes were taken. Answers whether the file has ended
-/// with it.
+/// Feeds a piece that goes no further than the file. `taken` bytes were taken up to its end. Returns whether the file has
+/// ended with it.
 pub(crate) fn take_piece<A: Allocator + Copy>(
     decoder: &mut Decoder<A>,
     head: &mut Option<Header>,
@@ -46,7 +51,9 @@ pub(crate) fn take_piece<A: Allocator + Copy>(
     requires fresh { decoder.old.refusal ≡ None }
     requires viable { IsViable A chain_limit decoder.old.bytes }
     requires counted { taken ≡ length decoder.old.bytes + length piece.now }
-    ensures fed { (files : List (FitFile A)) → Stands files head.old records.old decoder.old.bytes → PieceFed files decoder.old.bytes piece.now decoder.new head.new records.new result }
+    ensures fed { (files : List (FitFile A)) → ComesToRecords files head.old records.old
+        decoder.old.bytes → PieceFed files decoder.old.bytes piece.now decoder.new head.new
+        records.new result }
     ensures viable { IsViable A chain_limit decoder.new.bytes }
 {
     let mut at = 0;

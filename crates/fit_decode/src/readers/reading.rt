@@ -4,7 +4,7 @@ ghost use Rattle.fit_decode.specs.declared.event.Fault.{Fault};
 ghost use Rattle.fit_base.specs.Numbers.{IsBytes};
 ghost use Rattle.fit_record.specs.declared.file.FitFile.{FitFile};
 ghost use Rattle.fit_record.specs.Files.{chain_limit, IsChain, IsFile};
-ghost use Rattle.fit_decode.specs.Reads.{GivesNext, ReadsNext};
+ghost use Rattle.fit_decode.specs.Reads.{GivesNext, ReadsNext, taking};
 
 use crate::readers::file::{is_end, read_file};
 use crate::{Decoder, Fault, Source};
@@ -13,7 +13,7 @@ use fit_record::FitFile;
 use std::alloc::{Allocator, Global};
 use std::marker::Model;
 
-/// Reads a chain from a source, file by file. It takes pieces of at most 4,096 bytes, and none after the file that it answers.
+/// Reads a chain from a source, file by file. It takes pieces of at most 4,096 bytes, and none after the file that it returns.
 ///
 /// Clauses see the source, the bytes taken since `new`, and the fault if there was one.
 #[derive(Drop)]
@@ -28,13 +28,13 @@ pub struct Reading<S: Source, A: Allocator + Copy = Global> {
 
 impl<S: Source, A: Allocator + Copy> Model for Reading<S, A> {
     ghost use Rattle.fit_decode.specs.Reads.{Past};
-    ghost use Rattle.fit_decode.specs.Between.{IsReading};
+    ghost use Rattle.fit_decode.specs.inner.Between.{ReadsOn};
 
     ghost Value = { Past S };
 
     ghost view = { λ r. record { source = r.source; taken = r.taken.items; fault = r.fault } };
 
-    ghost invariant = { λ r. IsReading A r.fault r.decoder r.count r.taken.items };
+    ghost invariant = { λ r. ReadsOn A r.fault r.decoder r.count r.taken.items };
 }
 
 impl<S: Source, A: Allocator + Copy> Reading<S, A> {
@@ -60,19 +60,23 @@ impl<S: Source, A: Allocator + Copy> Reading<S, A> {
         source
     }
 
-    /// The next file, or `None` where the source ends behind at least one. After a fault each call answers it again.
+    /// The next file, or `None` where the source ends after at least one. After a fault each call returns it again.
     ///
     /// Places count from the start of the chain. With `NoMemory`, `used` is the number of bytes taken since `new`: none after a
     /// whole file that is there, and at most a piece after bytes with which a chain begins.
     pub fn next(&mut self) -> Result<Option<FitFile<A>>, Fault>
-        // After a fault each call answers it again.
-        ensures latched { (fault : Fault) → self.old.fault ≡ Some fault → (result ≡ Err fault) × (self.new ≡ self.old) }
+        // After a fault each call returns it again.
+        ensures latched { (fault : Fault) → self.old.fault ≡ Some fault
+            → (result ≡ Err fault) × (self.new ≡ self.old) }
         ensures exact { self.old.fault ≡ None → ReadsNext self.old self.new
-            (record { before = S.remaining self.old.source; after = S.remaining self.new.source; failed = S.has_failed self.new.source }) result }
-        // Where a file's bytes begin what is left, and with the bytes taken make a chain, that file is answered, and the bytes behind it are left.
-        ensures file { self.old.fault ≡ None → (fs : List (FitFile A)) (f : FitFile A) (b x : List ℕ) → S.remaining self.old.source ≡ Some (b ++ x) → IsBytes b → IsFile f b
-            → IsChain chain_limit (fs ++ f ∷ []) (self.old.taken ++ b) → GivesNext f (length (self.old.taken ++ b)) x
-            (record { before = S.remaining self.old.source; after = S.remaining self.new.source; failed = S.has_failed self.new.source }) result }
+            (taking S.remaining S.has_failed self.old.source self.new.source) result }
+        // Where a file's bytes begin what is left, and with the bytes taken make a chain, that file is
+        // returned, and the bytes after it are left.
+        ensures file { self.old.fault ≡ None → (fs : List (FitFile A)) (f : FitFile A)
+            (b x : List ℕ) → S.remaining self.old.source ≡ Some (b ++ x) → IsBytes b → IsFile f b
+            → IsChain chain_limit (fs ++ f ∷ []) (self.old.taken ++ b)
+            → GivesNext f (length (self.old.taken ++ b)) x
+            (taking S.remaining S.has_failed self.old.source self.new.source) result }
     {
         if let Some(fault) = self.fault {
             return Err(fault);

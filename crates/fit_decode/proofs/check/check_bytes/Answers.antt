@@ -20,7 +20,11 @@ returns-in_err-fed-clause-fault c =
     (stopped c.args.bytes.now c.skip_records-passed.new.self c.feed.new.self c.split_at.result.1.now c.in_err-fed.field-0.0 passed
     (record {
       refused = λ place reason is. c.feed.ensures.refused place reason passed.fresh (c.in_err-fed.was ∙ ap Err is);
-      others = λ place. (λ is. (c.feed.ensures.others place).0 (c.in_err-fed.was ∙ ap Err is), λ is. (c.feed.ensures.others place).1 (c.in_err-fed.was ∙ ap Err is));
+      others = λ place. (
+        λ is. (c.feed.ensures.others place).0 (c.in_err-fed.was ∙ ap Err is),
+        λ is.
+            (c.feed.ensures.others place).1 (c.in_err-fed.was ∙ ap Err is),
+      );
     }))
 
 pub returns-in_err-fed-clause-memory : goal.returns-in_err-fed-clause-memory

@@ -1,4 +1,4 @@
-use Rattle.fit_decode.proofs.Goes.{viable_goes}
+use Rattle.fit_decode.proofs.ViableGoesOn.{viable_goes}
 use Rattle.fit_decode.proofs.Completions.{goes_viable}
 use Rattle.fit_decode.proofs.laws.chains_go_on.Goals as goal
 

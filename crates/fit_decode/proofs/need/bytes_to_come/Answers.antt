@@ -7,5 +7,6 @@ pub overflow_add-result : goal.overflow_add-result
 overflow_add-result c =
     let low = slice_is_bytes c.args.header.now c.type_inv.header in
     let small : c.bits_at.result < 4294967296 =
-    four_bytes_below c.args.header.now c.split_at.result.1.now c.split_at-in-Some.result.0.now c.bits_at.result low c.split_at.ensures.back c.split_at-in-Some.ensures.front c.split_at-in-Some.ensures.front_len c.bits_at.ensures in
+    four_bytes_below c.args.header.now c.split_at.result.1.now c.split_at-in-Some.result.0.now c.bits_at.result low c.split_at.ensures.back
+    c.split_at-in-Some.ensures.front c.split_at-in-Some.ensures.front_len c.bits_at.ensures in
     omega (arith, small, c.saturating_sub-rest.ensures, c.from.ensures, low zero)

@@ -3,7 +3,7 @@ use Rattle.std.specs.Prelude.{OnErr}
 use Rattle.fit_step.specs.Machine.{step}
 use Rattle.fit_step.specs.Places.{state_at}
 use Rattle.fit_step.specs.Tests.{tests_of}
-use Rattle.fit_decode.specs.Scans.{Reading, RecordByte}
+use Rattle.fit_decode.specs.inner.Scans.{Reading, RecordByte}
 use Rattle.fit_decode.proofs.Readings.{reading_room}
 use Rattle.fit_decode.proofs.record.take_byte.Goals as goal
 
@@ -23,9 +23,11 @@ pub returns-clause-made : goal.returns-clause-made
 returns-clause-made g c =
     let e = c.args.env.now in
     let after = state_at c.take_step.new.position c.take_step.new.in_progress in
-    subst (λ p. RecordByte e c.take_step.new.env after c.args.byte c.take_step.result (step e (tests_of e) (state_at p c.args.in_progress.now) c.args.byte)) (c.take_inside.ensures.same c.if-take_inside.false) c.take_step.ensures.made
+    subst (λ p. RecordByte e c.take_step.new.env after c.args.byte c.take_step.result (step e (tests_of e) (state_at p c.args.in_progress.now) c.args.byte))
+    (c.take_inside.ensures.same c.if-take_inside.false) c.take_step.ensures.made
 
 pub returns-clause-err : goal.returns-clause-err
 returns-clause-err g c =
     let after = state_at c.take_step.new.position c.take_step.new.in_progress in
-    subst (λ p. OnErr c.take_step.result (after ≡ state_at p c.args.in_progress.now)) (c.take_inside.ensures.same c.if-take_inside.false) c.take_step.ensures.err
+    subst (λ p. OnErr c.take_step.result (after ≡ state_at p c.args.in_progress.now)) (c.take_inside.ensures.same c.if-take_inside.false)
+    c.take_step.ensures.err

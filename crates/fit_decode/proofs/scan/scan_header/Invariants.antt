@@ -1,9 +1,9 @@
 use Rattle.std.proofs.Common.{◌≡◌, ◌++◌, take, None}
-use Rattle.fit_decode.specs.Scans.{IsOpen}
+use Rattle.fit_decode.specs.inner.Scans.{IsHeaderPart}
 use Rattle.fit_decode.proofs.scan.scan_header.Given as goal
 
 abbrev pub invariant-loop-i : goal.invariant-loop-i
 invariant-loop-i l = record {
   is : l.reader ≡ record { bytes = l.initial.reader.bytes ++ take l.i l.piece; refusal = None };
-  begun : IsOpen (l.initial.reader.bytes ++ take l.i l.piece);
+  begun : IsHeaderPart (l.initial.reader.bytes ++ take l.i l.piece);
 }

@@ -16,15 +16,19 @@ pass_on-requires g c =
     let i = c.loop-at.invariant in
     let piece = c.args.piece.now in
     let used = c.skip-at.result in
-    let over = subst (λ rest. Skips g.R.Report.has_heard g.R.Report.line c.loop-at.decoder c.skip-at.new.decoder rest c.loop-at.reporter c.skip-at.new.self used) c.split_at.ensures.back c.skip-at.ensures in
-    let m = mid_told g.R.Report.has_heard g.R.Report.line c.args.decoder.now c.loop-at.decoder c.skip-at.new.decoder piece c.loop-at.at used c.loop-at.reporter c.skip-at.new.self over i.is_fed i.within i.told in
-    let told = subst (λ rest. Told c.skip-at.new.decoder.bytes rest c.in_ok-fed.fed.used c.in_ok-fed.fed.event) c.split_at-in-loop-at.ensures.back (record { more = c.in_ok-fed.ensures.more; event = c.in_ok-fed.ensures.event }) in (
+    let over = subst (λ rest. Skips g.R.Report.has_heard g.R.Report.line c.loop-at.decoder c.skip-at.new.decoder rest c.loop-at.reporter c.skip-at.new.self
+    used) c.split_at.ensures.back c.skip-at.ensures in
+    let m = mid_told g.R.Report.has_heard g.R.Report.line c.args.decoder.now c.loop-at.decoder c.skip-at.new.decoder piece c.loop-at.at used c.loop-at.reporter
+    c.skip-at.new.self over i.is_fed i.within i.told in
+    let told = subst (λ rest. Told c.skip-at.new.decoder.bytes rest c.in_ok-fed.fed.used c.in_ok-fed.fed.event) c.split_at-in-loop-at.ensures.back
+    (record { more = c.in_ok-fed.ensures.more; event = c.in_ok-fed.ensures.event }) in (
       m.0,
       m.1,
       (
         c.feed.new.self.bytes,
         c.in_ok-fed.ensures.viable,
-        are_heard c.feed.new.self c.skip-at.new.decoder (drop (c.loop-at.at + used) piece) c.in_ok-fed.fed.used m.0 c.in_ok-fed.fed.event c.in_ok-fed.ensures.viable (rw c.split_at-in-loop-at.ensures.back at c.in_ok-fed.ensures.used.1) m.2 told,
+        are_heard c.feed.new.self c.skip-at.new.decoder (drop (c.loop-at.at + used) piece) c.in_ok-fed.fed.used m.0 c.in_ok-fed.fed.event
+            c.in_ok-fed.ensures.viable (rw c.split_at-in-loop-at.ensures.back at c.in_ok-fed.ensures.used.1) m.2 told,
       ),
     )
 
@@ -39,25 +43,40 @@ loop-at-preserved g c =
     let at = c.loop-at.at + used in
     let more = c.in_ok-fed.fed.used in
     let event = c.in_ok-fed.fed.event in
-    let over = subst (λ rest. Skips g.R.Report.has_heard g.R.Report.line c.loop-at.decoder mid rest c.loop-at.reporter c.skip-at.new.self used) c.split_at.ensures.back c.skip-at.ensures in
-    let told = subst (λ rest. Told mid.bytes rest more event) c.split_at-in-loop-at.ensures.back (record { more = c.in_ok-fed.ensures.more; event = c.in_ok-fed.ensures.event }) in
+    let over = subst (λ rest. Skips g.R.Report.has_heard g.R.Report.line c.loop-at.decoder mid rest c.loop-at.reporter c.skip-at.new.self used)
+    c.split_at.ensures.back c.skip-at.ensures in
+    let told = subst (λ rest. Told mid.bytes rest more event) c.split_at-in-loop-at.ensures.back
+    (record { more = c.in_ok-fed.ensures.more; event = c.in_ok-fed.ensures.event }) in
     let after = rw c.split_at-in-loop-at.ensures.back at c.in_ok-fed.ensures.used.1 in
-    let at_mid = mid_fed g.R.Report.has_heard g.R.Report.line old c.loop-at.decoder mid piece c.loop-at.at used c.loop-at.reporter c.skip-at.new.self over i.is_fed i.within in
-    let within = mid_within g.R.Report.has_heard g.R.Report.line old c.loop-at.decoder mid piece c.loop-at.at used c.loop-at.reporter c.skip-at.new.self over i.is_fed i.within in
-    let m = mid_told g.R.Report.has_heard g.R.Report.line old c.loop-at.decoder mid piece c.loop-at.at used c.loop-at.reporter c.skip-at.new.self over i.is_fed i.within i.told in
+    let at_mid = mid_fed g.R.Report.has_heard g.R.Report.line old c.loop-at.decoder mid piece c.loop-at.at used c.loop-at.reporter c.skip-at.new.self over
+    i.is_fed i.within in
+    let within = mid_within g.R.Report.has_heard g.R.Report.line old c.loop-at.decoder mid piece c.loop-at.at used c.loop-at.reporter c.skip-at.new.self over
+    i.is_fed i.within in
+    let m = mid_told g.R.Report.has_heard g.R.Report.line old c.loop-at.decoder mid piece c.loop-at.at used c.loop-at.reporter c.skip-at.new.self over i.is_fed
+    i.within i.told in
     let events = are_heard new mid (drop at piece) more m.0 event c.in_ok-fed.ensures.viable after m.2 told in
     record {
       within = omega (arith, c.in_ok-fed.ensures.used.0, ap length c.split_at-in-loop-at.ensures.back, length-drop at piece, within);
       is_fed = fed_on old mid new piece at more at_mid after;
       told = (hear event m.0, c.in_ok-pass_on.ensures.heard m.0 m.1 (new.bytes, c.in_ok-fed.ensures.viable, events), events);
       stands = λ start before has s.
-          let n = mid_stands g.R.Report.has_heard g.R.Report.line old c.loop-at.decoder mid piece c.loop-at.at used c.loop-at.reporter c.skip-at.new.self over i.is_fed i.within
+          let n = mid_stands g.R.Report.has_heard g.R.Report.line old c.loop-at.decoder mid piece c.loop-at.at used c.loop-at.reporter c.skip-at.new.self over
+          i.is_fed i.within
           start (g.K.Sink.contents c.loop-at.sink) c.loop-at.written (i.stands start before has s) in
-          let heard : AreHeard (hear event n.0) = (new.bytes, c.in_ok-fed.ensures.viable, are_heard new mid (drop at piece) more n.0 event c.in_ok-fed.ensures.viable after n.2.are told) in (
+          let heard : AreHeard (hear event n.0) = (
+            new.bytes,
+            c.in_ok-fed.ensures.viable,
+            are_heard new mid (drop at piece) more n.0 event c.in_ok-fed.ensures.viable after n.2.are told,
+          ) in (
             hear event n.0,
             c.in_ok-pass_on.ensures.heard n.0 n.1 heard,
             passes g.R.Report.line old mid new piece at more event n.0 n.0 start
-                (record { before = g.K.Sink.contents c.loop-at.sink; after = g.K.Sink.contents c.pass_on.new.sink; failed = g.K.Sink.has_failed c.pass_on.new.sink })
+                (record {
+                  before = g.K.Sink.contents c.loop-at.sink;
+                  after = g.K.Sink.contents c.pass_on.new.sink;
+                  failed =
+                      g.K.Sink.has_failed c.pass_on.new.sink;
+                })
                 c.loop-at.written c.pass_on.new.written at_mid after told n.2 (c.in_ok-pass_on.ensures.passed n.0 n.1 heard),
           );
       viable = c.in_ok-fed.ensures.viable;
@@ -71,10 +90,14 @@ returns-in_err-fed-clause-piece g c = λ start before has s.
     let mid = c.skip-at.new.decoder in
     let used = c.skip-at.result in
     let at = c.loop-at.at + used in
-    let over = subst (λ rest. Skips g.R.Report.has_heard g.R.Report.line c.loop-at.decoder mid rest c.loop-at.reporter c.skip-at.new.self used) c.split_at.ensures.back c.skip-at.ensures in
-    let at_mid = mid_fed g.R.Report.has_heard g.R.Report.line old c.loop-at.decoder mid piece c.loop-at.at used c.loop-at.reporter c.skip-at.new.self over i.is_fed i.within in
-    let within = mid_within g.R.Report.has_heard g.R.Report.line old c.loop-at.decoder mid piece c.loop-at.at used c.loop-at.reporter c.skip-at.new.self over i.is_fed i.within in
-    let n = mid_stands g.R.Report.has_heard g.R.Report.line old c.loop-at.decoder mid piece c.loop-at.at used c.loop-at.reporter c.skip-at.new.self over i.is_fed i.within
+    let over = subst (λ rest. Skips g.R.Report.has_heard g.R.Report.line c.loop-at.decoder mid rest c.loop-at.reporter c.skip-at.new.self used)
+    c.split_at.ensures.back c.skip-at.ensures in
+    let at_mid = mid_fed g.R.Report.has_heard g.R.Report.line old c.loop-at.decoder mid piece c.loop-at.at used c.loop-at.reporter c.skip-at.new.self over
+    i.is_fed i.within in
+    let within = mid_within g.R.Report.has_heard g.R.Report.line old c.loop-at.decoder mid piece c.loop-at.at used c.loop-at.reporter c.skip-at.new.self over
+    i.is_fed i.within in
+    let n = mid_stands g.R.Report.has_heard g.R.Report.line old c.loop-at.decoder mid piece c.loop-at.at used c.loop-at.reporter c.skip-at.new.self over
+    i.is_fed i.within
     start (g.K.Sink.contents c.loop-at.sink) c.loop-at.written (i.stands start before has s) in
     let p = err_from_is_err_and c.from_residual.result c.from_residual.ensures.1 in
     let fault = c.in_err-fed.field-0.0 in
@@ -82,7 +105,11 @@ returns-in_err-fed-clause-piece g c = λ start before has s.
     let stopped = subst (λ rest. Stopped Global mid rest c.feed.new.self fault) c.split_at-in-loop-at.ensures.back
     (record {
       refused = λ place reason is. c.feed.ensures.refused place reason fresh (c.in_err-fed.was ∙ ap Err is);
-      others = λ place. (λ is. (c.feed.ensures.others place).0 (c.in_err-fed.was ∙ ap Err is), λ is. (c.feed.ensures.others place).1 (c.in_err-fed.was ∙ ap Err is));
+      others = λ place. (
+        λ is. (c.feed.ensures.others place).0 (c.in_err-fed.was ∙ ap Err is),
+        λ is.
+            (c.feed.ensures.others place).1 (c.in_err-fed.was ∙ ap Err is),
+      );
     }) in
     rw (p.1, p.2) (
       n.0,
@@ -102,13 +129,21 @@ returns-in_err-pass_on-clause-piece g c = λ start before has s.
     let at = c.loop-at.at + used in
     let more = c.in_ok-fed.fed.used in
     let event = c.in_ok-fed.fed.event in
-    let over = subst (λ rest. Skips g.R.Report.has_heard g.R.Report.line c.loop-at.decoder mid rest c.loop-at.reporter c.skip-at.new.self used) c.split_at.ensures.back c.skip-at.ensures in
-    let told = subst (λ rest. Told mid.bytes rest more event) c.split_at-in-loop-at.ensures.back (record { more = c.in_ok-fed.ensures.more; event = c.in_ok-fed.ensures.event }) in
+    let over = subst (λ rest. Skips g.R.Report.has_heard g.R.Report.line c.loop-at.decoder mid rest c.loop-at.reporter c.skip-at.new.self used)
+    c.split_at.ensures.back c.skip-at.ensures in
+    let told = subst (λ rest. Told mid.bytes rest more event) c.split_at-in-loop-at.ensures.back
+    (record { more = c.in_ok-fed.ensures.more; event = c.in_ok-fed.ensures.event }) in
     let after = rw c.split_at-in-loop-at.ensures.back at c.in_ok-fed.ensures.used.1 in
-    let at_mid = mid_fed g.R.Report.has_heard g.R.Report.line old c.loop-at.decoder mid piece c.loop-at.at used c.loop-at.reporter c.skip-at.new.self over i.is_fed i.within in
-    let n = mid_stands g.R.Report.has_heard g.R.Report.line old c.loop-at.decoder mid piece c.loop-at.at used c.loop-at.reporter c.skip-at.new.self over i.is_fed i.within
+    let at_mid = mid_fed g.R.Report.has_heard g.R.Report.line old c.loop-at.decoder mid piece c.loop-at.at used c.loop-at.reporter c.skip-at.new.self over
+    i.is_fed i.within in
+    let n = mid_stands g.R.Report.has_heard g.R.Report.line old c.loop-at.decoder mid piece c.loop-at.at used c.loop-at.reporter c.skip-at.new.self over
+    i.is_fed i.within
     start (g.K.Sink.contents c.loop-at.sink) c.loop-at.written (i.stands start before has s) in
-    let heard : AreHeard (hear event n.0) = (new.bytes, c.in_ok-fed.ensures.viable, are_heard new mid (drop at piece) more n.0 event c.in_ok-fed.ensures.viable after n.2.are told) in
+    let heard : AreHeard (hear event n.0) = (
+      new.bytes,
+      c.in_ok-fed.ensures.viable,
+      are_heard new mid (drop at piece) more n.0 event c.in_ok-fed.ensures.viable after n.2.are told,
+    ) in
     let p = err_from_is_err_and c.from_residual-in_err-pass_on.result c.from_residual-in_err-pass_on.ensures.1 in
     rw (p.1, p.2) (
       n.0,

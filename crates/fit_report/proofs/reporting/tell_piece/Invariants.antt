@@ -3,7 +3,7 @@ use Rattle.std.specs.Global.{Global}
 use Rattle.fit_record.specs.Files.{chain_limit, IsViable}
 use Rattle.fit_decode.specs.Answers.{fed}
 use Rattle.fit_decode.specs.Events.{Event, AreEvents}
-use Rattle.fit_report.specs.Passing.{Stands}
+use Rattle.fit_report.specs.inner.Passing.{HasReported}
 use Rattle.fit_report.proofs.reporting.tell_piece.Given as goal
 
 abbrev pub invariant-loop-at : goal.invariant-loop-at
@@ -12,8 +12,9 @@ invariant-loop-at g l = record {
   is_fed : l.decoder ≡ fed l.initial.decoder l.piece l.at;
   told : (heard : List (Event Global)) × g.R.Report.has_heard l.reporter heard × AreEvents l.decoder.bytes (reverse heard);
   stands : (start : Option (List ℕ)) (before : List (Event Global)) → g.R.Report.has_heard l.initial.reporter before
-      → Stands g.R.Report.line l.initial.decoder.bytes before start (g.K.Sink.contents l.initial.sink) l.initial.written
-      → (heard : List (Event Global)) × g.R.Report.has_heard l.reporter heard × Stands g.R.Report.line l.decoder.bytes heard start (g.K.Sink.contents l.sink) l.written;
+      → HasReported g.R.Report.line l.initial.decoder.bytes before start (g.K.Sink.contents l.initial.sink) l.initial.written
+      → (heard : List (Event Global)) × g.R.Report.has_heard l.reporter heard
+      × HasReported g.R.Report.line l.decoder.bytes heard start (g.K.Sink.contents l.sink) l.written;
   viable : IsViable Global chain_limit l.decoder.bytes;
 }
 

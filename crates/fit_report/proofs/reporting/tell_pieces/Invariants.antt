@@ -3,7 +3,7 @@ use Rattle.std.specs.Global.{Global}
 use Rattle.std.specs.Io.KnownBytes.{Consumes}
 use Rattle.fit_record.specs.Files.{chain_limit, IsViable}
 use Rattle.fit_decode.specs.Events.{Event}
-use Rattle.fit_report.specs.Passing.{Stands}
+use Rattle.fit_report.specs.inner.Passing.{HasReported}
 use Rattle.fit_report.proofs.reporting.tell_pieces.Given as goal
 
 abbrev pub invariant-pieces : goal.invariant-pieces
@@ -12,7 +12,8 @@ invariant-pieces g l = record {
   viable : IsViable Global chain_limit l.decoder.bytes;
   counted : l.place ≡ length l.decoder.bytes;
   eaten : Consumes (g.S.Source.remaining l.initial.source) (g.S.Source.remaining l.source) l.decoder.bytes;
-  stands : (heard : List (Event Global)) × g.R.Report.has_heard l.reporter heard × Stands g.R.Report.line l.decoder.bytes heard (g.K.Sink.contents l.initial.sink) (g.K.Sink.contents l.sink) l.written;
+  stands : (heard : List (Event Global)) × g.R.Report.has_heard l.reporter heard
+      × HasReported g.R.Report.line l.decoder.bytes heard (g.K.Sink.contents l.initial.sink) (g.K.Sink.contents l.sink) l.written;
 }
 
 abbrev pub decreases-pieces : goal.decreases-pieces

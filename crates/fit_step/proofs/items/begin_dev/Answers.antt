@@ -4,7 +4,9 @@ use Rattle.fit_step.proofs.TwoLists.{dev_begun, dev_found}
 use Rattle.fit_step.proofs.items.begin_dev.Goals as goal
 
 pub returns-in-Some : goal.returns-in-Some
-returns-in-Some g c = λ room v. dev_found room v c.args.from (drop c.args.from (dev_layout c.args.defined.now)) ∙ ap (dev_begun room v) (sym (sym c.in-Some.is ∙ c.first_dev.ensures))
+returns-in-Some g c = λ room v. dev_found room v c.args.from (drop c.args.from (dev_layout c.args.defined.now))
+    ∙ ap (dev_begun room v) (sym (sym c.in-Some.is ∙ c.first_dev.ensures))
 
 pub returns-in-None : goal.returns-in-None
-returns-in-None g c = λ room v. dev_found room v c.args.from (drop c.args.from (dev_layout c.args.defined.now)) ∙ ap (dev_begun room v) (sym (sym c.in-None.is ∙ c.first_dev.ensures))
+returns-in-None g c = λ room v. dev_found room v c.args.from (drop c.args.from (dev_layout c.args.defined.now))
+    ∙ ap (dev_begun room v) (sym (sym c.in-None.is ∙ c.first_dev.ensures))

@@ -1,25 +1,28 @@
 use Rattle.std.proofs.Common.{◌≡◌, ◌∙◌, ℕ, List, drop, map, sym, ap}
 use Rattle.fit_record.specs.declared.definition.FieldDef.{FieldDef}
 use Rattle.fit_record.specs.Records.{layout, dev_layout}
-use Rattle.fit_step.specs.Steps.{next_from}
+use Rattle.fit_step.specs.inner.Steps.{next_with_bytes}
 use Rattle.fit_step.proofs.TwoLists.{drop_map, field_begun, field_found}
 use Rattle.fit_step.proofs.items.begin_fields.Goals as goal
 
 abbrev pair : FieldDef → ℕ × ℕ
 pair f = (f.code, f.size)
 
-listed : (from : ℕ) (slice fields : List FieldDef) → slice ≡ fields → next_from from (map pair (drop from slice)) ≡ next_from from (drop from (map pair fields))
-listed from slice fields same = ap (λ l. next_from from (map pair (drop from l))) same ∙ ap (next_from from) (sym (drop_map pair fields from))
+listed : (from : ℕ) (slice fields : List FieldDef) → slice ≡ fields
+    → next_with_bytes from (map pair (drop from slice)) ≡ next_with_bytes from (drop from (map pair fields))
+listed from slice fields same = ap (λ l. next_with_bytes from (map pair (drop from l))) same ∙ ap (next_with_bytes from) (sym (drop_map pair fields from))
 
 pub returns-in-Some : goal.returns-in-Some
 returns-in-Some g c = λ room v.
     let d = c.args.defined.now in
     field_found room v c.args.from (drop c.args.from (layout d)) (dev_layout d)
-    ∙ ap (field_begun room v (dev_layout d)) (sym (sym c.in-Some.is ∙ c.field_from.ensures ∙ listed c.args.from c.as_slice.result.now d.definition.fields c.as_slice.ensures))
+    ∙ ap (field_begun room v (dev_layout d))
+    (sym (sym c.in-Some.is ∙ c.field_from.ensures ∙ listed c.args.from c.as_slice.result.now d.definition.fields c.as_slice.ensures))
 
 pub returns-in-None : goal.returns-in-None
 returns-in-None g c = λ room v.
     let d = c.args.defined.now in
     field_found room v c.args.from (drop c.args.from (layout d)) (dev_layout d)
-    ∙ ap (field_begun room v (dev_layout d)) (sym (sym c.in-None.is ∙ c.field_from.ensures ∙ listed c.args.from c.as_slice.result.now d.definition.fields c.as_slice.ensures))
+    ∙ ap (field_begun room v (dev_layout d))
+    (sym (sym c.in-None.is ∙ c.field_from.ensures ∙ listed c.args.from c.as_slice.result.now d.definition.fields c.as_slice.ensures))
     ∙ c.begin_dev.ensures room v

@@ -1,7 +1,8 @@
 use Rattle.std.proofs.Common.{◌≡◌, drop, map}
 use Rattle.std.specs.Prelude.{zip}
-use Rattle.fit_step.specs.Steps.{next_from}
+use Rattle.fit_step.specs.inner.Steps.{next_with_bytes}
 use Rattle.fit_step.proofs.items.dev_from.Given as goal
 
 abbrev pub invariant-loop-i : goal.invariant-loop-i
-invariant-loop-i l = next_from l.fn.from (zip (drop l.fn.from l.codes) (map (λ f. f.size) (drop l.fn.from l.fields))) ≡ next_from l.i (zip (drop l.i l.codes) (map (λ f. f.size) (drop l.i l.fields)))
+invariant-loop-i l = next_with_bytes l.fn.from (zip (drop l.fn.from l.codes) (map (λ f. f.size) (drop l.fn.from l.fields)))
+    ≡ next_with_bytes l.i (zip (drop l.i l.codes) (map (λ f. f.size) (drop l.i l.fields)))

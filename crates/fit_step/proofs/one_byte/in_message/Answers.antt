@@ -9,27 +9,32 @@ unreachable-requires g c = reads_defined c.args.env.now c.args.phase.now c.args.
 
 pub at_field_items-requires-clause-reading : goal.at_field_items-requires-clause-reading
 at_field_items-requires-clause-reading g c =
-    fields_read c.args.env.now c.args.phase.now c.args.values.now c.args.partial.now c.in-FieldItems.place c.in-FieldItems.width c.in-FieldItems.left c.in-Some.defined.now c.in-Some.ensures.place
+    fields_read c.args.env.now c.args.phase.now c.args.values.now c.args.partial.now c.in-FieldItems.place c.in-FieldItems.width c.in-FieldItems.left
+    c.in-Some.defined.now c.in-Some.ensures.place
     c.in-FieldItems.is c.requires.reads
 
 pub at_dev_items-requires-clause-reading : goal.at_dev_items-requires-clause-reading
 at_dev_items-requires-clause-reading g c =
-    (dev_read c.args.env.now c.args.phase.now c.args.values.now c.args.partial.now c.in-DevItems.place c.in-DevItems.width c.in-DevItems.left c.in-Some.defined.now c.in-Some.ensures.place
+    (dev_read c.args.env.now c.args.phase.now c.args.values.now c.args.partial.now c.in-DevItems.place c.in-DevItems.width c.in-DevItems.left
+    c.in-Some.defined.now c.in-Some.ensures.place
     c.in-DevItems.is (sound_of c.in-Some.ensures.place c.in-Some.ensures.sound) c.requires.reads).0
 
 pub at_dev_items-requires-clause-dev : goal.at_dev_items-requires-clause-dev
 at_dev_items-requires-clause-dev g c =
-    (dev_read c.args.env.now c.args.phase.now c.args.values.now c.args.partial.now c.in-DevItems.place c.in-DevItems.width c.in-DevItems.left c.in-Some.defined.now c.in-Some.ensures.place
+    (dev_read c.args.env.now c.args.phase.now c.args.values.now c.args.partial.now c.in-DevItems.place c.in-DevItems.width c.in-DevItems.left
+    c.in-Some.defined.now c.in-Some.ensures.place
     c.in-DevItems.is (sound_of c.in-Some.ensures.place c.in-Some.ensures.sound) c.requires.reads).1
 
 pub unreachable-requires-in_default-phase : goal.unreachable-requires-in_default-phase
 unreachable-requires-in_default-phase g c =
-    not_reading c.args.env.now c.args.phase.now c.args.values.now c.args.partial.now c.requires.reads c.in_default-phase.not-FieldItems c.in_default-phase.not-DevItems
+    not_reading c.args.env.now c.args.phase.now c.args.values.now c.args.partial.now c.requires.reads c.in_default-phase.not-FieldItems
+    c.in_default-phase.not-DevItems
 
 pub returns-in-FieldItems-clause-made : goal.returns-in-FieldItems-clause-made
 returns-in-FieldItems-clause-made g c =
     let e = c.args.env.now in
-    field_step e (tests_of e) c.args.phase.now _ c.args.room.now _ c.args.values.now c.args.partial.now _ c.args.byte _ _ c.in-FieldItems.place c.in-FieldItems.width c.in-FieldItems.left c.in-FieldItems.is
+    field_step e (tests_of e) c.args.phase.now _ c.args.room.now _ c.args.values.now c.args.partial.now _ c.args.byte _ _ c.in-FieldItems.place
+    c.in-FieldItems.width c.in-FieldItems.left c.in-FieldItems.is
     (c.at_field_items.ensures.made e (sym c.in-Some.ensures.place))
 
 pub returns-in-FieldItems-clause-err : goal.returns-in-FieldItems-clause-err
@@ -38,7 +43,8 @@ returns-in-FieldItems-clause-err g c = on_err c.at_field_items.result (λ same. 
 pub returns-in-DevItems-clause-made : goal.returns-in-DevItems-clause-made
 returns-in-DevItems-clause-made g c =
     let e = c.args.env.now in
-    dev_step e (tests_of e) c.args.phase.now _ c.args.room.now _ c.args.values.now c.args.partial.now _ c.args.byte _ _ c.in-DevItems.place c.in-DevItems.width c.in-DevItems.left c.in-DevItems.is
+    dev_step e (tests_of e) c.args.phase.now _ c.args.room.now _ c.args.values.now c.args.partial.now _ c.args.byte _ _ c.in-DevItems.place c.in-DevItems.width
+    c.in-DevItems.left c.in-DevItems.is
     (c.at_dev_items.ensures.made e (sym c.in-Some.ensures.place))
 
 pub returns-in-DevItems-clause-err : goal.returns-in-DevItems-clause-err

@@ -5,7 +5,8 @@ use Rattle.fit_step.proofs.skipping.sizes_to_skip.Goals as goal
 pub loop-local-preserved : goal.loop-local-preserved
 loop-local-preserved g c = record {
   long = search rules;
-  told = table_more c.args.env.now c.loop-local.sizes c.loop-local.local c.size_to_skip.result c.loop-local.invariant.long c.loop-local-test.true c.size_to_skip.ensures c.loop-local.invariant.told;
+  told = table_more c.args.env.now c.loop-local.sizes c.loop-local.local c.size_to_skip.result c.loop-local.invariant.long c.loop-local-test.true
+      c.size_to_skip.ensures c.loop-local.invariant.told;
 }
 
 pub returns : goal.returns

@@ -15,7 +15,8 @@ returns-clause-sizes g c =
     let e = c.args.env.now in
     let d = c.in-Some.definition in
     subst (λ f. AreSizesToSkip f (slice_set c.args.sizes.now d.local c.size_to_skip.result)) (sym c.in-Ok.ensures.ok)
-    (sizes_after e d c.args.sizes.now c.size_to_skip.result (search rules) (c.in-Some.ensures.record e).0.local c.requires (c.size_to_skip.ensures ∙ ap (λ f. size_to_skip f d.local) c.in-Ok.ensures.ok))
+    (sizes_after e d c.args.sizes.now c.size_to_skip.result (search rules) (c.in-Some.ensures.record e).0.local c.requires
+    (c.size_to_skip.ensures ∙ ap (λ f. size_to_skip f d.local) c.in-Ok.ensures.ok))
 
 pub returns-clause-skipped : goal.returns-clause-skipped
 returns-clause-skipped g c = λ some. (Define c.in-Some.definition, c.in-Some.ensures.record c.args.env.now, sym c.in-Ok.ensures.ok)

@@ -1,5 +1,5 @@
 use Rattle.std.proofs.Common.{◌≡◌, ◌-◌, ◌*◌, ◌++◌, length}
-use Rattle.fit_record.specs.ReadMessages.{numbers_of}
+use Rattle.fit_record.specs.inner.ReadMessages.{numbers_of}
 use Rattle.fit_step.proofs.whole.read_field.Given as goal
 
 abbrev pub invariant-loop : goal.invariant-loop

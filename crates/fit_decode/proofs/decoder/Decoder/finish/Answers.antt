@@ -4,7 +4,11 @@ use Rattle.fit_decode.proofs.Feeding.{place_seen, reason_seen, reason_kept, chai
 use Rattle.fit_decode.proofs.decoder.Decoder.finish.Goals as goal
 
 pub returns-in-Some-clause-good : goal.returns-in-Some-clause-good
-returns-in-Some-clause-good g c = (λ never. absurd cc, λ both. absurd (reason_kept c.self.inside c.self.invariant c.args.self.now c.self.view_is c.in-Some.reason c.in-Some.is both.0))
+returns-in-Some-clause-good g c = (
+  λ never. absurd cc,
+  λ both.
+      absurd (reason_kept c.self.inside c.self.invariant c.args.self.now c.self.view_is c.in-Some.reason c.in-Some.is both.0),
+)
 
 pub returns-in-Some-clause-refused : goal.returns-in-Some-clause-refused
 returns-in-Some-clause-refused g c = λ reason is.
@@ -20,7 +24,8 @@ pub returns-else-has_ended-clause-good : goal.returns-else-has_ended-clause-good
 returns-else-has_ended-clause-good g c = (
   λ never. absurd cc,
   λ both.
-      let ended : c.has_ended.result ≡ true = c.has_ended.ensures.1 (ends_with_chain c.self.inside c.self.invariant c.args.self.now c.self.view_is c.in_default.is both.1) in
+      let ended : c.has_ended.result ≡ true = c.has_ended.ensures.1
+      (ends_with_chain c.self.inside c.self.invariant c.args.self.now c.self.view_is c.in_default.is both.1) in
       sym c.if-has_ended.false ∙ ended,
 )
 

@@ -13,13 +13,17 @@ pub in_progress_size-requires : goal.in_progress_size-requires
 in_progress_size-requires g c = small_seen c.self.inside c.self.invariant
 
 pub returns-clause-held : goal.returns-clause-held
-returns-clause-held g c = held_seen c.self.inside c.self.invariant c.held.result c.in_progress_size.result c.held.ensures.size c.in_progress_size.ensures.size c.args.self.now c.self.view_is
+returns-clause-held g c = held_seen c.self.inside c.self.invariant c.held.result c.in_progress_size.result c.held.ensures.size c.in_progress_size.ensures.size
+    c.args.self.now c.self.view_is
 
 pub returns-clause-refused : goal.returns-clause-refused
-returns-clause-refused g c = let_go_seen c.self.inside c.self.invariant c.held.result c.in_progress_size.result c.held.ensures.size c.in_progress_size.ensures.size c.args.self.now c.self.view_is
+returns-clause-refused g c = let_go_seen c.self.inside c.self.invariant c.held.result c.in_progress_size.result c.held.ensures.size
+    c.in_progress_size.ensures.size c.args.self.now c.self.view_is
 
 pub returns-clause-ended : goal.returns-clause-ended
-returns-clause-ended g c = ended_seen c.self.inside c.self.invariant c.held.result c.in_progress_size.result c.held.ensures.size c.in_progress_size.ensures.size c.args.self.now c.self.view_is
+returns-clause-ended g c = ended_seen c.self.inside c.self.invariant c.held.result c.in_progress_size.result c.held.ensures.size c.in_progress_size.ensures.size
+    c.args.self.now c.self.view_is
 
 pub returns-clause-limit : goal.returns-clause-limit
-returns-clause-limit g c = limited_seen c.self.inside c.self.invariant c.held.result c.in_progress_size.result c.held.ensures.size c.in_progress_size.ensures.size
+returns-clause-limit g c = limited_seen c.self.inside c.self.invariant c.held.result c.in_progress_size.result c.held.ensures.size
+    c.in_progress_size.ensures.size

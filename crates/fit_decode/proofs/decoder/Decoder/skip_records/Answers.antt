@@ -16,24 +16,28 @@ skip_data-skipped-requires g c = fourth_is_within (layout (the_row (A-row g.row.
 
 pub split_at-requires : goal.split_at-requires
 split_at-requires g c =
-    within_piece c.self.inside c.self.invariant (fresh c.self.inside.refusal c.is_some.result c.is_some.ensures c.if-is_some.false) c.args.piece.now c.skip_data-skipped.new.env c.skip_data-skipped.new.sum c.skip_data-skipped.new.position c.skip_data-skipped.result.0 c.skip_data-skipped.result.1
+    within_piece c.self.inside c.self.invariant (fresh c.self.inside.refusal c.is_some.result c.is_some.ensures c.if-is_some.false) c.args.piece.now
+    c.skip_data-skipped.new.env c.skip_data-skipped.new.sum c.skip_data-skipped.new.position c.skip_data-skipped.result.0 c.skip_data-skipped.result.1
     (slice_is_bytes c.args.piece.now c.type_inv.piece) c.skip_data-skipped.ensures
 
 pub overflow_add-self : goal.overflow_add-self
 overflow_add-self g c =
-    few_skipped c.self.inside c.self.invariant (fresh c.self.inside.refusal c.is_some.result c.is_some.ensures c.if-is_some.false) c.args.piece.now c.skip_data-skipped.new.env c.skip_data-skipped.new.sum c.skip_data-skipped.new.position c.skip_data-skipped.result.0 c.skip_data-skipped.result.1
+    few_skipped c.self.inside c.self.invariant (fresh c.self.inside.refusal c.is_some.result c.is_some.ensures c.if-is_some.false) c.args.piece.now
+    c.skip_data-skipped.new.env c.skip_data-skipped.new.sum c.skip_data-skipped.new.position c.skip_data-skipped.result.0 c.skip_data-skipped.result.1
     (slice_is_bytes c.args.piece.now c.type_inv.piece) c.skip_data-skipped.ensures
 
 pub invariant_of-self : goal.invariant_of-self
 invariant_of-self g c =
     let none = fresh c.self.inside.refusal c.is_some.result c.is_some.ensures c.if-is_some.false in
-    skipped_kept c.self.inside c.self.invariant none c.args.piece.now c.skip_data-skipped.new.env c.skip_data-skipped.new.sum c.skip_data-skipped.new.position c.skip_data-skipped.result.0 c.skip_data-skipped.result.1
+    skipped_kept c.self.inside c.self.invariant none c.args.piece.now c.skip_data-skipped.new.env c.skip_data-skipped.new.sum c.skip_data-skipped.new.position
+    c.skip_data-skipped.result.0 c.skip_data-skipped.result.1
     (slice_is_bytes c.args.piece.now c.type_inv.piece) c.skip_data-skipped.ensures _
     (c.note.ensures ∙ ap (λ b. c.self.inside.history.items ++ b) c.split_at.ensures.front) refl refl none
 
 pub returns-clause-records : goal.returns-clause-records
 returns-clause-records g c =
-    records_skipped c.self.inside c.self.invariant (fresh c.self.inside.refusal c.is_some.result c.is_some.ensures c.if-is_some.false) c.args.piece.now c.skip_data-skipped.new.env c.skip_data-skipped.new.sum c.skip_data-skipped.new.position c.skip_data-skipped.result.0 c.skip_data-skipped.result.1
+    records_skipped c.self.inside c.self.invariant (fresh c.self.inside.refusal c.is_some.result c.is_some.ensures c.if-is_some.false) c.args.piece.now
+    c.skip_data-skipped.new.env c.skip_data-skipped.new.sum c.skip_data-skipped.new.position c.skip_data-skipped.result.0 c.skip_data-skipped.result.1
     (slice_is_bytes c.args.piece.now c.type_inv.piece) c.skip_data-skipped.ensures c.args.self.now c.self.view_is c.note.new.self.items
     (c.note.ensures ∙ ap (λ b. c.self.inside.history.items ++ b) c.split_at.ensures.front)
 

@@ -1,11 +1,11 @@
 -- Each turn takes one file, or ends the reading.
 use Rattle.std.proofs.Common.{Ok, Err, sym, subst, arith}
 use Rattle.std.specs.declared.alloc.Global.{Global}
-use Rattle.fit_decode.specs.Between.{IsBehind, IsEnd}
+use Rattle.fit_decode.specs.inner.Between.{IsBehind, IsEnd}
 use Rattle.fit_decode.proofs.Bounds.{short_bytes}
 use Rattle.fit_decode.proofs.ChainRead.{chain_ended, chain_stopped, gives_chain, one_longer, one_more, pushed}
 use Rattle.fit_decode.proofs.Nearly.{all_viable}
-use Rattle.fit_decode.proofs.NextRead.{comes_behind}
+use Rattle.fit_decode.proofs.NextRead.{comes_behind, next_good}
 use Rattle.fit_record.specs.Files.{chain_limit}
 use Rattle.fit_decode.proofs.readers.chain.read_chain.Goals as goal
 
@@ -13,15 +13,19 @@ pub returns-then-is_err-clause-exact : goal.returns-then-is_err-clause-exact
 returns-then-is_err-clause-exact g c =
     let behind = c.files.invariant.behind in
     let r = c.in-Ok.ensures.read c.files.files.items (comes_behind c.files.files.items _ _ _ behind) in
-    let more = one_more c.files.files.items _ _ _ c.read_file.new.taken.items _ _ _ _ c.read_file.new.decoder c.read_file.new.count behind c.files.invariant.eats c.in-Ok.ensures.counted
+    let more = one_more c.files.files.items _ _ _ c.read_file.new.taken.items _ _ _ _ c.read_file.new.decoder c.read_file.new.count behind
+    c.files.invariant.eats c.in-Ok.ensures.counted
     c.in-Ok.ensures.viable c.in-Ok.file r in
-    (c.read_file.new.taken.items, more.1, (more.0.counted, all_viable chain_limit c.read_file.new.taken.items more.0.viable))
+    let good = next_good c.files.files.items _ _ _ c.read_file.new.taken.items _ _ _ c.read_file.new.decoder c.read_file.new.count behind
+    c.in-Ok.ensures.counted c.in-Ok.ensures.viable c.in-Ok.file r in
+    (c.read_file.new.taken.items, more.1, (more.0.counted, all_viable chain_limit c.read_file.new.taken.items more.0.viable, good))
 
 pub files-smaller : goal.files-smaller
 files-smaller g c =
     let behind = c.files.invariant.behind in
     let r = c.in-Ok.ensures.read c.files.files.items (comes_behind c.files.files.items _ _ _ behind) in
-    let longer = one_longer c.files.files.items _ _ _ c.read_file.new.taken.items _ _ _ _ c.read_file.new.decoder c.read_file.new.count behind c.files.invariant.eats c.in-Ok.ensures.counted
+    let longer = one_longer c.files.files.items _ _ _ c.read_file.new.taken.items _ _ _ _ c.read_file.new.decoder c.read_file.new.count behind
+    c.files.invariant.eats c.in-Ok.ensures.counted
     c.in-Ok.ensures.viable c.in-Ok.file r in
     omega (arith, longer, short_bytes c.files.taken.items behind.viable)
 
@@ -29,9 +33,11 @@ pub files-preserved : goal.files-preserved
 files-preserved g c =
     let behind = c.files.invariant.behind in
     let r = c.in-Ok.ensures.read c.files.files.items (comes_behind c.files.files.items _ _ _ behind) in
-    let more = one_more c.files.files.items _ _ _ c.read_file.new.taken.items _ _ _ _ c.read_file.new.decoder c.read_file.new.count behind c.files.invariant.eats c.in-Ok.ensures.counted
+    let more = one_more c.files.files.items _ _ _ c.read_file.new.taken.items _ _ _ _ c.read_file.new.decoder c.read_file.new.count behind
+    c.files.invariant.eats c.in-Ok.ensures.counted
     c.in-Ok.ensures.viable c.in-Ok.file r in
-    let items = pushed c.push.result c.is_err.result c.files.files.items c.push.new.self.items c.in-Ok.file c.is_err.ensures.value c.if-is_err.false c.push.ensures.items in
+    let items = pushed c.push.result c.is_err.result c.files.files.items c.push.new.self.items c.in-Ok.file c.is_err.ensures.value c.if-is_err.false
+    c.push.ensures.items in
     record {
       behind = subst (λ fs. IsBehind fs c.read_file.new.decoder c.read_file.new.count c.read_file.new.taken.items) (sym items) more.0;
       eats = more.1;
@@ -42,7 +48,8 @@ returns-then-is_end-clause-exact g c =
     let behind = c.files.invariant.behind in
     let r = c.in-Err.ensures.read c.files.files.items (comes_behind c.files.files.items _ _ _ behind) in
     let end = subst (IsEnd Global c.read_file.new.decoder c.in-Err.fault) c.if-is_end.true c.is_end.ensures in
-    chain_ended c.files.files.items _ _ _ c.read_file.new.taken.items _ _ _ _ c.read_file.new.decoder c.read_file.new.count behind c.files.invariant.eats c.in-Err.ensures.counted c.in-Err.ensures.viable
+    chain_ended c.files.files.items _ _ _ c.read_file.new.taken.items _ _ _ _ c.read_file.new.decoder c.read_file.new.count behind c.files.invariant.eats
+    c.in-Err.ensures.counted c.in-Err.ensures.viable
     c.in-Err.fault r end
 
 pub returns-then-is_end-clause-chain : goal.returns-then-is_end-clause-chain
@@ -54,7 +61,8 @@ returns-in-Err-clause-exact g c =
     let behind = c.files.invariant.behind in
     let r = c.in-Err.ensures.read c.files.files.items (comes_behind c.files.files.items _ _ _ behind) in
     let end = subst (IsEnd Global c.read_file.new.decoder c.in-Err.fault) c.if-is_end.false c.is_end.ensures in
-    chain_stopped c.files.files.items _ _ _ c.read_file.new.taken.items _ _ _ _ c.read_file.new.decoder c.read_file.new.count behind c.files.invariant.eats c.in-Err.ensures.counted c.in-Err.ensures.viable
+    chain_stopped c.files.files.items _ _ _ c.read_file.new.taken.items _ _ _ _ c.read_file.new.decoder c.read_file.new.count behind c.files.invariant.eats
+    c.in-Err.ensures.counted c.in-Err.ensures.viable
     c.in-Err.fault r end
 
 pub returns-in-Err-clause-chain : goal.returns-in-Err-clause-chain

@@ -32,7 +32,8 @@ reading-preserved g c =
       );
       tally = omega (arith, c.in-Ok-false.ensures.counted, c.reading.invariant.tally);
       eaten = eaten_more files _ _ _ _ _ _ _ _ c.reading.decoder c.turn.new.decoder c.turn.new.head c.turn.new.records c.reading.invariant.eaten t;
-      stands = λ fs come. goes_on_standing fs _ _ _ _ _ _ c.turn.new.decoder _ _ (rw c.in-Ok-false.field-0-test at (c.in-Ok-false.ensures.turned fs (c.reading.invariant.stands fs come)));
+      stands = λ fs come. goes_on_standing fs _ _ _ _ _ _ c.turn.new.decoder _ _
+          (rw c.in-Ok-false.field-0-test at (c.in-Ok-false.ensures.turned fs (c.reading.invariant.stands fs come)));
     }
 
 pub reading-smaller : goal.reading-smaller
@@ -44,7 +45,8 @@ reading-smaller g c =
 pub returns-in-Some-clause-read : goal.returns-in-Some-clause-read
 returns-in-Some-clause-read g c = λ files come.
     let t = rw c.in-Ok-true.field-0-test at (c.in-Ok-true.ensures.turned files (c.reading.invariant.stands files come)) in
-    file_ended files _ _ _ _ _ _ _ _ c.reading.decoder c.turn.new.decoder c.turn.new.head c.turn.new.records c.reading.invariant.eaten c.in-Some.header c.in-Some.is t
+    file_ended files _ _ _ _ _ _ _ _ c.reading.decoder c.turn.new.decoder c.turn.new.head c.turn.new.records c.reading.invariant.eaten c.in-Some.header
+    c.in-Some.is t
 
 pub unreachable-requires : goal.unreachable-requires
 unreachable-requires g c =

@@ -2,7 +2,7 @@ use Rattle.std.proofs.Common.{◌≡◌, ◌+◌, ◌-◌, List, [], length, Non
 use Rattle.fit_record.specs.declared.file.FitFile.{FitFile}
 use Rattle.fit_record.specs.Files.{chain_limit, IsViable}
 use Rattle.fit_decode.specs.Progress.{at_header, HasCome}
-use Rattle.fit_decode.specs.Turns.{Stands, Eaten}
+use Rattle.fit_decode.specs.inner.Turns.{ComesToRecords, Eaten}
 use Rattle.fit_decode.proofs.readers.file.read_file.Given as goal
 
 abbrev pub invariant-reading : goal.invariant-reading
@@ -12,7 +12,8 @@ invariant-reading g l = record {
   counted : l.count ≡ length l.decoder.bytes;
   tally : l.count + length l.initial.taken.items ≡ l.initial.count + length l.taken.items;
   eaten : Eaten l.initial.decoder.bytes l.initial.taken.items l.taken.items (g.S.Source.remaining l.initial.source) (g.S.Source.remaining l.source) l.decoder;
-  stands : (files : List (FitFile g.row.A.Denot)) → HasCome files (at_header []) l.initial.decoder.bytes → Stands files l.head l.records l.decoder.bytes;
+  stands : (files : List (FitFile g.row.A.Denot)) → HasCome files (at_header []) l.initial.decoder.bytes
+      → ComesToRecords files l.head l.records l.decoder.bytes;
 }
 
 abbrev pub decreases-reading : goal.decreases-reading

@@ -4,7 +4,7 @@ use Rattle.std.proofs.lemmas.List.{append-nil}
 use Rattle.fit_decode.proofs.Bounds.{short_bytes}
 use Rattle.fit_decode.proofs.Consumed.{Consumes-keeps}
 use Rattle.fit_decode.proofs.Missing.{needs_some, needs_no_sooner}
-use Rattle.fit_decode.proofs.Turning.{turn_of, turn_ends, turn_fails}
+use Rattle.fit_decode.proofs.PieceTaken.{turn_of, turn_ends, turn_fails}
 use Rattle.fit_decode.proofs.readers.file.turn.Goals as goal
 
 pub take_some-requires : goal.take_some-requires
@@ -19,7 +19,8 @@ returns-in_default-clause-turned g c = λ files stands.
       got = [];
       noted = sym (append-nil c.args.taken.now.items);
       eats = Consumes-keeps _ _ bad.1;
-      told = turn_fails files c.args.head.now c.args.records.now c.args.decoder.now c.args.count.now (g.S.Source.remaining c.take_some.new.source) (g.S.Source.has_failed c.take_some.new.source) c.requires.counted c.requires.fresh stands bad.0;
+      told = turn_fails files c.args.head.now c.args.records.now c.args.decoder.now c.args.count.now (g.S.Source.remaining c.take_some.new.source)
+          (g.S.Source.has_failed c.take_some.new.source) c.requires.counted c.requires.fresh stands bad.0;
     }
 
 pub returns-then-got-eq0-clause-turned : goal.returns-then-got-eq0-clause-turned
@@ -29,7 +30,8 @@ returns-then-got-eq0-clause-turned g c = λ files stands.
       got = [];
       noted = sym (append-nil c.args.taken.now.items);
       eats = rw c.if-got-eq0.true at bytes.0;
-      told = turn_ends files c.args.head.now c.args.records.now c.args.decoder.now c.args.count.now (g.S.Source.remaining c.take_some.new.source) (g.S.Source.has_failed c.take_some.new.source) c.requires.counted c.requires.fresh stands (bytes.1 c.if-got-eq0.true) c.in-Ok.ensures.good;
+      told = turn_ends files c.args.head.now c.args.records.now c.args.decoder.now c.args.count.now (g.S.Source.remaining c.take_some.new.source)
+          (g.S.Source.has_failed c.take_some.new.source) c.requires.counted c.requires.fresh stands (bytes.1 c.if-got-eq0.true) c.in-Ok.ensures.good;
     }
 
 pub overflow_add-count : goal.overflow_add-count
@@ -46,9 +48,11 @@ returns-clause-turned g c = λ files stands.
       got = piece;
       noted = c.note.ensures;
       eats = rw (← c.split_at.ensures.front) at c.in-Ok.ensures.bytes.0;
-      told = turn_of files c.args.decoder.now.bytes piece c.need.result _ _ c.take_piece.new.decoder c.take_piece.new.head c.take_piece.new.records c.take_piece.result
+      told = turn_of files c.args.decoder.now.bytes piece c.need.result _ _ c.take_piece.new.decoder c.take_piece.new.head c.take_piece.new.records
+          c.take_piece.result
           (needs_no_sooner c.args.decoder.now.bytes c.need.result files stands.progress needs stands.come)
-          (omega (arith, c.min-wanted.ensures)) (omega arith) (omega (arith, c.min-wanted.ensures)) c.in-Ok.ensures.good c.requires.viable (stands.progress, stands.come) (c.take_piece.ensures.fed files stands);
+          (omega (arith, c.min-wanted.ensures)) (omega arith) (omega (arith, c.min-wanted.ensures)) c.in-Ok.ensures.good c.requires.viable
+          (stands.progress, stands.come) (c.take_piece.ensures.fed files stands);
     }
 
 pub returns-clause-counted : goal.returns-clause-counted

@@ -10,11 +10,13 @@ use Rattle.fit_decode.proofs.readers.one.read_one.Goals as goal
 pub returns-clause-file : goal.returns-clause-file
 returns-clause-file g c = λ f b x input are file.
     let come = subst (λ (v : Seen). HasCome {A = Global} [] (at_header []) v.bytes) (sym c.new-decoder.ensures) (no_file_yet Global) in
-    gives_file f b x c.new-decoder.result.bytes _ _ _ _ _ c.read_file.new.decoder c.read_file.result input are file (ap (λ (v : Seen). v.bytes) c.new-decoder.ensures)
+    gives_file f b x c.new-decoder.result.bytes _ _ _ _ _ c.read_file.new.decoder c.read_file.result input are file
+    (ap (λ (v : Seen). v.bytes) c.new-decoder.ensures)
     (c.read_file.ensures.read [] come)
 
 pub returns-clause-exact : goal.returns-clause-exact
 returns-clause-exact g c =
     let come = subst (λ (v : Seen). HasCome {A = Global} [] (at_header []) v.bytes) (sym c.new-decoder.ensures) (no_file_yet Global) in
-    reads_one c.new-decoder.result.bytes _ _ _ _ _ c.read_file.new.decoder c.read_file.result (ap (λ (v : Seen). v.bytes) c.new-decoder.ensures) c.read_file.ensures.viable
+    reads_one c.new-decoder.result.bytes _ _ _ _ _ c.read_file.new.decoder c.read_file.result (ap (λ (v : Seen). v.bytes) c.new-decoder.ensures)
+    c.read_file.ensures.viable
     (c.read_file.ensures.read [] come)

@@ -1,48 +1,49 @@
 -- A piece is fed event by event.
 use Rattle.std.proofs.Common.{length, drop, Some, Err, sym, ap, ◌∙◌, subst, arith}
 use Rattle.std.proofs.lemmas.List.{length-drop}
-use Rattle.fit_decode.specs.Answers.{Seen, told}
-use Rattle.fit_decode.specs.Turns.{Stands}
+use Rattle.fit_decode.specs.Answers.{Seen, event_of}
+use Rattle.fit_decode.specs.inner.Turns.{ComesToRecords}
 use Rattle.fit_decode.proofs.PieceTold.{fed_on, feeds_header, feeds_item, piece_over, piece_more, piece_end, piece_refused}
 use Rattle.fit_decode.proofs.readers.piece.take_piece.Goals as goal
 use Rattle.fit_decode.proofs.readers.piece.take_piece.Goals.{In-Ok}
 
 pub returns-in-More-clause-fed : goal.returns-in-More-clause-fed
 returns-in-More-clause-fed g c = λ files stands.
-    let said = c.in-Ok.ensures.more (ap told c.in-More.is) in
+    let said = c.in-Ok.ensures.more (ap event_of c.in-More.is) in
     piece_more files _ _ c.args.decoder.now c.loop-at.decoder c.feed.new.self c.args.piece.now c.loop-at.at (omega arith) c.loop-at.invariant.is_fed
-    (c.loop-at.invariant.stands files stands) c.in-Ok.fed.used (rw c.split_at.ensures.back at c.in-Ok.ensures.used.1) (rw c.split_at.ensures.back at said.0) (rw c.split_at.ensures.back at said.1)
+    (c.loop-at.invariant.stands files stands) c.in-Ok.fed.used (rw c.split_at.ensures.back at c.in-Ok.ensures.used.1) (rw c.split_at.ensures.back at said.0)
+    (rw c.split_at.ensures.back at said.1)
 
 pub loop-at-smaller-in-Header : goal.loop-at-smaller-in-Header
 loop-at-smaller-in-Header g c =
-    let some = (c.in-Ok.ensures.event _ (ap told c.in-Header.is)).0 in
+    let some = (c.in-Ok.ensures.event _ (ap event_of c.in-Header.is)).0 in
     omega (arith, some, c.loop-at-test.true)
 
 pub loop-at-preserved-in-Header : goal.loop-at-preserved-in-Header
 loop-at-preserved-in-Header g c =
     let piece = c.args.piece.now in
     let after = rw c.split_at.ensures.back at c.in-Ok.ensures.used.1 in
-    let least = (c.in-Ok.ensures.event _ (ap told c.in-Header.is)).1 in
+    let least = (c.in-Ok.ensures.event _ (ap event_of c.in-Header.is)).1 in
     record {
       within = omega (arith, c.in-Ok.ensures.used.0, ap length c.split_at.ensures.back, length-drop c.loop-at.at piece, c.loop-at-test.true);
       is_fed = fed_on c.args.decoder.now c.loop-at.decoder c.feed.new.self piece c.loop-at.at c.in-Ok.fed.used c.loop-at.invariant.is_fed after;
       stands = λ files stands.
           let there = feeds_header files c.loop-at.head c.loop-at.records c.loop-at.decoder c.feed.new.self (drop c.loop-at.at piece) c.in-Ok.fed.used
           (c.loop-at.invariant.stands files stands) after c.in-Header.header c.in-Header.field-1 (rw c.split_at.ensures.back at least) in
-          subst (λ h. Stands files (Some h) c.loop-at.records c.feed.new.self.bytes) (sym c.in-Header.header-is) there;
+          subst (λ h. ComesToRecords files (Some h) c.loop-at.records c.feed.new.self.bytes) (sym c.in-Header.header-is) there;
       viable = c.in-Ok.ensures.viable;
     }
 
 pub loop-at-smaller : goal.loop-at-smaller
 loop-at-smaller g c =
-    let some = (c.in-Ok.ensures.event _ (ap told c.in-Item.is)).0 in
+    let some = (c.in-Ok.ensures.event _ (ap event_of c.in-Item.is)).0 in
     omega (arith, some, c.loop-at-test.true)
 
 pub loop-at-preserved : goal.loop-at-preserved
 loop-at-preserved g c =
     let piece = c.args.piece.now in
     let after = rw c.split_at.ensures.back at c.in-Ok.ensures.used.1 in
-    let least = (c.in-Ok.ensures.event _ (ap told c.in-Item.is)).1 in
+    let least = (c.in-Ok.ensures.event _ (ap event_of c.in-Item.is)).1 in
     record {
       within = omega (arith, c.in-Ok.ensures.used.0, ap length c.split_at.ensures.back, length-drop c.loop-at.at piece, c.loop-at-test.true);
       is_fed = fed_on c.args.decoder.now c.loop-at.decoder c.feed.new.self piece c.loop-at.at c.in-Ok.fed.used c.loop-at.invariant.is_fed after;
@@ -50,25 +51,28 @@ loop-at-preserved g c =
           let kept = rw c.in-Item.record-is at (c.is_kept.ensures c.if-not-is_kept.false) in
           let there = feeds_item files c.loop-at.head c.loop-at.records c.loop-at.decoder c.feed.new.self (drop c.loop-at.at piece) c.in-Ok.fed.used
           (c.loop-at.invariant.stands files stands) after c.in-Item.record (rw c.split_at.ensures.back at least) in
-          subst (λ rs. Stands files c.loop-at.head rs c.feed.new.self.bytes) (sym kept) there;
+          subst (λ rs. ComesToRecords files c.loop-at.head rs c.feed.new.self.bytes) (sym kept) there;
       viable = c.in-Ok.ensures.viable;
     }
 
 pub returns-in-FileEnd-clause-fed : goal.returns-in-FileEnd-clause-fed
 returns-in-FileEnd-clause-fed g c = λ files stands.
-    let least = (c.in-Ok.ensures.event _ (ap told c.in-FileEnd.is)).1 in
+    let least = (c.in-Ok.ensures.event _ (ap event_of c.in-FileEnd.is)).1 in
     piece_end files _ _ c.args.decoder.now c.loop-at.decoder c.feed.new.self c.args.piece.now c.loop-at.at (omega arith) c.loop-at.invariant.is_fed
-    (c.loop-at.invariant.stands files stands) c.in-Ok.fed.used (rw c.split_at.ensures.back at c.in-Ok.ensures.used.1) (rw c.split_at.ensures.back at c.in-Ok.ensures.used.0) (rw c.split_at.ensures.back at least)
+    (c.loop-at.invariant.stands files stands) c.in-Ok.fed.used (rw c.split_at.ensures.back at c.in-Ok.ensures.used.1)
+    (rw c.split_at.ensures.back at c.in-Ok.ensures.used.0) (rw c.split_at.ensures.back at least)
 
 pub returns-in-Err-Refused-clause-fed : goal.returns-in-Err-Refused-clause-fed
 returns-in-Err-Refused-clause-fed g c = λ files stands.
-    let refuses = c.feed.ensures.refused c.in-Err-Refused.place c.in-Err-Refused.reason (ap (λ (v : Seen). v.refusal) c.loop-at.invariant.is_fed) (c.in-Err-Refused.is ∙ ap Err c.in-Err-Refused.field-0-is) in
+    let refuses = c.feed.ensures.refused c.in-Err-Refused.place c.in-Err-Refused.reason (ap (λ (v : Seen). v.refusal) c.loop-at.invariant.is_fed)
+    (c.in-Err-Refused.is ∙ ap Err c.in-Err-Refused.field-0-is) in
     piece_refused files _ _ c.args.decoder.now c.loop-at.decoder c.feed.new.self c.args.piece.now c.loop-at.at (omega arith) c.loop-at.invariant.is_fed
     (c.loop-at.invariant.stands files stands) c.in-Err-Refused.place c.in-Err-Refused.reason (rw c.split_at.ensures.back at refuses)
 
 pub returns-clause-fed : goal.returns-clause-fed
 returns-clause-fed g c = λ files stands.
-    piece_over files _ _ c.args.decoder.now c.loop-at.decoder c.args.piece.now c.loop-at.at c.loop-at.invariant.is_fed (omega arith) (c.loop-at.invariant.stands files stands)
+    piece_over files _ _ c.args.decoder.now c.loop-at.decoder c.args.piece.now c.loop-at.at c.loop-at.invariant.is_fed (omega arith)
+    (c.loop-at.invariant.stands files stands)
 
 pub unreachable-requires : goal.unreachable-requires
 unreachable-requires g c = (c.feed.ensures.others _).0 (c.in-Err-Truncated.is ∙ ap Err c.in-Err-Truncated.field-0-is)

@@ -2,14 +2,15 @@ use Rattle.std.proofs.Common.{◌≡◌, ◌-◌, ◌≤◌, List, length}
 use Rattle.fit_record.specs.declared.file.FitFile.{FitFile}
 use Rattle.fit_record.specs.Files.{chain_limit, IsViable}
 use Rattle.fit_decode.specs.Answers.{fed}
-use Rattle.fit_decode.specs.Turns.{Stands}
+use Rattle.fit_decode.specs.inner.Turns.{ComesToRecords}
 use Rattle.fit_decode.proofs.readers.piece.take_piece.Given as goal
 
 abbrev pub invariant-loop-at : goal.invariant-loop-at
 invariant-loop-at g l = record {
   within : l.at ≤ length l.piece;
   is_fed : l.decoder ≡ fed l.initial.decoder l.piece l.at;
-  stands : (files : List (FitFile g.row.A.Denot)) → Stands files l.initial.head l.initial.records l.initial.decoder.bytes → Stands files l.head l.records l.decoder.bytes;
+  stands : (files : List (FitFile g.row.A.Denot)) → ComesToRecords files l.initial.head l.initial.records l.initial.decoder.bytes
+      → ComesToRecords files l.head l.records l.decoder.bytes;
   viable : IsViable g.row.A.Denot chain_limit l.decoder.bytes;
 }
 

@@ -5,9 +5,10 @@ use Rattle.fit_record.specs.Files.{chain_limit, IsViable}
 use Rattle.fit_decode.specs.contracts.readers.reading.Reading.{the_row}
 use Rattle.fit_decode.specs.contracts.readers.reading.Reading.next.{S-row, A-row}
 use Rattle.fit_decode.specs.Answers.{Seen}
-use Rattle.fit_decode.specs.Between.{IsEnd}
+use Rattle.fit_decode.specs.inner.Between.{IsEnd}
 use Rattle.fit_decode.specs.Reads.{Taking}
-use Rattle.fit_decode.proofs.NextRead.{behind_file, comes_behind, end_not_given, fault_given, keeps, next_chain, next_end, next_fault, next_file, next_given, next_good, NextGiven}
+use Rattle.fit_decode.proofs.NextRead.{behind_file, comes_behind, end_not_given, fault_given, keeps, next_chain, next_end, next_fault, next_file, next_given}
+use Rattle.fit_decode.proofs.NextRead.{next_good, NextGiven}
 use Rattle.fit_decode.proofs.Sizes.{fourth_is_within}
 use Rattle.fit_decode.proofs.readers.reading.Reading.next.Goals as goal
 
@@ -37,17 +38,23 @@ pub invariant_of-self : goal.invariant_of-self
 invariant_of-self g c = λ fresh.
     let files = (c.self.invariant c.in_default.is).0 in
     let behind = (c.self.invariant c.in_default.is).1 in
-    let r = c.in-Ok.ensures.read files (comes_behind files _ _ _ behind) in
-    (files ++ c.in-Ok.file ∷ [], behind_file files _ _ _ _ _ _ _ c.read_file.new.decoder c.read_file.new.count behind c.in-Ok.ensures.counted c.in-Ok.ensures.viable c.in-Ok.file r)
+    let r = c.in-Ok.ensures.read files (comes_behind files _ _ _ behind) in (
+      files ++ c.in-Ok.file ∷ [],
+      behind_file files _ _ _ _ _ _ _ c.read_file.new.decoder c.read_file.new.count behind c.in-Ok.ensures.counted
+          c.in-Ok.ensures.viable c.in-Ok.file r,
+    )
 
 pub returns-in-Ok-clause-exact : goal.returns-in-Ok-clause-exact
 returns-in-Ok-clause-exact g c =
     let files = (c.self.invariant c.in_default.is).0 in
     let behind = (c.self.invariant c.in_default.is).1 in
     let r = c.in-Ok.ensures.read files (comes_behind files _ _ _ behind) in
-    let file = next_file files _ _ _ _ _ _ _ c.read_file.new.decoder c.read_file.new.count behind c.in-Ok.ensures.counted c.in-Ok.ensures.viable c.in-Ok.file r in
-    let chain = next_chain files _ _ _ _ _ _ _ c.read_file.new.decoder c.read_file.new.count behind c.in-Ok.ensures.counted c.in-Ok.ensures.viable c.in-Ok.file r in
-    let good = next_good files _ _ _ _ _ _ _ c.read_file.new.decoder c.read_file.new.count behind c.in-Ok.ensures.counted c.in-Ok.ensures.viable c.in-Ok.file r in
+    let file = next_file files _ _ _ _ _ _ _ c.read_file.new.decoder c.read_file.new.count behind c.in-Ok.ensures.counted c.in-Ok.ensures.viable c.in-Ok.file r
+    in
+    let chain = next_chain files _ _ _ _ _ _ _ c.read_file.new.decoder c.read_file.new.count behind c.in-Ok.ensures.counted c.in-Ok.ensures.viable c.in-Ok.file
+    r in
+    let good = next_good files _ _ _ _ _ _ _ c.read_file.new.decoder c.read_file.new.count behind c.in-Ok.ensures.counted c.in-Ok.ensures.viable c.in-Ok.file r
+    in
     rw (← c.self.view_is) (λ fresh. (r.got, r.eats, r.noted, file, chain, c.in_default.is, good))
 
 pub returns-in-Ok-clause-file : goal.returns-in-Ok-clause-file
@@ -57,7 +64,8 @@ returns-in-Ok-clause-file g c =
     let r = c.in-Ok.ensures.read files (comes_behind files _ _ _ behind) in
     rw (← c.self.view_is)
     (λ fresh fs f b x input are file chain.
-    next_given files _ _ _ _ _ _ _ c.read_file.new.decoder c.read_file.new.count behind c.in-Ok.ensures.counted c.in-Ok.ensures.viable f b x (fs ++ f ∷ []) (Ok c.in-Ok.file) input are file chain r)
+    next_given files _ _ _ _ _ _ _ c.read_file.new.decoder c.read_file.new.count behind c.in-Ok.ensures.counted c.in-Ok.ensures.viable f b x (fs ++ f ∷ [])
+    (Ok c.in-Ok.file) input are file chain r)
 
 -- ---- the end
 
@@ -66,8 +74,11 @@ invariant_of-self-then-is_end g c = λ fresh.
     let files = (c.self.invariant c.in_default.is).0 in
     let behind = (c.self.invariant c.in_default.is).1 in
     let r = c.in-Err.ensures.read files (comes_behind files _ _ _ behind) in
-    let end = subst (IsEnd g.row.A.Denot c.read_file.new.decoder c.in-Err.fault) c.if-is_end.true c.is_end.ensures in
-    (files, (next_end files _ _ _ _ _ _ _ c.read_file.new.decoder c.read_file.new.count behind c.in-Err.ensures.counted c.in-Err.ensures.viable c.in-Err.fault r end).still)
+    let end = subst (IsEnd g.row.A.Denot c.read_file.new.decoder c.in-Err.fault) c.if-is_end.true c.is_end.ensures in (
+      files,
+      (next_end files _ _ _ _ _ _ _ c.read_file.new.decoder c.read_file.new.count behind c.in-Err.ensures.counted c.in-Err.ensures.viable c.in-Err.fault r
+          end).still,
+    )
 
 pub returns-then-is_end-clause-exact : goal.returns-then-is_end-clause-exact
 returns-then-is_end-clause-exact g c =
@@ -75,7 +86,8 @@ returns-then-is_end-clause-exact g c =
     let behind = (c.self.invariant c.in_default.is).1 in
     let r = c.in-Err.ensures.read files (comes_behind files _ _ _ behind) in
     let end = subst (IsEnd g.row.A.Denot c.read_file.new.decoder c.in-Err.fault) c.if-is_end.true c.is_end.ensures in
-    let e = next_end files _ _ _ _ _ _ _ c.read_file.new.decoder c.read_file.new.count behind c.in-Err.ensures.counted c.in-Err.ensures.viable c.in-Err.fault r end in
+    let e = next_end files _ _ _ _ _ _ _ c.read_file.new.decoder c.read_file.new.count behind c.in-Err.ensures.counted c.in-Err.ensures.viable c.in-Err.fault r
+    end in
     rw (← c.self.view_is) (λ fresh. (keeps _ _ e.kept, e.end, e.same, (files, e.whole), c.in_default.is, e.good))
 
 pub returns-then-is_end-clause-file : goal.returns-then-is_end-clause-file
@@ -84,11 +96,17 @@ returns-then-is_end-clause-file g c =
     let behind = (c.self.invariant c.in_default.is).1 in
     let r = c.in-Err.ensures.read files (comes_behind files _ _ _ behind) in
     let end = subst (IsEnd g.row.A.Denot c.read_file.new.decoder c.in-Err.fault) c.if-is_end.true c.is_end.ensures in
-    let source : Taking = record { before = g.S.Source.remaining c.self.inside.source; after = g.S.Source.remaining c.read_file.new.source; failed = g.S.Source.has_failed c.read_file.new.source } in
+    let source : Taking = record {
+      before = g.S.Source.remaining c.self.inside.source;
+      after = g.S.Source.remaining c.read_file.new.source;
+      failed =
+          g.S.Source.has_failed c.read_file.new.source;
+    } in
     rw (← c.self.view_is)
     (λ fresh fs f b x input are file chain.
     end_not_given f _ x source c.read_file.new.decoder c.in-Err.fault end
-    (next_given files _ _ _ _ _ _ _ c.read_file.new.decoder c.read_file.new.count behind c.in-Err.ensures.counted c.in-Err.ensures.viable f b x (fs ++ f ∷ []) (Err c.in-Err.fault) input are file chain r))
+    (next_given files _ _ _ _ _ _ _ c.read_file.new.decoder c.read_file.new.count behind c.in-Err.ensures.counted c.in-Err.ensures.viable f b x (fs ++ f ∷ [])
+    (Err c.in-Err.fault) input are file chain r))
 
 -- ---- a fault
 
@@ -98,7 +116,8 @@ returns-else-is_end-clause-exact g c =
     let behind = (c.self.invariant c.in_default.is).1 in
     let r = c.in-Err.ensures.read files (comes_behind files _ _ _ behind) in
     let end = subst (IsEnd g.row.A.Denot c.read_file.new.decoder c.in-Err.fault) c.if-is_end.false c.is_end.ensures in
-    let told = next_fault files _ _ _ _ _ _ _ c.read_file.new.decoder c.read_file.new.count behind c.in-Err.ensures.counted c.in-Err.ensures.viable c.in-Err.fault r end in
+    let told = next_fault files _ _ _ _ _ _ _ c.read_file.new.decoder c.read_file.new.count behind c.in-Err.ensures.counted c.in-Err.ensures.viable
+    c.in-Err.fault r end in
     rw (← c.self.view_is) (λ fresh. (r.got, r.eats, r.noted, told, refl))
 
 pub returns-else-is_end-clause-file : goal.returns-else-is_end-clause-file
@@ -106,8 +125,14 @@ returns-else-is_end-clause-file g c =
     let files = (c.self.invariant c.in_default.is).0 in
     let behind = (c.self.invariant c.in_default.is).1 in
     let r = c.in-Err.ensures.read files (comes_behind files _ _ _ behind) in
-    let source : Taking = record { before = g.S.Source.remaining c.self.inside.source; after = g.S.Source.remaining c.read_file.new.source; failed = g.S.Source.has_failed c.read_file.new.source } in
+    let source : Taking = record {
+      before = g.S.Source.remaining c.self.inside.source;
+      after = g.S.Source.remaining c.read_file.new.source;
+      failed =
+          g.S.Source.has_failed c.read_file.new.source;
+    } in
     subst (NextGiven g.S.Source.remaining source.after source.failed (Err c.in-Err.fault)) c.self.view_is
     (λ fresh fs f b x input are file chain.
     fault_given f _ x source c.in-Err.fault
-    (next_given files _ _ _ _ _ _ _ c.read_file.new.decoder c.read_file.new.count behind c.in-Err.ensures.counted c.in-Err.ensures.viable f b x (fs ++ f ∷ []) (Err c.in-Err.fault) input are file chain r))
+    (next_given files _ _ _ _ _ _ _ c.read_file.new.decoder c.read_file.new.count behind c.in-Err.ensures.counted c.in-Err.ensures.viable f b x (fs ++ f ∷ [])
+    (Err c.in-Err.fault) input are file chain r))

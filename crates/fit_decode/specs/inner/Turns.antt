@@ -1,4 +1,4 @@
--- What the parts of a reader do. No public contract names these.
+-- What the parts of a reader do.
 use Rattle.std.specs.Prelude.{◌≡◌, ℕ, ◌+◌, ◌<◌, ◌≤◌, Bool, true, false, List, [], ◌∷◌, ◌++◌, Option, Some, None, Result, Ok, Err, take, length, slice_index}
 use Rattle.std.specs.Io.KnownBytes.{Consumes, IsAtEnd}
 use Rattle.fit_frame.specs.declared.header.Header.{Header}
@@ -9,6 +9,7 @@ use Rattle.fit_decode.specs.declared.event.Fault.{Fault}
 use Rattle.fit_decode.specs.declared.event.Fault.TheVariants.{Refused, Truncated, NoMemory, Read}
 use Rattle.fit_decode.specs.Progress.{Progress, at_header, at_data, HasCome}
 use Rattle.fit_decode.specs.Answers.{Seen}
+use Rattle.fit_decode.specs.Reads.{piece_size}
 use Rattle.fit_decode.specs.Refusals.{IsRefused}
 
 abbrev pub progress_header : {A : Type 0} → Progress A → Option Header
@@ -20,7 +21,7 @@ progress_records (at_header front) = []
 progress_records (at_data h n records part) = records
 
 -- The bytes are those of the files and of some of the next one, of which the header, if it is whole, and the whole records are these.
-pub record Stands {A : Type 0} (files : List (FitFile A)) (head : Option Header) (records : List (Record A)) (bytes : List ℕ) : Type 0 where
+pub record ComesToRecords {A : Type 0} (files : List (FitFile A)) (head : Option Header) (records : List (Record A)) (bytes : List ℕ) : Type 0 where
   pub progress : Progress A
   pub come : HasCome files progress bytes
   pub head_is : progress_header progress ≡ head
@@ -44,7 +45,7 @@ unrefused bytes = record { bytes = bytes; refusal = None }
 
 -- What a piece fed behind the bytes told: no end of a file; or the end of one, with so many of its bytes; or a fault.
 abbrev pub PieceFed : {A : Type 0} → List (FitFile A) → List ℕ → List ℕ → Seen → Option Header → List (Record A) → Result Bool Fault → Type 0
-PieceFed files bytes piece new head records (Ok false) = (new ≡ unrefused (bytes ++ piece)) × Stands files head records (bytes ++ piece)
+PieceFed files bytes piece new head records (Ok false) = (new ≡ unrefused (bytes ++ piece)) × ComesToRecords files head records (bytes ++ piece)
 PieceFed files bytes piece new head records (Ok true) =
     (k : ℕ) × (k ≤ length piece) × (new ≡ unrefused (bytes ++ take k piece))
     × (h : Header) × (head ≡ Some h) × Ended files (record { header = h; records = records }) (bytes ++ take k piece)
@@ -54,13 +55,12 @@ PieceFed {A} files bytes piece new head records (Err (Refused place reason)) =
 PieceFed files bytes piece new head records (Err (NoMemory used)) = used ≡ length bytes + length piece
 PieceFed files bytes piece new head records (Err fault) = ⊥
 
--- The last piece that was taken: at most 4,096 bytes, behind bytes with which some chain begins, and no further than the next
--- file goes.
+-- The last piece that was taken: after bytes with which some chain begins, and no further than the next file goes.
 pub record LastPiece {A : Type 0} (files : List (FitFile A)) (taken : List ℕ) : Type 0 where
   pub before : List ℕ
   pub piece : List ℕ
   pub parts : taken ≡ before ++ piece
-  pub short : length piece ≤ 4096
+  pub short : length piece ≤ piece_size
   pub viable : IsViable A chain_limit before
   pub come : ComesTo files before
   pub within : NoSooner files before (length piece)
@@ -68,20 +68,24 @@ pub record LastPiece {A : Type 0} (files : List (FitFile A)) (taken : List ℕ) 
 -- The fault that ended the reading of the file behind these files, after all these bytes.
 abbrev pub FaultIn : {A : Type 0} → List (FitFile A) → List ℕ → Option (List ℕ) → Bool → Seen → Fault → Type 0
 FaultIn {A} files taken has failed new (Refused place reason) =
-    (place < length taken) × (length taken ≤ place + 4096) × ComesTo files (take place taken) × IsRefused A chain_limit (take place taken) (slice_index taken place) reason
+    (place < length taken) × (length taken ≤ place + piece_size) × ComesTo files (take place taken)
+    × IsRefused A chain_limit (take place taken) (slice_index taken place) reason × (failed ≡ false)
 FaultIn files taken has failed new (Truncated place) = (place ≡ length taken) × IsAtEnd has × ComesTo files taken × (new ≡ unrefused taken) × (failed ≡ false)
-FaultIn files taken has failed new (NoMemory used) = (used ≡ length taken) × LastPiece files taken
+FaultIn files taken has failed new (NoMemory used) = (used ≡ length taken) × LastPiece files taken × (failed ≡ false)
 FaultIn files taken has failed new (Read place) = (place ≡ length taken) × (failed ≡ true) × ComesTo files taken × (new ≡ unrefused taken)
 
 -- What the taking and feeding of one piece, got, told.
-abbrev pub TurnTold : {A : Type 0} → List (FitFile A) → List ℕ → List ℕ → Option (List ℕ) → Bool → Seen → Option Header → List (Record A) → Result Bool Fault → Type 0
-TurnTold files bytes got has failed new head records (Ok false) = (0 < length got) × (new ≡ unrefused (bytes ++ got)) × Stands files head records (bytes ++ got)
+abbrev pub TurnTold : {A : Type 0} → List (FitFile A) → List ℕ → List ℕ → Option (List ℕ) → Bool → Seen → Option Header → List (Record A) → Result Bool Fault
+    → Type 0
+TurnTold files bytes got has failed new head records (Ok false) =
+    (0 < length got) × (new ≡ unrefused (bytes ++ got)) × ComesToRecords files head records (bytes ++ got)
 TurnTold files bytes got has failed new head records (Ok true) =
     (new ≡ unrefused (bytes ++ got)) × (h : Header) × (head ≡ Some h) × Ended files (record { header = h; records = records }) (bytes ++ got)
     × (failed ≡ false)
 TurnTold files bytes got has failed new head records (Err fault) = FaultIn files (bytes ++ got) has failed new fault
 
-pub record Turned {A : Type 0} (files : List (FitFile A)) (bytes old taken : List ℕ) (had has : Option (List ℕ)) (failed : Bool) (new : Seen) (head : Option Header) (records : List (Record A)) (result : Result Bool Fault) : Type 0 where
+pub record Turned {A : Type 0} (files : List (FitFile A)) (bytes old taken : List ℕ) (had has : Option (List ℕ)) (failed : Bool) (new : Seen)
+    (head : Option Header) (records : List (Record A)) (result : Result Bool Fault) : Type 0 where
   pub got : List ℕ
   pub noted : taken ≡ old ++ got
   pub eats : Consumes had has got
@@ -92,7 +96,8 @@ abbrev pub FileTold : {A : Type 0} → List (FitFile A) → List ℕ → Option 
 FileTold files taken has failed new (Ok f) = (new ≡ unrefused taken) × Ended files f taken × (failed ≡ false)
 FileTold files taken has failed new (Err fault) = FaultIn files taken has failed new fault
 
-pub record FileRead {A : Type 0} (files : List (FitFile A)) (bytes old taken : List ℕ) (had has : Option (List ℕ)) (failed : Bool) (new : Seen) (result : Result (FitFile A) Fault) : Type 0 where
+pub record FileRead {A : Type 0} (files : List (FitFile A)) (bytes old taken : List ℕ) (had has : Option (List ℕ)) (failed : Bool) (new : Seen)
+    (result : Result (FitFile A) Fault) : Type 0 where
   pub got : List ℕ
   pub noted : taken ≡ old ++ got
   pub eats : Consumes had has got

@@ -21,7 +21,7 @@ in_progress_size (Some (Define d)) = entry_count d
 in_progress_size (Some (Data v)) = values_size v
 
 -- so few that they can be counted
-abbrev pub IsSmall : {A : Type 0} → Option (Record A) → Type 0
-IsSmall None = Unit {0}
-IsSmall (Some (Define d)) = (length d.fields < 256) × (length (dev_defs d.dev) < 256)
-IsSmall (Some (Data v)) = values_size v ≤ 130560
+abbrev pub IsCountable : {A : Type 0} → Option (Record A) → Type 0
+IsCountable None = Unit {0}
+IsCountable (Some (Define d)) = (length d.fields < 256) × (length (dev_defs d.dev) < 256)
+IsCountable (Some (Data v)) = values_size v ≤ 130560

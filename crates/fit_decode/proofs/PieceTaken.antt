@@ -1,5 +1,6 @@
 -- A turn of a reader: a piece taken and fed.
-use Rattle.std.proofs.Common.{◌≡◌, Bool, true, false, ℕ, ◌<◌, ◌≤◌, List, [], ◌++◌, length, take, get_or, Option, None, Result, Ok, Err, refl, sym, ap, ◌∙◌, subst, arith, length-append}
+use Rattle.std.proofs.Common.{◌≡◌, Bool, true, false, ℕ, ◌<◌, ◌≤◌, List, [], ◌++◌, length, take, get_or, Option, None, Result, Ok, Err, refl, sym, ap, ◌∙◌}
+use Rattle.std.proofs.Common.{subst, arith, length-append}
 use Rattle.std.specs.Io.KnownBytes.{IsAtEnd}
 use Rattle.std.proofs.lemmas.List.{append-nil, length-take, get_or-append-add}
 use Rattle.std.proofs.Math.Seq.{take-length, take-append-add}
@@ -10,12 +11,15 @@ use Rattle.fit_record.specs.Files.{chain_limit, IsViable}
 use Rattle.fit_decode.specs.declared.event.Fault.{Fault}
 use Rattle.fit_decode.specs.declared.event.Fault.TheVariants.{Refused, Truncated, NoMemory, Read}
 use Rattle.fit_decode.specs.Answers.{Seen}
+use Rattle.fit_decode.specs.Reads.{piece_size}
 use Rattle.fit_decode.specs.Refusals.{IsRefused}
-use Rattle.fit_decode.specs.Turns.{Stands, ComesTo, Ended, PieceFed, TurnTold, NoSooner, unrefused}
+use Rattle.fit_decode.specs.inner.Turns.{ComesToRecords, ComesTo, Ended, PieceFed, TurnTold, NoSooner, unrefused}
 
 -- what feeding the piece told is what the turn told
-pub turn_of : {A : Type 0} (files : List (FitFile A)) (bytes piece : List ℕ) (n : ℕ) (has : Option (List ℕ)) (failed : Bool) (new : Seen) (head : Option Header) (records : List (Record A)) (result : Result Bool Fault)
-    → NoSooner files bytes n → length piece ≤ n → 0 < length piece → length piece ≤ 4096 → failed ≡ false → IsViable A chain_limit bytes → ComesTo files bytes
+pub turn_of : {A : Type 0} (files : List (FitFile A)) (bytes piece : List ℕ) (n : ℕ) (has : Option (List ℕ)) (failed : Bool) (new : Seen) (head : Option Header)
+    (records : List (Record A)) (result : Result Bool Fault)
+    → NoSooner files bytes n → length piece ≤ n → 0 < length piece → length piece ≤ piece_size → failed ≡ false
+    → IsViable A chain_limit bytes → ComesTo files bytes
     → PieceFed files bytes piece new head records result → TurnTold files bytes piece has failed new head records result
 turn_of files bytes piece n has failed new head records (Ok false) least short some small good viable come (after, stands) = (some, after, stands)
 turn_of files bytes piece n has failed new head records (Ok true) least short some small good viable come (k, within, after, h, is, ended) =
@@ -34,7 +38,9 @@ turn_of {A} files bytes piece n has failed new head records (Err (Refused place 
       omega (arith, is, within, length-append bytes piece),
       omega (arith, is, small, length-append bytes piece),
       subst (ComesTo files) (sym front) comes,
-      subst (λ b. IsRefused A chain_limit (take place (bytes ++ piece)) b reason) (sym byte) (subst (λ t. IsRefused A chain_limit t (get_or piece k 0) reason) (sym front) why),
+      subst (λ b. IsRefused A chain_limit (take place (bytes ++ piece)) b reason) (sym byte)
+          (subst (λ t. IsRefused A chain_limit t (get_or piece k 0) reason) (sym front) why),
+      good,
     )
 turn_of files bytes piece n has failed new head records (Err (NoMemory used)) least short some small good viable come is = (
   omega (arith, is, length-append bytes piece),
@@ -47,13 +53,15 @@ turn_of files bytes piece n has failed new head records (Err (NoMemory used)) le
     come = come;
     within = λ f more ended. omega (arith, short, least f more ended);
   },
+  good,
 )
 turn_of files bytes piece n has failed new head records (Err (Truncated place)) least short some small good viable come never = absurd never
 turn_of files bytes piece n has failed new head records (Err (Read place)) least short some small good viable come never = absurd never
 
 -- nothing more was taken
-module _ {A : Type 0} (files : List (FitFile A)) (head : Option Header) (records : List (Record A)) (old : Seen) (place : ℕ) (has : Option (List ℕ)) (failed : Bool)
-    (counted : place ≡ length old.bytes) (fresh : old.refusal ≡ None) (s : Stands files head records old.bytes) where
+module _ {A : Type 0} (files : List (FitFile A)) (head : Option Header) (records : List (Record A)) (old : Seen) (place : ℕ) (has : Option (List ℕ))
+    (failed : Bool)
+    (counted : place ≡ length old.bytes) (fresh : old.refusal ≡ None) (s : ComesToRecords files head records old.bytes) where
   nothing : old.bytes ++ [] ≡ old.bytes
   nothing = append-nil old.bytes
 

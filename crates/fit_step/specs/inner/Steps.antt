@@ -1,5 +1,6 @@
 -- What the code's steps say, in terms of the machine. No public contract names these.
-use Rattle.std.specs.Prelude.{◌≡◌, ℕ, suc, ◌<◌, ◌==◌, ◌⊎◌, if◌then◌else◌, Bool, true, false, List, [], ◌∷◌, length, Option, Some, None, Result, Ok, Err, IsOk, IsSome}
+use Rattle.std.specs.Prelude.{◌≡◌, ℕ, suc, ◌<◌, ◌==◌, ◌⊎◌, if◌then◌else◌, Bool, true, false, List, [], ◌∷◌, length, Option, Some, None, Result, Ok, Err, IsOk}
+use Rattle.std.specs.Prelude.{IsSome}
 use Rattle.fit_record.specs.declared.definition.MessageDef.{MessageDef}
 use Rattle.fit_record.specs.declared.message.Record.{Record}
 use Rattle.fit_record.specs.declared.message.Record.TheVariants.{Define, Values as Data}
@@ -14,7 +15,7 @@ use Rattle.fit_step.specs.declared.phase.DefinitionPhase.TheVariants.{FieldNumbe
 use Rattle.fit_base.specs.BaseTypes.{item_width}
 use Rattle.fit_step.specs.declared.stop.Stop.{Stop}
 use Rattle.fit_step.specs.declared.stop.Stop.TheVariants.{Refused, NoMemory}
-use Rattle.fit_step.specs.Machine.{State, Step, Next}
+use Rattle.fit_step.specs.Machine.{State, Step, NextState}
 
 abbrev pub state : {A : Type 0} → Phase → ℕ → Option (Record A) → List ℕ → State A
 state phase room in_progress partial = record { phase = phase; room = room; in_progress = in_progress; partial = partial }
@@ -28,7 +29,7 @@ Made phase room in_progress partial (Err (Refused reason)) made = made ≡ Err r
 Made phase room in_progress partial (Err NoMemory) made = IsOk made
 
 -- What there is of a record is all of it, or stays in progress.
-abbrev pub entered : {A : Type 0} → Bool → Phase → ℕ → Record A → Next A
+abbrev pub entered : {A : Type 0} → Bool → Phase → ℕ → Record A → NextState A
 entered true phase room r = (state phase room None [], Some r)
 entered false phase room r = (state phase room (Some r) [], None)
 
@@ -65,17 +66,17 @@ IsDefining k d = DefinitionFits d
 -- ---- data messages
 
 -- the first field that has bytes, from this place on: its place, the width of its items, and its size
-abbrev pub next_from : ℕ → List (ℕ × ℕ) → Option (ℕ × ℕ × ℕ)
-next_from place [] = None
-next_from place (f ∷ rest) = if f.1 == 0 then next_from (suc place) rest else Some (place, item_width f.0 f.1, f.1)
+abbrev pub next_with_bytes : ℕ → List (ℕ × ℕ) → Option (ℕ × ℕ × ℕ)
+next_with_bytes place [] = None
+next_with_bytes place (f ∷ rest) = if f.1 == 0 then next_with_bytes (suc place) rest else Some (place, item_width f.0 f.1, f.1)
 
 -- behind a field: the message is whole, or the next field begins
-abbrev pub begun : {A : Type 0} → Bool → Phase → ℕ → Values A → Next A
-begun true phase room v = (state phase room None [], Some (Data v))
-begun false phase room v = (state phase room (Some (Data v)) [], None)
+abbrev pub message_begun : {A : Type 0} → Bool → Phase → ℕ → Values A → NextState A
+message_begun true phase room v = (state phase room None [], Some (Data v))
+message_begun false phase room v = (state phase room (Some (Data v)) [], None)
 
 -- A field of so many is read, some bytes of a number have come, and some of the field are to come.
-pub record IsReading (count at each rest : ℕ) (partial : List ℕ) : Type 0 where
+pub record IsInField (count at each rest : ℕ) (partial : List ℕ) : Type 0 where
   pub place : at < count
   pub width : (each ≡ 1) ⊎ ((each ≡ 2) ⊎ ((each ≡ 4) ⊎ (each ≡ 8)))
   pub short : length partial < each
@@ -90,7 +91,8 @@ DefinesAt phase d = ⊥
 -- A field, or a developer field, of the definition of its local message type is read, and the message has as many as that.
 abbrev pub ReadsAt : {A : Type 0} → Environment A → Phase → Values A → List ℕ → Type 0
 ReadsAt {A} e (FieldItems place width left) v partial =
-    (p : Defined A) × (defined_at e v.local ≡ Some p) × IsReading (length p.definition.fields) place width left partial × (length v.fields ≡ length p.definition.fields)
+    (p : Defined A) × (defined_at e v.local ≡ Some p) × IsInField (length p.definition.fields) place width left partial
+    × (length v.fields ≡ length p.definition.fields)
 ReadsAt {A} e (DevItems place width left) v partial =
-    (p : Defined A) × (defined_at e v.local ≡ Some p) × IsReading (length (dev_layout p)) place width left partial × (length v.dev ≡ length (dev_layout p))
+    (p : Defined A) × (defined_at e v.local ≡ Some p) × IsInField (length (dev_layout p)) place width left partial × (length v.dev ≡ length (dev_layout p))
 ReadsAt e phase v partial = ⊥

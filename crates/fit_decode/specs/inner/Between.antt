@@ -1,4 +1,4 @@
--- What holds of a reader of a chain between two files. No public contract names these.
+-- What holds of a reader of a chain between two files.
 use Rattle.std.specs.Prelude.{◌≡◌, ◌↔◌, ℕ, Bool, true, false, List, [], length, Option, None}
 use Rattle.fit_record.specs.declared.file.FitFile.{FitFile}
 use Rattle.fit_record.specs.Files.{chain_limit, IsViable}
@@ -6,7 +6,7 @@ use Rattle.fit_decode.specs.declared.event.Fault.{Fault}
 use Rattle.fit_decode.specs.declared.event.Fault.TheVariants.{Truncated}
 use Rattle.fit_decode.specs.Answers.{Seen, AreChain}
 use Rattle.fit_decode.specs.Progress.{at_header, HasCome}
-use Rattle.fit_decode.specs.Turns.{unrefused}
+use Rattle.fit_decode.specs.inner.Turns.{unrefused}
 
 -- The decoder was fed the bytes taken, which are those of these files.
 pub record IsBehind {A : Type 0} (files : List (FitFile A)) (decoder : Seen) (count : ℕ) (taken : List ℕ) : Type 0 where
@@ -16,8 +16,8 @@ pub record IsBehind {A : Type 0} (files : List (FitFile A)) (decoder : Seen) (co
   pub come : HasCome files (at_header []) taken
 
 -- Until a fault the reading is behind some files.
-abbrev pub IsReading : Type 0 → Option Fault → Seen → ℕ → List ℕ → Type 0
-IsReading A fault decoder count taken = fault ≡ None → (files : List (FitFile A)) × IsBehind files decoder count taken
+abbrev pub ReadsOn : Type 0 → Option Fault → Seen → ℕ → List ℕ → Type 0
+ReadsOn A fault decoder count taken = fault ≡ None → (files : List (FitFile A)) × IsBehind files decoder count taken
 
 -- Whether the fault is the input's end behind a whole chain.
 abbrev pub IsEnd : Type 0 → Seen → Fault → Bool → Type 0

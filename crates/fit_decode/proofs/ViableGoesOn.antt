@@ -1,5 +1,6 @@
 -- What has come of a chain goes on: bytes of which some chain goes on have come to where one can.
-use Rattle.std.proofs.Common.{◌≡◌, inl, inr, ℕ, zero, suc, ◌+◌, ◌-◌, ◌<◌, ◌≤◌, true, List, [], ◌∷◌, ◌++◌, length, refl, sym, ap, ◌∙◌, subst, arith, append_assoc, length-append}
+use Rattle.std.proofs.Common.{◌≡◌, inl, inr, ℕ, zero, suc, ◌+◌, ◌-◌, ◌<◌, ◌≤◌, true, List, [], ◌∷◌, ◌++◌, length, refl, sym, ap, ◌∙◌, subst, arith}
+use Rattle.std.proofs.Common.{append_assoc, length-append}
 use Rattle.std.proofs.lemmas.List.{append-nil}
 use Rattle.fit_base.specs.Numbers.{IsBytes, little_bytes}
 use Rattle.fit_base.proofs.Bytes.{bytes_below, length-little_bytes}
@@ -50,7 +51,8 @@ same_filled A (suc (suc (suc (suc (suc (suc n)))))) = refl
 
 data_size : {A : Type 0} (f : FitFile A) → IsWellFormed f → IsBytes (body f) → IsDataSize (length (body f))
 data_size {A} f well are =
-    filled_size (length (body f)) (sym (same_filled A (length (body f))) ∙ (can_fill_is {A = A} empty_environment (length (body f)) refl).1 (f.records, body f, are, (well.records, refl), refl))
+    filled_size (length (body f)) (sym (same_filled A (length (body f)))
+    ∙ (can_fill_is {A = A} empty_environment (length (body f)) refl).1 (f.records, body f, are, (well.records, refl), refl))
 
 pub begins_nothing : BeginsHeader []
 begins_nothing = record {
@@ -63,14 +65,16 @@ begun_of_header : {A : Type 0} (fs : List (FitFile A)) (front : List ℕ) → fi
 begun_of_header fs [] = omega arith
 begun_of_header fs (b ∷ front) = omega arith
 
-longer : {A : Type 0} (limit : ℕ) (fs gs others after : List (FitFile A)) (f : FitFile A) → gs ≡ fs ++ others → others ≡ f ∷ after → length gs ≤ limit → length fs + 1 ≤ limit
+longer : {A : Type 0} (limit : ℕ) (fs gs others after : List (FitFile A)) (f : FitFile A) → gs ≡ fs ++ others → others ≡ f ∷ after → length gs ≤ limit
+    → length fs + 1 ≤ limit
 longer limit fs gs others after f joined are within = omega (arith, within, ap length joined, length-append fs others, ap length are)
 
 no_longer : (a b : List ℕ) → a ++ b ≡ [] → (a ≡ []) × (b ≡ [])
 no_longer [] b e = (refl, e)
 no_longer (x ∷ a) b e = absurd cc
 
-begins : {A : Type 0} (front x y z : List ℕ) (others : List (FitFile A)) → IsUnfinished {A = A} (at_header front) → IsBytes x → x ≡ y ++ z → length y ≤ 1 → HeaderFollows front x others → BeginsHeader (front ++ y)
+begins : {A : Type 0} (front x y z : List ℕ) (others : List (FitFile A)) → IsUnfinished {A = A} (at_header front) → IsBytes x → x ≡ y ++ z → length y ≤ 1
+    → HeaderFollows front x others → BeginsHeader (front ++ y)
 begins {A} front x y z others u are is short s =
     let f = s.file in
     let n = length (body f) in
@@ -89,7 +93,8 @@ begins {A} front x y z others u are is short s =
       }
       | inr k ↦
           let none : s.more ≡ [] = empty s.more (omega (arith, ap length k.first, length-append s.more (k.next ∷ k.more), short)) in
-          absurd (no_header A front f.header n [] u s.well.header (sym (append-nil (header_bytes f.header n) ∙ s.header ∙ ap (λ m. front ++ m) none ∙ append-nil front)))
+          absurd (no_header A front f.header n [] u s.well.header
+          (sym (append-nil (header_bytes f.header n) ∙ s.header ∙ ap (λ m. front ++ m) none ∙ append-nil front)))
     ]
   where
     empty : (a : List ℕ) → length a ≡ 0 → a ≡ []
@@ -110,13 +115,22 @@ partial_short : {A : Type 0} (e : Environment A) (room : ℕ) (part : List ℕ) 
 partial_short e zero part over u = u
 partial_short e (suc room) part over u = absurd (omega arith)
 
-sum_goes : {A : Type 0} (e : Environment A) (room : ℕ) (sum part x y z rest : List ℕ) (others : List (Record A)) → IsPartial e room part → length sum ≡ 2 → x ≡ y ++ z → length y ≤ 1
+sum_goes : {A : Type 0} (e : Environment A) (room : ℕ) (sum part x y z rest : List ℕ) (others : List (Record A)) → IsPartial e room part → length sum ≡ 2
+    → x ≡ y ++ z → length y ≤ 1
     → SumFollows room part x (sum ++ rest) others → DataGoesOn e room sum (part ++ y)
 sum_goes e room sum part x y z rest others u two is short s =
     let parts : (part ++ y) ++ z ≡ sum ++ rest = append_assoc part y z ∙ ap (λ m. part ++ m) (sym is) ∙ s.comes in
     elim (split (part ++ y) sum z rest parts) [
       | inl k ↦ no_room e room sum (part ++ y) k.more s.over k.second
-      | inr k ↦ absurd (omega (arith, ap length k.first, length-append part y, length-append sum (k.next ∷ k.more), two, short, partial_short e room part s.over u))
+      | inr k ↦ absurd (omega (
+        arith,
+        ap length k.first,
+        length-append part y,
+        length-append sum (k.next ∷ k.more),
+        two,
+        short,
+        partial_short e room part s.over u,
+      ))
     ]
 
 record_goes : {A : Type 0} (e : Environment A) (room : ℕ) (sum part x y z tail : List ℕ) → IsPartial e room part → IsBytes x → x ≡ y ++ z → length y ≤ 1
@@ -128,14 +142,26 @@ record_goes {A} e room sum part x y z tail u are is short s =
     elim (split y s.more z (after ++ tail) (sym is ∙ s.behind)) [
       | inl k ↦
           let rest_bytes : IsBytes (k.more ++ after) =
-          IsBytes-back y (k.more ++ after) (subst IsBytes (ap (λ m. m ++ after) k.second ∙ append_assoc y k.more after) (IsBytes-front (s.more ++ after) tail (subst IsBytes (sym (append_assoc s.more after tail)) all))) in
+          IsBytes-back y (k.more ++ after) (subst IsBytes (ap (λ m. m ++ after) k.second ∙ append_assoc y k.more after)
+          (IsBytes-front (s.more ++ after) tail (subst IsBytes (sym (append_assoc s.more after tail)) all))) in
           let spelled : record_bytes e s.whole ++ after ≡ (part ++ y) ++ (k.more ++ after) =
           whole ∙ ap (λ m. part ++ (m ++ after)) k.second ∙ regroup part y k.more after in
-          some_room e room sum (part ++ y) s.some
-          (s.whole ∷ s.after, k.more ++ after, rest_bytes, s.fit, spelled, omega (arith, s.total, length-append part y, length-append k.more after, ap length k.second, length-append y k.more))
+          some_room e room sum (part ++ y) s.some (
+            s.whole ∷ s.after,
+            k.more ++ after,
+            rest_bytes,
+            s.fit,
+            spelled,
+            omega (arith, s.total, length-append part y, length-append k.more after, ap length k.second, length-append y k.more),
+          )
       | inr k ↦
           let none : s.more ≡ [] = empty s.more (omega (arith, ap length k.first, length-append s.more (k.next ∷ k.more), short)) in
-          absurd (omega (arith, s.some, no_record e room part [] s.whole u s.fit.0 (sym (append-nil (record_bytes e s.whole) ∙ s.begins ∙ ap (λ m. part ++ m) none ∙ append-nil part))))
+          absurd (omega (
+            arith,
+            s.some,
+            no_record e room part [] s.whole u s.fit.0
+                (sym (append-nil (record_bytes e s.whole) ∙ s.begins ∙ ap (λ m. part ++ m) none ∙ append-nil part)),
+          ))
     ]
   where
     empty : (a : List ℕ) → length a ≡ 0 → a ≡ []
@@ -149,7 +175,8 @@ same_sum : {A : Type 0} (h : Header) (n : ℕ) (records : List (Record A)) (f : 
     → little_bytes 2 (checksum (summed f)) ≡ little_bytes 2 (checksum (header_bytes h n ++ records_bytes empty_environment records))
 same_sum h n records f header size same = λ i. little_bytes 2 (checksum (header_bytes (header i) (size i) ++ records_bytes empty_environment (same i)))
 
-data_goes : {A : Type 0} (h : Header) (n : ℕ) (records : List (Record A)) (part x y z : List ℕ) (others : List (FitFile A)) → IsUnfinished (at_data h n records part) → IsBytes x → x ≡ y ++ z → length y ≤ 1
+data_goes : {A : Type 0} (h : Header) (n : ℕ) (records : List (Record A)) (part x y z : List ℕ) (others : List (FitFile A))
+    → IsUnfinished (at_data h n records part) → IsBytes x → x ≡ y ++ z → length y ≤ 1
     → DataFollows h n records part x others → GoesOn (at_data h n records (part ++ y))
 data_goes h n records part x y z others u are is short d =
     let e = learn_all empty_environment records in
@@ -160,13 +187,15 @@ data_goes h n records part x y z others u are is short d =
       | inr s ↦
           let same : d.file.records ≡ records = d.same_records ∙ ap (λ m. records ++ m) s.none ∙ append-nil records in
           let sums = same_sum h n records d.file d.same_header d.same_size same in
-          sum_goes e room sum part x y z (chain_bytes d.after) d.next u.3 (length-little_bytes 2 (checksum (header_bytes h n ++ records_bytes empty_environment records))) is short
+          sum_goes e room sum part x y z (chain_bytes d.after) d.next u.3
+          (length-little_bytes 2 (checksum (header_bytes h n ++ records_bytes empty_environment records))) is short
           (subst (λ t. SumFollows room part x (t ++ chain_bytes d.after) d.next) sums s)
     ]
 
 -- ---- all of it
 
-goes_with : {A : Type 0} (limit : ℕ) (fs gs : List (FitFile A)) (g : Progress A) (bytes x y z : List ℕ) → HasCome fs g bytes → IsBytes (bytes ++ x) → IsChain limit gs (bytes ++ x)
+goes_with : {A : Type 0} (limit : ℕ) (fs gs : List (FitFile A)) (g : Progress A) (bytes x y z : List ℕ) → HasCome fs g bytes → IsBytes (bytes ++ x)
+    → IsChain limit gs (bytes ++ x)
     → x ≡ y ++ z → length y ≤ 1 → ChainGoesOn limit fs (with_bytes g y)
 goes_with {A} limit fs gs (at_header front) bytes x y z come are chain is short =
     let next = chain_follows limit fs (at_header front) bytes x gs come chain in
@@ -193,12 +222,14 @@ without_bytes (at_header front) = ap at_header (append-nil front)
 without_bytes (at_data h n records part) = ap (at_data h n records) (append-nil part)
 
 -- bytes with which a chain begins have come to where one can go on
-pub viable_goes : {A : Type 0} (limit : ℕ) (fs : List (FitFile A)) (g : Progress A) (bytes : List ℕ) → HasCome fs g bytes → IsViable A limit bytes → ChainGoesOn limit fs g
+pub viable_goes : {A : Type 0} (limit : ℕ) (fs : List (FitFile A)) (g : Progress A) (bytes : List ℕ) → HasCome fs g bytes → IsViable A limit bytes
+    → ChainGoesOn limit fs g
 viable_goes limit fs g bytes come (more, gs, are, chain) =
     subst (ChainGoesOn limit fs) (without_bytes g) (goes_with limit fs gs g bytes more [] more come are chain refl (omega arith))
 
 -- and so have those with one byte more
-pub next_goes : {A : Type 0} (limit : ℕ) (fs : List (FitFile A)) (g : Progress A) (bytes : List ℕ) (b : ℕ) → HasCome fs g bytes → IsViable A limit (bytes ++ b ∷ []) → ChainGoesOn limit fs (with_bytes g (b ∷ []))
+pub next_goes : {A : Type 0} (limit : ℕ) (fs : List (FitFile A)) (g : Progress A) (bytes : List ℕ) (b : ℕ) → HasCome fs g bytes
+    → IsViable A limit (bytes ++ b ∷ []) → ChainGoesOn limit fs (with_bytes g (b ∷ []))
 next_goes {A} limit fs g bytes b come (more, gs, are, chain) =
     let regrouped = append_assoc bytes (b ∷ []) more in
     goes_with limit fs gs g bytes (b ∷ more) (b ∷ []) more come (subst IsBytes regrouped are) (subst (IsChain limit gs) regrouped chain) refl (omega arith)

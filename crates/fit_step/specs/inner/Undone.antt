@@ -22,6 +22,7 @@ AddsEntry k d after = after ≡ d
 abbrev pub Adds : {A : Type 0} → Phase → Option (Record A) → Record A → Type 0
 Adds RecordHeader before r = before ≡ None
 Adds (Definition k) (Some (Define d)) (Define after) = AddsEntry k d after
-Adds (FieldItems place width left) (Some (Data v)) (Data after) = (n : ℕ) × (place < length v.fields) × (after ≡ record v { fields = add_number place v.fields n })
+Adds (FieldItems place width left) (Some (Data v)) (Data after) =
+    (n : ℕ) × (place < length v.fields) × (after ≡ record v { fields = add_number place v.fields n })
 Adds (DevItems place width left) (Some (Data v)) (Data after) = (n : ℕ) × (place < length v.dev) × (after ≡ record v { dev = add_number place v.dev n })
 Adds phase before r = ⊥

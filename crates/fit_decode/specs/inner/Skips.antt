@@ -10,10 +10,11 @@ use Rattle.fit_decode.specs.declared.section.Section.{Section}
 use Rattle.fit_decode.specs.declared.section.Section.TheVariants.{Data}
 use Rattle.fit_decode.specs.Answers.{TellsRecords}
 use Rattle.fit_decode.specs.Events.{Event, AreEvents}
-use Rattle.fit_decode.specs.Kept.{Fields, Holds}
+use Rattle.fit_decode.specs.inner.Kept.{Fields, Holds}
 
 -- That many records have these bytes, and after them at least six bytes are to come in the data section.
-pub record SkipsSome {A : Type 0} (section : Section) (e : Environment A) (covered : List ℕ) (before : Position) (idle : Option (Record A)) (known : Environment A) (sum : List ℕ) (after : Position) (piece : List ℕ) (used count : ℕ) : Type 0 where
+pub record SkipsSome {A : Type 0} (section : Section) (e : Environment A) (covered : List ℕ) (before : Position) (idle : Option (Record A))
+    (known : Environment A) (sum : List ℕ) (after : Position) (piece : List ℕ) (used count : ℕ) : Type 0 where
   pub in_data : section ≡ Data
   pub begins : idle ≡ None
   pub within : used ≤ length piece
@@ -24,7 +25,8 @@ pub record SkipsSome {A : Type 0} (section : Section) (e : Environment A) (cover
   pub left : after.room ≡ before.room - used
 
 -- Nothing was used, or some records were skipped.
-abbrev pub DataSkipped : {A : Type 0} → Section → Environment A → List ℕ → Position → Option (Record A) → Environment A → List ℕ → Position → List ℕ → ℕ → ℕ → Type 0
+abbrev pub DataSkipped : {A : Type 0} → Section → Environment A → List ℕ → Position → Option (Record A) → Environment A → List ℕ → Position → List ℕ → ℕ → ℕ
+    → Type 0
 DataSkipped section e covered before idle known sum after piece used count =
     ((used ≡ 0) × (count ≡ 0) × (known ≡ e) × (sum ≡ covered) × (after ≡ before)) ⊎ SkipsSome section e covered before idle known sum after piece used count
 

@@ -1,5 +1,6 @@
 -- What the code's walks over a section of a file leave in its fields. No public contract names these.
-use Rattle.std.specs.Prelude.{◌≡◌, ℕ, ◌+◌, ◌==◌, ◌<◌, ◌≤◌, ◌⊎◌, Bool, true, false, if◌then◌else◌, List, [], ◌++◌, take, length, slice_index, Some, None, Result, Ok, Err}
+use Rattle.std.specs.Prelude.{◌≡◌, ℕ, ◌+◌, ◌==◌, ◌<◌, ◌≤◌, ◌⊎◌, Bool, true, false, if◌then◌else◌, List, [], ◌++◌, take, length, slice_index, Some, None, Result}
+use Rattle.std.specs.Prelude.{Ok, Err}
 use Rattle.fit_sum.specs.Checksum.{checksum}
 use Rattle.fit_frame.specs.declared.reason.Reason.TheVariants.{TooManyFiles}
 use Rattle.fit_frame.specs.Beginning.{Seen, IsFileHeader, RefusesByte}
@@ -14,7 +15,7 @@ use Rattle.fit_decode.specs.declared.event.Event.{Event as Answer}
 use Rattle.fit_decode.specs.declared.event.Event.TheVariants as answers
 use Rattle.fit_decode.specs.declared.section.Section.{Section}
 use Rattle.fit_decode.specs.declared.section.Section.TheVariants.{Header, Data, ClosingSum}
-use Rattle.fit_decode.specs.Scans.{IsOpen, HeaderScanned, DataScanned, SumScanned}
+use Rattle.fit_decode.specs.inner.Scans.{IsHeaderPart, HeaderScanned, DataScanned, SumScanned}
 
 -- behind a header or a record, by the bytes of data that are to come
 abbrev pub section_of : ℕ → Section
@@ -24,7 +25,8 @@ section_of room = if room == 0 then ClosingSum else Data
 abbrev pub position_of : ℕ → Position
 position_of room = record { phase = RecordHeader; room = room; partial = [] }
 
-abbrev pub HeaderFed : {A : Type 0} → ℕ → List ℕ → List ℕ → Section → Position → Seen → List ℕ → Section → Position → List ℕ → ℕ → Result (Answer A) Stop → Type 0
+abbrev pub HeaderFed : {A : Type 0} → ℕ → List ℕ → List ℕ → Section → Position → Seen → List ℕ → Section → Position → List ℕ → ℕ → Result (Answer A) Stop
+    → Type 0
 HeaderFed count front covered before at reader sum section position piece used (Ok answers.More) =
     ((count < chain_limit) ⊎ (piece ≡ [])) × HeaderScanned front piece reader used (Ok None) × (sum ≡ covered ++ take used piece) × (section ≡ before)
 HeaderFed count front covered before at reader sum section position piece used (Ok (answers.Header h n)) =
@@ -32,7 +34,8 @@ HeaderFed count front covered before at reader sum section position piece used (
     × (reader ≡ record { bytes = []; refusal = None }) × (sum ≡ covered ++ take used piece) × (section ≡ section_of n) × (position ≡ position_of n)
 HeaderFed count front covered before at reader sum section position piece used (Err (Refused reason)) =
     ((chain_limit ≤ count) × (0 < length piece) × (used ≡ 0) × (reason ≡ TooManyFiles))
-    ⊎ ((count < chain_limit) × (used < length piece) × IsOpen (front ++ take used piece) × RefusesByte (front ++ take used piece) (slice_index piece used) reason)
+    ⊎ ((count < chain_limit) × (used < length piece) × IsHeaderPart (front ++ take used piece)
+    × RefusesByte (front ++ take used piece) (slice_index piece used) reason)
 HeaderFed count front covered before at reader sum section position piece used answer = ⊥
 
 abbrev pub DataFed : {A : Type 0} → Environment A → List ℕ → State A → Environment A → List ℕ → Section → State A → List ℕ → ℕ → Result (Answer A) Stop → Type 0
@@ -44,7 +47,8 @@ DataFed old covered before env sum section after piece used (Err stop) =
     DataScanned old env before after piece used (Err stop) × (sum ≡ covered ++ take used piece) × (section ≡ Data)
 DataFed old covered before env sum section after piece used answer = ⊥
 
-abbrev pub SumFed : {A : Type 0} → Bool → List ℕ → ℕ → Environment A → Bool → List ℕ → ℕ → Environment A → Section → List ℕ → ℕ → Result (Answer A) Stop → Type 0
+abbrev pub SumFed : {A : Type 0} → Bool → List ℕ → ℕ → Environment A → Bool → List ℕ → ℕ → Environment A → Section → List ℕ → ℕ → Result (Answer A) Stop
+    → Type 0
 SumFed before covered count known half sum now env section piece used (Ok answers.More) =
     SumScanned (checksum covered) before piece half used (Ok false) × (sum ≡ covered) × (now ≡ count) × (env ≡ known) × (section ≡ ClosingSum)
 SumFed before covered count known half sum now env section piece used (Ok answers.FileEnd) =

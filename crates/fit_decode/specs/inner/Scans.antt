@@ -1,5 +1,6 @@
 -- What the code's walks over a piece say. No public contract names these.
-use Rattle.std.specs.Prelude.{◌≡◌, ℕ, ◌<◌, ◌≤◌, if◌then◌else◌, Bool, true, false, List, [], ◌∷◌, ◌++◌, take, length, slice_index, Option, Some, None, Result, Ok, Err, ◌%◌}
+use Rattle.std.specs.Prelude.{◌≡◌, ℕ, ◌<◌, ◌≤◌, if◌then◌else◌, Bool, true, false, List, [], ◌∷◌, ◌++◌, take, length, slice_index, Option, Some, None, Result}
+use Rattle.std.specs.Prelude.{Ok, Err, ◌%◌}
 use Rattle.std.specs.Prelude.{IsOk}
 use Rattle.fit_base.specs.Numbers.{IsBytes, little_bytes}
 use Rattle.fit_record.specs.declared.message.Record.{Record}
@@ -16,29 +17,32 @@ use Rattle.fit_frame.specs.declared.reason.Reason.TheVariants.{FileSum}
 use Rattle.fit_frame.specs.Beginning.{Seen, IsFileHeader, IsWholeHeader, BeginsHeader, RefusesByte}
 
 -- Bytes of a header, and not all of them.
-abbrev pub IsOpen : List ℕ → Type 0
-IsOpen bytes = BeginsHeader bytes × (IsWholeHeader bytes → ⊥)
+abbrev pub IsHeaderPart : List ℕ → Type 0
+IsHeaderPart bytes = BeginsHeader bytes × (IsWholeHeader bytes → ⊥)
 
 -- Behind the bytes of a header that had come, so many of the piece were used.
 abbrev pub HeaderScanned : List ℕ → List ℕ → Seen → ℕ → Result (Option (Header × ℕ)) Reason → Type 0
-HeaderScanned front piece new used (Ok None) = (used ≡ length piece) × (new ≡ record { bytes = front ++ take used piece; refusal = None }) × IsOpen (front ++ take used piece)
+HeaderScanned front piece new used (Ok None) =
+    (used ≡ length piece) × (new ≡ record { bytes = front ++ take used piece; refusal = None }) × IsHeaderPart (front ++ take used piece)
 HeaderScanned front piece new used (Ok (Some whole)) =
-    (0 < used) × (used ≤ length piece) × (new ≡ record { bytes = front ++ take used piece; refusal = None }) × IsFileHeader whole.0 whole.1 (front ++ take used piece)
+    (0 < used) × (used ≤ length piece) × (new ≡ record { bytes = front ++ take used piece; refusal = None })
+    × IsFileHeader whole.0 whole.1 (front ++ take used piece)
 HeaderScanned front piece new used (Err reason) =
     (used < length piece) × (new ≡ record { bytes = front ++ take used piece; refusal = Some reason })
-    × IsOpen (front ++ take used piece) × RefusesByte (front ++ take used piece) (slice_index piece used) reason
+    × IsHeaderPart (front ++ take used piece) × RefusesByte (front ++ take used piece) (slice_index piece used) reason
 
 -- the bytes of a closing sum that have come
-abbrev pub sum_part : ℕ → Bool → List ℕ
-sum_part sum half = if half then sum % 256 ∷ [] else []
+abbrev pub half_sum : ℕ → Bool → List ℕ
+half_sum sum half = if half then sum % 256 ∷ [] else []
 
 -- Behind the bytes of a closing sum that had come, so many of the piece were used.
 abbrev pub SumScanned : ℕ → Bool → List ℕ → Bool → ℕ → Result Bool Reason → Type 0
-SumScanned sum before piece after used (Ok false) = (used ≡ length piece) × (sum_part sum before ++ take used piece ≡ sum_part sum after)
-SumScanned sum before piece after used (Ok true) = (0 < used) × (used ≤ length piece) × (after ≡ false) × (sum_part sum before ++ take used piece ≡ little_bytes 2 sum)
+SumScanned sum before piece after used (Ok false) = (used ≡ length piece) × (half_sum sum before ++ take used piece ≡ half_sum sum after)
+SumScanned sum before piece after used (Ok true) =
+    (0 < used) × (used ≤ length piece) × (after ≡ false) × (half_sum sum before ++ take used piece ≡ little_bytes 2 sum)
 SumScanned sum before piece after used (Err reason) =
-    (reason ≡ FileSum) × (used < length piece) × (sum_part sum before ++ take used piece ≡ sum_part sum after)
-    × ((rest : List ℕ) → little_bytes 2 sum ≡ (sum_part sum after ++ slice_index piece used ∷ []) ++ rest → ⊥)
+    (reason ≡ FileSum) × (used < length piece) × (half_sum sum before ++ take used piece ≡ half_sum sum after)
+    × ((rest : List ℕ) → little_bytes 2 sum ≡ (half_sum sum after ++ slice_index piece used ∷ []) ++ rest → ⊥)
 
 -- ---- records
 
@@ -68,7 +72,9 @@ DataScanned old new before after piece used (Ok None) = (used ≡ length piece) 
 DataScanned old new before after piece used (Ok (Some r)) =
     (0 < used) × (used ≤ length piece) × (new ≡ learn old r) × Ends old (tests_of old) before (take used piece) after r
 DataScanned old new before after piece used (Err (Refused reason)) =
-    (used < length piece) × (new ≡ old) × Walks old (tests_of old) before (take used piece) after × (step old (tests_of old) after (slice_index piece used) ≡ Err reason)
+    (used < length piece) × (new ≡ old) × Walks old (tests_of old) before (take used piece) after
+    × (step old (tests_of old) after (slice_index piece used) ≡ Err reason)
 DataScanned old new before after piece used (Err NoMemory) =
-    (used < length piece) × (new ≡ old) × Walks old (tests_of old) before (take used piece) after × IsOk (step old (tests_of old) after (slice_index piece used))
+    (used < length piece) × (new ≡ old) × Walks old (tests_of old) before (take used piece) after
+    × IsOk (step old (tests_of old) after (slice_index piece used))
     × HeadsNoEmptyMessage old after (slice_index piece used)

@@ -1,4 +1,4 @@
--- What the machine of one record keeps: a record runs through, what isn't refused begins a record, and what is refused is so for its place.
+-- For proofs alone, what the machine of one record keeps: a record runs through, what isn't refused begins a record, and what is refused is so for its place.
 use Rattle.std.specs.Prelude.{◌≡◌, ℕ, ◌+◌, ◌-◌, ◌<◌, ◌≤◌, false, List, ◌∷◌, ◌++◌, length, replicate, Some, Err}
 use Rattle.fit_base.specs.Numbers.{IsBytes}
 use Rattle.fit_frame.specs.declared.reason.Reason.{Reason}
@@ -12,11 +12,11 @@ use Rattle.fit_record.specs.Records.{IsRecord}
 use Rattle.fit_step.specs.Reasons.{record_reason}
 use Rattle.fit_record.specs.Records.{message_size}
 use Rattle.fit_step.specs.Machine.{Tests, State, start, step, Walks, Ends, RoomsFill, least_rest}
-use Rattle.fit_step.specs.Parts.{Part, nothing, in_definition, part_bytes, IsPart, HasBegun, state_of, IsShut}
+use Rattle.fit_step.specs.Parts.{RecordPart, nothing, in_definition, part_bytes, IsPart, HasBegun, state_of, IsShut}
 
 -- The bytes are those of these parts of a record, and the state is the one behind them.
-pub record IsCut {A : Type 0} (e : Environment A) (room : ℕ) (bytes : List ℕ) (s : State A) : Type 0 where
-  pub part : Part A
+pub record ComesToState {A : Type 0} (e : Environment A) (room : ℕ) (bytes : List ℕ) (s : State A) : Type 0 where
+  pub part : RecordPart A
   pub stands : IsPart e part
   pub spelled : part_bytes e part ≡ bytes
   pub is : s ≡ state_of room part
@@ -36,7 +36,7 @@ EndsAreRecords A = (e : Environment A) (tests : Tests A) (room : ℕ) (bytes : L
 -- What neither ends nor is refused is a part of a record.
 abbrev pub WalksAreCuts : Type 0 → Type 0
 WalksAreCuts A = (e : Environment A) (tests : Tests A) (room : ℕ) (bytes : List ℕ) (t : State A)
-    → Walks e tests (start room) bytes t → IsBytes bytes → IsCut e (room - length bytes) bytes t
+    → Walks e tests (start room) bytes t → IsBytes bytes → ComesToState e (room - length bytes) bytes t
 
 -- A byte that is refused has the reason of its place, and that reason says which records begin so.
 abbrev pub RefusalsArePlaced : Type 0 → Type 0
@@ -46,7 +46,7 @@ RefusalsArePlaced A = (e : Environment A) (tests : Tests A) (room : ℕ) (bytes 
 
 -- Some zeros, one at least, make a record of the parts that have come.
 abbrev pub CutsGoOn : Type 0 → Type 0
-CutsGoOn A = (e : Environment A) (part : Part A) → IsPart e part → HasBegun part
+CutsGoOn A = (e : Environment A) (part : RecordPart A) → IsPart e part → HasBegun part
     → (r : Record A) × (k : ℕ) × IsRecord e r (part_bytes e part ++ 0 ∷ replicate k 0)
 
 -- Each byte that isn't refused takes one byte of the room, and the room never falls below what the record in progress still takes.
@@ -60,7 +60,7 @@ EndsAreWithin A = (e : Environment A) (tests : Tests A) (room : ℕ) (bytes : Li
     → Ends e tests (start room) bytes t r → IsBytes bytes → length bytes ≤ room
 
 -- The test of rooms that is asked about b behind these parts is false.
-abbrev pub Fails : {A : Type 0} → Environment A → Tests A → ℕ → Part A → ℕ → Type 0
+abbrev pub Fails : {A : Type 0} → Environment A → Tests A → ℕ → RecordPart A → ℕ → Type 0
 Fails {A} e tests room nothing b = (p : Defined A) × (defined_at e (local_type b) ≡ Some p) × (tests.message (room - (1 + message_size p)) ≡ false)
 Fails e tests room (in_definition (FieldSize left number) d) b = tests.field_size d (left - 1) (room - 1) b ≡ false
 Fails e tests room (in_definition DevCount d) b = tests.dev_count d (room - 1) b ≡ false
@@ -69,11 +69,12 @@ Fails e tests room part b = ⊥
 
 -- A byte refused for want of records after it is one of which such a test is false.
 abbrev pub NoFitFails : Type 0 → Type 0
-NoFitFails A = (e : Environment A) (tests : Tests A) (room : ℕ) (part : Part A) (b : ℕ)
+NoFitFails A = (e : Environment A) (tests : Tests A) (room : ℕ) (part : RecordPart A) (b : ℕ)
     → step e tests (state_of room part) b ≡ Err NoFit → Fails e tests room part b
 
 -- Where no test is false behind a part of these bytes, no test of rooms refuses one of them.
 abbrev pub TestsFill : Type 0 → Type 0
 TestsFill A = (e : Environment A) (tests : Tests A) (room : ℕ) (bytes : List ℕ) → IsBytes bytes
-    → ((front : List ℕ) (b : ℕ) (back : List ℕ) (part : Part A) → bytes ≡ front ++ b ∷ back → IsPart e part → part_bytes e part ≡ front → Fails e tests (room - length front) part b → ⊥)
+    → ((front : List ℕ) (b : ℕ) (back : List ℕ) (part : RecordPart A) → bytes ≡ front ++ b ∷ back → IsPart e part → part_bytes e part ≡ front
+    → Fails e tests (room - length front) part b → ⊥)
     → RoomsFill e tests (start room) bytes

@@ -32,6 +32,9 @@ no_fit_in_header = refl
 size_leaves_one : reason_at chain_limit 0 (after 10 [] (0x40 ∷ 0 ∷ 0 ∷ 0x14 ∷ 0 ∷ 1 ∷ 5 ∷ [])) 2 ≡ Some reasons.NoFit
 size_leaves_one = refl
 
+dev_size_leaves_one : reason_at chain_limit 0 (after 11 [] (0x60 ∷ 0 ∷ 0 ∷ 0x14 ∷ 0 ∷ 0 ∷ 1 ∷ 5 ∷ [])) 2 ≡ Some reasons.NoFit
+dev_size_leaves_one = refl
+
 too_many_fields : reason_at chain_limit 0 (after 8 [] (0x40 ∷ 0 ∷ 0 ∷ 0x14 ∷ 0 ∷ [])) 1 ≡ Some reasons.Overrun
 too_many_fields = refl
 
@@ -61,7 +64,8 @@ architecture = refl
 second_file : reason_at chain_limit 1 (after 7 [] []) 0 ≡ Some reasons.UndefinedLocal
 second_file = refl
 
-closing_sum : reason_at chain_limit 0 (after 7 (definition 0 [] ∷ Values (record { local = 0; offset = None; fields = []; dev = [] }) ∷ []) []) 1 ≡ Some reasons.FileSum
+closing_sum : reason_at chain_limit 0 (after 7 (definition 0 [] ∷ Values (record { local = 0; offset = None; fields = []; dev = [] }) ∷ []) []) 1
+    ≡ Some reasons.FileSum
 closing_sum = refl
 
 past_the_limit : reason_at {A = Unit {0}} chain_limit 16777215 (at_header []) 0 ≡ Some reasons.TooManyFiles
@@ -71,5 +75,6 @@ past_the_limit = refl
 abbrev of_two : ℕ → List ℕ → Progress (Unit {0})
 of_two n part = at_data both_architectures.header 36 (take n both_architectures.records) part
 
-held : (bound (of_two 1 []) ≡ 2) × (bound (of_two 2 []) ≡ 2) × (bound (of_two 3 []) ≡ 4) × (bound (of_two 4 []) ≡ 4) × (bound (of_two 1 (0 ∷ 0x1F ∷ 0xCA ∷ [])) ≡ 6)
+held : (bound (of_two 1 []) ≡ 2) × (bound (of_two 2 []) ≡ 2) × (bound (of_two 3 []) ≡ 4) × (bound (of_two 4 []) ≡ 4)
+    × (bound (of_two 1 (0 ∷ 0x1F ∷ 0xCA ∷ [])) ≡ 6)
 held = (refl, refl, refl, refl, refl)

@@ -1,5 +1,6 @@
 -- What holds of a decoder's fields behind the bytes fed. No public contract names these.
-use Rattle.std.specs.Prelude.{◌≡◌, ℕ, ◌-◌, ◌<◌, ◌≤◌, Bool, true, false, if◌then◌else◌, List, [], ◌++◌, length, take, slice_index, Option, None, Result, Ok, Err, ◌+◌}
+use Rattle.std.specs.Prelude.{◌≡◌, ℕ, ◌-◌, ◌<◌, ◌≤◌, Bool, true, false, if◌then◌else◌, List, [], ◌++◌, length, take, slice_index, Option, None, Result, Ok, Err}
+use Rattle.std.specs.Prelude.{◌+◌}
 use Rattle.fit_base.specs.Numbers.{IsBytes}
 use Rattle.fit_sum.specs.Checksum.{checksum}
 use Rattle.fit_frame.specs.declared.header.Header.{Header as FileHeader}
@@ -28,7 +29,7 @@ use Rattle.fit_decode.specs.Memory.{MayTakeMemory}
 use Rattle.fit_decode.specs.Refusals.{IsRefused}
 use Rattle.fit_decode.specs.Answers.{Quiet, Least}
 use Rattle.fit_decode.specs.Needs.{missing}
-use Rattle.fit_decode.specs.Scans.{sum_part}
+use Rattle.fit_decode.specs.inner.Scans.{half_sum}
 
 -- A decoder's fields, but for the count of the bytes and the refusal: how many files have ended, the section that the next
 -- byte belongs to, whether one byte of a closing sum has come, the reader of the header, the bytes that the closing sum
@@ -78,7 +79,7 @@ pub record InSum {A : Type 0} (d : Fields A) (bytes : List ℕ) : Type 0 where
   pub header : FileHeader
   pub size : ℕ
   pub records : List (Record A)
-  pub come : HasCome files (at_data header size records (sum_part (checksum d.sum) d.half)) bytes
+  pub come : HasCome files (at_data header size records (half_sum (checksum d.sum) d.half)) bytes
   pub few : length files < chain_limit
   pub counted : d.count ≡ length files
   pub fresh : d.reader ≡ record { bytes = []; refusal = None }
@@ -114,7 +115,7 @@ NotRefused (Err (Refused reason)) = ⊥
 NotRefused answer = Unit {0}
 
 -- What the bytes used tell, and that a chain begins with them; and unless a byte was refused, the fields are those behind them.
-pub record Next {A : Type 0} (d : Fields A) (bytes piece : List ℕ) (used : ℕ) (answer : Result (Answer A) Stop) : Type 0 where
+pub record NextAnswer {A : Type 0} (d : Fields A) (bytes piece : List ℕ) (used : ℕ) (answer : Result (Answer A) Stop) : Type 0 where
   pub told : Advanced bytes piece used answer
   pub viable : IsViable A chain_limit (bytes ++ take used piece)
   pub holds : NotRefused answer → Holds d (bytes ++ take used piece)
@@ -127,7 +128,7 @@ pub record Stand {A : Type 0} (d : Fields A) : Type 0 where
 
 -- Behind bytes of which the old fields are, the piece makes the new ones.
 abbrev pub Advances : {A : Type 0} → Fields A → Fields A → List ℕ → ℕ → Result (Answer A) Stop → Type 0
-Advances old new piece used answer = (bytes : List ℕ) → IsBytes bytes → Holds old bytes → Next new bytes piece used answer
+Advances old new piece used answer = (bytes : List ℕ) → IsBytes bytes → Holds old bytes → NextAnswer new bytes piece used answer
 
 -- How many bytes are to come, by the fields.
 abbrev pub to_come : ℕ → Section → Bool → List ℕ → ℕ → ℕ

@@ -9,16 +9,27 @@ use Rattle.fit_step.specs.declared.stop.Stop.TheVariants.{Refused}
 use Rattle.fit_decode.specs.declared.event.Event.{Event as Answer}
 use Rattle.fit_decode.specs.declared.decoder.Decoder.TheInside.{Inside}
 use Rattle.fit_decode.specs.Answers.{Seen, fed}
-use Rattle.fit_decode.specs.Kept.{Fields, Holds, Advanced}
+use Rattle.fit_decode.specs.inner.Kept.{Fields, Holds, Advanced}
 
-abbrev pub fields_of : {A : Type 0} → Inside A → Fields A
-fields_of d = record { count = d.files; section = d.section; half = d.half; reader = d.reader; sum = d.sum; env = d.env; position = d.position; in_progress = d.in_progress }
+abbrev pub fields_inside : {A : Type 0} → Inside A → Fields A
+fields_inside d = record {
+  count = d.files;
+  section = d.section;
+  half = d.half;
+  reader = d.reader;
+  sum = d.sum;
+  env = d.env;
+  position =
+      d.position;
+  in_progress =
+      d.in_progress;
+}
 
-pub record IsKept {A : Type 0} (d : Inside A) : Type 0 where
+pub record IsSoundDecoder {A : Type 0} (d : Inside A) : Type 0 where
   pub viable : IsViable A chain_limit d.history.items
   pub are : IsBytes d.history.items
   pub counted : d.count ≡ length d.history.items
-  pub holds : d.refusal ≡ None → Holds (fields_of d) d.history.items
+  pub holds : d.refusal ≡ None → Holds (fields_inside d) d.history.items
   -- after a refusal nothing is kept
   pub let_go : (reason : Reason) → d.refusal ≡ Some reason → (d.env ≡ empty_environment) × (d.in_progress ≡ None)
 

@@ -1,0 +1,12 @@
+use Rattle.std.proofs.Common.{◌≡◌, ◌++◌, length, drop}
+use Rattle.std.specs.Prelude.{map, zip}
+use Rattle.fit_record.specs.inner.ReadMessages.{fields_from}
+use Rattle.fit_record.specs.Records.{sizes}
+use Rattle.fit_step.proofs.whole.read_dev_fields.Given as goal
+
+abbrev pub invariant-loop-place : goal.invariant-loop-place
+invariant-loop-place g l = record {
+  told : l.items ++ fields_from l.order (zip (drop l.place l.codes) (map (λ f. f.size) (drop l.place l.fields))) l.rest
+      ≡ fields_from l.order (zip l.codes (map (λ f. f.size) l.fields)) l.bytes;
+  long : length l.rest ≡ sizes (zip (drop l.place l.codes) (map (λ f. f.size) (drop l.place l.fields)));
+}
