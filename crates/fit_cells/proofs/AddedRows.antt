@@ -1,7 +1,7 @@
 -- Rows written one after another.
-use Rattle.std.proofs.Common.{◌≡◌, ◌∙◌, ◌<◌, ◌≤◌, ◌+◌, ℕ, List, [], ◌∷◌, ◌++◌, length, map, drop, take, Bor, get_or, Vec, refl, sym, ap, subst, append_assoc, arith}
+use Rattle.std.proofs.Common.{◌≡◌, ◌∙◌, ◌<◌, ◌≤◌, ◌+◌, ℕ, List, [], ◌∷◌, ◌++◌, length, map, drop, take, get_or, Vec, refl, sym, ap, subst, append_assoc, arith}
 use Rattle.std.specs.Global.{Global}
-use Rattle.std.proofs.lemmas.List.{append-nil, length-map, map-append, take_all, take_more}
+use Rattle.std.proofs.lemmas.List.{append-nil, map-append, take_all, take_more}
 use Rattle.std.proofs.Math.Seq.{drop-append_seam}
 use Rattle.csv.specs.Writing.{default_writer, field_text, fields_text, is_blank, row_text}
 use Rattle.csv.specs.declared.writer.Writer.{Writer}
@@ -10,7 +10,8 @@ use Rattle.fit_cells.specs.Rows.{Row, HasAdded, HasRows, IsBetweenRows, csv_text
 pub text_append : (a b : List Row) → csv_text (a ++ b) ≡ csv_text a ++ csv_text b
 unfolding csv_text
 text_append [] b = refl
-text_append (row ∷ a) b = ap (λ text. row_text default_writer row ++ text) (text_append a b) ∙ sym (append_assoc (row_text default_writer row) (csv_text a) (csv_text b))
+text_append (row ∷ a) b = ap (λ text. row_text default_writer row ++ text) (text_append a b)
+    ∙ sym (append_assoc (row_text default_writer row) (csv_text a) (csv_text b))
 
 pub text_one : (row : Row) → csv_text (row ∷ []) ≡ row_text default_writer row
 unfolding csv_text
@@ -29,7 +30,8 @@ added_none w between = record { between = between; text = sym (append-nil (writt
 pub added_both : {a b : List Row} {u v w : Writer (Vec ℕ Global)} → HasAdded a u v → HasAdded b v w → HasAdded (a ++ b) u w
 added_both {a = a} {b = b} {u = u} first second = record {
   between = second.between;
-  text = second.text ∙ ap (λ text. text ++ csv_text b) first.text ∙ append_assoc (written u) (csv_text a) (csv_text b) ∙ ap (λ text. written u ++ text) (sym (text_append a b));
+  text = second.text ∙ ap (λ text. text ++ csv_text b) first.text ∙ append_assoc (written u) (csv_text a) (csv_text b)
+      ∙ ap (λ text. written u ++ text) (sym (text_append a b));
 }
 
 -- the row of one more element of a list
@@ -41,7 +43,8 @@ added_more row xs k d u v w within first second =
     rw longer (added_both first second)
 
 -- the rows of all elements of a list
-pub added_all : {X : Type 0} (row : X → Row) (xs : List X) (k : ℕ) (u v : Writer (Vec ℕ Global)) → length xs ≤ k → HasAdded (map row (take k xs)) u v → HasAdded (map row xs) u v
+pub added_all : {X : Type 0} (row : X → Row) (xs : List X) (k : ℕ) (u v : Writer (Vec ℕ Global)) → length xs ≤ k → HasAdded (map row (take k xs)) u v
+    → HasAdded (map row xs) u v
 added_all row xs k u v end added = subst (λ ys. HasAdded (map row ys) u v) (take_all k xs end) added
 
 -- no row behind a text
@@ -52,7 +55,8 @@ rows_none v = record { text = sym (append-nil v.items) }
 -- some rows behind a text, and then others
 pub rows_both : {a b : List Row} {u v w : Vec ℕ Global} → HasRows a u v → HasRows b v w → HasRows (a ++ b) u w
 rows_both {a = a} {b = b} {u = u} first second = record {
-  text = second.text ∙ ap (λ text. text ++ csv_text b) first.text ∙ append_assoc u.items (csv_text a) (csv_text b) ∙ ap (λ text. u.items ++ text) (sym (text_append a b));
+  text = second.text ∙ ap (λ text. text ++ csv_text b) first.text ∙ append_assoc u.items (csv_text a) (csv_text b)
+      ∙ ap (λ text. u.items ++ text) (sym (text_append a b));
 }
 
 -- the row of one more element of a list
@@ -64,7 +68,8 @@ rows_more row xs k d u v w within first second =
     rw longer (rows_both first second)
 
 -- the rows of all elements of a list
-pub rows_all : {X : Type 0} (row : X → Row) (xs : List X) (k : ℕ) (u v : Vec ℕ Global) → length xs ≤ k → HasRows (map row (take k xs)) u v → HasRows (map row xs) u v
+pub rows_all : {X : Type 0} (row : X → Row) (xs : List X) (k : ℕ) (u v : Vec ℕ Global) → length xs ≤ k → HasRows (map row (take k xs)) u v
+    → HasRows (map row xs) u v
 rows_all row xs k u v end added = subst (λ ys. HasRows (map row ys) u v) (take_all k xs end) added
 
 -- more cells of a row
@@ -75,7 +80,8 @@ fields_one cell = ap (λ text. 44 ∷ text) (append-nil (field_text default_writ
 pub fields_append : (a b : Row) → fields_text default_writer (a ++ b) ≡ fields_text default_writer a ++ fields_text default_writer b
 unfolding fields_text
 fields_append [] b = refl
-fields_append (cell ∷ a) b = ap (λ text. 44 ∷ (field_text default_writer cell ++ text)) (fields_append a b) ∙ sym (append_assoc (44 ∷ field_text default_writer cell) (fields_text default_writer a) (fields_text default_writer b))
+fields_append (cell ∷ a) b = ap (λ text. 44 ∷ (field_text default_writer cell ++ text)) (fields_append a b)
+    ∙ sym (append_assoc (44 ∷ field_text default_writer cell) (fields_text default_writer a) (fields_text default_writer b))
 
 -- a row of two cells or more
 pub whole_row : (text : List ℕ) (first : List ℕ) (others : Row) → 0 < length others
@@ -88,7 +94,8 @@ whole_row text first (next ∷ rest) some =
     ∙ ap (λ ds. text ++ ds) (sym (append_assoc (field_text default_writer first) (fields_text default_writer (next ∷ rest)) (10 ∷ [])) ∙ sym (append-nil _))
 
 -- what was written behind a beginning is put behind another text
-pub rows_copied : {rows : List Row} {u v : Writer (Vec ℕ Global)} (old new : Vec ℕ Global) → HasAdded rows u v → new.items ≡ old.items ++ drop (length (written u)) (written v) → HasRows rows old new
+pub rows_copied : {rows : List Row} {u v : Writer (Vec ℕ Global)} (old new : Vec ℕ Global) → HasAdded rows u v
+    → new.items ≡ old.items ++ drop (length (written u)) (written v) → HasRows rows old new
 rows_copied {rows = rows} {u = u} {v = v} old new added copied = record {
   text = copied ∙ ap (λ text. old.items ++ text) (ap (drop (length (written u))) added.text ∙ drop-append_seam (written u) (csv_text rows));
 }

@@ -62,7 +62,8 @@ narrow_text Float w h (inl e) = cc
 narrow_text Float w h (inr e) = cc
 
 code_narrow : (code : ℕ) → ((base_type code).class ≡ Text) ⊎ ((base_type code).class ≡ Bytes) → (base_type code).width ≡ 1
-code_narrow code e = narrow_text (base_type code).class (base_type code).width (found_passes (λ t. t.code == code) (λ t. narrow t.class t.width) byte base_types refl refl) e
+code_narrow code e = narrow_text (base_type code).class (base_type code).width
+    (found_passes (λ t. t.code == code) (λ t. narrow t.class t.width) byte base_types refl refl) e
 
 pub text_width : (code width : ℕ) → class_of code width ≡ Text → width ≡ 1
 text_width code width e = elim (cases_Bool (width == (base_type code).width)) [

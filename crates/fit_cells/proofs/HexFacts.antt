@@ -1,5 +1,6 @@
 -- Hexadecimal digits, from the first to the last.
-use Rattle.std.proofs.Common.{◌≡◌, ◌∙◌, ℕ, zero, suc, ◌+◌, ◌-◌, ◌*◌, ◌/◌, ◌%◌, ◌^◌, ◌<◌, ◌≤◌, List, [], ◌∷◌, ◌++◌, refl, sym, ap, arith, append_assoc, append-nil}
+use Rattle.std.proofs.Common.{◌≡◌, ◌∙◌, ℕ, zero, suc, ◌+◌, ◌-◌, ◌*◌, ◌/◌, ◌%◌, ◌^◌, ◌<◌, ◌≤◌, List, [], ◌∷◌, ◌++◌, refl, sym, ap, arith, append_assoc}
+use Rattle.std.proofs.Common.{append-nil}
 use Rattle.std.proofs.Math.Nat.{pow-suc}
 use Rattle.std.proofs.lemmas.Bool.Decides.{nat_tests}
 use Rattle.fit_cells.specs.Cells.{hex_digit, hex_digits}
@@ -32,7 +33,8 @@ no_digits d k n h = let none : d - k ≡ 0 = omega (arith, h) in rw none refl
 pub more_digits : (text whole : List ℕ) (d k n x : ℕ) → k < d → x ≡ hex_digit (n / 16 ^ (d - 1 - k) % 16) → text ++ hex_digits (d - k) n ≡ whole
     → (text ++ (x ∷ [])) ++ hex_digits (d - (k + 1)) n ≡ whole
 more_digits text whole d k n x h is e =
-    append_assoc text (x ∷ []) (hex_digits (d - (k + 1)) n) ∙ ap (λ y. text ++ (y ∷ hex_digits (d - (k + 1)) n)) is ∙ ap (λ ds. text ++ ds) (sym (next_digit d k n h)) ∙ e
+    append_assoc text (x ∷ []) (hex_digits (d - (k + 1)) n) ∙ ap (λ y. text ++ (y ∷ hex_digits (d - (k + 1)) n)) is
+    ∙ ap (λ ds. text ++ ds) (sym (next_digit d k n h)) ∙ e
 
 pub all_digits : (text whole : List ℕ) (d k n : ℕ) → d ≤ k → text ++ hex_digits (d - k) n ≡ whole → text ≡ whole
 all_digits text whole d k n h e = sym (append-nil text) ∙ ap (λ ds. text ++ ds) (sym (no_digits d k n h)) ∙ e

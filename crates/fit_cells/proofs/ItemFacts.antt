@@ -1,5 +1,6 @@
 -- Items of one shape that a cell shows are one list.
-use Rattle.std.proofs.Common.{◌≡◌, ◌∙◌, ℕ, ◌*◌, ◌/◌, ◌^◌, ◌<◌, ◌==◌, false, List, length, All, Result, Ok, Err, Option, sym, ap, subst, inl, inr, eqb-true, IfOk}
+use Rattle.std.proofs.Common.{◌≡◌, ◌∙◌, ℕ, ◌*◌, ◌/◌, ◌^◌, ◌<◌, ◌==◌, false, List, length, All, Result, Ok, Err, Option, sym, ap, subst, inl, inr, eqb-true}
+use Rattle.std.proofs.Common.{IfOk}
 use Rattle.std.proofs.Math.Nat.{mul-div_cancel}
 use Rattle.std.proofs.lemmas.Bool.{cases_Bool}
 use Rattle.std.proofs.lemmas.List.{nil_from_length}
@@ -29,8 +30,10 @@ shown : {A : Type 0} (code size width : ℕ) (info : Option Meaning) (text : Lis
 shown code size width info text items w s some e =
     sym (rw some at e) ∙ ap (λ v. items_text (class_of code v) code info v items.bits) (s.width ∙ sym w)
 
-same-bits : {A : Type 0} (code size width : ℕ) (info : Option Meaning) (text bits : List ℕ) (items : Items A) → width ≡ item_width code size → HasShape code size items → cell code info items ≡ text → length bits ≡ size / width
-    → ((numbers : List ℕ) → length numbers ≡ size / width → All (λ n. n < 256 ^ width) numbers → text ≡ items_text (class_of code width) code info width numbers → bits ≡ numbers)
+same-bits : {A : Type 0} (code size width : ℕ) (info : Option Meaning) (text bits : List ℕ) (items : Items A) → width ≡ item_width code size
+    → HasShape code size items → cell code info items ≡ text → length bits ≡ size / width
+    → ((numbers : List ℕ) → length numbers ≡ size / width → All (λ n. n < 256 ^ width) numbers → text ≡ items_text (class_of code width) code info width numbers
+    → bits ≡ numbers)
     → bits ≡ items.bits
 same-bits code size width info text bits items w s e long every =
     let count : length items.bits ≡ size / width = shape_count code size items s ∙ ap (λ v. size / v) (sym w) in
@@ -39,13 +42,16 @@ same-bits code size width info text bits items w s e long every =
           let empty : length items.bits ≡ 0 = eqb-true (length items.bits) 0 none in
           nil_from_length bits (long ∙ sym count ∙ empty) ∙ sym (nil_from_length items.bits empty)
       | inr some ↦
-          let small : All (λ n. n < 256 ^ width) items.bits = subst (λ v. All (λ n. n < 256 ^ v) items.bits) (s.width ∙ sym w) (All-from_recursion (λ n. n < 256 ^ items.width) items.bits s.fits) in
+          let small : All (λ n. n < 256 ^ width) items.bits =
+          subst (λ v. All (λ n. n < 256 ^ v) items.bits) (s.width ∙ sym w) (All-from_recursion (λ n. n < 256 ^ items.width) items.bits s.fits) in
           every items.bits count small (shown code size width info text items w s some e)
     ]
 
 -- what is read of a text is whatever items show it
-pub same-items : {A : Type 0} (code size width : ℕ) (info : Option Meaning) (text bits : List ℕ) (items : Items A) → width ≡ item_width code size → HasShape code size items → cell code info items ≡ text → length bits ≡ size / width
-    → ((numbers : List ℕ) → length numbers ≡ size / width → All (λ n. n < 256 ^ width) numbers → text ≡ items_text (class_of code width) code info width numbers → bits ≡ numbers)
+pub same-items : {A : Type 0} (code size width : ℕ) (info : Option Meaning) (text bits : List ℕ) (items : Items A) → width ≡ item_width code size
+    → HasShape code size items → cell code info items ≡ text → length bits ≡ size / width
+    → ((numbers : List ℕ) → length numbers ≡ size / width → All (λ n. n < 256 ^ width) numbers → text ≡ items_text (class_of code width) code info width numbers
+    → bits ≡ numbers)
     → ◌≡◌ {A = Items A} (record { width = width; bits = bits }) items
 same-items code size width info text bits items w s e long every =
     let same = same-bits code size width info text bits items w s e long every in

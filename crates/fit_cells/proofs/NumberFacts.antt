@@ -1,5 +1,7 @@
 -- Scaled numbers, and items side by side.
-use Rattle.std.proofs.Common.{◌≡◌, ◌∙◌, ℕ, zero, suc, ◌*◌, ◌/◌, ◌%◌, ◌^◌, ◌<◌, ◌≤◌, Bool, true, false, cond, List, [], ◌∷◌, ◌++◌, ℤ, pos, neg_ℤ, ◌*ℤ◌, ◌-ℤ◌, ◌≤ℤ◌, ◌<ℤ◌, unsigned_abs, ◌⊎◌, inl, inr, Option, Some, None, length, refl, sym, ap, arith, length-append, decimal, nat_lt, ◌==◌, to_z, of_z, FitsSigned}
+use Rattle.std.proofs.Common.{◌≡◌, ◌∙◌, ℕ, zero, suc, ◌*◌, ◌/◌, ◌%◌, ◌^◌, ◌<◌, ◌≤◌, Bool, true, false, cond, List, [], ◌∷◌, ◌++◌, ℤ, pos, neg_ℤ, ◌*ℤ◌, ◌-ℤ◌}
+use Rattle.std.proofs.Common.{◌≤ℤ◌, ◌<ℤ◌, unsigned_abs, ◌⊎◌, inl, inr, Option, Some, None, length, refl, sym, ap, arith, length-append, decimal, nat_lt, ◌==◌}
+use Rattle.std.proofs.Common.{to_z, of_z, FitsSigned}
 use Rattle.std.specs.Fmt.{digits, digits_onto, digit_glyph}
 use Rattle.std.proofs.lemmas.Bool.{cases_Bool}
 use Rattle.std.proofs.lemmas.Int.{ints, to_z-of_z}
@@ -8,10 +10,10 @@ use Rattle.fit_base.specs.Numbers.{twos_complement}
 use Rattle.fit_profile.specs.Profile.{Meaning}
 use Rattle.fit_profile.specs.FixedText.{fixed_text, fraction, sign, IsIn128}
 use Rattle.fit_profile.specs.Scaled.{IsScale, IsScaled, decimals}
-use Rattle.fit_cells.specs.Cells.{number_text, scaled}
+use Rattle.fit_cells.specs.Cells.{number_text, scaled_value}
 
 -- a value that a raw one stands for is the scaled one
-pub is_scaled : (raw v : ℤ) (scale offset : ℕ) → IsScale scale → IsScaled raw scale offset v → v ≡ scaled raw scale offset
+pub is_scaled : (raw v : ℤ) (scale offset : ℕ) → IsScale scale → IsScaled raw scale offset v → v ≡ scaled_value raw scale offset
 is_scaled raw v s offset (inl one) e = let h = rw one at e in rw one (omega (arith, ints, h))
 is_scaled raw v s offset (inr (inl five)) e = let h = rw five at e in rw five (omega (arith, ints, h))
 is_scaled raw v s offset (inr (inr (inl ten))) e = let h = rw ten at e in rw ten (omega (arith, ints, h))
@@ -61,7 +63,8 @@ pub empty-number : (b : Bool) (info : Option Meaning) (raw : ℤ) (text : List �
 empty-number true info raw text h e = refl
 empty-number false info raw text h e = let same = ap length e in let some = number-some info raw in absurd (omega (arith, same, some, h))
 
-pub some-number : (b : Bool) (info : Option Meaning) (raw : ℤ) (text : List ℕ) → (length text ≡ 0 → ⊥) → text ≡ cond b [] (number_text info raw) → text ≡ number_text info raw
+pub some-number : (b : Bool) (info : Option Meaning) (raw : ℤ) (text : List ℕ) → (length text ≡ 0 → ⊥) → text ≡ cond b [] (number_text info raw)
+    → text ≡ number_text info raw
 some-number true info raw text h e = absurd (h (ap length e))
 some-number false info raw text h e = e
 
@@ -97,7 +100,7 @@ pub same-raw : (w v bits : ℕ) (x y : ℤ) → w ≡ v → x ≡ y → (y ≡ p
 same-raw w v bits x y d e (inl h) = inl (e ∙ h)
 same-raw w v bits x y d e (inr h) = inr (e ∙ h ∙ ap (λ k. pos bits -ℤ pos (256 ^ k)) (sym d))
 
-pub scaled-exact : (raw : ℤ) (scale offset : ℕ) → IsScale scale → IsScaled raw scale offset (scaled raw scale offset)
+pub scaled-exact : (raw : ℤ) (scale offset : ℕ) → IsScale scale → IsScaled raw scale offset (scaled_value raw scale offset)
 scaled-exact raw s offset (inl one) = rw one (omega (arith, ints))
 scaled-exact raw s offset (inr (inl five)) = rw five (omega (arith, ints))
 scaled-exact raw s offset (inr (inr (inl ten))) = rw ten (omega (arith, ints))

@@ -1,5 +1,6 @@
 -- Items with the shape that a code and a size give have a cell of their own.
-use Rattle.std.proofs.Common.{◌≡◌, ◌∙◌, ℕ, ◌*◌, ◌^◌, ◌<◌, ◌==◌, Bool, true, false, cond, List, [], ◌∷◌, length, map, All, refl, sym, ap, ap₂, subst, arith, inl, inr, ◌⊎◌, ℤ, pos, neg_ℤ, ◌-ℤ◌, ◌≤ℤ◌, ◌<ℤ◌, Option, Some, None, IfSome, eqb-true, nat_lt}
+use Rattle.std.proofs.Common.{◌≡◌, ◌∙◌, ℕ, ◌*◌, ◌^◌, ◌<◌, ◌==◌, Bool, true, false, cond, List, [], ◌∷◌, length, map, All, refl, sym, ap, ap₂, subst, arith, inl}
+use Rattle.std.proofs.Common.{inr, ◌⊎◌, ℤ, pos, neg_ℤ, ◌-ℤ◌, ◌≤ℤ◌, ◌<ℤ◌, Option, Some, None, IfSome, eqb-true, nat_lt}
 use Rattle.std.specs.List.{AllByRecursion, before_first, after_first}
 use Rattle.std.proofs.lemmas.Bool.{cases_Bool}
 use Rattle.std.proofs.lemmas.Int.{ints}
@@ -15,7 +16,8 @@ use Rattle.fit_profile.specs.Profile.{Meaning}
 use Rattle.fit_profile.specs.Laws.{TextHasOneNumber}
 use Rattle.fit_profile.specs.Scaled.{IsScale, decimals}
 use Rattle.fit_profile.specs.FixedText.{IsIn128}
-use Rattle.fit_cells.specs.Cells.{barred, begins_as_bytes, cell, class_of, hex_digits, item_text, items_text, number_text, scaled, string_text, bytes_text}
+use Rattle.fit_cells.specs.Cells.{barred, begins_as_bytes, cell, class_of, hex_digits, item_text, items_text, number_text, scaled_value, string_text}
+use Rattle.fit_cells.specs.Cells.{bytes_text}
 use Rattle.fit_cells.specs.Steps.{is_bar, read_hex}
 use Rattle.fit_cells.proofs.ClassFacts.{text_width, bytes_width, item_width as kinds, item_width-kinds}
 use Rattle.fit_cells.proofs.ItemFacts.{shape_count}
@@ -29,14 +31,19 @@ abbrev IsKnown : Option Meaning → Type 0
 IsKnown info = IfSome info (λ i. IsScale i.scale × (i.offset < 2 ^ 32))
 
 -- a text is that of one number
-one-number : TextHasOneNumber → (info : Option Meaning) → IsKnown info → (x y : ℤ) → neg_ℤ (pos (2 ^ 64)) ≤ℤ x → x <ℤ pos (2 ^ 64) → neg_ℤ (pos (2 ^ 64)) ≤ℤ y → y <ℤ pos (2 ^ 64)
+one-number : TextHasOneNumber → (info : Option Meaning) → IsKnown info → (x y : ℤ) → neg_ℤ (pos (2 ^ 64)) ≤ℤ x → x <ℤ pos (2 ^ 64) → neg_ℤ (pos (2 ^ 64)) ≤ℤ y
+    → y <ℤ pos (2 ^ 64)
     → number_text info x ≡ number_text info y → x ≡ y
 one-number law None k x y xl xm yl ym e = law x y 0 (raw-in x xl xm) (raw-in y yl ym) e
 one-number law (Some i) k x y xl xm yl ym e =
     let shift = shift-bound i.offset i.scale k.0 k.1 in
-    let in_x : IsIn128 (scaled x i.scale i.offset) = scaled-in (x -ℤ pos (i.offset * i.scale)) i.scale k.0 (omega (arith, ints, xl, shift)) (omega (arith, ints, xm, shift)) in
-    let in_y : IsIn128 (scaled y i.scale i.offset) = scaled-in (y -ℤ pos (i.offset * i.scale)) i.scale k.0 (omega (arith, ints, yl, shift)) (omega (arith, ints, ym, shift)) in
-    let same : x -ℤ pos (i.offset * i.scale) ≡ y -ℤ pos (i.offset * i.scale) = one-raw (x -ℤ pos (i.offset * i.scale)) (y -ℤ pos (i.offset * i.scale)) i.scale k.0 (law (scaled x i.scale i.offset) (scaled y i.scale i.offset) (decimals i.scale) in_x in_y e) in
+    let in_x : IsIn128 (scaled_value x i.scale i.offset) =
+    scaled-in (x -ℤ pos (i.offset * i.scale)) i.scale k.0 (omega (arith, ints, xl, shift)) (omega (arith, ints, xm, shift)) in
+    let in_y : IsIn128 (scaled_value y i.scale i.offset) =
+    scaled-in (y -ℤ pos (i.offset * i.scale)) i.scale k.0 (omega (arith, ints, yl, shift)) (omega (arith, ints, ym, shift)) in
+    let same : x -ℤ pos (i.offset * i.scale) ≡ y -ℤ pos (i.offset * i.scale) =
+    one-raw (x -ℤ pos (i.offset * i.scale)) (y -ℤ pos (i.offset * i.scale)) i.scale k.0
+    (law (scaled_value x i.scale i.offset) (scaled_value y i.scale i.offset) (decimals i.scale) in_x in_y e) in
     omega (arith, ints, same)
 
 -- signed numbers have one pattern of bits
@@ -48,7 +55,8 @@ one-pattern top m n false true a b p q e = absurd (omega (arith, ints, e, p))
 one-pattern top m n false false a b p q e = omega (arith, ints, e)
 
 -- of two integers that show the same, both are the invalid one or none is
-one-valid : TextHasOneNumber → (info : Option Meaning) → IsKnown info → (m n invalid : ℕ) (x y : ℤ) (is_m is_n : Bool) → (m == invalid) ≡ is_m → (n == invalid) ≡ is_n
+one-valid : TextHasOneNumber → (info : Option Meaning) → IsKnown info → (m n invalid : ℕ) (x y : ℤ) (is_m is_n : Bool) → (m == invalid) ≡ is_m
+    → (n == invalid) ≡ is_n
     → neg_ℤ (pos (2 ^ 64)) ≤ℤ x → x <ℤ pos (2 ^ 64) → neg_ℤ (pos (2 ^ 64)) ≤ℤ y → y <ℤ pos (2 ^ 64) → (x ≡ y → m ≡ n)
     → cond is_m [] (number_text info x) ≡ cond is_n [] (number_text info y) → m ≡ n
 one-valid law info k m n invalid x y true true a b xl xm yl ym same e = eqb-true m invalid a ∙ sym (eqb-true n invalid b)
@@ -64,7 +72,8 @@ one-float w m n p q e =
     let digits : hex_digits (2 * w) m ≡ hex_digits (2 * w) n = cc in
     sym (digits-read (2 * w) m (rw (sixteen-squared w) p)) ∙ ap (read_hex 0) digits ∙ digits-read (2 * w) n (rw (sixteen-squared w) q)
 
-one-item : TextHasOneNumber → (class : Class) (code : ℕ) (info : Option Meaning) (w m n : ℕ) → IsKnown info → (w ≡ 1) ⊎ (w ≡ 2) ⊎ (w ≡ 4) ⊎ (w ≡ 8) → m < 256 ^ w → n < 256 ^ w
+one-item : TextHasOneNumber → (class : Class) (code : ℕ) (info : Option Meaning) (w m n : ℕ) → IsKnown info → (w ≡ 1) ⊎ (w ≡ 2) ⊎ (w ≡ 4) ⊎ (w ≡ 8)
+    → m < 256 ^ w → n < 256 ^ w
     → item_text class code info w m ≡ item_text class code info w n → m ≡ n
 one-item law Signed code info w m n k kinds p q e =
     let limit = power-bound w kinds in
@@ -76,7 +85,8 @@ one-item law Signed code info w m n k kinds p q e =
 one-item law Unsigned code info w m n k kinds p q e =
     let limit = power-bound w kinds in
     one-valid law info k m n (base_type code).invalid (pos m) (pos n) _ _ refl refl
-    (raw-least _ m (256 ^ w) limit (inl refl)) (raw-most _ m (256 ^ w) limit p (inl refl)) (raw-least _ n (256 ^ w) limit (inl refl)) (raw-most _ n (256 ^ w) limit q (inl refl))
+    (raw-least _ m (256 ^ w) limit (inl refl)) (raw-most _ m (256 ^ w) limit p (inl refl)) (raw-least _ n (256 ^ w) limit (inl refl))
+    (raw-most _ n (256 ^ w) limit q (inl refl))
     (pos-same m n) e
 one-item law Text code info w m n k kinds p q e = one-float w m n p q e
 one-item law Float code info w m n k kinds p q e = one-float w m n p q e
@@ -89,7 +99,8 @@ one-list f top low one [] (n ∷ b) l p q e = absurd (omega (arith, l))
 one-list f top low one (m ∷ a) [] l p q e = absurd (omega (arith, l))
 one-list f top low one (m ∷ a) (n ∷ b) l p q e =
     let first : f m ≡ f n = sym (first-text (f m) (map f a) (low m)) ∙ ap (λ t. before_first is_bar t) e ∙ first-text (f n) (map f b) (low n) in
-    let others : barred (map f a) ≡ barred (map f b) = sym (other-texts (f m) (map f a) (low m)) ∙ ap (λ t. after_first is_bar t) e ∙ other-texts (f n) (map f b) (low n) in
+    let others : barred (map f a) ≡ barred (map f b) =
+    sym (other-texts (f m) (map f a) (low m)) ∙ ap (λ t. after_first is_bar t) e ∙ other-texts (f n) (map f b) (low n) in
     ap₂ (λ x xs. x ∷ xs) (one m n p.0 q.0 first) (one-list f top low one a b (omega (arith, l)) p.1 q.1 others)
 
 one-string : (a b : List ℕ) → length a ≡ length b → All (λ n. n < 256) a → All (λ n. n < 256) b → string_text a ≡ string_text b → a ≡ b
@@ -112,10 +123,12 @@ one-items law Float code info w a b k kinds narrow l p q e =
     one-list (item_text Float code info w) (256 ^ w) (low-item Float code info w) (λ m n. one-item law Float code info w m n k kinds) a b l p q e
 one-items law Text code info w a b k kinds narrow l p q e =
     let one = narrow (inl refl) in
-    one-string a b l (subst (λ v. All (λ n. n < 256 ^ v) a) one (All-from_recursion (λ n. n < 256 ^ w) a p)) (subst (λ v. All (λ n. n < 256 ^ v) b) one (All-from_recursion (λ n. n < 256 ^ w) b q)) e
+    one-string a b l (subst (λ v. All (λ n. n < 256 ^ v) a) one (All-from_recursion (λ n. n < 256 ^ w) a p))
+    (subst (λ v. All (λ n. n < 256 ^ v) b) one (All-from_recursion (λ n. n < 256 ^ w) b q)) e
 one-items law Bytes code info w a b k kinds narrow l p q e =
     let one = narrow (inr refl) in
-    one-bytes a b l (subst (λ v. All (λ n. n < 256 ^ v) a) one (All-from_recursion (λ n. n < 256 ^ w) a p)) (subst (λ v. All (λ n. n < 256 ^ v) b) one (All-from_recursion (λ n. n < 256 ^ w) b q)) e
+    one-bytes a b l (subst (λ v. All (λ n. n < 256 ^ v) a) one (All-from_recursion (λ n. n < 256 ^ w) a p))
+    (subst (λ v. All (λ n. n < 256 ^ v) b) one (All-from_recursion (λ n. n < 256 ^ w) b q)) e
 
 one-narrow : (code size : ℕ) → (class_of code (item_width code size) ≡ Text) ⊎ (class_of code (item_width code size) ≡ Bytes) → item_width code size ≡ 1
 one-narrow code size (inl text) = text_width code (item_width code size) text
@@ -126,7 +139,8 @@ shown : {A : Type 0} (code size : ℕ) (info : Option Meaning) (items : Items A)
     → cell code info items ≡ items_text (class_of code (item_width code size)) code info (item_width code size) items.bits
 shown code size info items s some = rw some (ap (λ v. items_text (class_of code v) code info v items.bits) s.width)
 
-pub one-cell : TextHasOneNumber → {A : Type 0} (code size : ℕ) (info : Option Meaning) (a b : Items A) → IsKnown info → HasShape code size a → HasShape code size b → cell code info a ≡ cell code info b → a ≡ b
+pub one-cell : TextHasOneNumber → {A : Type 0} (code size : ℕ) (info : Option Meaning) (a b : Items A) → IsKnown info → HasShape code size a
+    → HasShape code size b → cell code info a ≡ cell code info b → a ≡ b
 one-cell law code size info a b k p q e =
     let count : length a.bits ≡ length b.bits = shape_count code size a p ∙ sym (shape_count code size b q) in
     let width : a.width ≡ b.width = p.width ∙ sym q.width in
@@ -135,7 +149,8 @@ one-cell law code size info a b k p q e =
           let empty = eqb-true (length a.bits) 0 none in
           nil_from_length a.bits empty ∙ sym (nil_from_length b.bits (sym count ∙ empty))
       | inr some ↦
-          one-items law (class_of code (item_width code size)) code info (item_width code size) a.bits b.bits k (kinds code (item_width code size) (item_width-kinds code size)) (one-narrow code size) count
+          one-items law (class_of code (item_width code size)) code info (item_width code size) a.bits b.bits k
+          (kinds code (item_width code size) (item_width-kinds code size)) (one-narrow code size) count
           (subst (λ v. AllByRecursion (λ n. n < 256 ^ v) a.bits) p.width p.fits) (subst (λ v. AllByRecursion (λ n. n < 256 ^ v) b.bits) q.width q.fits)
           (sym (shown code size info a p some) ∙ e ∙ shown code size info b q (ap (λ n. n == 0) (sym count) ∙ some))
     ] in

@@ -1,5 +1,6 @@
 -- Numbers stand in a row without quotes.
-use Rattle.std.proofs.Common.{◌≡◌, ◌∙◌, ℕ, zero, suc, ◌/◌, ◌%◌, ◌^◌, ◌<◌, ◌≤◌, ◌==◌, Bool, true, false, List, [], ◌∷◌, ◌++◌, length, get_or, refl, ap, arith, inl, inr, lit<, cond, unsigned_abs, ℤ, pos, negsuc, Option, Some, None, decimal}
+use Rattle.std.proofs.Common.{◌≡◌, ◌∙◌, ℕ, zero, suc, ◌/◌, ◌%◌, ◌^◌, ◌<◌, ◌≤◌, ◌==◌, Bool, true, false, List, [], ◌∷◌, ◌++◌, length, get_or, refl, ap, arith}
+use Rattle.std.proofs.Common.{inl, inr, lit<, cond, unsigned_abs, ℤ, pos, negsuc, Option, Some, None, decimal}
 use Rattle.std.specs.Fmt.{digits, digits_onto, digit_glyph}
 use Rattle.std.specs.List.{AllByRecursion}
 use Rattle.std.proofs.lemmas.Bool.{cases_Bool, ne_eqb}
@@ -85,15 +86,20 @@ plain (b ∷ text) h = rw (plain-byte b h.0) (plain text h.1)
 pub unquoted : (text : List ℕ) → High text → field_text default_writer text ≡ text
 unquoted text h = rw (plain text h) refl
 
-signed-cell : (code : ℕ) (info : Option Meaning) (width bits : ℕ) → field_text default_writer (item_text Signed code info width bits ++ []) ≡ item_text Signed code info width bits
+signed-cell : (code : ℕ) (info : Option Meaning) (width bits : ℕ)
+    → field_text default_writer (item_text Signed code info width bits ++ []) ≡ item_text Signed code info width bits
 signed-cell code info width bits =
     let text = item_text Signed code info width bits in
-    ap (field_text default_writer) (append-nil text) ∙ unquoted text (high-valid (bits == (base_type code).invalid) (number_text info (twos_complement width bits)) (high-number info (twos_complement width bits)))
+    ap (field_text default_writer) (append-nil text)
+    ∙ unquoted text (high-valid (bits == (base_type code).invalid) (number_text info (twos_complement width bits))
+    (high-number info (twos_complement width bits)))
 
-unsigned-cell : (code : ℕ) (info : Option Meaning) (width bits : ℕ) → field_text default_writer (item_text Unsigned code info width bits ++ []) ≡ item_text Unsigned code info width bits
+unsigned-cell : (code : ℕ) (info : Option Meaning) (width bits : ℕ)
+    → field_text default_writer (item_text Unsigned code info width bits ++ []) ≡ item_text Unsigned code info width bits
 unsigned-cell code info width bits =
     let text = item_text Unsigned code info width bits in
-    ap (field_text default_writer) (append-nil text) ∙ unquoted text (high-valid (bits == (base_type code).invalid) (number_text info (pos bits)) (high-number info (pos bits)))
+    ap (field_text default_writer) (append-nil text)
+    ∙ unquoted text (high-valid (bits == (base_type code).invalid) (number_text info (pos bits)) (high-number info (pos bits)))
 
 same-test : (n : ℕ) → (n == n) ≡ true
 same-test n = grind (arith, nat_tests)
@@ -105,7 +111,8 @@ only_one (x ∷ []) low high = refl
 only_one (x ∷ y ∷ xs) low high = absurd (omega (arith, high))
 
 -- the cell of one number
-pub lone_cell : {A : Type 0} (f : NumberForm) (code : ℕ) (info : Option Meaning) (items : Items A) (bits : ℕ) → IsFormOf code info f → items.width ≡ f.width → items.bits ≡ bits ∷ []
+pub lone_cell : {A : Type 0} (f : NumberForm) (code : ℕ) (info : Option Meaning) (items : Items A) (bits : ℕ) → IsFormOf code info f → items.width ≡ f.width
+    → items.bits ≡ bits ∷ []
     → field_text default_writer (cell code info items) ≡ item_text (base_type code).class code info f.width bits
 lone_cell f code info items bits form same one =
     let wide : (items.width == (base_type code).width) ≡ true = rw (same, form.width) (same-test (base_type code).width) in

@@ -1,5 +1,6 @@
 -- What hexadecimal digits read as.
-use Rattle.std.proofs.Common.{◌≡◌, ◌∙◌, ℕ, zero, suc, ◌+◌, ◌-◌, ◌*◌, ◌/◌, ◌%◌, ◌^◌, ◌<◌, ◌≤◌, List, [], ◌∷◌, ◌++◌, length, take, drop, get_or, flat_map, All, refl, sym, ap, ap₂, subst, arith, append_assoc, append-nil, drop-cons, add-one, mul_assoc}
+use Rattle.std.proofs.Common.{◌≡◌, ◌∙◌, ℕ, zero, suc, ◌+◌, ◌-◌, ◌*◌, ◌/◌, ◌%◌, ◌^◌, ◌<◌, ◌≤◌, List, [], ◌∷◌, ◌++◌, length, take, drop, get_or, flat_map, All}
+use Rattle.std.proofs.Common.{refl, sym, ap, ap₂, subst, arith, append_assoc, append-nil, drop-cons, add-one, mul_assoc}
 use Rattle.std.proofs.Math.Nat.{pow-suc, pow-succ', add-mul, mod-eq_of_lt}
 use Rattle.std.proofs.Math.Arith.{mod-mul}
 use Rattle.std.proofs.lemmas.Bool.Decides.{nat_tests}
@@ -48,7 +49,8 @@ unfolding read_hex hex_digits
 read_hex-digits zero a n = omega arith
 read_hex-digits (suc k) a n =
     let above = sixteen_above k in
-    let next : a * 16 + hex_value (hex_digit (n / 16 ^ k % 16)) ≡ a * 16 + n / 16 ^ k % 16 = ap (λ v. a * 16 + v) (value_of_digit (n / 16 ^ k % 16) (omega arith)) in
+    let next : a * 16 + hex_value (hex_digit (n / 16 ^ k % 16)) ≡ a * 16 + n / 16 ^ k % 16 =
+    ap (λ v. a * 16 + v) (value_of_digit (n / 16 ^ k % 16) (omega arith)) in
     let more = read_hex-digits k (a * 16 + n / 16 ^ k % 16) n in
     let low = mod-mul n {m = 16} {c = 16 ^ k} (omega arith) above in
     ap (λ z. read_hex z (hex_digits k n)) next ∙ more ∙ one-more a (n / 16 ^ k % 16) (16 ^ k) (16 ^ suc k) n (pow-succ' 16 k) low
@@ -66,7 +68,8 @@ pub read_pairs-none : (text : List ℕ) → read_pairs 0 text ≡ []
 unfolding read_pairs
 read_pairs-none text = refl
 
-pub read_pairs-next : (count k : ℕ) (text : List ℕ) → k < count → read_pairs (count - k) text ≡ read_hex 0 (take 2 text) ∷ read_pairs (count - (k + 1)) (drop 2 text)
+pub read_pairs-next : (count k : ℕ) (text : List ℕ) → k < count
+    → read_pairs (count - k) text ≡ read_hex 0 (take 2 text) ∷ read_pairs (count - (k + 1)) (drop 2 text)
 unfolding read_pairs
 read_pairs-next count k text h = let this : count - k ≡ suc (count - (k + 1)) = omega (arith, h) in rw this refl
 
@@ -88,7 +91,8 @@ unfolding read_pairs hex_digits
 bytes-read [] h = refl
 bytes-read (b ∷ bytes) h = ap₂ (λ x xs. x ∷ xs) (digits-read 2 b h.0) (bytes-read bytes h.1)
 
-pub bytes-shown : (bytes text : List ℕ) (count : ℕ) → text ≡ bytes_text bytes → length bytes ≡ count → All (λ b. b < 256) bytes → read_pairs count (drop 2 text) ≡ bytes
+pub bytes-shown : (bytes text : List ℕ) (count : ℕ) → text ≡ bytes_text bytes → length bytes ≡ count → All (λ b. b < 256) bytes
+    → read_pairs count (drop 2 text) ≡ bytes
 bytes-shown bytes text count e long small = ap₂ (λ n t. read_pairs n (drop 2 t)) (sym long) e ∙ bytes-read bytes (recursion_from_All (λ b. b < 256) bytes small)
 
 pub length-pairs : (count : ℕ) (text : List ℕ) → length (read_pairs count text) ≡ count

@@ -10,7 +10,8 @@ pub next : (a b : Reader (Bor (List ℕ))) (found : Bool) (row : Row) (text : Li
     → ReadRecord (λ s. Some s.now) a b found row → took_first b ≡ true → Follows found row text rows b
 next a b true row text rows h r first =
     let (y, source, reached) = h.place in
-    let (z, at_z, more) = rows-more (λ (s : Bor (List ℕ)). Some s.now) a b row default_config st.StartRecord (strip_bom text) y rows h.config source reached r in
+    let (z, at_z, more) = rows-more (λ (s : Bor (List ℕ)). Some s.now) a b row default_config st.StartRecord (strip_bom text) y rows h.config source reached r
+    in
     record { trim = r.3 ∙ h.trim; ready = inl first; config = r.2 ∙ h.config; place = (z, at_z, more) }
 next a b false row text rows h r first =
     let (y, source, reached) = h.place in

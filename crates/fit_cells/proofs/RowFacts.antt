@@ -1,18 +1,15 @@
 -- The text of rows reads back as those rows, and a text has one list of rows.
-use Rattle.std.proofs.Common.{◌≡◌, ◌<◌, ◌≤◌, ◌+◌, ◌==◌, ◌&&◌, ◌⊎◌, Bool, if◌then◌else◌, inl, inr, arith, length, ◌≢◌, ◌++◌, ◌∷◌, [], ℕ, List, Some, None, true, false, refl, sym, ◌∙◌, ap, ap₂, subst}
-use Rattle.csv.specs.Machine.{Read, next_record, ends_at_end, is_end, step, after_end, in_field, start_field, start_record, ends_with, is_byte, fields_after, field_after}
-use Rattle.csv.specs.declared.parser.Action.{Action}
-use Rattle.csv.specs.declared.parser.Action.TheVariants as act
-use Rattle.csv.specs.declared.parser.Terminator.{Terminator}
-use Rattle.csv.specs.declared.parser.Terminator.TheVariants as term
+use Rattle.std.proofs.Common.{◌≡◌, ◌<◌, ◌==◌, ◌&&◌, Bool, if◌then◌else◌, inl, inr, arith, length, ◌≢◌, ◌++◌, ◌∷◌, [], ℕ, List, Some, None, true, false, refl}
+use Rattle.std.proofs.Common.{sym, ◌∙◌, ap, ap₂, subst, eqb-true}
+use Rattle.csv.specs.Machine.{Read, next_record}
 use Rattle.std.proofs.lemmas.Bool.{cases_Bool}
 use Rattle.csv.specs.Reading.{Reached, AreRecords, default_config, strip_bom, is_bom}
-use Rattle.csv.specs.Writing.{default_writer, read_back, row_text, escaped, fields_text, is_blank}
+use Rattle.csv.specs.Writing.{default_writer, escaped, field_text, fields_text, is_blank, needs_quotes, read_back, row_text}
 use Rattle.csv.specs.declared.parser.Config.{Config}
 use Rattle.csv.specs.declared.parser.State.{State}
 use Rattle.csv.specs.declared.parser.State.TheVariants as st
 use Rattle.csv.proofs.RoundTrip.{read-write}
-use Rattle.fit_cells.specs.Rows.{Row, csv_text, NoneEmpty, first_line, RowsOfText}
+use Rattle.fit_cells.specs.Rows.{BeginsWithMark, NoneEmpty, Row, RowsOfText, csv_text}
 
 back-same : (row : Row) → row ≢ [] → read_back row ≡ row
 back-same [] n = absurd (n refl)
@@ -21,21 +18,116 @@ back-same (x ∷ xs) n = refl
 pub reached-text : (rows : List Row) → NoneEmpty rows → Reached default_config st.StartRecord (csv_text rows) rows st.StartRecord []
 unfolding Reached csv_text NoneEmpty
 reached-text [] n = (refl, refl)
-reached-text (row ∷ rows) (n, more) =
-    ((row, st.StartRecord, csv_text rows), subst (λ (r : Row). next_record default_config st.StartRecord [] [] (row_text default_writer row ++ csv_text rows) ≡ Some (r, st.StartRecord, csv_text rows)) (back-same row n) (read-write row (csv_text rows)), refl, reached-text rows more)
+reached-text (row ∷ rows) (n, more) = (
+  (row, st.StartRecord, csv_text rows),
+  subst
+      (λ (r : Row). next_record default_config st.StartRecord [] [] (row_text default_writer row ++ csv_text rows) ≡ Some (r, st.StartRecord, csv_text rows))
+      (back-same row n) (read-write row (csv_text rows)),
+  refl,
+  reached-text rows more,
+)
 
 none-left : next_record default_config st.StartRecord [] [] [] ≡ None
 unfolding next_record
 none-left = refl
 
-no-mark : (rows : List Row) → strip_bom (csv_text (first_line ∷ rows)) ≡ csv_text (first_line ∷ rows)
-unfolding csv_text strip_bom fields_text escaped is_blank
-no-mark rows = refl
+-- ---- byte order marks
 
-pub reads-back : (rows : List Row) → NoneEmpty rows → RowsOfText (csv_text (first_line ∷ rows)) (first_line ∷ rows)
-unfolding NoneEmpty
-reads-back rows n =
-    rw (no-mark rows) (st.StartRecord, [], reached-text (first_line ∷ rows) ((λ e. cc e), n), none-left)
+head-is : (x y : ℕ) (xs ys : List ℕ) → x ∷ xs ≡ y ∷ ys → x ≡ y
+head-is x y xs ys e = cc e
+
+second-is : (a b x y : ℕ) (xs ys : List ℕ) → a ∷ b ∷ xs ≡ x ∷ y ∷ ys → b ≡ y
+second-is a b x y xs ys e = cc e
+
+third-is : (a b c x y z : ℕ) (xs ys : List ℕ) → a ∷ b ∷ c ∷ xs ≡ x ∷ y ∷ z ∷ ys → c ≡ z
+third-is a b c x y z xs ys e = cc e
+
+all-true : (x y z : Bool) → (x && y && z) ≡ true → (x ≡ true) × (y ≡ true) × (z ≡ true)
+all-true true true true e = (refl, refl, refl)
+all-true true true false e = cc e
+all-true true false z e = cc e
+all-true false y z e = cc e
+
+mark-is : (a b c : ℕ) (rest : List ℕ) → is_bom a b c ≡ true → a ∷ b ∷ c ∷ rest ≡ 0xEF ∷ 0xBB ∷ 0xBF ∷ rest
+mark-is a b c rest e =
+    let (x, y, z) = all-true (a == 0xEF) (b == 0xBB) (c == 0xBF) e in
+    let p = eqb-true a 0xEF x in
+    let q = eqb-true b 0xBB y in
+    let r = eqb-true c 0xBF z in
+    λ i. p i ∷ q i ∷ r i ∷ rest
+
+strip-none : (text : List ℕ) → ((rest : List ℕ) → text ≡ 0xEF ∷ 0xBB ∷ 0xBF ∷ rest → ⊥) → strip_bom text ≡ text
+unfolding strip_bom
+strip-none [] none = refl
+strip-none (a ∷ []) none = refl
+strip-none (a ∷ b ∷ []) none = refl
+strip-none (a ∷ b ∷ c ∷ rest) none = elim (cases_Bool (is_bom a b c)) [
+  | inl mark ↦ absurd (none rest (mark-is a b c rest mark))
+  | inr other ↦ rw other refl
+]
+
+abbrev HasMark : List ℕ → Type 0
+HasMark text = (more : List ℕ) × (text ≡ 0xEF ∷ 0xBB ∷ 0xBF ∷ more)
+
+mark-first : (a b c : ℕ) (more rest tail : List ℕ) → a ∷ b ∷ c ∷ tail ≡ 0xEF ∷ 0xBB ∷ 0xBF ∷ rest → a ∷ b ∷ c ∷ more ≡ 0xEF ∷ 0xBB ∷ 0xBF ∷ more
+mark-first a b c more rest tail e =
+    let p = head-is a 0xEF (b ∷ c ∷ tail) (0xBB ∷ 0xBF ∷ rest) e in
+    let q = second-is a b 0xEF 0xBB (c ∷ tail) (0xBF ∷ rest) e in
+    let r = third-is a b c 0xEF 0xBB 0xBF tail rest e in
+    λ i. p i ∷ q i ∷ r i ∷ more
+
+-- where a row begins with a mark, its first field does: a row of one field, and one of more
+mark-of-one : (field tail rest : List ℕ)
+    → ((field ++ []) ++ ((if length field == 0 then 34 ∷ 34 ∷ [] else []) ++ (10 ∷ []))) ++ tail ≡ 0xEF ∷ 0xBB ∷ 0xBF ∷ rest → HasMark field
+mark-of-one [] tail rest e = absurd (omega (arith, head-is 34 0xEF (34 ∷ 10 ∷ tail) (0xBB ∷ 0xBF ∷ rest) e))
+mark-of-one (a ∷ []) tail rest e = absurd (omega (arith, second-is a 10 0xEF 0xBB tail (0xBF ∷ rest) e))
+mark-of-one (a ∷ b ∷ []) tail rest e = absurd (omega (arith, third-is a b 10 0xEF 0xBB 0xBF tail rest e))
+mark-of-one (a ∷ b ∷ c ∷ more) tail rest e = (more, mark-first a b c more rest _ e)
+
+mark-of-more : (field others tail rest : List ℕ) → ((field ++ (44 ∷ others)) ++ (10 ∷ [])) ++ tail ≡ 0xEF ∷ 0xBB ∷ 0xBF ∷ rest → HasMark field
+mark-of-more [] others tail rest e = absurd (omega (arith, head-is 44 0xEF ((others ++ (10 ∷ [])) ++ tail) (0xBB ∷ 0xBF ∷ rest) e))
+mark-of-more (a ∷ []) others tail rest e = absurd (omega (arith, second-is a 44 0xEF 0xBB ((others ++ (10 ∷ [])) ++ tail) (0xBF ∷ rest) e))
+mark-of-more (a ∷ b ∷ []) others tail rest e = absurd (omega (arith, third-is a b 44 0xEF 0xBB 0xBF ((others ++ (10 ∷ [])) ++ tail) rest e))
+mark-of-more (a ∷ b ∷ c ∷ more) others tail rest e = (more, mark-first a b c more rest _ e)
+
+-- a field begins with a mark where its cell does
+cell-has-mark : (cell : List ℕ) → HasMark (field_text default_writer cell) → HasMark cell
+cell-has-mark cell (more, e) = elim (cases_Bool (needs_quotes default_writer cell)) [
+  | inl quotes ↦
+      let is : field_text default_writer cell ≡ 34 ∷ (escaped default_writer cell ++ (34 ∷ [])) = rw quotes refl in
+      absurd (omega (arith, head-is 34 0xEF (escaped default_writer cell ++ (34 ∷ [])) (0xBB ∷ 0xBF ∷ more) (sym is ∙ e)))
+  | inr plain ↦
+      let is : field_text default_writer cell ≡ cell = rw plain refl in
+      (more, sym is ∙ e)
+]
+
+row-has-mark : (cell : List ℕ) (cells : Row) (tail rest : List ℕ) → row_text default_writer (cell ∷ cells) ++ tail ≡ 0xEF ∷ 0xBB ∷ 0xBF ∷ rest → HasMark cell
+unfolding fields_text is_blank
+row-has-mark cell [] tail rest e = cell-has-mark cell (mark-of-one (field_text default_writer cell) tail rest e)
+row-has-mark cell (x ∷ cells) tail rest e =
+    cell-has-mark cell (mark-of-more (field_text default_writer cell) (field_text default_writer x ++ fields_text default_writer cells) tail rest e)
+
+no-mark : (rows : List Row) → NoneEmpty rows → (BeginsWithMark rows → ⊥) → strip_bom (csv_text rows) ≡ csv_text rows
+unfolding csv_text NoneEmpty
+no-mark [] n none = strip-none [] (λ rest e. cc e)
+no-mark ([] ∷ rows) n none = absurd (n.0 refl)
+no-mark ((cell ∷ cells) ∷ rows) n none = strip-none (csv_text ((cell ∷ cells) ∷ rows)) (λ rest e.
+    let (more, is) = row-has-mark cell cells (csv_text rows) rest e in
+    none (more, cells, rows, ap (λ (c : List ℕ). (c ∷ cells) ∷ rows) is))
+
+first-cell : (a b : List ℕ) (xs ys : Row) (x y : List Row) → (a ∷ xs) ∷ x ≡ (b ∷ ys) ∷ y → a ≡ b
+first-cell a b xs ys x y e = cc e
+
+-- rows whose first byte is another one
+pub begins-otherwise : (b : ℕ) (cell : List ℕ) (cells : Row) (rows : List Row) → b < 0xEF → BeginsWithMark (((b ∷ cell) ∷ cells) ∷ rows) → ⊥
+begins-otherwise b cell cells rows less (more, others, rest, e) =
+    let same = head-is b 0xEF cell (0xBB ∷ 0xBF ∷ more) (first-cell (b ∷ cell) (0xEF ∷ 0xBB ∷ 0xBF ∷ more) cells others rows rest e) in
+    omega (arith, same, less)
+
+-- ---- there and back
+
+pub reads-back : (rows : List Row) → NoneEmpty rows → (BeginsWithMark rows → ⊥) → RowsOfText (csv_text rows) rows
+reads-back rows n none = rw (no-mark rows n none) (st.StartRecord, [], reached-text rows n, none-left)
 
 some-same : {A : Type 0} (a b : A) → Some a ≡ Some b → a ≡ b
 some-same a b e = cc e
@@ -66,119 +158,3 @@ reached-first cfg (r ∷ pre) (q ∷ rows) s s2 xs y (p, e, same, more) (s3, z, 
     let (rest, is, left) = reached-first cfg pre rows p.1 s2 p.2 y more (s3, z, m, ends) in
     let head : q ≡ r = same' ∙ ap (λ (x : Read). x.0) (sym pp) ∙ sym same in
     (rest, ap₂ (λ (a : Row) (b : List Row). a ∷ b) head is, left)
-
--- the states in which the end of the text ends no record
-abbrev pub Between : State → Type 0
-Between s = ends_at_end s ≡ false
-
-between-end : (t : Terminator) (c : ℕ) → Between (after_end t c)
-between-end term.CRLF c = elim (cases_Bool (c == 13)) [
-  | inl cr ↦ rw cr refl
-  | inr other ↦ rw other refl
-]
-between-end (term.Any b) c = refl
-
-between-field : (cfg : Config) (c : ℕ) → is_end (in_field cfg c).1 ≡ true → Between (in_field cfg c).0
-between-field cfg c h = elim (cases_Bool (c == cfg.delimiter)) [
-  | inl comma ↦ cc (rw comma at h)
-  | inr plain ↦ elim (cases_Bool (ends_with cfg.terminator c)) [
-    | inl end ↦ rw (plain, end) (between-end cfg.terminator c)
-    | inr copied ↦ cc (rw (plain, copied) at h)
-  ]
-]
-
-between-start : (cfg : Config) (c : ℕ) → is_end (start_field cfg c).1 ≡ true → Between (start_field cfg c).0
-between-start cfg c h = elim (cases_Bool (cfg.quoting && (c == cfg.quote))) [
-  | inl quote ↦ cc (rw quote at h)
-  | inr plain ↦ rw plain (between-field cfg c (rw plain at h))
-]
-
-between-cases : (a b : Bool) (x : State × Action) → (is_end x.1 ≡ true → Between x.0)
-    → is_end (if a then (st.StartRecord, act.Skip) else if b then (st.InComment, act.Skip) else x).1 ≡ true
-    → Between (if a then (st.StartRecord, act.Skip) else if b then (st.InComment, act.Skip) else x).0
-between-cases true b x f h = refl
-between-cases false true x f h = cc h
-between-cases false false x f h = f h
-
-between-record : (cfg : Config) (c : ℕ) → is_end (start_record cfg c).1 ≡ true → Between (start_record cfg c).0
-between-record cfg c h = between-cases (ends_with cfg.terminator c) (is_byte cfg.comment c) (start_field cfg c) (between-start cfg c) h
-
-between-after : (cfg : Config) (s : State) (c : ℕ) → is_end (step cfg s c).1 ≡ true → Between (step cfg s c).0
-between-after cfg st.StartRecord c h = between-record cfg c h
-between-after cfg st.StartField c h = between-start cfg c h
-between-after cfg st.InField c h = between-field cfg c h
-between-after cfg st.InQuoted c h = elim (cases_Bool (cfg.quoting && (c == cfg.quote))) [
-  | inl quote ↦ cc (rw quote at h)
-  | inr plain ↦ elim (cases_Bool (cfg.quoting && is_byte cfg.escape c)) [
-    | inl escape ↦ cc (rw (plain, escape) at h)
-    | inr copied ↦ cc (rw (plain, copied) at h)
-  ]
-]
-between-after cfg st.InEscape c h = cc h
-between-after cfg st.AfterQuote c h = elim (cases_Bool (cfg.quoting && cfg.double_quote && (c == cfg.quote))) [
-  | inl quote ↦ cc (rw quote at h)
-  | inr plain ↦ rw plain (between-field cfg c (rw plain at h))
-]
-between-after cfg st.InComment c h = elim (cases_Bool (c == 10)) [
-  | inl end ↦ cc (rw end at h)
-  | inr more ↦ cc (rw more at h)
-]
-between-after cfg st.AfterCr c h = between-cases (c == 10) false (start_record cfg c) (between-record cfg c) h
-
--- a record that is read takes a byte of the text where there is one, and leaves the reader between two records
-Takes : List ℕ → Read → Type 0
-Takes xs p = ((length p.2 < length xs) ⊎ ((length xs ≡ 0) × (length p.2 ≡ 0))) × Between p.1
-
-further : (c : ℕ) (rest : List ℕ) (p : Read) → Takes rest p → Takes (c ∷ rest) p
-unfolding Takes
-further c rest p (inl less, between) = (inl (omega (arith, less)), between)
-further c rest p (inr (none, empty), between) = (inl (omega (arith, none, empty)), between)
-
-read-takes : (cfg : Config) (s : State) (fields : List (List ℕ)) (field : List ℕ) (xs : List ℕ) (p : Read) → next_record cfg s fields field xs ≡ Some p
-    → Takes xs p
-unfolding next_record Takes
-read-takes cfg s fields field [] p e = elim (cases_Bool (ends_at_end s)) [
-  | inl ends ↦
-      let is = some-same _ p (rw ends at e) in
-      (inr (refl, ap (λ (q : Read). length q.2) (sym is)), ap (λ (q : Read). ends_at_end q.1) (sym is))
-  | inr between ↦ cc (rw between at e)
-]
-read-takes cfg s fields field (c ∷ rest) p e = elim (cases_Bool (is_end (step cfg s c).1)) [
-  | inl end ↦
-      let is = some-same _ p (rw end at e) in
-      let left : length p.2 ≡ length rest = ap (λ (q : Read). length q.2) (sym is) in
-      (inl (omega (arith, left)), ap (λ (q : Read). ends_at_end q.1) (sym is) ∙ between-after cfg s c end)
-  | inr goes ↦ further c rest p (read-takes cfg (step cfg s c).0 (fields_after (step cfg s c).1 fields field) (field_after (step cfg s c).1 c field) rest p (rw goes at e))
-]
-
--- no text, no record
-nothing-read : (cfg : Config) (s : State) (xs : List ℕ) (p : Read) → length xs ≡ 0 → Between s → next_record cfg s [] [] xs ≡ Some p → ⊥
-unfolding next_record
-nothing-read cfg s [] p none b e = cc (rw b at e)
-nothing-read cfg s (c ∷ rest) p none b e = absurd (omega (arith, none))
-
--- no more records than bytes
-pub rows-within : (cfg : Config) (rows : List Row) (s s2 : State) (xs y : List ℕ) → Between s → Reached cfg s xs rows s2 y → length rows + length y ≤ length xs
-unfolding Reached Takes
-rows-within cfg [] s s2 xs y b (es, ex) = rw ex (omega arith)
-rows-within cfg (r ∷ rows) s s2 xs y b (p, e, same, more) =
-    let (takes, between) = read-takes cfg s [] [] xs p e in
-    let rest = rows-within cfg rows p.1 s2 p.2 y between more in
-    elim takes [
-      | inl less ↦ omega (arith, less, rest)
-      | inr (none, empty) ↦ absurd (nothing-read cfg s xs p none b e)
-    ]
-
-strip-length : (xs : List ℕ) → length (strip_bom xs) ≤ length xs
-unfolding strip_bom
-strip-length [] = omega arith
-strip-length (a ∷ []) = omega arith
-strip-length (a ∷ b ∷ []) = omega arith
-strip-length (a ∷ b ∷ c ∷ rest) = elim (cases_Bool (is_bom a b c)) [
-  | inl mark ↦ rw mark (omega arith)
-  | inr none ↦ rw none (omega arith)
-]
-
--- a text has no more rows than bytes
-pub rows-of-text : (text : List ℕ) (rows : List Row) (s : State) (y : List ℕ) → Reached default_config st.StartRecord (strip_bom text) rows s y → length rows ≤ length text
-rows-of-text text rows s y reached = omega (arith, rows-within default_config rows st.StartRecord s (strip_bom text) y refl reached, strip-length text)

@@ -1,6 +1,8 @@
 -- A text has no more rows than bytes.
-use Rattle.std.proofs.Common.{◌≡◌, ◌∙◌, ◌<◌, ◌≤◌, ◌+◌, ◌==◌, ◌&&◌, ◌⊎◌, Bool, if◌then◌else◌, inl, inr, arith, length, ◌∷◌, [], ℕ, List, Some, true, false, refl, sym, ap}
-use Rattle.csv.specs.Machine.{Read, next_record, ends_at_end, is_end, step, after_end, in_field, start_field, start_record, ends_with, is_byte, fields_after, field_after}
+use Rattle.std.proofs.Common.{◌≡◌, ◌∙◌, ◌<◌, ◌≤◌, ◌+◌, ◌==◌, ◌&&◌, ◌⊎◌, Bool, if◌then◌else◌, inl, inr, arith, length, ◌∷◌, [], ℕ, List, Some, true, false, refl}
+use Rattle.std.proofs.Common.{sym, ap}
+use Rattle.csv.specs.Machine.{Read, next_record, ends_at_end, is_end, step, after_end, in_field, start_field, start_record, ends_with, is_byte, fields_after}
+use Rattle.csv.specs.Machine.{field_after}
 use Rattle.csv.specs.declared.parser.Action.{Action}
 use Rattle.csv.specs.declared.parser.Action.TheVariants as act
 use Rattle.csv.specs.declared.parser.Terminator.{Terminator}
@@ -96,7 +98,8 @@ read-takes cfg s fields field (c ∷ rest) p e = elim (cases_Bool (is_end (step 
       let is = some-same _ p (rw end at e) in
       let left : length p.2 ≡ length rest = ap (λ (q : Read). length q.2) (sym is) in
       (inl (omega (arith, left)), ap (λ (q : Read). ends_at_end q.1) (sym is) ∙ between-after cfg s c end)
-  | inr goes ↦ further c rest p (read-takes cfg (step cfg s c).0 (fields_after (step cfg s c).1 fields field) (field_after (step cfg s c).1 c field) rest p (rw goes at e))
+  | inr goes ↦ further c rest p (read-takes cfg (step cfg s c).0 (fields_after (step cfg s c).1 fields field) (field_after (step cfg s c).1 c field) rest p
+      (rw goes at e))
 ]
 
 -- no text, no record
@@ -128,5 +131,6 @@ strip-length (a ∷ b ∷ c ∷ rest) = elim (cases_Bool (is_bom a b c)) [
 ]
 
 -- a text has no more rows than bytes
-pub rows-of-text : (text : List ℕ) (rows : List Row) (s : State) (y : List ℕ) → Reached default_config st.StartRecord (strip_bom text) rows s y → length rows ≤ length text
+pub rows-of-text : (text : List ℕ) (rows : List Row) (s : State) (y : List ℕ) → Reached default_config st.StartRecord (strip_bom text) rows s y
+    → length rows ≤ length text
 rows-of-text text rows s y reached = omega (arith, rows-within default_config rows st.StartRecord s (strip_bom text) y refl reached, strip-length text)

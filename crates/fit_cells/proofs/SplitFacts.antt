@@ -1,6 +1,7 @@
 -- The items of a cell, cut at its bars.
 use Rattle.std.proofs.lemmas.List.Elements.{All-head}
-use Rattle.std.proofs.Common.{All, ◌≡◌, ◌∙◌, ℕ, suc, ◌+◌, ◌<◌, false, List, [], ◌∷◌, ◌++◌, length, map, drop, get_or, refl, sym, ap, arith, add-one, append-nil, drop-cons}
+use Rattle.std.proofs.Common.{All, ◌≡◌, ◌∙◌, ℕ, suc, ◌+◌, ◌<◌, false, List, [], ◌∷◌, ◌++◌, length, map, drop, get_or, refl, sym, ap, arith, add-one, append-nil}
+use Rattle.std.proofs.Common.{drop-cons}
 use Rattle.std.specs.List.{position_or_len, before_first, after_first}
 use Rattle.std.proofs.lemmas.Bool.{ne_eqb}
 use Rattle.std.proofs.Math.Numerals.{one-add}
@@ -36,7 +37,8 @@ drop-past [] = refl
 drop-past (b ∷ text) = drop-past text
 
 after-bar : (text rest : List ℕ) → Low text → after_first is_bar (text ++ (124 ∷ rest)) ≡ rest
-after-bar text rest h = ap (λ n. drop (n + 1) (text ++ (124 ∷ rest))) (place-bar text rest h) ∙ ap (λ n. drop n (text ++ (124 ∷ rest))) (add-one (length text)) ∙ drop-text text rest 124
+after-bar text rest h = ap (λ n. drop (n + 1) (text ++ (124 ∷ rest))) (place-bar text rest h) ∙ ap (λ n. drop n (text ++ (124 ∷ rest))) (add-one (length text))
+    ∙ drop-text text rest 124
 
 after-end : (text : List ℕ) → Low text → after_first is_bar text ≡ []
 after-end text h = ap (λ n. drop (n + 1) text) (place-end text h) ∙ ap (λ n. drop n text) (add-one (length text)) ∙ drop-past text
@@ -53,11 +55,15 @@ other-texts x (y ∷ ys) h = after-bar x (barred (y ∷ ys)) h
 from-here : (f : ℕ → List ℕ) (bits : List ℕ) (k : ℕ) → k < length bits → barred (map f (drop k bits)) ≡ barred (f (get_or bits k 0) ∷ map f (drop (k + 1) bits))
 from-here f bits k h = ap (λ xs. barred (map f xs)) (drop-cons bits k 0 h ∙ ap (λ n. get_or bits k 0 ∷ drop n bits) (sym (add-one k)))
 
-pub piece : (f : ℕ → List ℕ) (bits rest : List ℕ) (k : ℕ) → ((n : ℕ) → Low (f n)) → k < length bits → rest ≡ barred (map f (drop k bits)) → before_first is_bar rest ≡ f (get_or bits k 0)
-piece f bits rest k low h e = ap (before_first is_bar) (e ∙ from-here f bits k h) ∙ first-text (f (get_or bits k 0)) (map f (drop (k + 1) bits)) (low (get_or bits k 0))
+pub piece : (f : ℕ → List ℕ) (bits rest : List ℕ) (k : ℕ) → ((n : ℕ) → Low (f n)) → k < length bits → rest ≡ barred (map f (drop k bits))
+    → before_first is_bar rest ≡ f (get_or bits k 0)
+piece f bits rest k low h e = ap (before_first is_bar) (e ∙ from-here f bits k h)
+    ∙ first-text (f (get_or bits k 0)) (map f (drop (k + 1) bits)) (low (get_or bits k 0))
 
-pub behind-piece : (f : ℕ → List ℕ) (bits rest : List ℕ) (k : ℕ) → ((n : ℕ) → Low (f n)) → k < length bits → rest ≡ barred (map f (drop k bits)) → after_first is_bar rest ≡ barred (map f (drop (k + 1) bits))
-behind-piece f bits rest k low h e = ap (after_first is_bar) (e ∙ from-here f bits k h) ∙ other-texts (f (get_or bits k 0)) (map f (drop (k + 1) bits)) (low (get_or bits k 0))
+pub behind-piece : (f : ℕ → List ℕ) (bits rest : List ℕ) (k : ℕ) → ((n : ℕ) → Low (f n)) → k < length bits → rest ≡ barred (map f (drop k bits))
+    → after_first is_bar rest ≡ barred (map f (drop (k + 1) bits))
+behind-piece f bits rest k low h e = ap (after_first is_bar) (e ∙ from-here f bits k h)
+    ∙ other-texts (f (get_or bits k 0)) (map f (drop (k + 1) bits)) (low (get_or bits k 0))
 
 -- an item that stands alone
 pub lone_list : (f : ℕ → List ℕ) (limit count : ℕ) (text bits : List ℕ) → count ≡ 1 → ((n : ℕ) → n < limit → text ≡ f n → bits ≡ n ∷ [])

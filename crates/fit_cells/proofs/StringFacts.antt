@@ -1,5 +1,6 @@
 -- Texts that can stand as they are.
-use Rattle.std.proofs.Common.{◌≡◌, ◌∙◌, ℕ, zero, suc, ◌<◌, Bool, true, false, List, [], ◌∷◌, ◌++◌, length, drop, get_or, reverse, All, refl, sym, ap, inl, inr, arith, eqb-true}
+use Rattle.std.proofs.Common.{◌≡◌, ◌∙◌, ℕ, zero, suc, ◌<◌, Bool, true, false, List, [], ◌∷◌, ◌++◌, length, drop, get_or, reverse, All, refl, sym, ap, inl, inr}
+use Rattle.std.proofs.Common.{arith, eqb-true}
 use Rattle.std.specs.Prelude.{◌==◌, ◌&&◌, not}
 use Rattle.std.specs.List.{list_all}
 use Rattle.std.specs.Str.{IsUtf8, is_utf8}
@@ -54,7 +55,8 @@ pad (x ∷ xs) (suc k) = pad xs k
 same-reversed : (ys : List ℕ) (k : ℕ) → get_or (reverse (without_zeros ys)) k 0 ≡ get_or (reverse ys) k 0
 same-reversed [] k = refl
 same-reversed (b ∷ ys) k = elim (cases_Bool (b == 0)) [
-  | inl none ↦ rw none (same-reversed ys k ∙ sym (ap (λ xs. get_or xs k 0) (reverse-append (b ∷ []) ys ∙ ap (λ x. reverse ys ++ (x ∷ [])) (eqb-true b 0 none)) ∙ pad (reverse ys) k))
+  | inl none ↦ rw none (same-reversed ys k
+      ∙ sym (ap (λ xs. get_or xs k 0) (reverse-append (b ∷ []) ys ∙ ap (λ x. reverse ys ++ (x ∷ [])) (eqb-true b 0 none)) ∙ pad (reverse ys) k))
   | inr some ↦ rw some refl
 ]
 

@@ -1,5 +1,6 @@
 -- A cell is a text, and no item of it has a bar.
-use Rattle.std.proofs.Common.{◌≡◌, ℕ, zero, suc, ◌*◌, ◌/◌, ◌%◌, ◌^◌, ◌<◌, ◌==◌, Bool, true, false, List, [], ◌∷◌, ◌++◌, length, map, flat_map, refl, arith, inl, inr, lit<, cond, unsigned_abs, ℤ, pos, negsuc, Option, Some, None, decimal}
+use Rattle.std.proofs.Common.{◌≡◌, ℕ, zero, suc, ◌*◌, ◌/◌, ◌%◌, ◌^◌, ◌<◌, ◌==◌, Bool, true, false, List, [], ◌∷◌, ◌++◌, length, map, flat_map, refl, arith, inl}
+use Rattle.std.proofs.Common.{inr, lit<, cond, unsigned_abs, ℤ, pos, negsuc, Option, Some, None, decimal}
 use Rattle.std.specs.Fmt.{digits, digits_onto, digit_glyph}
 use Rattle.std.specs.Prelude.{◌&&◌, not}
 use Rattle.std.specs.List.{AllByRecursion, list_all}
@@ -16,7 +17,8 @@ use Rattle.fit_base.specs.Numbers.{twos_complement}
 use Rattle.fit_profile.specs.Described.{before_closing_zeros}
 use Rattle.fit_profile.specs.Profile.{Meaning}
 use Rattle.fit_profile.specs.FixedText.{fixed_text, fraction, last_digits, sign}
-use Rattle.fit_cells.specs.Cells.{barred, begins_as_bytes, bytes_text, cell, class_of, hex_digit, hex_digits, is_plain, item_text, items_text, number_text, string_text}
+use Rattle.fit_cells.specs.Cells.{barred, begins_as_bytes, bytes_text, cell, class_of, hex_digit, hex_digits, is_plain, item_text, items_text, number_text}
+use Rattle.fit_cells.specs.Cells.{string_text}
 
 -- each byte comes before the bar
 abbrev pub Low : List ℕ → Type 0
@@ -94,7 +96,8 @@ low-valid true text h = tt
 low-valid false text h = h
 
 pub low-item : (class : Class) (code : ℕ) (info : Option Meaning) (width n : ℕ) → Low (item_text class code info width n)
-low-item Signed code info width n = low-valid (n == (base_type code).invalid) (number_text info (twos_complement width n)) (low-number info (twos_complement width n))
+low-item Signed code info width n = low-valid (n == (base_type code).invalid) (number_text info (twos_complement width n))
+    (low-number info (twos_complement width n))
 low-item Unsigned code info width n = low-valid (n == (base_type code).invalid) (number_text info (pos n)) (low-number info (pos n))
 low-item Text code info width n = low-0x _ (low-hex (2 * width) n)
 low-item Float code info width n = low-0x _ (low-hex (2 * width) n)
@@ -119,7 +122,9 @@ both_true false b c h = h
 
 utf8-string : (bytes : List ℕ) → IsUtf8 (string_text bytes)
 utf8-string bytes = elim (cases_Bool (is_plain (before_closing_zeros bytes))) [
-  | inl plain ↦ rw plain (IsUtf8-from_is_utf8 (before_closing_zeros bytes) (both_true (is_utf8 (before_closing_zeros bytes)) (list_all (λ b. not (b == 0)) (before_closing_zeros bytes)) (not (begins_as_bytes (before_closing_zeros bytes))) plain))
+  | inl plain ↦ rw plain (IsUtf8-from_is_utf8 (before_closing_zeros bytes)
+      (both_true (is_utf8 (before_closing_zeros bytes)) (list_all (λ b. not (b == 0)) (before_closing_zeros bytes))
+      (not (begins_as_bytes (before_closing_zeros bytes))) plain))
   | inr other ↦ rw other (IsUtf8-from_ascii (bytes_text bytes) (ascii-bytes bytes))
 ]
 

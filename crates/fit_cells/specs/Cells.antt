@@ -1,5 +1,6 @@
 -- The text of a field, as a cell of a CSV row shows it.
-use Rattle.std.specs.Prelude.{ℕ, zero, suc, ◌+◌, ◌*◌, ◌/◌, ◌%◌, ◌^◌, ◌==◌, ◌&&◌, not, nat_lt, if◌then◌else◌, Bool, List, [], ◌∷◌, ◌++◌, length, map, flat_map, slice_index, Option, Some, None, ℤ, pos, ◌-ℤ◌, ◌*ℤ◌, codes}
+use Rattle.std.specs.Prelude.{ℕ, zero, suc, ◌+◌, ◌*◌, ◌/◌, ◌%◌, ◌^◌, ◌==◌, ◌&&◌, not, nat_lt, if◌then◌else◌, Bool, List, [], ◌∷◌, ◌++◌, length, map, flat_map}
+use Rattle.std.specs.Prelude.{slice_index, Option, Some, None, ℤ, pos, ◌-ℤ◌, ◌*ℤ◌, codes}
 use Rattle.std.specs.List.{list_all}
 use Rattle.std.specs.Str.{is_utf8}
 use Rattle.fit_base.specs.declared.code.Class.{Class}
@@ -35,13 +36,13 @@ abbrev pub bytes_text : List ℕ → List ℕ
 bytes_text bytes = codes "0x" ++ flat_map (λ b. hex_digits 2 b) bytes
 
 -- raw / scale - offset, in units of the last of the scale's decimals
-abbrev pub scaled : ℤ → ℕ → ℕ → ℤ
-scaled raw scale offset = (raw -ℤ pos (offset * scale)) *ℤ pos (10 ^ decimals scale / scale)
+abbrev pub scaled_value : ℤ → ℕ → ℕ → ℤ
+scaled_value raw scale offset = (raw -ℤ pos (offset * scale)) *ℤ pos (10 ^ decimals scale / scale)
 
 -- a number: scaled where it is known how, else whole
 abbrev pub number_text : Option Meaning → ℤ → List ℕ
 number_text None raw = fixed_text raw 0
-number_text (Some m) raw = fixed_text (scaled raw m.scale m.offset) (decimals m.scale)
+number_text (Some m) raw = fixed_text (scaled_value raw m.scale m.offset) (decimals m.scale)
 
 -- one of the items that stand side by side: a number, which is empty where it is the invalid one, or the bits of a float
 abbrev pub item_text : Class → ℕ → Option Meaning → ℕ → ℕ → List ℕ

@@ -9,7 +9,7 @@ use Rattle.fit_cells.specs.declared.form.NumberForm.{NumberForm}
 use Rattle.fit_cells.specs.Cells.{number_text}
 
 -- its numbers have 64 bits at most, also when they are scaled
-pub record IsSmall (f : NumberForm) : Type 0 where
+pub record IsSmallForm (f : NumberForm) : Type 0 where
   pub width : (f.width ≡ 1) ⊎ (f.width ≡ 2) ⊎ (f.width ≡ 4)
   pub scale : IsScale f.scale
   pub shift : f.shift ≤ 2 ^ 42

@@ -33,6 +33,10 @@ unfoldable pub NoneEmpty : List Row → Type 0
 NoneEmpty [] = Unit {0}
 NoneEmpty (row ∷ rows) = (row ≢ []) × NoneEmpty rows
 
+-- The first cell begins with a byte order mark, U+FEFF in UTF-8.
+abbrev pub BeginsWithMark : List Row → Type 0
+BeginsWithMark rows = (more : List ℕ) × (cells : Row) × (others : List Row) × (rows ≡ ((0xEF ∷ 0xBB ∷ 0xBF ∷ more) ∷ cells) ∷ others)
+
 -- the first line of a text
 abbrev pub first_line : Row
 first_line = codes "row" ∷ codes "a" ∷ codes "b" ∷ codes "c" ∷ codes "d" ∷ codes "e" ∷ codes "f" ∷ []

@@ -34,7 +34,8 @@ pub fn put_cell(
     requires scale { IfSome info (λ i. IsScale i.scale) }
     requires width { (items.now.width ≡ (base_type code.0).width) ⊎ (items.now.width ≡ 1) }
     requires bits { All (λ n. n < 256 ^ items.now.width) items.now.bits }
-    ensures { OnOk result (text.new.items ≡ text.old.items ++ cell code.0 (option_map meaning info) items.now) }
+    ensures { OnOk result (text.new.items ≡ text.old.items
+        ++ cell code.0 (option_map meaning info) items.now) }
 {
     let bits = items.bits.as_slice();
     if bits.is_empty() {
@@ -59,7 +60,8 @@ pub fn cell_text(
     requires scale { IfSome info (λ i. IsScale i.scale) }
     requires width { (items.now.width ≡ (base_type code.0).width) ⊎ (items.now.width ≡ 1) }
     requires bits { All (λ n. n < 256 ^ items.now.width) items.now.bits }
-    ensures { IfOk result (λ text. string_bytes text ≡ cell code.0 (option_map meaning info) items.now) }
+    ensures { IfOk result (λ text. string_bytes text
+        ≡ cell code.0 (option_map meaning info) items.now) }
 {
     let mut text = Vec::new(alloc);
     put_cell(&mut text, code, info, items)?;

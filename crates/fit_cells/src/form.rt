@@ -7,7 +7,7 @@ ghost use Rattle.fit_profile.specs.Names.{meaning};
 ghost use Rattle.fit_profile.specs.Profile.{Meaning};
 ghost use Rattle.fit_profile.specs.Scaled.{decimals, IsScale};
 ghost use Rattle.fit_cells.specs.Cells.{item_text, number_text};
-ghost use Rattle.fit_cells.specs.Forms.{IsFormOf, IsSmall};
+ghost use Rattle.fit_cells.specs.Forms.{IsFormOf, IsSmallForm};
 
 use fit_base::{Class, Code, Items, signed};
 use fit_profile::{Info, decimals_of, put_fixed};
@@ -33,8 +33,10 @@ fn form_by(signed: bool, width: u8, invalid: u64, info: Option<Info>) -> NumberF
     ensures signed { result.signed ≡ signed }
     ensures width { result.width ≡ width }
     ensures invalid { result.invalid ≡ invalid }
-    ensures small { IsSmall result }
-    ensures text { (raw : ℤ) → number_text (option_map meaning info) raw ≡ fixed_text ((raw -ℤ pos result.shift) *ℤ pos (10 ^ decimals result.scale / result.scale)) result.decimals }
+    ensures small { IsSmallForm result }
+    ensures text { (raw : ℤ) → number_text (option_map meaning info) raw ≡ fixed_text
+        ((raw -ℤ pos result.shift) *ℤ pos (10 ^ decimals result.scale / result.scale))
+        result.decimals }
 {
     match info {
         Some(info) => NumberForm {
@@ -59,7 +61,7 @@ fn form_by(signed: bool, width: u8, invalid: u64, info: Option<Info>) -> NumberF
 /// The form of a field of this base type, where its items are numbers of at most four bytes.
 pub fn number_form(code: Code, info: Option<Info>) -> Option<NumberForm>
     requires { IfSome info (λ i. IsScale i.scale) }
-    ensures small { IfSome result IsSmall }
+    ensures small { IfSome result IsSmallForm }
     ensures form { IfSome result (IsFormOf code.0 (option_map meaning info)) }
 {
     let width = code.width();
@@ -76,7 +78,8 @@ pub fn number_form(code: Code, info: Option<Info>) -> Option<NumberForm>
 /// The item, where it is the only one and has the width of a form.
 #[tactic(auto, using(crate::proofs::PlainFacts::only_one))]
 pub fn lone_number(form: NumberForm, items: &Items) -> Option<u64>
-    ensures some { IfSome result (λ bits. (items.now.width ≡ form.width) × (items.now.bits ≡ bits ∷ [])) }
+    ensures some { IfSome result (λ bits. (items.now.width ≡ form.width)
+        × (items.now.bits ≡ bits ∷ [])) }
     ensures none { IsNone result → items.now.width ≡ form.width → length items.now.bits ≡ 1 → ⊥ }
 {
     match items.bits.as_slice() {
@@ -102,7 +105,7 @@ fn in_decimals(number: i64, scale: u32) -> i64
 
 /// The number that the bits of an item are.
 fn raw(form: NumberForm, bits: u64) -> i64
-    requires small { IsSmall form }
+    requires small { IsSmallForm form }
     requires bits { bits < 256 ^ form.width }
     ensures value { result ≡ (if form.signed then twos_complement form.width bits else pos bits) }
     ensures least { neg_ℤ (pos (2 ^ 32)) ≤ℤ result }
@@ -117,9 +120,11 @@ fn raw(form: NumberForm, bits: u64) -> i64
 
 /// Puts an item behind a text.
 pub fn put_formed(text: &mut Vec<u8>, form: NumberForm, bits: u64) -> Result<(), AllocError>
-    requires small { IsSmall form }
+    requires small { IsSmallForm form }
     requires bits { bits < 256 ^ form.width }
-    ensures { (code : ℕ) (info : Option Meaning) → IsFormOf code info form → OnOk result (text.new.items ≡ text.old.items ++ item_text (base_type code).class code info form.width bits) }
+    ensures { (code : ℕ) (info : Option Meaning) → IsFormOf code info form
+        → OnOk result (text.new.items ≡ text.old.items
+        ++ item_text (base_type code).class code info form.width bits) }
 {
     if bits == form.invalid {
         return Ok(());

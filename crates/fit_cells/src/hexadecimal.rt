@@ -102,7 +102,8 @@ fn behind(text: &[u8], bytes: usize) -> &[u8]
 pub(crate) fn read_float(width: u8, text: &[u8]) -> u64
     requires { (width ≡ 1) ⊎ (width ≡ 2) ⊎ (width ≡ 4) ⊎ (width ≡ 8) }
     ensures below { result < 256 ^ width }
-    ensures every { (bits : ℕ) → bits < 256 ^ width → text.now ≡ codes "0x" ++ hex_digits (2 * width) bits → result ≡ bits }
+    ensures every { (bits : ℕ) → bits < 256 ^ width
+        → text.now ≡ codes "0x" ++ hex_digits (2 * width) bits → result ≡ bits }
 {
     if text.len() != 2 + 2 * width as usize {
         return 0;

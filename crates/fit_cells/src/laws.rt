@@ -4,7 +4,8 @@ ghost use Rattle.fit_cells.specs.Laws.{CellsAreOne, ReadsBack, ReadsOneWay, Scal
 use fit_profile::laws::text_has_one_number;
 use std::alloc::Allocator;
 
-/// The text of the first line and other rows reads as those rows.
+/// The text of rows reads as those rows, if each has a cell and the first cell doesn't begin with a
+/// byte order mark.
 pub fn text_reads_back()
     ensures { ReadsBack }
 {}

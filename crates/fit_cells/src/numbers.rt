@@ -3,7 +3,7 @@ ghost use Rattle.std.specs.Prelude.{◌≡◌, ◌<◌, ◌≤◌, ◌++◌, ◌
 ghost use Rattle.fit_base.specs.BaseTypes.{base_type};
 ghost use Rattle.fit_profile.specs.Names.{meaning};
 ghost use Rattle.fit_profile.specs.Scaled.{decimals, IsScale};
-ghost use Rattle.fit_cells.specs.Cells.{barred, item_text, number_text, scaled};
+ghost use Rattle.fit_cells.specs.Cells.{barred, item_text, number_text, scaled_value};
 ghost use Rattle.fit_cells.specs.Steps.{bar};
 
 use crate::hexadecimal::put_digits;
@@ -16,7 +16,7 @@ fn scaled(raw: i128, info: Info) -> Fixed
     requires least { neg_ℤ (pos (2 ^ 63)) ≤ℤ raw }
     requires most { raw <ℤ pos (2 ^ 64) }
     requires scale { IsScale info.scale }
-    ensures value { result.value ≡ scaled raw info.scale info.offset }
+    ensures value { result.value ≡ scaled_value raw info.scale info.offset }
     ensures decimals { result.decimals ≡ decimals info.scale }
     ensures few { result.decimals ≤ 8 }
 {
@@ -28,7 +28,8 @@ fn put_text(text: &mut Vec<u8>, info: Option<Info>, raw: i128) -> Result<(), All
     requires least { neg_ℤ (pos (2 ^ 63)) ≤ℤ raw }
     requires most { raw <ℤ pos (2 ^ 64) }
     requires scale { IfSome info (λ i. IsScale i.scale) }
-    ensures { OnOk result (text.new.items ≡ text.old.items ++ number_text (option_map meaning info) raw) }
+    ensures { OnOk result (text.new.items ≡ text.old.items
+        ++ number_text (option_map meaning info) raw) }
 {
     match info {
         Some(info) => scaled(raw, info).put(text),
@@ -51,7 +52,9 @@ fn put_number(
     requires least { neg_ℤ (pos (2 ^ 63)) ≤ℤ raw }
     requires most { raw <ℤ pos (2 ^ 64) }
     requires scale { IfSome info (λ i. IsScale i.scale) }
-    ensures { OnOk result (text.new.items ≡ text.old.items ++ (if bits == (base_type code.0).invalid then [] else number_text (option_map meaning info) raw)) }
+    ensures { OnOk result (text.new.items ≡ text.old.items
+        ++ (if bits == (base_type code.0).invalid then []
+        else number_text (option_map meaning info) raw)) }
 {
     if bits == code.invalid() {
         return Ok(());
@@ -71,7 +74,8 @@ fn put_item(
     requires scale { IfSome info (λ i. IsScale i.scale) }
     requires width { (width ≡ 1) ⊎ (width ≡ 2) ⊎ (width ≡ 4) ⊎ (width ≡ 8) }
     requires bits { bits < 256 ^ width }
-    ensures { OnOk result (text.new.items ≡ text.old.items ++ item_text class code.0 (option_map meaning info) width bits) }
+    ensures { OnOk result (text.new.items ≡ text.old.items
+        ++ item_text class code.0 (option_map meaning info) width bits) }
 {
     match class {
         Class::Signed => put_number(text, code, info, bits, i128::from(signed(width, bits))),
@@ -105,7 +109,8 @@ pub(crate) fn put_items(
     requires scale { IfSome info (λ i. IsScale i.scale) }
     requires width { (width ≡ 1) ⊎ (width ≡ 2) ⊎ (width ≡ 4) ⊎ (width ≡ 8) }
     requires bits { All (λ n. n < 256 ^ width) bits.now }
-    ensures { OnOk result (text.new.items ≡ text.old.items ++ barred (map (item_text class code.0 (option_map meaning info) width) bits.now)) }
+    ensures { OnOk result (text.new.items ≡ text.old.items
+        ++ barred (map (item_text class code.0 (option_map meaning info) width) bits.now)) }
 {
     for (place, item) in bits.iter().enumerate() {
         put_bar(text, place)?;

@@ -58,7 +58,8 @@ pub fn row_reader(alloc: Global, text: &[u8]) -> Reader<&[u8]>
 
 /// Reads the next row, and says whether there is one.
 pub fn next_row(reader: &mut Reader<&[u8]>, row: &mut ByteRecord) -> Result<bool, AllocError>
-    ensures { IfOk result (λ found. (text : List ℕ) (rows : List Row) → HasRead text rows reader.old → Follows found (fields_of row.new) text rows reader.new) }
+    ensures { IfOk result (λ found. (text : List ℕ) (rows : List Row) → HasRead text rows reader.old
+        → Follows found (fields_of row.new) text rows reader.new) }
 {
     let Ok(found) = reader.read_byte_record(row) else {
         return Err(AllocError);

@@ -33,7 +33,9 @@ fn split_at_bar(text: &str) -> (&str, &str)
 fn read_item(class: Class, code: Code, info: Option<Info>, text: &str) -> u64
     requires { IfSome info (λ i. IsScale i.scale) }
     ensures below { result < 256 ^ (base_type code.0).width }
-    ensures every { (bits : ℕ) → bits < 256 ^ (base_type code.0).width → text.now ≡ item_text class code.0 (option_map meaning info) (base_type code.0).width bits → result ≡ bits }
+    ensures every { (bits : ℕ) → bits < 256 ^ (base_type code.0).width
+        → text.now ≡ item_text class code.0 (option_map meaning info) (base_type code.0).width bits
+        → result ≡ bits }
 {
     match class {
         Class::Signed => read_number(code, info, text),
@@ -54,7 +56,11 @@ fn read_several(
     requires { IfSome info (λ i. IsScale i.scale) }
     ensures count { IfOk result (λ bits. length bits ≡ count) }
     ensures below { IfOk result (λ bits. All (λ n. n < 256 ^ (base_type code.0).width) bits) }
-    ensures every { IfOk result (λ bits. (numbers : List ℕ) → length numbers ≡ count → All (λ n. n < 256 ^ (base_type code.0).width) numbers → text.now ≡ barred (map (item_text class code.0 (option_map meaning info) (base_type code.0).width) numbers) → bits ≡ numbers) }
+    ensures every { IfOk result (λ bits. (numbers : List ℕ) → length numbers ≡ count
+        → All (λ n. n < 256 ^ (base_type code.0).width) numbers
+        → text.now ≡ barred
+        (map (item_text class code.0 (option_map meaning info) (base_type code.0).width) numbers)
+        → bits ≡ numbers) }
 {
     let mut bits = Bits::with_capacity(alloc, count as usize)?;
     let mut rest = text;
@@ -77,7 +83,9 @@ fn read_lone(
     requires { IfSome info (λ i. IsScale i.scale) }
     ensures count { IfOk result (λ bits. length bits ≡ 1) }
     ensures below { IfOk result (λ bits. All (λ n. n < 256 ^ (base_type code.0).width) bits) }
-    ensures every { IfOk result (λ bits. (n : ℕ) → n < 256 ^ (base_type code.0).width → text.now ≡ item_text class code.0 (option_map meaning info) (base_type code.0).width n → bits ≡ n ∷ []) }
+    ensures every { IfOk result (λ bits. (n : ℕ) → n < 256 ^ (base_type code.0).width
+        → text.now ≡ item_text class code.0 (option_map meaning info) (base_type code.0).width n
+        → bits ≡ n ∷ []) }
 {
     let mut bits = Bits::new(alloc);
     bits.push(read_item(class, code, info, text))?;
@@ -96,7 +104,11 @@ fn read_items(
     requires { IfSome info (λ i. IsScale i.scale) }
     ensures count { IfOk result (λ bits. length bits ≡ count) }
     ensures below { IfOk result (λ bits. All (λ n. n < 256 ^ (base_type code.0).width) bits) }
-    ensures every { IfOk result (λ bits. (numbers : List ℕ) → length numbers ≡ count → All (λ n. n < 256 ^ (base_type code.0).width) numbers → text.now ≡ barred (map (item_text class code.0 (option_map meaning info) (base_type code.0).width) numbers) → bits ≡ numbers) }
+    ensures every { IfOk result (λ bits. (numbers : List ℕ) → length numbers ≡ count
+        → All (λ n. n < 256 ^ (base_type code.0).width) numbers
+        → text.now ≡ barred
+        (map (item_text class code.0 (option_map meaning info) (base_type code.0).width) numbers)
+        → bits ≡ numbers) }
 {
     if count == 1 {
         Ok(read_lone(alloc, class, code, info, text)?)
@@ -118,7 +130,11 @@ fn read_bits(
     requires width { (width ≡ (base_type code.0).width) ⊎ (width ≡ 1) }
     ensures count { IfOk result (λ bits. length bits ≡ count) }
     ensures below { IfOk result (λ bits. All (λ n. n < 256 ^ width) bits) }
-    ensures every { IfOk result (λ bits. (numbers : List ℕ) → length numbers ≡ count → All (λ n. n < 256 ^ width) numbers → text.now ≡ items_text (class_of code.0 width) code.0 (option_map meaning info) width numbers → bits ≡ numbers) }
+    ensures every { IfOk result (λ bits. (numbers : List ℕ) → length numbers ≡ count
+        → All (λ n. n < 256 ^ width) numbers
+        → text.now ≡ items_text (class_of code.0 width) code.0 (option_map meaning info) width
+        numbers
+        → bits ≡ numbers) }
 {
     match class_of(code, width) {
         Class::Text => read_string(alloc, count, text.as_bytes()),
@@ -138,8 +154,10 @@ pub fn cell_items_by(
     text: &str,
 ) -> Result<Option<Items>, AllocError>
     requires { IfSome info (λ i. IsScale i.scale) }
-    ensures some { IfOk result (λ found. IfSome found (λ items. HasShape code.0 size items × (cell code.0 (option_map meaning info) items ≡ text.now))) }
-    ensures every { IfOk result (λ found. (items : Items Global) → HasShape code.0 size items → cell code.0 (option_map meaning info) items ≡ text.now → found ≡ Some items) }
+    ensures some { IfOk result (λ found. IfSome found (λ items.
+        HasShape code.0 size items × (cell code.0 (option_map meaning info) items ≡ text.now))) }
+    ensures every { IfOk result (λ found. (items : Items Global) → HasShape code.0 size items
+        → cell code.0 (option_map meaning info) items ≡ text.now → found ≡ Some items) }
 {
     let width = width_of(code, size);
     let bits = read_bits(alloc, code, width, size / width, info, text)?;
@@ -162,8 +180,10 @@ pub fn cell_items(
     text: &str,
 ) -> Result<Option<Items>, AllocError>
     requires { IfSome info (λ i. IsScale i.scale) }
-    ensures some { IfOk result (λ found. IfSome found (λ items. HasShape code.0 size items × (cell code.0 (option_map meaning info) items ≡ text.now))) }
-    ensures every { IfOk result (λ found. (items : Items Global) → HasShape code.0 size items → cell code.0 (option_map meaning info) items ≡ text.now → found ≡ Some items) }
+    ensures some { IfOk result (λ found. IfSome found (λ items.
+        HasShape code.0 size items × (cell code.0 (option_map meaning info) items ≡ text.now))) }
+    ensures every { IfOk result (λ found. (items : Items Global) → HasShape code.0 size items
+        → cell code.0 (option_map meaning info) items ≡ text.now → found ≡ Some items) }
 {
     let mut written = Vec::new(alloc);
     cell_items_by(alloc, &mut written, code, size, info, text)

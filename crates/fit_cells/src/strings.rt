@@ -66,7 +66,8 @@ pub(crate) fn put_string(text: &mut Vec<u8>, bytes: &[u64]) -> Result<(), AllocE
 pub(crate) fn read_string(alloc: Global, count: u8, text: &[u8]) -> Result<Bits, AllocError>
     ensures count { IfOk result (λ bits. length bits ≡ count) }
     ensures below { IfOk result (λ bits. All (λ b. b < 256) bits) }
-    ensures every { IfOk result (λ bits. (bytes : List ℕ) → length bytes ≡ count → All (λ b. b < 256) bytes → text.now ≡ string_text bytes → bits ≡ bytes) }
+    ensures every { IfOk result (λ bits. (bytes : List ℕ) → length bytes ≡ count
+        → All (λ b. b < 256) bytes → text.now ≡ string_text bytes → bits ≡ bytes) }
 {
     if begins_as_bytes(text) {
         read_bytes(alloc, count, text)
@@ -78,7 +79,8 @@ pub(crate) fn read_string(alloc: Global, count: u8, text: &[u8]) -> Result<Bits,
 /// The bytes of a text, and zeros behind them.
 fn read_text(alloc: Global, count: u8, text: &[u8]) -> Result<Bits, AllocError>
     ensures count { IfOk result (λ bits. length bits ≡ count) }
-    ensures value { IfOk result (λ bits. (k : ℕ) → k < count → slice_index bits k ≡ slice_index text.now k) }
+    ensures value { IfOk result (λ bits. (k : ℕ) → k < count
+        → slice_index bits k ≡ slice_index text.now k) }
     ensures below { IfOk result (λ bits. All (λ b. b < 256) bits) }
 {
     let mut bits = Bits::with_capacity(alloc, count as usize)?;

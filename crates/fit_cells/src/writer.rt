@@ -1,5 +1,5 @@
 //! Rows put behind texts, through the crate `csv`.
-ghost use Rattle.std.specs.Prelude.{◌≡◌, ◌≤◌, ◌++◌, ◌∷◌, [], IfOk, OnOk, drop, false, length, map};
+ghost use Rattle.std.specs.Prelude.{◌≡◌, ◌≤◌, ◌⊎◌, ◌++◌, ◌∷◌, [], IfOk, OnOk, drop, false, length, map};
 ghost use Rattle.fit_cells.specs.Rows.{HasRows, IsBetweenRows, written};
 
 use crate::rows::{put_row, row_writer};
@@ -32,7 +32,9 @@ fn copy_behind(
     requires between { IsBetweenRows writer.old }
     requires start { start ≤ length (written writer.old) }
     ensures between { OnOk result (IsBetweenRows writer.new) }
-    ensures text { OnOk result (text.new.items ≡ text.old.items ++ drop start (written writer.old)) }
+    ensures same { OnOk result (written writer.new ≡ written writer.old) }
+    ensures text { OnOk result (text.new.items
+        ≡ text.old.items ++ drop start (written writer.old)) }
 {
     if writer.flush().is_err() {
         return Err(AllocError);
@@ -45,7 +47,8 @@ fn copy_behind(
 /// buffer of 8 KiB several times; it is made anew where it failed, and where its text has become long.
 fn renew(alloc: Global, writer: &mut Writer<Vec<u8>>, failed: bool)
     requires { (failed ≡ false) → IsBetweenRows writer.old }
-    ensures { IsBetweenRows writer.new }
+    ensures between { IsBetweenRows writer.new }
+    ensures left { (writer.new ≡ writer.old) ⊎ (written writer.new ≡ []) }
 {
     if failed || writer.get_ref().len() > LONG {
         *writer = row_writer(Vec::new(alloc));

@@ -1,5 +1,6 @@
 -- What an encoder keeps from call to call.
-use Rattle.std.proofs.Common.{◌≡◌, ℕ, ◌+◌, ◌<◌, ◌≤◌, ◌^◌, Bool, true, false, List, [], ◌∷◌, ◌++◌, length, take, Some, None, refl, sym, ap, ◌∙◌, subst, append_assoc, append-nil, length-append, arith}
+use Rattle.std.proofs.Common.{◌≡◌, ℕ, ◌+◌, ◌<◌, ◌≤◌, ◌^◌, Bool, true, false, List, [], ◌∷◌, ◌++◌, length, take, Some, None, refl, sym, ap, ◌∙◌, subst}
+use Rattle.std.proofs.Common.{append_assoc, append-nil, length-append, arith}
 use Rattle.std.specs.Prelude.{Option, Result, Ok, Err, OnErr, is_err, unwrap_or, option_map}
 use Rattle.std.specs.Io.KnownBytes.{Appends}
 use lib.Seq.{take-append_seam}
@@ -10,7 +11,8 @@ use Rattle.fit_frame.specs.Header.{HeaderFits, header_bytes}
 use Rattle.fit_record.specs.declared.environment.Defined.{Defined}
 use Rattle.fit_record.specs.declared.definition.MessageDef.{MessageDef}
 use Rattle.fit_record.specs.declared.fits.ShapeFault.{ShapeFault}
-use Rattle.fit_record.specs.declared.fits.ShapeFault.TheVariants.{BadLocal as NoLocal, BadOffset as NoOffset, UndefinedLocal as NotDefined, WrongShape as WrongField}
+use Rattle.fit_record.specs.declared.fits.ShapeFault.TheVariants.{BadLocal as NoLocal, BadOffset as NoOffset, UndefinedLocal as NotDefined}
+use Rattle.fit_record.specs.declared.fits.ShapeFault.TheVariants.{WrongShape as WrongField}
 use Rattle.fit_record.specs.declared.message.Record.{Record}
 use Rattle.fit_record.specs.declared.message.Values.{Values}
 use Rattle.fit_record.specs.declared.message.Record.TheVariants.{Define, Values as Data}
@@ -18,13 +20,14 @@ use Rattle.fit_record.specs.Environment.{Environment, empty_environment, learn, 
 use Rattle.fit_record.specs.Records.{Fits, AllFit, record_bytes, records_bytes, data_header, data_bytes}
 use Rattle.fit_record.specs.Faults.{first_fault}
 use Rattle.fit_encode.specs.declared.fault.EncodeFault.{EncodeFault}
-use Rattle.fit_encode.specs.declared.fault.EncodeFault.TheVariants.{BadHeader, ZeroIsSum, BadLocal, BadOffset, UndefinedLocal, WrongShape, TooLong, DeclaredLength, ChainLength, NoMemory, Write}
+use Rattle.fit_encode.specs.declared.fault.EncodeFault.TheVariants.{BadHeader, ZeroIsSum, BadLocal, BadOffset, UndefinedLocal, WrongShape, TooLong}
+use Rattle.fit_encode.specs.declared.fault.EncodeFault.TheVariants.{DeclaredLength, ChainLength, NoMemory, Write}
 use Rattle.fit_encode.specs.Encoding.{Encoding, data_so_far, BreaksOff, HasPlace, IsWhole, IsPlaceFault, fault_when}
 use Rattle.fit_encode.specs.Faults.{shape_fault, StopsAt, IfWrite}
-use Rattle.fit_encode.specs.Open.{IsOpen}
+use Rattle.fit_encode.specs.inner.Open.{IsOpenFile}
 use Rattle.fit_encode.specs.Sinks.{Written}
-use Rattle.fit_encode.specs.Spelling.{bytes_in_order}
-use Rattle.fit_encode.specs.Sending.{Sending, Breaks, IsCounted, fresh}
+use Rattle.fit_encode.specs.inner.Spelling.{bytes_in_order}
+use Rattle.fit_encode.specs.inner.Sending.{Sending, Breaks, IsCounted, fresh}
 use Rattle.fit_encode.proofs.Sendings.{Breaks-from}
 use Rattle.fit_encode.proofs.RecordSteps.{learn_all-last, AllFit-last, records_bytes-last}
 
@@ -89,16 +92,19 @@ broke {a} {b} {s} {p} {w} held fits broken stopped =
     )
 
 -- what holds of the code's own values holds of the records put so far
-pub in_terms : {A : Type 0} (P : Environment A → ℕ → ℕ → Type 0) {env : Environment A} {out : Sending} {declared size count : ℕ} {head : List ℕ} {records : List (Record A)}
-    → IsOpen env out declared size count head records → P env count size
+pub in_terms : {A : Type 0} (P : Environment A → ℕ → ℕ → Type 0) {env : Environment A} {out : Sending} {declared size count : ℕ} {head : List ℕ}
+    {records : List (Record A)}
+    → IsOpenFile env out declared size count head records → P env count size
     → P (learn_all empty_environment records) (length records) (length (records_bytes empty_environment records))
 in_terms {A} P {env} {out} {declared} {size} {count} {head} {records} h here =
     subst (P (learn_all empty_environment records) (length records)) h.data_size
     (subst (λ (n : ℕ). P (learn_all empty_environment records) n size) h.place (subst (λ (e : Environment A). P e count size) h.known here))
 
 -- the sink failed in the middle of some bytes that are still small
-pub breaks_off : {A : Type 0} {a b : Written} {env : Environment A} {out : Sending} {declared size count w : ℕ} {head bytes : List ℕ} {records : List (Record A)}
-    (failed : Option ℕ) (finished : Bool) → IsOpen env out declared size count head records → length bytes < 2 ^ 33 → Breaks a b out bytes w → b.failed ≡ true
+pub breaks_off : {A : Type 0} {a b : Written} {env : Environment A} {out : Sending} {declared size count w : ℕ} {head bytes : List ℕ}
+    {records : List (Record A)}
+    (failed : Option ℕ) (finished : Bool) → IsOpenFile env out declared size count head records → length bytes < 2 ^ 33 → Breaks a b out bytes w
+    → b.failed ≡ true
     → BreaksOff a.held b.held b.failed (record { head = head; declared = declared; records = records; failed = failed; finished = finished })
     (record { head = head; declared = declared; records = records; failed = Some w; finished = finished }) bytes w
 breaks_off {A} {a} {b} {env} {out} {declared} {size} {count} {w} {head} {bytes} {records} failed finished h less broken stopped =
@@ -112,12 +118,14 @@ breaks_off {A} {a} {b} {env} {out} {declared} {size} {count} {w} {head} {bytes} 
     record { sent = there.0; stops = there.1; total = there.2 ∙ ap (λ (n : ℕ). n + there.0) total; latched = refl }
 
 -- a record that can be put is small
-pub small_record : {A : Type 0} {env : Environment A} {out : Sending} {declared size count : ℕ} {head : List ℕ} {records : List (Record A)} {e : Environment A} {n : ℕ} {r : Record A}
-    → IsOpen env out declared size count head records → HasPlace e declared n r → length (record_bytes e r) < 2 ^ 33
+pub small_record : {A : Type 0} {env : Environment A} {out : Sending} {declared size count : ℕ} {head : List ℕ} {records : List (Record A)} {e : Environment A}
+    {n : ℕ} {r : Record A}
+    → IsOpenFile env out declared size count head records → HasPlace e declared n r → length (record_bytes e r) < 2 ^ 33
 small_record h place = omega (arith, h.small, place.within)
 
 -- the sink failed in the middle of the first bytes
-pub first_broke : {a b : Written} {s : Sending} {bytes head : List ℕ} {w : ℕ} → s ≡ fresh 0 → bytes ≡ head → length bytes < 2 ^ 64 → Breaks a b s bytes w → b.failed ≡ true
+pub first_broke : {a b : Written} {s : Sending} {bytes head : List ℕ} {w : ℕ} → s ≡ fresh 0 → bytes ≡ head → length bytes < 2 ^ 64 → Breaks a b s bytes w
+    → b.failed ≡ true
     → StopsAt a.held b.held b.failed head w
 first_broke {a} {b} {s} {bytes} {head} {w} new same short broken stopped =
     let there = broke refl (omega arith) (Breaks-from new broken) stopped in
@@ -127,7 +135,7 @@ first_broke {a} {b} {s} {bytes} {head} {w} new same short broken stopped =
 
 -- nothing is held back, and all bytes so far went out
 pub sent_so_far : {A : Type 0} {env : Environment A} {out : Sending} {declared size count : ℕ} {head : List ℕ} {records : List (Record A)}
-    → IsOpen env out declared size count head records → out.sent ++ out.held ≡ head ++ records_bytes empty_environment records
+    → IsOpenFile env out declared size count head records → out.sent ++ out.held ≡ head ++ records_bytes empty_environment records
 sent_so_far {A} {env} {out} {declared} {size} {count} {head} {records} h =
     ap (λ (x : List ℕ). out.sent ++ x) h.held ∙ append-nil out.sent ∙ h.sent
 
@@ -136,10 +144,11 @@ some_byte e (Define d) = omega arith
 some_byte e (Data v) = omega arith
 
 -- with one record more
-pub next_open : {A : Type 0} {env : Environment A} {out : Sending} {declared size count : ℕ} {head : List ℕ} {records : List (Record A)} (after : Environment A) (sent : Sending) (n : ℕ) (r : Record A)
-    → IsOpen env out declared size count head records → Fits env r → n ≡ length (record_bytes env r) → size + n ≤ declared → after ≡ learn env r
+pub next_open : {A : Type 0} {env : Environment A} {out : Sending} {declared size count : ℕ} {head : List ℕ} {records : List (Record A)} (after : Environment A)
+    (sent : Sending) (n : ℕ) (r : Record A)
+    → IsOpenFile env out declared size count head records → Fits env r → n ≡ length (record_bytes env r) → size + n ≤ declared → after ≡ learn env r
     → sent.sent ≡ out.sent ++ record_bytes env r → sent.held ≡ [] → IsCounted out.count (length (record_bytes env r)) sent.count
-    → IsOpen after sent declared (size + n) (count + 1) head (records ++ r ∷ [])
+    → IsOpenFile after sent declared (size + n) (count + 1) head (records ++ r ∷ [])
 next_open {A} {env} {out} {declared} {size} {count} {head} {records} after sent n r h fits length_is within learned bytes none counted =
     let before = records_bytes {A = A} empty_environment records in
     let here : record_bytes env r ≡ record_bytes (learn_all empty_environment records) r = ap (λ (e : Environment A). record_bytes e r) h.known in
@@ -160,7 +169,8 @@ next_open {A} {env} {out} {declared} {size} {count} {head} {records} after sent 
     record {
       known = learned ∙ ap (λ (e : Environment A). learn e r) h.known ∙ sym (learn_all-last empty_environment records r);
       fit = AllFit-last empty_environment records r h.fit (subst (λ (e : Environment A). Fits e r) h.known fits);
-      sent = bytes ∙ ap (λ (x : List ℕ). x ++ record_bytes env r) h.sent ∙ append_assoc head before (record_bytes env r) ∙ ap (λ (x : List ℕ). head ++ x) (sym grown);
+      sent = bytes ∙ ap (λ (x : List ℕ). x ++ record_bytes env r) h.sent ∙ append_assoc head before (record_bytes env r)
+          ∙ ap (λ (x : List ℕ). head ++ x) (sym grown);
       held = none;
       total = omega arith;
       data_size = omega arith;
@@ -172,8 +182,9 @@ next_open {A} {env} {out} {declared} {size} {count} {head} {records} after sent 
     }
 
 -- behind the header
-pub open_begun : {A : Type 0} (out : Sending) (declared : ℕ) (head : List ℕ) → out.sent ≡ [] ++ head → out.held ≡ [] → IsCounted 0 (length head) out.count → declared < 2 ^ 32
-    → length head < 256 → IsOpen {A = A} empty_environment out declared 0 0 head []
+pub open_begun : {A : Type 0} (out : Sending) (declared : ℕ) (head : List ℕ) → out.sent ≡ [] ++ head → out.held ≡ [] → IsCounted 0 (length head) out.count
+    → declared < 2 ^ 32
+    → length head < 256 → IsOpenFile {A = A} empty_environment out declared 0 0 head []
 open_begun out declared head sent none counted small short =
     let counts : out.count ≡ 0 + length head = counted (omega arith) in
     record {

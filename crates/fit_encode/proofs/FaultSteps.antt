@@ -1,19 +1,22 @@
 -- From the fault of a record to that of its file, and from there to that of the chain.
-use Rattle.std.proofs.Common.{◌≡◌, ℕ, ◌+◌, ◌<◌, ◌^◌, List, [], ◌∷◌, ◌++◌, ◌⊎◌, inl, inr, length, take, drop, get_or, Some, Result, Ok, Err, true, false, refl, sym, ap, ◌∙◌, subst, length-take, arith}
+use Rattle.std.proofs.Common.{◌≡◌, ℕ, ◌+◌, ◌<◌, ◌^◌, List, [], ◌∷◌, ◌++◌, ◌⊎◌, inl, inr, length, take, drop, get_or, Some, Result, Ok, Err, true, false, refl}
+use Rattle.std.proofs.Common.{sym, ap, ◌∙◌, subst, length-take, arith}
 use Rattle.std.specs.Prelude.{OnOk, IfErr, is_err}
 use Rattle.std.specs.List.{AllByRecursion}
 use Rattle.std.proofs.lemmas.List.{take_more, drop_more, take-append-drop}
 use Rattle.fit_record.specs.declared.file.FitFile.{FitFile}
 use Rattle.fit_record.specs.declared.message.Record.{Record}
 use Rattle.fit_record.specs.declared.fits.ShapeFault.{ShapeFault}
-use Rattle.fit_record.specs.declared.fits.ShapeFault.TheVariants.{BadLocal as NoLocal, BadOffset as NoOffset, UndefinedLocal as NotDefined, WrongShape as WrongField}
+use Rattle.fit_record.specs.declared.fits.ShapeFault.TheVariants.{BadLocal as NoLocal, BadOffset as NoOffset, UndefinedLocal as NotDefined}
+use Rattle.fit_record.specs.declared.fits.ShapeFault.TheVariants.{WrongShape as WrongField}
 use Rattle.fit_record.specs.Faults.{first_fault}
 use Rattle.fit_record.specs.Files.{IsWellFormed, body}
 use Rattle.fit_record.specs.Environment.{empty_environment}
 use Rattle.fit_record.specs.Records.{AllFit, records_bytes}
 use Rattle.fit_frame.specs.Header.{FormFits, HeaderFits, ZeroIsSum as SumIsZero}
 use Rattle.fit_encode.specs.declared.fault.EncodeFault.{EncodeFault}
-use Rattle.fit_encode.specs.declared.fault.EncodeFault.TheVariants.{BadHeader, ZeroIsSum, BadLocal, BadOffset, UndefinedLocal, WrongShape, TooLong, DeclaredLength, ChainLength, NoMemory, Write}
+use Rattle.fit_encode.specs.declared.fault.EncodeFault.TheVariants.{BadHeader, ZeroIsSum, BadLocal, BadOffset, UndefinedLocal, WrongShape, TooLong}
+use Rattle.fit_encode.specs.declared.fault.EncodeFault.TheVariants.{DeclaredLength, ChainLength, NoMemory, Write}
 use Rattle.fit_encode.specs.Faults.{shape_fault, AtRecord, IsRecordFault, IsFileFault, IsChainLength, AtFile, IsFirstFault, IfWrite, UnlessWrite, IfRefused}
 
 pub of_shape : {A : Type 0} (number index : ℕ) (records : List (Record A)) (s : ShapeFault) → AtRecord records index (λ e n r. first_fault e r ≡ Some s)
@@ -23,7 +26,8 @@ of_shape number index records NoOffset h = (refl, h)
 of_shape number index records NotDefined h = (refl, h)
 of_shape number index records (WrongField field) h = (refl, h)
 
-pub of_record : {A : Type 0} (number : ℕ) (f : FitFile A) (fault : EncodeFault) → FormFits f.header → IsRecordFault number f.records fault → IsFileFault number f fault
+pub of_record : {A : Type 0} (number : ℕ) (f : FitFile A) (fault : EncodeFault) → FormFits f.header → IsRecordFault number f.records fault
+    → IsFileFault number f fault
 of_record number f (BadHeader file) form h = absurd h
 of_record number f (ZeroIsSum file) form h = absurd h
 of_record number f (BadLocal file index) form h = (form, h)
@@ -36,7 +40,8 @@ of_record number f ChainLength form h = absurd h
 of_record number f NoMemory form h = absurd h
 of_record number f (Write written) form h = absurd h
 
-pub of_file : {A : Type 0} (fs : List (FitFile A)) (fault : EncodeFault) → IsChainLength (length fs) → AtFile fs (λ number f. IsFileFault number f fault) → IsFirstFault fs fault
+pub of_file : {A : Type 0} (fs : List (FitFile A)) (fault : EncodeFault) → IsChainLength (length fs) → AtFile fs (λ number f. IsFileFault number f fault)
+    → IsFirstFault fs fault
 of_file fs (BadHeader file) allowed h = (allowed, h)
 of_file fs (ZeroIsSum file) allowed h = (allowed, h)
 of_file fs (BadLocal file index) allowed h = (allowed, h)
@@ -89,14 +94,16 @@ if_lone f (Err fault) h = lone_or f fault h
 
 -- ---- files that can be written
 
-pub good_file : {A : Type 0} (f : FitFile A) (rs : List (Record A)) (n : ℕ) → rs ≡ f.records → AllFit empty_environment rs → n ≡ length (records_bytes empty_environment rs)
+pub good_file : {A : Type 0} (f : FitFile A) (rs : List (Record A)) (n : ℕ) → rs ≡ f.records → AllFit empty_environment rs
+    → n ≡ length (records_bytes empty_environment rs)
     → HeaderFits f.header n → IsWellFormed f
 good_file f rs n same all size fits = record {
   header = subst (HeaderFits f.header) (size ∙ ap (λ x. length (records_bytes empty_environment x)) same) fits;
   records = subst (AllFit empty_environment) same all;
 }
 
-pub zero_fault : {A : Type 0} (f : FitFile A) (rs : List (Record A)) (n : ℕ) → rs ≡ f.records → AllFit empty_environment rs → n ≡ length (records_bytes empty_environment rs)
+pub zero_fault : {A : Type 0} (f : FitFile A) (rs : List (Record A)) (n : ℕ) → rs ≡ f.records → AllFit empty_environment rs
+    → n ≡ length (records_bytes empty_environment rs)
     → n < 2 ^ 32 → FormFits f.header × SumIsZero f.header n
     → FormFits f.header × AllFit empty_environment f.records × (length (body f) < 2 ^ 32) × SumIsZero f.header (length (body f))
 zero_fault f rs n same all size small zero =
@@ -107,14 +114,16 @@ last_good : {A : Type 0} (fs : List (FitFile A)) (f : FitFile A) → AllByRecurs
 last_good [] f all one = (one, tt)
 last_good (x ∷ fs) f all one = (all.0, last_good fs f all.1 one)
 
-pub next_good : {A : Type 0} (fs : List (FitFile A)) (i : ℕ) (f : FitFile A) → i < length fs → f ≡ get_or fs i f → AllByRecursion IsWellFormed (take i fs) → IsWellFormed f
+pub next_good : {A : Type 0} (fs : List (FitFile A)) (i : ℕ) (f : FitFile A) → i < length fs → f ≡ get_or fs i f → AllByRecursion IsWellFormed (take i fs)
+    → IsWellFormed f
     → AllByRecursion IsWellFormed (take (i + 1) fs)
 next_good fs i f less is all one =
     subst (AllByRecursion IsWellFormed) (sym (take_more fs i f less ∙ ap (λ x. take i fs ++ x ∷ []) (sym is))) (last_good (take i fs) f all one)
 
 -- ---- a chain of which no byte went out
 
-pub refused_for : {A : Type 0} (fs : List (FitFile A)) (fault : EncodeFault) → (fault ≡ NoMemory) ⊎ IsFirstFault fs fault → IfRefused fault (IsFirstFault fs fault)
+pub refused_for : {A : Type 0} (fs : List (FitFile A)) (fault : EncodeFault) → (fault ≡ NoMemory) ⊎ IsFirstFault fs fault
+    → IfRefused fault (IsFirstFault fs fault)
 refused_for fs (BadHeader file) (inl none) = absurd (cc)
 refused_for fs (BadHeader file) (inr h) = h
 refused_for fs (ZeroIsSum file) (inl none) = absurd (cc)

@@ -1,5 +1,6 @@
 -- How many bytes records, files and chains have.
-use Rattle.std.proofs.Common.{◌≡◌, ℕ, zero, suc, ◌+◌, ◌*◌, ◌/◌, ◌^◌, ◌<◌, ◌≤◌, List, [], ◌∷◌, ◌++◌, length, Some, None, refl, sym, ap, ◌∙◌, length-append, arith}
+use Rattle.std.proofs.Common.{◌≡◌, ℕ, zero, suc, ◌+◌, ◌*◌, ◌/◌, ◌^◌, ◌<◌, ◌≤◌, List, [], ◌∷◌, ◌++◌, length, Some, None, refl, sym, ap, ◌∙◌, length-append}
+use Rattle.std.proofs.Common.{arith}
 use Rattle.std.specs.Prelude.{Option, flat_map, sum_by}
 use Rattle.std.specs.List.{AllByRecursion}
 use Rattle.std.proofs.lemmas.List.{length-reverse}
@@ -22,8 +23,8 @@ use Rattle.fit_record.specs.declared.message.Record.TheVariants.{Define, Values 
 use Rattle.fit_record.specs.Environment.{Environment}
 use Rattle.fit_record.specs.Records.{architecture, field_bytes, dev_field_bytes, dev_part, record_bytes, order_at}
 use Rattle.fit_record.specs.Files.{IsWellFormed, body, summed, file_bytes, chain_bytes, chain_limit}
-use Rattle.fit_record.specs.Faults.{dev_length}
-use Rattle.fit_encode.specs.Spelling.{items_size, record_size}
+use Rattle.fit_record.specs.inner.DefinitionLengths.{dev_length}
+use Rattle.fit_encode.specs.inner.Spelling.{items_size, record_size}
 
 length-little_bytes : (w n : ℕ) → length (little_bytes w n) ≡ w
 length-little_bytes zero n = refl
@@ -68,7 +69,8 @@ length-record_bytes e (Define d) =
     let fields = length-fields d.fields in
     let dev = length-dev_part d.dev in
     let front = length-append (d.reserved ∷ architecture d.order ∷ number_bytes d.order 2 d.global) (length d.fields ∷ flat_map field_bytes d.fields) in
-    let whole = length-append ((d.reserved ∷ architecture d.order ∷ number_bytes d.order 2 d.global) ++ length d.fields ∷ flat_map field_bytes d.fields) (dev_part d.dev) in
+    let whole = length-append ((d.reserved ∷ architecture d.order ∷ number_bytes d.order 2 d.global) ++ length d.fields ∷ flat_map field_bytes d.fields)
+    (dev_part d.dev) in
     omega arith
 length-record_bytes e (Data v) =
     let o = order_at e v.local in
@@ -86,7 +88,12 @@ word_short Absent fixed rest size twelve fits small =
     omega (arith, length-append (fixed ++ []) rest, length-append fixed [])
 word_short Zero fixed rest size twelve fits small = omega (arith, length-append (fixed ++ 0 ∷ 0 ∷ []) rest, length-append fixed (0 ∷ 0 ∷ []))
 word_short True fixed rest size twelve fits small =
-    omega (arith, length-append (fixed ++ little_bytes 2 (checksum fixed)) rest, length-append fixed (little_bytes 2 (checksum fixed)), length-little_bytes 2 (checksum fixed))
+    omega (
+      arith,
+      length-append (fixed ++ little_bytes 2 (checksum fixed)) rest,
+      length-append fixed (little_bytes 2 (checksum fixed)),
+      length-little_bytes 2 (checksum fixed),
+    )
 
 pub header_short : (h : Header) (n : ℕ) → HeaderFits h n → length (header_bytes h n) < 256
 header_short h n fits = word_short h.sum (fixed_part h n) h.rest.items h.size refl fits.form.size fits.size_fits

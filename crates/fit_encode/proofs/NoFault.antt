@@ -10,20 +10,24 @@ use Rattle.fit_record.specs.Faults.{first_fault}
 use Rattle.fit_record.specs.Files.{IsWellFormed, IsWellFormedChain, chain_limit}
 use Rattle.fit_record.specs.Laws.{FaultsAreExact}
 use Rattle.fit_encode.specs.declared.fault.EncodeFault.{EncodeFault}
-use Rattle.fit_encode.specs.declared.fault.EncodeFault.TheVariants.{BadHeader, ZeroIsSum, BadLocal, BadOffset, UndefinedLocal, WrongShape, TooLong, DeclaredLength, ChainLength, NoMemory, Write}
+use Rattle.fit_encode.specs.declared.fault.EncodeFault.TheVariants.{BadHeader, ZeroIsSum, BadLocal, BadOffset, UndefinedLocal, WrongShape, TooLong}
+use Rattle.fit_encode.specs.declared.fault.EncodeFault.TheVariants.{DeclaredLength, ChainLength, NoMemory, Write}
 use Rattle.fit_encode.specs.Faults.{AtRecord, IsRecordFault, IsFileFault, AtFile}
 use Rattle.fit_encode.specs.Laws.{GoodChainsHaveNoFault}
 use Rattle.fit_encode.proofs.Spellable.{records_joined}
 
-pub fits_between : {A : Type 0} (e : Environment A) (front : List (Record A)) (r : Record A) (back : List (Record A)) → AllFit e (front ++ r ∷ back) → Fits (learn_all e front) r
+pub fits_between : {A : Type 0} (e : Environment A) (front : List (Record A)) (r : Record A) (back : List (Record A)) → AllFit e (front ++ r ∷ back)
+    → Fits (learn_all e front) r
 fits_between e [] r back h = h.0
 fits_between e (x ∷ front) r back h = fits_between (learn e x) front r back h.1
 
-pub good_between : {A : Type 0} (front : List (FitFile A)) (f : FitFile A) (back : List (FitFile A)) → AllByRecursion IsWellFormed (front ++ f ∷ back) → IsWellFormed f
+pub good_between : {A : Type 0} (front : List (FitFile A)) (f : FitFile A) (back : List (FitFile A)) → AllByRecursion IsWellFormed (front ++ f ∷ back)
+    → IsWellFormed f
 good_between [] f back h = h.0
 good_between (x ∷ front) f back h = good_between front f back h.1
 
-no_shape : {A : Type 0} → FaultsAreExact A → (f : FitFile A) (index : ℕ) (s : ShapeFault) → IsWellFormed f → AtRecord f.records index (λ e n r. first_fault e r ≡ Some s) → ⊥
+no_shape : {A : Type 0} → FaultsAreExact A → (f : FitFile A) (index : ℕ) (s : ShapeFault) → IsWellFormed f
+    → AtRecord f.records index (λ e n r. first_fault e r ≡ Some s) → ⊥
 no_shape exact f index s good h =
     let fits = fits_between empty_environment h.front h.this h.back (subst (AllFit empty_environment) h.joined good.records) in
     let none = ((exact (learn_all empty_environment h.front) h.this).0 fits).0 in
@@ -44,7 +48,8 @@ no_excess f index good h =
     let small = good.header.data_fits in
     absurd (omega arith)
 
-no_record_fault : {A : Type 0} → FaultsAreExact A → (number : ℕ) (f : FitFile A) (fault : EncodeFault) → IsWellFormed f → IsRecordFault number f.records fault → ⊥
+no_record_fault : {A : Type 0} → FaultsAreExact A → (number : ℕ) (f : FitFile A) (fault : EncodeFault) → IsWellFormed f → IsRecordFault number f.records fault
+    → ⊥
 no_record_fault exact number f (BadLocal file index) good h = no_shape exact f index _ good h.1
 no_record_fault exact number f (BadOffset file index) good h = no_shape exact f index _ good h.1
 no_record_fault exact number f (UndefinedLocal file index) good h = no_shape exact f index _ good h.1

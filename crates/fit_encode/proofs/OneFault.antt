@@ -6,14 +6,16 @@ use Rattle.fit_frame.specs.Header.{FormFits}
 use Rattle.fit_record.specs.declared.file.FitFile.{FitFile}
 use Rattle.fit_record.specs.declared.message.Record.{Record}
 use Rattle.fit_record.specs.declared.fits.ShapeFault.{ShapeFault}
-use Rattle.fit_record.specs.declared.fits.ShapeFault.TheVariants.{BadLocal as NoLocal, BadOffset as NoOffset, UndefinedLocal as NotDefined, WrongShape as WrongField}
+use Rattle.fit_record.specs.declared.fits.ShapeFault.TheVariants.{BadLocal as NoLocal, BadOffset as NoOffset, UndefinedLocal as NotDefined}
+use Rattle.fit_record.specs.declared.fits.ShapeFault.TheVariants.{WrongShape as WrongField}
 use Rattle.fit_record.specs.Environment.{Environment, empty_environment, learn, learn_all}
 use Rattle.fit_record.specs.Records.{Fits, AllFit, record_bytes, records_bytes}
 use Rattle.fit_record.specs.Faults.{first_fault}
 use Rattle.fit_record.specs.Files.{IsWellFormed, body}
 use Rattle.fit_record.specs.Laws.{FaultsAreExact}
 use Rattle.fit_encode.specs.declared.fault.EncodeFault.{EncodeFault}
-use Rattle.fit_encode.specs.declared.fault.EncodeFault.TheVariants.{BadHeader, ZeroIsSum, BadLocal, BadOffset, UndefinedLocal, WrongShape, TooLong, DeclaredLength, ChainLength, NoMemory, Write}
+use Rattle.fit_encode.specs.declared.fault.EncodeFault.TheVariants.{BadHeader, ZeroIsSum, BadLocal, BadOffset, UndefinedLocal, WrongShape, TooLong}
+use Rattle.fit_encode.specs.declared.fault.EncodeFault.TheVariants.{DeclaredLength, ChainLength, NoMemory, Write}
 use Rattle.fit_encode.specs.Faults.{shape_fault, AtRecord, IsRecordFault, IsFileFault, IsChainLength, AtFile, IsFirstFault}
 use Rattle.fit_encode.specs.Laws.{FaultsAreOne}
 use Rattle.fit_encode.proofs.NoFault.{fits_between, good_between, no_file_fault}
@@ -29,7 +31,8 @@ rest_same : {X : Type 0} {x y : X} {us vs : List X} → x ∷ us ≡ y ∷ vs �
 rest_same e = cc
 
 -- an earlier place stands in what comes before a later one
-before_later : {X : Type 0} (xs ys : List X) (x y : X) (us vs : List X) → xs ++ x ∷ us ≡ ys ++ y ∷ vs → length xs < length ys → (mid : List X) × (ys ≡ xs ++ x ∷ mid)
+before_later : {X : Type 0} (xs ys : List X) (x y : X) (us vs : List X) → xs ++ x ∷ us ≡ ys ++ y ∷ vs → length xs < length ys
+    → (mid : List X) × (ys ≡ xs ++ x ∷ mid)
 before_later [] [] x y us vs e less = absurd (omega arith)
 before_later [] (b ∷ ys) x y us vs e less = (ys, ap (λ z. z ∷ ys) (sym (first_same e)))
 before_later (a ∷ xs) [] x y us vs e less = absurd (omega arith)
@@ -55,7 +58,8 @@ Spoils number index fault e n r = ((s : ShapeFault) × (first_fault e r ≡ Some
 abbrev SpoilsAt : {A : Type 0} → ℕ → List (Record A) → EncodeFault → Type 0
 SpoilsAt number records fault = (index : ℕ) × AtRecord records index (Spoils number index fault)
 
-of_reason : {A : Type 0} (number file index : ℕ) (records : List (Record A)) (s : ShapeFault) → file ≡ number → AtRecord records index (λ e n r. first_fault e r ≡ Some s)
+of_reason : {A : Type 0} (number file index : ℕ) (records : List (Record A)) (s : ShapeFault) → file ≡ number
+    → AtRecord records index (λ e n r. first_fault e r ≡ Some s)
     → SpoilsAt number records (shape_fault file index s)
 of_reason number file index records s is h = (
   index,
@@ -108,7 +112,11 @@ no_spoils {A} exact number index fault front mid r (inr h) fit short =
     let e = learn_all {A = A} empty_environment front in
     let all = ap length (records_joined empty_environment front (r ∷ mid)) in
     let much = h.1 in
-    omega (arith, length-append (records_bytes empty_environment front) (records_bytes e (r ∷ mid)), length-append (record_bytes e r) (records_bytes (learn e r) mid))
+    omega (
+      arith,
+      length-append (records_bytes empty_environment front) (records_bytes e (r ∷ mid)),
+      length-append (record_bytes e r) (records_bytes (learn e r) mid),
+    )
 
 -- a record has one such fault
 one_spoils : {A : Type 0} → FaultsAreExact A → (number index : ℕ) (a b : EncodeFault) (e : Environment A) (n : ℕ) (r : Record A)
@@ -131,8 +139,10 @@ at_one : {A : Type 0} → FaultsAreExact A → (number i j : ℕ) (records : Lis
     → AtRecord records i (Spoils number i a) → AtRecord records j (Spoils number j b) → i ≡ j → a ≡ b
 at_one {A} exact number i j records a b h k same =
     let there = same_place h.front k.front h.this k.this h.back k.back (sym h.joined ∙ k.joined) (omega (arith, h.place, k.place)) in
-    let moved = subst (λ (m : ℕ). Spoils number m b (learn_all empty_environment k.front) (length (records_bytes empty_environment k.front)) k.this) (sym same) k.holds in
-    let onto = subst (λ (x : List (Record A)). Spoils number i b (learn_all empty_environment x) (length (records_bytes empty_environment x)) k.this) (sym there.0) moved in
+    let moved = subst (λ (m : ℕ). Spoils number m b (learn_all empty_environment k.front) (length (records_bytes empty_environment k.front)) k.this) (sym same)
+    k.holds in
+    let onto = subst (λ (x : List (Record A)). Spoils number i b (learn_all empty_environment x) (length (records_bytes empty_environment x)) k.this)
+    (sym there.0) moved in
     one_spoils exact number i a b (learn_all empty_environment h.front) (length (records_bytes empty_environment h.front)) h.this h.holds
     (subst (λ (r : Record A). Spoils number i b (learn_all empty_environment h.front) (length (records_bytes empty_environment h.front)) r) (sym there.1) onto)
 
@@ -190,12 +200,14 @@ one_spoiled exact number f a b (inr (inr h)) (inr (inr k)) = h.3 ∙ sym k.3
 abbrev AtFault : {A : Type 0} → List (FitFile A) → EncodeFault → Type 0
 AtFault fs fault = AtFile fs (λ number f. IsFileFault number f fault)
 
-no_earlier_file : {A : Type 0} → FaultsAreExact A → (fs : List (FitFile A)) (a b : EncodeFault) (h : AtFault fs a) (k : AtFault fs b) → length h.front < length k.front → ⊥
+no_earlier_file : {A : Type 0} → FaultsAreExact A → (fs : List (FitFile A)) (a b : EncodeFault) (h : AtFault fs a) (k : AtFault fs b)
+    → length h.front < length k.front → ⊥
 no_earlier_file exact fs a b h k less =
     let there = before_later h.front k.front h.this k.this h.back k.back (sym h.joined ∙ k.joined) less in
     no_file_fault exact (length h.front + 1) h.this a (good_between h.front h.this there.0 (subst (AllByRecursion IsWellFormed) there.1 k.good)) h.holds
 
-one_at : {A : Type 0} → FaultsAreExact A → (fs : List (FitFile A)) (a b : EncodeFault) (h : AtFault fs a) (k : AtFault fs b) → length h.front ≡ length k.front → a ≡ b
+one_at : {A : Type 0} → FaultsAreExact A → (fs : List (FitFile A)) (a b : EncodeFault) (h : AtFault fs a) (k : AtFault fs b) → length h.front ≡ length k.front
+    → a ≡ b
 one_at {A} exact fs a b h k same =
     let there = same_place h.front k.front h.this k.this h.back k.back (sym h.joined ∙ k.joined) same in
     let moved = subst (λ (n : ℕ). IsFileFault (n + 1) k.this b) (sym same) k.holds in

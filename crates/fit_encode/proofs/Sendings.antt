@@ -1,5 +1,6 @@
 -- Bytes that are spelled one after another.
-use Rattle.std.proofs.Common.{◌≡◌, ℕ, ◌+◌, ◌<◌, ◌^◌, add-zero, Bool, true, false, List, [], ◌∷◌, ◌++◌, Option, Result, Ok, Err, length, take, drop, get_or, sym, ap, ◌∙◌, subst, refl, append_assoc, append-nil, length-append, length-take, length-drop, arith}
+use Rattle.std.proofs.Common.{◌≡◌, ℕ, ◌+◌, ◌<◌, ◌^◌, add-zero, Bool, true, false, List, [], ◌∷◌, ◌++◌, Option, Result, Ok, Err, length, take, drop, get_or, sym}
+use Rattle.std.proofs.Common.{ap, ◌∙◌, subst, refl, append_assoc, append-nil, length-append, length-take, length-drop, arith}
 use Rattle.std.specs.Prelude.{flat_map}
 use Rattle.std.specs.Io.KnownBytes.{Appends}
 use Rattle.std.proofs.KnownBytes.{Appends-trans, Appends-nil}
@@ -7,7 +8,7 @@ use Rattle.std.proofs.lemmas.List.{take_more, drop_more, take-append-drop}
 use lib.Seq.{take-append_seam}
 use Rattle.std.proofs.lemmas.List.Concat.{flat_map-append}
 use Rattle.fit_encode.specs.Sinks.{Written}
-use Rattle.fit_encode.specs.Sending.{Sending, Spells, Breaks, Sends, IsCounted, fresh}
+use Rattle.fit_encode.specs.inner.Sending.{Sending, Spells, Breaks, Sends, IsCounted, fresh}
 use Rattle.fit_encode.specs.Faults.{StopsAt}
 
 pub IsCounted-more : (n m k : ℕ) (p q : List ℕ) → IsCounted n (length p) m → IsCounted m (length q) k → IsCounted n (length (p ++ q)) k
@@ -162,7 +163,8 @@ pub StopsAt-as : {a c : Option (List ℕ)} {f : Bool} {p q : List ℕ} {w : ℕ}
 StopsAt-as {a} {c} {f} {p} {q} {w} e h = subst (λ (x : List ℕ). StopsAt a c f x w) e h
 
 -- The sink failed in the middle of some bytes, behind all that came before and ahead of what was to follow.
-pub stops_at : {a : Option (List ℕ)} {b c : Written} {w : ℕ} (front bytes back : List ℕ) (count : ℕ) → length ((front ++ bytes) ++ back) < 2 ^ 64 → Appends a b.held front
+pub stops_at : {a : Option (List ℕ)} {b c : Written} {w : ℕ} (front bytes back : List ℕ) (count : ℕ) → length ((front ++ bytes) ++ back) < 2 ^ 64
+    → Appends a b.held front
     → IsCounted 0 (length front) count → Breaks b c (fresh count) bytes w → c.failed ≡ true → StopsAt a c.held c.failed ((front ++ bytes) ++ back) w
 stops_at {a} {b} {c} {w} front bytes back count short first counted broken failed =
     let whole = length-append (front ++ bytes) back in
@@ -186,7 +188,8 @@ stops_at {a} {b} {c} {w} front bytes back count short first counted broken faile
     }
 
 -- The same of bytes that nothing went before.
-pub stops_in : {a b : Written} {w : ℕ} (bytes : List ℕ) → length bytes < 2 ^ 64 → Breaks a b (fresh 0) bytes w → b.failed ≡ true → StopsAt a.held b.held b.failed bytes w
+pub stops_in : {a b : Written} {w : ℕ} (bytes : List ℕ) → length bytes < 2 ^ 64 → Breaks a b (fresh 0) bytes w → b.failed ≡ true
+    → StopsAt a.held b.held b.failed bytes w
 stops_in {a} {b} {w} bytes short broken failed =
     let same : bytes ++ [] ≡ bytes = append-nil bytes in
     StopsAt-as same (stops_at [] bytes [] 0 (subst (λ (x : List ℕ). length x < 2 ^ 64) (sym same) short) (Appends-nil a.held) (λ _. refl) broken failed)

@@ -1,5 +1,6 @@
 -- Files that can't be written as a chain have a first fault.
-use Rattle.std.proofs.Common.{◌≡◌, ℕ, ◌+◌, ◌/◌, ◌<◌, ◌≤◌, ◌^◌, List, [], ◌∷◌, ◌++◌, ◌⊎◌, inl, inr, length, Some, None, refl, sym, ap, subst, append_assoc, append-nil, length-append, arith}
+use Rattle.std.proofs.Common.{◌≡◌, ℕ, ◌+◌, ◌/◌, ◌<◌, ◌≤◌, ◌^◌, List, [], ◌∷◌, ◌++◌, ◌⊎◌, inl, inr, length, Some, None, refl, sym, ap, subst, append_assoc}
+use Rattle.std.proofs.Common.{append-nil, length-append, arith}
 use Rattle.std.specs.Prelude.{Option}
 use Rattle.std.specs.List.{AllByRecursion}
 use Rattle.std.proofs.lemmas.Bool.{cases_eq, cases_lt}
@@ -35,7 +36,8 @@ abbrev RecordsDecided : {A : Type 0} → ℕ → List (Record A) → Type 0
 RecordsDecided number records = Stand records ⊎ HasFault number records
 
 -- the next record fits: with it the data is short, or too long
-by_length : {A : Type 0} (number : ℕ) (front : List (Record A)) (r : Record A) (back : List (Record A)) → Stand front → Fits (learn_all empty_environment front) r
+by_length : {A : Type 0} (number : ℕ) (front : List (Record A)) (r : Record A) (back : List (Record A)) → Stand front
+    → Fits (learn_all empty_environment front) r
     → (Stand (front ++ r ∷ []) → RecordsDecided number ((front ++ r ∷ []) ++ back))
     → (length (records_bytes empty_environment front) + length (record_bytes (learn_all empty_environment front) r) < 2 ^ 32)
     ⊎ (2 ^ 32 ≤ length (records_bytes empty_environment front) + length (record_bytes (learn_all empty_environment front) r))
@@ -138,7 +140,8 @@ abbrev FilesDecided : {A : Type 0} → List (FitFile A) → Type 0
 FilesDecided fs = AllByRecursion IsWellFormed fs ⊎ HasFileFault fs
 
 by_file : {A : Type 0} (front : List (FitFile A)) (f : FitFile A) (back : List (FitFile A)) → AllByRecursion IsWellFormed front
-    → (AllByRecursion IsWellFormed (front ++ f ∷ []) → FilesDecided ((front ++ f ∷ []) ++ back)) → FileDecided (length front + 1) f → FilesDecided (front ++ f ∷ back)
+    → (AllByRecursion IsWellFormed (front ++ f ∷ []) → FilesDecided ((front ++ f ∷ []) ++ back)) → FileDecided (length front + 1) f
+    → FilesDecided (front ++ f ∷ back)
 by_file front f back good rest (inr h) = inr (h.0, record { front = front; this = f; back = back; joined = refl; good = good; holds = h.1 })
 by_file front f back good rest (inl one) = subst FilesDecided (append_assoc front (f ∷ []) back) (rest (last_good front f good one))
 

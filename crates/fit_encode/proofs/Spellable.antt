@@ -1,5 +1,6 @@
 -- A record that fits has bytes.
-use Rattle.std.proofs.Common.{◌≡◌, ℕ, zero, suc, ◌<◌, inl, inr, Bool, true, false, cond, List, [], ◌∷◌, ◌++◌, length, take, drop, get_or, Some, None, refl, sym, ap, ◌∙◌, subst, append_assoc, eqb-true, arith}
+use Rattle.std.proofs.Common.{◌≡◌, ℕ, zero, suc, ◌<◌, inl, inr, Bool, true, false, cond, List, [], ◌∷◌, ◌++◌, length, take, drop, get_or, Some, None, refl, sym}
+use Rattle.std.proofs.Common.{ap, ◌∙◌, subst, append_assoc, eqb-true, arith}
 use Rattle.std.specs.Prelude.{Option, unwrap_or, find, IsSomeAnd, ◌==◌, ◌||◌, ◌&&◌, ◌%◌, ◌+◌}
 use Rattle.std.specs.List.{AllByRecursion, list_all}
 use Rattle.std.proofs.lemmas.Bool.{or_cases}
@@ -12,7 +13,7 @@ use Rattle.fit_record.specs.declared.message.Record.TheVariants.{Define, Values 
 use Rattle.fit_record.specs.declared.message.Values.{Values}
 use Rattle.fit_record.specs.Environment.{Environment, learn, learn_all, defined_at}
 use Rattle.fit_record.specs.Records.{Fits, AllFit, HaveShape, DataFits, DataHeaderFits, layout, dev_layout, record_bytes, records_bytes}
-use Rattle.fit_encode.specs.Spelling.{IsWidth, HasBytes, IsSpellable}
+use Rattle.fit_encode.specs.inner.Spelling.{IsWidth, HasBytes, IsSpellable}
 
 abbrev has_width : BaseType → Bool
 has_width t = (t.width == 1) || ((t.width == 2) || ((t.width == 4) || (t.width == 8)))
@@ -67,12 +68,14 @@ spellable e (Data v) h = data_spellable (defined_at e v.local) v h
 
 -- ---- the record at a place of records that fit
 
-pub fits_at : {A : Type 0} (e : Environment A) (rs : List (Record A)) (i : ℕ) (r : Record A) → i < length rs → r ≡ get_or rs i r → AllFit e rs → Fits (learn_all e (take i rs)) r
+pub fits_at : {A : Type 0} (e : Environment A) (rs : List (Record A)) (i : ℕ) (r : Record A) → i < length rs → r ≡ get_or rs i r → AllFit e rs
+    → Fits (learn_all e (take i rs)) r
 fits_at e [] i r less is all = absurd (omega arith)
 fits_at e (x ∷ rs) zero r less is all = subst (Fits e) (sym is) all.0
 fits_at e (x ∷ rs) (suc i) r less is all = fits_at (learn e x) rs i r (omega arith) is all.1
 
-pub records_joined : {A : Type 0} (e : Environment A) (xs ys : List (Record A)) → records_bytes e xs ++ records_bytes (learn_all e xs) ys ≡ records_bytes e (xs ++ ys)
+pub records_joined : {A : Type 0} (e : Environment A) (xs ys : List (Record A))
+    → records_bytes e xs ++ records_bytes (learn_all e xs) ys ≡ records_bytes e (xs ++ ys)
 records_joined e [] ys = refl
 records_joined e (x ∷ xs) ys =
     append_assoc (record_bytes e x) (records_bytes (learn e x) xs) (records_bytes (learn_all (learn e x) xs) ys)
@@ -80,7 +83,8 @@ records_joined e (x ∷ xs) ys =
 
 -- the bytes before a record, those of the record, and those behind it
 pub record_parts : {A : Type 0} (e : Environment A) (rs : List (Record A)) (i : ℕ) (r : Record A) → i < length rs → r ≡ get_or rs i r
-    → (records_bytes e (take i rs) ++ record_bytes (learn_all e (take i rs)) r) ++ records_bytes (learn (learn_all e (take i rs)) r) (drop (i + 1) rs) ≡ records_bytes e rs
+    → (records_bytes e (take i rs) ++ record_bytes (learn_all e (take i rs)) r) ++ records_bytes (learn (learn_all e (take i rs)) r) (drop (i + 1) rs)
+    ≡ records_bytes e rs
 record_parts e rs i r less is =
     append_assoc (records_bytes e (take i rs)) (record_bytes (learn_all e (take i rs)) r) (records_bytes (learn (learn_all e (take i rs)) r) (drop (i + 1) rs))
     ∙ ap (λ x. records_bytes e (take i rs) ++ records_bytes (learn_all e (take i rs)) x) (ap (λ x. x ∷ drop (i + 1) rs) is ∙ sym (drop_more rs i r less))

@@ -5,13 +5,15 @@ use Rattle.fit_sum.specs.Checksum.{checksum}
 use Rattle.fit_frame.specs.declared.header.Header.{Header}
 use Rattle.fit_frame.specs.Header.{FormFits, IsHeader, header_bytes, ZeroIsSum as SumIsZero}
 use Rattle.fit_record.specs.declared.message.Record.{Record}
-use Rattle.fit_record.specs.declared.fits.ShapeFault.TheVariants.{BadLocal as NoLocal, BadOffset as NoOffset, UndefinedLocal as NotDefined, WrongShape as WrongField}
+use Rattle.fit_record.specs.declared.fits.ShapeFault.TheVariants.{BadLocal as NoLocal, BadOffset as NoOffset, UndefinedLocal as NotDefined}
+use Rattle.fit_record.specs.declared.fits.ShapeFault.TheVariants.{WrongShape as WrongField}
 use Rattle.fit_record.specs.Environment.{Environment, empty_environment, learn_all}
 use Rattle.fit_record.specs.Records.{Fits, record_bytes, records_bytes}
 use Rattle.fit_record.specs.Files.{IsFile}
 use Rattle.fit_record.specs.Faults.{first_fault}
 use Rattle.fit_encode.specs.declared.fault.EncodeFault.{EncodeFault}
-use Rattle.fit_encode.specs.declared.fault.EncodeFault.TheVariants.{BadHeader, ZeroIsSum, BadLocal, BadOffset, UndefinedLocal, WrongShape, DeclaredLength, NoMemory, Write}
+use Rattle.fit_encode.specs.declared.fault.EncodeFault.TheVariants.{BadHeader, ZeroIsSum, BadLocal, BadOffset, UndefinedLocal, WrongShape, DeclaredLength}
+use Rattle.fit_encode.specs.declared.fault.EncodeFault.TheVariants.{NoMemory, Write}
 use Rattle.fit_encode.specs.Faults.{StopsAt}
 
 -- The bytes of the header, the length of the data that it declares, the records put so far, how many bytes of the file
@@ -24,12 +26,12 @@ pub record Encoding (A : Type 0) : Type 0 where
   pub finished : Bool
 
 -- behind the header
-abbrev pub begun : {A : Type 0} → Header → ℕ → Encoding A
-begun h n = record { head = header_bytes h n; declared = n; records = []; failed = None; finished = false }
+abbrev pub header_sent : {A : Type 0} → Header → ℕ → Encoding A
+header_sent h n = record { head = header_bytes h n; declared = n; records = []; failed = None; finished = false }
 
 -- what the records put so far make known
-abbrev pub known : {A : Type 0} → Encoding A → Environment A
-known e = learn_all empty_environment e.records
+abbrev pub learned : {A : Type 0} → Encoding A → Environment A
+learned e = learn_all empty_environment e.records
 
 -- the bytes of the records put so far
 abbrev pub data_so_far : {A : Type 0} → Encoding A → List ℕ
@@ -81,11 +83,11 @@ IsPlaceFault e count declared size r _ = ⊥
 
 -- the record can be put next
 abbrev pub CanPut : {A : Type 0} → Encoding A → Record A → Type 0
-CanPut e r = HasPlace (known e) e.declared (length (data_so_far e)) r
+CanPut e r = HasPlace (learned e) e.declared (length (data_so_far e)) r
 
 -- why it can't
 abbrev pub IsPutFault : {A : Type 0} → Encoding A → Record A → EncodeFault → Type 0
-IsPutFault e r fault = IsPlaceFault (known e) (length e.records) e.declared (length (data_so_far e)) r fault
+IsPutFault e r fault = IsPlaceFault (learned e) (length e.records) e.declared (length (data_so_far e)) r fault
 
 -- all data is there
 abbrev pub IsComplete : {A : Type 0} → Encoding A → Type 0

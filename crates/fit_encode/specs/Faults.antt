@@ -9,13 +9,15 @@ use Rattle.fit_frame.specs.Header.{FormFits, ZeroIsSum as SumIsZero}
 use Rattle.fit_record.specs.declared.file.FitFile.{FitFile}
 use Rattle.fit_record.specs.declared.message.Record.{Record}
 use Rattle.fit_record.specs.declared.fits.ShapeFault.{ShapeFault}
-use Rattle.fit_record.specs.declared.fits.ShapeFault.TheVariants.{BadLocal as NoLocal, BadOffset as NoOffset, UndefinedLocal as NotDefined, WrongShape as WrongField}
+use Rattle.fit_record.specs.declared.fits.ShapeFault.TheVariants.{BadLocal as NoLocal, BadOffset as NoOffset, UndefinedLocal as NotDefined}
+use Rattle.fit_record.specs.declared.fits.ShapeFault.TheVariants.{WrongShape as WrongField}
 use Rattle.fit_record.specs.Environment.{Environment, empty_environment, learn_all}
 use Rattle.fit_record.specs.Records.{Fits, AllFit, record_bytes, records_bytes}
 use Rattle.fit_record.specs.Files.{IsWellFormed, body, chain_limit}
 use Rattle.fit_record.specs.Faults.{first_fault}
 use Rattle.fit_encode.specs.declared.fault.EncodeFault.{EncodeFault}
-use Rattle.fit_encode.specs.declared.fault.EncodeFault.TheVariants.{BadHeader, ZeroIsSum, BadLocal, BadOffset, UndefinedLocal, WrongShape, TooLong, ChainLength, NoMemory, Write}
+use Rattle.fit_encode.specs.declared.fault.EncodeFault.TheVariants.{BadHeader, ZeroIsSum, BadLocal, BadOffset, UndefinedLocal, WrongShape, TooLong, ChainLength}
+use Rattle.fit_encode.specs.declared.fault.EncodeFault.TheVariants.{NoMemory, Write}
 
 -- the fault of the record at a place of a file
 abbrev pub shape_fault : ℕ → ℕ → ShapeFault → EncodeFault

@@ -1,7 +1,5 @@
 pub mod Sinks
-pub mod Sending
-pub mod Spelling
 pub mod Faults
 pub mod Encoding
-pub mod Open
 pub mod Laws
+pub mod inner

@@ -8,11 +8,8 @@ ghost use Rattle.fit_encode.specs.Faults.{shape_fault, IsRecordFault, IsFileFaul
 
 use crate::EncodeFault;
 use fit_frame::{HeadFault, Header, head_bytes};
-use fit_record::{Env, FitFile, Record, ShapeFault};
+use fit_record::{CHAIN_LIMIT, Env, FitFile, Record, ShapeFault};
 use std::alloc::Allocator;
-
-/// The most files of a chain.
-const CHAIN_LIMIT: usize = 16_777_215;
 
 /// Whether all files can be written, and their number is allowed. The environment is used anew for
 /// each.
@@ -22,9 +19,10 @@ pub(crate) fn check_files<A: Allocator + Copy>(
     files: &[FitFile<A>],
 ) -> Result<(), EncodeFault>
     ensures ok { OnOk result (IsWellFormedChain chain_limit files.now) }
-    ensures err { IfErr result (λ fault. (fault ≡ EncodeFault.NoMemory) ⊎ IsFirstFault files.now fault) }
+    ensures err { IfErr result (λ fault. (fault ≡ EncodeFault.NoMemory)
+        ⊎ IsFirstFault files.now fault) }
 {
-    if files.is_empty() || files.len() > CHAIN_LIMIT {
+    if files.is_empty() || files.len() > CHAIN_LIMIT as usize {
         return Err(EncodeFault::ChainLength);
     }
     for (place, file) in files.iter().enumerate() {
@@ -40,7 +38,8 @@ pub(crate) fn check_one<A: Allocator + Copy>(
     file: &FitFile<A>,
 ) -> Result<u32, EncodeFault>
     ensures ok { IfOk result (λ n. IsWellFormed file.now × (n ≡ length (body file.now))) }
-    ensures err { IfErr result (λ fault. (fault ≡ EncodeFault.NoMemory) ⊎ IsFirstFault (file.now ∷ []) fault) }
+    ensures err { IfErr result (λ fault. (fault ≡ EncodeFault.NoMemory)
+        ⊎ IsFirstFault (file.now ∷ []) fault) }
 {
     check_file(alloc, env, 1, file)
 }
@@ -53,7 +52,8 @@ fn check_file<A: Allocator + Copy>(
     file: &FitFile<A>,
 ) -> Result<u32, EncodeFault>
     ensures ok { IfOk result (λ n. IsWellFormed file.now × (n ≡ length (body file.now))) }
-    ensures err { IfErr result (λ fault. (fault ≡ EncodeFault.NoMemory) ⊎ IsFileFault number file.now fault) }
+    ensures err { IfErr result (λ fault. (fault ≡ EncodeFault.NoMemory)
+        ⊎ IsFileFault number file.now fault) }
 {
     if !has_form(&file.header) {
         return Err(EncodeFault::BadHeader { file: number });
@@ -84,9 +84,11 @@ fn measure<A: Allocator + Copy>(
     number: u64,
     records: &[Record<A>],
 ) -> Result<u32, EncodeFault>
-    ensures ok { IfOk result (λ n. AllFit empty_environment records.now × (n ≡ length (records_bytes empty_environment records.now))) }
+    ensures ok { IfOk result (λ n. AllFit empty_environment records.now
+        × (n ≡ length (records_bytes empty_environment records.now))) }
     ensures small { IfOk result (λ n. n < 2 ^ 32) }
-    ensures err { IfErr result (λ fault. (fault ≡ EncodeFault.NoMemory) ⊎ IsRecordFault number records.now fault) }
+    ensures err { IfErr result (λ fault. (fault ≡ EncodeFault.NoMemory)
+        ⊎ IsRecordFault number records.now fault) }
 {
     *env = Env::new(alloc);
     let mut length: u32 = 0;

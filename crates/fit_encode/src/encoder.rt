@@ -3,10 +3,10 @@ ghost use Rattle.std.specs.Prelude.{◌≡◌, ◌+◌, ◌≤◌, [], ◌∷◌
 ghost use Rattle.std.specs.Io.KnownBytes.{Appends};
 ghost use Rattle.fit_frame.specs.Header.{HeaderFits, header_bytes};
 ghost use Rattle.fit_record.specs.Records.{Fits, record_bytes};
-ghost use Rattle.fit_encode.specs.Encoding.{known, CanPut, IsComplete, IsPutFault, IsFinishFault, IsHeaderFault, BreaksOff, begun, closed_fault, closing_bytes, IsWhole, IsPlaceFault, HasPlace, fault_when};
+ghost use Rattle.fit_encode.specs.Encoding.{learned, CanPut, IsComplete, IsPutFault, IsFinishFault, IsHeaderFault, BreaksOff, header_sent, closed_fault, closing_bytes, IsWhole, IsPlaceFault, HasPlace, fault_when};
 ghost use Rattle.fit_encode.specs.Faults.{StopsAt, IfWrite, UnlessWrite};
-ghost use Rattle.fit_encode.specs.Sending.{told, Sends};
-ghost use Rattle.fit_encode.specs.Spelling.{bytes_in_order, IsSpellable};
+ghost use Rattle.fit_encode.specs.inner.Sending.{sink_state, Sends};
+ghost use Rattle.fit_encode.specs.inner.Spelling.{bytes_in_order, IsSpellable};
 
 use crate::check::shape_fault;
 use crate::message::spell_record;
@@ -22,7 +22,7 @@ use std::marker::Model;
 /// Writes a file record by record, where the length of its data is known beforehand.
 ///
 /// It keeps no sink: each call writes to the one that it is handed. After a good `finish` every call
-/// answers `DeclaredLength`, and after `Write` every call answers that fault again.
+/// returns `DeclaredLength`, and after `Write` every call returns that fault again.
 #[derive(Drop)]
 pub struct Encoder {
     env: Env,
@@ -44,19 +44,20 @@ impl Model for Encoder {
     ghost use Rattle.std.specs.Prelude.{◌≡◌, None, false};
     ghost use Rattle.std.specs.declared.alloc.Global.{Global};
     ghost use Rattle.fit_encode.specs.Encoding.{Encoding};
-    ghost use Rattle.fit_encode.specs.Open.{IsOpen};
+    ghost use Rattle.fit_encode.specs.inner.Open.{IsOpenFile};
 
     ghost Value = { Encoding Global };
 
     ghost view = { λ e. record { head = e.head.items; declared = e.declared; records = e.records.items; failed = e.failed; finished = e.finished } };
 
-    ghost invariant = { λ e. e.failed ≡ None → e.finished ≡ false → IsOpen e.env e.out e.declared e.size e.count e.head.items e.records.items };
+    ghost invariant = { λ e. e.failed ≡ None → e.finished ≡ false
+        → IsOpenFile e.env e.out e.declared e.size e.count e.head.items e.records.items };
 }
 
 impl Encoder {
     /// Writes a header that declares `data_len` bytes of data.
     ///
-    /// It answers `BadHeader` and then `ZeroIsSum` before a byte goes out, both with file 1. It takes
+    /// It returns `BadHeader` and then `ZeroIsSum` before a byte goes out, both with file 1. It takes
     /// no memory, and says nothing of whether records can have that many bytes.
     pub fn begin<K: Sink>(
         alloc: Global,
@@ -64,15 +65,20 @@ impl Encoder {
         header: &Header,
         data_len: u32,
     ) -> Result<Self, EncodeFault>
-        ensures ok { IfOk result (λ e. e ≡ begun header.now data_len) }
+        ensures ok { IfOk result (λ e. e ≡ header_sent header.now data_len) }
         ensures good { OnOk result (HeaderFits header.now data_len) }
-        ensures spelled { OnOk result (Appends (K.contents sink.old) (K.contents sink.new) (header_bytes header.now data_len)) }
+        ensures spelled { OnOk result (Appends (K.contents sink.old) (K.contents sink.new)
+            (header_bytes header.now data_len)) }
         ensures works { OnOk result (K.has_failed sink.new ≡ false) }
 
         // Before a byte went out, or where the sink failed.
-        ensures refused { IfErr result (λ fault. UnlessWrite fault (IsHeaderFault header.now data_len fault × (sink.new ≡ sink.old))) }
-        ensures written_of_good { IfErr result (λ fault. IfWrite fault (λ written. HeaderFits header.now data_len)) }
-        ensures written { IfErr result (λ fault. IfWrite fault (StopsAt (K.contents sink.old) (K.contents sink.new) (K.has_failed sink.new) (header_bytes header.now data_len))) }
+        ensures refused { IfErr result (λ fault.
+            UnlessWrite fault (IsHeaderFault header.now data_len fault × (sink.new ≡ sink.old))) }
+        ensures written_of_good { IfErr result
+            (λ fault. IfWrite fault (λ written. HeaderFits header.now data_len)) }
+        ensures written { IfErr result (λ fault.
+            IfWrite fault (StopsAt (K.contents sink.old) (K.contents sink.new)
+            (K.has_failed sink.new) (header_bytes header.now data_len))) }
     {
         let bytes = match head_bytes(header, data_len) {
             Ok(bytes) => bytes,
@@ -100,21 +106,30 @@ impl Encoder {
 
     /// Writes a record.
     ///
-    /// It answers the faults of the record's shape, with file 1 and the number of records put so far
+    /// It returns the faults of the record's shape, with file 1 and the number of records put so far
     /// as `index`, and then `DeclaredLength` where the data would pass the declared length. With these
     /// and with `NoMemory` nothing changes.
     pub fn put<K: Sink>(&mut self, sink: &mut K, r: &Record) -> Result<(), EncodeFault>
         ensures ok { OnOk result (CanPut self.old r.now) }
-        ensures spelled { OnOk result (Appends (K.contents sink.old) (K.contents sink.new) (record_bytes (known self.old) r.now)) }
+        ensures spelled { OnOk result (Appends (K.contents sink.old) (K.contents sink.new)
+            (record_bytes (learned self.old) r.now)) }
         ensures works { OnOk result (K.has_failed sink.new ≡ false) }
-        ensures kept { OnOk result (self.new ≡ record self.old { records = self.old.records ++ r.now ∷ [] }) }
+        ensures kept { OnOk result (self.new ≡ record self.old
+            { records = self.old.records ++ r.now ∷ [] }) }
 
         // The file is finished, or a sink failed before.
-        ensures closed { IfSome (closed_fault self.old) (λ fault. (result ≡ Err fault) × (self.new ≡ self.old) × (sink.new ≡ sink.old)) }
+        ensures closed { IfSome (closed_fault self.old)
+            (λ fault. (result ≡ Err fault) × (self.new ≡ self.old) × (sink.new ≡ sink.old)) }
 
         // Before a byte went out, or where the sink failed.
-        ensures refused { closed_fault self.old ≡ None → IfErr result (λ fault. UnlessWrite fault (IsPutFault self.old r.now fault × (self.new ≡ self.old) × (sink.new ≡ sink.old))) }
-        ensures written { closed_fault self.old ≡ None → IfErr result (λ fault. IfWrite fault (λ written. CanPut self.old r.now × BreaksOff (K.contents sink.old) (K.contents sink.new) (K.has_failed sink.new) self.old self.new (record_bytes (known self.old) r.now) written)) }
+        ensures refused { closed_fault self.old ≡ None
+            → IfErr result (λ fault. UnlessWrite fault
+            (IsPutFault self.old r.now fault × (self.new ≡ self.old) × (sink.new ≡ sink.old))) }
+        ensures written { closed_fault self.old ≡ None
+            → IfErr result (λ fault. IfWrite fault
+            (λ written. CanPut self.old r.now
+            × BreaksOff (K.contents sink.old) (K.contents sink.new) (K.has_failed sink.new) self.old
+            self.new (record_bytes (learned self.old) r.now) written)) }
     {
         if let Some(fault) = closed_fault(self.finished, self.failed) {
             return Err(fault);
@@ -136,11 +151,12 @@ impl Encoder {
 
     /// Writes the checksum at the end of the file.
     ///
-    /// It answers `DeclaredLength` where data is missing, and changes nothing then. It takes no
+    /// It returns `DeclaredLength` where data is missing, and changes nothing then. It takes no
     /// memory.
     pub fn finish<K: Sink>(&mut self, sink: &mut K) -> Result<(), EncodeFault>
         ensures ok { OnOk result (IsComplete self.old) }
-        ensures spelled { OnOk result (Appends (K.contents sink.old) (K.contents sink.new) (closing_bytes self.old)) }
+        ensures spelled { OnOk result (Appends (K.contents sink.old) (K.contents sink.new)
+            (closing_bytes self.old)) }
         ensures works { OnOk result (K.has_failed sink.new ≡ false) }
         ensures finished { OnOk result (self.new ≡ record self.old { finished = true }) }
 
@@ -148,11 +164,17 @@ impl Encoder {
         ensures whole { OnOk result (IsWhole self.old) }
 
         // The file is finished, or a sink failed before.
-        ensures closed { IfSome (closed_fault self.old) (λ fault. (result ≡ Err fault) × (self.new ≡ self.old) × (sink.new ≡ sink.old)) }
+        ensures closed { IfSome (closed_fault self.old)
+            (λ fault. (result ≡ Err fault) × (self.new ≡ self.old) × (sink.new ≡ sink.old)) }
 
         // Before a byte went out, or where the sink failed.
-        ensures refused { closed_fault self.old ≡ None → IfErr result (λ fault. UnlessWrite fault (IsFinishFault self.old fault × (self.new ≡ self.old) × (sink.new ≡ sink.old))) }
-        ensures written { closed_fault self.old ≡ None → IfErr result (λ fault. IfWrite fault (λ written. IsComplete self.old × BreaksOff (K.contents sink.old) (K.contents sink.new) (K.has_failed sink.new) self.old self.new (closing_bytes self.old) written)) }
+        ensures refused { closed_fault self.old ≡ None
+            → IfErr result (λ fault. UnlessWrite fault
+            (IsFinishFault self.old fault × (self.new ≡ self.old) × (sink.new ≡ sink.old))) }
+        ensures written { closed_fault self.old ≡ None
+            → IfErr result (λ fault. IfWrite fault
+            (λ written. IsComplete self.old × BreaksOff (K.contents sink.old) (K.contents sink.new)
+            (K.has_failed sink.new) self.old self.new (closing_bytes self.old) written)) }
     {
         if let Some(fault) = closed_fault(self.finished, self.failed) {
             return Err(fault);
@@ -182,7 +204,7 @@ fn closed_fault(finished: bool, failed: Option<u64>) -> Option<EncodeFault>
     }
 }
 
-/// The length of a record that can be put behind so many others with so many bytes.
+/// The length of a record that can be put after that many others with that many bytes.
 fn record_size<A: Allocator>(
     env: &Env<A>,
     count: u64,
@@ -191,7 +213,8 @@ fn record_size<A: Allocator>(
     r: &Record<A>,
 ) -> Result<u32, EncodeFault>
     requires { size ≤ declared }
-    ensures ok { IfOk result (λ n. HasPlace env.now declared size r.now × (n ≡ length (record_bytes env.now r.now))) }
+    ensures ok { IfOk result (λ n. HasPlace env.now declared size r.now
+        × (n ≡ length (record_bytes env.now r.now))) }
     ensures err { IfErr result (IsPlaceFault env.now count declared size r.now) }
     ensures memory { IfErr result (λ fault. fault ≡ EncodeFault.NoMemory → ⊥) }
 {
@@ -222,7 +245,9 @@ fn order_of<A: Allocator>(env: &Env<A>, r: &Record<A>) -> Order
 /// Sends bytes.
 fn send<K: Sink>(out: &mut Spelling, sink: &mut K, bytes: &[u8]) -> Result<(), u64>
     requires { length bytes.now ≤ 4096 }
-    ensures sends { Sends (told (K.contents sink.old) (K.has_failed sink.old)) (told (K.contents sink.new) (K.has_failed sink.new)) out.old out.new bytes.now result }
+    ensures sends { Sends
+        (sink_state K.contents K.has_failed sink.old) (sink_state K.contents K.has_failed sink.new)
+        out.old out.new bytes.now result }
     ensures empty { OnOk result (out.new.held ≡ []) }
 {
     out.bytes(sink, bytes)?;
@@ -237,7 +262,9 @@ fn send_record<K: Sink, A: Allocator>(
     r: &Record<A>,
 ) -> Result<(), u64>
     requires { IsSpellable r.now }
-    ensures sends { Sends (told (K.contents sink.old) (K.has_failed sink.old)) (told (K.contents sink.new) (K.has_failed sink.new)) out.old out.new (bytes_in_order order r.now) result }
+    ensures sends { Sends
+        (sink_state K.contents K.has_failed sink.old) (sink_state K.contents K.has_failed sink.new)
+        out.old out.new (bytes_in_order order r.now) result }
     ensures empty { OnOk result (out.new.held ≡ []) }
 {
     spell_record(out, sink, order, r)?;

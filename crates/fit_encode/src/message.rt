@@ -5,8 +5,8 @@ ghost use Rattle.fit_base.specs.Fields.{items_bytes};
 ghost use Rattle.fit_base.specs.Numbers.{number_bytes};
 ghost use Rattle.fit_record.specs.Records.{field_bytes, dev_field_bytes, dev_part, definition_header, definition_bytes, DefinitionFits, data_header, data_bytes, DataHeaderFits};
 ghost use Rattle.fit_record.specs.Environment.{dev_defs};
-ghost use Rattle.fit_encode.specs.Sending.{told, Sends};
-ghost use Rattle.fit_encode.specs.Spelling.{bytes_in_order, definition_head, HasBytes, IsSpellable};
+ghost use Rattle.fit_encode.specs.inner.Sending.{sink_state, Sends};
+ghost use Rattle.fit_encode.specs.inner.Spelling.{bytes_in_order, definition_head, HasBytes, IsSpellable};
 
 use crate::Sink;
 use crate::spelling::Spelling;
@@ -22,7 +22,9 @@ pub(crate) fn spell_record<K: Sink, A: Allocator>(
     r: &Record<A>,
 ) -> Result<(), u64>
     requires { IsSpellable r.now }
-    ensures { Sends (told (K.contents sink.old) (K.has_failed sink.old)) (told (K.contents sink.new) (K.has_failed sink.new)) out.old out.new (bytes_in_order order r.now) result }
+    ensures { Sends
+        (sink_state K.contents K.has_failed sink.old) (sink_state K.contents K.has_failed sink.new)
+        out.old out.new (bytes_in_order order r.now) result }
 {
     match r {
         Record::Define(d) => spell_definition(out, sink, d),
@@ -37,7 +39,9 @@ fn spell_definition<K: Sink, A: Allocator>(
     d: &MessageDef<A>,
 ) -> Result<(), u64>
     requires { DefinitionFits d.now }
-    ensures { Sends (told (K.contents sink.old) (K.has_failed sink.old)) (told (K.contents sink.new) (K.has_failed sink.new)) out.old out.new (definition_header d.now ∷ definition_bytes d.now) result }
+    ensures { Sends
+        (sink_state K.contents K.has_failed sink.old) (sink_state K.contents K.has_failed sink.new)
+        out.old out.new (definition_header d.now ∷ definition_bytes d.now) result }
 {
     out.bytes(sink, &definition_head(d))?;
     spell_fields(out, sink, d.fields.as_slice())?;
@@ -66,7 +70,9 @@ fn definition_head<A: Allocator>(d: &MessageDef<A>) -> [u8; 6]
 
 /// Spells the entries of fields.
 fn spell_fields<K: Sink>(out: &mut Spelling, sink: &mut K, fields: &[FieldDef]) -> Result<(), u64>
-    ensures { Sends (told (K.contents sink.old) (K.has_failed sink.old)) (told (K.contents sink.new) (K.has_failed sink.new)) out.old out.new (flat_map field_bytes fields.now) result }
+    ensures { Sends
+        (sink_state K.contents K.has_failed sink.old) (sink_state K.contents K.has_failed sink.new)
+        out.old out.new (flat_map field_bytes fields.now) result }
 {
     for f in fields {
         out.bytes(sink, &[f.number, f.size, f.code])?;
@@ -81,7 +87,9 @@ fn spell_dev_part<K: Sink, A: Allocator>(
     dev: &Option<Entries<DevDef, A>>,
 ) -> Result<(), u64>
     requires { length (dev_defs dev.now) < 256 }
-    ensures { Sends (told (K.contents sink.old) (K.has_failed sink.old)) (told (K.contents sink.new) (K.has_failed sink.new)) out.old out.new (dev_part dev.now) result }
+    ensures { Sends
+        (sink_state K.contents K.has_failed sink.old) (sink_state K.contents K.has_failed sink.new)
+        out.old out.new (dev_part dev.now) result }
 {
     match dev {
         None => Ok(()),
@@ -92,7 +100,9 @@ fn spell_dev_part<K: Sink, A: Allocator>(
 /// Spells the number of developer fields, and their entries.
 fn spell_dev_list<K: Sink>(out: &mut Spelling, sink: &mut K, fields: &[DevDef]) -> Result<(), u64>
     requires { length fields.now < 256 }
-    ensures { Sends (told (K.contents sink.old) (K.has_failed sink.old)) (told (K.contents sink.new) (K.has_failed sink.new)) out.old out.new (length fields.now ∷ flat_map dev_field_bytes fields.now) result }
+    ensures { Sends
+        (sink_state K.contents K.has_failed sink.old) (sink_state K.contents K.has_failed sink.new)
+        out.old out.new (length fields.now ∷ flat_map dev_field_bytes fields.now) result }
 {
     out.bytes(sink, &[fields.len() as u8])?;
     spell_dev_fields(out, sink, fields)
@@ -100,7 +110,9 @@ fn spell_dev_list<K: Sink>(out: &mut Spelling, sink: &mut K, fields: &[DevDef]) 
 
 /// Spells the entries of developer fields.
 fn spell_dev_fields<K: Sink>(out: &mut Spelling, sink: &mut K, fields: &[DevDef]) -> Result<(), u64>
-    ensures { Sends (told (K.contents sink.old) (K.has_failed sink.old)) (told (K.contents sink.new) (K.has_failed sink.new)) out.old out.new (flat_map dev_field_bytes fields.now) result }
+    ensures { Sends
+        (sink_state K.contents K.has_failed sink.old) (sink_state K.contents K.has_failed sink.new)
+        out.old out.new (flat_map dev_field_bytes fields.now) result }
 {
     for f in fields {
         out.bytes(sink, &[f.number, f.size, f.index])?;
@@ -118,7 +130,9 @@ fn spell_values<K: Sink, A: Allocator>(
     requires header { DataHeaderFits v.now.local v.now.offset }
     requires fields { AllByRecursion HasBytes v.now.fields }
     requires dev_fields { AllByRecursion HasBytes v.now.dev }
-    ensures { Sends (told (K.contents sink.old) (K.has_failed sink.old)) (told (K.contents sink.new) (K.has_failed sink.new)) out.old out.new (data_header v.now.local v.now.offset ∷ data_bytes order v.now) result }
+    ensures { Sends
+        (sink_state K.contents K.has_failed sink.old) (sink_state K.contents K.has_failed sink.new)
+        out.old out.new (data_header v.now.local v.now.offset ∷ data_bytes order v.now) result }
 {
     out.bytes(sink, &[data_header(v.local, v.offset)])?;
     spell_lists(out, sink, order, v.fields.as_slice())?;
@@ -144,7 +158,9 @@ fn spell_lists<K: Sink, A: Allocator>(
     lists: &[Items<A>],
 ) -> Result<(), u64>
     requires { AllByRecursion HasBytes lists.now }
-    ensures { Sends (told (K.contents sink.old) (K.has_failed sink.old)) (told (K.contents sink.new) (K.has_failed sink.new)) out.old out.new (flat_map (items_bytes order) lists.now) result }
+    ensures { Sends
+        (sink_state K.contents K.has_failed sink.old) (sink_state K.contents K.has_failed sink.new)
+        out.old out.new (flat_map (items_bytes order) lists.now) result }
 {
     for items in lists {
         spell_items(out, sink, order, items)?;
@@ -160,7 +176,9 @@ fn spell_items<K: Sink, A: Allocator>(
     items: &Items<A>,
 ) -> Result<(), u64>
     requires { HasBytes items.now }
-    ensures { Sends (told (K.contents sink.old) (K.has_failed sink.old)) (told (K.contents sink.new) (K.has_failed sink.new)) out.old out.new (items_bytes order items.now) result }
+    ensures { Sends
+        (sink_state K.contents K.has_failed sink.old) (sink_state K.contents K.has_failed sink.new)
+        out.old out.new (items_bytes order items.now) result }
 {
     for bits in items.bits.as_slice() {
         out.number(sink, order, items.width, *bits)?;

@@ -20,15 +20,17 @@ pub trait Sink {
     // A call has failed, or has taken no byte of some.
     ghost has_failed: { Self → Bool };
 
-    /// Takes some bytes from the front of the slice, and answers how many.
+    /// Takes some bytes from the front of the slice, and returns how many.
     fn put(&mut self, bytes: &[u8]) -> Result<usize, SinkFailed>
         ensures bound { IfOk result (λ n. n ≤ length bytes.now) }
         ensures bytes { WriteAppends (contents self.old) (contents self.new) result bytes.now }
-        ensures zero { IfOk result (λ n. n ≡ 0 → 0 < length bytes.now → has_failed self.new ≡ true) }
+        ensures zero { IfOk result (λ n. n ≡ 0 → 0 < length bytes.now
+            → has_failed self.new ≡ true) }
         ensures some { IfOk result (λ n. 0 < n → has_failed self.new ≡ false) }
         ensures bad { OnErr result (has_failed self.new ≡ true) }
         ensures latched { has_failed self.old ≡ true → IsErr result }
-        ensures empty { bytes.now ≡ [] → has_failed self.old ≡ false → IsOk result × (self.new ≡ self.old) };
+        ensures empty { bytes.now ≡ [] → has_failed self.old ≡ false
+            → IsOk result × (self.new ≡ self.old) };
 
     /// Whether a call has failed.
     fn failed(&self) -> bool
@@ -39,7 +41,8 @@ pub trait Sink {
 pub fn put_all<K: Sink>(sink: &mut K, bytes: &[u8]) -> Result<(), u64>
     ensures ok { OnOk result (Appends (K.contents sink.old) (K.contents sink.new) bytes.now) }
     ensures err { IfErr result (λ written. written < length bytes.now) }
-    ensures part { IfErr result (λ written. Appends (K.contents sink.old) (K.contents sink.new) (take written bytes.now)) }
+    ensures part { IfErr result (λ written. Appends (K.contents sink.old) (K.contents sink.new)
+        (take written bytes.now)) }
     ensures failed { OnErr result (K.has_failed sink.new ≡ true) }
     ensures works { OnOk result (0 < length bytes.now → K.has_failed sink.new ≡ false) }
     ensures empty { bytes.now ≡ [] → IsOk result × (sink.new ≡ sink.old) }
@@ -166,10 +169,12 @@ impl<const N: usize> Sink for CutSink<N> {
         ensures some { IfOk result (λ n. 0 < n → self.new.failed ≡ false) }
         ensures bad { OnErr result (self.new.failed ≡ true) }
         ensures latched { self.old.failed ≡ true → IsErr result }
-        ensures empty { bytes.now ≡ [] → self.old.failed ≡ false → IsOk result × (self.new ≡ self.old) }
+        ensures empty { bytes.now ≡ [] → self.old.failed ≡ false
+            → IsOk result × (self.new ≡ self.old) }
 
         // It takes what there is room for, and fails only where there is none.
-        ensures takes { self.old.failed ≡ false → 0 < self.old.room → IsOkAnd result (λ n. n ≡ min (length bytes.now) self.old.room) }
+        ensures takes { self.old.failed ≡ false → 0 < self.old.room
+            → IsOkAnd result (λ n. n ≡ min (length bytes.now) self.old.room) }
         ensures fails { self.old.room ≡ 0 → 0 < length bytes.now → IsErr result }
         ensures room { length self.new.held + self.new.room ≡ length self.old.held + self.old.room }
     {

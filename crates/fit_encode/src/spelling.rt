@@ -2,7 +2,7 @@
 ghost use Rattle.std.specs.Prelude.{◌≡◌, ◌⊎◌, ◌+◌, ◌≤◌, ◌<◌, ◌^◌, [], ◌++◌, OnOk, length};
 ghost use Rattle.fit_base.specs.Numbers.{number_bytes, little_bytes};
 ghost use Rattle.fit_sum.specs.Checksum.{checksum};
-ghost use Rattle.fit_encode.specs.Sending.{told, Sends};
+ghost use Rattle.fit_encode.specs.inner.Sending.{sink_state, Sends};
 
 use crate::{Sink, put_all};
 use arrayvec::ArrayVec;
@@ -20,7 +20,7 @@ pub(crate) struct Spelling {
 }
 
 impl Model for Spelling {
-    ghost use Rattle.fit_encode.specs.Sending.{Sending};
+    ghost use Rattle.fit_encode.specs.inner.Sending.{Sending};
 
     ghost Value = { Sending };
 
@@ -28,7 +28,7 @@ impl Model for Spelling {
 }
 
 impl Spelling {
-    /// Nothing is spelled of this file. So many bytes went out before it.
+    /// Nothing is spelled of this file. `count` bytes went out before it.
     pub(crate) fn new(count: u64) -> Spelling
         ensures { result ≡ record { sent = []; held = []; count = count } }
     {
@@ -41,7 +41,10 @@ impl Spelling {
 
     /// Sends what is held back.
     pub(crate) fn flush<K: Sink>(&mut self, sink: &mut K) -> Result<(), u64>
-        ensures sends { Sends (told (K.contents sink.old) (K.has_failed sink.old)) (told (K.contents sink.new) (K.has_failed sink.new)) self.old self.new [] result }
+        ensures sends { Sends
+            (sink_state K.contents K.has_failed sink.old)
+            (sink_state K.contents K.has_failed sink.new)
+            self.old self.new [] result }
         ensures empty { OnOk result (self.new.held ≡ []) }
     {
         if let Err(written) = put_all(sink, self.run.as_slice()) {
@@ -53,10 +56,13 @@ impl Spelling {
         Ok(())
     }
 
-    /// Makes room for so many bytes.
+    /// Makes room for `more` bytes.
     fn make_room<K: Sink>(&mut self, sink: &mut K, more: usize) -> Result<(), u64>
         requires { more ≤ 4096 }
-        ensures sends { Sends (told (K.contents sink.old) (K.has_failed sink.old)) (told (K.contents sink.new) (K.has_failed sink.new)) self.old self.new [] result }
+        ensures sends { Sends
+            (sink_state K.contents K.has_failed sink.old)
+            (sink_state K.contents K.has_failed sink.new)
+            self.old self.new [] result }
         ensures room { OnOk result (length self.new.held + more ≤ 4096) }
     {
         if self.run.remaining_capacity() < more {
@@ -68,7 +74,10 @@ impl Spelling {
     /// Spells some bytes.
     pub(crate) fn bytes<K: Sink>(&mut self, sink: &mut K, bytes: &[u8]) -> Result<(), u64>
         requires { length bytes.now ≤ 4096 }
-        ensures { Sends (told (K.contents sink.old) (K.has_failed sink.old)) (told (K.contents sink.new) (K.has_failed sink.new)) self.old self.new bytes.now result }
+        ensures { Sends
+            (sink_state K.contents K.has_failed sink.old)
+            (sink_state K.contents K.has_failed sink.new)
+            self.old self.new bytes.now result }
     {
         self.make_room(sink, bytes.len())?;
         if self.run.try_extend_from_slice(bytes).is_err() {
@@ -87,7 +96,10 @@ impl Spelling {
     ) -> Result<(), u64>
         requires width { (width ≡ 1) ⊎ (width ≡ 2) ⊎ (width ≡ 4) ⊎ (width ≡ 8) }
         requires bits { bits < 256 ^ width }
-        ensures { Sends (told (K.contents sink.old) (K.has_failed sink.old)) (told (K.contents sink.new) (K.has_failed sink.new)) self.old self.new (number_bytes order width bits) result }
+        ensures { Sends
+            (sink_state K.contents K.has_failed sink.old)
+            (sink_state K.contents K.has_failed sink.new)
+            self.old self.new (number_bytes order width bits) result }
     {
         match width {
             1 => self.bytes(sink, &bytes_of::<1>(order, bits)),
@@ -99,7 +111,10 @@ impl Spelling {
 
     /// Sends what is held back, and then the checksum of all bytes of the file (FIT protocol, "CRC").
     pub(crate) fn end<K: Sink>(&mut self, sink: &mut K) -> Result<(), u64>
-        ensures sends { Sends (told (K.contents sink.old) (K.has_failed sink.old)) (told (K.contents sink.new) (K.has_failed sink.new)) self.old self.new (little_bytes 2 (checksum (self.old.sent ++ self.old.held))) result }
+        ensures sends { Sends
+            (sink_state K.contents K.has_failed sink.old)
+            (sink_state K.contents K.has_failed sink.new)
+            self.old self.new (little_bytes 2 (checksum (self.old.sent ++ self.old.held))) result }
         ensures empty { OnOk result (self.new.held ≡ []) }
     {
         self.flush(sink)?;

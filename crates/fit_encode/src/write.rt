@@ -5,9 +5,9 @@ ghost use Rattle.fit_record.specs.Environment.{empty_environment};
 ghost use Rattle.fit_record.specs.Records.{AllFit, records_bytes};
 ghost use Rattle.fit_record.specs.Files.{IsWellFormed, IsWellFormedChain, body, file_bytes, chain_bytes, chain_limit};
 ghost use Rattle.fit_encode.specs.Faults.{IsFirstFault, IfWrite, UnlessWrite, IfRefused, StopsAt};
-ghost use Rattle.fit_encode.specs.Sending.{told, Sends, Puts};
+ghost use Rattle.fit_encode.specs.inner.Sending.{sink_state, Sends, PutsAll};
 ghost use Rattle.fit_frame.specs.Header.{HeaderFits, header_bytes};
-ghost use Rattle.fit_encode.specs.Spelling.{order_in, orders_after};
+ghost use Rattle.fit_encode.specs.inner.Spelling.{order_in, orders_after};
 
 use crate::check::{check_files, check_one};
 use crate::length::data_length;
@@ -21,12 +21,13 @@ use std::alloc::{Allocator, Global};
 
 /// Writes a file.
 ///
-/// Before a byte goes out it answers the first fault: `BadHeader`, then the faults of the records in
+/// Before a byte goes out it returns the first fault: `BadHeader`, then the faults of the records in
 /// their order, and last `ZeroIsSum`. `NoMemory` may come in place of these. The writing itself takes
 /// no memory.
 pub fn write_one<K: Sink>(alloc: Global, sink: &mut K, file: &FitFile) -> Result<(), EncodeFault>
     ensures ok { OnOk result (IsWellFormed file.now) }
-    ensures spelled { OnOk result (Appends (K.contents sink.old) (K.contents sink.new) (file_bytes file.now)) }
+    ensures spelled { OnOk result (Appends (K.contents sink.old) (K.contents sink.new)
+        (file_bytes file.now)) }
     ensures works { OnOk result (K.has_failed sink.new ≡ false) }
 
     // Before a byte went out.
@@ -34,8 +35,11 @@ pub fn write_one<K: Sink>(alloc: Global, sink: &mut K, file: &FitFile) -> Result
     ensures unchanged { IfErr result (λ fault. UnlessWrite fault (sink.new ≡ sink.old)) }
 
     // A good file, of which the sink took a part.
-    ensures written_of_good { IfErr result (λ fault. IfWrite fault (λ written. IsWellFormed file.now)) }
-    ensures written { IfErr result (λ fault. IfWrite fault (StopsAt (K.contents sink.old) (K.contents sink.new) (K.has_failed sink.new) (file_bytes file.now))) }
+    ensures written_of_good { IfErr result (λ fault.
+        IfWrite fault (λ written. IsWellFormed file.now)) }
+    ensures written { IfErr result (λ fault. IfWrite fault
+        (StopsAt (K.contents sink.old) (K.contents sink.new) (K.has_failed sink.new)
+        (file_bytes file.now))) }
 {
     let mut env = Env::new(alloc);
     let data_len = match check_one(alloc, &mut env, file) {
@@ -57,7 +61,8 @@ pub fn write_chain<K: Sink>(
     files: &[FitFile],
 ) -> Result<(), EncodeFault>
     ensures ok { OnOk result (IsWellFormedChain chain_limit files.now) }
-    ensures spelled { OnOk result (Appends (K.contents sink.old) (K.contents sink.new) (chain_bytes files.now)) }
+    ensures spelled { OnOk result (Appends (K.contents sink.old) (K.contents sink.new)
+        (chain_bytes files.now)) }
     ensures works { OnOk result (K.has_failed sink.new ≡ false) }
 
     // Before a byte went out.
@@ -65,8 +70,11 @@ pub fn write_chain<K: Sink>(
     ensures unchanged { IfErr result (λ fault. UnlessWrite fault (sink.new ≡ sink.old)) }
 
     // A good chain, of which the sink took a part.
-    ensures written_of_good { IfErr result (λ fault. IfWrite fault (λ written. IsWellFormedChain chain_limit files.now)) }
-    ensures written { IfErr result (λ fault. IfWrite fault (StopsAt (K.contents sink.old) (K.contents sink.new) (K.has_failed sink.new) (chain_bytes files.now))) }
+    ensures written_of_good { IfErr result (λ fault.
+        IfWrite fault (λ written. IsWellFormedChain chain_limit files.now)) }
+    ensures written { IfErr result (λ fault. IfWrite fault
+        (StopsAt (K.contents sink.old) (K.contents sink.new) (K.has_failed sink.new)
+        (chain_bytes files.now))) }
 {
     let mut env = Env::new(alloc);
     if let Err(fault) = check_files(alloc, &mut env, files) {
@@ -81,8 +89,10 @@ pub fn write_chain<K: Sink>(
 /// Writes files that can be written.
 fn write_files<K: Sink, A: Allocator>(sink: &mut K, files: &[FitFile<A>]) -> Result<(), u64>
     requires { IsWellFormedChain chain_limit files.now }
-    ensures ok { OnOk result (Appends (K.contents sink.old) (K.contents sink.new) (chain_bytes files.now)) }
-    ensures err { IfErr result (StopsAt (K.contents sink.old) (K.contents sink.new) (K.has_failed sink.new) (chain_bytes files.now)) }
+    ensures ok { OnOk result (Appends (K.contents sink.old) (K.contents sink.new)
+        (chain_bytes files.now)) }
+    ensures err { IfErr result (StopsAt (K.contents sink.old) (K.contents sink.new)
+        (K.has_failed sink.new) (chain_bytes files.now)) }
     ensures works { OnOk result (K.has_failed sink.new ≡ false) }
 {
     let mut count = 0;
@@ -92,8 +102,8 @@ fn write_files<K: Sink, A: Allocator>(sink: &mut K, files: &[FitFile<A>]) -> Res
     Ok(())
 }
 
-/// Writes a file that can be written, with so many bytes of data. So many bytes went out before it,
-/// and the answer counts on.
+/// Writes a file that can be written, with `data_len` bytes of data. `count` bytes went out before it,
+/// and the result counts on.
 fn write_file<K: Sink, A: Allocator>(
     sink: &mut K,
     count: u64,
@@ -102,7 +112,9 @@ fn write_file<K: Sink, A: Allocator>(
 ) -> Result<u64, u64>
     requires good { IsWellFormed file.now }
     requires size { data_len ≡ length (body file.now) }
-    ensures { Puts (told (K.contents sink.old) (K.has_failed sink.old)) (told (K.contents sink.new) (K.has_failed sink.new)) count (file_bytes file.now) result }
+    ensures { PutsAll
+        (sink_state K.contents K.has_failed sink.old) (sink_state K.contents K.has_failed sink.new)
+        count (file_bytes file.now) result }
 {
     let mut out = Spelling::new(count);
     spell_head(&mut out, sink, &file.header, data_len)?;
@@ -111,7 +123,7 @@ fn write_file<K: Sink, A: Allocator>(
     Ok(out.count())
 }
 
-/// Spells a header that can stand before so many bytes of data.
+/// Spells a header that can stand before that many bytes of data.
 fn spell_head<K: Sink>(
     out: &mut Spelling,
     sink: &mut K,
@@ -119,7 +131,9 @@ fn spell_head<K: Sink>(
     data_len: u32,
 ) -> Result<(), u64>
     requires { HeaderFits header.now data_len }
-    ensures { Sends (told (K.contents sink.old) (K.has_failed sink.old)) (told (K.contents sink.new) (K.has_failed sink.new)) out.old out.new (header_bytes header.now data_len) result }
+    ensures { Sends
+        (sink_state K.contents K.has_failed sink.old) (sink_state K.contents K.has_failed sink.new)
+        out.old out.new (header_bytes header.now data_len) result }
 {
     match head_bytes(header, data_len) {
         Ok(bytes) => out.bytes(sink, bytes.as_slice()),
@@ -135,7 +149,9 @@ fn spell_records<K: Sink, A: Allocator>(
     records: &[Record<A>],
 ) -> Result<(), u64>
     requires { AllFit empty_environment records.now }
-    ensures { Sends (told (K.contents sink.old) (K.has_failed sink.old)) (told (K.contents sink.new) (K.has_failed sink.new)) out.old out.new (records_bytes empty_environment records.now) result }
+    ensures { Sends
+        (sink_state K.contents K.has_failed sink.old) (sink_state K.contents K.has_failed sink.new)
+        out.old out.new (records_bytes empty_environment records.now) result }
 {
     let mut orders = [Order::Little; 16];
     for r in records {

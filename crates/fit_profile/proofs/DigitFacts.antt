@@ -1,5 +1,6 @@
 -- The last digits of a number.
-use Rattle.std.proofs.Common.{◌≡◌, inl, inr, drop, drop-cons, get_or, ◌∙◌, ◌++◌, ◌∷◌, [], ◌+◌, ◌*◌, ◌/◌, ◌%◌, ◌^◌, ◌<◌, ◌≤◌, zero, suc, ℕ, ℤ, pos, negsuc, mul_assoc, unsigned_abs, decimal, List, refl, ap, ap₂, sym, arith, add-one, length, append_assoc}
+use Rattle.std.proofs.Common.{◌≡◌, inl, inr, drop, drop-cons, get_or, ◌∙◌, ◌++◌, ◌∷◌, [], ◌+◌, ◌*◌, ◌/◌, ◌%◌, ◌^◌, ◌<◌, ◌≤◌, zero, suc, ℕ, ℤ, pos, negsuc}
+use Rattle.std.proofs.Common.{mul_assoc, unsigned_abs, decimal, List, refl, ap, ap₂, sym, arith, add-one, length, append_assoc}
 use Rattle.std.proofs.Math.Nat.{pow-suc, pow-succ', div-lt_iff_lt-mul, div-le_self, mod-lt, mod-eq_of_lt, add-mul, mul_comm, div-div-eq-div-mul}
 use Rattle.std.proofs.Math.Arith.{mod-mul}
 use Rattle.std.specs.Char.{is_ascii_digit}
@@ -8,7 +9,7 @@ use Rattle.std.proofs.lemmas.Fmt.{decimal_by_steps_wide, decimal_step_wide}
 use Rattle.std.specs.Fmt.{digits}
 use Rattle.std.proofs.lemmas.Bool.{cases_Bool, ne_eqb}
 use Rattle.fit_profile.specs.FixedText.{last_digits, fixed_text, fraction, sign}
-use Rattle.fit_profile.specs.Digits.{digits_in, next_value}
+use Rattle.fit_profile.specs.inner.Digits.{digits_in, next_value}
 
 pub last_digits-none : (n : ℕ) → last_digits 0 n ≡ []
 unfolding last_digits

@@ -1,5 +1,6 @@
 -- The first field of a number, place by place.
-use Rattle.std.proofs.Common.{◌≡◌, ℕ, zero, suc, ◌<◌, ◌==◌, List, [], ◌∷◌, length, drop, get_or, ◌≤◌, drop_of_length-le, ap, refl, sym, arith, eq-eqb, ◌∙◌, Some, None, inl, inr}
+use Rattle.std.proofs.Common.{◌≡◌, ℕ, zero, suc, ◌<◌, ◌==◌, List, [], ◌∷◌, length, drop, get_or, ◌≤◌, drop_of_length-le, ap, refl, sym, arith, eq-eqb, ◌∙◌}
+use Rattle.std.proofs.Common.{Some, None, inl, inr}
 use Rattle.std.proofs.lemmas.Bool.{ne_eqb}
 use Rattle.fit_base.specs.declared.items.Items.{Items}
 use Rattle.fit_record.specs.declared.definition.FieldDef.{FieldDef}
@@ -12,17 +13,20 @@ pub no-items : {A : Type 0} (fields : List FieldDef) (number : ℕ) → first_fi
 no-items [] number = refl
 no-items (f ∷ fields) number = refl
 
-pub here : {A : Type 0} (fields : List FieldDef) (items : List (Items A)) (number i : ℕ) (d : FieldDef) (x : Items A) → i < length fields → (get_or fields i d).number ≡ number
+pub here : {A : Type 0} (fields : List FieldDef) (items : List (Items A)) (number i : ℕ) (d : FieldDef) (x : Items A) → i < length fields
+    → (get_or fields i d).number ≡ number
     → i < length items → first_field (drop i fields) (drop i items) number ≡ Some (get_or fields i d, get_or items i x)
 here [] items number i d x h e l = absurd (omega (arith, h))
 here (f ∷ fields) [] number i d x h e l = absurd (omega (arith, l))
 here (f ∷ fields) (y ∷ items) number zero d x h e l = let test = eq-eqb f.number number e in rw test refl
 here (f ∷ fields) (y ∷ items) number (suc i) d x h e l = here fields items number i d x (omega (arith, h)) e (omega (arith, l))
 
-pub no-more : {A : Type 0} (fields : List FieldDef) (items : List (Items A)) (number i : ℕ) → length items ≤ i → first_field (drop i fields) (drop i items) number ≡ None
+pub no-more : {A : Type 0} (fields : List FieldDef) (items : List (Items A)) (number i : ℕ) → length items ≤ i
+    → first_field (drop i fields) (drop i items) number ≡ None
 no-more fields items number i h = ap (λ xs. first_field (drop i fields) xs number) (drop_of_length-le items h) ∙ no-items (drop i fields) number
 
-pub past : {A : Type 0} (fields : List FieldDef) (items : List (Items A)) (number i : ℕ) (d : FieldDef) → i < length fields → ((get_or fields i d).number ≡ number → ⊥)
+pub past : {A : Type 0} (fields : List FieldDef) (items : List (Items A)) (number i : ℕ) (d : FieldDef) → i < length fields
+    → ((get_or fields i d).number ≡ number → ⊥)
     → first_field (drop i fields) (drop i items) number ≡ first_field (drop (suc i) fields) (drop (suc i) items) number
 past [] items number i d h e = absurd (omega (arith, h))
 past (f ∷ fields) [] number zero d h e = sym (no-items fields number)
@@ -30,7 +34,8 @@ past (f ∷ fields) (x ∷ items) number zero d h e = let test = ne_eqb f.number
 past (f ∷ fields) [] number (suc i) d h e = no-items (drop i fields) number ∙ sym (no-items (drop (suc i) fields) number)
 past (f ∷ fields) (x ∷ items) number (suc i) d h e = past fields items number i d (omega (arith, h)) e
 
-pub none-left : {A : Type 0} (fields : List FieldDef) (items : List (Items A)) (number i : ℕ) → length fields ≤ i → first_field (drop i fields) (drop i items) number ≡ None
+pub none-left : {A : Type 0} (fields : List FieldDef) (items : List (Items A)) (number i : ℕ) → length fields ≤ i
+    → first_field (drop i fields) (drop i items) number ≡ None
 none-left fields items number i h = ap (λ fs. first_field fs (drop i items) number) (drop_of_length-le fields h)
 
 -- the items of the first field, by that field

@@ -7,7 +7,7 @@ use Rattle.fit_record.specs.Environment.{dev_defs, description}
 use Rattle.fit_profile.specs.declared.names.Described.{Described}
 use Rattle.fit_profile.specs.declared.names.Names.{Names}
 use Rattle.fit_profile.specs.Described.{Naming, nameless, naming, naming_by, naming_after, namings_after, naming_of}
-use Rattle.fit_profile.specs.Keeps.{Keeps, described, is_key, naming_in, namings_in}
+use Rattle.fit_profile.specs.inner.Keeps.{KeepsRecords, described, is_key, naming_in, namings_in}
 use Rattle.fit_profile.proofs.NameFacts.{or-kept}
 use Rattle.std.proofs.lemmas.Option.{none-some, same_Some}
 use Rattle.fit_record.specs.declared.environment.Defined.{Defined}
@@ -52,15 +52,18 @@ same-places : {A : Type 0} (e : Environment A) (o : Option Description) (local :
 same-places e None local = refl
 same-places e (Some s) local = refl
 
-pub same-definition : {A : Type 0} (earlier : List (Record A)) (v : Values A) → defined_at (known (Data v ∷ earlier)) v.local ≡ defined_at (known earlier) v.local
+pub same-definition : {A : Type 0} (earlier : List (Record A)) (v : Values A)
+    → defined_at (known (Data v ∷ earlier)) v.local ≡ defined_at (known earlier) v.local
 same-definition earlier v = same-places (known earlier) _ v.local
 
-pub told-kept : {A : Type 0} (xs now : List (Record A)) (e : Environment A) (l : Last) (r : Record A) (t : Option Told) → xs ≡ now → e ≡ known xs → l ≡ last_of xs → Fits (known now) r
+pub told-kept : {A : Type 0} (xs now : List (Record A)) (e : Environment A) (l : Last) (r : Record A) (t : Option Told) → xs ≡ now → e ≡ known xs
+    → l ≡ last_of xs → Fits (known now) r
     → t ≡ tell e l r → t ≡ told_of xs r
 told-kept xs now e l r t same env last fits is =
     is ∙ ap₂ (λ e' l'. tell e' l' r) env last ∙ tell-fits xs r (subst (λ ys. Fits (known ys) r) (sym same) fits)
 
-pub place-kept : {A : Type 0} (earlier now inside : List (Record A)) (e : Environment A) (v : Values A) → e ≡ known inside → inside ≡ now → now ≡ Data v ∷ earlier
+pub place-kept : {A : Type 0} (earlier now inside : List (Record A)) (e : Environment A) (v : Values A) → e ≡ known inside → inside ≡ now
+    → now ≡ Data v ∷ earlier
     → defined_at e v.local ≡ defined_at (known earlier) v.local
 place-kept earlier now inside e v env view pushed = ap (λ x. defined_at x v.local) (env ∙ ap known (view ∙ pushed)) ∙ same-definition earlier v
 
@@ -85,13 +88,15 @@ given (Some x) index number before = cond (is_key x.key index number) x.texts be
 
 described-helper : (A : Type 0) (q : Option Description) (nm : Naming) (index number : ℕ) (before : Naming)
     → unwrap_or (option_and_then (λ s. if s.key.index == index && s.key.number == number then Some nm else None) q) before
-    ≡ given {A = A} (option_map (λ k. record { key = k; texts = nm }) (option_map (λ s. record { index = s.key.index; number = s.key.number }) q)) index number before
+    ≡ given {A = A} (option_map (λ k. record { key = k; texts = nm }) (option_map (λ s. record { index = s.key.index; number = s.key.number }) q)) index number
+    before
 unfolding given
 described-helper A None nm index number before = refl
 described-helper A (Some s) nm index number before = or-kept (s.key.index == index && s.key.number == number) nm before None
 
 described-placed : {A : Type 0} (v : Values A) (o : Option (Defined A)) (x : Option (Described A)) (index number : ℕ) (before : Naming)
-    → x ≡ option_and_then (λ p. described p.definition v) o → unwrap_or (option_and_then (λ p. naming_by p.definition v index number) o) before ≡ given x index number before
+    → x ≡ option_and_then (λ p. described p.definition v) o
+    → unwrap_or (option_and_then (λ p. naming_by p.definition v index number) o) before ≡ given x index number before
 unfolding given
 described-placed v None x index number before e = sym (ap (λ y. given y index number before) e)
 described-placed {A = A} v (Some p) x index number before e =
@@ -111,14 +116,17 @@ one-described e r v x index number before held now is some same set =
     set ∙ ap (λ h. cond (is_key x.key index number) x.texts h) same
     ∙ sym (described-placed v (defined_at e v.local) (Some x) index number before some) ∙ sym (ap (λ s. naming_after e s index number before) is)
 
-pub no-definition : {A : Type 0} (f : ℕ → ℕ → Naming) (r : Record A) (v : Values A) (local : ℕ) (before now : List Naming) → r ≡ Data v → now ≡ before → now ≡ namings_after f r local before
+pub no-definition : {A : Type 0} (f : ℕ → ℕ → Naming) (r : Record A) (v : Values A) (local : ℕ) (before now : List Naming) → r ≡ Data v → now ≡ before
+    → now ≡ namings_after f r local before
 no-definition f r v local before now is same = same ∙ sym (ap (λ s. namings_after f s local before) is)
 
-pub no-description : {A : Type 0} (e : Environment A) (r : Record A) (d : MessageDef A) (index number : ℕ) (before now : Naming) → r ≡ Define d → now ≡ before → now ≡ naming_after e r index number before
+pub no-description : {A : Type 0} (e : Environment A) (r : Record A) (d : MessageDef A) (index number : ℕ) (before now : Naming) → r ≡ Define d → now ≡ before
+    → now ≡ naming_after e r index number before
 no-description e r d index number before now is same = same ∙ sym (ap (λ s. naming_after e s index number before) is)
 
 pub one-definition : {A : Type 0} (f : ℕ → ℕ → Naming) (r : Record A) (d : MessageDef A) (local : ℕ) (before held now given_now : List Naming) → r ≡ Define d
-    → given_now ≡ map (λ x. f x.index x.number) (dev_defs d.dev) → held ≡ before → now ≡ cond (d.local == local) given_now held → now ≡ namings_after f r local before
+    → given_now ≡ map (λ x. f x.index x.number) (dev_defs d.dev) → held ≡ before → now ≡ cond (d.local == local) given_now held
+    → now ≡ namings_after f r local before
 one-definition f r d local before held now given_now is list same put =
     put ∙ ap₂ (λ g h. cond (d.local == local) g h) list same ∙ sym (ap (λ s. namings_after f s local before) is)
 
@@ -127,13 +135,14 @@ one-definition f r d local before held now given_now is list same put =
 -- before the first record nothing is kept
 pub keeps-nothing : {A : Type 0} (e : Environment A) (n : Names A) (items : List (Record A)) → e ≡ empty_environment
     → ((index number : ℕ) → naming_in n index number ≡ nameless) → ((local : ℕ) → namings_in n local ≡ []) → items ≡ []
-    → Keeps e (record { time = None; distance = 0; total_cycles = 0; accumulated_power = 0 }) n (reverse items)
+    → KeepsRecords e (record { time = None; distance = 0; total_cycles = 0; accumulated_power = 0 }) n (reverse items)
 keeps-nothing e n items env naming namings none =
-    subst (λ xs. Keeps e (record { time = None; distance = 0; total_cycles = 0; accumulated_power = 0 }) n (reverse xs)) (sym none)
+    subst (λ xs. KeepsRecords e (record { time = None; distance = 0; total_cycles = 0; accumulated_power = 0 }) n (reverse xs)) (sym none)
     (record { env_is = env; last_is = refl; naming_is = naming; namings_are = namings })
 
-pub keeps-same : {A : Type 0} (e e' : Environment A) (l : Last) (n n' : Names A) (xs : List (Record A)) → Keeps e l n xs → e' ≡ e
-    → ((index number : ℕ) → naming_in n' index number ≡ naming_in n index number) → ((local : ℕ) → namings_in n' local ≡ namings_in n local) → Keeps e' l n' xs
+pub keeps-same : {A : Type 0} (e e' : Environment A) (l : Last) (n n' : Names A) (xs : List (Record A)) → KeepsRecords e l n xs → e' ≡ e
+    → ((index number : ℕ) → naming_in n' index number ≡ naming_in n index number) → ((local : ℕ) → namings_in n' local ≡ namings_in n local)
+    → KeepsRecords e' l n' xs
 keeps-same e e' l n n' xs k env naming namings = record {
   env_is = env ∙ k.env_is;
   last_is = k.last_is;
@@ -141,10 +150,11 @@ keeps-same e e' l n n' xs k env naming namings = record {
   namings_are = λ local. namings local ∙ k.namings_are local;
 }
 
-keeps-after : {A : Type 0} (e e' : Environment A) (l l' : Last) (n n' : Names A) (xs : List (Record A)) (r : Record A) (t : Option Told) → Keeps e l n xs → Fits (known xs) r
+keeps-after : {A : Type 0} (e e' : Environment A) (l l' : Last) (n n' : Names A) (xs : List (Record A)) (r : Record A) (t : Option Told) → KeepsRecords e l n xs
+    → Fits (known xs) r
     → e' ≡ learn e r → t ≡ tell e l r → l' ≡ last_after l t
     → ((index number : ℕ) → naming_in n' index number ≡ naming_after e r index number (naming_in n index number))
-    → ((local : ℕ) → namings_in n' local ≡ namings_after (naming_in n) r local (namings_in n local)) → Keeps e' l' n' (r ∷ xs)
+    → ((local : ℕ) → namings_in n' local ≡ namings_after (naming_in n) r local (namings_in n local)) → KeepsRecords e' l' n' (r ∷ xs)
 keeps-after e e' l l' n n' xs r t k fits env told last naming namings =
     let same_naming : naming_in n ≡ naming_of xs = λ i index number. k.naming_is index number i in
     record {
@@ -154,14 +164,17 @@ keeps-after e e' l l' n n' xs r t k fits env told last naming namings =
       namings_are = λ local. namings local ∙ ap₂ (λ f b. namings_after f r local b) same_naming (k.namings_are local);
     }
 
-pub keeps-next : {A : Type 0} (e e' : Environment A) (l l' : Last) (n n' : Names A) (items : List (Record A)) (r : Record A) (t : Option Told) → Keeps e l n (reverse items)
+pub keeps-next : {A : Type 0} (e e' : Environment A) (l l' : Last) (n n' : Names A) (items : List (Record A)) (r : Record A) (t : Option Told)
+    → KeepsRecords e l n (reverse items)
     → Fits (known (reverse items)) r → e' ≡ learn e r → t ≡ tell e l r → l' ≡ last_after l t
     → ((index number : ℕ) → naming_in n' index number ≡ naming_after e r index number (naming_in n index number))
-    → ((local : ℕ) → namings_in n' local ≡ namings_after (naming_in n) r local (namings_in n local)) → Keeps e' l' n' (reverse (items ++ (r ∷ [])))
+    → ((local : ℕ) → namings_in n' local ≡ namings_after (naming_in n) r local (namings_in n local)) → KeepsRecords e' l' n' (reverse (items ++ (r ∷ [])))
 keeps-next e e' l l' n n' items r t k fits env told last naming namings =
-    subst (Keeps e' l' n') (sym (reverse-append items (r ∷ []))) (keeps-after e e' l l' n n' (reverse items) r t k fits env told last naming namings)
+    subst (KeepsRecords e' l' n') (sym (reverse-append items (r ∷ []))) (keeps-after e e' l l' n n' (reverse items) r t k fits env told last naming namings)
 
-pub told-now : {A : Type 0} (e : Environment A) (l : Last) (n : Names A) (xs now : List (Record A)) (r : Record A) (t : Option Told) → Keeps e l n xs → xs ≡ now → Fits (known now) r
+pub told-now : {A : Type 0} (e : Environment A) (l : Last) (n : Names A) (xs now : List (Record A)) (r : Record A) (t : Option Told) → KeepsRecords e l n xs
+    → xs ≡ now
+    → Fits (known now) r
     → t ≡ tell e l r → t ≡ told_of now r
 told-now e l n xs now r t k view fits told =
     told-kept xs now e l r t view k.env_is k.last_is fits told ∙ ap (λ ys. told_of ys r) view

@@ -1,5 +1,6 @@
 -- The least number from a start on that leaves a given rest, by arithmetic.
-use Rattle.std.proofs.Common.{◌≡◌, ◌∙◌, ℕ, zero, suc, ◌+◌, ◌-◌, ◌*◌, ◌/◌, ◌%◌, ◌<◌, ◌≤◌, ◌==◌, Bool, true, false, Some, None, inl, inr, refl, sym, ap, arith, subst, eq-eqb}
+use Rattle.std.proofs.Common.{◌≡◌, ◌∙◌, ℕ, zero, suc, ◌+◌, ◌-◌, ◌*◌, ◌/◌, ◌%◌, ◌<◌, ◌≤◌, ◌==◌, Bool, true, false, Some, None, inl, inr, refl, sym, ap, arith}
+use Rattle.std.proofs.Common.{subst, eq-eqb}
 use Rattle.std.specs.Prelude.{find, IsSomeAnd}
 use Rattle.std.specs.List.{range_with_len}
 use Rattle.std.proofs.Math.Nat.{add-mod_right, mod-add-div', mod-lt}
@@ -13,7 +14,8 @@ find-none p (suc n) start h =
     let first : p start ≡ false = let e : start + 0 ≡ start = omega arith in ap p (sym e) ∙ h 0 (omega arith) in
     rw first (find-none p n (start + 1) (λ j l. let e : start + 1 + j ≡ start + (j + 1) = omega arith in ap p e ∙ h (j + 1) (omega (arith, l))))
 
-find-first : (p : ℕ → Bool) (n start k : ℕ) → k < n → p (start + k) ≡ true → ((j : ℕ) → j < k → p (start + j) ≡ false) → find p (range_with_len start n) ≡ Some (start + k)
+find-first : (p : ℕ → Bool) (n start k : ℕ) → k < n → p (start + k) ≡ true → ((j : ℕ) → j < k → p (start + j) ≡ false)
+    → find p (range_with_len start n) ≡ Some (start + k)
 find-first p zero start k l hit miss = absurd (omega (arith, l))
 find-first p (suc n) start zero l hit miss =
     let e : start + 0 ≡ start = omega arith in
@@ -23,7 +25,8 @@ find-first p (suc n) start (suc k) l hit miss =
     let e : start + 0 ≡ start = omega arith in
     let first : p start ≡ false = ap p (sym e) ∙ miss 0 (omega arith) in
     let next : start + 1 + k ≡ start + suc k = omega arith in
-    rw first (find-first p n (start + 1) k (omega (arith, l)) (ap p next ∙ hit) (λ j m. let f : start + 1 + j ≡ start + (j + 1) = omega arith in ap p f ∙ miss (j + 1) (omega (arith, m))) ∙ ap Some next)
+    rw first (find-first p n (start + 1) k (omega (arith, l)) (ap p next ∙ hit)
+    (λ j m. let f : start + 1 + j ≡ start + (j + 1) = omega arith in ap p f ∙ miss (j + 1) (omega (arith, m))) ∙ ap Some next)
 
 near-parts : (q m x j : ℕ) → x + j < m → (q * m + x + j) % m ≡ x + j
 near-parts q m x j h = let e : q * m + x + j ≡ q * m + (x + j) = omega arith in ap (λ z. z % m) e ∙ mod-mul-add q m (x + j) h
@@ -56,15 +59,18 @@ late start rest m j r at l e =
     ]
 
 least-by : (start rest m k : ℕ) → k < m → (start + k) % m ≡ rest → ((j : ℕ) → j < k → (start + j) % m ≡ rest → ⊥) → least_from start rest m ≡ Some (start + k)
-least-by start rest m k l hit miss = find-first (λ a. a % m == rest) m start k l (eq-eqb ((start + k) % m) rest hit) (λ j h. ne_eqb ((start + j) % m) rest (miss j h))
+least-by start rest m k l hit miss = find-first (λ a. a % m == rest) m start k l (eq-eqb ((start + k) % m) rest hit)
+    (λ j h. ne_eqb ((start + j) % m) rest (miss j h))
 
 pub least-none : (start rest m : ℕ) → 0 < m → m ≤ rest → least_from start rest m ≡ None
 least-none start rest m above h =
-    find-none (λ a. a % m == rest) m start (λ j l. ne_eqb ((start + j) % m) rest (λ e. let below : (start + j) % m < m = mod-lt (start + j) above in omega (arith, below, e, h)))
+    find-none (λ a. a % m == rest) m start (λ j l.
+    ne_eqb ((start + j) % m) rest (λ e. let below : (start + j) % m < m = mod-lt (start + j) above in omega (arith, below, e, h)))
 
 pub least-before : (start rest m : ℕ) → rest < m → start % m ≤ rest → least_from start rest m ≡ Some (start + (rest - start % m))
 least-before start rest m r at =
-    least-by start rest m (rest - start % m) (omega (arith, r)) (near start m (rest - start % m) (omega (arith, r, at)) ∙ omega (arith, at)) (λ j l e. early start rest m j r at l e)
+    least-by start rest m (rest - start % m) (omega (arith, r)) (near start m (rest - start % m) (omega (arith, r, at)) ∙ omega (arith, at))
+    (λ j l e. early start rest m j r at l e)
 
 pub least-after : (start rest m : ℕ) → rest < m → rest < start % m → least_from start rest m ≡ Some (start + (m - start % m + rest))
 least-after start rest m r at =

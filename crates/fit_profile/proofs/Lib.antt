@@ -11,3 +11,4 @@ mod ScaleFacts
 mod ScanFacts
 mod ShownFacts
 mod TextFacts
+mod KnownCounters

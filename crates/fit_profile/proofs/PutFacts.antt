@@ -7,7 +7,8 @@ use Rattle.fit_profile.proofs.DigitFacts.{last_digits-end, last_digits-none, pow
 use Rattle.std.proofs.lemmas.List.{append-nil}
 
 pub one_digit : (n : ℕ) → n < 10 → decimal n ≡ (48 + n) ∷ []
-one_digit n h = decimal_by_steps_wide (λ m ds. m < 10 → ds ≡ (48 + m) ∷ []) (λ m l less. refl) (λ m ds l more less. absurd (omega (arith, l, less))) n (omega (arith, h)) h
+one_digit n h = decimal_by_steps_wide (λ m ds. m < 10 → ds ≡ (48 + m) ∷ []) (λ m l less. refl) (λ m ds l more less. absurd (omega (arith, l, less))) n
+    (omega (arith, h)) h
 
 pub two_digits : (n : ℕ) → 10 ≤ n → n < 100 → decimal n ≡ (48 + n / 10) ∷ (48 + n % 10) ∷ []
 two_digits n low high = decimal_step_wide n low (omega (arith, high)) ∙ ap (λ ds. ds ++ ((48 + n % 10) ∷ [])) (one_digit (n / 10) (omega (arith, high)))
@@ -15,14 +16,16 @@ two_digits n low high = decimal_step_wide n low (omega (arith, high)) ∙ ap (λ
 pub three_digits : (n : ℕ) → 100 ≤ n → n < 1000 → decimal n ≡ (48 + n / 100) ∷ (48 + n / 10 % 10) ∷ (48 + n % 10) ∷ []
 three_digits n low high =
     let tens : n / 10 / 10 ≡ n / 100 = omega arith in
-    decimal_step_wide n (omega (arith, low)) (omega (arith, high)) ∙ ap (λ ds. ds ++ ((48 + n % 10) ∷ [])) (two_digits (n / 10) (omega (arith, low)) (omega (arith, high)))
+    decimal_step_wide n (omega (arith, low)) (omega (arith, high))
+    ∙ ap (λ ds. ds ++ ((48 + n % 10) ∷ [])) (two_digits (n / 10) (omega (arith, low)) (omega (arith, high)))
     ∙ ap (λ m. (48 + m) ∷ (48 + n / 10 % 10) ∷ (48 + n % 10) ∷ []) tens
 
 pub four_digits : (n : ℕ) → 1000 ≤ n → n < 10_000 → decimal n ≡ (48 + n / 1000) ∷ (48 + n / 100 % 10) ∷ (48 + n / 10 % 10) ∷ (48 + n % 10) ∷ []
 four_digits n low high =
     let hundreds : n / 10 / 100 ≡ n / 1000 = omega arith in
     let tens : n / 10 / 10 % 10 ≡ n / 100 % 10 = omega arith in
-    decimal_step_wide n (omega (arith, low)) (omega (arith, high)) ∙ ap (λ ds. ds ++ ((48 + n % 10) ∷ [])) (three_digits (n / 10) (omega (arith, low)) (omega (arith, high)))
+    decimal_step_wide n (omega (arith, low)) (omega (arith, high))
+    ∙ ap (λ ds. ds ++ ((48 + n % 10) ∷ [])) (three_digits (n / 10) (omega (arith, low)) (omega (arith, high)))
     ∙ ap₂ (λ a b. (48 + a) ∷ (48 + b) ∷ (48 + n / 10 % 10) ∷ (48 + n % 10) ∷ []) hundreds tens
 
 pub last_four : (n : ℕ) → last_digits 4 n ≡ (48 + n / 1000 % 10) ∷ (48 + n / 100 % 10) ∷ (48 + n / 10 % 10) ∷ (48 + n % 10) ∷ []
@@ -44,7 +47,8 @@ split_digits (suc k) n low high =
 
 -- behind a text, in two parts
 pub put_parts : (n : ℕ) (text : List ℕ) → 10_000 ≤ n → n < 2 ^ 64 → (text ++ decimal (n / 10_000)) ++ last_digits 4 n ≡ text ++ decimal n
-put_parts n text low high = append_assoc text (decimal (n / 10_000)) (last_digits 4 n) ∙ ap (λ ds. text ++ ds) (sym (split_digits 4 n low (omega (arith, high))))
+put_parts n text low high = append_assoc text (decimal (n / 10_000)) (last_digits 4 n)
+    ∙ ap (λ ds. text ++ ds) (sym (split_digits 4 n low (omega (arith, high))))
 
 pub one_decimal : (n : ℕ) → n < 10 → last_digits 1 n ≡ (48 + n) ∷ []
 unfolding last_digits

@@ -1,5 +1,6 @@
 -- What a printed text reads as.
-use Rattle.std.proofs.Common.{◌≡◌, ◌∙◌, ◌++◌, ◌∷◌, [], ◌/◌, ◌%◌, ◌^◌, ◌<◌, ◌≤◌, ℕ, ℤ, pos, negsuc, unsigned_abs, decimal, List, false, refl, ap, ap₂, arith, sym, length, subst}
+use Rattle.std.proofs.Common.{◌≡◌, ◌∙◌, ◌++◌, ◌∷◌, [], ◌/◌, ◌%◌, ◌^◌, ◌<◌, ◌≤◌, ℕ, ℤ, pos, negsuc, unsigned_abs, decimal, List, false, refl, ap, ap₂, arith}
+use Rattle.std.proofs.Common.{sym, length, subst}
 use Rattle.std.proofs.Math.Nat.{div-le_self}
 use Rattle.std.proofs.lemmas.Bool.{ne_eqb}
 use Rattle.std.proofs.lemmas.Int.{ints}
@@ -7,7 +8,7 @@ use Rattle.std.proofs.lemmas.Fmt.{decimal_is_IsNumeral_wide}
 use Rattle.std.specs.Str.Parse.{starts_with_minus, AllDigits}
 use Rattle.std.specs.Char.{digit_value}
 use Rattle.fit_profile.specs.FixedText.{fixed_text, fraction, IsIn128}
-use Rattle.fit_profile.specs.Digits.{digits_in, signed_value}
+use Rattle.fit_profile.specs.inner.Digits.{digits_in, signed_value}
 use Rattle.fit_profile.proofs.DigitFacts.{digits_in-text}
 
 minus-digit : digit_value 45 < 10 → ⊥

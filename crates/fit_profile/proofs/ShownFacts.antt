@@ -16,7 +16,8 @@ not-none (Some x) h e = none-some x e
 
 -- values in a place that is defined show what is meant
 pub shown-meant : {A : Type 0} (earlier : List (Record A)) (v : Values A) (o : Option (Defined A)) (s : Shown A) → IsSomeAnd o (DataFits v) → s.values ≡ v
-    → Some (record { definition = s.definition; dev_codes = s.dev_codes }) ≡ o → s.namings ≡ namings_at earlier v.local → s.told ≡ told earlier v → IsSomeAnd o (λ p. s ≡ meant earlier v p)
+    → Some (record { definition = s.definition; dev_codes = s.dev_codes }) ≡ o → s.namings ≡ namings_at earlier v.local → s.told ≡ told earlier v
+    → IsSomeAnd o (λ p. s ≡ meant earlier v p)
 shown-meant earlier v None s fits values defined namings told_is = absurd fits
 shown-meant {A = A} earlier v (Some p) s fits values defined namings told_is =
     let q : Defined A = record { definition = s.definition; dev_codes = s.dev_codes } in

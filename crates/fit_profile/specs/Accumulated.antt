@@ -1,6 +1,7 @@
 -- Accumulated values of record messages, global message number 20: a field holds the low bits of a value that only grows (FIT SDK, Profile,
 -- columns "Components", "Bits" and "Accumulate").
-use Rattle.std.specs.Prelude.{ℕ, ◌/◌, ◌%◌, ◌^◌, ◌==◌, ◌&&◌, if◌then◌else◌, nat_lt, List, [], ◌∷◌, length, Option, Some, None, option_and_then, option_map, unwrap_or}
+use Rattle.std.specs.Prelude.{ℕ, ◌/◌, ◌%◌, ◌^◌, ◌==◌, ◌&&◌, if◌then◌else◌, nat_lt, List, [], ◌∷◌, length, Option, Some, None, option_and_then, option_map}
+use Rattle.std.specs.Prelude.{unwrap_or}
 use Rattle.fit_base.specs.declared.items.Items.{Items}
 use Rattle.fit_base.specs.Numbers.{little}
 use Rattle.fit_record.specs.declared.definition.MessageDef.{MessageDef}
@@ -23,7 +24,8 @@ total_cycles = record { field = 18; items = 1; width = 1; skipped = 0xFF; diviso
 abbrev pub accumulated_power : Component
 accumulated_power = record { field = 28; items = 1; width = 2; skipped = 0xFFFF; divisor = 1; modulus = 2 ^ 16 }
 
--- the number that items of the right shape make up, the lowest first; the greatest one counts nothing
+-- The number that items of the right shape make up, the lowest first. The greatest one of its bits counts nothing; any other one is
+-- below it, and counts. `proofs/KnownCounters` computes it for known items.
 abbrev pub number_in : {A : Type 0} → Component → Items A → Option ℕ
 number_in c i =
     if (i.width == c.width && length i.bits == c.items) && nat_lt (little i.bits) c.skipped then Some (little i.bits) else None

@@ -1,5 +1,6 @@
 -- The text of a number with a fixed number of decimals.
-use Rattle.std.specs.Prelude.{◌++◌, ◌∷◌, [], ◌+◌, ◌-◌, ◌/◌, ◌%◌, ◌^◌, ◌==◌, zero, suc, ℕ, List, decimal, ℤ, pos, negsuc, neg_ℤ, ◌≤ℤ◌, unsigned_abs, if◌then◌else◌}
+use Rattle.std.specs.Prelude.{◌++◌, ◌∷◌, [], ◌+◌, ◌-◌, ◌/◌, ◌%◌, ◌^◌, ◌==◌, zero, suc, ℕ, List, decimal, ℤ, pos, negsuc, neg_ℤ, ◌≤ℤ◌, unsigned_abs}
+use Rattle.std.specs.Prelude.{if◌then◌else◌}
 
 -- the last k digits of n
 unfoldable pub last_digits : ℕ → ℕ → List ℕ

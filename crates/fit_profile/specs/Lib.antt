@@ -4,14 +4,12 @@ pub mod Scaled
 pub mod FixedText
 pub mod Instant
 pub mod Laws
-pub mod Digits
 pub mod Least
 pub mod Looks
 pub mod Times
 pub mod Accumulated
 pub mod Told
 pub mod Described
-pub mod Keeps
 pub mod Values
 pub mod Meant
-pub mod Shows
+pub mod inner

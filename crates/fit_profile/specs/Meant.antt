@@ -52,26 +52,27 @@ MessageOf earlier (Data v) (Some m) = IsSomeAnd (defined_at (known earlier) v.lo
 -- ---- the parts of a message by their places, which count from 0
 
 -- a field: its number, its code and its items
-pub record Part (A : Type 0) : Type 0 where
+pub record FieldPart (A : Type 0) : Type 0 where
   pub number : ℕ
   pub code : ℕ
   pub items : Items A
 
 -- what a view of a field says
-abbrev pub part_of : {A : Type 0} → FieldView A → Part A
+abbrev pub part_of : {A : Type 0} → FieldView A → FieldPart A
 part_of f = record { number = f.number; code = f.code; items = f.items.now }
 
 -- a field with its items
-abbrev pub first_part : {A : Type 0} → FieldDef × Items A → Part A
+abbrev pub first_part : {A : Type 0} → FieldDef × Items A → FieldPart A
 first_part f = record { number = f.0.number; code = f.0.code; items = f.1 }
 
 -- the field at a place, and its items
-abbrev pub field_at : {A : Type 0} → Shown A → ℕ → Option (Part A)
+abbrev pub field_at : {A : Type 0} → Shown A → ℕ → Option (FieldPart A)
 field_at m place =
-    option_and_then (λ f. option_map (λ i. record { number = f.number; code = f.code; items = i }) (slice_get m.values.fields place)) (slice_get m.definition.fields place)
+    option_and_then (λ f. option_map (λ i. record { number = f.number; code = f.code; items = i }) (slice_get m.values.fields place))
+    (slice_get m.definition.fields place)
 
 -- the developer field at a place, with the code that its description gave, and its items
-abbrev pub dev_field_at : {A : Type 0} → Shown A → ℕ → Option (Part A)
+abbrev pub dev_field_at : {A : Type 0} → Shown A → ℕ → Option (FieldPart A)
 dev_field_at m place =
     option_and_then (λ f. option_and_then (λ code. option_map (λ i. record { number = f.number; code = code; items = i })
     (slice_get m.values.dev place)) (slice_get m.dev_codes place)) (slice_get (dev_defs m.definition.dev) place)

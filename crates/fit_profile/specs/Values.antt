@@ -25,7 +25,8 @@ number_of_class Bytes width bits = None
 -- an item of its code's width holds a value where it isn't the invalid one
 abbrev pub valid_number : ℕ → ℕ → ℕ → Option ℤ
 valid_number code width bits =
-    if (width == (base_type code).width && nat_lt bits (256 ^ width)) && not (bits == (base_type code).invalid) then number_of_class (base_type code).class width bits
+    if (width == (base_type code).width && nat_lt bits (256 ^ width)) && not (bits == (base_type code).invalid) then number_of_class (base_type code).class
+    width bits
     else None
 
 -- the number of a field's first item
@@ -35,7 +36,8 @@ first_number f i = option_and_then (valid_number f.code i.width) (slice_get i.bi
 -- the number of the first field of this number, with what the profile says of the field
 abbrev pub known_number : {A : Type 0} → MessageDef A → Values A → ℕ → Option (ℤ × Meaning)
 known_number d v number =
-    option_and_then (λ f. option_and_then (λ raw. option_map (λ m. (raw, m)) (field d.global number)) (first_number f.0 f.1)) (first_field d.fields v.fields number)
+    option_and_then (λ f. option_and_then (λ raw. option_map (λ m. (raw, m)) (field d.global number)) (first_number f.0 f.1))
+    (first_field d.fields v.fields number)
 
 -- the number that a raw value of a field stands for, where there is one
 abbrev pub IsValueOf : Option (ℤ × Meaning) → Option Fixed → Type 0

@@ -34,7 +34,8 @@ fn signed(value: i128) -> Text
 fn push_small(text: &mut Text, size: u64, decimals: u8)
     requires few { decimals ≤ 8 }
     requires room { array_string_len text.old ≤ 1 }
-    ensures { text.new.bytes ≡ text.old.bytes ++ decimal (size / 10 ^ decimals) ++ fraction decimals (size % 10 ^ decimals) }
+    ensures { text.new.bytes ≡ text.old.bytes ++ decimal (size / 10 ^ decimals)
+        ++ fraction decimals (size % 10 ^ decimals) }
 {
     let unit = power(decimals);
     text.push_str(Buffer::new().format(size / unit));
@@ -45,7 +46,8 @@ fn push_small(text: &mut Text, size: u64, decimals: u8)
 fn push_large(text: &mut Text, size: u128, decimals: u8)
     requires few { decimals ≤ 8 }
     requires room { array_string_len text.old ≤ 1 }
-    ensures { text.new.bytes ≡ text.old.bytes ++ decimal (size / 10 ^ decimals) ++ fraction decimals (size % 10 ^ decimals) }
+    ensures { text.new.bytes ≡ text.old.bytes ++ decimal (size / 10 ^ decimals)
+        ++ fraction decimals (size % 10 ^ decimals) }
 {
     let unit = power(decimals) as u128;
     text.push_str(Buffer::new().format(size / unit));
@@ -71,7 +73,8 @@ impl Fixed {
     /// Puts the text of the number behind another one.
     pub fn put(&self, text: &mut Vec<u8>) -> Result<(), AllocError>
         requires { self.now.decimals ≤ 8 }
-        ensures { OnOk result (text.new.items ≡ text.old.items ++ fixed_text self.now.value self.now.decimals) }
+        ensures { OnOk result (text.new.items ≡ text.old.items
+            ++ fixed_text self.now.value self.now.decimals) }
     {
         match i64::try_from(self.value) {
             Ok(value) => put_fixed(text, value, self.decimals),
@@ -81,7 +84,8 @@ impl Fixed {
 
     /// The number that `print` writes as this text, and some number, or None, where it writes none so.
     pub fn read(text: &str, decimals: u8) -> Option<Fixed>
-        ensures { (v : ℤ) → IsIn128 v → text.now ≡ fixed_text v decimals → result ≡ Some (record { value = v; decimals = decimals }) }
+        ensures { (v : ℤ) → IsIn128 v → text.now ≡ fixed_text v decimals
+            → result ≡ Some (record { value = v; decimals = decimals }) }
     {
         let size = size_of(text.as_bytes())?;
         let value = with_sign(is_below(text.as_bytes()), size)?;
@@ -91,8 +95,10 @@ impl Fixed {
     /// The number that `print` writes as this text; None where it writes none so.
     pub fn scan(text: &str, decimals: u8) -> Option<Fixed>
         requires { decimals ≤ 8 }
-        ensures some { IfSome result (λ f. (f.decimals ≡ decimals) × (text.now ≡ fixed_text f.value decimals)) }
-        ensures every { (v : ℤ) → IsIn128 v → text.now ≡ fixed_text v decimals → result ≡ Some (record { value = v; decimals = decimals }) }
+        ensures some { IfSome result (λ f. (f.decimals ≡ decimals)
+            × (text.now ≡ fixed_text f.value decimals)) }
+        ensures every { (v : ℤ) → IsIn128 v → text.now ≡ fixed_text v decimals
+            → result ≡ Some (record { value = v; decimals = decimals }) }
     {
         let size = size_of(text.as_bytes())?;
         let value = with_sign(is_below(text.as_bytes()), size)?;

@@ -3,7 +3,7 @@ ghost use Rattle.std.specs.Prelude.{◌≡◌, ◌≤◌, ◌<◌, ◌++◌, ◌
 ghost use Rattle.std.specs.Str.Parse.{starts_with_minus};
 ghost use Rattle.arrayvec.specs.ArrayString.{array_string_len};
 ghost use Rattle.fit_profile.specs.FixedText.{fraction, IsIn128};
-ghost use Rattle.fit_profile.specs.Digits.{digits_in, next_value, signed_value};
+ghost use Rattle.fit_profile.specs.inner.Digits.{digits_in, next_value, signed_value};
 
 use arrayvec::ArrayString;
 use itoa::Buffer;

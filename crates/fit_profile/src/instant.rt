@@ -41,7 +41,8 @@ fn push_two(text: &mut Label, n: u8)
 fn push_date(text: &mut Label, date: Date)
     requires year { pos 0 ≤ℤ date.year }
     requires room { array_string_len text.old + 10 ≤ 32 }
-    ensures bytes { text.new.bytes ≡ text.old.bytes ++ date_digits (unsigned_abs date.year) date.month date.day }
+    ensures bytes { text.new.bytes ≡ text.old.bytes
+        ++ date_digits (unsigned_abs date.year) date.month date.day }
 {
     let year = date.year() as u16;
     push_two(text, (year / 100) as u8);

@@ -4,7 +4,7 @@ ghost use Rattle.fit_record.specs.Environment.{defined_at, learn};
 ghost use Rattle.fit_record.specs.Records.{Fits};
 ghost use Rattle.fit_record.specs.declared.message.Record.TheVariants.{Define, Values as Data};
 ghost use Rattle.fit_profile.specs.Described.{naming_after, namings_after};
-ghost use Rattle.fit_profile.specs.Keeps.{described, naming_in, namings_in};
+ghost use Rattle.fit_profile.specs.inner.Keeps.{described, naming_in, namings_in};
 
 use crate::names::{Described, Names, described_by};
 use fit_record::{Env, MessageDef, Record, Values};
@@ -21,10 +21,14 @@ fn define<A: Allocator + Copy>(
     requires fits { Fits env.old record_.now }
     ensures learned { OnOk result (env.new ≡ learn env.old record_.now) }
     ensures env_kept { OnErr result (env.new ≡ env.old) }
-    ensures naming { OnOk result ((index number : ℕ) → naming_in names.new index number ≡ naming_after env.old record_.now index number (naming_in names.old index number)) }
-    ensures namings { OnOk result ((local : ℕ) → namings_in names.new local ≡ namings_after (naming_in names.old) record_.now local (namings_in names.old local)) }
-    ensures naming_kept { OnErr result ((index number : ℕ) → naming_in names.new index number ≡ naming_in names.old index number) }
-    ensures namings_kept { OnErr result ((local : ℕ) → namings_in names.new local ≡ namings_in names.old local) }
+    ensures naming { OnOk result ((index number : ℕ) → naming_in names.new index number
+        ≡ naming_after env.old record_.now index number (naming_in names.old index number)) }
+    ensures namings { OnOk result ((local : ℕ) → namings_in names.new local
+        ≡ namings_after (naming_in names.old) record_.now local (namings_in names.old local)) }
+    ensures naming_kept { OnErr result ((index number : ℕ)
+        → naming_in names.new index number ≡ naming_in names.old index number) }
+    ensures namings_kept { OnErr result ((local : ℕ)
+        → namings_in names.new local ≡ namings_in names.old local) }
 {
     let namings = names.namings_of(definition)?;
     names.reserve_place(definition.local)?;
@@ -39,7 +43,8 @@ fn described_in<A: Allocator + Copy>(
     alloc: A,
     values: &Values<A>,
 ) -> Result<Option<Described<A>>, AllocError>
-    ensures { IfOk result (λ o. o ≡ option_and_then (λ p. described p.definition values.now) (defined_at env.now values.now.local)) }
+    ensures { IfOk result (λ o. o ≡ option_and_then (λ p. described p.definition values.now)
+        (defined_at env.now values.now.local)) }
 {
     match env.defined(values.local) {
         Some(defined) => described_by(alloc, &defined.definition, values),
@@ -58,10 +63,14 @@ fn describe<A: Allocator + Copy>(
     requires fits { Fits env.old record_.now }
     ensures learned { OnOk result (env.new ≡ learn env.old record_.now) }
     ensures env_kept { OnErr result (env.new ≡ env.old) }
-    ensures naming { OnOk result ((index number : ℕ) → naming_in names.new index number ≡ naming_after env.old record_.now index number (naming_in names.old index number)) }
-    ensures namings { OnOk result ((local : ℕ) → namings_in names.new local ≡ namings_after (naming_in names.old) record_.now local (namings_in names.old local)) }
-    ensures naming_kept { OnErr result ((index number : ℕ) → naming_in names.new index number ≡ naming_in names.old index number) }
-    ensures namings_kept { OnErr result ((local : ℕ) → namings_in names.new local ≡ namings_in names.old local) }
+    ensures naming { OnOk result ((index number : ℕ) → naming_in names.new index number
+        ≡ naming_after env.old record_.now index number (naming_in names.old index number)) }
+    ensures namings { OnOk result ((local : ℕ) → namings_in names.new local
+        ≡ namings_after (naming_in names.old) record_.now local (namings_in names.old local)) }
+    ensures naming_kept { OnErr result ((index number : ℕ)
+        → naming_in names.new index number ≡ naming_in names.old index number) }
+    ensures namings_kept { OnErr result ((local : ℕ)
+        → namings_in names.new local ≡ namings_in names.old local) }
 {
     let Some(described) = described_in(env, names.alloc, values)? else {
         return env.learn(record_);
@@ -81,10 +90,14 @@ pub(crate) fn take_in<A: Allocator + Copy>(
     requires { Fits env.old record_.now }
     ensures learned { OnOk result (env.new ≡ learn env.old record_.now) }
     ensures env_kept { OnErr result (env.new ≡ env.old) }
-    ensures naming { OnOk result ((index number : ℕ) → naming_in names.new index number ≡ naming_after env.old record_.now index number (naming_in names.old index number)) }
-    ensures namings { OnOk result ((local : ℕ) → namings_in names.new local ≡ namings_after (naming_in names.old) record_.now local (namings_in names.old local)) }
-    ensures naming_kept { OnErr result ((index number : ℕ) → naming_in names.new index number ≡ naming_in names.old index number) }
-    ensures namings_kept { OnErr result ((local : ℕ) → namings_in names.new local ≡ namings_in names.old local) }
+    ensures naming { OnOk result ((index number : ℕ) → naming_in names.new index number
+        ≡ naming_after env.old record_.now index number (naming_in names.old index number)) }
+    ensures namings { OnOk result ((local : ℕ) → namings_in names.new local
+        ≡ namings_after (naming_in names.old) record_.now local (namings_in names.old local)) }
+    ensures naming_kept { OnErr result ((index number : ℕ)
+        → naming_in names.new index number ≡ naming_in names.old index number) }
+    ensures namings_kept { OnErr result ((local : ℕ)
+        → namings_in names.new local ≡ namings_in names.old local) }
 {
     match record_ {
         Record::Define(definition) => define(env, names, record_, definition),

@@ -7,7 +7,8 @@ ghost use Rattle.fit_profile.specs.Least as least;
 pub(crate) fn steps_to(start: u64, rest: u64, modulus: u64) -> Option<u64>
     requires above { 0 < modulus }
     requires small { modulus ≤ 2 ^ 16 }
-    ensures least { option_map (λ steps. start + steps) result ≡ least.least_from start rest modulus }
+    ensures least { option_map (λ steps. start + steps) result
+        ≡ least.least_from start rest modulus }
     ensures few { IfSome result (λ steps. steps < modulus) }
 {
     let at = start % modulus;

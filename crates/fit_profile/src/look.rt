@@ -13,7 +13,8 @@ pub(crate) fn first_of<'a, A: Allocator>(
     items: &'a [Items<A>],
     number: u8,
 ) -> Option<(&'a FieldDef, &'a Items<A>)>
-    ensures { option_map (λ f. (f.0.now, f.1.now)) result ≡ first_field fields.now items.now number }
+    ensures { option_map (λ f. (f.0.now, f.1.now)) result
+        ≡ first_field fields.now items.now number }
 {
     for (i, field) in fields.iter().enumerate() {
         if field.number == number {

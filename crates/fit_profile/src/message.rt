@@ -4,7 +4,7 @@ ghost use Rattle.fit_record.specs.Environment.{defined_at, first_items};
 ghost use Rattle.fit_profile.specs.Names as names;
 ghost use Rattle.fit_profile.specs.Looks.{first_field};
 ghost use Rattle.fit_profile.specs.Meant.{shown, part_of, first_part, field_at, dev_field_at};
-ghost use Rattle.fit_profile.specs.Shows.{Shows};
+ghost use Rattle.fit_profile.specs.inner.Shows.{Shows};
 ghost use Rattle.fit_profile.specs.Values.{IsAmount, IsValueOf, known_number};
 
 use crate::look::first_of;
@@ -44,7 +44,8 @@ impl<'a, A: Allocator> Message<'a, A> {
 
     /// The name of the message, where the profile lists it.
     pub fn name(&self) -> Option<&str>
-        ensures { option_map (λ n. n.now) result ≡ names.message_name (shown self.now).definition.global }
+        ensures { option_map (λ n. n.now) result
+            ≡ names.message_name (shown self.now).definition.global }
     {
         match message_name(self.defined.definition.global) {
             Some(name) => Some(name),
@@ -87,7 +88,8 @@ impl<'a, A: Allocator> Message<'a, A> {
 
     /// The first field of this number as it is defined, with its items.
     fn first_of(&self, number: u8) -> Option<(&FieldDef, &Items<A>)>
-        ensures { option_map (λ f. (f.0.now, f.1.now)) result ≡ first_field (shown self.now).definition.fields (shown self.now).values.fields number }
+        ensures { option_map (λ f. (f.0.now, f.1.now)) result
+            ≡ first_field (shown self.now).definition.fields (shown self.now).values.fields number }
     {
         first_of(
             self.defined.definition.fields.as_slice(),
@@ -98,7 +100,8 @@ impl<'a, A: Allocator> Message<'a, A> {
 
     /// The first field of this number.
     pub fn first(&self, number: u8) -> Option<FieldView<A>>
-        ensures { option_map part_of result ≡ option_map first_part (first_field (shown self.now).definition.fields (shown self.now).values.fields number) }
+        ensures { option_map part_of result ≡ option_map first_part
+            (first_field (shown self.now).definition.fields (shown self.now).values.fields number) }
     {
         let (field, items) = self.first_of(number)?;
         let code = field.code;
@@ -112,7 +115,8 @@ impl<'a, A: Allocator> Message<'a, A> {
     /// The items of the first field of this number.
     #[tactic(auto, using(crate::proofs::FirstField::items_first))]
     pub fn items(&self, number: u8) -> Option<&Items<A>>
-        ensures { option_copied result ≡ first_items (shown self.now).definition.fields (shown self.now).values.fields number }
+        ensures { option_copied result ≡ first_items (shown self.now).definition.fields
+            (shown self.now).values.fields number }
     {
         let (_, items) = self.first_of(number)?;
         Some(items)
@@ -121,14 +125,16 @@ impl<'a, A: Allocator> Message<'a, A> {
     /// The name of the developer field at a place: that of the last field description before the
     /// definition, where it can be shown.
     pub fn dev_name(&self, place: u8) -> Option<&str>
-        ensures { option_map (λ s. s.now) result ≡ option_and_then (λ t. t.name) (slice_get (shown self.now).namings place) }
+        ensures { option_map (λ s. s.now) result
+            ≡ option_and_then (λ t. t.name) (slice_get (shown self.now).namings place) }
     {
         self.texts.get(place as usize)?.name()
     }
 
     /// The unit of the developer field at a place.
     pub fn dev_unit(&self, place: u8) -> Option<&str>
-        ensures { option_map (λ s. s.now) result ≡ option_and_then (λ t. t.unit) (slice_get (shown self.now).namings place) }
+        ensures { option_map (λ s. s.now) result
+            ≡ option_and_then (λ t. t.unit) (slice_get (shown self.now).namings place) }
     {
         self.texts.get(place as usize)?.unit()
     }
@@ -136,7 +142,8 @@ impl<'a, A: Allocator> Message<'a, A> {
     /// The number of the first field of this number: its first item, scaled by the profile. None where
     /// the profile doesn't know the field, its class isn't one of numbers, or the item is invalid.
     pub fn value(&self, number: u8) -> Option<Fixed>
-        ensures value { IsValueOf (known_number (shown self.now).definition (shown self.now).values number) result }
+        ensures value { IsValueOf
+            (known_number (shown self.now).definition (shown self.now).values number) result }
         ensures few { IfSome result (λ v. v.decimals ≤ 8) }
     {
         value_of(&self.defined.definition, self.values, number)

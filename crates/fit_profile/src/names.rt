@@ -5,7 +5,7 @@ ghost use Rattle.std.specs.Ordering.{nat_cmp};
 ghost use Rattle.std.specs.String.{string_bytes};
 ghost use Rattle.fit_record.specs.Environment.{dev_defs, only_byte};
 ghost use Rattle.fit_profile.specs.Described.{naming, nameless};
-ghost use Rattle.fit_profile.specs.Keeps.{described, described_key, is_key, key_cmp, naming_in, namings_in};
+ghost use Rattle.fit_profile.specs.inner.Keeps.{described, described_key, is_key, key_cmp, naming_in, namings_in};
 
 use crate::look::{first_of, only_item};
 use crate::text::text_field;
@@ -38,7 +38,8 @@ impl<A: Allocator> Model for Texts<A> {
 
     ghost Value = { Naming };
 
-    ghost view = { λ t. record { name = option_map string_bytes t.name; unit = option_map string_bytes t.unit } };
+    ghost view = { λ t.
+        record { name = option_map string_bytes t.name; unit = option_map string_bytes t.unit } };
 }
 
 /// The names and units of the descriptions so far, and of the developer fields of each local message
@@ -62,7 +63,8 @@ fn copy_of<A: Allocator>(
     alloc: A,
     text: &Option<String<A>>,
 ) -> Result<Option<String<A>>, AllocError>
-    ensures { IfOk result (λ copy. option_map string_bytes copy ≡ option_map string_bytes text.now) }
+    ensures { IfOk result (λ copy.
+        option_map string_bytes copy ≡ option_map string_bytes text.now) }
 {
     match text {
         None => Ok(None),
@@ -231,7 +233,8 @@ impl<A: Allocator + Copy> Names<A> {
 
     /// The names and units of developer fields that are defined now.
     fn all_texts_at(&self, fields: &[DevDef]) -> Result<Entries<Texts<A>, A>, AllocError>
-        ensures { IfOk result (λ all. all ≡ map (λ f. naming_in self.now f.index f.number) fields.now) }
+        ensures { IfOk result (λ all.
+            all ≡ map (λ f. naming_in self.now f.index f.number) fields.now) }
     {
         let mut all = Entries::new(self.alloc);
         for field in fields {
@@ -243,7 +246,8 @@ impl<A: Allocator + Copy> Names<A> {
 
     /// The names and units of the developer fields of a definition that comes now.
     pub fn namings_of(&self, definition: &MessageDef<A>) -> Result<Entries<Texts<A>, A>, AllocError>
-        ensures { IfOk result (λ all. all ≡ map (λ f. naming_in self.now f.index f.number) (dev_defs definition.now.dev)) }
+        ensures { IfOk result (λ all. all ≡ map (λ f. naming_in self.now f.index f.number)
+            (dev_defs definition.now.dev)) }
     {
         match &definition.dev {
             Some(fields) => self.all_texts_at(fields.as_slice()),
@@ -254,7 +258,8 @@ impl<A: Allocator + Copy> Names<A> {
     /// Takes memory for a definition to come. No name or unit changes.
     pub fn reserve_place(&mut self, local: u8) -> Result<(), AllocError>
         ensures namings { (l : ℕ) → namings_in self.new l ≡ namings_in self.old l }
-        ensures naming { (index number : ℕ) → naming_in self.new index number ≡ naming_in self.old index number }
+        ensures naming { (index number : ℕ) → naming_in self.new index number
+            ≡ naming_in self.old index number }
         ensures held { OnOk result (IsSome (get nat_cmp self.new.places local)) }
     {
         if !self.places.contains_key(&local) {
@@ -266,8 +271,10 @@ impl<A: Allocator + Copy> Names<A> {
     /// Keeps the names and units of a local message type.
     pub fn put(&mut self, local: u8, namings: Entries<Texts<A>, A>)
         requires { IsSome (get nat_cmp self.old.places local) }
-        ensures namings { (l : ℕ) → namings_in self.new l ≡ (if local == l then namings else namings_in self.old l) }
-        ensures naming { (index number : ℕ) → naming_in self.new index number ≡ naming_in self.old index number }
+        ensures namings { (l : ℕ) → namings_in self.new l
+            ≡ (if local == l then namings else namings_in self.old l) }
+        ensures naming { (index number : ℕ) → naming_in self.new index number
+            ≡ naming_in self.old index number }
     {
         match self.places.insert(local, namings) {
             Ok(_) => (),
@@ -277,7 +284,8 @@ impl<A: Allocator + Copy> Names<A> {
 
     /// Takes memory for what will be described. No name or unit changes.
     pub fn reserve(&mut self, key: FieldKey) -> Result<(), AllocError>
-        ensures naming { (index number : ℕ) → naming_in self.new index number ≡ naming_in self.old index number }
+        ensures naming { (index number : ℕ) → naming_in self.new index number
+            ≡ naming_in self.old index number }
         ensures namings { (local : ℕ) → namings_in self.new local ≡ namings_in self.old local }
         ensures held { OnOk result (IsSome (get key_cmp self.new.described key)) }
     {
@@ -290,7 +298,8 @@ impl<A: Allocator + Copy> Names<A> {
     /// Keeps the name and the unit of a developer field.
     pub fn set(&mut self, key: FieldKey, texts: Texts<A>)
         requires { IsSome (get key_cmp self.old.described key) }
-        ensures naming { (index number : ℕ) → naming_in self.new index number ≡ (if is_key key index number then texts else naming_in self.old index number) }
+        ensures naming { (index number : ℕ) → naming_in self.new index number
+            ≡ (if is_key key index number then texts else naming_in self.old index number) }
         ensures namings { (local : ℕ) → namings_in self.new local ≡ namings_in self.old local }
     {
         match self.described.insert(key, texts) {

@@ -16,7 +16,8 @@ pub struct Info {
 }
 
 fn field(name: &'static str, unit: &'static str, scale: u32, offset: u32) -> Info
-    ensures { meaning result ≡ record { name = name.now; unit = unit.now; scale = scale; offset = offset } }
+    ensures { meaning result ≡
+        record { name = name.now; unit = unit.now; scale = scale; offset = offset } }
 {
     Info {
         name,
@@ -273,7 +274,8 @@ pub fn message_name(global: u16) -> Option<&'static str>
 
 /// A field that is listed for its message.
 fn listed(global: u16, number: u8) -> Option<Info>
-    ensures { option_map meaning result ≡ option_and_then (λ m. field_of m.fields number) (message_of global) }
+    ensures { option_map meaning result ≡ option_and_then (λ m. field_of m.fields number)
+        (message_of global) }
 {
     match global {
         0 => file_id(number),

@@ -112,7 +112,8 @@ fn put_thousandths(text: &mut Vec<u8>, part: u64) -> Result<(), AllocError>
 /// Puts a size with at most three decimals behind a text.
 fn put_size(text: &mut Vec<u8>, size: u64, decimals: u8) -> Result<(), AllocError>
     requires { decimals ≤ 3 }
-    ensures { OnOk result (text.new.items ≡ text.old.items ++ decimal (size / 10 ^ decimals) ++ fraction decimals (size % 10 ^ decimals)) }
+    ensures { OnOk result (text.new.items ≡ text.old.items ++ decimal (size / 10 ^ decimals)
+        ++ fraction decimals (size % 10 ^ decimals)) }
 {
     match decimals {
         0 => put_whole(text, size),

@@ -42,13 +42,13 @@ impl Model for Stream {
     ghost use Rattle.std.specs.Prelude.{List, reverse};
     ghost use Rattle.std.specs.declared.alloc.Global.{Global};
     ghost use Rattle.fit_record.specs.declared.message.Record.{Record};
-    ghost use Rattle.fit_profile.specs.Keeps.{Keeps};
+    ghost use Rattle.fit_profile.specs.inner.Keeps.{KeepsRecords};
 
     ghost Value = { List (Record Global) };
 
     ghost view = { λ s. reverse s.pushed.items };
 
-    ghost invariant = { λ s. Keeps s.env s.last s.names (reverse s.pushed.items) };
+    ghost invariant = { λ s. KeepsRecords s.env s.last s.names (reverse s.pushed.items) };
 }
 
 const NOTHING: Last = Last {
@@ -108,14 +108,16 @@ impl Stream {
     /// The name of a developer field of the next message of this local message type: that of the last
     /// field description before the definition. `place` counts from 0 among the developer fields.
     pub fn dev_name(&self, local: u8, place: u8) -> Option<&str>
-        ensures { option_map (λ s. s.now) result ≡ option_and_then (λ t. t.name) (slice_get (namings_at self.now local) place) }
+        ensures { option_map (λ s. s.now) result
+            ≡ option_and_then (λ t. t.name) (slice_get (namings_at self.now local) place) }
     {
         self.texts_at(local, place)?.name()
     }
 
     /// The unit of a developer field of the next message of this local message type.
     pub fn dev_unit(&self, local: u8, place: u8) -> Option<&str>
-        ensures { option_map (λ s. s.now) result ≡ option_and_then (λ t. t.unit) (slice_get (namings_at self.now local) place) }
+        ensures { option_map (λ s. s.now) result
+            ≡ option_and_then (λ t. t.unit) (slice_get (namings_at self.now local) place) }
     {
         self.texts_at(local, place)?.unit()
     }

@@ -37,7 +37,8 @@ fn printable_bytes<A: Allocator>(
     alloc: A,
     numbers: &[u64],
 ) -> Result<Option<Vec<u8, A>>, AllocError>
-    ensures { IfOk result (λ bytes. option_map (λ b. b.items) bytes ≡ (if list_all is_printable numbers.now then Some numbers.now else None)) }
+    ensures { IfOk result (λ bytes. option_map (λ b. b.items) bytes
+        ≡ (if list_all is_printable numbers.now then Some numbers.now else None)) }
 {
     let mut bytes = Vec::with_capacity(alloc, numbers.len())?;
     for number in numbers {
@@ -75,7 +76,8 @@ pub(crate) fn text_field<A: Allocator + Copy>(
     values: &Values<A>,
     number: u8,
 ) -> Result<Option<String<A>>, AllocError>
-    ensures { IfOk result (λ text. option_map string_bytes text ≡ text_field definition.now values.now number) }
+    ensures { IfOk result (λ text. option_map string_bytes text
+        ≡ text_field definition.now values.now number) }
 {
     let Some((field, items)) = first_of(
         definition.fields.as_slice(),

@@ -80,7 +80,8 @@ fn accumulated<A: Allocator>(
 
 /// The speed of a message.
 fn speed<A: Allocator>(definition: &MessageDef<A>, values: &Values<A>) -> Option<u64>
-    ensures { result ≡ option_map (λ x. x % 2 ^ 12) (sums.number_of sums.distance definition.now values.now) }
+    ensures { result ≡ option_map (λ x. x % 2 ^ 12)
+        (sums.number_of sums.distance definition.now values.now) }
 {
     let number = number(DISTANCE, definition, values)?;
     Some(number % 4096)
@@ -92,7 +93,8 @@ fn time<A: Allocator>(
     definition: &MessageDef<A>,
     values: &Values<A>,
 ) -> Option<u32>
-    ensures { result ≡ or_else (times.field_time definition.now values.now) (times.header_time previous values.now.offset) }
+    ensures { result ≡ or_else (times.field_time definition.now values.now)
+        (times.header_time previous values.now.offset) }
 {
     match field_time(definition, values) {
         Some(time) => Some(time),
@@ -121,7 +123,8 @@ fn told_at<A: Allocator>(last: Last, definition: &MessageDef<A>, values: &Values
 
 /// What is told of a data message.
 fn tell_values<A: Allocator>(env: &Env<A>, last: Last, values: &Values<A>) -> Option<Told>
-    ensures { result ≡ option_map (λ p. telling.told_at last p.definition values.now) (defined_at env.now values.now.local) }
+    ensures { result ≡ option_map (λ p. telling.told_at last p.definition values.now)
+        (defined_at env.now values.now.local) }
 {
     match env.definition(values.local) {
         Some(definition) => Some(told_at(last, definition, values)),

@@ -45,7 +45,8 @@ fn has_width(bits: u64, width: u8) -> bool
 /// The number that an item of a code stands for.
 fn number_of(code: Code, bits: u64) -> Option<i128>
     requires { bits < 256 ^ (base_type code.0).width }
-    ensures number { result ≡ values.number_of_class (base_type code.0).class (base_type code.0).width bits }
+    ensures number { result ≡ values.number_of_class (base_type code.0).class
+        (base_type code.0).width bits }
     ensures least { IfSome result (λ n. neg_ℤ (pos (2 ^ 63)) ≤ℤ n) }
     ensures most { IfSome result (λ n. n <ℤ pos (2 ^ 64)) }
 {

@@ -4,7 +4,8 @@ use Rattle.fit_cells.proofs.ReadFacts.{room, below_next, read_hex-at, read_hex-e
 use Rattle.fit_cells.proofs.hexadecimal.read_digits.Goals as goal
 
 pub overflow_add-number : goal.overflow_add-number
-overflow_add-number c = let r = room c.loop-digit.number c.loop-digit.digit-index c.digit_value.result c.loop-digit.invariant.below (omega arith) c.digit_value.ensures.below in omega (arith, r)
+overflow_add-number c = let r = room c.loop-digit.number c.loop-digit.digit-index c.digit_value.result c.loop-digit.invariant.below (omega arith)
+    c.digit_value.ensures.below in omega (arith, r)
 
 pub overflow_mul-number : goal.overflow_mul-number
 overflow_mul-number c = let r = room c.loop-digit.number c.loop-digit.digit-index 0 c.loop-digit.invariant.below (omega arith) (omega arith) in omega (arith, r)

@@ -9,11 +9,13 @@ use Rattle.fit_cells.proofs.raw.read_number.Goals as goal
 pub returns-then-is_empty-clause-every : goal.returns-then-is_empty-clause-every
 returns-then-is_empty-clause-every c bits raw below is e =
     let none : length c.args.text.now ≡ 0 = eqb-true (length c.args.text.now) 0 (sym c.is_empty.ensures ∙ c.if-is_empty.true) in
-    c.invalid.ensures ∙ sym (eqb-true bits (base_type c.args.code.0).invalid (empty-number (bits == (base_type c.args.code.0).invalid) (option_map meaning c.args.info) raw c.args.text.now none e))
+    c.invalid.ensures ∙ sym (eqb-true bits (base_type c.args.code.0).invalid
+    (empty-number (bits == (base_type c.args.code.0).invalid) (option_map meaning c.args.info) raw c.args.text.now none e))
 
 pub returns-in-Some-clause-every : goal.returns-in-Some-clause-every
 returns-in-Some-clause-every c bits raw below is e =
-    let text = some-number (bits == (base_type c.args.code.0).invalid) (option_map meaning c.args.info) raw c.args.text.now (λ none. cc (sym c.if-is_empty.false ∙ c.is_empty.ensures ∙ eq-eqb (length c.args.text.now) 0 none)) e in
+    let text = some-number (bits == (base_type c.args.code.0).invalid) (option_map meaning c.args.info) raw c.args.text.now
+    (λ none. cc (sym c.if-is_empty.false ∙ c.is_empty.ensures ∙ eq-eqb (length c.args.text.now) 0 none)) e in
     let limit = power-bound (base_type c.args.code.0).width (code_width c.args.code.0) in
     let least = raw-least raw bits (256 ^ (base_type c.args.code.0).width) limit is in
     let most = raw-most raw bits (256 ^ (base_type c.args.code.0).width) limit below is in
@@ -23,6 +25,8 @@ returns-in-Some-clause-every c bits raw below is e =
 
 pub returns-in-None-clause-every : goal.returns-in-None-clause-every
 returns-in-None-clause-every c bits raw below is e =
-    let text = some-number (bits == (base_type c.args.code.0).invalid) (option_map meaning c.args.info) raw c.args.text.now (λ none. cc (sym c.if-is_empty.false ∙ c.is_empty.ensures ∙ eq-eqb (length c.args.text.now) 0 none)) e in
+    let text = some-number (bits == (base_type c.args.code.0).invalid) (option_map meaning c.args.info) raw c.args.text.now
+    (λ none. cc (sym c.if-is_empty.false ∙ c.is_empty.ensures ∙ eq-eqb (length c.args.text.now) 0 none)) e in
     let limit = power-bound (base_type c.args.code.0).width (code_width c.args.code.0) in
-    absurd (none-some raw (c.in-None.ensures raw (raw-least raw bits (256 ^ (base_type c.args.code.0).width) limit is) (raw-most raw bits (256 ^ (base_type c.args.code.0).width) limit below is) text))
+    absurd (none-some raw (c.in-None.ensures raw (raw-least raw bits (256 ^ (base_type c.args.code.0).width) limit is)
+    (raw-most raw bits (256 ^ (base_type c.args.code.0).width) limit below is) text))

@@ -4,4 +4,5 @@ use Rattle.fit_cells.proofs.rows.next_row.Goals as goal
 
 pub returns : goal.returns
 returns c text rows h =
-    next c.args.reader.now c.read_byte_record.new.self c.in-Ok.found (fields_of c.read_byte_record.new.row) text rows h (c.in-Ok.ensures.reads h.trim h.ready) (c.in-Ok.ensures.ready h.trim)
+    next c.args.reader.now c.read_byte_record.new.self c.in-Ok.found (fields_of c.read_byte_record.new.row) text rows h (c.in-Ok.ensures.reads h.trim h.ready)
+    (c.in-Ok.ensures.ready h.trim)

@@ -29,9 +29,12 @@ returns-in_default c =
     let own : c.args.width ≡ (base_type c.args.code.0).width = own_width c.args.code.0 c.args.width (λ e. c.in_default.not-Bytes (c.class_of.ensures ∙ e)) in
     record {
       count = c.read_items.ensures.count;
-      below = IfOk-weaker c.read_items.result (λ bits. All (λ n. n < 256 ^ (base_type c.args.code.0).width) bits) _ (λ bits h. subst (λ w. All (λ n. n < 256 ^ w) bits) (sym own) h) c.read_items.ensures.below;
+      below = IfOk-weaker c.read_items.result (λ bits. All (λ n. n < 256 ^ (base_type c.args.code.0).width) bits) _
+          (λ bits h. subst (λ w. All (λ n. n < 256 ^ w) bits) (sym own) h) c.read_items.ensures.below;
       every = IfOk-weaker c.read_items.result
-          (λ bits. (numbers : List ℕ) → length numbers ≡ c.args.count → All (λ n. n < 256 ^ (base_type c.args.code.0).width) numbers → c.args.text.now ≡ barred (map (item_text c.class_of.result c.args.code.0 (option_map meaning c.args.info) (base_type c.args.code.0).width) numbers) → bits ≡ numbers) _
+          (λ bits. (numbers : List ℕ) → length numbers ≡ c.args.count → All (λ n. n < 256 ^ (base_type c.args.code.0).width) numbers
+          → c.args.text.now ≡ barred (map (item_text c.class_of.result c.args.code.0 (option_map meaning c.args.info) (base_type c.args.code.0).width)
+          numbers) → bits ≡ numbers) _
           (λ bits h numbers long small shows. h numbers long (subst (λ w. All (λ n. n < 256 ^ w) numbers) own small)
           (shows ∙ ap (λ k. items_text k c.args.code.0 (option_map meaning c.args.info) c.args.width numbers) (sym c.class_of.ensures)
           ∙ side_by_side c.class_of.result c.args.code.0 (option_map meaning c.args.info) c.args.width numbers c.in_default.not-Text c.in_default.not-Bytes

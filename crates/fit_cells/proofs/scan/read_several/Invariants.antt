@@ -13,5 +13,6 @@ invariant-loop-place l = record {
   below : All (λ n. n < 256 ^ (base_type l.code.0).width) l.bits;
   every : (numbers : List ℕ) → length numbers ≡ l.count → All (λ n. n < 256 ^ (base_type l.code.0).width) numbers
       → l.fn.text ≡ barred (map (item_text l.class l.code.0 (option_map meaning l.info) (base_type l.code.0).width) numbers)
-      → (l.bits ≡ take l.place numbers) × (l.rest ≡ barred (map (item_text l.class l.code.0 (option_map meaning l.info) (base_type l.code.0).width) (drop l.place numbers)));
+      → (l.bits ≡ take l.place numbers) × (l.rest
+      ≡ barred (map (item_text l.class l.code.0 (option_map meaning l.info) (base_type l.code.0).width) (drop l.place numbers)));
 }

@@ -18,7 +18,8 @@ returns-in-Err-clause-err g c =
     let here = subst (λ (e : Environment g.row.A.Denot). first_fault e r ≡ Some c.in-Err.fault) inv.known c.in-Err.ensures.err in
     inr (subst (IsRecordFault c.args.number rs) (sym c.shape_fault.ensures)
     (of_shape c.args.number i rs c.in-Err.fault
-    (at_record (λ e n x. first_fault e x ≡ Some c.in-Err.fault) rs i r (omega arith) c.index-records-index.is inv.fit (omega (arith, inv.total, inv.small)) here)))
+    (at_record (λ e n x. first_fault e x ≡ Some c.in-Err.fault) rs i r (omega arith) c.index-records-index.is inv.fit (omega (arith, inv.total, inv.small))
+    here)))
 
 pub returns-in_default-clause-err : goal.returns-in_default-clause-err
 returns-in_default-clause-err g c =

@@ -1,6 +1,6 @@
 use Rattle.std.proofs.Common.{[], append-nil}
 use Rattle.std.proofs.lemmas.Result.{err_from_is_err_and}
-use Rattle.fit_encode.specs.Spelling.{bytes_in_order}
+use Rattle.fit_encode.specs.inner.Spelling.{bytes_in_order}
 use Rattle.fit_encode.proofs.Sendings.{Sends-on}
 use Rattle.fit_encode.proofs.encoder.send_record.Goals as goal
 

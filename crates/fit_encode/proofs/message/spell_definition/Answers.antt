@@ -11,8 +11,8 @@ returns-in_err-bytes g c =
     let p = err_from_is_err_and c.from_residual.result c.from_residual.ensures.1 in
     let broken = c.in_err-bytes.ensures in
     let d = c.args.d.now in
-    rw (p.1, p.2)
-    (Breaks-as (definition_parts d) (Breaks-more (dev_part d.dev) (Breaks-more (flat_map field_bytes d.fields) (Breaks-as c.definition_head.ensures broken.0))), broken.1)
+    let fields = Breaks-more (flat_map field_bytes d.fields) (Breaks-as c.definition_head.ensures broken.0) in
+    rw (p.1, p.2) (Breaks-as (definition_parts d) (Breaks-more (dev_part d.dev) fields), broken.1)
 
 pub returns-in_err-spell_fields : goal.returns-in_err-spell_fields
 returns-in_err-spell_fields g c =

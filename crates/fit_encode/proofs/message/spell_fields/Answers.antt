@@ -8,9 +8,12 @@ pub returns-in_err-bytes : goal.returns-in_err-bytes
 returns-in_err-bytes g c =
     let p = err_from_is_err_and c.from_residual.result c.from_residual.ensures.1 in
     let broken = c.in_err-bytes.ensures in
-    rw (p.1, p.2)
-    (Breaks-next field_bytes c.args.fields.now c.loop-f.f-index (record { number = 0; size = 0; code = 0 }) _ (omega arith) refl c.loop-f.invariant broken.0, broken.1)
+    rw (p.1, p.2) (
+      Breaks-next field_bytes c.args.fields.now c.loop-f.f-index (record { number = 0; size = 0; code = 0 }) _ (omega arith) refl c.loop-f.invariant broken.0,
+      broken.1,
+    )
 
 pub loop-f-preserved : goal.loop-f-preserved
 loop-f-preserved g c =
-    Spells-next field_bytes c.args.fields.now c.loop-f.f-index (record { number = 0; size = 0; code = 0 }) _ (omega arith) refl c.loop-f.invariant c.in_ok-bytes.ensures
+    Spells-next field_bytes c.args.fields.now c.loop-f.f-index (record { number = 0; size = 0; code = 0 }) _ (omega arith) refl c.loop-f.invariant
+    c.in_ok-bytes.ensures

@@ -11,10 +11,13 @@ returns-in_err-number g c =
     let broken = c.in_err-number.ensures in
     let f = number_bytes c.args.order c.args.items.now.width in
     let bits = c.as_slice-bits-items in
-    rw (p.1, p.2)
-    (Breaks-as (ap (flat_map f) bits.ensures) (Breaks-next f bits.result.now c.loop-bits.bits-index 0 _ (omega arith) refl c.loop-bits.invariant broken.0), broken.1)
+    rw (p.1, p.2) (
+      Breaks-as (ap (flat_map f) bits.ensures) (Breaks-next f bits.result.now c.loop-bits.bits-index 0 _ (omega arith) refl c.loop-bits.invariant broken.0),
+      broken.1,
+    )
 
 pub loop-bits-preserved : goal.loop-bits-preserved
 loop-bits-preserved g c =
-    Spells-next (number_bytes c.args.order c.args.items.now.width) c.as_slice-bits-items.result.now c.loop-bits.bits-index 0 _ (omega arith) refl c.loop-bits.invariant
+    Spells-next (number_bytes c.args.order c.args.items.now.width) c.as_slice-bits-items.result.now c.loop-bits.bits-index 0 _ (omega arith) refl
+    c.loop-bits.invariant
     c.in_ok-number.ensures

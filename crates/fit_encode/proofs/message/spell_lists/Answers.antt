@@ -16,5 +16,6 @@ returns-in_err-spell_items g c =
 
 pub loop-items-preserved : goal.loop-items-preserved
 loop-items-preserved g c =
-    Spells-next (items_bytes {A = g.row.A.Denot} c.args.order) c.args.lists.now c.loop-items.items-index c.items-item.result _ (omega arith) c.items-item.is c.loop-items.invariant
+    Spells-next (items_bytes {A = g.row.A.Denot} c.args.order) c.args.lists.now c.loop-items.items-index c.items-item.result _ (omega arith) c.items-item.is
+    c.loop-items.invariant
     c.in_ok-spell_items.ensures

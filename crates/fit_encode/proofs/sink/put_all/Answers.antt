@@ -6,7 +6,8 @@ use Rattle.fit_encode.proofs.sink.put_all.Goals as goal
 pub loop-written-preserved : goal.loop-written-preserved
 loop-written-preserved g c = record {
   within = omega (arith, c.in-Ok.ensures.bound, ap length c.split_at.ensures.back, length-drop c.loop-written.written c.args.bytes.now);
-  appended = Appends-more _ _ _ c.args.bytes.now c.loop-written.written c.in-Ok.n c.loop-written.invariant.appended (rw c.split_at.ensures.back at c.in-Ok.ensures.bytes);
+  appended = Appends-more _ _ _ c.args.bytes.now c.loop-written.written c.in-Ok.n c.loop-written.invariant.appended
+      (rw c.split_at.ensures.back at c.in-Ok.ensures.bytes);
   works = λ _. c.in-Ok.ensures.some (omega arith);
   none = λ none. absurd (omega arith);
 }

@@ -5,7 +5,7 @@ use Rattle.fit_base.specs.declared.number.Order.{Order}
 use Rattle.fit_base.specs.declared.number.Order.TheVariants.{Little}
 use Rattle.fit_record.specs.Environment.{Environment, empty_environment, learn, learn_all}
 use Rattle.fit_record.specs.Records.{records_bytes, order_at}
-use Rattle.fit_encode.specs.Spelling.{bytes_in_order}
+use Rattle.fit_encode.specs.inner.Spelling.{bytes_in_order}
 use Rattle.fit_encode.proofs.RecordSteps.{next_known, next_bytes}
 use Rattle.fit_encode.proofs.Orders.{in_order, orders_next, long_after, sixteen_places}
 use Rattle.fit_encode.proofs.Spellable.{spellable, fits_at, record_parts}
@@ -16,7 +16,8 @@ pub spell_record-requires : goal.spell_record-requires
 spell_record-requires g c =
     let rs = c.args.records.now in
     let i = c.loop-r.r-index in
-    spellable (learn_all {A = g.row.A.Denot} empty_environment (take i rs)) c.r-item.result (fits_at empty_environment rs i c.r-item.result (omega arith) c.r-item.is c.requires)
+    spellable (learn_all {A = g.row.A.Denot} empty_environment (take i rs)) c.r-item.result
+    (fits_at empty_environment rs i c.r-item.result (omega arith) c.r-item.is c.requires)
 
 pub returns-in_err-spell_record : goal.returns-in_err-spell_record
 returns-in_err-spell_record g c =

@@ -3,12 +3,14 @@ use Rattle.std.specs.Prelude.{slice_index_or}
 use Rattle.fit_base.specs.declared.number.Order.TheVariants.{Little}
 use Rattle.fit_record.specs.Environment.{empty_environment, learn_all}
 use Rattle.fit_record.specs.Records.{records_bytes, order_at}
-use Rattle.fit_encode.specs.Sending.{told, Spells}
+use Rattle.fit_encode.specs.inner.Sending.{sink_state, Spells}
 use Rattle.fit_encode.proofs.write.spell_records.Given as goal
 
 abbrev pub invariant-loop-r : goal.invariant-loop-r
 invariant-loop-r g l = record {
-  spelled : Spells (told (g.K.Sink.contents l.initial.sink) (g.K.Sink.has_failed l.initial.sink)) (told (g.K.Sink.contents l.sink) (g.K.Sink.has_failed l.sink)) l.initial.out l.out (records_bytes empty_environment (take l.r-index l.records));
+  spelled : Spells (sink_state g.K.Sink.contents g.K.Sink.has_failed l.initial.sink)
+      (sink_state g.K.Sink.contents g.K.Sink.has_failed l.sink)
+      l.initial.out l.out (records_bytes empty_environment (take l.r-index l.records));
   long : length l.orders ≡ 16;
   orders : (local : ℕ) → order_at (learn_all (empty_environment {A = g.row.A.Denot}) (take l.r-index l.records)) local ≡ slice_index_or l.orders local Little;
 }

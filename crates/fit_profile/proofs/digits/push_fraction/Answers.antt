@@ -11,22 +11,27 @@ length-behind text d n e = rw (e, length-last_digits d n) (omega arith)
 
 pub range_from-requires : goal.range_from-requires
 range_from-requires c _ =
-    let text = behind-one c.format-digits.result.now c.args.decimals c.args.part c.power.result c.power.ensures.value c.power.ensures.small c.requires.below c.format-digits.ensures.text in
+    let text = behind-one c.format-digits.result.now c.args.decimals c.args.part c.power.result c.power.ensures.value c.power.ensures.small c.requires.below
+    c.format-digits.ensures.text in
     let len = length-behind c.format-digits.result.now c.args.decimals c.args.part text in
     IsCharBoundary-from_ascii c.format-digits.result.now 1 c.format-digits.ensures.ascii (omega (arith, len))
 
 pub push_str-requires : goal.push_str-requires
 push_str-requires c =
-    let text = behind-one c.format-digits.result.now c.args.decimals c.args.part c.power.result c.power.ensures.value c.power.ensures.small c.requires.below c.format-digits.ensures.text in
+    let text = behind-one c.format-digits.result.now c.args.decimals c.args.part c.power.result c.power.ensures.value c.power.ensures.small c.requires.below
+    c.format-digits.ensures.text in
     let len = length-behind c.format-digits.result.now c.args.decimals c.args.part text in
-    let point : length c.push.new.self.bytes ≡ length c.args.text.now.bytes + 1 = rw (c.push.ensures.ascii (omega arith)) (length-append c.args.text.now.bytes (46 ∷ [])) in
+    let point : length c.push.new.self.bytes ≡ length c.args.text.now.bytes + 1 =
+    rw (c.push.ensures.ascii (omega arith)) (length-append c.args.text.now.bytes (46 ∷ [])) in
     (omega arith, omega (arith, len, point, c.range_from.ensures.len, c.requires.room))
 
 pub returns-then-decimals-gt0 : goal.returns-then-decimals-gt0
 returns-then-decimals-gt0 c =
-    let text = behind-one c.format-digits.result.now c.args.decimals c.args.part c.power.result c.power.ensures.value c.power.ensures.small c.requires.below c.format-digits.ensures.text in
+    let text = behind-one c.format-digits.result.now c.args.decimals c.args.part c.power.result c.power.ensures.value c.power.ensures.small c.requires.below
+    c.format-digits.ensures.text in
     let digits : c.range_from.result.now ≡ last_digits c.args.decimals c.args.part = c.range_from.ensures.value ∙ ap (drop 1) text in
     let some = ne_eqb c.args.decimals 0 (λ none. absurd (omega (arith, none, c.if-decimals-gt0.true))) in
     record {
-      bytes = c.push_str.ensures.bytes ∙ rw (c.push.ensures.ascii (omega arith), digits, some) (append_assoc c.args.text.now.bytes (46 ∷ []) (last_digits c.args.decimals c.args.part));
+      bytes = c.push_str.ensures.bytes ∙ rw (c.push.ensures.ascii (omega arith), digits, some)
+          (append_assoc c.args.text.now.bytes (46 ∷ []) (last_digits c.args.decimals c.args.part));
     }

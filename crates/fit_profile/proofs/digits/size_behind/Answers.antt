@@ -1,5 +1,5 @@
 use Rattle.std.proofs.Common.{◌∙◌, ◌+◌, drop, drop_of_length-le, arith, sym, ap, refl, get_or}
-use Rattle.fit_profile.specs.Digits.{digits_in, next_value}
+use Rattle.fit_profile.specs.inner.Digits.{digits_in, next_value}
 use Rattle.fit_profile.proofs.DigitFacts.{digits_in-grows, digits_in-end, digits_in-at}
 use Rattle.fit_profile.proofs.digits.size_behind.Goals as goal
 
@@ -7,7 +7,12 @@ pub returns-in_err-size-clause-none : goal.returns-in_err-size-clause-none
 returns-in_err-size-clause-none c none =
     let more = c.loop-byte.invariant ∙ digits_in-at c.loop-byte.size c.args.text.now c.loop-byte.byte-index c.loop-byte-test.true in
     let big = c.in_err-size.ensures.none refl in
-    rw more (omega (arith, big, digits_in-grows (next_value c.loop-byte.size (get_or c.args.text.now c.loop-byte.byte-index 0)) (drop (c.loop-byte.byte-index + 1) c.args.text.now)))
+    rw more (omega (
+      arith,
+      big,
+      digits_in-grows (next_value c.loop-byte.size (get_or c.args.text.now c.loop-byte.byte-index 0))
+          (drop (c.loop-byte.byte-index + 1) c.args.text.now),
+    ))
 
 pub loop-byte-preserved : goal.loop-byte-preserved
 loop-byte-preserved c =

@@ -27,7 +27,8 @@ invariant_of-result g c =
     c.note.ensures ∙ ap (λ (x : List ℕ). x ++ c.as_slice-2.result.now) c.new-head.ensures ∙ c.as_slice-2.ensures.value ∙ sym c.as_slice.ensures.value in
     let sent = c.in_default.ensures in
     let out = went_out (Spells-from c.new-out.ensures sent.sends) refl sent.empty in
-    λ _ _. rw (c.new.ensures, c.new-2.ensures, head) (open_begun c.send.new.out c.args.data_len bytes out.1 sent.empty out.2 (omega (arith, c.ranges.data_len)) (omega (arith, c.as_slice.ensures.fits)))
+    λ _ _. rw (c.new.ensures, c.new-2.ensures, head)
+    (open_begun c.send.new.out c.args.data_len bytes out.1 sent.empty out.2 (omega (arith, c.ranges.data_len)) (omega (arith, c.as_slice.ensures.fits)))
 
 pub returns-clause-good : goal.returns-clause-good
 returns-clause-good g c = c.in-Ok.ensures.ok.0 refl

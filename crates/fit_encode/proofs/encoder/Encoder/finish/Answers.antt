@@ -20,7 +20,8 @@ pub returns-in-Err-clause-written : goal.returns-in-Err-clause-written
 returns-in-Err-clause-written g c =
     let still = when_open c.self.inside.finished c.self.inside.failed (sym c.closed_fault.ensures ∙ c.in_default.is) in
     let inv = c.self.invariant still.0 still.1 in
-    let complete : length (records_bytes empty_environment c.self.inside.records.items) ≡ c.self.inside.declared = omega (arith, inv.data_size, inv.within, c.if-self.false) in
+    let complete : length (records_bytes empty_environment c.self.inside.records.items) ≡ c.self.inside.declared =
+    omega (arith, inv.data_size, inv.within, c.if-self.false) in
     let new : Encoding Global = record {
       head = c.self.inside.head.items;
       declared = c.self.inside.declared;
@@ -33,7 +34,8 @@ returns-in-Err-clause-written g c =
     let off = breaks_off c.self.inside.failed c.self.inside.finished inv (omega arith) (Breaks-as bytes broken.0) broken.1 in
     λ _. (
       subst (λ (e : Encoding Global). IsComplete e) c.self.view_is complete,
-      subst (λ (e : Encoding Global). BreaksOff (g.K.Sink.contents c.args.sink.now) (g.K.Sink.contents c.end.new.sink) (g.K.Sink.has_failed c.end.new.sink) e new (closing_bytes e) c.in-Err.written)
+      subst (λ (e : Encoding Global). BreaksOff (g.K.Sink.contents c.args.sink.now) (g.K.Sink.contents c.end.new.sink) (g.K.Sink.has_failed c.end.new.sink) e
+          new (closing_bytes e) c.in-Err.written)
           c.self.view_is off,
     )
 
@@ -41,7 +43,8 @@ pub returns-clause-ok : goal.returns-clause-ok
 returns-clause-ok g c =
     let still = when_open c.self.inside.finished c.self.inside.failed (sym c.closed_fault.ensures ∙ c.in_default.is) in
     let inv = c.self.invariant still.0 still.1 in
-    let complete : length (records_bytes empty_environment c.self.inside.records.items) ≡ c.self.inside.declared = omega (arith, inv.data_size, inv.within, c.if-self.false) in
+    let complete : length (records_bytes empty_environment c.self.inside.records.items) ≡ c.self.inside.declared =
+    omega (arith, inv.data_size, inv.within, c.if-self.false) in
     subst (λ (e : Encoding Global). IsComplete e) c.self.view_is complete
 
 pub returns-clause-spelled : goal.returns-clause-spelled
@@ -56,7 +59,8 @@ pub returns-clause-whole : goal.returns-clause-whole
 returns-clause-whole g c =
     let still = when_open c.self.inside.finished c.self.inside.failed (sym c.closed_fault.ensures ∙ c.in_default.is) in
     let inv = c.self.invariant still.0 still.1 in
-    let complete : length (records_bytes empty_environment c.self.inside.records.items) ≡ c.self.inside.declared = omega (arith, inv.data_size, inv.within, c.if-self.false) in
+    let complete : length (records_bytes empty_environment c.self.inside.records.items) ≡ c.self.inside.declared =
+    omega (arith, inv.data_size, inv.within, c.if-self.false) in
     let old : Encoding Global = record {
       head = c.self.inside.head.items;
       declared = c.self.inside.declared;

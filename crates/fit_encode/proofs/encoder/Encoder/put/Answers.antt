@@ -3,7 +3,7 @@ use Rattle.std.specs.Prelude.{Some}
 use Rattle.std.proofs.lemmas.Result.{err_from_is_err_and}
 use Rattle.fit_record.specs.Environment.{Environment, learn}
 use Rattle.fit_record.specs.Records.{record_bytes}
-use Rattle.fit_encode.specs.Encoding.{Encoding, known, BreaksOff, CanPut, HasPlace, IsPlaceFault, IsPutFault}
+use Rattle.fit_encode.specs.Encoding.{Encoding, learned, BreaksOff, CanPut, HasPlace, IsPlaceFault, IsPutFault}
 use Rattle.fit_encode.proofs.Encoders.{breaks_off, in_terms, next_open, not_written, on_err_at, small_record, some_byte, when_open}
 use Rattle.fit_encode.proofs.FaultSteps.{on_ok_at, unless_write}
 use Rattle.fit_encode.proofs.Sendings.{Appends-as, Breaks-as, Spells-as, went_out}
@@ -20,13 +20,16 @@ returns-in_err-size-clause-refused g c =
     let p = err_from_is_err_and c.from_residual.result c.from_residual.ensures.1 in
     let still = when_open c.self.inside.finished c.self.inside.failed (sym c.closed_fault.ensures ∙ c.in_default.is) in
     let err = c.in_err-size.ensures.err in
-    let here = in_terms (λ (e : Environment Global) (n m : ℕ). IsPlaceFault e n c.self.inside.declared m c.args.r.now c.in_err-size.field-0.0) (c.self.invariant still.0 still.1) err in
-    λ _. rw (p.1, p.2) (unless_write c.in_err-size.field-0.0 _ (subst (λ (e : Encoding Global). IsPutFault e c.args.r.now c.in_err-size.field-0.0) c.self.view_is here, refl, refl))
+    let here = in_terms (λ (e : Environment Global) (n m : ℕ). IsPlaceFault e n c.self.inside.declared m c.args.r.now c.in_err-size.field-0.0)
+    (c.self.invariant still.0 still.1) err in
+    λ _. rw (p.1, p.2) (unless_write c.in_err-size.field-0.0 _
+    (subst (λ (e : Encoding Global). IsPutFault e c.args.r.now c.in_err-size.field-0.0) c.self.view_is here, refl, refl))
 
 pub returns-in_err-size-clause-written : goal.returns-in_err-size-clause-written
 returns-in_err-size-clause-written g c =
     let p = err_from_is_err_and c.from_residual.result c.from_residual.ensures.1 in
-    λ _. rw (p.1, p.2) (not_written c.self.inside.env c.self.inside.count c.self.inside.declared c.self.inside.size c.args.r.now c.in_err-size.field-0.0 _ c.in_err-size.ensures.err)
+    λ _. rw (p.1, p.2) (not_written c.self.inside.env c.self.inside.count c.self.inside.declared c.self.inside.size c.args.r.now c.in_err-size.field-0.0 _
+    c.in_err-size.ensures.err)
 
 pub order_of-order-requires : goal.order_of-order-requires
 order_of-order-requires g c = omega arith
@@ -42,7 +45,8 @@ invariant_of-self g c =
 pub returns-then-is_err-clause-refused : goal.returns-then-is_err-clause-refused
 returns-then-is_err-clause-refused g c =
     let still = when_open c.self.inside.finished c.self.inside.failed (sym c.closed_fault.ensures ∙ c.in_default.is) in
-    let here = in_terms (λ (e : Environment Global) (n m : ℕ). HasPlace e c.self.inside.declared m c.args.r.now) (c.self.invariant still.0 still.1) c.in_ok-size.ensures.ok.0 in
+    let here = in_terms (λ (e : Environment Global) (n m : ℕ). HasPlace e c.self.inside.declared m c.args.r.now) (c.self.invariant still.0 still.1)
+    c.in_ok-size.ensures.ok.0 in
     λ _. (subst (λ (e : Encoding Global). CanPut e c.args.r.now) c.self.view_is here, c.self.view_is, refl)
 
 pub send_record-requires : goal.send_record-requires
@@ -66,8 +70,9 @@ returns-in-Err-clause-written g c =
     let off = breaks_off c.self.inside.failed c.self.inside.finished inv (small_record inv here) (Breaks-as bytes broken.0) broken.1 in
     λ _. (
       subst (λ (e : Encoding Global). CanPut e r) c.self.view_is here,
-      subst (λ (e : Encoding Global). BreaksOff (g.K.Sink.contents c.args.sink.now) (g.K.Sink.contents c.send_record.new.sink) (g.K.Sink.has_failed c.send_record.new.sink) e new
-          (record_bytes (known e) r) c.in-Err.written) c.self.view_is off,
+      subst (λ (e : Encoding Global). BreaksOff (g.K.Sink.contents c.args.sink.now) (g.K.Sink.contents c.send_record.new.sink)
+          (g.K.Sink.has_failed c.send_record.new.sink) e new
+          (record_bytes (learned e) r) c.in-Err.written) c.self.view_is off,
     )
 
 pub overflow_add-self-2 : goal.overflow_add-self-2
@@ -80,17 +85,20 @@ pub invariant_of-self-2 : goal.invariant_of-self-2
 invariant_of-self-2 g c =
     let r = c.args.r.now in
     let place = c.in_ok-size.ensures.ok in
-    let learned : c.learn.new.self ≡ learn c.self.inside.env r = on_ok_at _ c.learn.result (sym c.is_err.ensures.value ∙ c.if-is_err.false) c.learn.ensures.ok in
+    let learned : c.learn.new.self ≡ learn c.self.inside.env r = on_ok_at _ c.learn.result (sym c.is_err.ensures.value ∙ c.if-is_err.false) c.learn.ensures.ok
+    in
     λ failed finished.
     let inv = c.self.invariant failed finished in
     let spelled = c.in_default-send_record.ensures in
     let out = went_out (Spells-as c.order_of-order.ensures spelled.sends) inv.held spelled.empty in
-    rw c.add.ensures (next_open c.learn.new.self c.send_record.new.out c.in_ok-size.size r inv place.0.fits place.1 (omega (arith, place.0.within, place.1)) learned out.1 spelled.empty out.2)
+    rw c.add.ensures (next_open c.learn.new.self c.send_record.new.out c.in_ok-size.size r inv place.0.fits place.1 (omega (arith, place.0.within, place.1))
+    learned out.1 spelled.empty out.2)
 
 pub returns-clause-ok : goal.returns-clause-ok
 returns-clause-ok g c =
     let still = when_open c.self.inside.finished c.self.inside.failed (sym c.closed_fault.ensures ∙ c.in_default.is) in
-    let here = in_terms (λ (e : Environment Global) (n m : ℕ). HasPlace e c.self.inside.declared m c.args.r.now) (c.self.invariant still.0 still.1) c.in_ok-size.ensures.ok.0 in
+    let here = in_terms (λ (e : Environment Global) (n m : ℕ). HasPlace e c.self.inside.declared m c.args.r.now) (c.self.invariant still.0 still.1)
+    c.in_ok-size.ensures.ok.0 in
     subst (λ (e : Encoding Global). CanPut e c.args.r.now) c.self.view_is here
 
 pub returns-clause-spelled : goal.returns-clause-spelled
@@ -100,7 +108,7 @@ returns-clause-spelled g c =
     let r = c.args.r.now in
     let spelled = c.in_default-send_record.ensures in
     let out = went_out (Spells-as c.order_of-order.ensures spelled.sends) inv.held spelled.empty in
-    Appends-as _ _ (ap (λ (e : Environment Global). record_bytes e r) inv.known ∙ ap (λ (e : Encoding Global). record_bytes (known e) r) c.self.view_is) out.0
+    Appends-as _ _ (ap (λ (e : Environment Global). record_bytes e r) inv.known ∙ ap (λ (e : Encoding Global). record_bytes (learned e) r) c.self.view_is) out.0
 
 pub returns-clause-works : goal.returns-clause-works
 returns-clause-works g c =

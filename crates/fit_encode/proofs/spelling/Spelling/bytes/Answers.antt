@@ -1,6 +1,6 @@
 use Rattle.std.proofs.Common.{◌≡◌, ◌++◌, ◌∙◌, ap, rules}
 use Rattle.std.proofs.lemmas.Result.{err_from_is_err_and}
-use Rattle.fit_encode.specs.Sending.{Sending}
+use Rattle.fit_encode.specs.inner.Sending.{Sending}
 use Rattle.fit_encode.proofs.Sendings.{Spells-held, Breaks-more}
 use Rattle.fit_encode.proofs.spelling.Spelling.bytes.Goals as goal
 

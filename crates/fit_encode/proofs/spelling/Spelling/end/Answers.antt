@@ -24,4 +24,5 @@ returns-clause-sends g c =
     let flushed = c.in_ok-flush.ensures in
     let bytes = little_bytes 2 (checksum (c.args.self.now.sent ++ c.args.self.now.held)) in
     let sum = c.sum_bytes-sum.ensures ∙ ap (little_bytes 2) (c.checksum.ensures ∙ ap checksum (all_sent flushed.sends flushed.empty)) in
-    Sends-on _ _ _ _ _ _ bytes [] bytes c.flush-2.result (append-nil bytes) (Spells-on flushed.sends (Spells-as sum c.in_ok-bytes.ensures)) c.flush-2.ensures.sends
+    Sends-on _ _ _ _ _ _ bytes [] bytes c.flush-2.result (append-nil bytes) (Spells-on flushed.sends (Spells-as sum c.in_ok-bytes.ensures))
+    c.flush-2.ensures.sends

@@ -3,7 +3,7 @@ use Rattle.std.proofs.lemmas.Int.{ints, to_z-of_z}
 use Rattle.std.specs.Str.Parse.{starts_with_minus}
 use Rattle.std.specs.Int.{w128}
 use Rattle.fit_profile.specs.FixedText.{IsIn128}
-use Rattle.fit_profile.specs.Digits.{digits_in, signed_value}
+use Rattle.fit_profile.specs.inner.Digits.{digits_in, signed_value}
 use Rattle.fit_profile.proofs.ScanFacts.{size-in, size-of-text, text-value}
 use Rattle.fit_profile.proofs.decimal.Fixed.read.Goals as goal
 
@@ -21,11 +21,15 @@ pub returns-in_err-value : goal.returns-in_err-value
 returns-in_err-value c v inside e =
     let out = c.in_err-value.ensures.none refl in
     let is = text-value c.args.text.now v c.args.decimals inside e in
-    let value : signed_value c.is_below.result c.in_ok-size.size ≡ v = ap₂ signed_value (c.is_below.ensures ∙ ap starts_with_minus c.as_bytes-2.ensures.value) (c.in_ok-size.ensures.some ∙ ap (digits_in 0) c.as_bytes.ensures.value) ∙ is in
+    let value : signed_value c.is_below.result c.in_ok-size.size ≡ v =
+    ap₂ signed_value (c.is_below.ensures ∙ ap starts_with_minus c.as_bytes-2.ensures.value)
+    (c.in_ok-size.ensures.some ∙ ap (digits_in 0) c.as_bytes.ensures.value) ∙ is in
     absurd (out (subst IsIn128 (sym value) inside))
 
 pub returns : goal.returns
 returns c v inside e =
     let is = text-value c.args.text.now v c.args.decimals inside e in
-    let value : c.in_ok-value.value ≡ v = c.in_ok-value.ensures.some ∙ ap₂ signed_value (c.is_below.ensures ∙ ap starts_with_minus c.as_bytes-2.ensures.value) (c.in_ok-size.ensures.some ∙ ap (digits_in 0) c.as_bytes.ensures.value) ∙ is in
+    let value : c.in_ok-value.value ≡ v = c.in_ok-value.ensures.some
+    ∙ ap₂ signed_value (c.is_below.ensures ∙ ap starts_with_minus c.as_bytes-2.ensures.value)
+    (c.in_ok-size.ensures.some ∙ ap (digits_in 0) c.as_bytes.ensures.value) ∙ is in
     ap (λ (z : ℤ). Some (record { value = z; decimals = c.args.decimals })) (kept c.in_ok-value.value v inside value)

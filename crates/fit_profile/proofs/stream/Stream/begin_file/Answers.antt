@@ -3,4 +3,5 @@ use Rattle.fit_profile.proofs.stream.Stream.begin_file.Goals as goal
 
 pub invariant_of-self : goal.invariant_of-self
 invariant_of-self c =
-    keeps-nothing c.new.result c.new-2.result c.new-self-inside.result.items c.new.ensures c.new-2.ensures.naming c.new-2.ensures.namings c.new-self-inside.ensures
+    keeps-nothing c.new.result c.new-2.result c.new-self-inside.result.items c.new.ensures c.new-2.ensures.naming c.new-2.ensures.namings
+    c.new-self-inside.ensures

@@ -4,7 +4,7 @@ use Rattle.fit_record.specs.declared.message.Values.{Values}
 use Rattle.fit_record.specs.Environment.{Environment, defined_at}
 use Rattle.fit_profile.specs.declared.names.Names.{Names}
 use Rattle.fit_profile.specs.declared.told.Told.{Told}
-use Rattle.fit_profile.specs.Keeps.{namings_in}
+use Rattle.fit_profile.specs.inner.Keeps.{namings_in}
 use Rattle.fit_profile.specs.Meant.{Shown}
 
 -- the values, their definition, names and units, times and accumulated values

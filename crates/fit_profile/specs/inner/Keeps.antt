@@ -40,7 +40,7 @@ abbrev pub namings_in : {A : Type 0} → Names A → ℕ → List Naming
 namings_in names local = unwrap_or (get nat_cmp names.places local) []
 
 -- the environment, the last values, and the names and units are those of these records
-pub record Keeps {A : Type 0} (env : Environment A) (last : Last) (names : Names A) (earlier : List (Record A)) : Type 0 where
+pub record KeepsRecords {A : Type 0} (env : Environment A) (last : Last) (names : Names A) (earlier : List (Record A)) : Type 0 where
   pub env_is : env ≡ known earlier
   pub last_is : last ≡ last_of earlier
   pub naming_is : (index number : ℕ) → naming_in names index number ≡ naming_of earlier index number

@@ -1,4 +1,4 @@
--- The bytes of one record, where the byte order of its data is known. No public contract names what stands here.
+-- The bytes of one record, where the byte order of its data is known.
 use Rattle.std.specs.Prelude.{◌≡◌, ◌⊎◌, ℕ, ◌<◌, ◌+◌, ◌*◌, ◌^◌, List, [], ◌∷◌, ◌++◌, length, sum_by, slice_index_or, slice_set, nat_lt, if◌then◌else◌}
 use Rattle.std.specs.List.{AllByRecursion}
 use Rattle.fit_base.specs.declared.items.Items.{Items}
@@ -8,7 +8,7 @@ use Rattle.fit_base.specs.Numbers.{number_bytes}
 use Rattle.fit_record.specs.declared.definition.MessageDef.{MessageDef}
 use Rattle.fit_record.specs.declared.message.Record.{Record}
 use Rattle.fit_record.specs.declared.message.Record.TheVariants.{Define, Values as Data}
-use Rattle.fit_record.specs.Faults.{definition_length}
+use Rattle.fit_record.specs.inner.DefinitionLengths.{definition_length}
 use Rattle.fit_record.specs.Records.{architecture, definition_header, definition_bytes, DefinitionFits, data_header, data_bytes, DataHeaderFits}
 
 abbrev pub bytes_in_order : {A : Type 0} → Order → Record A → List ℕ

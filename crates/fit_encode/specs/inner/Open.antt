@@ -1,11 +1,11 @@
--- What an encoder keeps while its file isn't finished and no sink has failed. No public contract names what stands here.
+-- What an encoder keeps while its file isn't finished and no sink has failed.
 use Rattle.std.specs.Prelude.{◌≡◌, ℕ, ◌<◌, ◌≤◌, ◌^◌, List, [], ◌++◌, length}
 use Rattle.fit_record.specs.declared.message.Record.{Record}
 use Rattle.fit_record.specs.Environment.{Environment, empty_environment, learn_all}
 use Rattle.fit_record.specs.Records.{AllFit, records_bytes}
-use Rattle.fit_encode.specs.Sending.{Sending}
+use Rattle.fit_encode.specs.inner.Sending.{Sending}
 
-pub record IsOpen {A : Type 0} (env : Environment A) (out : Sending) (declared size count : ℕ) (head : List ℕ) (records : List (Record A)) : Type 0 where
+pub record IsOpenFile {A : Type 0} (env : Environment A) (out : Sending) (declared size count : ℕ) (head : List ℕ) (records : List (Record A)) : Type 0 where
   pub known : env ≡ learn_all empty_environment records
   pub fit : AllFit empty_environment records
   pub sent : out.sent ≡ head ++ records_bytes empty_environment records

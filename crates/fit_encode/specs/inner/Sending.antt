@@ -1,4 +1,4 @@
--- Bytes on their way to a sink. No public contract names what stands here.
+-- Bytes on their way to a sink.
 use Rattle.std.specs.Prelude.{◌≡◌, ℕ, ◌+◌, ◌<◌, ◌^◌, Bool, true, false, List, [], ◌++◌, Option, Result, Ok, Err, length}
 use Rattle.std.specs.Io.KnownBytes.{Appends}
 use Rattle.fit_encode.specs.Sinks.{Written}
@@ -10,9 +10,9 @@ pub record Sending : Type 0 where
   pub held : List ℕ
   pub count : ℕ
 
--- a sink: the bytes that it holds, where it tells them, and whether a call failed
-abbrev pub told : Option (List ℕ) → Bool → Written
-told held failed = record { held = held; failed = failed }
+-- a sink, by what tells its bytes and what tells whether a call failed
+abbrev pub sink_state : {S : Type 0} → (S → Option (List ℕ)) → (S → Bool) → S → Written
+sink_state contents has_failed sink = record { held = contents sink; failed = has_failed sink }
 
 -- the count after so many bytes more, where it has room for it
 abbrev pub IsCounted : ℕ → ℕ → ℕ → Type 0
@@ -48,7 +48,7 @@ abbrev pub fresh : ℕ → Sending
 fresh count = record { sent = []; held = []; count = count }
 
 -- What a call that puts all these bytes leaves, by its answer. So many bytes went out before, and it counts on.
-abbrev pub Puts : Written → Written → ℕ → List ℕ → Result ℕ ℕ → Type 0
-Puts before after count bytes (Ok total) =
+abbrev pub PutsAll : Written → Written → ℕ → List ℕ → Result ℕ ℕ → Type 0
+PutsAll before after count bytes (Ok total) =
     Appends before.held after.held bytes × IsCounted count (length bytes) total × (0 < length bytes → after.failed ≡ false)
-Puts before after count bytes (Err written) = Breaks before after (fresh count) bytes written × (after.failed ≡ true)
+PutsAll before after count bytes (Err written) = Breaks before after (fresh count) bytes written × (after.failed ≡ true)
