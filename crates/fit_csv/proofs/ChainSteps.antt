@@ -5,8 +5,9 @@ use Rattle.std.specs.Global.{Global}
 use Rattle.fit_record.specs.declared.message.Record.{Record}
 use Rattle.fit_record.specs.Files.{chain_limit}
 use Rattle.fit_csv.specs.Judged.{Agree}
-use Rattle.fit_csv.specs.Misfits.{IsCellFault, IsEndRow, IsFileRow, IsMisfit, head_row, message_row}
-use Rattle.fit_csv.specs.Progress.{CanGoOn, ChainStep, OpenStep, PartStep, begun, settled, with_file}
+use Rattle.fit_csv.specs.inner.Misfits.{IsCellFault, IsMisfit, head_row, message_row}
+use Rattle.fit_csv.specs.RowKinds.{IsEndRow, IsFileRow}
+use Rattle.fit_csv.specs.inner.Progress.{CanStandNext, ChainStep, OpenStep, PartStep, file_begun, settled, with_file}
 use Rattle.fit_cells.specs.Rows.{Row}
 use Rattle.fit_csv.specs.declared.from.chain.Chain.{Chain}
 use Rattle.fit_csv.specs.declared.from.misfit.Misfit.{Misfit}
@@ -26,18 +27,24 @@ step-at c m r t is step = subst (λ n. OpenStep c n r t) (sym is) step
 from-step : (c : Chain) (m : Option OpenFile) (r : Row) (t : Chain) → c.current ≡ m → ChainStep c r t → OpenStep c m r t
 from-step c m r t is step = subst (λ n. OpenStep c n r t) is step
 
-pub begin-misfit : (c : Chain) (row : Row) (misfit : Misfit) → c.current ≡ None → length c.files < chain_limit → IsCellFault IsFileRow row misfit → IsMisfit (CanStep c) row misfit
+pub begin-misfit : (c : Chain) (row : Row) (misfit : Misfit) → c.current ≡ None → length c.files < chain_limit → IsCellFault IsFileRow row misfit
+    → IsMisfit (CanStep c) row misfit
 begin-misfit c row misfit none room h =
     cell-fault (CanStep c) row misfit (of-kind IsFileRow (CanStep c) row misfit
-    (λ other (d, range, e). (record c { current = Some (begun d) }, step-at c None other (record c { current = Some (begun d) }) none (room, (d, range, e, refl))))
+    (λ other (d, range, e). (
+      record c { current = Some (file_begun d) },
+      step-at c None other (record c { current = Some (file_begun d) }) none (room, (d, range, e, refl)),
+    ))
     (λ other (t, step) agree. let s = from-step c None other t none step in (s.1.0, s.1.1, s.1.2)) h)
 
 -- no record begins with a row in which a file ends
-pub not-end : (before : List (Record Global)) (row other : Row) (p : Part) → take 1 row ≡ codes "end" ∷ [] → Agree 1 other row → PartStep before Nothing other p → ⊥
+pub not-end : (before : List (Record Global)) (row other : Row) (p : Part) → take 1 row ≡ codes "end" ∷ [] → Agree 1 other row → PartStep before Nothing other p
+    → ⊥
 not-end before row other p kind agree (inl (h, range, e, is)) = omega (arith, letters other row (head_row h) (codes "end") agree kind e)
 not-end before row other p kind agree (inr (v, start, e, is)) = omega (arith, letters other row (message_row before v) (codes "end") agree kind e)
 
-pub end-misfit : (c : Chain) (f : OpenFile) (row : Row) (misfit : Misfit) → c.current ≡ Some f → f.part ≡ Nothing → take 1 row ≡ codes "end" ∷ [] → IsCellFault IsEndRow row misfit
+pub end-misfit : (c : Chain) (f : OpenFile) (row : Row) (misfit : Misfit) → c.current ≡ Some f → f.part ≡ Nothing → take 1 row ≡ codes "end" ∷ []
+    → IsCellFault IsEndRow row misfit
     → IsMisfit (CanStep c) row misfit
 end-misfit c f row misfit some none kind h =
     cell-fault (CanStep c) row misfit (of-kind IsEndRow (CanStep c) row misfit
@@ -47,9 +54,10 @@ end-misfit c f row misfit some none kind h =
       | inr more ↦ absurd (not-end f.before row other more.1.0 kind agree (subst (λ (part : Part). PartStep f.before part other more.1.0) none more.1.1))
     ]) h)
 
-pub current-misfit : (c : Chain) (f : OpenFile) (row : Row) (misfit : Misfit) → c.current ≡ Some f → IsMisfit (CanGoOn f.before f.part) row misfit → IsMisfit (CanStep c) row misfit
+pub current-misfit : (c : Chain) (f : OpenFile) (row : Row) (misfit : Misfit) → c.current ≡ Some f → IsMisfit (CanStandNext f.before f.part) row misfit
+    → IsMisfit (CanStep c) row misfit
 current-misfit c f row misfit some =
-    same-rows (CanGoOn f.before f.part) (CanStep c) row misfit
+    same-rows (CanStandNext f.before f.part) (CanStep c) row misfit
     (λ other goes. elim goes [
       | inl step ↦ (
         record c { current = Some (settled f step.0) },

@@ -3,8 +3,8 @@ use Rattle.std.proofs.Common.{◌≡◌, ◌∙◌, ℕ, zero, suc, ◌≤◌, [
 use Rattle.std.proofs.lemmas.List.{take-take}
 use Rattle.fit_cells.specs.Rows.{Row}
 use Rattle.fit_csv.specs.Judged.{Agree, IsBadCell}
-use Rattle.fit_csv.specs.Seven.{AsFar, DifferAt}
-use Rattle.fit_csv.specs.Misfits.{IsCellFault, IsMisfit}
+use Rattle.fit_csv.specs.inner.Seven.{AsFar, DifferAt}
+use Rattle.fit_csv.specs.inner.Misfits.{IsCellFault, IsMisfit}
 use Rattle.fit_csv.specs.declared.from.misfit.Misfit.{Misfit}
 use Rattle.fit_csv.specs.declared.from.misfit.Misfit.TheVariants.{Kind, Cell, NoMemory}
 
@@ -55,7 +55,8 @@ cell-fault P row (Cell column) h = h
 cell-fault P row NoMemory h = tt
 
 -- where the same rows can stand, the same doesn't fit
-pub same-rows : (P Q : Row → Type 0) (row : Row) (misfit : Misfit) → ((other : Row) → P other → Q other) → ((other : Row) → Q other → P other) → IsMisfit P row misfit → IsMisfit Q row misfit
+pub same-rows : (P Q : Row → Type 0) (row : Row) (misfit : Misfit) → ((other : Row) → P other → Q other) → ((other : Row) → Q other → P other)
+    → IsMisfit P row misfit → IsMisfit Q row misfit
 same-rows P Q row Kind up down h = λ other stands. h other (down other stands)
 same-rows P Q row (Cell column) up down h = bad-of-kind P Q row column up (λ other stands e. down other stands) h
 same-rows P Q row NoMemory up down h = tt

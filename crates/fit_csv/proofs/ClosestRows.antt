@@ -5,9 +5,9 @@ use Rattle.std.proofs.lemmas.Fmt.{decimal_nonempty}
 use Rattle.fit_base.specs.declared.number.Order.{Order}
 use Rattle.fit_cells.specs.Rows.{Cell, Row}
 use Rattle.fit_csv.specs.ChainRows.{optional_number, order_word, row}
-use Rattle.fit_csv.specs.Seven.{AsFar}
+use Rattle.fit_csv.specs.inner.Seven.{AsFar}
 use Rattle.fit_csv.specs.declared.from.definition.DefinitionHead.{DefinitionHead}
-use Rattle.fit_csv.specs.Misfits.{IsHeadRow, IsRowOfThree, head_row}
+use Rattle.fit_csv.specs.inner.Misfits.{IsHeadRow, IsRowOfThree, head_row}
 
 -- the number is that of the cell, where the cell shows one below the limit
 abbrev pub IsNumberIn : ℕ → Cell → ℕ → Type 0
@@ -39,8 +39,10 @@ pub none-shown : (cell : Cell) (count : Option ℕ) → IfSome count (λ n. n < 
 none-shown cell None small e none = refl
 none-shown cell (Some n) small e none = let some = decimal_nonempty n (omega (arith, small)) in let l = ap length e in absurd (omega (arith, some, l, none))
 
-pub head-closest : (ta tb tc td te tf : Cell) (h : DefinitionHead) → IsNumberIn 16 ta h.local → IsNumberIn (2 ^ 8) tb h.reserved → ((order : Order) → order_word order ≡ tc → h.order ≡ order)
-    → IsNumberIn (2 ^ 16) td h.global → IsNumberIn (2 ^ 8) te h.fields → ((count : Option ℕ) → IfSome count (λ n. n < 2 ^ 8) → optional_number count ≡ tf → h.dev ≡ count)
+pub head-closest : (ta tb tc td te tf : Cell) (h : DefinitionHead) → IsNumberIn 16 ta h.local → IsNumberIn (2 ^ 8) tb h.reserved
+    → ((order : Order) → order_word order ≡ tc → h.order ≡ order)
+    → IsNumberIn (2 ^ 16) td h.global → IsNumberIn (2 ^ 8) te h.fields
+    → ((count : Option ℕ) → IfSome count (λ n. n < 2 ^ 8) → optional_number count ≡ tf → h.dev ≡ count)
     → (other : Row) → IsHeadRow other → AsFar other (head_row h) (row (codes "def") ta tb tc td te tf)
 head-closest ta tb tc td te tf h is_a is_b is_c is_d is_e is_f other (k, range, e) =
     subst (λ (o : Row). AsFar o (head_row h) (row (codes "def") ta tb tc td te tf)) (sym e)

@@ -1,5 +1,6 @@
 -- What a report put behind a first line.
-use Rattle.std.proofs.Common.{◌≡◌, ◌∙◌, ℕ, ◌+◌, ◌-◌, ◌^◌, ◌<◌, min, true, Bool, List, [], ◌++◌, length, take, reverse, Option, Some, None, Result, Ok, Err, refl, sym, ap, subst, arith, length-append}
+use Rattle.std.proofs.Common.{◌≡◌, ◌∙◌, ℕ, ◌+◌, ◌-◌, ◌^◌, ◌<◌, min, true, Bool, List, [], ◌++◌, length, take, reverse, Option, Some, None, Result, Ok, Err}
+use Rattle.std.proofs.Common.{refl, sym, ap, subst, arith, length-append}
 use Rattle.std.specs.Prelude.{flat_map}
 use Rattle.std.specs.Global.{Global}
 use Rattle.std.specs.Io.KnownBytes.{Appends, Consumes}
@@ -11,14 +12,14 @@ use Rattle.fit_decode.specs.Events.{Event, file_events}
 use Rattle.fit_report.specs.declared.fault.ReportFault.{ReportFault}
 use Rattle.fit_report.specs.declared.fault.ReportFault.TheVariants as report
 use Rattle.fit_report.specs.Heard.{Lines, text_of}
-use Rattle.fit_report.specs.Reports.{Channel, FailsIn, Reports, ReportsChain, Tells}
+use Rattle.fit_report.specs.Reports.{Channel, TextFailsIn, Reports, ReportsChain, Tells}
 use Rattle.fit_report.proofs.Outcomes.{nothing_heard}
 use Rattle.fit_report.proofs.Texts.{Appends-append}
 use Rattle.fit_csv.specs.declared.fault.CsvFault.{CsvFault}
 use Rattle.fit_csv.specs.declared.fault.CsvFault.TheVariants as csv
 use Rattle.fit_cells.specs.Rows.{csv_text}
-use Rattle.fit_csv.specs.Conversions.{Converts, ConvertsTo, RowsOf, Writes}
-use Rattle.fit_csv.specs.Reporting.{HasText, csv_fault}
+use Rattle.fit_csv.specs.Conversions.{Converts, ConvertsTo, RowsOf, WritesRows}
+use Rattle.fit_csv.specs.inner.Reporting.{HasText, csv_fault}
 
 -- the answer of a conversion by that of its report
 abbrev pub csv_answer : Result (Unit {0}) ReportFault → ℕ → Result (Unit {0}) CsvFault
@@ -34,36 +35,47 @@ channel before after failed = record { before = before; after = after; failed = 
 
 module _ (first : List ℕ) (line : Lines Global) (rows : RowsOf) (text : HasText first line rows) (start mid end : Option (List ℕ)) (bad : Bool) where
   -- the rows of what was told
-  writes : (bytes : List ℕ) (heard : List (Event Global)) → Appends start mid first → Tells line bytes heard (channel mid end bad) → Writes rows bytes (channel start end bad)
-  writes bytes heard put (are, told) = (reverse heard, are, subst (Appends start end) (sym (text heard)) (Appends-append start mid end first (text_of line heard) put told))
+  writes : (bytes : List ℕ) (heard : List (Event Global)) → Appends start mid first → Tells line bytes heard (channel mid end bad)
+      → WritesRows rows bytes (channel start end bad)
+  writes bytes heard put (are, told) = (
+    reverse heard,
+    are,
+    subst (Appends start end) (sym (text heard)) (Appends-append start mid end first (text_of line heard) put told),
+  )
 
-  fails : (heard : List (Event Global)) (written : ℕ) → Appends start mid first → FailsIn (text_of line heard) (channel mid end bad) written
-      → FailsIn (csv_text (rows (reverse heard))) (channel start end bad) (min (written + length first) (2 ^ 64 - 1))
+  fails : (heard : List (Event Global)) (written : ℕ) → Appends start mid first → TextFailsIn (text_of line heard) (channel mid end bad) written
+      → TextFailsIn (csv_text (rows (reverse heard))) (channel start end bad) (min (written + length first) (2 ^ 64 - 1))
   fails heard written put (failed, n, short, part, counted) =
-      let front : take (length first + n) (first ++ text_of line heard) ≡ first ++ take n (text_of line heard) = take-append-add first (text_of line heard) n in (
+      let front : take (length first + n) (first ++ text_of line heard) ≡ first ++ take n (text_of line heard) =
+      take-append-add first (text_of line heard) n in (
         failed,
         length first + n,
         omega (arith, short, ap length (text heard), length-append first (text_of line heard)),
-        subst (λ t. Appends start end (take (length first + n) t)) (sym (text heard)) (subst (Appends start end) (sym front) (Appends-append start mid end first (take n (text_of line heard)) put part)),
+        subst (λ t. Appends start end (take (length first + n) t)) (sym (text heard))
+            (subst (Appends start end) (sym front) (Appends-append start mid end first (take n (text_of line heard)) put part)),
         omega (arith, counted),
       )
 
   pub converted : (source : Channel) (result : Result (Unit {0}) ReportFault) → Appends start mid first → Reports line source (channel mid end bad) result
       → Converts rows source (channel start end bad) (csv_answer result (length first))
   converted source (Ok u) put (taken, heard, eaten, (ended, well, chain, tells)) = (taken, eaten, (ended, well, chain, writes taken heard put tells))
-  converted source (Err (report.Decode (faults.Refused place reason))) put (taken, heard, eaten, (why, tells)) = (taken, eaten, (why, writes (take place taken) heard put tells))
+  converted source (Err (report.Decode (faults.Refused place reason))) put (taken, heard, eaten, (why, tells)) =
+      (taken, eaten, (why, writes (take place taken) heard put tells))
   converted source (Err (report.Decode (faults.Truncated place))) put (taken, heard, eaten, (why, tells)) = (taken, eaten, (why, writes taken heard put tells))
   converted source (Err (report.Decode (faults.NoMemory used))) put (taken, heard, eaten, never) = absurd never
   converted source (Err (report.Decode (faults.Read place))) put (taken, heard, eaten, (why, tells)) = (taken, eaten, (why, writes taken heard put tells))
   converted source (Err report.NoMemory) put (taken, heard, eaten, ((k, told, tells), near)) = (taken, eaten, (k, writes (take k taken) told put tells))
-  converted source (Err (report.Write written)) put (taken, heard, eaten, ((k, told, are, part), near)) = (taken, eaten, (k, reverse told, are, fails told written put part))
+  converted source (Err (report.Write written)) put (taken, heard, eaten, ((k, told, are, part), near)) =
+      (taken, eaten, (k, reverse told, are, fails told written put part))
 
   -- of a chain
-  pub chain_converted : (source : Channel) (fs : List (FitFile Global)) (result : Result (Unit {0}) ReportFault) → Appends start mid first → ReportsChain line fs source (channel mid end bad) result
+  pub chain_converted : (source : Channel) (fs : List (FitFile Global)) (result : Result (Unit {0}) ReportFault) → Appends start mid first
+      → ReportsChain line fs source (channel mid end bad) result
       → ConvertsTo (rows (flat_map file_events fs)) source (channel start end bad) (csv_answer result (length first))
   chain_converted source fs (Ok u) put told =
       let events : List (Event Global) = flat_map file_events fs in
-      let all : csv_text (rows events) ≡ first ++ text_of line (reverse events) = ap (λ es. csv_text (rows es)) (sym (reverse-reverse events)) ∙ text (reverse events) in
+      let all : csv_text (rows events) ≡ first ++ text_of line (reverse events) =
+      ap (λ es. csv_text (rows es)) (sym (reverse-reverse events)) ∙ text (reverse events) in
       subst (Appends start end) (sym all) (Appends-append start mid end first (text_of line (reverse events)) put told)
   chain_converted source fs (Err (report.Decode (faults.Refused place reason))) put told = told
   chain_converted source fs (Err (report.Decode (faults.Truncated place))) put told = told
@@ -73,8 +85,23 @@ module _ (first : List ℕ) (line : Lines Global) (rows : RowsOf) (text : HasTex
   chain_converted source fs (Err (report.Write written)) put told = told
 
   -- the sink has failed in the first line
-  pub unbegun : (has : Option (List ℕ)) (unread : Bool) (written : ℕ) → length first < 1000 → written < length first → bad ≡ true → Appends start end (take written first)
+  pub unbegun : (has : Option (List ℕ)) (unread : Bool) (written : ℕ) → length first < 1000 → written < length first → bad ≡ true
+      → Appends start end (take written first)
       → Converts rows (channel has has unread) (channel start end bad) (Err (csv.Write written))
   unbegun has unread written small short failed part =
-      let whole : csv_text (rows []) ≡ first = text [] ∙ append-nil first in
-      ([], consumes_nothing has, (0, [], nothing_heard Global, (failed, written, omega (arith, short, ap length whole), subst (λ t. Appends start end (take written t)) (sym whole) part, omega (arith, small, short))))
+      let whole : csv_text (rows []) ≡ first = text [] ∙ append-nil first in (
+        [],
+        consumes_nothing has,
+        (
+          0,
+          [],
+          nothing_heard Global,
+          (
+            failed,
+            written,
+            omega (arith, short, ap length whole),
+            subst (λ t. Appends start end (take written t)) (sym whole) part,
+            omega (arith, small, short),
+          ),
+        ),
+      )

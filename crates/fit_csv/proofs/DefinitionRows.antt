@@ -2,8 +2,9 @@
 use Rattle.std.proofs.Common.{◌≡◌, ◌<◌, length, refl}
 use Rattle.std.specs.Prelude.{codes}
 use Rattle.fit_cells.specs.Rows.{Row}
-use Rattle.fit_csv.specs.Misfits.{IsCellFault, IsDevDefRow, IsFieldDefRow, IsMisfit, IsRowOfThree}
-use Rattle.fit_csv.specs.Progress.{DevDefStep, FieldDefStep, with_dev_field, with_field}
+use Rattle.fit_csv.specs.inner.Misfits.{IsCellFault, IsMisfit, IsRowOfThree}
+use Rattle.fit_csv.specs.RowKinds.{IsDevDefRow, IsFieldDefRow}
+use Rattle.fit_csv.specs.inner.Progress.{DevDefStep, FieldDefStep, with_dev_field, with_field}
 use Rattle.fit_csv.specs.declared.from.definition.OpenDefinition.{OpenDefinition}
 use Rattle.fit_csv.specs.declared.from.misfit.Misfit.{Misfit}
 use Rattle.fit_csv.proofs.Closest.{cell-fault, of-kind}

@@ -17,12 +17,14 @@ abbrev pub nothing : DevDef
 nothing = record { number = 0; size = 0; index = 0 }
 
 -- there is an item list for each field
-pub dev_long : {A : Type 0} (fields : List DevDef) (coded : List ℕ) (items : List (Items A)) → length coded ≡ length fields → HaveShape (zip coded (map (λ f. f.size) fields)) items
+pub dev_long : {A : Type 0} (fields : List DevDef) (coded : List ℕ) (items : List (Items A)) → length coded ≡ length fields
+    → HaveShape (zip coded (map (λ f. f.size) fields)) items
     → length items ≡ length fields
 dev_long fields coded items long have =
     omega (arith, as_long (zip coded (map (λ f. f.size) fields)) items have, length-zip coded (map (λ f. f.size) fields), length-map fields (λ f. f.size), long)
 
-pub dev_shape : {A : Type 0} (fields : List DevDef) (coded : List ℕ) (items : List (Items A)) (k : ℕ) (item : Items A) → length coded ≡ length fields → HaveShape (zip coded (map (λ f. f.size) fields)) items
+pub dev_shape : {A : Type 0} (fields : List DevDef) (coded : List ℕ) (items : List (Items A)) (k : ℕ) (item : Items A) → length coded ≡ length fields
+    → HaveShape (zip coded (map (λ f. f.size) fields)) items
     → k < length fields → item ≡ get_or items k item → HasShape (get_or coded k 0) (get_or fields k nothing).size item
 dev_shape fields coded items k item long have within is =
     let sizes = map (λ (f : DevDef). f.size) fields in
@@ -36,10 +38,13 @@ dev_shape fields coded items k item long have within is =
 -- what stands at a place: field, code, naming and items
 pub dev_place : {A : Type 0} (fields : List DevDef) (coded : List ℕ) (namings : List Naming) (items : List (Items A)) (k : ℕ) (item : Items A)
     → k < length fields → k < length coded → k < length namings → k < length items → item ≡ get_or items k item
-    → ((get_or fields k nothing, get_or coded k 0), (get_or namings k nameless, item)) ≡ get_or (zip (zip fields coded) (zip namings items)) k ((nothing, 0), (nameless, item))
+    → ((get_or fields k nothing, get_or coded k 0), (get_or namings k nameless, item))
+    ≡ get_or (zip (zip fields coded) (zip namings items)) k ((nothing, 0), (nameless, item))
 dev_place fields coded namings items k item a b c d is =
-    sym (get_or-zip (zip fields coded) (zip namings items) k ((nothing, 0), (nameless, item)) (omega (arith, length-zip fields coded, a, b)) (omega (arith, length-zip namings items, c, d))
-    ∙ ap₂ (λ x y. (x, y)) (get_or-zip fields coded k (nothing, 0) a b) (get_or-zip namings items k (nameless, item) c d ∙ ap (λ i. (get_or namings k nameless, i)) (sym is)))
+    sym (get_or-zip (zip fields coded) (zip namings items) k ((nothing, 0), (nameless, item)) (omega (arith, length-zip fields coded, a, b))
+    (omega (arith, length-zip namings items, c, d))
+    ∙ ap₂ (λ x y. (x, y)) (get_or-zip fields coded k (nothing, 0) a b)
+    (get_or-zip namings items k (nameless, item) c d ∙ ap (λ i. (get_or namings k nameless, i)) (sym is)))
 
 -- the row of a developer field by the label and the unit that its naming gives
 pub dev_named : {A : Type 0} (f : DevDef) (code : ℕ) (namings : List Naming) (item : Items A) (k : ℕ) (numbered label unit : List ℕ) → k < length namings

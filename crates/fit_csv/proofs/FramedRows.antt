@@ -14,7 +14,7 @@ use Rattle.fit_cells.specs.Cells.{cell, item_text}
 use Rattle.fit_cells.specs.Forms.{IsFormOf}
 use Rattle.fit_cells.proofs.PlainFacts.{lone_cell}
 use Rattle.fit_csv.specs.ChainRows.{field_row, row, unit_text}
-use Rattle.fit_csv.specs.Frames.{FieldKey, head_text, tail_text}
+use Rattle.fit_csv.specs.inner.Frames.{FieldKey, head_text, tail_text}
 
 -- a cell and empty ones, in a row
 last_cells : (unit : Cell) → fields_text default_writer (unit ∷ [] ∷ [] ∷ [] ∷ []) ≡ 44 ∷ (field_text default_writer unit ++ codes ",,,")
@@ -22,12 +22,14 @@ unfolding fields_text escaped
 last_cells unit = refl
 
 row_body : (name value unit : Cell) → csv_text (row (codes "field") name value unit [] [] [] ∷ [])
-    ≡ ((codes "field," ++ (field_text default_writer name ++ (44 ∷ (field_text default_writer value ++ (44 ∷ (field_text default_writer unit ++ codes ",,,")))))) ++ (10 ∷ [])) ++ []
+    ≡ ((codes "field," ++ (field_text default_writer name
+    ++ (44 ∷ (field_text default_writer value ++ (44 ∷ (field_text default_writer unit ++ codes ",,,")))))) ++ (10 ∷ [])) ++ []
 unfolding csv_text fields_text escaped is_blank
 row_body name value unit = refl
 
 pub framed : (text : List ℕ) (name value unit : Cell)
-    → ((text ++ (codes "field," ++ (field_text default_writer name ++ (44 ∷ [])))) ++ field_text default_writer value) ++ (44 ∷ (field_text default_writer unit ++ codes ",,,\n"))
+    → ((text ++ (codes "field," ++ (field_text default_writer name ++ (44 ∷ [])))) ++ field_text default_writer value)
+    ++ (44 ∷ (field_text default_writer unit ++ codes ",,,\n"))
     ≡ text ++ csv_text (row (codes "field") name value unit [] [] [] ∷ [])
 framed text name value unit =
     let n = field_text default_writer name in
@@ -37,7 +39,8 @@ framed text name value unit =
     append_assoc (text ++ (codes "field," ++ (n ++ (44 ∷ [])))) v (44 ∷ (u ++ codes ",,,\n"))
     ∙ append_assoc text (codes "field," ++ (n ++ (44 ∷ []))) (v ++ (44 ∷ (u ++ codes ",,,\n")))
     ∙ ap (λ (t : List ℕ). text ++ (codes "field," ++ t)) (append_assoc n (44 ∷ []) (v ++ (44 ∷ (u ++ codes ",,,\n")))
-    ∙ ap (λ (t : List ℕ). n ++ (44 ∷ t)) (ap (λ (t : List ℕ). v ++ (44 ∷ t)) (sym (append_assoc u (codes ",,,") (10 ∷ []))) ∙ sym (append_assoc v (44 ∷ (u ++ codes ",,,")) (10 ∷ [])))
+    ∙ ap (λ (t : List ℕ). n ++ (44 ∷ t)) (ap (λ (t : List ℕ). v ++ (44 ∷ t)) (sym (append_assoc u (codes ",,,") (10 ∷ [])))
+    ∙ sym (append_assoc v (44 ∷ (u ++ codes ",,,")) (10 ∷ [])))
     ∙ sym (append_assoc n (44 ∷ (v ++ (44 ∷ (u ++ codes ",,,")))) (10 ∷ [])))
     ∙ ap (λ (t : List ℕ). text ++ t) (sym (row_body name value unit ∙ append-nil _))
 
@@ -54,21 +57,24 @@ framed_number key global f items form bits head tail t0 t1 t2 t3 is formed wide 
     let info_is : names.field key.global key.number ≡ names.field global f.number = ap₂ (λ g n. names.field g n) same number in
     let head_is : head ≡ head_text global f.number = before ∙ ap₂ (λ g n. head_text g n) same number in
     let tail_is : tail ≡ tail_text global f.number = behind ∙ ap₂ (λ g n. tail_text g n) same number in
-    let value : item_text (base_type key.code).class key.code (names.field key.global key.number) form.width bits ≡ field_text default_writer (cell f.code (names.field global f.number) items) =
+    let value : item_text (base_type key.code).class key.code (names.field key.global key.number) form.width bits
+    ≡ field_text default_writer (cell f.code (names.field global f.number) items) =
     sym (lone_cell form key.code (names.field key.global key.number) items bits formed wide one)
     ∙ ap₂ (λ (n : ℕ) (i : Option Meaning). field_text default_writer (cell n i items)) code info_is in
     third ∙ ap₂ (λ (a b : List ℕ). a ++ b) (second ∙ ap₂ (λ (a b : List ℕ). a ++ b) (first ∙ ap (λ (h : List ℕ). t0 ++ h) head_is) value) tail_is
     ∙ framed t0 (names.field_label global f.number) (cell f.code (names.field global f.number) items) (unit_text (names.field global f.number))
 
 -- what stands before the value, with a line feed after it, is a row of three cells
-front_row : (name : Cell) → csv_text ((codes "field" ∷ name ∷ [] ∷ []) ∷ []) ≡ ((codes "field," ++ (field_text default_writer name ++ (44 ∷ []))) ++ (10 ∷ [])) ++ []
+front_row : (name : Cell) → csv_text ((codes "field" ∷ name ∷ [] ∷ []) ∷ [])
+    ≡ ((codes "field," ++ (field_text default_writer name ++ (44 ∷ []))) ++ (10 ∷ [])) ++ []
 unfolding csv_text fields_text escaped is_blank
 front_row name = refl
 
 take_front : (xs ys : List ℕ) (n : ℕ) → n ≡ length (xs ++ ys) - length ys → take n (xs ++ ys) ≡ xs
 take_front xs ys n e = ap (λ k. take k (xs ++ ys)) (e ∙ omega (arith, length-append xs ys)) ∙ take-append_seam xs ys
 
-pub front_of_row : (name text : List ℕ) → text ≡ csv_text ((codes "field" ∷ name ∷ [] ∷ []) ∷ []) → take (length text - 1) text ≡ codes "field," ++ (field_text default_writer name ++ (44 ∷ []))
+pub front_of_row : (name text : List ℕ) → text ≡ csv_text ((codes "field" ∷ name ∷ [] ∷ []) ∷ [])
+    → take (length text - 1) text ≡ codes "field," ++ (field_text default_writer name ++ (44 ∷ []))
 front_of_row name text e =
     let front = codes "field," ++ (field_text default_writer name ++ (44 ∷ [])) in
     let all : text ≡ front ++ (10 ∷ []) = e ∙ front_row name ∙ append-nil (front ++ (10 ∷ [])) in

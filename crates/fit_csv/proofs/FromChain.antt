@@ -1,5 +1,6 @@
 -- What `from_csv` answers where the rows of a text are those of a chain.
-use Rattle.std.proofs.Common.{◌≡◌, ◌∙◌, ℕ, ◌<◌, ◌≤◌, List, [], ◌∷◌, ◌++◌, length, Option, Some, None, Result, Ok, Err, refl, sym, ap, subst, inl, inr, arith, append_assoc, length-append}
+use Rattle.std.proofs.Common.{◌≡◌, ◌∙◌, ℕ, ◌<◌, ◌≤◌, List, [], ◌∷◌, ◌++◌, length, Option, Some, None, Result, Ok, Err, refl, sym, ap, subst, inl, inr, arith}
+use Rattle.std.proofs.Common.{append_assoc, length-append}
 use Rattle.std.specs.Prelude.{IfSome}
 use Rattle.std.specs.Global.{Global}
 use Rattle.std.specs.Io.KnownBytes.{Appends, Consumes, IsAtEnd}
@@ -34,7 +35,8 @@ module _ (text : List ℕ) (fs : List (FitFile Global)) (read : RowsOfText text 
 
   pub stands : (fault : CsvFault) (h : IsRefusedRow text fault) → CanFollow h.front h.this × (length h.this ≡ 7)
   stands fault h =
-      let (rest, is, others) = reached-first default_config (h.front ++ h.this ∷ []) (chain_rows fs) st.StartRecord h.read.0 (strip_bom text) h.read.1 h.read.2 read in
+      let (rest, is, others) = reached-first default_config (h.front ++ h.this ∷ []) (chain_rows fs) st.StartRecord h.read.0 (strip_bom text) h.read.1 h.read.2
+      read in
       ((fs, rest, good, is), row-seven fs h.front h.this rest (is ∙ append_assoc h.front (h.this ∷ []) rest))
 
   no-bad-row : (row : ℕ) → IsRefusedRow text (faults.BadRow row) → ⊥
@@ -57,12 +59,14 @@ module _ (text : List ℕ) (fs : List (FitFile Global)) (read : RowsOfText text 
 pub good-files : (text : List ℕ) (files : List (FitFile Global)) (bytes : List ℕ) → IsTextOf text files bytes → IsChainOfRows files
 good-files text files bytes h = chain-of-rows files h.chain.0 (subst IsBytes h.chain.1 h.are_bytes)
 
-pub same-bytes : ChainsHaveOwnRows → (text : List ℕ) (files others : List (FitFile Global)) (bytes other_bytes : List ℕ) → IsTextOf text files bytes → IsTextOf text others other_bytes → other_bytes ≡ bytes
+pub same-bytes : ChainsHaveOwnRows → (text : List ℕ) (files others : List (FitFile Global)) (bytes other_bytes : List ℕ) → IsTextOf text files bytes
+    → IsTextOf text others other_bytes → other_bytes ≡ bytes
 same-bytes law text files others bytes other_bytes h k =
     let same = same-files text files h.rows (good-files text files bytes h) law others k.rows (good-files text others other_bytes k) in
     k.chain.1 ∙ ap chain_bytes same ∙ sym h.chain.1
 
-pub writable : ChainsHaveOwnRows → GoodChainsHaveNoFault Global → (text : List ℕ) (files : List (FitFile Global)) (bytes : List ℕ) (fault : EncodeFault) → IsTextOf text files bytes → IsUnwritable text fault → ⊥
+pub writable : ChainsHaveOwnRows → GoodChainsHaveNoFault Global → (text : List ℕ) (files : List (FitFile Global)) (bytes : List ℕ) (fault : EncodeFault)
+    → IsTextOf text files bytes → IsUnwritable text fault → ⊥
 writable law whole text files bytes fault h (short, (others, (read, good, some), wrong)) =
     let same = same-files text files h.rows (good-files text files bytes h) law others read good in
     whole files fault h.chain.0 (subst (λ fs. IsFirstFault fs fault) same wrong)
@@ -77,9 +81,12 @@ of-answer law whole text files bytes source sink (Err faults.Read) h (inr long) 
 of-answer law whole text files bytes source sink (Err faults.NoMemory) h err = tt
 of-answer law whole text files bytes source sink (Err (faults.Write written)) h (out, (others, other_bytes, is, part)) =
     subst (λ b. StopsAt sink.before sink.after sink.failed b written) (same-bytes law text files others bytes other_bytes h is) part
-of-answer law whole text files bytes source sink (Err faults.Header) h (out, (short, wrong)) = absurd (headed text files h.rows (good-files text files bytes h) wrong)
-of-answer law whole text files bytes source sink (Err (faults.BadRow row)) h (out, (short, inl wrong)) = absurd (no-bad-row text files h.rows (good-files text files bytes h) row wrong)
-of-answer law whole text files bytes source sink (Err (faults.BadRow row)) h (out, (short, inr cut)) = absurd (not-cut text files h.rows (good-files text files bytes h) row h.chain.0.some cut)
+of-answer law whole text files bytes source sink (Err faults.Header) h (out, (short, wrong)) =
+    absurd (headed text files h.rows (good-files text files bytes h) wrong)
+of-answer law whole text files bytes source sink (Err (faults.BadRow row)) h (out, (short, inl wrong)) =
+    absurd (no-bad-row text files h.rows (good-files text files bytes h) row wrong)
+of-answer law whole text files bytes source sink (Err (faults.BadRow row)) h (out, (short, inr cut)) =
+    absurd (not-cut text files h.rows (good-files text files bytes h) row h.chain.0.some cut)
 of-answer law whole text files bytes source sink (Err (faults.BadCell row column)) h (out, (short, wrong)) =
     absurd (no-bad-cell text files h.rows (good-files text files bytes h) row column wrong)
 of-answer law whole text files bytes source sink (Err (faults.Decode fault)) h (out, none) = absurd none
@@ -110,9 +117,11 @@ taken-some before (Some left) text taken input eats =
     let long = ap length is in
     omega (arith, length-append taken left)
 
-module _ (law : ChainsHaveOwnRows) (whole : GoodChainsHaveNoFault Global) (text : List ℕ) (files : List (FitFile Global)) (bytes : List ℕ) (source sink : Channel)
+module _ (law : ChainsHaveOwnRows) (whole : GoodChainsHaveNoFault Global) (text : List ℕ) (files : List (FitFile Global)) (bytes : List ℕ)
+    (source sink : Channel)
     (input : source.before ≡ Some text) (h : IsTextOf text files bytes) where
-  of-whole : (result : Result (Unit {0}) CsvFault) (taken : List ℕ) → Consumes source.before source.after taken → IsAtEnd source.after → Answers taken source sink result
+  of-whole : (result : Result (Unit {0}) CsvFault) (taken : List ℕ) → Consumes source.before source.after taken → IsAtEnd source.after
+      → Answers taken source sink result
       → FromTextOf bytes source sink result
   of-whole result taken eats end answer =
       of-answer law whole text files bytes source sink result h

@@ -6,13 +6,15 @@ use Rattle.fit_frame.specs.declared.header.HeaderSum.{HeaderSum}
 use Rattle.fit_frame.specs.declared.header.HeaderSum.TheVariants.{Absent, Zero, True}
 use Rattle.fit_frame.specs.Header.{SizeFits}
 use Rattle.fit_csv.specs.ChainRows.{file_row, rest_text, row, sum_word}
-use Rattle.fit_csv.specs.Misfits.{HasSum, IsFileRow, IsHeaderSize}
+use Rattle.fit_csv.specs.inner.Misfits.{HasSum, IsHeaderSize}
+use Rattle.fit_csv.specs.RowKinds.{IsFileRow}
 use Rattle.fit_cells.specs.Rows.{Cell, Row}
-use Rattle.fit_csv.specs.Seven.{AsFar}
+use Rattle.fit_csv.specs.inner.Seven.{AsFar}
 use Rattle.fit_cells.specs.Steps.{read_pairs}
 use Rattle.fit_cells.proofs.ReadFacts.{bytes-shown}
 
-pub rest-shown : (bytes text : List ℕ) (count : ℕ) → rest_text bytes ≡ text → length bytes ≡ count → All (λ b. b < 2 ^ 8) bytes → read_pairs count (drop 2 text) ≡ bytes
+pub rest-shown : (bytes text : List ℕ) (count : ℕ) → rest_text bytes ≡ text → length bytes ≡ count → All (λ b. b < 2 ^ 8) bytes
+    → read_pairs count (drop 2 text) ≡ bytes
 unfolding read_pairs
 rest-shown [] text count e long small = subst (λ n. read_pairs n (drop 2 text) ≡ []) long refl
 rest-shown (b ∷ bytes) text count e long small = bytes-shown (b ∷ bytes) text count (sym e) long small
@@ -40,7 +42,8 @@ sizes-fit Zero size rest has long = omega (arith, has, long)
 sizes-fit True size rest has long = omega (arith, has, long)
 
 -- The header of a row is the closest one where each of its numbers is that of its cell, as far as that shows one.
-pub header-closest : (ta tb tc td te tf : Cell) (h : Header) → ((n : ℕ) → IsHeaderSize n → decimal n ≡ ta → h.size ≡ n) → ((n : ℕ) → n < 48 → decimal n ≡ tb → h.protocol ≡ n)
+pub header-closest : (ta tb tc td te tf : Cell) (h : Header) → ((n : ℕ) → IsHeaderSize n → decimal n ≡ ta → h.size ≡ n)
+    → ((n : ℕ) → n < 48 → decimal n ≡ tb → h.protocol ≡ n)
     → ((n : ℕ) → n < 2 ^ 16 → decimal n ≡ tc → h.profile ≡ n) → ((s : HeaderSum) → HasSum h.size s → sum_word s ≡ td → h.sum ≡ s)
     → ((bytes : List ℕ) → length bytes ≡ h.size - 14 → All (λ b. b < 2 ^ 8) bytes → rest_text bytes ≡ te → h.rest.items ≡ bytes)
     → (other : Row) → IsFileRow other → AsFar other (file_row h) (row (codes "file") ta tb tc td te tf)

@@ -25,7 +25,8 @@ use Rattle.fit_record.specs.declared.message.Record.TheVariants.{Define, Values 
 use Rattle.fit_record.specs.declared.message.Values.{Values}
 use Rattle.fit_record.specs.Environment.{Environment, defined_at, dev_defs, empty_environment, learn}
 use Rattle.fit_record.specs.Files.{IsWellFormed, IsWellFormedChain, body, chain_bytes, chain_limit, file_bytes}
-use Rattle.fit_record.specs.Records.{AllFit, DataFits, DataHeaderFits, DefinitionFits, Fits, architecture, data_bytes, data_header, definition_bytes, definition_header, dev_field_bytes, dev_part, field_bytes, order_at, record_bytes, records_bytes}
+use Rattle.fit_record.specs.Records.{AllFit, DataFits, DataHeaderFits, DefinitionFits, Fits, architecture, data_bytes, data_header, definition_bytes}
+use Rattle.fit_record.specs.Records.{definition_header, dev_field_bytes, dev_part, field_bytes, order_at, record_bytes, records_bytes}
 use Rattle.fit_csv.specs.Judged.{DefinitionInRange, DevDefInRange, FieldDefInRange, HeaderInRange, IsChainOfRows, IsFileOfRows, RecordInRange}
 
 -- ---- from bytes to numbers
@@ -36,11 +37,17 @@ all-small (b ∷ bytes) are = (are 0, all-small bytes (IsBytes-tail b bytes are)
 
 fields-small : (fields : List FieldDef) → IsBytes (flat_map field_bytes fields) → AllByRecursion FieldDefInRange fields
 fields-small [] are = tt
-fields-small (f ∷ fields) are = (record { number = are 0; size = are 1; code = are 2 }, fields-small fields (IsBytes-back (field_bytes f) (flat_map field_bytes fields) are))
+fields-small (f ∷ fields) are = (
+  record { number = are 0; size = are 1; code = are 2 },
+  fields-small fields (IsBytes-back (field_bytes f) (flat_map field_bytes fields) are),
+)
 
 dev-fields-small : (fields : List DevDef) → IsBytes (flat_map dev_field_bytes fields) → AllByRecursion DevDefInRange fields
 dev-fields-small [] are = tt
-dev-fields-small (f ∷ fields) are = (record { number = are 0; size = are 1; index = are 2 }, dev-fields-small fields (IsBytes-back (dev_field_bytes f) (flat_map dev_field_bytes fields) are))
+dev-fields-small (f ∷ fields) are = (
+  record { number = are 0; size = are 1; index = are 2 },
+  dev-fields-small fields (IsBytes-back (dev_field_bytes f) (flat_map dev_field_bytes fields) are),
+)
 
 dev-part-small : (dev : Option (List DevDef)) → IsBytes (dev_part dev) → AllByRecursion DevDefInRange (dev_defs dev)
 dev-part-small None are = tt
@@ -53,7 +60,8 @@ record-small e (Define d) are =
     let behind : IsBytes ((front ++ fields) ++ dev_part d.dev) = IsBytes-tail (definition_header d) (definition_bytes d) are in
     record {
       reserved = are 1;
-      fields = fields-small d.fields (IsBytes-tail (length d.fields) (flat_map field_bytes d.fields) (IsBytes-back front fields (IsBytes-front (front ++ fields) (dev_part d.dev) behind)));
+      fields = fields-small d.fields (IsBytes-tail (length d.fields) (flat_map field_bytes d.fields)
+          (IsBytes-back front fields (IsBytes-front (front ++ fields) (dev_part d.dev) behind)));
       dev_fields = dev-part-small d.dev (IsBytes-back (front ++ fields) (dev_part d.dev) behind);
     }
 record-small e (Data v) are = tt
@@ -74,7 +82,13 @@ file-small f good are =
     let summed : IsBytes (head ++ body f) = IsBytes-front (head ++ body f) _ are in
     let rest : IsBytes f.header.rest.items = IsBytes-back (fixed ++ sum) f.header.rest.items (IsBytes-front head (body f) summed) in
     record {
-      header = record { form = good.header.form; size = good.header.size_fits; profile = good.header.profile_fits; rest = All-from_recursion (λ b. b < 2 ^ 8) f.header.rest.items (all-small f.header.rest.items rest) };
+      header = record {
+        form = good.header.form;
+        size = good.header.size_fits;
+        profile = good.header.profile_fits;
+        rest =
+            All-from_recursion (λ b. b < 2 ^ 8) f.header.rest.items (all-small f.header.rest.items rest);
+      };
       records = good.records;
       numbers = records-small empty_environment f.records (IsBytes-back head (body f) summed);
     }
@@ -97,13 +111,15 @@ fields-bytes : (fields : List FieldDef) → AllByRecursion FieldDefInRange field
 fields-bytes [] small = IsBytes-none
 fields-bytes (f ∷ fields) small =
     let rest = flat_map field_bytes fields in
-    IsBytes-cons f.number (f.size ∷ f.code ∷ rest) small.0.number (IsBytes-cons f.size (f.code ∷ rest) small.0.size (IsBytes-cons f.code rest small.0.code (fields-bytes fields small.1)))
+    IsBytes-cons f.number (f.size ∷ f.code ∷ rest) small.0.number
+    (IsBytes-cons f.size (f.code ∷ rest) small.0.size (IsBytes-cons f.code rest small.0.code (fields-bytes fields small.1)))
 
 dev-fields-bytes : (fields : List DevDef) → AllByRecursion DevDefInRange fields → IsBytes (flat_map dev_field_bytes fields)
 dev-fields-bytes [] small = IsBytes-none
 dev-fields-bytes (f ∷ fields) small =
     let rest = flat_map dev_field_bytes fields in
-    IsBytes-cons f.number (f.size ∷ f.index ∷ rest) small.0.number (IsBytes-cons f.size (f.index ∷ rest) small.0.size (IsBytes-cons f.index rest small.0.index (dev-fields-bytes fields small.1)))
+    IsBytes-cons f.number (f.size ∷ f.index ∷ rest) small.0.number
+    (IsBytes-cons f.size (f.index ∷ rest) small.0.size (IsBytes-cons f.index rest small.0.index (dev-fields-bytes fields small.1)))
 
 dev-part-bytes : (dev : Option (List DevDef)) → length (dev_defs dev) < 256 → AllByRecursion DevDefInRange (dev_defs dev) → IsBytes (dev_part dev)
 dev-part-bytes None few small = IsBytes-none
@@ -122,14 +138,16 @@ define-bytes d fits small =
     let number = number_bytes d.order 2 d.global in
     let front : List ℕ = d.reserved ∷ architecture d.order ∷ number in
     let fields : List ℕ = length d.fields ∷ flat_map field_bytes d.fields in
-    let first : IsBytes front = IsBytes-cons d.reserved (architecture d.order ∷ number) small.reserved (IsBytes-cons (architecture d.order) number (architecture-byte d.order) (IsBytes-number_bytes d.order 2 d.global)) in
+    let first : IsBytes front = IsBytes-cons d.reserved (architecture d.order ∷ number) small.reserved
+    (IsBytes-cons (architecture d.order) number (architecture-byte d.order) (IsBytes-number_bytes d.order 2 d.global)) in
     let next : IsBytes fields = IsBytes-cons (length d.fields) (flat_map field_bytes d.fields) fits.fields (fields-bytes d.fields small.fields) in
     IsBytes-cons (definition_header d) (definition_bytes d) (definition-header d.local d.dev fits.local)
     (IsBytes-append (front ++ fields) (dev_part d.dev) (IsBytes-append front fields first next) (dev-part-bytes d.dev fits.dev_fields small.dev_fields))
 
 numbers-bytes : (o : Order) (width : ℕ) (numbers : List ℕ) → IsBytes (flat_map (number_bytes o width) numbers)
 numbers-bytes o width [] = IsBytes-none
-numbers-bytes o width (n ∷ numbers) = IsBytes-append (number_bytes o width n) (flat_map (number_bytes o width) numbers) (IsBytes-number_bytes o width n) (numbers-bytes o width numbers)
+numbers-bytes o width (n ∷ numbers) = IsBytes-append (number_bytes o width n) (flat_map (number_bytes o width) numbers) (IsBytes-number_bytes o width n)
+    (numbers-bytes o width numbers)
 
 items-bytes : {A : Type 0} (o : Order) (items : List (Items A)) → IsBytes (flat_map (items_bytes o) items)
 items-bytes o [] = IsBytes-none
@@ -139,7 +157,8 @@ data-header : (local : ℕ) (offset : Option ℕ) → DataHeaderFits local offse
 data-header local None fits = omega (arith, fits)
 data-header local (Some offset) fits = omega (arith, fits.0, fits.1)
 
-message-bytes : {A : Type 0} (o : Order) (v : Values A) (p : Option (Defined A)) → IsSomeAnd p (DataFits v) → IsBytes (data_header v.local v.offset ∷ data_bytes o v)
+message-bytes : {A : Type 0} (o : Order) (v : Values A) (p : Option (Defined A)) → IsSomeAnd p (DataFits v)
+    → IsBytes (data_header v.local v.offset ∷ data_bytes o v)
 message-bytes o v None fits = absurd fits
 message-bytes o v (Some p) fits =
     IsBytes-cons (data_header v.local v.offset) (data_bytes o v) (data-header v.local v.offset fits.header)
@@ -149,9 +168,11 @@ record-bytes : {A : Type 0} (e : Environment A) (r : Record A) → Fits e r → 
 record-bytes e (Define d) fits small = define-bytes d fits small
 record-bytes e (Data v) fits small = message-bytes (order_at e v.local) v (defined_at e v.local) fits
 
-records-bytes : {A : Type 0} (e : Environment A) (records : List (Record A)) → AllFit e records → AllByRecursion RecordInRange records → IsBytes (records_bytes e records)
+records-bytes : {A : Type 0} (e : Environment A) (records : List (Record A)) → AllFit e records → AllByRecursion RecordInRange records
+    → IsBytes (records_bytes e records)
 records-bytes e [] fit small = IsBytes-none
-records-bytes e (r ∷ records) fit small = IsBytes-append (record_bytes e r) (records_bytes (learn e r) records) (record-bytes e r fit.0 small.0) (records-bytes (learn e r) records fit.1 small.1)
+records-bytes e (r ∷ records) fit small =
+    IsBytes-append (record_bytes e r) (records_bytes (learn e r) records) (record-bytes e r fit.0 small.0) (records-bytes (learn e r) records fit.1 small.1)
 
 sum-bytes : (sum : HeaderSum) (fixed : List ℕ) → IsBytes (sum_part sum fixed)
 sum-bytes Absent fixed = IsBytes-none
@@ -167,9 +188,11 @@ head-bytes h n small =
     let count = little_bytes 4 n in
     let fixed = fixed_part h n in
     let protocol : h.protocol < 256 = let version = small.form.version in omega (arith, version) in
-    let first : IsBytes (h.size ∷ h.protocol ∷ profile) = IsBytes-cons h.size (h.protocol ∷ profile) small.size (IsBytes-cons h.protocol profile protocol (IsBytes-number_bytes Little 2 h.profile)) in
+    let first : IsBytes (h.size ∷ h.protocol ∷ profile) =
+    IsBytes-cons h.size (h.protocol ∷ profile) small.size (IsBytes-cons h.protocol profile protocol (IsBytes-number_bytes Little 2 h.profile)) in
     let twelve : IsBytes (((h.size ∷ h.protocol ∷ profile) ++ count) ++ signature) =
-    IsBytes-append ((h.size ∷ h.protocol ∷ profile) ++ count) signature (IsBytes-append (h.size ∷ h.protocol ∷ profile) count first (IsBytes-number_bytes Little 4 n)) signature-bytes in
+    IsBytes-append ((h.size ∷ h.protocol ∷ profile) ++ count) signature
+    (IsBytes-append (h.size ∷ h.protocol ∷ profile) count first (IsBytes-number_bytes Little 4 n)) signature-bytes in
     IsBytes-append (fixed ++ sum_part h.sum fixed) h.rest.items (IsBytes-append fixed (sum_part h.sum fixed) twelve (sum-bytes h.sum fixed))
     (all-bytes h.rest.items (recursion_from_All (λ b. b < 2 ^ 8) h.rest.items small.rest))
 

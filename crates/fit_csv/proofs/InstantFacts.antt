@@ -3,7 +3,8 @@ use Rattle.std.proofs.Common.{◌≡◌, ℕ, zero, suc, ◌+◌, ◌-◌, ◌*�
 use Rattle.std.specs.Prelude.{nat_lt}
 use Rattle.std.proofs.lemmas.Bool.{cases_Bool, le-ltb, lt-ltb, ltb-false, ltb-true}
 use Rattle.jiff_core.specs.Calendar.{day_count, days_from_civil, days_in_month, days_in_year, IsCivilDate}
-use Rattle.jiff_core.proofs.CalendarLemmas.{day_count-day, day_count-last_of_year, day_count-next_month, day_count-next_year, days_from_civil-day_count, days_in_year_bounds}
+use Rattle.jiff_core.proofs.CalendarLemmas.{day_count-day, day_count-last_of_year, day_count-next_month, day_count-next_year, days_from_civil-day_count}
+use Rattle.jiff_core.proofs.CalendarLemmas.{days_in_year_bounds}
 use Rattle.jiff_core.proofs.SignedLemmas.{signed_arith}
 use Rattle.fit_profile.specs.Instant.{date_digits, IsDayAfterEpoch, IsInstantText}
 use Rattle.fit_csv.specs.InstantText.{date_after, date_in_year, instant_text}
@@ -14,8 +15,15 @@ IsDate count text = (y : ℕ) × (m : ℕ) × (d : ℕ) × (y < 10000) × IsCivi
 
 in-month : (y m n : ℕ) → y < 10000 → 1 ≤ m → m ≤ 12 → n < days_in_month (pos y) m → IsDate (day_count (pos y) m 1 + n) (date_digits y m (n + 1))
 unfolding IsDate
-in-month y m n early low high within =
-    (y, m, n + 1, early, ((omega (arith, signed_arith), omega (arith, signed_arith)), (low, high), (omega arith, omega arith)), omega (arith, day_count-day (pos y) m (n + 1) 1 (omega arith) (omega arith)), refl)
+in-month y m n early low high within = (
+  y,
+  m,
+  n + 1,
+  early,
+  ((omega (arith, signed_arith), omega (arith, signed_arith)), (low, high), (omega arith, omega arith)),
+  omega (arith, day_count-day (pos y) m (n + 1) 1 (omega arith) (omega arith)),
+  refl,
+)
 
 -- a date of this month or a later one of the year
 in-year : (later y m n : ℕ) → y < 10000 → 1 ≤ m → later + m ≡ 12 → day_count (pos y) m 1 + n < day_count (pos y) 1 1 + days_in_year (pos y)
@@ -55,7 +63,8 @@ first-of-1989 : day_count (pos 1989) 1 1 + 364 ≡ day_count (pos 1989) 12 31
 first-of-1989 = omega (arith, day_count-last_of_year (pos 1989))
 
 -- so many days after 31 December 1989
-pub date-of-day : (n : ℕ) → n < 50000 → (y : ℕ) × (m : ℕ) × (d : ℕ) × (y < 10000) × IsDayAfterEpoch n y m d × (date_after 137 1989 (364 + n) ≡ date_digits y m d)
+pub date-of-day : (n : ℕ) → n < 50000 → (y : ℕ) × (m : ℕ) × (d : ℕ) × (y < 10000) × IsDayAfterEpoch n y m d
+    × (date_after 137 1989 (364 + n) ≡ date_digits y m d)
 unfolding IsDate
 date-of-day n within =
     let (y, m, d, early, civil, count, text) = in-years 137 1989 (364 + n) (omega arith) (omega (arith, within)) in

@@ -6,10 +6,11 @@ use Rattle.csv.specs.Reading.{reader_state}
 use Rattle.csv.specs.declared.reader.Reader.{Reader}
 use Rattle.fit_profile.specs.Laws.{TextHasOneNumber}
 use Rattle.fit_csv.specs.ChainRows.{chain_rows, file_rows}
-use Rattle.fit_csv.specs.Judged.{AreFilesOf, AreWhole, CanFollow, FirstRows, IsBadCell, IsChainOfRows, IsCutOff, IsRefusedRow, IsRowFault, IsTextFault, MayGoOn}
-use Rattle.fit_csv.specs.Progress.{ChainStep, Run, nothing_yet}
+use Rattle.fit_csv.specs.Judged.{AreFilesOf, AreWhole, CanFollow, FirstRows, IsBadCell, IsChainOfRows, IsCutOff, IsRefusedRow, IsRowFault, MayGoOn}
+use Rattle.fit_csv.specs.inner.TextFaults.{IsTextFault, IsUnjudged}
+use Rattle.fit_csv.specs.inner.Progress.{ChainStep, Run, nothing_yet}
 use Rattle.fit_cells.specs.Rows.{HasRead, Row, RowsOfText, first_line}
-use Rattle.fit_csv.specs.SoundChain.{IsSoundChain, IsSoundCurrent, current_rows, rows_so_far}
+use Rattle.fit_csv.specs.inner.SoundChain.{IsSoundChain, IsSoundCurrent, current_rows, rows_so_far}
 use Rattle.fit_csv.specs.declared.fault.CsvFault.{CsvFault}
 use Rattle.fit_csv.specs.declared.fault.CsvFault.TheVariants as faults
 use Rattle.fit_csv.specs.declared.from.chain.Chain.{Chain}
@@ -48,14 +49,16 @@ tail-same a b xs ys e = cc e
 
 pub can-step : TextHasOneNumber → (rows : List Row) (c : Chain) (r : Row) → Run nothing_yet rows c → CanFollow (first_line ∷ rows) r → CanStep c r
 can-step law rows c r run (files, more, good, e) =
-    let rest : flat_map file_rows files ≡ rows ++ (r ∷ more) = tail-same first_line first_line (flat_map file_rows files) ((rows ++ r ∷ []) ++ more) e ∙ append_assoc rows (r ∷ []) more in
+    let rest : flat_map file_rows files ≡ rows ++ (r ∷ more) =
+    tail-same first_line first_line (flat_map file_rows files) ((rows ++ r ∷ []) ++ more) e ∙ append_assoc rows (r ∷ []) more in
     let done : Chain = record { files = files; current = None } in
     let whole : Run nothing_yet (rows ++ (r ∷ more)) done = subst (λ (l : List Row). Run nothing_yet l done) rest (chain-run files good) in
     let (m, front, others) = run-split nothing_yet rows (r ∷ more) done whole in
     let same = one-run law nothing_yet rows m c front run in
     first-of-run c r more done (subst (λ (x : Chain). Run x (r ∷ more) done) same others)
 
-bad-cell : (P Q : Row → Type 0) (r : Row) (column : ℕ) → ((other : Row) → P other → Q other) → ((other : Row) → Q other → P other) → IsBadCell P r column → IsBadCell Q r column
+bad-cell : (P Q : Row → Type 0) (r : Row) (column : ℕ) → ((other : Row) → P other → Q other) → ((other : Row) → Q other → P other) → IsBadCell P r column
+    → IsBadCell Q r column
 bad-cell P Q r column up down h = record {
   behind_kind = h.behind_kind;
   bad = λ other stands. h.bad other (down other stands);
@@ -63,21 +66,24 @@ bad-cell P Q r column up down h = record {
 }
 
 -- a row's fault hangs only on which rows can stand there
-pub row-fault : (P Q : Row → Type 0) (r : Row) (number : ℕ) (fault : CsvFault) → ((other : Row) → P other → Q other) → ((other : Row) → Q other → P other) → IsRowFault P r number fault
+pub row-fault : (P Q : Row → Type 0) (r : Row) (number : ℕ) (fault : CsvFault) → ((other : Row) → P other → Q other) → ((other : Row) → Q other → P other)
+    → IsRowFault P r number fault
     → IsRowFault Q r number fault
 row-fault P Q r number (faults.BadRow row) up down (place, inl long) = (place, inl long)
 row-fault P Q r number (faults.BadRow row) up down (place, inr none) = (place, inr (λ other stands. none other (down other stands)))
 row-fault P Q r number (faults.BadCell row column) up down (place, seven, bad) = (place, seven, bad-cell P Q r column up down bad)
-row-fault P Q r number faults.NoMemory up down h = tt
+row-fault P Q r number faults.NoMemory up down h = absurd h
 row-fault P Q r number faults.Header up down h = absurd h
 row-fault P Q r number faults.Read up down h = absurd h
 row-fault P Q r number (faults.Decode f) up down h = absurd h
 row-fault P Q r number (faults.Encode f) up down h = absurd h
 row-fault P Q r number (faults.Write n) up down h = absurd h
 
-pub followed : TextHasOneNumber → (rows : List Row) (c : Chain) (r : Row) (number : ℕ) (fault : CsvFault) → Run nothing_yet rows c → IsRowFault (CanStep c) r number fault
+followed : TextHasOneNumber → (rows : List Row) (c : Chain) (r : Row) (number : ℕ) (fault : CsvFault) → Run nothing_yet rows c
+    → IsRowFault (CanStep c) r number fault
     → IsRowFault (CanFollow (first_line ∷ rows)) r number fault
-followed law rows c r number fault run = row-fault (CanStep c) (CanFollow (first_line ∷ rows)) r number fault (λ other. can-follow rows c other run) (λ other. can-step law rows c other run)
+followed law rows c r number fault run =
+    row-fault (CanStep c) (CanFollow (first_line ∷ rows)) r number fault (λ other. can-follow rows c other run) (λ other. can-step law rows c other run)
 
 pub whole-rows : (rows : List Row) (c : Chain) → Run nothing_yet rows c → c.current ≡ None → (first_line ∷ rows ≡ chain_rows c.files) × IsChainOfRows c.files
 whole-rows rows c run none =
@@ -87,7 +93,8 @@ whole-rows rows c run none =
     sym so_far ∙ ap (λ m. flat_map file_rows c.files ++ current_rows m) none ∙ append-nil (flat_map file_rows c.files) in
     (ap (λ (l : List Row). first_line ∷ l) all, (count, sound.files))
 
-pub cut-off : TextHasOneNumber → (rows : List Row) (c : Chain) → Run nothing_yet rows c → (c.current ≡ None → 0 < length c.files → ⊥) → AreWhole (first_line ∷ rows) → ⊥
+pub cut-off : TextHasOneNumber → (rows : List Row) (c : Chain) → Run nothing_yet rows c → (c.current ≡ None → 0 < length c.files → ⊥)
+    → AreWhole (first_line ∷ rows) → ⊥
 cut-off law rows c run unfinished (files, good, some, e) =
     let rest : rows ≡ flat_map file_rows files = tail-same first_line first_line rows (flat_map file_rows files) e in
     let done : Chain = record { files = files; current = None } in
@@ -95,35 +102,39 @@ cut-off law rows c run unfinished (files, good, some, e) =
     let same : c ≡ done = one-run law nothing_yet rows c done run whole in
     unfinished (ap (λ (x : Chain). x.current) same) (subst (λ (x : Chain). 0 < length x.files) (sym same) some)
 
-pub refused-text : (text : List ℕ) (fault : CsvFault) → IsRefusedRow text fault → IsTextFault text fault
-refused-text text (faults.BadRow row) h = inl h
-refused-text text (faults.BadCell row column) h = h
-refused-text text faults.NoMemory h = tt
-refused-text text faults.Header h = absurd h.wrong
-refused-text text faults.Read h = absurd h.wrong
-refused-text text (faults.Decode f) h = absurd h.wrong
-refused-text text (faults.Encode f) h = absurd h.wrong
-refused-text text (faults.Write n) h = absurd h.wrong
+-- the fault of a text is that of its row, unless memory was refused
+text-fault : (CanStand : Row → Type 0) (r : Row) (number : ℕ) (text : List ℕ) (fault : CsvFault)
+    → (IsRowFault CanStand r number fault → IsRefusedRow text fault) → IsUnjudged CanStand r number fault → IsTextFault text fault
+text-fault CanStand r number text (faults.BadRow row) refused h = inl (refused h)
+text-fault CanStand r number text (faults.BadCell row column) refused h = refused h
+text-fault CanStand r number text faults.NoMemory refused h = tt
+text-fault CanStand r number text faults.Header refused h = absurd h
+text-fault CanStand r number text faults.Read refused h = absurd h
+text-fault CanStand r number text (faults.Decode f) refused h = absurd h
+text-fault CanStand r number text (faults.Encode f) refused h = absurd h
+text-fault CanStand r number text (faults.Write n) refused h = absurd h
 
 pub first-rows : (text : List ℕ) (rows : List Row) (r : Reader (Bor (List ℕ))) → HasRead text rows r → FirstRows text rows
 first-rows text rows r read = (reader_state r, read.place.0, read.place.2)
 
 -- the next row can't stand behind those of a chain
-pub refused-row : TextHasOneNumber → (text : List ℕ) (rows : List Row) (c : Chain) (this : Row) (number : ℕ) (fault : CsvFault) (r : Reader (Bor (List ℕ))) → Run nothing_yet rows c
-    → HasRead text ((first_line ∷ rows) ++ this ∷ []) r → number ≡ length rows + 2 → IsRowFault (CanStep c) this number fault → IsTextFault text fault
+pub refused-row : TextHasOneNumber → (text : List ℕ) (rows : List Row) (c : Chain) (this : Row) (number : ℕ) (fault : CsvFault) (r : Reader (Bor (List ℕ)))
+    → Run nothing_yet rows c
+    → HasRead text ((first_line ∷ rows) ++ this ∷ []) r → number ≡ length rows + 2 → IsUnjudged (CanStep c) this number fault → IsTextFault text fault
 refused-row law text rows c this number fault r run read place wrong =
     let counted : number ≡ length (first_line ∷ rows) + 1 = omega (arith, place) in
-    refused-text text fault (record {
+    text-fault (CanStep c) this number text fault (λ h. record {
       front = first_line ∷ rows;
       this = this;
       read = first-rows text ((first_line ∷ rows) ++ this ∷ []) r read;
       some = omega arith;
       begins = begins rows c run;
-      wrong = subst (λ n. IsRowFault (CanFollow (first_line ∷ rows)) this n fault) counted (followed law rows c this number fault run wrong);
-    })
+      wrong = subst (λ n. IsRowFault (CanFollow (first_line ∷ rows)) this n fault) counted (followed law rows c this number fault run h);
+    }) wrong
 
 -- the text ends too early
-pub cut-text : TextHasOneNumber → (text : List ℕ) (rows : List Row) (c : Chain) → Run nothing_yet rows c → RowsOfText text (first_line ∷ rows) → (c.current ≡ None → 0 < length c.files → ⊥)
+pub cut-text : TextHasOneNumber → (text : List ℕ) (rows : List Row) (c : Chain) → Run nothing_yet rows c → RowsOfText text (first_line ∷ rows)
+    → (c.current ≡ None → 0 < length c.files → ⊥)
     → IsCutOff text (length rows + 2)
 cut-text law text rows c run read unfinished = record {
   rows = first_line ∷ rows;
@@ -134,7 +145,8 @@ cut-text law text rows c run read unfinished = record {
   place = omega arith;
 }
 
-pub whole-text : (text : List ℕ) (rows : List Row) (c : Chain) → Run nothing_yet rows c → RowsOfText text (first_line ∷ rows) → c.current ≡ None → 0 < length c.files → AreFilesOf text c.files
+pub whole-text : (text : List ℕ) (rows : List Row) (c : Chain) → Run nothing_yet rows c → RowsOfText text (first_line ∷ rows) → c.current ≡ None
+    → 0 < length c.files → AreFilesOf text c.files
 whole-text text rows c run read none some =
     let (same, good) = whole-rows rows c run none in
     (subst (λ (l : List Row). RowsOfText text l) same read, good, some)

@@ -1,5 +1,6 @@
 -- What is known behind records.
-use Rattle.std.proofs.Common.{◌≡◌, ◌∙◌, ℕ, zero, suc, ◌≤◌, inl, inr, List, [], ◌∷◌, ◌++◌, length, replicate, set, get_or, Option, Some, None, refl, sym, ap, subst, arith, append_assoc, eqb-true, eq-eqb, ◌==◌}
+use Rattle.std.proofs.Common.{◌≡◌, ◌∙◌, ℕ, zero, suc, ◌≤◌, inl, inr, List, [], ◌∷◌, ◌++◌, length, replicate, set, get_or, Option, Some, None, refl, sym, ap}
+use Rattle.std.proofs.Common.{subst, arith, append_assoc, eqb-true, eq-eqb, ◌==◌}
 use Rattle.std.specs.Prelude.{reverse}
 use Rattle.std.proofs.lemmas.Bool.{cases_Bool, cases_lt}
 use Rattle.std.proofs.lemmas.Option.{none-some}
@@ -31,10 +32,13 @@ some-same : {X : Type 0} (a b : X) → Some a ≡ Some b → a ≡ b
 some-same a b e = cc e
 
 -- what a definition has when it comes, it has in its place
-pub known-has : {A : Type 0} (P : Defined A → Type 0) → ((e : Environment A) (d : MessageDef A) → P (defined_by e d)) → (before : List (Record A)) (local : ℕ) (p : Defined A)
+pub known-has : {A : Type 0} (P : Defined A → Type 0) → ((e : Environment A) (d : MessageDef A) → P (defined_by e d))
+    → (before : List (Record A)) (local : ℕ) (p : Defined A)
     → defined_at (known before) local ≡ Some p → P p
-known-has P holds [] local p is = let absent : get_or (replicate 16 None) local None ≡ None = nothing-defined None 16 local in absurd (none-some p (sym absent ∙ is))
-known-has P holds (Data v ∷ before) local p is = known-has P holds before local p (ap (λ places. get_or places local None) (sym (same-places (known before) _)) ∙ is)
+known-has P holds [] local p is = let absent : get_or (replicate 16 None) local None ≡ None = nothing-defined None 16 local in
+    absurd (none-some p (sym absent ∙ is))
+known-has P holds (Data v ∷ before) local p is =
+    known-has P holds before local p (ap (λ places. get_or places local None) (sym (same-places (known before) _)) ∙ is)
 known-has P holds (Define d ∷ before) local p is =
     let new = Some (defined_by (known before) d) in
     elim (cases_Bool (d.local == local)) [
@@ -43,21 +47,25 @@ known-has P holds (Define d ∷ before) local p is =
           elim (cases_lt local (length (known before).places)) [
             | inl within ↦
                 let here : get_or (set (known before).places d.local (Some (defined_by (known before) d))) local None ≡ Some (defined_by (known before) d) =
-                subst (λ k. get_or (set (known before).places k (Some (defined_by (known before) d))) local None ≡ Some (defined_by (known before) d)) (sym same)
+                subst (λ k. get_or (set (known before).places k (Some (defined_by (known before) d))) local None ≡ Some (defined_by (known before) d))
+                (sym same)
                 (get_or-set_same (known before).places local (Some (defined_by (known before) d)) None within) in
                 subst P (some-same (defined_by (known before) d) p (sym here ∙ is)) (holds (known before) d)
             | inr past ↦
                 let absent : get_or (set (known before).places d.local (Some (defined_by (known before) d))) local None ≡ None =
-                outside (set (known before).places d.local (Some (defined_by (known before) d))) local None (omega (arith, past, length-set (known before).places d.local (Some (defined_by (known before) d)))) in
+                outside (set (known before).places d.local (Some (defined_by (known before) d))) local None
+                (omega (arith, past, length-set (known before).places d.local (Some (defined_by (known before) d)))) in
                 absurd (none-some p (sym absent ∙ is))
           ]
       | inr test ↦
           let other : d.local ≡ local → ⊥ = λ e. cc (sym test ∙ eq-eqb d.local local e) in
-          known-has P holds before local p (sym (get_or-set_other (known before).places d.local local (Some (defined_by (known before) d)) None (λ e. other (sym e))) ∙ is)
+          known-has P holds before local p (sym (get_or-set_other (known before).places d.local local (Some (defined_by (known before) d)) None
+          (λ e. other (sym e))) ∙ is)
     ]
 
 -- there is a code for each developer field
-pub codes-long : {A : Type 0} (before : List (Record A)) (local : ℕ) (p : Defined A) → defined_at (known before) local ≡ Some p → length p.dev_codes ≡ length (dev_defs p.definition.dev)
+pub codes-long : {A : Type 0} (before : List (Record A)) (local : ℕ) (p : Defined A) → defined_at (known before) local ≡ Some p
+    → length p.dev_codes ≡ length (dev_defs p.definition.dev)
 codes-long = known-has (λ p. length p.dev_codes ≡ length (dev_defs p.definition.dev)) (λ e d. length-map (dev_defs d.dev) (dev_code e))
 
 -- ---- records one after another
@@ -70,6 +78,7 @@ known-more before (r ∷ records) =
 pub known-all : {A : Type 0} (records : List (Record A)) → known (reverse records) ≡ learn_all empty_environment records
 known-all records = ap known (sym (append-nil (reverse records))) ∙ known-more [] records
 
-pub fit-last : {A : Type 0} (e : Environment A) (records : List (Record A)) (r : Record A) → AllFit e records → Fits (learn_all e records) r → AllFit e (records ++ r ∷ [])
+pub fit-last : {A : Type 0} (e : Environment A) (records : List (Record A)) (r : Record A) → AllFit e records → Fits (learn_all e records) r
+    → AllFit e (records ++ r ∷ [])
 fit-last e [] r all fits = (fits, tt)
 fit-last e (x ∷ records) r all fits = (all.0, fit-last (learn e x) records r all.1 fits)

@@ -4,6 +4,7 @@ mod ToldRows
 mod ProfileScales
 mod Converted
 mod ToldTable
+pub mod TableRows
 mod Shapes
 mod NamingFacts
 mod DevFields
@@ -19,6 +20,7 @@ mod HeaderRows
 mod MessageRows
 mod ValueRows
 pub mod ShownLines
+pub mod LinesOfChains
 mod ValueSteps
 mod PartSteps
 mod KnownDefinitions
@@ -32,7 +34,8 @@ mod ProfileOffsets
 mod OneWay
 mod WholeRuns
 mod Judging
-pub mod Following
+mod Following
+pub mod PlacesOfRows
 mod OneChain
 pub mod OneFinding
 mod InRange

@@ -13,9 +13,9 @@ use Rattle.fit_csv.specs.ChainRows.{end_row, optional_number, row}
 use Rattle.fit_csv.specs.Judged.{IsBadCell}
 use Rattle.fit_csv.specs.declared.from.misfit.Misfit.{Misfit}
 use Rattle.fit_csv.specs.InstantText.{instant_text}
-use Rattle.fit_csv.specs.Misfits.{IsCellFault, IsMessageOrEnd, IsMessageRow, global_at, message_row}
+use Rattle.fit_csv.specs.inner.Misfits.{IsCellFault, IsMessageOrEnd, IsMessageRow, global_at, message_row}
 use Rattle.fit_cells.specs.Rows.{Cell, Row}
-use Rattle.fit_csv.specs.Seven.{AsFar}
+use Rattle.fit_csv.specs.inner.Seven.{AsFar}
 use Rattle.fit_csv.proofs.Closest.{of-kind}
 use Rattle.fit_csv.proofs.ClosestRows.{none-shown}
 
@@ -37,13 +37,16 @@ time_cell before offset = unwrap_or (option_map instant_text (header_time (previ
 
 pub message-closest : (before : List (Record Global)) (ta tb tc td te tf : Cell) (local : ℕ) (offset : Option ℕ) → local < 16 → decimal local ≡ ta
     → ((other : Option ℕ) → DataHeaderFits local other → optional_number other ≡ tb → offset ≡ other) → (other : Row) → IsMessageRow before other
-    → AsFar other (row (codes "data") (decimal local) (optional_number offset) (message_label (global_at before local)) (time_cell before offset) [] []) (row (codes "data") ta tb tc td te tf)
+    → AsFar other (row (codes "data") (decimal local) (optional_number offset) (message_label (global_at before local)) (time_cell before offset) [] [])
+    (row (codes "data") ta tb tc td te tf)
 message-closest before ta tb tc td te tf local offset small shown is_b other (v, start, e) =
-    subst (λ (o : Row). AsFar o (row (codes "data") (decimal local) (optional_number offset) (message_label (global_at before local)) (time_cell before offset) [] []) (row (codes "data") ta tb tc td te tf)) (sym e)
+    subst (λ (o : Row). AsFar o (row (codes "data") (decimal local) (optional_number offset) (message_label (global_at before local)) (time_cell before offset)
+    [] []) (row (codes "data") ta tb tc td te tf)) (sym e)
     (λ ek. (
       refl,
       λ ea.
-          let same : v.local ≡ local = decimal_injective v.local local (let s = small-local v.local v.offset start.header in omega (arith, s)) (omega (arith, small)) (ea ∙ sym shown) in (
+          let same : v.local ≡ local = decimal_injective v.local local (let s = small-local v.local v.offset start.header in omega (arith, s))
+          (omega (arith, small)) (ea ∙ sym shown) in (
             shown,
             λ eb.
                 let same_offset : offset ≡ v.offset = is_b v.offset (subst (λ l. DataHeaderFits l v.offset) same start.header) eb in (
@@ -58,7 +61,8 @@ message-closest before ta tb tc td te tf local offset small shown is_b other (v,
     ))
 
 -- rows of data messages are none in which a file ends
-pub message-or-end : (before : List (Record Global)) (row : Row) (misfit : Misfit) → take 1 row ≡ codes "data" ∷ [] → IsCellFault (IsMessageRow before) row misfit → IsCellFault (IsMessageOrEnd before) row misfit
+pub message-or-end : (before : List (Record Global)) (row : Row) (misfit : Misfit) → take 1 row ≡ codes "data" ∷ []
+    → IsCellFault (IsMessageRow before) row misfit → IsCellFault (IsMessageOrEnd before) row misfit
 message-or-end before row misfit kind =
     of-kind (IsMessageRow before) (IsMessageOrEnd before) row misfit (λ other stands. inl stands) (λ other stands e. elim stands [
       | inl message ↦ message

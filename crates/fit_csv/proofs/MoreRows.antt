@@ -19,10 +19,12 @@ use Rattle.fit_profile.specs.Looks.{known}
 use Rattle.fit_profile.specs.Times.{header_time, previous_time}
 use Rattle.fit_csv.specs.ChainRows.{data_row, data_rows, end_row, field_rows, file_row, file_rows, record_rows, records_rows}
 use Rattle.fit_csv.specs.Judged.{IsFileOfRows}
-use Rattle.fit_csv.specs.Misfits.{IsMessageStart, global_at, message_row}
-use Rattle.fit_csv.specs.Progress.{ChainStep, DevStep, FieldStep, FileStep, OpenStep, PartStep, begun, definition_of, is_whole, is_whole_message, settled, with_record}
+use Rattle.fit_csv.specs.inner.Misfits.{IsMessageStart, global_at, message_row}
+use Rattle.fit_csv.specs.inner.Progress.{ChainStep, DevStep, FieldStep, FileStep, OpenStep, PartStep, file_begun, built_definition, is_whole, is_whole_message}
+use Rattle.fit_csv.specs.inner.Progress.{settled, with_record}
 use Rattle.fit_cells.specs.Rows.{Row}
-use Rattle.fit_csv.specs.SoundChain.{IsSoundChain, IsSoundCurrent, IsSoundFile, IsSoundMessage, IsSoundPart, current_rows, open_file_rows, part_rows, rows_so_far}
+use Rattle.fit_csv.specs.inner.SoundChain.{IsSoundChain, IsSoundCurrent, IsSoundFile, IsSoundMessage, IsSoundPart, current_rows, open_file_rows, part_rows}
+use Rattle.fit_csv.specs.inner.SoundChain.{rows_so_far}
 use Rattle.fit_csv.specs.declared.from.chain.Chain.{Chain}
 use Rattle.fit_csv.specs.declared.from.open_file.OpenFile.{OpenFile}
 use Rattle.fit_csv.specs.declared.from.open_file.Part.{Part}
@@ -43,12 +45,14 @@ start-rows before v start =
     let first = data_row v p.definition.global (header_time (previous_time before) v.offset) in
     let global : p.definition.global ≡ global_at before v.local = sym (ap (λ q. unwrap_or (option_map (λ (d : Defined Global). d.definition.global) q) 0) is) in
     data-rows-at before v p is
-    ∙ without-dev-rows (first ∷ field_rows p.definition.global p.definition.fields v.fields) (dev_defs p.definition.dev) p.dev_codes (namings_at before v.local) v.dev start.no_dev_fields
+    ∙ without-dev-rows (first ∷ field_rows p.definition.global p.definition.fields v.fields) (dev_defs p.definition.dev) p.dev_codes (namings_at before v.local)
+    v.dev start.no_dev_fields
     ∙ ap (λ (items : List (Items Global)). first ∷ field_rows p.definition.global p.definition.fields items) start.no_fields
     ∙ ap (λ (rows : List Row). first ∷ rows) (no-items p.definition.global p.definition.fields)
     ∙ ap (λ g. data_row v g time ∷ []) global
 
-pub part-more : (before : List (Record Global)) (part : Part) (r : Row) (p : Part) → IsSoundPart before part → PartStep before part r p → part_rows before p ≡ part_rows before part ++ r ∷ []
+pub part-more : (before : List (Record Global)) (part : Part) (r : Row) (p : Part) → IsSoundPart before part → PartStep before part r p
+    → part_rows before p ≡ part_rows before part ++ r ∷ []
 part-more before Nothing r p sound (inl (h, range, e, is)) = ap (part_rows before) is ∙ ap (λ (x : Row). x ∷ []) (sym e)
 part-more before Nothing r p sound (inr (v, start, e, is)) = ap (part_rows before) is ∙ start-rows before v start ∙ ap (λ (x : Row). x ∷ []) (sym e)
 part-more before (Definition o) r p sound (q, step, is) = ap (part_rows before) is ∙ definition-more o r q sound.0 step
@@ -59,19 +63,21 @@ part-more before (Message v) r p sound (w, step, is) =
 
 -- ---- files
 
-pub record-added : (f : OpenFile) (r : Record Global) → IsSoundFile f → open_file_rows (with_record f r) ≡ file_row f.header ∷ (records_rows [] f.records ++ record_rows f.before r)
+pub record-added : (f : OpenFile) (r : Record Global) → IsSoundFile f
+    → open_file_rows (with_record f r) ≡ file_row f.header ∷ (records_rows [] f.records ++ record_rows f.before r)
 record-added f r sound =
     let place : reverse f.records ++ [] ≡ f.before = append-nil (reverse f.records) ∙ sym sound.same_records in
     append-nil (file_row f.header ∷ records_rows [] (f.records ++ r ∷ []))
     ∙ ap (λ (rows : List Row). file_row f.header ∷ rows) (rows-of-more [] f.records r)
     ∙ ap (λ b. file_row f.header ∷ (records_rows [] f.records ++ record_rows b r)) place
 
-pub settled-rows : (f : OpenFile) (p : Part) → IsSoundFile f → open_file_rows (settled f p) ≡ file_row f.header ∷ (records_rows [] f.records ++ part_rows f.before p)
+pub settled-rows : (f : OpenFile) (p : Part) → IsSoundFile f
+    → open_file_rows (settled f p) ≡ file_row f.header ∷ (records_rows [] f.records ++ part_rows f.before p)
 settled-rows f Nothing sound = refl
 settled-rows f (Definition o) sound = elim (cases_Bool (is_whole o)) [
   | inl whole ↦
-      let same : settled f (Definition o) ≡ with_record f (Define (definition_of o)) = rw whole refl in
-      ap open_file_rows same ∙ record-added f (Define (definition_of o)) sound
+      let same : settled f (Definition o) ≡ with_record f (Define (built_definition o)) = rw whole refl in
+      ap open_file_rows same ∙ record-added f (Define (built_definition o)) sound
       ∙ ap (λ (rows : List Row). file_row f.header ∷ (records_rows [] f.records ++ rows)) (sym (definition-whole o whole))
   | inr part ↦ let same : settled f (Definition o) ≡ record f { part = Definition o } = rw part refl in ap open_file_rows same
 ]
@@ -90,18 +96,21 @@ file-more f r g sound (p, step, is) =
 
 pub flat-last : (files : List (FitFile Global)) (f : FitFile Global) → flat_map file_rows (files ++ f ∷ []) ≡ flat_map file_rows files ++ file_rows f
 flat-last [] f = append-nil (file_rows f)
-flat-last (x ∷ files) f = ap (λ (rows : List Row). file_rows x ++ rows) (flat-last files f) ∙ sym (append_assoc (file_rows x) (flat_map file_rows files) (file_rows f))
+flat-last (x ∷ files) f = ap (λ (rows : List Row). file_rows x ++ rows) (flat-last files f)
+    ∙ sym (append_assoc (file_rows x) (flat_map file_rows files) (file_rows f))
 
-pub begun-rows : (h : Header) → open_file_rows (begun h) ≡ file_row h ∷ []
+pub begun-rows : (h : Header) → open_file_rows (file_begun h) ≡ file_row h ∷ []
 unfolding records_rows
 begun-rows h = refl
 
-pub ended-rows : (f : OpenFile) → f.part ≡ Nothing → file_rows {A = Global} (record { header = f.header; records = f.records }) ≡ open_file_rows f ++ end_row ∷ []
+pub ended-rows : (f : OpenFile) → f.part ≡ Nothing
+    → file_rows {A = Global} (record { header = f.header; records = f.records }) ≡ open_file_rows f ++ end_row ∷ []
 ended-rows f none =
     ap (λ (rows : List Row). rows ++ end_row ∷ []) (sym (append-nil (file_row f.header ∷ records_rows [] f.records)))
     ∙ ap (λ (part : Part). (file_row f.header ∷ (records_rows [] f.records ++ part_rows f.before part)) ++ end_row ∷ []) (sym none)
 
-current-more : (c : Chain) (m : Option OpenFile) (r : Row) (t : Chain) → c.current ≡ m → IsSoundCurrent (length c.files) m → OpenStep c m r t → rows_so_far t ≡ rows_so_far c ++ r ∷ []
+current-more : (c : Chain) (m : Option OpenFile) (r : Row) (t : Chain) → c.current ≡ m → IsSoundCurrent (length c.files) m → OpenStep c m r t
+    → rows_so_far t ≡ rows_so_far c ++ r ∷ []
 current-more c None r t here sound (room, (h, range, e, is)) =
     let front = flat_map file_rows c.files in
     ap rows_so_far is ∙ ap (λ (rows : List Row). front ++ rows) (begun-rows h) ∙ ap (λ (x : Row). front ++ x ∷ []) (sym e)
@@ -120,7 +129,8 @@ current-more c (Some f) r t here sound (inr (g, step, is)) =
 pub chain-more : (c : Chain) (r : Row) (t : Chain) → IsSoundChain c → ChainStep c r t → rows_so_far t ≡ rows_so_far c ++ r ∷ []
 chain-more c r t sound step = current-more c c.current r t refl sound.current step
 
-current-sound : (c : Chain) (m : Option OpenFile) (r : Row) (t : Chain) → AllByRecursion IsFileOfRows c.files → IsSoundCurrent (length c.files) m → OpenStep c m r t → IsSoundChain t
+current-sound : (c : Chain) (m : Option OpenFile) (r : Row) (t : Chain) → AllByRecursion IsFileOfRows c.files → IsSoundCurrent (length c.files) m
+    → OpenStep c m r t → IsSoundChain t
 current-sound c None r t files sound (room, (h, range, e, is)) =
     subst IsSoundChain (sym is) (record {
       files = files;
@@ -128,7 +138,8 @@ current-sound c None r t files sound (room, (h, range, e, is)) =
     })
 current-sound c (Some f) r t files sound (inl (none, e, is)) =
     subst IsSoundChain (sym is) (record {
-      files = all-last IsFileOfRows c.files (record { header = f.header; records = f.records }) files (record { header = sound.1.header; records = sound.1.fit; numbers = sound.1.numbers });
+      files = all-last IsFileOfRows c.files (record { header = f.header; records = f.records }) files
+          (record { header = sound.1.header; records = sound.1.fit; numbers = sound.1.numbers });
       current = let more = length-last c.files (record { header = f.header; records = f.records }) in omega (arith, more, sound.0);
     })
 current-sound c (Some f) r t files sound (inr (g, step, is)) =

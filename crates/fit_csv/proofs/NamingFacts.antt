@@ -1,5 +1,6 @@
 -- There is a naming for each developer field of a definition.
-use Rattle.std.proofs.Common.{◌≡◌, ◌∙◌, ◌≤◌, ℕ, zero, suc, ◌==◌, inl, inr, List, [], ◌∷◌, length, replicate, set, get_or, Some, None, refl, sym, ap, subst, arith, eq-eqb, eqb-true}
+use Rattle.std.proofs.Common.{◌≡◌, ◌∙◌, ◌≤◌, ℕ, zero, suc, ◌==◌, inl, inr, List, [], ◌∷◌, length, replicate, set, get_or, Some, None, refl, sym, ap, subst}
+use Rattle.std.proofs.Common.{arith, eq-eqb, eqb-true}
 use Rattle.std.specs.Prelude.{Option}
 use Rattle.std.proofs.lemmas.Bool.{cases_Bool, cases_lt}
 use Rattle.std.proofs.lemmas.Option.{none-some}
@@ -29,7 +30,8 @@ same_places : {A : Type 0} (e : Environment A) (s : Option Description) → (des
 same_places e None = refl
 same_places e (Some s) = refl
 
-pub namings_long : {A : Type 0} (before : List (Record A)) (local : ℕ) (p : Defined A) → defined_at (known before) local ≡ Some p → length (namings_at before local) ≡ length (dev_defs p.definition.dev)
+pub namings_long : {A : Type 0} (before : List (Record A)) (local : ℕ) (p : Defined A) → defined_at (known before) local ≡ Some p
+    → length (namings_at before local) ≡ length (dev_defs p.definition.dev)
 namings_long [] local p is = let absent : get_or (replicate 16 None) local None ≡ None = nothing_defined None 16 local in absurd (none-some p (sym absent ∙ is))
 namings_long (Data v ∷ before) local p is = namings_long before local p (ap (λ places. get_or places local None) (sym (same_places (known before) _)) ∙ is)
 namings_long (Define d ∷ before) local p is = elim (cases_Bool (d.local == local)) [
@@ -44,8 +46,11 @@ namings_long (Define d ∷ before) local p is = elim (cases_Bool (d.local == loc
             rw same (length-map (dev_defs d.dev) (λ f. naming_of before f.index f.number) ∙ ap (λ e. length (dev_defs e.dev)) definition)
         | inr past ↦
             let absent : get_or (set (known before).places d.local (Some (defined_by (known before) d))) local None ≡ None =
-            outside (set (known before).places d.local (Some (defined_by (known before) d))) local None (omega (arith, past, length-set (known before).places d.local (Some (defined_by (known before) d)))) in
+            outside (set (known before).places d.local (Some (defined_by (known before) d))) local None
+            (omega (arith, past, length-set (known before).places d.local (Some (defined_by (known before) d)))) in
             absurd (none-some p (sym absent ∙ is))
       ]
-  | inr other ↦ rw other (namings_long before local p (sym (get_or-set_other (known before).places d.local local (Some (defined_by (known before) d)) None (λ e. cc (sym other ∙ eq-eqb d.local local (sym e)))) ∙ is))
+  | inr other ↦ rw other (namings_long before local p
+      (sym (get_or-set_other (known before).places d.local local (Some (defined_by (known before) d)) None (λ e. cc (sym other ∙ eq-eqb d.local local (sym e))))
+      ∙ is))
 ]

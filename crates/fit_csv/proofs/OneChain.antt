@@ -12,7 +12,7 @@ use Rattle.fit_profile.specs.Laws.{TextHasOneNumber}
 use Rattle.fit_profile.specs.Looks.{known}
 use Rattle.fit_csv.specs.ChainRows.{chain_rows, file_rows, record_rows}
 use Rattle.fit_csv.specs.Judged.{IsChainOfRows, RecordInRange}
-use Rattle.fit_csv.specs.Progress.{FileStep, PartStep, Run, definition_of, is_whole, is_whole_message, nothing_yet, settled, with_record}
+use Rattle.fit_csv.specs.inner.Progress.{FileStep, PartStep, Run, built_definition, is_whole, is_whole_message, nothing_yet, settled, with_record}
 use Rattle.fit_cells.specs.Rows.{Row, first_line}
 use Rattle.fit_csv.specs.declared.from.chain.Chain.{Chain}
 use Rattle.fit_csv.specs.declared.from.open_file.OpenFile.{OpenFile}
@@ -29,7 +29,8 @@ one-chain law a b p q e =
     let rows : flat_map file_rows b ≡ flat_map file_rows a = sym (tail-same first_line first_line (flat_map file_rows a) (flat_map file_rows b) e) in
     let done_a : Chain = record { files = a; current = None } in
     let done_b : Chain = record { files = b; current = None } in
-    ap (λ (c : Chain). c.files) (one-run law nothing_yet (flat_map file_rows a) done_a done_b (chain-run a p) (subst (λ (l : List Row). Run nothing_yet l done_b) rows (chain-run b q)))
+    ap (λ (c : Chain). c.files) (one-run law nothing_yet (flat_map file_rows a) done_a done_b (chain-run a p)
+    (subst (λ (l : List Row). Run nothing_yet l done_b) rows (chain-run b q)))
 
 -- ---- records
 
@@ -43,7 +44,7 @@ Advances f g = ((length g.before ≡ length f.before) × (g.part ≡ Nothing →
 settled-advances : (f : OpenFile) (p : Part) → (p ≡ Nothing → ⊥) → Advances f (settled f p)
 settled-advances f Nothing some = absurd (some refl)
 settled-advances f (Definition o) some = elim (cases_Bool (is_whole o)) [
-  | inl whole ↦ let same : settled f (Definition o) ≡ with_record f (Define (definition_of o)) = rw whole refl in subst (Advances f) (sym same) (inr refl)
+  | inl whole ↦ let same : settled f (Definition o) ≡ with_record f (Define (built_definition o)) = rw whole refl in subst (Advances f) (sym same) (inr refl)
   | inr part ↦ let same : settled f (Definition o) ≡ record f { part = Definition o } = rw part refl in subst (Advances f) (sym same) (inl (refl, λ e. cc e))
 ]
 settled-advances f (Message v) some = elim (cases_Bool (is_whole_message f.before v)) [
@@ -102,10 +103,18 @@ same-run law f (r ∷ xs) (s ∷ ys) x y g h (m, sm, a) (n, sn, b) none_g none_h
     let (same, rows) = same-run law m xs ys x y g h a (subst (λ (o : OpenFile). FileRun o ys h) here b) none_g none_h long rest in
     (same, λ i. sym first i ∷ rows i)
 
-pub one-record : TextHasOneNumber → (before : List (Record Global)) (r s : Record Global) (x y : List Row) → Fits (known before) r → RecordInRange r → Fits (known before) s → RecordInRange s
+pub one-record : TextHasOneNumber → (before : List (Record Global)) (r s : Record Global) (x y : List Row) → Fits (known before) r → RecordInRange r
+    → Fits (known before) s → RecordInRange s
     → record_rows before r ++ x ≡ record_rows before s ++ y → (r ≡ s) × (record_rows before r ≡ record_rows before s)
 one-record law before r s x y fr rr fs rs e =
-    let f : OpenFile = record { header = record { size = 12; protocol = 0; profile = 0; sum = Absent; rest = record { items = [] } }; records = []; before = before; part = Nothing } in
-    let (same, rows) = same-run law f (record_rows before r) (record_rows before s) x y (with_record f r) (with_record f s) (record-run f r refl fr rr) (record-run f s refl fs rs) refl refl refl e in
+    let f : OpenFile = record {
+      header = record { size = 12; protocol = 0; profile = 0; sum = Absent; rest = record { items = [] } };
+      records = [];
+      before =
+          before;
+      part = Nothing;
+    } in
+    let (same, rows) = same-run law f (record_rows before r) (record_rows before s) x y (with_record f r) (with_record f s) (record-run f r refl fr rr)
+    (record-run f s refl fs rs) refl refl refl e in
     let latest : r ∷ before ≡ s ∷ before = ap (λ (o : OpenFile). o.before) same in
     (cc latest, rows)

@@ -1,5 +1,6 @@
 -- A text has one finding at most.
-use Rattle.std.proofs.Common.{◌≡◌, ◌⊎◌, ◌∙◌, ℕ, ◌<◌, ◌≤◌, ◌+◌, ◌-◌, List, [], ◌∷◌, ◌++◌, length, take, zero, suc, Some, Ok, Err, refl, sym, ap, subst, inl, inr, arith, append_assoc, append-nil, length-append}
+use Rattle.std.proofs.Common.{◌≡◌, ◌⊎◌, ◌∙◌, ℕ, ◌<◌, ◌≤◌, ◌+◌, ◌-◌, List, [], ◌∷◌, ◌++◌, length, take, zero, suc, Some, Ok, Err, refl, sym, ap, subst, inl, inr}
+use Rattle.std.proofs.Common.{arith, append_assoc, append-nil, length-append}
 use Rattle.std.specs.Global.{Global}
 use Rattle.std.proofs.lemmas.Bool.{cases_lt}
 use Rattle.csv.specs.Machine.{Read}
@@ -69,7 +70,8 @@ both-reached cfg (r ∷ a) (q ∷ b) s s1 s2 xs y1 y2 (p, e, same, more) (p', e'
     ]
 
 -- the shorter of two lists of first rows begins the other
-begins-other : (a b : List Row) → ((rest : List Row) × (b ≡ a ++ rest)) ⊎ ((rest : List Row) × (a ≡ b ++ rest)) → length a ≤ length b → (rest : List Row) × (b ≡ a ++ rest)
+begins-other : (a b : List Row) → ((rest : List Row) × (b ≡ a ++ rest)) ⊎ ((rest : List Row) × (a ≡ b ++ rest)) → length a ≤ length b
+    → (rest : List Row) × (b ≡ a ++ rest)
 begins-other a b (inl h) less = h
 begins-other a b (inr (rest, is)) less =
     let long = ap length is in
@@ -123,7 +125,8 @@ can-stand front this mid (files, more, good, e) =
 follows-seven : (front : List Row) (this : Row) → CanFollow front this → length this ≡ 7
 follows-seven front this (files, more, good, e) = row-seven files front this more (e ∙ append_assoc front (this ∷ []) more)
 
-no-row-fault : (front : List Row) (this : Row) (number : ℕ) (fault : CsvFault) → (fault ≡ faults.NoMemory → ⊥) → CanFollow front this → IsRowFault (CanFollow front) this number fault → ⊥
+no-row-fault : (front : List Row) (this : Row) (number : ℕ) (fault : CsvFault) → (fault ≡ faults.NoMemory → ⊥) → CanFollow front this
+    → IsRowFault (CanFollow front) this number fault → ⊥
 no-row-fault front this number (faults.BadRow row) some can (place, inl short) = short (follows-seven front this can)
 no-row-fault front this number (faults.BadRow row) some can (place, inr none) = none this can (inl refl)
 no-row-fault front this number (faults.BadCell row column) some can (place, seven, bad) = bad.bad this can refl
@@ -180,7 +183,8 @@ one-column CanStand r a b h k (inl less) other = absurd (not-before CanStand r a
 one-column CanStand r a b h k (inr least) (inl less) = absurd (not-before CanStand r b a k h less)
 one-column CanStand r a b h k (inr least) (inr most) = omega arith
 
-one-row-fault : (CanStand : Row → Type 0) (r : Row) (number : ℕ) (a b : CsvFault) → (a ≡ faults.NoMemory → ⊥) → (b ≡ faults.NoMemory → ⊥) → IsRowFault CanStand r number a → IsRowFault CanStand r number b
+one-row-fault : (CanStand : Row → Type 0) (r : Row) (number : ℕ) (a b : CsvFault) → (a ≡ faults.NoMemory → ⊥) → (b ≡ faults.NoMemory → ⊥)
+    → IsRowFault CanStand r number a → IsRowFault CanStand r number b
     → a ≡ b
 one-row-fault C r number (faults.BadRow i) (faults.BadRow j) some other h k = ap faults.BadRow (h.0 ∙ sym k.0)
 one-row-fault C r number (faults.BadRow i) (faults.BadCell j column) some other h k = absurd (not-both C r column k.1 k.2 h.1)
@@ -201,19 +205,21 @@ one-row-fault C r number a (faults.Decode f) some other h k = absurd k
 one-row-fault C r number a (faults.Encode f) some other h k = absurd k
 one-row-fault C r number a (faults.Write n) some other h k = absurd k
 
-module _ (text : List ℕ) (a b : CsvFault) (some : a ≡ faults.NoMemory → ⊥) (other : b ≡ faults.NoMemory → ⊥) (h : IsRefusedRow text a) (k : IsRefusedRow text b) where
-  rows-ordered : (length h.front < length k.front) ⊎ (length k.front ≤ length h.front) → (length k.front < length h.front) ⊎ (length h.front ≤ length k.front) → a ≡ b
-  rows-ordered (inl less) later = absurd (not-earlier text a b some h k less)
-  rows-ordered (inr least) (inl less) = absurd (not-earlier text b a other k h less)
-  rows-ordered (inr least) (inr most) =
-      let length_is : length h.front ≡ length k.front = omega arith in
-      let same = same-row text a b some h k length_is in
-      let moved = subst (λ (front : List Row). IsRowFault (CanFollow front) k.this (length front + 1) b) (sym same.0) k.wrong in
-      one-row-fault (CanFollow h.front) h.this (length h.front + 1) a b some other h.wrong
-      (subst (λ (r : Row). IsRowFault (CanFollow h.front) r (length h.front + 1) b) (sym same.1) moved)
+module _ (text : List ℕ) (a b : CsvFault) (some : a ≡ faults.NoMemory → ⊥) (other : b ≡ faults.NoMemory → ⊥) (h : IsRefusedRow text a) (k : IsRefusedRow text b)
+  where
+    rows-ordered : (length h.front < length k.front) ⊎ (length k.front ≤ length h.front) → (length k.front < length h.front) ⊎ (length h.front ≤ length k.front)
+        → a ≡ b
+    rows-ordered (inl less) later = absurd (not-earlier text a b some h k less)
+    rows-ordered (inr least) (inl less) = absurd (not-earlier text b a other k h less)
+    rows-ordered (inr least) (inr most) =
+        let length_is : length h.front ≡ length k.front = omega arith in
+        let same = same-row text a b some h k length_is in
+        let moved = subst (λ (front : List Row). IsRowFault (CanFollow front) k.this (length front + 1) b) (sym same.0) k.wrong in
+        one-row-fault (CanFollow h.front) h.this (length h.front + 1) a b some other h.wrong
+        (subst (λ (r : Row). IsRowFault (CanFollow h.front) r (length h.front + 1) b) (sym same.1) moved)
 
-  one-refused : a ≡ b
-  one-refused = rows-ordered (cases_lt (length h.front) (length k.front)) (cases_lt (length k.front) (length h.front))
+    one-refused : a ≡ b
+    one-refused = rows-ordered (cases_lt (length h.front) (length k.front)) (cases_lt (length k.front) (length h.front))
 
 -- a text that ends too early has no refused row
 cut-not-refused : (text : List ℕ) (row : ℕ) (fault : CsvFault) → (fault ≡ faults.NoMemory → ⊥) → IsCutOff text row → IsRefusedRow text fault → ⊥
@@ -264,7 +270,8 @@ wrong text (faults.Decode f) h = absurd h
 wrong text (faults.Write n) h = absurd h
 
 -- nothing is wrong with the rows of files
-none-refused : (text : List ℕ) (files : List (FitFile Global)) (fault : CsvFault) → RowsOfText text (chain_rows files) → IsChainOfRows files → Refused text fault → ⊥
+none-refused : (text : List ℕ) (files : List (FitFile Global)) (fault : CsvFault) → RowsOfText text (chain_rows files) → IsChainOfRows files
+    → Refused text fault → ⊥
 none-refused text files fault read good h =
     no-row-fault h.0.front h.0.this (length h.0.front + 1) fault h.1 (stands text files read good fault h.0).0 h.0.wrong
 
@@ -293,7 +300,8 @@ module _ (law : ChainsHaveOwnRows) (one : FaultsAreOne Global) (text : List ℕ)
   one-wrong a b (inr (inr (inr (reason, (short, (files, are, bad)), e)))) (inr (inr (inl k))) = absurd (not-cut text files are.0 are.1 k.0 are.2 k.1)
   one-wrong a b (inr (inr (inr h))) (inr (inr (inr k))) = one-unwritable a b h k
 
-module _ (law : ChainsHaveOwnRows) (whole : GoodChainsHaveNoFault Global) (text : List ℕ) (files : List (FitFile Global)) (bytes : List ℕ) (h : IsTextOf text files bytes) where
+module _ (law : ChainsHaveOwnRows) (whole : GoodChainsHaveNoFault Global) (text : List ℕ) (files : List (FitFile Global)) (bytes : List ℕ)
+    (h : IsTextOf text files bytes) where
   nothing-wrong : (fault : CsvFault) → Wrong text fault → ⊥
   nothing-wrong fault (inl k) = headed text files h.rows (good-files text files bytes h) k.0
   nothing-wrong fault (inr (inl k)) = none-refused text files fault h.rows (good-files text files bytes h) k

@@ -15,7 +15,7 @@ use Rattle.fit_record.specs.declared.message.Values.{Values}
 use Rattle.fit_record.specs.Records.{DataHeaderFits}
 use Rattle.fit_csv.specs.ChainRows.{dev_def_row, field_def_row, file_row, optional_number, order_word, rest_text, sum_word}
 use Rattle.fit_csv.specs.Judged.{DevDefInRange, FieldDefInRange, HeaderInRange}
-use Rattle.fit_csv.specs.Misfits.{HeadInRange, IsMessageStart, head_row, message_row}
+use Rattle.fit_csv.specs.inner.Misfits.{HeadInRange, IsMessageStart, head_row, message_row}
 use Rattle.fit_cells.specs.Rows.{Cell, Row}
 use Rattle.fit_csv.specs.declared.from.definition.DefinitionHead.{DefinitionHead}
 use Rattle.fit_csv.proofs.HeaderRows.{rest-long, rest-shown}
@@ -60,7 +60,8 @@ one-rest a b l p q e = sym (rest-shown a (rest_text a) (length a) refl refl p) �
 pub one-header : (h k : Header) → HeaderInRange h → HeaderInRange k → file_row h ≡ file_row k → h ≡ k
 one-header h k p q e =
     let size = one-decimal h.size k.size (2 ^ 8) (omega arith) p.size q.size (ap (cell_at 1) e) in
-    let protocol = one-decimal h.protocol k.protocol 48 (omega arith) (let v = p.form.version in omega (arith, v)) (let v = q.form.version in omega (arith, v)) (ap (cell_at 2) e) in
+    let protocol = one-decimal h.protocol k.protocol 48 (omega arith) (let v = p.form.version in omega (arith, v)) (let v = q.form.version in omega (arith, v))
+    (ap (cell_at 2) e) in
     let profile = one-decimal h.profile k.profile (2 ^ 16) (omega arith) p.profile q.profile (ap (cell_at 3) e) in
     let sum = one-sum h.sum k.sum (ap (cell_at 4) e) in
     let long : length h.rest.items ≡ length k.rest.items =
@@ -96,9 +97,11 @@ small-offset : (local : ℕ) (offset : Option ℕ) → DataHeaderFits local offs
 small-offset local None fits = tt
 small-offset local (Some n) fits = omega (arith, fits.1)
 
-pub one-start : (before : List (Record Global)) (v w : Values Global) → IsMessageStart before v → IsMessageStart before w → message_row before v ≡ message_row before w → v ≡ w
+pub one-start : (before : List (Record Global)) (v w : Values Global) → IsMessageStart before v → IsMessageStart before w
+    → message_row before v ≡ message_row before w → v ≡ w
 one-start before v w p q e =
-    let local = one-decimal v.local w.local 16 (omega arith) (small-local v.local v.offset p.header) (small-local w.local w.offset q.header) (ap (cell_at 1) e) in
+    let local = one-decimal v.local w.local 16 (omega arith) (small-local v.local v.offset p.header) (small-local w.local w.offset q.header) (ap (cell_at 1) e)
+    in
     let offset = one-optional v.offset w.offset (small-offset v.local v.offset p.header) (small-offset w.local w.offset q.header) (ap (cell_at 2) e) in
     let fields = p.no_fields ∙ sym q.no_fields in
     let dev = p.no_dev_fields ∙ sym q.no_dev_fields in

@@ -14,8 +14,10 @@ use Rattle.fit_record.specs.Environment.{defined_at, dev_defs}
 use Rattle.fit_profile.specs.Laws.{TextHasOneNumber}
 use Rattle.fit_profile.specs.Looks.{known}
 use Rattle.fit_csv.specs.ChainRows.{dev_row, end_row, field_row}
-use Rattle.fit_csv.specs.Misfits.{head_row, message_row}
-use Rattle.fit_csv.specs.Progress.{ChainStep, DefinitionStep, DevStep, FieldStep, OpenStep, PartStep, Run, begun, naming_at, opened, settled, with_dev_field, with_dev_items, with_field, with_items}
+use Rattle.fit_csv.specs.inner.Misfits.{head_row, message_row}
+use Rattle.fit_csv.specs.inner.Progress.{ChainStep, DefinitionStep, DevStep, FieldStep, OpenStep, PartStep, Run, file_begun, opened, settled, with_dev_field}
+use Rattle.fit_csv.specs.inner.Progress.{with_dev_items, with_field, with_items}
+use Rattle.fit_csv.specs.RowKinds.{naming_at}
 use Rattle.fit_cells.specs.Rows.{Row}
 use Rattle.fit_csv.specs.declared.from.chain.Chain.{Chain}
 use Rattle.fit_csv.specs.declared.from.definition.OpenDefinition.{OpenDefinition}
@@ -43,9 +45,11 @@ abbrev FieldAt : Defined Global → Values Global → Row → Values Global → 
 FieldAt p v r w f = (i : Items Global) × HasShape f.code f.size i × (r ≡ field_row p.definition.global f i) × (w ≡ with_items v i)
 
 abbrev DevAt : List (Record Global) → Values Global → Row → Values Global → DevDef → ℕ → Type 0
-DevAt before v r w f code = (i : Items Global) × HasShape code f.size i × (r ≡ dev_row f code (naming_at before v.local (length v.dev)) i) × (w ≡ with_dev_items v i)
+DevAt before v r w f code = (i : Items Global) × HasShape code f.size i × (r ≡ dev_row f code (naming_at before v.local (length v.dev)) i)
+    × (w ≡ with_dev_items v i)
 
-one-message : TextHasOneNumber → (before : List (Record Global)) (p : Defined Global) (v : Values Global) (r : Row) (w x : Values Global) → FieldStep p v r w ⊎ DevStep before p v r w
+one-message : TextHasOneNumber → (before : List (Record Global)) (p : Defined Global) (v : Values Global) (r : Row) (w x : Values Global)
+    → FieldStep p v r w ⊎ DevStep before p v r w
     → FieldStep p v r x ⊎ DevStep before p v r x → w ≡ x
 one-message law before p v r w x (inl s) (inl t) =
     let (f, next, (i, hi, ei, is)) = some-at (slice_get p.definition.fields (length v.fields)) (FieldAt p v r w) s in
@@ -59,21 +63,28 @@ one-message law before p v r w x (inr (all, t)) (inl s) =
     let (f, next, here) = some-at (slice_get p.definition.fields (length v.fields)) (FieldAt p v r x) s in
     absurd (omega (arith, all, slice_get_within p.definition.fields (length v.fields) f next))
 one-message law before p v r w x (inr (all, s)) (inr (all', t)) =
-    let (f, next, s') = some-at (slice_get (dev_defs p.definition.dev) (length v.dev)) (λ f. IsSomeAnd (slice_get p.dev_codes (length v.dev)) (DevAt before v r w f)) s in
+    let (f, next, s') = some-at (slice_get (dev_defs p.definition.dev) (length v.dev))
+    (λ f. IsSomeAnd (slice_get p.dev_codes (length v.dev)) (DevAt before v r w f)) s in
     let (code, coded, (i, hi, ei, is)) = some-at (slice_get p.dev_codes (length v.dev)) (DevAt before v r w f) s' in
-    let (g, next', t') = some-at (slice_get (dev_defs p.definition.dev) (length v.dev)) (λ f. IsSomeAnd (slice_get p.dev_codes (length v.dev)) (DevAt before v r x f)) t in
+    let (g, next', t') = some-at (slice_get (dev_defs p.definition.dev) (length v.dev))
+    (λ f. IsSomeAnd (slice_get p.dev_codes (length v.dev)) (DevAt before v r x f)) t in
     let (m, coded', other) = some-at (slice_get p.dev_codes (length v.dev)) (DevAt before v r x g) t' in
-    let here = subst (λ d. DevAt before v r x d code) (some-one g f (sym next' ∙ next)) (subst (DevAt before v r x g) (some-one m code (sym coded' ∙ coded)) other) in
+    let here = subst (λ d. DevAt before v r x d code) (some-one g f (sym next' ∙ next))
+    (subst (DevAt before v r x g) (some-one m code (sym coded' ∙ coded)) other) in
     let (j, hj, ej, is') = here in
     is ∙ ap (with_dev_items v) (one-dev-field law f code (naming_at before v.local (length v.dev)) i j hi hj (sym ei ∙ ej)) ∙ sym is'
 
 head-or-message : (before : List (Record Global)) (r a b : Row) → r ≡ a → r ≡ b → letter (take 1 a) ≡ letter (take 1 b)
 head-or-message before r a b e f = ap (λ (x : Row). letter (take 1 x)) (sym e ∙ f)
 
-pub one-part : TextHasOneNumber → (before : List (Record Global)) (part : Part) (r : Row) (p q : Part) → PartStep before part r p → PartStep before part r q → p ≡ q
-one-part law before Nothing r p q (inl (h, hh, eh, is)) (inl (k, hk, ek, is')) = is ∙ ap (λ d. Definition (opened d)) (one-head h k hh hk (sym eh ∙ ek)) ∙ sym is'
-one-part law before Nothing r p q (inl (h, hh, eh, is)) (inr (v, start, e, is')) = absurd (omega (arith, head-or-message before r (head_row h) (message_row before v) eh e))
-one-part law before Nothing r p q (inr (v, start, e, is)) (inl (h, hh, eh, is')) = absurd (omega (arith, head-or-message before r (head_row h) (message_row before v) eh e))
+pub one-part : TextHasOneNumber → (before : List (Record Global)) (part : Part) (r : Row) (p q : Part) → PartStep before part r p → PartStep before part r q
+    → p ≡ q
+one-part law before Nothing r p q (inl (h, hh, eh, is)) (inl (k, hk, ek, is')) =
+    is ∙ ap (λ d. Definition (opened d)) (one-head h k hh hk (sym eh ∙ ek)) ∙ sym is'
+one-part law before Nothing r p q (inl (h, hh, eh, is)) (inr (v, start, e, is')) =
+    absurd (omega (arith, head-or-message before r (head_row h) (message_row before v) eh e))
+one-part law before Nothing r p q (inr (v, start, e, is)) (inl (h, hh, eh, is')) =
+    absurd (omega (arith, head-or-message before r (head_row h) (message_row before v) eh e))
 one-part law before Nothing r p q (inr (v, sv, ev, is)) (inr (w, sw, ew, is')) = is ∙ ap Message (one-start before v w sv sw (sym ev ∙ ew)) ∙ sym is'
 one-part law before (Definition o) r p q (a, sa, is) (b, sb, is') = is ∙ ap Definition (one-definition o r a b sa sb) ∙ sym is'
 one-part law before (Message v) r p q (a, sa, is) (b, sb, is') =
@@ -84,7 +95,8 @@ one-part law before (Message v) r p q (a, sa, is) (b, sb, is') =
 -- ---- chains
 
 one-current : TextHasOneNumber → (c : Chain) (m : Option OpenFile) (r : Row) (s t : Chain) → OpenStep c m r s → OpenStep c m r t → s ≡ t
-one-current law c None r s t (room, (h, hh, eh, is)) (room', (k, hk, ek, is')) = is ∙ ap (λ d. record c { current = Some (begun d) }) (one-header h k hh hk (sym eh ∙ ek)) ∙ sym is'
+one-current law c None r s t (room, (h, hh, eh, is)) (room', (k, hk, ek, is')) =
+    is ∙ ap (λ d. record c { current = Some (file_begun d) }) (one-header h k hh hk (sym eh ∙ ek)) ∙ sym is'
 one-current law c (Some f) r s t (inl (none, e, is)) (inl (none', e', is')) = is ∙ sym is'
 one-current law c (Some f) r s t (inl (none, e, is)) (inr (g, (p, step, is_g), is')) =
     absurd (not-end f.before end_row r p refl (ap (λ (x : Row). take 1 x) e) (subst (λ (part : Part). PartStep f.before part r p) none step))

@@ -6,8 +6,8 @@ use Rattle.fit_record.specs.declared.message.Record.{Record}
 use Rattle.fit_record.specs.declared.message.Values.{Values}
 use Rattle.fit_csv.specs.ChainRows.{end_row}
 use Rattle.fit_csv.specs.Judged.{Agree}
-use Rattle.fit_csv.specs.Misfits.{IsCellFault, IsHeadRow, IsMessageOrEnd, IsMisfit, head_row, message_row}
-use Rattle.fit_csv.specs.Progress.{CanGoOn, DefinitionStep, MessageStep, opened}
+use Rattle.fit_csv.specs.inner.Misfits.{IsCellFault, IsHeadRow, IsMessageOrEnd, IsMisfit, head_row, message_row}
+use Rattle.fit_csv.specs.inner.Progress.{CanStandNext, DefinitionStep, MessageStep, opened}
 use Rattle.fit_cells.specs.Rows.{Cell, Row}
 use Rattle.fit_csv.specs.declared.from.definition.OpenDefinition.{OpenDefinition}
 use Rattle.fit_csv.specs.declared.from.misfit.Misfit.{Misfit}
@@ -22,9 +22,10 @@ letter r = get_or (get_or r 0 []) 1 0
 pub letters : (other row known : Row) (word : Cell) → Agree 1 other row → take 1 row ≡ word ∷ [] → other ≡ known → letter (take 1 known) ≡ letter (word ∷ [])
 letters other row known word e kind is = ap (λ (r : Row). letter (take 1 r)) (sym is) ∙ ap letter e ∙ ap letter kind
 
-pub head-misfit : (before : List (Record Global)) (row : Row) (misfit : Misfit) → take 1 row ≡ codes "def" ∷ [] → IsCellFault IsHeadRow row misfit → IsMisfit (CanGoOn before Nothing) row misfit
+pub head-misfit : (before : List (Record Global)) (row : Row) (misfit : Misfit) → take 1 row ≡ codes "def" ∷ [] → IsCellFault IsHeadRow row misfit
+    → IsMisfit (CanStandNext before Nothing) row misfit
 head-misfit before row misfit kind h =
-    cell-fault (CanGoOn before Nothing) row misfit (of-kind IsHeadRow (CanGoOn before Nothing) row misfit
+    cell-fault (CanStandNext before Nothing) row misfit (of-kind IsHeadRow (CanStandNext before Nothing) row misfit
     (λ other (d, range, e). inl (Definition (opened d), inl (d, range, e, refl)))
     (λ other stands e. elim stands [
       | inl step ↦ elim step.1 [
@@ -34,10 +35,11 @@ head-misfit before row misfit kind h =
       | inr end ↦ absurd (omega (arith, letters other row end_row (codes "def") e kind end.1))
     ]) h)
 
-pub message-misfit : (before : List (Record Global)) (row : Row) (misfit : Misfit) → take 1 row ≡ codes "data" ∷ [] → IsCellFault (IsMessageOrEnd before) row misfit
-    → IsMisfit (CanGoOn before Nothing) row misfit
+pub message-misfit : (before : List (Record Global)) (row : Row) (misfit : Misfit) → take 1 row ≡ codes "data" ∷ []
+    → IsCellFault (IsMessageOrEnd before) row misfit
+    → IsMisfit (CanStandNext before Nothing) row misfit
 message-misfit before row misfit kind h =
-    cell-fault (CanGoOn before Nothing) row misfit (of-kind (IsMessageOrEnd before) (CanGoOn before Nothing) row misfit
+    cell-fault (CanStandNext before Nothing) row misfit (of-kind (IsMessageOrEnd before) (CanStandNext before Nothing) row misfit
     (λ other stands. elim stands [
       | inl message ↦ inl (Message message.0, inr (message.0, message.1, message.2, refl))
       | inr end ↦ inr (refl, end)
@@ -50,20 +52,22 @@ message-misfit before row misfit kind h =
       | inr end ↦ inr end.1
     ]) h)
 
-pub definition-misfit : (before : List (Record Global)) (o : OpenDefinition) (row : Row) (misfit : Misfit) → IsMisfit (λ r. (q : OpenDefinition) × DefinitionStep o r q) row misfit
-    → IsMisfit (CanGoOn before (Definition o)) row misfit
+pub definition-misfit : (before : List (Record Global)) (o : OpenDefinition) (row : Row) (misfit : Misfit)
+    → IsMisfit (λ r. (q : OpenDefinition) × DefinitionStep o r q) row misfit
+    → IsMisfit (CanStandNext before (Definition o)) row misfit
 definition-misfit before o row misfit =
-    same-rows (λ r. (q : OpenDefinition) × DefinitionStep o r q) (CanGoOn before (Definition o)) row misfit
+    same-rows (λ r. (q : OpenDefinition) × DefinitionStep o r q) (CanStandNext before (Definition o)) row misfit
     (λ other (q, step). inl (Definition q, (q, step, refl)))
     (λ other stands. elim stands [
       | inl step ↦ (step.1.0, step.1.1)
       | inr end ↦ let e = end.0 in cc
     ])
 
-pub values-misfit : (before : List (Record Global)) (v : Values Global) (row : Row) (misfit : Misfit) → IsMisfit (λ r. (w : Values Global) × MessageStep before v r w) row misfit
-    → IsMisfit (CanGoOn before (Message v)) row misfit
+pub values-misfit : (before : List (Record Global)) (v : Values Global) (row : Row) (misfit : Misfit)
+    → IsMisfit (λ r. (w : Values Global) × MessageStep before v r w) row misfit
+    → IsMisfit (CanStandNext before (Message v)) row misfit
 values-misfit before v row misfit =
-    same-rows (λ r. (w : Values Global) × MessageStep before v r w) (CanGoOn before (Message v)) row misfit
+    same-rows (λ r. (w : Values Global) × MessageStep before v r w) (CanStandNext before (Message v)) row misfit
     (λ other (w, step). inl (Message w, (w, step, refl)))
     (λ other stands. elim stands [
       | inl step ↦ (step.1.0, step.1.1)

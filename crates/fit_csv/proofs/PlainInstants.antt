@@ -19,7 +19,8 @@ colon n = (lit< tt, two n)
 
 date : (y m d : ℕ) → High (date_digits y m d)
 date y m d =
-    high-append (four_digits y) ((codes "-" ++ two_digits m) ++ (codes "-" ++ two_digits d)) (high-append (two_digits (y / 100)) (two_digits (y % 100)) (two (y / 100)) (two (y % 100)))
+    high-append (four_digits y) ((codes "-" ++ two_digits m) ++ (codes "-" ++ two_digits d))
+    (high-append (two_digits (y / 100)) (two_digits (y % 100)) (two (y / 100)) (two (y % 100)))
     (high-append (codes "-" ++ two_digits m) (codes "-" ++ two_digits d) (dash m) (dash d))
 
 clock : (s : ℕ) → High (clock_digits s)
@@ -29,7 +30,8 @@ clock s =
 
 civil : (y m d s : ℕ) → High (date_digits y m d ++ codes "T" ++ clock_digits s ++ codes "Z")
 civil y m d s =
-    high-append (date_digits y m d) (codes "T" ++ (clock_digits s ++ codes "Z")) (date y m d) (lit< tt, high-append (clock_digits s) (codes "Z") (clock s) (lit< tt, tt))
+    high-append (date_digits y m d) (codes "T" ++ (clock_digits s ++ codes "Z")) (date y m d)
+    (lit< tt, high-append (clock_digits s) (codes "Z") (clock s) (lit< tt, tt))
 
 pub plain-instant : (t : ℕ) → t < 2 ^ 32 → needs_quotes default_writer (instant_text t) ≡ false
 plain-instant t fits = elim (cases_Bool (nat_lt t 0x10000000)) [

@@ -15,7 +15,7 @@ use Rattle.fit_profile.specs.Scaled.{IsScale}
 use Rattle.fit_profile.specs.Looks.{first_field}
 use Rattle.fit_profile.specs.Values.{IsValueOf, first_number, known_number}
 use Rattle.fit_csv.specs.Table.{amount_text, value_text}
-use Rattle.fit_csv.specs.TableCells.{shown_text}
+use Rattle.fit_csv.specs.inner.TableCells.{shown_text}
 use Rattle.fit_cells.proofs.NumberFacts.{is_scaled}
 
 abbrev is_scale : ℕ → Bool
@@ -34,7 +34,8 @@ scale_from s e = elim (cases_Bool (s == 1)) [
           | inl thousand ↦ inr (inr (inr (inr (inl (eqb-true s 1000 thousand)))))
           | inr not_thousand ↦ elim (cases_Bool (s == 16)) [
             | inl sixteen ↦ inr (inr (inr (inr (inr (inl (eqb-true s 16 sixteen))))))
-            | inr not_sixteen ↦ inr (inr (inr (inr (inr (inr (eqb-true s 256 (rw (not_one, not_five, not_ten, not_hundred, not_thousand, not_sixteen) at e)))))))
+            | inr not_sixteen ↦ inr (inr (inr (inr (inr
+                (inr (eqb-true s 256 (rw (not_one, not_five, not_ten, not_hundred, not_thousand, not_sixteen) at e)))))))
           ]
         ]
       ]
@@ -65,18 +66,21 @@ all_scaled m = list_all (λ (f : Field). is_scale f.meaning.scale) m.fields
 every_scale : list_all all_scaled messages ≡ true
 every_scale = refl
 
-of_field : (fields : List Field) (number : ℕ) (m : Meaning) (o : Option Field) → find (λ f. f.number == number) fields ≡ o → list_all (λ f. is_scale f.meaning.scale) fields ≡ true
+of_field : (fields : List Field) (number : ℕ) (m : Meaning) (o : Option Field) → find (λ f. f.number == number) fields ≡ o
+    → list_all (λ f. is_scale f.meaning.scale) fields ≡ true
     → option_map (λ f. f.meaning) o ≡ Some m → IsScale m.scale
 of_field fields number m None is all e = cc e
 of_field fields number m (Some f) is all e =
-    scale_from m.scale (ap (λ (x : Meaning). is_scale x.scale) (sym (some_same f.meaning m e)) ∙ found (λ f. f.number == number) (λ f. is_scale f.meaning.scale) fields f is all)
+    scale_from m.scale (ap (λ (x : Meaning). is_scale x.scale) (sym (some_same f.meaning m e))
+    ∙ found (λ f. f.number == number) (λ f. is_scale f.meaning.scale) fields f is all)
 
 of_message : (global number : ℕ) (m : Meaning) (o : Option Message) → message_of global ≡ o
     → option_and_then (λ g. if number == 254 then Some message_index.meaning else field_of g.fields number) o ≡ Some m → IsScale m.scale
 of_message global number m None is e = cc e
 of_message global number m (Some g) is e = elim (cases_Bool (number == 254)) [
   | inl index ↦ scale_from m.scale (ap (λ (x : Meaning). is_scale x.scale) (sym (some_same message_index.meaning m (rw index at e))))
-  | inr other ↦ of_field g.fields number m (find (λ f. f.number == number) g.fields) refl (found (λ g. g.global == global) all_scaled messages g is every_scale) (rw other at e)
+  | inr other ↦ of_field g.fields number m (find (λ f. f.number == number) g.fields) refl (found (λ g. g.global == global) all_scaled messages g is every_scale)
+      (rw other at e)
 ]
 
 -- each scale of the profile is one of those
@@ -100,10 +104,12 @@ value_shown (Some r) (Some m) (Some v) scale is =
 
 by_field : {A : Type 0} (global number : ℕ) (f : Option (FieldDef × Items A)) (value : Option Fixed)
     → IsValueOf (option_and_then (λ f. option_and_then (λ raw. option_map (λ m. (raw, m)) (field global number)) (first_number f.0 f.1)) f) value
-    → shown_text value ≡ option_map (λ (x : ℤ × Meaning). amount_text x.0 x.1.scale x.1.offset) (option_and_then (λ f. option_and_then (λ raw. option_map (λ m. (raw, m)) (field global number)) (first_number f.0 f.1)) f)
+    → shown_text value ≡ option_map (λ (x : ℤ × Meaning). amount_text x.0 x.1.scale x.1.offset)
+    (option_and_then (λ f. option_and_then (λ raw. option_map (λ m. (raw, m)) (field global number)) (first_number f.0 f.1)) f)
 by_field global number None value is = value_shown None None value (λ m e. cc e) is
 by_field global number (Some f) value is = value_shown (first_number f.0 f.1) (field global number) value (known_scale global number) is
 
 -- the text of a value of a message
-pub shown_value : {A : Type 0} (d : MessageDef A) (v : Values A) (number : ℕ) (value : Option Fixed) → IsValueOf (known_number d v number) value → shown_text value ≡ value_text d v number
+pub shown_value : {A : Type 0} (d : MessageDef A) (v : Values A) (number : ℕ) (value : Option Fixed) → IsValueOf (known_number d v number) value
+    → shown_text value ≡ value_text d v number
 shown_value d v number value is = by_field d.global number (first_field d.fields v.fields number) value is

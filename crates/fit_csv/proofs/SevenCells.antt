@@ -15,8 +15,10 @@ none-left [] l = refl
 none-left (f ∷ fields) l = absurd (omega (arith, l))
 
 -- a list of seven is that of its places
-pub seven-cells : (fields : List (List ℕ)) (a b c d e f g : List ℕ) → length fields ≡ 7 → field_at fields 0 ≡ Some a → field_at fields 1 ≡ Some b → field_at fields 2 ≡ Some c
-    → field_at fields 3 ≡ Some d → field_at fields 4 ≡ Some e → field_at fields 5 ≡ Some f → field_at fields 6 ≡ Some g → a ∷ b ∷ c ∷ d ∷ e ∷ f ∷ g ∷ [] ≡ fields
+pub seven-cells : (fields : List (List ℕ)) (a b c d e f g : List ℕ) → length fields ≡ 7 → field_at fields 0 ≡ Some a → field_at fields 1 ≡ Some b
+    → field_at fields 2 ≡ Some c
+    → field_at fields 3 ≡ Some d → field_at fields 4 ≡ Some e → field_at fields 5 ≡ Some f → field_at fields 6 ≡ Some g
+    → a ∷ b ∷ c ∷ d ∷ e ∷ f ∷ g ∷ [] ≡ fields
 seven-cells fields a b c d e f g l ea eb ec ed ee ef eg =
     one-more fields 6 a (b ∷ c ∷ d ∷ e ∷ f ∷ g ∷ []) l ea (λ r1 l1 s1.
     one-more r1 5 b (c ∷ d ∷ e ∷ f ∷ g ∷ []) l1 (s1 0 ∙ eb) (λ r2 l2 s2.
@@ -27,5 +29,6 @@ seven-cells fields a b c d e f g l ea eb ec ed ee ef eg =
     one-more r6 0 g [] l6 (s6 0 ∙ s5 1 ∙ s4 2 ∙ s3 3 ∙ s2 4 ∙ s1 5 ∙ eg) (λ r7 l7 s7. none-left r7 l7)))))))
 
 -- rows are the same where their cells are
-pub same-cells : {k l a a' b b' c c' d d' e e' f f' : Cell} → k ≡ l → a ≡ a' → b ≡ b' → c ≡ c' → d ≡ d' → e ≡ e' → f ≡ f' → row k a b c d e f ≡ row l a' b' c' d' e' f'
+pub same-cells : {k l a a' b b' c c' d d' e e' f f' : Cell} → k ≡ l → a ≡ a' → b ≡ b' → c ≡ c' → d ≡ d' → e ≡ e' → f ≡ f'
+    → row k a b c d e f ≡ row l a' b' c' d' e' f'
 same-cells ek ea eb ec ed ee ef = λ i. row (ek i) (ea i) (eb i) (ec i) (ed i) (ee i) (ef i)

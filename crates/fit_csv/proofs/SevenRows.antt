@@ -1,6 +1,6 @@
 -- Each row of a chain has seven cells.
-use Rattle.std.proofs.Common.{◌≡◌, List, [], ◌∷◌, ◌++◌, ℕ, length, map, Option, Some, None, refl, subst}
-use Rattle.std.specs.Prelude.{flat_map, option_map, unwrap_or, zip}
+use Rattle.std.proofs.Common.{◌≡◌, arith, List, [], ◌∷◌, ◌++◌, ℕ, length, map, Option, Some, None, refl, subst}
+use Rattle.std.specs.Prelude.{codes, flat_map, option_map, unwrap_or, zip}
 use Rattle.std.specs.List.{AllByRecursion}
 use Rattle.fit_record.specs.declared.definition.MessageDef.{MessageDef}
 use Rattle.fit_record.specs.declared.environment.Defined.{Defined}
@@ -12,9 +12,10 @@ use Rattle.fit_record.specs.Environment.{defined_at, dev_defs}
 use Rattle.fit_profile.specs.Described.{Naming, namings_at}
 use Rattle.fit_profile.specs.Looks.{known}
 use Rattle.fit_profile.specs.Times.{header_time, previous_time}
-use Rattle.fit_csv.specs.ChainRows.{chain_rows, data_row, def_row, definition_rows, dev_def_row, dev_row, dev_rows, end_row, field_def_row, field_row, field_rows, file_row, file_rows, message_rows, record_rows, records_rows}
+use Rattle.fit_csv.specs.ChainRows.{chain_rows, data_row, def_row, definition_rows, dev_def_row, dev_row, dev_rows, end_row, field_def_row, field_row}
+use Rattle.fit_csv.specs.ChainRows.{field_rows, file_row, file_rows, message_rows, record_rows, records_rows}
 use Rattle.fit_cells.specs.Rows.{NoneEmpty, Row, RowsOfText, csv_text}
-use Rattle.fit_cells.proofs.RowFacts.{reads-back}
+use Rattle.fit_cells.proofs.RowFacts.{begins-otherwise, reads-back}
 
 abbrev AllSeven : List Row → Type 0
 AllSeven rows = AllByRecursion (λ r. length r ≡ 7) rows
@@ -29,15 +30,18 @@ mapped-seven f (x ∷ xs) each = (each x, mapped-seven f xs each)
 
 definition-seven : {A : Type 0} (d : MessageDef A) → AllSeven (definition_rows d)
 definition-seven d =
-    both-seven (def_row d ∷ map field_def_row d.fields) (map dev_def_row (dev_defs d.dev)) (refl, mapped-seven field_def_row d.fields (λ f. refl)) (mapped-seven dev_def_row (dev_defs d.dev) (λ f. refl))
+    both-seven (def_row d ∷ map field_def_row d.fields) (map dev_def_row (dev_defs d.dev)) (refl, mapped-seven field_def_row d.fields (λ f. refl))
+    (mapped-seven dev_def_row (dev_defs d.dev) (λ f. refl))
 
 message-seven : {A : Type 0} (v : Values A) (p : Defined A) (time : Option ℕ) (namings : List Naming) → AllSeven (message_rows v p time namings)
 message-seven v p time namings =
-    both-seven (data_row v p.definition.global time ∷ field_rows p.definition.global p.definition.fields v.fields) (dev_rows (dev_defs p.definition.dev) p.dev_codes namings v.dev)
+    both-seven (data_row v p.definition.global time ∷ field_rows p.definition.global p.definition.fields v.fields)
+    (dev_rows (dev_defs p.definition.dev) p.dev_codes namings v.dev)
     (refl, mapped-seven (λ x. field_row p.definition.global x.0 x.1) (zip p.definition.fields v.fields) (λ x. refl))
     (mapped-seven (λ x. dev_row x.0.0 x.0.1 x.1.0 x.1.1) (zip (zip (dev_defs p.definition.dev) p.dev_codes) (zip namings v.dev)) (λ x. refl))
 
-defined-seven : {A : Type 0} (v : Values A) (time : Option ℕ) (namings : List Naming) (o : Option (Defined A)) → AllSeven (unwrap_or (option_map (λ p. message_rows v p time namings) o) [])
+defined-seven : {A : Type 0} (v : Values A) (time : Option ℕ) (namings : List Naming) (o : Option (Defined A))
+    → AllSeven (unwrap_or (option_map (λ p. message_rows v p time namings) o) [])
 defined-seven v time namings None = tt
 defined-seven v time namings (Some p) = message-seven v p time namings
 
@@ -48,12 +52,14 @@ record-seven before (Data v) = defined-seven v (header_time (previous_time befor
 records-seven : {A : Type 0} (before records : List (Record A)) → AllSeven (records_rows before records)
 unfolding records_rows
 records-seven before [] = tt
-records-seven before (r ∷ records) = both-seven (record_rows before r) (records_rows (r ∷ before) records) (record-seven before r) (records-seven (r ∷ before) records)
+records-seven before (r ∷ records) = both-seven (record_rows before r) (records_rows (r ∷ before) records) (record-seven before r)
+    (records-seven (r ∷ before) records)
 
 files-seven : {A : Type 0} (files : List (FitFile A)) → AllSeven (flat_map file_rows files)
 files-seven [] = tt
 files-seven (f ∷ files) =
-    both-seven (file_rows f) (flat_map file_rows files) (both-seven (file_row f.header ∷ records_rows [] f.records) (end_row ∷ []) (refl, records-seven [] f.records) (refl, tt)) (files-seven files)
+    both-seven (file_rows f) (flat_map file_rows files)
+    (both-seven (file_row f.header ∷ records_rows [] f.records) (end_row ∷ []) (refl, records-seven [] f.records) (refl, tt)) (files-seven files)
 
 none-empty : (rows : List Row) → AllSeven rows → NoneEmpty rows
 unfolding NoneEmpty
@@ -62,7 +68,10 @@ none-empty (r ∷ rows) seven = (λ e. let h = seven.0 in cc, none-empty rows se
 
 -- the text of the rows of a chain reads as those rows
 pub chain-reads-back : {A : Type 0} (files : List (FitFile A)) → RowsOfText (csv_text (chain_rows files)) (chain_rows files)
-chain-reads-back files = reads-back (flat_map file_rows files) (none-empty (flat_map file_rows files) (files-seven files))
+chain-reads-back files =
+    reads-back (chain_rows files) (none-empty (chain_rows files) (refl, files-seven files))
+    (begins-otherwise 114 (codes "ow") (codes "a" ∷ codes "b" ∷ codes "c" ∷ codes "d" ∷ codes "e" ∷ codes "f" ∷ []) (flat_map file_rows files)
+    (omega arith))
 
 within : (front : List Row) (r : Row) (more : List Row) → AllSeven (front ++ r ∷ more) → length r ≡ 7
 within [] r more seven = seven.0

@@ -1,5 +1,6 @@
 -- One more row stands behind the rows that a chain was read from.
-use Rattle.std.proofs.Common.{◌≡◌, ◌∙◌, ℕ, zero, suc, ◌<◌, ◌≤◌, Bool, true, false, List, [], ◌∷◌, ◌++◌, length, map, Option, Some, None, refl, sym, ap, ap₂, inl, inr, arith, append_assoc, eqb-true}
+use Rattle.std.proofs.Common.{◌≡◌, ◌∙◌, ℕ, zero, suc, ◌<◌, ◌≤◌, Bool, true, false, List, [], ◌∷◌, ◌++◌, length, map, Option, Some, None, refl, sym, ap, ap₂}
+use Rattle.std.proofs.Common.{inl, inr, arith, append_assoc, eqb-true}
 use Rattle.std.specs.Prelude.{codes, decimal, ◌⊎◌, ◌==◌, ◌&&◌, reverse, zip, option_map, unwrap_or, slice_get, IsSomeAnd}
 use Rattle.std.specs.Global.{Global}
 use Rattle.std.proofs.lemmas.List.{append-nil, map-append, reverse-append}
@@ -15,11 +16,13 @@ use Rattle.fit_record.specs.Environment.{defined_at, dev_defs}
 use Rattle.fit_profile.specs.Described.{Naming, namings_at, nameless}
 use Rattle.fit_profile.specs.Looks.{known}
 use Rattle.fit_profile.specs.Times.{header_time, previous_time}
-use Rattle.fit_csv.specs.ChainRows.{data_row, data_rows, def_row, definition_rows, dev_count, dev_def_row, dev_row, dev_rows, field_def_row, field_row, field_rows, message_rows, optional_number, order_word, record_rows, records_rows, row}
-use Rattle.fit_csv.specs.Misfits.{head_row}
-use Rattle.fit_csv.specs.Progress.{DefinitionStep, DevStep, FieldStep, definition_of, dev_total, is_whole, naming_at, with_dev_items, with_items}
+use Rattle.fit_csv.specs.ChainRows.{data_row, data_rows, def_row, definition_rows, dev_count, dev_def_row, dev_row, dev_rows, field_def_row, field_row}
+use Rattle.fit_csv.specs.ChainRows.{field_rows, message_rows, optional_number, order_word, record_rows, records_rows, row}
+use Rattle.fit_csv.specs.inner.Misfits.{head_row}
+use Rattle.fit_csv.specs.inner.Progress.{DefinitionStep, DevStep, FieldStep, built_definition, dev_total, is_whole, with_dev_items, with_items}
+use Rattle.fit_csv.specs.RowKinds.{naming_at}
 use Rattle.fit_cells.specs.Rows.{Row}
-use Rattle.fit_csv.specs.SoundChain.{IsSoundDefinition, IsSoundMessage, open_rows}
+use Rattle.fit_csv.specs.inner.SoundChain.{IsSoundDefinition, IsSoundMessage, open_rows}
 use Rattle.fit_csv.specs.declared.from.definition.OpenDefinition.{OpenDefinition}
 use Rattle.fit_csv.proofs.NamingFacts.{namings_long}
 
@@ -35,7 +38,8 @@ zip-last [] (b ∷ ys) x y e = cc e
 zip-last (a ∷ xs) [] x y e = let same : a ≡ x = cc e in ap (λ l. (a, y) ∷ l) (zip-none xs) ∙ ap (λ z. (z, y) ∷ []) same
 zip-last (a ∷ xs) (b ∷ ys) x y e = ap (λ l. (a, b) ∷ l) (zip-last xs ys x y e)
 
-pub get-zip : {X Y : Type 0} (xs : List X) (ys : List Y) (k : ℕ) (x : X) (y : Y) → slice_get xs k ≡ Some x → slice_get ys k ≡ Some y → slice_get (zip xs ys) k ≡ Some (x, y)
+pub get-zip : {X Y : Type 0} (xs : List X) (ys : List Y) (k : ℕ) (x : X) (y : Y) → slice_get xs k ≡ Some x → slice_get ys k ≡ Some y
+    → slice_get (zip xs ys) k ≡ Some (x, y)
 get-zip [] ys k x y e f = cc e
 get-zip (a ∷ xs) [] k x y e f = cc f
 get-zip (a ∷ xs) (b ∷ ys) zero x y e f = let p : a ≡ x = cc e in let q : b ≡ y = cc f in ap₂ (λ u v. Some (u, v)) p q
@@ -55,7 +59,8 @@ pub rows-of-more : (before records : List (Record Global)) (r : Record Global)
 unfolding records_rows
 rows-of-more before [] r = append-nil (record_rows before r)
 rows-of-more before (x ∷ records) r =
-    let place : reverse records ++ (x ∷ before) ≡ reverse (x ∷ records) ++ before = sym (append_assoc (reverse records) (x ∷ []) before) ∙ ap (λ b. b ++ before) (sym (reverse-first x records)) in
+    let place : reverse records ++ (x ∷ before) ≡ reverse (x ∷ records) ++ before =
+    sym (append_assoc (reverse records) (x ∷ []) before) ∙ ap (λ b. b ++ before) (sym (reverse-first x records)) in
     ap (λ rows. record_rows before x ++ rows) (rows-of-more (x ∷ before) records r)
     ∙ sym (append_assoc (record_rows before x) (records_rows (x ∷ before) records) (record_rows (reverse records ++ (x ∷ before)) r))
     ∙ ap (λ b. (record_rows before x ++ records_rows (x ∷ before) records) ++ record_rows b r) place
@@ -94,18 +99,20 @@ no-dev-fields : (xs : List DevDef) → length xs ≡ 0 → xs ≡ []
 no-dev-fields [] e = refl
 no-dev-fields (x ∷ xs) e = absurd (omega (arith, e))
 
-dev-whole : (m : Option ℕ) (dev : List DevDef) → length dev ≡ unwrap_or m 0 → (optional_number m ≡ dev_count (option_map (λ _. dev) m)) × (dev ≡ dev_defs (option_map (λ _. dev) m))
+dev-whole : (m : Option ℕ) (dev : List DevDef) → length dev ≡ unwrap_or m 0
+    → (optional_number m ≡ dev_count (option_map (λ _. dev) m)) × (dev ≡ dev_defs (option_map (λ _. dev) m))
 dev-whole None dev e = (refl, no-dev-fields dev e)
 dev-whole (Some n) dev e = (ap decimal (sym e), refl)
 
 -- a whole definition has come from its rows
-pub definition-whole : (o : OpenDefinition) → is_whole o ≡ true → open_rows o ≡ definition_rows (definition_of o)
+pub definition-whole : (o : OpenDefinition) → is_whole o ≡ true → open_rows o ≡ definition_rows (built_definition o)
 definition-whole o whole =
     let both = both-true (length o.fields == o.head.fields) (length o.dev == dev_total o.head) whole in
     let fields : length o.fields ≡ o.head.fields = eqb-true (length o.fields) o.head.fields both.0 in
     let dev = dev-whole o.head.dev o.dev (eqb-true (length o.dev) (dev_total o.head) both.1) in
-    let first : head_row o.head ≡ def_row (definition_of o) =
-    ap₂ (λ n m. row (codes "def") (decimal o.head.local) (decimal o.head.reserved) (order_word o.head.order) (decimal o.head.global) n m) (ap decimal (sym fields)) dev.0 in
+    let first : head_row o.head ≡ def_row (built_definition o) =
+    ap₂ (λ n m. row (codes "def") (decimal o.head.local) (decimal o.head.reserved) (order_word o.head.order) (decimal o.head.global) n m)
+    (ap decimal (sym fields)) dev.0 in
     ap₂ (λ (r : Row) (d : List DevDef). r ∷ (map field_def_row o.fields ++ map dev_def_row d)) first dev.1
 
 -- ---- data messages
@@ -120,7 +127,8 @@ no-rows fields dev_codes namings =
     ap (λ l. map (λ x. dev_row {A = Global} x.0.0 x.0.1 x.1.0 x.1.1) (zip (zip fields dev_codes) l)) (zip-none namings)
     ∙ ap (λ l. map (λ x. dev_row {A = Global} x.0.0 x.0.1 x.1.0 x.1.1) l) (zip-none (zip fields dev_codes))
 
-field-rows-more : (global : ℕ) (fields : List FieldDef) (items : List (Items Global)) (f : FieldDef) (i : Items Global) → slice_get fields (length items) ≡ Some f
+field-rows-more : (global : ℕ) (fields : List FieldDef) (items : List (Items Global)) (f : FieldDef) (i : Items Global)
+    → slice_get fields (length items) ≡ Some f
     → field_rows global fields (items ++ i ∷ []) ≡ field_rows global fields items ++ field_row global f i ∷ []
 field-rows-more global fields items f i e =
     ap (map (λ x. field_row global x.0 x.1)) (zip-last fields items f i e) ∙ map-append (λ x. field_row global x.0 x.1) (zip fields items) ((f, i) ∷ [])
@@ -130,29 +138,37 @@ named [] k h = absurd (omega (arith, h))
 named (n ∷ namings) zero h = refl
 named (n ∷ namings) (suc k) h = named namings k (omega (arith, h))
 
-dev-rows-more : (fields : List DevDef) (dev_codes : List ℕ) (namings : List Naming) (items : List (Items Global)) (f : DevDef) (code : ℕ) (i : Items Global) → length items < length namings
+dev-rows-more : (fields : List DevDef) (dev_codes : List ℕ) (namings : List Naming) (items : List (Items Global)) (f : DevDef) (code : ℕ) (i : Items Global)
+    → length items < length namings
     → slice_get fields (length items) ≡ Some f → slice_get dev_codes (length items) ≡ Some code
-    → dev_rows fields dev_codes namings (items ++ i ∷ []) ≡ dev_rows fields dev_codes namings items ++ dev_row f code (unwrap_or (slice_get namings (length items)) nameless) i ∷ []
+    → dev_rows fields dev_codes namings (items ++ i ∷ [])
+    ≡ dev_rows fields dev_codes namings items ++ dev_row f code (unwrap_or (slice_get namings (length items)) nameless) i ∷ []
 dev-rows-more fields dev_codes namings items f code i long e coded =
     let n = unwrap_or (slice_get namings (length items)) nameless in
     let same : length (zip namings items) ≡ length items = zip-long namings items (omega (arith, long)) in
-    let both : slice_get (zip fields dev_codes) (length (zip namings items)) ≡ Some (f, code) = ap (λ k. slice_get (zip fields dev_codes) k) same ∙ get-zip fields dev_codes (length items) f code e coded in
-    ap (λ l. map (λ x. dev_row x.0.0 x.0.1 x.1.0 x.1.1) (zip (zip fields dev_codes) l)) (zip-last namings items (unwrap_or (slice_get namings (length items)) nameless) i (named namings (length items) long))
+    let both : slice_get (zip fields dev_codes) (length (zip namings items)) ≡ Some (f, code) =
+    ap (λ k. slice_get (zip fields dev_codes) k) same ∙ get-zip fields dev_codes (length items) f code e coded in
+    ap (λ l. map (λ x. dev_row x.0.0 x.0.1 x.1.0 x.1.1) (zip (zip fields dev_codes) l))
+    (zip-last namings items (unwrap_or (slice_get namings (length items)) nameless) i (named namings (length items) long))
     ∙ ap (map (λ x. dev_row x.0.0 x.0.1 x.1.0 x.1.1)) (zip-last (zip fields dev_codes) (zip namings items) (f, code) (n, i) both)
     ∙ map-append (λ x. dev_row x.0.0 x.0.1 x.1.0 x.1.1) (zip (zip fields dev_codes) (zip namings items)) (((f, code), (n, i)) ∷ [])
 
-pub without-dev-rows : (rows : List Row) (fields : List DevDef) (dev_codes : List ℕ) (namings : List Naming) (dev : List (Items Global)) → dev ≡ [] → rows ++ dev_rows fields dev_codes namings dev ≡ rows
+pub without-dev-rows : (rows : List Row) (fields : List DevDef) (dev_codes : List ℕ) (namings : List Naming) (dev : List (Items Global)) → dev ≡ []
+    → rows ++ dev_rows fields dev_codes namings dev ≡ rows
 without-dev-rows rows fields dev_codes namings dev none =
-    ap (λ (d : List (Items Global)). rows ++ dev_rows fields dev_codes namings d) none ∙ ap (λ (l : List Row). rows ++ l) (no-rows fields dev_codes namings) ∙ append-nil rows
+    ap (λ (d : List (Items Global)). rows ++ dev_rows fields dev_codes namings d) none ∙ ap (λ (l : List Row). rows ++ l) (no-rows fields dev_codes namings)
+    ∙ append-nil rows
 
 pub some-at : {X : Type 0} (o : Option X) (P : X → Type 0) → IsSomeAnd o P → (x : X) × (o ≡ Some x) × P x
 some-at None P h = absurd h
 some-at (Some x) P h = (x, refl, h)
 
-pub message-more : (before : List (Record Global)) (p : Defined Global) (v : Values Global) (r : Row) (w : Values Global) → defined_at (known before) v.local ≡ Some p → IsSoundMessage v p
+pub message-more : (before : List (Record Global)) (p : Defined Global) (v : Values Global) (r : Row) (w : Values Global)
+    → defined_at (known before) v.local ≡ Some p → IsSoundMessage v p
     → FieldStep p v r w ⊎ DevStep before p v r w → data_rows before w ≡ data_rows before v ++ r ∷ []
 message-more before p v r w is sound (inl step) =
-    let (f, next, (i, shape, e, same)) = some-at (slice_get p.definition.fields (length v.fields)) (λ f. (i : Items Global) × HasShape f.code f.size i × (r ≡ field_row p.definition.global f i) × (w ≡ with_items v i)) step in
+    let (f, next, (i, shape, e, same)) = some-at (slice_get p.definition.fields (length v.fields))
+    (λ f. (i : Items Global) × HasShape f.code f.size i × (r ≡ field_row p.definition.global f i) × (w ≡ with_items v i)) step in
     let none = sound.in_order (slice_get_within p.definition.fields (length v.fields) f next) in
     let g = p.definition.global in
     let time = header_time (previous_time before) v.offset in
@@ -163,10 +179,12 @@ message-more before p v r w is sound (inl step) =
     ∙ without-dev-rows (first ∷ field_rows g p.definition.fields (v.fields ++ i ∷ [])) (dev_defs p.definition.dev) p.dev_codes namings v.dev none
     ∙ ap (λ (l : List Row). first ∷ l) (field-rows-more g p.definition.fields v.fields f i next)
     ∙ ap (λ (x : Row). (first ∷ rows) ++ x ∷ []) (sym e)
-    ∙ ap (λ (l : List Row). l ++ r ∷ []) (sym (data-rows-at before v p is ∙ without-dev-rows (first ∷ rows) (dev_defs p.definition.dev) p.dev_codes namings v.dev none))
+    ∙ ap (λ (l : List Row). l ++ r ∷ []) (sym
+    (data-rows-at before v p is ∙ without-dev-rows (first ∷ rows) (dev_defs p.definition.dev) p.dev_codes namings v.dev none))
 message-more before p v r w is sound (inr (all, step)) =
     let k = length v.dev in
-    let (f, next, step') = some-at (slice_get (dev_defs p.definition.dev) (length v.dev)) (λ f. IsSomeAnd (slice_get p.dev_codes (length v.dev)) (λ code. (i : Items Global) ×
+    let (f, next, step') = some-at (slice_get (dev_defs p.definition.dev) (length v.dev))
+    (λ f. IsSomeAnd (slice_get p.dev_codes (length v.dev)) (λ code. (i : Items Global) ×
     HasShape code f.size i × (r ≡ dev_row f code (naming_at before v.local (length v.dev)) i) × (w ≡ with_dev_items v i))) step in
     let (code, coded, (i, shape, e, same)) = some-at (slice_get p.dev_codes (length v.dev)) (λ code. (i : Items Global) ×
     HasShape code f.size i × (r ≡ dev_row f code (naming_at before v.local (length v.dev)) i) × (w ≡ with_dev_items v i)) step' in

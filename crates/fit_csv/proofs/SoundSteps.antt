@@ -1,5 +1,6 @@
 -- One more row keeps what holds of what has been read.
-use Rattle.std.proofs.Common.{◌≡◌, ◌∙◌, ℕ, suc, ◌<◌, ◌≤◌, ◌^◌, Bool, true, false, List, [], ◌∷◌, ◌++◌, length, map, Option, Some, None, refl, sym, ap, subst, inl, inr, arith, eqb-true, eq-eqb}
+use Rattle.std.proofs.Common.{◌≡◌, ◌∙◌, ℕ, suc, ◌<◌, ◌≤◌, ◌^◌, Bool, true, false, List, [], ◌∷◌, ◌++◌, length, map, Option, Some, None, refl, sym, ap, subst}
+use Rattle.std.proofs.Common.{inl, inr, arith, eqb-true, eq-eqb}
 use Rattle.std.specs.Prelude.{◌==◌, ◌&&◌, ◌⊎◌, zip, option_map, unwrap_or, slice_get, IfSome, IsSome, IsSomeAnd}
 use Rattle.std.specs.Option.{option_map_or}
 use Rattle.std.specs.Global.{Global}
@@ -18,11 +19,13 @@ use Rattle.fit_record.specs.Environment.{defined_at, dev_defs, empty_environment
 use Rattle.fit_record.specs.Records.{DataFits, DefinitionFits, Fits, HaveShape, dev_layout, layout}
 use Rattle.fit_profile.specs.Looks.{known}
 use Rattle.fit_csv.specs.ChainRows.{dev_row, field_row}
-use Rattle.fit_csv.specs.Judged.{DefinitionInRange, RecordInRange}
-use Rattle.fit_csv.specs.Misfits.{DevDefInRange, FieldDefInRange, HeadInRange, IsMessageStart}
-use Rattle.fit_csv.specs.Progress.{DefinitionStep, DevStep, FieldStep, FileStep, FitsOnceWhole, PartHasRoom, PartStep, definition_of, dev_total, has_all, is_whole, is_whole_message, naming_at, opened, settled, with_dev_items, with_items, with_record}
+use Rattle.fit_csv.specs.Judged.{DefinitionInRange, DevDefInRange, FieldDefInRange, RecordInRange}
+use Rattle.fit_csv.specs.inner.Misfits.{HeadInRange, IsMessageStart}
+use Rattle.fit_csv.specs.inner.Progress.{DefinitionStep, DevStep, FieldStep, FileStep, FitsOnceWhole, PartHasRoom, PartStep, built_definition, dev_total}
+use Rattle.fit_csv.specs.inner.Progress.{has_all, is_whole, is_whole_message, opened, settled, with_dev_items, with_items, with_record}
+use Rattle.fit_csv.specs.RowKinds.{naming_at}
 use Rattle.fit_cells.specs.Rows.{Row}
-use Rattle.fit_csv.specs.SoundChain.{HaveShapeSoFar, IsSoundDefinition, IsSoundFile, IsSoundMessage, IsSoundPart, IsSoundSoFar}
+use Rattle.fit_csv.specs.inner.SoundChain.{HaveShapeSoFar, IsSoundDefinition, IsSoundFile, IsSoundMessage, IsSoundPart, IsSoundSoFar}
 use Rattle.fit_csv.specs.declared.from.definition.DefinitionHead.{DefinitionHead}
 use Rattle.fit_csv.specs.declared.from.definition.OpenDefinition.{OpenDefinition}
 use Rattle.fit_csv.specs.declared.from.open_file.OpenFile.{OpenFile}
@@ -43,18 +46,19 @@ length-last (y ∷ xs) x = let more = length-last xs x in omega (arith, more)
 
 -- ---- definitions
 
-both-false : (a b : Bool) → (a && b) ≡ false → a ≡ true → b ≡ false
+pub both-false : (a b : Bool) → (a && b) ≡ false → a ≡ true → b ≡ false
 both-false true b e h = e
 both-false false b e h = cc h
 
 -- developer fields are to come
-dev-left : (o : OpenDefinition) → IsSoundDefinition o → is_whole o ≡ false → length o.fields ≡ o.head.fields → length o.dev < dev_total o.head
+pub dev-left : (o : OpenDefinition) → IsSoundDefinition o → is_whole o ≡ false → length o.fields ≡ o.head.fields → length o.dev < dev_total o.head
 dev-left o sound going all =
     let other = both-false (length o.fields == o.head.fields) (length o.dev == dev_total o.head) going (eq-eqb (length o.fields) o.head.fields all) in
     let differ : length o.dev ≡ dev_total o.head → ⊥ = λ e. cc (sym other ∙ eq-eqb (length o.dev) (dev_total o.head) e) in
     omega (arith, differ, sound.few_dev_fields)
 
-pub definition-sound : (o : OpenDefinition) (r : Row) (q : OpenDefinition) → IsSoundDefinition o → is_whole o ≡ false → DefinitionStep o r q → IsSoundDefinition q
+pub definition-sound : (o : OpenDefinition) (r : Row) (q : OpenDefinition) → IsSoundDefinition o → is_whole o ≡ false → DefinitionStep o r q
+    → IsSoundDefinition q
 definition-sound o r q sound going (inl (room, (f, range, e, is))) =
     subst IsSoundDefinition (sym is) (record {
       head = sound.head;
@@ -86,7 +90,7 @@ all-dev : (m : Option ℕ) (dev : List DevDef) → AllByRecursion DevDefInRange 
 all-dev None dev h = tt
 all-dev (Some n) dev h = h
 
-pub definition-fits : (o : OpenDefinition) → IsSoundDefinition o → DefinitionFits (definition_of o)
+pub definition-fits : (o : OpenDefinition) → IsSoundDefinition o → DefinitionFits (built_definition o)
 definition-fits o sound = record {
   local = sound.head.local;
   global = sound.head.global;
@@ -94,12 +98,13 @@ definition-fits o sound = record {
   dev_fields = few-dev o.head.dev o.dev sound.head.dev sound.few_dev_fields;
 }
 
-pub definition-range : (o : OpenDefinition) → IsSoundDefinition o → DefinitionInRange (definition_of o)
+pub definition-range : (o : OpenDefinition) → IsSoundDefinition o → DefinitionInRange (built_definition o)
 definition-range o sound = record { reserved = sound.head.reserved; fields = sound.fields; dev_fields = all-dev o.head.dev o.dev sound.dev_fields }
 
 -- ---- data messages
 
-shape-last : (fields : List (ℕ × ℕ)) (items : List (Items Global)) (code size : ℕ) (i : Items Global) → HaveShapeSoFar fields items → slice_get fields (length items) ≡ Some (code, size)
+shape-last : (fields : List (ℕ × ℕ)) (items : List (Items Global)) (code size : ℕ) (i : Items Global) → HaveShapeSoFar fields items
+    → slice_get fields (length items) ≡ Some (code, size)
     → HasShape code size i → HaveShapeSoFar fields (items ++ i ∷ [])
 shape-last [] [] code size i so_far e shape = cc e
 shape-last [] (x ∷ items) code size i so_far e shape = absurd so_far
@@ -128,16 +133,21 @@ zip-as-long (x ∷ xs) (y ∷ ys) e = let more = zip-as-long xs ys (omega (arith
 pub layout-long : (p : Defined Global) → length (layout p) ≡ length p.definition.fields
 layout-long p = length-map p.definition.fields (λ f. (f.code, f.size))
 
-pub dev-layout-long : (p : Defined Global) → length p.dev_codes ≡ length (dev_defs p.definition.dev) → length (dev_layout p) ≡ length (dev_defs p.definition.dev)
+pub dev-layout-long : (p : Defined Global) → length p.dev_codes ≡ length (dev_defs p.definition.dev)
+    → length (dev_layout p) ≡ length (dev_defs p.definition.dev)
 dev-layout-long p coded =
-    zip-as-long p.dev_codes (map (λ f. f.size) (dev_defs p.definition.dev)) (coded ∙ sym (length-map (dev_defs p.definition.dev) (λ f. f.size))) ∙ length-map (dev_defs p.definition.dev) (λ f. f.size)
+    zip-as-long p.dev_codes (map (λ f. f.size) (dev_defs p.definition.dev)) (coded ∙ sym (length-map (dev_defs p.definition.dev) (λ f. f.size)))
+    ∙ length-map (dev_defs p.definition.dev) (λ f. f.size)
 
-pub message-sound : (before : List (Record Global)) (p : Defined Global) (v : Values Global) (r : Row) (w : Values Global) → IsSoundMessage v p → FieldStep p v r w ⊎ DevStep before p v r w
+pub message-sound : (before : List (Record Global)) (p : Defined Global) (v : Values Global) (r : Row) (w : Values Global) → IsSoundMessage v p
+    → FieldStep p v r w ⊎ DevStep before p v r w
     → IsSoundMessage w p × (w.local ≡ v.local)
 message-sound before p v r w sound (inl step) =
-    let (f, next, (i, shape, e, same)) = some-at (slice_get p.definition.fields (length v.fields)) (λ f. (i : Items Global) × HasShape f.code f.size i × (r ≡ field_row p.definition.global f i) × (w ≡ with_items v i)) step in
+    let (f, next, (i, shape, e, same)) = some-at (slice_get p.definition.fields (length v.fields))
+    (λ f. (i : Items Global) × HasShape f.code f.size i × (r ≡ field_row p.definition.global f i) × (w ≡ with_items v i)) step in
     let within = slice_get_within p.definition.fields (length v.fields) f next in
-    let laid : slice_get (layout p) (length v.fields) ≡ Some (f.code, f.size) = slice_get-map (λ f. (f.code, f.size)) p.definition.fields (length v.fields) ∙ ap (option_map (λ f. (f.code, f.size))) next in (
+    let laid : slice_get (layout p) (length v.fields) ≡ Some (f.code, f.size) =
+    slice_get-map (λ f. (f.code, f.size)) p.definition.fields (length v.fields) ∙ ap (option_map (λ f. (f.code, f.size))) next in (
       subst (λ (x : Values Global). IsSoundMessage x p) (sym same) (record {
         header = sound.header;
         fields = shape-last (layout p) v.fields f.code f.size i sound.fields laid shape;
@@ -147,12 +157,15 @@ message-sound before p v r w sound (inl step) =
       ap (λ (x : Values Global). x.local) same,
     )
 message-sound before p v r w sound (inr (all, step)) =
-    let (f, next, step') = some-at (slice_get (dev_defs p.definition.dev) (length v.dev)) (λ f. IsSomeAnd (slice_get p.dev_codes (length v.dev)) (λ code. (i : Items Global) ×
+    let (f, next, step') = some-at (slice_get (dev_defs p.definition.dev) (length v.dev))
+    (λ f. IsSomeAnd (slice_get p.dev_codes (length v.dev)) (λ code. (i : Items Global) ×
     HasShape code f.size i × (r ≡ dev_row f code (naming_at before v.local (length v.dev)) i) × (w ≡ with_dev_items v i))) step in
     let (code, coded, (i, shape, e, same)) = some-at (slice_get p.dev_codes (length v.dev)) (λ code. (i : Items Global) ×
     HasShape code f.size i × (r ≡ dev_row f code (naming_at before v.local (length v.dev)) i) × (w ≡ with_dev_items v i)) step' in
-    let sized : slice_get (map (λ f. f.size) (dev_defs p.definition.dev)) (length v.dev) ≡ Some f.size = slice_get-map (λ f. f.size) (dev_defs p.definition.dev) (length v.dev) ∙ ap (option_map (λ f. f.size)) next in
-    let laid : slice_get (dev_layout p) (length v.dev) ≡ Some (code, f.size) = get-zip p.dev_codes (map (λ f. f.size) (dev_defs p.definition.dev)) (length v.dev) code f.size coded sized in (
+    let sized : slice_get (map (λ f. f.size) (dev_defs p.definition.dev)) (length v.dev) ≡ Some f.size =
+    slice_get-map (λ f. f.size) (dev_defs p.definition.dev) (length v.dev) ∙ ap (option_map (λ f. f.size)) next in
+    let laid : slice_get (dev_layout p) (length v.dev) ≡ Some (code, f.size) =
+    get-zip p.dev_codes (map (λ f. f.size) (dev_defs p.definition.dev)) (length v.dev) code f.size coded sized in (
       subst (λ (x : Values Global). IsSoundMessage x p) (sym same) (record {
         header = sound.header;
         fields = sound.fields;
@@ -189,7 +202,8 @@ part-sound before (Message v) r p sound (w, step, is) =
     let (d, known_d, so_far) = some-at (defined_at (known before) v.local) (IsSoundMessage v) sound.0 in
     let here : FieldStep d v r w ⊎ DevStep before d v r w = subst (λ q. IsSomeAnd q (λ d. FieldStep d v r w ⊎ DevStep before d v r w)) known_d step in
     let (next, place) = message-sound before d v r w so_far here in
-    subst (IsSoundSoFar before) (sym is) (at-some (defined_at (known before) w.local) d (IsSoundMessage w) (ap (λ l. defined_at (known before) l) place ∙ known_d) next)
+    subst (IsSoundSoFar before) (sym is) (at-some (defined_at (known before) w.local) d (IsSoundMessage w)
+    (ap (λ l. defined_at (known before) l) place ∙ known_d) next)
 
 pub part-room : (before : List (Record Global)) (part : Part) → IsSoundSoFar before part → PartHasRoom before part
 part-room before Nothing sound = tt
@@ -199,7 +213,8 @@ part-room before (Message v) sound =
     let few : length v.fields ≤ length p.definition.fields = omega (arith, shapes-few (layout p) v.fields so_far.fields, layout-long p) in
     subst (λ q. IfSome q (λ p. length v.fields ≤ length p.definition.fields)) (sym is) few
 
-pub message-fits : (before : List (Record Global)) (v : Values Global) (p : Defined Global) → defined_at (known before) v.local ≡ Some p → IsSoundMessage v p → has_all v p ≡ true → DataFits v p
+pub message-fits : (before : List (Record Global)) (v : Values Global) (p : Defined Global) → defined_at (known before) v.local ≡ Some p → IsSoundMessage v p
+    → has_all v p ≡ true → DataFits v p
 message-fits before v p is sound whole =
     let both = both-true (length v.fields == length p.definition.fields) (length v.dev == length (dev_defs p.definition.dev)) whole in
     let fields = eqb-true (length v.fields) (length p.definition.fields) both.0 in
@@ -210,7 +225,8 @@ message-fits before v p is sound whole =
       dev_fields = shapes-whole (dev_layout p) v.dev sound.dev_fields (dev ∙ sym (dev-layout-long p (codes-long before v.local p is)));
     }
 
-whole-at : (before : List (Record Global)) (v : Values Global) (p : Defined Global) → defined_at (known before) v.local ≡ Some p → is_whole_message before v ≡ has_all v p
+whole-at : (before : List (Record Global)) (v : Values Global) (p : Defined Global) → defined_at (known before) v.local ≡ Some p
+    → is_whole_message before v ≡ has_all v p
 whole-at before v p is = ap (λ q. option_map_or (has_all v) q true) is
 
 pub part-fits : (before : List (Record Global)) (part : Part) → IsSoundSoFar before part → FitsOnceWhole before part
@@ -237,7 +253,7 @@ with-part-sound f part sound h = record { header = sound.header; same_records = 
 pub settled-sound : (f : OpenFile) (part : Part) → IsSoundFile f → IsSoundSoFar f.before part → IsSoundFile (settled f part)
 settled-sound f Nothing sound h = with-part-sound f Nothing sound (tt, tt)
 settled-sound f (Definition o) sound h = elim (cases_Bool (is_whole o)) [
-  | inl whole ↦ subst IsSoundFile (sym (rw whole refl)) (with-record-sound f (Define (definition_of o)) sound (definition-fits o h) (definition-range o h))
+  | inl whole ↦ subst IsSoundFile (sym (rw whole refl)) (with-record-sound f (Define (built_definition o)) sound (definition-fits o h) (definition-range o h))
   | inr part ↦ subst IsSoundFile (sym (rw part refl)) (with-part-sound f (Definition o) sound (h, part))
 ]
 settled-sound f (Message v) sound h = elim (cases_Bool (is_whole_message f.before v)) [

@@ -14,12 +14,13 @@ use Rattle.std.specs.Global.{Global}
 use Rattle.fit_cells.specs.Rows.{csv_text}
 use Rattle.fit_csv.specs.ChainRows.{event_rows, events_rows, records_behind, rows_of}
 use Rattle.fit_csv.specs.Conversions.{csv_line}
-use Rattle.fit_csv.specs.Reporting.{AnswerFits, HasText, answer_rows}
+use Rattle.fit_csv.specs.inner.Reporting.{AnswerFits, HasText, answer_rows}
 use Rattle.fit_cells.proofs.AddedRows.{text_append}
 use Rattle.fit_csv.proofs.RowsOfEvents.{records-more, records_after, rows-more}
 
 -- a record that is heard fits behind the latest records
-pub answer_fits : {A : Type 0} → HeardRecordsFit A → LookingBackIsLearning A → (heard : List (Event A)) (answer : Answer A) → AreHeard (hear answer heard) → AnswerFits (latest_records heard) answer
+pub answer_fits : {A : Type 0} → HeardRecordsFit A → LookingBackIsLearning A → (heard : List (Event A)) (answer : Answer A) → AreHeard (hear answer heard)
+    → AnswerFits (latest_records heard) answer
 answer_fits fit back heard answers.More are = tt
 answer_fits fit back heard (answers.Header h n) are = tt
 answer_fits fit back heard (answers.Item r) are =

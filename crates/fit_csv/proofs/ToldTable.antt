@@ -12,9 +12,9 @@ use Rattle.fit_report.specs.Laws.{HeardAreFew}
 use Rattle.fit_cells.specs.Rows.{csv_text}
 use Rattle.fit_csv.specs.ChainRows.{records_behind}
 use Rattle.fit_csv.specs.Conversions.{table_text}
-use Rattle.fit_csv.specs.Reporting.{HasText}
+use Rattle.fit_csv.specs.inner.Reporting.{HasText}
 use Rattle.fit_csv.specs.Table.{files_behind, files_heard, table_event_rows, table_events_rows, table_of}
-use Rattle.fit_csv.specs.TableCells.{table_answer_rows}
+use Rattle.fit_csv.specs.inner.TableCells.{table_answer_rows}
 use Rattle.fit_cells.proofs.AddedRows.{text_append}
 use Rattle.fit_csv.proofs.RowsOfEvents.{records_after}
 use Rattle.fit_csv.proofs.ToldRows.{latest}
@@ -26,7 +26,8 @@ files_after files (x ∷ events) = files_after (files_behind files x) events
 
 -- one more event has its rows behind those of the others
 table-more : {A : Type 0} (files : ℕ) (before : List (Record A)) (events : List (Event A)) (x : Event A)
-    → table_events_rows files before (events ++ (x ∷ [])) ≡ table_events_rows files before events ++ table_event_rows (files_after files events) (records_after before events) x
+    → table_events_rows files before (events ++ (x ∷ []))
+    ≡ table_events_rows files before events ++ table_event_rows (files_after files events) (records_after before events) x
 unfolding table_events_rows
 table-more files before [] x = append-nil (table_event_rows files before x)
 table-more files before (y ∷ events) x =
@@ -34,7 +35,8 @@ table-more files before (y ∷ events) x =
     ∙ sym (append_assoc (table_event_rows files before y) (table_events_rows (files_behind files y) (records_behind before y) events)
     (table_event_rows (files_after (files_behind files y) events) (records_after (records_behind before y) events) x))
 
-files-more : {A : Type 0} (files : ℕ) (events : List (Event A)) (x : Event A) → files_after files (events ++ (x ∷ [])) ≡ files_behind (files_after files events) x
+files-more : {A : Type 0} (files : ℕ) (events : List (Event A)) (x : Event A)
+    → files_after files (events ++ (x ∷ [])) ≡ files_behind (files_after files events) x
 files-more files [] x = refl
 files-more files (y ∷ events) x = files-more (files_behind files y) events x
 
@@ -54,12 +56,15 @@ table_events_text (x ∷ heard) =
     ∙ ap₂ (λ files before. text_of table_text heard ++ csv_text (table_event_rows files before x)) (begun heard) (latest heard)
 
 -- the text of the table is the first line and the lines of the events
-pub table_has_text : HasText (codes "file,timestamp,position_lat,position_long,altitude,distance,speed,heart_rate,cadence,power,temperature\n") table_text table_of
+pub table_has_text : HasText (codes "file,timestamp,position_lat,position_long,altitude,distance,speed,heart_rate,cadence,power,temperature\n") table_text
+    table_of
 unfolding csv_text escaped fields_text is_blank
-table_has_text heard = ap (λ text. codes "file,timestamp,position_lat,position_long,altitude,distance,speed,heart_rate,cadence,power,temperature\n" ++ text) (table_events_text heard)
+table_has_text heard = ap (λ text. codes "file,timestamp,position_lat,position_long,altitude,distance,speed,heart_rate,cadence,power,temperature\n" ++ text)
+    (table_events_text heard)
 
 -- the text of the rows of an answer is its line
-pub table_answer_text : (heard : List (Event Global)) (answer : Answer Global) → csv_text (table_answer_rows (files_heard heard) (latest_records heard) answer) ≡ line_of table_text heard answer
+pub table_answer_text : (heard : List (Event Global)) (answer : Answer Global)
+    → csv_text (table_answer_rows (files_heard heard) (latest_records heard) answer) ≡ line_of table_text heard answer
 unfolding csv_text
 table_answer_text heard answers.More = refl
 table_answer_text heard (answers.Header h n) = refl

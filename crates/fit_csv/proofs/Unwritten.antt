@@ -12,24 +12,29 @@ use Rattle.fit_record.specs.Files.{IsWellFormedChain, chain_bytes, chain_limit}
 use Rattle.fit_record.specs.Laws.{FaultsAreExact}
 use Rattle.fit_record.specs.Records.{AllFit, Fits}
 use Rattle.fit_encode.specs.declared.fault.EncodeFault.{EncodeFault}
-use Rattle.fit_encode.specs.declared.fault.EncodeFault.TheVariants.{BadHeader, BadLocal, BadOffset, ChainLength, DeclaredLength, NoMemory, TooLong, UndefinedLocal, WrongShape, Write, ZeroIsSum}
+use Rattle.fit_encode.specs.declared.fault.EncodeFault.TheVariants.{BadHeader, BadLocal, BadOffset, ChainLength, DeclaredLength, NoMemory, TooLong}
+use Rattle.fit_encode.specs.declared.fault.EncodeFault.TheVariants.{UndefinedLocal, WrongShape, Write, ZeroIsSum}
 use Rattle.fit_encode.specs.Faults.{AtFile, AtRecord, IfRefused, IfWrite, IsFirstFault, StopsAt}
 use Rattle.fit_report.specs.Reports.{Channel}
 use Rattle.fit_csv.specs.declared.fault.CsvFault.{CsvFault}
 use Rattle.fit_csv.specs.declared.fault.CsvFault.TheVariants as faults
 use Rattle.fit_csv.specs.FromText.{Answers, FromText, IsReadOut, IsTextOf, ReadsText, written_fault}
-use Rattle.fit_csv.specs.Judged.{AreFilesOf, IsFileOfRows, IsReadFault, IsTextFault}
+use Rattle.fit_csv.specs.Judged.{AreFilesOf, IsFileOfRows}
+use Rattle.fit_csv.specs.inner.TextFaults.{IsReadFault, IsTextFault}
 use Rattle.fit_csv.proofs.InRange.{chain-bytes}
 
-fits-between : {A : Type 0} (e : Environment A) (front : List (Record A)) (r : Record A) (back : List (Record A)) → AllFit e (front ++ r ∷ back) → Fits (learn_all e front) r
+fits-between : {A : Type 0} (e : Environment A) (front : List (Record A)) (r : Record A) (back : List (Record A)) → AllFit e (front ++ r ∷ back)
+    → Fits (learn_all e front) r
 fits-between e [] r back h = h.0
 fits-between e (x ∷ front) r back h = fits-between (learn e x) front r back h.1
 
-good-between : (front : List (FitFile Global)) (f : FitFile Global) (back : List (FitFile Global)) → AllByRecursion IsFileOfRows (front ++ f ∷ back) → IsFileOfRows f
+good-between : (front : List (FitFile Global)) (f : FitFile Global) (back : List (FitFile Global)) → AllByRecursion IsFileOfRows (front ++ f ∷ back)
+    → IsFileOfRows f
 good-between [] f back h = h.0
 good-between (x ∷ front) f back h = good-between front f back h.1
 
-no-shape : FaultsAreExact Global → (f : FitFile Global) (index : ℕ) (s : ShapeFault) → IsFileOfRows f → AtRecord f.records index (λ e n r. first_fault e r ≡ Some s) → ⊥
+no-shape : FaultsAreExact Global → (f : FitFile Global) (index : ℕ) (s : ShapeFault) → IsFileOfRows f
+    → AtRecord f.records index (λ e n r. first_fault e r ≡ Some s) → ⊥
 no-shape exact f index s good h =
     let fits = fits-between empty_environment h.front h.this h.back (subst (AllFit empty_environment) h.joined good.records) in
     let none = ((exact (learn_all empty_environment h.front) h.this).0 fits).0 in
@@ -45,7 +50,8 @@ module _ (exact : FaultsAreExact Global) (text : List ℕ) (files : List (FitFil
   text-of : IsWellFormedChain chain_limit files → IsTextOf text files (chain_bytes files)
   text-of good = record { short = short; rows = are.0; are_bytes = chain-bytes files are.1; chain = (good, refl) }
 
-  pub from-text : IsWellFormedChain chain_limit files → Appends sink.before sink.after (chain_bytes files) → sink.failed ≡ false → IsReadOut source × FromText text sink
+  pub from-text : IsWellFormedChain chain_limit files → Appends sink.before sink.after (chain_bytes files) → sink.failed ≡ false
+      → IsReadOut source × FromText text sink
   from-text good put works = (out, (files, chain_bytes files, text-of good, put, works))
 
   pub from-fault : (fault : EncodeFault) → IfRefused fault (IsFirstFault files fault) → IfWrite fault (λ written. IsWellFormedChain chain_limit files)
@@ -74,7 +80,8 @@ from-unread source sink (faults.Encode fault) h = absurd h.2
 from-unread source sink (faults.Write written) h = absurd h.2
 
 -- its rows aren't those of files
-pub from-judged : (text : List ℕ) (source sink : Channel) (fault : CsvFault) → length text ≤ 2 ^ 62 → IsReadOut source → IsTextFault text fault → Answers text source sink (Err fault)
+pub from-judged : (text : List ℕ) (source sink : Channel) (fault : CsvFault) → length text ≤ 2 ^ 62 → IsReadOut source → IsTextFault text fault
+    → Answers text source sink (Err fault)
 from-judged text source sink faults.Header short out h = (out, (short, h))
 from-judged text source sink (faults.BadRow row) short out h = (out, (short, h))
 from-judged text source sink (faults.BadCell row column) short out h = (out, (short, h))

@@ -7,9 +7,9 @@ use Rattle.fit_profile.specs.Profile.{Meaning}
 use Rattle.fit_cells.specs.Cells.{cell}
 use Rattle.fit_csv.specs.ChainRows.{row}
 use Rattle.fit_csv.specs.Judged.{IsBadCell}
-use Rattle.fit_csv.specs.Misfits.{IsValueRow}
+use Rattle.fit_csv.specs.inner.Misfits.{IsValueRow}
 use Rattle.fit_cells.specs.Rows.{Cell, Row}
-use Rattle.fit_csv.specs.Seven.{AsFar}
+use Rattle.fit_csv.specs.inner.Seven.{AsFar}
 use Rattle.fit_csv.proofs.ZeroItems.{zero-items}
 
 -- a cell that shows no items, behind the label
@@ -21,13 +21,16 @@ no-items kind label ta tb tc td te tf code size info unit same none =
     record {
       behind_kind = omega arith;
       bad = λ other (i, fits, e) agree.
-          let three : take 3 (row kind label (cell code info i) unit [] [] []) ≡ take 3 (row kind ta tb tc td te tf) = ap (λ (r : Row). take 3 r) (sym e) ∙ agree in
+          let three : take 3 (row kind label (cell code info i) unit [] [] []) ≡ take 3 (row kind ta tb tc td te tf) =
+          ap (λ (r : Row). take 3 r) (sym e) ∙ agree in
           none i fits (cc three);
       before = (row kind label (cell code info zero) unit [] [] [], (zero, shape, refl), inl (ap (λ (c : Cell). kind ∷ c ∷ []) same));
     }
 
-pub value-closest : (kind label ta tb tc td te tf : Cell) (code size : ℕ) (info : Option Meaning) (unit : Cell) (items : Items Global) → label ≡ ta → cell code info items ≡ tb
-    → (other : Row) → IsValueRow kind label code size info unit other → AsFar other (row kind label (cell code info items) unit [] [] []) (row kind ta tb tc td te tf)
+pub value-closest : (kind label ta tb tc td te tf : Cell) (code size : ℕ) (info : Option Meaning) (unit : Cell) (items : Items Global) → label ≡ ta
+    → cell code info items ≡ tb
+    → (other : Row) → IsValueRow kind label code size info unit other
+    → AsFar other (row kind label (cell code info items) unit [] [] []) (row kind ta tb tc td te tf)
 value-closest kind label ta tb tc td te tf code size info unit items same shown other (i, fits, e) =
     subst (λ (o : Row). AsFar o (row kind label (cell code info items) unit [] [] []) (row kind ta tb tc td te tf)) (sym e)
     (λ ek. (refl, λ ea. (same, λ eb. (shown, λ ec. (ec, λ ed. (ed, λ ee. (ee, λ ef. (ef, tt))))))))
@@ -40,7 +43,8 @@ no-label kind label ta tb tc td te tf code size info unit differs =
     record {
       behind_kind = omega arith;
       bad = λ other (i, fits, e) agree.
-          let two : take 2 (row kind label (cell code info i) unit [] [] []) ≡ take 2 (row kind ta tb tc td te tf) = ap (λ (r : Row). take 2 r) (sym e) ∙ agree in
+          let two : take 2 (row kind label (cell code info i) unit [] [] []) ≡ take 2 (row kind ta tb tc td te tf) = ap (λ (r : Row). take 2 r) (sym e) ∙ agree
+          in
           differs (cc two);
       before = (row kind label (cell code info zero) unit [] [] [], (zero, shape, refl), inl refl);
     }

@@ -1,5 +1,6 @@
 -- The rows of a chain are read one after another.
-use Rattle.std.proofs.Common.{◌≡◌, ◌∙◌, ℕ, zero, suc, ◌<◌, ◌≤◌, ◌+◌, ◌^◌, true, false, List, [], ◌∷◌, ◌++◌, length, map, Option, Some, None, refl, sym, ap, subst, inl, inr, arith, append_assoc, eq-eqb, eqb-true}
+use Rattle.std.proofs.Common.{◌≡◌, ◌∙◌, ℕ, zero, suc, ◌<◌, ◌≤◌, ◌+◌, ◌^◌, true, false, List, [], ◌∷◌, ◌++◌, length, map, Option, Some, None, refl, sym, ap}
+use Rattle.std.proofs.Common.{subst, inl, inr, arith, append_assoc, eq-eqb, eqb-true}
 use Rattle.std.specs.Prelude.{◌==◌, ◌⊎◌, flat_map, zip, option_map, unwrap_or, slice_get, IfSome, IsSome, IsSomeAnd}
 use Rattle.std.specs.Option.{option_map_or}
 use Rattle.std.specs.Global.{Global}
@@ -20,10 +21,13 @@ use Rattle.fit_record.specs.Records.{AllFit, DataFits, DefinitionFits, Fits, Hav
 use Rattle.fit_profile.specs.Described.{Naming, namings_at, nameless}
 use Rattle.fit_profile.specs.Looks.{known}
 use Rattle.fit_profile.specs.Times.{header_time, previous_time}
-use Rattle.fit_csv.specs.ChainRows.{data_row, data_rows, def_row, definition_rows, dev_def_row, dev_row, dev_rows, end_row, field_def_row, field_row, field_rows, file_row, file_rows, record_rows, records_rows}
-use Rattle.fit_csv.specs.Judged.{DefinitionInRange, IsChainOfRows, IsFileOfRows, RecordInRange}
-use Rattle.fit_csv.specs.Misfits.{DevDefInRange, FieldDefInRange, HeadInRange, IsMessageStart, global_at, message_row}
-use Rattle.fit_csv.specs.Progress.{ChainStep, DevStep, FieldStep, FileStep, PartStep, Run, begun, definition_of, dev_total, has_all, is_whole, is_whole_message, naming_at, nothing_yet, opened, settled, with_dev_field, with_dev_items, with_field, with_items, with_record}
+use Rattle.fit_csv.specs.ChainRows.{data_row, data_rows, def_row, definition_rows, dev_def_row, dev_row, dev_rows, end_row, field_def_row, field_row}
+use Rattle.fit_csv.specs.ChainRows.{field_rows, file_row, file_rows, record_rows, records_rows}
+use Rattle.fit_csv.specs.Judged.{DefinitionInRange, DevDefInRange, FieldDefInRange, IsChainOfRows, IsFileOfRows, RecordInRange}
+use Rattle.fit_csv.specs.inner.Misfits.{HeadInRange, IsMessageStart, global_at, message_row}
+use Rattle.fit_csv.specs.inner.Progress.{ChainStep, DevStep, FieldStep, FileStep, PartStep, Run, file_begun, built_definition, dev_total, has_all, is_whole}
+use Rattle.fit_csv.specs.inner.Progress.{is_whole_message, nothing_yet, opened, settled, with_dev_field, with_dev_items, with_field, with_items, with_record}
+use Rattle.fit_csv.specs.RowKinds.{naming_at}
 use Rattle.fit_cells.specs.Rows.{Row}
 use Rattle.fit_csv.specs.declared.from.chain.Chain.{Chain}
 use Rattle.fit_csv.specs.declared.from.definition.DefinitionHead.{DefinitionHead}
@@ -93,32 +97,51 @@ open-definition o h = not-whole (is_whole o) (λ whole.
 added : OpenDefinition → List FieldDef → List DevDef → OpenDefinition
 added o fs ds = record { head = o.head; fields = o.fields ++ fs; dev = o.dev ++ ds }
 
-definition-run : (f : OpenFile) (fs : List FieldDef) (ds : List DevDef) (o q : OpenDefinition) → AllByRecursion FieldDefInRange fs → AllByRecursion DevDefInRange ds
-    → length o.fields + length fs ≡ o.head.fields → length o.dev + length ds ≡ dev_total o.head → q.head ≡ o.head → q.fields ≡ o.fields ++ fs → q.dev ≡ o.dev ++ ds
-    → FileRun (settled f (Definition o)) (map field_def_row fs ++ map dev_def_row ds) (with_record f (Define (definition_of q)))
+definition-run : (f : OpenFile) (fs : List FieldDef) (ds : List DevDef) (o q : OpenDefinition) → AllByRecursion FieldDefInRange fs
+    → AllByRecursion DevDefInRange ds
+    → length o.fields + length fs ≡ o.head.fields → length o.dev + length ds ≡ dev_total o.head → q.head ≡ o.head → q.fields ≡ o.fields ++ fs
+    → q.dev ≡ o.dev ++ ds
+    → FileRun (settled f (Definition o)) (map field_def_row fs ++ map dev_def_row ds) (with_record f (Define (built_definition q)))
 definition-run f [] [] o q pf pd lf ld eh ef ed =
     let same : o ≡ q = λ i. record { head = sym eh i; fields = (sym (append-nil o.fields) ∙ sym ef) i; dev = (sym (append-nil o.dev) ∙ sym ed) i } in
     let whole = whole-definition o (omega (arith, lf)) (omega (arith, ld)) in
-    let here : settled f (Definition o) ≡ with_record f (Define (definition_of o)) = rw whole refl in
-    none-run (settled f (Definition o)) (with_record f (Define (definition_of q))) (here ∙ ap (λ x. with_record f (Define (definition_of x))) same)
+    let here : settled f (Definition o) ≡ with_record f (Define (built_definition o)) = rw whole refl in
+    none-run (settled f (Definition o)) (with_record f (Define (built_definition q))) (here ∙ ap (λ x. with_record f (Define (built_definition x))) same)
 definition-run f (x ∷ fs) ds o q pf pd lf ld eh ef ed =
     let going = open-definition o (λ all dev. omega (arith, lf, all)) in
     let here : settled f (Definition o) ≡ record f { part = Definition o } = rw going refl in
     let n = with_field o x in
-    let step : FileStep (record f { part = Definition o }) (field_def_row x) (settled f (Definition (with_field o x))) =
-    (Definition (with_field o x), (with_field o x, inl (omega (arith, lf), (x, pf.0, refl, refl)), refl), sym (settled-again f (Definition o) (Definition (with_field o x)))) in
-    more-run (record f { part = Definition o }) (settled f (Definition o)) (settled f (Definition (with_field o x))) (with_record f (Define (definition_of q))) (field_def_row x) (map field_def_row fs ++ map dev_def_row ds) here step
+    let step : FileStep (record f { part = Definition o }) (field_def_row x) (settled f (Definition (with_field o x))) = (
+      Definition (with_field o x),
+      (with_field o x, inl (omega (arith, lf), (x, pf.0, refl, refl)), refl),
+      sym (settled-again f (Definition o) (Definition (with_field o x))),
+    ) in
+    more-run (record f { part = Definition o }) (settled f (Definition o)) (settled f (Definition (with_field o x)))
+    (with_record f (Define (built_definition q)))
+    (field_def_row x) (map field_def_row fs ++ map dev_def_row ds) here step
     (definition-run f fs ds (with_field o x) q pf.1 pd (omega (arith, lf, length-last o.fields x)) ld eh (ef ∙ sym (append_assoc o.fields (x ∷ []) fs)) ed)
 definition-run f [] (y ∷ ds) o q pf pd lf ld eh ef ed =
     let going = open-definition o (λ all dev. omega (arith, ld, dev)) in
     let here : settled f (Definition o) ≡ record f { part = Definition o } = rw going refl in
-    let step : FileStep (record f { part = Definition o }) (dev_def_row y) (settled f (Definition (with_dev_field o y))) =
-    (Definition (with_dev_field o y), (with_dev_field o y, inr (omega (arith, lf), (y, pd.0, refl, refl)), refl), sym (settled-again f (Definition o) (Definition (with_dev_field o y)))) in
-    more-run (record f { part = Definition o }) (settled f (Definition o)) (settled f (Definition (with_dev_field o y))) (with_record f (Define (definition_of q))) (dev_def_row y) (map dev_def_row ds) here step
+    let step : FileStep (record f { part = Definition o }) (dev_def_row y) (settled f (Definition (with_dev_field o y))) = (
+      Definition (with_dev_field o y),
+      (with_dev_field o y, inr (omega (arith, lf), (y, pd.0, refl, refl)), refl),
+      sym (settled-again f (Definition o) (Definition (with_dev_field o y))),
+    ) in
+    more-run (record f { part = Definition o }) (settled f (Definition o)) (settled f (Definition (with_dev_field o y)))
+    (with_record f (Define (built_definition q))) (dev_def_row y) (map dev_def_row ds) here step
     (definition-run f [] ds (with_dev_field o y) q tt pd.1 lf (omega (arith, ld, length-last o.dev y)) eh ef (ed ∙ sym (append_assoc o.dev (y ∷ []) ds)))
 
 abbrev head_of : MessageDef Global → DefinitionHead
-head_of d = record { local = d.local; reserved = d.reserved; order = d.order; global = d.global; fields = length d.fields; dev = option_map (λ fields. length fields) d.dev }
+head_of d = record {
+  local = d.local;
+  reserved = d.reserved;
+  order = d.order;
+  global = d.global;
+  fields = length d.fields;
+  dev =
+      option_map (λ fields. length fields) d.dev;
+}
 
 few-dev-fields : (dev : Option (List DevDef)) → length (dev_defs dev) < 256 → IfSome (option_map (λ (fields : List DevDef). length fields) dev) (λ n. n < 2 ^ 8)
 few-dev-fields None h = tt
@@ -132,17 +155,25 @@ dev-count : (dev : Option (List DevDef)) → 0 + length (dev_defs dev) ≡ unwra
 dev-count None = refl
 dev-count (Some fields) = omega arith
 
-define-run : (f : OpenFile) (d : MessageDef Global) → f.part ≡ Nothing → DefinitionFits d → DefinitionInRange d → FileRun f (definition_rows d) (with_record f (Define d))
+define-run : (f : OpenFile) (d : MessageDef Global) → f.part ≡ Nothing → DefinitionFits d → DefinitionInRange d
+    → FileRun f (definition_rows d) (with_record f (Define d))
 define-run f d none fits range =
     let h = head_of d in
-    let head_range : HeadInRange (head_of d) = record { local = fits.local; reserved = range.reserved; global = fits.global; fields = fits.fields; dev = few-dev-fields d.dev fits.dev_fields } in
+    let head_range : HeadInRange (head_of d) =
+    record { local = fits.local; reserved = range.reserved; global = fits.global; fields = fits.fields; dev = few-dev-fields d.dev fits.dev_fields } in
     let q : OpenDefinition = record { head = head_of d; fields = d.fields; dev = dev_defs d.dev } in
-    let step : FileStep f (def_row d) (settled f (Definition (opened (head_of d)))) =
-    (Definition (opened (head_of d)), subst (λ (part : Part). PartStep f.before part (def_row d) (Definition (opened (head_of d)))) (sym none) (inl (head_of d, head_range, refl, refl)), refl) in
-    let same : definition_of q ≡ d =
+    let step : FileStep f (def_row d) (settled f (Definition (opened (head_of d)))) = (
+      Definition (opened (head_of d)),
+      subst (λ (part : Part). PartStep f.before part (def_row d) (Definition (opened (head_of d)))) (sym none)
+          (inl (head_of d, head_range, refl, refl)),
+      refl,
+    ) in
+    let same : built_definition q ≡ d =
     λ i. record { local = d.local; reserved = d.reserved; order = d.order; global = d.global; fields = d.fields; dev = dev-again d.dev i } in
-    more-run f f (settled f (Definition (opened (head_of d)))) (with_record f (Define d)) (def_row d) (map field_def_row d.fields ++ map dev_def_row (dev_defs d.dev)) refl step
-    (subst (λ (x : MessageDef Global). FileRun (settled f (Definition (opened (head_of d)))) (map field_def_row d.fields ++ map dev_def_row (dev_defs d.dev)) (with_record f (Define x))) same
+    more-run f f (settled f (Definition (opened (head_of d)))) (with_record f (Define d)) (def_row d)
+    (map field_def_row d.fields ++ map dev_def_row (dev_defs d.dev)) refl step
+    (subst (λ (x : MessageDef Global). FileRun (settled f (Definition (opened (head_of d)))) (map field_def_row d.fields ++ map dev_def_row (dev_defs d.dev))
+    (with_record f (Define x))) same
     (definition-run f d.fields (dev_defs d.dev) (opened (head_of d)) q range.fields range.dev_fields (omega arith) (dev-count d.dev) refl refl refl))
 
 -- ---- data messages
@@ -153,7 +184,8 @@ placed f v p = defined_at (known f.before) v.local ≡ Some p
 has-at : (f : OpenFile) (v : Values Global) (p : Defined Global) → placed f v p → is_whole_message f.before v ≡ has_all v p
 has-at f v p is = ap (λ q. option_map_or (has_all v) q true) is
 
-open-message : (f : OpenFile) (v : Values Global) (p : Defined Global) → placed f v p → (length v.fields ≡ length p.definition.fields → length v.dev ≡ length (dev_defs p.definition.dev) → ⊥)
+open-message : (f : OpenFile) (v : Values Global) (p : Defined Global) → placed f v p
+    → (length v.fields ≡ length p.definition.fields → length v.dev ≡ length (dev_defs p.definition.dev) → ⊥)
     → settled f (Message v) ≡ record f { part = Message v }
 open-message f v p is h =
     let going : is_whole_message f.before v ≡ false = has-at f v p is ∙ not-whole (has_all v p) (λ whole.
@@ -161,47 +193,62 @@ open-message f v p is h =
     h (eqb-true (length v.fields) (length p.definition.fields) both.0) (eqb-true (length v.dev) (length (dev_defs p.definition.dev)) both.1)) in
     rw going refl
 
-whole-message : (f : OpenFile) (v : Values Global) (p : Defined Global) → placed f v p → length v.fields ≡ length p.definition.fields → length v.dev ≡ length (dev_defs p.definition.dev)
+whole-message : (f : OpenFile) (v : Values Global) (p : Defined Global) → placed f v p → length v.fields ≡ length p.definition.fields
+    → length v.dev ≡ length (dev_defs p.definition.dev)
     → settled f (Message v) ≡ with_record f (Data v)
 whole-message f v p is fields dev =
     let whole : is_whole_message f.before v ≡ true =
-    has-at f v p is ∙ both-holds _ _ (eq-eqb (length v.fields) (length p.definition.fields) fields) (eq-eqb (length v.dev) (length (dev_defs p.definition.dev)) dev) in
+    has-at f v p is ∙ both-holds _ _ (eq-eqb (length v.fields) (length p.definition.fields) fields)
+    (eq-eqb (length v.dev) (length (dev_defs p.definition.dev)) dev) in
     rw whole refl
 
 message-step : (f : OpenFile) (v w : Values Global) (p : Defined Global) (r : Row) → placed f v p → FieldStep p v r w ⊎ DevStep f.before p v r w
     → FileStep (record f { part = Message v }) r (settled f (Message w))
-message-step f v w p r is step =
-    (Message w, (w, subst (λ q. IsSomeAnd q (λ d. FieldStep d v r w ⊎ DevStep f.before d v r w)) (sym is) step, refl), sym (settled-again f (Message v) (Message w)))
+message-step f v w p r is step = (
+  Message w,
+  (w, subst (λ q. IsSomeAnd q (λ d. FieldStep d v r w ⊎ DevStep f.before d v r w)) (sym is) step, refl),
+  sym (settled-again f (Message v) (Message w)),
+)
 
-fields-run : (f : OpenFile) (p : Defined Global) (front fs : List FieldDef) (items : List (Items Global)) (v w : Values Global) → placed f v p → p.definition.fields ≡ front ++ fs
+fields-run : (f : OpenFile) (p : Defined Global) (front fs : List FieldDef) (items : List (Items Global)) (v w : Values Global) → placed f v p
+    → p.definition.fields ≡ front ++ fs
     → length front ≡ length v.fields → HaveShape (map (λ f. (f.code, f.size)) fs) items → w ≡ record v { fields = v.fields ++ items }
     → FileRun (settled f (Message v)) (field_rows p.definition.global fs items) (settled f (Message w))
 fields-run f p front [] [] v w is all long shapes e =
-    none-run (settled f (Message v)) (settled f (Message w)) (ap (λ (l : List (Items Global)). settled f (Message (record v { fields = l }))) (sym (append-nil v.fields)) ∙ ap (λ x. settled f (Message x)) (sym e))
+    none-run (settled f (Message v)) (settled f (Message w))
+    (ap (λ (l : List (Items Global)). settled f (Message (record v { fields = l }))) (sym (append-nil v.fields)) ∙ ap (λ x. settled f (Message x)) (sym e))
 fields-run f p front [] (i ∷ items) v w is all long shapes e = absurd shapes
 fields-run f p front (x ∷ fs) [] v w is all long shapes e = absurd shapes
 fields-run f p front (x ∷ fs) (i ∷ items) v w is all long shapes e =
     let more : length p.definition.fields ≡ length (front ++ x ∷ fs) = ap length all in
     let short = length-append-more front x fs in
     let here = open-message f v p is (λ fields dev. omega (arith, fields, more, short, long)) in
-    let next : slice_get p.definition.fields (length v.fields) ≡ Some x = ap (λ l. slice_get l (length v.fields)) all ∙ get-middle front x fs (length v.fields) long in
+    let next : slice_get p.definition.fields (length v.fields) ≡ Some x =
+    ap (λ l. slice_get l (length v.fields)) all ∙ get-middle front x fs (length v.fields) long in
     let r = field_row p.definition.global x i in
     let step = message-step f v (with_items v i) p r is (inl (field-step p v x r i next shapes.0 refl)) in
-    more-run (record f { part = Message v }) (settled f (Message v)) (settled f (Message (with_items v i))) (settled f (Message w)) r (field_rows p.definition.global fs items) here step
-    (fields-run f p (front ++ x ∷ []) fs items (with_items v i) w is (all ∙ sym (append_assoc front (x ∷ []) fs)) (length-last front x ∙ ap suc long ∙ sym (length-last v.fields i)) shapes.1
+    more-run (record f { part = Message v }) (settled f (Message v)) (settled f (Message (with_items v i))) (settled f (Message w)) r
+    (field_rows p.definition.global fs items) here step
+    (fields-run f p (front ++ x ∷ []) fs items (with_items v i) w is (all ∙ sym (append_assoc front (x ∷ []) fs))
+    (length-last front x ∙ ap suc long ∙ sym (length-last v.fields i)) shapes.1
     (e ∙ ap (λ (l : List (Items Global)). record v { fields = l }) (sym (append_assoc v.fields (i ∷ []) items))))
 
-naming-here : (before : List (Record Global)) (local k : ℕ) (front : List Naming) (n : Naming) (rest : List Naming) → namings_at before local ≡ front ++ n ∷ rest → length front ≡ k
+naming-here : (before : List (Record Global)) (local k : ℕ) (front : List Naming) (n : Naming) (rest : List Naming)
+    → namings_at before local ≡ front ++ n ∷ rest → length front ≡ k
     → naming_at before local k ≡ n
 naming-here before local k front n rest all long =
     ap (λ o. unwrap_or o nameless) (ap (λ l. slice_get l k) all ∙ get-middle front n rest k long)
 
-dev-run : (f : OpenFile) (p : Defined Global) (front : List DevDef) (ds : List DevDef) (done cs : List ℕ) (names ns : List Naming) (items : List (Items Global)) (v w : Values Global) → placed f v p
-    → length v.fields ≡ length p.definition.fields → dev_defs p.definition.dev ≡ front ++ ds → p.dev_codes ≡ done ++ cs → namings_at f.before v.local ≡ names ++ ns
+dev-run : (f : OpenFile) (p : Defined Global) (front : List DevDef) (ds : List DevDef) (done cs : List ℕ) (names ns : List Naming) (items : List (Items Global))
+    (v w : Values Global) → placed f v p
+    → length v.fields ≡ length p.definition.fields → dev_defs p.definition.dev ≡ front ++ ds → p.dev_codes ≡ done ++ cs
+    → namings_at f.before v.local ≡ names ++ ns
     → length front ≡ length v.dev → length done ≡ length v.dev → length names ≡ length v.dev → length cs ≡ length ds → length ns ≡ length ds
-    → HaveShape (zip cs (map (λ f. f.size) ds)) items → w ≡ record v { dev = v.dev ++ items } → FileRun (settled f (Message v)) (dev_rows ds cs ns items) (settled f (Message w))
+    → HaveShape (zip cs (map (λ f. f.size) ds)) items → w ≡ record v { dev = v.dev ++ items }
+    → FileRun (settled f (Message v)) (dev_rows ds cs ns items) (settled f (Message w))
 dev-run f p front [] done [] names [] [] v w is fields all coded named lf lc ln same_c same_n shapes e =
-    none-run (settled f (Message v)) (settled f (Message w)) (ap (λ (l : List (Items Global)). settled f (Message (record v { dev = l }))) (sym (append-nil v.dev)) ∙ ap (λ x. settled f (Message x)) (sym e))
+    none-run (settled f (Message v)) (settled f (Message w))
+    (ap (λ (l : List (Items Global)). settled f (Message (record v { dev = l }))) (sym (append-nil v.dev)) ∙ ap (λ x. settled f (Message x)) (sym e))
 dev-run f p front [] done [] names [] (i ∷ items) v w is fields all coded named lf lc ln same_c same_n shapes e = absurd shapes
 dev-run f p front [] done [] names (n ∷ ns) items v w is fields all coded named lf lc ln same_c same_n shapes e = absurd (omega (arith, same_n))
 dev-run f p front [] done (c ∷ cs) names ns items v w is fields all coded named lf lc ln same_c same_n shapes e = absurd (omega (arith, same_c))
@@ -213,16 +260,20 @@ dev-run f p front (d ∷ ds) done (c ∷ cs) names (n ∷ ns) (i ∷ items) v w 
     let short = length-append-more front d ds in
     let here = open-message f v p is (λ _ dev. omega (arith, dev, more, short, lf)) in
     let k = length v.dev in
-    let next : slice_get (dev_defs p.definition.dev) (length v.dev) ≡ Some d = ap (λ l. slice_get l (length v.dev)) all ∙ get-middle front d ds (length v.dev) lf in
+    let next : slice_get (dev_defs p.definition.dev) (length v.dev) ≡ Some d =
+    ap (λ l. slice_get l (length v.dev)) all ∙ get-middle front d ds (length v.dev) lf in
     let code : slice_get p.dev_codes (length v.dev) ≡ Some c = ap (λ l. slice_get l (length v.dev)) coded ∙ get-middle done c cs (length v.dev) lc in
     let naming : naming_at f.before v.local (length v.dev) ≡ n = naming-here f.before v.local (length v.dev) names n ns named ln in
     let r = dev_row d c n i in
     let row : dev_row d c n i ≡ dev_row d c (naming_at f.before v.local (length v.dev)) i = ap (λ x. dev_row d c x i) (sym naming) in
     let step = message-step f v (with_dev_items v i) p r is (inr (dev-step f.before p v d c r i fields next code shapes.0 row)) in
-    more-run (record f { part = Message v }) (settled f (Message v)) (settled f (Message (with_dev_items v i))) (settled f (Message w)) r (dev_rows ds cs ns items) here step
-    (dev-run f p (front ++ d ∷ []) ds (done ++ c ∷ []) cs (names ++ n ∷ []) ns items (with_dev_items v i) w is fields (all ∙ sym (append_assoc front (d ∷ []) ds))
+    more-run (record f { part = Message v }) (settled f (Message v)) (settled f (Message (with_dev_items v i))) (settled f (Message w)) r
+    (dev_rows ds cs ns items) here step
+    (dev-run f p (front ++ d ∷ []) ds (done ++ c ∷ []) cs (names ++ n ∷ []) ns items (with_dev_items v i) w is fields
+    (all ∙ sym (append_assoc front (d ∷ []) ds))
     (coded ∙ sym (append_assoc done (c ∷ []) cs)) (named ∙ sym (append_assoc names (n ∷ []) ns))
-    (length-last front d ∙ ap suc lf ∙ sym (length-last v.dev i)) (length-last done c ∙ ap suc lc ∙ sym (length-last v.dev i)) (length-last names n ∙ ap suc ln ∙ sym (length-last v.dev i))
+    (length-last front d ∙ ap suc lf ∙ sym (length-last v.dev i)) (length-last done c ∙ ap suc lc ∙ sym (length-last v.dev i))
+    (length-last names n ∙ ap suc ln ∙ sym (length-last v.dev i))
     (omega (arith, same_c)) (omega (arith, same_n)) shapes.1
     (e ∙ ap (λ (l : List (Items Global)). record v { dev = l }) (sym (append_assoc v.dev (i ∷ []) items))))
 
@@ -230,15 +281,18 @@ some-is : {X : Type 0} (o : Option X) (x : X) → o ≡ Some x → IsSome o
 some-is None x e = cc e
 some-is (Some y) x e = refl
 
-data-run : (f : OpenFile) (v : Values Global) (p : Defined Global) → f.part ≡ Nothing → placed f v p → DataFits v p → FileRun f (data_rows f.before v) (with_record f (Data v))
+data-run : (f : OpenFile) (v : Values Global) (p : Defined Global) → f.part ≡ Nothing → placed f v p → DataFits v p
+    → FileRun f (data_rows f.before v) (with_record f (Data v))
 data-run f v p none is fits =
     let start : Values Global = record { local = v.local; offset = v.offset; fields = []; dev = [] } in
     let whole : Values Global = record { local = v.local; offset = v.offset; fields = v.fields; dev = [] } in
     let time = header_time (previous_time f.before) v.offset in
-    let global : p.definition.global ≡ global_at f.before v.local = sym (ap (λ q. unwrap_or (option_map (λ (d : Defined Global). d.definition.global) q) 0) is) in
+    let global : p.definition.global ≡ global_at f.before v.local = sym (ap (λ q. unwrap_or (option_map (λ (d : Defined Global). d.definition.global) q) 0) is)
+    in
     let first = data_row v p.definition.global (header_time (previous_time f.before) v.offset) in
     let row : first ≡ message_row f.before start = ap (λ g. data_row v g time) global in
-    let opens : IsMessageStart f.before start = record { header = fits.header; defined = some-is (defined_at (known f.before) v.local) p is; no_fields = refl; no_dev_fields = refl } in
+    let opens : IsMessageStart f.before start =
+    record { header = fits.header; defined = some-is (defined_at (known f.before) v.local) p is; no_fields = refl; no_dev_fields = refl } in
     let step : FileStep f first (settled f (Message start)) =
     (Message start, subst (λ (part : Part). PartStep f.before part first (Message start)) (sym none) (inr (start, opens, row, refl)), refl) in
     let fields = as_long (layout p) v.fields fits.fields ∙ layout-long p in
@@ -255,7 +309,8 @@ data-run f v p none is fits =
 
 -- ---- records, files and chains
 
-pub record-run : (f : OpenFile) (r : Record Global) → f.part ≡ Nothing → Fits (known f.before) r → RecordInRange r → FileRun f (record_rows f.before r) (with_record f r)
+pub record-run : (f : OpenFile) (r : Record Global) → f.part ≡ Nothing → Fits (known f.before) r → RecordInRange r
+    → FileRun f (record_rows f.before r) (with_record f r)
 record-run f (Define d) none fits range = define-run f d none fits range
 record-run f (Data v) none fits range =
     let (p, is, data_fits) = some-at (defined_at (known f.before) v.local) (DataFits v) fits in
@@ -279,15 +334,16 @@ file-run : (files : List (FitFile Global)) (x : FitFile Global) → length files
     → Run (record { files = files; current = None }) (file_rows x) (record { files = files ++ x ∷ []; current = None })
 file-run files x room good =
     let c : Chain = record { files = files; current = None } in
-    let d : Chain = record { files = files; current = Some (begun x.header) } in
-    let (g, run, (part, header, records)) = records-run (begun x.header) x.records refl good.records good.numbers in
+    let d : Chain = record { files = files; current = Some (file_begun x.header) } in
+    let (g, run, (part, header, records)) = records-run (file_begun x.header) x.records refl good.records good.numbers in
     let e : Chain = record { files = files; current = Some g } in
     let t : Chain = record { files = files ++ x ∷ []; current = None } in
     let begin : ChainStep c (file_row x.header) d = (room, (x.header, good.header, refl, refl)) in
     let same : record { header = g.header; records = g.records } ≡ x = λ i. record { header = header i; records = records i } in
     let ends : ChainStep e end_row t = inl (part, refl, ap (λ (y : FitFile Global). record { files = files ++ y ∷ []; current = None }) (sym same)) in
     run-join c (file_row x.header ∷ records_rows [] x.records) (end_row ∷ []) e t
-    (run-join c (file_row x.header ∷ []) (records_rows [] x.records) d e (run-one c (file_row x.header) d begin) (lifted-run files (begun x.header) (records_rows [] x.records) g run))
+    (run-join c (file_row x.header ∷ []) (records_rows [] x.records) d e (run-one c (file_row x.header) d begin)
+    (lifted-run files (file_begun x.header) (records_rows [] x.records) g run))
     (run-one e end_row t ends)
 
 files-run : (files rest : List (FitFile Global)) → length files + length rest ≤ chain_limit → AllByRecursion IsFileOfRows rest
@@ -295,9 +351,11 @@ files-run : (files rest : List (FitFile Global)) → length files + length rest 
 unfolding Run
 files-run files [] room good = ap (λ (l : List (FitFile Global)). record { files = l; current = None }) (sym (append-nil files))
 files-run files (x ∷ rest) room good =
-    run-join (record { files = files; current = None }) (file_rows x) (flat_map file_rows rest) (record { files = files ++ x ∷ []; current = None }) (record { files = files ++ x ∷ rest; current = None })
+    run-join (record { files = files; current = None }) (file_rows x) (flat_map file_rows rest) (record { files = files ++ x ∷ []; current = None })
+    (record { files = files ++ x ∷ rest; current = None })
     (file-run files x (omega (arith, room)) good.0)
-    (subst (λ (l : List (FitFile Global)). Run (record { files = files ++ x ∷ []; current = None }) (flat_map file_rows rest) (record { files = l; current = None })) (append_assoc files (x ∷ []) rest)
+    (subst (λ (l : List (FitFile Global)). Run (record { files = files ++ x ∷ []; current = None }) (flat_map file_rows rest)
+    (record { files = l; current = None })) (append_assoc files (x ∷ []) rest)
     (files-run (files ++ x ∷ []) rest (omega (arith, room, length-last files x)) good.1))
 
 -- the rows of a chain run through

@@ -83,7 +83,8 @@ definition_rows d = def_row d ∷ map field_def_row d.fields ++ map dev_def_row 
 
 -- local message type, time offset, message, time of the header; the offset and the time are empty where there is none
 abbrev pub data_row : {A : Type 0} → Values A → ℕ → Option ℕ → Row
-data_row v global time = row (codes "data") (decimal v.local) (optional_number v.offset) (message_label global) (unwrap_or (option_map instant_text time) []) [] []
+data_row v global time = row (codes "data") (decimal v.local) (optional_number v.offset) (message_label global) (unwrap_or (option_map instant_text time) []) []
+    []
 
 -- what the profile says of a field's unit
 abbrev pub unit_text : Option Meaning → Cell
@@ -91,7 +92,8 @@ unit_text info = unwrap_or (option_map (λ m. m.unit) info) []
 
 -- label, items, unit
 abbrev pub field_row : {A : Type 0} → ℕ → FieldDef → Items A → Row
-field_row global f i = row (codes "field") (field_label global f.number) (cell f.code (names.field global f.number) i) (unit_text (names.field global f.number)) [] [] []
+field_row global f i = row (codes "field") (field_label global f.number) (cell f.code (names.field global f.number) i) (unit_text (names.field global f.number))
+    [] [] []
 
 -- the fields of a message, each with its items
 abbrev pub field_rows : {A : Type 0} → ℕ → List FieldDef → List (Items A) → List Row
@@ -118,7 +120,8 @@ message_rows v p time namings =
 -- A data message after the records before it in its file, latest first.
 abbrev pub data_rows : {A : Type 0} → List (Record A) → Values A → List Row
 data_rows before v =
-    unwrap_or (option_map (λ p. message_rows v p (header_time (previous_time before) v.offset) (namings_at before v.local)) (defined_at (known before) v.local)) []
+    unwrap_or (option_map (λ p. message_rows v p (header_time (previous_time before) v.offset) (namings_at before v.local)) (defined_at (known before) v.local))
+    []
 
 -- ---- records, files and chains
 

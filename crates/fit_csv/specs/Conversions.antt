@@ -7,7 +7,7 @@ use Rattle.fit_decode.specs.declared.event.Fault.TheVariants as faults
 use Rattle.fit_decode.specs.Answers.{AreChain}
 use Rattle.fit_decode.specs.Events.{Event, AreEvents}
 use Rattle.fit_report.specs.Heard.{Lines, latest_records}
-use Rattle.fit_report.specs.Reports.{Channel, FailsIn, Faults, before_fault}
+use Rattle.fit_report.specs.Reports.{Channel, TextFailsIn, Faults, before_fault}
 use Rattle.fit_csv.specs.declared.fault.CsvFault.{CsvFault}
 use Rattle.fit_csv.specs.declared.fault.CsvFault.TheVariants as csv
 use Rattle.fit_cells.specs.Rows.{Row, csv_text}
@@ -19,22 +19,23 @@ abbrev pub RowsOf : Type 0
 RowsOf = List (Event Global) → List Row
 
 -- The text of the rows of the events of these bytes was put.
-abbrev pub Writes : RowsOf → List ℕ → Channel → Type 0
-Writes rows bytes sink = (events : List (Event Global)) × AreEvents bytes events × Appends sink.before sink.after (csv_text (rows events))
+abbrev pub WritesRows : RowsOf → List ℕ → Channel → Type 0
+WritesRows rows bytes sink = (events : List (Event Global)) × AreEvents bytes events × Appends sink.before sink.after (csv_text (rows events))
 
 -- The sink has failed in the text of the rows of the events of some first bytes, behind so many bytes.
-abbrev pub BreaksOff : RowsOf → List ℕ → Channel → ℕ → Type 0
-BreaksOff rows bytes sink written = (k : ℕ) × (events : List (Event Global)) × AreEvents (take k bytes) events × FailsIn (csv_text (rows events)) sink written
+abbrev pub RowsBreakOff : RowsOf → List ℕ → Channel → ℕ → Type 0
+RowsBreakOff rows bytes sink written = (k : ℕ) × (events : List (Event Global)) × AreEvents (take k bytes) events
+    × TextFailsIn (csv_text (rows events)) sink written
 
 -- What was written of the input after so much of it was taken: all rows of a chain; the rows before a fault; or, where memory was
 -- refused or the sink failed, the rows of some first bytes, or a part of them.
 abbrev pub HasWritten : RowsOf → List ℕ → Channel → Channel → Result (Unit {0}) CsvFault → Type 0
-HasWritten rows taken source sink (Ok _) = IsAtEnd source.after × (source.failed ≡ false) × AreChain Global taken × Writes rows taken sink
+HasWritten rows taken source sink (Ok _) = IsAtEnd source.after × (source.failed ≡ false) × AreChain Global taken × WritesRows rows taken sink
 HasWritten rows taken source sink (Err (csv.Decode (faults.NoMemory used))) = ⊥
 HasWritten rows taken source sink (Err (csv.Decode fault)) =
-    Faults Global chain_limit taken source.after source.failed fault × Writes rows (before_fault fault taken) sink
-HasWritten rows taken source sink (Err csv.NoMemory) = (k : ℕ) × Writes rows (take k taken) sink
-HasWritten rows taken source sink (Err (csv.Write written)) = BreaksOff rows taken sink written
+    Faults Global chain_limit taken source.after source.failed fault × WritesRows rows (before_fault fault taken) sink
+HasWritten rows taken source sink (Err csv.NoMemory) = (k : ℕ) × WritesRows rows (take k taken) sink
+HasWritten rows taken source sink (Err (csv.Write written)) = RowsBreakOff rows taken sink written
 HasWritten rows taken source sink (Err other) = ⊥
 
 abbrev pub Converts : RowsOf → Channel → Channel → Result (Unit {0}) CsvFault → Type 0

@@ -49,9 +49,9 @@ IsWrong text _ = ⊥
 
 -- What is found of a text: it is one of a chain with these bytes, or this is wrong with it. A text has one finding at most, as the
 -- law `texts_have_one_finding` says.
-abbrev pub Finds : List ℕ → Result (List ℕ) CsvFault → Type 0
-Finds text (Ok bytes) = (files : List (FitFile Global)) × IsTextOf text files bytes
-Finds text (Err fault) = IsWrong text fault
+abbrev pub IsTextFinding : List ℕ → Result (List ℕ) CsvFault → Type 0
+IsTextFinding text (Ok bytes) = (files : List (FitFile Global)) × IsTextOf text files bytes
+IsTextFinding text (Err fault) = IsWrong text fault
 
 -- Why a whole text isn't written as a chain: something is wrong with it, or the sink failed in the bytes of the chain.
 abbrev pub FromFault : List ℕ → Channel → CsvFault → Type 0

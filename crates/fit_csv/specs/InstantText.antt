@@ -6,7 +6,8 @@ use Rattle.fit_profile.specs.Instant.{date_digits, clock_digits}
 -- The date n days after the first of a month, which lies at most so many months later in the year, as YYYY-MM-DD.
 unfoldable pub date_in_year : ℕ → ℕ → ℕ → ℕ → List ℕ
 date_in_year zero y m n = date_digits y m (n + 1)
-date_in_year (suc later) y m n = if nat_lt n (days_in_month (pos y) m) then date_digits y m (n + 1) else date_in_year later y (m + 1) (n - days_in_month (pos y) m)
+date_in_year (suc later) y m n = if nat_lt n (days_in_month (pos y) m) then date_digits y m (n + 1) else date_in_year later y (m + 1)
+    (n - days_in_month (pos y) m)
 
 -- The date n days after 1 January of a year, which lies at most so many years later.
 unfoldable pub date_after : ℕ → ℕ → ℕ → List ℕ

@@ -1,7 +1,6 @@
 -- Which rows can stand where, and the first cell of a row that can't. A row can stand where some chain's rows go on with it; which
 -- rows these are, kind by kind, says the table of Follows.antt, with the law `rows_that_follow`.
-use Rattle.std.specs.Prelude.{◌≡◌, ◌⊎◌, ◌<◌, ◌≤◌, ◌+◌, ◌-◌, ◌^◌, ℕ, Bool, true, List, [], ◌∷◌, ◌++◌, length, Option, All, codes, take}
-use Rattle.std.specs.Io.KnownBytes.{Consumes}
+use Rattle.std.specs.Prelude.{◌≡◌, ◌⊎◌, ◌<◌, ◌≤◌, ◌+◌, ◌-◌, ◌^◌, ℕ, List, [], ◌∷◌, ◌++◌, length, All, codes, take}
 use Rattle.std.specs.Global.{Global}
 use Rattle.std.specs.List.{AllByRecursion}
 use Rattle.fit_frame.specs.declared.header.Header.{Header as FileHeader}
@@ -21,7 +20,7 @@ use Rattle.csv.specs.declared.parser.State.{State}
 use Rattle.csv.specs.declared.parser.State.TheVariants as st
 use Rattle.fit_cells.specs.Rows.{Row, RowsOfText, first_line}
 use Rattle.fit_csv.specs.declared.fault.CsvFault.{CsvFault}
-use Rattle.fit_csv.specs.declared.fault.CsvFault.TheVariants.{BadCell, BadRow, Header, NoMemory, Read}
+use Rattle.fit_csv.specs.declared.fault.CsvFault.TheVariants.{BadCell, BadRow}
 
 -- Two rows are the same in so many first cells.
 abbrev pub Agree : ℕ → Row → Row → Type 0
@@ -105,11 +104,10 @@ abbrev pub AreFilesOf : List ℕ → List (FitFile Global) → Type 0
 AreFilesOf text files = RowsOfText text (chain_rows files) × IsChainOfRows files × (0 < length files)
 
 -- What is wrong with the row of this number where these can stand: it hasn't seven cells, or none of its kind can stand there,
--- or one of its cells is bad. Private functions use it with want of memory too; no public contract does.
+-- or one of its cells is bad.
 abbrev pub IsRowFault : (Row → Type 0) → Row → ℕ → CsvFault → Type 0
 IsRowFault CanStand r number (BadRow row) = (row ≡ number) × ((length r ≡ 7 → ⊥) ⊎ ((other : Row) → CanStand other → MayBeOfKind other r → ⊥))
 IsRowFault CanStand r number (BadCell row column) = (row ≡ number) × (length r ≡ 7) × IsBadCell CanStand r column
-IsRowFault CanStand r number NoMemory = Unit {0}
 IsRowFault CanStand r number _ = ⊥
 
 -- The rows before it may go on, and the next row is the first that can't stand where it is.
@@ -133,24 +131,3 @@ pub record IsCutOff (text : List ℕ) (row : ℕ) : Type 0 where
 -- The first row isn't the first line, or there is none.
 abbrev pub HasNoHeader : List ℕ → Type 0
 HasNoHeader text = RowsOfText text [] ⊎ ((r : Row) × FirstRows text (r ∷ []) × (r ≡ first_line → ⊥))
-
--- Why the rows of a text aren't those of a chain, or want of memory. No public contract names this: `IsWrong` of FromText has the
--- faults alone.
-abbrev pub IsTextFault : List ℕ → CsvFault → Type 0
-IsTextFault text Header = HasNoHeader text
-IsTextFault text (BadRow row) = IsRefusedRow text (BadRow row) ⊎ IsCutOff text row
-IsTextFault text (BadCell row column) = IsRefusedRow text (BadCell row column)
-IsTextFault text NoMemory = Unit {0}
-IsTextFault text _ = ⊥
-
--- ---- what a source gave; no public contract names these
-
--- why these bytes aren't a whole text: the source failed, or they are more than 2^62; or memory was refused
-abbrev pub IsUnread : List ℕ → Bool → CsvFault → Type 0
-IsUnread taken failed Read = (failed ≡ true) ⊎ (2 ^ 62 < length taken)
-IsUnread taken failed NoMemory = Unit {0}
-IsUnread taken failed _ = ⊥
-
--- the same of a call
-abbrev pub IsReadFault : Option (List ℕ) → Option (List ℕ) → Bool → CsvFault → Type 0
-IsReadFault before after failed fault = (taken : List ℕ) × Consumes before after taken × IsUnread taken failed fault

@@ -1,5 +1,5 @@
 -- What holds of the rows of records and chains, and of the computed texts of instants and positions.
-use Rattle.std.specs.Prelude.{◌≡◌, ◌++◌, ◌<◌, ◌≤◌, ◌^◌, ℕ, ℤ, List, Result, flat_map, length}
+use Rattle.std.specs.Prelude.{◌≡◌, ◌++◌, ◌<◌, ◌≤◌, ◌^◌, ℕ, ℤ, List, Result, flat_map, length, reverse}
 use Rattle.fit_base.specs.Numbers.{IsBytes}
 use Rattle.std.specs.Global.{Global}
 use Rattle.fit_record.specs.declared.file.FitFile.{FitFile}
@@ -10,17 +10,32 @@ use Rattle.fit_profile.specs.Looks.{known}
 use Rattle.fit_decode.specs.Events.{file_events}
 use Rattle.fit_profile.specs.Instant.{IsInstantText}
 use Rattle.fit_profile.specs.Scaled.{IsDegrees}
-use Rattle.fit_cells.specs.Rows.{Row, csv_text}
+use Rattle.fit_cells.specs.Rows.{Row, RowsOfText, csv_text}
+use Rattle.fit_report.specs.Heard.{text_of}
+use Rattle.fit_csv.specs.ShowLines.{show_line, show_lines}
+use Rattle.fit_csv.specs.Table.{table_of, table_rows}
 use Rattle.fit_csv.specs.InstantText.{instant_text}
 use Rattle.fit_csv.specs.Degrees.{degrees_of}
 use Rattle.fit_csv.specs.declared.fault.CsvFault.{CsvFault}
 use Rattle.fit_csv.specs.ChainRows.{chain_rows, record_rows, rows_of}
-use Rattle.fit_csv.specs.FromText.{Finds, IsTextOf}
+use Rattle.fit_csv.specs.FromText.{IsTextFinding, IsTextOf}
 use Rattle.fit_csv.specs.Judged.{IsChainOfRows, RecordInRange}
 
 -- the rows of the events of a chain are the rows of the chain
 abbrev pub EventsHaveTheRows : Type 0 → Type 0
 EventsHaveTheRows A = (files : List (FitFile A)) → rows_of (flat_map file_events files) ≡ chain_rows files
+
+-- the table of the events of a chain is the table of the chain
+abbrev pub ChainsHaveTables : Type 0 → Type 0
+ChainsHaveTables A = (files : List (FitFile A)) → table_of (flat_map file_events files) ≡ table_rows files
+
+-- the text of a chain's events, as `show` writes it, is that of the chain
+abbrev pub ChainsHaveShowLines : Type 0 → Type 0
+ChainsHaveShowLines A = (files : List (FitFile A)) → text_of show_line (reverse (flat_map file_events files)) ≡ show_lines files
+
+-- the text of a chain's table reads as its rows
+abbrev pub TablesReadBack : Type 0 → Type 0
+TablesReadBack A = (files : List (FitFile A)) → RowsOfText (csv_text (table_rows files)) (table_rows files)
 
 -- the computed text of an instant is its text
 abbrev pub InstantTextIs : Type 0
@@ -46,9 +61,10 @@ ChainsAreOfRows = (files : List (FitFile Global)) (bytes : List ℕ) → IsBytes
 
 -- A text has one finding at most: the bytes of one chain, or one fault with one row and column.
 abbrev pub TextsHaveOneFinding : Type 0
-TextsHaveOneFinding = (text : List ℕ) (a b : Result (List ℕ) CsvFault) → Finds text a → Finds text b → a ≡ b
+TextsHaveOneFinding = (text : List ℕ) (a b : Result (List ℕ) CsvFault) → IsTextFinding text a → IsTextFinding text b → a ≡ b
 
 -- the text of the rows of a chain is one of that chain, if it isn't too long
 abbrev pub TextsComeBack : Type 0
-TextsComeBack = (files : List (FitFile Global)) (bytes : List ℕ) → IsBytes bytes → IsChain chain_limit files bytes → length (csv_text (chain_rows files)) ≤ 2 ^ 62
+TextsComeBack = (files : List (FitFile Global)) (bytes : List ℕ) → IsBytes bytes → IsChain chain_limit files bytes
+    → length (csv_text (chain_rows files)) ≤ 2 ^ 62
     → IsTextOf (csv_text (chain_rows files)) files bytes

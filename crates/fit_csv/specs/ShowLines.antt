@@ -1,5 +1,6 @@
 -- The lines of `show`: what a person is told of the events of a chain of files.
-use Rattle.std.specs.Prelude.{ℕ, ◌+◌, ◌==◌, ◌&&◌, ◌||◌, not, if◌then◌else◌, List, [], ◌∷◌, ◌++◌, length, map, flat_map, zip, option_map, unwrap_or, Option, Some, None, codes, decimal}
+use Rattle.std.specs.Prelude.{ℕ, ◌+◌, ◌==◌, ◌&&◌, ◌||◌, not, if◌then◌else◌, List, [], ◌∷◌, ◌++◌, length, map, flat_map, zip, option_map, unwrap_or, Option}
+use Rattle.std.specs.Prelude.{Some, None, codes, decimal}
 use Rattle.std.specs.List.{list_all}
 use Rattle.fit_base.specs.declared.items.Items.{Items}
 use Rattle.fit_frame.specs.declared.header.Header.{Header}
@@ -10,7 +11,9 @@ use Rattle.fit_record.specs.declared.environment.Defined.{Defined}
 use Rattle.fit_record.specs.declared.message.Values.{Values}
 use Rattle.fit_record.specs.declared.message.Record.{Record}
 use Rattle.fit_record.specs.declared.message.Record.TheVariants.{Define, Values as Data}
+use Rattle.fit_record.specs.declared.file.FitFile.{FitFile}
 use Rattle.fit_record.specs.Environment.{defined_at, dev_defs}
+use Rattle.fit_record.specs.Files.{body}
 use Rattle.fit_decode.specs.Events.{Event, header, item, file_end}
 use Rattle.fit_profile.specs.Profile.{Meaning}
 use Rattle.fit_profile.specs.Names.{message_label, field_label}
@@ -56,18 +59,18 @@ abbrev pub unit_part : List ℕ → List ℕ → List ℕ
 unit_part cell unit = if (length cell == 0) || (length unit == 0) then [] else joined (codes " " ∷ unit ∷ [])
 
 -- name, cell and unit
-abbrev pub shown : List ℕ → List ℕ → List ℕ → List ℕ
-shown name cell unit = joined (name ∷ codes "=" ∷ cell ∷ unit_part cell unit ∷ [])
+abbrev pub shown_part : List ℕ → List ℕ → List ℕ → List ℕ
+shown_part name cell unit = joined (name ∷ codes "=" ∷ cell ∷ unit_part cell unit ∷ [])
 
 abbrev pub shown_field : {A : Type 0} → ℕ → FieldDef → Items A → List ℕ
-shown_field global f i = shown (field_label global f.number) (shown_cell f.code (names.field global f.number) i) (unit_text (names.field global f.number))
+shown_field global f i = shown_part (field_label global f.number) (shown_cell f.code (names.field global f.number) i) (unit_text (names.field global f.number))
 
 -- the fields of a message, each with its items
 abbrev pub shown_fields : {A : Type 0} → ℕ → List FieldDef → List (Items A) → List (List ℕ)
 shown_fields global fields items = map (λ x. shown_field global x.0 x.1) (zip fields items)
 
 abbrev pub shown_dev : {A : Type 0} → DevDef → ℕ → Naming → Items A → List ℕ
-shown_dev f code n i = shown (dev_label f n) (shown_cell code None i) (unwrap_or n.unit [])
+shown_dev f code n i = shown_part (dev_label f n) (shown_cell code None i) (unwrap_or n.unit [])
 
 -- the developer fields of a message, each with its code, its naming and its items
 abbrev pub shown_devs : {A : Type 0} → List DevDef → List ℕ → List Naming → List (Items A) → List (List ℕ)
@@ -104,6 +107,22 @@ abbrev pub record_line : {A : Type 0} → List (Record A) → Record A → List 
 record_line before (Define d) = definition_line d
 record_line before (Data v) =
     unwrap_or (option_map (λ p. message_line v p (time before (Data v)) (namings_at before v.local)) (defined_at (known before) v.local)) []
+
+-- ---- files and chains
+
+-- records one after another
+unfoldable pub record_lines : {A : Type 0} → List (Record A) → List (Record A) → List ℕ
+record_lines before [] = []
+record_lines before (r ∷ records) = record_line before r ++ record_lines (r ∷ before) records
+
+-- files one after another, the first of which is file k of the input
+unfoldable pub show_files : {A : Type 0} → ℕ → List (FitFile A) → List ℕ
+show_files k [] = []
+show_files k (f ∷ files) = header_line k f.header (length (body f)) ++ record_lines [] f.records ++ show_files (k + 1) files
+
+-- The lines of a chain. That these are what `show` writes of the chain's events is the law `chains_have_show_lines`.
+abbrev pub show_lines : {A : Type 0} → List (FitFile A) → List ℕ
+show_lines files = show_files 1 files
 
 -- ---- events, the latest first
 

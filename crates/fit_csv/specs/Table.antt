@@ -1,19 +1,21 @@
 -- The table of record messages, global message number 20.
-use Rattle.std.specs.Prelude.{ℕ, ◌+◌, ◌==◌, if◌then◌else◌, List, [], ◌∷◌, ◌++◌, map, option_and_then, option_map, unwrap_or, Option, None, codes, decimal, ℤ, pos}
+use Rattle.std.specs.Prelude.{ℕ, ◌+◌, ◌==◌, if◌then◌else◌, List, [], ◌∷◌, ◌++◌, map, option_and_then, option_map, unwrap_or, Option, None, codes, decimal, ℤ}
+use Rattle.std.specs.Prelude.{pos}
 use Rattle.fit_record.specs.declared.definition.MessageDef.{MessageDef}
 use Rattle.fit_record.specs.declared.message.Values.{Values}
 use Rattle.fit_record.specs.declared.message.Record.{Record}
-use Rattle.fit_record.specs.declared.message.Record.TheVariants.{Values as Data}
+use Rattle.fit_record.specs.declared.message.Record.TheVariants.{Define, Values as Data}
+use Rattle.fit_record.specs.declared.file.FitFile.{FitFile}
 use Rattle.fit_record.specs.Environment.{defined_at}
 use Rattle.fit_record.specs.Faults.{or_else}
-use Rattle.fit_decode.specs.Events.{Event, header, item}
+use Rattle.fit_decode.specs.Events.{Event, header, item, file_end}
 use Rattle.fit_profile.specs.declared.told.Told.{Told}
 use Rattle.fit_profile.specs.FixedText.{fixed_text}
 use Rattle.fit_profile.specs.Looks.{known, first_field}
 use Rattle.fit_profile.specs.Scaled.{decimals}
 use Rattle.fit_profile.specs.Told.{told}
 use Rattle.fit_profile.specs.Values.{first_number, known_number}
-use Rattle.fit_cells.specs.Cells.{scaled}
+use Rattle.fit_cells.specs.Cells.{scaled_value}
 use Rattle.fit_csv.specs.Degrees.{degrees_of}
 use Rattle.fit_csv.specs.InstantText.{instant_text}
 use Rattle.fit_cells.specs.Rows.{Cell, Row}
@@ -26,7 +28,7 @@ table_line =
 
 -- a raw value over the scale, less the offset
 abbrev pub amount_text : ℤ → ℕ → ℕ → Cell
-amount_text raw scale offset = fixed_text (scaled raw scale offset) (decimals scale)
+amount_text raw scale offset = fixed_text (scaled_value raw scale offset) (decimals scale)
 
 -- the number of the first field of this number, in its unit
 abbrev pub value_text : {A : Type 0} → MessageDef A → Values A → ℕ → Option Cell
@@ -35,7 +37,8 @@ value_text d v number = option_map (λ x. amount_text x.0 x.1.scale x.1.offset) 
 -- the first item of the first field of this number, where it is a valid sint32 of semicircles, in degrees
 abbrev pub degrees_text : {A : Type 0} → MessageDef A → Values A → ℕ → Option Cell
 degrees_text d v number =
-    option_and_then (λ f. if f.0.code == 0x85 then option_map (λ s. fixed_text (degrees_of s) 7) (first_number f.0 f.1) else None) (first_field d.fields v.fields number)
+    option_and_then (λ f. if f.0.code == 0x85 then option_map (λ s. fixed_text (degrees_of s) 7) (first_number f.0 f.1) else None)
+    (first_field d.fields v.fields number)
 
 -- The row of a record message of the file of this number: what stands in the message itself comes before what is accumulated from field 8.
 abbrev pub table_row : {A : Type 0} → ℕ → MessageDef A → Values A → Told → Row
@@ -49,13 +52,38 @@ table_row file d v t =
     ∷ value_text d v 3 ∷ value_text d v 4 ∷ value_text d v 7 ∷ value_text d v 13 ∷ [])
 
 -- a message of the file of this number, after the records before it in the file, latest first: one row where it is a record message
-abbrev pub table_rows : {A : Type 0} → ℕ → List (Record A) → Values A → List Row
-table_rows file before v =
-    unwrap_or (option_map (λ p. if p.definition.global == 20 then table_row file p.definition v (told before v) ∷ [] else []) (defined_at (known before) v.local)) []
+abbrev pub table_message_rows : {A : Type 0} → ℕ → List (Record A) → Values A → List Row
+table_message_rows file before v =
+    unwrap_or (option_map (λ p. if p.definition.global == 20 then table_row file p.definition v (told before v) ∷ [] else [])
+    (defined_at (known before) v.local)) []
+
+abbrev pub table_record_rows : {A : Type 0} → ℕ → List (Record A) → Record A → List Row
+table_record_rows file before (Define d) = []
+table_record_rows file before (Data v) = table_message_rows file before v
+
+-- ---- files and chains
+
+-- records one after another, of the file of this number
+unfoldable pub table_records_rows : {A : Type 0} → ℕ → List (Record A) → List (Record A) → List Row
+table_records_rows file before [] = []
+table_records_rows file before (r ∷ records) = table_record_rows file before r ++ table_records_rows file (r ∷ before) records
+
+-- files one after another, the first of which has this number
+unfoldable pub table_files_rows : {A : Type 0} → ℕ → List (FitFile A) → List Row
+table_files_rows file [] = []
+table_files_rows file (f ∷ files) = table_records_rows file [] f.records ++ table_files_rows (file + 1) files
+
+-- the table of a chain: the first line, and the rows of each file. That it is what `table` writes of the chain is the law
+-- `chains_have_tables`.
+abbrev pub table_rows : {A : Type 0} → List (FitFile A) → List Row
+table_rows files = table_line ∷ table_files_rows 1 files
+
+-- ---- events
 
 abbrev pub table_event_rows : {A : Type 0} → ℕ → List (Record A) → Event A → List Row
-table_event_rows file before (item (Data v)) = table_rows file before v
-table_event_rows file before other = []
+table_event_rows file before (header h n) = []
+table_event_rows file before (item r) = table_record_rows file before r
+table_event_rows file before file_end = []
 
 -- how many files have begun behind an event
 abbrev pub files_behind : {A : Type 0} → ℕ → Event A → ℕ

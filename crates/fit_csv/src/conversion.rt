@@ -5,9 +5,10 @@ ghost use Rattle.fit_base.specs.Numbers.{IsBytes};
 ghost use Rattle.fit_record.specs.declared.file.FitFile.{FitFile};
 ghost use Rattle.fit_record.specs.Files.{chain_limit, IsChain};
 ghost use Rattle.fit_decode.specs.Events.{file_events};
+ghost use Rattle.fit_report.specs.Reports.{channel};
 ghost use Rattle.fit_csv.specs.ChainRows.{chain_rows, rows_of};
 ghost use Rattle.fit_csv.specs.Conversions.{Converts, ConvertsTo, RowsOf};
-ghost use Rattle.fit_csv.specs.Reporting.{HasText, csv_fault};
+ghost use Rattle.fit_csv.specs.inner.Reporting.{HasText, csv_fault};
 ghost use Rattle.fit_csv.specs.Table.{table_of};
 
 use crate::CsvFault;
@@ -46,13 +47,14 @@ pub(crate) fn convert<S: Source, K: Sink, R: Report>(
     requires silent { R.has_heard reporter.old [] }
     requires short { length first.now < 1000 }
     ensures converts { (rows : RowsOf) → HasText first.now R.line rows → Converts rows
-        (record { before = S.remaining source.old; after = S.remaining source.new; failed = S.has_failed source.new })
-        (record { before = K.contents sink.old; after = K.contents sink.new; failed = K.has_failed sink.new }) result }
+        (channel S.remaining S.has_failed source.old source.new)
+        (channel K.contents K.has_failed sink.old sink.new) result }
     ensures chain { (rows : RowsOf) → HasText first.now R.line rows
-        → (fs : List (FitFile Global)) (b : List ℕ) → S.remaining source.old ≡ Some b → IsBytes b → IsChain chain_limit fs b
+        → (fs : List (FitFile Global)) (b : List ℕ) → S.remaining source.old ≡ Some b → IsBytes b
+        → IsChain chain_limit fs b
         → ConvertsTo (rows (flat_map file_events fs))
-        (record { before = S.remaining source.old; after = S.remaining source.new; failed = S.has_failed source.new })
-        (record { before = K.contents sink.old; after = K.contents sink.new; failed = K.has_failed sink.new }) result }
+        (channel S.remaining S.has_failed source.old source.new)
+        (channel K.contents K.has_failed sink.old sink.new) result }
 {
     if let Err(written) = put_all(sink, first) {
         return Err(CsvFault::Write { written });
@@ -75,13 +77,14 @@ pub fn to_csv<S: Source, K: Sink>(
     sink: &mut K,
 ) -> Result<(), CsvFault>
     ensures converts { Converts rows_of
-        (record { before = S.remaining source.old; after = S.remaining source.new; failed = S.has_failed source.new })
-        (record { before = K.contents sink.old; after = K.contents sink.new; failed = K.has_failed sink.new }) result }
+        (channel S.remaining S.has_failed source.old source.new)
+        (channel K.contents K.has_failed sink.old sink.new) result }
     // Where the input is the bytes of a chain, its rows are written, unless memory is refused or the source or the sink fails.
-    ensures chain { (fs : List (FitFile Global)) (b : List ℕ) → S.remaining source.old ≡ Some b → IsBytes b → IsChain chain_limit fs b
+    ensures chain { (fs : List (FitFile Global)) (b : List ℕ) → S.remaining source.old ≡ Some b
+        → IsBytes b → IsChain chain_limit fs b
         → ConvertsTo (chain_rows fs)
-        (record { before = S.remaining source.old; after = S.remaining source.new; failed = S.has_failed source.new })
-        (record { before = K.contents sink.old; after = K.contents sink.new; failed = K.has_failed sink.new }) result }
+        (channel S.remaining S.has_failed source.old source.new)
+        (channel K.contents K.has_failed sink.old sink.new) result }
 {
     let mut reporter = CsvReport::new(alloc);
     convert(alloc, source, sink, b"row,a,b,c,d,e,f\n", &mut reporter)
@@ -96,13 +99,14 @@ pub fn table<S: Source, K: Sink>(
     sink: &mut K,
 ) -> Result<(), CsvFault>
     ensures converts { Converts table_of
-        (record { before = S.remaining source.old; after = S.remaining source.new; failed = S.has_failed source.new })
-        (record { before = K.contents sink.old; after = K.contents sink.new; failed = K.has_failed sink.new }) result }
+        (channel S.remaining S.has_failed source.old source.new)
+        (channel K.contents K.has_failed sink.old sink.new) result }
     // Where the input is the bytes of a chain, its table is written, unless memory is refused or the source or the sink fails.
-    ensures chain { (fs : List (FitFile Global)) (b : List ℕ) → S.remaining source.old ≡ Some b → IsBytes b → IsChain chain_limit fs b
+    ensures chain { (fs : List (FitFile Global)) (b : List ℕ) → S.remaining source.old ≡ Some b
+        → IsBytes b → IsChain chain_limit fs b
         → ConvertsTo (table_of (flat_map file_events fs))
-        (record { before = S.remaining source.old; after = S.remaining source.new; failed = S.has_failed source.new })
-        (record { before = K.contents sink.old; after = K.contents sink.new; failed = K.has_failed sink.new }) result }
+        (channel S.remaining S.has_failed source.old source.new)
+        (channel K.contents K.has_failed sink.old sink.new) result }
 {
     let mut reporter = TableReport::new(alloc);
     convert(alloc, source, sink, TABLE_LINE, &mut reporter)

@@ -64,7 +64,8 @@ fn put_numbers(
     size: u8,
     last: u8,
 ) -> Result<(), AllocError>
-    ensures { OnOk result (HasRows (rows.row kind.now (decimal number) (decimal size) (decimal last) [] [] [] ∷ []) text.old text.new) }
+    ensures { OnOk result (HasRows (rows.row kind.now (decimal number) (decimal size) (decimal last)
+        [] [] [] ∷ []) text.old text.new) }
 {
     let mut numbers = Buffer::new();
     let mut sizes = Buffer::new();

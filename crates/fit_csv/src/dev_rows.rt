@@ -17,7 +17,8 @@ use std::alloc::AllocError;
 
 /// The label of a developer field without a name: its developer data index and its number.
 pub(crate) fn numbered_label(field: &DevDef) -> Label
-    ensures { result.bytes ≡ codes "dev_" ++ decimal field.now.index ++ codes "_" ++ decimal field.now.number }
+    ensures { result.bytes ≡ codes "dev_" ++ decimal field.now.index ++ codes "_"
+        ++ decimal field.now.number }
 {
     let mut label = Label::new();
     label.push_str("dev_");
@@ -29,7 +30,8 @@ pub(crate) fn numbered_label(field: &DevDef) -> Label
 
 /// The name of a developer field of the next message of a local message type, or else this label.
 pub(crate) fn dev_name<'a>(stream: &'a Stream, local: u8, place: u8, label: &'a Label) -> &'a str
-    ensures { result.now ≡ unwrap_or (option_and_then (λ t. t.name) (slice_get (namings_at stream.now local) place)) label.now.bytes }
+    ensures { result.now ≡ unwrap_or (option_and_then (λ t. t.name)
+        (slice_get (namings_at stream.now local) place)) label.now.bytes }
 {
     match stream.dev_name(local, place) {
         Some(name) => name,
@@ -39,7 +41,8 @@ pub(crate) fn dev_name<'a>(stream: &'a Stream, local: u8, place: u8, label: &'a 
 
 /// The unit of a developer field of the next message of a local message type, or an empty text.
 pub(crate) fn dev_unit(stream: &Stream, local: u8, place: u8) -> &str
-    ensures { result.now ≡ unwrap_or (option_and_then (λ t. t.unit) (slice_get (namings_at stream.now local) place)) [] }
+    ensures { result.now ≡ unwrap_or (option_and_then (λ t. t.unit)
+        (slice_get (namings_at stream.now local) place)) [] }
 {
     match stream.dev_unit(local, place) {
         Some(unit) => unit,
@@ -59,7 +62,8 @@ fn put_dev_field<'a>(
     unit: &'a str,
 ) -> Result<(), AllocError>
     requires { HasShape code field.now.size items.now }
-    ensures { OnOk result (HasRows (rows.row (codes "dev") label.now (cell code None items.now) unit.now [] [] [] ∷ []) text.old text.new) }
+    ensures { OnOk result (HasRows (rows.row (codes "dev") label.now (cell code None items.now)
+        unit.now [] [] [] ∷ []) text.old text.new) }
 {
     value.clear();
     put_cell(value, Code(code), None, items)?;
@@ -84,7 +88,8 @@ pub(crate) fn put_dev_fields(
     requires codes { length dev_codes.now ≡ length fields.now }
     requires namings { length (namings_at stream.now local) ≡ length fields.now }
     requires shapes { HaveShape (zip dev_codes.now (map (λ f. f.size) fields.now)) items.now }
-    ensures { OnOk result (HasRows (rows.dev_rows fields.now dev_codes.now (namings_at stream.now local) items.now) text.old text.new) }
+    ensures { OnOk result (HasRows (rows.dev_rows fields.now dev_codes.now
+        (namings_at stream.now local) items.now) text.old text.new) }
 {
     for (place, field) in fields.iter().enumerate() {
         let numbered = numbered_label(field);

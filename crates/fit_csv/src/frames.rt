@@ -3,10 +3,10 @@ ghost use Rattle.std.specs.Prelude.{◌≡◌, ◌∷◌, [], IfOk, IfSome, IsTr
 ghost use Rattle.fit_base.specs.Fields.{HasShape};
 ghost use Rattle.fit_profile.specs.Names as names;
 ghost use Rattle.fit_profile.specs.Scaled.{IsScale};
-ghost use Rattle.fit_cells.specs.Forms.{IsFormOf, IsSmall};
+ghost use Rattle.fit_cells.specs.Forms.{IsFormOf, IsSmallForm};
 ghost use Rattle.fit_cells.specs.Rows.{HasRows};
 ghost use Rattle.fit_csv.specs.ChainRows as rows;
-ghost use Rattle.fit_csv.specs.Frames.{head_text, tail_text};
+ghost use Rattle.fit_csv.specs.inner.Frames.{head_text, tail_text};
 
 use crate::message_rows::{put_value, unit_text};
 use fit_base::{Code, Items};
@@ -67,7 +67,8 @@ fn put_any(
     items: &Items,
 ) -> Result<(), AllocError>
     requires { HasShape field.now.code field.now.size items.now }
-    ensures { OnOk result (HasRows (rows.field_row global field.now items.now ∷ []) text.old text.new) }
+    ensures { OnOk result (HasRows (rows.field_row global field.now items.now ∷ []) text.old
+        text.new) }
 {
     let info = field_info(global, field.number);
     value.clear();
@@ -94,21 +95,25 @@ impl Model for Frame {
     ghost use Rattle.std.specs.Prelude.{◌≡◌, IfSome, option_map};
     ghost use Rattle.fit_profile.specs.Names.{field, meaning};
     ghost use Rattle.fit_profile.specs.Scaled.{IsScale};
-    ghost use Rattle.fit_cells.specs.Forms.{IsFormOf, IsSmall};
-    ghost use Rattle.fit_csv.specs.Frames.{FieldKey, head_text, tail_text};
+    ghost use Rattle.fit_cells.specs.Forms.{IsFormOf, IsSmallForm};
+    ghost use Rattle.fit_csv.specs.inner.Frames.{FieldKey, head_text, tail_text};
 
     ghost Value = { FieldKey };
 
     ghost view = { λ f. record { global = f.global; number = f.number; code = f.code } };
 
-    ghost invariant = { λ f. (option_map meaning f.info ≡ field f.global f.number) × IfSome f.info (λ i. IsScale i.scale) × IfSome f.form IsSmall × IfSome f.form (IsFormOf f.code (option_map meaning f.info))
-        × (f.head.items ≡ head_text f.global f.number) × (f.tail.items ≡ tail_text f.global f.number) };
+    ghost invariant = { λ f. (option_map meaning f.info ≡ field f.global f.number)
+        × IfSome f.info (λ i. IsScale i.scale) × IfSome f.form IsSmallForm
+        × IfSome f.form (IsFormOf f.code (option_map meaning f.info))
+        × (f.head.items ≡ head_text f.global f.number)
+        × (f.tail.items ≡ tail_text f.global f.number) };
 }
 
 impl Frame {
     /// Finds out what stands around the value of a field.
     fn new(alloc: Global, global: u16, field: &FieldDef) -> Result<Frame, AllocError>
-        ensures { IfOk result (λ f. f ≡ record { global = global; number = field.now.number; code = field.now.code }) }
+        ensures { IfOk result (λ f. f ≡
+            record { global = global; number = field.now.number; code = field.now.code }) }
     {
         let info = field_info(global, field.number);
         let head = head_of(alloc, global, field.number)?;
@@ -126,16 +131,19 @@ impl Frame {
 
     /// Whether it is what stands around the value of this field.
     fn is_of(&self, global: u16, field: &FieldDef) -> bool
-        ensures { IsTrue result → self.now ≡ record { global = global; number = field.now.number; code = field.now.code } }
+        ensures { IsTrue result → self.now ≡
+            record { global = global; number = field.now.number; code = field.now.code } }
     {
         self.number == field.number && self.code == field.code && self.global == global
     }
 
     /// The form and the bits of a value of its field that is just one number.
     fn number(&self, items: &Items) -> Option<(NumberForm, u64)>
-        ensures small { IfSome result (λ p. IsSmall p.0) }
-        ensures form { IfSome result (λ p. IsFormOf self.now.code (names.field self.now.global self.now.number) p.0) }
-        ensures lone { IfSome result (λ p. (items.now.width ≡ p.0.width) × (items.now.bits ≡ p.1 ∷ [])) }
+        ensures small { IfSome result (λ p. IsSmallForm p.0) }
+        ensures form { IfSome result (λ p. IsFormOf self.now.code
+            (names.field self.now.global self.now.number) p.0) }
+        ensures lone { IfSome result (λ p. (items.now.width ≡ p.0.width)
+            × (items.now.bits ≡ p.1 ∷ [])) }
     {
         let form = self.form?;
         let bits = lone_number(form, items)?;
@@ -152,9 +160,11 @@ impl Frame {
         field: &FieldDef,
         items: &Items,
     ) -> Result<(), AllocError>
-        requires key { self.now ≡ record { global = global; number = field.now.number; code = field.now.code } }
+        requires key { self.now ≡
+            record { global = global; number = field.now.number; code = field.now.code } }
         requires shape { HasShape field.now.code field.now.size items.now }
-        ensures { OnOk result (HasRows (rows.field_row global field.now items.now ∷ []) text.old text.new) }
+        ensures { OnOk result (HasRows (rows.field_row global field.now items.now ∷ []) text.old
+            text.new) }
     {
         let Some((form, bits)) = self.number(items) else {
             return put_any(text, writer, value, global, field, items);
@@ -209,7 +219,8 @@ impl Frames {
         items: &Items,
     ) -> Result<(), AllocError>
         requires { HasShape field.now.code field.now.size items.now }
-        ensures { OnOk result (HasRows (rows.field_row global field.now items.now ∷ []) text.old text.new) }
+        ensures { OnOk result (HasRows (rows.field_row global field.now items.now ∷ []) text.old
+            text.new) }
     {
         let place = place_of(global, field.number);
         if let Some(Some(frame)) = self.kept.as_slice().get(place) {

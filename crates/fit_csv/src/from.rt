@@ -2,6 +2,7 @@
 ghost use Rattle.std.specs.Prelude.{◌≡◌, ℕ, List, IfErr, Some};
 ghost use Rattle.std.specs.Global.{Global};
 ghost use Rattle.fit_record.specs.declared.file.FitFile.{FitFile};
+ghost use Rattle.fit_report.specs.Reports.{channel};
 ghost use Rattle.fit_csv.specs.FromText.{FromTextOf, IsTextOf, ReadsText, UnlessWritten, written_fault};
 
 mod cells;
@@ -42,8 +43,8 @@ fn from_fault(fault: EncodeFault) -> CsvFault
 /// Writes the files whose rows are those of a text.
 fn convert<S: Source, K: Sink>(alloc: Global, source: &mut S, sink: &mut K) -> Result<(), CsvFault>
     ensures reads { ReadsText
-        (record { before = S.remaining source.old; after = S.remaining source.new; failed = S.has_failed source.new })
-        (record { before = K.contents sink.old; after = K.contents sink.new; failed = K.has_failed sink.new }) result }
+        (channel S.remaining S.has_failed source.old source.new)
+        (channel K.contents K.has_failed sink.old sink.new) result }
     ensures unchanged { IfErr result (λ fault. UnlessWritten fault (sink.new ≡ sink.old)) }
 {
     faults_are_exact::<Global>();
@@ -72,14 +73,15 @@ pub fn from_csv<S: Source, K: Sink>(
     // It takes the whole text, but where the source fails or memory is refused. Its rows are those of a well-formed chain, whose
     // bytes are written; or there is a fault.
     ensures reads { ReadsText
-        (record { before = S.remaining source.old; after = S.remaining source.new; failed = S.has_failed source.new })
-        (record { before = K.contents sink.old; after = K.contents sink.new; failed = K.has_failed sink.new }) result }
+        (channel S.remaining S.has_failed source.old source.new)
+        (channel K.contents K.has_failed sink.old sink.new) result }
     ensures unchanged { IfErr result (λ fault. UnlessWritten fault (sink.new ≡ sink.old)) }
     // Where the rows of the text are those of a chain, its bytes are written, unless memory is refused or the source or the sink fails.
-    ensures chain { (text : List ℕ) (files : List (FitFile Global)) (bytes : List ℕ) → S.remaining source.old ≡ Some text → IsTextOf text files bytes
+    ensures chain { (text : List ℕ) (files : List (FitFile Global)) (bytes : List ℕ)
+        → S.remaining source.old ≡ Some text → IsTextOf text files bytes
         → FromTextOf bytes
-        (record { before = S.remaining source.old; after = S.remaining source.new; failed = S.has_failed source.new })
-        (record { before = K.contents sink.old; after = K.contents sink.new; failed = K.has_failed sink.new }) result }
+        (channel S.remaining S.has_failed source.old source.new)
+        (channel K.contents K.has_failed sink.old sink.new) result }
 {
     chains_have_own_rows();
     good_chains_have_no_fault::<Global>();

@@ -97,7 +97,8 @@ pub(crate) fn put_value<'a>(
     value: &'a [u8],
     unit: &'a [u8],
 ) -> Result<(), AllocError>
-    ensures { OnOk result (HasRows (rows.row kind.now name.now value.now unit.now [] [] [] ∷ []) text.old text.new) }
+    ensures { OnOk result (HasRows (rows.row kind.now name.now value.now unit.now [] [] [] ∷ [])
+        text.old text.new) }
 {
     let cells = [
         kind,
@@ -123,7 +124,8 @@ pub(crate) fn put_fields(
 ) -> Result<(), AllocError>
     requires few { length fields.now < 256 }
     requires shapes { HaveShape (map (λ f. (f.code, f.size)) fields.now) items.now }
-    ensures { OnOk result (HasRows (rows.field_rows global fields.now items.now) text.old text.new) }
+    ensures { OnOk result
+        (HasRows (rows.field_rows global fields.now items.now) text.old text.new) }
 {
     for (place, field) in fields.iter().enumerate() {
         frames.put_field(text, writer, value, global, field, &items[place])?;

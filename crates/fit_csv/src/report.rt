@@ -1,7 +1,7 @@
 //! The rows of events, told one after another.
 ghost use Rattle.std.specs.Prelude.{◌≡◌, ◌++◌, [], OnOk, OnErr};
 ghost use Rattle.fit_cells.specs.Rows.{HasRows};
-ghost use Rattle.fit_csv.specs.Reporting.{AnswerFits, answer_rows, behind_answer};
+ghost use Rattle.fit_csv.specs.inner.Reporting.{AnswerFits, answer_rows, behind_answer};
 
 use crate::file_rows::{put_end_row, put_file_row};
 use crate::frames::Frames;
@@ -105,7 +105,8 @@ impl Report for CsvReport {
     fn tell(&mut self, event: &Event, text: &mut Vec<u8>) -> Result<(), AllocError>
         requires { AreHeard (hear event.now self.old) }
         ensures heard { OnOk result (self.new ≡ hear event.now self.old) }
-        ensures text { OnOk result (text.new.items ≡ text.old.items ++ line_of csv_line self.old event.now) }
+        ensures text { OnOk result (text.new.items
+            ≡ text.old.items ++ line_of csv_line self.old event.now) }
     {
         heard_records_fit::<Global>();
         looking_back_is_learning::<Global>();

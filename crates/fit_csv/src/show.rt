@@ -4,8 +4,8 @@ ghost use Rattle.fit_record.specs.Records.{Fits};
 ghost use Rattle.fit_profile.specs.Looks.{known};
 ghost use Rattle.fit_profile.specs.Times as times;
 ghost use Rattle.fit_report.specs.Heard.{AreHeard, hear, latest_records};
-ghost use Rattle.fit_csv.specs.Reporting.{AnswerFits};
-ghost use Rattle.fit_csv.specs.Showing.{time_told};
+ghost use Rattle.fit_csv.specs.inner.Reporting.{AnswerFits};
+ghost use Rattle.fit_csv.specs.inner.Showing.{time_told};
 
 mod fields;
 mod lines;
@@ -53,7 +53,8 @@ impl Model for ShowReport {
 
     ghost view = { λ r. r.heard };
 
-    ghost invariant = { λ r. (r.stream ≡ latest_records r.heard) × (r.files ≡ begun_files r.heard) };
+    ghost invariant = { λ r. (r.stream ≡ latest_records r.heard)
+        × (r.files ≡ begun_files r.heard) };
 }
 
 impl ShowReport {
@@ -100,7 +101,8 @@ impl Report for ShowReport {
     fn tell(&mut self, event: &Event, text: &mut Vec<u8>) -> Result<(), AllocError>
         requires { AreHeard (hear event.now self.old) }
         ensures heard { OnOk result (self.new ≡ hear event.now self.old) }
-        ensures text { OnOk result (text.new.items ≡ text.old.items ++ line_of show_line self.old event.now) }
+        ensures text { OnOk result (text.new.items
+            ≡ text.old.items ++ line_of show_line self.old event.now) }
     {
         heard_records_fit::<Global>();
         looking_back_is_learning::<Global>();

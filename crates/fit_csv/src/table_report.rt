@@ -6,8 +6,9 @@ ghost use Rattle.fit_record.specs.Records.{Fits};
 ghost use Rattle.fit_profile.specs.Looks.{known};
 ghost use Rattle.fit_profile.specs.Meant.{MessageOf};
 ghost use Rattle.fit_cells.specs.Rows.{csv_text};
-ghost use Rattle.fit_csv.specs.Reporting.{AnswerFits, behind_answer};
-ghost use Rattle.fit_csv.specs.TableCells.{files_behind_answer, rows_in, table_answer_rows, table_record_rows};
+ghost use Rattle.fit_csv.specs.inner.Reporting.{AnswerFits, behind_answer};
+ghost use Rattle.fit_csv.specs.Table.{table_record_rows};
+ghost use Rattle.fit_csv.specs.inner.TableCells.{files_behind_answer, rows_in, table_answer_rows};
 
 use crate::table_rows::put_table_row;
 use fit_decode::Event;
@@ -24,7 +25,8 @@ const RECORD: u16 = 20;
 
 /// A message, where it is a record message.
 fn row_of(message: Option<Message>) -> Option<Message>
-    ensures { (file : ℕ) (before : List (Record Global)) (r : Record Global) → MessageOf before r message.entry → rows_in file result ≡ table_record_rows file before r }
+    ensures { (file : ℕ) (before : List (Record Global)) (r : Record Global)
+        → MessageOf before r message.entry → rows_in file result ≡ table_record_rows file before r }
 {
     let message = message?;
     if message.global() != RECORD {
@@ -52,7 +54,9 @@ fn take_record(
     record_: &Record,
 ) -> Result<Result<(), AllocError>, AllocError>
     requires { Fits (known stream.old) record_.now }
-    ensures text { IfOk result (λ put. OnOk put (text.new.items ≡ text.old.items ++ csv_text (table_record_rows file stream.old record_.now))) }
+    ensures text { IfOk result (λ put. OnOk put
+        (text.new.items
+        ≡ text.old.items ++ csv_text (table_record_rows file stream.old record_.now))) }
     ensures ok { OnOk result (stream.new ≡ record_.now ∷ stream.old) }
     ensures err { OnErr result (stream.new ≡ stream.old) }
 {
@@ -71,7 +75,9 @@ fn hear(
 ) -> Result<Result<(), AllocError>, AllocError>
     requires fits { AnswerFits stream.old event.now }
     requires few { files.old < 2 ^ 60 }
-    ensures text { IfOk result (λ put. OnOk put (text.new.items ≡ text.old.items ++ csv_text (table_answer_rows files.old stream.old event.now))) }
+    ensures text { IfOk result (λ put. OnOk put
+        (text.new.items
+        ≡ text.old.items ++ csv_text (table_answer_rows files.old stream.old event.now))) }
     ensures stream { OnOk result (stream.new ≡ behind_answer stream.old event.now) }
     ensures files { OnOk result (files.new ≡ files_behind_answer files.old event.now) }
     ensures same_stream { OnErr result (stream.new ≡ stream.old) }
@@ -108,7 +114,8 @@ impl Model for TableReport {
 
     ghost view = { λ r. r.heard };
 
-    ghost invariant = { λ r. (r.stream ≡ latest_records r.heard) × (r.files ≡ files_heard r.heard) };
+    ghost invariant = { λ r. (r.stream ≡ latest_records r.heard)
+        × (r.files ≡ files_heard r.heard) };
 }
 
 impl TableReport {
@@ -135,7 +142,8 @@ impl Report for TableReport {
     fn tell(&mut self, event: &Event, text: &mut Vec<u8>) -> Result<(), AllocError>
         requires { AreHeard (hear event.now self.old) }
         ensures heard { OnOk result (self.new ≡ hear event.now self.old) }
-        ensures text { OnOk result (text.new.items ≡ text.old.items ++ line_of table_text self.old event.now) }
+        ensures text { OnOk result (text.new.items
+            ≡ text.old.items ++ line_of table_text self.old event.now) }
     {
         heard_records_fit::<Global>();
         heard_are_few::<Global>();

@@ -7,7 +7,7 @@ ghost use Rattle.fit_profile.specs.Values as values;
 ghost use Rattle.fit_csv.specs.Degrees.{degrees_of};
 ghost use Rattle.fit_csv.specs.Table as table;
 ghost use Rattle.fit_cells.specs.Rows.{HasRows};
-ghost use Rattle.fit_csv.specs.TableCells.{IsPlain, cells_of, shown_text};
+ghost use Rattle.fit_csv.specs.inner.TableCells.{IsPlain, cells_of, shown_text};
 
 use crate::message_rows::time_text;
 use fit_base::Items;
@@ -35,7 +35,8 @@ struct TableRow {
 #[tactic(auto, using(crate::proofs::TableNumbers::number_cell, crate::proofs::TableNumbers::empty_cell))]
 fn put_number(text: &mut Vec<u8>, value: &Option<Fixed>) -> Result<(), AllocError>
     requires { IfSome value.now (λ v. v.decimals ≤ 8) }
-    ensures { OnOk result (text.new.items ≡ text.old.items ++ fields_text default_writer (unwrap_or (shown_text value.now) [] ∷ [])) }
+    ensures { OnOk result (text.new.items ≡ text.old.items
+        ++ fields_text default_writer (unwrap_or (shown_text value.now) [] ∷ [])) }
 {
     text.push(b',')?;
     match value {
@@ -59,7 +60,8 @@ fn either(value: Option<Fixed>, other: Option<Fixed>) -> Option<Fixed>
 
 /// The number of the first field of this number.
 fn value(message: &Message, number: u8) -> Option<Fixed>
-    ensures text { shown_text result ≡ table.value_text (shown message.now).definition (shown message.now).values number }
+    ensures text { shown_text result ≡ table.value_text (shown message.now).definition
+        (shown message.now).values number }
     ensures few { IfSome result (λ v. v.decimals ≤ 8) }
 {
     message.value(number)
@@ -67,7 +69,8 @@ fn value(message: &Message, number: u8) -> Option<Fixed>
 
 /// The accumulated distance.
 fn distance(message: &Message) -> Option<Fixed>
-    ensures text { shown_text result ≡ option_map (λ n. table.amount_text (pos n) 16 0) (shown message.now).told.distance }
+    ensures text { shown_text result ≡ option_map (λ n. table.amount_text (pos n) 16 0)
+        (shown message.now).told.distance }
     ensures few { IfSome result (λ v. v.decimals ≤ 8) }
 {
     message.distance()
@@ -75,7 +78,8 @@ fn distance(message: &Message) -> Option<Fixed>
 
 /// The speed in compressed_speed_distance.
 fn speed(message: &Message) -> Option<Fixed>
-    ensures text { shown_text result ≡ option_map (λ n. table.amount_text (pos n) 100 0) (shown message.now).told.speed }
+    ensures text { shown_text result ≡ option_map (λ n. table.amount_text (pos n) 100 0)
+        (shown message.now).told.speed }
     ensures few { IfSome result (λ v. v.decimals ≤ 8) }
 {
     message.speed()
@@ -83,7 +87,8 @@ fn speed(message: &Message) -> Option<Fixed>
 
 /// The first item of a field of the base type sint32, where it is valid.
 fn semicircles(items: &Items) -> Option<i32>
-    ensures { result ≡ option_and_then (values.valid_number 0x85 items.now.width) (slice_get items.now.bits 0) }
+    ensures { result ≡ option_and_then (values.valid_number 0x85 items.now.width)
+        (slice_get items.now.bits 0) }
 {
     match items.bits.as_slice() {
         [bits, ..] if items.width == 4 && *bits < 0x1_0000_0000 && *bits != 0x7FFF_FFFF => {
@@ -104,7 +109,8 @@ fn in_degrees(semicircles: i32) -> Fixed
 
 /// The position in the first field of this number, where that is of the base type sint32.
 fn position(message: &Message, number: u8) -> Option<Fixed>
-    ensures text { shown_text result ≡ table.degrees_text (shown message.now).definition (shown message.now).values number }
+    ensures text { shown_text result ≡ table.degrees_text (shown message.now).definition
+        (shown message.now).values number }
     ensures few { IfSome result (λ v. v.decimals ≤ 8) }
 {
     let field = message.first(number)?;
@@ -116,7 +122,8 @@ fn position(message: &Message, number: u8) -> Option<Fixed>
 
 /// The row of a record message of a file.
 fn table_row(message: &Message, file: u64) -> TableRow
-    ensures cells { cells_of result ≡ table.table_row file (shown message.now).definition (shown message.now).values (shown message.now).told }
+    ensures cells { cells_of result ≡ table.table_row file (shown message.now).definition
+        (shown message.now).values (shown message.now).told }
     ensures plain { IsPlain result }
 {
     TableRow {
@@ -140,7 +147,8 @@ fn table_row(message: &Message, file: u64) -> TableRow
 /// Puts the first two cells of a row behind a text.
 fn put_first(text: &mut Vec<u8>, row: &TableRow) -> Result<(), AllocError>
     requires { needs_quotes default_writer row.now.timestamp.bytes ≡ false }
-    ensures { OnOk result (text.new.items ≡ text.old.items ++ (decimal row.now.file ++ fields_text default_writer (row.now.timestamp.bytes ∷ []))) }
+    ensures { OnOk result (text.new.items ≡ text.old.items
+        ++ (decimal row.now.file ++ fields_text default_writer (row.now.timestamp.bytes ∷ []))) }
 {
     put_whole(text, row.file)?;
     text.push(b',')?;
@@ -173,7 +181,8 @@ pub(crate) fn put_table_row(
     message: &Message,
     file: u64,
 ) -> Result<(), AllocError>
-    ensures { OnOk result (HasRows (table.table_row file (shown message.now).definition (shown message.now).values (shown message.now).told ∷ []) text.old text.new) }
+    ensures { OnOk result (HasRows (table.table_row file (shown message.now).definition
+        (shown message.now).values (shown message.now).told ∷ []) text.old text.new) }
 {
     let row = table_row(message, file);
     put_cells(text, &row)

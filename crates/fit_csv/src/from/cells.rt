@@ -1,7 +1,7 @@
 //! The cells of a row.
 ghost use Rattle.std.specs.Prelude.{◌≡◌, ◌↔◌, ◌<◌, IsTrue, IfSome, IsNone, Some, length};
 ghost use Rattle.csv.specs.Records.{field_at, fields_of};
-ghost use Rattle.fit_csv.specs.Seven.{row_of, DifferAt};
+ghost use Rattle.fit_csv.specs.inner.Seven.{row_of, DifferAt};
 
 use csv::ByteRecord;
 
@@ -19,7 +19,8 @@ pub(crate) struct Cells<'a> {
 
 /// The cell at a place of a row.
 fn cell_at(row: &ByteRecord, place: usize) -> &[u8]
-    ensures { place < length (fields_of row.now) → field_at (fields_of row.now) place ≡ Some result.now }
+    ensures { place < length (fields_of row.now)
+        → field_at (fields_of row.now) place ≡ Some result.now }
 {
     match row.get(place) {
         Some(cell) => cell,

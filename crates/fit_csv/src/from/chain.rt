@@ -2,10 +2,10 @@
 ghost use Rattle.std.specs.Prelude.{◌≡◌, ◌↔◌, IfErr, IsTrue, None, OnOk, Some, codes};
 ghost use Rattle.fit_csv.specs.declared.from.chain.Chain.{Chain};
 ghost use Rattle.fit_csv.specs.declared.from.open_file.OpenFile.{OpenFile};
-ghost use Rattle.fit_csv.specs.Misfits.{IsMisfit};
-ghost use Rattle.fit_csv.specs.Progress.{CanGoOn, ChainStep, FileStep, nothing_yet};
-ghost use Rattle.fit_csv.specs.Seven.{row_of};
-ghost use Rattle.fit_csv.specs.SoundChain.{IsSoundChain, IsSoundFile};
+ghost use Rattle.fit_csv.specs.inner.Misfits.{IsMisfit};
+ghost use Rattle.fit_csv.specs.inner.Progress.{CanStandNext, ChainStep, FileStep, nothing_yet};
+ghost use Rattle.fit_csv.specs.inner.Seven.{row_of};
+ghost use Rattle.fit_csv.specs.inner.SoundChain.{IsSoundChain, IsSoundFile};
 
 use crate::from::cells::{Cells, same};
 use crate::from::header::{file_end, file_header};
@@ -13,12 +13,9 @@ use crate::from::misfit::Misfit;
 use crate::from::open_file::{OpenFile, Part};
 use fit_base::Entries;
 use fit_profile::Stream;
-use fit_record::FitFile;
+use fit_record::{CHAIN_LIMIT, FitFile};
 use std::alloc::Global;
 use std::mem;
-
-/// The most files that follow one another.
-const LIMIT: usize = 16_777_215;
 
 /// The files of a chain that are whole, and the one that isn't.
 #[derive(Drop)]
@@ -42,9 +39,10 @@ impl Chain {
     fn begin_file(&mut self, alloc: Global, cells: &Cells) -> Result<(), Misfit>
         requires none { self.old.current ≡ None }
         ensures ok { OnOk result (ChainStep self.old (row_of cells.now) self.new) }
-        ensures err { IfErr result (IsMisfit (λ r. (t : Chain) × ChainStep self.old r t) (row_of cells.now)) }
+        ensures err { IfErr result (IsMisfit (λ r. (t : Chain) × ChainStep self.old r t)
+            (row_of cells.now)) }
     {
-        if self.files.len() >= LIMIT {
+        if self.files.len() >= CHAIN_LIMIT as usize {
             return Err(Misfit::Kind);
         }
         if !same(cells.kind, b"file") {
@@ -62,7 +60,8 @@ impl Chain {
 
     /// Whether the row is one in which the current file may end.
     fn may_end(&self, cells: &Cells) -> bool
-        ensures { IsTrue result ↔ ((f : OpenFile) × (self.now.current ≡ Some f) × (f.part ≡ Part.Nothing) × (cells.now.kind.now ≡ codes "end")) }
+        ensures { IsTrue result ↔ ((f : OpenFile) × (self.now.current ≡ Some f)
+            × (f.part ≡ Part.Nothing) × (cells.now.kind.now ≡ codes "end")) }
     {
         match &self.current {
             Some(file) => file.is_between_records() && same(cells.kind, b"end"),
@@ -72,9 +71,11 @@ impl Chain {
 
     /// Takes the row in which the current file ends.
     fn end_file(&mut self, cells: &Cells) -> Result<(), Misfit>
-        requires { (f : OpenFile) × (self.old.current ≡ Some f) × (f.part ≡ Part.Nothing) × (cells.now.kind.now ≡ codes "end") }
+        requires { (f : OpenFile) × (self.old.current ≡ Some f) × (f.part ≡ Part.Nothing)
+            × (cells.now.kind.now ≡ codes "end") }
         ensures ok { OnOk result (ChainStep self.old (row_of cells.now) self.new) }
-        ensures err { IfErr result (IsMisfit (λ r. (t : Chain) × ChainStep self.old r t) (row_of cells.now)) }
+        ensures err { IfErr result (IsMisfit (λ r. (t : Chain) × ChainStep self.old r t)
+            (row_of cells.now)) }
     {
         file_end(cells)?;
         let Some(file) = mem::replace(&mut self.current, None) else {
@@ -98,7 +99,8 @@ impl Chain {
     ) -> Result<(), Misfit>
         requires { IsSoundChain self.old }
         ensures ok { OnOk result (ChainStep self.old (row_of cells.now) self.new) }
-        ensures err { IfErr result (IsMisfit (λ r. (t : Chain) × ChainStep self.old r t) (row_of cells.now)) }
+        ensures err { IfErr result (IsMisfit (λ r. (t : Chain) × ChainStep self.old r t)
+            (row_of cells.now)) }
     {
         if self.may_end(cells) {
             return self.end_file(cells);

@@ -2,9 +2,11 @@
 ghost use Rattle.std.specs.Prelude.{◌≡◌, ◌<◌, ◌^◌, [], ℕ, Option, codes, decimal, IfErr, IfOk, IfSome};
 ghost use Rattle.fit_csv.specs.ChainRows.{dev_def_row, field_def_row, optional_number, order_word, row};
 ghost use Rattle.fit_base.specs.declared.number.Order.{Order};
-ghost use Rattle.fit_csv.specs.Misfits.{DevDefInRange, FieldDefInRange, HeadInRange, IsDevDefRow, IsFieldDefRow, IsHeadRow, IsCellFault, IsRowOfThree, head_row};
+ghost use Rattle.fit_csv.specs.inner.Misfits.{HeadInRange, IsHeadRow, IsCellFault, IsRowOfThree, head_row};
+ghost use Rattle.fit_csv.specs.Judged.{DevDefInRange, FieldDefInRange};
+ghost use Rattle.fit_csv.specs.RowKinds.{IsDevDefRow, IsFieldDefRow};
 ghost use Rattle.fit_cells.specs.Rows.{Row};
-ghost use Rattle.fit_csv.specs.Seven.{AsFar, row_of};
+ghost use Rattle.fit_csv.specs.inner.Seven.{AsFar, row_of};
 
 use crate::definition_rows::order_word;
 use crate::from::cells::{Cells, first_difference, same};
@@ -47,7 +49,8 @@ fn local_in(cell: &[u8]) -> u8
 
 /// The number of developer fields that a cell shows, where it isn't empty.
 fn dev_count_in(cell: &[u8]) -> Option<u8>
-    ensures { (count : Option ℕ) → IfSome count (λ n. n < 2 ^ 8) → optional_number count ≡ cell.now → result ≡ count }
+    ensures { (count : Option ℕ) → IfSome count (λ n. n < 2 ^ 8) → optional_number count ≡ cell.now
+        → result ≡ count }
 {
     if cell.is_empty() {
         None
@@ -71,7 +74,8 @@ fn order_in(cell: &[u8]) -> Order
 fn closest_head(cells: &Cells) -> DefinitionHead
     requires { cells.now.kind.now ≡ codes "def" }
     ensures range { HeadInRange result }
-    ensures far { (other : Row) → IsHeadRow other → AsFar other (head_row result) (row_of cells.now) }
+    ensures far { (other : Row) → IsHeadRow other
+        → AsFar other (head_row result) (row_of cells.now) }
 {
     DefinitionHead {
         local: local_in(cells.a),
@@ -110,7 +114,8 @@ pub(crate) fn definition_head(cells: &Cells) -> Result<DefinitionHead, Misfit>
 
 /// Three numbers of a byte each in the cells of a row, of which the other ones are empty.
 fn three_bytes(cells: &Cells) -> Result<(u8, u8, u8), Misfit>
-    ensures ok { IfOk result (λ n. row_of cells.now ≡ row cells.now.kind.now (decimal n.0) (decimal n.1) (decimal n.2) [] [] []) }
+    ensures ok { IfOk result (λ n. row_of cells.now
+        ≡ row cells.now.kind.now (decimal n.0) (decimal n.1) (decimal n.2) [] [] []) }
     ensures err { IfErr result (IsCellFault (IsRowOfThree cells.now.kind.now) (row_of cells.now)) }
 {
     let (a, b, c) = (byte_in(cells.a), byte_in(cells.b), byte_in(cells.c));

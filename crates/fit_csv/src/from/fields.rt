@@ -7,9 +7,10 @@ ghost use Rattle.fit_record.specs.declared.message.Values.{Values};
 ghost use Rattle.fit_profile.specs.Looks.{known};
 ghost use Rattle.std.specs.Global.{Global};
 ghost use Rattle.fit_csv.specs.ChainRows.{dev_row, field_row};
-ghost use Rattle.fit_csv.specs.Misfits.{IsDevRow, IsFieldRow, IsMisfit};
-ghost use Rattle.fit_csv.specs.Progress.{DevStep, FieldStep, MessageStep, naming_at};
-ghost use Rattle.fit_csv.specs.Seven.{row_of};
+ghost use Rattle.fit_csv.specs.inner.Misfits.{IsMisfit};
+ghost use Rattle.fit_csv.specs.RowKinds.{IsDevRow, IsFieldRow, naming_at};
+ghost use Rattle.fit_csv.specs.inner.Progress.{DevStep, FieldStep, MessageStep};
+ghost use Rattle.fit_csv.specs.inner.Seven.{row_of};
 
 use crate::dev_rows::{dev_name, dev_unit, numbered_label};
 use crate::from::cells::{Cells, same};
@@ -81,8 +82,10 @@ pub(crate) fn dev_items(
     code: u8,
 ) -> Result<Items, Misfit>
     ensures shape { IfOk result (HasShape code field.size) }
-    ensures ok { IfOk result (λ items. row_of cells.now ≡ dev_row field code (naming_at before.now local place) items) }
-    ensures err { IfErr result (IsMisfit (IsDevRow field code (naming_at before.now local place)) (row_of cells.now)) }
+    ensures ok { IfOk result (λ items. row_of cells.now
+        ≡ dev_row field code (naming_at before.now local place) items) }
+    ensures err { IfErr result (IsMisfit (IsDevRow field code (naming_at before.now local place))
+        (row_of cells.now)) }
 {
     if !same(cells.kind, b"dev") {
         return Err(Misfit::Kind);

@@ -4,9 +4,10 @@ ghost use Rattle.fit_frame.specs.declared.header.HeaderSum.{HeaderSum};
 ghost use Rattle.fit_csv.specs.ChainRows.{end_row, file_row};
 ghost use Rattle.fit_csv.specs.ChainRows as rows;
 ghost use Rattle.fit_csv.specs.Judged.{HeaderInRange};
-ghost use Rattle.fit_csv.specs.Misfits.{HasSum, IsEndRow, IsFileRow, IsHeaderSize, IsCellFault};
+ghost use Rattle.fit_csv.specs.inner.Misfits.{HasSum, IsHeaderSize, IsCellFault};
+ghost use Rattle.fit_csv.specs.RowKinds.{IsEndRow, IsFileRow};
 ghost use Rattle.fit_cells.specs.Rows.{Row};
-ghost use Rattle.fit_csv.specs.Seven.{AsFar, DifferAt, row_of};
+ghost use Rattle.fit_csv.specs.inner.Seven.{AsFar, DifferAt, row_of};
 
 use crate::file_rows::{put_rest, sum_word};
 use crate::from::cells::{Cells, first_difference, same};
@@ -41,7 +42,8 @@ fn protocol_in(cell: &[u8]) -> u8
 fn sum_in(cell: &[u8], size: u8) -> HeaderSum
     requires { IsHeaderSize size }
     ensures size { HasSum size result }
-    ensures every { (sum : HeaderSum) → HasSum size sum → rows.sum_word sum ≡ cell.now → result ≡ sum }
+    ensures every { (sum : HeaderSum) → HasSum size sum → rows.sum_word sum ≡ cell.now
+        → result ≡ sum }
 {
     if size == 12 {
         HeaderSum::Absent
@@ -70,7 +72,8 @@ fn bytes_of(numbers: &[u64]) -> ArrayVec<u8, 241>
 fn rest_in(alloc: Global, cell: &[u8], size: u8) -> Result<ArrayVec<u8, 241>, AllocError>
     ensures size { IfOk result (λ rest. length rest.items ≡ size - 14) }
     ensures small { IfOk result (λ rest. All (λ b. b < 2 ^ 8) rest.items) }
-    ensures every { IfOk result (λ rest. (bytes : List ℕ) → length bytes ≡ size - 14 → All (λ b. b < 2 ^ 8) bytes → rows.rest_text bytes ≡ cell.now → rest.items ≡ bytes) }
+    ensures every { IfOk result (λ rest. (bytes : List ℕ) → length bytes ≡ size - 14
+        → All (λ b. b < 2 ^ 8) bytes → rows.rest_text bytes ≡ cell.now → rest.items ≡ bytes) }
 {
     let bytes = read_bytes(alloc, size.saturating_sub(14), cell)?;
     Ok(bytes_of(bytes.as_slice()))
@@ -80,7 +83,8 @@ fn rest_in(alloc: Global, cell: &[u8], size: u8) -> Result<ArrayVec<u8, 241>, Al
 fn closest_header(alloc: Global, cells: &Cells) -> Result<Header, AllocError>
     requires { cells.now.kind.now ≡ codes "file" }
     ensures range { IfOk result HeaderInRange }
-    ensures far { IfOk result (λ h. (other : Row) → IsFileRow other → AsFar other (file_row h) (row_of cells.now)) }
+    ensures far { IfOk result (λ h. (other : Row) → IsFileRow other
+        → AsFar other (file_row h) (row_of cells.now)) }
 {
     let size = size_in(cells.a);
     let rest = rest_in(alloc, cells.e, size)?;
@@ -98,7 +102,8 @@ fn closest_header(alloc: Global, cells: &Cells) -> Result<Header, AllocError>
 fn difference_by(cells: &Cells, header: &Header, rest: &[u8]) -> Option<u64>
     requires kind { cells.now.kind.now ≡ codes "file" }
     requires rest { rest.now ≡ rows.rest_text header.now.rest.items }
-    ensures some { IfSome result (λ column. DifferAt column (file_row header.now) (row_of cells.now)) }
+    ensures some { IfSome result (λ column. DifferAt column (file_row header.now)
+        (row_of cells.now)) }
     ensures none { IsNone result → file_row header.now ≡ row_of cells.now }
 {
     let (mut size, mut protocol, mut profile) = (Buffer::new(), Buffer::new(), Buffer::new());
@@ -117,7 +122,8 @@ fn difference_by(cells: &Cells, header: &Header, rest: &[u8]) -> Option<u64>
 /// The first column in which the row of a header differs from a row.
 fn difference(alloc: Global, cells: &Cells, header: &Header) -> Result<Option<u64>, AllocError>
     requires { cells.now.kind.now ≡ codes "file" }
-    ensures some { IfOk result (λ found. IfSome found (λ column. DifferAt column (file_row header.now) (row_of cells.now))) }
+    ensures some { IfOk result (λ found. IfSome found
+        (λ column. DifferAt column (file_row header.now) (row_of cells.now))) }
     ensures none { IfOk result (λ found. IsNone found → file_row header.now ≡ row_of cells.now) }
 {
     let mut rest = Vec::new(alloc);

@@ -2,11 +2,12 @@
 ghost use Rattle.std.specs.Prelude.{◌≡◌, ◌↔◌, ◌<◌, ◌+◌, ◌^◌, ◌∷◌, [], None, IfErr, IfOk, IsTrue, OnOk, length};
 ghost use Rattle.csv.specs.Records.{fields_of};
 ghost use Rattle.fit_csv.specs.declared.from.chain.Chain.{Chain};
-ghost use Rattle.fit_csv.specs.Judged.{AreFilesOf, IsRowFault, IsTextFault};
-ghost use Rattle.fit_csv.specs.Progress.{ChainStep};
+ghost use Rattle.fit_csv.specs.Judged.{AreFilesOf};
+ghost use Rattle.fit_csv.specs.inner.TextFaults.{IsTextFault, IsUnjudged};
+ghost use Rattle.fit_csv.specs.inner.Progress.{ChainStep};
 ghost use Rattle.fit_cells.specs.Rows.{HasRead, first_line};
-ghost use Rattle.fit_csv.specs.Seven.{row_of};
-ghost use Rattle.fit_csv.specs.SoundChain.{IsSoundChain};
+ghost use Rattle.fit_csv.specs.inner.Seven.{row_of};
+ghost use Rattle.fit_csv.specs.inner.SoundChain.{IsSoundChain};
 
 use crate::CsvFault;
 use crate::from::cells::{Cells, cells_of, same};
@@ -52,7 +53,8 @@ fn judge_row(
 ) -> Result<(), CsvFault>
     requires { IsSoundChain chain.old }
     ensures ok { OnOk result (ChainStep chain.old (fields_of row.now) chain.new) }
-    ensures err { IfErr result (IsRowFault (λ r. (t : Chain) × ChainStep chain.old r t) (fields_of row.now) number) }
+    ensures err { IfErr result (IsUnjudged (λ r. (t : Chain) × ChainStep chain.old r t)
+        (fields_of row.now) number) }
 {
     let Some(cells) = cells_of(row) else {
         return Err(CsvFault::BadRow { row: number });
@@ -71,8 +73,10 @@ fn judge_row(
 /// The files of a chain of which so many rows have come, where the text may end behind them.
 fn whole_files(chain: Chain, rows: u64) -> Result<Entries<FitFile>, CsvFault>
     requires { rows < 2 ^ 63 }
-    ensures ok { IfOk result (λ files. (chain.current ≡ None) × (files ≡ chain.files) × (0 < length files)) }
-    ensures err { IfErr result (λ fault. (fault ≡ CsvFault.BadRow (rows + 1)) × (chain.current ≡ None → 0 < length chain.files → ⊥)) }
+    ensures ok { IfOk result (λ files. (chain.current ≡ None) × (files ≡ chain.files)
+        × (0 < length files)) }
+    ensures err { IfErr result (λ fault. (fault ≡ CsvFault.BadRow (rows + 1))
+        × (chain.current ≡ None → 0 < length chain.files → ⊥)) }
 {
     if chain.current.is_some() {
         return Err(CsvFault::BadRow { row: rows + 1 });

@@ -10,8 +10,8 @@ ghost use Rattle.fit_record.specs.Environment.{defined_at};
 ghost use Rattle.fit_record.specs.Records.{DataHeaderFits};
 ghost use Rattle.fit_cells.specs.Cells.{cell};
 ghost use Rattle.fit_csv.specs.ChainRows.{optional_number, row};
-ghost use Rattle.fit_csv.specs.Misfits.{IsMessageOrEnd, IsMessageRow, IsMessageStart, IsCellFault, IsValueRow, global_at, message_row};
-ghost use Rattle.fit_csv.specs.Seven.{row_of};
+ghost use Rattle.fit_csv.specs.inner.Misfits.{IsMessageOrEnd, IsMessageRow, IsMessageStart, IsCellFault, IsValueRow, global_at, message_row};
+ghost use Rattle.fit_csv.specs.inner.Seven.{row_of};
 
 use crate::from::cells::{Cells, first_difference, same};
 use crate::from::misfit::Misfit;
@@ -37,7 +37,8 @@ fn defined_local(cell: &[u8], before: &Stream) -> Option<u8>
     ensures small { IfSome result (λ local. local < 16) }
     ensures shown { IfSome result (λ local. decimal local ≡ cell.now) }
     ensures defined { IfSome result (λ local. IsSome (defined_at (known before.now) local)) }
-    ensures every { (n : ℕ) → n < 16 → decimal n ≡ cell.now → IsSome (defined_at (known before.now) n) → result ≡ Some n }
+    ensures every { (n : ℕ) → n < 16 → decimal n ≡ cell.now
+        → IsSome (defined_at (known before.now) n) → result ≡ Some n }
 {
     let local = byte_in(cell);
     let mut text = Buffer::new();
@@ -70,7 +71,8 @@ fn field_count(before: &Stream, local: u8) -> usize {
 fn offset_in(cell: &[u8], local: u8) -> Option<u8>
     requires { local < 16 }
     ensures fits { DataHeaderFits local result }
-    ensures every { (offset : Option ℕ) → DataHeaderFits local offset → optional_number offset ≡ cell.now → result ≡ offset }
+    ensures every { (offset : Option ℕ) → DataHeaderFits local offset
+        → optional_number offset ≡ cell.now → result ≡ offset }
 {
     if cell.is_empty() {
         return None;
@@ -144,8 +146,10 @@ fn items_in(
     info: Option<Info>,
 ) -> Result<Option<Items>, Misfit>
     requires { IfSome info (λ i. IsScale i.scale) }
-    ensures some { IfOk result (λ found. IfSome found (λ items. HasShape code.0 size items × (cell code.0 (option_map meaning info) items ≡ shown.now))) }
-    ensures every { IfOk result (λ found. (items : Items Global) → HasShape code.0 size items → cell code.0 (option_map meaning info) items ≡ shown.now → found ≡ Some items) }
+    ensures some { IfOk result (λ found. IfSome found (λ items.
+        HasShape code.0 size items × (cell code.0 (option_map meaning info) items ≡ shown.now))) }
+    ensures every { IfOk result (λ found. (items : Items Global) → HasShape code.0 size items
+        → cell code.0 (option_map meaning info) items ≡ shown.now → found ≡ Some items) }
     ensures memory { IfErr result (λ misfit. misfit ≡ Misfit.NoMemory) }
 {
     match str::from_utf8(shown) {
@@ -167,8 +171,10 @@ pub(crate) fn value_row(
 ) -> Result<Items, Misfit>
     requires { IfSome info (λ i. IsScale i.scale) }
     ensures shape { IfOk result (HasShape code.0 size) }
-    ensures ok { IfOk result (λ items. row_of cells.now ≡ row cells.now.kind.now label.now (cell code.0 (option_map meaning info) items) unit.now [] [] []) }
-    ensures err { IfErr result (IsCellFault (IsValueRow cells.now.kind.now label.now code.0 size (option_map meaning info) unit.now) (row_of cells.now)) }
+    ensures ok { IfOk result (λ items. row_of cells.now ≡ row cells.now.kind.now label.now
+        (cell code.0 (option_map meaning info) items) unit.now [] [] []) }
+    ensures err { IfErr result (IsCellFault (IsValueRow cells.now.kind.now label.now code.0 size
+        (option_map meaning info) unit.now) (row_of cells.now)) }
 {
     if !same(cells.a, label) {
         return Err(Misfit::Cell(2));

@@ -1,9 +1,9 @@
 //! The rows of a definition message behind the first one.
 ghost use Rattle.std.specs.Prelude.{◌≡◌, ◌<◌, ◌≤◌, IfErr, OnOk, length};
 ghost use Rattle.fit_csv.specs.declared.from.definition.OpenDefinition.{OpenDefinition};
-ghost use Rattle.fit_csv.specs.Misfits.{IsMisfit};
-ghost use Rattle.fit_csv.specs.Progress.{DefinitionStep, DevDefStep, FieldDefStep, definition_of, is_whole};
-ghost use Rattle.fit_csv.specs.Seven.{row_of};
+ghost use Rattle.fit_csv.specs.inner.Misfits.{IsMisfit};
+ghost use Rattle.fit_csv.specs.inner.Progress.{DefinitionStep, DevDefStep, FieldDefStep, built_definition, is_whole};
+ghost use Rattle.fit_csv.specs.inner.Seven.{row_of};
 
 use crate::from::cells::{Cells, same};
 use crate::from::definition::{OpenDefinition, dev_def, field_def};
@@ -14,7 +14,8 @@ use fit_record::MessageDef;
 fn take_field(definition: &mut OpenDefinition, cells: &Cells) -> Result<(), Misfit>
     requires { length definition.old.fields < definition.old.head.fields }
     ensures ok { OnOk result (FieldDefStep definition.old (row_of cells.now) definition.new) }
-    ensures err { IfErr result (IsMisfit (λ r. (o : OpenDefinition) × FieldDefStep definition.old r o) (row_of cells.now)) }
+    ensures err { IfErr result (IsMisfit (λ r.
+        (o : OpenDefinition) × FieldDefStep definition.old r o) (row_of cells.now)) }
 {
     if !same(cells.kind, b"fdef") {
         return Err(Misfit::Kind);
@@ -30,7 +31,8 @@ fn take_field(definition: &mut OpenDefinition, cells: &Cells) -> Result<(), Misf
 fn take_dev_field(definition: &mut OpenDefinition, cells: &Cells) -> Result<(), Misfit>
     requires { length definition.old.fields ≡ definition.old.head.fields }
     ensures ok { OnOk result (DevDefStep definition.old (row_of cells.now) definition.new) }
-    ensures err { IfErr result (IsMisfit (λ r. (o : OpenDefinition) × DevDefStep definition.old r o) (row_of cells.now)) }
+    ensures err { IfErr result (IsMisfit (λ r. (o : OpenDefinition) × DevDefStep definition.old r o)
+        (row_of cells.now)) }
 {
     if !same(cells.kind, b"ddef") {
         return Err(Misfit::Kind);
@@ -46,7 +48,8 @@ fn take_dev_field(definition: &mut OpenDefinition, cells: &Cells) -> Result<(), 
 pub(crate) fn take_definition(definition: &mut OpenDefinition, cells: &Cells) -> Result<(), Misfit>
     requires { length definition.old.fields ≤ definition.old.head.fields }
     ensures ok { OnOk result (DefinitionStep definition.old (row_of cells.now) definition.new) }
-    ensures err { IfErr result (IsMisfit (λ r. (o : OpenDefinition) × DefinitionStep definition.old r o) (row_of cells.now)) }
+    ensures err { IfErr result (IsMisfit (λ r.
+        (o : OpenDefinition) × DefinitionStep definition.old r o) (row_of cells.now)) }
 {
     if definition.fields.len() < definition.head.fields as usize {
         take_field(definition, cells)
@@ -66,7 +69,7 @@ pub(crate) fn is_whole(definition: &OpenDefinition) -> bool
 
 /// The definition with the fields that have come.
 pub(crate) fn definition_of(definition: OpenDefinition) -> MessageDef
-    ensures { result ≡ definition_of definition }
+    ensures { result ≡ built_definition definition }
 {
     MessageDef {
         local: definition.head.local,

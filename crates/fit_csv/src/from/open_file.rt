@@ -3,10 +3,10 @@ ghost use Rattle.std.specs.Prelude.{◌≡◌, ◌↔◌, IfErr, IfOk, IsTrue, O
 ghost use Rattle.fit_record.specs.Records.{Fits};
 ghost use Rattle.fit_profile.specs.Looks.{known};
 ghost use Rattle.fit_csv.specs.declared.from.open_file.Part.{Part};
-ghost use Rattle.fit_csv.specs.Misfits.{IsMisfit};
-ghost use Rattle.fit_csv.specs.Progress.{CanGoOn, FileStep, FitsOnceWhole, PartHasRoom, PartStep, settled, with_record};
-ghost use Rattle.fit_csv.specs.Seven.{row_of};
-ghost use Rattle.fit_csv.specs.SoundChain.{IsSoundFile};
+ghost use Rattle.fit_csv.specs.inner.Misfits.{IsMisfit};
+ghost use Rattle.fit_csv.specs.inner.Progress.{CanStandNext, FileStep, FitsOnceWhole, PartHasRoom, PartStep, settled, with_record};
+ghost use Rattle.fit_csv.specs.inner.Seven.{row_of};
+ghost use Rattle.fit_csv.specs.inner.SoundChain.{IsSoundFile};
 
 use crate::from::cells::{Cells, same};
 use crate::from::definition::{OpenDefinition, definition_head};
@@ -44,7 +44,8 @@ pub(crate) struct OpenFile {
 fn begin_definition(alloc: Global, before: &Stream, cells: &Cells) -> Result<Part, Misfit>
     requires { cells.now.kind.now ≡ codes "def" }
     ensures ok { IfOk result (PartStep before.now Part.Nothing (row_of cells.now)) }
-    ensures err { IfErr result (IsMisfit (CanGoOn before.now Part.Nothing) (row_of cells.now)) }
+    ensures err { IfErr result
+        (IsMisfit (CanStandNext before.now Part.Nothing) (row_of cells.now)) }
 {
     let head = definition_head(cells)?;
     Ok(Part::Definition(OpenDefinition {
@@ -58,7 +59,8 @@ fn begin_definition(alloc: Global, before: &Stream, cells: &Cells) -> Result<Par
 fn begin_message(alloc: Global, before: &Stream, cells: &Cells) -> Result<Part, Misfit>
     requires { cells.now.kind.now ≡ codes "data" }
     ensures ok { IfOk result (PartStep before.now Part.Nothing (row_of cells.now)) }
-    ensures err { IfErr result (IsMisfit (CanGoOn before.now Part.Nothing) (row_of cells.now)) }
+    ensures err { IfErr result
+        (IsMisfit (CanStandNext before.now Part.Nothing) (row_of cells.now)) }
 {
     let values = message_head(alloc, cells, before)?;
     Ok(Part::Message(values))
@@ -68,7 +70,8 @@ fn begin_message(alloc: Global, before: &Stream, cells: &Cells) -> Result<Part, 
 fn begin_record(alloc: Global, before: &Stream, cells: &Cells) -> Result<Part, Misfit>
     requires { cells.now.kind.now ≡ codes "end" → ⊥ }
     ensures ok { IfOk result (PartStep before.now Part.Nothing (row_of cells.now)) }
-    ensures err { IfErr result (IsMisfit (CanGoOn before.now Part.Nothing) (row_of cells.now)) }
+    ensures err { IfErr result
+        (IsMisfit (CanStandNext before.now Part.Nothing) (row_of cells.now)) }
 {
     if same(cells.kind, b"def") {
         begin_definition(alloc, before, cells)
@@ -90,7 +93,7 @@ fn next_part(
     requires room { PartHasRoom before.now part }
     requires kind { part ≡ Part.Nothing → cells.now.kind.now ≡ codes "end" → ⊥ }
     ensures ok { IfOk result (PartStep before.now part (row_of cells.now)) }
-    ensures err { IfErr result (IsMisfit (CanGoOn before.now part) (row_of cells.now)) }
+    ensures err { IfErr result (IsMisfit (CanStandNext before.now part) (row_of cells.now)) }
 {
     match part {
         Part::Nothing => begin_record(alloc, before, cells),
@@ -164,7 +167,8 @@ impl OpenFile {
         requires sound { IsSoundFile self.old }
         requires kind { self.old.part ≡ Part.Nothing → cells.now.kind.now ≡ codes "end" → ⊥ }
         ensures ok { OnOk result (FileStep self.old (row_of cells.now) self.new) }
-        ensures err { IfErr result (IsMisfit (CanGoOn self.old.before self.old.part) (row_of cells.now)) }
+        ensures err { IfErr result (IsMisfit (CanStandNext self.old.before self.old.part)
+            (row_of cells.now)) }
     {
         let part = mem::replace(&mut self.part, Part::Nothing);
         let part = next_part(alloc, written, &self.before, part, cells)?;

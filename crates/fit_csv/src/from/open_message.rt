@@ -5,9 +5,9 @@ ghost use Rattle.fit_record.specs.declared.message.Values.{Values};
 ghost use Rattle.fit_record.specs.Environment.{defined_at, dev_defs};
 ghost use Rattle.fit_record.specs.Sound.{IsSound};
 ghost use Rattle.fit_profile.specs.Looks.{known};
-ghost use Rattle.fit_csv.specs.Misfits.{IsMisfit};
-ghost use Rattle.fit_csv.specs.Progress.{DevStep, FieldStep, HasRoom, MessageStep, is_whole_message};
-ghost use Rattle.fit_csv.specs.Seven.{row_of};
+ghost use Rattle.fit_csv.specs.inner.Misfits.{IsMisfit};
+ghost use Rattle.fit_csv.specs.inner.Progress.{DevStep, FieldStep, HasRoom, MessageStep, is_whole_message};
+ghost use Rattle.fit_csv.specs.inner.Seven.{row_of};
 
 use crate::definition_rows::dev_slice;
 use crate::from::cells::Cells;
@@ -40,7 +40,8 @@ fn take_field(
 ) -> Result<(), Misfit>
     requires { slice_get defined.now.definition.fields (length values.old.fields) ≡ Some field }
     ensures ok { OnOk result (FieldStep defined.now values.old (row_of cells.now) values.new) }
-    ensures err { IfErr result (IsMisfit (λ r. (w : Values Global) × FieldStep defined.now values.old r w) (row_of cells.now)) }
+    ensures err { IfErr result (IsMisfit (λ r.
+        (w : Values Global) × FieldStep defined.now values.old r w) (row_of cells.now)) }
 {
     let items = field_items(alloc, written, cells, defined.definition.global, field)?;
     add(&mut values.fields, items)
@@ -57,8 +58,10 @@ fn take_dev_field(
 ) -> Result<(), Misfit>
     requires all { length values.old.fields ≡ length defined.now.definition.fields }
     requires sound { IsSound defined.now }
-    ensures ok { OnOk result (DevStep before.now defined.now values.old (row_of cells.now) values.new) }
-    ensures err { IfErr result (IsMisfit (λ r. (w : Values Global) × DevStep before.now defined.now values.old r w) (row_of cells.now)) }
+    ensures ok { OnOk result (DevStep before.now defined.now values.old (row_of cells.now)
+        values.new) }
+    ensures err { IfErr result (IsMisfit (λ r.
+        (w : Values Global) × DevStep before.now defined.now values.old r w) (row_of cells.now)) }
 {
     let place = values.dev.len();
     let Some(field) = dev_slice(&defined.definition.dev).get(place) else {
@@ -91,8 +94,11 @@ fn take_by(
 ) -> Result<(), Misfit>
     requires room { length values.old.fields ≤ length defined.now.definition.fields }
     requires sound { IsSound defined.now }
-    ensures ok { OnOk result (FieldStep defined.now values.old (row_of cells.now) values.new ⊎ DevStep before.now defined.now values.old (row_of cells.now) values.new) }
-    ensures err { IfErr result (IsMisfit (λ r. (w : Values Global) × (FieldStep defined.now values.old r w ⊎ DevStep before.now defined.now values.old r w)) (row_of cells.now)) }
+    ensures ok { OnOk result (FieldStep defined.now values.old (row_of cells.now) values.new
+        ⊎ DevStep before.now defined.now values.old (row_of cells.now) values.new) }
+    ensures err { IfErr result (IsMisfit (λ r. (w : Values Global) ×
+        (FieldStep defined.now values.old r w ⊎ DevStep before.now defined.now values.old r w))
+        (row_of cells.now)) }
 {
     match defined
         .definition
@@ -115,7 +121,8 @@ pub(crate) fn take_message(
 ) -> Result<(), Misfit>
     requires { HasRoom before.now values.old }
     ensures ok { OnOk result (MessageStep before.now values.old (row_of cells.now) values.new) }
-    ensures err { IfErr result (IsMisfit (λ r. (w : Values Global) × MessageStep before.now values.old r w) (row_of cells.now)) }
+    ensures err { IfErr result (IsMisfit (λ r.
+        (w : Values Global) × MessageStep before.now values.old r w) (row_of cells.now)) }
 {
     match before.env().defined(values.local) {
         Some(defined) => take_by(alloc, written, cells, before, defined, values),

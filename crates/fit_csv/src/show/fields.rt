@@ -22,7 +22,8 @@ const BYTE: Code = Code(0x0D);
 
 /// Puts words behind a text, one after another.
 pub(crate) fn put_words(text: &mut Vec<u8>, words: &[&[u8]]) -> Result<(), AllocError>
-    ensures { OnOk result (text.new.items ≡ text.old.items ++ lines.joined (map (λ w. w.now) words.now)) }
+    ensures { OnOk result (text.new.items ≡ text.old.items
+        ++ lines.joined (map (λ w. w.now) words.now)) }
 {
     for word in words {
         text.extend_from_slice(word)?;
@@ -47,7 +48,8 @@ fn put_shown_cell(
     requires scale { IfSome info (λ i. IsScale i.scale) }
     requires width { (items.now.width ≡ (base_type code.0).width) ⊎ (items.now.width ≡ 1) }
     requires bits { All (λ n. n < 256 ^ items.now.width) items.now.bits }
-    ensures { OnOk result (text.new.items ≡ text.old.items ++ lines.shown_cell code.0 (option_map meaning info) items.now) }
+    ensures { OnOk result (text.new.items ≡ text.old.items
+        ++ lines.shown_cell code.0 (option_map meaning info) items.now) }
 {
     let start = text.len();
     put_cell(text, code, info, items)?;
@@ -61,7 +63,9 @@ fn put_shown_cell(
 
 /// Puts a unit behind a cell, where neither is empty.
 fn put_unit(text: &mut Vec<u8>, cell: usize, unit: &str) -> Result<(), AllocError>
-    ensures { OnOk result (text.new.items ≡ text.old.items ++ (if (cell == 0) || (length unit.now == 0) then [] else lines.joined (codes " " ∷ unit.now ∷ []))) }
+    ensures { OnOk result (text.new.items ≡ text.old.items
+        ++ (if (cell == 0) || (length unit.now == 0) then []
+        else lines.joined (codes " " ∷ unit.now ∷ []))) }
 {
     if cell == 0 || unit.is_empty() {
         return Ok(());
@@ -79,7 +83,8 @@ fn separator(before: usize) -> &'static str
 
 /// Puts the name of a field behind a separator.
 fn put_name<'a>(text: &mut Vec<u8>, separator: &'a [u8], name: &'a [u8]) -> Result<(), AllocError>
-    ensures { OnOk result (text.new.items ≡ text.old.items ++ lines.joined (separator.now ∷ name.now ∷ codes "=" ∷ [])) }
+    ensures { OnOk result (text.new.items ≡ text.old.items
+        ++ lines.joined (separator.now ∷ name.now ∷ codes "=" ∷ [])) }
 {
     let words = [separator, name, b"=".as_slice()];
     put_words(text, words.as_slice())
@@ -98,7 +103,9 @@ fn put_shown<'a>(
     requires scale { IfSome info (λ i. IsScale i.scale) }
     requires width { (items.now.width ≡ (base_type code.0).width) ⊎ (items.now.width ≡ 1) }
     requires bits { All (λ n. n < 256 ^ items.now.width) items.now.bits }
-    ensures { OnOk result (text.new.items ≡ text.old.items ++ (lines.separator before ++ lines.shown name.now (lines.shown_cell code.0 (option_map meaning info) items.now) unit.now)) }
+    ensures { OnOk result (text.new.items ≡ text.old.items
+        ++ (lines.separator before ++ lines.shown_part name.now
+        (lines.shown_cell code.0 (option_map meaning info) items.now) unit.now)) }
 {
     put_name(text, separator(before).as_bytes(), name.as_bytes())?;
     let start = text.len();
@@ -117,7 +124,8 @@ fn put_field(
     items: &Items,
 ) -> Result<(), AllocError>
     requires { HasShape field.now.code field.now.size items.now }
-    ensures { OnOk result (text.new.items ≡ text.old.items ++ (lines.separator before ++ lines.shown_field global field.now items.now)) }
+    ensures { OnOk result (text.new.items ≡ text.old.items
+        ++ (lines.separator before ++ lines.shown_field global field.now items.now)) }
 {
     let info = field_info(global, field.number);
     match info {
@@ -157,7 +165,8 @@ pub(crate) fn put_fields(
 ) -> Result<(), AllocError>
     requires few { length fields.now < 256 }
     requires shapes { HaveShape (map (λ f. (f.code, f.size)) fields.now) items.now }
-    ensures { OnOk result (text.new.items ≡ text.old.items ++ lines.listed 0 (lines.shown_fields global fields.now items.now)) }
+    ensures { OnOk result (text.new.items ≡ text.old.items
+        ++ lines.listed 0 (lines.shown_fields global fields.now items.now)) }
 {
     for (place, field) in fields.iter().enumerate() {
         put_field(text, place, global, field, &items[place])?;
@@ -176,7 +185,9 @@ fn put_dev<'a>(
     unit: &'a str,
 ) -> Result<(), AllocError>
     requires { HasShape code field.now.size items.now }
-    ensures { OnOk result (text.new.items ≡ text.old.items ++ (lines.separator before ++ lines.shown label.now (lines.shown_cell code None items.now) unit.now)) }
+    ensures { OnOk result (text.new.items ≡ text.old.items
+        ++ (lines.separator before ++ lines.shown_part label.now
+        (lines.shown_cell code None items.now) unit.now)) }
 {
     put_shown(text, before, label, Code(code), None, items, unit)
 }
@@ -197,7 +208,9 @@ pub(crate) fn put_devs(
     requires codes { length dev_codes.now ≡ length fields.now }
     requires namings { length (namings_at stream.now local) ≡ length fields.now }
     requires shapes { HaveShape (zip dev_codes.now (map (λ f. f.size) fields.now)) items.now }
-    ensures { OnOk result (text.new.items ≡ text.old.items ++ lines.listed before (lines.shown_devs fields.now dev_codes.now (namings_at stream.now local) items.now)) }
+    ensures { OnOk result (text.new.items ≡ text.old.items
+        ++ lines.listed before (lines.shown_devs fields.now dev_codes.now
+        (namings_at stream.now local) items.now)) }
 {
     for (place, field) in fields.iter().enumerate() {
         let numbered = numbered_label(field);

@@ -7,8 +7,8 @@ ghost use Rattle.fit_profile.specs.Described.{namings_at};
 ghost use Rattle.fit_profile.specs.Looks.{known};
 ghost use Rattle.fit_csv.specs.ShowLines.{definition_line, header_line, joined, message_front, message_line, versions_text};
 ghost use Rattle.fit_csv.specs.ChainRows as rows;
-ghost use Rattle.fit_csv.specs.Reporting.{AnswerFits};
-ghost use Rattle.fit_csv.specs.Showing.{line_with, text_with};
+ghost use Rattle.fit_csv.specs.inner.Reporting.{AnswerFits};
+ghost use Rattle.fit_csv.specs.inner.Showing.{line_with, text_with};
 
 use crate::definition_rows::{dev_slice, order_word};
 use crate::file_rows::sum_word;
@@ -41,7 +41,9 @@ fn put_versions(text: &mut Vec<u8>, header: &Header) -> Result<(), AllocError>
 
 /// Puts how many bytes of data a file has, and what its header says of its own sum.
 fn put_data_size(text: &mut Vec<u8>, header: &Header, size: u32) -> Result<(), AllocError>
-    ensures { OnOk result (text.new.items ≡ text.old.items ++ joined (codes ", data " ∷ decimal size ∷ codes ", " ∷ rows.sum_word header.now.sum ∷ codes "\n" ∷ [])) }
+    ensures { OnOk result (text.new.items ≡ text.old.items
+        ++ joined (codes ", data " ∷ decimal size ∷ codes ", " ∷ rows.sum_word header.now.sum
+        ∷ codes "\n" ∷ [])) }
 {
     let mut sizes = Buffer::new();
     let words = [
@@ -138,7 +140,8 @@ fn put_message(
     requires place { defined_at (known stream.now) values.now.local ≡ Some defined.now }
     requires sound { IsSound defined.now }
     requires fits { DataFits values.now defined.now }
-    ensures { OnOk result (text.new.items ≡ text.old.items ++ message_line values.now defined.now time (namings_at stream.now values.now.local)) }
+    ensures { OnOk result (text.new.items ≡ text.old.items
+        ++ message_line values.now defined.now time (namings_at stream.now values.now.local)) }
 {
     let definition = &defined.definition;
     put_front(text, values.local, definition.global, time)?;
@@ -160,7 +163,8 @@ fn put_record(
     record_: &Record,
 ) -> Result<(), AllocError>
     requires { Fits (known stream.now) record_.now }
-    ensures { OnOk result (text.new.items ≡ text.old.items ++ line_with stream.now time record_.now) }
+    ensures { OnOk result
+        (text.new.items ≡ text.old.items ++ line_with stream.now time record_.now) }
 {
     match record_ {
         Record::Define(definition) => put_definition(text, definition),
@@ -180,7 +184,8 @@ pub(crate) fn put_event(
     event: &Event,
 ) -> Result<(), AllocError>
     requires { AnswerFits stream.now event.now }
-    ensures { OnOk result (text.new.items ≡ text.old.items ++ text_with files stream.now time event.now) }
+    ensures { OnOk result (text.new.items ≡ text.old.items
+        ++ text_with files stream.now time event.now) }
 {
     match event {
         Event::Header(header, size) => put_header(text, files, header, *size),

@@ -7,4 +7,5 @@ loop-field-init c = rows_none c.args.text.now
 
 pub loop-field-preserved : goal.loop-field-preserved
 loop-field-preserved c =
-    rows_more dev_def_row c.args.fields.now c.loop-field.field-index _ c.args.text.now c.loop-field.text c.put_numbers.new.text c.loop-field-test.true c.loop-field.invariant c.in_ok-put_numbers.ensures
+    rows_more dev_def_row c.args.fields.now c.loop-field.field-index _ c.args.text.now c.loop-field.text c.put_numbers.new.text c.loop-field-test.true
+    c.loop-field.invariant c.in_ok-put_numbers.ensures

@@ -18,7 +18,8 @@ bounds-items-place c =
 
 pub put_dev_field-requires : goal.put_dev_field-requires
 put_dev_field-requires c =
-    dev_shape c.args.fields.now c.args.dev_codes.now c.args.items.now c.loop-place.place c.index-items-place.result c.requires.codes c.requires.shapes c.loop-place-test.true c.index-items-place.is
+    dev_shape c.args.fields.now c.args.dev_codes.now c.args.items.now c.loop-place.place c.index-items-place.result c.requires.codes c.requires.shapes
+    c.loop-place-test.true c.index-items-place.is
 
 pub loop-place-preserved : goal.loop-place-preserved
 loop-place-preserved c =
@@ -32,11 +33,23 @@ loop-place-preserved c =
     let coded_too : k < length coded = omega (arith, c.requires.codes, within) in
     let named_too : k < length namings = omega (arith, c.requires.namings, within) in
     let items_too : k < length items = omega (arith, dev_long fields coded items c.requires.codes c.requires.shapes, within) in
-    let named = dev_named (get_or fields k nothing) (get_or coded k 0) namings item k c.numbered_label-numbered.result.bytes c.dev_name-label.result.now c.dev_unit-unit.result.now named_too
+    let named = dev_named (get_or fields k nothing) (get_or coded k 0) namings item k c.numbered_label-numbered.result.bytes c.dev_name-label.result.now
+    c.dev_unit-unit.result.now named_too
     c.numbered_label-numbered.ensures c.dev_name-label.ensures c.dev_unit-unit.ensures in
-    rows_more (λ x. dev_row x.0.0 x.0.1 x.1.0 x.1.1) (zip (zip fields coded) (zip namings items)) k ((nothing, 0), (nameless, item)) c.args.text.now c.loop-place.text c.put_dev_field.new.text
-    (omega (arith, length-zip (zip fields coded) (zip namings items), length-zip fields coded, length-zip namings items, within, coded_too, named_too, items_too)) c.loop-place.invariant
-    (subst (λ x. HasRows (dev_row x.0.0 x.0.1 x.1.0 x.1.1 ∷ []) c.loop-place.text c.put_dev_field.new.text) (dev_place fields coded namings items k item within coded_too named_too items_too c.index-items-place.is)
+    rows_more (λ x. dev_row x.0.0 x.0.1 x.1.0 x.1.1) (zip (zip fields coded) (zip namings items)) k ((nothing, 0), (nameless, item)) c.args.text.now
+    c.loop-place.text c.put_dev_field.new.text
+    (omega (
+      arith,
+      length-zip (zip fields coded) (zip namings items),
+      length-zip fields coded,
+      length-zip namings items,
+      within,
+      coded_too,
+      named_too,
+      items_too,
+    )) c.loop-place.invariant
+    (subst (λ x. HasRows (dev_row x.0.0 x.0.1 x.1.0 x.1.1 ∷ []) c.loop-place.text c.put_dev_field.new.text)
+    (dev_place fields coded namings items k item within coded_too named_too items_too c.index-items-place.is)
     (subst (λ r. HasRows (r ∷ []) c.loop-place.text c.put_dev_field.new.text) named c.in_ok-put_dev_field.ensures))
 
 pub returns : goal.returns

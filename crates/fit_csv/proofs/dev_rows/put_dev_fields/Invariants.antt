@@ -7,4 +7,5 @@ use Rattle.fit_csv.proofs.dev_rows.put_dev_fields.Given as goal
 
 abbrev pub invariant-loop-place : goal.invariant-loop-place
 invariant-loop-place l =
-    HasRows (map (λ x. dev_row x.0.0 x.0.1 x.1.0 x.1.1) (take l.place (zip (zip l.fields l.dev_codes) (zip (namings_at l.stream l.local) l.items)))) l.initial.text l.text
+    HasRows (map (λ x. dev_row x.0.0 x.0.1 x.1.0 x.1.1) (take l.place (zip (zip l.fields l.dev_codes) (zip (namings_at l.stream l.local) l.items))))
+    l.initial.text l.text

@@ -4,6 +4,11 @@ use Rattle.fit_csv.proofs.from.from_csv.Goals as goal
 pub returns-clause-chain : goal.returns-clause-chain
 returns-clause-chain g c text files bytes input is =
     from-text-of c.chains_have_own_rows.ensures c.good_chains_have_no_fault.ensures text files bytes
-    (record { before = g.S.Source.remaining c.args.source.now; after = g.S.Source.remaining c.convert.new.source; failed = g.S.Source.has_failed c.convert.new.source })
+    (record {
+      before = g.S.Source.remaining c.args.source.now;
+      after = g.S.Source.remaining c.convert.new.source;
+      failed =
+          g.S.Source.has_failed c.convert.new.source;
+    })
     (record { before = g.K.Sink.contents c.args.sink.now; after = g.K.Sink.contents c.convert.new.sink; failed = g.K.Sink.has_failed c.convert.new.sink })
     input is c.convert.result c.convert.ensures.reads

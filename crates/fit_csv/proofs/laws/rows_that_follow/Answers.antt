@@ -1,4 +1,4 @@
-use Rattle.fit_csv.proofs.Following.{rows-that-follow}
+use Rattle.fit_csv.proofs.PlacesOfRows.{rows-that-follow}
 use Rattle.fit_csv.proofs.laws.rows_that_follow.Goals as goal
 
 pub returns : goal.returns

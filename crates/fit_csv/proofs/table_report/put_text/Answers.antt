@@ -1,7 +1,7 @@
 use Rattle.std.proofs.Common.{◌∙◌, ◌++◌, ap, sym}
 use Rattle.std.proofs.lemmas.List.{append-nil}
 use Rattle.fit_cells.specs.Rows.{csv_text}
-use Rattle.fit_csv.specs.TableCells.{rows_in}
+use Rattle.fit_csv.specs.inner.TableCells.{rows_in}
 use Rattle.fit_csv.proofs.table_report.put_text.Goals as goal
 
 pub returns-in-None : goal.returns-in-None

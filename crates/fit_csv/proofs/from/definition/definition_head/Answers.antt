@@ -1,6 +1,6 @@
 use Rattle.std.proofs.Common.{◌∙◌, refl}
-use Rattle.fit_csv.specs.Misfits.{IsHeadRow, head_row}
-use Rattle.fit_csv.specs.Seven.{DifferAt, row_of}
+use Rattle.fit_csv.specs.inner.Misfits.{IsHeadRow, head_row}
+use Rattle.fit_csv.specs.inner.Seven.{DifferAt, row_of}
 use Rattle.fit_csv.proofs.Closest.{closest}
 use Rattle.fit_csv.proofs.from.definition.definition_head.Goals as goal
 
@@ -15,4 +15,5 @@ returns-in-Some-clause-err c =
     let ee = c.as_bytes-5.ensures.value ∙ c.format-4.ensures.text in
     let differs : DifferAt c.in-Some.column (head_row c.closest_head-head.result) (row_of c.args.cells.now) =
     rw (← c.requires, ← ea, ← eb, ← ec, ← ed, ← ee, ← c.optional_number.ensures) c.in-Some.ensures.some in
-    closest IsHeadRow (row_of c.args.cells.now) (head_row c.closest_head-head.result) c.in-Some.column (c.closest_head-head.result, c.closest_head-head.ensures.range, refl) c.closest_head-head.ensures.far differs
+    closest IsHeadRow (row_of c.args.cells.now) (head_row c.closest_head-head.result) c.in-Some.column
+    (c.closest_head-head.result, c.closest_head-head.ensures.range, refl) c.closest_head-head.ensures.far differs

@@ -1,8 +1,8 @@
 use Rattle.std.proofs.Common.{◌∙◌, [], decimal, refl}
 use Rattle.fit_csv.specs.ChainRows.{row}
-use Rattle.fit_csv.specs.Misfits.{IsRowOfThree}
+use Rattle.fit_csv.specs.inner.Misfits.{IsRowOfThree}
 use Rattle.fit_cells.specs.Rows.{Row}
-use Rattle.fit_csv.specs.Seven.{DifferAt, row_of}
+use Rattle.fit_csv.specs.inner.Seven.{DifferAt, row_of}
 use Rattle.fit_csv.proofs.Closest.{closest}
 use Rattle.fit_csv.proofs.ClosestRows.{three-closest}
 use Rattle.fit_csv.proofs.from.definition.three_bytes.Goals as goal
@@ -17,6 +17,7 @@ returns-in-Some-clause-err c =
     let differs : DifferAt c.in-Some.column shown (row_of c.args.cells.now) = rw (← ea, ← eb, ← ec) c.in-Some.ensures.some in
     closest (IsRowOfThree c.args.cells.now.kind.now) (row_of c.args.cells.now) shown c.in-Some.column
     (c.byte_in-a.result, c.byte_in-b.result, c.byte_in-c.result, c.byte_in-a.type_inv, c.byte_in-b.type_inv, c.byte_in-c.type_inv, refl)
-    (three-closest cells.kind.now cells.a.now cells.b.now cells.c.now cells.d.now cells.e.now cells.f.now c.byte_in-a.result c.byte_in-b.result c.byte_in-c.result
+    (three-closest cells.kind.now cells.a.now cells.b.now cells.c.now cells.d.now cells.e.now cells.f.now c.byte_in-a.result c.byte_in-b.result
+    c.byte_in-c.result
     c.byte_in-a.ensures c.byte_in-b.ensures c.byte_in-c.ensures)
     differs

@@ -16,5 +16,6 @@ returns-clause-range c = record {
 pub returns-clause-far : goal.returns-clause-far
 returns-clause-far c other stands =
     let cells = c.args.cells.now in
-    rw c.requires (header-closest cells.a.now cells.b.now cells.c.now cells.d.now cells.e.now cells.f.now _ c.size_in-size.ensures.every c.protocol_in.ensures.every c.number_in.ensures
+    rw c.requires (header-closest cells.a.now cells.b.now cells.c.now cells.d.now cells.e.now cells.f.now _ c.size_in-size.ensures.every
+    c.protocol_in.ensures.every c.number_in.ensures
     c.sum_in.ensures.every c.in_ok-rest.ensures.every other stands)

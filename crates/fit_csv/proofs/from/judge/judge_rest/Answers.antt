@@ -3,7 +3,8 @@ use Rattle.std.proofs.lemmas.Result.{MatchResult-weaker, err_from_is_err_and}
 use Rattle.std.specs.Global.{Global}
 use Rattle.csv.specs.Records.{fields_of}
 use Rattle.fit_record.specs.declared.file.FitFile.{FitFile}
-use Rattle.fit_csv.specs.Judged.{AreFilesOf, IsCutOff, IsTextFault}
+use Rattle.fit_csv.specs.Judged.{AreFilesOf, IsCutOff}
+use Rattle.fit_csv.specs.inner.TextFaults.{IsTextFault}
 use Rattle.fit_cells.specs.Rows.{Follows, first_line}
 use Rattle.fit_csv.specs.declared.fault.CsvFault.{CsvFault}
 use Rattle.fit_csv.proofs.Judging.{cut-text, judged, one-more, refused-row, too-many, whole-text}
@@ -17,7 +18,8 @@ pub returns-then-not-found-clause-ok : goal.returns-then-not-found-clause-ok
 returns-then-not-found-clause-ok c =
     let (rows, count, read, run) = c.loop-number.invariant in
     let text = c.args.text.now in
-    let all = subst (λ (found : Bool). Follows found (fields_of c.next_row.new.row) c.args.text.now (first_line ∷ c.loop-number.invariant.0) c.next_row.new.reader) c.if-not-found.true
+    let all = subst (λ (found : Bool). Follows found (fields_of c.next_row.new.row) c.args.text.now (first_line ∷ c.loop-number.invariant.0)
+    c.next_row.new.reader) c.if-not-found.true
     (c.in-Ok.ensures c.args.text.now (first_line ∷ c.loop-number.invariant.0) read) in
     MatchResult-weaker c.whole_files.result c.whole_files.ensures.ok
     (λ files h. subst (λ (l : List (FitFile Global)). AreFilesOf c.args.text.now l) (sym h.1)
@@ -28,7 +30,8 @@ pub returns-then-not-found-clause-err : goal.returns-then-not-found-clause-err
 returns-then-not-found-clause-err c =
     let (rows, count, read, run) = c.loop-number.invariant in
     let text = c.args.text.now in
-    let all = subst (λ (found : Bool). Follows found (fields_of c.next_row.new.row) c.args.text.now (first_line ∷ c.loop-number.invariant.0) c.next_row.new.reader) c.if-not-found.true
+    let all = subst (λ (found : Bool). Follows found (fields_of c.next_row.new.row) c.args.text.now (first_line ∷ c.loop-number.invariant.0)
+    c.next_row.new.reader) c.if-not-found.true
     (c.in-Ok.ensures c.args.text.now (first_line ∷ c.loop-number.invariant.0) read) in
     let counted : length c.loop-number.invariant.0 + 2 ≡ c.loop-number.number + 1 = omega (arith, count) in
     MatchResult-weaker c.whole_files.result c.whole_files.ensures.err
@@ -45,19 +48,26 @@ pub returns-in_err-judge_row-clause-err : goal.returns-in_err-judge_row-clause-e
 returns-in_err-judge_row-clause-err c =
     let (rows, count, read, run) = c.loop-number.invariant in
     let p = err_from_is_err_and c.from_residual.result c.from_residual.ensures.1 in
-    let more = subst (λ (found : Bool). Follows found (fields_of c.next_row.new.row) c.args.text.now (first_line ∷ c.loop-number.invariant.0) c.next_row.new.reader) c.if-not-found.false
+    let more = subst (λ (found : Bool). Follows found (fields_of c.next_row.new.row) c.args.text.now (first_line ∷ c.loop-number.invariant.0)
+    c.next_row.new.reader) c.if-not-found.false
     (c.in-Ok.ensures c.args.text.now (first_line ∷ c.loop-number.invariant.0) read) in
     let counted : c.loop-number.number + 1 ≡ length c.loop-number.invariant.0 + 2 = omega (arith, count) in
-    rw (p.1, p.2) (refused-row c.text_has_one_number.ensures c.args.text.now rows c.loop-number.chain (fields_of c.next_row.new.row) (c.loop-number.number + 1) c.in_err-judge_row.field-0.0 c.next_row.new.reader
+    rw (p.1, p.2) (refused-row c.text_has_one_number.ensures c.args.text.now rows c.loop-number.chain (fields_of c.next_row.new.row) (c.loop-number.number + 1)
+    c.in_err-judge_row.field-0.0 c.next_row.new.reader
     run more counted c.in_err-judge_row.ensures.err)
 
 pub loop-number-preserved : goal.loop-number-preserved
 loop-number-preserved c =
     let (rows, count, read, run) = c.loop-number.invariant in
     let this = fields_of c.next_row.new.row in
-    let more = subst (λ (found : Bool). Follows found (fields_of c.next_row.new.row) c.args.text.now (first_line ∷ c.loop-number.invariant.0) c.next_row.new.reader) c.if-not-found.false
-    (c.in-Ok.ensures c.args.text.now (first_line ∷ c.loop-number.invariant.0) read) in
-    (rows ++ this ∷ [], omega (arith, count, length-append rows (this ∷ [])), more, one-more rows c.loop-number.chain this c.judge_row.new.chain run c.in_ok-judge_row.ensures.ok)
+    let more = subst (λ (found : Bool). Follows found (fields_of c.next_row.new.row) c.args.text.now (first_line ∷ c.loop-number.invariant.0)
+    c.next_row.new.reader) c.if-not-found.false
+    (c.in-Ok.ensures c.args.text.now (first_line ∷ c.loop-number.invariant.0) read) in (
+      rows ++ this ∷ [],
+      omega (arith, count, length-append rows (this ∷ [])),
+      more,
+      one-more rows c.loop-number.chain this c.judge_row.new.chain run c.in_ok-judge_row.ensures.ok,
+    )
 
 pub unreachable-requires : goal.unreachable-requires
 unreachable-requires c =

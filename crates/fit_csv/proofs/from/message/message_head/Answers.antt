@@ -1,7 +1,7 @@
 use Rattle.std.proofs.Common.{[], ◌∷◌, ap}
 use Rattle.std.proofs.lemmas.Result.{MatchResult-weaker}
 use Rattle.fit_cells.specs.Rows.{Cell}
-use Rattle.fit_csv.specs.Seven.{row_of}
+use Rattle.fit_csv.specs.inner.Seven.{row_of}
 use Rattle.fit_csv.proofs.MessageRows.{message-or-end, no-message}
 use Rattle.fit_csv.proofs.from.message.message_head.Goals as goal
 
@@ -13,4 +13,5 @@ returns-in-Some-clause-err c =
 pub returns-in-None-clause-err : goal.returns-in-None-clause-err
 returns-in-None-clause-err c =
     let cells = c.args.cells.now in
-    rw c.requires (no-message c.args.before.now cells.a.now cells.b.now cells.c.now cells.d.now cells.e.now cells.f.now (λ n small shows defined. cc (c.in-None.ensures.every n small shows defined)))
+    rw c.requires (no-message c.args.before.now cells.a.now cells.b.now cells.c.now cells.d.now cells.e.now cells.f.now
+    (λ n small shows defined. cc (c.in-None.ensures.every n small shows defined)))

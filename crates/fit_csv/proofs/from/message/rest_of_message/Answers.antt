@@ -3,9 +3,9 @@ use Rattle.std.specs.Prelude.{codes, option_map, unwrap_or}
 use Rattle.fit_csv.specs.InstantText.{instant_text}
 use Rattle.fit_profile.specs.Names.{message_label}
 use Rattle.fit_csv.specs.ChainRows.{optional_number, row}
-use Rattle.fit_csv.specs.Misfits.{IsMessageRow, global_at}
+use Rattle.fit_csv.specs.inner.Misfits.{IsMessageRow, global_at}
 use Rattle.fit_cells.specs.Rows.{Row}
-use Rattle.fit_csv.specs.Seven.{DifferAt, row_of}
+use Rattle.fit_csv.specs.inner.Seven.{DifferAt, row_of}
 use Rattle.fit_csv.proofs.Closest.{closest}
 use Rattle.fit_csv.proofs.SevenCells.{same-cells}
 use Rattle.fit_csv.proofs.MessageRows.{message-closest, time_cell}
@@ -17,14 +17,22 @@ returns-in-Some-clause-err c =
     let before = c.args.before.now in
     let local = c.args.local in
     let offset = c.offset_in-offset.result in
-    let shown : Row = row (codes "data") (decimal c.args.local) (optional_number c.offset_in-offset.result) (message_label (global_at c.args.before.now c.args.local))
+    let shown : Row = row (codes "data") (decimal c.args.local) (optional_number c.offset_in-offset.result)
+    (message_label (global_at c.args.before.now c.args.local))
     (time_cell c.args.before.now c.offset_in-offset.result) [] [] in
     let ec : c.as_bytes.result.now ≡ message_label (global_at c.args.before.now c.args.local) =
     c.as_bytes.ensures.value ∙ c.as_str.ensures.value ∙ c.message_label-label.ensures ∙ ap message_label c.global_at.ensures in
-    let ed : c.as_bytes-2.result.now ≡ time_cell c.args.before.now c.offset_in-offset.result = c.as_bytes-2.ensures.value ∙ c.as_str-2.ensures.value ∙ c.time_text-time.ensures.text ∙ ap (λ t. unwrap_or (option_map instant_text t) []) c.header_time.ensures in
+    let ed : c.as_bytes-2.result.now ≡ time_cell c.args.before.now c.offset_in-offset.result =
+    c.as_bytes-2.ensures.value ∙ c.as_str-2.ensures.value ∙ c.time_text-time.ensures.text
+    ∙ ap (λ t. unwrap_or (option_map instant_text t) []) c.header_time.ensures in
     let differs : DifferAt c.in-Some.column shown (row_of c.args.cells.now) =
-    subst (λ (r : Row). DifferAt c.in-Some.column r (row_of c.args.cells.now)) (same-cells c.requires.kind (sym c.requires.shown) c.optional_number.ensures ec ed refl refl) c.in-Some.ensures.some in
-    closest (IsMessageRow before) (row_of c.args.cells.now) shown c.in-Some.column
-    (record { local = local; offset = offset; fields = []; dev = [] }, record { header = c.offset_in-offset.ensures.fits; defined = c.requires.defined; no_fields = refl; no_dev_fields = refl }, refl)
-    (rw c.requires.kind (message-closest before cells.a.now cells.b.now cells.c.now cells.d.now cells.e.now cells.f.now local offset c.requires.small c.requires.shown c.offset_in-offset.ensures.every))
+    subst (λ (r : Row). DifferAt c.in-Some.column r (row_of c.args.cells.now))
+    (same-cells c.requires.kind (sym c.requires.shown) c.optional_number.ensures ec ed refl refl) c.in-Some.ensures.some in
+    closest (IsMessageRow before) (row_of c.args.cells.now) shown c.in-Some.column (
+      record { local = local; offset = offset; fields = []; dev = [] },
+      record { header = c.offset_in-offset.ensures.fits; defined = c.requires.defined; no_fields = refl; no_dev_fields = refl },
+      refl,
+    )
+    (rw c.requires.kind (message-closest before cells.a.now cells.b.now cells.c.now cells.d.now cells.e.now cells.f.now local offset c.requires.small
+    c.requires.shown c.offset_in-offset.ensures.every))
     differs

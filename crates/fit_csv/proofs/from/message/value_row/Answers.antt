@@ -4,9 +4,9 @@ use Rattle.fit_base.specs.Fields.{HasShape}
 use Rattle.fit_profile.specs.Names.{meaning}
 use Rattle.fit_cells.specs.Cells.{cell}
 use Rattle.fit_csv.specs.ChainRows.{row}
-use Rattle.fit_csv.specs.Misfits.{IsValueRow}
+use Rattle.fit_csv.specs.inner.Misfits.{IsValueRow}
 use Rattle.fit_cells.specs.Rows.{Row}
-use Rattle.fit_csv.specs.Seven.{DifferAt, row_of}
+use Rattle.fit_csv.specs.inner.Seven.{DifferAt, row_of}
 use Rattle.fit_csv.proofs.Closest.{closest}
 use Rattle.fit_csv.proofs.SevenCells.{same-cells}
 use Rattle.fit_csv.proofs.ValueRows.{no-items, no-label, value-closest}
@@ -15,14 +15,16 @@ use Rattle.fit_csv.proofs.from.message.value_row.Goals as goal
 pub returns-then-not-same-clause-err : goal.returns-then-not-same-clause-err
 returns-then-not-same-clause-err c =
     let cells = c.args.cells.now in
-    no-label cells.kind.now c.args.label.now cells.a.now cells.b.now cells.c.now cells.d.now cells.e.now cells.f.now c.args.code.0 c.args.size (option_map meaning c.args.info) c.args.unit.now
+    no-label cells.kind.now c.args.label.now cells.a.now cells.b.now cells.c.now cells.d.now cells.e.now cells.f.now c.args.code.0 c.args.size
+    (option_map meaning c.args.info) c.args.unit.now
     (λ e. cc (c.if-not-same.ensures.1 e))
 
 pub returns-in_default-clause-err : goal.returns-in_default-clause-err
 returns-in_default-clause-err c =
     let cells = c.args.cells.now in
     let same : c.args.label.now ≡ c.args.cells.now.a.now = sym (c.same.ensures.0 c.if-not-same.false) in
-    no-items cells.kind.now c.args.label.now cells.a.now cells.b.now cells.c.now cells.d.now cells.e.now cells.f.now c.args.code.0 c.args.size (option_map meaning c.args.info) c.args.unit.now same
+    no-items cells.kind.now c.args.label.now cells.a.now cells.b.now cells.c.now cells.d.now cells.e.now cells.f.now c.args.code.0 c.args.size
+    (option_map meaning c.args.info) c.args.unit.now same
     (λ items shape e. c.in_default.not-Some items (c.in_ok-items.ensures.every items shape e))
 
 pub returns-in-Some-first_difference-clause-err : goal.returns-in-Some-first_difference-clause-err
@@ -30,11 +32,16 @@ returns-in-Some-first_difference-clause-err c =
     let cells = c.args.cells.now in
     let info = option_map meaning c.args.info in
     let items = c.in-Some.items in
-    let shown : Row = row c.args.cells.now.kind.now c.args.label.now (cell c.args.code.0 (option_map meaning c.args.info) c.in-Some.items) c.args.unit.now [] [] [] in
+    let shown : Row = row c.args.cells.now.kind.now c.args.label.now (cell c.args.code.0 (option_map meaning c.args.info) c.in-Some.items) c.args.unit.now [] []
+    [] in
     let same : c.args.label.now ≡ c.args.cells.now.a.now = sym (c.same.ensures.0 c.if-not-same.false) in
-    let some : HasShape c.args.code.0 c.args.size c.in-Some.items × (cell c.args.code.0 (option_map meaning c.args.info) c.in-Some.items ≡ c.args.cells.now.b.now) = rw c.in-Some.is at c.in_ok-items.ensures.some in
+    let some : HasShape c.args.code.0 c.args.size c.in-Some.items
+    × (cell c.args.code.0 (option_map meaning c.args.info) c.in-Some.items ≡ c.args.cells.now.b.now) = rw c.in-Some.is at c.in_ok-items.ensures.some in
     let differs : DifferAt c.in-Some-first_difference.column shown (row_of c.args.cells.now) =
-    subst (λ (r : Row). DifferAt c.in-Some-first_difference.column r (row_of c.args.cells.now)) (same-cells refl (sym same) (sym some.1) refl refl refl refl) c.in-Some-first_difference.ensures.some in
-    closest (IsValueRow cells.kind.now c.args.label.now c.args.code.0 c.args.size info c.args.unit.now) (row_of c.args.cells.now) shown c.in-Some-first_difference.column (items, some.0, refl)
-    (value-closest cells.kind.now c.args.label.now cells.a.now cells.b.now cells.c.now cells.d.now cells.e.now cells.f.now c.args.code.0 c.args.size info c.args.unit.now items same some.1)
+    subst (λ (r : Row). DifferAt c.in-Some-first_difference.column r (row_of c.args.cells.now)) (same-cells refl (sym same) (sym some.1) refl refl refl refl)
+    c.in-Some-first_difference.ensures.some in
+    closest (IsValueRow cells.kind.now c.args.label.now c.args.code.0 c.args.size info c.args.unit.now) (row_of c.args.cells.now) shown
+    c.in-Some-first_difference.column (items, some.0, refl)
+    (value-closest cells.kind.now c.args.label.now cells.a.now cells.b.now cells.c.now cells.d.now cells.e.now cells.f.now c.args.code.0 c.args.size info
+    c.args.unit.now items same some.1)
     differs

@@ -8,7 +8,8 @@ use Rattle.fit_csv.proofs.from.number.number_in.Goals as goal
 
 pub returns-in-Ok : goal.returns-in-Ok
 returns-in-Ok c n small shows =
-    let read : c.parse.result ≡ Ok n = parse-decimal 16 n c.in-Ok.text.now c.parse.result small (omega arith) (c.in-Ok.ensures.cases.0 ∙ sym shows) c.parse.ensures.value.0 in
+    let read : c.parse.result ≡ Ok n = parse-decimal 16 n c.in-Ok.text.now c.parse.result small (omega arith) (c.in-Ok.ensures.cases.0 ∙ sym shows)
+    c.parse.ensures.value.0 in
     c.unwrap_or.ensures ∙ ap (λ r. result_unwrap_or r 0) read
 
 pub returns-in-Err : goal.returns-in-Err

@@ -1,11 +1,12 @@
 use Rattle.std.proofs.Common.{[], ◌∷◌, ap}
 use Rattle.std.proofs.lemmas.Result.{err_from_is_err_and}
 use Rattle.fit_cells.specs.Rows.{Cell}
-use Rattle.fit_csv.specs.Seven.{row_of}
+use Rattle.fit_csv.specs.inner.Seven.{row_of}
 use Rattle.fit_csv.proofs.PartSteps.{message-misfit}
 use Rattle.fit_csv.proofs.from.open_file.begin_message.Goals as goal
 
 pub returns-in_err-values-clause-err : goal.returns-in_err-values-clause-err
 returns-in_err-values-clause-err c =
     let p = err_from_is_err_and c.from_residual.result c.from_residual.ensures.1 in
-    rw (p.1, p.2) (message-misfit c.args.before.now (row_of c.args.cells.now) c.in_err-values.field-0.0 (ap (λ (kind : Cell). kind ∷ []) c.requires) c.in_err-values.ensures.err)
+    rw (p.1, p.2) (message-misfit c.args.before.now (row_of c.args.cells.now) c.in_err-values.field-0.0 (ap (λ (kind : Cell). kind ∷ []) c.requires)
+    c.in_err-values.ensures.err)

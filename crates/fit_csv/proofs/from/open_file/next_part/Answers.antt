@@ -1,8 +1,8 @@
 use Rattle.std.proofs.Common.{sym, subst}
 use Rattle.std.proofs.lemmas.Result.{err_from_is_err_and}
-use Rattle.fit_csv.specs.Misfits.{IsMisfit}
-use Rattle.fit_csv.specs.Progress.{CanGoOn}
-use Rattle.fit_csv.specs.Seven.{row_of}
+use Rattle.fit_csv.specs.inner.Misfits.{IsMisfit}
+use Rattle.fit_csv.specs.inner.Progress.{CanStandNext}
+use Rattle.fit_csv.specs.inner.Seven.{row_of}
 use Rattle.fit_csv.specs.declared.from.open_file.Part.{Part}
 use Rattle.fit_csv.proofs.PartSteps.{definition-misfit, values-misfit}
 use Rattle.fit_csv.proofs.from.open_file.next_part.Goals as goal
@@ -11,12 +11,15 @@ pub returns-in_err-take_definition-in-Definition-clause-err : goal.returns-in_er
 returns-in_err-take_definition-in-Definition-clause-err c =
     let p = err_from_is_err_and c.from_residual.result c.from_residual.ensures.1 in
     let misfit = c.in_err-take_definition-in-Definition.field-0.0 in
-    rw (p.1, p.2) (subst (λ (part : Part). IsMisfit (CanGoOn c.args.before.now part) (row_of c.args.cells.now) c.in_err-take_definition-in-Definition.field-0.0) (sym c.in-Definition.is)
+    rw (p.1, p.2) (subst (λ (part : Part). IsMisfit (CanStandNext c.args.before.now part) (row_of c.args.cells.now)
+    c.in_err-take_definition-in-Definition.field-0.0)
+    (sym c.in-Definition.is)
     (definition-misfit c.args.before.now c.in-Definition.definition (row_of c.args.cells.now) misfit c.in_err-take_definition-in-Definition.ensures.err))
 
 pub returns-in_err-take_message-in-Message-clause-err : goal.returns-in_err-take_message-in-Message-clause-err
 returns-in_err-take_message-in-Message-clause-err c =
     let p = err_from_is_err_and c.from_residual-in_err-take_message-in-Message.result c.from_residual-in_err-take_message-in-Message.ensures.1 in
     let misfit = c.in_err-take_message-in-Message.field-0.0 in
-    rw (p.1, p.2) (subst (λ (part : Part). IsMisfit (CanGoOn c.args.before.now part) (row_of c.args.cells.now) c.in_err-take_message-in-Message.field-0.0) (sym c.in-Message.is)
+    rw (p.1, p.2) (subst (λ (part : Part). IsMisfit (CanStandNext c.args.before.now part) (row_of c.args.cells.now) c.in_err-take_message-in-Message.field-0.0)
+    (sym c.in-Message.is)
     (values-misfit c.args.before.now c.in-Message.values (row_of c.args.cells.now) misfit c.in_err-take_message-in-Message.ensures.err))

@@ -6,15 +6,18 @@ use Rattle.fit_csv.proofs.from.text.read_text.Goals as goal
 pub returns-then-is_err-clause-err : goal.returns-then-is_err-clause-err
 returns-then-is_err-clause-err g c = (
   c.loop-count.text.items ++ take c.in-Ok.got c.take.new.buffer,
-  Consumes-trans (g.S.Source.remaining c.args.source.now) (g.S.Source.remaining c.loop-count.source) (g.S.Source.remaining c.take.new.self) c.loop-count.text.items (take c.in-Ok.got c.take.new.buffer)
+  Consumes-trans (g.S.Source.remaining c.args.source.now) (g.S.Source.remaining c.loop-count.source) (g.S.Source.remaining c.take.new.self)
+      c.loop-count.text.items (take c.in-Ok.got c.take.new.buffer)
       c.loop-count.invariant.taken c.in-Ok.ensures.bytes.0,
   tt,
 )
 
 pub returns-then-len-gt-MOST-clause-err : goal.returns-then-len-gt-MOST-clause-err
 returns-then-len-gt-MOST-clause-err g c =
-    let items : c.extend_from_slice.new.self.items ≡ c.loop-count.text.items ++ take c.in-Ok.got c.take.new.buffer = rw c.if-is_err.ensures.negation at c.extend_from_slice.ensures.items in
-    let both = Consumes-trans (g.S.Source.remaining c.args.source.now) (g.S.Source.remaining c.loop-count.source) (g.S.Source.remaining c.take.new.self) c.loop-count.text.items (take c.in-Ok.got c.take.new.buffer)
+    let items : c.extend_from_slice.new.self.items ≡ c.loop-count.text.items ++ take c.in-Ok.got c.take.new.buffer =
+    rw c.if-is_err.ensures.negation at c.extend_from_slice.ensures.items in
+    let both = Consumes-trans (g.S.Source.remaining c.args.source.now) (g.S.Source.remaining c.loop-count.source) (g.S.Source.remaining c.take.new.self)
+    c.loop-count.text.items (take c.in-Ok.got c.take.new.buffer)
     c.loop-count.invariant.taken c.in-Ok.ensures.bytes.0 in (
       c.extend_from_slice.new.self.items,
       subst (λ (bytes : List ℕ). Consumes (g.S.Source.remaining c.args.source.now) (g.S.Source.remaining c.take.new.self) bytes) (sym items) both,

@@ -1,7 +1,7 @@
 use Rattle.std.proofs.Common.{◌∙◌, ◌++◌, sym, ap, subst}
 use Rattle.fit_report.specs.Heard.{latest_records}
 use Rattle.fit_cells.specs.Rows.{csv_text}
-use Rattle.fit_csv.specs.Reporting.{AnswerFits, answer_rows}
+use Rattle.fit_csv.specs.inner.Reporting.{AnswerFits, answer_rows}
 use Rattle.fit_csv.proofs.ToldRows.{answer_fits, answer_text}
 use Rattle.fit_csv.proofs.report.CsvReportReport.tell.Goals as goal
 

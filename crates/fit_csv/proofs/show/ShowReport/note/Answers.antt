@@ -4,7 +4,7 @@ use Rattle.std.specs.Global.{Global}
 use Rattle.fit_decode.specs.Events.{Event}
 use Rattle.fit_report.specs.Heard.{hear, latest_records}
 use Rattle.fit_report.proofs.Records.{heard_are_few}
-use Rattle.fit_csv.specs.Reporting.{AnswerFits}
+use Rattle.fit_csv.specs.inner.Reporting.{AnswerFits}
 use Rattle.fit_csv.specs.ShowLines.{begun_files}
 use Rattle.fit_csv.proofs.ShownLines.{few_begun}
 use Rattle.fit_csv.proofs.show.ShowReport.note.Goals as goal

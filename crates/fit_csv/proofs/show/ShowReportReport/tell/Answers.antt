@@ -3,9 +3,9 @@ use Rattle.std.proofs.Common.{◌≡◌, ◌∙◌, ◌++◌, List, OnOk, sym, a
 use Rattle.std.specs.Global.{Global}
 use Rattle.fit_decode.specs.Events.{Event}
 use Rattle.fit_report.specs.Heard.{hear, latest_records}
-use Rattle.fit_csv.specs.Reporting.{AnswerFits}
+use Rattle.fit_csv.specs.inner.Reporting.{AnswerFits}
 use Rattle.fit_csv.specs.ShowLines.{begun_files}
-use Rattle.fit_csv.specs.Showing.{text_with, time_told}
+use Rattle.fit_csv.specs.inner.Showing.{text_with, time_told}
 use Rattle.fit_csv.proofs.ShownLines.{answer_fits_upto, answer_line}
 use Rattle.fit_csv.proofs.ToldRows.{answer_fits}
 use Rattle.fit_csv.proofs.show.ShowReportReport.tell.Goals as goal
@@ -19,7 +19,8 @@ put_event-requires c =
     let old = c.args.self.now in
     let now : c.self.inside.heard ≡ hear event old = c.self.view_is ∙ c.in_ok-time.ensures.heard in
     let stream : c.self.inside.stream ≡ latest_records (hear event old) = c.self.invariant.0 ∙ ap latest_records now in
-    subst (λ upto. AnswerFits upto event) (sym stream) (answer_fits_upto old event (answer_fits c.heard_records_fit.ensures c.looking_back_is_learning.ensures old event c.requires))
+    subst (λ upto. AnswerFits upto event) (sym stream)
+    (answer_fits_upto old event (answer_fits c.heard_records_fit.ensures c.looking_back_is_learning.ensures old event c.requires))
 
 pub returns-clause-text : goal.returns-clause-text
 returns-clause-text c =

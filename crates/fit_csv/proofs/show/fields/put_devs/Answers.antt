@@ -5,7 +5,7 @@ use Rattle.std.proofs.lemmas.Option.{slice_get-get_or}
 use Rattle.std.proofs.lemmas.Slice.Zip.{length-zip}
 use Rattle.fit_profile.specs.Described.{Naming, nameless, namings_at}
 use Rattle.fit_csv.specs.ChainRows.{dev_label}
-use Rattle.fit_csv.specs.ShowLines.{separator, shown, shown_cell, shown_dev}
+use Rattle.fit_csv.specs.ShowLines.{separator, shown_part, shown_cell, shown_dev}
 use Rattle.fit_csv.proofs.DevFields.{dev_long, dev_place, dev_shape, nothing}
 use Rattle.fit_csv.proofs.ShownLines.{listed_all, listed_more}
 use Rattle.fit_csv.proofs.show.fields.put_devs.Goals as goal
@@ -17,7 +17,8 @@ bounds-items-place c =
 
 pub put_dev-requires : goal.put_dev-requires
 put_dev-requires c =
-    dev_shape c.args.fields.now c.args.dev_codes.now c.args.items.now c.loop-place.place c.index-items-place.result c.requires.codes c.requires.shapes c.loop-place-test.true c.index-items-place.is
+    dev_shape c.args.fields.now c.args.dev_codes.now c.args.items.now c.loop-place.place c.index-items-place.result c.requires.codes c.requires.shapes
+    c.loop-place-test.true c.index-items-place.is
 
 pub loop-place-preserved : goal.loop-place-preserved
 loop-place-preserved c =
@@ -39,10 +40,21 @@ loop-place-preserved c =
     let unit_is : c.dev_unit-unit.result.now ≡ unwrap_or (get_or namings k nameless).unit [] =
     c.dev_unit-unit.ensures ∙ ap (λ o. unwrap_or (option_and_then (λ (n : Naming). n.unit) o) []) there in
     let one = c.in_ok-put_dev.ensures
-    ∙ ap₂ (λ l u. c.loop-place.text.items ++ (separator (c.args.before + k) ++ shown l (shown_cell code None item) u)) label_is unit_is in
-    listed_more (λ x. shown_dev x.0.0 x.0.1 x.1.0 x.1.1) c.args.before (zip (zip fields coded) (zip namings items)) k ((nothing, 0), (nameless, item)) c.args.text.now.items c.loop-place.text.items c.put_dev.new.text.items
-    (omega (arith, length-zip (zip fields coded) (zip namings items), length-zip fields coded, length-zip namings items, within, coded_too, named_too, items_too)) c.loop-place.invariant
-    (one ∙ ap (λ x. c.loop-place.text.items ++ (separator (c.args.before + k) ++ shown_dev x.0.0 x.0.1 x.1.0 x.1.1)) (dev_place fields coded namings items k item within coded_too named_too items_too c.index-items-place.is))
+    ∙ ap₂ (λ l u. c.loop-place.text.items ++ (separator (c.args.before + k) ++ shown_part l (shown_cell code None item) u)) label_is unit_is in
+    listed_more (λ x. shown_dev x.0.0 x.0.1 x.1.0 x.1.1) c.args.before (zip (zip fields coded) (zip namings items)) k ((nothing, 0), (nameless, item))
+    c.args.text.now.items c.loop-place.text.items c.put_dev.new.text.items
+    (omega (
+      arith,
+      length-zip (zip fields coded) (zip namings items),
+      length-zip fields coded,
+      length-zip namings items,
+      within,
+      coded_too,
+      named_too,
+      items_too,
+    )) c.loop-place.invariant
+    (one ∙ ap (λ x. c.loop-place.text.items ++ (separator (c.args.before + k) ++ shown_dev x.0.0 x.0.1 x.1.0 x.1.1))
+    (dev_place fields coded namings items k item within coded_too named_too items_too c.index-items-place.is))
 
 pub returns : goal.returns
 returns c =
@@ -50,5 +62,6 @@ returns c =
     let coded = c.args.dev_codes.now in
     let namings = namings_at c.args.stream.now c.args.local in
     let items = c.args.items.now in
-    listed_all (λ x. shown_dev x.0.0 x.0.1 x.1.0 x.1.1) c.args.before (zip (zip fields coded) (zip namings items)) c.loop-place.place c.args.text.now.items c.loop-place.text.items
+    listed_all (λ x. shown_dev x.0.0 x.0.1 x.1.0 x.1.1) c.args.before (zip (zip fields coded) (zip namings items)) c.loop-place.place c.args.text.now.items
+    c.loop-place.text.items
     (omega (arith, length-zip (zip fields coded) (zip namings items), length-zip fields coded, c.loop-place-test.false)) c.loop-place.invariant

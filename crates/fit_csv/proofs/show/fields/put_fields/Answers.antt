@@ -40,10 +40,12 @@ loop-place-preserved c =
     let pair : (get_or fields k nothing, item) ≡ get_or (zip fields items) k (nothing, item) =
     ap (λ i. (get_or fields k nothing, i)) c.index-items-place.is ∙ sym (get_or-zip fields items k (nothing, item) c.loop-place-test.true within) in
     let count : k ≡ 0 + k = omega arith in
-    listed_more (λ x. shown_field c.args.global x.0 x.1) 0 (zip fields items) k (nothing, item) c.args.text.now.items c.loop-place.text.items c.put_field.new.text.items
+    listed_more (λ x. shown_field c.args.global x.0 x.1) 0 (zip fields items) k (nothing, item) c.args.text.now.items c.loop-place.text.items
+    c.put_field.new.text.items
     (omega (arith, length-zip fields items, within, c.loop-place-test.true)) c.loop-place.invariant
     (c.in_ok-put_field.ensures ∙ ap (λ x. c.loop-place.text.items ++ (separator k ++ shown_field c.args.global x.0 x.1)) pair
-    ∙ ap (λ m. c.loop-place.text.items ++ (separator m ++ shown_field c.args.global (get_or (zip fields items) k (nothing, item)).0 (get_or (zip fields items) k (nothing, item)).1)) count)
+    ∙ ap (λ m. c.loop-place.text.items ++ (separator m
+    ++ shown_field c.args.global (get_or (zip fields items) k (nothing, item)).0 (get_or (zip fields items) k (nothing, item)).1)) count)
 
 pub returns : goal.returns
 returns c =

@@ -1,9 +1,9 @@
 use Rattle.std.proofs.Common.{◌≡◌, ◌∙◌, ◌++◌, ◌<◌, ◌^◌, OnOk, sym, ap, ap₂, subst}
 use Rattle.fit_report.specs.Heard.{latest_records}
 use Rattle.fit_cells.specs.Rows.{csv_text}
-use Rattle.fit_csv.specs.Reporting.{AnswerFits}
+use Rattle.fit_csv.specs.inner.Reporting.{AnswerFits}
 use Rattle.fit_csv.specs.Table.{files_heard}
-use Rattle.fit_csv.specs.TableCells.{table_answer_rows}
+use Rattle.fit_csv.specs.inner.TableCells.{table_answer_rows}
 use Rattle.fit_csv.proofs.ToldRows.{answer_fits}
 use Rattle.fit_csv.proofs.ToldTable.{few_files, table_answer_text}
 use Rattle.fit_csv.proofs.table_report.TableReportReport.tell.Goals as goal
@@ -21,6 +21,7 @@ hear-requires-clause-few c =
 pub returns-clause-text : goal.returns-clause-text
 returns-clause-text c =
     subst (λ line. OnOk c.in_ok-put.put (c.hear.new.text.items ≡ c.args.text.now.items ++ line))
-    (ap₂ (λ files before. csv_text (table_answer_rows files before c.args.event.now)) (c.self.invariant.1 ∙ ap files_heard c.self.view_is) (c.self.invariant.0 ∙ ap latest_records c.self.view_is)
+    (ap₂ (λ files before. csv_text (table_answer_rows files before c.args.event.now)) (c.self.invariant.1 ∙ ap files_heard c.self.view_is)
+    (c.self.invariant.0 ∙ ap latest_records c.self.view_is)
     ∙ table_answer_text c.args.self.now c.args.event.now)
     c.in_ok-put.ensures.text

@@ -1,6 +1,6 @@
 use Rattle.std.proofs.Common.{sym, subst}
-use Rattle.fit_csv.specs.Progress.{PartHasRoom, PartStep}
-use Rattle.fit_csv.specs.Seven.{row_of}
+use Rattle.fit_csv.specs.inner.Progress.{PartHasRoom, PartStep}
+use Rattle.fit_csv.specs.inner.Seven.{row_of}
 use Rattle.fit_csv.specs.declared.from.open_file.Part.{Part}
 use Rattle.fit_csv.proofs.SoundSteps.{part-fits, part-room, part-sound}
 use Rattle.fit_csv.proofs.from.open_file.OpenFile.take_row.Goals as goal
@@ -14,5 +14,6 @@ pub settle-requires : goal.settle-requires
 settle-requires c =
     let f = c.args.self.now in
     let r = row_of c.args.cells.now in
-    let step = subst (λ (part : Part). PartStep c.args.self.now.before part (row_of c.args.cells.now) c.in_ok-part.part) c.replace-part.ensures.value c.in_ok-part.ensures.ok in
+    let step = subst (λ (part : Part). PartStep c.args.self.now.before part (row_of c.args.cells.now) c.in_ok-part.part) c.replace-part.ensures.value
+    c.in_ok-part.ensures.ok in
     part-fits f.before c.in_ok-part.part (part-sound f.before f.part r c.in_ok-part.part c.requires.sound.part step)

@@ -1,5 +1,6 @@
--- What has been read of a chain, and how one more row goes on. Of these the law `rows_that_follow` names `naming_at` alone.
-use Rattle.std.specs.Prelude.{◌≡◌, ◌⊎◌, ◌<◌, ◌≤◌, ℕ, ◌==◌, ◌&&◌, Bool, true, if◌then◌else◌, List, [], ◌∷◌, ◌++◌, length, Option, Some, None, IfSome, IsSomeAnd, option_map, unwrap_or, slice_get}
+-- What has been read of a chain, and how one more row goes on. No public contract names these.
+use Rattle.std.specs.Prelude.{◌≡◌, ◌⊎◌, ◌<◌, ◌≤◌, ℕ, ◌==◌, ◌&&◌, Bool, true, if◌then◌else◌, List, [], ◌∷◌, ◌++◌, length, Option, Some, None, IfSome, IsSomeAnd}
+use Rattle.std.specs.Prelude.{option_map, unwrap_or, slice_get}
 use Rattle.std.specs.Option.{option_map_or}
 use Rattle.std.specs.Global.{Global}
 use Rattle.fit_base.specs.declared.items.Items.{Items}
@@ -15,11 +16,11 @@ use Rattle.fit_record.specs.declared.message.Values.{Values}
 use Rattle.fit_record.specs.Environment.{defined_at, dev_defs}
 use Rattle.fit_record.specs.Files.{chain_limit}
 use Rattle.fit_record.specs.Records.{DataFits, DefinitionFits}
-use Rattle.fit_profile.specs.Described.{Naming, namings_at, nameless}
 use Rattle.fit_profile.specs.Looks.{known}
 use Rattle.fit_csv.specs.ChainRows.{dev_def_row, dev_row, end_row, field_def_row, field_row, file_row}
-use Rattle.fit_csv.specs.Judged.{HeaderInRange}
-use Rattle.fit_csv.specs.Misfits.{DevDefInRange, FieldDefInRange, HeadInRange, IsMessageStart, head_row, message_row}
+use Rattle.fit_csv.specs.Judged.{DevDefInRange, FieldDefInRange, HeaderInRange}
+use Rattle.fit_csv.specs.inner.Misfits.{HeadInRange, IsMessageStart, head_row, message_row}
+use Rattle.fit_csv.specs.RowKinds.{naming_at}
 use Rattle.fit_cells.specs.Rows.{Row}
 use Rattle.fit_csv.specs.declared.from.chain.Chain.{Chain}
 use Rattle.fit_csv.specs.declared.from.definition.DefinitionHead.{DefinitionHead}
@@ -48,8 +49,8 @@ abbrev pub is_whole : OpenDefinition → Bool
 is_whole o = (length o.fields == o.head.fields) && (length o.dev == dev_total o.head)
 
 -- the definition with the fields that have come
-abbrev pub definition_of : OpenDefinition → MessageDef Global
-definition_of o = record {
+abbrev pub built_definition : OpenDefinition → MessageDef Global
+built_definition o = record {
   local = o.head.local;
   reserved = o.head.reserved;
   order = o.head.order;
@@ -86,10 +87,6 @@ is_whole_message before v = option_map_or (has_all v) (defined_at (known before)
 abbrev pub HasRoom : List (Record Global) → Values Global → Type 0
 HasRoom before v = IfSome (defined_at (known before) v.local) (λ p. length v.fields ≤ length p.definition.fields)
 
--- the name and unit of a developer field of a local message type
-abbrev pub naming_at : List (Record Global) → ℕ → ℕ → Naming
-naming_at before local place = unwrap_or (slice_get (namings_at before local) place) nameless
-
 -- one more row of a data message of this definition
 abbrev pub FieldStep : Defined Global → Values Global → Row → Values Global → Type 0
 FieldStep p v r w =
@@ -114,7 +111,7 @@ with_record f r = record { header = f.header; records = f.records ++ r ∷ []; b
 -- a file of which this part of a record has come, or all of it
 abbrev pub settled : OpenFile → Part → OpenFile
 settled f Nothing = record f { part = Nothing }
-settled f (Definition o) = if is_whole o then with_record f (Define (definition_of o)) else record f { part = Definition o }
+settled f (Definition o) = if is_whole o then with_record f (Define (built_definition o)) else record f { part = Definition o }
 settled f (Message v) = if is_whole_message f.before v then with_record f (Data v) else record f { part = Message v }
 
 -- the first row of a record
@@ -134,8 +131,8 @@ abbrev pub FileStep : OpenFile → Row → OpenFile → Type 0
 FileStep f r g = (p : Part) × PartStep f.before f.part r p × (g ≡ settled f p)
 
 -- what can stand there: that, or the end of the file
-abbrev pub CanGoOn : List (Record Global) → Part → Row → Type 0
-CanGoOn before part r = ((p : Part) × PartStep before part r p) ⊎ ((part ≡ Nothing) × (r ≡ end_row))
+abbrev pub CanStandNext : List (Record Global) → Part → Row → Type 0
+CanStandNext before part r = ((p : Part) × PartStep before part r p) ⊎ ((part ≡ Nothing) × (r ≡ end_row))
 
 -- there is room for one more row of the record
 abbrev pub PartHasRoom : List (Record Global) → Part → Type 0
@@ -146,14 +143,14 @@ PartHasRoom before (Message v) = HasRoom before v
 -- the record fits once it is whole
 abbrev pub FitsOnceWhole : List (Record Global) → Part → Type 0
 FitsOnceWhole before Nothing = Unit {0}
-FitsOnceWhole before (Definition o) = is_whole o ≡ true → DefinitionFits (definition_of o)
+FitsOnceWhole before (Definition o) = is_whole o ≡ true → DefinitionFits (built_definition o)
 FitsOnceWhole before (Message v) = is_whole_message before v ≡ true → IsSomeAnd (defined_at (known before) v.local) (DataFits v)
 
 -- ---- chains
 
 -- a file of which the first row has come
-abbrev pub begun : Header → OpenFile
-begun h = record { header = h; records = []; before = []; part = Nothing }
+abbrev pub file_begun : Header → OpenFile
+file_begun h = record { header = h; records = []; before = []; part = Nothing }
 
 -- the file is whole
 abbrev pub with_file : Chain → OpenFile → Chain
@@ -163,7 +160,7 @@ abbrev pub EndStep : Chain → OpenFile → Row → Chain → Type 0
 EndStep c f r t = (f.part ≡ Nothing) × (r ≡ end_row) × (t ≡ with_file c f)
 
 abbrev pub OpenStep : Chain → Option OpenFile → Row → Chain → Type 0
-OpenStep c None r t = (length c.files < chain_limit) × ((h : Header) × HeaderInRange h × (r ≡ file_row h) × (t ≡ record c { current = Some (begun h) }))
+OpenStep c None r t = (length c.files < chain_limit) × ((h : Header) × HeaderInRange h × (r ≡ file_row h) × (t ≡ record c { current = Some (file_begun h) }))
 OpenStep c (Some f) r t = EndStep c f r t ⊎ ((g : OpenFile) × FileStep f r g × (t ≡ record c { current = Some g }))
 
 -- one more row of a chain

@@ -1,27 +1,21 @@
--- Rows that can be read at a place, and why others can't. Of these the law `rows_that_follow` names the kinds of rows, and no public
--- contract names the others.
+-- Rows that can be read at a place, and why others can't. No public contract names these.
 use Rattle.std.specs.Prelude.{◌≡◌, ◌⊎◌, ◌<◌, ◌≤◌, ◌^◌, ℕ, List, [], Option, codes, decimal, IfSome, IsSome, option_map, unwrap_or}
 use Rattle.std.specs.Global.{Global}
 use Rattle.fit_base.specs.declared.items.Items.{Items}
 use Rattle.fit_base.specs.Fields.{HasShape}
-use Rattle.fit_frame.specs.declared.header.Header.{Header}
 use Rattle.fit_frame.specs.declared.header.HeaderSum.{HeaderSum}
 use Rattle.fit_frame.specs.declared.header.HeaderSum.TheVariants.{Absent, Zero, True}
-use Rattle.fit_record.specs.declared.definition.FieldDef.{FieldDef}
-use Rattle.fit_record.specs.declared.definition.DevDef.{DevDef}
 use Rattle.fit_record.specs.declared.message.Values.{Values}
 use Rattle.fit_record.specs.declared.message.Record.{Record}
 use Rattle.fit_record.specs.Environment.{defined_at}
 use Rattle.fit_record.specs.Records.{DataHeaderFits}
-use Rattle.fit_profile.specs.Described.{Naming}
 use Rattle.fit_profile.specs.Profile.{Meaning}
 use Rattle.fit_profile.specs.Looks.{known}
 use Rattle.fit_profile.specs.Times.{header_time, previous_time}
 use Rattle.fit_cells.specs.Cells.{cell}
 use Rattle.fit_cells.specs.Rows.{Cell, Row}
-use Rattle.fit_csv.specs.Judged.{HeaderInRange, IsBadCell, MayBeOfKind}
-pub use Rattle.fit_csv.specs.Judged.{DevDefInRange, FieldDefInRange}
-use Rattle.fit_csv.specs.ChainRows.{data_row, dev_def_row, dev_row, end_row, field_row, file_row, field_def_row, optional_number, order_word, row}
+use Rattle.fit_csv.specs.Judged.{IsBadCell, MayBeOfKind}
+use Rattle.fit_csv.specs.ChainRows.{data_row, end_row, optional_number, order_word, row}
 use Rattle.fit_csv.specs.declared.from.definition.DefinitionHead.{DefinitionHead}
 use Rattle.fit_csv.specs.declared.from.misfit.Misfit.{Misfit}
 use Rattle.fit_csv.specs.declared.from.misfit.Misfit.TheVariants.{Kind, Cell as BadCell, NoMemory}
@@ -41,12 +35,6 @@ IsCellFault CanStand r NoMemory = Unit {0}
 -- three numbers of a byte each behind the kind, and nothing behind them
 abbrev pub IsRowOfThree : Cell → Row → Type 0
 IsRowOfThree kind r = (a : ℕ) × (b : ℕ) × (c : ℕ) × (a < 2 ^ 8) × (b < 2 ^ 8) × (c < 2 ^ 8) × (r ≡ row kind (decimal a) (decimal b) (decimal c) [] [] [])
-
-abbrev pub IsFieldDefRow : Row → Type 0
-IsFieldDefRow r = (f : FieldDef) × FieldDefInRange f × (r ≡ field_def_row f)
-
-abbrev pub IsDevDefRow : Row → Type 0
-IsDevDefRow r = (f : DevDef) × DevDefInRange f × (r ≡ dev_def_row f)
 
 -- the numbers of the first row of a definition have room in their bits
 pub record HeadInRange (h : DefinitionHead) : Type 0 where
@@ -91,15 +79,7 @@ IsMessageOrEnd before r = IsMessageRow before r ⊎ (r ≡ end_row)
 abbrev pub IsValueRow : Cell → Cell → ℕ → ℕ → Option Meaning → Cell → Row → Type 0
 IsValueRow kind label code size info unit r = (i : Items Global) × HasShape code size i × (r ≡ row kind label (cell code info i) unit [] [] [])
 
--- the row of a field of a message with this global message number
-abbrev pub IsFieldRow : ℕ → FieldDef → Row → Type 0
-IsFieldRow global f r = (i : Items Global) × HasShape f.code f.size i × (r ≡ field_row global f i)
-
--- the row of a developer field of this code, with this naming
-abbrev pub IsDevRow : DevDef → ℕ → Naming → Row → Type 0
-IsDevRow f code naming r = (i : Items Global) × HasShape code f.size i × (r ≡ dev_row f code naming i)
-
--- ---- the rows in which files begin and end
+-- ---- headers
 
 abbrev pub IsHeaderSize : ℕ → Type 0
 IsHeaderSize n = (n ≡ 12) ⊎ ((14 ≤ n) × (n < 2 ^ 8))
@@ -109,9 +89,3 @@ abbrev pub HasSum : ℕ → HeaderSum → Type 0
 HasSum size Absent = size ≡ 12
 HasSum size Zero = 14 ≤ size
 HasSum size True = 14 ≤ size
-
-abbrev pub IsFileRow : Row → Type 0
-IsFileRow r = (h : Header) × HeaderInRange h × (r ≡ file_row h)
-
-abbrev pub IsEndRow : Row → Type 0
-IsEndRow r = r ≡ end_row

@@ -3,16 +3,15 @@ use Rattle.std.specs.Prelude.{◌≡◌, ◌≤◌, ℕ, false, List, [], ◌∷
 use Rattle.std.specs.Option.{option_map_or}
 use Rattle.csv.specs.Writing.{default_writer, needs_quotes}
 use Rattle.fit_record.specs.declared.message.Record.{Record}
-use Rattle.fit_record.specs.declared.message.Record.TheVariants.{Define, Values as Data}
 use Rattle.fit_decode.specs.declared.event.Event.{Event as Answer}
-use Rattle.fit_decode.specs.Answers.{told}
+use Rattle.fit_decode.specs.Answers.{event_of}
 use Rattle.fit_profile.specs.declared.decimal.Fixed.{Fixed}
 use Rattle.fit_profile.specs.declared.message.Message.{Message}
 use Rattle.fit_profile.specs.FixedText.{fixed_text}
 use Rattle.fit_profile.specs.Meant.{shown}
 use Rattle.fit_csv.specs.declared.table_rows.TableRow.{TableRow}
 use Rattle.fit_cells.specs.Rows.{Cell, Row}
-use Rattle.fit_csv.specs.Table.{files_behind, table_event_rows, table_row, table_rows}
+use Rattle.fit_csv.specs.Table.{files_behind, table_event_rows, table_row}
 
 -- the text of a number, where there is one
 abbrev pub shown_text : Option Fixed → Option Cell
@@ -25,7 +24,8 @@ number_cell value = unwrap_or (shown_text value) []
 -- the cells of a row
 abbrev pub cells_of : TableRow → Row
 cells_of r =
-    decimal r.file ∷ r.timestamp.bytes ∷ number_cell r.position_lat ∷ number_cell r.position_long ∷ number_cell r.altitude ∷ number_cell r.distance ∷ number_cell r.speed
+    decimal r.file ∷ r.timestamp.bytes ∷ number_cell r.position_lat ∷ number_cell r.position_long ∷ number_cell r.altitude ∷ number_cell r.distance
+    ∷ number_cell r.speed
     ∷ number_cell r.heart_rate ∷ number_cell r.cadence ∷ number_cell r.power ∷ number_cell r.temperature ∷ []
 
 abbrev pub FewDecimals : Option Fixed → Type 0
@@ -49,15 +49,10 @@ abbrev pub rows_in : {A : Type 0} → ℕ → Option (Message A) → List Row
 rows_in file None = []
 rows_in file (Some m) = table_row file (shown m).definition (shown m).values (shown m).told ∷ []
 
--- the rows of a record in the file of this number, behind the records before it
-abbrev pub table_record_rows : {A : Type 0} → ℕ → List (Record A) → Record A → List Row
-table_record_rows file before (Define d) = []
-table_record_rows file before (Data v) = table_rows file before v
-
 -- the rows of what a decoder answers, in the file of this number
 abbrev pub table_answer_rows : {A : Type 0} → ℕ → List (Record A) → Answer A → List Row
-table_answer_rows files before answer = option_map_or (table_event_rows files before) (told answer) []
+table_answer_rows files before answer = option_map_or (table_event_rows files before) (event_of answer) []
 
 -- how many files have begun behind what a decoder answers
 abbrev pub files_behind_answer : {A : Type 0} → ℕ → Answer A → ℕ
-files_behind_answer files answer = option_map_or (files_behind files) (told answer) files
+files_behind_answer files answer = option_map_or (files_behind files) (event_of answer) files

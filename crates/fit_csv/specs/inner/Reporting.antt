@@ -6,7 +6,7 @@ use Rattle.fit_record.specs.declared.message.Record.{Record}
 use Rattle.fit_record.specs.Records.{Fits}
 use Rattle.fit_decode.specs.declared.event.Event.{Event as Answer}
 use Rattle.fit_decode.specs.declared.event.Event.TheVariants as answers
-use Rattle.fit_decode.specs.Answers.{told}
+use Rattle.fit_decode.specs.Answers.{event_of}
 use Rattle.fit_decode.specs.Events.{Event}
 use Rattle.fit_profile.specs.Looks.{known}
 use Rattle.fit_report.specs.declared.fault.ReportFault.{ReportFault}
@@ -25,11 +25,11 @@ AnswerFits before other = Unit {0}
 
 -- the rows of what a decoder answers
 abbrev pub answer_rows : {A : Type 0} → List (Record A) → Answer A → List Row
-answer_rows before answer = option_map_or (event_rows before) (told answer) []
+answer_rows before answer = option_map_or (event_rows before) (event_of answer) []
 
 -- the records of the file that was begun last, behind what a decoder answers
 abbrev pub behind_answer : {A : Type 0} → List (Record A) → Answer A → List (Record A)
-behind_answer before answer = option_map_or (records_behind before) (told answer) before
+behind_answer before answer = option_map_or (records_behind before) (event_of answer) before
 
 -- the text of the rows of events is this first line and the lines of the events, of which a reporter tells the latest first
 abbrev pub HasText : List ℕ → Lines Global → RowsOf → Type 0

@@ -1,4 +1,4 @@
--- What holds of what has been read of a chain, and the rows that it was read from. The law `rows_that_follow` names these.
+-- What holds of what has been read of a chain, and the rows that it was read from. No public contract names these.
 use Rattle.std.specs.Prelude.{◌≡◌, ◌<◌, ◌≤◌, ℕ, false, List, [], ◌∷◌, ◌++◌, length, map, flat_map, reverse, Option, Some, None, IsSomeAnd}
 use Rattle.std.specs.Global.{Global}
 use Rattle.std.specs.List.{AllByRecursion}
@@ -12,9 +12,9 @@ use Rattle.fit_record.specs.Files.{chain_limit}
 use Rattle.fit_record.specs.Records.{AllFit, DataHeaderFits, dev_layout, layout}
 use Rattle.fit_profile.specs.Looks.{known}
 use Rattle.fit_csv.specs.ChainRows.{data_rows, dev_def_row, field_def_row, file_row, file_rows, records_rows}
-use Rattle.fit_csv.specs.Judged.{HeaderInRange, IsFileOfRows, RecordInRange}
-use Rattle.fit_csv.specs.Misfits.{DevDefInRange, FieldDefInRange, HeadInRange, head_row}
-use Rattle.fit_csv.specs.Progress.{dev_total, is_whole, is_whole_message}
+use Rattle.fit_csv.specs.Judged.{DevDefInRange, FieldDefInRange, HeaderInRange, IsFileOfRows, RecordInRange}
+use Rattle.fit_csv.specs.inner.Misfits.{HeadInRange, head_row}
+use Rattle.fit_csv.specs.inner.Progress.{dev_total, is_whole, is_whole_message}
 use Rattle.fit_cells.specs.Rows.{Row}
 use Rattle.fit_csv.specs.declared.from.chain.Chain.{Chain}
 use Rattle.fit_csv.specs.declared.from.definition.OpenDefinition.{OpenDefinition}
@@ -50,14 +50,14 @@ IsSoundSoFar before Nothing = Unit {0}
 IsSoundSoFar before (Definition o) = IsSoundDefinition o
 IsSoundSoFar before (Message v) = IsSomeAnd (defined_at (known before) v.local) (IsSoundMessage v)
 
-abbrev pub IsUnfinished : List (Record Global) → Part → Type 0
-IsUnfinished before Nothing = Unit {0}
-IsUnfinished before (Definition o) = is_whole o ≡ false
-IsUnfinished before (Message v) = is_whole_message before v ≡ false
+abbrev pub IsPartUnfinished : List (Record Global) → Part → Type 0
+IsPartUnfinished before Nothing = Unit {0}
+IsPartUnfinished before (Definition o) = is_whole o ≡ false
+IsPartUnfinished before (Message v) = is_whole_message before v ≡ false
 
 -- some rows of a record, and not all
 abbrev pub IsSoundPart : List (Record Global) → Part → Type 0
-IsSoundPart before part = IsSoundSoFar before part × IsUnfinished before part
+IsSoundPart before part = IsSoundSoFar before part × IsPartUnfinished before part
 
 pub record IsSoundFile (f : OpenFile) : Type 0 where
   pub header : HeaderInRange f.header
