@@ -5,7 +5,7 @@ use Rattle.std.specs.declared.alloc.Global.{Global}
 use Rattle.fit_decode.specs.declared.event.Fault.{Fault}
 use Rattle.fit_decode.specs.declared.event.Fault.TheVariants as faults
 use Rattle.fit_decode.specs.Answers.{AreChain}
-use Rattle.fit_decode.specs.Checks.{AreFiles, IsWantOfMemory}
+use Rattle.fit_decode.specs.Checks.{AreFiles, LacksMemory}
 use Rattle.fit_csv.specs.declared.fault.CsvFault.{CsvFault}
 use Rattle.fit_csv.specs.declared.fault.CsvFault.TheVariants as csv
 use Rattle.fit_c.specs.Answers.{answer, check_answer, fault_answer}
@@ -36,7 +36,7 @@ check_good bytes (Err fault) are zero = absurd (fault_bad fault zero)
 
 -- ---- the statuses of a chain
 
-pub chain_checked : (r : Result ℕ Fault) → IfErr r IsWantOfMemory → ((check_answer r).status ≡ 0) ⊎ ((check_answer r).status ≡ 3)
+pub chain_checked : (r : Result ℕ Fault) → IfErr r LacksMemory → ((check_answer r).status ≡ 0) ⊎ ((check_answer r).status ≡ 3)
 chain_checked (Ok count) want = inl refl
 chain_checked (Err (faults.NoMemory used)) want = inr refl
 chain_checked (Err (faults.Refused place reason)) want = absurd want

@@ -2,7 +2,8 @@
 use Rattle.std.specs.Prelude.{◌≡◌, ◌⊎◌, ℕ, Bool, false, List, [], Option, Some, Result, Ok, Err, IfErr, IfOk}
 use Rattle.std.specs.declared.alloc.Global.{Global}
 use Rattle.fit_frame.specs.declared.reason.Reason.{Reason}
-use Rattle.fit_frame.specs.declared.reason.Reason.TheVariants.{HeaderSize, Protocol, NoFit, Signature, HeaderSum, ReservedBit, UndefinedLocal, Overrun, Architecture, FileSum, TooManyFiles}
+use Rattle.fit_frame.specs.declared.reason.Reason.TheVariants.{HeaderSize, Protocol, NoFit, Signature, HeaderSum, ReservedBit, UndefinedLocal, Overrun}
+use Rattle.fit_frame.specs.declared.reason.Reason.TheVariants.{Architecture, FileSum, TooManyFiles}
 use Rattle.fit_decode.specs.declared.event.Fault.{Fault}
 use Rattle.fit_decode.specs.declared.event.Fault.TheVariants as faults
 use Rattle.fit_decode.specs.Checks.{AreFiles, IsFaultOf}
@@ -31,39 +32,39 @@ reason_code FileSum = 10
 reason_code TooManyFiles = 11
 
 -- nothing but a status
-abbrev pub plain : ℕ → FitAnswer
-plain status = record { status = status; reason = 0; place = 0; row = 0; column = 0; files = 0 }
+abbrev pub status_alone : ℕ → FitAnswer
+status_alone status = record { status = status; reason = 0; place = 0; row = 0; column = 0; files = 0 }
 
 -- what is said of a fault of the bytes
 abbrev pub fault_answer : Fault → FitAnswer
-fault_answer (faults.Refused place reason) = record (plain 1) { reason = reason_code reason; place = place }
-fault_answer (faults.Truncated place) = record (plain 2) { place = place }
-fault_answer (faults.NoMemory used) = plain 3
-fault_answer (faults.Read place) = plain 3
+fault_answer (faults.Refused place reason) = record (status_alone 1) { reason = reason_code reason; place = place }
+fault_answer (faults.Truncated place) = record (status_alone 2) { place = place }
+fault_answer (faults.NoMemory used) = status_alone 3
+fault_answer (faults.Read place) = status_alone 3
 
 -- what is said of bytes that were checked
 abbrev pub check_answer : Result ℕ Fault → FitAnswer
-check_answer (Ok count) = record (plain 0) { files = count }
+check_answer (Ok count) = record (status_alone 0) { files = count }
 check_answer (Err fault) = fault_answer fault
 
 -- what is said of what a conversion answered
 abbrev pub answer : {X : Type 0} → Result X CsvFault → FitAnswer
-answer (Ok _) = plain 0
+answer (Ok _) = status_alone 0
 answer (Err (csv.Decode fault)) = fault_answer fault
-answer (Err csv.Header) = record (plain 4) { row = 1 }
-answer (Err (csv.BadRow row)) = record (plain 4) { row = row }
-answer (Err (csv.BadCell row column)) = record (plain 4) { row = row; column = column }
-answer (Err (csv.Encode fault)) = plain 5
-answer (Err csv.NoMemory) = plain 3
-answer (Err csv.Read) = plain 3
-answer (Err (csv.Write written)) = plain 3
+answer (Err csv.Header) = record (status_alone 4) { row = 1 }
+answer (Err (csv.BadRow row)) = record (status_alone 4) { row = row }
+answer (Err (csv.BadCell row column)) = record (status_alone 4) { row = row; column = column }
+answer (Err (csv.Encode fault)) = status_alone 5
+answer (Err csv.NoMemory) = status_alone 3
+answer (Err csv.Read) = status_alone 3
+answer (Err (csv.Write written)) = status_alone 3
 
 -- what is said of what a report answered
 abbrev pub report_answer : {X : Type 0} → Result X ReportFault → FitAnswer
-report_answer (Ok _) = plain 0
+report_answer (Ok _) = status_alone 0
 report_answer (Err (reports.Decode fault)) = fault_answer fault
-report_answer (Err reports.NoMemory) = plain 3
-report_answer (Err (reports.Write written)) = plain 3
+report_answer (Err reports.NoMemory) = status_alone 3
+report_answer (Err (reports.Write written)) = status_alone 3
 
 -- The bytes are that many files, one after another; or this is why they aren't known to be a chain of files.
 abbrev pub IsFinding : List ℕ → FitAnswer → Type 0

@@ -1,6 +1,6 @@
 //! What the calls answer.
 ghost use Rattle.std.specs.Prelude.{◌≡◌};
-ghost use Rattle.fit_c.specs.Answers.{answer, check_answer, fault_answer, plain, reason_code, report_answer};
+ghost use Rattle.fit_c.specs.Answers.{answer, check_answer, fault_answer, status_alone, reason_code, report_answer};
 
 use fit_csv::CsvFault;
 use fit_decode::Fault;
@@ -27,7 +27,7 @@ pub struct FitAnswer {
 
 /// An answer that says nothing but its status.
 fn plain(status: u32) -> FitAnswer
-    ensures { result ≡ plain status }
+    ensures { result ≡ status_alone status }
 {
     FitAnswer {
         status,

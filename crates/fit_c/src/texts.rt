@@ -79,7 +79,8 @@ pub extern "C" fn fit_show(alloc: Global, bytes: &[u8], text: &mut &'static [u8]
     ensures reported { IsReported show_line bytes.now result text.new.now }
     ensures good { result.status ≡ 0 → AreChain Global bytes.now }
     ensures chain { (fs : List (FitFile Global)) → IsChain chain_limit fs bytes.now
-        → IsTextUnlessWant (text_of show_line (reverse (flat_map file_events fs))) result text.new.now }
+        → IsTextUnlessWant (text_of show_line (reverse (flat_map file_events fs)))
+        result text.new.now }
 {
     let mut source = bytes;
     let mut sink = memory(alloc);

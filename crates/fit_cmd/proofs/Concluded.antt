@@ -9,7 +9,8 @@ use Rattle.fit_csv.specs.FromText.{FromTextOf}
 use Rattle.fit_cells.specs.Rows.{Row, csv_text}
 use Rattle.fit_cmd.specs.Run.{Concludes, IsWritten}
 
-pub concluded : (rows : List Row) (source output faults : Channel) (status : ℕ) (answer : Result (Unit {0}) CsvFault) → source.failed ≡ false → output.failed ≡ false
+pub concluded : (rows : List Row) (source output faults : Channel) (status : ℕ) (answer : Result (Unit {0}) CsvFault) → source.failed ≡ false
+    → output.failed ≡ false
     → ConvertsTo rows source output answer → Concludes answer faults status → IsWritten (csv_text rows) output status
 concluded rows source output faults status (Ok x) well good put (keeps, is) = inr (is, put)
 concluded rows source output faults status (Err (csv.Decode (Refused place reason))) well good none said = absurd none
@@ -24,7 +25,8 @@ concluded rows source output faults status (Err csv.NoMemory) well good some (pu
 concluded rows source output faults status (Err csv.Read) well good none said = absurd none
 concluded rows source output faults status (Err (csv.Write written)) well good bad said = absurd cc
 
-pub text_concluded : (bytes : List ℕ) (source output faults : Channel) (status : ℕ) (answer : Result (Unit {0}) CsvFault) → source.failed ≡ false → output.failed ≡ false
+pub text_concluded : (bytes : List ℕ) (source output faults : Channel) (status : ℕ) (answer : Result (Unit {0}) CsvFault) → source.failed ≡ false
+    → output.failed ≡ false
     → FromTextOf bytes source output answer → Concludes answer faults status → IsWritten bytes output status
 text_concluded bytes source output faults status (Ok x) well good put (keeps, is) = inr (is, put.0)
 text_concluded bytes source output faults status (Err (csv.Decode fault)) well good none said = absurd none

@@ -29,7 +29,8 @@ pub line_parts : (old k n records : List ℕ)
     ≡ old ++ (codes "file " ++ k ++ codes ": " ++ n ++ codes " data bytes, " ++ records ++ codes " records\n")
 line_parts old k n records = simp append_assoc
 
-pub line_put : (old one two all : List ℕ) (k n records : ℕ) → one ≡ old ++ (codes "file " ++ decimal k ++ codes ": ") → two ≡ one ++ (codes "" ++ decimal n ++ codes " data bytes, ")
+pub line_put : (old one two all : List ℕ) (k n records : ℕ) → one ≡ old ++ (codes "file " ++ decimal k ++ codes ": ")
+    → two ≡ one ++ (codes "" ++ decimal n ++ codes " data bytes, ")
     → all ≡ two ++ (codes "" ++ decimal records ++ codes " records\n") → all ≡ old ++ file_line k n records
 line_put old one two all k n records first second third =
     third ∙ ap (λ t. t ++ (codes "" ++ decimal records ++ codes " records\n")) (second ∙ ap (λ t. t ++ (codes "" ++ decimal n ++ codes " data bytes, ")) first)
@@ -37,16 +38,20 @@ line_put old one two all k n records first second third =
 
 -- ---- one event more, and records that were passed over
 
-pub header_counted : {A : Type 0} (h : Header) (n files size records : ℕ) (heard : List (Event A)) → Counts files size records heard → Counts files n 0 (header h n ∷ heard)
+pub header_counted : {A : Type 0} (h : Header) (n files size records : ℕ) (heard : List (Event A)) → Counts files size records heard
+    → Counts files n 0 (header h n ∷ heard)
 header_counted h n files size records heard c = record { of_files = c.of_files; of_size = refl; of_records = refl }
 
-pub item_counted : {A : Type 0} (r : Record A) (files size records : ℕ) (heard : List (Event A)) → Counts files size records heard → Counts files size (records + 1) (item r ∷ heard)
+pub item_counted : {A : Type 0} (r : Record A) (files size records : ℕ) (heard : List (Event A)) → Counts files size records heard
+    → Counts files size (records + 1) (item r ∷ heard)
 item_counted r files size records heard c = record { of_files = c.of_files; of_size = c.of_size; of_records = let of_records = c.of_records in omega arith }
 
-pub end_counted : {A : Type 0} (files size records : ℕ) (heard : List (Event A)) → Counts files size records heard → Counts (files + 1) size records (file_end ∷ heard)
+pub end_counted : {A : Type 0} (files size records : ℕ) (heard : List (Event A)) → Counts files size records heard
+    → Counts (files + 1) size records (file_end ∷ heard)
 end_counted files size records heard c = record { of_files = ap (λ k. k + 1) c.of_files; of_size = c.of_size; of_records = c.of_records }
 
-pub end_line : {A : Type 0} (files size records : ℕ) (heard : List (Event A)) → Counts files size records (file_end ∷ heard) → file_line files size records ≡ check_line heard file_end
+pub end_line : {A : Type 0} (files size records : ℕ) (heard : List (Event A)) → Counts files size records (file_end ∷ heard)
+    → file_line files size records ≡ check_line heard file_end
 end_line files size records heard c = λ i. file_line (c.of_files i) (c.of_size i) (c.of_records i)
 
 module _ {A : Type 0} (heard : List (Event A)) where
@@ -72,7 +77,8 @@ module _ {A : Type 0} (heard : List (Event A)) where
   pub silent_over : (rs : List (Record A)) → text_of check_line (hear_records rs heard) ≡ text_of check_line heard
   silent_over rs = ap (text_of check_line) (sym (over rs)) ∙ text_over (reverse rs)
 
-  pub records_counted : (rs : List (Record A)) (files size records count : ℕ) → length rs ≡ count → Counts files size records heard → Counts files size (records + count) (hear_records rs heard)
+  pub records_counted : (rs : List (Record A)) (files size records count : ℕ) → length rs ≡ count → Counts files size records heard
+      → Counts files size (records + count) (hear_records rs heard)
   records_counted rs files size records count long c =
       subst (Counts files size (records + count)) (over rs) (record {
         of_files = c.of_files ∙ sym (ended_over (reverse rs));
@@ -80,7 +86,8 @@ module _ {A : Type 0} (heard : List (Event A)) where
         of_records = let of_records = c.of_records in omega (arith, of_records, long, records_over (reverse rs), length-reverse rs);
       })
 
-pub few_counted : {A : Type 0} (files size records : ℕ) (heard : List (Event A)) → Counts files size records heard → AreHeard heard → (files < 144115188075855872) × (records < 144115188075855872)
+pub few_counted : {A : Type 0} (files size records : ℕ) (heard : List (Event A)) → Counts files size records heard → AreHeard heard
+    → (files < 144115188075855872) × (records < 144115188075855872)
 few_counted files size records heard c are =
     let few = heard_are_few heard are in
     let of_files = c.of_files in
@@ -106,14 +113,17 @@ module _ {A : Type 0} (f : FitFile A) (before : List (Event A)) where
   file_heard : reverse (file_events f) ++ before ≡ file_end ∷ (map item (reverse f.records) ++ header f.header (length (body f)) ∷ before)
   file_heard =
       ap (λ es. es ++ before) (reverse-append (header f.header (length (body f)) ∷ map item f.records) (file_end ∷ [])
-      ∙ ap (λ es. file_end ∷ es) (reverse-append (header f.header (length (body f)) ∷ []) (map item f.records) ∙ ap (λ es. es ++ header f.header (length (body f)) ∷ []) (reverse-map item f.records)))
+      ∙ ap (λ es. file_end ∷ es) (reverse-append (header f.header (length (body f)) ∷ []) (map item f.records)
+      ∙ ap (λ es. es ++ header f.header (length (body f)) ∷ []) (reverse-map item f.records)))
       ∙ ap (λ es. file_end ∷ es) (append_assoc (map item (reverse f.records)) (header f.header (length (body f)) ∷ []) before)
 
-  file_text : text_of check_line (reverse (file_events f) ++ before) ≡ text_of check_line before ++ file_line (ended_files before + 1) (length (body f)) (length f.records)
+  file_text : text_of check_line (reverse (file_events f) ++ before)
+      ≡ text_of check_line before ++ file_line (ended_files before + 1) (length (body f)) (length f.records)
   file_text =
       ap (text_of check_line) file_heard
       ∙ (λ i. text_since f.header (length (body f)) before (reverse f.records) i
-      ++ file_line (ended_since f.header (length (body f)) before (reverse f.records) i + 1) (size_since f.header (length (body f)) before (reverse f.records) i)
+      ++ file_line (ended_since f.header (length (body f)) before (reverse f.records) i + 1)
+      (size_since f.header (length (body f)) before (reverse f.records) i)
       (length (records_behind (reverse f.records) f.header (length (body f)) before i)))
       ∙ ap (λ m. text_of check_line before ++ file_line (ended_files before + 1) (length (body f)) m) (length-reverse f.records)
 
@@ -124,10 +134,12 @@ files_text : {A : Type 0} (fs : List (FitFile A)) (before : List (Event A))
     → text_of check_line (reverse (flat_map file_events fs) ++ before) ≡ text_of check_line before ++ file_lines (ended_files before + 1) fs
 files_text [] before = sym (append-nil (text_of check_line before))
 files_text (f ∷ fs) before =
-    ap (text_of check_line) (ap (λ es. es ++ before) (reverse-append (file_events f) (flat_map file_events fs)) ∙ append_assoc (reverse (flat_map file_events fs)) (reverse (file_events f)) before)
+    ap (text_of check_line) (ap (λ es. es ++ before) (reverse-append (file_events f) (flat_map file_events fs))
+    ∙ append_assoc (reverse (flat_map file_events fs)) (reverse (file_events f)) before)
     ∙ files_text fs (reverse (file_events f) ++ before)
     ∙ (λ i. file_text f before i ++ file_lines (file_ended f before i + 1) fs)
-    ∙ append_assoc (text_of check_line before) (file_line (ended_files before + 1) (length (body f)) (length f.records)) (file_lines (ended_files before + 1 + 1) fs)
+    ∙ append_assoc (text_of check_line before) (file_line (ended_files before + 1) (length (body f)) (length f.records))
+    (file_lines (ended_files before + 1 + 1) fs)
 
 pub chains_have_lines : {A : Type 0} → ChainsHaveLines A
 chains_have_lines fs = ap (text_of check_line) (sym (append-nil (reverse (flat_map file_events fs)))) ∙ files_text fs []

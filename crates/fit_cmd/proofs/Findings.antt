@@ -1,5 +1,6 @@
 -- An input has one finding.
-use Rattle.std.proofs.Common.{◌≡◌, Bool, ℕ, ◌<◌, suc, false, List, [], ◌∷◌, ◌++◌, length, take, drop, get_or, Option, Some, None, Result, Ok, Err, refl, sym, ap, ◌∙◌, subst, append_assoc, append-nil, arith, take-append-drop, drop-cons, length-append, length-take-le}
+use Rattle.std.proofs.Common.{◌≡◌, Bool, ℕ, ◌<◌, suc, false, List, [], ◌∷◌, ◌++◌, length, take, drop, get_or, Option, Some, None, Result, Ok, Err, refl, sym}
+use Rattle.std.proofs.Common.{ap, ◌∙◌, subst, append_assoc, append-nil, arith, take-append-drop, drop-cons, length-append, length-take-le}
 use Rattle.std.specs.Io.KnownBytes.{Consumes}
 use Rattle.std.proofs.lemmas.List.{take-append-le, get_or_append_left}
 use Rattle.fit_base.specs.Numbers.{IsBytes}
@@ -12,7 +13,7 @@ use Rattle.fit_decode.specs.Laws.{ReasonsAreOne}
 use Rattle.fit_decode.specs.Refusals.{IsRefused}
 use Rattle.fit_report.specs.Reports.{Channel}
 use Rattle.fit_cmd.specs.Laws.{FindingsAreOne, HasFound}
-use Rattle.fit_cmd.specs.Run.{Finds, good_bytes}
+use Rattle.fit_cmd.specs.Run.{ReportFinds, good_bytes}
 
 abbrev pub refusal : ℕ → Reason → Result (Unit {0}) Fault
 refusal place reason = Err (Refused place reason)
@@ -40,10 +41,12 @@ module _ (A : Type 0) where
     byte = get_or_append_left x y 0 place within
 
     in_front : IsRefusedAt (x ++ y) place reason → IsRefusedAt x place reason
-    in_front why = subst (λ c. IsRefused A chain_limit (take place x) c reason) byte (subst (λ t. IsRefused A chain_limit t (get_or (x ++ y) place 0) reason) front why)
+    in_front why = subst (λ c. IsRefused A chain_limit (take place x) c reason) byte
+        (subst (λ t. IsRefused A chain_limit t (get_or (x ++ y) place 0) reason) front why)
 
     in_all : IsRefusedAt x place reason → IsRefusedAt (x ++ y) place reason
-    in_all why = subst (λ c. IsRefused A chain_limit (take place (x ++ y)) c reason) (sym byte) (subst (λ t. IsRefused A chain_limit t (get_or x place 0) reason) (sym front) why)
+    in_all why = subst (λ c. IsRefused A chain_limit (take place (x ++ y)) c reason) (sym byte)
+        (subst (λ t. IsRefused A chain_limit t (get_or x place 0) reason) (sym front) why)
 
   begins : (x y : List ℕ) → IsViable A chain_limit (x ++ y) → IsViable A chain_limit x
   begins x y (more, fs, are, chain) = (y ++ more, fs, subst IsBytes (append_assoc x y more) are, subst (IsChain chain_limit fs) (append_assoc x y more) chain)
@@ -55,14 +58,16 @@ module _ (A : Type 0) where
 
   never_refused : (bytes : List ℕ) (place : ℕ) (reason : Reason) → IsViable A chain_limit bytes → place < length bytes → IsRefusedAt bytes place reason → ⊥
   never_refused bytes place reason viable within why =
-      why.refused (begins (take place bytes ++ get_or bytes place 0 ∷ []) (drop (suc place) bytes) (subst (IsViable A chain_limit) (parted bytes place within) viable))
+      why.refused (begins (take place bytes ++ get_or bytes place 0 ∷ []) (drop (suc place) bytes)
+      (subst (IsViable A chain_limit) (parted bytes place within) viable))
 
   -- no byte before a refused one is refused
   none_sooner : (bytes : List ℕ) (p q : ℕ) (r s : Reason) → q < length bytes → IsRefusedAt bytes p r → IsRefusedAt bytes q s → p < q → ⊥
   none_sooner bytes p q r s within first second sooner =
       let long : length (take q bytes) ≡ q = length-take-le q bytes (omega arith) in
       let early : p < length (take q bytes) = omega (arith, long, sooner) in
-      never_refused (take q bytes) p r second.viable early (in_front (take q bytes) (drop q bytes) p r early (subst (λ t. IsRefusedAt t p r) (sym (take-append-drop q bytes)) first))
+      never_refused (take q bytes) p r second.viable early
+      (in_front (take q bytes) (drop q bytes) p r early (subst (λ t. IsRefusedAt t p r) (sym (take-append-drop q bytes)) first))
 
   -- ---- findings
 
@@ -104,9 +109,10 @@ module _ (A : Type 0) where
 
   -- what was found says so of the whole input
   finding_of_all : (before : Option (List ℕ)) (taken rest : List ℕ) (failed : Bool) (found : Result (Unit {0}) Fault) → failed ≡ false
-      → Finds A taken (record { before = before; after = Some rest; failed = failed }) found → IsFinding (taken ++ rest) found × (good_bytes found taken ≡ good_bytes found (taken ++ rest))
+      → ReportFinds A taken (record { before = before; after = Some rest; failed = failed }) found
+      → IsFinding (taken ++ rest) found × (good_bytes found taken ≡ good_bytes found (taken ++ rest))
   finding_of_all before taken rest failed (Ok x) works (end, well, chain) = (subst (AreChain A) (whole taken rest end) chain, whole taken rest end)
-  finding_of_all before taken rest failed (Err (Refused place reason)) works (within, near, why) =
+  finding_of_all before taken rest failed (Err (Refused place reason)) works (within, near, why, good) =
       ((omega (arith, within, length-append taken rest), in_all taken rest place reason within why), sym (front taken rest place reason within))
   finding_of_all before taken rest failed (Err (Truncated place)) works (is, end, viable, short, well) =
       let all : taken ≡ taken ++ rest = whole taken rest end in
@@ -114,14 +120,17 @@ module _ (A : Type 0) where
   finding_of_all before taken rest failed (Err (NoMemory used)) works none = absurd none
   finding_of_all before taken rest failed (Err (Read place)) works (is, bad, viable) = absurd cc
 
-  finding : (input taken : List ℕ) (before has : Option (List ℕ)) (failed : Bool) (found : Result (Unit {0}) Fault) → before ≡ Some input → Consumes before has taken → failed ≡ false
-      → Finds A taken (record { before = before; after = has; failed = failed }) found → IsFinding input found × (good_bytes found taken ≡ good_bytes found input)
+  finding : (input taken : List ℕ) (before has : Option (List ℕ)) (failed : Bool) (found : Result (Unit {0}) Fault) → before ≡ Some input
+      → Consumes before has taken → failed ≡ false
+      → ReportFinds A taken (record { before = before; after = has; failed = failed }) found
+      → IsFinding input found × (good_bytes found taken ≡ good_bytes found input)
   finding input taken before None failed found is took works finds = absurd (subst (λ b. Consumes b None taken) is took)
   finding input taken before (Some rest) failed found is took works finds =
       let all : input ≡ taken ++ rest = subst (λ b. Consumes b (Some rest) taken) is took in
       subst (λ t. IsFinding t found × (good_bytes found taken ≡ good_bytes found t)) (sym all) (finding_of_all before taken rest failed found works finds)
 
-  pub found : (input taken : List ℕ) (source : Channel) (answer : Result (Unit {0}) Fault) → HasFound A input taken source answer → IsFinding input answer × (good_bytes answer taken ≡ good_bytes answer input)
+  pub found : (input taken : List ℕ) (source : Channel) (answer : Result (Unit {0}) Fault) → HasFound A input taken source answer
+      → IsFinding input answer × (good_bytes answer taken ≡ good_bytes answer input)
   found input taken source answer h = finding input taken source.before source.after source.failed answer h.before h.took h.works h.finds
 
 pub findings_are_one : {A : Type 0} → ReasonsAreOne A → FindingsAreOne A

@@ -1,7 +1,8 @@
 -- How long the names of reasons are.
 use Rattle.std.proofs.Common.{◌≤◌, length, lit≤}
 use Rattle.fit_frame.specs.declared.reason.Reason.{Reason}
-use Rattle.fit_frame.specs.declared.reason.Reason.TheVariants.{HeaderSize, Protocol, NoFit, Signature, HeaderSum, ReservedBit, UndefinedLocal, Overrun, Architecture, FileSum, TooManyFiles}
+use Rattle.fit_frame.specs.declared.reason.Reason.TheVariants.{HeaderSize, Protocol, NoFit, Signature, HeaderSum, ReservedBit, UndefinedLocal, Overrun}
+use Rattle.fit_frame.specs.declared.reason.Reason.TheVariants.{Architecture, FileSum, TooManyFiles}
 use Rattle.fit_frame.specs.ReasonNames.{reason_name}
 
 pub length-reason_name : (r : Reason) → length (reason_name r) ≤ 14

@@ -1,5 +1,6 @@
 -- What `from-csv` makes of a text is one.
-use Rattle.std.proofs.Common.{◌≡◌, ◌≢◌, ◌⊎◌, ◌∙◌, inl, inr, ℕ, ◌<◌, ◌≤◌, ◌^◌, false, List, [], ◌++◌, length, Option, Some, None, Result, Ok, Err, refl, sym, ap, subst, arith, length-append}
+use Rattle.std.proofs.Common.{◌≡◌, ◌≢◌, ◌⊎◌, ◌∙◌, inl, inr, ℕ, ◌<◌, ◌≤◌, ◌^◌, false, List, [], ◌++◌, length, Option, Some, None, Result, Ok, Err, refl, sym, ap}
+use Rattle.std.proofs.Common.{subst, arith, length-append}
 use Rattle.std.specs.Prelude.{IfErr, IfSome}
 use Rattle.std.specs.Io.KnownBytes.{Appends, Consumes, IsAtEnd}
 use Rattle.std.proofs.KnownBytes.{Appends-nil, Consumes-whole}
@@ -7,7 +8,7 @@ use Rattle.fit_encode.specs.declared.fault.EncodeFault.TheVariants as encode
 use Rattle.fit_report.specs.Reports.{Channel}
 use Rattle.fit_csv.specs.declared.fault.CsvFault.{CsvFault}
 use Rattle.fit_csv.specs.declared.fault.CsvFault.TheVariants.{BadCell, BadRow, Decode, Encode, Header, NoMemory, Read, Write}
-use Rattle.fit_csv.specs.FromText.{Finds, IsWrong, ReadsText, UnlessWritten}
+use Rattle.fit_csv.specs.FromText.{IsTextFinding, IsWrong, ReadsText, UnlessWritten}
 use Rattle.fit_csv.specs.Laws.{TextsHaveOneFinding}
 use Rattle.fit_cmd.specs.Run.{Concludes}
 
@@ -23,7 +24,7 @@ found_bytes (Err fault) = []
 -- the text is too long, or this is found of it
 abbrev Tells : List ℕ → ℕ → List ℕ → Type 0
 Tells input status bytes = ((2 ^ 62 < length input) × (status ≡ 4) × (bytes ≡ []))
-    ⊎ ((found : Result (List ℕ) CsvFault) × Finds input found × (status ≡ found_status found) × (bytes ≡ found_bytes found))
+    ⊎ ((found : Result (List ℕ) CsvFault) × IsTextFinding input found × (status ≡ found_status found) × (bytes ≡ found_bytes found))
 
 pub record Made (input : List ℕ) (output : Channel) (status : ℕ) : Type 0 where
   pub bytes : List ℕ
@@ -31,7 +32,7 @@ pub record Made (input : List ℕ) (output : Channel) (status : ℕ) : Type 0 wh
   pub tells : Tells input status bytes
 
 -- a text of which something is found isn't too long
-short : (text : List ℕ) (found : Result (List ℕ) CsvFault) → Finds text found → length text ≤ 2 ^ 62
+short : (text : List ℕ) (found : Result (List ℕ) CsvFault) → IsTextFinding text found → length text ≤ 2 ^ 62
 short text (Ok bytes) (files, h) = h.short
 short text (Err Header) h = h.0
 short text (Err (BadRow row)) h = h.0
@@ -68,8 +69,10 @@ some_taken before (Some left) input taken has eats =
 none_put : (before after : Option (List ℕ)) → after ≡ before → Appends before after []
 none_put before after same = subst (λ (a : Option (List ℕ)). Appends before a []) (sym same) (Appends-nil before)
 
-module _ (input : List ℕ) (source output faults : Channel) (status : ℕ) (has : source.before ≡ Some input) (works : source.failed ≡ false) (good : output.failed ≡ false) (memory : status ≢ 3) where
-  wrong : (fault : CsvFault) (taken : List ℕ) → Consumes source.before source.after taken → IsAtEnd source.after → IsWrong taken fault → output.after ≡ output.before → status ≡ 1
+module _ (input : List ℕ) (source output faults : Channel) (status : ℕ) (has : source.before ≡ Some input) (works : source.failed ≡ false)
+    (good : output.failed ≡ false) (memory : status ≢ 3) where
+  wrong : (fault : CsvFault) (taken : List ℕ) → Consumes source.before source.after taken → IsAtEnd source.after → IsWrong taken fault
+      → output.after ≡ output.before → status ≡ 1
       → Made input output status
   wrong fault taken eats end is same one = record {
     bytes = [];
@@ -82,7 +85,12 @@ module _ (input : List ℕ) (source output faults : Channel) (status : ℕ) (has
   made (Ok u) (taken, eats, (out, (files, bytes, is, put, fine))) kept (keeps, zero) = record {
     bytes = bytes;
     put = put;
-    tells = inr (Ok bytes, subst (λ (t : List ℕ). Finds t (Ok bytes)) (all_taken source.before source.after input taken has eats out.0) (files, is), zero, refl);
+    tells = inr (
+      Ok bytes,
+      subst (λ (t : List ℕ). IsTextFinding t (Ok bytes)) (all_taken source.before source.after input taken has eats out.0) (files, is),
+      zero,
+      refl,
+    );
   }
   made (Err Read) (taken, eats, inl failed) kept said = absurd (cc)
   made (Err Read) (taken, eats, inr long) kept (puts, four) =
@@ -96,10 +104,13 @@ module _ (input : List ℕ) (source output faults : Channel) (status : ℕ) (has
   made (Err (Encode fault)) (taken, eats, (out, is)) kept (puts, one) = wrong (Encode fault) taken eats out.0 is kept one
   made (Err (Decode fault)) (taken, eats, (out, is)) kept said = absurd is
 
-told_alike : TextsHaveOneFinding → (input : List ℕ) (status again : ℕ) (bytes others : List ℕ) → Tells input status bytes → Tells input again others → (status ≡ again) × (bytes ≡ others)
+told_alike : TextsHaveOneFinding → (input : List ℕ) (status again : ℕ) (bytes others : List ℕ) → Tells input status bytes → Tells input again others
+    → (status ≡ again) × (bytes ≡ others)
 told_alike law input status again bytes others (inl (long, four, none)) (inl (long_too, four_too, none_too)) = (four ∙ sym four_too, none ∙ sym none_too)
-told_alike law input status again bytes others (inl (long, four, none)) (inr (found, is, status_is, bytes_is)) = (let few = short input found is in absurd (omega arith))
-told_alike law input status again bytes others (inr (found, is, status_is, bytes_is)) (inl (long, four, none)) = (let few = short input found is in absurd (omega arith))
+told_alike law input status again bytes others (inl (long, four, none)) (inr (found, is, status_is, bytes_is)) =
+    (let few = short input found is in absurd (omega arith))
+told_alike law input status again bytes others (inr (found, is, status_is, bytes_is)) (inl (long, four, none)) =
+    (let few = short input found is in absurd (omega arith))
 told_alike law input status again bytes others (inr (found, is, status_is, bytes_is)) (inr (other, is_too, other_status, other_bytes)) =
     let same = law input found other is is_too in
     (status_is ∙ ap found_status same ∙ sym other_status, bytes_is ∙ ap found_bytes same ∙ sym other_bytes)

@@ -16,7 +16,8 @@ unless_written Read P Q f p = f p
 unless_written (Write written) P Q f p = p
 
 -- where the sink is as it was, it holds what it held
-pub text_kept : {K : Type 0} (contents : K → Option (List ℕ)) (old new : K) (answer : Result (Unit {0}) CsvFault) → IfErr answer (λ fault. UnlessWritten fault (new ≡ old))
+pub text_kept : {K : Type 0} (contents : K → Option (List ℕ)) (old new : K) (answer : Result (Unit {0}) CsvFault)
+    → IfErr answer (λ fault. UnlessWritten fault (new ≡ old))
     → IfErr answer (λ fault. UnlessWritten fault (contents new ≡ contents old))
 text_kept contents old new (Ok u) same = tt
 text_kept contents old new (Err fault) same = unless_written fault (new ≡ old) (contents new ≡ contents old) (λ e. ap contents e) same

@@ -1,5 +1,5 @@
 -- The command line of `fit`, as clap reads it.
-use Rattle.std.specs.Prelude.{◌≡◌, ◌≢◌, ◌⊎◌, ◌∷◌, [], true, List, Option, Some, codes}
+use Rattle.std.specs.Prelude.{◌≡◌, ◌≢◌, ◌⊎◌, ◌∷◌, [], true, List, Option, Some, None, codes}
 use Rattle.clap.specs.Words.{App, IsAmong, Rule, Text, fault_of, new_app, new_rule, with_rule, matches_of, first_of}
 use Rattle.clap.specs.declared.error.kind.ErrorKind.{ErrorKind}
 use Rattle.clap.specs.declared.error.kind.ErrorKind.TheVariants as kind
@@ -24,14 +24,20 @@ abbrev pub fit_app : App
 fit_app = with_rule (with_rule (new_app (codes "fit")) command_rule) (new_rule (codes "file"))
 
 -- a FILE that is not empty and is no flag
-abbrev pub IsFile : Text → Type 0
-IsFile [] = ⊥
-IsFile (b ∷ rest) = b ≢ 45
+abbrev pub IsFileWord : Text → Type 0
+IsFileWord [] = ⊥
+IsFileWord (b ∷ rest) = b ≢ 45
 
 -- the words of a line that is refused for memory alone
 abbrev pub IsPlainLine : Command → List Text → Type 0
 IsPlainLine command words = (program : Text) × ((words ≡ program ∷ command_word command ∷ [])
-    ⊎ ((file : Text) × IsFile file × (words ≡ program ∷ command_word command ∷ file ∷ [])))
+    ⊎ ((file : Text) × IsFileWord file × (words ≡ program ∷ command_word command ∷ file ∷ [])))
+
+-- The words of a command alone, or with one FILE, give that command, and no FILE or that one.
+abbrev pub GivesPlainLines : List Text → Command → Option Text → Type 0
+GivesPlainLines words command path = (c : Command) (program : Text)
+    → (words ≡ program ∷ command_word c ∷ [] → (command ≡ c) × (path ≡ None))
+    × ((file : Text) → IsFileWord file → words ≡ program ∷ command_word c ∷ file ∷ [] → (command ≡ c) × (path ≡ Some file))
 
 -- what clap's matches of the words name
 abbrev pub Names : List Text → Command → Option Text → Type 0

@@ -9,7 +9,7 @@ use Rattle.fit_report.specs.Heard.{text_of}
 use Rattle.fit_report.specs.Reports.{Channel}
 use Rattle.fit_cmd.specs.declared.command_line.Command.{Command}
 use Rattle.fit_cmd.specs.Lines.{check_line, file_lines}
-use Rattle.fit_cmd.specs.Run.{Finds, RunsCommand, good_bytes}
+use Rattle.fit_cmd.specs.Run.{ReportFinds, RunsCommand, good_bytes}
 
 -- The text of a chain's events is a line for each file.
 abbrev pub ChainsHaveLines : Type 0 → Type 0
@@ -20,7 +20,7 @@ pub record HasFound (A : Type 0) (input taken : List ℕ) (source : Channel) (fo
   pub before : source.before ≡ Some input
   pub took : Consumes source.before source.after taken
   pub works : source.failed ≡ false
-  pub finds : Finds A taken source found
+  pub finds : ReportFinds A taken source found
 
 -- Two runs over one input find the same, and the same bytes of it good.
 abbrev pub FindingsAreOne : Type 0 → Type 0

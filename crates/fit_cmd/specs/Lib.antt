@@ -2,4 +2,4 @@ pub mod CommandLine
 pub mod Lines
 pub mod Run
 pub mod Laws
-pub mod Finishing
+pub mod inner

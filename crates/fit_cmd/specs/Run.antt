@@ -1,5 +1,5 @@
 -- What the program writes, and the status that it answers.
-use Rattle.std.specs.Prelude.{◌≡◌, ℕ, ◌<◌, ◌⊎◌, true, false, List, ◌++◌, Result, Ok, Err, IfErr, Some, length, reverse, take}
+use Rattle.std.specs.Prelude.{◌≡◌, ℕ, ◌<◌, ◌⊎◌, Bool, true, false, List, ◌++◌, Option, Result, Ok, Err, IfErr, Some, length, reverse, take}
 use Rattle.std.specs.Global.{Global}
 use Rattle.std.specs.Io.KnownBytes.{Appends, Consumes, IsAtEnd, Keeps}
 use Rattle.fit_base.specs.Numbers.{IsBytes}
@@ -20,33 +20,35 @@ use Rattle.fit_csv.specs.ShowLines.{show_line}
 use Rattle.fit_csv.specs.Table.{table_of}
 use Rattle.fit_cmd.specs.declared.command_line.Command.{Command}
 use Rattle.fit_cmd.specs.declared.command_line.Command.TheVariants.{Check, Show, ToCsv, FromCsv, Table}
-use Rattle.fit_cmd.specs.Lines.{check_line, ok_line, refused_line, truncated_line, read_fault_line, write_fault_line, header_row_line, row_line, cell_line, text_fault_line, encode_line, out_of_memory_line}
+use Rattle.fit_cmd.specs.Lines.{check_line, ok_line, refused_line, truncated_line, read_fault_line, write_fault_line, header_row_line, row_line, cell_line}
+use Rattle.fit_cmd.specs.Lines.{text_fault_line, encode_line, out_of_memory_line}
 
 -- ---- lines in a sink
 
 -- All of the bytes were put, or the sink has failed behind some first ones.
-abbrev pub Puts : Channel → List ℕ → Type 0
-Puts sink bytes = Appends sink.before sink.after bytes
+abbrev pub PutsOrFails : Channel → List ℕ → Type 0
+PutsOrFails sink bytes = Appends sink.before sink.after bytes
     ⊎ ((sink.failed ≡ true) × (n : ℕ) × (n < length bytes) × Appends sink.before sink.after (take n bytes))
 
 -- The output has failed behind some first bytes of the lines; the fault sink is told so, and the status is 4.
-abbrev pub FailsIn : List ℕ → Channel → Channel → ℕ → Type 0
-FailsIn lines output faults status =
-    (output.failed ≡ true) × (n : ℕ) × (n < length lines) × Appends output.before output.after (take n lines) × Puts faults write_fault_line × (status ≡ 4)
+abbrev pub OutputFailsIn : List ℕ → Channel → Channel → ℕ → Type 0
+OutputFailsIn lines output faults status =
+    (output.failed ≡ true) × (n : ℕ) × (n < length lines) × Appends output.before output.after (take n lines) × PutsOrFails faults write_fault_line
+    × (status ≡ 4)
 
 -- The lines went out, and this is the status; or the output has failed in them.
-abbrev pub Writes : List ℕ → ℕ → Channel → Channel → ℕ → Type 0
-Writes lines wanted output faults status =
-    (Appends output.before output.after lines × Keeps faults.before faults.after × (status ≡ wanted)) ⊎ FailsIn lines output faults status
+abbrev pub WritesLines : List ℕ → ℕ → Channel → Channel → ℕ → Type 0
+WritesLines lines wanted output faults status =
+    (Appends output.before output.after lines × Keeps faults.before faults.after × (status ≡ wanted)) ⊎ OutputFailsIn lines output faults status
 
 -- ---- a report
 
 -- What the bytes taken from the input are: all of it, and a chain of files; or what a fault ended. That memory was refused is
 -- nothing found.
-abbrev pub Finds : {X : Type 0} → Type 0 → List ℕ → Channel → Result X Fault → Type 0
-Finds A taken source (Ok _) = IsAtEnd source.after × (source.failed ≡ false) × AreChain A taken
-Finds A taken source (Err (NoMemory used)) = ⊥
-Finds A taken source (Err fault) = Faults A chain_limit taken source.after source.failed fault
+abbrev pub ReportFinds : {X : Type 0} → Type 0 → List ℕ → Channel → Result X Fault → Type 0
+ReportFinds A taken source (Ok _) = IsAtEnd source.after × (source.failed ≡ false) × AreChain A taken
+ReportFinds A taken source (Err (NoMemory used)) = ⊥
+ReportFinds A taken source (Err fault) = Faults A chain_limit taken source.after source.failed fault
 
 -- the bytes that were found good
 abbrev pub good_bytes : {X : Type 0} → Result X Fault → List ℕ → List ℕ
@@ -56,43 +58,43 @@ good_bytes (Err fault) taken = before_fault fault taken
 -- What is said of it behind the lines of the good bytes: a last line with status 0 for a chain, and 1 for none; or that the
 -- source failed.
 abbrev pub Says : {X : Type 0} → Result X Fault → List ℕ → Channel → Channel → ℕ → Type 0
-Says (Ok _) lines output faults status = Writes (lines ++ ok_line) 0 output faults status
-Says (Err (Refused place reason)) lines output faults status = Writes (lines ++ refused_line place reason) 1 output faults status
-Says (Err (Truncated place)) lines output faults status = Writes (lines ++ truncated_line place) 1 output faults status
+Says (Ok _) lines output faults status = WritesLines (lines ++ ok_line) 0 output faults status
+Says (Err (Refused place reason)) lines output faults status = WritesLines (lines ++ refused_line place reason) 1 output faults status
+Says (Err (Truncated place)) lines output faults status = WritesLines (lines ++ truncated_line place) 1 output faults status
 Says (Err (Read place)) lines output faults status =
-    Appends output.before output.after lines × Puts faults (read_fault_line place) × (status ≡ 4)
+    Appends output.before output.after lines × PutsOrFails faults (read_fault_line place) × (status ≡ 4)
 Says (Err (NoMemory used)) lines output faults status = ⊥
 
 -- Memory was refused behind the lines, or the output has failed in them.
-abbrev pub BreaksOff : List ℕ → Channel → Channel → ℕ → Type 0
-BreaksOff lines output faults status =
-    (Appends output.before output.after lines × Puts faults out_of_memory_line × (status ≡ 3)) ⊎ FailsIn lines output faults status
+abbrev pub LinesBreakOff : List ℕ → Channel → Channel → ℕ → Type 0
+LinesBreakOff lines output faults status =
+    (Appends output.before output.after lines × PutsOrFails faults out_of_memory_line × (status ≡ 3)) ⊎ OutputFailsIn lines output faults status
 
 -- What a command did that writes these lines of events: of all that it took from the input it wrote the lines, and said what it
 -- found; or it broke off in the lines of some first bytes.
 abbrev pub Runs : {A : Type 0} → Lines A → Channel → Channel → Channel → ℕ → Type 0
 Runs {A} line source output faults status =
     (taken : List ℕ) × Consumes source.before source.after taken
-    × (((found : Result (Unit {0}) Fault) × (heard : List (Event A)) × Finds A taken source found × AreEvents (good_bytes found taken) (reverse heard)
+    × (((found : Result (Unit {0}) Fault) × (heard : List (Event A)) × ReportFinds A taken source found × AreEvents (good_bytes found taken) (reverse heard)
     × Says found (text_of line heard) output faults status)
-    ⊎ ((k : ℕ) × (heard : List (Event A)) × AreEvents (take k taken) (reverse heard) × BreaksOff (text_of line heard) output faults status))
+    ⊎ ((k : ℕ) × (heard : List (Event A)) × AreEvents (take k taken) (reverse heard) × LinesBreakOff (text_of line heard) output faults status))
 
 -- ---- a conversion
 
 -- What is said of a conversion's answer: nothing where it is good, and else a line on the fault sink.
 abbrev pub Concludes : {X : Type 0} → Result X CsvFault → Channel → ℕ → Type 0
 Concludes (Ok _) faults status = Keeps faults.before faults.after × (status ≡ 0)
-Concludes (Err (csv.Decode (Refused place reason))) faults status = Puts faults (refused_line place reason) × (status ≡ 1)
-Concludes (Err (csv.Decode (Truncated place))) faults status = Puts faults (truncated_line place) × (status ≡ 1)
-Concludes (Err (csv.Decode (Read place))) faults status = Puts faults (read_fault_line place) × (status ≡ 4)
-Concludes (Err (csv.Decode (NoMemory used))) faults status = Puts faults out_of_memory_line × (status ≡ 3)
-Concludes (Err (csv.Encode fault)) faults status = Puts faults (encode_line fault) × (status ≡ 1)
-Concludes (Err csv.Header) faults status = Puts faults header_row_line × (status ≡ 1)
-Concludes (Err (csv.BadRow row)) faults status = Puts faults (row_line row) × (status ≡ 1)
-Concludes (Err (csv.BadCell row column)) faults status = Puts faults (cell_line row column) × (status ≡ 1)
-Concludes (Err csv.NoMemory) faults status = Puts faults out_of_memory_line × (status ≡ 3)
-Concludes (Err csv.Read) faults status = Puts faults text_fault_line × (status ≡ 4)
-Concludes (Err (csv.Write written)) faults status = Puts faults write_fault_line × (status ≡ 4)
+Concludes (Err (csv.Decode (Refused place reason))) faults status = PutsOrFails faults (refused_line place reason) × (status ≡ 1)
+Concludes (Err (csv.Decode (Truncated place))) faults status = PutsOrFails faults (truncated_line place) × (status ≡ 1)
+Concludes (Err (csv.Decode (Read place))) faults status = PutsOrFails faults (read_fault_line place) × (status ≡ 4)
+Concludes (Err (csv.Decode (NoMemory used))) faults status = PutsOrFails faults out_of_memory_line × (status ≡ 3)
+Concludes (Err (csv.Encode fault)) faults status = PutsOrFails faults (encode_line fault) × (status ≡ 1)
+Concludes (Err csv.Header) faults status = PutsOrFails faults header_row_line × (status ≡ 1)
+Concludes (Err (csv.BadRow row)) faults status = PutsOrFails faults (row_line row) × (status ≡ 1)
+Concludes (Err (csv.BadCell row column)) faults status = PutsOrFails faults (cell_line row column) × (status ≡ 1)
+Concludes (Err csv.NoMemory) faults status = PutsOrFails faults out_of_memory_line × (status ≡ 3)
+Concludes (Err csv.Read) faults status = PutsOrFails faults text_fault_line × (status ≡ 4)
+Concludes (Err (csv.Write written)) faults status = PutsOrFails faults write_fault_line × (status ≡ 4)
 
 -- What a command did that writes these rows of events.
 abbrev pub RunsConversion : RowsOf → Channel → Channel → Channel → ℕ → Type 0

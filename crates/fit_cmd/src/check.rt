@@ -33,8 +33,12 @@ impl CheckReport {
 
     /// Counts an event.
     fn note(&mut self, event: &Event)
-        requires { (heard : List (Told Global)) × Counts self.old.files self.old.data_size self.old.records heard × AreHeard (hear event.now heard) }
-        ensures { (heard : List (Told Global)) → Counts self.old.files self.old.data_size self.old.records heard → Counts self.new.files self.new.data_size self.new.records (hear event.now heard) }
+        requires { (heard : List (Told Global)) ×
+            Counts self.old.files self.old.data_size self.old.records heard ×
+            AreHeard (hear event.now heard) }
+        ensures { (heard : List (Told Global)) →
+            Counts self.old.files self.old.data_size self.old.records heard →
+            Counts self.new.files self.new.data_size self.new.records (hear event.now heard) }
     {
         match event {
             Event::More => {}
@@ -49,7 +53,8 @@ impl CheckReport {
 
     /// Puts the line of the file that has just ended.
     fn put_line(&self, text: &mut Vec<u8>) -> Result<(), AllocError>
-        ensures { OnOk result (text.new.items ≡ text.old.items ++ file_line self.now.files self.now.data_size self.now.records) }
+        ensures { OnOk result (text.new.items ≡
+            text.old.items ++ file_line self.now.files self.now.data_size self.now.records) }
     {
         put_numbered(text, "file ", self.files, ": ")?;
         put_numbered(text, "", u64::from(self.data_size), " data bytes, ")?;

@@ -1,7 +1,7 @@
 //! The command line of `fit`: a command, and at most one FILE.
 ghost use Rattle.std.specs.Prelude.{◌≡◌, ◌≢◌, [], IfErr, IfNone, IfOk, IfSome, OnOk, map, option_map, string_bytes};
 ghost use Rattle.clap.specs.Words.{app_of, fault_of, kind_of};
-ghost use Rattle.fit_cmd.specs.CommandLine.{IsPlainLine, IsRefusedFor, Names, command_word, fit_app, line_fault};
+ghost use Rattle.fit_cmd.specs.CommandLine.{GivesPlainLines, IsPlainLine, IsRefusedFor, Names, command_word, fit_app, line_fault};
 ghost use Rattle.fit_cmd.specs.declared.command_line.Command.{Command};
 
 use clap::error::ErrorKind;
@@ -81,13 +81,18 @@ fn fault_of(error: Error) -> LineFault
 /// Reads the command line. The first word is the program's name.
 ///
 /// A command word with at most one FILE, which isn't empty and doesn't begin with `-`, is refused
-/// for memory alone. Only words that clap takes are taken.
+/// for memory alone, and gives that command and that FILE. Only words that clap takes are taken.
 /// Which of `Usage` and `Help` other words get is clap's own answer: `--help` anywhere is `Help`.
 /// Words that clap takes, and that name no command, get `Usage`.
 pub fn parse_line(alloc: Global, words: &[String]) -> Result<Line, LineFault>
-    ensures names { IfOk result (λ line. Names (map string_bytes words.now) line.command (option_map string_bytes line.path)) }
+    ensures names { IfOk result (λ line.
+        Names (map string_bytes words.now) line.command (option_map string_bytes line.path)) }
     ensures taken { OnOk result (fault_of fit_app (map string_bytes words.now) ≡ []) }
-    ensures memory { IfErr result (λ fault. (command : Command) → IsPlainLine command (map string_bytes words.now) → fault ≡ LineFault.NoMemory) }
+    ensures plain { IfOk result (λ line.
+        GivesPlainLines (map string_bytes words.now) line.command
+        (option_map string_bytes line.path)) }
+    ensures memory { IfErr result (λ fault. (command : Command) →
+        IsPlainLine command (map string_bytes words.now) → fault ≡ LineFault.NoMemory) }
     ensures refused { IfErr result (λ fault. IsRefusedFor (map string_bytes words.now) fault) }
 {
     let Ok(clap) = fit_command(alloc) else {

@@ -47,7 +47,8 @@ pub fn put_numbered(
     back: &str,
 ) -> Result<(), AllocError>
     requires { length front.now + length back.now ≤ 44 }
-    ensures { OnOk result (text.new.items ≡ text.old.items ++ (front.now ++ decimal number ++ back.now)) }
+    ensures { OnOk result
+        (text.new.items ≡ text.old.items ++ (front.now ++ decimal number ++ back.now)) }
 {
     text.extend_from_slice(numbered(front, number, back).as_bytes())
 }

@@ -59,10 +59,7 @@ fn run_line(rt: &HostRuntime, words: &[String]) -> u8 {
             _ => run_reader(rt, command, rt.stdin()),
         },
         Err(LineFault::Usage) => bad_usage(rt),
-        Err(LineFault::Help) => {
-            let _ = println!(rt; "{USAGE}");
-            GOOD
-        }
+        Err(LineFault::Help) => help(rt),
         Err(LineFault::NoMemory) => out_of_memory(rt),
     }
 }
@@ -112,6 +109,19 @@ fn run_reader<R: Read + Drop>(rt: &HostRuntime, command: Command, reader: R) -> 
         let _ = eprint!(rt; "{WRITE_FAULT}");
     }
     FAILED
+}
+
+/// Where the output is a pipe that nobody reads any more, nothing is said of that.
+fn help(rt: &HostRuntime) -> u8 {
+    match println!(rt; "{USAGE}") {
+        Ok(()) => GOOD,
+        Err(error) => {
+            if error.kind() != ErrorKind::BrokenPipe {
+                let _ = eprint!(rt; "{WRITE_FAULT}");
+            }
+            FAILED
+        }
+    }
 }
 
 fn bad_usage(rt: &HostRuntime) -> u8 {

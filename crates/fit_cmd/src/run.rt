@@ -2,13 +2,14 @@
 ghost use Rattle.std.specs.Prelude.{◌≡◌, ◌++◌, [], flat_map, reverse};
 ghost use Rattle.fit_decode.specs.Events.{file_events};
 ghost use Rattle.fit_report.specs.Heard.{text_of};
+ghost use Rattle.fit_report.specs.Reports.{channel};
 ghost use Rattle.fit_csv.specs.ChainRows.{chain_rows};
 ghost use Rattle.fit_cells.specs.Rows.{csv_text};
 ghost use Rattle.fit_csv.specs.ShowLines.{show_line};
 ghost use Rattle.fit_csv.specs.Table.{table_of};
-ghost use Rattle.fit_cmd.specs.Finishing.{FaultSaid, Finishes};
+ghost use Rattle.fit_cmd.specs.inner.Finishing.{FaultSaid, Finishes};
 ghost use Rattle.fit_cmd.specs.Lines.{file_lines, ok_line};
-ghost use Rattle.fit_cmd.specs.Run.{Concludes, Puts, Runs, RunsCommand, Writes, WritesOfChain, WritesTextOfChain};
+ghost use Rattle.fit_cmd.specs.Run.{Concludes, PutsOrFails, Runs, RunsCommand, WritesLines, WritesOfChain, WritesTextOfChain};
 
 use crate::check::CheckReport;
 use crate::command_line::Command;
@@ -50,27 +51,29 @@ pub fn run<S: Source, K: Sink, E: Sink>(
     faults: &mut E,
 ) -> u8
     ensures runs { RunsCommand command
-        (record { before = S.remaining source.old; after = S.remaining source.new; failed = S.has_failed source.new })
-        (record { before = K.contents output.old; after = K.contents output.new; failed = K.has_failed output.new })
-        (record { before = E.contents faults.old; after = E.contents faults.new; failed = E.has_failed faults.new }) result }
+        (channel S.remaining S.has_failed source.old source.new)
+        (channel K.contents K.has_failed output.old output.new)
+        (channel E.contents E.has_failed faults.old faults.new) result }
 
     // What each command writes where its input is the bytes of a chain of files.
     ensures checks { command ≡ Command.Check → WritesOfChain (λ fs. file_lines 1 fs ++ ok_line)
-        (record { before = S.remaining source.old; after = S.remaining source.new; failed = S.has_failed source.new })
-        (record { before = K.contents output.old; after = K.contents output.new; failed = K.has_failed output.new }) result }
-    ensures shows { command ≡ Command.Show → WritesOfChain (λ fs. text_of show_line (reverse (flat_map file_events fs)) ++ ok_line)
-        (record { before = S.remaining source.old; after = S.remaining source.new; failed = S.has_failed source.new })
-        (record { before = K.contents output.old; after = K.contents output.new; failed = K.has_failed output.new }) result }
+        (channel S.remaining S.has_failed source.old source.new)
+        (channel K.contents K.has_failed output.old output.new) result }
+    ensures shows { command ≡ Command.Show → WritesOfChain
+        (λ fs. text_of show_line (reverse (flat_map file_events fs)) ++ ok_line)
+        (channel S.remaining S.has_failed source.old source.new)
+        (channel K.contents K.has_failed output.old output.new) result }
     ensures converts { command ≡ Command.ToCsv → WritesOfChain (λ fs. csv_text (chain_rows fs))
-        (record { before = S.remaining source.old; after = S.remaining source.new; failed = S.has_failed source.new })
-        (record { before = K.contents output.old; after = K.contents output.new; failed = K.has_failed output.new }) result }
-    ensures tables { command ≡ Command.Table → WritesOfChain (λ fs. csv_text (table_of (flat_map file_events fs)))
-        (record { before = S.remaining source.old; after = S.remaining source.new; failed = S.has_failed source.new })
-        (record { before = K.contents output.old; after = K.contents output.new; failed = K.has_failed output.new }) result }
+        (channel S.remaining S.has_failed source.old source.new)
+        (channel K.contents K.has_failed output.old output.new) result }
+    ensures tables { command ≡ Command.Table → WritesOfChain
+        (λ fs. csv_text (table_of (flat_map file_events fs)))
+        (channel S.remaining S.has_failed source.old source.new)
+        (channel K.contents K.has_failed output.old output.new) result }
     // What `from-csv` writes where its input is the text of a chain.
     ensures from_text { command ≡ Command.FromCsv → WritesTextOfChain
-        (record { before = S.remaining source.old; after = S.remaining source.new; failed = S.has_failed source.new })
-        (record { before = K.contents output.old; after = K.contents output.new; failed = K.has_failed output.new }) result }
+        (channel S.remaining S.has_failed source.old source.new)
+        (channel K.contents K.has_failed output.old output.new) result }
 {
     match command {
         Command::Check => run_report(alloc, source, output, faults, &mut CheckReport::new()),
@@ -100,12 +103,13 @@ fn run_report<S: Source, K: Sink, E: Sink, R: Report>(
 ) -> u8
     requires { R.has_heard reporter.old [] }
     ensures runs { Runs R.line
-        (record { before = S.remaining source.old; after = S.remaining source.new; failed = S.has_failed source.new })
-        (record { before = K.contents output.old; after = K.contents output.new; failed = K.has_failed output.new })
-        (record { before = E.contents faults.old; after = E.contents faults.new; failed = E.has_failed faults.new }) result }
-    ensures chain { WritesOfChain (λ fs. text_of R.line (reverse (flat_map file_events fs)) ++ ok_line)
-        (record { before = S.remaining source.old; after = S.remaining source.new; failed = S.has_failed source.new })
-        (record { before = K.contents output.old; after = K.contents output.new; failed = K.has_failed output.new }) result }
+        (channel S.remaining S.has_failed source.old source.new)
+        (channel K.contents K.has_failed output.old output.new)
+        (channel E.contents E.has_failed faults.old faults.new) result }
+    ensures chain { WritesOfChain
+        (λ fs. text_of R.line (reverse (flat_map file_events fs)) ++ ok_line)
+        (channel S.remaining S.has_failed source.old source.new)
+        (channel K.contents K.has_failed output.old output.new) result }
 {
     let told = report(alloc, source, output, reporter);
     finish(output, faults, told)
@@ -114,8 +118,8 @@ fn run_report<S: Source, K: Sink, E: Sink, R: Report>(
 /// Says what a report answered.
 fn finish<K: Sink, E: Sink>(output: &mut K, faults: &mut E, told: Result<(), ReportFault>) -> u8
     ensures { Finishes told output.old output.new
-        (record { before = K.contents output.old; after = K.contents output.new; failed = K.has_failed output.new })
-        (record { before = E.contents faults.old; after = E.contents faults.new; failed = E.has_failed faults.new }) result }
+        (channel K.contents K.has_failed output.old output.new)
+        (channel E.contents E.has_failed faults.old faults.new) result }
 {
     match told {
         Ok(()) => end(output, faults, OK, GOOD),
@@ -134,8 +138,8 @@ fn finish<K: Sink, E: Sink>(output: &mut K, faults: &mut E, told: Result<(), Rep
 /// Says what is wrong with the input.
 fn say<K: Sink, E: Sink>(output: &mut K, faults: &mut E, fault: Fault) -> u8
     ensures { FaultSaid fault output.old output.new
-        (record { before = K.contents output.old; after = K.contents output.new; failed = K.has_failed output.new })
-        (record { before = E.contents faults.old; after = E.contents faults.new; failed = E.has_failed faults.new }) result }
+        (channel K.contents K.has_failed output.old output.new)
+        (channel E.contents E.has_failed faults.old faults.new) result }
 {
     match fault {
         Fault::Refused { place, reason } => {
@@ -158,7 +162,8 @@ fn say<K: Sink, E: Sink>(output: &mut K, faults: &mut E, fault: Fault) -> u8
 
 /// Says what a conversion answered.
 fn conclude<E: Sink>(faults: &mut E, answer: Result<(), CsvFault>) -> u8
-    ensures { Concludes answer (record { before = E.contents faults.old; after = E.contents faults.new; failed = E.has_failed faults.new }) result }
+    ensures { Concludes answer
+        (channel E.contents E.has_failed faults.old faults.new) result }
 {
     match answer {
         Ok(()) => GOOD,
@@ -168,7 +173,9 @@ fn conclude<E: Sink>(faults: &mut E, answer: Result<(), CsvFault>) -> u8
 
 /// Says why an input is refused.
 fn refuse<E: Sink>(faults: &mut E, line: &str) -> u8
-    ensures line { Puts (record { before = E.contents faults.old; after = E.contents faults.new; failed = E.has_failed faults.new }) line.now }
+    ensures line { PutsOrFails
+        (channel E.contents E.has_failed faults.old faults.new)
+        line.now }
     ensures status { result ≡ 1 }
 {
     tell(faults, line);
@@ -177,7 +184,8 @@ fn refuse<E: Sink>(faults: &mut E, line: &str) -> u8
 
 /// Says why a conversion broke off.
 fn complain<E: Sink>(faults: &mut E, fault: CsvFault) -> u8
-    ensures { Concludes {X = Unit {0}} (Err fault) (record { before = E.contents faults.old; after = E.contents faults.new; failed = E.has_failed faults.new }) result }
+    ensures { Concludes {X = Unit {0}} (Err fault)
+        (channel E.contents E.has_failed faults.old faults.new) result }
 {
     match fault {
         CsvFault::Decode(fault) => complain_of_bytes(faults, fault),
@@ -204,7 +212,8 @@ fn complain<E: Sink>(faults: &mut E, fault: CsvFault) -> u8
 
 /// Says what is wrong with the bytes that a conversion reads.
 fn complain_of_bytes<E: Sink>(faults: &mut E, fault: Fault) -> u8
-    ensures { Concludes {X = Unit {0}} (Err (CsvFault.Decode fault)) (record { before = E.contents faults.old; after = E.contents faults.new; failed = E.has_failed faults.new }) result }
+    ensures { Concludes {X = Unit {0}} (Err (CsvFault.Decode fault))
+        (channel E.contents E.has_failed faults.old faults.new) result }
 {
     match fault {
         Fault::Refused { place, reason } => {
@@ -224,9 +233,9 @@ fn complain_of_bytes<E: Sink>(faults: &mut E, fault: Fault) -> u8
 
 /// Writes the last line of a run, and answers its status.
 fn end<K: Sink, E: Sink>(output: &mut K, faults: &mut E, line: &str, status: u8) -> u8
-    ensures { Writes line.now status
-        (record { before = K.contents output.old; after = K.contents output.new; failed = K.has_failed output.new })
-        (record { before = E.contents faults.old; after = E.contents faults.new; failed = E.has_failed faults.new }) result }
+    ensures { WritesLines line.now status
+        (channel K.contents K.has_failed output.old output.new)
+        (channel E.contents E.has_failed faults.old faults.new) result }
 {
     match put_all(output, line.as_bytes()) {
         Ok(()) => status,
@@ -239,7 +248,9 @@ fn end<K: Sink, E: Sink>(output: &mut K, faults: &mut E, line: &str, status: u8)
 
 /// Writes a fault line. That it can't be written changes nothing else.
 fn tell<E: Sink>(faults: &mut E, line: &str)
-    ensures { Puts (record { before = E.contents faults.old; after = E.contents faults.new; failed = E.has_failed faults.new }) line.now }
+    ensures { PutsOrFails
+        (channel E.contents E.has_failed faults.old faults.new)
+        line.now }
 {
     let _ = put_all(faults, line.as_bytes());
 }

@@ -1,5 +1,6 @@
 -- What an encoder has written of a ride.
-use Rattle.std.proofs.Common.{◌≡◌, false, ℕ, ◌+◌, ◌<◌, List, [], ◌∷◌, ◌++◌, length, take, get_or, Option, Some, None, Result, Ok, Err, refl, sym, ap, ◌∙◌, subst, append_assoc}
+use Rattle.std.proofs.Common.{◌≡◌, false, ℕ, ◌+◌, ◌<◌, List, [], ◌∷◌, ◌++◌, length, take, get_or, Option, Some, None, Result, Ok, Err, refl, sym, ap, ◌∙◌}
+use Rattle.std.proofs.Common.{subst, append_assoc}
 use Rattle.std.specs.Prelude.{IfOk, OnOk, map}
 use Rattle.std.specs.Result.{result_ok}
 use Rattle.std.specs.declared.alloc.Global.{Global}
@@ -13,9 +14,9 @@ use Rattle.fit_record.specs.declared.message.Record.TheVariants.{Define}
 use Rattle.fit_record.specs.Environment.{empty_environment}
 use Rattle.fit_record.specs.Records.{record_bytes}
 use Rattle.fit_record.specs.Files.{IsFile}
-use Rattle.fit_encode.specs.Encoding.{Encoding, IsWhole, bytes_so_far, closing_bytes, data_so_far, known}
+use Rattle.fit_encode.specs.Encoding.{Encoding, IsWhole, bytes_so_far, closing_bytes, data_so_far, learned}
 use Rattle.fit_encode.proofs.RecordSteps.{records_bytes-last}
-use Rattle.fit_examples.specs.Recordings.{IsRecording, definition, message, ride_records}
+use Rattle.fit_examples.specs.Recordings.{IsRecording, definition, ride_message, ride_records}
 
 -- behind a header of these bytes, with these records
 abbrev pub behind : List ℕ → ℕ → List (Record Global) → Encoding Global
@@ -32,22 +33,22 @@ appended (Some xs) None front bytes is more = absurd more
 appended None new front bytes is more = absurd cc
 
 pub holds_more : (head : List ℕ) (declared : ℕ) (records : List (Record Global)) (e after : Encoding Global) (r : Record Global) (old new : Option (List ℕ))
-    → Holds head declared records e old → after ≡ record e { records = e.records ++ r ∷ [] } → Appends old new (record_bytes (known e) r)
+    → Holds head declared records e old → after ≡ record e { records = e.records ++ r ∷ [] } → Appends old new (record_bytes (learned e) r)
     → Holds head declared (records ++ r ∷ []) after new
 holds_more head declared records e after r old new h kept more = record {
   is = kept ∙ ap (λ (x : Encoding Global). record x { records = x.records ++ r ∷ [] }) h.is;
   sent =
-      appended old new (bytes_so_far e) (record_bytes (known e) r) h.sent more
-      ∙ ap Some (append_assoc e.head (data_so_far e) (record_bytes (known e) r)
+      appended old new (bytes_so_far e) (record_bytes (learned e) r) h.sent more
+      ∙ ap Some (append_assoc e.head (data_so_far e) (record_bytes (learned e) r)
       ∙ ap (λ x. e.head ++ x) (sym (records_bytes-last empty_environment e.records r))
       ∙ sym (ap bytes_so_far kept));
 }
 
 pub next_message : (points : List (ℕ × ℕ)) (i : ℕ) (d : ℕ × ℕ) → i < length points
-    → ride_records (take i points) ++ message (get_or points i d) ∷ [] ≡ ride_records (take (i + 1) points)
+    → ride_records (take i points) ++ ride_message (get_or points i d) ∷ [] ≡ ride_records (take (i + 1) points)
 next_message points i d within =
     ap (λ rs. Define definition ∷ rs)
-    (sym (map-append message (take i points) (get_or points i d ∷ [])) ∙ ap (map message) (sym (take_more points i d within)))
+    (sym (map-append ride_message (take i points) (get_or points i d ∷ [])) ∙ ap (map ride_message) (sym (take_more points i d within)))
 
 -- ---- answers
 
@@ -62,7 +63,8 @@ of_good (Err e) v P is p = absurd cc
 -- a good end
 pub is_recording : (points : List (ℕ × ℕ)) (h : Header) (declared : ℕ) (e : Encoding Global) (old : Option (List ℕ)) (bytes : List ℕ) (new : Option (List ℕ))
     → (h.size ≡ 14) × (h.protocol ≡ 0x20) × (h.profile ≡ 0) × (h.sum ≡ True) → HeaderFits h declared
-    → Holds (header_bytes h declared) declared (ride_records points) e old → IsWhole e → Appends old new (closing_bytes e) → Some bytes ≡ new → IsRecording points bytes
+    → Holds (header_bytes h declared) declared (ride_records points) e old → IsWhole e → Appends old new (closing_bytes e) → Some bytes ≡ new
+    → IsRecording points bytes
 is_recording points h declared e old bytes new form good holds whole more is =
     let all : Some bytes ≡ Some (bytes_so_far e ++ closing_bytes e) = is ∙ appended old new (bytes_so_far e) (closing_bytes e) holds.sent more in
     let same : bytes ≡ bytes_so_far e ++ closing_bytes e = cc in

@@ -2,3 +2,4 @@ pub mod RoundTrip
 pub mod TableText
 pub mod Holding
 pub mod RideFaults
+pub mod Noted

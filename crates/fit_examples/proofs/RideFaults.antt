@@ -9,12 +9,13 @@ use Rattle.fit_record.specs.declared.fits.ShapeFault.{ShapeFault}
 use Rattle.fit_record.specs.Environment.{Environment, empty_environment, learn, learn_all}
 use Rattle.fit_record.specs.Records.{Fits, record_bytes, records_bytes}
 use Rattle.fit_record.specs.Faults.{first_fault}
-use Rattle.fit_record.proofs.FaultFacts.{faults_are_exact}
+use Rattle.fit_record.proofs.NoFaultWhereFits.{faults_are_exact}
 use Rattle.fit_encode.specs.declared.fault.EncodeFault.{EncodeFault}
-use Rattle.fit_encode.specs.declared.fault.EncodeFault.TheVariants.{BadHeader, ZeroIsSum, BadLocal, BadOffset, UndefinedLocal, WrongShape, TooLong, DeclaredLength, ChainLength, NoMemory, Write}
-use Rattle.fit_encode.specs.Encoding.{Encoding, IsFinishFault, IsPlaceFault, IsPutFault, closed_fault, data_so_far, known}
+use Rattle.fit_encode.specs.declared.fault.EncodeFault.TheVariants.{BadHeader, ZeroIsSum, BadLocal, BadOffset, UndefinedLocal, WrongShape, TooLong}
+use Rattle.fit_encode.specs.declared.fault.EncodeFault.TheVariants.{DeclaredLength, ChainLength, NoMemory, Write}
+use Rattle.fit_encode.specs.Encoding.{Encoding, IsFinishFault, IsPlaceFault, IsPutFault, closed_fault, data_so_far, learned}
 use Rattle.fit_encode.specs.Faults.{UnlessWrite}
-use Rattle.fit_examples.specs.Recordings.{FitsRide, IsRideFault, definition, message, ride_records}
+use Rattle.fit_examples.specs.Recordings.{FitsRide, IsRideFault, definition, ride_message, ride_records}
 use Rattle.fit_examples.proofs.Holding.{Holds}
 
 -- what the definition message makes known
@@ -22,12 +23,12 @@ abbrev ride_known : Environment Global
 ride_known = learn empty_environment (Define definition)
 
 -- a record message makes nothing else known
-known_by_ride : (points : List (ℕ × ℕ)) → learn_all ride_known (map message points) ≡ ride_known
+known_by_ride : (points : List (ℕ × ℕ)) → learn_all ride_known (map ride_message points) ≡ ride_known
 known_by_ride [] = refl
 known_by_ride (p ∷ points) = known_by_ride points
 
 -- six bytes for each
-length_of_ride : (points : List (ℕ × ℕ)) → length (records_bytes ride_known (map message points)) ≡ 6 * length points
+length_of_ride : (points : List (ℕ × ℕ)) → length (records_bytes ride_known (map ride_message points)) ≡ 6 * length points
 length_of_ride [] = refl
 length_of_ride (p ∷ points) = omega (arith, length_of_ride points)
 
@@ -35,7 +36,8 @@ no_shape : (e : Environment Global) (r : Record Global) (f : ShapeFault) → Fit
 no_shape e r f fits is = let none : first_fault e r ≡ None = ((faults_are_exact e r).0 fits).0 in absurd cc
 
 -- a record that fits and has room is refused for want of memory alone
-place_fault : (e : Environment Global) (count declared size points : ℕ) (r : Record Global) (fault : EncodeFault) (X Y : Type 0) → Fits e r → size + length (record_bytes e r) ≤ declared
+place_fault : (e : Environment Global) (count declared size points : ℕ) (r : Record Global) (fault : EncodeFault) (X Y : Type 0) → Fits e r
+    → size + length (record_bytes e r) ≤ declared
     → UnlessWrite fault (IsPlaceFault e count declared size r fault × X × Y) → IsRideFault points fault
 place_fault e count declared size points r (BadHeader file) X Y fits room is = absurd is.0
 place_fault e count declared size points r (ZeroIsSum file) X Y fits room is = absurd is.0
@@ -53,8 +55,9 @@ place_fault e count declared size points r (Write written) X Y fits room is = tt
 data_held : (points : List (ℕ × ℕ)) (head : List ℕ) (declared i : ℕ) (e : Encoding Global) (held : Option (List ℕ)) → i ≤ length points
     → Holds head declared (ride_records (take i points)) e held → length (data_so_far e) ≡ 12 + 6 * i
 data_held points head declared i e held within h =
-    let all : length (data_so_far e) ≡ 12 + length (records_bytes ride_known (map message (take i points))) = ap (λ (x : Encoding Global). length (data_so_far x)) h.is
-    ∙ length-append (record_bytes empty_environment (Define definition)) (records_bytes ride_known (map message (take i points))) in
+    let all : length (data_so_far e) ≡ 12 + length (records_bytes ride_known (map ride_message (take i points))) =
+    ap (λ (x : Encoding Global). length (data_so_far x)) h.is
+    ∙ length-append (record_bytes empty_environment (Define definition)) (records_bytes ride_known (map ride_message (take i points))) in
     omega (arith, all, length_of_ride (take i points), length-take-le i points within)
 
 finish_fault : (e : Encoding Global) (points : ℕ) (fault : EncodeFault) (X Y : Type 0) → e.declared ≤ length (data_so_far e)
@@ -72,15 +75,16 @@ finish_fault e points NoMemory X Y whole is = tt
 finish_fault e points (Write written) X Y whole is = tt
 
 -- a message is refused for want of memory alone
-pub message_fault : (points : List (ℕ × ℕ)) (head : List ℕ) (declared i : ℕ) (p : ℕ × ℕ) (e : Encoding Global) (held : Option (List ℕ)) (r : Record Global) (fault : EncodeFault) (X Y : Type 0)
-    → i < length points → declared ≡ 12 + 6 * length points → Holds head declared (ride_records (take i points)) e held → r ≡ message p → FitsRide r
+pub message_fault : (points : List (ℕ × ℕ)) (head : List ℕ) (declared i : ℕ) (p : ℕ × ℕ) (e : Encoding Global) (held : Option (List ℕ)) (r : Record Global)
+    (fault : EncodeFault) (X Y : Type 0)
+    → i < length points → declared ≡ 12 + 6 * length points → Holds head declared (ride_records (take i points)) e held → r ≡ ride_message p → FitsRide r
     → (closed_fault e ≡ None → UnlessWrite fault (IsPutFault e r fault × X × Y)) → IsRideFault (length points) fault
 message_fault points head declared i p e held r fault X Y within all h is fits refused =
-    let known_is : known e ≡ ride_known = ap known h.is ∙ known_by_ride (take i points) in
-    let long : length (record_bytes (known e) r) ≡ 6 = ap (λ k. length (record_bytes k r)) known_is ∙ ap (λ x. length (record_bytes ride_known x)) is in
+    let known_is : learned e ≡ ride_known = ap learned h.is ∙ known_by_ride (take i points) in
+    let long : length (record_bytes (learned e) r) ≡ 6 = ap (λ k. length (record_bytes k r)) known_is ∙ ap (λ x. length (record_bytes ride_known x)) is in
     let declared_is : e.declared ≡ declared = ap (λ (x : Encoding Global). x.declared) h.is in
     let size = data_held points head declared i e held (omega (arith, within)) h in
-    place_fault (known e) (length e.records) e.declared (length (data_so_far e)) (length points) r fault X Y (subst (λ k. Fits k r) (sym known_is) fits)
+    place_fault (learned e) (length e.records) e.declared (length (data_so_far e)) (length points) r fault X Y (subst (λ k. Fits k r) (sym known_is) fits)
     (omega (arith, long, declared_is, size, within, all)) (refused (ap closed_fault h.is))
 
 -- the end is never refused

@@ -5,10 +5,11 @@ use Rattle.fit_record.specs.declared.file.FitFile.{FitFile}
 use Rattle.fit_decode.specs.declared.event.Fault.{Fault}
 use Rattle.fit_decode.specs.declared.event.Fault.TheVariants.{Refused, Truncated, NoMemory, Read}
 use Rattle.fit_decode.specs.Reads.{GivesFile, Taking}
-use Rattle.fit_decode.specs.Checks.{IsWantOfMemory}
+use Rattle.fit_decode.specs.Checks.{LacksMemory}
 
 -- where a file begins the bytes of a source that doesn't fail, memory alone can be wanting
-pub front_fault : (f : FitFile Global) (n : ℕ) (x : List ℕ) (source : Taking) (fault : Fault) → source.failed ≡ false → GivesFile f n x source (Err fault) → IsWantOfMemory fault
+pub front_fault : (f : FitFile Global) (n : ℕ) (x : List ℕ) (source : Taking) (fault : Fault) → source.failed ≡ false → GivesFile f n x source (Err fault)
+    → LacksMemory fault
 front_fault f n x source (NoMemory used) good gives = tt
 front_fault f n x source (Read place) good gives = let both : true ≡ false = sym gives.0 ∙ good in absurd cc
 front_fault f n x source (Refused place reason) good gives = absurd gives

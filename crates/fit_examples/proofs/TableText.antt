@@ -1,14 +1,24 @@
--- Why there is no table of a chain.
-use Rattle.std.proofs.Common.{◌≡◌, true, false, List, Err, sym, ◌∙◌}
+-- Why there is no table.
+use Rattle.std.proofs.Common.{◌≡◌, ◌∙◌, ℕ, ◌+◌, ◌<◌, ◌++◌, true, false, Bool, Option, Some, List, [], Err, arith, take, get_or, length, length-append, refl}
+use Rattle.std.proofs.Common.{sym, ap, subst}
+use Rattle.std.specs.declared.alloc.Global.{Global}
+use Rattle.std.proofs.lemmas.List.{append-nil, get_or_append_left, take-append-le}
+use Rattle.fit_frame.specs.declared.reason.Reason.{Reason}
+use Rattle.fit_record.specs.Files.{IsViable, chain_limit}
+use Rattle.fit_decode.specs.declared.event.Fault.{Fault}
 use Rattle.fit_decode.specs.declared.event.Fault.TheVariants as faults
-use Rattle.fit_report.specs.Reports.{Channel}
+use Rattle.fit_decode.specs.Answers.{AreChain}
+use Rattle.fit_decode.specs.Checks.{IsFaultOf}
+use Rattle.fit_decode.specs.Refusals.{IsRefused}
+use Rattle.fit_report.specs.Reports.{Channel, Faults}
 use Rattle.fit_csv.specs.declared.fault.CsvFault.{CsvFault}
 use Rattle.fit_csv.specs.declared.fault.CsvFault.TheVariants as csv
-use Rattle.fit_csv.specs.Conversions.{ConvertsTo}
+use Rattle.fit_csv.specs.Conversions.{Converts, ConvertsTo, RowsOf}
 use Rattle.fit_cells.specs.Rows.{Row}
-use Rattle.fit_examples.specs.Tables.{IsWantOfMemory}
+use Rattle.fit_examples.specs.Tables.{CsvLacksMemory, IsTableFault}
 
-pub wants_memory : (rows : List Row) (source sink : Channel) (fault : CsvFault) → source.failed ≡ false → ConvertsTo rows source sink (Err fault) → IsWantOfMemory fault
+pub wants_memory : (rows : List Row) (source sink : Channel) (fault : CsvFault) → source.failed ≡ false → ConvertsTo rows source sink (Err fault)
+    → CsvLacksMemory fault
 wants_memory rows source sink (csv.Decode (faults.Read place)) good failed = let both : true ≡ false = sym failed ∙ good in absurd cc
 wants_memory rows source sink (csv.Decode (faults.Refused place reason)) good none = absurd none
 wants_memory rows source sink (csv.Decode (faults.Truncated place)) good none = absurd none
@@ -20,3 +30,40 @@ wants_memory rows source sink csv.Header good none = absurd none
 wants_memory rows source sink (csv.BadRow row) good none = absurd none
 wants_memory rows source sink (csv.BadCell row column) good none = absurd none
 wants_memory rows source sink csv.Read good none = absurd none
+
+-- ---- faults of bytes
+
+refused_here : (taken left : List ℕ) (place : ℕ) (reason : Reason) → place < length taken
+    → IsRefused Global chain_limit (take place taken) (get_or taken place 0) reason → IsFaultOf (taken ++ left) (faults.Refused place reason)
+refused_here taken left place reason within why = (
+  omega (arith, within, length-append taken left),
+  subst (λ b. IsRefused Global chain_limit (take place (taken ++ left)) b reason) (sym (get_or_append_left taken left 0 place within))
+      (subst (λ front. IsRefused Global chain_limit front (get_or taken place 0) reason) (sym (take-append-le place taken left (omega (arith, within)))) why),
+)
+
+-- a fault of the bytes taken is one of all bytes, where the source doesn't fail
+fault_here : (ride taken left : List ℕ) (fault : Fault) (failed : Bool) → failed ≡ false → ride ≡ taken ++ left
+    → Faults Global chain_limit taken (Some left) failed fault → IsFaultOf ride fault
+fault_here ride taken left (faults.Refused place reason) failed good all ends =
+    subst (λ bytes. IsFaultOf bytes (faults.Refused place reason)) (sym all) (refused_here taken left place reason ends.0 ends.2)
+fault_here ride taken left (faults.Truncated place) failed good all ends =
+    subst (λ bytes. IsFaultOf bytes (faults.Truncated place)) (sym (all ∙ ap (λ l. taken ++ l) ends.1 ∙ append-nil taken)) (ends.0, ends.2, ends.3)
+fault_here ride taken left (faults.NoMemory used) failed good all ends = tt
+fault_here ride taken left (faults.Read place) failed good all ends = let both : true ≡ false = sym ends.1 ∙ good in absurd cc
+
+pub table_fault : (rows : RowsOf) (ride left : List ℕ) (sink : Channel) (fault : CsvFault)
+    → Converts rows (record { before = Some ride; after = Some left; failed = false }) sink (Err fault) → IsTableFault ride fault
+table_fault rows ride left sink (csv.Decode (faults.Refused place reason)) (taken, all, (fails, text)) =
+    fault_here ride taken left (faults.Refused place reason) false refl all fails
+table_fault rows ride left sink (csv.Decode (faults.Truncated place)) (taken, all, (fails, text)) =
+    fault_here ride taken left (faults.Truncated place) false refl all fails
+table_fault rows ride left sink (csv.Decode (faults.Read place)) (taken, all, (fails, text)) =
+    fault_here ride taken left (faults.Read place) false refl all fails
+table_fault rows ride left sink (csv.Decode (faults.NoMemory used)) (taken, all, none) = none
+table_fault rows ride left sink csv.NoMemory some = tt
+table_fault rows ride left sink (csv.Write written) some = tt
+table_fault rows ride left sink (csv.Encode fault) (taken, all, none) = none
+table_fault rows ride left sink csv.Header (taken, all, none) = none
+table_fault rows ride left sink (csv.BadRow row) (taken, all, none) = none
+table_fault rows ride left sink (csv.BadCell row column) (taken, all, none) = none
+table_fault rows ride left sink csv.Read (taken, all, none) = none

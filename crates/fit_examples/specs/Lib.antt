@@ -1,3 +1,5 @@
 pub mod Tables
 pub mod Recordings
 pub mod RoundTrips
+pub mod HeartRates
+pub mod inner

@@ -30,11 +30,11 @@ abbrev pub lone : ℕ → ℕ → Items Global
 lone width number = record { width = width; bits = number ∷ [] }
 
 -- the record message of a time and a heart rate
-abbrev pub message : ℕ × ℕ → Record Global
-message point = Data (record { local = 0; offset = None; fields = lone 4 point.0 ∷ lone 1 point.1 ∷ []; dev = [] })
+abbrev pub ride_message : ℕ × ℕ → Record Global
+ride_message point = Data (record { local = 0; offset = None; fields = lone 4 point.0 ∷ lone 1 point.1 ∷ []; dev = [] })
 
 abbrev pub ride_records : List (ℕ × ℕ) → List (Record Global)
-ride_records points = Define definition ∷ map message points
+ride_records points = Define definition ∷ map ride_message points
 
 -- The bytes are those of a file of protocol 2.0 with a header of 14 bytes and its sum, and these records.
 pub record IsRecording (points : List (ℕ × ℕ)) (bytes : List ℕ) : Type 0 where

@@ -3,7 +3,7 @@ use Rattle.fit_encode.specs.declared.fault.EncodeFault.{EncodeFault}
 use Rattle.fit_encode.specs.declared.fault.EncodeFault.TheVariants.{NoMemory, Write}
 
 -- Memory was refused, or there was none for the bytes.
-abbrev pub IsWantOfMemory : EncodeFault → Type 0
-IsWantOfMemory NoMemory = Unit {0}
-IsWantOfMemory (Write written) = Unit {0}
-IsWantOfMemory _ = ⊥
+abbrev pub EncodeLacksMemory : EncodeFault → Type 0
+EncodeLacksMemory NoMemory = Unit {0}
+EncodeLacksMemory (Write written) = Unit {0}
+EncodeLacksMemory _ = ⊥

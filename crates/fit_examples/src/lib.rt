@@ -1,6 +1,8 @@
 //! First programs over the library: what `docs/USE.md` shows.
 #![tactic(auto)]
 
+mod moments;
+mod protocol;
 mod recording;
 mod round_trip;
 mod tables;
@@ -8,6 +10,7 @@ mod tables;
 mod tests;
 mod upload;
 
+pub use moments::{Moment, heart_rates};
 pub use recording::ride_file;
 pub use round_trip::written_and_read;
 pub use tables::ride_table;

@@ -1,8 +1,9 @@
 //! A ride, written record by record.
 ghost use Rattle.std.specs.Prelude.{◌≡◌, ◌∷◌, ◌+◌, ◌*◌, ◌^◌, ◌≤◌, [], IfOk, IfErr, IfSome, None, length};
 ghost use Rattle.fit_record.specs.declared.message.Record.TheVariants.{Define as Defines};
-ghost use Rattle.fit_examples.specs.Recordings.{IsRecording, IsRideFault, definition, message, lone, FitsRide};
+ghost use Rattle.fit_examples.specs.Recordings.{IsRecording, IsRideFault, definition, ride_message, lone, FitsRide};
 
+use crate::protocol::{HEART_RATE, PROTOCOL, RECORD, TIMESTAMP, UINT8, UINT32};
 use arrayvec::ArrayVec;
 use fit_base::{Bits, Entries, Items, Order};
 use fit_encode::{EncodeFault, Encoder, WriteSink};
@@ -27,21 +28,21 @@ fn definition(alloc: Global) -> Result<Record, AllocError>
     ensures { IfOk result (λ r. r ≡ Defines definition) }
 {
     let timestamp = FieldDef {
-        number: 253,
+        number: TIMESTAMP,
         size: 4,
-        code: 0x86,
+        code: UINT32,
     };
     let heart_rate = FieldDef {
-        number: 3,
+        number: HEART_RATE,
         size: 1,
-        code: 0x02,
+        code: UINT8,
     };
     let fields = Vec::from_slice(alloc, &[timestamp, heart_rate])?;
     Ok(Record::Define(MessageDef {
         local: 0,
         reserved: 0,
         order: Order::Little,
-        global: 20,
+        global: RECORD,
         fields: Entries::from_vec(fields),
         dev: None,
     }))
@@ -49,7 +50,7 @@ fn definition(alloc: Global) -> Result<Record, AllocError>
 
 /// A record message.
 fn message(alloc: Global, time: u32, heart_rate: u8) -> Result<Record, AllocError>
-    ensures value { IfOk result (λ r. r ≡ message (time, heart_rate)) }
+    ensures value { IfOk result (λ r. r ≡ ride_message (time, heart_rate)) }
     ensures fits { IfOk result FitsRide }
 {
     let mut fields = Entries::new(alloc);
@@ -81,7 +82,7 @@ pub fn ride_file(alloc: Global, points: &[(u32, u8)]) -> Result<Vec<u8>, EncodeF
 {
     let header = Header {
         size: 14,
-        protocol: 0x20,
+        protocol: PROTOCOL,
         profile: 0,
         sum: HeaderSum::True,
         rest: ArrayVec::new(),

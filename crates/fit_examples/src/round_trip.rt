@@ -4,8 +4,8 @@ ghost use Rattle.std.specs.declared.alloc.Global.{Global};
 ghost use Rattle.fit_record.specs.declared.file.FitFile.{FitFile};
 ghost use Rattle.fit_record.specs.Files.{IsFile, IsWellFormed};
 ghost use Rattle.fit_encode.specs.Faults.{IfRefused, IsFirstFault};
-ghost use Rattle.fit_examples.specs.RoundTrips.{IsWantOfMemory};
-ghost use Rattle.fit_decode.specs.Checks.{IsWantOfMemory as WantsMemory};
+ghost use Rattle.fit_examples.specs.RoundTrips.{EncodeLacksMemory};
+ghost use Rattle.fit_decode.specs.Checks.{LacksMemory as WantsMemory};
 
 use fit_decode::{Fault, read_one};
 use fit_encode::laws::good_chains_have_no_fault;
@@ -15,8 +15,10 @@ use std::alloc::Global;
 
 /// Reads the file that begins the bytes, and tells how many bytes are left behind it.
 fn read_front(alloc: Global, bytes: &[u8]) -> Result<(FitFile, usize), Fault>
-    ensures file { (f : FitFile Global) (b x : List ℕ) → bytes.now ≡ b ++ x → IsFile f b → IfOk result (λ read. (read.0 ≡ f) × (read.1 ≡ length x)) }
-    ensures memory { (f : FitFile Global) (b x : List ℕ) → bytes.now ≡ b ++ x → IsFile f b → IfErr result WantsMemory }
+    ensures file { (f : FitFile Global) (b x : List ℕ) → bytes.now ≡ b ++ x → IsFile f b →
+        IfOk result (λ read. (read.0 ≡ f) × (read.1 ≡ length x)) }
+    ensures memory { (f : FitFile Global) (b x : List ℕ) → bytes.now ≡ b ++ x → IsFile f b →
+        IfErr result WantsMemory }
 {
     let mut source = bytes;
     let file = read_one(alloc, &mut source)?;
@@ -36,7 +38,7 @@ pub fn written_and_read(
     ensures same { IfOk result (λ read. (read.0 ≡ file.now) × (read.1 ≡ length behind.now)) }
     ensures fault { IfErr result (λ fault. IfRefused fault (IsFirstFault (file.now ∷ []) fault)) }
     // A well-formed file fails for want of memory alone.
-    ensures memory { IsWellFormed file.now → IfErr result IsWantOfMemory }
+    ensures memory { IsWellFormed file.now → IfErr result EncodeLacksMemory }
 {
     good_chains_have_no_fault::<Global>();
     let mut sink = WriteSink::new(Vec::new(alloc));

@@ -7,7 +7,7 @@ ghost use Rattle.fit_decode.specs.Answers.{AreChain};
 ghost use Rattle.fit_decode.specs.Events.{file_events};
 ghost use Rattle.fit_cells.specs.Rows.{csv_text};
 ghost use Rattle.fit_csv.specs.Table.{table_of};
-ghost use Rattle.fit_examples.specs.Tables.{IsWantOfMemory};
+ghost use Rattle.fit_examples.specs.Tables.{CsvLacksMemory, IsTableFault};
 
 use fit_csv::{CsvFault, table};
 use fit_encode::WriteSink;
@@ -15,12 +15,15 @@ use std::alloc::Global;
 
 /// The table of a FIT file, or of a chain of such files, as CSV text: a row for each record message.
 ///
-/// `Decode` where the bytes are no chain of files. `NoMemory` where memory was refused, and `Write` where it was refused to the text.
+/// `Decode` where the bytes are no chain of files: the first byte with which none goes on, and why, or the end of bytes that end too
+/// soon. `NoMemory` where memory was refused, and `Write` where it was refused to the text.
 pub fn ride_table(alloc: Global, ride: &[u8]) -> Result<Vec<u8>, CsvFault>
     ensures good { OnOk result (AreChain Global ride.now) }
-    ensures rows { (fs : List (FitFile Global)) → IsChain chain_limit fs ride.now → IfOk result (λ text. text.items ≡ csv_text (table_of (flat_map file_events fs))) }
+    ensures rows { (fs : List (FitFile Global)) → IsChain chain_limit fs ride.now →
+        IfOk result (λ text. text.items ≡ csv_text (table_of (flat_map file_events fs))) }
+    ensures fault { IfErr result (IsTableFault ride.now) }
     // A chain of files fails for want of memory alone.
-    ensures memory { AreChain Global ride.now → IfErr result IsWantOfMemory }
+    ensures memory { AreChain Global ride.now → IfErr result CsvLacksMemory }
 {
     let mut source = ride;
     let mut sink = WriteSink::new(Vec::new(alloc));

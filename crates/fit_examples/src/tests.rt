@@ -1,5 +1,5 @@
 //! What the examples answer where there is memory.
-use crate::{check_upload, ride_file, ride_table, written_and_read};
+use crate::{Moment, check_upload, heart_rates, ride_file, ride_table, written_and_read};
 use arrayvec::ArrayVec;
 use fit_base::Entries;
 use fit_csv::CsvFault;
@@ -121,5 +121,38 @@ fn rides_as_files(rt: HostRuntime) -> Result<(), Fail> {
     ];
     let ride = ride_file(rt.alloc(), &points).map_err(|_| "no memory")?;
     assert_eq!(rt; ride.as_slice(), RIDE.as_slice());
+    Ok(())
+}
+
+#[test]
+fn heart_rates_of_rides(rt: HostRuntime) -> Result<(), Fail> {
+    let start = 1_000_000_031;
+    let moment = |time, heart_rate| Moment { time, heart_rate };
+    let both = [
+        moment(Some(start), Some(120)),
+        moment(Some(start + 3), None),
+    ];
+    let none = [moment(None, None); 3];
+    let three = [
+        moment(Some(start), Some(120)),
+        moment(Some(start + 1), None),
+        moment(Some(start + 2), Some(121)),
+    ];
+    for (ride, moments) in [
+        (BOTH.as_slice(), both.as_slice()),
+        (DESCRIBED.as_slice(), none.as_slice()),
+        (RIDE.as_slice(), three.as_slice()),
+    ] {
+        let found = heart_rates(rt.alloc(), ride).map_err(|_| "no moments")?;
+        assert_eq!(rt; found.as_slice(), moments);
+    }
+    let mut chain = Vec::from_slice(rt.alloc(), &RIDE)?;
+    chain.extend_from_slice(&DESCRIBED)?;
+    let found = heart_rates(rt.alloc(), chain.as_slice()).map_err(|_| "no moments")?;
+    let (of_ride, of_other) = found.as_slice().split_at(3);
+    assert_eq!(rt; of_ride, three.as_slice());
+    assert_eq!(rt; of_other, none.as_slice());
+    let cut = BOTH.as_slice().get(..51).ok_or("too short")?;
+    assert!(rt; heart_rates(rt.alloc(), cut) == Err(Fault::Truncated { place: 51 }));
     Ok(())
 }

@@ -2,7 +2,7 @@
 ghost use Rattle.std.specs.Prelude.{IfErr, OnOk};
 ghost use Rattle.std.specs.declared.alloc.Global.{Global};
 ghost use Rattle.fit_decode.specs.Answers.{AreChain};
-ghost use Rattle.fit_decode.specs.Checks.{IsFaultOf, IsWantOfMemory};
+ghost use Rattle.fit_decode.specs.Checks.{IsFaultOf, LacksMemory};
 
 use fit_decode::{Decoder, Fault};
 use std::alloc::Global;
@@ -15,7 +15,7 @@ pub fn check_upload(alloc: Global, upload: &[u8]) -> Result<(), Fault>
     ensures good { OnOk result (AreChain Global upload.now) }
     ensures fault { IfErr result (IsFaultOf upload.now) }
     // A chain of files fails for want of memory alone.
-    ensures memory { AreChain Global upload.now → IfErr result IsWantOfMemory }
+    ensures memory { AreChain Global upload.now → IfErr result LacksMemory }
 {
     let mut decoder = Decoder::new(alloc);
     let mut rest = upload;

@@ -26,7 +26,7 @@ const ODD_TEXT: &str =
     "row,a,b,c,d,e,f\nfile,14,32,0,sum,,\ndef,0,0,little,20,2,\nfdef,5,6,134,,,\nfdef,7,2,31,,,\n\
      data,0,,record,,,\nfield,distance,0x010203040506,m,,,\nfield,power,0x0708,watts,,,\nend,,,,,,\n";
 
-/// Compressed timestamp headers before any timestamp, behind one, and where the time passes the greatest number.
+/// Compressed timestamp headers before any timestamp, after one, and where the time passes the greatest number.
 const TIMES: &str =
     "0E 20 00 00 22 00 00 00 2E 46 49 54 1F 44 40 00 00 14 00 01 FD 04 86 41 00 00 14 00 00 A2 00 1F CA 9A 3B BF A2 \
      00 FF FF FF FF 00 FE FF FF FF A0 BD 92";

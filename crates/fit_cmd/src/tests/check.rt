@@ -91,7 +91,7 @@ fn refused_headers_and_sums(rt: HostRuntime) -> Result<(), Fail> {
     Ok(())
 }
 
-/// A header of 14 bytes with zeros for its sum, that announces so many bytes, and these bytes behind it.
+/// A header of 14 bytes with zeros for its sum, that announces that many bytes, and these bytes after it.
 fn announced(alloc: Global, size: u8, data: &str) -> Result<Vec<u8>, Fail> {
     let mut bytes = Vec::from_slice(alloc, &[0x0E, 0x20, 0, 0, size, 0, 0, 0])?;
     bytes.extend_from_slice(b".FIT\0\0")?;

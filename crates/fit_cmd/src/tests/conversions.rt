@@ -3,8 +3,8 @@
 use crate::command_line::Command;
 use crate::tests::{
     DEVELOPER_FIELD, DEVELOPER_FIELD_TEXT, EMPTY, EMPTY_TEXT, EMPTY_WITH_ZEROS, LONG, LONG_TEXT,
-    ONE_BYTE_MESSAGE, SHORT, TABLE_HEAD, TRUE_ZERO, TWO_MESSAGES, TWO_MESSAGES_TABLE,
-    TWO_MESSAGES_TEXT, answer_of, both_ways, bytes_of, expect,
+    ONE_BYTE_MESSAGE, SHORT, TABLE_HEAD, TRUE_ZERO, TWO_MESSAGES, TWO_MESSAGES_TEXT, answer_of,
+    both_ways, bytes_of, expect,
 };
 use std::test::Fail;
 
@@ -112,15 +112,5 @@ fn tables(rt: HostRuntime) -> Result<(), Fail> {
         let output = format!(in rt.alloc(); "{TABLE_HEAD}{rows}")?;
         expect(&rt, &answer, rows, output.as_bytes(), faults, status);
     }
-    Ok(())
-}
-
-#[test]
-fn a_table_with_values(rt: HostRuntime) -> Result<(), Fail> {
-    let bytes = bytes_of(rt.alloc(), TWO_MESSAGES)?;
-    let source = &mut bytes.as_slice();
-    let answer = answer_of(rt.alloc(), Command::Table, source, 2048);
-    let output = TWO_MESSAGES_TABLE.as_bytes();
-    expect(&rt, &answer, "two messages", output, "", 0);
     Ok(())
 }

@@ -47,7 +47,7 @@ fn header_cells(rt: HostRuntime) -> Result<(), Fail> {
         ("file,14,32,65536,sum,,", "row 2 column 4 refused\n"),
         ("file,14,32,0,none,,", "row 2 column 5 refused\n"),
         ("file,12,32,0,sum,,", "row 2 column 5 refused\n"),
-        // The bytes behind the fourteenth are as many as the length of the header says.
+        // The bytes after the fourteenth are as many as the length of the header says.
         ("file,16,32,0,sum,,", "row 2 column 6 refused\n"),
         ("file,16,32,0,sum,0x41,", "row 2 column 6 refused\n"),
         ("file,14,32,0,sum,0x4142,", "row 2 column 6 refused\n"),
@@ -90,7 +90,7 @@ fn record_cells(rt: HostRuntime) -> Result<(), Fail> {
     }
     for (old, new, line) in [
         ("\nddef,", "\nfdef,", "row 9 refused\n"),
-        // The field has no name before its description, and has one behind it.
+        // The field has no name before its description, and has one after it.
         ("dev_0_5", "mo", "row 11 column 2 refused\n"),
         ("dev,mo,", "dev,dev_0_5,", "row 22 column 2 refused\n"),
         // Text that stands for itself isn't written in hexadecimal.

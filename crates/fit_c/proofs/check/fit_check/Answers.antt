@@ -7,7 +7,8 @@ pub returns-clause-finding : goal.returns-clause-finding
 returns-clause-finding c = (c.check_bytes.result, c.of_check.ensures, c.check_bytes.ensures.files, c.check_bytes.ensures.fault)
 
 pub returns-clause-good : goal.returns-clause-good
-returns-clause-good c = λ zero. check_good c.args.bytes.now c.check_bytes.result c.check_bytes.ensures.files (ap (λ a. a.status) (sym c.of_check.ensures) ∙ zero)
+returns-clause-good c = λ zero. check_good c.args.bytes.now c.check_bytes.result c.check_bytes.ensures.files
+    (ap (λ a. a.status) (sym c.of_check.ensures) ∙ zero)
 
 pub returns-clause-chain : goal.returns-clause-chain
 returns-clause-chain c = λ chain.

@@ -16,12 +16,14 @@ returns-clause-read c =
       held,
       failed,
       c.of_conversion.ensures,
-      subst (λ b. ReadsText (given c.args.text.now left) (record { before = b; after = held; failed = failed }) r) c.memory-sink.ensures.held c.from_csv-answered.ensures.reads,
+      subst (λ b. ReadsText (given c.args.text.now left) (record { before = b; after = held; failed = failed }) r) c.memory-sink.ensures.held
+          c.from_csv-answered.ensures.reads,
     )
 
 pub returns-clause-good : goal.returns-clause-good
 returns-clause-good c = λ zero.
-    let sink : Channel = record { before = c.memory-sink.result.held; after = c.from_csv-answered.new.sink.held; failed = c.from_csv-answered.new.sink.failed } in
+    let sink : Channel = record { before = c.memory-sink.result.held; after = c.from_csv-answered.new.sink.held; failed = c.from_csv-answered.new.sink.failed }
+    in
     text_good sink c.is_ok.result c.handed_where.result.now c.memory-sink.ensures.held c.handed_where.ensures.good
     c.args.text.now c.from_csv-answered.new.source.now c.from_csv-answered.result c.is_ok.ensures.value c.from_csv-answered.ensures.reads
     (ap (λ a. a.status) (sym c.of_conversion.ensures) ∙ zero)
@@ -29,7 +31,8 @@ returns-clause-good c = λ zero.
 pub returns-clause-chain : goal.returns-clause-chain
 returns-clause-chain c = λ files b of.
     let source : Channel = given c.args.text.now c.from_csv-answered.new.source.now in
-    let sink : Channel = record { before = c.memory-sink.result.held; after = c.from_csv-answered.new.sink.held; failed = c.from_csv-answered.new.sink.failed } in
+    let sink : Channel = record { before = c.memory-sink.result.held; after = c.from_csv-answered.new.sink.held; failed = c.from_csv-answered.new.sink.failed }
+    in
     subst (λ a. IsTextUnlessWant b a c.handed_where.result.now) (sym c.of_conversion.ensures)
     (bytes_back sink c.is_ok.result c.handed_where.result.now c.memory-sink.ensures.held c.handed_where.ensures.good
     b source c.from_csv-answered.result refl c.is_ok.ensures.value

@@ -1,7 +1,7 @@
 use Rattle.std.proofs.Common.{◌∙◌, sym, ap, subst, inr, refl, map, option_map, Some, codes, List, ℕ, string_bytes}
 use Rattle.clap.specs.Words.{App, app_of, takes, fault_of as clap_faults}
 use Rattle.fit_cmd.specs.CommandLine.{IsRefusedFor, line_fault}
-use Rattle.fit_cmd.proofs.LineFacts.{plain-takes, plain-command, first-is, free-as, refused-by}
+use Rattle.fit_cmd.proofs.LineFacts.{plain-takes, plain-command, first-is, free-as, plain-given, refused-by}
 use Rattle.fit_cmd.proofs.command_line.parse_line.Goals as goal
 use Rattle.fit_cmd.proofs.command_line.parse_line.Goals.{in-None, in-Some-get_str+in-Ok-from_str}
 
@@ -60,13 +60,18 @@ returns-clause-taken c =
 pub returns-clause-names : goal.returns-clause-names
 returns-clause-names c =
     let words = map string_bytes c.args.words.now in
-    let command = first-is c.in-Ok.clap words c.in-Ok-try_get_matches_from.matches (codes "command") c.in-Ok.ensures c.in-Ok-try_get_matches_from.ensures.matches in
+    let command = first-is c.in-Ok.clap words c.in-Ok-try_get_matches_from.matches (codes "command") c.in-Ok.ensures
+    c.in-Ok-try_get_matches_from.ensures.matches in
     let file = first-is c.in-Ok.clap words c.in-Ok-try_get_matches_from.matches (codes "file") c.in-Ok.ensures c.in-Ok-try_get_matches_from.ensures.matches in
     let word = rw c.in-Some.is at (sym command ∙ sym c.get_str.ensures) in
     let path = sym file ∙ sym c.get_str-2.ensures in (
       word ∙ ap (λ (t : List ℕ). Some t) c.in-Some-command_of.ensures.some,
       elim c.match-get_str-2.branch [
         | in-None w ↦ rw w.path-is (path ∙ ap (option_map (λ s. s.now)) w.in-None.is)
-        | in-Some-get_str+in-Ok-from_str w ↦ rw w.path-is (path ∙ ap (option_map (λ s. s.now)) w.in-Some-get_str.is ∙ ap (λ (t : List ℕ). Some t) (sym w.in-Ok-from_str.ensures.ok))
+        | in-Some-get_str+in-Ok-from_str w ↦ rw w.path-is
+            (path ∙ ap (option_map (λ s. s.now)) w.in-Some-get_str.is ∙ ap (λ (t : List ℕ). Some t) (sym w.in-Ok-from_str.ensures.ok))
       ],
     )
+
+pub returns-clause-plain : goal.returns-clause-plain
+returns-clause-plain c = plain-given (map string_bytes c.args.words.now) _ _ (returns-clause-names c)

@@ -5,7 +5,7 @@ use Rattle.fit_base.proofs.ByteLists.{slice_is_bytes}
 use Rattle.fit_decode.specs.Events.{file_events}
 use Rattle.fit_report.specs.Reports.{Channel}
 use Rattle.fit_csv.specs.Table.{table_of}
-use Rattle.fit_examples.proofs.TableText.{wants_memory}
+use Rattle.fit_examples.proofs.TableText.{table_fault, wants_memory}
 use Rattle.fit_examples.proofs.tables.ride_table.Goals as goal
 
 pub returns-in_err-table-clause-memory : goal.returns-in_err-table-clause-memory
@@ -16,3 +16,9 @@ returns-in_err-table-clause-memory c = λ chain.
     rw (p.1, p.2)
     (wants_memory (table_of (flat_map file_events chain.0)) source sink c.in_err-table.field-0.0 refl
     (c.in_err-table.ensures.chain chain.0 c.args.ride.now refl (slice_is_bytes c.args.ride.now c.type_inv.ride) chain.1))
+
+pub returns-in_err-table-clause-fault : goal.returns-in_err-table-clause-fault
+returns-in_err-table-clause-fault c =
+    let p = err_from_is_err_and c.from_residual.result c.from_residual.ensures.1 in
+    let sink : Channel = record { before = c.new-sink.result.held; after = c.table.new.sink.held; failed = c.table.new.sink.failed } in
+    rw (p.1, p.2) (table_fault table_of c.args.ride.now c.table.new.source.now sink c.in_err-table.field-0.0 c.in_err-table.ensures.converts)

@@ -23,7 +23,8 @@ overflow_add-self c =
 pub returns : goal.returns
 returns c = record {
   within = c.skip_records-used.ensures.within;
-  is_fed = fed_so c.args.decoder.now c.skip_records-used.new.self c.args.decoder.now.bytes (take c.skip_records-used.result.0 c.args.piece.now) c.skip_records-used.ensures.used;
+  is_fed = fed_so c.args.decoder.now c.skip_records-used.new.self c.args.decoder.now.bytes (take c.skip_records-used.result.0 c.args.piece.now)
+      c.skip_records-used.ensures.used;
   viable = c.skip_records-used.ensures.viable;
   told = λ heard has are.
       let self = c.args.self.now in

@@ -1,0 +1,112 @@
+//! Time and heart rate of each record message.
+ghost use Rattle.std.specs.Prelude.{◌≡◌, ◌++◌, IfErr, IfOk, List, OnOk, flat_map};
+ghost use Rattle.std.specs.declared.alloc.Global.{Global};
+ghost use Rattle.fit_record.specs.declared.file.FitFile.{FitFile};
+ghost use Rattle.fit_record.specs.declared.message.Record.{Record};
+ghost use Rattle.fit_record.specs.Files.{IsChain, chain_limit};
+ghost use Rattle.fit_decode.specs.Answers.{AreChain};
+ghost use Rattle.fit_decode.specs.Checks.{IsFaultOf, LacksMemory};
+ghost use Rattle.fit_decode.specs.Events.{Event as Told};
+ghost use Rattle.fit_profile.specs.Meant.{MessageOf, shown};
+ghost use Rattle.fit_report.specs.Heard.{AreHeard, hear, latest_records};
+ghost use Rattle.fit_examples.specs.HeartRates.{file_moments, heart_rate, moments_in, record_moments};
+ghost use Rattle.fit_examples.specs.inner.Noting.{event_moments, records_after_event};
+
+use crate::protocol::{HEART_RATE, RECORD, UINT8};
+use fit_decode::laws::events_are_one;
+use fit_decode::{Decoder, Event, Fault};
+use fit_profile::laws::looking_back_is_learning;
+use fit_profile::{Message, Stream};
+use fit_report::laws::heard_records_fit;
+use std::alloc::{AllocError, Global};
+
+/// The invalid uint8.
+const NO_VALUE: u64 = 0xFF;
+
+/// What a record message says of the heart.
+#[derive(Clone, Copy, PartialEq, Eq, Debug)]
+pub struct Moment {
+    /// In seconds since 1989-12-31T00:00:00 UTC.
+    pub time: Option<u32>,
+    /// In beats per minute.
+    pub heart_rate: Option<u8>,
+}
+
+/// The heart rate that a message has.
+fn rate_of(message: &Message) -> Option<u8>
+    ensures { result ≡ heart_rate (shown message.now).definition (shown message.now).values }
+{
+    let field = message.first(HEART_RATE)?;
+    match field.items.bits.as_slice() {
+        [rate] if field.code == UINT8 && *rate < NO_VALUE => Some(*rate as u8),
+        _ => None,
+    }
+}
+
+/// What a message says of the heart, where it is a record message.
+fn moment_of(message: Option<Message>) -> Option<Moment>
+    ensures { (before : List (Record Global)) (r : Record Global) →
+        MessageOf before r message.entry → moments_in result ≡ record_moments before r }
+{
+    let message = message?;
+    if message.global() != RECORD {
+        return None;
+    }
+    Some(Moment {
+        time: message.time(),
+        heart_rate: rate_of(&message),
+    })
+}
+
+/// Takes an event in. A header begins a file.
+fn note(stream: &mut Stream, moments: &mut Vec<Moment>, event: Event) -> Result<(), AllocError>
+    requires { (heard : List (Told Global)) ×
+        (stream.old ≡ latest_records heard) × AreHeard (hear event heard) }
+    ensures stream { OnOk result (stream.new ≡ records_after_event stream.old event) }
+    ensures moments { OnOk result
+        (moments.new.items ≡ moments.old.items ++ event_moments stream.old event) }
+{
+    heard_records_fit::<Global>();
+    looking_back_is_learning::<Global>();
+    match event {
+        Event::Header(..) => stream.begin_file(),
+        Event::Item(record_) => {
+            if let Some(moment) = moment_of(stream.push(&record_)?) {
+                moments.push(moment)?;
+            }
+        }
+        Event::More | Event::FileEnd => {}
+    }
+    Ok(())
+}
+
+/// Time and heart rate of each record message of a FIT file, or of a chain of such files.
+///
+/// `Refused` names the first byte with which no chain of files goes on, and why; `Truncated` the end of a ride that ends too soon.
+/// `NoMemory` says nothing of the ride.
+pub fn heart_rates(alloc: Global, ride: &[u8]) -> Result<Vec<Moment>, Fault>
+    ensures good { OnOk result (AreChain Global ride.now) }
+    ensures moments { (fs : List (FitFile Global)) → IsChain chain_limit fs ride.now →
+        IfOk result (λ moments. moments.items ≡ flat_map file_moments fs) }
+    ensures fault { IfErr result (IsFaultOf ride.now) }
+    // A chain of files fails for want of memory alone.
+    ensures memory { AreChain Global ride.now → IfErr result LacksMemory }
+{
+    events_are_one::<Global>();
+    let mut decoder = Decoder::new(alloc);
+    let mut stream = Stream::new(alloc);
+    let mut moments = Vec::new(alloc);
+    let mut rest = ride;
+    while !rest.is_empty() {
+        let fed = decoder.feed(rest)?;
+        let (_, left) = rest.split_at(fed.used);
+        rest = left;
+        let Ok(()) = note(&mut stream, &mut moments, fed.event) else {
+            return Err(Fault::NoMemory {
+                used: fed.used as u64,
+            });
+        };
+    }
+    decoder.finish()?;
+    Ok(moments)
+}
