@@ -1,4 +1,4 @@
-//! Feeds standard input to a `Decoder` and prints how many events it told. `bench/run` measures with it how long
+//! Feeds standard input to a `Decoder` and prints how many events it reported. `bench/run` measures with it how long
 //! it takes to make each record whole.
 #![tactic(auto)]
 

@@ -1,0 +1,189 @@
+//! Bytes of files fed to a decoder, and what it returns.
+
+use fit_decode::{Decoder, Event, Fault};
+use fit_frame::Reason;
+use fit_record::Record;
+use std::alloc::{Allocator, Global};
+use std::test::*;
+use test_known::BOTH_ORDERS;
+
+/// What an event says in short: a letter, and the size of the data section, the number of fields, or the first item.
+pub fn told<A: Allocator>(event: &Event<A>) -> (u8, u64) {
+    match event {
+        Event::More => (b'.', 0),
+        Event::Header(_, size) => (b'h', u64::from(*size)),
+        Event::Item(Record::Define(definition)) => (b'd', definition.fields.len() as u64),
+        Event::Item(Record::Values(values)) => match values.fields.as_slice() {
+            [first, ..] => match first.bits.as_slice() {
+                [item, ..] => (b'v', *item),
+                [] => (b'v', 0),
+            },
+            [] => (b'v', 0),
+        },
+        Event::FileEnd => (b'e', 0),
+    }
+}
+
+/// The same of the byte at a place of that file.
+pub fn told_at(place: usize) -> (u8, u64) {
+    match place {
+        13 => (b'h', 36),
+        25 | 43 => (b'd', 2),
+        31 => (b'v', 1_000_000_031),
+        49 => (b'v', 2500),
+        51 => (b'e', 0),
+        _ => (b'.', 0),
+    }
+}
+
+/// How much is held after the byte at a place of that file.
+fn held_at(place: usize) -> Option<u64> {
+    match place {
+        25 | 31 => Some(2),
+        43 | 49 => Some(4),
+        51 => Some(0),
+        _ => None,
+    }
+}
+
+#[test]
+fn byte_by_byte(rt: HostRuntime) -> Result<(), Fault> {
+    let mut decoder = Decoder::new(rt.alloc());
+    assert_eq!(rt; decoder.need(), 14);
+    for (place, byte) in BOTH_ORDERS.iter().enumerate() {
+        let fed = decoder.feed(&[*byte])?;
+        assert_eq!(rt;
+            (fed.used, told(&fed.event)),
+            (1, told_at(place)),
+            "{place}"
+        );
+        let held = decoder.held();
+        assert_eq!(rt; held_at(place).unwrap_or(held), held, "{place}");
+        if place == 13 {
+            assert_eq!(rt; decoder.need(), 38);
+        }
+        if place == 28 {
+            assert!(rt; held <= 6);
+        }
+    }
+    assert_eq!(rt; decoder.finish(), Ok(()));
+    Ok(())
+}
+
+/// A header that announces that many bytes of data.
+pub fn header(size: u32) -> [u8; 14] {
+    let [a, b, c, d] = size.to_le_bytes();
+    [0x0E, 0x20, 0, 0, a, b, c, d, b'.', b'F', b'I', b'T', 0, 0]
+}
+
+/// Feeds all bytes, up to one that is refused: its place, and why.
+fn refused(decoder: &mut Decoder, bytes: &[u8]) -> Option<(u64, Reason)> {
+    let mut rest = bytes;
+    for _ in 0..bytes.len() {
+        match decoder.feed(rest) {
+            Ok(fed) => {
+                let (_, left) = rest.split_at(fed.used);
+                rest = left;
+            }
+            Err(Fault::Refused { place, reason }) => return Some((place, reason)),
+            Err(_) => return None,
+        }
+    }
+    None
+}
+
+/// What is refused of a header that announces that many bytes of data, these bytes of data, and a last one.
+fn refused_last(alloc: Global, size: u32, data: &[u8], last: u8) -> Option<(u64, Reason)> {
+    let mut decoder = Decoder::new(alloc);
+    refused(&mut decoder, &header(size))
+        .or(refused(&mut decoder, data))
+        .or(refused(&mut decoder, &[last]))
+}
+
+#[test]
+fn sizes_of_data(rt: HostRuntime) {
+    for (size, answer) in [(0, None), (3, Some((7, Reason::NoFit))), (6, None)] {
+        let mut decoder = Decoder::new(rt.alloc());
+        assert_eq!(rt; refused(&mut decoder, &header(size)), answer, "{size}");
+    }
+}
+
+#[test]
+fn the_last_byte(rt: HostRuntime) {
+    let one = b"\x40\0\0\x14\0\x01\x05".as_slice();
+    let two = b"\x40\0\0\x14\0\x02\x05".as_slice();
+    let three = b"\x40\0\0\x14\0\x01\x08\x03\x0D".as_slice();
+    let long = b"\x40\0\0\x14\0\x01\x08\x13\x0D".as_slice();
+    let dev = b"\x60\0\0\x14\0\x01\x08\x03\x0D".as_slice();
+    let small = b"\x60\0\0\x14\0\x01\x05\x01\x0D".as_slice();
+    let again = b"\x40\0\0\x14\0\0\x40\0\0\x14\0\x01\x05".as_slice();
+    let other = b"\x40\0\0\x14\0\0\x41\0\0\x14\0\x01\x05".as_slice();
+    let rows = [
+        (10, one, 2, Some((21, Reason::NoFit))),
+        (10, one, 0, None),
+        (
+            8,
+            b"\x40\0\0\x14\0".as_slice(),
+            1,
+            Some((19, Reason::Overrun)),
+        ),
+        (13, dev, 0, Some((23, Reason::NoFit))),
+        (13, dev, 1, None),
+        (13, dev, 2, Some((23, Reason::Overrun))),
+        (19, long, 0x00, Some((23, Reason::Overrun))),
+        (19, long, 0x01, Some((23, Reason::UndefinedLocal))),
+        (19, long, 0x50, Some((23, Reason::ReservedBit))),
+        (19, long, 0x20, Some((23, Reason::ReservedBit))),
+        (16, three, 0, Some((23, Reason::NoFit))),
+        (6, b"\x40\0".as_slice(), 2, Some((16, Reason::Architecture))),
+        (13, two, 0, None),
+        (13, two, 1, Some((21, Reason::NoFit))),
+        (16, again, 0, None),
+        (16, again, 1, Some((27, Reason::NoFit))),
+        (16, other, 1, None),
+        (15, small, 0, Some((23, Reason::NoFit))),
+        (15, small, 1, None),
+        (15, small, 2, Some((23, Reason::Overrun))),
+    ];
+    for (size, data, last, answer) in rows {
+        assert_eq!(rt;
+            refused_last(rt.alloc(), size, data, last),
+            answer,
+            "{size} {last}"
+        );
+    }
+}
+
+/// Whether two events are the same, value by value.
+pub fn same<A: Allocator>(one: &Event<A>, other: &Event<A>) -> bool {
+    match (one, other) {
+        (Event::More, Event::More) => true,
+        (Event::Header(head, size), Event::Header(found, count)) => head == found && size == count,
+        (Event::Item(record_), Event::Item(found)) => record_ == found,
+        (Event::FileEnd, Event::FileEnd) => true,
+        _ => false,
+    }
+}
+
+/// Messages of 20 bytes are defined, and 10 bytes are left.
+#[test]
+fn events_before_a_refusal(rt: HostRuntime) -> Result<(), Fault> {
+    for (last, reason) in [
+        (0x00, Reason::Overrun),
+        (0x01, Reason::UndefinedLocal),
+        (0x50, Reason::ReservedBit),
+        (0x20, Reason::ReservedBit),
+    ] {
+        let mut decoder = Decoder::new(rt.alloc());
+        let mut piece = *b"\x0E\x20\0\0\x13\0\0\0.FIT\0\0\x40\0\0\x14\0\x01\x08\x13\x0D\0";
+        piece[23] = last;
+        let fed = decoder.feed(&piece)?;
+        assert_eq!(rt; (fed.used, told(&fed.event)), (14, (b'h', 19)));
+        let fed = decoder.feed(&piece[14..])?;
+        assert_eq!(rt; (fed.used, told(&fed.event)), (9, (b'd', 1)));
+        let refused = Fault::Refused { place: 23, reason };
+        assert_eq!(rt; decoder.feed(&piece[23..]).err(), Some(refused), "{last}");
+        assert_eq!(rt; decoder.held(), 0);
+    }
+    Ok(())
+}

@@ -1,0 +1,33 @@
+//! Tests over the crates below. They stand apart so that the proofs of those crates stay short.
+#![tactic(auto)]
+
+#[cfg(test)]
+mod big;
+#[cfg(test)]
+mod built;
+#[cfg(test)]
+mod bytes_to_come;
+#[cfg(test)]
+mod cut;
+#[cfg(test)]
+mod descriptions;
+#[cfg(test)]
+mod edges;
+#[cfg(test)]
+mod fed;
+#[cfg(test)]
+mod reading;
+#[cfg(test)]
+mod refused;
+#[cfg(test)]
+mod rooms;
+#[cfg(test)]
+mod skipped;
+#[cfg(test)]
+mod sources;
+#[cfg(test)]
+mod starved;
+#[cfg(test)]
+mod steps;
+#[cfg(test)]
+mod written;

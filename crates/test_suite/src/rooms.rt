@@ -1,0 +1,60 @@
+//! Rooms, and records that aren't whole, whose results are known from outside.
+use fit_base::{Entries, Order};
+use fit_record::{Env, FieldDef, MessageDef, Record, can_complete_front};
+use std::alloc::{AllocError, Global};
+
+/// Defines data messages with that many bytes after the record header.
+fn define(env: &mut Env, alloc: Global, local: u8, size: u8) -> Result<bool, AllocError> {
+    let field = FieldDef {
+        number: 5,
+        size,
+        code: 0x0D,
+    };
+    let definition = Record::Define(MessageDef {
+        local,
+        reserved: 0,
+        order: Order::Little,
+        global: 20,
+        fields: Entries::from_vec(Vec::from_slice(alloc, &[field])?),
+        dev: None,
+    });
+    if env.fits(&definition).is_err() {
+        return Ok(false);
+    }
+    env.learn(&definition)?;
+    Ok(true)
+}
+
+#[test]
+fn rooms(rt: HostRuntime) -> Result<(), AllocError> {
+    let mut env = Env::new(rt.alloc());
+    assert!(rt; define(&mut env, rt.alloc(), 0, 3)?);
+    for (room, filled) in [(0, true), (1, false), (4, true), (5, false), (6, true)] {
+        assert_eq!(rt; env.can_fill(room), filled, "room {room}");
+    }
+    assert!(rt; define(&mut env, rt.alloc(), 15, 2)?);
+    for (room, filled) in [(1, false), (2, false), (3, true), (5, false)] {
+        assert_eq!(rt; env.can_fill(room), filled, "room {room}");
+    }
+    // A message of four bytes leaves three of seven, which one of three bytes fills.
+    assert!(rt; env.can_carry(0, 6));
+    assert!(rt; !env.can_carry(0, 5));
+    assert!(rt; !env.can_carry(1, 9));
+    Ok(())
+}
+
+#[test]
+fn unfinished_definitions(rt: HostRuntime) {
+    let env = Env::new(rt.alloc());
+    // One byte would be left, and messages would have three.
+    assert!(rt; !env.can_complete(0, 1, 2, 2));
+    assert!(rt; env.can_complete(0, 1, 0, 2));
+    // The entry of a field would overrun.
+    assert!(rt; !env.can_complete(0, 3, 0, 2));
+    // Three bytes would be left for messages of four, unless a developer field takes them.
+    assert!(rt; !env.can_complete(0, 0, 3, 3));
+    assert!(rt; env.can_complete(0, 3, 3, 3));
+    assert!(rt; env.can_complete_dev(0, 0, 3, 4));
+    assert!(rt; can_complete_front(false, 0, 5));
+    assert!(rt; !can_complete_front(true, 0, 5));
+}

@@ -1,0 +1,180 @@
+//! A decoder whose memory is refused.
+
+use crate::fed::{header, same, told, told_at};
+use fit_decode::{Decoder, Event, Fault};
+use linked_list_allocator::LocalHeap;
+use std::alloc::{AllocError, Allocator, Global};
+use std::process::Abort;
+use std::test::*;
+use test_known::BOTH_ORDERS;
+
+/// Takes all memory that is free, in blocks.
+pub fn fill<A: Allocator + Copy>(alloc: Global, heap: A) -> Result<Vec<Vec<u8, A>>, AllocError> {
+    let mut blocks = Vec::new(alloc);
+    for size in [4096, 1024, 256, 64, 16, 1] {
+        for _ in 0..64 {
+            match Vec::with_capacity(heap, size) {
+                Ok(block) => blocks.push(block)?,
+                Err(_) => break,
+            }
+        }
+    }
+    Ok(blocks)
+}
+
+/// Feeds a byte while no memory is free, and again with memory where it was wanted. Whether it was.
+fn feed_starved<A: Allocator + Copy>(
+    rt: &impl Abort,
+    alloc: Global,
+    heap: A,
+    decoder: &mut Decoder<A>,
+    place: usize,
+    byte: u8,
+) -> Result<bool, AllocError> {
+    let blocks = fill(alloc, heap)?;
+    let first = decoder.feed(&[byte]);
+    drop(blocks);
+    match first {
+        Ok(fed) => {
+            assert_eq!(rt; told(&fed.event), told_at(place), "{place}");
+            Ok(false)
+        }
+        Err(fault) => {
+            assert_eq!(rt; fault, Fault::NoMemory { used: 0 }, "{place}");
+            match decoder.feed(&[byte]) {
+                Ok(fed) => assert_eq!(rt; told(&fed.event), told_at(place), "{place}"),
+                Err(fault) => assert_eq!(rt; fault, Fault::Truncated { place: 0 }, "{place}"),
+            }
+            Ok(true)
+        }
+    }
+}
+
+/// Only bytes of records want memory, and those of the last record still do.
+fn starve<A: Allocator + Copy>(
+    rt: &impl Abort,
+    alloc: Global,
+    heap: A,
+    decoder: &mut Decoder<A>,
+) -> Result<(), AllocError> {
+    let mut wanted = 0;
+    for (place, byte) in BOTH_ORDERS.iter().enumerate() {
+        if feed_starved(rt, alloc, heap, decoder, place, *byte)? {
+            assert!(rt; 14 <= place && place < 50, "{place}");
+            wanted = place;
+        }
+    }
+    assert!(rt; wanted >= 44, "{wanted}");
+    assert_eq!(rt; decoder.finish(), Ok(()));
+    Ok(())
+}
+
+#[test]
+fn each_byte_again(rt: HostRuntime) -> Result<(), AllocError> {
+    let heap = LocalHeap::new(rt.alloc(), 8192)?;
+    let mut decoder = Decoder::new(&heap);
+    starve(&rt, rt.alloc(), &heap, &mut decoder)
+}
+
+/// Feeds a file to two decoders, to one of them a byte while no memory is free. Where that wanted memory it is fed again, and the
+/// events are the same. Whether it did.
+fn starve_at<A: Allocator + Copy>(
+    rt: &impl Abort,
+    alloc: Global,
+    heap: A,
+    place: usize,
+) -> Result<bool, AllocError> {
+    let mut decoder = Decoder::new(heap);
+    let mut ample = Decoder::new(heap);
+    let mut wanted = false;
+    for (at, byte) in BOTH_ORDERS.iter().enumerate() {
+        let blocks = if at == place {
+            fill(alloc, heap)?
+        } else {
+            Vec::new(alloc)
+        };
+        let mut answer = decoder.feed(&[*byte]);
+        drop(blocks);
+        if let Err(fault) = answer {
+            assert_eq!(rt; (at, fault), (place, Fault::NoMemory { used: 0 }));
+            wanted = true;
+            answer = decoder.feed(&[*byte]);
+        }
+        match (answer, ample.feed(&[*byte])) {
+            (Ok(fed), Ok(told)) => assert!(rt; same(&fed.event, &told.event), "{place}, {at}"),
+            _ => assert!(rt; false, "{place}, {at}"),
+        }
+    }
+    assert_eq!(rt; decoder.finish(), Ok(()));
+    Ok(wanted)
+}
+
+/// Bytes of both definitions, at 14 to 25 and 32 to 43, want memory, and so does a byte of each data message.
+#[test]
+fn one_byte_again(rt: HostRuntime) -> Result<(), AllocError> {
+    let heap = LocalHeap::new(rt.alloc(), 16384)?;
+    let mut wanted = [0u32; 4];
+    for place in 0..BOTH_ORDERS.len() {
+        if starve_at(&rt, rt.alloc(), &heap, place)? {
+            let part = match place {
+                14..=25 => 0,
+                26..=31 => 1,
+                32..=43 => 2,
+                44..=49 => 3,
+                _ => continue,
+            };
+            wanted[part] = wanted[part].saturating_add(1);
+        }
+    }
+    for count in wanted {
+        assert!(rt; count > 0, "{wanted:?}");
+    }
+    Ok(())
+}
+
+/// How many data messages the bytes end.
+fn messages<A: Allocator + Copy>(decoder: &mut Decoder<A>, bytes: &[u8]) -> u32 {
+    let mut count: u32 = 0;
+    let mut rest = bytes;
+    for _ in 0..bytes.len() {
+        match decoder.feed(rest) {
+            Ok(fed) => {
+                if told(&fed.event) == (b'v', 0) {
+                    count = count.saturating_add(1);
+                }
+                let (_, left) = rest.split_at(fed.used);
+                rest = left;
+            }
+            Err(_) => return count,
+        }
+    }
+    count
+}
+
+/// The data messages of a definition without fields take no memory, however many they are.
+fn empty_messages<A: Allocator + Copy>(
+    rt: &impl Abort,
+    alloc: Global,
+    heap: A,
+    decoder: &mut Decoder<A>,
+) -> Result<(), AllocError> {
+    assert_eq!(rt; messages(decoder, &header(100_006)), 0);
+    assert_eq!(rt; messages(decoder, b"\x40\0\0\x14\0\0"), 0);
+    let blocks = fill(alloc, heap)?;
+    let free: Result<Vec<u8, A>, AllocError> = Vec::with_capacity(heap, 1);
+    assert!(rt; free.is_err());
+    for thousand in 0..100 {
+        assert_eq!(rt; messages(decoder, &[0; 1000]), 1000, "{thousand}");
+    }
+    let end = decoder.feed(b"\x1F\x0E");
+    assert!(rt; end.is_ok_and(|fed| fed.used == 2 && told(&fed.event) == (b'e', 0)));
+    drop(blocks);
+    Ok(())
+}
+
+#[test]
+fn no_memory_after_the_definition(rt: HostRuntime) -> Result<(), AllocError> {
+    let heap = LocalHeap::new(rt.alloc(), 8192)?;
+    let mut decoder = Decoder::new(&heap);
+    empty_messages(&rt, rt.alloc(), &heap, &mut decoder)
+}

@@ -1,0 +1,127 @@
+//! Bytes of records, one after another, and what they make.
+ghost use Rattle.std.specs.Prelude.{OnOk};
+ghost use Rattle.fit_step.specs.Places.{state_at, PartFitsRoom};
+
+use fit_base::{Bits, Entries, Items, Order};
+use fit_frame::Reason;
+use fit_record::{Env, FieldDef, MessageDef, Record, Values};
+use fit_step::{Position, Stop, step};
+use std::alloc::{AllocError, Global};
+
+/// Takes a byte, and learns the record that is whole with it.
+#[tactic(auto, using(fit_step::proofs::Kept::beginnings_stand))]
+fn take(
+    alloc: Global,
+    env: &mut Env,
+    position: &mut Position,
+    in_progress: &mut Option<Record>,
+    byte: u8,
+) -> Result<Option<Record>, Stop>
+    requires { PartFitsRoom env.old (state_at position.old in_progress.old) }
+    ensures { OnOk result (PartFitsRoom env.new (state_at position.new in_progress.new)) }
+{
+    if position.room == 0 {
+        return Ok(None);
+    }
+    let (next, whole) = step(alloc, env, position, in_progress, byte)?;
+    *position = next;
+    if !whole {
+        return Ok(None);
+    }
+    let Some(record) = in_progress.take() else {
+        unreachable!()
+    };
+    if env.learn(&record).is_err() {
+        return Err(Stop::NoMemory);
+    }
+    Ok(Some(record))
+}
+
+/// How many bytes are taken, why no more are, and the last record.
+#[tactic(auto, using(fit_step::proofs::Kept::beginnings_stand))]
+fn read(alloc: Global, room: u32, bytes: &[u8]) -> (usize, Option<Stop>, Option<Record>) {
+    let mut env = Env::new(alloc);
+    let mut position = Position::new(room);
+    let mut in_progress = None;
+    let mut last = None;
+    for i in 0..bytes.len() {
+        match take(alloc, &mut env, &mut position, &mut in_progress, bytes[i]) {
+            Ok(None) => {}
+            Ok(record) => last = record,
+            Err(stop) => return (i, Some(stop), last),
+        }
+    }
+    (bytes.len(), None, last)
+}
+
+/// Field 3 of a byte, and field 7 of two bytes.
+fn definition(alloc: Global) -> Result<Record, AllocError> {
+    let mut fields = Entries::new(alloc);
+    fields.push(FieldDef {
+        number: 3,
+        size: 1,
+        code: 2,
+    })?;
+    fields.push(FieldDef {
+        number: 7,
+        size: 2,
+        code: 0x84,
+    })?;
+    Ok(Record::Define(MessageDef {
+        local: 0,
+        reserved: 9,
+        order: Order::Big,
+        global: 20,
+        fields,
+        dev: None,
+    }))
+}
+
+/// A field with one item.
+fn lone(alloc: Global, width: u8, number: u64) -> Result<Items, AllocError> {
+    let mut bits = Bits::new(alloc);
+    bits.push(number)?;
+    Ok(Items { width, bits })
+}
+
+/// A heart rate of 72, and a power of 258 watts.
+fn message(alloc: Global) -> Result<Record, AllocError> {
+    let mut fields = Entries::new(alloc);
+    fields.push(lone(alloc, 1, 72)?)?;
+    fields.push(lone(alloc, 2, 258)?)?;
+    Ok(Record::Values(Values {
+        local: 0,
+        offset: None,
+        fields,
+        dev: Entries::new(alloc),
+    }))
+}
+
+const BYTES: [u8; 16] = *b"\x40\x09\x01\0\x14\x02\x03\x01\x02\x07\x02\x84\0\x48\x01\x02";
+
+#[test]
+fn records_from_bytes(rt: HostRuntime) -> Result<(), AllocError> {
+    let alloc = rt.alloc();
+    let defined = read(alloc, 16, &BYTES[..12]);
+    assert!(rt; defined == (12, None, Some(definition(alloc)?)));
+    let told = read(alloc, 16, &BYTES);
+    assert!(rt; told == (16, None, Some(message(alloc)?)));
+    Ok(())
+}
+
+#[test]
+fn refusals(rt: HostRuntime) {
+    let alloc = rt.alloc();
+    let rows = [
+        (6, b"\x50".as_slice(), 0, Reason::ReservedBit),
+        (6, b"\0", 0, Reason::UndefinedLocal),
+        (5, b"\x40", 0, Reason::Overrun),
+        (6, b"\x40\0\x02", 2, Reason::Architecture),
+        (8, b"\x40\0\0\0\0\x01", 5, Reason::Overrun),
+        (10, b"\x40\0\0\0\0\x01\x03\x01", 7, Reason::NoFit),
+    ];
+    for (room, bytes, place, reason) in rows {
+        let (taken, stop, _) = read(alloc, room, bytes);
+        assert_eq!(rt; (taken, stop), (place, Some(Stop::Refused(reason))));
+    }
+}

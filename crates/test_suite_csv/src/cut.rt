@@ -1,0 +1,157 @@
+//! Conversions of inputs that are cut at each place, from sources that fail there, and into sinks that do.
+
+use fit_csv::{CsvFault, from_csv, table, to_csv};
+use fit_decode::{CutSource, Fault, Source};
+use fit_encode::{CutSink, Sink};
+use std::alloc::Global;
+use std::process::Abort;
+use test_known::{FIRST_ROW, Known, TABLE_HEAD, files};
+
+/// The first lines of a text.
+fn first_lines(text: &str, count: usize) -> &[u8] {
+    let bytes = text.as_bytes();
+    let mut left = count;
+    for (place, byte) in bytes.iter().enumerate() {
+        if left == 0 {
+            return &bytes[..place];
+        }
+        if *byte == b'\n' {
+            left = left.saturating_sub(1);
+        }
+    }
+    bytes
+}
+
+/// How many rows of its text and of its table are written of that many bytes of an input.
+fn rows_of(known: &Known, count: usize) -> (usize, usize) {
+    let mut rows = (1, 0);
+    for end in known.ends {
+        if end.0 <= count {
+            rows = (end.3, end.4);
+        }
+    }
+    rows
+}
+
+/// Whether a text is the first line of a table and these rows.
+fn is_table(text: &[u8], rows: &[u8]) -> bool {
+    let (head, rest) = text.split_at(TABLE_HEAD.len().min(text.len()));
+    head == TABLE_HEAD.as_bytes() && rest == rows
+}
+
+/// Asserts what both conversions return for a source that ends or fails after that many bytes.
+fn convert<S: Source>(
+    rt: &impl Abort,
+    alloc: Global,
+    known: &Known,
+    k: usize,
+    for_text: &mut S,
+    for_table: &mut S,
+    answer: Result<(), CsvFault>,
+) {
+    let (rows, records) = rows_of(known, k);
+    let mut sink = CutSink::<2048>::new(2048);
+    let found = to_csv(alloc, for_text, &mut sink);
+    assert_eq!(rt; found, answer, "{} at {k}", known.name);
+    assert_eq!(rt;
+        sink.bytes(),
+        first_lines(known.text, rows),
+        "{} at {k}",
+        known.name
+    );
+    assert!(rt; !sink.failed());
+    let mut sink = CutSink::<2048>::new(2048);
+    let found = table(alloc, for_table, &mut sink);
+    assert_eq!(rt; found, answer, "{} at {k}", known.name);
+    assert!(rt;
+        is_table(sink.bytes(), first_lines(known.table, records)),
+        "{} at {k}",
+        known.name
+    );
+}
+
+/// Converts first bytes of an input.
+fn convert_cut(rt: &impl Abort, alloc: Global, known: &Known, cut: &[u8]) {
+    let k = cut.len();
+    let whole = k == known.first || k == known.bytes.len();
+    let fault = CsvFault::Decode(Fault::Truncated { place: k as u64 });
+    let answer = if whole { Ok(()) } else { Err(fault) };
+    let (mut text, mut rows) = (cut, cut);
+    convert(rt, alloc, known, k, &mut text, &mut rows, answer);
+    assert!(rt; text.is_empty() && rows.is_empty());
+}
+
+#[test]
+fn inputs_cut_anywhere(rt: HostRuntime) {
+    for known in files() {
+        for k in 0..known.bytes.len() {
+            convert_cut(&rt, rt.alloc(), &known, &known.bytes[..k]);
+        }
+        convert_cut(&rt, rt.alloc(), &known, known.bytes);
+    }
+}
+
+#[test]
+fn sources_that_fail_anywhere(rt: HostRuntime) {
+    for known in files() {
+        for k in 0..known.bytes.len() {
+            let answer = Err(CsvFault::Decode(Fault::Read { place: k as u64 }));
+            let mut text = CutSource::new(known.bytes, k);
+            let mut rows = CutSource::new(known.bytes, k);
+            convert(&rt, rt.alloc(), &known, k, &mut text, &mut rows, answer);
+            assert!(rt; text.failed() && rows.failed());
+        }
+        for k in 0..known.text.len() {
+            let mut source = CutSource::new(known.text.as_bytes(), k);
+            let mut sink = CutSink::<128>::new(128);
+            let found = from_csv(rt.alloc(), &mut source, &mut sink);
+            assert_eq!(rt; found, Err(CsvFault::Read), "{} at {k}", known.name);
+            assert!(rt; source.failed() && sink.bytes().is_empty());
+        }
+    }
+}
+
+#[test]
+fn sinks_that_fail_anywhere(rt: HostRuntime) {
+    for known in files() {
+        for k in 0..known.text.len() {
+            let failed = Err(CsvFault::Write { written: k as u64 });
+            let mut sink = CutSink::<2048>::new(k);
+            let found = to_csv(rt.alloc(), &mut &known.bytes[..], &mut sink);
+            assert_eq!(rt; found, failed, "{}", known.name);
+            assert_eq!(rt; sink.bytes(), &known.text.as_bytes()[..k]);
+        }
+        for k in 0..TABLE_HEAD.len().saturating_add(known.table.len()) {
+            let failed = Err(CsvFault::Write { written: k as u64 });
+            let mut sink = CutSink::<2048>::new(k);
+            let found = table(rt.alloc(), &mut &known.bytes[..], &mut sink);
+            assert_eq!(rt; found, failed, "{}", known.name);
+            let head = TABLE_HEAD.len().min(k);
+            let (front, rest) = sink.bytes().split_at(head.min(sink.bytes().len()));
+            assert_eq!(rt; front, &TABLE_HEAD.as_bytes()[..head]);
+            assert_eq!(rt;
+                Some(rest),
+                known.table.as_bytes().get(..k.saturating_sub(head))
+            );
+        }
+        for k in 0..known.bytes.len() {
+            let failed = Err(CsvFault::Write { written: k as u64 });
+            let mut sink = CutSink::<128>::new(k);
+            let found = from_csv(rt.alloc(), &mut known.text.as_bytes(), &mut sink);
+            assert_eq!(rt; found, failed, "{}", known.name);
+            assert_eq!(rt; sink.bytes(), &known.bytes[..k]);
+        }
+    }
+}
+
+#[test]
+fn texts_back(rt: HostRuntime) {
+    for known in files() {
+        let mut source = known.text.as_bytes();
+        let mut sink = CutSink::<128>::new(128);
+        assert_eq!(rt; from_csv(rt.alloc(), &mut source, &mut sink), Ok(()));
+        assert_eq!(rt; sink.bytes(), known.bytes);
+        assert!(rt; source.is_empty() && !sink.failed());
+        assert!(rt; known.text.starts_with(FIRST_ROW));
+    }
+}

@@ -1,0 +1,19 @@
+//! Tests over `fit_profile` and `fit_csv`. They stand apart so that the proofs of those crates stay short.
+#![tactic(auto)]
+
+#[cfg(test)]
+mod big;
+#[cfg(test)]
+mod cells;
+#[cfg(test)]
+mod conversions;
+#[cfg(test)]
+mod cut;
+#[cfg(test)]
+mod from_text;
+#[cfg(test)]
+mod profile;
+#[cfg(test)]
+mod streams;
+#[cfg(test)]
+mod values;

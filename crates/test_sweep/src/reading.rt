@@ -1,0 +1,134 @@
+//! The decoder and the readers.
+use fit_decode::{Decoder, Event, Fault, Reading, read_chain, read_one};
+use std::alloc::Global;
+use std::io;
+
+/// Prints the fault of a reader that has taken that many bytes.
+fn tell_fault(rt: &HostRuntime, fault: Fault, taken: usize) -> io::Result<()> {
+    match fault {
+        Fault::NoMemory { used } => println!(rt; "out of memory: {used} used of {taken} taken"),
+        _ => println!(rt; "{fault:?}"),
+    }
+}
+
+/// The first file, and how many bytes are left.
+pub fn one(rt: &HostRuntime, input: &[u8]) -> io::Result<()> {
+    let mut source = input;
+    match read_one(rt.alloc(), &mut source) {
+        Ok(file) => println!(rt; "{file:?}\n{} bytes are left", source.len()),
+        Err(fault) => tell_fault(rt, fault, input.len().saturating_sub(source.len())),
+    }
+}
+
+/// All files.
+pub fn chain(rt: &HostRuntime, input: &[u8]) -> io::Result<()> {
+    let mut source = input;
+    match read_chain(rt.alloc(), &mut source) {
+        Ok(files) => {
+            for file in files.as_slice() {
+                println!(rt; "{file:?}")?;
+            }
+            println!(rt; "{} bytes are left", source.len())
+        }
+        Err(fault) => tell_fault(rt, fault, input.len().saturating_sub(source.len())),
+    }
+}
+
+/// One file after another, and what is returned after the last. A fault is returned again.
+pub fn file_by_file(rt: &HostRuntime, input: &[u8]) -> io::Result<()> {
+    let mut reading = Reading::new(rt.alloc(), input);
+    for _ in 0..=input.len() {
+        match reading.next() {
+            Ok(Some(file)) => println!(rt; "{file:?}")?,
+            Ok(None) => return println!(rt; "end"),
+            Err(Fault::NoMemory { used }) => {
+                let again = reading.next().err() == Some(Fault::NoMemory { used });
+                return println!(rt; "out of memory: {used} used, answered again: {again}");
+            }
+            Err(fault) => return println!(rt; "{fault:?}"),
+        }
+    }
+    Ok(())
+}
+
+/// What each byte completes, and what is needed and held after it. A byte that was refused memory is fed once more.
+pub fn byte_by_byte(rt: &HostRuntime, input: &[u8]) -> io::Result<()> {
+    let mut decoder = Decoder::new(rt.alloc());
+    for (place, byte) in input.iter().enumerate() {
+        let mut answer = decoder.feed(&[*byte]);
+        if let Err(Fault::NoMemory { used: 0 }) = answer {
+            println!(rt; "once more")?;
+            answer = decoder.feed(&[*byte]);
+        }
+        match answer {
+            Ok(fed) => tell(rt, place, fed.used, &fed.event)?,
+            Err(fault) => return println!(rt; "{fault:?}"),
+        }
+        println!(rt; "need {}, held {}", decoder.need(), decoder.held())?;
+    }
+    println!(rt; "{:?}", decoder.finish())
+}
+
+/// Prints an event.
+fn tell(rt: &HostRuntime, place: usize, used: usize, event: &Event) -> io::Result<()> {
+    match event {
+        Event::More => println!(rt; "{place}: {used}"),
+        Event::Header(header, size) => println!(rt; "{place}: {used}, {header:?}, {size}"),
+        Event::Item(record_) => println!(rt; "{place}: {used}, {record_:?}"),
+        Event::FileEnd => println!(rt; "{place}: {used}, end of a file"),
+    }
+}
+
+/// The number of cuts, and of byte by byte as one more, at which the events end as they do in one piece.
+pub fn cut_anywhere(rt: &HostRuntime, input: &[u8]) -> io::Result<()> {
+    match cut(rt.alloc(), input) {
+        Ok(number) => println!(rt; "{number}"),
+        Err(fault) => println!(rt; "{fault:?}"),
+    }
+}
+
+fn cut(alloc: Global, bytes: &[u8]) -> Result<usize, Fault> {
+    let whole = event_ends(alloc, &[bytes])?;
+    let mut same = 0usize;
+    for k in 0..bytes.len() {
+        let (first, second) = bytes.split_at(k);
+        if event_ends(alloc, &[first, second])? == whole {
+            same = same.saturating_add(1);
+        }
+    }
+    let mut single = Vec::new(alloc);
+    for byte in bytes.chunks(1) {
+        keep(&mut single, byte)?;
+    }
+    if event_ends(alloc, single.as_slice())? == whole {
+        same = same.saturating_add(1);
+    }
+    Ok(same)
+}
+
+/// After how many bytes each event ends.
+fn event_ends(alloc: Global, pieces: &[&[u8]]) -> Result<Vec<usize>, Fault> {
+    let mut decoder = Decoder::new(alloc);
+    let mut ends = Vec::new(alloc);
+    let mut place = 0usize;
+    for piece in pieces {
+        let mut rest = *piece;
+        for _ in 0..=piece.len() {
+            let fed = decoder.feed(rest)?;
+            let (_, more) = rest.split_at(fed.used);
+            rest = more;
+            place = place.saturating_add(fed.used);
+            if let Event::More = fed.event {
+                break;
+            }
+            keep(&mut ends, place)?;
+        }
+    }
+    decoder.finish()?;
+    Ok(ends)
+}
+
+/// Puts a value after the others.
+fn keep<T: Drop>(values: &mut Vec<T>, value: T) -> Result<(), Fault> {
+    values.push(value).map_err(|_| Fault::NoMemory { used: 0 })
+}
