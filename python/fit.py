@@ -204,8 +204,12 @@ def files(source, partial=False):
 
 def _main(words):
     calls = {"show": show, "table": table_text, "to-csv": to_csv}
+    usage = "usage: python3 -m fit check|show|to-csv|from-csv|table [FILE..]"
+    if "--help" in words:
+        print(usage)
+        return 0
     if not words or words[0] not in ("check", "from-csv", *calls):
-        print("usage: python3 -m fit check|show|to-csv|from-csv|table [FILE..]", file=sys.stderr)
+        print(usage, file=sys.stderr)
         return 2
     command, paths = words[0], words[1:] or ["-"]
     worst = 0
@@ -220,11 +224,26 @@ def _main(words):
                 sys.stdout.buffer.write(from_csv(data))
             else:
                 sys.stdout.write(calls[command](data))
+        except BrokenPipeError:
+            raise
         except (FitError, OSError) as error:
             print(f"{path}: {error}", file=sys.stderr)
             worst = max(worst, 1 if isinstance(error, FitError) else 4)
+        except MemoryError:
+            print(f"{path}: out of memory", file=sys.stderr)
+            worst = max(worst, 3)
+    sys.stdout.flush()
     return worst
 
 
 if __name__ == "__main__":
-    sys.exit(_main(sys.argv[1:]))
+    try:
+        sys.exit(_main(sys.argv[1:]))
+    except BrokenPipeError:
+        # Nobody reads the output any more: that is status 4, as the program has it, and nothing is said of it.
+        os.dup2(os.open(os.devnull, os.O_WRONLY), sys.stdout.fileno())
+        sys.exit(4)
+    except OSError as error:
+        print(error, file=sys.stderr)
+        os.dup2(os.open(os.devnull, os.O_WRONLY), sys.stdout.fileno())
+        sys.exit(4)

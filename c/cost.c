@@ -1,0 +1,74 @@
+/* Measures what a call costs beside the library's own time: cost FILE
+ *
+ * What a call adds is no more than what it takes on no bytes, where the library has next to nothing to do. So the library's own time
+ * on the file is at least the difference. Times are processor time of this thread, the best of 20 turns of 500 calls. */
+#define _POSIX_C_SOURCE 199309L
+#include "fit.h"
+
+#include <stdio.h>
+#include <time.h>
+
+enum { TURNS = 20, CALLS = 500 };
+
+typedef fit_answer (*text_call)(const uint8_t *, size_t, fit_text *);
+
+static double now(void)
+{
+    struct timespec t;
+    clock_gettime(CLOCK_THREAD_CPUTIME_ID, &t);
+    return (double)t.tv_sec * 1e6 + (double)t.tv_nsec / 1e3;
+}
+
+static fit_answer check(const uint8_t *bytes, size_t length, fit_text *text)
+{
+    (void)text;
+    return fit_check(bytes, length);
+}
+
+/* The microseconds of a call over these bytes. */
+static double least(text_call call, const uint8_t *bytes, size_t length)
+{
+    double best = 0;
+    for (int turn = 0; turn < TURNS; turn++) {
+        double start = now();
+        for (int i = 0; i < CALLS; i++) {
+            fit_text text = FIT_NO_TEXT;
+            call(bytes, length, &text);
+            fit_free(text);
+        }
+        double took = (now() - start) / CALLS;
+        if (turn == 0 || took < best)
+            best = took;
+    }
+    return best;
+}
+
+static void row(const char *name, text_call call, const uint8_t *bytes, size_t length)
+{
+    double none = least(call, bytes, 0), all = least(call, bytes, length);
+    printf("%-13s %12.2f %12.2f %8.3f\n", name, none, all, all / (all - none));
+}
+
+int main(int argc, char **argv)
+{
+    static uint8_t bytes[1 << 20];
+    FILE *file = argc == 2 ? fopen(argv[1], "rb") : NULL;
+    if (file == NULL) {
+        fprintf(stderr, "usage: cost FILE\n");
+        return 2;
+    }
+    size_t length = fread(bytes, 1, sizeof bytes, file);
+    fclose(file);
+
+    printf("%-13s %12s %12s %8s\n", "", "no bytes, us", "the file, us", "at most");
+    row("fit_check", check, bytes, length);
+    row("fit_table", fit_table, bytes, length);
+    row("fit_to_csv", fit_to_csv, bytes, length);
+    row("fit_show", fit_show, bytes, length);
+
+    fit_text text = FIT_NO_TEXT;
+    if (fit_to_csv(bytes, length, &text).status == FIT_GOOD)
+        row("fit_from_csv", fit_from_csv, text.bytes, text.length);
+    fit_free(text);
+    return 0;
+}
