@@ -1,5 +1,6 @@
 // A library to be loaded before the C library (LD_PRELOAD): it refuses the growth of memory whose number stands
-// in REFUSE_GROWTH, counted from 1, says so on standard error, and passes all others on.
+// in REFUSE_GROWTH, counted from 1, and passes all others on. Where one was refused, it says so on standard error
+// when the program ends.
 #define _GNU_SOURCE
 #include <dlfcn.h>
 #include <errno.h>
@@ -16,9 +17,12 @@ static int refuses(void) {
         target = number ? atol(number) : 0;
     }
     if (++count != target) return 0;
-    (void)!write(2, "refused\n", 8);
     errno = ENOMEM;
     return 1;
+}
+
+__attribute__((destructor)) static void say(void) {
+    if (target > 0 && count >= target) (void)!write(2, "refused\n", 8);
 }
 
 void *malloc(size_t size) {
