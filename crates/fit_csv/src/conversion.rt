@@ -12,8 +12,8 @@ ghost use Rattle.fit_csv.specs.inner.Reporting.{HasText, csv_fault};
 ghost use Rattle.fit_csv.specs.Table.{table_of};
 
 use crate::CsvFault;
-use crate::report::CsvReport;
-use crate::table_report::TableReport;
+use crate::rows::report::CsvReport;
+use crate::tables::report::TableReport;
 use fit_decode::Source;
 use fit_encode::{Sink, put_all};
 use fit_report::{Report, ReportFault, report};

@@ -2,18 +2,12 @@
 #![tactic(auto)]
 
 mod conversion;
-mod definition_rows;
-mod dev_rows;
 mod fault;
-mod file_rows;
-mod frames;
 mod from;
 pub mod laws;
-mod message_rows;
-mod report;
+mod rows;
 mod show;
-mod table_report;
-mod table_rows;
+mod tables;
 
 pub use conversion::{table, to_csv};
 pub use fault::CsvFault;

@@ -9,7 +9,7 @@ use Rattle.fit_profile.specs.declared.decimal.Fixed.{Fixed}
 use Rattle.fit_profile.specs.declared.message.Message.{Message}
 use Rattle.fit_profile.specs.FixedText.{fixed_text}
 use Rattle.fit_profile.specs.Meant.{shown}
-use Rattle.fit_csv.specs.declared.table_rows.TableRow.{TableRow}
+use Rattle.fit_csv.specs.declared.tables.rows.TableRow.{TableRow}
 use Rattle.fit_cells.specs.Rows.{Cell, Row}
 use Rattle.fit_csv.specs.Table.{files_behind, table_event_rows, table_row}
 

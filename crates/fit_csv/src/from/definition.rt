@@ -8,11 +8,11 @@ ghost use Rattle.fit_csv.specs.RowKinds.{IsDevDefRow, IsFieldDefRow};
 ghost use Rattle.fit_cells.specs.Rows.{Row};
 ghost use Rattle.fit_csv.specs.inner.Seven.{AsFar, row_of};
 
-use crate::definition_rows::order_word;
 use crate::from::cells::{Cells, first_difference, same};
 use crate::from::misfit::Misfit;
 use crate::from::number::{byte_in, number_in};
-use crate::message_rows::optional_number;
+use crate::rows::definition::order_word;
+use crate::rows::message::optional_number;
 use fit_base::{Entries, Order};
 use fit_record::{DevDef, FieldDef};
 use itoa::Buffer;

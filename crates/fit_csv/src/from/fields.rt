@@ -12,11 +12,11 @@ ghost use Rattle.fit_csv.specs.RowKinds.{IsDevRow, IsFieldRow, naming_at};
 ghost use Rattle.fit_csv.specs.inner.Progress.{DevStep, FieldStep, MessageStep};
 ghost use Rattle.fit_csv.specs.inner.Seven.{row_of};
 
-use crate::dev_rows::{dev_name, dev_unit, numbered_label};
 use crate::from::cells::{Cells, same};
 use crate::from::message::value_row;
 use crate::from::misfit::Misfit;
-use crate::message_rows::unit_text;
+use crate::rows::developer::{dev_name, dev_unit, numbered_label};
+use crate::rows::message::unit_text;
 use fit_base::{Code, Items};
 use fit_profile::{Stream, field_info, field_label};
 use fit_record::{Defined, DevDef, FieldDef, Values};

@@ -9,10 +9,10 @@ ghost use Rattle.fit_csv.specs.RowKinds.{IsEndRow, IsFileRow};
 ghost use Rattle.fit_cells.specs.Rows.{Row};
 ghost use Rattle.fit_csv.specs.inner.Seven.{AsFar, DifferAt, row_of};
 
-use crate::file_rows::{put_rest, sum_word};
 use crate::from::cells::{Cells, first_difference, same};
 use crate::from::misfit::Misfit;
 use crate::from::number::{byte_in, number_in};
+use crate::rows::file::{put_rest, sum_word};
 use arrayvec::ArrayVec;
 use fit_cells::read_bytes;
 use fit_frame::{Header, HeaderSum};

@@ -16,7 +16,7 @@ ghost use Rattle.fit_csv.specs.inner.Seven.{row_of};
 use crate::from::cells::{Cells, first_difference, same};
 use crate::from::misfit::Misfit;
 use crate::from::number::byte_in;
-use crate::message_rows::{header_time, optional_number, time_text};
+use crate::rows::message::{header_time, optional_number, time_text};
 use fit_base::{Code, Entries, Items};
 use fit_cells::cell_items_by;
 use fit_profile::{Info, Stream, message_label};

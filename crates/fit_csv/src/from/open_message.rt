@@ -9,10 +9,10 @@ ghost use Rattle.fit_csv.specs.inner.Misfits.{IsMisfit};
 ghost use Rattle.fit_csv.specs.inner.Progress.{DevStep, FieldStep, HasRoom, MessageStep, is_whole_message};
 ghost use Rattle.fit_csv.specs.inner.Seven.{row_of};
 
-use crate::definition_rows::dev_slice;
 use crate::from::cells::Cells;
 use crate::from::fields::{dev_items, field_items};
 use crate::from::misfit::Misfit;
+use crate::rows::definition::dev_slice;
 use fit_base::{Entries, Items};
 use fit_profile::Stream;
 use fit_record::{Defined, FieldDef, Values};

@@ -9,8 +9,8 @@ ghost use Rattle.fit_profile.specs.Names.{meaning};
 ghost use Rattle.fit_profile.specs.Scaled.{IsScale};
 ghost use Rattle.fit_csv.specs.ShowLines as lines;
 
-use crate::dev_rows::{dev_name, dev_unit, numbered_label};
-use crate::message_rows::unit_text;
+use crate::rows::developer::{dev_name, dev_unit, numbered_label};
+use crate::rows::message::unit_text;
 use fit_base::{Code, Items};
 use fit_cells::put_cell;
 use fit_profile::{Info, Stream, field_info, field_label};

@@ -10,9 +10,9 @@ ghost use Rattle.fit_csv.specs.ChainRows as rows;
 ghost use Rattle.fit_csv.specs.inner.Reporting.{AnswerFits};
 ghost use Rattle.fit_csv.specs.inner.Showing.{line_with, text_with};
 
-use crate::definition_rows::{dev_slice, order_word};
-use crate::file_rows::sum_word;
-use crate::message_rows::time_text;
+use crate::rows::definition::{dev_slice, order_word};
+use crate::rows::file::sum_word;
+use crate::rows::message::time_text;
 use crate::show::fields::{put_devs, put_fields, put_words};
 use fit_decode::Event;
 use fit_frame::Header;

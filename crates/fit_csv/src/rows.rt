@@ -1,0 +1,8 @@
+//! The rows of a chain of files, event by event.
+
+pub(crate) mod definition;
+pub(crate) mod developer;
+pub(crate) mod file;
+pub(crate) mod frames;
+pub(crate) mod message;
+pub(crate) mod report;

@@ -1,0 +1,125 @@
+//! The rows of events, told one after another.
+ghost use Rattle.std.specs.Prelude.{◌≡◌, ◌++◌, [], OnOk, OnErr};
+ghost use Rattle.fit_cells.specs.Rows.{HasRows};
+ghost use Rattle.fit_csv.specs.inner.Reporting.{AnswerFits, answer_rows, behind_answer};
+
+use crate::rows::file::{put_end_row, put_file_row};
+use crate::rows::frames::Frames;
+use crate::rows::message::put_record;
+use fit_cells::RowWriter;
+use fit_decode::Event;
+use fit_profile::Stream;
+use fit_profile::laws::looking_back_is_learning;
+use fit_report::laws::heard_records_fit;
+use fit_report::{Heard, Report};
+use std::alloc::{AllocError, Global};
+use std::marker::Model;
+
+/// Puts the rows of an event behind the records of a stream.
+#[tactic(auto, using(fit_cells::proofs::AddedRows::rows_none))]
+fn put_event(
+    text: &mut Vec<u8>,
+    writer: &mut RowWriter,
+    value: &mut Vec<u8>,
+    frames: &mut Frames,
+    stream: &Stream,
+    event: &Event,
+) -> Result<(), AllocError>
+    requires { AnswerFits stream.now event.now }
+    ensures { OnOk result (HasRows (answer_rows stream.now event.now) text.old text.new) }
+{
+    match event {
+        Event::More => Ok(()),
+        Event::Header(header, _) => put_file_row(text, writer, value, header),
+        Event::Item(record_) => put_record(text, writer, value, frames, stream, record_),
+        Event::FileEnd => put_end_row(text, writer),
+    }
+}
+
+/// Takes an event in. A header begins a file. Where memory is refused, the stream stays as it was.
+pub(crate) fn follow(stream: &mut Stream, event: &Event) -> Result<(), AllocError>
+    requires { AnswerFits stream.old event.now }
+    ensures ok { OnOk result (stream.new ≡ behind_answer stream.old event.now) }
+    ensures err { OnErr result (stream.new ≡ stream.old) }
+{
+    match event {
+        Event::Header(..) => {
+            stream.begin_file();
+            Ok(())
+        }
+        Event::Item(record_) => {
+            stream.push(record_)?;
+            Ok(())
+        }
+        Event::More | Event::FileEnd => Ok(()),
+    }
+}
+
+/// Makes rows of the events of a chain of files.
+#[derive(Drop)]
+pub(crate) struct CsvReport {
+    stream: Stream,
+    writer: RowWriter,
+    /// The memory of a cell.
+    value: Vec<u8>,
+    frames: Frames,
+    heard: Heard,
+}
+
+impl Model for CsvReport {
+    ghost use Rattle.std.specs.Prelude.{◌≡◌, List};
+    ghost use Rattle.std.specs.Global.{Global};
+    ghost use Rattle.fit_decode.specs.Events.{Event as Told};
+    ghost use Rattle.fit_report.specs.Heard.{latest_records};
+
+    ghost Value = { List (Told Global) };
+
+    ghost view = { λ r. r.heard };
+
+    ghost invariant = { λ r. r.stream ≡ latest_records r.heard };
+}
+
+impl CsvReport {
+    /// No event was told.
+    pub(crate) fn new(alloc: Global) -> CsvReport
+        ensures { result ≡ [] }
+    {
+        CsvReport {
+            stream: Stream::new(alloc),
+            writer: RowWriter::new(alloc),
+            value: Vec::new(alloc),
+            frames: Frames::new(alloc),
+            heard: Heard::new(),
+        }
+    }
+}
+
+impl Report for CsvReport {
+    ghost use Rattle.fit_report.specs.Heard.{AreHeard, hear, line_of};
+    ghost use Rattle.fit_csv.specs.Conversions.{csv_line};
+
+    ghost has_heard = { λ r heard. r ≡ heard };
+
+    ghost line = { csv_line };
+
+    fn tell(&mut self, event: &Event, text: &mut Vec<u8>) -> Result<(), AllocError>
+        requires { AreHeard (hear event.now self.old) }
+        ensures heard { OnOk result (self.new ≡ hear event.now self.old) }
+        ensures text { OnOk result (text.new.items
+            ≡ text.old.items ++ line_of csv_line self.old event.now) }
+    {
+        heard_records_fit::<Global>();
+        looking_back_is_learning::<Global>();
+        put_event(
+            text,
+            &mut self.writer,
+            &mut self.value,
+            &mut self.frames,
+            &self.stream,
+            event,
+        )?;
+        follow(&mut self.stream, event)?;
+        self.heard.add(event);
+        Ok(())
+    }
+}

@@ -1,0 +1,189 @@
+//! The rows of the table.
+ghost use Rattle.std.specs.Prelude.{◌≡◌, ◌≤◌, ◌++◌, ◌∷◌, IfSome, OnOk, [], decimal, false, option_and_then, option_map, pos, slice_get, unwrap_or};
+ghost use Rattle.csv.specs.Writing.{default_writer, fields_text, needs_quotes};
+ghost use Rattle.fit_record.specs.Faults.{or_else};
+ghost use Rattle.fit_profile.specs.Meant.{shown};
+ghost use Rattle.fit_profile.specs.Values as values;
+ghost use Rattle.fit_csv.specs.Degrees.{degrees_of};
+ghost use Rattle.fit_csv.specs.Table as table;
+ghost use Rattle.fit_cells.specs.Rows.{HasRows};
+ghost use Rattle.fit_csv.specs.inner.TableCells.{IsPlain, cells_of, shown_text};
+
+use crate::rows::message::time_text;
+use fit_base::Items;
+use fit_profile::laws::degrees_are_one;
+use fit_profile::{Fixed, Label, Message, degrees, put_whole};
+use std::alloc::AllocError;
+
+/// The numbers of a row of the table.
+#[derive(Drop)]
+struct TableRow {
+    file: u64,
+    timestamp: Label,
+    position_lat: Option<Fixed>,
+    position_long: Option<Fixed>,
+    altitude: Option<Fixed>,
+    distance: Option<Fixed>,
+    speed: Option<Fixed>,
+    heart_rate: Option<Fixed>,
+    cadence: Option<Fixed>,
+    power: Option<Fixed>,
+    temperature: Option<Fixed>,
+}
+
+/// Puts the cell of a number that isn't the first of its row behind a text. It is empty where there is no number.
+#[tactic(auto, using(crate::proofs::TableNumbers::number_cell, crate::proofs::TableNumbers::empty_cell))]
+fn put_number(text: &mut Vec<u8>, value: &Option<Fixed>) -> Result<(), AllocError>
+    requires { IfSome value.now (λ v. v.decimals ≤ 8) }
+    ensures { OnOk result (text.new.items ≡ text.old.items
+        ++ fields_text default_writer (unwrap_or (shown_text value.now) [] ∷ [])) }
+{
+    text.push(b',')?;
+    match value {
+        Some(value) => value.put(text),
+        None => Ok(()),
+    }
+}
+
+/// A number, and else another.
+fn either(value: Option<Fixed>, other: Option<Fixed>) -> Option<Fixed>
+    requires value { IfSome value (λ v. v.decimals ≤ 8) }
+    requires other { IfSome other (λ v. v.decimals ≤ 8) }
+    ensures text { shown_text result ≡ or_else (shown_text value) (shown_text other) }
+    ensures few { IfSome result (λ v. v.decimals ≤ 8) }
+{
+    match value {
+        Some(value) => Some(value),
+        None => other,
+    }
+}
+
+/// The number of the first field of this number.
+fn value(message: &Message, number: u8) -> Option<Fixed>
+    ensures text { shown_text result ≡ table.value_text (shown message.now).definition
+        (shown message.now).values number }
+    ensures few { IfSome result (λ v. v.decimals ≤ 8) }
+{
+    message.value(number)
+}
+
+/// The accumulated distance.
+fn distance(message: &Message) -> Option<Fixed>
+    ensures text { shown_text result ≡ option_map (λ n. table.amount_text (pos n) 16 0)
+        (shown message.now).told.distance }
+    ensures few { IfSome result (λ v. v.decimals ≤ 8) }
+{
+    message.distance()
+}
+
+/// The speed in compressed_speed_distance.
+fn speed(message: &Message) -> Option<Fixed>
+    ensures text { shown_text result ≡ option_map (λ n. table.amount_text (pos n) 100 0)
+        (shown message.now).told.speed }
+    ensures few { IfSome result (λ v. v.decimals ≤ 8) }
+{
+    message.speed()
+}
+
+/// The first item of a field of the base type sint32, where it is valid.
+fn semicircles(items: &Items) -> Option<i32>
+    ensures { result ≡ option_and_then (values.valid_number 0x85 items.now.width)
+        (slice_get items.now.bits 0) }
+{
+    match items.bits.as_slice() {
+        [bits, ..] if items.width == 4 && *bits < 0x1_0000_0000 && *bits != 0x7FFF_FFFF => {
+            Some((*bits as u32).cast_signed())
+        }
+        _ => None,
+    }
+}
+
+/// A position in degrees.
+fn in_degrees(semicircles: i32) -> Fixed
+    ensures value { result.value ≡ degrees_of semicircles }
+    ensures decimals { result.decimals ≡ 7 }
+{
+    degrees_are_one();
+    degrees(semicircles)
+}
+
+/// The position in the first field of this number, where that is of the base type sint32.
+fn position(message: &Message, number: u8) -> Option<Fixed>
+    ensures text { shown_text result ≡ table.degrees_text (shown message.now).definition
+        (shown message.now).values number }
+    ensures few { IfSome result (λ v. v.decimals ≤ 8) }
+{
+    let field = message.first(number)?;
+    if field.code != 0x85 {
+        return None;
+    }
+    Some(in_degrees(semicircles(field.items)?))
+}
+
+/// The row of a record message of a file.
+fn table_row(message: &Message, file: u64) -> TableRow
+    ensures cells { cells_of result ≡ table.table_row file (shown message.now).definition
+        (shown message.now).values (shown message.now).told }
+    ensures plain { IsPlain result }
+{
+    TableRow {
+        file,
+        timestamp: time_text(message.time()),
+        position_lat: position(message, 0),
+        position_long: position(message, 1),
+        altitude: either(value(message, 78), value(message, 2)),
+        distance: either(value(message, 5), distance(message)),
+        speed: either(
+            value(message, 73),
+            either(value(message, 6), speed(message)),
+        ),
+        heart_rate: value(message, 3),
+        cadence: value(message, 4),
+        power: value(message, 7),
+        temperature: value(message, 13),
+    }
+}
+
+/// Puts the first two cells of a row behind a text.
+fn put_first(text: &mut Vec<u8>, row: &TableRow) -> Result<(), AllocError>
+    requires { needs_quotes default_writer row.now.timestamp.bytes ≡ false }
+    ensures { OnOk result (text.new.items ≡ text.old.items
+        ++ (decimal row.now.file ++ fields_text default_writer (row.now.timestamp.bytes ∷ []))) }
+{
+    put_whole(text, row.file)?;
+    text.push(b',')?;
+    text.extend_from_slice(row.timestamp.as_str().as_bytes())?;
+    Ok(())
+}
+
+/// Puts a row behind a text.
+fn put_cells(text: &mut Vec<u8>, row: &TableRow) -> Result<(), AllocError>
+    requires { IsPlain row.now }
+    ensures { OnOk result (HasRows (cells_of row.now ∷ []) text.old text.new) }
+{
+    put_first(text, row)?;
+    put_number(text, &row.position_lat)?;
+    put_number(text, &row.position_long)?;
+    put_number(text, &row.altitude)?;
+    put_number(text, &row.distance)?;
+    put_number(text, &row.speed)?;
+    put_number(text, &row.heart_rate)?;
+    put_number(text, &row.cadence)?;
+    put_number(text, &row.power)?;
+    put_number(text, &row.temperature)?;
+    text.push(b'\n')?;
+    Ok(())
+}
+
+/// Puts the row of a record message of a file behind a text.
+pub(crate) fn put_table_row(
+    text: &mut Vec<u8>,
+    message: &Message,
+    file: u64,
+) -> Result<(), AllocError>
+    ensures { OnOk result (HasRows (table.table_row file (shown message.now).definition
+        (shown message.now).values (shown message.now).told ∷ []) text.old text.new) }
+{
+    let row = table_row(message, file);
+    put_cells(text, &row)
+}
