@@ -24,7 +24,7 @@ use Rattle.fit_step.specs.GoingOn.{goes_on}
 use Rattle.fit_step.specs.Machine.{State, Tests, Step, start, step, Walks, Ends}
 use Rattle.fit_step.specs.Reasons.{record_reason}
 use Rattle.fit_step.specs.Tests.{tests_of}
-use Rattle.fit_step.proofs.Continuing.{records_end}
+use Rattle.fit_step.proofs.TakenAndRefusedBytes.{records_end}
 use Rattle.fit_decode.specs.GoingOn.{FillFrom, GoesOn, files_begun}
 use Rattle.fit_decode.specs.Laws.{RefusedHaveReasons}
 use Rattle.fit_decode.specs.Progress.{Progress, at_header, at_data, progress_bytes, HasCome}

@@ -12,7 +12,7 @@ use Rattle.fit_step.specs.Parts.{RecordPart, nothing, in_definition, in_fields, 
 use Rattle.fit_step.specs.Places.{PartFitsRoom}
 use Rattle.fit_step.specs.Tests.{tests_of}
 use Rattle.fit_step.specs.GoingOn.{goes_on}
-use Rattle.fit_step.proofs.GoingOn.{GoesOn}
+use Rattle.fit_step.proofs.RoomsStayFillable.{GoesOn}
 use Rattle.fit_step.proofs.Runs.{walks_join}
 use Rattle.fit_decode.specs.inner.Scans.{Reading}
 use Rattle.fit_decode.proofs.Walked.{Come, come, step_goes_on}

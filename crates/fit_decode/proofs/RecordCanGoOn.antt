@@ -15,7 +15,7 @@ use Rattle.fit_step.specs.Parts.{RecordPart, nothing, in_definition, in_fields, 
 use Rattle.fit_step.specs.GoingOn.{goes_on, Continues}
 use Rattle.fit_step.proofs.Lengths.{length-shaped}
 use Rattle.fit_step.proofs.Carried.{taken_rest, data_continues}
-use Rattle.fit_step.proofs.Continued.{definition_continues}
+use Rattle.fit_step.proofs.UnfinishedDefinitions.{definition_continues}
 
 -- the fields behind the one that is read
 behind : (all : List (ℕ × ℕ)) (f : ℕ × ℕ) (rest : List (ℕ × ℕ)) → drop (suc (length all)) (all ++ f ∷ rest) ≡ rest

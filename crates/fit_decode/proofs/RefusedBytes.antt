@@ -32,7 +32,7 @@ use Rattle.fit_step.specs.GoingOn.{Continues, definition_goes_on}
 use Rattle.fit_step.proofs.Fills.{no_fit_fails}
 use Rattle.fit_step.proofs.HeaderBits.{definition_bits}
 use Rattle.fit_step.proofs.HeaderSteps.{definition_first, message_first}
-use Rattle.fit_step.proofs.Continued.{definition_continues}
+use Rattle.fit_step.proofs.UnfinishedDefinitions.{definition_continues}
 use Rattle.fit_step.proofs.OneByte.{outcome}
 use Rattle.fit_decode.specs.GoingOn.{FillFrom}
 use Rattle.fit_decode.proofs.Walked.{Come, no_record_come, fill_continues}

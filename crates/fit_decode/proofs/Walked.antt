@@ -11,7 +11,7 @@ use Rattle.fit_step.specs.Machine.{State, start, step, Walks, least_rest}
 use Rattle.fit_step.specs.Parts.{RecordPart, nothing, in_definition, in_fields, in_dev_fields, part_bytes, IsPart, HasBegun, state_of}
 use Rattle.fit_step.specs.Tests.{tests_of}
 use Rattle.fit_step.specs.GoingOn.{goes_on, Continues}
-use Rattle.fit_step.proofs.GoingOn.{GoesOn, goes}
+use Rattle.fit_step.proofs.RoomsStayFillable.{GoesOn, goes}
 use Rattle.fit_step.proofs.Runs.{walks_are_cuts, one_more}
 use Rattle.fit_step.proofs.Rest.{rooms_are_kept}
 use Rattle.fit_decode.specs.GoingOn.{FillFrom}

@@ -11,7 +11,7 @@ use Rattle.fit_record.specs.Environment.{Environment}
 use Rattle.fit_record.specs.Records.{Fits, record_bytes}
 use Rattle.fit_record.proofs.OneRecord.{same_record, no_bytes}
 use Rattle.fit_step.specs.Parts.{RecordPart, nothing, in_definition, in_fields, in_dev_fields, part_bytes, IsPart, HasBegun}
-use Rattle.fit_step.proofs.GoOn.{cuts_go_on}
+use Rattle.fit_step.proofs.PartsCompletedByZeros.{cuts_go_on}
 use Rattle.fit_decode.specs.Progress.{at_header, IsPartial, IsUnfinished}
 use Rattle.fit_decode.proofs.OnePlace.{no_header}
 

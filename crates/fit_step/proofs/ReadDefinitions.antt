@@ -19,7 +19,7 @@ use Rattle.fit_record.specs.Records.{architecture, field_bytes, definition_bytes
 use Rattle.fit_record.proofs.LargeRooms.{six_and_more}
 use Rattle.fit_step.specs.Machine.{new_dev, start, Ends}
 use Rattle.fit_step.specs.Tests.{tests_of}
-use Rattle.fit_step.proofs.Continuing.{records_end}
+use Rattle.fit_step.proofs.TakenAndRefusedBytes.{records_end}
 use Rattle.fit_step.proofs.HeaderBits.{definition_spelled}
 
 -- ---- a list of a known length

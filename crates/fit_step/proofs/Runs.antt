@@ -14,7 +14,7 @@ use Rattle.fit_step.specs.Machine.{Tests, State, NextState, start, step, Walks, 
 use Rattle.fit_step.specs.Parts.{RecordPart, nothing, in_definition, in_fields, in_dev_fields, part_bytes, IsPart, HasBegun, state_of, IsShut}
 use Rattle.fit_step.specs.inner.Runs.{RecordsRunThrough, EndsAreRecords, WalksAreCuts, RefusalsArePlaced}
 use Rattle.fit_record.proofs.OneRecord.{same_record, no_bytes}
-use Rattle.fit_step.proofs.GoOn.{cuts_go_on}
+use Rattle.fit_step.proofs.PartsCompletedByZeros.{cuts_go_on}
 use Rattle.fit_step.proofs.OneByte.{outcome}
 
 -- ---- from the machine to the form

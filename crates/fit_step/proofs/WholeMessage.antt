@@ -28,7 +28,7 @@ use Rattle.fit_record.proofs.MessageBytes.{message_fits}
 use Rattle.fit_record.proofs.MessageSizes.{message_size_is}
 use Rattle.fit_step.specs.Machine.{start, Ends}
 use Rattle.fit_step.specs.Tests.{tests_of}
-use Rattle.fit_step.proofs.Continuing.{records_end}
+use Rattle.fit_step.proofs.TakenAndRefusedBytes.{records_end}
 use Rattle.fit_step.proofs.HeaderBits.{data_spelled}
 
 pub sized : {A : Type 0} (p : Defined A) → sum_by (λ f. f.size) p.definition.fields ≡ sizes (layout p)

@@ -1,7 +1,7 @@
 use Rattle.std.proofs.Common.{refl, arith}
 use Rattle.fit_step.specs.Machine.{values_of}
 use Rattle.fit_step.specs.Tests.{tests_of}
-use Rattle.fit_step.proofs.MovesOn.{inside_field, inside_dev}
+use Rattle.fit_step.proofs.BytesInsideNumbers.{inside_field, inside_dev}
 use Rattle.fit_step.proofs.inside.take_inside.Goals as goal
 use Rattle.fit_step.proofs.inside.take_inside.Goals.{in-FieldItems, in-DevItems}
 

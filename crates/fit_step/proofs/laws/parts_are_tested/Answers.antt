@@ -1,4 +1,4 @@
-use Rattle.fit_step.proofs.Continuing.{parts_are_tested}
+use Rattle.fit_step.proofs.TakenAndRefusedBytes.{parts_are_tested}
 use Rattle.fit_step.proofs.laws.parts_are_tested.Goals as goal
 
 pub returns : goal.returns

@@ -1,5 +1,5 @@
 use Rattle.fit_step.proofs.Kept.{beginnings_stand}
-use Rattle.fit_step.proofs.Continuing.{taken_bytes_stand}
+use Rattle.fit_step.proofs.TakenAndRefusedBytes.{taken_bytes_stand}
 use Rattle.fit_step.proofs.laws.readers_stand.Goals as goal
 
 pub returns-clause-begin : goal.returns-clause-begin

@@ -1,4 +1,4 @@
-use Rattle.fit_step.proofs.Continuing.{refused_bytes_end_all}
+use Rattle.fit_step.proofs.TakenAndRefusedBytes.{refused_bytes_end_all}
 use Rattle.fit_step.proofs.laws.refused_bytes_end_all.Goals as goal
 
 pub returns : goal.returns

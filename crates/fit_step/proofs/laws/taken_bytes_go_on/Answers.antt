@@ -1,4 +1,4 @@
-use Rattle.fit_step.proofs.Continuing.{taken_bytes_go_on, taken_bytes_end}
+use Rattle.fit_step.proofs.TakenAndRefusedBytes.{taken_bytes_go_on, taken_bytes_end}
 use Rattle.fit_step.proofs.laws.taken_bytes_go_on.Goals as goal
 
 pub returns-clause-part : goal.returns-clause-part

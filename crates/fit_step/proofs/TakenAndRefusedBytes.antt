@@ -42,9 +42,9 @@ use Rattle.fit_step.proofs.OneByte.{outcome}
 use Rattle.fit_step.proofs.Runs.{step_goes, step_ends, one_more, records_run_through}
 use Rattle.fit_step.proofs.Rest.{keeps, KeepsRoom}
 use Rattle.fit_step.proofs.Fills.{no_fit_fails}
-use Rattle.fit_step.proofs.GoingOn.{goes, GoesOn}
+use Rattle.fit_step.proofs.RoomsStayFillable.{goes, GoesOn}
 use Rattle.fit_step.proofs.Carried.{taken_rest, data_continues}
-use Rattle.fit_step.proofs.Continued.{definition_continues, among_fields, among_dev_fields}
+use Rattle.fit_step.proofs.UnfinishedDefinitions.{definition_continues, among_fields, among_dev_fields}
 use Rattle.fit_step.proofs.Kept.{still_stands}
 
 -- ---- what has come can go on just where the test says so
