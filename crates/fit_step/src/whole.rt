@@ -27,14 +27,14 @@ fn read_field<A: Allocator + Copy>(
     ensures { IfOk result (λ items. items ≡ field_from order (code, size) bytes.now) }
 {
     let width = width_of(Code(code), size);
-    let count = size / width;
-    if count == 1 {
+    if width == size {
         let number = bits_at(order, width, bytes);
         return Ok(Items {
             width,
             bits: Bits::one(alloc, number),
         });
     }
+    let count = size / width;
     let mut bits = Bits::with_capacity(alloc, count as usize)?;
     let mut rest = bytes;
     for _ in 0..count {
