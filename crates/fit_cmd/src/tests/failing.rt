@@ -85,14 +85,18 @@ fn end_at(
     let cut = format!(in alloc; "truncated at byte {k}\n")?;
     let mut source = known.bytes.get(..k).ok_or("too short")?;
     let found = answer_of(alloc, command, &mut source, 2048);
-    match command {
-        Command::Check | Command::Show => {
-            let last = if whole { "ok\n" } else { cut.as_str() };
-            let output = format!(in alloc; "{lines}{last}")?;
+    match (command, whole) {
+        (Command::Check | Command::Show, true) => {
+            let output = format!(in alloc; "{lines}ok\n")?;
             expect(rt, &found, known.name, output.as_bytes(), "", status);
         }
-        _ => {
-            let faults = if whole { "" } else { cut.as_str() };
+        (Command::Check | Command::Show, false) => {
+            let output = format!(in alloc; "{lines}{cut}")?;
+            expect(rt, &found, known.name, output.as_bytes(), "", status);
+        }
+        (_, true) => expect(rt, &found, known.name, lines.as_bytes(), "", status),
+        (_, false) => {
+            let faults = cut.as_str();
             expect(rt, &found, known.name, lines.as_bytes(), faults, status);
         }
     }
