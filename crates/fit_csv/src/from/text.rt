@@ -4,14 +4,11 @@ ghost use Rattle.std.specs.Io.KnownBytes.{Consumes, IsAtEnd};
 ghost use Rattle.fit_csv.specs.inner.TextFaults.{IsReadFault};
 
 use crate::CsvFault;
-use fit_decode::Source;
+use fit_decode::{PIECE_SIZE, Source};
 use std::alloc::Global;
 
 /// The most bytes of a text.
 const MOST: u64 = 0x4000_0000_0000_0000;
-
-/// The most bytes that are taken at once.
-const PIECE: usize = 4096;
 
 /// The bytes of a source to its end, of which there may be 2^62.
 pub(crate) fn read_text<S: Source>(alloc: Global, source: &mut S) -> Result<Vec<u8>, CsvFault>
@@ -24,7 +21,7 @@ pub(crate) fn read_text<S: Source>(alloc: Global, source: &mut S) -> Result<Vec<
         (S.has_failed source.new)) }
 {
     let mut text = Vec::new(alloc);
-    let mut buffer = [0u8; PIECE];
+    let mut buffer = [0u8; PIECE_SIZE];
     for count in 0..MOST + 1 {
         let Ok(got) = source.take(&mut buffer) else {
             return Err(CsvFault::Read);
