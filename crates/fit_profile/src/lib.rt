@@ -5,6 +5,7 @@
 mod component;
 mod decimal;
 mod digits;
+pub mod field_number;
 mod instant;
 mod label;
 pub mod laws;
@@ -12,6 +13,7 @@ mod learn;
 mod least;
 mod look;
 mod message;
+pub mod message_number;
 mod names;
 mod profile;
 mod put;

@@ -8,14 +8,13 @@ ghost use Rattle.fit_profile.specs.Described.{naming, nameless};
 ghost use Rattle.fit_profile.specs.inner.Keeps.{described, described_key, is_key, key_cmp, naming_in, namings_in};
 
 use crate::look::{first_of, only_item};
+use crate::message_number::FIELD_DESCRIPTION;
 use crate::text::text_field;
 use fit_base::Entries;
 use fit_record::{DevDef, MessageDef, Values};
 use std::alloc::{AllocError, Allocator, Global};
 use std::collections::BTreeMap;
 use std::marker::Model;
-
-const FIELD_DESCRIPTION: u16 = 206;
 
 /// A developer field by its developer data index and its number, as the items of a description.
 #[derive(Clone, Copy, PartialEq, Eq, PartialOrd, Ord)]

@@ -5,11 +5,10 @@ ghost use Rattle.std.specs.List.{list_all};
 ghost use Rattle.fit_profile.specs.Described.{before_closing_zeros, is_printable, printable_text, text_field};
 
 use crate::look::first_of;
+use fit_base::base_type::STRING;
 use fit_record::{MessageDef, Values};
 use std::alloc::{AllocError, Allocator};
 use std::str;
-
-const STRING: u8 = 0x07;
 
 /// How many bytes of a string's field there are before its closing zeros.
 pub fn text_len(bytes: &[u64]) -> usize

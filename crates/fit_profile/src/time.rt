@@ -3,8 +3,10 @@ ghost use Rattle.std.specs.Prelude.{◌≡◌, ◌<◌, ◌^◌, option_map};
 ghost use Rattle.fit_profile.specs.Least.{least_from};
 ghost use Rattle.fit_profile.specs.Times as times;
 
+use crate::field_number::TIMESTAMP;
 use crate::least::steps_to;
 use crate::look::{first_of, only_item};
+use fit_base::base_type::UINT32;
 use fit_record::{MessageDef, Values};
 use std::alloc::Allocator;
 
@@ -26,8 +28,12 @@ pub(crate) fn field_time<A: Allocator>(
 ) -> Option<u32>
     ensures { result ≡ times.field_time definition.now values.now }
 {
-    let (field, items) = first_of(definition.fields.as_slice(), values.fields.as_slice(), 253)?;
-    if field.code != 0x86 {
+    let (field, items) = first_of(
+        definition.fields.as_slice(),
+        values.fields.as_slice(),
+        TIMESTAMP,
+    )?;
+    if field.code != UINT32 {
         return None;
     }
     if field.size != 4 {

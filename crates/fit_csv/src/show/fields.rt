@@ -11,14 +11,12 @@ ghost use Rattle.fit_csv.specs.ShowLines as lines;
 
 use crate::rows::developer::{dev_name, dev_unit, numbered_label};
 use crate::rows::message::unit_text;
+use fit_base::base_type::BYTE;
 use fit_base::{Code, Items};
 use fit_cells::put_cell;
 use fit_profile::{Info, Stream, field_info, field_label};
 use fit_record::{DevDef, FieldDef};
 use std::alloc::AllocError;
-
-/// The base type code of bytes.
-const BYTE: Code = Code(0x0D);
 
 /// Puts words behind a text, one after another.
 pub(crate) fn put_words(text: &mut Vec<u8>, words: &[&[u8]]) -> Result<(), AllocError>
@@ -58,7 +56,7 @@ fn put_shown_cell(
         return Ok(());
     }
     text.truncate(start);
-    put_cell(text, BYTE, None, items)
+    put_cell(text, Code(BYTE), None, items)
 }
 
 /// Puts a unit behind a cell, where neither is empty.

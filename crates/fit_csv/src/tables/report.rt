@@ -13,15 +13,13 @@ ghost use Rattle.fit_csv.specs.inner.TableCells.{files_behind_answer, rows_in, t
 use crate::tables::rows::put_table_row;
 use fit_decode::Event;
 use fit_profile::laws::looking_back_is_learning;
+use fit_profile::message_number::RECORD;
 use fit_profile::{Message, Stream};
 use fit_record::Record;
 use fit_report::laws::{heard_are_few, heard_records_fit};
 use fit_report::{Heard, Report};
 use std::alloc::{AllocError, Global};
 use std::marker::Model;
-
-/// The global message number of record messages.
-const RECORD: u16 = 20;
 
 /// A message, where it is a record message.
 fn row_of(message: Option<Message>) -> Option<Message>
