@@ -149,7 +149,8 @@ fn heart_rates_of_rides(rt: HostRuntime) -> Result<(), Fail> {
     let mut chain = Vec::from_slice(rt.alloc(), &RIDE)?;
     chain.extend_from_slice(&DESCRIBED)?;
     let found = heart_rates(rt.alloc(), chain.as_slice()).map_err(|_| "no moments")?;
-    let (of_ride, of_other) = found.as_slice().split_at(3);
+    let of_ride = found.as_slice().get(..3).ok_or("too few")?;
+    let of_other = found.as_slice().get(3..).ok_or("too few")?;
     assert_eq!(rt; of_ride, three.as_slice());
     assert_eq!(rt; of_other, none.as_slice());
     let cut = BOTH.as_slice().get(..51).ok_or("too short")?;

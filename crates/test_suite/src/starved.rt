@@ -76,16 +76,16 @@ fn each_byte_again(rt: HostRuntime) -> Result<(), AllocError> {
     starve(&rt, rt.alloc(), &heap, &mut decoder)
 }
 
-/// Feeds a file to two decoders, to one of them a byte while no memory is free. Where that wanted memory it is fed again, and the
+/// Feeds a file to two new decoders, to one of them a byte while no memory is free. Where that wanted memory it is fed again, and the
 /// events are the same. Whether it did.
 fn starve_at<A: Allocator + Copy>(
     rt: &impl Abort,
     alloc: Global,
     heap: A,
+    decoder: &mut Decoder<A>,
+    ample: &mut Decoder<A>,
     place: usize,
 ) -> Result<bool, AllocError> {
-    let mut decoder = Decoder::new(heap);
-    let mut ample = Decoder::new(heap);
     let mut wanted = false;
     for (at, byte) in BOTH_ORDERS.iter().enumerate() {
         let blocks = if at == place {
@@ -115,7 +115,9 @@ fn one_byte_again(rt: HostRuntime) -> Result<(), AllocError> {
     let heap = LocalHeap::new(rt.alloc(), 16384)?;
     let mut wanted = [0u32; 4];
     for place in 0..BOTH_ORDERS.len() {
-        if starve_at(&rt, rt.alloc(), &heap, place)? {
+        let mut decoder = Decoder::new(&heap);
+        let mut ample = Decoder::new(&heap);
+        if starve_at(&rt, rt.alloc(), &heap, &mut decoder, &mut ample, place)? {
             let part = match place {
                 14..=25 => 0,
                 26..=31 => 1,
