@@ -13,15 +13,15 @@ use test_known::{Known, files};
 fn whole_files(known: &Known, count: usize) -> usize {
     if count < known.first {
         0
-    } else if count < known.bytes.len() {
+    } else if known.first == known.bytes.len() || count < known.bytes.len() {
         1
     } else {
         2
     }
 }
 
-/// Whether some files are the first of an input.
-fn are_first(alloc: Global, known: &Known, files: &[FitFile]) -> bool {
+/// Whether these are the first files of an input, so many and no more.
+fn are_first(alloc: Global, known: &Known, files: &[FitFile], count: usize) -> bool {
     let mut rest = known.bytes;
     for (place, file) in files.iter().enumerate() {
         let end = if place == 0 { known.first } else { rest.len() };
@@ -31,7 +31,7 @@ fn are_first(alloc: Global, known: &Known, files: &[FitFile]) -> bool {
         }
         rest = more;
     }
-    true
+    files.len() == count
 }
 
 /// Reads file by file what a source gives of an input: that many files, and then this result, each time that it is asked.
@@ -73,19 +73,14 @@ fn read_cut(rt: &impl Abort, alloc: Global, known: &Known, cut: &[u8]) {
     let ends = k == known.first || k == known.bytes.len();
     match read_chain(alloc, &mut &cut[..]) {
         Ok(files) => {
-            let same = are_first(alloc, known, files.as_slice());
+            let same = are_first(alloc, known, files.as_slice(), count);
             assert!(rt; ends && same, "{} at {k}", known.name);
         }
         Err(found) => assert!(rt; !ends && found == fault, "{} at {k}", known.name),
     }
     let answer = if ends { None } else { Some(fault) };
-    let files = if known.first == known.bytes.len() {
-        count.min(1)
-    } else {
-        count
-    };
     let mut reading = Reading::new(alloc, cut);
-    read_each(rt, alloc, known, &mut reading, files, answer);
+    read_each(rt, alloc, known, &mut reading, count, answer);
 }
 
 #[test]

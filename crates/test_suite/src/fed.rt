@@ -1,7 +1,9 @@
 //! Bytes of files fed to a decoder, and what it returns.
 
+use crate::written;
+use crate::written::define;
 use fit_decode::{Decoder, Event, Fault};
-use fit_frame::Reason;
+use fit_frame::{HeaderSum, Reason};
 use fit_record::Record;
 use std::alloc::{Allocator, Global};
 use std::test::*;
@@ -165,22 +167,25 @@ pub fn same<A: Allocator>(one: &Event<A>, other: &Event<A>) -> bool {
     }
 }
 
-/// Messages of 20 bytes are defined, and 10 bytes are left.
+/// Messages of 20 bytes are defined, and 10 bytes are left: in one piece the header and the definition come before the refusal.
 #[test]
-fn events_before_a_refusal(rt: HostRuntime) -> Result<(), Fault> {
+fn events_before_a_refusal(rt: HostRuntime) -> Result<(), Fail> {
+    let alloc = rt.alloc();
+    let begun = Event::Header(written::header(14, 0, HeaderSum::Zero), 19);
+    let defined = Event::Item(Record::Define(define(alloc, 0, 20, &[(8, 19, 0x0D)])?));
     for (last, reason) in [
         (0x00, Reason::Overrun),
         (0x01, Reason::UndefinedLocal),
         (0x50, Reason::ReservedBit),
         (0x20, Reason::ReservedBit),
     ] {
-        let mut decoder = Decoder::new(rt.alloc());
+        let mut decoder = Decoder::new(alloc);
         let mut piece = *b"\x0E\x20\0\0\x13\0\0\0.FIT\0\0\x40\0\0\x14\0\x01\x08\x13\x0D\0";
         piece[23] = last;
         let fed = decoder.feed(&piece)?;
-        assert_eq!(rt; (fed.used, told(&fed.event)), (14, (b'h', 19)));
+        assert!(rt; fed.used == 14 && same(&fed.event, &begun));
         let fed = decoder.feed(&piece[14..])?;
-        assert_eq!(rt; (fed.used, told(&fed.event)), (9, (b'd', 1)));
+        assert!(rt; fed.used == 9 && same(&fed.event, &defined));
         let refused = Fault::Refused { place: 23, reason };
         assert_eq!(rt; decoder.feed(&piece[23..]).err(), Some(refused), "{last}");
         assert_eq!(rt; decoder.held(), 0);

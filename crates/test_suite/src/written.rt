@@ -23,7 +23,7 @@ pub fn header(size: u8, profile: u16, sum: HeaderSum) -> Header {
 
 /// A definition message, little endian, of fields by number, size and code. Of its developer fields
 /// it has none.
-fn define(
+pub fn define(
     alloc: Global,
     local: u8,
     global: u16,
