@@ -31,11 +31,15 @@ static uint8_t *load(const char *path, size_t *length)
 
 int main(int argc, char **argv)
 {
-    size_t length;
-    uint8_t *bytes = argc == 2 ? load(argv[1], &length) : NULL;
-    if (bytes == NULL) {
+    if (argc != 2) {
         fprintf(stderr, "usage: demo FILE\n");
         return 2;
+    }
+    size_t length;
+    uint8_t *bytes = load(argv[1], &length);
+    if (bytes == NULL) {
+        fprintf(stderr, "cannot read %s\n", argv[1]);
+        return 4;
     }
 
     fit_answer found = fit_check(bytes, length);

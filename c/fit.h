@@ -39,7 +39,7 @@ enum fit_status {
     FIT_UNWRITABLE = 5 /* The rows of the text are those of files that have no bytes: too long, or with a sum that can't be. */
 };
 
-/* Why a byte is refused. README.md, "The reasons", says what each means. */
+/* Why a byte is refused. docs/USE.md, "Is an upload a FIT file?", says what each means. */
 enum fit_reason {
     FIT_HEADER_SIZE = 1,
     FIT_PROTOCOL = 2,

@@ -1,16 +1,13 @@
 # bash completion for fit
 _fit() {
-    local cur=${COMP_WORDS[COMP_CWORD]} IFS=$'\n'
+    local word=${COMP_WORDS[COMP_CWORD]} kind='fit|FIT'
     COMPREPLY=()
     if [ "$COMP_CWORD" -eq 1 ]; then
-        COMPREPLY=($(compgen -W $'check\nshow\nto-csv\nfrom-csv\ntable\n--help' -- "$cur"))
+        mapfile -t COMPREPLY < <(compgen -W 'check show to-csv from-csv table --help' -- "$word")
     elif [ "$COMP_CWORD" -eq 2 ] && [ "${COMP_WORDS[1]}" != --help ]; then
-        local kind='@(fit|FIT)'
-        [ "${COMP_WORDS[1]}" = from-csv ] && kind='@(csv|CSV)'
+        if [ "${COMP_WORDS[1]}" = from-csv ]; then kind='csv|CSV'; fi
         compopt -o filenames 2>/dev/null
-        local had; had=$(shopt -p extglob); shopt -s extglob
-        COMPREPLY=($(compgen -d -- "$cur") $(compgen -f -X "!*.$kind" -- "$cur"))
-        eval "$had"
+        mapfile -t COMPREPLY < <(shopt -s extglob; compgen -d -- "$word"; compgen -f -X "!*.@($kind)" -- "$word")
     fi
 }
 complete -F _fit fit

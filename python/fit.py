@@ -10,7 +10,8 @@
 
 Each call reads the whole file, hands its bytes to the proved library of Gazhdor, and keeps nothing. The library lets other
 threads run meanwhile. This module needs Python 3.7 or later, its standard library, and libfit.so, which `c/build` makes: it is
-looked for where the variable FIT_LIBRARY says, then beside this file, in c/out, and where the system keeps libraries.
+the file that the variable FIT_LIBRARY names; where that isn't set, it is looked for beside this file, in c/out, and where the system
+keeps libraries.
 
 From a shell: python3 -m fit check|show|table|to-csv|from-csv [FILE..]
 """
@@ -73,6 +74,10 @@ class FitError(ValueError):
         self.answer = answer
         self.place, self.reason, self.row, self.column = answer.place, answer.reason, answer.row, answer.column
 
+    def __reduce__(self):
+        # As it is sent from one process to another.
+        return type(self), (self.answer,)
+
 
 class Refused(FitError):
     """No FIT file goes on with the byte at `place`; `reason` says why."""
@@ -92,8 +97,8 @@ class _Text(ctypes.Structure):
 
 def _load():
     here = os.path.dirname(os.path.abspath(__file__))
-    places = [os.environ.get("FIT_LIBRARY"), os.path.join(here, "libfit.so"), os.path.join(here, "..", "c", "out", "libfit.so")]
-    found = next((place for place in places if place and os.path.exists(place)), "libfit.so.0")
+    places = [os.path.join(here, "libfit.so"), os.path.join(here, "..", "c", "out", "libfit.so")]
+    found = os.environ.get("FIT_LIBRARY") or next(filter(os.path.exists, places), "libfit.so.0")
     try:
         library = ctypes.CDLL(found)
     except OSError as error:
@@ -168,7 +173,9 @@ def show(source, partial=False):
 
 
 def from_csv(text):
-    """The bytes of the FIT file or files that a CSV text stands for."""
+    """The bytes of the FIT file or files that a CSV text stands for: a str, or its bytes in UTF-8, and no path."""
+    if not isinstance(text, (str, bytes, bytearray, memoryview)):
+        raise TypeError(f"from_csv takes a text or its bytes, and not {type(text).__name__}")
     answer, data = _text_of(_library.fit_from_csv, text.encode() if isinstance(text, str) else bytes(text))
     _judge(answer)
     return data
@@ -202,48 +209,84 @@ def files(source, partial=False):
     return itertools.groupby(table(source, partial), key=lambda row: row.file)
 
 
+def _read(path):
+    if path != "-":
+        return _bytes_of(path)
+    if sys.stdin is None:
+        raise OSError("there is no standard input")
+    return sys.stdin.buffer.read()
+
+
+def _write(command, path, data):
+    """Writes what a command makes of the bytes of a file, and raises what is wrong with them."""
+    output = sys.stdout.buffer
+    if command == "check":
+        answer = check(data)
+        count = f", {answer.files} file{'s' * (answer.files > 1)}" if answer else ""
+        output.write(os.fsencode(path) + f": {answer}{count}\n".encode())
+        return 0 if answer else 1
+    if command == "from-csv":
+        output.write(from_csv(data))
+    else:
+        answer, text = _text_of(_COMMANDS[command], data)
+        output.write(text)
+        _judge(answer)
+    return 0
+
+
+def _done(command, path):
+    """Does a command on one file, and returns its status, and what standard error is to say of the file."""
+    try:
+        data = _read(path)
+    except OSError as error:
+        return 4, error.strerror or error
+    try:
+        return _write(command, path, data), None
+    except FitError as error:
+        return 1, error
+
+
+_COMMANDS = {"check": None, "show": _library.fit_show, "to-csv": _library.fit_to_csv, "from-csv": None, "table": _library.fit_table}
+
+
 def _main(words):
-    calls = {"show": show, "table": table_text, "to-csv": to_csv}
-    usage = "usage: python3 -m fit check|show|to-csv|from-csv|table [FILE..]"
-    if "--help" in words:
+    usage = f"usage: python3 -m fit {'|'.join(_COMMANDS)} [FILE..]"
+    if words[:1] in (["-h"], ["--help"]):
         print(usage)
         return 0
-    if not words or words[0] not in ("check", "from-csv", *calls):
+    if not words or words[0] not in _COMMANDS:
         print(usage, file=sys.stderr)
         return 2
-    command, paths = words[0], words[1:] or ["-"]
+    command, paths = words[0], words[2:] if words[1:2] == ["--"] else words[1:]
     worst = 0
-    for path in paths:
+    for path in paths or ["-"]:
         try:
-            data = sys.stdin.buffer.read() if path == "-" else _bytes_of(path)
-            if command == "check":
-                answer = check(data)
-                print(f"{path}: {answer}" + (f", {answer.files} file{'s' * (answer.files > 1)}" if answer else ""))
-                worst = max(worst, 0 if answer else 1)
-            elif command == "from-csv":
-                sys.stdout.buffer.write(from_csv(data))
-            else:
-                sys.stdout.write(calls[command](data))
-        except BrokenPipeError:
-            raise
-        except (FitError, OSError) as error:
-            print(f"{path}: {error}", file=sys.stderr)
-            worst = max(worst, 1 if isinstance(error, FitError) else 4)
+            status, fault = _done(command, path)
         except MemoryError:
-            print(f"{path}: out of memory", file=sys.stderr)
-            worst = max(worst, 3)
-    sys.stdout.flush()
+            status, fault = 3, "out of memory"
+        if fault:
+            sys.stdout.flush()
+            print(f"{path}: {fault}", file=sys.stderr)
+        worst = max(worst, status)
     return worst
 
 
-if __name__ == "__main__":
+def _run():
+    """The exit status. Where nobody reads the output any more, that is 4, as the program has it, and nothing is said of it."""
+    if sys.stdout is None:
+        print("there is no standard output", file=sys.stderr)
+        return 4
     try:
-        sys.exit(_main(sys.argv[1:]))
-    except BrokenPipeError:
-        # Nobody reads the output any more: that is status 4, as the program has it, and nothing is said of it.
-        os.dup2(os.open(os.devnull, os.O_WRONLY), sys.stdout.fileno())
-        sys.exit(4)
+        status = _main(sys.argv[1:])
+        sys.stdout.flush()
+        return status
     except OSError as error:
-        print(error, file=sys.stderr)
+        if not isinstance(error, BrokenPipeError):
+            print(f"output: {error.strerror}", file=sys.stderr)
+        # What wasn't written isn't tried once more at the end.
         os.dup2(os.open(os.devnull, os.O_WRONLY), sys.stdout.fileno())
-        sys.exit(4)
+        return 4
+
+
+if __name__ == "__main__":
+    sys.exit(_run())

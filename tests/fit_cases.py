@@ -1,7 +1,10 @@
 """What python/fit.py must answer: of the ride by the points of examples/ride.gpx, of which another program made it; of other bytes by
 what the FIT protocol says."""
 import datetime
+import multiprocessing
 import os
+import pathlib
+import pickle
 import sqlite3
 import subprocess
 import sys
@@ -110,6 +113,11 @@ class Texts(unittest.TestCase):
             fit.from_csv(head + "file,14,32,46477,zero,,\nend,,,,,,\n")
         self.assertIsNone(caught.exception.row)
 
+    def test_paths_are_no_texts(self):
+        for no_text in (None, 5, pathlib.Path("ride.csv")):
+            with self.assertRaises(TypeError):
+                fit.from_csv(no_text)
+
     def test_show(self):
         self.assertTrue(fit.show(RIDE).startswith("file 1: header 14, "))
         with self.assertRaises(fit.Refused):
@@ -129,6 +137,24 @@ class Threads(unittest.TestCase):
         self.assertEqual(found, 400 * [True])
 
 
+class Processes(unittest.TestCase):
+    def test_rows_and_faults_are_sent(self):
+        """Other processes answer what this one would: a table, and where a file is refused or truncated."""
+        rows = list(fit.table(RIDE))
+        self.assertEqual(pickle.loads(pickle.dumps(rows)), rows)
+        answer = pickle.loads(pickle.dumps(fit.check(BYTES[:20])))
+        self.assertEqual((answer.good, answer.place, str(answer)), (False, 20, "truncated at byte 20"))
+        with multiprocessing.Pool(2) as pool:
+            self.assertEqual(pool.map(fit.table_text, [RIDE, BYTES]), 2 * [fit.table_text(RIDE)])
+            for source, kind, place, reason in ((BYTES[:20], fit.Truncated, 20, None), (b"\x0d", fit.Refused, 0, "HeaderSize")):
+                with self.assertRaises(kind) as caught:
+                    pool.apply_async(fit.to_csv, (source,)).get(timeout=60)
+                self.assertEqual((caught.exception.place, caught.exception.reason), (place, reason))
+            with self.assertRaises(fit.TextRefused) as caught:
+                pool.apply_async(fit.from_csv, ("row,a,b,c,d,e,f\nfile,14,32,65536,sum,,\nend,,,,,,\n",)).get(timeout=60)
+            self.assertEqual((caught.exception.row, caught.exception.column), (2, 4))
+
+
 class Shell(unittest.TestCase):
     def test_check(self):
         done = run("-m", "fit", "check", RIDE)
@@ -142,13 +168,63 @@ class Shell(unittest.TestCase):
 
     def test_errors(self):
         self.assertEqual(run("-m", "fit").returncode, 2)
-        self.assertEqual(run("-m", "fit", "check", os.path.join(WORK, "none.fit")).returncode, 4)
-        self.assertEqual(run("-m", "fit", "table", input=b"\x0d").returncode, 1)
+        self.assertEqual(run("-m", "fit", "frob", RIDE).returncode, 2)
+        for word in ("-h", "--help"):
+            self.assertEqual((run("-m", "fit", word).returncode, run("-m", "fit", word).stdout[:6]), (0, b"usage:"))
+        none = os.path.join(WORK, "none.fit")
+        done = run("-m", "fit", "check", none, "--", WORK, RIDE)
+        self.assertEqual((done.returncode, done.stdout), (4, f"{RIDE}: ok, 1 file\n".encode()))
+        told = (none, "No such file or directory"), ("--", "No such file or directory"), (WORK, "Is a directory")
+        self.assertEqual(done.stderr, "".join(f"{path}: {why}\n" for path, why in told).encode())
+
+    def test_names(self):
+        """A name that begins with a dash, and one that is not UTF-8, whatever the language of the shell is."""
+        for name in (b"-dash.fit", b"a \xff.fit"):
+            path = os.path.join(os.fsencode(WORK), name)
+            with open(path, "wb") as file:
+                file.write(BYTES)
+            for language in ("C", "C.UTF-8"):
+                how = dict(cwd=WORK, env=dict(os.environ, PYTHONPATH=os.path.abspath("python"), LC_ALL=language, PYTHONIOENCODING="ascii"))
+                done = run("-m", "fit", "check", "--", name, **how)
+                self.assertEqual((done.returncode, done.stdout, done.stderr), (0, name + b": ok, 1 file\n", b""))
+            os.remove(path)
+
+    def test_before_a_fault(self):
+        """What comes before a fault is written, as the program does it; of a text that is refused nothing is."""
+        for command in ("table", "to-csv", "show"):
+            whole = run("-m", "fit", command, RIDE).stdout
+            done = run("-m", "fit", command, "-", input=BYTES[:2000])
+            self.assertEqual((done.returncode, done.stderr), (1, b"-: truncated at byte 2000\n"))
+            self.assertTrue(0 < len(done.stdout) < len(whole) and whole.startswith(done.stdout))
+        done = run("-m", "fit", "from-csv", input=b"row,a,b,c,d,e,f\n")
+        self.assertEqual((done.returncode, done.stdout, done.stderr), (1, b"", b"-: row 2 refused\n"))
+        done = run("-m", "fit", "table", input=b"\x0d")
+        self.assertEqual((done.returncode, done.stderr), (1, b"-: refused at byte 0: HeaderSize\n"))
+
+    def test_output_that_fails(self):
+        """A closed pipe ends quietly; a full disk and no output at all are said. No case ends with a trace of calls."""
+        words = [sys.executable, "-m", "fit", "to-csv", *(50 * [RIDE])]
+        with subprocess.Popen(words, stdout=subprocess.PIPE, stderr=subprocess.PIPE) as process:
+            self.assertEqual(process.stdout.read(3), b"row")
+            process.stdout.close()
+            self.assertEqual((process.stderr.read(), process.wait()), (b"", 4))
+        with open("/dev/full", "wb") as full:
+            done = subprocess.run(words, stdout=full, stderr=subprocess.PIPE)
+        self.assertEqual((done.returncode, done.stderr), (4, b"output: No space left on device\n"))
+        for closed, said in ((">&-", b"there is no standard output\n"), ("<&-", b"-: there is no standard input\n")):
+            done = subprocess.run(["sh", "-c", f'"$0" -m fit check {closed}', sys.executable], stdin=subprocess.DEVNULL, stdout=subprocess.PIPE, stderr=subprocess.PIPE)
+            self.assertEqual((done.returncode, done.stderr), (4, said))
+
+    def test_no_library(self):
+        """Where the variable names a file that isn't a library, no other is taken."""
+        done = run("-c", "import fit", env=dict(os.environ, FIT_LIBRARY=os.path.join(WORK, "none.so")))
+        self.assertEqual(done.returncode, 1)
+        self.assertIn(b"ImportError: libfit.so can't be loaded", done.stderr)
 
 
 class Examples(unittest.TestCase):
     def test_many_rides(self):
-        """Ten rides of two minutes, and one that is cut, loaded by two processes."""
+        """Ten rides of two minutes, one that is cut, and one that isn't there, loaded by two processes."""
         folder, database = os.path.join(WORK, "rides"), os.path.join(WORK, "rides.db")
         self.assertEqual(run("examples/python/make_rides.py", folder, "10", "2").returncode, 0)
         paths = sorted(os.path.join(folder, name) for name in os.listdir(folder))
@@ -156,15 +232,21 @@ class Examples(unittest.TestCase):
         cut = os.path.join(WORK, "cut.fit")
         with open(paths[0], "rb") as whole, open(cut, "wb") as file:
             file.write(whole.read()[:1000])
-        done = run("examples/python/load_rides.py", database, "2", *paths, cut)
+        none = os.path.join(WORK, "none.fit")
+        done = run("examples/python/load_rides.py", database, "2", *paths, cut, none)
         self.assertEqual((done.returncode, done.stderr), (0, b""))
-        self.assertIn(b"11 files, 1 not good, ", done.stdout)
+        self.assertIn(b"12 files, 2 not good, ", done.stdout)
         with sqlite3.connect(database) as into:
             self.assertEqual(into.execute("select count(*) from ride where finding = 'ok'").fetchone(), (10,))
             self.assertEqual(into.execute("select finding from ride where path = ?", (cut,)).fetchone(), ("truncated at byte 1000",))
+            finding = into.execute("select finding from ride where path = ?", (none,)).fetchone()[0]
+            self.assertIn("No such file or directory", finding)
             counts = into.execute("select count(*) from record join ride on ride.id = record.ride where finding = 'ok' group by record.ride").fetchall()
             self.assertEqual(counts, 10 * [(120,)])
         into.close()
+        # It fills no database that is there already.
+        done = run("examples/python/load_rides.py", database, "2", cut)
+        self.assertEqual((done.returncode, done.stderr), (1, f"load_rides.py: {database} is there already\n".encode()))
 
     def test_pandas(self):
         if run("-c", "import pandas").returncode:

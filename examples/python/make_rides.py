@@ -1,5 +1,6 @@
 """Makes rides to try things on: make_rides.py FOLDER COUNT [MINUTES]. Each is written as CSV text, of which fit.from_csv makes the
-file. Run it with PYTHONPATH naming the folder python/. The same number makes the same ride."""
+file. A ride takes 20 minutes unless MINUTES says another number. Run it with PYTHONPATH naming the folder python/. The same number
+makes the same ride."""
 import math
 import os
 import random
@@ -51,8 +52,10 @@ def ride(seed, minutes):
 
 
 if __name__ == "__main__":
-    folder, count = sys.argv[1], int(sys.argv[2])
+    if not 3 <= len(sys.argv) <= 4 or not all(word.isdigit() for word in sys.argv[2:]):
+        sys.exit("usage: make_rides.py FOLDER COUNT [MINUTES]")
+    folder, count, minutes = sys.argv[1], int(sys.argv[2]), int(sys.argv[3]) if len(sys.argv) > 3 else 20
     os.makedirs(folder, exist_ok=True)
     for seed in range(count):
         with open(os.path.join(folder, f"ride{seed:04}.fit"), "wb") as file:
-            file.write(ride(seed, int(sys.argv[3]) if len(sys.argv) > 3 else 20))
+            file.write(ride(seed, minutes))
