@@ -102,7 +102,7 @@ def _load():
     try:
         library = ctypes.CDLL(found)
     except OSError as error:
-        raise ImportError(f"libfit.so can't be loaded ({error}): make it by c/build, or set FIT_LIBRARY") from error
+        raise ImportError(f"libfit.so can't be loaded ({error}): make it by c/build, or set FIT_LIBRARY") from None
     library.fit_check.argtypes, library.fit_check.restype = (ctypes.c_char_p, ctypes.c_size_t), Answer
     for name in ("fit_table", "fit_to_csv", "fit_show", "fit_from_csv"):
         call = getattr(library, name)
