@@ -18,13 +18,13 @@ use Rattle.fit_encode.specs.Encoding.{Encoding, IsWhole, bytes_so_far, closing_b
 use Rattle.fit_encode.proofs.RecordSteps.{records_bytes-last}
 use Rattle.fit_examples.specs.Recordings.{IsRecording, definition, ride_message, ride_records}
 
--- behind a header of these bytes, with these records
-abbrev pub behind : List ℕ → ℕ → List (Record Global) → Encoding Global
-behind head declared records = record { head = head; declared = declared; records = records; failed = None; finished = false }
+-- after a header of these bytes, with these records
+abbrev pub after_header : List ℕ → ℕ → List (Record Global) → Encoding Global
+after_header head declared records = record { head = head; declared = declared; records = records; failed = None; finished = false }
 
 -- the sink holds what the encoder has written
 pub record Holds (head : List ℕ) (declared : ℕ) (records : List (Record Global)) (e : Encoding Global) (held : Option (List ℕ)) : Type 0 where
-  pub is : e ≡ behind head declared records
+  pub is : e ≡ after_header head declared records
   pub sent : held ≡ Some (bytes_so_far e)
 
 appended : (old new : Option (List ℕ)) (front bytes : List ℕ) → old ≡ Some front → Appends old new bytes → new ≡ Some (front ++ bytes)

@@ -1,4 +1,4 @@
--- Why a record of a ride can't be put: for want of memory alone.
+-- A record of a ride that can't be put: only memory can be lacking.
 use Rattle.std.proofs.Common.{◌≡◌, ℕ, ◌+◌, ◌*◌, ◌<◌, ◌≤◌, List, [], ◌∷◌, length, take, Option, Some, None, arith, refl, sym, ap, ◌∙◌, subst}
 use Rattle.std.specs.Prelude.{map}
 use Rattle.std.specs.declared.alloc.Global.{Global}
@@ -35,7 +35,7 @@ length_of_ride (p ∷ points) = omega (arith, length_of_ride points)
 no_shape : (e : Environment Global) (r : Record Global) (f : ShapeFault) → Fits e r → first_fault e r ≡ Some f → ⊥
 no_shape e r f fits is = let none : first_fault e r ≡ None = ((faults_are_exact e r).0 fits).0 in absurd cc
 
--- a record that fits and has room is refused for want of memory alone
+-- a record that fits and has room is refused only where memory is lacking
 place_fault : (e : Environment Global) (count declared size points : ℕ) (r : Record Global) (fault : EncodeFault) (X Y : Type 0) → Fits e r
     → size + length (record_bytes e r) ≤ declared
     → UnlessWrite fault (IsPlaceFault e count declared size r fault × X × Y) → IsRideFault points fault
@@ -74,7 +74,7 @@ finish_fault e points ChainLength X Y whole is = absurd cc
 finish_fault e points NoMemory X Y whole is = tt
 finish_fault e points (Write written) X Y whole is = tt
 
--- a message is refused for want of memory alone
+-- a message is refused only where memory is lacking
 pub message_fault : (points : List (ℕ × ℕ)) (head : List ℕ) (declared i : ℕ) (p : ℕ × ℕ) (e : Encoding Global) (held : Option (List ℕ)) (r : Record Global)
     (fault : EncodeFault) (X Y : Type 0)
     → i < length points → declared ≡ 12 + 6 * length points → Holds head declared (ride_records (take i points)) e held → r ≡ ride_message p → FitsRide r

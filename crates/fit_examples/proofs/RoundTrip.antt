@@ -7,7 +7,7 @@ use Rattle.fit_decode.specs.declared.event.Fault.TheVariants.{Refused, Truncated
 use Rattle.fit_decode.specs.Reads.{GivesFile, Taking}
 use Rattle.fit_decode.specs.Checks.{LacksMemory}
 
--- where a file begins the bytes of a source that doesn't fail, memory alone can be wanting
+-- where a file begins the bytes of a source that doesn't fail, only memory can be lacking
 pub front_fault : (f : FitFile Global) (n : ℕ) (x : List ℕ) (source : Taking) (fault : Fault) → source.failed ≡ false → GivesFile f n x source (Err fault)
     → LacksMemory fault
 front_fault f n x source (NoMemory used) good gives = tt

@@ -10,7 +10,7 @@ use Rattle.fit_profile.specs.Looks.{first_field, known}
 use Rattle.fit_profile.specs.Times.{time}
 use Rattle.fit_examples.specs.declared.moments.Moment.{Moment}
 
--- a uint8, of which the greatest number stands for none
+-- a uint8, whose greatest number means that there is none
 abbrev pub valid_rate : ℕ → Option ℕ
 valid_rate n = if nat_lt n 0xFF then Some n else None
 

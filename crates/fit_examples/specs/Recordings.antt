@@ -25,7 +25,7 @@ definition = record {
   dev = None;
 }
 
--- one number of so many bytes
+-- one number of this many bytes
 abbrev pub lone : ℕ → ℕ → Items Global
 lone width number = record { width = width; bits = number ∷ [] }
 
@@ -46,12 +46,12 @@ pub record IsRecording (points : List (ℕ × ℕ)) (bytes : List ℕ) : Type 0 
   pub records : file.records ≡ ride_records points
   pub spelled : IsFile file bytes
 
--- behind the definition message this record has its place
+-- this record fits after the definition message
 abbrev pub FitsRide : Record Global → Type 0
 FitsRide r = Fits (learn empty_environment (Define definition)) r
 
--- Why a ride of so many points has no file: behind the definition message, of 12 bytes, the record message at this index, of 6 bytes as
--- each, is the first with which the data has 2^32 bytes or more; or memory was refused, to a record or to the bytes.
+-- Why a ride of that many points has no file: after the definition message of 12 bytes, the record message at this index, each having 6,
+-- is the first with which the data has 2^32 bytes or more; or an allocation failed, for a record or for the bytes.
 abbrev pub IsRideFault : ℕ → EncodeFault → Type 0
 IsRideFault points (TooLong file index) = (file ≡ 1) × (index ≤ points) × (2 ^ 32 ≤ 12 + 6 * index) × (6 + 6 * index < 2 ^ 32)
 IsRideFault points NoMemory = Unit {0}

@@ -12,7 +12,8 @@ ghost use Rattle.fit_report.specs.Heard.{AreHeard, hear, latest_records};
 ghost use Rattle.fit_examples.specs.HeartRates.{file_moments, heart_rate, moments_in, record_moments};
 ghost use Rattle.fit_examples.specs.inner.Noting.{event_moments, records_after_event};
 
-use crate::protocol::{HEART_RATE, RECORD, UINT8};
+use crate::protocol::{HEART_RATE, RECORD};
+use fit_base::base_type::UINT8;
 use fit_decode::laws::events_are_one;
 use fit_decode::{Decoder, Event, Fault};
 use fit_profile::laws::looking_back_is_learning;
@@ -23,7 +24,7 @@ use std::alloc::{AllocError, Global};
 /// The invalid uint8.
 const NO_VALUE: u64 = 0xFF;
 
-/// What a record message says of the heart.
+/// Time and heart rate of a record message.
 #[derive(Clone, Copy, PartialEq, Eq, Debug)]
 pub struct Moment {
     /// In seconds since 1989-12-31T00:00:00 UTC.
@@ -43,7 +44,7 @@ fn rate_of(message: &Message) -> Option<u8>
     }
 }
 
-/// What a message says of the heart, where it is a record message.
+/// Time and heart rate of a message. `None` where it isn't a record message.
 fn moment_of(message: Option<Message>) -> Option<Moment>
     ensures { (before : List (Record Global)) (r : Record Global) →
         MessageOf before r message.entry → moments_in result ≡ record_moments before r }
@@ -58,7 +59,7 @@ fn moment_of(message: Option<Message>) -> Option<Moment>
     })
 }
 
-/// Takes an event in. A header begins a file.
+/// Takes an event into the stream, and the moment of a record message into the list. A header begins a file.
 fn note(stream: &mut Stream, moments: &mut Vec<Moment>, event: Event) -> Result<(), AllocError>
     requires { (heard : List (Told Global)) ×
         (stream.old ≡ latest_records heard) × AreHeard (hear event heard) }
@@ -82,14 +83,14 @@ fn note(stream: &mut Stream, moments: &mut Vec<Moment>, event: Event) -> Result<
 
 /// Time and heart rate of each record message of a FIT file, or of a chain of such files.
 ///
-/// `Refused` names the first byte with which no chain of files goes on, and why; `Truncated` the end of a ride that ends too soon.
-/// `NoMemory` says nothing of the ride.
+/// `Refused` has the first byte that cannot belong to any valid chain of files, counted from 0, and the reason; `Truncated` has the
+/// length of a ride that ends too soon. `NoMemory` says nothing about the ride.
 pub fn heart_rates(alloc: Global, ride: &[u8]) -> Result<Vec<Moment>, Fault>
     ensures good { OnOk result (AreChain Global ride.now) }
     ensures moments { (fs : List (FitFile Global)) → IsChain chain_limit fs ride.now →
         IfOk result (λ moments. moments.items ≡ flat_map file_moments fs) }
     ensures fault { IfErr result (IsFaultOf ride.now) }
-    // A chain of files fails for want of memory alone.
+    // A chain of files fails only by running out of memory.
     ensures memory { AreChain Global ride.now → IfErr result LacksMemory }
 {
     events_are_one::<Global>();

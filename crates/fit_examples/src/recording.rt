@@ -3,49 +3,28 @@ ghost use Rattle.std.specs.Prelude.{◌≡◌, ◌∷◌, ◌+◌, ◌*◌, ◌^
 ghost use Rattle.fit_record.specs.declared.message.Record.TheVariants.{Define as Defines};
 ghost use Rattle.fit_examples.specs.Recordings.{IsRecording, IsRideFault, definition, ride_message, lone, FitsRide};
 
-use crate::protocol::{HEART_RATE, PROTOCOL, RECORD, TIMESTAMP, UINT8, UINT32};
-use arrayvec::ArrayVec;
-use fit_base::{Bits, Entries, Items, Order};
+use crate::protocol::{HEART_RATE, RECORD, TIMESTAMP};
+use fit_base::base_type::{UINT8, UINT32};
+use fit_base::{Entries, Items, Order};
 use fit_encode::{EncodeFault, Encoder, WriteSink};
-use fit_frame::{Header, HeaderSum};
+use fit_frame::{Header, PROTOCOL_2_0};
 use fit_record::{FieldDef, MessageDef, Record, Values};
 use std::alloc::{AllocError, Global};
 
-/// A data section of less than 2^32 bytes has room for so many.
+/// How many points fit into a data section, which has less than 2^32 bytes.
 const MOST_POINTS: u64 = (0xFFFF_FFFF - 12) / 6;
-
-/// A field with one number of so many bytes.
-fn field(alloc: Global, width: u8, number: u64) -> Result<Items, AllocError>
-    ensures { IfOk result (λ items. items ≡ lone width number) }
-{
-    let mut bits = Bits::new(alloc);
-    bits.push(number)?;
-    Ok(Items { width, bits })
-}
 
 /// The definition message: record messages have a timestamp and a heart rate.
 fn definition(alloc: Global) -> Result<Record, AllocError>
     ensures { IfOk result (λ r. r ≡ Defines definition) }
 {
-    let timestamp = FieldDef {
-        number: TIMESTAMP,
-        size: 4,
-        code: UINT32,
-    };
-    let heart_rate = FieldDef {
-        number: HEART_RATE,
-        size: 1,
-        code: UINT8,
-    };
-    let fields = Vec::from_slice(alloc, &[timestamp, heart_rate])?;
-    Ok(Record::Define(MessageDef {
-        local: 0,
-        reserved: 0,
-        order: Order::Little,
-        global: RECORD,
-        fields: Entries::from_vec(fields),
-        dev: None,
-    }))
+    let fields = [
+        FieldDef::one(TIMESTAMP, UINT32),
+        FieldDef::one(HEART_RATE, UINT8),
+    ];
+    let fields = Entries::from_slice(alloc, &fields)?;
+    let definition = MessageDef::new(0, Order::Little, RECORD, fields);
+    Ok(Record::Define(definition))
 }
 
 /// A record message.
@@ -54,14 +33,9 @@ fn message(alloc: Global, time: u32, heart_rate: u8) -> Result<Record, AllocErro
     ensures fits { IfOk result FitsRide }
 {
     let mut fields = Entries::new(alloc);
-    fields.push(field(alloc, 4, time as u64)?)?;
-    fields.push(field(alloc, 1, heart_rate as u64)?)?;
-    Ok(Record::Values(Values {
-        local: 0,
-        offset: None,
-        fields,
-        dev: Entries::new(alloc),
-    }))
+    fields.push(Items::one(alloc, 4, time as u64))?;
+    fields.push(Items::one(alloc, 1, heart_rate as u64))?;
+    Ok(Record::Values(Values::new(alloc, 0, fields)))
 }
 
 /// How many bytes of data there are: 12 of the definition message, and 6 of each record message. None where these are 2^32 or more.
@@ -74,19 +48,13 @@ fn data_len(points: usize) -> Option<u32>
 
 /// A FIT file of a ride: a record message for each time, in seconds since 1989-12-31T00:00:00 UTC, and heart rate, in beats per minute.
 ///
-/// `TooLong` from 715,827,881 points on, which a file has no room for; else it fails for want of memory alone, with `NoMemory` or,
-/// where the bytes have no room, with `Write`.
+/// `TooLong` from 715,827,881 points on, which no file has room for. Else it fails only by running out of memory: with `Write` where
+/// there is none for the bytes, else with `NoMemory`.
 pub fn ride_file(alloc: Global, points: &[(u32, u8)]) -> Result<Vec<u8>, EncodeFault>
     ensures ok { IfOk result (λ bytes. IsRecording points.now bytes.items) }
     ensures err { IfErr result (IsRideFault (length points.now)) }
 {
-    let header = Header {
-        size: 14,
-        protocol: PROTOCOL,
-        profile: 0,
-        sum: HeaderSum::True,
-        rest: ArrayVec::new(),
-    };
+    let header = Header::new(PROTOCOL_2_0, 0);
     let Some(data_len) = data_len(points.len()) else {
         return Err(EncodeFault::TooLong {
             file: 1,

@@ -5,7 +5,7 @@ ghost use Rattle.fit_record.specs.declared.file.FitFile.{FitFile};
 ghost use Rattle.fit_record.specs.Files.{IsFile, IsWellFormed};
 ghost use Rattle.fit_encode.specs.Faults.{IfRefused, IsFirstFault};
 ghost use Rattle.fit_examples.specs.RoundTrips.{EncodeLacksMemory};
-ghost use Rattle.fit_decode.specs.Checks.{LacksMemory as WantsMemory};
+ghost use Rattle.fit_decode.specs.Checks.{LacksMemory};
 
 use fit_decode::{Fault, read_one};
 use fit_encode::laws::good_chains_have_no_fault;
@@ -13,38 +13,38 @@ use fit_encode::{EncodeFault, WriteSink, write_one};
 use fit_record::FitFile;
 use std::alloc::Global;
 
-/// Reads the file that begins the bytes, and tells how many bytes are left behind it.
+/// Reads the file that begins the bytes. Returns it, and how many bytes are left after it.
 fn read_front(alloc: Global, bytes: &[u8]) -> Result<(FitFile, usize), Fault>
     ensures file { (f : FitFile Global) (b x : List ℕ) → bytes.now ≡ b ++ x → IsFile f b →
         IfOk result (λ read. (read.0 ≡ f) × (read.1 ≡ length x)) }
     ensures memory { (f : FitFile Global) (b x : List ℕ) → bytes.now ≡ b ++ x → IsFile f b →
-        IfErr result WantsMemory }
+        IfErr result LacksMemory }
 {
     let mut source = bytes;
     let file = read_one(alloc, &mut source)?;
     Ok((file, source.len()))
 }
 
-/// Writes a file, and reads it back from its bytes with others behind them. Whatever these are, it is the same file, and they
-/// are left. Answers the file, and how many bytes are left.
+/// Writes a file, and reads it back from its bytes and others after them. Whatever these are, the file is the same, and they
+/// are left. Returns the file, and how many bytes are left.
 ///
-/// It fails with the first fault of a file that isn't well-formed, or for want of memory, with `NoMemory` or, where the bytes have
-/// no room, with `Write`.
+/// The error is the first fault of a file that isn't well-formed. A well-formed one fails only by running out of memory: with `Write`
+/// where there is none for its bytes, else with `NoMemory`.
 pub fn written_and_read(
     alloc: Global,
     file: &FitFile,
-    behind: &[u8],
+    after: &[u8],
 ) -> Result<(FitFile, usize), EncodeFault>
-    ensures same { IfOk result (λ read. (read.0 ≡ file.now) × (read.1 ≡ length behind.now)) }
+    ensures same { IfOk result (λ read. (read.0 ≡ file.now) × (read.1 ≡ length after.now)) }
     ensures fault { IfErr result (λ fault. IfRefused fault (IsFirstFault (file.now ∷ []) fault)) }
-    // A well-formed file fails for want of memory alone.
+    // A well-formed file fails only by running out of memory.
     ensures memory { IsWellFormed file.now → IfErr result EncodeLacksMemory }
 {
     good_chains_have_no_fault::<Global>();
     let mut sink = WriteSink::new(Vec::new(alloc));
     write_one(alloc, &mut sink, file)?;
     let mut bytes = sink.into_inner();
-    if bytes.extend_from_slice(behind).is_err() {
+    if bytes.extend_from_slice(after).is_err() {
         return Err(EncodeFault::NoMemory);
     }
     match read_front(alloc, bytes.as_slice()) {

@@ -15,14 +15,14 @@ use std::alloc::Global;
 
 /// The table of a FIT file, or of a chain of such files, as CSV text: a row for each record message.
 ///
-/// `Decode` where the bytes are no chain of files: the first byte with which none goes on, and why, or the end of bytes that end too
-/// soon. `NoMemory` where memory was refused, and `Write` where it was refused to the text.
+/// `Decode` where the bytes are no chain of files: it has the first byte that cannot belong to any, and the reason, or the length of
+/// bytes that end too soon. Out of memory, the error is `Write` where there is none for the text, else `NoMemory`.
 pub fn ride_table(alloc: Global, ride: &[u8]) -> Result<Vec<u8>, CsvFault>
     ensures good { OnOk result (AreChain Global ride.now) }
     ensures rows { (fs : List (FitFile Global)) → IsChain chain_limit fs ride.now →
         IfOk result (λ text. text.items ≡ csv_text (table_of (flat_map file_events fs))) }
     ensures fault { IfErr result (IsTableFault ride.now) }
-    // A chain of files fails for want of memory alone.
+    // A chain of files fails only by running out of memory.
     ensures memory { AreChain Global ride.now → IfErr result CsvLacksMemory }
 {
     let mut source = ride;

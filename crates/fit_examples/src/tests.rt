@@ -1,11 +1,10 @@
 //! What the examples answer where there is memory.
 use crate::{Moment, check_upload, heart_rates, ride_file, ride_table, written_and_read};
-use arrayvec::ArrayVec;
 use fit_base::Entries;
 use fit_csv::CsvFault;
 use fit_decode::{Fault, read_one};
 use fit_encode::EncodeFault;
-use fit_frame::{Header, HeaderSum, Reason};
+use fit_frame::{Header, HeaderSum, PROTOCOL_2_0, Reason};
 use fit_record::FitFile;
 use std::test::Fail;
 
@@ -22,7 +21,7 @@ const RIDE: [u8; 46] =
     *b"\x0E\x20\0\0\x1E\0\0\0.FIT\x1C\x05\x40\0\0\x14\0\x02\xFD\x04\x86\x03\x01\x02\0\x1F\xCA\x9A\x3B\x78\0\x20\xCA\x9A\x3B\xFF\0\x21\xCA\x9A\x3B\x79\x37\xC9";
 
 #[test]
-fn bytes_behind_are_left(rt: HostRuntime) -> Result<(), Fail> {
+fn bytes_after_a_file_are_left(rt: HostRuntime) -> Result<(), Fail> {
     let alloc = rt.alloc();
     for bytes in [BOTH.as_slice(), DESCRIBED.as_slice(), RIDE.as_slice()] {
         let mut source = bytes;
@@ -36,14 +35,11 @@ fn bytes_behind_are_left(rt: HostRuntime) -> Result<(), Fail> {
 #[test]
 fn headers_without_bytes(rt: HostRuntime) {
     let alloc = rt.alloc();
+    let mut header = Header::new(PROTOCOL_2_0, 0);
+    header.size = 13;
+    header.sum = HeaderSum::Absent;
     let file = FitFile {
-        header: Header {
-            size: 13,
-            protocol: 0x20,
-            profile: 0,
-            sum: HeaderSum::Absent,
-            rest: ArrayVec::new(),
-        },
+        header,
         records: Entries::new(alloc),
     };
     let read = written_and_read(alloc, &file, &[]);

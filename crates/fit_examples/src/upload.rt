@@ -9,12 +9,12 @@ use std::alloc::Global;
 
 /// Checks that an upload is a FIT file, or a chain of such files.
 ///
-/// `Refused` names the first byte with which no chain of files goes on, counted from 0, and why; `Truncated` the end of an upload
-/// that ends too soon. `NoMemory` says nothing of the upload.
+/// `Refused` has the first byte that cannot belong to any valid chain of files, counted from 0, and the reason; `Truncated` has the
+/// length of an upload that ends too soon. `NoMemory` says nothing about the upload.
 pub fn check_upload(alloc: Global, upload: &[u8]) -> Result<(), Fault>
     ensures good { OnOk result (AreChain Global upload.now) }
     ensures fault { IfErr result (IsFaultOf upload.now) }
-    // A chain of files fails for want of memory alone.
+    // A chain of files fails only by running out of memory.
     ensures memory { AreChain Global upload.now → IfErr result LacksMemory }
 {
     let mut decoder = Decoder::new(alloc);

@@ -1,9 +1,7 @@
 -- Each call that is good has written the bytes of its part of the file.
-use Rattle.std.proofs.Common.{◌∷◌, ◌++◌, [], ap, arith, refl, subst, take, ◌∙◌}
+use Rattle.std.proofs.Common.{◌∷◌, ◌++◌, [], ap, arith, subst, take, ◌∙◌}
 use Rattle.std.proofs.Math.Seq.{take-length}
 use Rattle.std.proofs.lemmas.Result.{err_from_is_err_and}
-use Rattle.fit_frame.specs.declared.header.Header.{Header}
-use Rattle.fit_frame.specs.declared.header.HeaderSum.TheVariants.{True}
 use Rattle.fit_frame.specs.Header.{header_bytes}
 use Rattle.fit_encode.specs.Encoding.{Encoding}
 use Rattle.fit_examples.specs.Recordings.{ride_records}
@@ -23,7 +21,8 @@ loop-point-preserved c =
 
 pub returns-clause-ok : goal.returns-clause-ok
 returns-clause-ok c =
-    let header : Header = record { size = 14; protocol = 0x20; profile = 0; sum = True; rest = c.new.result } in
+    let header = c.new-header.result in
+    let form = c.new-header.ensures in
     let begun = c.in_ok-encoder.ensures.ok in
     let head = ap (λ (e : Encoding _). e.head)
     (c.in_ok-put.ensures.kept ∙ ap (λ (e : Encoding _). record e { records = e.records ++ c.in-Ok.first ∷ [] }) begun) in
@@ -31,7 +30,7 @@ returns-clause-ok c =
     let holds = subst (λ b. Holds b c.in-Some.data_len (ride_records (take c.loop-point.point-index c.args.points.now)) c.loop-point.encoder
     c.loop-point.sink.held) head c.loop-point.invariant in
     is_recording c.args.points.now header c.in-Some.data_len c.loop-point.encoder c.loop-point.sink.held c.into_inner.result.items c.finish.new.sink.held
-    (refl, refl, refl, refl) c.in_ok-encoder.ensures.good
+    (form.size, form.protocol, form.profile, form.sum) c.in_ok-encoder.ensures.good
     (subst (λ ps. Holds (header_bytes header c.in-Some.data_len) c.in-Some.data_len (ride_records ps) c.loop-point.encoder c.loop-point.sink.held) all holds)
     c.in_ok-finish.ensures.whole c.in_ok-finish.ensures.spelled c.into_inner.ensures
 
