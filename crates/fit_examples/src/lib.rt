@@ -2,7 +2,6 @@
 #![tactic(auto)]
 
 mod moments;
-mod protocol;
 mod recording;
 mod round_trip;
 mod tables;

@@ -3,11 +3,12 @@ ghost use Rattle.std.specs.Prelude.{◌≡◌, ◌∷◌, ◌+◌, ◌*◌, ◌^
 ghost use Rattle.fit_record.specs.declared.message.Record.TheVariants.{Define as Defines};
 ghost use Rattle.fit_examples.specs.Recordings.{IsRecording, IsRideFault, definition, ride_message, lone, FitsRide};
 
-use crate::protocol::{HEART_RATE, RECORD, TIMESTAMP};
 use fit_base::base_type::{UINT8, UINT32};
 use fit_base::{Entries, Items, Order};
 use fit_encode::{EncodeFault, Encoder, WriteSink};
 use fit_frame::{Header, PROTOCOL_2_0};
+use fit_profile::field_number::{HEART_RATE, TIMESTAMP};
+use fit_profile::message_number::RECORD;
 use fit_record::{FieldDef, MessageDef, Record, Values};
 use std::alloc::{AllocError, Global};
 
