@@ -5,6 +5,7 @@ import multiprocessing
 import os
 import pathlib
 import pickle
+import shutil
 import sqlite3
 import subprocess
 import sys
@@ -172,9 +173,9 @@ class Shell(unittest.TestCase):
         for word in ("-h", "--help"):
             self.assertEqual((run("-m", "fit", word).returncode, run("-m", "fit", word).stdout[:6]), (0, b"usage:"))
         none = os.path.join(WORK, "none.fit")
-        done = run("-m", "fit", "check", none, "--", WORK, RIDE)
+        done = run("-m", "fit", "check", none, WORK, RIDE)
         self.assertEqual((done.returncode, done.stdout), (4, f"{RIDE}: ok, 1 file\n".encode()))
-        told = (none, "No such file or directory"), ("--", "No such file or directory"), (WORK, "Is a directory")
+        told = (none, "No such file or directory"), (WORK, "Is a directory")
         self.assertEqual(done.stderr, "".join(f"{path}: {why}\n" for path, why in told).encode())
 
     def test_names(self):
@@ -184,7 +185,7 @@ class Shell(unittest.TestCase):
             with open(path, "wb") as file:
                 file.write(BYTES)
             for language in ("C", "C.UTF-8"):
-                how = dict(cwd=WORK, env=dict(os.environ, PYTHONPATH=os.path.abspath("python"), LC_ALL=language, PYTHONIOENCODING="ascii"))
+                how = dict(cwd=WORK, env=dict(os.environ, PYTHONPATH=os.path.abspath("python"), LC_ALL=language, PYTHONIOENCODING="ascii:strict"))
                 done = run("-m", "fit", "check", "--", name, **how)
                 self.assertEqual((done.returncode, done.stdout, done.stderr), (0, name + b": ok, 1 file\n", b""))
             os.remove(path)
@@ -215,9 +216,13 @@ class Shell(unittest.TestCase):
             done = subprocess.run(["sh", "-c", f'"$0" -m fit check {closed}', sys.executable], stdin=subprocess.DEVNULL, stdout=subprocess.PIPE, stderr=subprocess.PIPE)
             self.assertEqual((done.returncode, done.stderr), (4, said))
 
-    def test_no_library(self):
-        """Where the variable names a file that isn't a library, no other is taken."""
-        done = run("-c", "import fit", env=dict(os.environ, FIT_LIBRARY=os.path.join(WORK, "none.so")))
+    def test_library(self):
+        """The library beside the module is found; where the variable names a file that isn't one, no other is taken."""
+        shutil.copy("python/fit.py", WORK)
+        how = dict(os.environ, PYTHONPATH=WORK)
+        del how["FIT_LIBRARY"]
+        self.assertEqual(run("-m", "fit", "check", RIDE, env=how).returncode, 0)
+        done = run("-c", "import fit", env=dict(how, FIT_LIBRARY=os.path.join(WORK, "none.so")))
         self.assertEqual(done.returncode, 1)
         self.assertIn(b"ImportError: libfit.so can't be loaded", done.stderr)
 
