@@ -1,6 +1,8 @@
 //! Known files and what they are as text. The suites and the programs of the tests take their inputs from here.
 #![tactic(auto)]
 
+pub mod protocol;
+
 use std::alloc::{AllocError, Global};
 
 /// A file, or a chain of files, and what is made of it.

@@ -1,5 +1,6 @@
 //! The longest message: 255 fields and 255 developer fields of 255 bytes each.
 
+use fit_base::base_type::BYTE;
 use fit_decode::{Decoder, Event, Reading, read_chain, read_one};
 use fit_encode::{Encoder, WriteSink, write_chain, write_one};
 use fit_record::{Env, FitFile, Record};
@@ -66,7 +67,7 @@ fn read_and_written(rt: HostRuntime) -> Result<(), Fail> {
     assert!(rt; sink.into_inner() == bytes);
     assert_eq!(rt;
         (env.length(0), env.dev_code(0, 254)),
-        (Some(130_050), Some(0x0D))
+        (Some(130_050), Some(BYTE))
     );
     Ok(())
 }

@@ -1,8 +1,13 @@
 //! Records that the tests are run on.
 
-use fit_base::{Bits, Entries, Items, Order};
+use fit_base::base_type::{UINT8, UINT16};
+use fit_base::{Entries, Items, Order};
 use fit_record::{DevDef, FieldDef, MessageDef, Record, Values};
 use std::alloc::{AllocError, Allocator};
+use test_known::protocol::{
+    DEVELOPER_DATA_INDEX, EVENT, FIELD_DEFINITION_NUMBER, FIELD_DESCRIPTION, FIT_BASE_TYPE_ID,
+    HEART_RATE, RECORD,
+};
 
 /// A definition message, little endian.
 fn definition<A: Allocator + Copy>(
@@ -12,66 +17,59 @@ fn definition<A: Allocator + Copy>(
     fields: &[FieldDef],
     dev: &[DevDef],
 ) -> Result<Record<A>, AllocError> {
-    let fields = Entries::from_vec(Vec::from_slice(alloc, fields)?);
-    let dev = Entries::from_vec(Vec::from_slice(alloc, dev)?);
-    Ok(Record::Define(MessageDef {
-        local,
-        reserved: 0,
-        order: Order::Little,
-        global,
-        fields,
-        dev: Some(dev),
-    }))
+    let fields = Entries::from_slice(alloc, fields)?;
+    let dev = Entries::from_slice(alloc, dev)?;
+    let definition = MessageDef::new(local, Order::Little, global, fields);
+    Ok(Record::Define(definition.with_dev(dev)))
 }
 
 /// A field of one byte.
 fn byte(number: u8) -> FieldDef {
-    FieldDef {
-        number,
-        size: 1,
-        code: 2,
-    }
+    FieldDef::one(number, UINT8)
 }
 
 /// Field descriptions of local type 0.
 pub fn descriptions<A: Allocator + Copy>(alloc: A) -> Result<Record<A>, AllocError> {
-    definition(alloc, 0, 206, &[byte(0), byte(1), byte(2)], &[])
+    let fields = [
+        byte(DEVELOPER_DATA_INDEX),
+        byte(FIELD_DEFINITION_NUMBER),
+        byte(FIT_BASE_TYPE_ID),
+    ];
+    definition(alloc, 0, FIELD_DESCRIPTION, &fields, &[])
 }
 
 /// Developer field 5 of index 0, of two bytes.
-const POWER: DevDef = DevDef {
-    number: 5,
-    size: 2,
-    index: 0,
-};
+fn dev_field() -> DevDef {
+    DevDef::new(5, 2, 0)
+}
 
 /// A message of local type 1 with one field, and a developer field. It has three bytes.
 pub fn small<A: Allocator + Copy>(alloc: A) -> Result<Record<A>, AllocError> {
-    definition(alloc, 1, 20, &[byte(3)], &[POWER])
+    definition(alloc, 1, RECORD, &[byte(HEART_RATE)], &[dev_field()])
 }
 
 /// A message of local type 1 with two fields, and two developer fields. It has six bytes.
 pub fn large<A: Allocator + Copy>(alloc: A) -> Result<Record<A>, AllocError> {
-    definition(alloc, 1, 21, &[byte(3), byte(4)], &[POWER, POWER])
+    definition(
+        alloc,
+        1,
+        EVENT,
+        &[byte(3), byte(4)],
+        &[dev_field(), dev_field()],
+    )
 }
 
 /// The items of fields of one byte.
 fn items<A: Allocator + Copy>(alloc: A, bytes: &[u8]) -> Result<Entries<Items<A>, A>, AllocError> {
     let mut all = Entries::new(alloc);
     for byte in bytes {
-        let mut bits = Bits::new(alloc);
-        bits.push(u64::from(*byte))?;
-        all.push(Items { width: 1, bits })?;
+        all.push(Items::one(alloc, 1, u64::from(*byte)))?;
     }
     Ok(all)
 }
 
 /// Developer field 5 of index 0 is a uint16.
 pub fn description<A: Allocator + Copy>(alloc: A) -> Result<Record<A>, AllocError> {
-    Ok(Record::Values(Values {
-        local: 0,
-        offset: None,
-        fields: items(alloc, &[0, 5, 0x84])?,
-        dev: Entries::new(alloc),
-    }))
+    let fields = items(alloc, &[0, 5, UINT16])?;
+    Ok(Record::Values(Values::new(alloc, 0, fields)))
 }

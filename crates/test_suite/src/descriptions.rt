@@ -1,79 +1,56 @@
 //! What is known of a developer field after its description.
 
-use fit_base::{Bits, Entries, Items, Order};
+use fit_base::base_type::{BYTE, UINT8, UINT16};
+use fit_base::{Entries, Items, Order};
 use fit_decode::read_one;
 use fit_record::{DevDef, Env, FieldDef, MessageDef, Record, Values};
 use std::alloc::{AllocError, Global};
 use std::test::Fail;
 use test_known::DEVELOPER_FIELD;
+use test_known::protocol::{
+    DEVELOPER_DATA_INDEX, FIELD_DEFINITION_NUMBER, FIELD_DESCRIPTION, FIT_BASE_TYPE_ID, RECORD,
+};
 
 /// A message of local type 1 with one developer field, number 5 of index 0, of two bytes.
 fn definition(alloc: Global) -> Result<Record, AllocError> {
-    let mut dev = Entries::new(alloc);
-    dev.push(DevDef {
-        number: 5,
-        size: 2,
-        index: 0,
-    })?;
-    Ok(Record::Define(MessageDef {
-        local: 1,
-        reserved: 0,
-        order: Order::Little,
-        global: 20,
-        fields: Entries::new(alloc),
-        dev: Some(dev),
-    }))
+    let dev = Entries::from_slice(alloc, &[DevDef::new(5, 2, 0)])?;
+    let definition = MessageDef::new(1, Order::Little, RECORD, Entries::new(alloc));
+    Ok(Record::Define(definition.with_dev(dev)))
 }
 
 /// Field descriptions of local type 0: fields 0, 1 and 2 of a byte each.
 fn definition_of_descriptions(alloc: Global) -> Result<Record, AllocError> {
     let mut fields = Entries::new(alloc);
-    for number in [0, 1, 2] {
-        fields.push(FieldDef {
-            number,
-            size: 1,
-            code: 2,
-        })?;
+    for number in [
+        DEVELOPER_DATA_INDEX,
+        FIELD_DEFINITION_NUMBER,
+        FIT_BASE_TYPE_ID,
+    ] {
+        fields.push(FieldDef::one(number, UINT8))?;
     }
-    Ok(Record::Define(MessageDef {
-        local: 0,
-        reserved: 0,
-        order: Order::Little,
-        global: 206,
-        fields,
-        dev: None,
-    }))
+    let definition = MessageDef::new(0, Order::Little, FIELD_DESCRIPTION, fields);
+    Ok(Record::Define(definition))
 }
 
 /// A message of lone items.
 fn items(alloc: Global, width: u8, numbers: &[u64]) -> Result<Entries<Items>, AllocError> {
     let mut all = Entries::new(alloc);
     for n in numbers {
-        let mut bits = Bits::new(alloc);
-        bits.push(*n)?;
-        all.push(Items { width, bits })?;
+        all.push(Items::one(alloc, width, *n))?;
     }
     Ok(all)
 }
 
 /// Developer field 5 of index 0 is a uint16.
 fn description(alloc: Global) -> Result<Record, AllocError> {
-    Ok(Record::Values(Values {
-        local: 0,
-        offset: None,
-        fields: items(alloc, 1, &[0, 5, 0x84])?,
-        dev: Entries::new(alloc),
-    }))
+    let fields = items(alloc, 1, &[0, 5, u64::from(UINT16)])?;
+    Ok(Record::Values(Values::new(alloc, 0, fields)))
 }
 
 /// A message with the developer field as a uint16.
 fn message(alloc: Global) -> Result<Record, AllocError> {
-    Ok(Record::Values(Values {
-        local: 1,
-        offset: None,
-        fields: Entries::new(alloc),
-        dev: items(alloc, 2, &[4660])?,
-    }))
+    let message = Values::new(alloc, 1, Entries::new(alloc));
+    Ok(Record::Values(message.with_dev(items(alloc, 2, &[4660])?)))
 }
 
 /// Takes a record in where it fits.
@@ -97,8 +74,8 @@ fn learned(alloc: Global) -> Result<Env, AllocError> {
 fn a_described_developer_field(rt: HostRuntime) -> Result<(), AllocError> {
     let env = learned(rt.alloc())?;
     assert_eq!(rt; env.length(1), Some(2));
-    assert_eq!(rt; env.dev_code(1, 0), Some(0x84));
-    assert!(rt; env.definition(1).is_some_and(|d| d.global == 20));
+    assert_eq!(rt; env.dev_code(1, 0), Some(UINT16));
+    assert!(rt; env.definition(1).is_some_and(|d| d.global == RECORD));
     assert_eq!(rt; env.fits(&message(rt.alloc())?), Ok(3));
     Ok(())
 }
@@ -113,8 +90,8 @@ fn codes_in_a_file(rt: HostRuntime) -> Result<(), Fail> {
         take(&mut env, record_)?;
         let code = match place {
             0 => None,
-            1..=4 => Some(0x0D),
-            _ => Some(0x84),
+            1..=4 => Some(BYTE),
+            _ => Some(UINT16),
         };
         assert_eq!(rt; env.dev_code(1, 0), code, "{place}");
         assert_eq!(rt; (env.dev_code(1, 1), env.dev_code(16, 0)), (None, None));

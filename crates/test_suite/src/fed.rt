@@ -2,12 +2,14 @@
 
 use crate::written;
 use crate::written::define;
+use fit_base::base_type::BYTE;
 use fit_decode::{Decoder, Event, Fault};
 use fit_frame::{HeaderSum, Reason};
-use fit_record::Record;
+use fit_record::{FieldDef, Record};
 use std::alloc::{Allocator, Global};
 use std::test::*;
 use test_known::BOTH_ORDERS;
+use test_known::protocol::{COMPRESSED_SPEED_DISTANCE, RECORD};
 
 /// What an event says in short: a letter, and the size of the data section, the number of fields, or the first item.
 pub fn told<A: Allocator>(event: &Event<A>) -> (u8, u64) {
@@ -172,7 +174,8 @@ pub fn same<A: Allocator>(one: &Event<A>, other: &Event<A>) -> bool {
 fn events_before_a_refusal(rt: HostRuntime) -> Result<(), Fail> {
     let alloc = rt.alloc();
     let begun = Event::Header(written::header(14, 0, HeaderSum::Zero), 19);
-    let defined = Event::Item(Record::Define(define(alloc, 0, 20, &[(8, 19, 0x0D)])?));
+    let field = FieldDef::new(COMPRESSED_SPEED_DISTANCE, 19, BYTE);
+    let defined = Event::Item(Record::Define(define(alloc, 0, RECORD, &[field])?));
     for (last, reason) in [
         (0x00, Reason::Overrun),
         (0x01, Reason::UndefinedLocal),

@@ -1,6 +1,7 @@
 //! Want of memory while a record is taken in.
 
 use crate::built::{description, descriptions, large, small};
+use fit_base::base_type::{BYTE, UINT16};
 use fit_record::{Env, Record};
 use linked_list_allocator::LocalHeap;
 use std::alloc::{AllocError, Allocator};
@@ -64,7 +65,7 @@ fn refusals<A: Allocator + Copy>(
         }
         assert!(rt; is_defined(env, old), "{blocks}");
         assert_eq!(rt; env.length(1), Some(3), "{blocks}");
-        assert_eq!(rt; env.dev_code(1, 0), Some(0x0D), "{blocks}");
+        assert_eq!(rt; env.dev_code(1, 0), Some(BYTE), "{blocks}");
     }
     Ok(0)
 }
@@ -80,7 +81,7 @@ fn define<A: Allocator + Copy>(
     assert!(rt; refusals(rt, env, alloc, old, new)? >= 3);
     assert!(rt; is_defined(env, new));
     assert_eq!(rt; env.length(1), Some(6));
-    assert_eq!(rt; env.dev_code(1, 1), Some(0x84));
+    assert_eq!(rt; env.dev_code(1, 1), Some(UINT16));
     Ok(())
 }
 
@@ -94,9 +95,9 @@ fn describe<A: Allocator + Copy>(
 ) -> Result<(), AllocError> {
     assert!(rt; is_refused_beside(env, alloc, largest_block(alloc), description)?);
     take(env, old)?;
-    assert_eq!(rt; env.dev_code(1, 0), Some(0x0D));
+    assert_eq!(rt; env.dev_code(1, 0), Some(BYTE));
     take(env, description)?;
-    assert_eq!(rt; env.dev_code(1, 0), Some(0x0D));
+    assert_eq!(rt; env.dev_code(1, 0), Some(BYTE));
     Ok(())
 }
 

@@ -1,23 +1,14 @@
 //! Rooms, and records that aren't whole, whose results are known from outside.
+use fit_base::base_type::BYTE;
 use fit_base::{Entries, Order};
 use fit_record::{Env, FieldDef, MessageDef, Record, can_complete_front};
 use std::alloc::{AllocError, Global};
+use test_known::protocol::RECORD;
 
 /// Defines data messages with that many bytes after the record header.
 fn define(env: &mut Env, alloc: Global, local: u8, size: u8) -> Result<bool, AllocError> {
-    let field = FieldDef {
-        number: 5,
-        size,
-        code: 0x0D,
-    };
-    let definition = Record::Define(MessageDef {
-        local,
-        reserved: 0,
-        order: Order::Little,
-        global: 20,
-        fields: Entries::from_vec(Vec::from_slice(alloc, &[field])?),
-        dev: None,
-    });
+    let fields = Entries::from_slice(alloc, &[FieldDef::new(5, size, BYTE)])?;
+    let definition = Record::Define(MessageDef::new(local, Order::Little, RECORD, fields));
     if env.fits(&definition).is_err() {
         return Ok(false);
     }

@@ -2,11 +2,13 @@
 ghost use Rattle.std.specs.Prelude.{OnOk};
 ghost use Rattle.fit_step.specs.Places.{state_at, PartFitsRoom};
 
-use fit_base::{Bits, Entries, Items, Order};
+use fit_base::base_type::{UINT8, UINT16};
+use fit_base::{Entries, Items, Order};
 use fit_frame::Reason;
 use fit_record::{Env, FieldDef, MessageDef, Record, Values};
 use fit_step::{Position, Stop, step};
 use std::alloc::{AllocError, Global};
+use test_known::protocol::{HEART_RATE, POWER, RECORD};
 
 /// Takes a byte, and learns the record that is whole with it.
 #[tactic(auto, using(fit_step::proofs::Kept::beginnings_stand))]
@@ -54,47 +56,24 @@ fn read(alloc: Global, room: u32, bytes: &[u8]) -> (usize, Option<Stop>, Option<
     (bytes.len(), None, last)
 }
 
-/// Field 3 of a byte, and field 7 of two bytes.
+/// A heart rate of a byte, and a power of two bytes.
 fn definition(alloc: Global) -> Result<Record, AllocError> {
-    let mut fields = Entries::new(alloc);
-    fields.push(FieldDef {
-        number: 3,
-        size: 1,
-        code: 2,
-    })?;
-    fields.push(FieldDef {
-        number: 7,
-        size: 2,
-        code: 0x84,
-    })?;
-    Ok(Record::Define(MessageDef {
-        local: 0,
-        reserved: 9,
-        order: Order::Big,
-        global: 20,
-        fields,
-        dev: None,
-    }))
-}
-
-/// A field with one item.
-fn lone(alloc: Global, width: u8, number: u64) -> Result<Items, AllocError> {
-    let mut bits = Bits::new(alloc);
-    bits.push(number)?;
-    Ok(Items { width, bits })
+    let fields = [
+        FieldDef::one(HEART_RATE, UINT8),
+        FieldDef::one(POWER, UINT16),
+    ];
+    let fields = Entries::from_slice(alloc, &fields)?;
+    let mut definition = MessageDef::new(0, Order::Big, RECORD, fields);
+    definition.reserved = 9;
+    Ok(Record::Define(definition))
 }
 
 /// A heart rate of 72, and a power of 258 watts.
 fn message(alloc: Global) -> Result<Record, AllocError> {
     let mut fields = Entries::new(alloc);
-    fields.push(lone(alloc, 1, 72)?)?;
-    fields.push(lone(alloc, 2, 258)?)?;
-    Ok(Record::Values(Values {
-        local: 0,
-        offset: None,
-        fields,
-        dev: Entries::new(alloc),
-    }))
+    fields.push(Items::one(alloc, 1, 72))?;
+    fields.push(Items::one(alloc, 2, 258))?;
+    Ok(Record::Values(Values::new(alloc, 0, fields)))
 }
 
 const BYTES: [u8; 16] = *b"\x40\x09\x01\0\x14\x02\x03\x01\x02\x07\x02\x84\0\x48\x01\x02";

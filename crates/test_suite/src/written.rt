@@ -1,50 +1,36 @@
 //! Files of which the bytes are known, and the faults that no clause puts at a place.
-use arrayvec::ArrayVec;
-use fit_base::{Bits, Entries, Items, Order};
+use fit_base::base_type::{BYTE, STRING, UINT8, UINT16, UINT32};
+use fit_base::{Entries, Items, Order};
 use fit_encode::{CutSink, EncodeFault, Encoder, write_chain, write_one};
-use fit_frame::{HeadFault, Header, HeaderSum, head_bytes};
+use fit_frame::{HeadFault, Header, HeaderSum, PROTOCOL_2_0, head_bytes};
 use fit_record::{DevDef, FieldDef, FitFile, MessageDef, Record, Values};
 use std::alloc::{AllocError, Global};
 use std::test::Fail;
+use test_known::protocol::{
+    ALTITUDE, COMPRESSED_SPEED_DISTANCE, DEVELOPER_DATA_INDEX, FIELD_DEFINITION_NUMBER,
+    FIELD_DESCRIPTION, FIELD_NAME, FIT_BASE_TYPE_ID, HEART_RATE, RECORD, TIMESTAMP,
+};
 use test_known::{
     BOTH_ORDERS, DEVELOPER_FIELD, EMPTY, EMPTY_WITH_ZEROS, LONG, ONE_BYTE_MESSAGE, SHORT, TRUE_ZERO,
 };
 
 /// A header of protocol version 2.0.
 pub fn header(size: u8, profile: u16, sum: HeaderSum) -> Header {
-    Header {
-        size,
-        protocol: 0x20,
-        profile,
-        sum,
-        rest: ArrayVec::new(),
-    }
+    let mut header = Header::new(PROTOCOL_2_0, profile);
+    header.size = size;
+    header.sum = sum;
+    header
 }
 
-/// A definition message, little endian, of fields by number, size and code. Of its developer fields
-/// it has none.
+/// A definition message, little endian, of these fields. It has no developer fields.
 pub fn define(
     alloc: Global,
     local: u8,
     global: u16,
-    fields: &[(u8, u8, u8)],
+    fields: &[FieldDef],
 ) -> Result<MessageDef, AllocError> {
-    let mut list = Entries::new(alloc);
-    for (number, size, code) in fields {
-        list.push(FieldDef {
-            number: *number,
-            size: *size,
-            code: *code,
-        })?;
-    }
-    Ok(MessageDef {
-        local,
-        reserved: 0,
-        order: Order::Little,
-        global,
-        fields: list,
-        dev: None,
-    })
+    let fields = Entries::from_slice(alloc, fields)?;
+    Ok(MessageDef::new(local, Order::Little, global, fields))
 }
 
 /// A definition message without fields, and its data message of one byte.
@@ -53,7 +39,7 @@ fn one_byte_message(
     reserved: u8,
     dev: Option<Entries<DevDef>>,
 ) -> Result<Vec<Record>, AllocError> {
-    let mut definition = define(alloc, 0, 20, &[])?;
+    let mut definition = define(alloc, 0, RECORD, &[])?;
     definition.reserved = reserved;
     definition.dev = dev;
     let mut records = Vec::new(alloc);
@@ -66,10 +52,7 @@ fn one_byte_message(
 fn fields_of(alloc: Global, fields: &[(u8, &[u64])]) -> Result<Entries<Items>, AllocError> {
     let mut list = Entries::new(alloc);
     for (width, numbers) in fields {
-        list.push(Items {
-            width: *width,
-            bits: Bits::from_vec(Vec::from_slice(alloc, numbers)?),
-        })?;
+        list.push(Items::from_slice(alloc, *width, numbers)?)?;
     }
     Ok(list)
 }
@@ -81,22 +64,27 @@ fn values(
     offset: Option<u8>,
     fields: &[(u8, &[u64])],
 ) -> Result<Record, AllocError> {
-    Ok(Record::Values(Values {
-        local,
-        offset,
-        fields: fields_of(alloc, fields)?,
-        dev: Entries::new(alloc),
-    }))
+    let mut message = Values::new(alloc, local, fields_of(alloc, fields)?);
+    message.offset = offset;
+    Ok(Record::Values(message))
 }
 
 /// Messages in both architectures, one of them with a compressed timestamp header.
 pub fn both_orders(alloc: Global, heart_rate: u64) -> Result<Vec<Record>, AllocError> {
     let mut records = Vec::new(alloc);
-    let first = define(alloc, 0, 20, &[(253, 4, 0x86), (3, 1, 2)])?;
+    let fields = [
+        FieldDef::one(TIMESTAMP, UINT32),
+        FieldDef::one(HEART_RATE, UINT8),
+    ];
+    let first = define(alloc, 0, RECORD, &fields)?;
     records.push(Record::Define(first))?;
     let first = values(alloc, 0, None, &[(4, &[1_000_000_031]), (1, &[heart_rate])])?;
     records.push(first)?;
-    let mut second = define(alloc, 1, 20, &[(2, 2, 0x84), (8, 3, 0x0D)])?;
+    let fields = [
+        FieldDef::one(ALTITUDE, UINT16),
+        FieldDef::new(COMPRESSED_SPEED_DISTANCE, 3, BYTE),
+    ];
+    let mut second = define(alloc, 1, RECORD, &fields)?;
     second.order = Order::Big;
     records.push(Record::Define(second))?;
     let second = values(alloc, 1, Some(2), &[(2, &[2500]), (1, &[0x64, 0, 0x10])])?;
@@ -106,36 +94,34 @@ pub fn both_orders(alloc: Global, heart_rate: u64) -> Result<Vec<Record>, AllocE
 
 /// A definition message with developer field 5 of index 0, of two bytes.
 fn define_dev(alloc: Global) -> Result<Record, AllocError> {
-    let mut definition = define(alloc, 1, 20, &[])?;
-    let mut dev = Entries::new(alloc);
-    dev.push(DevDef {
-        number: 5,
-        size: 2,
-        index: 0,
-    })?;
-    definition.dev = Some(dev);
-    Ok(Record::Define(definition))
+    let definition = define(alloc, 1, RECORD, &[])?;
+    let dev = Entries::from_slice(alloc, &[DevDef::new(5, 2, 0)])?;
+    Ok(Record::Define(definition.with_dev(dev)))
 }
 
 /// A message that has the developer field alone.
 fn dev_values(alloc: Global, width: u8, numbers: &[u64]) -> Result<Record, AllocError> {
-    Ok(Record::Values(Values {
-        local: 1,
-        offset: None,
-        fields: Entries::new(alloc),
-        dev: fields_of(alloc, &[(width, numbers)])?,
-    }))
+    let dev = fields_of(alloc, &[(width, numbers)])?;
+    let message = Values::new(alloc, 1, Entries::new(alloc));
+    Ok(Record::Values(message.with_dev(dev)))
 }
 
 /// A developer field before and after its description, and defined again.
 pub fn described(alloc: Global) -> Result<Vec<Record>, AllocError> {
     let mut records = Vec::new(alloc);
-    let fields = [(0, 1, 2), (1, 1, 2), (2, 1, 2), (3, 3, 7)];
-    records.push(Record::Define(define(alloc, 0, 206, &fields)?))?;
+    let fields = [
+        FieldDef::one(DEVELOPER_DATA_INDEX, UINT8),
+        FieldDef::one(FIELD_DEFINITION_NUMBER, UINT8),
+        FieldDef::one(FIT_BASE_TYPE_ID, UINT8),
+        FieldDef::new(FIELD_NAME, 3, STRING),
+    ];
+    let descriptions = define(alloc, 0, FIELD_DESCRIPTION, &fields)?;
+    records.push(Record::Define(descriptions))?;
     records.push(define_dev(alloc)?)?;
     records.push(dev_values(alloc, 1, &[0x34, 0x12])?)?;
     let name = [0x6D, 0x6F, 0];
-    let description: [(u8, &[u64]); 4] = [(1, &[0]), (1, &[5]), (1, &[0x84]), (1, &name)];
+    let code = [u64::from(UINT16)];
+    let description: [(u8, &[u64]); 4] = [(1, &[0]), (1, &[5]), (1, &code), (1, &name)];
     records.push(values(alloc, 0, None, &description)?)?;
     records.push(dev_values(alloc, 1, &[0x34, 0x12])?)?;
     records.push(define_dev(alloc)?)?;
@@ -316,7 +302,7 @@ fn answers(
 #[test]
 fn record_by_record(rt: HostRuntime) -> Result<(), Fail> {
     let alloc = rt.alloc();
-    let definition = Record::Define(define(alloc, 0, 20, &[])?);
+    let definition = Record::Define(define(alloc, 0, RECORD, &[])?);
     let message = values(alloc, 0, None, &[])?;
     let (put, next) = (Some(&definition), Some(&message));
     let head = header(14, 0, HeaderSum::True);
@@ -353,7 +339,7 @@ fn files_without_records(rt: HostRuntime) -> Result<(), Fail> {
 #[test]
 fn an_encoder_whose_sink_fails(rt: HostRuntime) -> Result<(), Fail> {
     let alloc = rt.alloc();
-    let definition = Record::Define(define(alloc, 0, 20, &[])?);
+    let definition = Record::Define(define(alloc, 0, RECORD, &[])?);
     let put = Some(&definition);
     let head = header(14, 0, HeaderSum::True);
     let (found, sink) = answers(alloc, 16, &head, 7, &[put, put, None])?;

@@ -1,5 +1,6 @@
 //! The longest message as text, and its cells.
 
+use fit_base::base_type::BYTE;
 use fit_base::{Code, Items, has_shape};
 use fit_csv::{cell_items, cell_text, from_csv, table, to_csv};
 use fit_decode::read_one;
@@ -8,6 +9,7 @@ use fit_profile::{Stream, field_info};
 use std::alloc::{AllocError, Global};
 use std::process::Abort;
 use std::test::Fail;
+use test_known::protocol::RECORD;
 use test_known::{TABLE_HEAD, longest};
 
 #[test]
@@ -39,16 +41,16 @@ fn come_back(
     items: &Items,
 ) -> Result<(), AllocError> {
     let info = match number {
-        Some(number) => field_info(20, number),
+        Some(number) => field_info(RECORD, number),
         None => None,
     };
-    if !has_shape(Code(0x0D), 255, items) {
+    if !has_shape(Code(BYTE), 255, items) {
         assert!(rt; false);
         return Ok(());
     }
-    let cell = cell_text(alloc, Code(0x0D), info, items)?;
+    let cell = cell_text(alloc, Code(BYTE), info, items)?;
     assert_eq!(rt; cell.as_str().len(), 512);
-    let read = cell_items(alloc, Code(0x0D), 255, info, cell.as_str())?;
+    let read = cell_items(alloc, Code(BYTE), 255, info, cell.as_str())?;
     assert!(rt; read.as_ref() == Some(items));
     Ok(())
 }

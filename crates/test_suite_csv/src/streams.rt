@@ -1,61 +1,32 @@
 //! Messages by the records before them.
-use fit_base::{Bits, Entries, Items, Order};
+use fit_base::base_type::{BYTE, STRING, UINT8, UINT16, UINT32};
+use fit_base::{Entries, Items, Order};
 use fit_profile::{Fixed, Message, Stream};
 use fit_record::{DevDef, FieldDef, MessageDef, Record, Values};
 use std::alloc::{AllocError, Global};
+use test_known::protocol::{
+    ALTITUDE, BATTERY_VOLTAGE, COMPRESSED_ACCUMULATED_POWER, COMPRESSED_SPEED_DISTANCE, CYCLES,
+    DEVELOPER_DATA_INDEX, DEVICE_INFO, FIELD_DEFINITION_NUMBER, FIELD_DESCRIPTION, FIELD_NAME,
+    FIT_BASE_TYPE_ID, HEART_RATE, HRV, HRV_TIME, RECORD, TIMESTAMP,
+};
 
-/// A definition of these fields, each of a number, a size and a code.
+/// A definition of these fields.
 fn define(
     alloc: Global,
     local: u8,
     order: Order,
     global: u16,
-    fields: &[(u8, u8, u8)],
+    fields: &[FieldDef],
 ) -> Result<Record, AllocError> {
-    let mut list = Vec::new(alloc);
-    for (number, size, code) in fields {
-        list.push(FieldDef {
-            number: *number,
-            size: *size,
-            code: *code,
-        })?;
-    }
-    Ok(Record::Define(MessageDef {
-        local,
-        reserved: 0,
-        order,
-        global,
-        fields: Entries::from_vec(list),
-        dev: None,
-    }))
+    let fields = Entries::from_slice(alloc, fields)?;
+    Ok(Record::Define(MessageDef::new(local, order, global, fields)))
 }
 
 /// A record message of local type 1 without fields and with one developer field of two bytes.
 fn define_dev(alloc: Global) -> Result<Record, AllocError> {
-    let dev = Vec::from_slice(
-        alloc,
-        &[DevDef {
-            number: 5,
-            size: 2,
-            index: 0,
-        }],
-    )?;
-    Ok(Record::Define(MessageDef {
-        local: 1,
-        reserved: 0,
-        order: Order::Little,
-        global: 20,
-        fields: Entries::new(alloc),
-        dev: Some(Entries::from_vec(dev)),
-    }))
-}
-
-/// Items of a width.
-fn items(alloc: Global, width: u8, bits: &[u64]) -> Result<Items, AllocError> {
-    Ok(Items {
-        width,
-        bits: Bits::from_vec(Vec::from_slice(alloc, bits)?),
-    })
+    let dev = Entries::from_slice(alloc, &[DevDef::new(5, 2, 0)])?;
+    let definition = MessageDef::new(1, Order::Little, RECORD, Entries::new(alloc));
+    Ok(Record::Define(definition.with_dev(dev)))
 }
 
 /// A data message of these fields, each of a width and its items.
@@ -65,28 +36,21 @@ fn data(
     offset: Option<u8>,
     fields: &[(u8, &[u64])],
 ) -> Result<Record, AllocError> {
-    let mut list = Vec::new(alloc);
-    for (width, bits) in fields {
-        list.push(items(alloc, *width, bits)?)?;
+    let mut list = Entries::new(alloc);
+    for (width, numbers) in fields {
+        list.push(Items::from_slice(alloc, *width, numbers)?)?;
     }
-    Ok(Record::Values(Values {
-        local,
-        offset,
-        fields: Entries::from_vec(list),
-        dev: Entries::new(alloc),
-    }))
+    let mut message = Values::new(alloc, local, list);
+    message.offset = offset;
+    Ok(Record::Values(message))
 }
 
 /// A message of local type 1 with the developer field.
 fn dev_data(alloc: Global, width: u8, bits: &[u64]) -> Result<Record, AllocError> {
-    let mut list = Vec::new(alloc);
-    list.push(items(alloc, width, bits)?)?;
-    Ok(Record::Values(Values {
-        local: 1,
-        offset: None,
-        fields: Entries::new(alloc),
-        dev: Entries::from_vec(list),
-    }))
+    let mut dev = Entries::new(alloc);
+    dev.push(Items::from_slice(alloc, width, bits)?)?;
+    let message = Values::new(alloc, 1, Entries::new(alloc));
+    Ok(Record::Values(message.with_dev(dev)))
 }
 
 /// The message of a record that fits.
@@ -114,12 +78,16 @@ fn times_of(
 #[test]
 fn times_of_messages(rt: HostRuntime) {
     let alloc = rt.alloc();
-    let stamped = define(alloc, 0, Order::Little, 20, &[(253, 4, 0x86), (3, 1, 2)]).expect(
-        &rt, "memory",
-    );
-    let bare = define(alloc, 1, Order::Big, 20, &[(2, 2, 0x84), (8, 3, 0x0D)]).expect(
-        &rt, "memory",
-    );
+    let fields = [
+        FieldDef::one(TIMESTAMP, UINT32),
+        FieldDef::one(HEART_RATE, UINT8),
+    ];
+    let stamped = define(alloc, 0, Order::Little, RECORD, &fields).expect(&rt, "memory");
+    let fields = [
+        FieldDef::one(ALTITUDE, UINT16),
+        FieldDef::new(COMPRESSED_SPEED_DISTANCE, 3, BYTE),
+    ];
+    let bare = define(alloc, 1, Order::Big, RECORD, &fields).expect(&rt, "memory");
     let mut stream = Stream::new(alloc);
     assert_eq!(rt; times_of(&mut stream, &stamped), Ok((None, None)));
     assert_eq!(rt; times_of(&mut stream, &bare), Ok((None, None)));
@@ -167,7 +135,8 @@ fn sixteenths(value: i128) -> Option<Fixed> {
 #[test]
 fn accumulated_distance(rt: HostRuntime) {
     let alloc = rt.alloc();
-    let definition = define(alloc, 0, Order::Little, 20, &[(8, 3, 0x0D)]).expect(&rt, "memory");
+    let fields = [FieldDef::new(COMPRESSED_SPEED_DISTANCE, 3, BYTE)];
+    let definition = define(alloc, 0, Order::Little, RECORD, &fields).expect(&rt, "memory");
     let near = data(alloc, 0, None, &[(1, &[0x64, 0, 0x10])]).expect(&rt, "memory");
     let wrapped = data(alloc, 0, None, &[(1, &[0x64, 0, 0])]).expect(&rt, "memory");
     let skipped = data(alloc, 0, None, &[(1, &[0xFF, 0xFF, 0xFF])]).expect(&rt, "memory");
@@ -225,9 +194,12 @@ fn whole(value: i128) -> Option<Fixed> {
 #[test]
 fn accumulated_cycles_and_power(rt: HostRuntime) {
     let alloc = rt.alloc();
-    let cycles = define(alloc, 0, Order::Little, 20, &[(18, 1, 2)]).expect(&rt, "memory");
-    let power = define(alloc, 1, Order::Big, 20, &[(28, 2, 0x84)]).expect(&rt, "memory");
-    let both = define(alloc, 2, Order::Big, 20, &[(8, 3, 0x0D), (18, 1, 2)]).expect(&rt, "memory");
+    let distance = FieldDef::new(COMPRESSED_SPEED_DISTANCE, 3, BYTE);
+    let count = FieldDef::one(CYCLES, UINT8);
+    let watts = FieldDef::one(COMPRESSED_ACCUMULATED_POWER, UINT16);
+    let cycles = define(alloc, 0, Order::Little, RECORD, &[count]).expect(&rt, "memory");
+    let power = define(alloc, 1, Order::Big, RECORD, &[watts]).expect(&rt, "memory");
+    let both = define(alloc, 2, Order::Big, RECORD, &[distance, count]).expect(&rt, "memory");
     let mut stream = Stream::new(alloc);
     for definition in [&cycles, &power, &both] {
         assert_eq!(rt; totals_of(&mut stream, definition), Ok((None, None, None)));
@@ -285,13 +257,19 @@ fn dev_of(
 
 /// The definition of field descriptions with a name of three bytes.
 fn define_description(alloc: Global) -> Result<Record, AllocError> {
-    let fields = [(0, 1, 2), (1, 1, 2), (2, 1, 2), (3, 3, 7)];
-    define(alloc, 0, Order::Little, 206, &fields)
+    let fields = [
+        FieldDef::one(DEVELOPER_DATA_INDEX, UINT8),
+        FieldDef::one(FIELD_DEFINITION_NUMBER, UINT8),
+        FieldDef::one(FIT_BASE_TYPE_ID, UINT8),
+        FieldDef::new(FIELD_NAME, 3, STRING),
+    ];
+    define(alloc, 0, Order::Little, FIELD_DESCRIPTION, &fields)
 }
 
 /// A description of the developer field as numbers of two bytes, with this name.
 fn describe(alloc: Global, name: &[u64]) -> Result<Record, AllocError> {
-    let fields: [(u8, &[u64]); 4] = [(1, &[0]), (1, &[5]), (1, &[0x84]), (1, name)];
+    let code = [u64::from(UINT16)];
+    let fields: [(u8, &[u64]); 4] = [(1, &[0]), (1, &[5]), (1, &code), (1, name)];
     data(alloc, 0, None, &fields)
 }
 
@@ -307,16 +285,16 @@ fn described_developer_field(rt: HostRuntime) {
     for record_ in [&description, &definition] {
         assert_eq!(rt; dev_of(&mut stream, record_, "mo"), Ok((None, None)));
     }
-    assert_eq!(rt; dev_of(&mut stream, &bytes, "mo"), Ok((Some(0x0D), None)));
+    assert_eq!(rt; dev_of(&mut stream, &bytes, "mo"), Ok((Some(BYTE), None)));
     assert_eq!(rt; dev_of(&mut stream, &named, "mo"), Ok((None, None)));
-    assert_eq!(rt; dev_of(&mut stream, &bytes, "mo"), Ok((Some(0x0D), None)));
+    assert_eq!(rt; dev_of(&mut stream, &bytes, "mo"), Ok((Some(BYTE), None)));
     assert_eq!(rt; stream.dev_name(1, 0), None);
     assert_eq!(rt; dev_of(&mut stream, &definition, "mo"), Ok((None, None)));
     assert_eq!(rt; stream.dev_name(1, 0), Some("mo"));
     assert_eq!(rt; stream.dev_unit(1, 0), None);
     assert_eq!(rt;
         dev_of(&mut stream, &number, "mo"),
-        Ok((Some(0x84), Some(true)))
+        Ok((Some(UINT16), Some(true)))
     );
 }
 
@@ -333,36 +311,38 @@ fn names_that_are_not_shown(rt: HostRuntime) {
         let nameless = describe(alloc, &name).expect(&rt, "memory");
         assert_eq!(rt; dev_of(&mut stream, &nameless, ""), Ok((None, None)));
         assert_eq!(rt; dev_of(&mut stream, &definition, ""), Ok((None, None)));
-        assert_eq!(rt; dev_of(&mut stream, &number, ""), Ok((Some(0x84), None)));
+        assert_eq!(rt; dev_of(&mut stream, &number, ""), Ok((Some(UINT16), None)));
     }
 }
 
 #[test]
 fn parts_of_a_message(rt: HostRuntime) {
     let alloc = rt.alloc();
-    let definition = define(alloc, 0, Order::Big, 20, &[(2, 2, 0x84), (3, 1, 2)]).expect(
-        &rt, "memory",
-    );
+    let fields = [
+        FieldDef::one(ALTITUDE, UINT16),
+        FieldDef::one(HEART_RATE, UINT8),
+    ];
+    let definition = define(alloc, 0, Order::Big, RECORD, &fields).expect(&rt, "memory");
     let record_ = data(alloc, 0, None, &[(2, &[2499]), (1, &[255])]).expect(&rt, "memory");
     let mut stream = Stream::new(alloc);
     assert!(rt; pushed(&mut stream, &definition).is_ok());
     match pushed(&mut stream, &record_) {
         Ok(Some(message)) => {
-            assert_eq!(rt; message.global(), 20);
+            assert_eq!(rt; message.global(), RECORD);
             assert_eq!(rt; message.name(), Some("record"));
             assert_eq!(rt;
-                message.value(2),
+                message.value(ALTITUDE),
                 Some(Fixed {
                     value: -2,
                     decimals: 1
                 })
             );
-            assert_eq!(rt; message.value(3), None);
-            assert!(rt; message.items(3).is_some());
+            assert_eq!(rt; message.value(HEART_RATE), None);
+            assert!(rt; message.items(HEART_RATE).is_some());
             assert!(rt; message.items(4).is_none());
             assert!(rt; message.dev(0).is_none());
             match message.field(1) {
-                Some(field) => assert_eq!(rt; (field.number, field.code), (3, 2)),
+                Some(field) => assert_eq!(rt; (field.number, field.code), (HEART_RATE, UINT8)),
                 None => assert!(rt; false),
             }
         }
@@ -376,8 +356,8 @@ fn values_of_messages(rt: HostRuntime) {
     let alloc = rt.alloc();
     for (global, number, item, value) in [
         (
-            20,
-            2,
+            RECORD,
+            ALTITUDE,
             2500,
             Some(Fixed {
                 value: 0,
@@ -385,28 +365,28 @@ fn values_of_messages(rt: HostRuntime) {
             }),
         ),
         (
-            20,
-            2,
+            RECORD,
+            ALTITUDE,
             2499,
             Some(Fixed {
                 value: -2,
                 decimals: 1,
             }),
         ),
-        (20, 2, 65535, None),
+        (RECORD, ALTITUDE, 65535, None),
         (
-            78,
-            0,
+            HRV,
+            HRV_TIME,
             812,
             Some(Fixed {
                 value: 812,
                 decimals: 3,
             }),
         ),
-        (78, 0, 65535, None),
+        (HRV, HRV_TIME, 65535, None),
         (
-            78,
-            0,
+            HRV,
+            HRV_TIME,
             0,
             Some(Fixed {
                 value: 0,
@@ -414,8 +394,8 @@ fn values_of_messages(rt: HostRuntime) {
             }),
         ),
         (
-            23,
-            10,
+            DEVICE_INFO,
+            BATTERY_VOLTAGE,
             956,
             Some(Fixed {
                 value: 373_437_500,
@@ -423,7 +403,7 @@ fn values_of_messages(rt: HostRuntime) {
             }),
         ),
     ] {
-        let fields = [(number, 2, 0x84)];
+        let fields = [FieldDef::one(number, UINT16)];
         let definition = define(alloc, 0, Order::Little, global, &fields).expect(&rt, "memory");
         let record_ = data(alloc, 0, None, &[(2, &[item])]).expect(&rt, "memory");
         let mut stream = Stream::new(alloc);

@@ -3,6 +3,7 @@ use arrayvec::ArrayString;
 use fit_profile::{
     Fixed, degrees, field_info, field_label, fixed, message_label, message_name, utc_text,
 };
+use test_known::protocol::{ALTITUDE, BATTERY_VOLTAGE, DEVICE_INFO, HRV, HRV_TIME, RECORD};
 
 #[test]
 fn names_and_labels(rt: HostRuntime) {
@@ -27,13 +28,13 @@ fn text_of(global: u16, number: u8, raw: i64) -> Option<ArrayString<48>> {
 #[test]
 fn scaled_values(rt: HostRuntime) {
     for (global, number, raw, text) in [
-        (20u16, 2u8, 2500i64, "0.0"),
-        (20, 2, 2499, "-0.2"),
-        (20, 2, 0, "-500.0"),
-        (20, 2, i64::MIN, "-1844674407370955661.6"),
-        (78, 0, 812, "0.812"),
-        (78, 0, 0, "0.000"),
-        (23, 10, 956, "3.73437500"),
+        (RECORD, ALTITUDE, 2500i64, "0.0"),
+        (RECORD, ALTITUDE, 2499, "-0.2"),
+        (RECORD, ALTITUDE, 0, "-500.0"),
+        (RECORD, ALTITUDE, i64::MIN, "-1844674407370955661.6"),
+        (HRV, HRV_TIME, 812, "0.812"),
+        (HRV, HRV_TIME, 0, "0.000"),
+        (DEVICE_INFO, BATTERY_VOLTAGE, 956, "3.73437500"),
     ] {
         match text_of(global, number, raw) {
             Some(is) => assert_eq!(rt; is.as_str(), text),
@@ -44,7 +45,7 @@ fn scaled_values(rt: HostRuntime) {
 
 #[test]
 fn greatest_scaled_value(rt: HostRuntime) {
-    match field_info(23, 10) {
+    match field_info(DEVICE_INFO, BATTERY_VOLTAGE) {
         Some(voltage) => {
             let value = fixed(i128::from(u64::MAX), voltage);
             assert_eq!(rt; value.print().as_str(), "72057594037927935.99609375");

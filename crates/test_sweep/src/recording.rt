@@ -1,12 +1,13 @@
 //! A long recording: a file whose bytes and text can be told by counting.
-use arrayvec::ArrayVec;
-use fit_base::{Bits, Entries, Items, Order};
+use fit_base::base_type::{BYTE, UINT8, UINT32};
+use fit_base::{Entries, Items, Order};
 use fit_encode::{EncodeFault, Encoder, WriteSink};
-use fit_frame::{Header, HeaderSum};
+use fit_frame::{Header, PROTOCOL_2_0};
 use fit_record::{FieldDef, MessageDef, Record, Values};
 use std::alloc::{AllocError, Global};
 use std::io;
 use std::io::{BufWriter, Write};
+use test_known::protocol::{HEART_RATE, RECORD, TIMESTAMP};
 
 /// How many messages it has.
 const COUNT: u32 = 1_400_000;
@@ -28,13 +29,7 @@ pub fn write(rt: &HostRuntime) -> io::Result<()> {
 }
 
 fn write_to<W: Write>(alloc: Global, writer: &mut W) -> Result<(), EncodeFault> {
-    let header = Header {
-        size: 14,
-        protocol: 0x20,
-        profile: 0,
-        sum: HeaderSum::True,
-        rest: ArrayVec::new(),
-    };
+    let header = Header::new(PROTOCOL_2_0, 0);
     let mut sink = WriteSink::new(writer);
     let mut encoder = Encoder::begin(alloc, &mut sink, &header, 15 + 64 * COUNT)?;
     let definition = definition(alloc).map_err(|_| EncodeFault::NoMemory)?;
@@ -48,37 +43,21 @@ fn write_to<W: Write>(alloc: Global, writer: &mut W) -> Result<(), EncodeFault> 
 
 /// A timestamp, a heart rate, and a field that isn't listed.
 fn definition(alloc: Global) -> Result<Record, AllocError> {
-    let mut fields = Entries::new(alloc);
-    for (number, size, code) in [(253, 4, 0x86), (3, 1, 0x02), (200, SIZE, 0x0D)] {
-        fields.push(FieldDef { number, size, code })?;
-    }
-    Ok(Record::Define(MessageDef {
-        local: 0,
-        reserved: 0,
-        order: Order::Little,
-        global: 20,
-        fields,
-        dev: None,
-    }))
+    let fields = [
+        FieldDef::one(TIMESTAMP, UINT32),
+        FieldDef::one(HEART_RATE, UINT8),
+        FieldDef::new(200, SIZE, BYTE),
+    ];
+    let fields = Entries::from_slice(alloc, &fields)?;
+    let definition = MessageDef::new(0, Order::Little, RECORD, fields);
+    Ok(Record::Define(definition))
 }
 
 /// The message of a second. Its heart rate is below 200, and the items of its last field are all 0x2E.
 fn message(alloc: Global, time: u32) -> Result<Record, AllocError> {
     let mut fields = Entries::new(alloc);
-    for (width, number) in [(4, u64::from(time)), (1, u64::from(time % 200))] {
-        let mut bits = Bits::new(alloc);
-        bits.push(number)?;
-        fields.push(Items { width, bits })?;
-    }
-    let mut bits = Bits::new(alloc);
-    for _ in 0..SIZE {
-        bits.push(0x2E)?;
-    }
-    fields.push(Items { width: 1, bits })?;
-    Ok(Record::Values(Values {
-        local: 0,
-        offset: None,
-        fields,
-        dev: Entries::new(alloc),
-    }))
+    fields.push(Items::one(alloc, 4, u64::from(time)))?;
+    fields.push(Items::one(alloc, 1, u64::from(time % 200)))?;
+    fields.push(Items::from_slice(alloc, 1, &[0x2E; SIZE as usize])?)?;
+    Ok(Record::Values(Values::new(alloc, 0, fields)))
 }
