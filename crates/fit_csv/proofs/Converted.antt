@@ -7,8 +7,11 @@ use Rattle.std.specs.Io.KnownBytes.{Appends, Consumes}
 use Rattle.std.proofs.lemmas.List.{append-nil, reverse-reverse}
 use Rattle.std.proofs.Math.Seq.{take-append-add}
 use Rattle.fit_record.specs.declared.file.FitFile.{FitFile}
+use Rattle.fit_record.specs.Files.{chain_limit}
 use Rattle.fit_decode.specs.declared.event.Fault.TheVariants as faults
 use Rattle.fit_decode.specs.Events.{Event, file_events}
+use Rattle.fit_decode.proofs.FileRead.{nothing_viable}
+use Rattle.fit_decode.proofs.Nearly.{all_viable}
 use Rattle.fit_report.specs.declared.fault.ReportFault.{ReportFault}
 use Rattle.fit_report.specs.declared.fault.ReportFault.TheVariants as report
 use Rattle.fit_report.specs.Heard.{Lines, text_of}
@@ -64,9 +67,10 @@ module _ (first : List ℕ) (line : Lines Global) (rows : RowsOf) (text : HasTex
   converted source (Err (report.Decode (faults.Truncated place))) put (taken, heard, eaten, (why, tells)) = (taken, eaten, (why, writes taken heard put tells))
   converted source (Err (report.Decode (faults.NoMemory used))) put (taken, heard, eaten, never) = absurd never
   converted source (Err (report.Decode (faults.Read place))) put (taken, heard, eaten, (why, tells)) = (taken, eaten, (why, writes taken heard put tells))
-  converted source (Err report.NoMemory) put (taken, heard, eaten, ((k, told, tells), near)) = (taken, eaten, (k, writes (take k taken) told put tells))
+  converted source (Err report.NoMemory) put (taken, heard, eaten, ((k, told, tells), near)) =
+      (taken, eaten, ((k, writes (take k taken) told put tells), near))
   converted source (Err (report.Write written)) put (taken, heard, eaten, ((k, told, are, part), near)) =
-      (taken, eaten, (k, reverse told, are, fails told written put part))
+      (taken, eaten, ((k, reverse told, are, fails told written put part), near))
 
   -- of a chain
   pub chain_converted : (source : Channel) (fs : List (FitFile Global)) (result : Result (Unit {0}) ReportFault) → Appends start mid first
@@ -93,15 +97,18 @@ module _ (first : List ℕ) (line : Lines Global) (rows : RowsOf) (text : HasTex
         [],
         consumes_nothing has,
         (
-          0,
-          [],
-          nothing_heard Global,
           (
-            failed,
-            written,
-            omega (arith, short, ap length whole),
-            subst (λ t. Appends start end (take written t)) (sym whole) part,
-            omega (arith, small, short),
+            0,
+            [],
+            nothing_heard Global,
+            (
+              failed,
+              written,
+              omega (arith, short, ap length whole),
+              subst (λ t. Appends start end (take written t)) (sym whole) part,
+              omega (arith, small, short),
+            ),
           ),
+          all_viable chain_limit [] (nothing_viable Global),
         ),
       )

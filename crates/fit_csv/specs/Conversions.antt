@@ -6,6 +6,7 @@ use Rattle.fit_record.specs.Files.{chain_limit}
 use Rattle.fit_decode.specs.declared.event.Fault.TheVariants as faults
 use Rattle.fit_decode.specs.Answers.{AreChain}
 use Rattle.fit_decode.specs.Events.{Event, AreEvents}
+use Rattle.fit_decode.specs.Reads.{IsNearlyViable}
 use Rattle.fit_report.specs.Heard.{Lines, latest_records}
 use Rattle.fit_report.specs.Reports.{Channel, TextFailsIn, Faults, before_fault}
 use Rattle.fit_csv.specs.declared.fault.CsvFault.{CsvFault}
@@ -28,14 +29,15 @@ RowsBreakOff rows bytes sink written = (k : ℕ) × (events : List (Event Global
     × TextFailsIn (csv_text (rows events)) sink written
 
 -- What was written of the input after so much of it was taken: all rows of a chain; the rows before a fault; or, where memory was
--- refused or the sink failed, the rows of some first bytes, or a part of them.
+-- refused or the sink failed, the rows of some first bytes, or a part of them, and all but at most a piece of what was taken begins
+-- a chain.
 abbrev pub HasWritten : RowsOf → List ℕ → Channel → Channel → Result (Unit {0}) CsvFault → Type 0
 HasWritten rows taken source sink (Ok _) = IsAtEnd source.after × (source.failed ≡ false) × AreChain Global taken × WritesRows rows taken sink
 HasWritten rows taken source sink (Err (csv.Decode (faults.NoMemory used))) = ⊥
 HasWritten rows taken source sink (Err (csv.Decode fault)) =
     Faults Global chain_limit taken source.after source.failed fault × WritesRows rows (before_fault fault taken) sink
-HasWritten rows taken source sink (Err csv.NoMemory) = (k : ℕ) × WritesRows rows (take k taken) sink
-HasWritten rows taken source sink (Err (csv.Write written)) = RowsBreakOff rows taken sink written
+HasWritten rows taken source sink (Err csv.NoMemory) = ((k : ℕ) × WritesRows rows (take k taken) sink) × IsNearlyViable Global chain_limit taken
+HasWritten rows taken source sink (Err (csv.Write written)) = RowsBreakOff rows taken sink written × IsNearlyViable Global chain_limit taken
 HasWritten rows taken source sink (Err other) = ⊥
 
 abbrev pub Converts : RowsOf → Channel → Channel → Result (Unit {0}) CsvFault → Type 0
