@@ -90,7 +90,7 @@ module _ (texts : Texts) (input : List ℕ) where
       converted (Err (csv.BadCell row column)) (taken, took, none) said = absurd none
       converted (Err csv.NoMemory) (taken, took, some) (puts, is) = absurd (memory is)
       converted (Err csv.Read) (taken, took, none) said = absurd none
-      converted (Err (csv.Write written)) (taken, took, (k, events, are, (bad, n, short, put, counted))) said = absurd cc
+      converted (Err (csv.Write written)) (taken, took, ((k, events, are, (bad, n, short, put, counted)), near)) said = absurd cc
 
     module _ (line : Lines Global) (texts_is :
         (answer : Result (Unit {0}) Fault) (heard : List (Event Global)) → text_of line heard ++ last_line answer ≡ texts answer (reverse heard)) where
@@ -113,8 +113,8 @@ module _ (texts : Texts) (input : List ℕ) where
 
       ran : Runs line source output faults status → HasWritten output status
       ran (taken, took, inl (answer, heard, finds, are, says)) = said taken answer heard took finds are says
-      ran (taken, took, inr (k, heard, are, inl (put, puts, is))) = absurd (memory is)
-      ran (taken, took, inr (k, heard, are, inr (bad, n, short, put, puts, is))) = absurd cc
+      ran (taken, took, inr (k, heard, are, inl (put, puts, is), near)) = absurd (memory is)
+      ran (taken, took, inr (k, heard, are, inr (bad, n, short, put, puts, is), near)) = absurd cc
 
 -- ---- by the commands
 

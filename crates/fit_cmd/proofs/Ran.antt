@@ -69,7 +69,7 @@ module _ {K : Type 0} (contents : K → Option (List ℕ)) (has_failed : K → B
         ),
       )
       ran_so (Err report.NoMemory) (taken, eats, ((k, some, (are, put)), near)) (same, puts, is) =
-          (taken, eats, inr (k, some, are, inl (subst (λ o. Appends start (contents o) (text_of line some)) (sym same) put, puts, is)))
+          (taken, eats, inr (k, some, are, inl (subst (λ o. Appends start (contents o) (text_of line some)) (sym same) put, puts, is), near))
       ran_so (Err (report.Write written)) (taken, eats, ((k, some, are, (bad, n, short, put, counted)), near)) (same, puts, is) = (
         taken,
         eats,
@@ -85,6 +85,7 @@ module _ {K : Type 0} (contents : K → Option (List ℕ)) (has_failed : K → B
             puts,
             is,
           ),
+          near,
         ),
       )
 

@@ -9,6 +9,7 @@ use Rattle.fit_decode.specs.declared.event.Fault.{Fault}
 use Rattle.fit_decode.specs.declared.event.Fault.TheVariants.{Refused, Truncated, NoMemory, Read}
 use Rattle.fit_decode.specs.Answers.{AreChain}
 use Rattle.fit_decode.specs.Events.{Event, AreEvents}
+use Rattle.fit_decode.specs.Reads.{IsNearlyViable}
 use Rattle.fit_report.specs.Heard.{Lines, text_of}
 use Rattle.fit_report.specs.Reports.{Channel, Faults, before_fault}
 use Rattle.fit_csv.specs.declared.fault.CsvFault.{CsvFault}
@@ -71,13 +72,14 @@ LinesBreakOff lines output faults status =
     (Appends output.before output.after lines × PutsOrFails faults out_of_memory_line × (status ≡ 3)) ⊎ OutputFailsIn lines output faults status
 
 -- What a command did that writes these lines of events: of all that it took from the input it wrote the lines, and said what it
--- found; or it broke off in the lines of some first bytes.
+-- found; or it broke off in the lines of some first bytes, and all but at most a piece of what it took begins a chain.
 abbrev pub Runs : {A : Type 0} → Lines A → Channel → Channel → Channel → ℕ → Type 0
 Runs {A} line source output faults status =
     (taken : List ℕ) × Consumes source.before source.after taken
     × (((found : Result (Unit {0}) Fault) × (heard : List (Event A)) × ReportFinds A taken source found × AreEvents (good_bytes found taken) (reverse heard)
     × Says found (text_of line heard) output faults status)
-    ⊎ ((k : ℕ) × (heard : List (Event A)) × AreEvents (take k taken) (reverse heard) × LinesBreakOff (text_of line heard) output faults status))
+    ⊎ ((k : ℕ) × (heard : List (Event A)) × AreEvents (take k taken) (reverse heard) × LinesBreakOff (text_of line heard) output faults status
+    × IsNearlyViable A chain_limit taken))
 
 -- ---- a conversion
 
