@@ -1,4 +1,4 @@
-//! Texts of files, and files of texts. A text is handed over: the caller frees it, where it isn't empty.
+//! Texts of files, and files of texts. A text belongs to the caller, who frees it where it isn't empty.
 ghost use Rattle.std.specs.Prelude.{◌≡◌, ◌≢◌, ℕ, List, Some, [], false, true, flat_map, reverse};
 ghost use Rattle.std.specs.declared.alloc.Global.{Global};
 ghost use Rattle.fit_record.specs.declared.file.FitFile.{FitFile};

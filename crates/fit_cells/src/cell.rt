@@ -24,7 +24,7 @@ pub(crate) fn class_of(code: Code, width: u8) -> Class
     }
 }
 
-/// Puts the cell of a field behind a text. Where memory is refused, a part of it may stand there.
+/// Puts the cell of a field after a text. Out of memory, a part of it may be there.
 pub fn put_cell(
     text: &mut Vec<u8>,
     code: Code,

@@ -118,7 +118,7 @@ fn raw(form: NumberForm, bits: u64) -> i64
     }
 }
 
-/// Puts an item behind a text.
+/// Puts an item after a text.
 pub fn put_formed(text: &mut Vec<u8>, form: NumberForm, bits: u64) -> Result<(), AllocError>
     requires small { IsSmallForm form }
     requires bits { bits < 256 ^ form.width }

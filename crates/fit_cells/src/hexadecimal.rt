@@ -15,7 +15,7 @@ fn digit_at(number: u64, place: u8) -> u8
     if digit < 10 { 48 + digit } else { 55 + digit }
 }
 
-/// Puts the last digits of a number behind a text.
+/// Puts the last digits of a number after a text.
 pub fn put_digits(text: &mut Vec<u8>, digits: u8, number: u64) -> Result<(), AllocError>
     requires { digits ≤ 16 }
     ensures { OnOk result (text.new.items ≡ text.old.items ++ hex_digits digits number) }
@@ -74,7 +74,7 @@ fn first_pair(digits: &[u8]) -> u64
     read_digits(&digits[..2])
 }
 
-/// The bytes that hexadecimal digits behind `0x` write.
+/// The bytes that hexadecimal digits after `0x` write.
 pub fn read_bytes(alloc: Global, count: u8, text: &[u8]) -> Result<Bits, AllocError>
     ensures value { IfOk result (λ bits. bits ≡ read_pairs count (drop 2 text.now)) }
     ensures below { IfOk result (λ bits. All (λ b. b < 256) bits) }

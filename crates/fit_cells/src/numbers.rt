@@ -1,4 +1,4 @@
-//! Numbers, as they stand in a cell.
+//! Numbers, as they are in a cell.
 ghost use Rattle.std.specs.Prelude.{◌≡◌, ◌<◌, ◌≤◌, ◌++◌, ◌⊎◌, ◌^◌, ◌==◌, ◌+◌, pos, neg_ℤ, ◌≤ℤ◌, ◌<ℤ◌, All, IfSome, OnOk, [], if◌then◌else◌, map, option_map};
 ghost use Rattle.fit_base.specs.BaseTypes.{base_type};
 ghost use Rattle.fit_profile.specs.Names.{meaning};

@@ -6,7 +6,7 @@ ghost use Rattle.fit_cells.specs.Rows.{Follows, HasAdded, HasRead, IsBetweenRows
 use csv::{ByteRecord, Reader, ReaderBuilder, Writer, WriterBuilder};
 use std::alloc::{AllocError, Global};
 
-/// A writer of rows behind a text. The text's memory is used on.
+/// A writer of rows after a text. It keeps the text's memory.
 pub fn row_writer(text: Vec<u8>) -> Writer<Vec<u8>>
     ensures between { IsBetweenRows result }
     ensures text { written result ≡ text.items }
@@ -26,7 +26,7 @@ pub fn put_row(writer: &mut Writer<Vec<u8>>, cells: &[&[u8]]) -> Result<(), Allo
     }
 }
 
-/// The text behind which rows were written, with those rows.
+/// The text after which rows were written, with those rows.
 pub fn rows_text(writer: Writer<Vec<u8>>) -> Result<Vec<u8>, AllocError>
     requires { IsBetweenRows writer }
     ensures { IfOk result (λ text. text.items ≡ written writer) }

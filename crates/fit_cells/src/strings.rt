@@ -1,4 +1,4 @@
-//! Strings, as they stand in a cell.
+//! Strings, as they are in a cell.
 ghost use Rattle.std.specs.Prelude.{◌≡◌, List, ◌<◌, ◌≤◌, ◌++◌, ℕ, All, IfOk, OnOk, slice_index, take, length, not, ◌==◌};
 ghost use Rattle.std.specs.List.{list_all};
 ghost use Rattle.fit_profile.specs.Described.{before_closing_zeros};

@@ -1,4 +1,4 @@
-//! Rows put behind texts, through the crate `csv`.
+//! Rows put after texts, through the crate `csv`.
 ghost use Rattle.std.specs.Prelude.{◌≡◌, ◌≤◌, ◌⊎◌, ◌++◌, ◌∷◌, [], IfOk, OnOk, drop, false, length, map};
 ghost use Rattle.fit_cells.specs.Rows.{HasRows, IsBetweenRows, written};
 
@@ -71,7 +71,7 @@ fn put_behind(
     copy_behind(writer, start, text)
 }
 
-/// Puts rows behind texts, through the crate `csv`. All rows of one have the same number of cells.
+/// Puts rows after texts, through the crate `csv`. All rows of one have the same number of cells.
 #[derive(Drop)]
 pub struct RowWriter {
     writer: Writer<Vec<u8>>,
@@ -97,7 +97,7 @@ impl RowWriter {
         }
     }
 
-    /// Puts a row behind a text: each cell in quotes where it needs them.
+    /// Puts a row after a text: each cell in quotes where it needs them.
     pub fn put(&mut self, text: &mut Vec<u8>, cells: &[&[u8]]) -> Result<(), AllocError>
         ensures { OnOk result (HasRows (map (λ f. f.now) cells.now ∷ []) text.old text.new) }
     {

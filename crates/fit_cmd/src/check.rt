@@ -11,7 +11,7 @@ use fit_report::Report;
 use std::alloc::AllocError;
 
 /// Writes a line at the end of each file: its number, how many bytes of data its header states, and how many records it has.
-/// It counts, and keeps nothing else of what it is told.
+/// It only counts the events.
 #[derive(Drop)]
 pub struct CheckReport {
     files: u64,

@@ -20,8 +20,8 @@ pub fn findings_are_one<A: Allocator>()
     reasons_are_one::<A>();
 }
 
-/// What a command writes of an input, and the status that it answers, are determined by the input, unless memory is refused or the
-/// source or the output fails.
+/// What a command writes of an input, and its exit status, are determined by the input, unless memory runs out or the source or the
+/// output fails.
 pub fn runs_are_one()
     ensures { RunsAreOne }
 {

@@ -17,7 +17,7 @@ pub const OK: &str = "ok\n";
 /// The line on standard error where the output failed.
 pub const WRITE_FAULT: &str = "write fault\n";
 
-/// The line on standard error where memory was refused.
+/// The line on standard error where memory ran out.
 pub const OUT_OF_MEMORY: &str = "out of memory\n";
 
 /// The line on standard error where the first row of a text isn't the first line.
@@ -39,7 +39,7 @@ fn numbered(front: &str, number: u64, back: &str) -> Lines
     lines
 }
 
-/// Puts a text, a number and a text behind the others.
+/// Adds a text, a number and a text.
 pub fn put_numbered(
     text: &mut Vec<u8>,
     front: &str,
@@ -70,21 +70,21 @@ pub fn truncated(place: u64) -> Lines
     numbered("truncated at byte ", place, "\n")
 }
 
-/// The source failed behind so many bytes.
+/// The source failed after that many bytes.
 pub fn read_fault(place: u64) -> Lines
     ensures { result.bytes ≡ read_fault_line place }
 {
     numbered("read fault at byte ", place, "\n")
 }
 
-/// A row can't stand where it is.
+/// A row is not allowed there.
 pub fn bad_row(row: u64) -> Lines
     ensures { result.bytes ≡ row_line row }
 {
     numbered("row ", row, " refused\n")
 }
 
-/// A cell can't stand where it is.
+/// A cell is not allowed there.
 pub fn bad_cell(row: u64, column: u64) -> Lines
     ensures { result.bytes ≡ cell_line row column }
 {

@@ -27,21 +27,21 @@ pub const GOOD: u8 = 0;
 pub const REFUSED: u8 = 1;
 /// The exit status of a bad command line.
 pub const BAD_USAGE: u8 = 2;
-/// The exit status where memory was refused.
+/// The exit status where memory ran out.
 pub const NO_MEMORY: u8 = 3;
 /// The exit status where the input can't be read or the output can't be written.
 pub const FAILED: u8 = 4;
 
-/// Runs a command on an input, and answers the exit status. Fault lines go to a sink of their own.
+/// Runs a command on an input, and returns the exit status. Fault lines go to a sink of their own.
 ///
 /// `Check` reads the whole input and writes `file K: D data bytes, N records` at the end of each file, N counting definition
 /// messages too; then `ok`, status 0; or `refused at byte A: REASON` or `truncated at byte A`, status 1. Where the source fails,
 /// the line `read fault at byte A` goes to the fault sink, where the output fails `write fault` does, and the status is 4; where
-/// memory is refused it is `out of memory`, and the status is 3. A fault line that can't be written changes no status.
+/// memory runs out it is `out of memory`, and the status is 3. A fault line that can't be written changes no status.
 ///
 /// `Show` does the same with the lines of `show`. `ToCsv` and `Table` write rows, of all events before a fault; their lines on
 /// what is wrong with the input go to the fault sink, with the same statuses. `FromCsv` reads CSV text and writes the chain of files
-/// that it stands for, or nothing: `header row refused`, `row R refused`, `row R column C refused` and `encode fault: FAULT` have
+/// that it describes, or nothing: `header row refused`, `row R refused`, `row R column C refused` and `encode fault: FAULT` have
 /// status 1, `read fault` has status 4.
 pub fn run<S: Source, K: Sink, E: Sink>(
     alloc: Global,

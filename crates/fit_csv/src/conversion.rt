@@ -69,8 +69,8 @@ pub(crate) fn convert<S: Source, K: Sink, R: Report>(
 /// from the source, to the end of the input or the first fault, and writes the rows of an event as soon as it is whole.
 ///
 /// `Decode` where the input is no chain of files or the source failed: the first line and the rows of all events before the fault
-/// were written. `NoMemory` where memory was refused, and then the rows of some first bytes were written. `Write` where the sink
-/// failed behind so many bytes of the text.
+/// were written. `NoMemory` where an allocation failed, and then the rows of some first bytes were written. `Write` where the sink
+/// failed after that many bytes of the text.
 pub fn to_csv<S: Source, K: Sink>(
     alloc: Global,
     source: &mut S,

@@ -1,4 +1,4 @@
-//! Why a conversion breaks off.
+//! Why a conversion fails.
 use fit_decode::Fault;
 use fit_encode::EncodeFault;
 use fit_report::ReportFault;

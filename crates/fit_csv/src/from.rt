@@ -60,10 +60,10 @@ fn convert<S: Source, K: Sink>(alloc: Global, source: &mut S, sink: &mut K) -> R
 /// judges its rows in their order, and the cells of a row from left to right, and then writes the files.
 ///
 /// `Read` where the source failed or the text is longer; `Header` where the first row isn't the first
-/// line; `BadRow` and `BadCell` for the first row that can't stand where it is, and its first such cell.
-/// `Encode` where the rows are those of files that can't be written: the data is too long, or zeros stand
-/// for a checksum that is 0 itself. Up to here nothing is written. `Write` where the sink failed after that
-/// many bytes of the files. `NoMemory` where memory was refused. All answers but `Read` and `NoMemory` leave
+/// line; `BadRow` and `BadCell` for the first row that is not allowed there, and its first such cell.
+/// `Encode` where the rows are those of files that can't be written: the data is too long, or the word
+/// `zero` takes the place of a checksum that is 0. Up to here nothing is written. `Write` where the sink failed after that
+/// many bytes of the files. `NoMemory` where an allocation failed. All results but `Read` and `NoMemory` leave
 /// the source at its end.
 pub fn from_csv<S: Source, K: Sink>(
     alloc: Global,

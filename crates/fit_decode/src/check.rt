@@ -9,8 +9,8 @@ use std::alloc::Global;
 
 /// Checks that some bytes are a FIT file, or a chain of such files, and returns how many files they are.
 ///
-/// `Refused` names the first byte with which no chain of files goes on, counted from 0, and why; `Truncated` the end of bytes
-/// that end too soon. `NoMemory` says nothing of the bytes.
+/// `Refused` has the first byte that cannot belong to any valid chain of files, counted from 0, and the reason; `Truncated` has
+/// the length of bytes that end too soon. `NoMemory` says nothing about the bytes.
 pub fn check_bytes(alloc: Global, bytes: &[u8]) -> Result<u64, Fault>
     ensures files { IfOk result (AreFiles bytes.now) }
     ensures fault { IfErr result (IsFaultOf bytes.now) }

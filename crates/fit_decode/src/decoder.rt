@@ -86,11 +86,11 @@ impl<A: Allocator + Copy> Decoder<A> {
         }
     }
 
-    /// Takes the next piece, up to the byte that completes an event. `More` is answered where the whole piece was used
+    /// Takes the next piece, up to the byte that completes an event. The event is `More` where the whole piece was used
     /// and completed none.
     ///
-    /// `Refused` names the first byte with which the bytes fed begin no chain of files, and why; after it each call
-    /// answers it again, and nothing is held any more. With `NoMemory` the first `used` bytes of the piece count as fed, and the rest may be fed again.
+    /// `Refused` has the first byte with which the bytes fed begin no chain of files, and the reason; after it each call
+    /// returns it again, and nothing is held any more. With `NoMemory` the first `used` bytes of the piece count as fed, and the rest may be fed again.
     /// No memory is taken by a byte of a header, of a closing sum, or of a data message without fields and developer
     /// fields.
     pub fn feed(&mut self, piece: &[u8]) -> Result<Fed<A>, Fault>
@@ -155,11 +155,11 @@ impl<A: Allocator + Copy> Decoder<A> {
     }
 
     /// Skips records at the front of the piece: they count as fed, what they define is learned, and no event is made of them.
-    /// Returns how many bytes were used, and how many records they are. It refuses nothing, and takes memory for definition
-    /// messages alone.
+    /// Returns how many bytes were used, and how many records they are. It refuses nothing, and takes memory only for
+    /// definition messages.
     ///
-    /// It ends before the first record that is for `feed`: one that isn't whole in the piece, or can't stand there; a definition
-    /// message that has developer fields, or for which memory is refused; a data message that may describe a developer field; and
+    /// It ends before the first record that is for `feed`: one that isn't complete in the piece, or isn't allowed there; a definition
+    /// message that has developer fields, or for which there is no memory; a data message that may describe a developer field; and
     /// one that ends in the last six bytes of a data section.
     pub fn skip_records(&mut self, piece: &[u8]) -> (usize, u64)
         ensures within { result.0 ≤ length piece.now }
@@ -191,8 +191,8 @@ impl<A: Allocator + Copy> Decoder<A> {
         (skipped, count)
     }
 
-    /// Whether the bytes fed are a chain of files. Where they only begin one, `Truncated` names the place behind the
-    /// last byte; after a refusal it is answered again.
+    /// Whether the bytes fed are a chain of files. Where they only begin one, `Truncated` has the number of the bytes;
+    /// after a refusal it is returned again.
     pub fn finish(&self) -> Result<(), Fault>
         ensures good { IsOk result ↔ ((self.now.refusal ≡ None) × AreChain A self.now.bytes) }
         ensures truncated { self.now.refusal ≡ None → IsErr result
@@ -227,7 +227,7 @@ impl<A: Allocator + Copy> Decoder<A> {
     }
 
     /// How many bytes are to come at least until a file ends: before a file 14, or 1 where no file may follow, and
-    /// after a refusal 0. From the place of its data size on, a header tells the data section too.
+    /// after a refusal 0. From the place of its data size on, a header counts the data section too.
     pub fn need(&self) -> u64
         ensures refused { (reason : Reason) → self.now.refusal ≡ Some reason → result ≡ 0 }
         ensures need { self.now.refusal ≡ None → Needs A self.now.bytes result }

@@ -25,7 +25,7 @@ pub struct Fed<A: Allocator = Global> {
     pub event: Event<A>,
 }
 
-/// Why a decoder, or what reads by one, can't go on. Places count bytes from the start of the chain, from 0.
+/// Why a decoder, or a reader that uses one, can't continue. Places count bytes from the start of the chain, from 0.
 #[derive(Clone, Copy, Debug, PartialEq, Eq, Error)]
 pub enum Fault {
     /// The bytes before this place begin a chain of files, and with the byte there they don't.

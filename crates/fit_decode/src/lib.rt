@@ -1,4 +1,4 @@
-//! Reads FIT files: what the bytes of a chain of files tell, piece by piece.
+//! Reads FIT files: the events in the bytes of a chain of files, piece by piece.
 #![tactic(auto)]
 
 mod check;

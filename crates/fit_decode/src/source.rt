@@ -66,7 +66,7 @@ impl<'a> Source for &'a [u8] {
 }
 
 /// A source over any reader. Every error of the reader counts as a failure, and no read is tried
-/// again. An empty buffer isn't passed on. What it tells is what the reader tells.
+/// again. An empty buffer isn't passed on. Contracts know of it what they know of the reader.
 #[derive(Drop)]
 pub struct ReadSource<R: Read> {
     reader: R,

@@ -19,9 +19,9 @@ use fit_record::{Env, Record};
 use std::alloc::{Allocator, Global};
 use std::marker::Model;
 
-/// Writes a file record by record, where the length of its data is known beforehand.
+/// Writes a file record by record, where the length of its data is known before.
 ///
-/// It keeps no sink: each call writes to the one that it is handed. After a good `finish` every call
+/// It keeps no sink: each call writes to the one that it is given. After a good `finish` every call
 /// returns `DeclaredLength`, and after `Write` every call returns that fault again.
 #[derive(Drop)]
 pub struct Encoder {

@@ -4,7 +4,7 @@ use thiserror::Error;
 /// Why files can't be written, or why a call of an encoder failed.
 ///
 /// Files count from 1, records (`index`) from 0. In a record the places of the fields count from 0,
-/// and the places of the developer fields go on from the number of fields that are defined.
+/// and the places of the developer fields continue from the number of fields that are defined.
 #[derive(Clone, Copy, Debug, PartialEq, Eq, Error)]
 pub enum EncodeFault {
     /// The size, the protocol version, the sum word or the further bytes of a header aren't allowed.

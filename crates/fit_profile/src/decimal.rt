@@ -70,7 +70,7 @@ impl Fixed {
         text
     }
 
-    /// Puts the text of the number behind another one.
+    /// Puts the text of the number after another text.
     pub fn put(&self, text: &mut Vec<u8>) -> Result<(), AllocError>
         requires { self.now.decimals ≤ 8 }
         ensures { OnOk result (text.new.items ≡ text.old.items

@@ -5,7 +5,7 @@ ghost use Rattle.fit_profile.specs.Names.{meaning, field_of, message_of};
 ghost use Rattle.fit_profile.specs.Profile as profile;
 ghost use Rattle.fit_profile.specs.Scaled.{IsScale};
 
-/// What the profile says of a field. A number `raw` of the field stands for `raw / scale - offset` units.
+/// What the profile says of a field. A number `raw` of the field means `raw / scale - offset` units.
 #[derive(Clone, Copy, Debug, PartialEq, Eq)]
 pub struct Info {
     pub name: &'static str,

@@ -1,4 +1,4 @@
-//! Numbers with a fixed number of decimals, put behind a text.
+//! Numbers with a fixed number of decimals, put after a text.
 ghost use Rattle.std.specs.Prelude.{◌≡◌, ◌≤◌, ◌<◌, ◌++◌, ◌+◌, ◌/◌, ◌%◌, ◌^◌, OnOk, decimal};
 ghost use Rattle.fit_profile.specs.FixedText.{fixed_text, fraction, last_digits};
 
@@ -62,7 +62,7 @@ fn put_some(text: &mut Vec<u8>, n: u64) -> Result<(), AllocError>
     put_four(text, n)
 }
 
-/// Puts a number behind a text.
+/// Puts a number after a text.
 #[tactic(auto, using(crate::proofs::PutFacts::put_parts))]
 pub fn put_whole(text: &mut Vec<u8>, n: u64) -> Result<(), AllocError>
     ensures { OnOk result (text.new.items ≡ text.old.items ++ decimal n) }
@@ -132,7 +132,7 @@ fn put_size(text: &mut Vec<u8>, size: u64, decimals: u8) -> Result<(), AllocErro
     }
 }
 
-/// Puts the number `value / 10^decimals` behind a text, as `Fixed::print` shows it.
+/// Puts the number `value / 10^decimals` after a text, as `Fixed::print` shows it.
 pub fn put_fixed(text: &mut Vec<u8>, value: i64, decimals: u8) -> Result<(), AllocError>
     requires { decimals ≤ 8 }
     ensures { OnOk result (text.new.items ≡ text.old.items ++ fixed_text value decimals) }

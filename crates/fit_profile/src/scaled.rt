@@ -44,7 +44,7 @@ fn in_decimals(number: i128, scale: u32) -> i128
     }
 }
 
-/// The number that a raw value of a field stands for, `raw / scale - offset`, with as many decimals as
+/// The number that a raw value of a field means, `raw / scale - offset`, with as many decimals as
 /// show every number of that scale exactly: none for scale 1, one for 5 and 10, two for 100, three for 1000, four for
 /// 16, eight for 256.
 pub fn fixed(raw: i128, info: Info) -> Fixed

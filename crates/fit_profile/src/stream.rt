@@ -136,8 +136,8 @@ impl Stream {
         Ok(told)
     }
 
-    /// Takes a record in. A definition gives None, a data message what it means by the records before
-    /// it. Where memory is refused, the stream stays as it was.
+    /// Takes the next record. A definition gives None, a data message what it means, given the records
+    /// before it. Out of memory, the stream stays as it was.
     pub fn push<'a>(&'a mut self, record_: &'a Record) -> Result<Option<Message<'a>>, AllocError>
         requires { Fits (known self.old) record_.now }
         ensures message { IfOk result (λ m. MessageOf self.old record_.now m) }

@@ -1,4 +1,4 @@
-//! Why a report breaks off.
+//! Why a report fails.
 use fit_decode::Fault;
 use thiserror::Error;
 

@@ -18,8 +18,8 @@ pub trait Report {
     // The text of an event after these events, the latest first.
     ghost line: { List (Told Global) → Told Global → List ℕ };
 
-    /// Takes the next event, and puts its text after the old text. Where memory is refused, the text is of no use, and the
-    /// reporter is told no more.
+    /// Takes the next event, and puts its text after the old text. Out of memory, the text is of no use, and the
+    /// reporter gets no further event.
     fn tell(&mut self, event: &Event, text: &mut Vec<u8>) -> Result<(), AllocError>
         // The events are those of bytes with which a chain of files begins.
         requires { (heard : List (Told Global)) × has_heard self.old heard
@@ -30,10 +30,10 @@ pub trait Report {
             → AreHeard (hear event.now heard)
             → text.new.items ≡ text.old.items ++ line_of line heard event.now) };
 
-    /// Skips bytes at the front of the piece whose events it needn't be told one by one, and which have no text. Returns how many
+    /// Skips bytes at the front of the piece whose events it doesn't need one by one, and which have no text. Returns how many
     /// bytes were used, all of them fed to the decoder.
     ///
-    /// A reporter that wants to be told each event leaves this method out, and skips nothing.
+    /// A reporter that needs each event leaves this method out, and skips nothing.
     fn skip(&mut self, decoder: &mut Decoder, piece: &[u8]) -> usize
         requires told { (heard : List (Told Global)) × has_heard self.old heard
             × AreEvents decoder.old.bytes (reverse heard) }
@@ -72,7 +72,7 @@ impl Heard {
         }
     }
 
-    /// Notes what an event tells.
+    /// Adds an event to those told.
     pub fn add(&mut self, event: &Event)
         ensures { self.new ≡ hear event.now self.old }
     {

@@ -1,4 +1,4 @@
-//! Passes what the bytes of a source tell, event by event, to a sink as text.
+//! Writes the events of a source's bytes, one by one, to a sink as text.
 #![tactic(auto)]
 
 mod fault;

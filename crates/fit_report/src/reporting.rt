@@ -111,11 +111,11 @@ fn tell_pieces<S: Source, K: Sink, R: Report>(
     }
 }
 
-/// Passes what the bytes of a source tell to a reporter, which has heard nothing yet, and its text to a sink. Takes pieces of at
+/// Passes the events of a source's bytes to a reporter, which has heard nothing yet, and its text to a sink. Takes pieces of at
 /// most 4,096 bytes, to the end of the input or the first fault.
 ///
 /// `Decode` where the input is no chain of files or the source failed, and then the text of all that is before the fault was put;
-/// `NoMemory` where memory was refused, and `Write` where the sink failed. Then the text of some first bytes was put, with `Write`
+/// `NoMemory` where an allocation failed, and `Write` where the sink failed. Then the text of some first bytes was put, with `Write`
 /// only `written` bytes of it.
 pub fn report<S: Source, K: Sink, R: Report>(
     alloc: Global,

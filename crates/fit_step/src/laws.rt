@@ -4,7 +4,7 @@ ghost use Rattle.fit_step.specs.Laws.{BeginningsStand, PartsAreTested, RecordsEn
 
 use std::alloc::Allocator;
 
-/// A record behind which records can fill the room ends with its last byte and not before.
+/// A record after which records can fill the room ends with its last byte and not before.
 pub fn records_end<A: Allocator>()
     ensures { RecordsEnd A }
 {}

@@ -13,12 +13,12 @@ use crate::{Partial, Phase, Position, Stop};
 use fit_record::{Env, MessageDef, Record, Values};
 use std::alloc::Allocator;
 
-/// One byte of a record, at a position and behind what there is of the record: the next position, and whether the record
-/// in progress is whole.
+/// One byte of a record, at a position and after the bytes of the record so far: the next position, and whether the record
+/// in progress is complete.
 ///
-/// A whole record stays in place, so that the caller can learn it; then `in_progress` is to be emptied, and the next
-/// record begins. Where the byte isn't taken nothing has changed. It is refused for the reason that the order of
-/// `Reason` gives, and memory is wanted only for a byte that isn't refused.
+/// A complete record stays in place, so that the caller can learn it; then `in_progress` is to be emptied, and the next
+/// record begins. Where the byte isn't taken nothing has changed. Of several reasons it is refused for the first in
+/// `Reason`, and memory is needed only for a byte that isn't refused.
 pub fn step<A: Allocator + Copy>(
     alloc: A,
     env: &Env<A>,

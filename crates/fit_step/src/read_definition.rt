@@ -1,4 +1,4 @@
-//! Definition messages of which all bytes stand in one piece.
+//! Definition messages of which all bytes are in one piece.
 ghost use Rattle.std.specs.Prelude.{◌≡◌, ◌-◌, ◌*◌, ◌<◌, ◌≤◌, IfOk, IfSome, [], ◌∷◌, flat_map, length, take};
 ghost use Rattle.fit_base.specs.Numbers.{number};
 ghost use Rattle.fit_record.specs.declared.message.Record.TheVariants.{Define};
@@ -57,8 +57,8 @@ fn read_entries<A: Allocator>(
     Ok(fields)
 }
 
-/// The definition message that begins the piece, where all its bytes stand there, and how many they are. There is none where the
-/// message has developer fields, where a byte is to be refused, and where memory is refused: then its bytes come one by one.
+/// The definition message that begins the piece, where all its bytes are there, and how many they are. There is none where the
+/// message has developer fields, where a byte is to be refused, and where memory runs out: then its bytes are read one by one.
 pub fn whole_definition<A: Allocator + Copy>(
     alloc: A,
     piece: &[u8],

@@ -103,10 +103,10 @@ fn skip_record<A: Allocator + Copy>(
     skip_definition(alloc, env, sizes, bytes)
 }
 
-/// Skips whole records at the front of these bytes: how many bytes they have, and how many they are. What they define is learned.
+/// Skips complete records at the front of these bytes: how many bytes they have, and how many they are. What they define is learned.
 ///
-/// It ends before the first record that isn't whole, or can't stand there; before a definition message that has developer fields,
-/// or for which memory is refused; and before a data message that may describe a developer field.
+/// It ends before the first record that isn't complete, or isn't allowed there; before a definition message that has developer
+/// fields, or for which there is no memory; and before a data message that may describe a developer field.
 pub fn skip_records<A: Allocator + Copy>(alloc: A, env: &mut Env<A>, bytes: &[u8]) -> (usize, u64)
     ensures within { result.0 ≤ length bytes.now }
     ensures records { AreSkipped env.old env.new (take result.0 bytes.now) result.1 }

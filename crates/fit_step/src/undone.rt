@@ -19,7 +19,7 @@ use fit_record::{MessageDef, Record, Values};
 use std::alloc::Allocator;
 use std::mem;
 
-/// Takes back the byte with which a record became whole, where the caller can't learn the record for want of memory.
+/// Takes back the byte that completed a record, where the caller has no memory to learn the record.
 ///
 /// `position` is that before the byte. The record in progress is then again what it was before the byte, and keeps its
 /// memory, so that the byte can come again.

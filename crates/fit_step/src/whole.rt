@@ -1,4 +1,4 @@
-//! Records of which all bytes stand in one piece.
+//! Records of which all bytes are in one piece.
 ghost use Rattle.std.specs.Prelude.{◌≡◌, ◌-◌, ◌%◌, ◌<◌, ◌≤◌, if◌then◌else◌, IfOk, IfSome, Some, None, length, map, sum_by, take, drop, zip};
 ghost use Rattle.fit_record.specs.declared.message.Record.TheVariants.{Values as Data};
 ghost use Rattle.fit_record.specs.HeaderByte.{is_compressed};
@@ -198,8 +198,8 @@ fn whole_message<A: Allocator + Copy>(
     Some((values, 1 + size as usize))
 }
 
-/// The record that begins the piece, where all its bytes stand there, and how many they are. There is none where its bytes are to
-/// come one by one: as where one is to be refused, where memory is refused, and where a definition message has developer fields.
+/// The record that begins the piece, where all its bytes are there, and how many they are. There is none where its bytes are to be
+/// read one by one: as where one is to be refused, where memory runs out, and where a definition message has developer fields.
 pub fn whole_record<A: Allocator + Copy>(
     alloc: A,
     env: &Env<A>,

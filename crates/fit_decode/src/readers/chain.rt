@@ -15,8 +15,8 @@ use std::alloc::Global;
 /// Reads a chain of files, to the end of the source. It takes pieces of at most 4,096 bytes, and its memory from `Global`;
 /// `Reading` takes any allocator.
 ///
-/// `Refused` names the first byte with which no chain begins, and why; from there on at most 4,096 bytes were taken.
-/// `Truncated` names the end of a source that ends inside a file, or before the first, and `Read` the place where it
+/// `Refused` has the first byte with which no chain begins, and the reason; from there on at most 4,096 bytes were taken.
+/// `Truncated` has the place where a source ends inside a file, or before the first, and `Read` the place where it
 /// failed. With `NoMemory`, `used` is the number of bytes taken, at most a piece of them after bytes with which a chain
 /// begins.
 pub fn read_chain<S: Source>(alloc: Global, source: &mut S) -> Result<Vec<FitFile>, Fault>

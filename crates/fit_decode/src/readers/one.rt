@@ -15,9 +15,9 @@ use std::alloc::Global;
 /// Reads one file, and leaves the bytes after it. It takes pieces of at most 4,096 bytes, and its memory from `Global`;
 /// `Reading` takes any allocator.
 ///
-/// `Refused` names the first byte with which no file begins, and why; from there on at most 4,096 bytes were taken.
-/// `Truncated` names the end of a source that ends before a file does, and `Read` the place where it failed. With
-/// `NoMemory`, `used` is the number of bytes taken: none after a whole file, and at most a piece after bytes with which a
+/// `Refused` has the first byte with which no file begins, and the reason; from there on at most 4,096 bytes were taken.
+/// `Truncated` has the place where a source ends before a file does, and `Read` the place where it failed. With
+/// `NoMemory`, `used` is the number of bytes taken: none after a complete file, and at most a piece after bytes with which a
 /// file begins.
 pub fn read_one<S: Source>(alloc: Global, source: &mut S) -> Result<FitFile, Fault>
     // Where a file's bytes begin the input, that file is returned, and the bytes after it are left.
