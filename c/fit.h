@@ -32,10 +32,10 @@ extern "C" {
 /* What a call found. */
 enum fit_status {
     FIT_GOOD = 0,      /* The bytes are a FIT file, or several, one after another; or the text is that of such files. */
-    FIT_REFUSED = 1,   /* No such file goes on with the byte at `place`, and it is the first such byte: `reason` says why. */
+    FIT_REFUSED = 1,   /* The byte at `place` is the first that cannot belong to any such file: `reason` says why. */
     FIT_TRUNCATED = 2, /* The bytes begin such a file, and end too soon, at `place`. */
     FIT_NO_MEMORY = 3, /* Memory was refused. This says nothing of the bytes or of the text. */
-    FIT_TEXT = 4,      /* Row `row` of the text can't stand where it is; where `column` isn't 0, because of that cell. */
+    FIT_TEXT = 4,      /* Row `row` of the text isn't allowed where it is; where `column` isn't 0, because of that cell. */
     FIT_UNWRITABLE = 5 /* The rows of the text are those of files that have no bytes: too long, or with a sum that can't be. */
 };
 
@@ -96,7 +96,7 @@ fit_answer fit_to_csv(const uint8_t *bytes, size_t length, fit_text *text);
 /* The messages with their names, units and times, a line each, as `fit show` writes them, without its last line. */
 fit_answer fit_show(const uint8_t *bytes, size_t length, fit_text *text);
 
-/* The FIT file or files that a CSV text of `length` bytes stands for. There are no bytes where the status isn't FIT_GOOD. */
+/* The FIT file or files that a CSV text of `length` bytes describes. There are no bytes where the status isn't FIT_GOOD. */
 fit_answer fit_from_csv(const uint8_t *text, size_t length, fit_text *bytes);
 
 #ifdef __cplusplus

@@ -37,8 +37,8 @@ class Answer(ctypes.Structure):
     files   how many files they are, where they are good
     place   the place of the byte that is refused, or where the bytes end too soon, counted from 0; else None
     reason  the name of the reason, as 'FileSum', where a byte is refused; else None
-    row     of a text: the first row that can't stand where it is, counted from 1; else None
-    column  of a text: its first cell that can't stand there, counted from 1; None where the row as a whole is refused
+    row     of a text: the first row that isn't allowed where it is, counted from 1; else None
+    column  of a text: its first cell that isn't allowed there, counted from 1; None where the row as a whole is refused
     """
 
     _fields_ = [("_status", ctypes.c_uint32), ("_reason", ctypes.c_uint32), ("_place", ctypes.c_uint64), ("_row", ctypes.c_uint64), ("_column", ctypes.c_uint64), ("files", ctypes.c_uint64)]
@@ -80,7 +80,7 @@ class FitError(ValueError):
 
 
 class Refused(FitError):
-    """No FIT file goes on with the byte at `place`; `reason` says why."""
+    """The byte at `place` is the first that cannot belong to any FIT file; `reason` says why."""
 
 
 class Truncated(FitError):
@@ -173,7 +173,7 @@ def show(source, partial=False):
 
 
 def from_csv(text):
-    """The bytes of the FIT file or files that a CSV text stands for: a str, or its bytes in UTF-8, and no path."""
+    """The bytes of the FIT file or files that a CSV text describes: a str, or its bytes in UTF-8, and no path."""
     if not isinstance(text, (str, bytes, bytearray, memoryview)):
         raise TypeError(f"from_csv takes a text or its bytes, and not {type(text).__name__}")
     answer, data = _text_of(_library.fit_from_csv, text.encode() if isinstance(text, str) else bytes(text))
