@@ -89,6 +89,24 @@ impl<A: Allocator> Bits<A> {
         }
     }
 
+    /// The bytes, each as a number. None and a lone one take no memory.
+    pub fn from_bytes(alloc: A, bytes: &[u8]) -> Result<Self, AllocError>
+        ensures same { IfOk result (λ bits. bits ≡ bytes.now) }
+        ensures one { length bytes.now ≤ 1 → IsOk result }
+    {
+        match bytes {
+            [] => Ok(Bits::new(alloc)),
+            [byte] => Ok(Bits::one(alloc, u64::from(*byte))),
+            _ => {
+                let numbers: Vec<u64, A> = bytes
+                    .iter()
+                    .map(|byte| u64::from(*byte))
+                    .collect(alloc)?;
+                Ok(Bits::from_vec(numbers))
+            }
+        }
+    }
+
     /// No numbers, and memory for this many. For one none is taken.
     pub fn with_capacity(alloc: A, capacity: usize) -> Result<Self, AllocError>
         ensures none { IfOk result (λ bits. bits ≡ []) }

@@ -31,12 +31,7 @@ impl Code {
     pub fn width(self) -> u8
         ensures { result ≡ (base_type self.0).width }
     {
-        match self.0 {
-            SINT16 | UINT16 | UINT16Z => 2,
-            SINT32 | UINT32 | FLOAT32 | UINT32Z => 4,
-            FLOAT64 | SINT64 | UINT64 | UINT64Z => 8,
-            _ => 1,
-        }
+        WIDTHS[self.0 as usize]
     }
 
     /// The bits of an item that holds no value.
@@ -80,17 +75,12 @@ pub fn width_of(code: Code, size: u8) -> u8
     if divides(width, size) { width } else { 1 }
 }
 
-/// Whether the width divides the size. A division by a known number is fast.
+/// Whether the width divides the size: whether the bits below the width's own are zero.
 fn divides(width: u8, size: u8) -> bool
     requires { (width ≡ 1) ⊎ (width ≡ 2) ⊎ (width ≡ 4) ⊎ (width ≡ 8) }
     ensures { result ≡ (size % width == 0) }
 {
-    match width {
-        1 => true,
-        2 => size % 2 == 0,
-        4 => size % 4 == 0,
-        _ => size % 8 == 0,
-    }
+    size & (width - 1) == 0
 }
 
 /// How many items of this width as many bytes have.
@@ -105,3 +95,15 @@ pub(crate) fn items_in(size: u8, width: u8) -> u8
         _ => size / 8,
     }
 }
+
+/// How many bytes an item of each code has. A row has 32 codes, and the fifth those from 0x80 on.
+static WIDTHS: [u8; 256] = [
+    1, 1, 1, 1, 1, 1, 1, 1, 1, 1, 1, 1, 1, 1, 1, 1, 1, 1, 1, 1, 1, 1, 1, 1, 1, 1, 1, 1, 1, 1, 1, 1,
+    1, 1, 1, 1, 1, 1, 1, 1, 1, 1, 1, 1, 1, 1, 1, 1, 1, 1, 1, 1, 1, 1, 1, 1, 1, 1, 1, 1, 1, 1, 1, 1,
+    1, 1, 1, 1, 1, 1, 1, 1, 1, 1, 1, 1, 1, 1, 1, 1, 1, 1, 1, 1, 1, 1, 1, 1, 1, 1, 1, 1, 1, 1, 1, 1,
+    1, 1, 1, 1, 1, 1, 1, 1, 1, 1, 1, 1, 1, 1, 1, 1, 1, 1, 1, 1, 1, 1, 1, 1, 1, 1, 1, 1, 1, 1, 1, 1,
+    1, 1, 1, 2, 2, 4, 4, 1, 4, 8, 1, 2, 4, 1, 8, 8, 8, 1, 1, 1, 1, 1, 1, 1, 1, 1, 1, 1, 1, 1, 1, 1,
+    1, 1, 1, 1, 1, 1, 1, 1, 1, 1, 1, 1, 1, 1, 1, 1, 1, 1, 1, 1, 1, 1, 1, 1, 1, 1, 1, 1, 1, 1, 1, 1,
+    1, 1, 1, 1, 1, 1, 1, 1, 1, 1, 1, 1, 1, 1, 1, 1, 1, 1, 1, 1, 1, 1, 1, 1, 1, 1, 1, 1, 1, 1, 1, 1,
+    1, 1, 1, 1, 1, 1, 1, 1, 1, 1, 1, 1, 1, 1, 1, 1, 1, 1, 1, 1, 1, 1, 1, 1, 1, 1, 1, 1, 1, 1, 1, 1,
+];

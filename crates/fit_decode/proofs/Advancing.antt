@@ -1,23 +1,21 @@
 -- What a piece makes of the fields, by the section that its first byte belongs to.
-use Rattle.std.proofs.Common.{◌≡◌, ℕ, ◌-◌, ◌<◌, List, [], ◌++◌, length, sym, ap, ◌∙◌, subst, arith, None}
+use Rattle.std.proofs.Common.{◌≡◌, ℕ, ◌-◌, ◌<◌, List, [], length, sym, ap, ◌∙◌, subst, arith, None}
 use Rattle.std.specs.Prelude.{Bool, Option, Result}
 use Rattle.std.proofs.lemmas.List.{append-nil}
 use Rattle.fit_base.specs.Numbers.{IsBytes}
-use Rattle.fit_base.proofs.ByteLists.{IsBytes-back}
 use Rattle.fit_frame.specs.Header.{header_bytes}
 use Rattle.fit_frame.specs.Beginning.{Seen}
 use Rattle.fit_record.specs.declared.message.Record.{Record}
 use Rattle.fit_record.specs.Environment.{Environment, empty_environment}
 use Rattle.fit_record.specs.Records.{records_bytes}
-use Rattle.fit_record.specs.Files.{chain_bytes, chain_limit}
+use Rattle.fit_record.specs.Files.{chain_limit}
 use Rattle.fit_step.specs.declared.position.Position.{Position}
 use Rattle.fit_step.specs.declared.stop.Stop.{Stop}
-use Rattle.fit_step.specs.Places.{state_at}
+use Rattle.fit_step.specs.InProgress.{AwaitsByte}
 use Rattle.fit_decode.specs.declared.event.Event.{Event as Answer}
 use Rattle.fit_decode.specs.declared.section.Section.{Section}
 use Rattle.fit_decode.specs.declared.section.Section.TheVariants.{Header, Data, ClosingSum}
-use Rattle.fit_decode.specs.Progress.{at_data, progress_bytes}
-use Rattle.fit_decode.specs.inner.Scans.{IsHeaderPart, Reading}
+use Rattle.fit_decode.specs.inner.Scans.{IsHeaderPart}
 use Rattle.fit_decode.specs.inner.Sections.{HeaderFed, DataFed, SumFed}
 use Rattle.fit_decode.specs.inner.Kept.{Fields, InHeader, InData, InSum, HoldsAt, Stand, Advances}
 use Rattle.fit_decode.proofs.Whole.{no_header_in}
@@ -52,23 +50,14 @@ module _ {A : Type 0} {d : Fields A} (s : Stand d) (at : d.section ≡ Data) whe
   in_data : (bytes : List ℕ) → HoldsAt d.section d bytes → InData d bytes
   in_data bytes holds = subst (λ c. HoldsAt c d bytes) at holds
 
-  pub data_reading : Reading d.env (state_at d.position d.in_progress)
+  pub data_reading : AwaitsByte d.env d.position d.in_progress
   data_reading =
-      let k = in_data s.bytes s.holds in
-      let next : List ℕ = progress_bytes (at_data k.header k.size k.records k.part) in
-      record {
-        room = k.size - length (records_bytes empty_environment k.records);
-        part = k.part;
-        some = k.some;
-        are_bytes = IsBytes-back (header_bytes k.header k.size ++ records_bytes empty_environment k.records) k.part
-            (IsBytes-back (chain_bytes k.files) next (subst IsBytes k.come.spelled s.are));
-        walk = k.walk;
-      }
+      let k = in_data s.bytes s.holds in (k.size - length (records_bytes empty_environment k.records), k.part, k.some, k.in_record)
 
   pub data_advances : (piece : List ℕ) → IsBytes piece
       → (sum : List ℕ) (section : Section) (env : Environment A) (position : Position) (in_progress : Option (Record A)) (used : ℕ)
       (answer : Result (Answer A) Stop)
-      → DataFed d.env d.sum (state_at d.position d.in_progress) env sum section (state_at position in_progress) piece used answer
+      → DataFed d.env d.sum d.position d.in_progress env sum section position in_progress piece used answer
       → Advances d (record d { env = env; section = section; sum = sum; position = position; in_progress = in_progress }) piece used answer
   data_advances piece low sum section env position in_progress used answer fed = λ bytes are holds.
       data_fed d bytes piece (in_data bytes holds) are low sum section env position in_progress used answer fed

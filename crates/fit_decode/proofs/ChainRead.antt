@@ -104,5 +104,7 @@ module _ (files : List (FitFile Global)) (before : Seen) (count : ℕ) (old take
       (taken, eats_all (Err fault) r, e.end, subst (IsChain chain_limit files) (sym e.same) e.whole, e.good)
 
   pub chain_stopped : (fault : Fault) → FileRead files before.bytes old taken had has failed new (Err fault) → IsEnd Global new fault false
-      → (all : List ℕ) × Consumes first has all × EndsReading Global chain_limit (AreChain Global) all has failed fault
-  chain_stopped fault r end = (taken, eats_all (Err fault) r, next_fault files before count old taken had has failed new now behind counted viable fault r end)
+      → (all : List ℕ) × Consumes first has all
+      × EndsReading Global chain_limit (AreChain Global) all (record { before = first; after = has; failed = failed }) fault
+  chain_stopped fault r end =
+      (taken, eats_all (Err fault) r, next_fault files before count old taken had has failed new now behind counted viable first fault r end)

@@ -1,10 +1,10 @@
 -- Bytes in memory are fed to a decoder from their front: what was fed, and the rest.
-use Rattle.std.proofs.Common.{◌≡◌, ℕ, suc, ◌+◌, ◌<◌, List, [], ◌∷◌, ◌++◌, length, take, drop, get_or, None, Result, Ok, Err, refl, sym, ap, ◌∙◌, subst}
-use Rattle.std.proofs.Common.{append_assoc, length-append, arith}
+use Rattle.std.proofs.Common.{◌≡◌, ℕ, suc, ◌+◌, ◌-◌, ◌^◌, ◌<◌, min, List, [], ◌∷◌, ◌++◌, length, take, drop, get_or, None, Result, Ok, Err, refl, sym}
+use Rattle.std.proofs.Common.{ap, ◌∙◌, subst, append_assoc, length-append, arith}
 use Rattle.std.specs.Prelude.{IfErr, IsErr, IsOk, OnOk, ◌↔◌}
 use Rattle.std.specs.declared.alloc.Global.{Global}
-use Rattle.std.proofs.lemmas.List.{append-nil, get_or-append-add, take-append-drop}
-use Rattle.std.proofs.Math.Seq.{drop-cons, take-append-add}
+use Rattle.std.proofs.lemmas.List.{append-nil, get_or-append-add, length-take-le, take-append-drop}
+use Rattle.std.proofs.Math.Seq.{drop-cons, take-append-add, take-append_seam}
 use Rattle.fit_base.specs.Numbers.{IsBytes}
 use Rattle.fit_frame.specs.declared.reason.Reason.{Reason}
 use Rattle.fit_record.specs.declared.file.FitFile.{FitFile}
@@ -12,9 +12,10 @@ use Rattle.fit_record.specs.Files.{IsChain, IsViable, chain_limit}
 use Rattle.fit_decode.specs.declared.event.Fault.{Fault}
 use Rattle.fit_decode.specs.declared.event.Fault.TheVariants.{Refused, Truncated, NoMemory, Read}
 use Rattle.fit_decode.specs.Progress.{Progress, at_header, HasCome}
-use Rattle.fit_decode.specs.Answers.{AreChain, Refuses, Seen, fed}
+use Rattle.fit_decode.specs.Answers.{AreChain, Refuses, Seen, Wants, fed}
 use Rattle.fit_decode.specs.Refusals.{IsRefused}
-use Rattle.fit_decode.specs.Checks.{AreFiles, IsFaultOf, LacksMemory}
+use Rattle.fit_decode.specs.Checks.{AreFiles, IsFaultOf, LacksMemory, LacksMemoryAt, fault_after}
+use Rattle.fit_decode.specs.Memory.{MayTakeMemory}
 use Rattle.fit_decode.proofs.Ended.{chain_come}
 
 -- ---- feeding
@@ -43,6 +44,11 @@ pub feeds_over : (upload : List ℕ) (old new : Seen) (rest : List ℕ) (used : 
 feeds_over upload old new rest used f after viable =
     feeds_on upload old new rest used f (after ∙ ap (λ r. record { bytes = old.bytes ++ take used rest; refusal = r }) f.fresh) viable
 
+-- the same, where what is left has a name
+pub passed_over : (upload : List ℕ) (old new : Seen) (rest left : List ℕ) (used : ℕ) → Feeds upload old rest
+    → new ≡ record old { bytes = old.bytes ++ take used rest } → IsViable Global chain_limit new.bytes → left ≡ drop used rest → Feeds upload new left
+passed_over upload old new rest left used f after viable is = subst (Feeds upload new) (sym is) (feeds_over upload old new rest used f after viable)
+
 -- ---- faults
 
 refused_in : (front rest : List ℕ) (used place : ℕ) (reason : Reason) → place ≡ length front + used → used < length rest
@@ -58,15 +64,85 @@ refused_in front rest used place reason is within why = (
 -- what a decoder says that isn't fed on
 pub record Stops (old : Seen) (rest : List ℕ) (new : Seen) (fault : Fault) : Type 0 where
   pub refused : (place : ℕ) (reason : Reason) → fault ≡ Refused place reason → Refuses Global old rest new place reason
+  pub memory : (used : ℕ) → fault ≡ NoMemory used → Wants Global old rest new used
   pub others : (place : ℕ) → (fault ≡ Truncated place → ⊥) × (fault ≡ Read place → ⊥)
+  pub viable : IsViable Global chain_limit new.bytes
 
-pub stopped : (upload : List ℕ) (old new : Seen) (rest : List ℕ) (fault : Fault) → Feeds upload old rest → Stops old rest new fault → IsFaultOf upload fault
-stopped upload old new rest (Refused place reason) f s =
+-- so says `feed` where it returns this fault
+pub stops : {X : Type 0} (old new : Seen) (rest : List ℕ) (result : Result X Fault) (fault : Fault) → result ≡ Err fault → old.refusal ≡ None
+    → ((place : ℕ) (reason : Reason) → old.refusal ≡ None → result ≡ Err (Refused place reason) → Refuses Global old rest new place reason)
+    → ((used : ℕ) → result ≡ Err (NoMemory used) → Wants Global old rest new used)
+    → ((place : ℕ) → (result ≡ Err (Truncated place) → ⊥) × (result ≡ Err (Read place) → ⊥)) → IsViable Global chain_limit new.bytes
+    → Stops old rest new fault
+stops old new rest result fault is fresh refused memory others viable = record {
+  refused = λ place reason same. refused place reason fresh (is ∙ ap Err same);
+  memory = λ used same. memory used (is ∙ ap Err same);
+  others = λ place. (λ same. (others place).0 (is ∙ ap Err same), λ same. (others place).1 (is ∙ ap Err same));
+  viable = viable;
+}
+
+-- so many bytes of the upload were taken, and they begin a chain
+pub taken_begins : (upload : List ℕ) (seen : Seen) (rest : List ℕ) (count : ℕ) → Feeds upload seen rest → count ≡ length seen.bytes
+    → IsFaultOf upload (NoMemory count)
+taken_begins upload seen rest count f is = (
+  omega (arith, ap length f.joined, length-append seen.bytes rest, is),
+  subst (IsViable Global chain_limit)
+      (sym (ap (λ n. take n upload) is ∙ ap (take (length seen.bytes)) (sym f.joined) ∙ take-append_seam seen.bytes rest)) f.viable,
+)
+
+-- all bytes before the rest were taken
+pub taken_before : (upload : List ℕ) (seen : Seen) (rest : List ℕ) → Feeds upload seen rest → IsFaultOf upload (NoMemory (length upload - length rest))
+taken_before upload seen rest f =
+    taken_begins upload seen rest (length upload - length rest) f (omega (arith, ap length f.joined, length-append seen.bytes rest))
+
+-- the bytes before the rest are counted too
+pub stopped : (upload : List ℕ) (old new : Seen) (rest : List ℕ) (fault : Fault) → length upload < 2 ^ 64 → Feeds upload old rest → Stops old rest new fault
+    → IsFaultOf upload (fault_after (length upload - length rest) fault)
+stopped upload old new rest (Refused place reason) short f s =
     let r = s.refused place reason refl in
     subst (λ bytes. IsFaultOf bytes (Refused place reason)) f.joined (refused_in old.bytes rest r.used place reason r.is_place r.within r.why)
-stopped upload old new rest (Truncated place) f s = absurd ((s.others place).0 refl)
-stopped upload old new rest (NoMemory used) f s = tt
-stopped upload old new rest (Read place) f s = absurd ((s.others place).1 refl)
+stopped upload old new rest (Truncated place) short f s = absurd ((s.others place).0 refl)
+stopped upload old new rest (NoMemory used) short f s =
+    let w = s.memory used refl in
+    let whole : length old.bytes + length rest ≡ length upload = sym (length-append old.bytes rest) ∙ ap length f.joined in
+    taken_begins upload new (drop used rest) (min (used + (length upload - length rest)) (2 ^ 64 - 1))
+    (feeds_on upload old new rest used f w.after s.viable)
+    (omega (
+      arith,
+      short,
+      whole,
+      ap (λ (v : Seen). length v.bytes) w.after,
+      length-append old.bytes (take used rest),
+      length-take-le used rest (omega (arith, w.within)),
+      w.within,
+    ))
+stopped upload old new rest (Read place) short f s = absurd ((s.others place).1 refl)
+
+-- where memory was refused
+wants_in : (front rest : List ℕ) (used place : ℕ) → place ≡ length front + used → used < length rest
+    → IsViable Global chain_limit (front ++ take (used + 1) rest) → MayTakeMemory Global (front ++ take used rest) (get_or rest used 0)
+    → LacksMemoryAt (front ++ rest) (NoMemory place)
+wants_in front rest used place is within viable takes = (
+  omega (arith, length-append front rest),
+  subst (IsViable Global chain_limit)
+      (sym (take-append-add front rest (used + 1)) ∙ ap (λ n. take n (front ++ rest)) (omega (arith, is))) viable,
+  subst (λ bytes. MayTakeMemory Global bytes (get_or (front ++ rest) place 0))
+      (sym (take-append-add front rest used) ∙ ap (λ n. take n (front ++ rest)) (sym is))
+      (subst (MayTakeMemory Global (front ++ take used rest))
+      (sym (get_or-append-add front rest used 0) ∙ ap (λ n. get_or (front ++ rest) n 0) (sym is)) takes),
+)
+
+pub stopped_at : (upload : List ℕ) (old new : Seen) (rest : List ℕ) (fault : Fault) → length upload < 2 ^ 64 → Feeds upload old rest → Stops old rest new fault
+    → LacksMemoryAt upload (fault_after (length upload - length rest) fault)
+stopped_at upload old new rest (Refused place reason) short f s = tt
+stopped_at upload old new rest (Truncated place) short f s = tt
+stopped_at upload old new rest (NoMemory used) short f s =
+    let w = s.memory used refl in
+    let whole : length old.bytes + length rest ≡ length upload = sym (length-append old.bytes rest) ∙ ap length f.joined in
+    let place = min (used + (length upload - length rest)) (2 ^ 64 - 1) in
+    subst (λ bytes. LacksMemoryAt bytes (NoMemory place)) f.joined
+    (wants_in old.bytes rest used place (omega (arith, short, whole, w.within)) w.within w.next w.takes)
+stopped_at upload old new rest (Read place) short f s = tt
 
 -- ---- chains
 
@@ -80,7 +156,7 @@ fault_of_chain bytes (Refused place reason) are (within, why) (files, chain) =
     let all = sym (at_place bytes place within) in
     absurd (why.refused (drop (suc place) bytes, files, subst IsBytes all are, subst (IsChain chain_limit files) all chain))
 fault_of_chain bytes (Truncated place) are (end, viable, none) chain = absurd (none chain)
-fault_of_chain bytes (NoMemory used) are fault chain = tt
+fault_of_chain bytes (NoMemory used) are begins chain = tt
 fault_of_chain bytes (Read place) are fault chain = fault
 
 -- ---- the end

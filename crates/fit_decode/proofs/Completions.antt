@@ -1,5 +1,5 @@
 -- A file is completed from what can go on.
-use Rattle.std.proofs.Common.{◌≡◌, inl, inr, ℕ, zero, suc, ◌+◌, ◌-◌, ◌≤◌, List, [], ◌∷◌, ◌++◌, length, refl, sym, ap, ◌∙◌, subst, arith, append_assoc}
+use Rattle.std.proofs.Common.{◌≡◌, inl, inr, ℕ, zero, suc, ◌+◌, ◌-◌, ◌<◌, ◌≤◌, List, [], ◌∷◌, ◌++◌, length, refl, sym, ap, ◌∙◌, subst, arith, append_assoc}
 use Rattle.std.proofs.Common.{length-append, lit<}
 use Rattle.std.specs.List.{AllByRecursion}
 use Rattle.std.proofs.lemmas.Bool.{cases_lt}
@@ -19,6 +19,7 @@ use Rattle.fit_record.specs.Records.{AllFit, records_bytes}
 use Rattle.fit_record.specs.Files.{file_bytes, chain_bytes, IsWellFormed, IsViable, CanFill}
 use Rattle.fit_record.proofs.LargeRooms.{six_and_more}
 use Rattle.fit_record.proofs.RecordLists.{all_fit-append, records_bytes-append}
+use Rattle.fit_step.specs.InProgress.{FillFrom}
 use Rattle.fit_decode.specs.Progress.{Progress, at_header, at_data, progress_bytes, IsUnfinished, HasCome}
 use Rattle.fit_decode.specs.GoingOn.{DataGoesOn, GoesOn, ChainGoesOn}
 
@@ -72,13 +73,15 @@ of_header {A} front begins =
     (sum_bytes (checksum (header_bytes h n ++ records_bytes empty_environment rs)))))
     (ap (λ b. (b ++ records_bytes empty_environment rs) ++ sum) (sym begins.whole.is.0.1) ∙ regroup front begins.more (records_bytes empty_environment rs) sum)
 
-module _ {A : Type 0} (h : Header) (n : ℕ) (records : List (Record A)) (part : List ℕ) (u : IsUnfinished (at_data h n records part)) where
+module _ {A : Type 0} (h : Header) (n : ℕ) (records : List (Record A)) (part : List ℕ) (header : HeaderFits h n) (fits : AllFit empty_environment records)
+    (within : length (records_bytes empty_environment records) ≤ n) where
   of_data : (room : ℕ) → room ≡ n - length (records_bytes empty_environment records)
       → DataGoesOn (learn_all empty_environment records) room (little_bytes 2 (checksum (header_bytes h n ++ records_bytes empty_environment records))) part
       → Completion A (progress_bytes (at_data h n records part))
   of_data zero left (rest, goes) =
       let here : List ℕ = header_bytes h n ++ records_bytes empty_environment records in
-      of_records h n records (here ++ part) rest u.0 u.1 (omega (arith, left, u.2)) (IsBytes-back part rest (subst IsBytes goes (sum_bytes (checksum here))))
+      of_records h n records (here ++ part) rest header fits (omega (arith, left, within))
+      (IsBytes-back part rest (subst IsBytes goes (sum_bytes (checksum here))))
       (ap (λ s. here ++ s) goes ∙ sym (append_assoc here part rest))
   of_data (suc room) left (rs, rest, are, fit, spelled, total) =
       let all = records ++ rs in
@@ -86,14 +89,14 @@ module _ {A : Type 0} (h : Header) (n : ℕ) (records : List (Record A)) (part :
       records_bytes-append empty_environment records rs ∙ ap (λ b. records_bytes empty_environment records ++ b) spelled in
       let sum : List ℕ = little_bytes 2 (checksum (header_bytes h n ++ records_bytes empty_environment all)) in
       let size : length (records_bytes empty_environment all) ≡ n =
-      omega (arith, ap length whole, length-append (records_bytes empty_environment records) (part ++ rest), length-append part rest, total, left, u.2) in
-      of_records h n all (progress_bytes (at_data h n records part)) (rest ++ sum) u.0 (all_fit-append empty_environment records rs u.1 fit) size
+      omega (arith, ap length whole, length-append (records_bytes empty_environment records) (part ++ rest), length-append part rest, total, left, within) in
+      of_records h n all (progress_bytes (at_data h n records part)) (rest ++ sum) header (all_fit-append empty_environment records rs fits fit) size
       (IsBytes-append rest sum are (sum_bytes (checksum (header_bytes h n ++ records_bytes empty_environment all))))
       (ap (λ b. (header_bytes h n ++ b) ++ sum) whole ∙ regroup_fill (header_bytes h n) (records_bytes empty_environment records) part rest sum)
 
 pub completed : {A : Type 0} (g : Progress A) → IsUnfinished g → GoesOn g → Completion A (progress_bytes g)
 completed (at_header front) u goes = of_header front goes
-completed (at_data h n records part) u goes = of_data h n records part u (n - length (records_bytes empty_environment records)) refl goes
+completed (at_data h n records part) u goes = of_data h n records part u.0 u.1 u.2 (n - length (records_bytes empty_environment records)) refl goes
 
 -- ---- a chain
 
@@ -107,23 +110,45 @@ chain_bytes-append [] f = append-nil (file_bytes f)
 chain_bytes-append (d ∷ fs) f = ap (λ b. file_bytes d ++ b) (chain_bytes-append fs f) ∙ sym (append_assoc (file_bytes d) (chain_bytes fs) (file_bytes f))
 
 -- with one file more
+one_file_more : {A : Type 0} (limit : ℕ) (fs : List (FitFile A)) (front bytes : List ℕ) → AllByRecursion IsWellFormed fs → bytes ≡ chain_bytes fs ++ front
+    → IsBytes bytes → length fs + 1 ≤ limit → Completion A front → IsViable A limit bytes
+one_file_more limit fs front bytes files spelled are within c = (
+  c.more,
+  fs ++ c.file ∷ [],
+  IsBytes-append bytes c.more are c.are_bytes,
+  (
+    record {
+      some = omega (arith, length-append fs (c.file ∷ []));
+      within = omega (arith, length-append fs (c.file ∷ []), within);
+      each = all_append fs c.file files c.well;
+    },
+    ap (λ b. b ++ c.more) spelled ∙ append_assoc (chain_bytes fs) front c.more ∙ ap (λ b. chain_bytes fs ++ b) (sym c.spelled)
+        ∙ sym (chain_bytes-append fs c.file),
+  ),
+)
+
 one_more : {A : Type 0} (limit : ℕ) (fs : List (FitFile A)) (g : Progress A) (bytes : List ℕ) → HasCome fs g bytes → IsBytes bytes → length fs + 1 ≤ limit
     → GoesOn g → IsViable A limit bytes
-one_more {A} limit fs g bytes come are within goes =
-    let c = completed g come.next goes in (
-      c.more,
-      fs ++ c.file ∷ [],
-      IsBytes-append bytes c.more are c.are_bytes,
-      (
-        record {
-          some = omega (arith, length-append fs (c.file ∷ []));
-          within = omega (arith, length-append fs (c.file ∷ []), within);
-          each = all_append fs c.file come.files c.well;
-        },
-        ap (λ b. b ++ c.more) come.spelled ∙ append_assoc (chain_bytes fs) (progress_bytes g) c.more ∙ ap (λ b. chain_bytes fs ++ b) (sym c.spelled)
-            ∙ sym (chain_bytes-append fs c.file),
-      ),
-    )
+one_more limit fs g bytes come are within goes =
+    one_file_more limit fs (progress_bytes g) bytes come.files come.spelled are within (completed g come.next goes)
+
+-- bytes that go on where the data section can be filled begin a chain
+pub filled_viable : {A : Type 0} (limit : ℕ) (fs : List (FitFile A)) (h : Header) (n : ℕ) (records : List (Record A)) (part bytes y : List ℕ)
+    → HasCome fs (at_data h n records part) bytes → IsBytes (bytes ++ y) → length fs + 1 ≤ limit → 0 < n - length (records_bytes empty_environment records)
+    → FillFrom (learn_all empty_environment records) (n - length (records_bytes empty_environment records)) (part ++ y) → IsViable A limit (bytes ++ y)
+filled_viable {A} limit fs h n records part bytes y come are within some fill =
+    let room = n - length (records_bytes empty_environment records) in
+    let joined : bytes ++ y ≡ chain_bytes fs ++ progress_bytes (at_data h n records (part ++ y)) =
+    ap (λ b. b ++ y) come.spelled ∙ append_assoc (chain_bytes fs) (progress_bytes (at_data h n records part)) y
+    ∙ ap (λ b. chain_bytes fs ++ b) (append_assoc (header_bytes h n ++ records_bytes empty_environment records) part y) in
+    one_file_more limit fs (progress_bytes (at_data h n records (part ++ y))) (bytes ++ y) come.files joined are within
+    (of_data h n records (part ++ y) come.next.0 come.next.1 come.next.2 room refl (filled room some fill))
+  where
+    filled : (room : ℕ) → 0 < room → FillFrom (learn_all empty_environment records) room (part ++ y)
+        → DataGoesOn (learn_all empty_environment records) room
+        (little_bytes 2 (checksum (header_bytes h n ++ records_bytes empty_environment records))) (part ++ y)
+    filled zero some fill = absurd (omega arith)
+    filled (suc room) some fill = fill
 
 -- bytes that have come to where a chain can go on begin one
 pub goes_viable : {A : Type 0} (limit : ℕ) (fs : List (FitFile A)) (g : Progress A) (bytes : List ℕ) → HasCome fs g bytes → IsBytes bytes

@@ -12,9 +12,10 @@ use Rattle.fit_decode.specs.Events.{file_end}
 use Rattle.fit_decode.specs.Answers.{Least}
 use Rattle.fit_decode.specs.inner.Turns.{ComesToRecords, ComesTo, Ended, progress_header}
 use Rattle.fit_decode.proofs.OnePlace.{one_place}
-use Rattle.fit_decode.proofs.Splits.{split}
+use Rattle.fit_step.proofs.Splits.{split}
 use Rattle.fit_decode.proofs.Whole.{NoHeader, unfinished, no_header_in, no_header_before}
 use Rattle.fit_decode.proofs.Gathered.{events_here, are_here, stands_with, ends_with}
+use Rattle.fit_decode.proofs.Telling.{least_for}
 
 -- so many bytes of the front of a list are the front
 front_of : (k : ℕ) (piece more rest : List ℕ) → take k piece ≡ more ++ rest → take (length more) piece ≡ more
@@ -62,7 +63,7 @@ pub ends_file : {A : Type 0} (files : List (FitFile A)) (head : Option Header) (
     → ComesToRecords files head records p → Least A p piece k file_end
     → (h : Header) × (head ≡ Some h) × Ended files (record { header = h; records = records }) (p ++ take k piece)
 ends_file {A} files head records p piece k s least =
-    let told = least (events_here files head records p s) (are_here files head records p s) in
+    let told = least_for p piece k file_end least (events_here files head records p s) (are_here files head records p s) in
     let there = ends_with files head records p s (p ++ take k piece) told.0 in
     let f : FitFile A = record { header = there.0; records = records } in
     let alone = header_alone there.2.progress there.2.head_is in

@@ -20,7 +20,7 @@ use Rattle.fit_decode.specs.Refusals.{IsRefused}
 use Rattle.fit_decode.specs.inner.Turns.{ComesTo, Ended, FileTold, LastPiece}
 use Rattle.fit_decode.proofs.Completions.{all_append, chain_bytes-append}
 use Rattle.fit_decode.proofs.OnePlace.{no_file}
-use Rattle.fit_decode.proofs.Splits.{split}
+use Rattle.fit_step.proofs.Splits.{split}
 use Rattle.fit_decode.proofs.Whole.{unfinished}
 
 -- a list, parted at a place

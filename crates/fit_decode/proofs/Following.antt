@@ -17,7 +17,7 @@ use Rattle.fit_record.proofs.OneRecord.{same_record, no_bytes}
 use Rattle.fit_record.proofs.OneFile.{same_file}
 use Rattle.fit_decode.specs.Progress.{Progress, at_header, at_data, progress_bytes, IsPartial, IsUnfinished, HasCome}
 use Rattle.fit_decode.proofs.OnePlace.{no_header, no_record}
-use Rattle.fit_decode.proofs.Splits.{split}
+use Rattle.fit_step.proofs.Splits.{split}
 
 -- ---- whole files
 

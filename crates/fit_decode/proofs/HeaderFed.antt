@@ -20,6 +20,7 @@ use Rattle.fit_decode.proofs.ViableGoesOn.{next_goes}
 use Rattle.fit_decode.proofs.Completions.{goes_viable}
 use Rattle.fit_decode.proofs.Whole.{NoHeader, no_header_before, begun_header, before_header}
 use Rattle.fit_decode.proofs.Next.{more_header, whole_header, quiet, told, header_told}
+use Rattle.fit_decode.proofs.Telling.{quiet_of, least_of, quiet_for}
 
 -- a limit that isn't reached gives no reason
 pub not_full : (A : Type 0) (limit files : ℕ) (g : Progress A) (b : ℕ) → files < limit → reason_at limit files g b ≡ reason_in_file g b
@@ -43,12 +44,12 @@ module _ {A : Type 0} (files : List (FitFile A)) (front bytes piece : List ℕ) 
 
   -- bytes with which the header isn't whole tell nothing
   pub header_quiet : (k : ℕ) → k ≤ length piece → NoHeader (front ++ take k piece) → Quiet A bytes piece k
-  header_quiet k within none = λ events are j less.
-      quiet files (at_header front) (at_header (front ++ take j piece)) bytes (bytes ++ take j piece) come (header_fronts k within none j less) refl events are
+  header_quiet k within none = quiet_of bytes piece k files (at_header front) come (λ events are j less.
+      quiet files (at_header front) (at_header (front ++ take j piece)) bytes (bytes ++ take j piece) come (header_fronts k within none j less) refl events are)
 
   -- those with which it is whole tell it, and fewer nothing
   pub header_least : (k : ℕ) (h : Header) (n : ℕ) → k ≤ length piece → IsFileHeader h n (front ++ take k piece) → Least A bytes piece k (header h n)
-  header_least k h n within whole = λ events are. (
+  header_least k h n within whole = least_of bytes piece k files (at_header front) come (header h n) (λ events are. (
     told files files (at_header front) (at_data h n [] []) bytes (bytes ++ take k piece) (header h n) come
         (whole_header files front bytes (take k piece) h n come whole) (header_told files front h n) events are,
     λ j less.
@@ -57,8 +58,8 @@ module _ {A : Type 0} (files : List (FitFile A)) (front bytes piece : List ℕ) 
         ap (λ l. front ++ l) (front_of piece j k (omega (arith, less)) within) ∙ sym (append_assoc front (take j piece) (take (k - j) (drop j piece))) in
         let none : NoHeader (front ++ take j piece) =
         before_header (front ++ take j piece) (take (k - j) (drop j piece)) h n (subst (IsFileHeader h n) parts whole) (omega (arith, left, less)) in
-        header_quiet j (omega (arith, less, within)) none events are j (omega arith),
-  )
+        quiet_for bytes piece j (header_quiet j (omega (arith, less, within)) none) events are j (omega arith),
+  ))
 
   -- a refused byte
   pub header_refuses : (k : ℕ) (reason : Reason) → k < length piece → length files < chain_limit → IsBytes (bytes ++ take k piece)

@@ -5,8 +5,9 @@ use Rattle.fit_base.specs.declared.number.Order.TheVariants as orders
 use Rattle.fit_frame.specs.declared.header.HeaderSum.TheVariants as sums
 use Rattle.fit_record.specs.declared.message.Record.{Record}
 use Rattle.fit_record.specs.declared.message.Record.TheVariants.{Define, Values}
-use Rattle.fit_decode.specs.Events.{bound, counts_so_far}
-use Rattle.fit_decode.specs.Held.{entries_so_far, items_so_far, held_behind}
+use Rattle.fit_step.specs.Held.{counts_so_far, entries_so_far, items_so_far}
+use Rattle.fit_decode.specs.Events.{bound}
+use Rattle.fit_decode.specs.Held.{held_behind}
 use Rattle.fit_decode.specs.Needs.{missing}
 use Rattle.fit_decode.specs.Progress.{Progress, at_header, at_data}
 use Rattle.fit_record.proofs.KnownFiles.{header_of, field, item, both_architectures}
@@ -56,6 +57,26 @@ counts = refl
 -- Without bit 5 of the record header no developer fields follow.
 counts_without : counts_so_far 0x43 (take 12 two_and_one) ≡ 2
 counts_without = refl
+
+-- A file of 16 bytes of data that begins with this definition, after the record header and some bytes of the definition.
+abbrev in_definition : ℕ → Progress (Unit {0})
+in_definition k = at_data (header_of 14 sums.Zero) 16 [] (0x63 ∷ take k two_and_one)
+
+-- after each byte but the last
+abbrev cuts : List ℕ
+cuts = 0 ∷ 1 ∷ 2 ∷ 3 ∷ 4 ∷ 5 ∷ 6 ∷ 7 ∷ 8 ∷ 9 ∷ 10 ∷ 11 ∷ 12 ∷ 13 ∷ 14 ∷ []
+
+-- A field counts with its third byte.
+held_in_definition : (map (λ k. held_behind (in_definition k)) cuts) ≡ 0 ∷ 0 ∷ 0 ∷ 0 ∷ 0 ∷ 0 ∷ 0 ∷ 0 ∷ 1 ∷ 1 ∷ 1 ∷ 2 ∷ 2 ∷ 2 ∷ 2 ∷ []
+held_in_definition = refl
+
+-- The two fields are bounded from the byte on that counts them, and so is the developer field.
+bound_in_definition : (map (λ k. bound (in_definition k)) cuts) ≡ 0 ∷ 0 ∷ 0 ∷ 0 ∷ 0 ∷ 2 ∷ 2 ∷ 2 ∷ 2 ∷ 2 ∷ 2 ∷ 2 ∷ 3 ∷ 3 ∷ 3 ∷ []
+bound_in_definition = refl
+
+-- Of the data 15 bytes are missing behind the record header, and the two of the closing sum.
+missing_in_definition : (map (λ k. missing 0 (in_definition k)) cuts) ≡ 17 ∷ 16 ∷ 15 ∷ 14 ∷ 13 ∷ 12 ∷ 11 ∷ 10 ∷ 9 ∷ 8 ∷ 7 ∷ 6 ∷ 5 ∷ 4 ∷ 3 ∷ []
+missing_in_definition = refl
 
 -- ---- items
 

@@ -13,28 +13,23 @@ use Rattle.fit_record.specs.Environment.{Environment, empty_environment, learn_a
 use Rattle.fit_record.specs.Records.{records_bytes}
 use Rattle.fit_record.specs.Files.{chain_bytes}
 use Rattle.fit_record.specs.Sizes.{environment_size}
-use Rattle.fit_record.proofs.SixteenPlaces.{sixteen_places}
-use Rattle.fit_step.specs.Machine.{State, start, Walks}
-use Rattle.fit_step.specs.Parts.{part_bytes}
-use Rattle.fit_step.specs.Places.{state_at}
-use Rattle.fit_step.specs.Tests.{tests_of}
+use Rattle.fit_step.specs.Held.{held_of_record, part_size}
+use Rattle.fit_step.specs.InProgress.{in_progress_size, IsCountable}
+use Rattle.fit_step.specs.InProgress.{IsInProgress}
+use Rattle.fit_step.proofs.HeldInProgress.{held_is_of_bytes, held_is_limited}
+use Rattle.fit_step.proofs.RecordsInProgress.{idle_between_records}
 use Rattle.fit_decode.specs.declared.decoder.Decoder.TheInside.{Inside}
 use Rattle.fit_decode.specs.declared.section.Section.{Section}
 use Rattle.fit_decode.specs.declared.section.Section.TheVariants.{Header, Data, ClosingSum}
 use Rattle.fit_decode.specs.Progress.{at_header, at_data, progress_bytes, HasCome}
-use Rattle.fit_decode.specs.Events.{part_size, bound}
+use Rattle.fit_decode.specs.Events.{bound}
 use Rattle.fit_decode.specs.Answers.{Seen, AreChain}
-use Rattle.fit_decode.specs.Held.{IsHeld, bound_limit, held_of_record}
-use Rattle.fit_decode.specs.inner.InProgress.{in_progress_size, IsCountable}
-use Rattle.fit_decode.specs.inner.Kept.{Fields, InHeader, HoldsAt}
+use Rattle.fit_decode.specs.Held.{IsHeld, bound_limit}
+use Rattle.fit_decode.specs.inner.Kept.{Fields, InData, InHeader, HoldsAt}
 use Rattle.fit_decode.specs.inner.Invariant.{IsSoundDecoder, fields_inside}
 use Rattle.fit_decode.specs.inner.Scans.{half_sum}
 use Rattle.fit_decode.specs.Laws.{BoundsAreLimited}
-use Rattle.fit_decode.proofs.Walked.{come}
 use Rattle.fit_decode.proofs.Ended.{chain_ended}
-use Rattle.fit_decode.proofs.Limits.{AreLimited, all_limited, nothing_limited, environment_limited}
-use Rattle.fit_decode.proofs.InProgress.{part_held, part_small, part_limited}
-use Rattle.fit_decode.proofs.EntriesSoFar.{part_is}
 
 nothing_known : (A : Type 0) → environment_size {A = A} empty_environment ≡ 0
 nothing_known A = refl
@@ -50,23 +45,18 @@ module _ {A : Type 0} (files : List (FitFile A)) (h : Rattle.fit_frame.specs.dec
   pub part_are : IsBytes part
   part_are = IsBytes-back (header_bytes h n ++ records_bytes empty_environment records) part next_are
 
-  pub records_limited : AreLimited (learn_all empty_environment records)
-  records_limited =
-      all_limited empty_environment records here.next.1
-      (IsBytes-back (header_bytes h n) (records_bytes empty_environment records)
-      (IsBytes-front (header_bytes h n ++ records_bytes empty_environment records) part next_are)) (nothing_limited A)
+  pub records_are : IsBytes (records_bytes empty_environment records)
+  records_are = IsBytes-back (header_bytes h n) (records_bytes empty_environment records)
+      (IsBytes-front (header_bytes h n ++ records_bytes empty_environment records) part next_are)
 
   none_or : (b : Bool) (m : ℕ) → cond b 0 m ≤ m
   none_or true m = omega arith
   none_or false m = omega arith
 
   limited_data : bound (at_data h n records part) ≤ bound_limit
-  limited_data = omega (
-    arith,
-    none_or (length (records_bytes empty_environment records) == n) (part_size (learn_all empty_environment records) part),
-    environment_limited (learn_all empty_environment records) (sixteen_places records) records_limited,
-    part_limited (learn_all empty_environment records) part records_limited part_are,
-  )
+  limited_data =
+      let limits = held_is_limited records part here.next.1 records_are part_are in
+      omega (arith, none_or (length (records_bytes empty_environment records) == n) (part_size (learn_all empty_environment records) part), limits.0, limits.1)
 
 pub limited_bound : {A : Type 0} → BoundsAreLimited A
 limited_bound files (at_header front) bytes here are = omega arith
@@ -78,38 +68,37 @@ module _ {A : Type 0} (d : Fields A) (bytes : List ℕ) (are : IsBytes bytes) wh
   nothing_held : d.env ≡ empty_environment → d.in_progress ≡ None → environment_size d.env + in_progress_size d.in_progress ≡ 0
   nothing_held known idle = omega (arith, ap environment_size known ∙ nothing_known A, ap in_progress_size idle)
 
+  kept_in_data : (k : InData d bytes) → IsCountable d.in_progress
+      × (in_progress_size d.in_progress ≡ held_of_record (learn_all empty_environment k.records) k.part)
+      × (in_progress_size d.in_progress ≤ part_size (learn_all empty_environment k.records) k.part)
+  kept_in_data k =
+      let room : ℕ = k.size - length (records_bytes empty_environment k.records) in
+      held_is_of_bytes k.records room k.part d.position d.in_progress k.come.next.1
+      (records_are k.files k.header k.size k.records k.part bytes k.come are)
+      (subst (λ e. IsInProgress e room k.part d.position d.in_progress) k.known k.in_record)
+
   held_at : (s : Section) → HoldsAt s d bytes → IsHeld A bytes (environment_size d.env + in_progress_size d.in_progress)
   held_at Header k =
       let none = nothing_held k.known k.idle in
       record { files = k.files; progress = at_header d.sum; come = k.come; is = none; within = omega (arith, none); all = λ _. none }
   held_at Data k =
       let e : Environment A = learn_all empty_environment k.records in
-      let room : ℕ = k.size - length (records_bytes empty_environment k.records) in
-      let now : State A = state_at d.position d.in_progress in
-      let place = come d.env room k.part now k.walk (part_are k.files k.header k.size k.records k.part bytes k.come are) in
-      let held = part_held d.env now.room place.of place.is_part in
-      let same : in_progress_size d.in_progress ≤ part_size d.env k.part =
-      subst (λ l. in_progress_size d.in_progress ≤ part_size d.env l) place.spelled
-      (subst (λ (t : State A). in_progress_size t.in_progress ≤ part_size d.env (part_bytes d.env place.of)) (sym place.is) held) in
+      let kept = kept_in_data k in
       let known = ap environment_size k.known in
-      let limited : AreLimited d.env = subst AreLimited (sym k.known) (records_limited k.files k.header k.size k.records k.part bytes k.come are) in
       let some : (length (records_bytes empty_environment k.records) == k.size) ≡ false =
       ne_eqb (length (records_bytes empty_environment k.records)) k.size (λ all. let more = k.some in omega (arith, more, all)) in
       let exact : in_progress_size d.in_progress ≡ cond (length (records_bytes empty_environment k.records) == k.size) 0 (held_of_record e k.part) =
-      ap (λ (t : State A). in_progress_size t.in_progress) place.is ∙ part_is d.env now.room place.of limited place.is_part
-      ∙ ap (held_of_record d.env) place.spelled ∙ ap (λ f. held_of_record f k.part) k.known
-      ∙ sym (cond-false (length (records_bytes empty_environment k.records) == k.size) 0 (held_of_record e k.part) some) in
-      let at_part = ap (λ f. part_size f k.part) k.known in
+      kept.1 ∙ sym (cond-false (length (records_bytes empty_environment k.records) == k.size) 0 (held_of_record e k.part) some) in
       let counted = cond-false (length (records_bytes empty_environment k.records) == k.size) 0 (part_size e k.part) some in
       record {
         files = k.files;
         progress = at_data k.header k.size k.records k.part;
         come = k.come;
         is = omega (arith, known, exact);
-        within = omega (arith, known, at_part, same, counted);
+        within = omega (arith, known, kept.2, counted);
         all = λ idle.
-            let begins : start room ≡ now = subst (λ l. Walks d.env (tests_of d.env) (start room) l now) idle k.walk in
-            let none : in_progress_size d.in_progress ≡ 0 = ap (λ (t : State A). in_progress_size t.in_progress) (sym begins) in
+            let none : in_progress_size d.in_progress ≡ 0 =
+            ap in_progress_size ((idle_between_records d.env _ k.part d.position d.in_progress k.in_record).1 idle) in
             let no_part : part_size e k.part ≡ 0 = ap (part_size e) idle in
             omega (arith, known, none, no_part, counted);
       }
@@ -139,13 +128,7 @@ module _ {A : Type 0} (d : Fields A) (bytes : List ℕ) (are : IsBytes bytes) wh
   small_at : (s : Section) → HoldsAt s d bytes → IsCountable d.in_progress
   small_at Header k = subst IsCountable (sym k.idle) tt
   small_at ClosingSum k = subst IsCountable (sym k.idle) tt
-  small_at Data k =
-      let now : State A = state_at d.position d.in_progress in
-      let part = part_are k.files k.header k.size k.records k.part bytes k.come are in
-      let place = come d.env (k.size - length (records_bytes empty_environment k.records)) k.part now k.walk part in
-      let limited : AreLimited d.env = subst AreLimited (sym k.known) (records_limited k.files k.header k.size k.records k.part bytes k.come are) in
-      let few = subst (λ l. part_size d.env l ≤ 130560) (sym place.spelled) (part_limited d.env k.part limited part) in
-      subst (λ (t : State A). IsCountable t.in_progress) (sym place.is) (part_small d.env now.room place.of place.is_part few)
+  small_at Data k = (kept_in_data k).0
 
 -- ---- what a caller sees
 

@@ -1,27 +1,24 @@
 -- How many bytes are to come, by the fields, are those that are missing by the bytes fed.
-use Rattle.std.proofs.Common.{◌≡◌, ℕ, ◌+◌, ◌-◌, ◌<◌, ◌^◌, Bool, true, false, List, [], ◌∷◌, ◌++◌, length, take, drop, refl, sym, ap, ◌∙◌, subst, arith, None}
+use Rattle.std.proofs.Common.{◌≡◌, ℕ, ◌+◌, ◌-◌, ◌<◌, ◌^◌, Bool, true, false, List, [], ◌∷◌, length, take, drop, refl, sym, ap, ◌∙◌, subst, arith, None}
 use Rattle.std.specs.Prelude.{if◌then◌else◌}
 use Rattle.fit_base.specs.declared.number.Order.TheVariants.{Little}
 use Rattle.fit_base.specs.Numbers.{IsBytes, number}
 use Rattle.fit_base.proofs.NumberLaws.{number-below}
-use Rattle.fit_base.proofs.ByteLists.{IsBytes-take, IsBytes-drop, IsBytes-back}
+use Rattle.fit_base.proofs.ByteLists.{IsBytes-take, IsBytes-drop}
 use Rattle.fit_sum.specs.Checksum.{checksum}
-use Rattle.fit_frame.specs.Header.{header_bytes}
 use Rattle.fit_frame.specs.Beginning.{Seen}
 use Rattle.fit_record.specs.Environment.{empty_environment}
 use Rattle.fit_record.specs.Records.{records_bytes}
-use Rattle.fit_record.specs.Files.{chain_bytes}
-use Rattle.fit_step.specs.Places.{state_at}
+use Rattle.fit_step.proofs.RecordsInProgress.{records_in_progress}
 use Rattle.fit_decode.specs.declared.decoder.Decoder.TheInside.{Inside}
 use Rattle.fit_decode.specs.declared.section.Section.{Section}
 use Rattle.fit_decode.specs.declared.section.Section.TheVariants.{Header, Data, ClosingSum}
-use Rattle.fit_decode.specs.Progress.{at_header, at_data, progress_bytes}
+use Rattle.fit_decode.specs.Progress.{at_header, at_data}
 use Rattle.fit_decode.specs.Needs.{missing, Needs}
 use Rattle.fit_decode.specs.Answers.{Seen as Fed}
 use Rattle.fit_decode.specs.inner.Scans.{half_sum}
 use Rattle.fit_decode.specs.inner.Kept.{Fields, HoldsAt, Holds, to_come}
 use Rattle.fit_decode.specs.inner.Invariant.{IsSoundDecoder, fields_inside}
-use Rattle.fit_decode.proofs.Walked.{come}
 
 -- the number in four bytes
 pub four_bytes_below : (all some bytes : List ℕ) (n : ℕ) → IsBytes all → some ≡ drop 4 all → bytes ≡ take 4 some → length bytes ≡ 4 → n ≡ number Little bytes
@@ -49,10 +46,8 @@ module _ {A : Type 0} (d : Fields A) (bytes : List ℕ) (are : IsBytes bytes) wh
   }
   needed_at Data k =
       let taken : ℕ = length (records_bytes empty_environment k.records) in
-      let part_are : IsBytes k.part = IsBytes-back (header_bytes k.header k.size ++ records_bytes empty_environment k.records) k.part
-      (IsBytes-back (chain_bytes k.files) (progress_bytes (at_data k.header k.size k.records k.part)) (subst IsBytes k.come.spelled are)) in
-      let place = come d.env (k.size - taken) k.part (state_at d.position d.in_progress) k.walk part_are in
-      record { files = k.files; progress = at_data k.header k.size k.records k.part; come = k.come; is = omega (arith, place.total, k.come.next.2) }
+      let left = (records_in_progress d.env (k.size - taken) k.part d.position d.in_progress k.in_record).2 in
+      record { files = k.files; progress = at_data k.header k.size k.records k.part; come = k.come; is = omega (arith, left, k.come.next.2) }
   needed_at ClosingSum k = record {
     files = k.files;
     progress = at_data k.header k.size k.records (half_sum (checksum d.sum) d.half);

@@ -9,15 +9,16 @@ use Rattle.fit_frame.specs.Header.{HeaderFits, header_bytes}
 use Rattle.fit_frame.specs.Beginning.{IsFileHeader}
 use Rattle.fit_record.specs.declared.file.FitFile.{FitFile}
 use Rattle.fit_record.specs.declared.message.Record.{Record}
-use Rattle.fit_record.specs.Environment.{Environment, empty_environment, learn, learn_all}
+use Rattle.fit_record.specs.Environment.{Environment, empty_environment, learn_all}
 use Rattle.fit_record.specs.Records.{Fits, record_bytes, records_bytes}
 use Rattle.fit_record.specs.Files.{file_bytes, chain_bytes}
-use Rattle.fit_record.proofs.RecordLists.{all_fit-append, records_bytes-append, learn_all-append}
+use Rattle.fit_record.proofs.RecordLists.{all_fit-append, records_bytes-append}
 use Rattle.fit_decode.specs.Progress.{Progress, at_header, at_data, progress_bytes, IsPartial, IsUnfinished, HasCome}
 use Rattle.fit_decode.specs.Events.{Event, header, item, file_end, file_events, progress_events, AreEvents}
 use Rattle.fit_decode.proofs.Completions.{all_append, chain_bytes-append}
 use Rattle.fit_decode.proofs.OneReason.{one_list_of_events}
-use Rattle.fit_decode.proofs.Whole.{NoHeader, unfinished, NoRecord, partial, partial_nothing}
+use Rattle.fit_step.specs.InProgress.{NoRecord}
+use Rattle.fit_decode.proofs.Whole.{NoHeader, unfinished, partial, partial_nothing}
 
 -- the same files, and more of the next one
 pub more_of : {A : Type 0} (fs : List (FitFile A)) (g k : Progress A) (bytes y : List ℕ) → HasCome fs g bytes → IsUnfinished k
@@ -83,16 +84,13 @@ module _ {A : Type 0} (fs : List (FitFile A)) (h : Header) (n : ℕ) (records : 
       ∙ ap (λ b. header_bytes h n ++ b) (all ∙ ap (λ b. records_bytes empty_environment records ++ b) spelled)
       ∙ sym (append_assoc (header_bytes h n) (records_bytes empty_environment records) (part ++ y)) ∙ regrouped)
 
-  -- what a whole record leaves of the room, and what is known behind it
+  -- what a whole record leaves of the room
   pub room_behind : (r : Record A) → length (record_bytes known r) ≤ n - taken
       → n - length (records_bytes empty_environment (records ++ r ∷ [])) ≡ n - taken - length (record_bytes known r)
   room_behind r within =
       let size : length (records_bytes empty_environment (records ++ r ∷ [])) ≡ taken + length (record_bytes known r) =
       ap length (one_record_more r) ∙ length-append (records_bytes empty_environment records) (record_bytes known r) in
       omega (arith, size, within)
-
-  pub known_behind : (r : Record A) → learn_all empty_environment (records ++ r ∷ []) ≡ learn known r
-  known_behind r = learn_all-append empty_environment records (r ∷ [])
 
   abbrev file : FitFile A
   file = record { header = h; records = records }

@@ -11,7 +11,7 @@ use Rattle.fit_decode.specs.declared.event.Fault.TheVariants.{Refused, Truncated
 use Rattle.fit_decode.specs.Answers.{Seen, AreChain}
 use Rattle.fit_decode.specs.inner.Between.{IsBehind, IsEnd}
 use Rattle.fit_decode.specs.Progress.{at_header, HasCome}
-use Rattle.fit_decode.specs.Reads.{EndsReading, EndsChain, GivesFile, GivesNext, Past, Taking}
+use Rattle.fit_decode.specs.Reads.{EndsReading, EndsChain, GivesFile, GivesNext, Past, Channel}
 use Rattle.fit_decode.specs.inner.Turns.{ComesTo, Ended, FaultIn, FileTold, FileRead, unrefused}
 use Rattle.fit_decode.proofs.FileGiven.{given, next_bytes}
 use Rattle.fit_decode.proofs.FileRead.{no_file_yet, nothing_viable}
@@ -70,23 +70,24 @@ module _ {A : Type 0} (files : List (FitFile A)) (before : Seen) (count : ℕ) (
 
   -- ---- a fault
 
-  fault_told : (fault : Fault) → FaultIn files taken has failed new fault → IsEnd A new fault false
-      → EndsReading A chain_limit (AreChain A) taken has failed fault
-  fault_told (Refused place reason) (within, near, comes, why, good) open_ = (within, near, why, good)
-  fault_told (Truncated place) (is, end, comes, after, good) open_ = (
+  fault_told : (first : Option (List ℕ)) (fault : Fault) → FaultIn files taken has failed new fault → IsEnd A new fault false
+      → EndsReading A chain_limit (AreChain A) taken (record { before = first; after = has; failed = failed }) fault
+  fault_told first (Refused place reason) (within, near, comes, why, good) open_ = (within, near, why, good)
+  fault_told first (Truncated place) (is, end, comes, after, good) open_ = (
     is,
     end,
     subst (λ (v : Seen). IsViable A chain_limit v.bytes) after viable,
     λ whole. let no : false ≡ true = open_.1 (ap (λ (v : Seen). v.refusal) after, subst (AreChain A) (sym (ap (λ (v : Seen). v.bytes) after)) whole) in cc,
     good,
   )
-  fault_told (NoMemory used) (is, last, good) open_ =
+  fault_told first (NoMemory used) (is, last, good) open_ =
       (is, nearly chain_limit last.before last.piece taken last.parts last.short last.viable, good)
-  fault_told (Read place) (is, bad, comes, after) open_ = (is, bad, subst (λ (v : Seen). IsViable A chain_limit v.bytes) after viable)
+  fault_told first (Read place) (is, bad, comes, after) open_ = (is, bad, subst (λ (v : Seen). IsViable A chain_limit v.bytes) after viable)
 
-  pub next_fault : (fault : Fault) → FileRead files before.bytes old taken had has failed new (Err fault) → IsEnd A new fault false
-      → EndsReading A chain_limit (AreChain A) taken has failed fault
-  next_fault fault r open_ = fault_told fault (told (Err fault) r) open_
+  -- of a source that had these bytes at first
+  pub next_fault : (first : Option (List ℕ)) (fault : Fault) → FileRead files before.bytes old taken had has failed new (Err fault) → IsEnd A new fault false
+      → EndsReading A chain_limit (AreChain A) taken (record { before = first; after = has; failed = failed }) fault
+  next_fault first fault r open_ = fault_told first fault (told (Err fault) r) open_
 
   -- ---- the end of the input, behind a whole chain
 
@@ -149,14 +150,14 @@ NextGiven {A} remaining has failed result old =
     → GivesNext f (length (old.taken ++ b)) x (record { before = remaining old.source; after = has; failed = failed }) result
 
 -- where the reading ended behind a whole chain, no file is given
-pub end_not_given : {A : Type 0} (f : FitFile A) (n : ℕ) (x : List ℕ) (source : Taking) (new : Seen) (fault : Fault) → IsEnd A new fault true
+pub end_not_given : {A : Type 0} (f : FitFile A) (n : ℕ) (x : List ℕ) (source : Channel) (new : Seen) (fault : Fault) → IsEnd A new fault true
     → GivesFile f n x source (Err fault) → ⊥
 end_not_given f n x source new (Refused place reason) end never = never
 end_not_given f n x source new (Truncated place) end never = never
 end_not_given f n x source new (NoMemory used) end gives = absurd cc
 end_not_given f n x source new (Read place) end gives = absurd cc
 
-pub fault_given : {A : Type 0} (f : FitFile A) (n : ℕ) (x : List ℕ) (source : Taking) (fault : Fault) → GivesFile f n x source (Err fault)
+pub fault_given : {A : Type 0} (f : FitFile A) (n : ℕ) (x : List ℕ) (source : Channel) (fault : Fault) → GivesFile f n x source (Err fault)
     → GivesNext f n x source (Err fault)
 fault_given f n x source (Refused place reason) never = never
 fault_given f n x source (Truncated place) never = never

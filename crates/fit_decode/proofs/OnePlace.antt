@@ -1,5 +1,5 @@
 -- The bytes so far come in one way only: which files are whole, and what there is of the next one.
-use Rattle.std.proofs.Common.{◌≡◌, ℕ, zero, suc, ◌+◌, ◌-◌, ◌<◌, ◌≤◌, List, [], ◌∷◌, ◌++◌, length, take, refl, sym, ap, ◌∙◌, subst, arith, append_assoc}
+use Rattle.std.proofs.Common.{◌≡◌, ℕ, zero, suc, ◌-◌, ◌<◌, ◌≤◌, List, [], ◌∷◌, ◌++◌, length, take, refl, sym, ap, ◌∙◌, subst, arith, append_assoc}
 use Rattle.std.proofs.Common.{length-append}
 use Rattle.std.specs.List.{AllByRecursion}
 use Rattle.std.proofs.lemmas.List.{append_cancel_left}
@@ -17,9 +17,6 @@ use Rattle.fit_record.specs.Files.{body, summed, file_bytes, chain_bytes, IsWell
 use Rattle.fit_decode.specs.Progress.{Progress, at_header, at_data, progress_bytes, IsPartial, IsUnfinished, HasCome}
 use Rattle.fit_record.proofs.OneRecord.{same_record, no_bytes}
 use Rattle.fit_record.proofs.OneFile.{same_file}
-
-sub_sub : (room a b : ℕ) → room - (a + b) ≡ room - a - b
-sub_sub room a b = omega arith
 
 -- a record at the front of what is partial leaves no room
 pub no_record : {A : Type 0} (e : Environment A) (room : ℕ) (part rest : List ℕ) (r : Record A) → IsPartial e room part → Fits e r

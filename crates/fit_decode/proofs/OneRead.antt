@@ -11,7 +11,7 @@ use Rattle.fit_decode.specs.declared.event.Fault.TheVariants.{Refused, Truncated
 use Rattle.fit_decode.specs.Answers.{Seen}
 use Rattle.fit_decode.specs.Progress.{Progress, HasCome}
 use Rattle.fit_decode.specs.Refusals.{IsRefused, reason_at}
-use Rattle.fit_decode.specs.Reads.{BeginsWithFile, EndsReading, ReadsOne, GivesFile}
+use Rattle.fit_decode.specs.Reads.{BeginsWithFile, Channel, EndsReading, ReadsOne, GivesFile}
 use Rattle.fit_decode.specs.inner.Turns.{FaultIn, FileTold, FileRead}
 use Rattle.fit_decode.proofs.FileGiven.{are_of_bytes, given, next_bytes}
 use Rattle.fit_decode.proofs.Nearly.{nearly}
@@ -45,15 +45,15 @@ none_whole g bytes come (f, b, rest, file, begins) = no_file g f rest come.next 
 
 -- ---- the answers
 
-file_fault : {A : Type 0} (taken : List ℕ) (has : Option (List ℕ)) (failed : Bool) (new : Seen) (fault : Fault) → IsViable A chain_limit new.bytes
-    → FaultIn {A = A} [] taken has failed new fault → EndsReading A 1 (BeginsWithFile A) taken has failed fault
-file_fault taken has failed new (Refused place reason) viable (within, near, comes, why, good) =
+file_fault : {A : Type 0} (taken : List ℕ) (source : Channel) (new : Seen) (fault : Fault) → IsViable A chain_limit new.bytes
+    → FaultIn {A = A} [] taken source.after source.failed new fault → EndsReading A 1 (BeginsWithFile A) taken source fault
+file_fault taken source new (Refused place reason) viable (within, near, comes, why, good) =
     (within, near, file_refused comes.0 (take place taken) _ reason comes.1 why, good)
-file_fault {A} taken has failed new (Truncated place) viable (is, end, comes, after, good) =
+file_fault {A} taken source new (Truncated place) viable (is, end, comes, after, good) =
     (is, end, file_viable comes.0 taken comes.1 (subst (λ (v : Seen). IsViable A chain_limit v.bytes) after viable), none_whole comes.0 taken comes.1, good)
-file_fault taken has failed new (NoMemory used) viable (is, last, good) =
+file_fault taken source new (NoMemory used) viable (is, last, good) =
     (is, nearly 1 last.before last.piece taken last.parts last.short (file_viable last.come.0 last.before last.come.1 last.viable), good)
-file_fault {A} taken has failed new (Read place) viable (is, bad, comes, after) =
+file_fault {A} taken source new (Read place) viable (is, bad, comes, after) =
     (is, bad, file_viable comes.0 taken comes.1 (subst (λ (v : Seen). IsViable A chain_limit v.bytes) after viable))
 
 pub reads_one : {A : Type 0} (bytes old taken : List ℕ) (had has : Option (List ℕ)) (failed : Bool) (new : Seen) (result : Result (FitFile A) Fault)
@@ -63,7 +63,8 @@ reads_one {A} bytes old taken had has failed new (Ok f) none viable r =
     let told = subst (λ t. FileTold [] (t ++ r.got) has failed new (Ok f)) none r.told in
     (r.got, r.eats, next_bytes [] [] (no_file_yet A) f r.got told.1, told.2)
 reads_one {A} bytes old taken had has failed new (Err fault) none viable r =
-    (r.got, r.eats, file_fault r.got has failed new fault viable (subst (λ t. FaultIn {A = A} [] (t ++ r.got) has failed new fault) none r.told))
+    let source : Channel = record { before = had; after = has; failed = failed } in
+    (r.got, r.eats, file_fault r.got source new fault viable (subst (λ t. FaultIn {A = A} [] (t ++ r.got) has failed new fault) none r.told))
 
 chain_of_one : {A : Type 0} (f : FitFile A) (b : List ℕ) → IsFile f b → IsChain chain_limit (f ∷ []) b
 chain_of_one f b file = (record { some = omega arith; within = omega arith; each = (file.0, tt) }, file.1 ∙ sym (append-nil (file_bytes f)))

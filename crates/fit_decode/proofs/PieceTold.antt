@@ -15,6 +15,7 @@ use Rattle.fit_decode.specs.Refusals.{IsRefused}
 use Rattle.fit_decode.specs.inner.Turns.{ComesToRecords, ComesTo, Ended, PieceFed, unrefused}
 use Rattle.fit_decode.proofs.Gathered.{stands_quiet, stands_header, stands_item}
 use Rattle.fit_decode.proofs.FileEnds.{ends_file}
+use Rattle.fit_decode.proofs.Telling.{least_for, quiet_for}
 
 pub fed_on : (old mid new : Seen) (piece : List ℕ) (at used : ℕ) → mid ≡ fed old piece at → new ≡ fed mid (drop at piece) used → new ≡ fed old piece (at + used)
 fed_on old mid new piece at used is after =
@@ -28,13 +29,16 @@ module _ {A : Type 0} (files : List (FitFile A)) (head : Option Header) (records
   here xs are = subst (λ (v : Seen). AreEvents v.bytes xs) (sym after) are
 
   pub feeds_nothing : Quiet A mid.bytes piece used → ComesToRecords files head records new.bytes
-  feeds_nothing quiet = stands_quiet files head records mid.bytes new.bytes s (λ events told. here events (quiet events told used (omega arith)))
+  feeds_nothing quiet = stands_quiet files head records mid.bytes new.bytes s
+      (λ events told. here events (quiet_for mid.bytes piece used quiet events told used (omega arith)))
 
   pub feeds_header : (h : Header) (n : ℕ) → Least A mid.bytes piece used (header h n) → ComesToRecords files (Some h) records new.bytes
-  feeds_header h n least = stands_header files head records mid.bytes new.bytes s h n (λ events told. here (events ++ header h n ∷ []) (least events told).0)
+  feeds_header h n least = stands_header files head records mid.bytes new.bytes s h n
+      (λ events told. here (events ++ header h n ∷ []) (least_for mid.bytes piece used (header h n) least events told).0)
 
   pub feeds_item : (r : Record A) → Least A mid.bytes piece used (item r) → ComesToRecords files head (records ++ r ∷ []) new.bytes
-  feeds_item r least = stands_item files head records mid.bytes new.bytes s r (λ events told. here (events ++ item r ∷ []) (least events told).0)
+  feeds_item r least = stands_item files head records mid.bytes new.bytes s r
+      (λ events told. here (events ++ item r ∷ []) (least_for mid.bytes piece used (item r) least events told).0)
 
 -- the whole piece was fed
 pub piece_over : {A : Type 0} (files : List (FitFile A)) (head : Option Header) (records : List (Record A)) (old new : Seen) (piece : List ℕ) (k : ℕ)
@@ -71,8 +75,8 @@ module _ {A : Type 0} (files : List (FitFile A)) (head : Option Header) (records
       → PieceFed files old.bytes piece new head records (Err (Refused place reason))
   piece_refused place reason refuses =
       let u : ℕ = refuses.used in
-      let begun = stands_quiet files head records mid.bytes (mid.bytes ++ take u (drop at piece)) s (λ events told. refuses.quiet events told u (omega arith))
-      in (
+      let begun = stands_quiet files head records mid.bytes (mid.bytes ++ take u (drop at piece)) s
+      (λ events told. quiet_for mid.bytes (drop at piece) u refuses.quiet events told u (omega arith)) in (
         at + u,
         omega (arith, refuses.within, length-drop at piece),
         omega (arith, refuses.is_place, ap (λ (v : Seen). length v.bytes) is, length-append old.bytes (take at piece), length-take at piece),

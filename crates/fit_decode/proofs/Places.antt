@@ -14,8 +14,9 @@ use Rattle.fit_record.specs.Environment.{Environment, empty_environment, learn, 
 use Rattle.fit_record.specs.Records.{record_bytes, AllFit, records_bytes}
 use Rattle.fit_record.specs.Files.{body, summed, file_bytes, chain_bytes, IsWellFormed, IsViable}
 use Rattle.fit_decode.specs.Progress.{Progress, at_header, at_data, progress_bytes, IsPartial, IsUnfinished, HasCome}
-use Rattle.fit_decode.proofs.Splits.{split}
-use Rattle.fit_decode.proofs.Whole.{unfinished, no_end, before_record, partial}
+use Rattle.fit_step.proofs.Splits.{split}
+use Rattle.fit_step.proofs.RecordFronts.{before_record}
+use Rattle.fit_decode.proofs.Whole.{unfinished, no_end, partial}
 
 -- ---- records
 

@@ -1,7 +1,7 @@
 -- What the bytes used of a piece leave in the fields: they are those behind the bytes fed, and what was told is what these tell.
 use Rattle.std.proofs.Common.{◌≡◌, cond, ◌⊎◌, inl, inr, ℕ, ◌-◌, ◌/◌, ◌%◌, ◌<◌, ◌≤◌, Bool, true, false, List, [], ◌∷◌, ◌++◌, length, take, slice_index, refl}
 use Rattle.std.proofs.Common.{sym, ap, ◌∙◌, subst, arith, append_assoc, length-append, None, Ok, Err}
-use Rattle.std.specs.Prelude.{Option, Result, IsOk}
+use Rattle.std.specs.Prelude.{Option, Result}
 use Rattle.std.proofs.lemmas.Bool.Decides.{eqb_tells}
 use Rattle.std.proofs.lemmas.List.{append-nil}
 use Rattle.fit_base.specs.Numbers.{IsBytes, little_bytes}
@@ -13,18 +13,14 @@ use Rattle.fit_frame.specs.Beginning.{IsFileHeader, RefusesByte, Seen}
 use Rattle.fit_record.specs.declared.file.FitFile.{FitFile}
 use Rattle.fit_record.specs.declared.message.Record.{Record}
 use Rattle.fit_record.specs.Environment.{Environment, empty_environment, learn, learn_all}
-use Rattle.fit_record.specs.Records.{record_bytes, records_bytes}
-use Rattle.fit_record.specs.Rooms.{can_fill}
-use Rattle.fit_record.specs.Files.{chain_limit, IsViable}
-use Rattle.fit_record.proofs.FilledRooms.{can_fill_is}
+use Rattle.fit_record.specs.Records.{IsRecord, record_bytes, records_bytes}
+use Rattle.fit_record.specs.Files.{CanFill, chain_limit, IsViable}
 use Rattle.fit_record.proofs.RecordLists.{records_bytes-append, learn_all-append}
 use Rattle.fit_step.specs.declared.position.Position.{Position}
 use Rattle.fit_step.specs.declared.stop.Stop.{Stop}
 use Rattle.fit_step.specs.declared.stop.Stop.TheVariants.{Refused, NoMemory}
-use Rattle.fit_step.specs.Machine.{State, start, step, Walks, Ends}
-use Rattle.fit_step.specs.Places.{state_at}
-use Rattle.fit_step.specs.Tests.{tests_of}
-use Rattle.fit_step.specs.GoingOn.{goes_on}
+use Rattle.fit_step.specs.InProgress.{FillFrom, IsInProgress}
+use Rattle.fit_step.proofs.RecordsInProgress.{begins_record, fill_nothing, idle_between_records, record_fills, records_in_progress}
 use Rattle.fit_decode.specs.declared.event.Event.{Event as Answer}
 use Rattle.fit_decode.specs.declared.event.Event.TheVariants as answers
 use Rattle.fit_decode.specs.declared.section.Section.{Section}
@@ -34,16 +30,17 @@ use Rattle.fit_frame.specs.declared.reason.Reason.TheVariants.{TooManyFiles}
 use Rattle.fit_decode.specs.Events.{AreEvents}
 use Rattle.fit_decode.specs.Refusals.{IsRefused}
 use Rattle.fit_decode.specs.GoingOn.{files_begun, ChainGoesOn}
-use Rattle.fit_decode.specs.inner.Scans.{IsHeaderPart, HeadsNoEmptyMessage, half_sum}
-use Rattle.fit_decode.specs.inner.Sections.{section_of, position_of, HeaderFed, DataFed, SumFed}
+use Rattle.fit_decode.specs.inner.Scans.{IsHeaderPart, half_sum}
+use Rattle.fit_decode.specs.inner.Sections.{section_of, HeaderFed, DataFed, SumFed}
 use Rattle.fit_decode.specs.inner.Kept.{Fields, InHeader, InData, InSum, Holds, HoldsAt, NextAnswer}
 use Rattle.fit_decode.proofs.Completions.{goes_viable, fill_data}
 use Rattle.fit_decode.proofs.Next.{whole_header}
+use Rattle.fit_decode.proofs.Telling.{quiet_of}
 use Rattle.fit_decode.proofs.Whole.{begun_header}
 use Rattle.fit_decode.proofs.HeaderFed.{header_fronts, header_quiet, header_least, header_refuses, full_refuses}
 use Rattle.fit_decode.proofs.SumFed.{sum_fronts, sum_quiet, sum_viable, file_come, file_goes, file_viable, file_least, sum_refuses}
-use Rattle.fit_decode.proofs.DataFed.{data_starts, all_walked, still_on, data_quiet, data_come, data_viable, spelled, starts, item_come, item_least, item_on}
-use Rattle.fit_decode.proofs.DataFed.{item_viable, data_refuses, data_wants, data_takes}
+use Rattle.fit_decode.proofs.DataFed.{data_starts, data_quiet, data_come, data_viable, left_behind, item_come, item_least}
+use Rattle.fit_decode.proofs.DataFed.{data_refuses, data_wants, data_takes}
 
 -- ---- where records begin
 
@@ -51,10 +48,9 @@ pub begins_records : {A : Type 0} (files : List (FitFile A)) (d : Fields A) (byt
     → HasCome files (at_data h n records []) bytes
     → length files < chain_limit → d.count ≡ length files → d.half ≡ false → d.reader ≡ record { bytes = []; refusal = None }
     → d.sum ≡ header_bytes h n ++ records_bytes empty_environment records
-    → d.env ≡ learn_all empty_environment records → state_at d.position d.in_progress ≡ start (n - length (records_bytes empty_environment records))
-    → can_fill (learn_all empty_environment records) (n - length (records_bytes empty_environment records)) ≡ true
+    → d.env ≡ learn_all empty_environment records → IsInProgress d.env (n - length (records_bytes empty_environment records)) [] d.position d.in_progress
     → HoldsAt (section_of (n - length (records_bytes empty_environment records))) d bytes
-begins_records {A} files d bytes h n records come few counted whole fresh sum known at fill =
+begins_records files d bytes h n records come few counted whole fresh sum known here =
     let room = n - length (records_bytes empty_environment records) in
     let no_part : half_sum (checksum d.sum) d.half ≡ [] = ap (λ c. half_sum (checksum d.sum) c) whole in
     elim (eqb_tells room 0) [
@@ -70,7 +66,7 @@ begins_records {A} files d bytes h n records come few counted whole fresh sum kn
         summed = sum;
         known = known;
         over = none.1;
-        idle = ap (λ (s : State A). s.in_progress) at;
+        idle = (idle_between_records d.env room [] d.position d.in_progress here).1 refl;
       })
       | inr some ↦ subst (λ c. HoldsAt (cond c ClosingSum Data) d bytes) (sym some.0) (record {
         files = files;
@@ -86,8 +82,7 @@ begins_records {A} files d bytes h n records come few counted whole fresh sum kn
         summed = sum ∙ sym (append-nil (header_bytes h n ++ records_bytes empty_environment records));
         known = known;
         some = omega (arith, some.1);
-        walk = sym at;
-        goes = (λ i. goes_on (known i) (at i)) ∙ fill;
+        in_record = here;
       })
     ]
 
@@ -141,23 +136,27 @@ module _ {A : Type 0} (d : Fields A) (bytes piece : List ℕ) (k : InHeader d by
               idle = k.idle;
             });
       }
-  header_fed reader sum section position used (Ok (answers.Header h n)) (few, some, within, whole, fresh, covered, at, begins) =
+  header_fed reader sum section position used (Ok (answers.Header h n)) (few, some, within, whole, fresh, covered, at, begins, room) =
       let is : IsFileHeader h n (d.sum ++ take used piece) = subst (λ l. IsFileHeader h n (l ++ take used piece)) front_is whole in
       let less : length k.files < chain_limit = omega (arith, few, k.counted) in
       let come = whole_header k.files d.sum bytes (take used piece) h n k.come is in
       let same : n ≡ n - 0 = omega arith in
-      let fill : can_fill {A = A} empty_environment (n - 0) ≡ true =
-      subst (λ m. can_fill {A = A} empty_environment m ≡ true) same ((can_fill_is {A = A} empty_environment n refl).1 (fill_data n is.1)) in
+      let filled : CanFill {A = A} empty_environment (n - 0) = subst (CanFill {A = A} empty_environment) same (fill_data n is.1) in
+      let fill : CanFill {A = A} empty_environment position.room = subst (CanFill {A = A} empty_environment) (sym room) (fill_data n is.1) in
       let now : Fields A = record d { section = section; reader = reader; sum = sum; position = position } in
-      let state : state_at {A = A} position d.in_progress ≡ start (n - 0) = λ i. state_at ((begins ∙ ap position_of same) i) (k.idle i) in
+      let begun : IsInProgress {A = A} empty_environment (n - 0) [] position None =
+      subst (λ m. IsInProgress {A = A} empty_environment m [] position None) (room ∙ same) (begins_record empty_environment position refl begins fill) in
+      let here : IsInProgress d.env (n - 0) [] position d.in_progress =
+      subst (λ e. IsInProgress e (n - 0) [] position d.in_progress) (sym k.known)
+      (subst (λ o. IsInProgress empty_environment (n - 0) [] position o) (sym k.idle) begun) in
       let all : sum ≡ header_bytes h n ++ [] = covered ∙ is.0.1 ∙ sym (append-nil (header_bytes h n)) in
       record {
         told = (some, within, header_least k.files d.sum bytes piece k.come used h n within is);
         viable = goes_viable chain_limit k.files (at_data h n [] []) (bytes ++ take used piece) come
             (IsBytes-append bytes (take used piece) are (IsBytes-take used piece low))
-            (k.goes.0, omega (arith, less), data_starts empty_environment (n - 0) _ refl fill);
+            (k.goes.0, omega (arith, less), data_starts empty_environment (n - 0) _ (fill_nothing empty_environment (n - 0) filled));
         holds = λ _. subst (λ c. HoldsAt c now (bytes ++ take used piece)) (ap section_of (sym same) ∙ sym at)
-            (begins_records k.files now (bytes ++ take used piece) h n [] come less k.counted k.whole fresh all k.known state fill);
+            (begins_records k.files now (bytes ++ take used piece) h n [] come less k.counted k.whole fresh all k.known here);
       }
   header_fed reader sum section position used (Ok (answers.Item r)) fed = absurd fed
   header_fed reader sum section position used (Ok answers.FileEnd) fed = absurd fed
@@ -171,8 +170,8 @@ module _ {A : Type 0} (d : Fields A) (bytes piece : List ℕ) (k : InHeader d by
       record {
         told = (
           omega (arith, some, none),
-          λ events are_told j less. subst (λ l. AreEvents l events)
-              (sym (ap (λ n. bytes ++ take n piece) (let zero_only : j ≡ 0 = omega (arith, less, none) in zero_only) ∙ append-nil bytes)) are_told,
+          quiet_of bytes piece used k.files (at_header d.sum) k.come (λ events are_told j less. subst (λ l. AreEvents l events)
+              (sym (ap (λ n. bytes ++ take n piece) (let zero_only : j ≡ 0 = omega (arith, less, none) in zero_only) ∙ append-nil bytes)) are_told),
           subst (λ r. IsRefused A chain_limit (bytes ++ take used piece) (slice_index piece used) r) (sym is)
               (subst (λ l. IsRefused A chain_limit l (slice_index piece used) TooManyFiles) here why),
         );
@@ -198,134 +197,117 @@ module _ {A : Type 0} (d : Fields A) (bytes piece : List ℕ) (k : InData d byte
   abbrev taken : ℕ
   taken = length (records_bytes empty_environment k.records)
 
-  walk_known : Walks (learn_all empty_environment k.records) (tests_of (learn_all empty_environment k.records)) (start (k.size - taken)) k.part
-      (state_at d.position d.in_progress)
-  walk_known = subst (λ e. Walks e (tests_of e) (start (k.size - taken)) k.part (state_at d.position d.in_progress)) k.known k.walk
+  abbrev known : Environment A
+  known = learn_all empty_environment k.records
 
-  on_known : goes_on (learn_all empty_environment k.records) (state_at d.position d.in_progress) ≡ true
-  on_known = subst (λ e. goes_on e (state_at d.position d.in_progress) ≡ true) k.known k.goes
+  abbrev room : ℕ
+  room = k.size - taken
 
   covered_is : (used : ℕ) → d.sum ++ take used piece
       ≡ (header_bytes k.header k.size ++ records_bytes empty_environment k.records) ++ (k.part ++ take used piece)
   covered_is used = ap (λ l. l ++ take used piece) k.summed
       ∙ append_assoc (header_bytes k.header k.size ++ records_bytes empty_environment k.records) k.part (take used piece)
 
-  -- a walk that ends within a record
-  within_record : (sum : List ℕ) (section : Section) (env : Environment A) (position : Position) (in_progress : Option (Record A)) (used : ℕ)
-      → used ≤ length piece → env ≡ d.env
-      → Walks d.env (tests_of d.env) (state_at d.position d.in_progress) (take used piece) (state_at position in_progress) → sum ≡ d.sum ++ take used piece
-      → section ≡ Data
-      → Holds (record d { env = env; section = section; sum = sum; position = position; in_progress = in_progress }) (bytes ++ take used piece)
-  within_record sum section env position in_progress used within same walk covered at =
-      let known : Environment A = learn_all empty_environment k.records in
-      let here = subst (λ e. Walks e (tests_of e) (state_at d.position d.in_progress) (take used piece) (state_at position in_progress)) k.known walk in
-      let now : env ≡ known = same ∙ k.known in
-      subst (λ c. HoldsAt c (record d { env = env; section = section; sum = sum; position = position; in_progress = in_progress }) (bytes ++ take used piece))
-      (sym at) (record {
-        files = k.files;
-        header = k.header;
-        size = k.size;
-        records = k.records;
-        part = k.part ++ take used piece;
-        come = data_come k.files k.header k.size k.records k.part bytes piece (state_at d.position d.in_progress) k.come k.few k.some walk_known on_known are
-            low used (state_at position in_progress) within here;
-        few = k.few;
-        counted = k.counted;
-        whole = k.whole;
-        fresh = k.fresh;
-        summed = covered ∙ covered_is used;
-        known = now;
-        some = k.some;
-        walk = subst (λ e. Walks e (tests_of e) (start (k.size - taken)) (k.part ++ take used piece) (state_at position in_progress)) (sym now)
-            (all_walked k.files k.header k.size k.records k.part bytes piece (state_at d.position d.in_progress) k.come k.few k.some walk_known on_known are low
-            used (state_at position in_progress) here);
-        goes = subst (λ e. goes_on e (state_at position in_progress) ≡ true) (sym now)
-            (still_on k.files k.header k.size k.records k.part bytes piece (state_at d.position d.in_progress) k.come k.few k.some walk_known on_known are low
-            used (state_at position in_progress) here);
-      })
+  module _ (sum : List ℕ) (section : Section) (env : Environment A) (position : Position) (in_progress : Option (Record A)) (used : ℕ) where
+    abbrev now : Fields A
+    now = record d { env = env; section = section; sum = sum; position = position; in_progress = in_progress }
 
-  pub data_fed : (sum : List ℕ) (section : Section) (env : Environment A) (position : Position) (in_progress : Option (Record A)) (used : ℕ)
-      (answer : Result (Answer A) Stop)
-      → DataFed d.env d.sum (state_at d.position d.in_progress) env sum section (state_at position in_progress) piece used answer
-      → NextAnswer (record d { env = env; section = section; sum = sum; position = position; in_progress = in_progress }) bytes piece used answer
-  data_fed sum section env position in_progress used (Ok answers.More) ((all, same, walk), covered, at) =
-      let within : used ≤ length piece = omega (arith, all) in
-      let here = subst (λ e. Walks e (tests_of e) (state_at d.position d.in_progress) (take used piece) (state_at position in_progress)) k.known walk in
-      record {
-        told = (
-          all,
-          data_quiet k.files k.header k.size k.records k.part bytes piece (state_at d.position d.in_progress) k.come k.few k.some walk_known on_known
-              are low used (state_at position in_progress) within here,
-        );
-        viable = data_viable k.files k.header k.size k.records k.part bytes piece (state_at d.position d.in_progress) k.come k.few k.some walk_known on_known
-            are low used (state_at position in_progress) within here;
-        holds = λ _. within_record sum section env position in_progress used within same walk covered at;
-      }
-  data_fed sum section env position in_progress used (Ok (answers.Item r)) ((some, within, same, ends), covered, at) =
-      let s : State A = state_at d.position d.in_progress in
-      let t : State A = state_at position in_progress in
-      let here = subst (λ e. Ends e (tests_of e) s (take used piece) t r) k.known ends in
-      let come = item_come k.files k.header k.size k.records k.part bytes piece s k.come k.few k.some walk_known on_known are low used t r some within here in
-      let starts_at = starts k.files k.header k.size k.records k.part bytes piece s k.come k.few k.some walk_known on_known are low used t r some within here in
-      let filled = item_on k.files k.header k.size k.records k.part bytes piece s k.come k.few k.some walk_known on_known are low used t r some within here in
-      let all : records_bytes empty_environment (k.records ++ r ∷ []) ≡ records_bytes empty_environment k.records ++ (k.part ++ take used piece) =
-      records_bytes-append empty_environment k.records (r ∷ [])
-      ∙ ap (λ l. records_bytes empty_environment k.records ++ l) (append-nil (record_bytes (learn_all empty_environment k.records) r)
-      ∙ spelled k.files k.header k.size k.records k.part bytes piece s k.come k.few k.some walk_known on_known are low used t r some within here) in
-      let sums : sum ≡ header_bytes k.header k.size ++ records_bytes empty_environment (k.records ++ r ∷ []) =
-      covered ∙ covered_is used ∙ append_assoc (header_bytes k.header k.size) (records_bytes empty_environment k.records) (k.part ++ take used piece)
-      ∙ ap (λ l. header_bytes k.header k.size ++ l) (sym all) in
-      let learned : env ≡ learn_all empty_environment (k.records ++ r ∷ []) =
-      same ∙ ap (λ e. learn e r) k.known ∙ sym (learn_all-append empty_environment k.records (r ∷ [])) in
-      let now : Fields A = record d { env = env; section = section; sum = sum; position = position; in_progress = in_progress } in
-      record {
-        told = (
-          some,
-          within,
-          item_least k.files k.header k.size k.records k.part bytes piece s k.come k.few k.some walk_known on_known are low used t r some
-              within here,
-        );
-        viable = item_viable k.files k.header k.size k.records k.part bytes piece s k.come k.few k.some walk_known on_known are low used t r some within here;
-        holds = λ _. subst (λ c. HoldsAt c now (bytes ++ take used piece)) (ap section_of (sym (ap (λ (u : State A). u.room) starts_at)) ∙ sym at)
-            (begins_records k.files now (bytes ++ take used piece) k.header k.size (k.records ++ r ∷ []) come k.few k.counted k.whole k.fresh sums learned
-            starts_at filled);
-      }
-  data_fed sum section env position in_progress used (Ok (answers.Header h n)) fed = absurd fed
-  data_fed sum section env position in_progress used (Ok answers.FileEnd) fed = absurd fed
-  data_fed sum section env position in_progress used (Err (Refused reason)) ((within, same, walk, made), covered, at) =
-      let s : State A = state_at d.position d.in_progress in
-      let t : State A = state_at position in_progress in
-      let here = subst (λ e. Walks e (tests_of e) s (take used piece) t) k.known walk in
-      let step_made = subst (λ e. step e (tests_of e) t (slice_index piece used) ≡ Err reason) k.known made in
-      let upto : used ≤ length piece = omega (arith, within) in
-      let why = data_refuses k.files k.header k.size k.records k.part bytes piece s k.come k.few k.some walk_known on_known are low used t reason within here
-      step_made in
-      record {
-        told = (
-          within,
-          data_quiet k.files k.header k.size k.records k.part bytes piece s k.come k.few k.some walk_known on_known are low used t upto here,
-          why,
-        );
-        viable = why.viable;
-        holds = λ never. absurd never;
-      }
-  data_fed sum section env position in_progress used (Err NoMemory) ((within, same, walk, ok, heads), covered, at) =
-      let s : State A = state_at d.position d.in_progress in
-      let t : State A = state_at position in_progress in
-      let here = subst (λ e. Walks e (tests_of e) s (take used piece) t) k.known walk in
-      let step_ok = subst (λ e. IsOk (step e (tests_of e) t (slice_index piece used))) k.known ok in
-      let upto : used ≤ length piece = omega (arith, within) in
-      record {
-        told = (
-          within,
-          data_quiet k.files k.header k.size k.records k.part bytes piece s k.come k.few k.some walk_known on_known are low used t upto here,
-          data_wants k.files k.header k.size k.records k.part bytes piece s k.come k.few k.some walk_known on_known are low used t within here step_ok,
-          data_takes k.files k.header k.size k.records k.part bytes piece s k.come k.few k.some walk_known on_known are low used t upto here
-              (subst (λ e. HeadsNoEmptyMessage e t (slice_index piece used)) k.known heads),
-        );
-        viable = data_viable k.files k.header k.size k.records k.part bytes piece s k.come k.few k.some walk_known on_known are low used t upto here;
-        holds = λ _. within_record sum section env position in_progress used upto same walk covered at;
-      }
+    -- bytes that end within a record
+    within_record : sum ≡ d.sum ++ take used piece → used ≤ length piece → env ≡ known
+        → IsInProgress known room (k.part ++ take used piece) position in_progress → section ≡ Data → Holds now (bytes ++ take used piece)
+    within_record covered within same here at =
+        let none = (records_in_progress known room (k.part ++ take used piece) position in_progress here).0 in
+        subst (λ c. HoldsAt c now (bytes ++ take used piece)) (sym at) (record {
+          files = k.files;
+          header = k.header;
+          size = k.size;
+          records = k.records;
+          part = k.part ++ take used piece;
+          come = data_come d bytes piece k are low used within none;
+          few = k.few;
+          counted = k.counted;
+          whole = k.whole;
+          fresh = k.fresh;
+          summed = covered ∙ covered_is used;
+          known = same;
+          some = k.some;
+          in_record = subst (λ e. IsInProgress e room (k.part ++ take used piece) position in_progress) (sym same) here;
+        })
+
+    -- bytes that end with a record
+    behind_record : sum ≡ d.sum ++ take used piece → (r : Record A) → used ≤ length piece → env ≡ learn known r → IsRecord known r (k.part ++ take used piece)
+        → length (k.part ++ take used piece) ≤ room → IsInProgress env (room - length (k.part ++ take used piece)) [] position in_progress
+        → section ≡ section_of position.room → Holds now (bytes ++ take used piece)
+    behind_record covered r within same is fits here at =
+        let come = item_come d bytes piece k are low used r within is fits in
+        let left = left_behind d bytes piece k are low used r within is fits in
+        let all : records_bytes empty_environment (k.records ++ r ∷ []) ≡ records_bytes empty_environment k.records ++ (k.part ++ take used piece) =
+        records_bytes-append empty_environment k.records (r ∷ [])
+        ∙ ap (λ l. records_bytes empty_environment k.records ++ l) (append-nil (record_bytes known r) ∙ sym is.1) in
+        let sums : sum ≡ header_bytes k.header k.size ++ records_bytes empty_environment (k.records ++ r ∷ []) =
+        covered ∙ covered_is used ∙ append_assoc (header_bytes k.header k.size) (records_bytes empty_environment k.records) (k.part ++ take used piece)
+        ∙ ap (λ l. header_bytes k.header k.size ++ l) (sym all) in
+        let room_is : position.room ≡ k.size - length (records_bytes empty_environment (k.records ++ r ∷ [])) =
+        (let total = (records_in_progress env (room - length (k.part ++ take used piece)) [] position in_progress here).2 in omega (arith, total, left)) in
+        subst (λ c. HoldsAt c now (bytes ++ take used piece)) (ap section_of (sym room_is) ∙ sym at)
+        (begins_records k.files now (bytes ++ take used piece) k.header k.size (k.records ++ r ∷ []) come k.few k.counted k.whole k.fresh sums
+        (same ∙ sym (learn_all-append empty_environment k.records (r ∷ []))) (subst (λ m. IsInProgress env m [] position in_progress) left here))
+
+    pub data_fed : (answer : Result (Answer A) Stop) → DataFed d.env d.sum d.position d.in_progress env sum section position in_progress piece used answer
+        → NextAnswer now bytes piece used answer
+    data_fed answer fed =
+        told_of answer (subst (λ e. DataFed e d.sum d.position d.in_progress env sum section position in_progress piece used answer) k.known fed)
+      where
+        before : IsInProgress known room k.part d.position d.in_progress
+        before = subst (λ e. IsInProgress e room k.part d.position d.in_progress) k.known k.in_record
+
+        told_of : (answer : Result (Answer A) Stop) → DataFed known d.sum d.position d.in_progress env sum section position in_progress piece used answer
+            → NextAnswer now bytes piece used answer
+        told_of (Ok answers.More) (reads, covered, at) =
+            let (all, same, here) = reads room k.part before in
+            let within : used ≤ length piece = omega (arith, all) in
+            let goes = records_in_progress known room (k.part ++ take used piece) position in_progress here in
+            record {
+              told = (all, data_quiet d bytes piece k are low used within goes.0);
+              viable = data_viable d bytes piece k are low used goes.1;
+              holds = λ _. within_record covered within same here at;
+            }
+        told_of (Ok (answers.Item r)) (reads, covered, at) =
+            let (some, within, same, is, fits, here) = reads room k.part before in
+            let left = room - length (k.part ++ take used piece) in
+            let goes : FillFrom (learn known r) left [] =
+            subst (λ e. FillFrom e left []) same (records_in_progress env left [] position in_progress here).1 in
+            record {
+              told = (some, within, item_least d bytes piece k are low used r within is fits);
+              viable = data_viable d bytes piece k are low used (record_fills known room r (k.part ++ take used piece) is fits goes);
+              holds = λ _. behind_record covered r within same is fits here at;
+            }
+        told_of (Ok (answers.Header h n)) fed = absurd fed
+        told_of (Ok answers.FileEnd) fed = absurd fed
+        told_of (Err (Refused reason)) (reads, covered, at) =
+            let (within, same, here, because, ends) = reads room k.part before in
+            let upto : used ≤ length piece = omega (arith, within) in
+            let goes = records_in_progress known room (k.part ++ take used piece) position in_progress here in
+            let why = data_refuses d bytes piece k are low used reason within goes.0 goes.1 because ends in
+            record {
+              told = (within, data_quiet d bytes piece k are low used upto goes.0, why);
+              viable = why.viable;
+              holds = λ never. absurd never;
+            }
+        told_of (Err NoMemory) (reads, covered, at) =
+            let (within, same, here, fill, heads) = reads room k.part before in
+            let upto : used ≤ length piece = omega (arith, within) in
+            let goes = records_in_progress known room (k.part ++ take used piece) position in_progress here in
+            record {
+              told = (
+                within,
+                data_quiet d bytes piece k are low used upto goes.0,
+                data_wants d bytes piece k are low used within fill,
+                data_takes d bytes piece k are low used upto goes.0 heads,
+              );
+              viable = data_viable d bytes piece k are low used goes.1;
+              holds = λ _. within_record covered upto same here at;
+            }
 
 -- ---- closing sums
 

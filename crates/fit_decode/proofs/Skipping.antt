@@ -5,48 +5,35 @@ use Rattle.std.specs.Prelude.{Option, is_some, map}
 use Rattle.std.proofs.lemmas.Bool.{ne_eqb}
 use Rattle.std.proofs.lemmas.List.{append-nil, length-take-le}
 use Rattle.fit_base.specs.Numbers.{IsBytes}
-use Rattle.fit_base.proofs.ByteLists.{IsBytes-append, IsBytes-take, IsBytes-back}
+use Rattle.fit_base.proofs.ByteLists.{IsBytes-append, IsBytes-take}
 use Rattle.fit_frame.specs.declared.header.Header.{Header}
 use Rattle.fit_frame.specs.Header.{header_bytes}
 use Rattle.fit_record.specs.declared.file.FitFile.{FitFile}
 use Rattle.fit_record.specs.declared.message.Record.{Record}
 use Rattle.fit_record.specs.Environment.{Environment, empty_environment, learn_all}
-use Rattle.fit_record.specs.Files.{chain_bytes, chain_limit, IsViable}
+use Rattle.fit_record.specs.Files.{chain_limit, IsViable}
 use Rattle.fit_record.specs.Records.{AllFit, records_bytes}
-use Rattle.fit_record.specs.Rooms.{can_fill}
-use Rattle.fit_record.proofs.FilledRooms.{can_fill_is}
-use Rattle.fit_record.proofs.LargeRooms.{six_and_more}
-use Rattle.fit_record.proofs.SixteenPlaces.{sixteen_places}
 use Rattle.fit_record.proofs.RecordLists.{all_fit-append, records_bytes-append, learn_all-append}
 use Rattle.fit_step.specs.declared.position.Position.{Position}
-use Rattle.fit_step.specs.Machine.{State, start}
-use Rattle.fit_step.specs.Parts.{RecordPart, nothing, in_definition, in_fields, in_dev_fields, part_bytes, state_of}
-use Rattle.fit_step.specs.Places.{state_at}
+use Rattle.fit_step.specs.InProgress.{FillFrom, IsInProgress}
+use Rattle.fit_step.specs.Skipping.{AreSkipped}
+use Rattle.fit_step.proofs.RecordsInProgress.{records_in_progress}
 use Rattle.fit_frame.specs.declared.reason.Reason.{Reason}
 use Rattle.fit_decode.specs.declared.decoder.Decoder.TheInside.{Inside}
 use Rattle.fit_decode.specs.Answers.{Seen, TellsRecords}
 use Rattle.fit_decode.specs.inner.Invariant.{IsSoundDecoder, fields_inside}
 use Rattle.fit_decode.proofs.Bounds.{short_bytes}
 use Rattle.fit_decode.specs.declared.section.Section.TheVariants.{Data as InSection, ClosingSum}
-use Rattle.fit_decode.specs.Progress.{at_data, progress_bytes, HasCome}
+use Rattle.fit_decode.specs.Progress.{at_data, HasCome}
 use Rattle.fit_decode.specs.Events.{Event, item, AreEvents}
 use Rattle.fit_decode.specs.inner.Kept.{Fields, InData, Holds, HoldsAt}
 use Rattle.fit_decode.specs.inner.Sections.{section_of}
-use Rattle.fit_decode.specs.inner.Skips.{SkipsSome, DataSkipped, Skipped}
+use Rattle.fit_decode.specs.inner.Skips.{DataSkipped, Skipped}
 use Rattle.fit_decode.proofs.Completions.{goes_viable}
 use Rattle.fit_decode.proofs.DataFed.{data_starts}
 use Rattle.fit_decode.proofs.Next.{more_of, items_told, all_told}
 use Rattle.fit_decode.proofs.Sections.{begins_records}
-use Rattle.fit_decode.proofs.Walked.{come}
 use Rattle.fit_decode.proofs.Whole.{partial_nothing}
-
--- ---- where no record is in progress none has begun
-
-none_begun : {A : Type 0} (e : Environment A) (s : State A) (f : RecordPart A) → s ≡ state_of s.room f → s.in_progress ≡ None → part_bytes e f ≡ []
-none_begun e s nothing is none = refl
-none_begun {A} e s (in_definition k d) is none = absurd (let some = sym none ∙ ap (λ (t : State A). t.in_progress) is in cc)
-none_begun {A} e s (in_fields local offset t dev) is none = absurd (let some = sym none ∙ ap (λ (t : State A). t.in_progress) is in cc)
-none_begun {A} e s (in_dev_fields local offset items t) is none = absurd (let some = sym none ∙ ap (λ (t : State A). t.in_progress) is in cc)
 
 -- ---- records behind records
 
@@ -84,11 +71,6 @@ module _ {A : Type 0} (fs : List (FitFile A)) (h : Header) (n : ℕ) (records rs
 
 -- ---- the fields
 
-large_fills : {A : Type 0} (e : Environment A) (room : ℕ) → length e.places ≡ 16 → 6 ≤ room → can_fill e room ≡ true
-large_fills e room sixteen large =
-    let same : 6 + (room - 6) ≡ room = omega (arith, large) in
-    subst (λ m. can_fill e m ≡ true) same ((can_fill_is e (6 + (room - 6)) sixteen).1 (six_and_more e (room - 6) (omega (arith, sixteen))))
-
 module _ {A : Type 0} (d : Fields A) (bytes piece : List ℕ) (after : Environment A) (sum : List ℕ) (position : Position) (used count : ℕ) (are : IsBytes bytes)
     (low : IsBytes piece) where
   abbrev now : Fields A
@@ -97,78 +79,66 @@ module _ {A : Type 0} (d : Fields A) (bytes piece : List ℕ) (after : Environme
   abbrev y : List ℕ
   y = take used piece
 
-  module _ (s : SkipsSome d.section d.env d.sum d.position d.in_progress after sum position piece used count) (k : InData d bytes) where
+  module _ (k : InData d bytes) (within : used ≤ length piece) (summed : sum ≡ d.sum ++ take used piece) (in_section : d.section ≡ InSection)
+      (no_part : k.part ≡ []) (large : used + 6 ≤ k.size - length (records_bytes empty_environment k.records)) (records : AreSkipped d.env after y count)
+      (at : IsInProgress after (k.size - length (records_bytes empty_environment k.records) - used) [] position d.in_progress) where
     abbrev room : ℕ
     room = k.size - length (records_bytes empty_environment k.records)
 
     abbrev rs : List (Record A)
-    rs = s.records.0
+    rs = records.0
 
     abbrev all : List (Record A)
     all = k.records ++ rs
-
-    part_are : IsBytes k.part
-    part_are =
-        let next : List ℕ = progress_bytes (at_data k.header k.size k.records k.part) in
-        IsBytes-back (header_bytes k.header k.size ++ records_bytes empty_environment k.records) k.part
-        (IsBytes-back (chain_bytes k.files) next (subst IsBytes k.come.spelled are))
-
-    no_part : k.part ≡ []
-    no_part =
-        let c = come d.env room k.part (state_at d.position d.in_progress) k.walk part_are in
-        sym c.spelled ∙ none_begun d.env (state_at d.position d.in_progress) c.of c.is s.begins
-
-    all_room : d.position.room ≡ room
-    all_room = let c = come d.env room k.part (state_at d.position d.in_progress) k.walk part_are in omega (arith, c.total, ap length no_part)
 
     here : HasCome k.files (at_data k.header k.size k.records []) bytes
     here = subst (λ p. HasCome k.files (at_data k.header k.size k.records p) bytes) no_part k.come
 
     fits : AllFit (learn_all empty_environment k.records) rs
-    fits = subst (λ e. AllFit e rs) k.known s.records.1.0
+    fits = subst (λ e. AllFit e rs) k.known records.1.0
 
     spelled : y ≡ records_bytes (learn_all empty_environment k.records) rs
-    spelled = s.records.1.1 ∙ ap (λ e. records_bytes e rs) k.known
+    spelled = records.1.1 ∙ ap (λ e. records_bytes e rs) k.known
 
     long : length y ≡ used
-    long = length-take-le used piece s.within
+    long = length-take-le used piece within
 
     within_room : length y ≤ room
-    within_room = omega (arith, long, s.room, all_room)
+    within_room = omega (arith, long, large)
 
     left : k.size - length (records_bytes empty_environment all) ≡ room - used
     left = omega (arith, total k.files k.header k.size k.records rs bytes y here fits spelled within_room, long)
 
     learnt : after ≡ learn_all empty_environment all
-    learnt = sym s.records.2 ∙ ap (λ e. learn_all e rs) k.known ∙ sym (learn_all-append empty_environment k.records rs)
+    learnt = sym records.2 ∙ ap (λ e. learn_all e rs) k.known ∙ sym (learn_all-append empty_environment k.records rs)
 
-    fill : can_fill (learn_all empty_environment all) (k.size - length (records_bytes empty_environment all)) ≡ true
-    fill = large_fills (learn_all empty_environment all) (k.size - length (records_bytes empty_environment all)) (sixteen_places all)
-        (omega (arith, left, s.room, all_room))
+    fill : FillFrom (learn_all empty_environment all) (k.size - length (records_bytes empty_environment all)) []
+    fill =
+        subst (λ m. FillFrom (learn_all empty_environment all) m []) (sym left)
+        (subst (λ e. FillFrom e (room - used) []) learnt (records_in_progress after (room - used) [] position d.in_progress at).1)
 
     all_come : HasCome k.files (at_data k.header k.size all []) (bytes ++ y)
     all_come = records_come k.files k.header k.size k.records rs bytes y here fits spelled within_room
 
     all_summed : sum ≡ header_bytes k.header k.size ++ records_bytes empty_environment all
     all_summed =
-        s.summed ∙ ap (λ l. l ++ y) (k.summed ∙ ap (λ p. (header_bytes k.header k.size ++ records_bytes empty_environment k.records) ++ p) no_part
+        summed ∙ ap (λ l. l ++ y) (k.summed ∙ ap (λ p. (header_bytes k.header k.size ++ records_bytes empty_environment k.records) ++ p) no_part
         ∙ append-nil (header_bytes k.header k.size ++ records_bytes empty_environment k.records))
         ∙ append_assoc (header_bytes k.header k.size) (records_bytes empty_environment k.records) y
         ∙ ap (λ b. header_bytes k.header k.size ++ b)
         (ap (λ b. records_bytes empty_environment k.records ++ b) spelled ∙ sym (records_bytes-append empty_environment k.records rs))
 
-    at : state_at position d.in_progress ≡ start (k.size - length (records_bytes empty_environment all))
-    at = let here_room = s.left ∙ ap (λ m. m - used) all_room ∙ sym left in
-        λ i. record { phase = s.begun.phase i; room = here_room i; in_progress = s.begins i; partial = s.begun.partial i }
+    here_behind : IsInProgress after (k.size - length (records_bytes empty_environment all)) [] position d.in_progress
+    here_behind = subst (λ m. IsInProgress after m [] position d.in_progress) (sym left) at
 
     in_data : section_of (k.size - length (records_bytes empty_environment all)) ≡ InSection
     in_data = ap (λ c. cond c ClosingSum InSection)
-        (ne_eqb (k.size - length (records_bytes empty_environment all)) 0 (λ none. omega (arith, none, left, s.room, all_room)))
+        (ne_eqb (k.size - length (records_bytes empty_environment all)) 0 (λ none. omega (arith, none, left, large)))
 
     holds_behind : Holds now (bytes ++ y)
     holds_behind =
-        subst (λ c. HoldsAt c now (bytes ++ y)) (in_data ∙ sym s.in_data)
-        (begins_records k.files now (bytes ++ y) k.header k.size all all_come k.few k.counted k.whole k.fresh all_summed learnt at fill)
+        subst (λ c. HoldsAt c now (bytes ++ y)) (in_data ∙ sym in_section)
+        (begins_records k.files now (bytes ++ y) k.header k.size all all_come k.few k.counted k.whole k.fresh all_summed learnt here_behind)
 
     viable_behind : IsViable A chain_limit (bytes ++ y)
     viable_behind =
@@ -176,16 +146,15 @@ module _ {A : Type 0} (d : Fields A) (bytes piece : List ℕ) (after : Environme
           let few = k.few in omega (arith, few),
           let few = k.few in
               omega (arith, few),
-          data_starts (learn_all empty_environment all) (k.size - length (records_bytes empty_environment all)) _ (sixteen_places all)
-              fill,
+          data_starts (learn_all empty_environment all) (k.size - length (records_bytes empty_environment all)) _ fill,
         )
 
-    pub skips_some : Skipped now bytes piece used count
-    skips_some = record {
-      within = s.within;
+    skips_records : Skipped now bytes piece used count
+    skips_records = record {
+      within = within;
       told = λ events are_told. (
-        s.records.0,
-        s.records.3,
+        records.0,
+        records.3,
         records_told k.files k.header k.size k.records rs bytes y here fits spelled within_room events are_told,
       );
       viable = viable_behind;
@@ -207,7 +176,14 @@ module _ {A : Type 0} (d : Fields A) (bytes piece : List ℕ) (after : Environme
   pub skips : DataSkipped d.section d.env d.sum d.position d.in_progress after sum position piece used count → IsViable A chain_limit bytes → Holds d bytes
       → Skipped now bytes piece used count
   skips (inl (none, no_count, learnt, same, there)) viable holds = skips_none none no_count learnt same there viable holds
-  skips (inr s) viable holds = skips_some s (subst (λ c. HoldsAt c d bytes) s.in_data holds)
+  skips (inr s) viable holds =
+      let k = subst (λ c. HoldsAt c d bytes) s.in_data holds in
+      elim (s.skips (k.size - length (records_bytes empty_environment k.records)) k.part k.in_record) [
+        | inl n ↦
+            let same : sum ≡ d.sum = s.summed ∙ ap (λ m. d.sum ++ take m piece) n.0 ∙ append-nil d.sum in
+            skips_none n.0 n.1 n.2 same n.3 viable holds
+        | inr m ↦ skips_records k s.within s.summed s.in_data m.0 m.1 m.2 m.3
+      ]
 
 -- ---- what a caller of a decoder sees
 

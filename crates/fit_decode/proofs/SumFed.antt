@@ -24,6 +24,7 @@ use Rattle.fit_decode.proofs.ViableGoesOn.{next_goes, begins_nothing, no_room}
 use Rattle.fit_decode.proofs.Completions.{goes_viable}
 use Rattle.fit_decode.proofs.Next.{more_sum, whole_file, quiet, told, end_told}
 use Rattle.fit_decode.proofs.HeaderFed.{not_full}
+use Rattle.fit_decode.proofs.Telling.{quiet_of, least_of, quiet_for}
 
 rest_of : {A : Type 0} (e : Environment A) (room : ℕ) (sum part : List ℕ) → room ≡ 0 → DataGoesOn e room sum part → (rest : List ℕ) × (sum ≡ part ++ rest)
 rest_of e zero sum part over goes = goes
@@ -56,9 +57,9 @@ module _ {A : Type 0} (files : List (FitFile A)) (h : Header) (n : ℕ) (records
       ))
 
   pub sum_quiet : (k : ℕ) → k ≤ length piece → length (part ++ take k piece) < 2 → Quiet A bytes piece k
-  sum_quiet k within short = λ events are_told j less.
+  sum_quiet k within short = quiet_of bytes piece k files (at_data h n records part) here (λ events are_told j less.
       quiet files (at_data h n records part) (at_data h n records (part ++ take j piece)) bytes (bytes ++ take j piece) here (sum_fronts k within short j less)
-      refl events are_told
+      refl events are_told)
 
   -- a part of the sum
   pub sum_viable : (k : ℕ) (rest : List ℕ) → k ≤ length piece → length (part ++ take k piece) < 2 → sum ≡ (part ++ take k piece) ++ rest
@@ -83,7 +84,7 @@ module _ {A : Type 0} (files : List (FitFile A)) (h : Header) (n : ℕ) (records
       (IsBytes-append bytes (take k piece) are (IsBytes-take k piece low)) file_goes
 
   pub file_least : (k : ℕ) → k ≤ length piece → part ++ take k piece ≡ sum → Least A bytes piece k file_end
-  file_least k within whole = λ events are_told. (
+  file_least k within whole = least_of bytes piece k files (at_data h n records part) here file_end (λ events are_told. (
     told files (files ++ file ∷ []) (at_data h n records part) (at_header []) bytes (bytes ++ take k piece) file_end here (file_come k whole)
         (end_told files h n records part (omega (arith, over, here.next.2))) events are_told,
     λ j less.
@@ -98,8 +99,8 @@ module _ {A : Type 0} (files : List (FitFile A)) (h : Header) (n : ℕ) (records
           length-take-le j piece (omega (arith, less, within)),
           length-take-le k piece within,
         ) in
-        sum_quiet j (omega (arith, less, within)) short events are_told j (omega arith),
-  )
+        quiet_for bytes piece j (sum_quiet j (omega (arith, less, within)) short) events are_told j (omega arith),
+  ))
 
   -- a byte that differs
   pub sum_refuses : (k : ℕ) (rest : List ℕ) → k < length piece → length (part ++ take k piece) < 2 → sum ≡ (part ++ take k piece) ++ rest

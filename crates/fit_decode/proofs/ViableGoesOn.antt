@@ -18,9 +18,10 @@ use Rattle.fit_record.specs.Files.{body, summed, chain_bytes, IsWellFormed, IsCh
 use Rattle.fit_record.proofs.FilledRooms.{can_fill_is}
 use Rattle.fit_record.proofs.KnownFiles.{short_header, short_header_bytes}
 use Rattle.fit_decode.specs.Progress.{Progress, at_header, at_data, IsPartial, IsUnfinished, HasCome}
-use Rattle.fit_decode.specs.GoingOn.{FillFrom, DataGoesOn, GoesOn, files_begun, ChainGoesOn}
+use Rattle.fit_step.specs.InProgress.{FillFrom}
+use Rattle.fit_decode.specs.GoingOn.{DataGoesOn, GoesOn, files_begun, ChainGoesOn}
 use Rattle.fit_decode.proofs.OnePlace.{no_header, no_record}
-use Rattle.fit_decode.proofs.Splits.{split}
+use Rattle.fit_step.proofs.Splits.{split}
 use Rattle.fit_decode.proofs.Following.{HeaderFollows, RecordFollows, SumFollows, DataFollows, header_follows, data_follows, chain_follows}
 
 -- g with some bytes more

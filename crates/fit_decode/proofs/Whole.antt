@@ -1,31 +1,19 @@
 -- What isn't whole: bytes that no header, and no record, begins.
-use Rattle.std.proofs.Common.{◌≡◌, ℕ, zero, suc, ◌<◌, List, [], ◌∷◌, ◌++◌, length, drop, refl, sym, ap, ◌∙◌, arith, append_assoc}
-use Rattle.std.specs.Prelude.{replicate}
+use Rattle.std.proofs.Common.{◌≡◌, ℕ, zero, suc, ◌<◌, List, [], ◌∷◌, ◌++◌, length, drop, sym, ap, ◌∙◌, arith, append_assoc}
 use Rattle.std.proofs.lemmas.List.{append-nil, take-append-drop}
 use Rattle.fit_frame.specs.declared.header.Header.{Header}
 use Rattle.fit_frame.specs.Header.{HeaderFits, header_bytes}
 use Rattle.fit_frame.specs.Beginning.{IsFileHeader, IsWholeHeader, BeginsHeader}
 use Rattle.fit_frame.proofs.OneHeader.{one_header}
-use Rattle.fit_record.specs.declared.message.Record.{Record}
 use Rattle.fit_record.specs.Environment.{Environment}
-use Rattle.fit_record.specs.Records.{Fits, record_bytes}
-use Rattle.fit_record.proofs.OneRecord.{same_record, no_bytes}
-use Rattle.fit_step.specs.Parts.{RecordPart, nothing, in_definition, in_fields, in_dev_fields, part_bytes, IsPart, HasBegun}
-use Rattle.fit_step.proofs.PartsCompletedByZeros.{cuts_go_on}
+use Rattle.fit_step.specs.InProgress.{NoRecord}
+use Rattle.fit_step.proofs.RecordFronts.{empty_back, no_record_yet}
 use Rattle.fit_decode.specs.Progress.{at_header, IsPartial, IsUnfinished}
 use Rattle.fit_decode.proofs.OnePlace.{no_header}
 
 pub no_end : (a b : List ℕ) (c : ℕ) → a ++ c ∷ b ≡ [] → ⊥
 no_end [] b c e = cc
 no_end (x ∷ a) b c e = cc
-
-empty_front : (a b : List ℕ) → a ++ b ≡ [] → a ≡ []
-empty_front [] b e = refl
-empty_front (x ∷ a) b e = absurd cc
-
-empty_back : (a b : List ℕ) → a ++ b ≡ [] → b ≡ []
-empty_back [] b e = e
-empty_back (x ∷ a) b e = absurd cc
 
 -- ---- headers
 
@@ -64,40 +52,10 @@ before_header a b h n whole some k m rest fits is =
 
 -- ---- records
 
--- no record begins the bytes
-abbrev pub NoRecord : {A : Type 0} → Environment A → List ℕ → Type 0
-NoRecord {A} e bytes = (r : Record A) (rest : List ℕ) → Fits e r → bytes ≡ record_bytes e r ++ rest → ⊥
-
 pub partial : {A : Type 0} (e : Environment A) (room : ℕ) (part : List ℕ) → 0 < room → NoRecord e part → IsPartial e room part
 partial e zero part some none = absurd (omega arith)
 partial e (suc room) part some none = λ r k is. none r (drop k part) is.0 (sym (take-append-drop k part) ∙ ap (λ b. b ++ drop k part) is.1)
 
-pub no_record_before : {A : Type 0} (e : Environment A) (a b : List ℕ) → NoRecord e (a ++ b) → NoRecord e a
-no_record_before e a b none r rest fits is = none r (rest ++ b) fits (ap (λ z. z ++ b) is ∙ append_assoc (record_bytes e r) rest b)
-
-pub no_record_yet : {A : Type 0} (e : Environment A) → NoRecord e []
-no_record_yet e r rest fits is = no_bytes e r rest (ap length (sym is))
-
 pub partial_nothing : {A : Type 0} (e : Environment A) (room : ℕ) → IsPartial e room []
 partial_nothing e zero = omega arith
 partial_nothing e (suc room) = partial e (suc room) [] (omega arith) (no_record_yet e)
-
--- a whole record less some bytes
-pub before_record : {A : Type 0} (e : Environment A) (a b : List ℕ) (s : Record A) → Fits e s → record_bytes e s ≡ a ++ b → 0 < length b → NoRecord e a
-before_record e a b s whole spelled some r rest fits is =
-    let joined : record_bytes e r ++ (rest ++ b) ≡ record_bytes e s ++ [] =
-    sym (append_assoc (record_bytes e r) rest b) ∙ ap (λ z. z ++ b) (sym is) ∙ sym spelled ∙ sym (append-nil (record_bytes e s)) in
-    let one = same_record e r s (rest ++ b) [] fits whole joined in
-    omega (arith, some, ap length (empty_back rest b one.1))
-
-begun_part : {A : Type 0} (e : Environment A) (f : RecordPart A) → IsPart e f → HasBegun f → NoRecord e (part_bytes e f)
-begun_part e f is begun =
-    let (r, k, whole) = cuts_go_on e f is begun in
-    before_record e (part_bytes e f) (0 ∷ replicate k 0) r whole.0 (sym whole.1) (omega arith)
-
--- parts of a record are none
-pub part_of_record : {A : Type 0} (e : Environment A) (f : RecordPart A) → IsPart e f → NoRecord e (part_bytes e f)
-part_of_record e nothing is = no_record_yet e
-part_of_record e (in_definition k d) is = begun_part e (in_definition k d) is tt
-part_of_record e (in_fields local offset t dev) is = begun_part e (in_fields local offset t dev) is tt
-part_of_record e (in_dev_fields local offset items t) is = begun_part e (in_dev_fields local offset items t) is tt

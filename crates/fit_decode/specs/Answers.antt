@@ -25,15 +25,15 @@ event_of answers.FileEnd = Some file_end
 abbrev pub fed : Seen → List ℕ → ℕ → Seen
 fed old piece k = record { bytes = old.bytes ++ take k piece; refusal = None }
 
--- Each front of the piece of at most k bytes leaves the events as they are. The bytes that a decoder was fed are viable, and such bytes
--- have one list of events (laws `viable_bytes_have_events`, `events_are_one`): so `Quiet` and `Least` speak of just one list.
+-- The bytes have events, of which there is one list (law `events_are_one`), and each front of the piece of at most k bytes leaves
+-- them as they are.
 abbrev pub Quiet : Type 0 → List ℕ → List ℕ → ℕ → Type 0
-Quiet A bytes piece k = (events : List (Event A)) → AreEvents bytes events → (j : ℕ) → j ≤ k → AreEvents (bytes ++ take j piece) events
+Quiet A bytes piece k = (events : List (Event A)) × AreEvents bytes events × ((j : ℕ) → j ≤ k → AreEvents (bytes ++ take j piece) events)
 
--- The first k bytes of the piece add this event, and no fewer do.
+-- The bytes have events, to which the first k bytes of the piece add this one, and no fewer do.
 abbrev pub Least : (A : Type 0) → List ℕ → List ℕ → ℕ → Event A → Type 0
-Least A bytes piece k x = (events : List (Event A)) → AreEvents bytes events
-    → AreEvents (bytes ++ take k piece) (events ++ x ∷ []) × ((j : ℕ) → j < k → AreEvents (bytes ++ take j piece) events)
+Least A bytes piece k x = (events : List (Event A)) × AreEvents bytes events
+    × AreEvents (bytes ++ take k piece) (events ++ x ∷ []) × ((j : ℕ) → j < k → AreEvents (bytes ++ take j piece) events)
 
 -- The byte at this place is refused, and no event stands before it.
 pub record Refuses (A : Type 0) (old : Seen) (piece : List ℕ) (new : Seen) (place : ℕ) (reason : Reason) : Type 0 where

@@ -1,20 +1,14 @@
 -- Whether what there is of a file can still become a file.
 use Rattle.std.specs.Prelude.{◌≡◌, ℕ, zero, suc, ◌+◌, ◌-◌, ◌<◌, ◌≤◌, List, [], ◌∷◌, ◌++◌, length}
-use Rattle.fit_base.specs.Numbers.{IsBytes, little_bytes}
+use Rattle.fit_base.specs.Numbers.{little_bytes}
 use Rattle.fit_sum.specs.Checksum.{checksum}
 use Rattle.fit_frame.specs.Header.{header_bytes}
 use Rattle.fit_frame.specs.Beginning.{BeginsHeader}
 use Rattle.fit_record.specs.declared.file.FitFile.{FitFile}
-use Rattle.fit_record.specs.declared.message.Record.{Record}
 use Rattle.fit_record.specs.Environment.{Environment, empty_environment, learn_all}
-use Rattle.fit_record.specs.Records.{AllFit, records_bytes}
+use Rattle.fit_record.specs.Records.{records_bytes}
+use Rattle.fit_step.specs.InProgress.{FillFrom}
 use Rattle.fit_decode.specs.Progress.{Progress, at_header, at_data}
-
--- Some records begin with these bytes and take up just the room.
-abbrev pub FillFrom : {A : Type 0} → Environment A → ℕ → List ℕ → Type 0
-FillFrom {A} e room part =
-    (records : List (Record A)) × (rest : List ℕ) × IsBytes rest × AllFit e records
-    × (records_bytes e records ≡ part ++ rest) × (length part + length rest ≡ room)
 
 -- Behind the header and the records that are whole: while data is to come, records go on with the part and fill the room; behind
 -- the data the part begins the closing sum.

@@ -24,6 +24,7 @@ pub record Needs (A : Type 0) (bytes : List ℕ) (n : ℕ) : Type 0 where
   pub is : n ≡ missing (length files) progress
 
 -- A chain that begins with these bytes, and has one more file at least than have ended in them, goes on for so many bytes.
+-- That this is so of what is needed is the law `files_end_no_sooner`.
 abbrev pub NoFileEndsBefore : Type 0 → List ℕ → ℕ → Type 0
 NoFileEndsBefore A bytes n = (files others : List (FitFile A)) (progress : Progress A) (more : List ℕ)
     → HasCome files progress bytes → IsChain chain_limit others (bytes ++ more) → length files < length others → n ≤ length more

@@ -33,7 +33,7 @@ IsUnfinished (at_data h n records part) =
     × (length (records_bytes empty_environment records) ≤ n)
     × IsPartial (learn_all empty_environment records) (n - length (records_bytes empty_environment records)) part
 
--- The bytes are those of whole files, and of as much of a next file as g says.
+-- The bytes are those of whole files, and of as much of a next file as g says. By the law `progress_is_one` bytes come to one such place.
 pub record HasCome {A : Type 0} (fs : List (FitFile A)) (g : Progress A) (bytes : List ℕ) : Type 0 where
   pub files : AllByRecursion IsWellFormed fs
   pub next : IsUnfinished g

@@ -12,15 +12,15 @@ use Rattle.fit_decode.specs.declared.event.Fault.TheVariants.{Refused, Truncated
 use Rattle.fit_decode.specs.Answers.{AreChain}
 use Rattle.fit_decode.specs.Refusals.{IsRefused}
 
--- A source over a call: the bytes that it has left before and after it, where it tells them, and whether it has failed after it.
-pub record Taking : Type 0 where
+-- A source or a sink over a call: the bytes that it has before and after it, where it tells them, and whether it has failed after it.
+pub record Channel : Type 0 where
   pub before : Option (List ℕ)
   pub after : Option (List ℕ)
   pub failed : Bool
 
--- a source over a call, by what tells its bytes, what tells whether it has failed, and its states before and after
-abbrev pub taking : {S : Type 0} → (S → Option (List ℕ)) → (S → Bool) → S → S → Taking
-taking remaining has_failed old new = record { before = remaining old; after = remaining new; failed = has_failed new }
+-- a source or a sink over a call, by what tells its bytes, what tells whether it has failed, and its states before and after
+abbrev pub channel : {S : Type 0} → (S → Option (List ℕ)) → (S → Bool) → S → S → Channel
+channel contents has_failed old new = record { before = contents old; after = contents new; failed = has_failed new }
 
 -- Some file's bytes begin these.
 abbrev pub BeginsWithFile : Type 0 → List ℕ → Type 0
@@ -37,26 +37,26 @@ IsNearlyViable A limit taken = (k : ℕ) × (k ≤ length taken) × (length take
 -- Why the reading of at most that many files ended, after these bytes were taken. The byte at the place is the first one with
 -- which no such files begin, and at most a piece was taken from there on; or the input ended, and its bytes begin such files, but
 -- are none; or memory was refused; or the source failed.
-abbrev pub EndsReading : (A : Type 0) → ℕ → (List ℕ → Type 0) → List ℕ → Option (List ℕ) → Bool → Fault → Type 0
-EndsReading A limit IsDone taken has failed (Refused place reason) =
+abbrev pub EndsReading : (A : Type 0) → ℕ → (List ℕ → Type 0) → List ℕ → Channel → Fault → Type 0
+EndsReading A limit IsDone taken source (Refused place reason) =
     (place < length taken) × (length taken ≤ place + piece_size) × IsRefused A limit (take place taken) (slice_index taken place) reason
-    × (failed ≡ false)
-EndsReading A limit IsDone taken has failed (Truncated place) =
-    (place ≡ length taken) × IsAtEnd has × IsViable A limit taken × (IsDone taken → ⊥) × (failed ≡ false)
-EndsReading A limit IsDone taken has failed (NoMemory used) = (used ≡ length taken) × IsNearlyViable A limit taken × (failed ≡ false)
-EndsReading A limit IsDone taken has failed (Read place) = (place ≡ length taken) × (failed ≡ true) × IsViable A limit taken
+    × (source.failed ≡ false)
+EndsReading A limit IsDone taken source (Truncated place) =
+    (place ≡ length taken) × IsAtEnd source.after × IsViable A limit taken × (IsDone taken → ⊥) × (source.failed ≡ false)
+EndsReading A limit IsDone taken source (NoMemory used) = (used ≡ length taken) × IsNearlyViable A limit taken × (source.failed ≡ false)
+EndsReading A limit IsDone taken source (Read place) = (place ≡ length taken) × (source.failed ≡ true) × IsViable A limit taken
 
 -- ---- one file
 
 -- The bytes taken are the file's, or the reading ended with a fault.
-abbrev pub ReadsOne : {A : Type 0} → Taking → Result (FitFile A) Fault → Type 0
+abbrev pub ReadsOne : {A : Type 0} → Channel → Result (FitFile A) Fault → Type 0
 ReadsOne source (Ok f) = (taken : List ℕ) × Consumes source.before source.after taken × IsFile f taken × (source.failed ≡ false)
 ReadsOne {A} source (Err fault) =
-    (taken : List ℕ) × Consumes source.before source.after taken × EndsReading A 1 (BeginsWithFile A) taken source.after source.failed fault
+    (taken : List ℕ) × Consumes source.before source.after taken × EndsReading A 1 (BeginsWithFile A) taken source fault
 
 -- The answer where the input begins with the bytes of this file, and x follows them. The file ends with the n-th byte; no byte
 -- behind it is taken.
-abbrev pub GivesFile : {A : Type 0} → FitFile A → ℕ → List ℕ → Taking → Result (FitFile A) Fault → Type 0
+abbrev pub GivesFile : {A : Type 0} → FitFile A → ℕ → List ℕ → Channel → Result (FitFile A) Fault → Type 0
 GivesFile f n x source (Ok g) = (g ≡ f) × (source.after ≡ Some x)
 GivesFile f n x source (Err (NoMemory used)) = used ≤ n
 GivesFile f n x source (Err (Read place)) = (source.failed ≡ true) × (place < n)
@@ -66,14 +66,14 @@ GivesFile f n x source (Err (Truncated place)) = ⊥
 -- ---- a chain
 
 -- The bytes taken are all, and are the chain's; or the reading ended with a fault.
-abbrev pub ReadsChain : Taking → Result (Vec (FitFile Global) Global) Fault → Type 0
+abbrev pub ReadsChain : Channel → Result (Vec (FitFile Global) Global) Fault → Type 0
 ReadsChain source (Ok files) =
     (taken : List ℕ) × Consumes source.before source.after taken × IsAtEnd source.after × IsChain chain_limit files.items taken × (source.failed ≡ false)
 ReadsChain source (Err fault) =
-    (taken : List ℕ) × Consumes source.before source.after taken × EndsReading Global chain_limit (AreChain Global) taken source.after source.failed fault
+    (taken : List ℕ) × Consumes source.before source.after taken × EndsReading Global chain_limit (AreChain Global) taken source fault
 
 -- The answer where the input is the bytes of this chain.
-abbrev pub GivesChain : List (FitFile Global) → Taking → Result (Vec (FitFile Global) Global) Fault → Type 0
+abbrev pub GivesChain : List (FitFile Global) → Channel → Result (Vec (FitFile Global) Global) Fault → Type 0
 GivesChain fs source (Ok files) = files.items ≡ fs
 GivesChain fs source (Err (NoMemory used)) = Unit {0}
 GivesChain fs source (Err (Read place)) = source.failed ≡ true
@@ -94,7 +94,7 @@ EndsChain {A} f bytes = (fs : List (FitFile A)) × IsChain chain_limit (fs ++ f 
 
 -- Bytes were taken behind the old ones: the next file's, and with the old ones they are a chain; or none, since the input has ended
 -- behind a chain; or the reading ended with a fault, for good.
-abbrev pub ReadsNext : {A S : Type 0} → Past S → Past S → Taking → Result (Option (FitFile A)) Fault → Type 0
+abbrev pub ReadsNext : {A S : Type 0} → Past S → Past S → Channel → Result (Option (FitFile A)) Fault → Type 0
 ReadsNext old new source (Ok (Some f)) =
     (bytes : List ℕ) × Consumes source.before source.after bytes × (new.taken ≡ old.taken ++ bytes) × IsFile f bytes × EndsChain f new.taken
     × (new.fault ≡ None) × (source.failed ≡ false)
@@ -102,11 +102,11 @@ ReadsNext {A} old new source (Ok None) =
     Keeps source.before source.after × IsAtEnd source.after × (new.taken ≡ old.taken) × AreChain A old.taken × (new.fault ≡ None) × (source.failed ≡ false)
 ReadsNext {A} old new source (Err fault) =
     (bytes : List ℕ) × Consumes source.before source.after bytes × (new.taken ≡ old.taken ++ bytes)
-    × EndsReading A chain_limit (AreChain A) new.taken source.after source.failed fault × (new.fault ≡ Some fault)
+    × EndsReading A chain_limit (AreChain A) new.taken source fault × (new.fault ≡ Some fault)
 
 -- The answer where the bytes of this file begin what is left, and x follows them. The file ends with the n-th byte since the reading
 -- was made; no byte behind it is taken.
-abbrev pub GivesNext : {A : Type 0} → FitFile A → ℕ → List ℕ → Taking → Result (Option (FitFile A)) Fault → Type 0
+abbrev pub GivesNext : {A : Type 0} → FitFile A → ℕ → List ℕ → Channel → Result (Option (FitFile A)) Fault → Type 0
 GivesNext f n x source (Ok (Some g)) = (g ≡ f) × (source.after ≡ Some x)
 GivesNext f n x source (Ok None) = ⊥
 GivesNext f n x source (Err (NoMemory used)) = used ≤ n

@@ -5,5 +5,4 @@ pub mod Scans
 pub mod Sections
 pub mod Kept
 pub mod Skips
-pub mod InProgress
 pub mod Invariant

@@ -2,7 +2,7 @@
 ghost use Rattle.std.specs.Prelude.{IfErr, IfOk};
 ghost use Rattle.std.specs.declared.alloc.Global.{Global};
 ghost use Rattle.fit_decode.specs.Answers.{AreChain};
-ghost use Rattle.fit_decode.specs.Checks.{AreFiles, IsFaultOf, LacksMemory};
+ghost use Rattle.fit_decode.specs.Checks.{AreFiles, IsFaultOf, LacksMemory, LacksMemoryAt};
 
 use crate::{Decoder, Fault};
 use std::alloc::Global;
@@ -10,10 +10,13 @@ use std::alloc::Global;
 /// Checks that some bytes are a FIT file, or a chain of such files, and returns how many files they are.
 ///
 /// `Refused` has the first byte that cannot belong to any valid chain of files, counted from 0, and the reason; `Truncated` has
-/// the length of bytes that end too soon. `NoMemory` says nothing about the bytes.
+/// the length of bytes that end too soon. `NoMemory` has the number of bytes taken before memory was refused; they begin a
+/// chain, and so they do with the next byte.
 pub fn check_bytes(alloc: Global, bytes: &[u8]) -> Result<u64, Fault>
     ensures files { IfOk result (AreFiles bytes.now) }
     ensures fault { IfErr result (IsFaultOf bytes.now) }
+    // Memory is refused at the byte after those taken, and that byte may take some.
+    ensures place { IfErr result (LacksMemoryAt bytes.now) }
     // A chain of files fails only where memory is refused.
     ensures memory { AreChain Global bytes.now → IfErr result LacksMemory }
 {
@@ -22,9 +25,14 @@ pub fn check_bytes(alloc: Global, bytes: &[u8]) -> Result<u64, Fault>
     while !rest.is_empty() {
         let (passed, _) = decoder.skip_records(rest);
         let (_, left) = rest.split_at(passed);
-        let fed = decoder.feed(left)?;
-        let (_, behind) = left.split_at(fed.used);
-        rest = behind;
+        let before = bytes.len() - left.len();
+        match decoder.feed(left) {
+            Ok(fed) => {
+                let (_, behind) = left.split_at(fed.used);
+                rest = behind;
+            }
+            Err(fault) => return Err(fault.after(before as u64)),
+        }
     }
     decoder.finish()?;
     Ok(decoder.files())

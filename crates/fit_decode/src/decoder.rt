@@ -2,6 +2,7 @@
 ghost use Rattle.std.specs.Prelude.{◌≡◌, ◌↔◌, ℕ, ◌<◌, ◌≤◌, List, [], ◌++◌, length, take, Some, None, Ok, Err, IfOk, IsErr, IsOk, IsTrue};
 ghost use Rattle.fit_frame.specs.declared.reason.Reason.{Reason};
 ghost use Rattle.fit_record.specs.Files.{chain_limit, IsViable};
+ghost use Rattle.fit_record.specs.Environment.{empty_environment};
 ghost use Rattle.fit_record.specs.declared.file.FitFile.{FitFile};
 ghost use Rattle.fit_decode.specs.Events.{Event as Told, AreEvents};
 ghost use Rattle.fit_decode.specs.Held.{bound_limit, IsHeld};
@@ -12,15 +13,13 @@ ghost use Rattle.fit_decode.specs.Answers.{event_of, fed, Quiet, Least, Refuses,
 #[cfg(test)]
 mod tests;
 
-use crate::held::in_progress_size;
 use crate::need::bytes_to_come;
-use crate::record::let_go;
 use crate::section::{Section, feed_section, skip_data};
 use crate::{Event, Fault, Fed};
 use fit_frame::{HeadReader, Reason};
 use fit_history::History;
 use fit_record::{Env, Record};
-use fit_step::{Position, Stop};
+use fit_step::{Position, Stop, in_progress_size};
 use fit_sum::Sum;
 use std::alloc::{Allocator, Global};
 use std::marker::Model;
@@ -256,4 +255,13 @@ impl<A: Allocator + Copy> Decoder<A> {
     {
         self.env.held() + in_progress_size(&self.in_progress)
     }
+}
+
+/// Nothing is known any more, and no record is in progress.
+fn let_go<A: Allocator + Copy>(alloc: A, env: &mut Env<A>, in_progress: &mut Option<Record<A>>)
+    ensures known { env.new ≡ empty_environment }
+    ensures idle { in_progress.new ≡ None }
+{
+    *env = Env::new(alloc);
+    *in_progress = None;
 }

@@ -1,4 +1,7 @@
 //! What a decoder returns.
+ghost use Rattle.std.specs.Prelude.{◌≡◌};
+ghost use Rattle.fit_decode.specs.Checks.{fault_after};
+
 use fit_frame::{Header, Reason};
 use fit_record::Record;
 use std::alloc::{Allocator, Global};
@@ -34,10 +37,25 @@ pub enum Fault {
     /// The bytes end at this place, and they begin a chain of files but aren't one.
     #[error("truncated at byte {place}")]
     Truncated { place: u64 },
-    /// Memory was refused. That many bytes of the piece count as fed; a reader says how many it has taken.
+    /// Memory was refused. That many bytes of the piece count as fed; a reader, and `check_bytes`, say how many they have taken.
     #[error("out of memory after {used} bytes")]
     NoMemory { used: u64 },
     /// The source failed after that many bytes.
     #[error("read fault at byte {place}")]
     Read { place: u64 },
+}
+
+impl Fault {
+    /// The fault of a piece that comes after that many bytes: `NoMemory` counts those too, up to 2^64 - 1. Any other fault counts
+    /// from the start of the chain, and stays as it is.
+    pub fn after(self, before: u64) -> Fault
+        ensures { result ≡ fault_after before self }
+    {
+        match self {
+            Fault::NoMemory { used } => Fault::NoMemory {
+                used: used.saturating_add(before),
+            },
+            fault => fault,
+        }
+    }
 }

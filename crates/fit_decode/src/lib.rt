@@ -4,11 +4,9 @@
 mod check;
 mod decoder;
 mod event;
-mod held;
 pub mod laws;
 mod need;
 mod readers;
-mod record;
 mod scan;
 mod section;
 mod source;

@@ -1,18 +1,17 @@
 //! The bytes of a piece that belong to one section of a file: its header, its data section, or its closing sum.
 ghost use Rattle.std.specs.Prelude.{◌≡◌, ◌<◌, None};
 ghost use Rattle.fit_record.specs.Files.{chain_limit};
-ghost use Rattle.fit_step.specs.Places.{state_at};
+ghost use Rattle.fit_step.specs.InProgress.{AwaitsByte};
 ghost use Rattle.fit_decode.specs.inner.Kept.{Stand, Advances};
-ghost use Rattle.fit_decode.specs.inner.Scans.{IsHeaderPart, Reading};
+ghost use Rattle.fit_decode.specs.inner.Scans.{IsHeaderPart};
 ghost use Rattle.fit_decode.specs.inner.Sections.{section_of, HeaderFed, DataFed, SumFed};
 ghost use Rattle.fit_decode.specs.inner.Skips.{DataSkipped};
 
 use crate::Event;
-use crate::record::scan_record;
 use crate::scan::{scan_header, scan_sum};
 use fit_frame::{HeadReader, Reason};
 use fit_record::{CHAIN_LIMIT, Env, Record};
-use fit_step::{Position, Stop, skip_records};
+use fit_step::{Position, Stop, read_record, skip_in_section};
 use fit_sum::Sum;
 use std::alloc::Allocator;
 
@@ -78,11 +77,11 @@ pub(crate) fn feed_data<A: Allocator + Copy>(
     piece: &[u8],
 ) -> (usize, Result<Event<A>, Stop>)
     requires here { section.old ≡ Section.Data }
-    requires reading { Reading env.old (state_at position.old in_progress.old) }
-    ensures { DataFed env.old sum.old (state_at position.old in_progress.old) env.new sum.new
-        section.new (state_at position.new in_progress.new) piece.now result.0 result.1 }
+    requires reading { AwaitsByte env.old position.old in_progress.old }
+    ensures { DataFed env.old sum.old position.old in_progress.old env.new sum.new section.new
+        position.new in_progress.new piece.now result.0 result.1 }
 {
-    let (used, answer) = scan_record(alloc, env, position, in_progress, piece);
+    let (used, answer) = read_record(alloc, env, position, in_progress, piece);
     let (taken, _) = piece.split_at(used);
     sum.add_all(taken);
     match answer {
@@ -113,19 +112,9 @@ pub(crate) fn skip_data<A: Allocator + Copy>(
         Section::Header => return (0, 0),
         Section::ClosingSum => return (0, 0),
     }
-    match in_progress {
-        Some(_) => return (0, 0),
-        None => {}
-    }
-    if position.room < 6 {
-        return (0, 0);
-    }
-    let most = piece.len().min((position.room - 6) as usize);
-    let (front, _) = piece.split_at(most);
-    let (used, count) = skip_records(alloc, env, front);
+    let (used, count) = skip_in_section(alloc, env, position, in_progress, piece);
     let (taken, _) = piece.split_at(used);
     sum.add_all(taken);
-    *position = Position::new(position.room - used as u32);
     (used, count)
 }
 

@@ -1,10 +1,7 @@
 -- Where a test of rooms refuses.
-use Rattle.std.proofs.Common.{◌≡◌, ℕ, zero, ◌+◌, ◌-◌, ◌*◌, false, List, [], ◌∷◌, ◌++◌, length, refl, sym, ap, ◌∙◌, subst, arith, Some, None, Err}
+use Rattle.std.proofs.Common.{◌≡◌, ℕ, ◌+◌, ◌-◌, ◌*◌, false, refl, Some, None, Err}
 use Rattle.std.specs.Prelude.{Option, ◌==◌, nat_lt}
 use Rattle.std.proofs.lemmas.Bool.{cond_both}
-use Rattle.std.proofs.lemmas.List.{append-nil}
-use Rattle.fit_base.specs.Numbers.{IsBytes}
-use Rattle.fit_base.proofs.ByteLists.{IsBytes-tail}
 use Rattle.fit_frame.specs.declared.reason.Reason.TheVariants.{NoFit}
 use Rattle.fit_record.specs.declared.definition.MessageDef.{MessageDef}
 use Rattle.fit_record.specs.declared.environment.Defined.{Defined}
@@ -15,10 +12,9 @@ use Rattle.fit_record.specs.Environment.{Environment, defined_at}
 use Rattle.fit_record.specs.HeaderByte.{is_definition, has_reserved_bit, local_type}
 use Rattle.fit_step.specs.Reasons.{least_definition}
 use Rattle.fit_record.specs.Records.{message_size}
-use Rattle.fit_step.specs.Machine.{Tests, State, Step, step, header_move, message_move, definition_move, field_move, dev_move, dev_count_byte, RoomsFill}
-use Rattle.fit_step.specs.Parts.{RecordPart, nothing, in_definition, in_fields, in_dev_fields, part_bytes, IsPart, state_of}
-use Rattle.fit_step.specs.inner.Runs.{Fails, NoFitFails, TestsFill}
-use Rattle.fit_step.proofs.Runs.{step_goes, one_less, one_more}
+use Rattle.fit_step.specs.Machine.{Tests, Step, step, header_move, message_move, definition_move, field_move, dev_move, dev_count_byte}
+use Rattle.fit_step.specs.Parts.{nothing, in_definition, in_fields, in_dev_fields}
+use Rattle.fit_step.specs.inner.Runs.{Fails, NoFitFails}
 
 -- where a step refuses for want of records, P holds
 abbrev Tells : {A : Type 0} → Type 0 → Step A → Type 0
@@ -67,24 +63,3 @@ no_fit_fails e tests room nothing b h = header_tells e tests room b h
 no_fit_fails e tests room (in_definition k d) b h = definition_tells e tests room k d b h
 no_fit_fails e tests room (in_fields local offset t dev) b h = cond_both (t.left == 1) _ _ (Tells ⊥) (λ z g. absurd cc) (λ z g. absurd cc) h
 no_fit_fails e tests room (in_dev_fields local offset items t) b h = cond_both (t.left == 1) _ _ (Tells ⊥) (λ z g. absurd cc) (λ z g. absurd cc) h
-
-fill_from : {A : Type 0} (e : Environment A) (tests : Tests A) (bytes : List ℕ) (room : ℕ) (f : RecordPart A) → IsPart e f → IsBytes bytes
-    → ((front : List ℕ) (b : ℕ) (back : List ℕ) (part : RecordPart A) → bytes ≡ front ++ b ∷ back → IsPart e part → part_bytes e part ≡ part_bytes e f ++ front
-    → Fails e tests (room - length front) part b → ⊥)
-    → RoomsFill e tests (state_of room f) bytes
-fill_from e tests [] room f h low never = tt
-fill_from {A} e tests (b ∷ bytes) room f h low never = (
-  λ bad.
-      let whole : room - 0 ≡ room = omega arith in
-      never [] b bytes f refl h (sym (append-nil (part_bytes e f))) (subst (λ n. Fails e tests n f b) (sym whole) (no_fit_fails e tests room f b bad)),
-  λ u made.
-      let g = step_goes e tests room f b u h (low zero) made in
-      subst (λ (s : State A). RoomsFill e tests s bytes) (sym g.3)
-      (fill_from e tests bytes (room - 1) g.0 g.1 (IsBytes-tail b bytes low)
-      (λ front c back part is stands spelled bad.
-      never (b ∷ front) c back part (ap (λ z. b ∷ z) is) stands (spelled ∙ ap (λ z. z ++ front) g.2 ∙ one_more (part_bytes e f) b front)
-      (subst (λ n. Fails e tests n part c) (one_less room (length front)) bad))),
-)
-
-pub tests_fill : {A : Type 0} → TestsFill A
-tests_fill e tests room bytes low never = fill_from e tests bytes room nothing tt low never

@@ -1,15 +1,14 @@
 -- One number more of a field, and one field more of a data message.
-use Rattle.std.proofs.Common.{◌≡◌, ℕ, suc, ◌+◌, ◌-◌, ◌*◌, ◌/◌, ◌<◌, ◌≤◌, List, [], ◌∷◌, ◌++◌, length, take, drop, sym, ap, ◌∙◌, arith, append_assoc}
+use Rattle.std.proofs.Common.{◌≡◌, ℕ, suc, ◌+◌, ◌-◌, ◌*◌, ◌/◌, ◌<◌, ◌≤◌, List, [], ◌∷◌, ◌++◌, length, take, drop, sym, ap, ◌∙◌, arith, append_assoc, refl}
 use Rattle.std.proofs.Common.{length-drop, get_or}
-use Rattle.std.specs.Prelude.{map, zip}
+use Rattle.std.specs.Prelude.{map, sum_by, zip}
 use Rattle.std.proofs.Math.Nat.{suc-mul}
-use Rattle.std.proofs.lemmas.List.{append-nil, drop_more}
+use Rattle.std.proofs.lemmas.List.{append-nil, drop_more, drop-take, take-take}
 use Rattle.std.proofs.lemmas.List.Sums.{sum_by-cons}
 use Rattle.fit_base.specs.declared.items.Items.{Items}
 use Rattle.fit_base.specs.declared.number.Order.{Order}
-use Rattle.fit_base.specs.BaseTypes.{item_width}
+use Rattle.fit_base.specs.declared.number.Order.TheVariants.{Little, Big}
 use Rattle.fit_base.specs.Numbers.{number}
-use Rattle.fit_base.proofs.Shapes.{item_width_divides}
 use Rattle.fit_record.specs.declared.definition.DevDef.{DevDef}
 use Rattle.fit_record.specs.declared.definition.FieldDef.{FieldDef}
 use Rattle.fit_record.specs.inner.ReadMessages.{numbers_of, field_from, fields_from}
@@ -31,18 +30,24 @@ left_more w n m rest more long = length-drop w rest ∙ (let all : length rest �
 pub some_left : (w n m : ℕ) (rest : List ℕ) → n ≡ suc m → length rest ≡ n * w → w ≤ length rest
 some_left w n m rest more long = let all : length rest ≡ m * w + w = long ∙ ap (λ k. k * w) more ∙ suc-mul m w in omega (arith, all)
 
-pub all_numbers : (code size w : ℕ) (bytes : List ℕ) → w ≡ item_width code size → length bytes ≡ size → length bytes ≡ (size / w - 0) * w
-all_numbers code size w bytes same long =
-    let none : size / item_width code size - 0 ≡ size / item_width code size = omega arith in
-    long ∙ sym (ap (λ k. (size / k - 0) * k) same ∙ ap (λ n. n * item_width code size) none ∙ item_width_divides code size)
+pub all_numbers : (w : ℕ) (bytes : List ℕ) → (length bytes / w) * w ≡ length bytes → length bytes ≡ (length bytes / w - 0) * w
+all_numbers w bytes whole = let none : length bytes / w - 0 ≡ length bytes / w = omega arith in sym (ap (λ n. n * w) none ∙ whole)
 
-pub field_read : {A : Type 0} (o : Order) (code size w k : ℕ) (bits rest bytes : List ℕ) → w ≡ item_width code size → size / w ≤ k
-    → bits ++ numbers_of o w (size / w - k) rest ≡ numbers_of o w (size / w) bytes
-    → record { width = w; bits = bits } ≡ field_from {A = A} o (code, size) bytes
-field_read {A} o code size w k bits rest bytes same all told =
-    let none : size / w - k ≡ 0 = omega (arith, all) in
-    let numbers : bits ≡ numbers_of o w (size / w) bytes = sym (ap (λ n. bits ++ numbers_of o w n rest) none ∙ append-nil bits) ∙ told in
-    λ i. record { width = same i; bits = (numbers ∙ ap (λ n. numbers_of o n (size / n) bytes) same) i }
+pub all_read : (o : Order) (w k count : ℕ) (bits rest all : List ℕ) → count ≤ k → bits ++ numbers_of o w (count - k) rest ≡ all → bits ≡ all
+all_read o w k count bits rest all done told =
+    let none : count - k ≡ 0 = omega (arith, done) in
+    sym (ap (λ n. bits ++ numbers_of o w n rest) none ∙ append-nil bits) ∙ told
+
+-- a byte is its number
+numbers_are_bytes : (o : Order) (bytes : List ℕ) → numbers_of o 1 (length bytes) bytes ≡ bytes
+numbers_are_bytes o [] = refl
+numbers_are_bytes Little (b ∷ bytes) = λ i. (let same : b + 256 * 0 ≡ b = omega arith in same i) ∷ numbers_are_bytes Little bytes i
+numbers_are_bytes Big (b ∷ bytes) = λ i. (let same : b + 256 * 0 ≡ b = omega arith in same i) ∷ numbers_are_bytes Big bytes i
+
+pub one_wide : (o : Order) (w : ℕ) (bytes : List ℕ) → w ≡ 1 → bytes ≡ numbers_of o w (length bytes / w) bytes
+one_wide o w bytes one =
+    let all : length bytes / 1 ≡ length bytes = omega arith in
+    sym (ap (λ k. numbers_of o k (length bytes / k) bytes) one ∙ ap (λ n. numbers_of o 1 n bytes) all ∙ numbers_are_bytes o bytes)
 
 -- ---- fields
 
@@ -61,6 +66,23 @@ pub layout_left : (f : ℕ × ℕ) (here next : List (ℕ × ℕ)) (rest : List 
 layout_left f here next rest more long =
     let all : length rest ≡ f.1 + sizes next = long ∙ ap sizes more ∙ sum_by-cons (λ (g : ℕ × ℕ). g.1) f next in
     (omega (arith, all), length-drop f.1 rest ∙ (let left : length rest - f.1 ≡ sizes next = omega (arith, all) in left))
+
+-- only the bytes of the fields count
+pub fields_front : {A : Type 0} (o : Order) (fs : List (ℕ × ℕ)) (bytes : List ℕ) → fields_from {A = A} o fs bytes ≡ fields_from o fs (take (sizes fs) bytes)
+fields_front o [] bytes = refl
+fields_front {A} o (f ∷ fs) bytes =
+    let all : sizes (f ∷ fs) ≡ f.1 + sizes fs = sum_by-cons (λ (g : ℕ × ℕ). g.1) f fs in
+    let less : f.1 ≤ f.1 + sizes fs = omega arith in
+    let here : take f.1 (take (f.1 + sizes fs) bytes) ≡ take f.1 bytes = take-take f.1 (f.1 + sizes fs) bytes less in
+    let behind : drop f.1 (take (f.1 + sizes fs) bytes) ≡ take (sizes fs) (drop f.1 bytes) = drop-take f.1 (sizes fs) bytes in
+    (λ i. field_from {A = A} o f (sym here i) ∷ (fields_front {A = A} o fs (drop f.1 bytes) ∙ ap (fields_from o fs) (sym behind)) i)
+    ∙ ap (λ n. fields_from o (f ∷ fs) (take n bytes)) (sym all)
+
+-- the bytes of the fields from place k on are those of the field there, and of those behind it
+pub sizes_more : (fields : List FieldDef) (k : ℕ) (none : FieldDef) → k < length fields
+    → sum_by (λ f. f.size) (drop k fields) ≡ (get_or fields k none).size + sum_by (λ f. f.size) (drop (k + 1) fields)
+sizes_more fields k none less =
+    ap (sum_by (λ (f : FieldDef). f.size)) (drop_more fields k none less) ∙ sum_by-cons (λ (f : FieldDef). f.size) (get_or fields k none) (drop (k + 1) fields)
 
 -- ---- developer fields
 

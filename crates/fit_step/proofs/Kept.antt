@@ -4,9 +4,11 @@ use Rattle.std.specs.Prelude.{Option, IsSomeAnd}
 use Rattle.fit_record.specs.declared.message.Record.{Record}
 use Rattle.fit_record.specs.Environment.{Environment}
 use Rattle.fit_record.specs.Records.{Fits}
+use Rattle.fit_step.specs.declared.phase.DefinitionPhase.TheVariants.{Reserved, Architecture as AtArchitecture, GlobalFirst, GlobalSecond, FieldCount}
+use Rattle.fit_step.specs.declared.phase.DefinitionPhase.TheVariants.{FieldNumber, FieldSize, FieldCode, DevCount, DevNumber, DevSize, DevIndex}
 use Rattle.fit_step.specs.declared.position.Position.{Position}
 use Rattle.fit_step.specs.Machine.{Tests, State, Step, NextState, start, step, least_rest}
-use Rattle.fit_step.specs.Parts.{RecordPart, nothing, in_definition, in_fields, in_dev_fields, part_bytes, HasBegun, state_of}
+use Rattle.fit_step.specs.Parts.{RecordPart, nothing, in_definition, in_fields, in_dev_fields, part_bytes, IsPart, HasBegun, state_of}
 use Rattle.fit_step.specs.Laws.{BeginningsStand}
 use Rattle.fit_step.specs.Places.{state_at, PartFitsRoom, Steps, KeepsPart}
 use Rattle.fit_step.specs.inner.Steps.{Made}
@@ -20,6 +22,24 @@ in_progress_is room nothing begun none = begun
 in_progress_is room (in_definition k d) begun none = cc
 in_progress_is room (in_fields local offset t dev) begun none = cc
 in_progress_is room (in_dev_fields local offset items t) begun none = cc
+
+-- a record in progress takes one byte more at least
+pub takes_more : {A : Type 0} (e : Environment A) (room : ℕ) (f : RecordPart A) → IsPart e f → HasBegun f → 0 < least_rest e (state_of room f)
+takes_more e room nothing is begun = absurd begun
+takes_more e room (in_definition Reserved d) is begun = omega arith
+takes_more e room (in_definition AtArchitecture d) is begun = omega arith
+takes_more e room (in_definition GlobalFirst d) is begun = omega arith
+takes_more e room (in_definition (GlobalSecond first) d) is begun = omega arith
+takes_more e room (in_definition FieldCount d) is begun = omega arith
+takes_more e room (in_definition (FieldNumber left) d) is begun = omega arith
+takes_more e room (in_definition (FieldSize left number) d) is begun = omega arith
+takes_more e room (in_definition (FieldCode left number size) d) is begun = omega arith
+takes_more e room (in_definition DevCount d) is begun = omega arith
+takes_more e room (in_definition (DevNumber left) d) is begun = omega arith
+takes_more e room (in_definition (DevSize left number) d) is begun = omega arith
+takes_more e room (in_definition (DevIndex left number size) d) is begun = omega arith
+takes_more e room (in_fields local offset t dev) is begun = let some = is.3.some in omega (arith, some)
+takes_more e room (in_dev_fields local offset items t) is begun = let some = is.4.some in omega (arith, some)
 
 -- a record begins
 pub stands_start : {A : Type 0} (e : Environment A) (room : ℕ) → PartFitsRoom e (start room)
@@ -55,6 +75,19 @@ module _ {A : Type 0} (e : Environment A) (tests : Tests A) (b : ℕ) (low : b <
             let room : t.room ≡ s.room - 1 = ap (λ (u : State A). u.room) here ∙ room_of (s.room - 1) g.next in
             let rest : (t.room + 1 ≡ s.room) × (least_rest e t ≤ t.room) = left_of s h (t, None) made in
             record { part = g.next; is_part = g.stands; is = here ∙ ap (λ n. state_of n g.next) (sym room); within = rest.1 }
+        | inr c ↦ absurd (let same : (t, None) ≡ (start (s.room - 1), Some c.whole) = cc (made, c.is) in let none : None ≡ Some c.whole =
+            ap (λ (n : NextState A). n.1) same in cc)
+      ]
+
+  -- and room for the next byte
+  pub still_room : (s t : State A) → PartFitsRoom e s → step e tests s b ≡ Ok (t, None) → 0 < t.room
+  still_room s t h made =
+      elim (moved s h (t, None) made) [
+        | inl g ↦
+            let same : (t, None) ≡ (state_of (s.room - 1) g.next, None) = cc (made, g.is) in
+            let here : t ≡ state_of (s.room - 1) g.next = ap (λ (n : NextState A). n.0) same in
+            let rest : (t.room + 1 ≡ s.room) × (least_rest e t ≤ t.room) = left_of s h (t, None) made in
+            omega (arith, rest.1, ap (least_rest e) here, takes_more e (s.room - 1) g.next g.stands g.begun)
         | inr c ↦ absurd (let same : (t, None) ≡ (start (s.room - 1), Some c.whole) = cc (made, c.is) in let none : None ≡ Some c.whole =
             ap (λ (n : NextState A). n.1) same in cc)
       ]

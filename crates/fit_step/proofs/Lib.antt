@@ -27,3 +27,14 @@ pub mod Gathering
 pub mod WholeMessage
 pub mod ReadDefinitions
 pub mod SkippedRecords
+pub mod Splits
+pub mod RecordFronts
+pub mod RecordsInProgress
+pub mod EmptyMessages
+pub mod ReadBytes
+pub mod SkippedInSection
+pub mod Limits
+pub mod HeldParts
+pub mod SoFar
+pub mod EntriesSoFar
+pub mod HeldInProgress

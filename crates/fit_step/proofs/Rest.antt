@@ -4,13 +4,10 @@ use Rattle.std.proofs.Common.{arith, Some, None, Ok, Err}
 use Rattle.std.specs.Prelude.{Option, drop, ◌==◌, nat_lt, option_map, unwrap_or}
 use Rattle.std.proofs.lemmas.Bool.{cond_both, eqb-true, eqb-false, ltb-false}
 use Rattle.std.proofs.lemmas.List.Sums.{sum_by-append, sum_by-cons}
-use Rattle.fit_base.specs.Numbers.{IsBytes}
-use Rattle.fit_base.proofs.ByteLists.{IsBytes-tail}
 use Rattle.fit_record.specs.declared.definition.DevDef.{DevDef}
 use Rattle.fit_record.specs.declared.definition.MessageDef.{MessageDef}
 use Rattle.fit_record.specs.declared.message.Values.{Values}
 use Rattle.fit_record.specs.declared.environment.Defined.{Defined}
-use Rattle.fit_record.specs.declared.message.Record.{Record}
 use Rattle.fit_step.specs.declared.phase.DefinitionPhase.{DefinitionPhase}
 use Rattle.fit_step.specs.declared.phase.DefinitionPhase.TheVariants.{Reserved, Architecture as AtArchitecture, GlobalFirst, GlobalSecond, FieldCount}
 use Rattle.fit_step.specs.declared.phase.DefinitionPhase.TheVariants.{FieldNumber, FieldSize, FieldCode, DevCount, DevNumber, DevSize, DevIndex}
@@ -21,11 +18,9 @@ use Rattle.fit_step.specs.Reasons.{least_definition}
 use Rattle.fit_record.specs.Records.{message_size}
 use Rattle.fit_step.specs.Machine.{Tests, State, Step, NextState, start, step, least_rest, begin_dev, begin_fields, layout_at, dev_layout_at, fields_rest}
 use Rattle.fit_step.specs.Machine.{dev_rest, field_move, dev_move, definition_move, next_field, next_dev, after_fields, dev_count_byte, new_definition}
-use Rattle.fit_step.specs.Machine.{new_message, new_dev, header_move, message_move, Walks, Ends}
+use Rattle.fit_step.specs.Machine.{new_message, new_dev, header_move, message_move, Ends}
 use Rattle.fit_record.specs.Records.{sizes}
 use Rattle.fit_step.specs.Parts.{RecordPart, nothing, in_definition, in_fields, in_dev_fields, IsDefinitionPart, IsPart, state_of}
-use Rattle.fit_step.specs.inner.Runs.{RoomsAreKept, EndsAreWithin}
-use Rattle.fit_step.proofs.Runs.{step_goes}
 
 -- what a step leaves of a room
 abbrev pub KeepsRoom : {A : Type 0} → Environment A → ℕ → Step A → Type 0
@@ -179,41 +174,3 @@ room_of room nothing = refl
 room_of room (in_definition k d) = refl
 room_of room (in_fields local offset t dev) = refl
 room_of room (in_dev_fields local offset items t) = refl
-
-kept_walk : {A : Type 0} (e : Environment A) (tests : Tests A) (bytes : List ℕ) (room : ℕ) (f : RecordPart A) (t : State A) → IsPart e f → IsBytes bytes
-    → least_rest e (state_of room f) ≤ room → Walks e tests (state_of room f) bytes t
-    → (t.room + length bytes ≡ room) × (least_rest e t ≤ t.room)
-kept_walk {A} e tests [] room f t h low less walk =
-    let here : (state_of room f).room ≡ t.room = ap (λ (s : State A). s.room) walk in
-    let same : t.room ≡ room = sym here ∙ room_of room f in
-    (omega (arith, same), subst (λ (s : State A). least_rest e s ≤ t.room) walk (subst (λ n. least_rest e (state_of room f) ≤ n) (sym same) less))
-kept_walk {A} e tests (b ∷ bytes) room f t h low less (u, made, walk) =
-    let g = step_goes e tests room f b u h (low zero) made in
-    let k : (u.room + 1 ≡ room) × (least_rest e u ≤ u.room) = subst (λ n. KeepsRoom e room n) made (keeps e tests room f b h less) in
-    let same : u.room ≡ room - 1 = omega (arith, k.0) in
-    let l = kept_walk e tests bytes (room - 1) g.0 t g.1 (IsBytes-tail b bytes low)
-    (subst (λ (s : State A). least_rest e s ≤ room - 1) g.3 (subst (λ n. least_rest e u ≤ n) same k.1)) (subst (λ s. Walks e tests s bytes t) g.3 walk) in
-    (omega (arith, l.0, k.0), l.1)
-
-pub rooms_are_kept : {A : Type 0} → RoomsAreKept A
-rooms_are_kept e tests room bytes t walk low = kept_walk e tests bytes room nothing t tt low (omega arith) walk
-
-within : {A : Type 0} (e : Environment A) (tests : Tests A) (bytes : List ℕ) (room : ℕ) (f : RecordPart A) (t : State A) (r : Record A) → IsPart e f
-    → IsBytes bytes
-    → least_rest e (state_of room f) ≤ room → Ends e tests (state_of room f) bytes t r
-    → length bytes ≤ room
-within e tests [] room f t r h low less ends = absurd ends
-within e tests (b ∷ bytes) room f t r h low less (inl last) =
-    let k : 0 < room = subst (λ n. KeepsRoom e room n) last.1 (keeps e tests room f b h less) in
-    let one : length (b ∷ bytes) ≡ 1 = ap (λ z. length (b ∷ z)) last.0 in
-    omega (arith, one, k)
-within {A} e tests (b ∷ bytes) room f t r h low less (inr (u, made, ends)) =
-    let g = step_goes e tests room f b u h (low zero) made in
-    let k : (u.room + 1 ≡ room) × (least_rest e u ≤ u.room) = subst (λ n. KeepsRoom e room n) made (keeps e tests room f b h less) in
-    let same : u.room ≡ room - 1 = omega (arith, k.0) in
-    let l = within e tests bytes (room - 1) g.0 t r g.1 (IsBytes-tail b bytes low)
-    (subst (λ (s : State A). least_rest e s ≤ room - 1) g.3 (subst (λ n. least_rest e u ≤ n) same k.1)) (subst (λ s. Ends e tests s bytes t r) g.3 ends) in
-    omega (arith, l, k.0)
-
-pub ends_are_within : {A : Type 0} → EndsAreWithin A
-ends_are_within e tests room bytes t r ends low = within e tests bytes room nothing t r tt low (omega arith) ends

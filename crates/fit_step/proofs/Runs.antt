@@ -9,10 +9,9 @@ use Rattle.fit_frame.specs.declared.reason.Reason.TheVariants.{NoFit, Overrun}
 use Rattle.fit_record.specs.declared.message.Record.{Record}
 use Rattle.fit_record.specs.Environment.{Environment}
 use Rattle.fit_record.specs.Records.{Fits, record_bytes}
-use Rattle.fit_step.specs.Reasons.{record_reason}
-use Rattle.fit_step.specs.Machine.{Tests, State, NextState, start, step, Walks, Ends, RoomsFill}
+use Rattle.fit_step.specs.Machine.{Tests, State, NextState, start, step, Ends, RoomsFill}
 use Rattle.fit_step.specs.Parts.{RecordPart, nothing, in_definition, in_fields, in_dev_fields, part_bytes, IsPart, HasBegun, state_of, IsShut}
-use Rattle.fit_step.specs.inner.Runs.{RecordsRunThrough, EndsAreRecords, WalksAreCuts, RefusalsArePlaced}
+use Rattle.fit_step.specs.inner.Runs.{RecordsRunThrough}
 use Rattle.fit_record.proofs.OneRecord.{same_record, no_bytes}
 use Rattle.fit_step.proofs.PartsCompletedByZeros.{cuts_go_on}
 use Rattle.fit_step.proofs.OneByte.{outcome}
@@ -55,55 +54,6 @@ step_ends {A} e tests room f b u r h low made =
             let whole : r ≡ c.whole = cc in
             (subst (Fits e) (sym whole) c.fits, ap (record_bytes e) whole ∙ c.spelled, ap (λ (n : NextState A). n.0) same)
       ]
-    ]
-
-pub walk_from : {A : Type 0} (e : Environment A) (tests : Tests A) (bytes : List ℕ) (room : ℕ) (f : RecordPart A) (t : State A) → IsPart e f → IsBytes bytes
-    → Walks e tests (state_of room f) bytes t
-    → (next : RecordPart A) × IsPart e next × (part_bytes e next ≡ part_bytes e f ++ bytes) × (t ≡ state_of (room - length bytes) next)
-walk_from e tests [] room f t h low walk = (f, h, sym (append-nil (part_bytes e f)), sym walk ∙ ap (λ n. state_of n f) (omega arith))
-walk_from e tests (b ∷ bytes) room f t h low (u, made, walk) =
-    let g = step_goes e tests room f b u h (low zero) made in
-    let k = walk_from e tests bytes (room - 1) g.0 t g.1 (IsBytes-tail b bytes low) (subst (λ s. Walks e tests s bytes t) g.3 walk) in
-    (k.0, k.1, k.2 ∙ ap (λ z. z ++ bytes) g.2 ∙ one_more (part_bytes e f) b bytes, k.3 ∙ ap (λ n. state_of n k.0) (one_less room (length bytes)))
-
-pub walks_are_cuts : {A : Type 0} → WalksAreCuts A
-walks_are_cuts e tests room bytes t walk low =
-    let k = walk_from e tests bytes room nothing t tt low walk in
-    record { part = k.0; stands = k.1; spelled = k.2; is = k.3 }
-
-pub end_from : {A : Type 0} (e : Environment A) (tests : Tests A) (bytes : List ℕ) (room : ℕ) (f : RecordPart A) (t : State A) (r : Record A) → IsPart e f
-    → IsBytes bytes → Ends e tests (state_of room f) bytes t r
-    → Fits e r × (record_bytes e r ≡ part_bytes e f ++ bytes) × (t ≡ start (room - length bytes))
-end_from e tests [] room f t r h low ends = absurd ends
-end_from e tests (b ∷ bytes) room f t r h low (inl last) =
-    let k = step_ends e tests room f b t r h (low zero) last.1 in
-    let one : length (b ∷ bytes) ≡ 1 = ap (λ z. length (b ∷ z)) last.0 in
-    (k.0, k.1 ∙ ap (λ z. part_bytes e f ++ b ∷ z) (sym last.0), k.2 ∙ ap (λ n. start (room - n)) (sym one))
-end_from e tests (b ∷ bytes) room f t r h low (inr more) =
-    let g = step_goes e tests room f b more.0 h (low zero) more.1 in
-    let k = end_from e tests bytes (room - 1) g.0 t r g.1 (IsBytes-tail b bytes low) (subst (λ s. Ends e tests s bytes t r) g.3 more.2) in
-    (k.0, k.1 ∙ ap (λ z. z ++ bytes) g.2 ∙ one_more (part_bytes e f) b bytes, k.2 ∙ ap start (one_less room (length bytes)))
-
-pub ends_are_records : {A : Type 0} → EndsAreRecords A
-ends_are_records e tests room bytes t r ends low =
-    let k = end_from e tests bytes room nothing t r tt low ends in
-    ((k.0, sym k.1), k.2)
-
-pub refusals_are_placed : {A : Type 0} → RefusalsArePlaced A
-refusals_are_placed e tests room bytes t b reason walk low below made =
-    let k = walks_are_cuts e tests room bytes t walk low in
-    let refused : step e tests (state_of (room - length bytes) k.part) b ≡ Err reason = subst (λ s. step e tests s b ≡ Err reason) k.is made in
-    elim (outcome e tests (room - length bytes) k.part b k.stands below) [
-      | inl moves ↦ elim moves [
-        | inl g ↦ absurd (cc (refused, g.is))
-        | inr c ↦ absurd (cc (refused, c.is))
-      ]
-      | inr stops ↦
-          let same : stops.reason ≡ reason = cc (refused, stops.is) in (
-            subst (λ z. record_reason e z (room - length bytes) b ≡ Some reason) k.spelled (stops.because ∙ ap Some same),
-            subst (λ z. IsShut e (room - length bytes) z b reason) k.spelled
-                (subst (λ z. IsShut e (room - length bytes) (part_bytes e k.part) b z) same stops.shut),
-          )
     ]
 
 -- ---- from the form to the machine
@@ -154,23 +104,3 @@ through {A} e tests r (b ∷ bytes) room f h low fits is within fill =
 
 pub records_run_through : {A : Type 0} → RecordsRunThrough A
 records_run_through e tests room r bytes h low within fill = through e tests r bytes room nothing tt low h.0 (sym h.1) within fill
-
--- ---- one run behind another
-
-pub walks_are_one : {A : Type 0} (e : Environment A) (tests : Tests A) (s : State A) (bytes : List ℕ) (t u : State A) → Walks e tests s bytes t
-    → Walks e tests s bytes u → t ≡ u
-walks_are_one e tests s [] t u p q = sym p ∙ q
-walks_are_one {A} e tests s (b ∷ bytes) t u p q =
-    let both : (p.0, None) ≡ (q.0, None) = cc (p.1, q.1) in
-    let same : p.0 ≡ q.0 = ap (λ (n : NextState A). n.0) both in
-    walks_are_one e tests q.0 bytes t u (subst (λ z. Walks e tests z bytes t) same p.2) q.2
-
-pub walks_join : {A : Type 0} (e : Environment A) (tests : Tests A) (s : State A) (a b : List ℕ) (t u : State A) → Walks e tests s a t → Walks e tests t b u
-    → Walks e tests s (a ++ b) u
-walks_join e tests s [] b t u p q = subst (λ z. Walks e tests z b u) (sym p) q
-walks_join e tests s (x ∷ a) b t u p q = (p.0, p.1, walks_join e tests p.0 a b t u p.2 q)
-
-pub walk_ends : {A : Type 0} (e : Environment A) (tests : Tests A) (s : State A) (a b : List ℕ) (t u : State A) (r : Record A) → Walks e tests s a t
-    → Ends e tests t b u r → Ends e tests s (a ++ b) u r
-walk_ends e tests s [] b t u r p q = subst (λ z. Ends e tests z b u r) (sym p) q
-walk_ends e tests s (x ∷ a) b t u r p q = inr (p.0, p.1, walk_ends e tests p.0 a b t u r p.2 q)

@@ -1,6 +1,6 @@
 -- A data message read at once is the record that its bytes end.
 use Rattle.std.proofs.Common.{◌≡◌, cond, ℕ, zero, suc, ◌+◌, ◌-◌, ◌%◌, ◌<◌, ◌≤◌, true, false, List, [], ◌∷◌, length, take, drop, refl, sym, ap, ◌∙◌, subst}
-use Rattle.std.proofs.Common.{arith, Some, None}
+use Rattle.std.proofs.Common.{arith, Some, None, length-drop}
 use Rattle.std.specs.Prelude.{Option, map, sum_by, nat_le, ◌&&◌, IsSomeAnd, option_map, unwrap_or}
 use Rattle.std.specs.Option.{option_map_or}
 use Rattle.std.proofs.lemmas.Bool.{leb-true}
@@ -15,7 +15,7 @@ use Rattle.fit_record.specs.declared.definition.FieldDef.{FieldDef}
 use Rattle.fit_record.specs.declared.environment.Defined.{Defined}
 use Rattle.fit_record.specs.declared.message.Record.TheVariants.{Values as Data}
 use Rattle.fit_record.specs.declared.message.Values.{Values}
-use Rattle.fit_record.specs.Environment.{Environment, defined_at, dev_defs, learn}
+use Rattle.fit_record.specs.Environment.{Environment, defined_at, learn}
 use Rattle.fit_record.specs.Files.{CanFill}
 use Rattle.fit_record.specs.HeaderByte.{is_compressed, is_definition, has_reserved_bit, local_type}
 use Rattle.fit_record.specs.inner.ReadMessages.{fields_from, values_from}
@@ -25,7 +25,6 @@ use Rattle.fit_record.specs.Rooms.{can_fill, fills, has_length}
 use Rattle.fit_record.specs.Unfinished.{can_carry}
 use Rattle.fit_record.proofs.FilledRooms.{can_fill_is, same_places}
 use Rattle.fit_record.proofs.MessageBytes.{message_fits}
-use Rattle.fit_record.proofs.MessageSizes.{message_size_is}
 use Rattle.fit_step.specs.Machine.{start, Ends}
 use Rattle.fit_step.specs.Tests.{tests_of}
 use Rattle.fit_step.proofs.TakenAndRefusedBytes.{records_end}
@@ -46,10 +45,14 @@ sized p = go p.definition.fields
 pub all_sizes : {A : Type 0} (p : Defined A) → message_size p ≡ sizes (layout p) + sizes (dev_layout p)
 all_sizes p = sum_by-append (λ (f : ℕ × ℕ). f.1) (layout p) (dev_layout p)
 
--- each developer field has a code
-pub dev_sized : {A : Type 0} (p : Defined A) → length p.dev_codes ≡ length (dev_defs p.definition.dev)
-    → sum_by (λ f. f.size) (dev_defs p.definition.dev) ≡ sizes (dev_layout p)
-dev_sized p codes = omega (arith, message_size_is p codes, sized p, all_sizes p)
+-- what is behind the bytes of the fields
+pub behind_fields : {A : Type 0} (p : Defined A) (fields : List FieldDef) (bytes back : List ℕ) → fields ≡ p.definition.fields
+    → back ≡ drop (sum_by (λ f. f.size) fields) bytes → back ≡ drop (sizes (layout p)) bytes
+behind_fields p fields bytes back same is = is ∙ ap (λ n. drop n bytes) (ap (sum_by (λ (f : FieldDef). f.size)) same ∙ sized p)
+
+pub left_for_dev : {A : Type 0} (p : Defined A) (bytes back : List ℕ) → length bytes ≡ message_size p → back ≡ drop (sizes (layout p)) bytes
+    → length back ≡ sizes (dev_layout p)
+left_for_dev p bytes back long is = omega (arith, ap length is ∙ length-drop (sizes (layout p)) bytes, long, all_sizes p)
 
 -- the items of the fields, and those of the developer fields, of a message of these bytes
 abbrev pub read_front : {A : Type 0} → Defined A → List ℕ → List (Items A)

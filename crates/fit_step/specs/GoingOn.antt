@@ -1,4 +1,5 @@
 -- Whether what there is of a record can still become a record with others behind it that fill the room.
+-- No contract of another crate names these definitions.
 use Rattle.std.specs.Prelude.{◌≡◌, ℕ, ◌+◌, ◌-◌, ◌*◌, Bool, true, false, List, ◌++◌, length, Option, Some, None}
 use Rattle.fit_base.specs.Numbers.{IsBytes}
 use Rattle.fit_record.specs.declared.message.Record.{Record}

@@ -4,6 +4,8 @@ pub mod Parts
 pub mod Tests
 pub mod GoingOn
 pub mod Places
+pub mod Held
+pub mod InProgress
 pub mod Laws
 pub mod Skipping
 pub mod inner

@@ -1,4 +1,5 @@
 -- One record, byte by byte: the state that a reader's fields hold, and what the next byte makes of it.
+-- No contract of another crate names these definitions.
 -- The environment stays the same inside a record.
 use Rattle.std.specs.Prelude.{◌≡◌, ℕ, zero, suc, ◌+◌, ◌-◌, ◌*◌, ◌%◌, ◌==◌, ◌⊎◌, Bool, if◌then◌else◌, nat_lt, List, [], ◌∷◌, ◌++◌, length, map, drop, Option}
 use Rattle.std.specs.Prelude.{Some, None, Result, Ok, Err, option_map, unwrap_or}
@@ -212,11 +213,6 @@ unfoldable pub step : {A : Type 0} → Environment A → Tests A → State A →
 step e tests s b = step_at e tests s.phase s b
 
 -- ---- more than one byte
-
--- these bytes lead from s to t, and no record becomes whole
-abbrev pub Walks : {A : Type 0} → Environment A → Tests A → State A → List ℕ → State A → Type 0
-Walks e tests s [] t = s ≡ t
-Walks {A} e tests s (b ∷ bytes) t = (u : State A) × (step e tests s b ≡ Ok (u, None)) × Walks e tests u bytes t
 
 -- these bytes lead from s to t, with the last of them this record becomes whole, and none before
 abbrev pub Ends : {A : Type 0} → Environment A → Tests A → State A → List ℕ → State A → Record A → Type 0

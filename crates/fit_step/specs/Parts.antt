@@ -1,4 +1,5 @@
 -- What there is of a record that isn't whole: which parts of the form have come, and the bytes that spell them.
+-- No contract of another crate names these definitions.
 use Rattle.std.specs.Prelude.{◌≡◌, ℕ, ◌+◌, ◌*◌, ◌<◌, ◌≤◌, ◌^◌, List, [], ◌∷◌, ◌++◌, length, map, flat_map, Option, Some, None}
 use Rattle.std.specs.List.{AllByRecursion}
 use Rattle.fit_base.specs.declared.items.Items.{Items}

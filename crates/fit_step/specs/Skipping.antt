@@ -1,14 +1,28 @@
 -- Records that are skipped.
-use Rattle.std.specs.Prelude.{◌≡◌, ℕ, ◌+◌, ◌==◌, if◌then◌else◌, false, List, ◌∷◌, ◌<◌, length, slice_index}
+use Rattle.std.specs.Prelude.{◌≡◌, ◌⊎◌, ℕ, ◌+◌, ◌-◌, ◌==◌, if◌then◌else◌, false, List, [], ◌∷◌, ◌<◌, ◌≤◌, take, length, slice_index, Option}
 use Rattle.std.specs.Option.{option_map_or}
 use Rattle.fit_record.specs.declared.message.Record.{Record}
 use Rattle.fit_record.specs.Environment.{Environment, defined_at, learn, learn_all}
 use Rattle.fit_record.specs.HeaderByte.{has_reserved_bit, is_definition, local_type}
 use Rattle.fit_record.specs.Records.{AreRecords, IsRecord, message_size}
+use Rattle.fit_step.specs.declared.position.Position.{Position}
+use Rattle.fit_step.specs.InProgress.{IsInProgress}
 
 -- The bytes are those of that many records, and with them what is known becomes `after`.
 abbrev pub AreSkipped : {A : Type 0} → Environment A → Environment A → List ℕ → ℕ → Type 0
 AreSkipped {A} e after bytes count = (records : List (Record A)) × AreRecords e records bytes × (learn_all e records ≡ after) × (length records ≡ count)
+
+-- Nothing was skipped; or no byte of a record had come, that many records have the bytes used, and at least six bytes of the room are
+-- to come behind them.
+abbrev pub SkipsRecords : {A : Type 0} → Environment A → Environment A → ℕ → List ℕ → Position → Position → Option (Record A) → List ℕ → ℕ → ℕ → Type 0
+SkipsRecords old new room bytes before after in_progress piece used count =
+    ((used ≡ 0) × (count ≡ 0) × (new ≡ old) × (after ≡ before))
+    ⊎ ((bytes ≡ []) × (used + 6 ≤ room) × AreSkipped old new (take used piece) count × IsInProgress new (room - used) [] after in_progress)
+
+-- the same, whatever has come
+abbrev pub SkipsInSection : {A : Type 0} → Environment A → Position → Option (Record A) → Environment A → Position → List ℕ → ℕ → ℕ → Type 0
+SkipsInSection old before in_progress new after piece used count =
+    (room : ℕ) (bytes : List ℕ) → IsInProgress old room bytes before in_progress → SkipsRecords old new room bytes before after in_progress piece used count
 
 -- ---- for private functions
 

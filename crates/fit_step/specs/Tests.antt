@@ -1,4 +1,5 @@
 -- The tests of rooms that an environment gives: whether records can still fill what is left of the data section.
+-- No contract of another crate names these definitions.
 use Rattle.std.specs.Prelude.{ℕ, ◌+◌, ◌*◌, Bool, List, Option, Some, None}
 use Rattle.fit_record.specs.declared.definition.DevDef.{DevDef}
 use Rattle.fit_record.specs.Environment.{Environment}

@@ -1,6 +1,6 @@
 //! The record header byte (FIT protocol, "Record Header").
-ghost use Rattle.std.specs.Prelude.{◌≡◌, IfOk, IsOk, [], length, map, zip};
-ghost use Rattle.fit_record.specs.HeaderByte.{is_compressed, is_definition, has_developer_fields, has_reserved_bit, local_type};
+ghost use Rattle.std.specs.Prelude.{◌≡◌, ◌<◌, IfOk, IsOk, [], length, map, zip};
+ghost use Rattle.fit_record.specs.HeaderByte.{bit, is_compressed, is_definition, has_developer_fields, has_reserved_bit, local_type};
 ghost use Rattle.fit_record.specs.Sound.{IsSound};
 ghost use Rattle.fit_record.specs.Records.{layout, dev_layout};
 ghost use Rattle.fit_record.specs.Sizes.{HasNoFields};
@@ -10,25 +10,45 @@ use fit_base::{Bits, Code, Entries, Items, Order, width_of};
 use fit_record::{Defined, DevDef, FieldDef, MessageDef, Values};
 use std::alloc::{AllocError, Allocator};
 
+/// The bit of a data message with a time offset; a header without it is a normal one. Bits are counted from the lowest, 0.
+const COMPRESSED: u8 = 7;
+/// In a normal header, the bit of a definition message.
+const DEFINITION: u8 = 6;
+/// In the header of a definition message, the bit of developer fields. In a normal header of a data message it is reserved.
+const DEVELOPER_FIELDS: u8 = 5;
+/// In a normal header, the bit that is always reserved.
+const RESERVED: u8 = 4;
+/// The bits of the local message type in a normal header.
+const LOCAL_TYPE: u8 = 0x0F;
+
+/// Whether a bit is set.
+#[inline(always)]
+fn has_bit(byte: u8, place: u8) -> bool
+    requires { place < 8 }
+    ensures { result ≡ bit place byte }
+{
+    (byte >> place) & 1 == 1
+}
+
 /// Whether it heads a data message with a time offset.
 pub(crate) fn is_compressed(byte: u8) -> bool
     ensures { result ≡ is_compressed byte }
 {
-    byte / 128 % 2 == 1
+    has_bit(byte, COMPRESSED)
 }
 
 /// Whether it heads a definition message.
 pub(crate) fn is_definition(byte: u8) -> bool
     ensures { result ≡ is_definition byte }
 {
-    !is_compressed(byte) && byte / 64 % 2 == 1
+    !is_compressed(byte) && has_bit(byte, DEFINITION)
 }
 
 /// Whether the definition message that it heads has developer fields.
 pub(crate) fn has_developer_fields(byte: u8) -> bool
     ensures { result ≡ has_developer_fields byte }
 {
-    byte / 32 % 2 == 1
+    has_bit(byte, DEVELOPER_FIELDS)
 }
 
 /// Whether a bit is set that the protocol reserves.
@@ -38,10 +58,10 @@ pub(crate) fn has_reserved_bit(byte: u8) -> bool
     if is_compressed(byte) {
         return false;
     }
-    if byte / 16 % 2 == 1 {
+    if has_bit(byte, RESERVED) {
         return true;
     }
-    byte / 32 % 2 == 1 && !(byte / 64 % 2 == 1)
+    has_bit(byte, DEVELOPER_FIELDS) && !has_bit(byte, DEFINITION)
 }
 
 /// The local message type.
@@ -51,7 +71,7 @@ pub(crate) fn local_type(byte: u8) -> u8
     if is_compressed(byte) {
         byte / 32 % 4
     } else {
-        byte % 16
+        byte & LOCAL_TYPE
     }
 }
 

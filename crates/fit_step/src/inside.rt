@@ -13,7 +13,7 @@ use std::alloc::Allocator;
 /// Takes a byte of a data message that ends no number, as `step` does. Whether it was one; else nothing has changed.
 ///
 /// Most bytes of a recording are such bytes, and they need nothing but the position.
-pub fn take_inside<A: Allocator>(
+pub(crate) fn take_inside<A: Allocator>(
     position: &mut Position,
     in_progress: &Option<Record<A>>,
     byte: u8,

@@ -1,5 +1,6 @@
 //! What holds of the bytes of records, one after another. These functions do nothing: what they ensure is what they are
 //! for.
+ghost use Rattle.fit_step.specs.InProgress.{HeldIsLimited, HeldIsOfBytes, IdleIsBetweenRecords, RecordsBegin, RecordsInProgress, RefusedBytesHaveReasons};
 ghost use Rattle.fit_step.specs.Laws.{BeginningsStand, PartsAreTested, RecordsEnd, RefusedBytesEndAll, TakenBytesEnd, TakenBytesGoOn, TakenBytesStand};
 
 use std::alloc::Allocator;
@@ -29,4 +30,22 @@ pub fn readers_stand<A: Allocator>()
 /// A byte is refused for the reason of its place, and then no record begins with it so that records fill the room.
 pub fn refused_bytes_end_all<A: Allocator>()
     ensures { RefusedBytesEndAll A }
+{}
+
+/// What the position and the record in progress are where a record begins, and what they are good for behind some bytes.
+pub fn records_are_in_progress<A: Allocator>()
+    ensures begin { RecordsBegin A }
+    ensures go_on { RecordsInProgress A }
+    ensures idle { IdleIsBetweenRecords A }
+{}
+
+/// A byte with which no records can fill the room has a reason.
+pub fn refused_bytes_have_reasons<A: Allocator>()
+    ensures { RefusedBytesHaveReasons A }
+{}
+
+/// What is kept of a record in progress is what is complete in its bytes, and is limited.
+pub fn held_is_of_bytes<A: Allocator>()
+    ensures held { HeldIsOfBytes A }
+    ensures limited { HeldIsLimited A }
 {}

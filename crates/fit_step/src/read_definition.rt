@@ -59,7 +59,7 @@ fn read_entries<A: Allocator>(
 
 /// The definition message that begins the piece, where all its bytes are there, and how many they are. There is none where the
 /// message has developer fields, where a byte is to be refused, and where memory runs out: then its bytes are read one by one.
-pub fn whole_definition<A: Allocator + Copy>(
+pub(crate) fn whole_definition<A: Allocator + Copy>(
     alloc: A,
     piece: &[u8],
 ) -> Option<(MessageDef<A>, usize)>

@@ -1,11 +1,12 @@
 //! Records that a reader skips: it counts them and learns their definitions, and makes no record of data messages.
 ghost use Rattle.std.specs.Prelude.{◌≡◌, ℕ, ◌<◌, ◌≤◌, false, ◌∷◌, List, length, slice_index, take};
 ghost use Rattle.fit_record.specs.HeaderByte.{has_reserved_bit, is_definition, local_type};
-ghost use Rattle.fit_step.specs.Skipping.{size_to_skip, AreSizesToSkip, HeadsMessage, IsSkipped, AreSkipped};
+ghost use Rattle.fit_step.specs.Skipping.{size_to_skip, AreSizesToSkip, HeadsMessage, IsSkipped, AreSkipped, SkipsInSection};
 
+use crate::Position;
 use crate::header::{has_reserved_bit, is_definition, local_type};
-use crate::whole_definition;
-use fit_record::Env;
+use crate::read_definition::whole_definition;
+use fit_record::{Env, Record};
 use std::alloc::Allocator;
 
 /// The global message number of field descriptions.
@@ -107,7 +108,7 @@ fn skip_record<A: Allocator + Copy>(
 ///
 /// It ends before the first record that isn't complete, or isn't allowed there; before a definition message that has developer
 /// fields, or for which there is no memory; and before a data message that may describe a developer field.
-pub fn skip_records<A: Allocator + Copy>(alloc: A, env: &mut Env<A>, bytes: &[u8]) -> (usize, u64)
+fn skip_records<A: Allocator + Copy>(alloc: A, env: &mut Env<A>, bytes: &[u8]) -> (usize, u64)
     ensures within { result.0 ≤ length bytes.now }
     ensures records { AreSkipped env.old env.new (take result.0 bytes.now) result.1 }
 {
@@ -122,4 +123,33 @@ pub fn skip_records<A: Allocator + Copy>(alloc: A, env: &mut Env<A>, bytes: &[u8
         used += size;
     }
     (used, bytes.len() as u64)
+}
+
+/// Skips complete records at the front of the piece, where a record begins and at least six bytes of the data section are to come
+/// after them: how many bytes they have, and how many they are. What they define is learned.
+///
+/// It ends where `skip_records` does.
+pub fn skip_in_section<A: Allocator + Copy>(
+    alloc: A,
+    env: &mut Env<A>,
+    position: &mut Position,
+    in_progress: &Option<Record<A>>,
+    piece: &[u8],
+) -> (usize, u64)
+    ensures within { result.0 ≤ length piece.now }
+    ensures skips { SkipsInSection env.old position.old in_progress.now env.new position.new
+        piece.now result.0 result.1 }
+{
+    match in_progress {
+        Some(_) => return (0, 0),
+        None => {}
+    }
+    if position.room < 6 {
+        return (0, 0);
+    }
+    let most = piece.len().min((position.room - 6) as usize);
+    let (front, _) = piece.split_at(most);
+    let (used, count) = skip_records(alloc, env, front);
+    *position = Position::new(position.room - used as u32);
+    (used, count)
 }

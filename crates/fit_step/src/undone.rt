@@ -23,7 +23,11 @@ use std::mem;
 ///
 /// `position` is that before the byte. The record in progress is then again what it was before the byte, and keeps its
 /// memory, so that the byte can come again.
-pub fn undo<A: Allocator + Copy>(alloc: A, position: &Position, in_progress: &mut Option<Record<A>>)
+pub(crate) fn undo<A: Allocator + Copy>(
+    alloc: A,
+    position: &Position,
+    in_progress: &mut Option<Record<A>>,
+)
     ensures { (e : Environment A) (before : Option (Record A)) (r : Record A) (byte : ℕ)
         (left : State A) → byte < 256 → PartFitsRoom e (state_at position.now before)
         → step e (tests_of e) (state_at position.now before) byte ≡ Ok (left, Some r)

@@ -1,8 +1,8 @@
 //! Records of which all bytes are in one piece.
-ghost use Rattle.std.specs.Prelude.{◌≡◌, ◌-◌, ◌%◌, ◌<◌, ◌≤◌, if◌then◌else◌, IfOk, IfSome, Some, None, length, map, sum_by, take, drop, zip};
+ghost use Rattle.std.specs.Prelude.{◌≡◌, ◌⊎◌, ◌-◌, ◌*◌, ◌/◌, ◌%◌, ◌<◌, ◌≤◌, ◌++◌, [], ◌∷◌, if◌then◌else◌, IfOk, IfSome, OnOk, Some, None, length, map, sum_by, take, drop, zip};
 ghost use Rattle.fit_record.specs.declared.message.Record.TheVariants.{Values as Data};
 ghost use Rattle.fit_record.specs.HeaderByte.{is_compressed};
-ghost use Rattle.fit_record.specs.inner.ReadMessages.{field_from, fields_from};
+ghost use Rattle.fit_record.specs.inner.ReadMessages.{field_from, fields_from, numbers_of};
 ghost use Rattle.fit_record.specs.Records.{sizes, layout, dev_layout, message_size, Fits};
 ghost use Rattle.fit_record.specs.Sound.{IsSound};
 ghost use Rattle.fit_step.specs.Machine.{start, Ends};
@@ -14,56 +14,96 @@ use fit_base::{Bits, Code, Entries, Items, Order, bits_at, width_of};
 use fit_record::{Defined, DevDef, Env, FieldDef, Record, Values};
 use std::alloc::{AllocError, Allocator};
 
-/// The items that the bytes of a field are.
-#[inline(always)]
-fn read_field<A: Allocator + Copy>(
+/// The numbers that bytes are, one of this width behind another.
+fn read_numbers<A: Allocator + Copy>(
     alloc: A,
     order: Order,
-    code: u8,
-    size: u8,
+    width: u8,
     bytes: &[u8],
-) -> Result<Items<A>, AllocError>
-    requires { length bytes.now ≡ size }
-    ensures { IfOk result (λ items. items ≡ field_from order (code, size) bytes.now) }
+) -> Result<Bits<A>, AllocError>
+    requires width { (width ≡ 1) ⊎ (width ≡ 2) ⊎ (width ≡ 4) ⊎ (width ≡ 8) }
+    requires whole { length bytes.now / width * width ≡ length bytes.now }
+    ensures { IfOk result (λ bits. bits ≡ numbers_of order width (length bytes.now / width)
+        bytes.now) }
 {
-    let width = width_of(Code(code), size);
-    if width == size {
-        let number = bits_at(order, width, bytes);
-        return Ok(Items {
-            width,
-            bits: Bits::one(alloc, number),
-        });
+    if width == 1 {
+        return Bits::from_bytes(alloc, bytes);
     }
-    let count = size / width;
-    let mut bits = Bits::with_capacity(alloc, count as usize)?;
+    let count = bytes.len() / width as usize;
+    let mut bits = Bits::with_capacity(alloc, count)?;
     let mut rest = bytes;
     for _ in 0..count {
         let (number, behind) = rest.split_at(width as usize);
         bits.push(bits_at(order, width, number))?;
         rest = behind;
     }
-    Ok(Items { width, bits })
+    Ok(bits)
 }
 
-/// The items that the bytes of fields are, one field behind another.
-fn read_fields<A: Allocator + Copy>(
+/// Puts the items that bytes are, one of this width behind another, behind those of the fields before. It stands apart, since most
+/// fields are a lone number.
+#[cold]
+#[inline(never)]
+fn push_numbers<A: Allocator + Copy>(
+    items: &mut Entries<Items<A>, A>,
+    alloc: A,
+    order: Order,
+    width: u8,
+    bytes: &[u8],
+) -> Result<(), AllocError>
+    requires width { (width ≡ 1) ⊎ (width ≡ 2) ⊎ (width ≡ 4) ⊎ (width ≡ 8) }
+    requires whole { length bytes.now / width * width ≡ length bytes.now }
+    ensures { OnOk result (items.new ≡ items.old ++ record {
+      width = width;
+      bits = numbers_of order width (length bytes.now / width) bytes.now;
+    } ∷ []) }
+{
+    let bits = read_numbers(alloc, order, width, bytes)?;
+    items.push(Items { width, bits })?;
+    Ok(())
+}
+
+/// Puts the items that the bytes of a field are behind those of the fields before.
+#[inline(always)]
+fn push_field<A: Allocator + Copy>(
+    items: &mut Entries<Items<A>, A>,
+    alloc: A,
+    order: Order,
+    code: u8,
+    size: u8,
+    bytes: &[u8],
+) -> Result<(), AllocError>
+    requires { length bytes.now ≡ size }
+    ensures { OnOk result (items.new ≡ items.old ++ field_from order (code, size) bytes.now ∷ []) }
+{
+    if Code(code).width() == size {
+        let number = bits_at(order, size, bytes);
+        items.push(Items::one(alloc, size, number))?;
+        return Ok(());
+    }
+    push_numbers(items, alloc, order, width_of(Code(code), size), bytes)
+}
+
+/// The items that the first bytes are as those of fields, one field behind another, and the bytes behind them.
+fn read_fields<'a, A: Allocator + Copy>(
     alloc: A,
     order: Order,
     fields: &[FieldDef],
-    bytes: &[u8],
-) -> Result<Entries<Items<A>, A>, AllocError>
-    requires { length bytes.now ≡ sum_by (λ f. f.size) fields.now }
-    ensures { IfOk result (λ items. items ≡ fields_from order
-        (map (λ f. (f.code, f.size)) fields.now) bytes.now) }
+    bytes: &'a [u8],
+) -> Result<(Entries<Items<A>, A>, &'a [u8]), AllocError>
+    requires { sum_by (λ f. f.size) fields.now ≤ length bytes.now }
+    ensures { IfOk result (λ r. (r.0 ≡ fields_from order
+        (map (λ f. (f.code, f.size)) fields.now) bytes.now)
+        × (r.1.now ≡ drop (sum_by (λ f. f.size) fields.now) bytes.now)) }
 {
     let mut items = Entries::with_capacity(alloc, fields.len())?;
     let mut rest = bytes;
     for field in fields {
         let (here, behind) = rest.split_at(field.size as usize);
-        items.push(read_field(alloc, order, field.code, field.size, here)?)?;
+        push_field(&mut items, alloc, order, field.code, field.size, here)?;
         rest = behind;
     }
-    Ok(items)
+    Ok((items, rest))
 }
 
 /// The items that the bytes of developer fields with these base type codes are, one field behind another.
@@ -84,7 +124,7 @@ fn read_dev_fields<A: Allocator + Copy>(
     for place in 0..fields.len() {
         let size = fields[place].size;
         let (here, behind) = rest.split_at(size as usize);
-        items.push(read_field(alloc, order, codes[place], size, here)?)?;
+        push_field(&mut items, alloc, order, codes[place], size, here)?;
         rest = behind;
     }
     Ok(items)
@@ -113,29 +153,6 @@ fn read_dev<A: Allocator + Copy>(
     }
 }
 
-/// The sum of the sizes of developer fields.
-fn sum_of_sizes(fields: &[DevDef]) -> usize
-    requires { length fields.now < 256 }
-    ensures { result ≡ sum_by (λ f. f.size) fields.now }
-{
-    let mut sum = 0;
-    for field in fields {
-        sum += field.size as usize;
-    }
-    sum
-}
-
-/// How many bytes the developer fields of a data message have.
-fn dev_size<A: Allocator>(defined: &Defined<A>) -> usize
-    requires { IsSound defined.now }
-    ensures { result ≡ sizes (dev_layout defined.now) }
-{
-    match &defined.definition.dev {
-        None => 0,
-        Some(dev) => sum_of_sizes(dev.as_slice()),
-    }
-}
-
 /// The items of the fields and of the developer fields that the bytes behind a record header are.
 fn read_body<A: Allocator + Copy>(
     alloc: A,
@@ -149,12 +166,11 @@ fn read_body<A: Allocator + Copy>(
         × (r.1 ≡ fields_from defined.now.definition.order (dev_layout defined.now)
         (drop (sizes (layout defined.now)) bytes.now))) }
 {
-    let (front, back) = bytes.split_at(bytes.len() - dev_size(defined));
-    let fields = read_fields(
+    let (fields, back) = read_fields(
         alloc,
         defined.definition.order,
         defined.definition.fields.as_slice(),
-        front,
+        bytes,
     )?;
     Ok((fields, read_dev(alloc, defined, back)?))
 }

@@ -1,5 +1,5 @@
 -- What holds of a decoder's fields behind the bytes fed. No public contract names these.
-use Rattle.std.specs.Prelude.{◌≡◌, ℕ, ◌-◌, ◌<◌, ◌≤◌, Bool, true, false, if◌then◌else◌, List, [], ◌++◌, length, take, slice_index, Option, None, Result, Ok, Err}
+use Rattle.std.specs.Prelude.{◌≡◌, ℕ, ◌-◌, ◌<◌, ◌≤◌, Bool, false, if◌then◌else◌, List, [], ◌++◌, length, take, slice_index, Option, None, Result, Ok, Err}
 use Rattle.std.specs.Prelude.{◌+◌}
 use Rattle.fit_base.specs.Numbers.{IsBytes}
 use Rattle.fit_sum.specs.Checksum.{checksum}
@@ -13,11 +13,8 @@ use Rattle.fit_record.specs.Records.{records_bytes}
 use Rattle.fit_record.specs.Files.{chain_limit, IsViable}
 use Rattle.fit_step.specs.declared.stop.Stop.{Stop}
 use Rattle.fit_step.specs.declared.stop.Stop.TheVariants.{Refused, NoMemory}
-use Rattle.fit_step.specs.Machine.{start, Walks}
-use Rattle.fit_step.specs.Tests.{tests_of}
-use Rattle.fit_step.specs.GoingOn.{goes_on}
+use Rattle.fit_step.specs.InProgress.{IsInProgress}
 use Rattle.fit_step.specs.declared.position.Position.{Position}
-use Rattle.fit_step.specs.Places.{state_at}
 use Rattle.fit_decode.specs.declared.section.Section.{Section}
 use Rattle.fit_decode.specs.declared.section.Section.TheVariants.{Header, Data, ClosingSum}
 use Rattle.fit_decode.specs.declared.event.Event.{Event as Answer}
@@ -70,8 +67,7 @@ pub record InData {A : Type 0} (d : Fields A) (bytes : List ℕ) : Type 0 where
   pub summed : d.sum ≡ (header_bytes header size ++ records_bytes empty_environment records) ++ part
   pub known : d.env ≡ learn_all empty_environment records
   pub some : 0 < size - length (records_bytes empty_environment records)
-  pub walk : Walks d.env (tests_of d.env) (start (size - length (records_bytes empty_environment records))) part (state_at d.position d.in_progress)
-  pub goes : goes_on d.env (state_at d.position d.in_progress) ≡ true
+  pub in_record : IsInProgress d.env (size - length (records_bytes empty_environment records)) part d.position d.in_progress
 
 -- behind a data section
 pub record InSum {A : Type 0} (d : Fields A) (bytes : List ℕ) : Type 0 where

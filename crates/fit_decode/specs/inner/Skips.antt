@@ -1,28 +1,23 @@
 -- What the skipping of records does. No public contract names these.
-use Rattle.std.specs.Prelude.{◌≡◌, ◌⊎◌, ℕ, ◌+◌, ◌-◌, ◌≤◌, List, ◌++◌, take, length, Option, None}
+use Rattle.std.specs.Prelude.{◌≡◌, ◌⊎◌, ℕ, ◌≤◌, List, ◌++◌, take, length, Option}
 use Rattle.fit_record.specs.declared.message.Record.{Record}
 use Rattle.fit_record.specs.Environment.{Environment}
 use Rattle.fit_record.specs.Files.{chain_limit, IsViable}
 use Rattle.fit_step.specs.declared.position.Position.{Position}
-use Rattle.fit_step.specs.Skipping.{AreSkipped}
-use Rattle.fit_step.specs.Places.{Begins}
+use Rattle.fit_step.specs.Skipping.{SkipsInSection}
 use Rattle.fit_decode.specs.declared.section.Section.{Section}
 use Rattle.fit_decode.specs.declared.section.Section.TheVariants.{Data}
 use Rattle.fit_decode.specs.Answers.{TellsRecords}
 use Rattle.fit_decode.specs.Events.{Event, AreEvents}
 use Rattle.fit_decode.specs.inner.Kept.{Fields, Holds}
 
--- That many records have these bytes, and after them at least six bytes are to come in the data section.
+-- Some records of a data section were skipped.
 pub record SkipsSome {A : Type 0} (section : Section) (e : Environment A) (covered : List ℕ) (before : Position) (idle : Option (Record A))
     (known : Environment A) (sum : List ℕ) (after : Position) (piece : List ℕ) (used count : ℕ) : Type 0 where
   pub in_data : section ≡ Data
-  pub begins : idle ≡ None
   pub within : used ≤ length piece
-  pub room : used + 6 ≤ before.room
-  pub records : AreSkipped e known (take used piece) count
+  pub skips : SkipsInSection e before idle known after piece used count
   pub summed : sum ≡ covered ++ take used piece
-  pub begun : Begins after
-  pub left : after.room ≡ before.room - used
 
 -- Nothing was used, or some records were skipped.
 abbrev pub DataSkipped : {A : Type 0} → Section → Environment A → List ℕ → Position → Option (Record A) → Environment A → List ℕ → Position → List ℕ → ℕ → ℕ

@@ -4,7 +4,7 @@ ghost use Rattle.std.specs.declared.alloc.Global.{Global};
 ghost use Rattle.fit_base.specs.Numbers.{IsBytes};
 ghost use Rattle.fit_record.specs.declared.file.FitFile.{FitFile};
 ghost use Rattle.fit_record.specs.Files.{chain_limit, IsChain};
-ghost use Rattle.fit_decode.specs.Reads.{GivesChain, ReadsChain, taking};
+ghost use Rattle.fit_decode.specs.Reads.{GivesChain, ReadsChain, channel};
 
 use crate::readers::file::{is_end, read_file};
 use crate::{Decoder, Fault, Source};
@@ -23,8 +23,8 @@ pub fn read_chain<S: Source>(alloc: Global, source: &mut S) -> Result<Vec<FitFil
     // Where the input is a chain's bytes, its files are returned.
     ensures chain { (fs : List (FitFile Global)) (b : List ℕ) → S.remaining source.old ≡ Some b
         → IsBytes b → IsChain chain_limit fs b
-        → GivesChain fs (taking S.remaining S.has_failed source.old source.new) result }
-    ensures exact { ReadsChain (taking S.remaining S.has_failed source.old source.new) result }
+        → GivesChain fs (channel S.remaining S.has_failed source.old source.new) result }
+    ensures exact { ReadsChain (channel S.remaining S.has_failed source.old source.new) result }
 {
     let mut decoder = Decoder::new(alloc);
     let mut count = 0;

@@ -4,7 +4,7 @@ ghost use Rattle.std.specs.declared.alloc.Global.{Global};
 ghost use Rattle.fit_base.specs.Numbers.{IsBytes};
 ghost use Rattle.fit_record.specs.declared.file.FitFile.{FitFile};
 ghost use Rattle.fit_record.specs.Files.{IsFile};
-ghost use Rattle.fit_decode.specs.Reads.{GivesFile, ReadsOne, taking};
+ghost use Rattle.fit_decode.specs.Reads.{GivesFile, ReadsOne, channel};
 
 use crate::readers::file::read_file;
 use crate::{Decoder, Fault, Source};
@@ -23,8 +23,8 @@ pub fn read_one<S: Source>(alloc: Global, source: &mut S) -> Result<FitFile, Fau
     // Where a file's bytes begin the input, that file is returned, and the bytes after it are left.
     ensures file { (f : FitFile Global) (b x : List ℕ) → S.remaining source.old ≡ Some (b ++ x)
         → IsBytes b → IsFile f b
-        → GivesFile f (length b) x (taking S.remaining S.has_failed source.old source.new) result }
-    ensures exact { ReadsOne (taking S.remaining S.has_failed source.old source.new) result }
+        → GivesFile f (length b) x (channel S.remaining S.has_failed source.old source.new) result }
+    ensures exact { ReadsOne (channel S.remaining S.has_failed source.old source.new) result }
 {
     let mut decoder = Decoder::new(alloc);
     let mut count = 0;

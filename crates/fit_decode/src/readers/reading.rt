@@ -4,7 +4,7 @@ ghost use Rattle.fit_decode.specs.declared.event.Fault.{Fault};
 ghost use Rattle.fit_base.specs.Numbers.{IsBytes};
 ghost use Rattle.fit_record.specs.declared.file.FitFile.{FitFile};
 ghost use Rattle.fit_record.specs.Files.{chain_limit, IsChain, IsFile};
-ghost use Rattle.fit_decode.specs.Reads.{GivesNext, ReadsNext, taking};
+ghost use Rattle.fit_decode.specs.Reads.{GivesNext, ReadsNext, channel};
 
 use crate::readers::file::{is_end, read_file};
 use crate::{Decoder, Fault, Source};
@@ -69,14 +69,14 @@ impl<S: Source, A: Allocator + Copy> Reading<S, A> {
         ensures latched { (fault : Fault) → self.old.fault ≡ Some fault
             → (result ≡ Err fault) × (self.new ≡ self.old) }
         ensures exact { self.old.fault ≡ None → ReadsNext self.old self.new
-            (taking S.remaining S.has_failed self.old.source self.new.source) result }
+            (channel S.remaining S.has_failed self.old.source self.new.source) result }
         // Where a file's bytes begin what is left, and with the bytes taken make a chain, that file is
         // returned, and the bytes after it are left.
         ensures file { self.old.fault ≡ None → (fs : List (FitFile A)) (f : FitFile A)
             (b x : List ℕ) → S.remaining self.old.source ≡ Some (b ++ x) → IsBytes b → IsFile f b
             → IsChain chain_limit (fs ++ f ∷ []) (self.old.taken ++ b)
             → GivesNext f (length (self.old.taken ++ b)) x
-            (taking S.remaining S.has_failed self.old.source self.new.source) result }
+            (channel S.remaining S.has_failed self.old.source self.new.source) result }
     {
         if let Some(fault) = self.fault {
             return Err(fault);

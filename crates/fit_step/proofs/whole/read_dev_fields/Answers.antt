@@ -20,9 +20,9 @@ loop-place-preserved g c =
     let rest = c.loop-place.rest.now in
     let f : ℕ × ℕ = (get_or c.args.codes.now k 0, (get_or c.args.fields.now k none).size) in
     let next = coded (drop (k + 1) c.args.codes.now) (drop (k + 1) c.args.fields.now) in
-    let item = c.in_ok-read_field.ensures ∙ ap (field_from o f) c.split_at.ensures.front in
     record {
-      told = ap (λ b. b ++ fields_from o next c.split_at.result.1.now) (c.in_ok-push.ensures.ok ∙ ap (λ v. c.loop-place.items ++ v ∷ []) item)
+      told = ap (λ b. b ++ fields_from o next c.split_at.result.1.now)
+          (c.in_ok-push_field.ensures ∙ ap (λ l. c.loop-place.items ++ field_from o f l ∷ []) c.split_at.ensures.front)
           ∙ ap (λ r. (c.loop-place.items ++ field_from o f (take f.1 rest) ∷ []) ++ fields_from o next r) c.split_at.ensures.back
           ∙ layout_more o f _ next rest c.loop-place.items _ more c.loop-place.invariant.told;
       long = ap length c.split_at.ensures.back ∙ left.1;

@@ -1,4 +1,4 @@
-use Rattle.std.proofs.Common.{◌≡◌, ◌++◌, length, drop}
+use Rattle.std.proofs.Common.{◌≡◌, ◌≤◌, ◌++◌, length, drop}
 use Rattle.std.specs.Prelude.{map, sum_by}
 use Rattle.fit_record.specs.inner.ReadMessages.{fields_from}
 use Rattle.fit_step.proofs.whole.read_fields.Given as goal
@@ -7,5 +7,6 @@ abbrev pub invariant-loop-field : goal.invariant-loop-field
 invariant-loop-field g l = record {
   told : l.items ++ fields_from l.order (map (λ f. (f.code, f.size)) (drop l.field-index l.fields)) l.rest
       ≡ fields_from l.order (map (λ f. (f.code, f.size)) l.fields) l.bytes;
-  long : length l.rest ≡ sum_by (λ f. f.size) (drop l.field-index l.fields);
+  enough : sum_by (λ f. f.size) (drop l.field-index l.fields) ≤ length l.rest;
+  behind : drop (sum_by (λ f. f.size) (drop l.field-index l.fields)) l.rest ≡ drop (sum_by (λ f. f.size) l.fields) l.bytes;
 }

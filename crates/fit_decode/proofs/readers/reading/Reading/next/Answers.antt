@@ -6,7 +6,7 @@ use Rattle.fit_decode.specs.contracts.readers.reading.Reading.{the_row}
 use Rattle.fit_decode.specs.contracts.readers.reading.Reading.next.{S-row, A-row}
 use Rattle.fit_decode.specs.Answers.{Seen}
 use Rattle.fit_decode.specs.inner.Between.{IsEnd}
-use Rattle.fit_decode.specs.Reads.{Taking}
+use Rattle.fit_decode.specs.Reads.{Channel}
 use Rattle.fit_decode.proofs.NextRead.{behind_file, comes_behind, end_not_given, fault_given, keeps, next_chain, next_end, next_fault, next_file, next_given}
 use Rattle.fit_decode.proofs.NextRead.{next_good, NextGiven}
 use Rattle.fit_decode.proofs.Sizes.{fourth_is_within}
@@ -96,7 +96,7 @@ returns-then-is_end-clause-file g c =
     let behind = (c.self.invariant c.in_default.is).1 in
     let r = c.in-Err.ensures.read files (comes_behind files _ _ _ behind) in
     let end = subst (IsEnd g.row.A.Denot c.read_file.new.decoder c.in-Err.fault) c.if-is_end.true c.is_end.ensures in
-    let source : Taking = record {
+    let source : Channel = record {
       before = g.S.Source.remaining c.self.inside.source;
       after = g.S.Source.remaining c.read_file.new.source;
       failed =
@@ -117,7 +117,7 @@ returns-else-is_end-clause-exact g c =
     let r = c.in-Err.ensures.read files (comes_behind files _ _ _ behind) in
     let end = subst (IsEnd g.row.A.Denot c.read_file.new.decoder c.in-Err.fault) c.if-is_end.false c.is_end.ensures in
     let told = next_fault files _ _ _ _ _ _ _ c.read_file.new.decoder c.read_file.new.count behind c.in-Err.ensures.counted c.in-Err.ensures.viable
-    c.in-Err.fault r end in
+    (g.S.Source.remaining c.self.inside.source) c.in-Err.fault r end in
     rw (← c.self.view_is) (λ fresh. (r.got, r.eats, r.noted, told, refl))
 
 pub returns-else-is_end-clause-file : goal.returns-else-is_end-clause-file
@@ -125,7 +125,7 @@ returns-else-is_end-clause-file g c =
     let files = (c.self.invariant c.in_default.is).0 in
     let behind = (c.self.invariant c.in_default.is).1 in
     let r = c.in-Err.ensures.read files (comes_behind files _ _ _ behind) in
-    let source : Taking = record {
+    let source : Channel = record {
       before = g.S.Source.remaining c.self.inside.source;
       after = g.S.Source.remaining c.read_file.new.source;
       failed =

@@ -1,0 +1,111 @@
+-- What a byte of a piece makes of a record in progress.
+use Rattle.std.proofs.Common.{◌≡◌, ℕ, ◌+◌, ◌-◌, ◌<◌, ◌≤◌, append_assoc, Bool, true, false, List, [], ◌∷◌, ◌++◌, length, take, slice_index, refl, sym, ap}
+use Rattle.std.proofs.Common.{◌∙◌, subst, arith, Some, None, Ok, Err}
+use Rattle.std.specs.Prelude.{Option, Result, OnOk, OnErr}
+use Rattle.std.specs.Result.{is_ok}
+use Rattle.std.proofs.lemmas.List.{take_more}
+use Rattle.fit_record.specs.declared.message.Record.{Record}
+use Rattle.fit_record.specs.Environment.{Environment, learn}
+use Rattle.fit_record.specs.Records.{Fits}
+use Rattle.fit_step.specs.declared.position.Position.{Position}
+use Rattle.fit_step.specs.declared.stop.Stop.{Stop}
+use Rattle.fit_step.specs.declared.stop.Stop.TheVariants.{Refused, NoMemory}
+use Rattle.fit_step.specs.Machine.{State, Step, start, step}
+use Rattle.fit_step.specs.Parts.{RecordPart, nothing, in_definition, in_fields, in_dev_fields, state_of}
+use Rattle.fit_step.specs.Places.{state_at, PartFitsRoom, Steps, KeepsPart}
+use Rattle.fit_step.specs.Tests.{tests_of}
+use Rattle.fit_step.specs.InProgress.{StandsBehind, IsInProgress, ReadsRecord}
+use Rattle.fit_step.specs.inner.Scans.{StandsWithRoom, RecordByte}
+use Rattle.fit_step.proofs.Kept.{still_stands, still_room}
+use Rattle.fit_step.proofs.RecordsInProgress.{EndsBehind, starts_behind, sixteen_learned, starts_where_none, goes_behind, ends_behind, wants_behind}
+use Rattle.fit_step.proofs.RecordsInProgress.{refused_behind}
+
+-- what holds of a good answer, and of a fault
+pub when_ok : {X Y P : Type 0} (r : Result X Y) → OnOk r P → is_ok r ≡ true → P
+when_ok (Ok x) h is = h
+when_ok (Err y) h is = absurd cc
+
+pub when_err : {X Y P : Type 0} (r : Result X Y) → OnErr r P → is_ok r ≡ false → P
+when_err (Ok x) h is = absurd cc
+when_err (Err y) h is = h
+
+-- where no record is in progress one begins
+pub begins_where_none : {A : Type 0} (e : Environment A) (s : State A) → PartFitsRoom e s → s.in_progress ≡ None → s ≡ start s.room
+begins_where_none {A} e s h none = go h.part h.is
+  where
+    go : (f : RecordPart A) → s ≡ state_of s.room f → s ≡ start s.room
+    go nothing is = is
+    go (in_definition k d) is = absurd (let some = sym none ∙ ap (λ (t : State A). t.in_progress) is in cc)
+    go (in_fields local offset t dev) is = absurd (let some = sym none ∙ ap (λ (t : State A). t.in_progress) is in cc)
+    go (in_dev_fields local offset items t) is = absurd (let some = sym none ∙ ap (λ (t : State A). t.in_progress) is in cc)
+
+pub stands_on : {A : Type 0} (e : Environment A) (s t : State A) (b : ℕ) → b < 256 → StandsWithRoom e s → step e (tests_of e) s b ≡ Ok (t, None)
+    → StandsWithRoom e t
+stands_on e s t b low h made = (still_room e (tests_of e) b low s t h.1 made, still_stands e (tests_of e) b low s t h.1 made)
+
+-- a step with which the record in progress is whole
+pub step_whole : {A : Type 0} (e : Environment A) (after : Option (Record A)) (p : Position) (w : Bool) (made : Step A) → w ≡ true
+    → Steps after (Ok (p, w)) made → KeepsPart e after (p, w)
+    → (r : Record A) × (after ≡ Some r) × Fits e r × (made ≡ Ok (state_at p None, Some r))
+step_whole e after p false made is steps keeps = absurd cc
+step_whole e None p true made is steps keeps = absurd keeps.0
+step_whole e (Some r) p true made is steps keeps = (r, refl, keeps.0, steps)
+
+-- ---- what was read
+
+-- the last byte used ended a record
+pub whole_read : {A : Type 0} (e env : Environment A) (room : ℕ) (bytes piece : List ℕ) (used : ℕ) (p : Position) (in_progress : Option (Record A))
+    (r : Record A) → 0 < used → used ≤ length piece → length e.places ≡ 16 → env ≡ learn e r
+    → EndsBehind e room (bytes ++ take used piece) r (state_at p in_progress) → ReadsRecord e env room bytes p in_progress piece used (Ok (Some r))
+whole_read e env room bytes piece used p in_progress r some within sixteen learned k = (
+  some,
+  within,
+  learned,
+  k.is_record,
+  k.within,
+  subst (λ f. StandsBehind f (room - length (bytes ++ take used piece)) [] (state_at p in_progress)) (sym learned)
+      (subst (StandsBehind (learn e r) (room - length (bytes ++ take used piece)) []) (sym k.starts)
+      (starts_behind (learn e r) (room - length (bytes ++ take used piece)) (sixteen_learned e r sixteen) k.filled)),
+)
+
+-- a byte of the piece, behind those of which this is the state
+module _ {A : Type 0} (e now env : Environment A) (room : ℕ) (bytes piece : List ℕ) (i : ℕ) (p q : Position) (before after : Option (Record A))
+    (within : i < length piece) (low : slice_index piece i < 256) (known : now ≡ e)
+    (come : IsInProgress now room (bytes ++ take i piece) p before) where
+  abbrev b : ℕ
+  b = slice_index piece i
+
+  one : (bytes ++ take i piece) ++ b ∷ [] ≡ bytes ++ take (i + 1) piece
+  one = append_assoc bytes (take i piece) (b ∷ []) ∙ ap (λ z. bytes ++ z) (sym (take_more piece i 0 within))
+
+  pub record_ends : (r : Record A) → RecordByte now env (state_at q after) b (Ok (Some r)) (step now (tests_of now) (state_at p before) b)
+      → ReadsRecord e env room bytes q after piece (i + 1) (Ok (Some r))
+  record_ends r made =
+      let k = ends_behind now room (bytes ++ take i piece) (state_at p before) come b low (state_at q after) r made.1 in
+      subst (λ x. ReadsRecord x env room bytes q after piece (i + 1) (Ok (Some r))) known
+      (whole_read now env room bytes piece (i + 1) q after r (omega arith) (omega (arith, within)) come.sixteen made.0
+      (subst (λ z. EndsBehind now room z r (state_at q after)) one k))
+
+  pub record_stops : (stop : Stop) → state_at q after ≡ state_at p before → 0 < p.room
+      → RecordByte now env (state_at q after) b (Err stop) (step now (tests_of now) (state_at p before) b)
+      → ReadsRecord e env room bytes q after piece i (Err stop)
+  record_stops (Refused reason) same some made =
+      let law = refused_behind now room (bytes ++ take i piece) (state_at p before) come b low some reason made.1 in
+      subst (λ x. ReadsRecord x env room bytes q after piece i (Err (Refused reason))) known
+      (within, made.0, subst (StandsBehind now room (bytes ++ take i piece)) (sym same) come, law.0, law.1)
+  record_stops NoMemory same some made =
+      let there = subst (StandsBehind now room (bytes ++ take i piece)) (sym same) come in
+      subst (λ x. ReadsRecord x env room bytes q after piece i (Err NoMemory)) known (
+        within,
+        made.0,
+        there,
+        wants_behind now room (bytes ++ take i piece) (state_at p before) come b low made.1,
+        λ none. made.2 (ap (λ (s : State A). s.phase) (starts_where_none now room (bytes ++ take i piece) (state_at q after) there none)),
+      )
+
+  pub record_goes : RecordByte now env (state_at q after) b (Ok None) (step now (tests_of now) (state_at p before) b)
+      → IsInProgress env room (bytes ++ take (i + 1) piece) q after
+  record_goes made =
+      subst (λ x. StandsBehind x room (bytes ++ take (i + 1) piece) (state_at q after)) (sym made.0)
+      (subst (λ z. StandsBehind now room z (state_at q after)) one
+      (goes_behind now room (bytes ++ take i piece) (state_at p before) come b low (state_at q after) made.1))

@@ -1,0 +1,339 @@
+-- What has come of a record, and what a byte more makes of it.
+use Rattle.std.proofs.Common.{◌≡◌, inl, inr, ℕ, zero, ◌+◌, ◌-◌, ◌<◌, ◌≤◌, true, List, [], ◌∷◌, ◌++◌, length, refl, sym, ap, ◌∙◌, subst, arith, append_assoc}
+use Rattle.std.proofs.Common.{length-append, Some, None, Ok, Err}
+use Rattle.std.specs.Prelude.{IsOk}
+use Rattle.std.proofs.lemmas.List.{append-nil}
+use Rattle.std.proofs.Math.ListN.{length-set}
+use Rattle.fit_base.specs.Numbers.{IsBytes}
+use Rattle.fit_base.proofs.ByteLists.{IsBytes-append, IsBytes-cons, IsBytes-front, IsBytes-back, IsBytes-none, IsBytes-tail}
+use Rattle.fit_frame.specs.declared.reason.Reason.{Reason}
+use Rattle.fit_record.specs.declared.message.Record.{Record}
+use Rattle.fit_record.specs.declared.message.Record.TheVariants.{Define, Values as Data}
+use Rattle.fit_record.specs.Environment.{Environment, learn}
+use Rattle.fit_record.specs.Files.{CanFill}
+use Rattle.fit_record.specs.Records.{IsRecord, record_bytes, records_bytes}
+use Rattle.fit_record.proofs.FilledRooms.{can_fill_is, same_places}
+use Rattle.fit_record.specs.declared.definition.MessageDef.{MessageDef}
+use Rattle.fit_step.specs.declared.phase.DefinitionPhase.{DefinitionPhase}
+use Rattle.fit_step.specs.declared.phase.DefinitionPhase.TheVariants.{Reserved, Architecture as AtArchitecture, GlobalFirst, GlobalSecond, FieldCount}
+use Rattle.fit_step.specs.declared.phase.DefinitionPhase.TheVariants.{FieldNumber, FieldSize, FieldCode, DevCount, DevNumber, DevSize, DevIndex}
+use Rattle.fit_step.specs.declared.position.Position.{Position}
+use Rattle.fit_step.specs.GoingOn.{goes_on, Continues}
+use Rattle.fit_step.specs.InProgress.{NoRecord, FillFrom, StandsBehind, IsInProgress}
+use Rattle.fit_step.specs.InProgress.{RecordsBegin, RecordsInProgress, IdleIsBetweenRecords, RefusedBytesHaveReasons}
+use Rattle.fit_step.specs.Laws.{CanBecomeRecord}
+use Rattle.fit_step.specs.Machine.{State, Step, start, step, least_rest, Ends}
+use Rattle.fit_step.specs.Parts.{RecordPart, nothing, in_definition, in_fields, in_dev_fields, definition_part, part_bytes, IsPart, state_of}
+use Rattle.fit_step.specs.Places.{state_at, Begins}
+use Rattle.fit_step.specs.Reasons.{record_reason}
+use Rattle.fit_step.specs.Tests.{tests_of}
+use Rattle.fit_step.specs.inner.Scans.{StandsWithRoom}
+use Rattle.fit_step.proofs.Kept.{takes_more}
+use Rattle.fit_step.proofs.RecordFronts.{part_of_record}
+use Rattle.fit_step.proofs.Rest.{keeps, KeepsRoom}
+use Rattle.fit_step.proofs.Runs.{one_more}
+use Rattle.fit_step.proofs.Splits.{split}
+use Rattle.fit_step.proofs.TakenAndRefusedBytes.{records_end, parts_are_tested, taken_bytes_go_on, taken_bytes_end, refused_bytes_end_all}
+
+pub one_byte : (bytes : List ℕ) (b : ℕ) → IsBytes bytes → b < 256 → IsBytes (bytes ++ b ∷ [])
+one_byte bytes b are low = IsBytes-append bytes (b ∷ []) are (IsBytes-cons b [] low IsBytes-none)
+
+pub sixteen_learned : {A : Type 0} (e : Environment A) (r : Record A) → length e.places ≡ 16 → length (learn e r).places ≡ 16
+sixteen_learned e (Define d) sixteen = length-set e.places d.local _ ∙ sixteen
+sixteen_learned e (Data v) sixteen = ap length (same_places e v) ∙ sixteen
+
+-- ---- records that fill a room
+
+pub fill_nothing : {A : Type 0} (e : Environment A) (room : ℕ) → CanFill e room → FillFrom e room []
+fill_nothing e room (rs, bytes, are, fit, size) = (rs, bytes, are, fit.0, sym fit.1, omega (arith, size))
+
+-- one record, and others behind it
+pub record_fills : {A : Type 0} (e : Environment A) (room : ℕ) (r : Record A) (bytes : List ℕ) → IsRecord e r bytes → length bytes ≤ room
+    → FillFrom (learn e r) (room - length bytes) [] → FillFrom e room bytes
+record_fills e room r bytes is within (rs, rest, are, fit, spelled, size) =
+    (r ∷ rs, rest, are, (is.0, fit), (λ i. sym is.1 i ++ spelled i), omega (arith, size, within))
+
+continues_fill : {A : Type 0} (e : Environment A) (left : ℕ) (part : List ℕ) → Continues e part left → FillFrom e (left + length part) part
+continues_fill e left part c =
+    let (rs, after, are, fit, size) = c.filled in (
+      c.whole ∷ rs,
+      c.rest ++ after,
+      IsBytes-append c.rest after c.are_bytes are,
+      (c.fits, fit.0),
+      ap (λ b. b ++ records_bytes (learn e c.whole) rs) c.spelled ∙ ap (λ b. (part ++ c.rest) ++ b) (sym fit.1) ∙ append_assoc part c.rest after,
+      omega (arith, c.total, size, length-append c.rest after),
+    )
+
+-- the first of the records goes on behind the bytes, where these are no whole record
+pub fill_continues : {A : Type 0} (e : Environment A) (room : ℕ) (front : List ℕ) (b : ℕ) → NoRecord e front → FillFrom e room (front ++ b ∷ [])
+    → Continues e (front ++ b ∷ []) (room - length (front ++ b ∷ []))
+fill_continues {A} e room front b none ([], rest, are, fit, spelled, total) = absurd (impossible front spelled)
+  where
+    impossible : (front : List ℕ) → [] ≡ (front ++ b ∷ []) ++ rest → ⊥
+    impossible [] h = cc
+    impossible (x ∷ front) h = cc
+fill_continues {A} e room front b none (r ∷ rs, rest, are, fit, spelled, total) =
+    let after : List ℕ = records_bytes (learn e r) rs in
+    let parts : front ++ (b ∷ rest) ≡ record_bytes e r ++ after = sym (append_assoc front (b ∷ []) rest) ∙ sym spelled in
+    elim (split front (record_bytes e r) (b ∷ rest) after parts) [
+      | inl s ↦ go s.more s.second s.behind
+      | inr s ↦ absurd (none r (s.next ∷ s.more) fit.0 s.first)
+    ]
+  where
+    go : (more : List ℕ) → record_bytes e r ≡ front ++ more → b ∷ rest ≡ more ++ records_bytes (learn e r) rs
+        → Continues e (front ++ b ∷ []) (room - length (front ++ b ∷ []))
+    go [] second behind = absurd (none r [] fit.0 (sym (append-nil front) ∙ sym second ∙ sym (append-nil (record_bytes e r))))
+    go (c ∷ more) second behind =
+        let same : c ≡ b = cc in
+        let tail : rest ≡ more ++ records_bytes (learn e r) rs = cc in
+        let all : IsBytes (more ++ records_bytes (learn e r) rs) = subst IsBytes tail are in
+        record {
+          whole = r;
+          rest = more;
+          left = length (records_bytes (learn e r) rs);
+          fits = fit.0;
+          spelled = second ∙ ap (λ x. front ++ x ∷ more) same ∙ sym (one_more front b more);
+          are_bytes = IsBytes-front more _ all;
+          filled = (rs, records_bytes (learn e r) rs, IsBytes-back more _ all, (fit.1, refl), refl);
+          total = omega (arith, total, ap length tail, length-append more (records_bytes (learn e r) rs));
+        }
+
+-- ---- where a record begins
+
+pub starts_behind : {A : Type 0} (e : Environment A) (room : ℕ) → length e.places ≡ 16 → CanFill e room → StandsBehind e room [] (start room)
+starts_behind e room sixteen fill = record {
+  sixteen = sixteen;
+  are_bytes = IsBytes-none;
+  total = omega arith;
+  part = nothing;
+  is_part = tt;
+  spelled = refl;
+  is = refl;
+  rest = omega arith;
+  goes = (can_fill_is e room sixteen).1 fill;
+}
+
+pub begins_record : {A : Type 0} (e : Environment A) (p : Position) → length e.places ≡ 16 → Begins p → CanFill e p.room → IsInProgress e p.room [] p None
+begins_record {A} e p sixteen h fill =
+    let is : start p.room ≡ state_at p None = λ i. record { phase = sym h.phase i; room = p.room; in_progress = None; partial = sym h.partial i } in
+    subst (StandsBehind e p.room []) is (starts_behind e p.room sixteen fill)
+
+-- ---- a byte more
+
+-- The bytes are those of this record, and the next one can begin.
+pub record EndsBehind {A : Type 0} (e : Environment A) (room : ℕ) (bytes : List ℕ) (r : Record A) (t : State A) : Type 0 where
+  pub is_record : IsRecord e r bytes
+  pub within : length bytes ≤ room
+  pub filled : CanFill (learn e r) (room - length bytes)
+  pub starts : t ≡ start (room - length bytes)
+
+module _ {A : Type 0} (e : Environment A) (room : ℕ) (bytes : List ℕ) (s : State A) (h : StandsBehind e room bytes s) where
+  rest_of_part : least_rest e (state_of s.room h.part) ≤ s.room
+  rest_of_part = subst (λ t. least_rest e t ≤ s.room) h.is h.rest
+
+  part_goes : goes_on e (state_of s.room h.part) ≡ true
+  part_goes = subst (λ t. goes_on e t ≡ true) h.is h.goes
+
+  pub left_behind : room - length bytes ≡ s.room
+  left_behind = omega (arith, h.total)
+
+  pub none_behind : NoRecord e bytes
+  none_behind = subst (NoRecord e) h.spelled (part_of_record e h.part h.is_part)
+
+  pub fills_behind : FillFrom e room bytes
+  fills_behind = go h.part h.spelled
+      ((parts_are_tested e h.part s.room h.sixteen h.is_part (subst IsBytes (sym h.spelled) h.are_bytes) rest_of_part).0 part_goes)
+    where
+      begun : (f : RecordPart A) → part_bytes e f ≡ bytes → Continues e (part_bytes e f) s.room → FillFrom e room bytes
+      begun f spelled c = subst (λ n. FillFrom e n bytes) h.total (continues_fill e s.room bytes (subst (λ b. Continues {A = A} e b s.room) spelled c))
+
+      go : (f : RecordPart A) → part_bytes e f ≡ bytes → CanBecomeRecord e f s.room → FillFrom e room bytes
+      go nothing spelled fill =
+          let none : length bytes ≡ 0 = ap length (sym spelled) in
+          let all : s.room ≡ room = omega (arith, h.total, none) in
+          subst (FillFrom e room) spelled (fill_nothing e room (subst (CanFill e) all fill))
+      go (in_definition k d) spelled c = begun (in_definition k d) spelled c
+      go (in_fields local offset t dev) spelled c = begun (in_fields local offset t dev) spelled c
+      go (in_dev_fields local offset items t) spelled c = begun (in_dev_fields local offset items t) spelled c
+
+  -- there is room for the next byte, unless all of the room has been filled
+  pub room_behind : 0 < room → StandsWithRoom e s
+  room_behind some = (go h.part h.spelled h.is_part rest_of_part, record { part = h.part; is_part = h.is_part; is = h.is; within = h.rest })
+    where
+      go : (f : RecordPart A) → part_bytes e f ≡ bytes → IsPart e f → least_rest e (state_of s.room f) ≤ s.room → 0 < s.room
+      go nothing spelled is less = let none : length bytes ≡ 0 = ap length (sym spelled) in omega (arith, none, h.total, some)
+      go (in_definition k d) spelled is less = omega (arith, less, takes_more e s.room (in_definition k d) is tt)
+      go (in_fields local offset t dev) spelled is less = omega (arith, less, takes_more e s.room (in_fields local offset t dev) is tt)
+      go (in_dev_fields local offset items t) spelled is less = omega (arith, less, takes_more e s.room (in_dev_fields local offset items t) is tt)
+
+  module _ (b : ℕ) (low : b < 256) where
+    at_part : (made : Step A) → step e (tests_of e) s b ≡ made → step e (tests_of e) (state_of s.room h.part) b ≡ made
+    at_part made is = subst (λ t. step e (tests_of e) t b ≡ made) h.is is
+
+    pub goes_behind : (t : State A) → step e (tests_of e) s b ≡ Ok (t, None) → StandsBehind e room (bytes ++ b ∷ []) t
+    goes_behind t made =
+        let here = at_part (Ok (t, None)) made in
+        let g = taken_bytes_go_on e h.part s.room b t h.sixteen h.is_part low rest_of_part part_goes here in
+        let k : (t.room + 1 ≡ s.room) × (least_rest e t ≤ t.room) =
+        subst (KeepsRoom e s.room) here (keeps e (tests_of e) s.room h.part b h.is_part rest_of_part) in
+        let left : s.room - 1 ≡ t.room = omega (arith, k.0) in
+        record {
+          sixteen = h.sixteen;
+          are_bytes = one_byte bytes b h.are_bytes low;
+          total = omega (arith, h.total, k.0, length-append bytes (b ∷ []));
+          part = g.0;
+          is_part = g.1;
+          spelled = g.2 ∙ ap (λ z. z ++ b ∷ []) h.spelled;
+          is = g.3 ∙ ap (λ n. state_of n g.0) left;
+          rest = k.1;
+          goes = g.5;
+        }
+
+    pub ends_behind : (t : State A) (r : Record A) → step e (tests_of e) s b ≡ Ok (t, Some r) → EndsBehind e room (bytes ++ b ∷ []) r t
+    ends_behind t r made =
+        let here = at_part (Ok (t, Some r)) made in
+        let g = taken_bytes_end e h.part s.room b t r h.sixteen h.is_part low rest_of_part part_goes here in
+        let some : 0 < s.room = subst (KeepsRoom e s.room) here (keeps e (tests_of e) s.room h.part b h.is_part rest_of_part) in
+        let left : s.room - 1 ≡ room - length (bytes ++ b ∷ []) = omega (arith, h.total, some, length-append bytes (b ∷ [])) in
+        record {
+          is_record = subst (λ z. IsRecord e r (z ++ b ∷ [])) h.spelled g.0;
+          within = omega (arith, h.total, some, length-append bytes (b ∷ []));
+          filled = subst (CanFill (learn e r)) left g.2;
+          starts = g.1 ∙ ap start left;
+        }
+
+    -- a byte that is refused has the reason of its place, and no records fill the room with it
+    pub refused_behind : 0 < s.room → (reason : Reason) → step e (tests_of e) s b ≡ Err reason
+        → (record_reason e bytes (room - length bytes) b ≡ Some reason) × (FillFrom e room (bytes ++ b ∷ []) → ⊥)
+    refused_behind some reason made =
+        let law = refused_bytes_end_all e h.part s.room b reason h.sixteen h.is_part some low (at_part (Err reason) made) in
+        let left : room - length (bytes ++ b ∷ []) ≡ s.room - 1 = omega (arith, h.total, length-append bytes (b ∷ [])) in (
+          subst (λ z. record_reason e z (room - length bytes) b ≡ Some reason) h.spelled
+              (subst (λ n. record_reason e (part_bytes e h.part) n b ≡ Some reason) (sym left_behind) law.0),
+          λ fill. law.1 (subst (λ z. Continues {A = A} e (z ++ b ∷ []) (s.room - 1)) (sym h.spelled)
+              (subst (Continues {A = A} e (bytes ++ b ∷ [])) left (fill_continues e room bytes b none_behind fill))),
+        )
+
+-- a byte that isn't refused has records that fill the room
+pub wants_behind : {A : Type 0} (e : Environment A) (room : ℕ) (bytes : List ℕ) (s : State A) → StandsBehind e room bytes s → (b : ℕ) → b < 256
+    → IsOk (step e (tests_of e) s b) → FillFrom e room (bytes ++ b ∷ [])
+wants_behind {A} e room bytes s h b low ok = go (step e (tests_of e) s b) refl ok
+  where
+    go : (made : Step A) → step e (tests_of e) s b ≡ made → IsOk made → FillFrom e room (bytes ++ b ∷ [])
+    go (Ok (t, None)) made ok = fills_behind e room (bytes ++ b ∷ []) t (goes_behind e room bytes s h b low t made)
+    go (Ok (t, Some r)) made ok =
+        let k = ends_behind e room bytes s h b low t r made in
+        record_fills e room r (bytes ++ b ∷ []) k.is_record k.within (fill_nothing (learn e r) (room - length (bytes ++ b ∷ [])) k.filled)
+    go (Err reason) made ok = absurd cc
+
+-- a record's end, some bytes further on
+pub ends_further : {A : Type 0} (e : Environment A) (room : ℕ) (bytes more : List ℕ) (s t : State A) (r : Record A) → StandsBehind e room bytes s
+    → IsBytes more → Ends e (tests_of e) s more t r → EndsBehind e room (bytes ++ more) r t
+ends_further e room bytes [] s t r h low ends = absurd ends
+ends_further e room bytes (b ∷ more) s t r h low (inl (none, made)) =
+    subst (λ z. EndsBehind e room (bytes ++ b ∷ z) r t) (sym none) (ends_behind e room bytes s h b (low zero) t r made)
+ends_further e room bytes (b ∷ more) s t r h low (inr (u, made, ends)) =
+    subst (λ z. EndsBehind e room z r t) (one_more bytes b more)
+    (ends_further e room (bytes ++ b ∷ []) more u t r (goes_behind e room bytes s h b (low zero) u made) (IsBytes-tail b more low) ends)
+
+-- ---- where nothing has come
+
+some_bytes : {A : Type 0} (k : DefinitionPhase) (d : MessageDef A) → definition_part k d ≡ [] → ⊥
+some_bytes Reserved d is = cc
+some_bytes AtArchitecture d is = cc
+some_bytes GlobalFirst d is = cc
+some_bytes (GlobalSecond first) d is = cc
+some_bytes FieldCount d is = cc
+some_bytes (FieldNumber left) d is = cc
+some_bytes (FieldSize left number) d is = cc
+some_bytes (FieldCode left number size) d is = cc
+some_bytes DevCount d is = cc
+some_bytes (DevNumber left) d is = cc
+some_bytes (DevSize left number) d is = cc
+some_bytes (DevIndex left number size) d is = cc
+
+pub starts_where_none : {A : Type 0} (e : Environment A) (room : ℕ) (bytes : List ℕ) (s : State A) → StandsBehind e room bytes s → bytes ≡ []
+    → s ≡ start s.room
+starts_where_none {A} e room bytes s h none = go h.part h.is (h.spelled ∙ none)
+  where
+    go : (f : RecordPart A) → s ≡ state_of s.room f → part_bytes e f ≡ [] → s ≡ start s.room
+    go nothing is empty = is
+    go (in_definition k d) is empty = absurd (some_bytes k d empty)
+    go (in_fields local offset t dev) is empty = absurd cc
+    go (in_dev_fields local offset items t) is empty = absurd cc
+
+-- no record is in progress just where no byte has come
+pub idle_between_records : {A : Type 0} → IdleIsBetweenRecords A
+idle_between_records {A} e room bytes p in_progress h = (
+  λ idle. go h.part h.is h.spelled idle,
+  λ none. ap (λ (s : State A). s.in_progress) (starts_where_none e room bytes (state_at p in_progress) h none),
+)
+  where
+    go : (f : RecordPart A) → state_at p in_progress ≡ state_of p.room f → part_bytes e f ≡ bytes → in_progress ≡ None → bytes ≡ []
+    go nothing is spelled idle = sym spelled
+    go (in_definition k d) is spelled idle = absurd (let some = sym idle ∙ ap (λ (t : State A). t.in_progress) is in cc)
+    go (in_fields local offset t dev) is spelled idle = absurd (let some = sym idle ∙ ap (λ (t : State A). t.in_progress) is in cc)
+    go (in_dev_fields local offset items t) is spelled idle = absurd (let some = sym idle ∙ ap (λ (t : State A). t.in_progress) is in cc)
+
+pub records_begin : {A : Type 0} → RecordsBegin A
+records_begin e p sixteen h fill = begins_record e p sixteen h fill
+
+pub records_in_progress : {A : Type 0} → RecordsInProgress A
+records_in_progress e room bytes p in_progress h =
+    let s = state_at p in_progress in (none_behind e room bytes s h, fills_behind e room bytes s h, h.total)
+
+-- ---- a byte that can't follow
+
+module _ {A : Type 0} (e : Environment A) (room : ℕ) where
+  -- on the way to a record's end
+  stands_before : (front bytes : List ℕ) (m : ℕ) (more : List ℕ) (s t : State A) (r : Record A) → StandsBehind e room front s → IsBytes bytes
+      → Ends e (tests_of e) s (bytes ++ m ∷ more) t r → (u : State A) × StandsBehind e room (front ++ bytes) u
+  stands_before front [] m more s t r h low ends = (s, subst (λ z. StandsBehind e room z s) (sym (append-nil front)) h)
+  stands_before front (b ∷ bytes) m more s t r h low (inl (none, made)) = absurd (no_end bytes none)
+    where
+      no_end : (bytes : List ℕ) → bytes ++ m ∷ more ≡ [] → ⊥
+      no_end [] is = cc
+      no_end (x ∷ bytes) is = cc
+  stands_before front (b ∷ bytes) m more s t r h low (inr (u, made, ends)) =
+      let (v, k) = stands_before (front ++ b ∷ []) bytes m more u t r (goes_behind e room front s h b (low zero) u made) (IsBytes-tail b bytes low) ends in
+      (v, subst (λ z. StandsBehind e room z v) (one_more front b bytes) k)
+
+  room_filled : (bytes : List ℕ) → IsBytes bytes → FillFrom e room bytes → CanFill e room
+  room_filled bytes are (rs, rest, rest_are, fit, spelled, total) =
+      (rs, bytes ++ rest, IsBytes-append bytes rest are rest_are, (fit, sym spelled), omega (arith, total, length-append bytes rest))
+
+  -- bytes that begin records that fill the room, and are no whole record, have come to a state
+  stands_somewhere : (bytes : List ℕ) → length e.places ≡ 16 → IsBytes bytes → NoRecord e bytes → FillFrom e room bytes
+      → (u : State A) × StandsBehind e room bytes u
+  stands_somewhere [] sixteen are none fill = (start room, starts_behind e room sixteen (room_filled [] are fill))
+  stands_somewhere (b ∷ bytes) sixteen are none ([], rest, rest_are, fit, spelled, total) = absurd cc
+  stands_somewhere (b ∷ bytes) sixteen are none (r ∷ rs, rest, rest_are, fit, spelled, total) =
+      let after : List ℕ = records_bytes (learn e r) rs in
+      elim (split (b ∷ bytes) (record_bytes e r) rest after (sym spelled)) [
+        | inl s ↦ go s.more s.second s.behind
+        | inr s ↦ absurd (none r (s.next ∷ s.more) fit.0 s.first)
+      ]
+    where
+      go : (more : List ℕ) → record_bytes e r ≡ (b ∷ bytes) ++ more → rest ≡ more ++ records_bytes (learn e r) rs
+          → (u : State A) × StandsBehind e room (b ∷ bytes) u
+      go [] second behind = absurd (none r [] fit.0 (sym (append-nil (b ∷ bytes)) ∙ sym second ∙ sym (append-nil (record_bytes e r))))
+      go (m ∷ more) second behind =
+          let after : List ℕ = records_bytes (learn e r) rs in
+          let all : IsBytes ((m ∷ more) ++ after) = subst IsBytes behind rest_are in
+          let whole : IsBytes ((b ∷ bytes) ++ m ∷ more) = IsBytes-append (b ∷ bytes) (m ∷ more) are (IsBytes-front (m ∷ more) after all) in
+          let size : length ((b ∷ bytes) ++ m ∷ more) + length after ≡ room =
+          omega (arith, total, ap length behind, length-append (m ∷ more) after, length-append (b ∷ bytes) (m ∷ more)) in
+          let ends = records_end e r ((b ∷ bytes) ++ m ∷ more) (length after) sixteen (fit.0, sym second) whole
+          (rs, after, IsBytes-back (m ∷ more) after all, (fit.1, refl), refl) in
+          stands_before [] (b ∷ bytes) m more (start room) (start (length after)) r
+          (starts_behind e room sixteen (room_filled (b ∷ bytes) are (r ∷ rs, rest, rest_are, fit, spelled, total))) are
+          (subst (λ n. Ends e (tests_of e) (start n) ((b ∷ bytes) ++ m ∷ more) (start (length after)) r) size ends)
+
+pub refused_bytes_have_reasons : {A : Type 0} → RefusedBytesHaveReasons A
+refused_bytes_have_reasons {A} e room bytes b sixteen some are low none fill ends =
+    let (u, h) = stands_somewhere e room bytes sixteen are none fill in go u h (step e (tests_of e) u b) refl
+  where
+    go : (u : State A) → StandsBehind e room bytes u → (made : Step A) → step e (tests_of e) u b ≡ made
+        → (reason : Reason) × (record_reason e bytes (room - length bytes) b ≡ Some reason)
+    go u h (Ok next) is = absurd (ends (wants_behind e room bytes u h b low (subst IsOk (sym is) refl)))
+    go u h (Err reason) is = (reason, (refused_behind e room bytes u h b low (room_behind e room bytes u h some).0 reason is).0)

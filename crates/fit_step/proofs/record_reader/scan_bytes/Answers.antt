@@ -1,0 +1,44 @@
+use Rattle.std.proofs.Common.{◌≡◌, ◌<◌, ◌++◌, length, take, get_or, refl, sym, ◌∙◌, subst, arith}
+use Rattle.fit_step.specs.InProgress.{IsInProgress}
+use Rattle.fit_base.proofs.ByteLists.{slice_is_bytes}
+use Rattle.fit_step.specs.Places.{state_at}
+use Rattle.fit_step.specs.inner.Scans.{StandsWithRoom}
+use Rattle.fit_step.proofs.ReadBytes.{record_ends, record_stops, record_goes, stands_on}
+use Rattle.fit_step.proofs.record_reader.scan_bytes.Goals as goal
+
+pub returns-in-Ok-Some-clause-reads : goal.returns-in-Ok-Some-clause-reads
+returns-in-Ok-Some-clause-reads g c = λ room bytes h.
+    record_ends c.args.env.now c.loop-i.env c.take_byte.new.env room bytes c.args.piece.now c.loop-i.i c.loop-i.position c.take_byte.new.position
+    c.loop-i.in_progress c.take_byte.new.in_progress c.loop-i-test.true (slice_is_bytes c.args.piece.now c.type_inv.piece c.loop-i.i)
+    c.loop-i.invariant.known (c.loop-i.invariant.come room bytes h) c.in-Ok-Some.record (rw c.in-Ok-Some.field-0-is at c.in-Ok-Some.ensures.made)
+
+pub returns-in-Err-clause-reads : goal.returns-in-Err-clause-reads
+returns-in-Err-clause-reads g c = λ room bytes h.
+    record_stops c.args.env.now c.loop-i.env c.take_byte.new.env room bytes c.args.piece.now c.loop-i.i c.loop-i.position c.take_byte.new.position
+    c.loop-i.in_progress c.take_byte.new.in_progress c.loop-i-test.true (slice_is_bytes c.args.piece.now c.type_inv.piece c.loop-i.i)
+    c.loop-i.invariant.known (c.loop-i.invariant.come room bytes h) c.in-Err.stop c.in-Err.ensures.err c.loop-i.invariant.reading.0 c.in-Err.ensures.made
+
+pub loop-i-preserved : goal.loop-i-preserved
+loop-i-preserved g c =
+    let low : get_or c.args.piece.now c.loop-i.i 0 < 256 = slice_is_bytes c.args.piece.now c.type_inv.piece c.loop-i.i in
+    let made = rw c.in-Ok-None.field-0-is at c.in-Ok-None.ensures.made in
+    record {
+      known = made.0 ∙ c.loop-i.invariant.known;
+      come = λ room bytes h.
+          record_goes c.args.env.now c.loop-i.env c.take_byte.new.env room bytes c.args.piece.now c.loop-i.i c.loop-i.position c.take_byte.new.position
+          c.loop-i.in_progress c.take_byte.new.in_progress c.loop-i-test.true low c.loop-i.invariant.known (c.loop-i.invariant.come room bytes h) made;
+      reading = subst (λ x. StandsWithRoom x (state_at c.take_byte.new.position c.take_byte.new.in_progress)) (sym made.0)
+          (stands_on c.loop-i.env (state_at c.loop-i.position c.loop-i.in_progress) (state_at c.take_byte.new.position c.take_byte.new.in_progress)
+          (get_or c.args.piece.now c.loop-i.i 0) low c.loop-i.invariant.reading made.1);
+    }
+
+pub returns-clause-reads : goal.returns-clause-reads
+returns-clause-reads g c = λ room bytes h.
+    let all : c.loop-i.i ≡ length c.args.piece.now = omega (arith, c.loop-i.auto.i-end, c.loop-i-test.false) in
+    let known = c.loop-i.invariant.known in (
+      refl,
+      known,
+      subst (λ n. IsInProgress c.args.env.now room (bytes ++ take n c.args.piece.now) c.loop-i.position c.loop-i.in_progress) all
+          (subst (λ e. IsInProgress e room (bytes ++ take c.loop-i.i c.args.piece.now) c.loop-i.position c.loop-i.in_progress) known
+          (c.loop-i.invariant.come room bytes h)),
+    )

@@ -1,0 +1,13 @@
+use Rattle.std.proofs.Common.{◌≡◌, ℕ, List, ◌++◌, take}
+use Rattle.fit_step.specs.InProgress.{IsInProgress}
+use Rattle.fit_step.specs.Places.{state_at}
+use Rattle.fit_step.specs.inner.Scans.{StandsWithRoom}
+use Rattle.fit_step.proofs.record_reader.scan_bytes.Given as goal
+
+abbrev pub invariant-loop-i : goal.invariant-loop-i
+invariant-loop-i g l = record {
+  known : l.env ≡ l.initial.env;
+  come : (room : ℕ) (bytes : List ℕ) → IsInProgress l.initial.env room bytes l.initial.position l.initial.in_progress
+      → IsInProgress l.env room (bytes ++ take l.i l.piece) l.position l.in_progress;
+  reading : StandsWithRoom l.env (state_at l.position l.in_progress);
+}

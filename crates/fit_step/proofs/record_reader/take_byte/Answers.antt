@@ -1,0 +1,32 @@
+use Rattle.std.proofs.Common.{rules, ◌≡◌, refl, sym, subst}
+use Rattle.std.specs.Prelude.{OnErr}
+use Rattle.fit_step.specs.Machine.{step}
+use Rattle.fit_step.specs.Places.{state_at}
+use Rattle.fit_step.specs.Tests.{tests_of}
+use Rattle.fit_step.specs.inner.Scans.{RecordByte, StandsWithRoom}
+use Rattle.fit_step.proofs.record_reader.take_byte.Goals as goal
+
+pub take_inside-requires : goal.take_inside-requires
+take_inside-requires g c = c.requires.0
+
+pub returns-then-take_inside-clause-made : goal.returns-then-take_inside-clause-made
+returns-then-take_inside-clause-made g c = (refl, c.take_inside.ensures.taken c.args.env.now c.if-take_inside.true)
+
+pub take_step-requires : goal.take_step-requires
+take_step-requires g c = (
+  search rules,
+  subst (λ p. StandsWithRoom c.args.env.now (state_at p c.args.in_progress.now)) (sym (c.take_inside.ensures.same c.if-take_inside.false)) c.requires,
+)
+
+pub returns-clause-made : goal.returns-clause-made
+returns-clause-made g c =
+    let e = c.args.env.now in
+    let after = state_at c.take_step.new.position c.take_step.new.in_progress in
+    subst (λ p. RecordByte e c.take_step.new.env after c.args.byte c.take_step.result (step e (tests_of e) (state_at p c.args.in_progress.now) c.args.byte))
+    (c.take_inside.ensures.same c.if-take_inside.false) c.take_step.ensures.made
+
+pub returns-clause-err : goal.returns-clause-err
+returns-clause-err g c =
+    let after = state_at c.take_step.new.position c.take_step.new.in_progress in
+    subst (λ p. OnErr c.take_step.result (after ≡ state_at p c.args.in_progress.now)) (c.take_inside.ensures.same c.if-take_inside.false)
+    c.take_step.ensures.err

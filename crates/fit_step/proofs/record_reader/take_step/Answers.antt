@@ -1,0 +1,60 @@
+use Rattle.std.proofs.Common.{rules, ◌≡◌, None, Some, sym, ap, ◌∙◌, subst, arith}
+use Rattle.std.specs.Prelude.{IsOk}
+use Rattle.std.proofs.lemmas.Bool.{both_ways}
+use Rattle.fit_step.specs.Machine.{step}
+use Rattle.fit_step.specs.Places.{state_at}
+use Rattle.fit_step.specs.Tests.{tests_of}
+use Rattle.fit_step.proofs.EmptyMessages.{describes_nothing, record_stopped}
+use Rattle.fit_step.proofs.ReadBytes.{step_whole}
+use Rattle.fit_step.proofs.record_reader.take_step.Goals as goal
+
+pub step-requires : goal.step-requires
+step-requires g c = (
+  search rules,
+  c.requires,
+)
+
+pub returns-then-not-is_learned-clause-err : goal.returns-then-not-is_learned-clause-err
+returns-then-not-is_learned-clause-err g c =
+    let e = c.args.env.now in
+    let before = state_at c.args.position.now c.args.in_progress.now in
+    let next = c.in-Ok-default-true.next in
+    let w = step_whole e c.step.new.in_progress next c.in-Ok-default-true.field-0-1 (step e (tests_of e) before c.args.byte) c.in-Ok-default-true.field-0-1-test
+    c.in-Ok-default-true.ensures.made c.in-Ok-default-true.ensures.kept in
+    ap (λ o. state_at c.args.position.now o)
+    (c.undo.ensures e c.args.in_progress.now w.0 c.args.byte (state_at next None) (omega arith) (c.requires.1) w.3 w.1)
+
+pub returns-in-Some-clause-made : goal.returns-in-Some-clause-made
+returns-in-Some-clause-made g c =
+    let e = c.args.env.now in
+    let before = state_at c.args.position.now c.args.in_progress.now in
+    let next = c.in-Ok-default-true.next in
+    let w = step_whole e c.step.new.in_progress next c.in-Ok-default-true.field-0-1 (step e (tests_of e) before c.args.byte) c.in-Ok-default-true.field-0-1-test
+    c.in-Ok-default-true.ensures.made c.in-Ok-default-true.ensures.kept in
+    let at : c.step.new.in_progress ≡ Some c.in-Some.record = sym c.take.ensures.value ∙ c.in-Some.is in
+    let both : Some w.0 ≡ Some c.in-Some.record = sym w.1 ∙ at in
+    let same : w.0 ≡ c.in-Some.record = cc in
+    (c.is_learned.ensures.learned c.in-Some.record at c.if-not-is_learned.false, rw (c.take.ensures.after, ← same) w.3)
+
+pub returns-in-Err-clause-made : goal.returns-in-Err-clause-made
+returns-in-Err-clause-made g c =
+    let e = c.args.env.now in
+    let before = state_at c.args.position.now c.args.in_progress.now in
+    record_stopped e before (state_at c.args.position.now c.step.new.in_progress) c.args.byte c.step.new.in_progress c.in-Err.stop
+    (step e (tests_of e) before c.args.byte) (ap (state_at c.args.position.now) c.in-Err.ensures.err) c.in-Err.ensures.made c.in-Err.ensures.free
+
+pub returns-then-not-is_learned-clause-made : goal.returns-then-not-is_learned-clause-made
+returns-then-not-is_learned-clause-made g c =
+    let e = c.args.env.now in
+    let before = state_at c.args.position.now c.args.in_progress.now in
+    let next = c.in-Ok-default-true.next in
+    let w = step_whole e c.step.new.in_progress next c.in-Ok-default-true.field-0-1 (step e (tests_of e) before c.args.byte) c.in-Ok-default-true.field-0-1-test
+    c.in-Ok-default-true.ensures.made c.in-Ok-default-true.ensures.kept in
+    let learned = c.is_learned.ensures.free w.0 w.1 in
+    let is_ok : IsOk (step e (tests_of e) before c.args.byte) = subst IsOk (sym w.3) (search rules) in (
+      c.is_learned.ensures.same c.if-not-is_learned.true,
+      is_ok,
+      λ at heads.
+          let yes = learned (describes_nothing e (tests_of e) before (state_at next None) c.args.byte w.0 at heads w.3) in
+          absurd (both_ways c.is_learned.result c.if-not-is_learned.true yes),
+    )

@@ -1,0 +1,158 @@
+//! The bytes of a piece that belong to a record.
+ghost use Rattle.std.specs.Prelude.{◌≡◌, ◌≤◌, length, OnErr, Ok, None, Some, true, false, IfNone, IfSome, IsSomeAnd};
+ghost use Rattle.fit_record.specs.declared.message.Record.{Record};
+ghost use Rattle.fit_record.specs.Environment.{DescribesNothing, learn};
+ghost use Rattle.fit_record.specs.Records.{Fits};
+ghost use Rattle.fit_step.specs.InProgress.{AwaitsByte, Reads};
+ghost use Rattle.fit_step.specs.Machine.{step};
+ghost use Rattle.fit_step.specs.Places.{state_at};
+ghost use Rattle.fit_step.specs.Tests.{tests_of};
+ghost use Rattle.fit_step.specs.inner.Scans.{RecordByte, StandsWithRoom};
+
+use crate::inside::take_inside;
+use crate::undone::undo;
+use crate::whole::whole_record;
+use crate::{Position, Stop, step};
+use fit_record::{Env, Record};
+use std::alloc::Allocator;
+
+/// Learns a whole record. Whether there was memory.
+fn is_learned<A: Allocator + Copy>(env: &mut Env<A>, whole: &Option<Record<A>>) -> bool
+    requires { IsSomeAnd whole.now (Fits env.old) }
+    ensures learned { (r : Record A) → whole.now ≡ Some r → result ≡ true
+        → env.new ≡ learn env.old r }
+    ensures same { result ≡ false → env.new ≡ env.old }
+    ensures free { (r : Record A) → whole.now ≡ Some r → DescribesNothing env.old r
+        → result ≡ true }
+{
+    match whole {
+        Some(record) => env.learn(record).is_ok(),
+        None => unreachable!(),
+    }
+}
+
+/// One byte of a record, and the record where it is whole with it. A whole record is learned.
+fn take_byte<A: Allocator + Copy>(
+    alloc: A,
+    env: &mut Env<A>,
+    position: &mut Position,
+    in_progress: &mut Option<Record<A>>,
+    byte: u8,
+) -> Result<Option<Record<A>>, Stop>
+    requires { StandsWithRoom env.old (state_at position.old in_progress.old) }
+    ensures made { RecordByte env.old env.new (state_at position.new in_progress.new) byte result
+        (step env.old (tests_of env.old) (state_at position.old in_progress.old) byte) }
+    ensures err { OnErr result (state_at position.new in_progress.new
+        ≡ state_at position.old in_progress.old) }
+{
+    if take_inside(position, in_progress, byte) {
+        return Ok(None);
+    }
+    take_step(alloc, env, position, in_progress, byte)
+}
+
+/// The same of a byte that may end a number, or stand outside of one.
+fn take_step<A: Allocator + Copy>(
+    alloc: A,
+    env: &mut Env<A>,
+    position: &mut Position,
+    in_progress: &mut Option<Record<A>>,
+    byte: u8,
+) -> Result<Option<Record<A>>, Stop>
+    requires { StandsWithRoom env.old (state_at position.old in_progress.old) }
+    ensures made { RecordByte env.old env.new (state_at position.new in_progress.new) byte result
+        (step env.old (tests_of env.old) (state_at position.old in_progress.old) byte) }
+    ensures err { OnErr result (state_at position.new in_progress.new
+        ≡ state_at position.old in_progress.old) }
+{
+    match step(alloc, env, position, in_progress, byte) {
+        Err(stop) => Err(stop),
+        Ok((next, false)) => {
+            *position = next;
+            Ok(None)
+        }
+        Ok((next, true)) => {
+            if !is_learned(env, in_progress) {
+                undo(alloc, position, in_progress);
+                return Err(Stop::NoMemory);
+            }
+            *position = next;
+            match in_progress.take() {
+                Some(record) => Ok(Some(record)),
+                None => unreachable!(),
+            }
+        }
+    }
+}
+
+/// The same, byte by byte.
+fn scan_bytes<A: Allocator + Copy>(
+    alloc: A,
+    env: &mut Env<A>,
+    position: &mut Position,
+    in_progress: &mut Option<Record<A>>,
+    piece: &[u8],
+) -> (usize, Result<Option<Record<A>>, Stop>)
+    requires { StandsWithRoom env.old (state_at position.old in_progress.old) }
+    ensures within { result.0 ≤ length piece.now }
+    ensures reads { Reads env.old position.old in_progress.old env.new position.new in_progress.new
+        piece.now result.0 result.1 }
+{
+    for (i, byte) in piece.iter().enumerate() {
+        match take_byte(alloc, env, position, in_progress, *byte) {
+            Ok(None) => {}
+            Ok(Some(record)) => return (i + 1, Ok(Some(record))),
+            Err(stop) => return (i, Err(stop)),
+        }
+    }
+    (piece.len(), Ok(None))
+}
+
+/// A record of which all bytes stand at the front of the piece, where one begins there. It is learned.
+fn take_whole<A: Allocator + Copy>(
+    alloc: A,
+    env: &mut Env<A>,
+    position: &mut Position,
+    in_progress: &Option<Record<A>>,
+    piece: &[u8],
+) -> Option<(Record<A>, usize)>
+    requires { StandsWithRoom env.old (state_at position.old in_progress.now) }
+    ensures within { IfSome result (λ found. found.1 ≤ length piece.now) }
+    ensures told { IfSome result (λ found. Reads env.old position.old in_progress.now env.new
+        position.new in_progress.now piece.now found.1 (Ok (Some found.0))) }
+    ensures none { IfNone result ((env.new ≡ env.old) × (position.new ≡ position.old)) }
+{
+    match in_progress {
+        Some(_) => return None,
+        None => {}
+    }
+    let (record, used) = whole_record(alloc, env, position.room, piece)?;
+    match env.learn(&record) {
+        Ok(()) => {}
+        Err(_) => return None,
+    }
+    *position = Position::new(position.room - used as u32);
+    Some((record, used))
+}
+
+/// Reads the bytes of a record, of which some may have come: how many of the piece were used, and the record where it is complete.
+/// A complete record is learned, and the next one begins behind it.
+///
+/// It refuses the first byte with which no records can fill the data section. Where memory is refused, the byte can come again.
+pub fn read_record<A: Allocator + Copy>(
+    alloc: A,
+    env: &mut Env<A>,
+    position: &mut Position,
+    in_progress: &mut Option<Record<A>>,
+    piece: &[u8],
+) -> (usize, Result<Option<Record<A>>, Stop>)
+    requires { AwaitsByte env.old position.old in_progress.old }
+    ensures within { result.0 ≤ length piece.now }
+    ensures reads { Reads env.old position.old in_progress.old env.new position.new in_progress.new
+        piece.now result.0 result.1 }
+{
+    match take_whole(alloc, env, position, in_progress, piece) {
+        Some((record, used)) => (used, Ok(Some(record))),
+        None => scan_bytes(alloc, env, position, in_progress, piece),
+    }
+}
