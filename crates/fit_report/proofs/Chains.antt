@@ -1,7 +1,7 @@
 -- What a report answers where the input is the bytes of a chain.
 use Rattle.std.proofs.Common.{◌≡◌, ℕ, suc, ◌<◌, List, [], ◌∷◌, ◌++◌, length, take, drop, get_or, reverse, Option, Some, None, Result, Ok, Err, refl, sym, ap}
 use Rattle.std.proofs.Common.{◌∙◌, subst, append_assoc}
-use Rattle.std.specs.Prelude.{flat_map}
+use Rattle.std.specs.Prelude.{OnOk, flat_map}
 use Rattle.std.specs.Io.KnownBytes.{Appends, Consumes, IsAtEnd}
 use Rattle.std.proofs.lemmas.List.{append-nil, take-append-drop, reverse-reverse}
 use Rattle.std.proofs.Math.Seq.{drop-cons}
@@ -47,14 +47,19 @@ module _ {A : Type 0} (line : Lines A) (fs : List (FitFile A)) (b : List ℕ) (a
       let all = eats ∙ at_place taken y place within in
       (drop (suc place) taken ++ y, fs, subst IsBytes all are, subst (IsChain chain_limit fs) all chain)
 
+  -- what was heard of all of the input is the events of the chain
+  chain_heard : (taken y : List ℕ) (heard : List (Event A)) (after : Option (List ℕ)) → IsAtEnd after → after ≡ Some y → b ≡ taken ++ y
+      → AreEvents taken (reverse heard) → heard ≡ reverse (flat_map file_events fs)
+  chain_heard taken y heard after end is eats events =
+      let all : b ≡ taken = whole taken y eats (subst IsAtEnd is end) in
+      sym (reverse-reverse heard)
+      ∙ ap reverse (one_list_of_events b (reverse heard) (flat_map file_events fs) (subst (λ t. AreEvents t (reverse heard)) (sym all) events)
+      (chain_events chain_limit fs b chain))
+
   told : (taken y : List ℕ) (heard : List (Event A)) (source sink : Channel) (result : Result (Unit {0}) ReportFault) → source.after ≡ Some y → b ≡ taken ++ y
       → HasTold line taken source sink heard result → ReportsChain line fs source sink result
   told taken y heard source sink (Ok x) after eats (end, well, files, tells) =
-      let all : b ≡ taken = whole taken y eats (subst IsAtEnd after end) in
-      let same : reverse heard ≡ flat_map file_events fs =
-      one_list_of_events b (reverse heard) (flat_map file_events fs) (subst (λ t. AreEvents t (reverse heard)) (sym all) tells.0)
-      (chain_events chain_limit fs b chain) in
-      subst (λ es. Appends sink.before sink.after (text_of line es)) (sym (reverse-reverse heard) ∙ ap reverse same) tells.1
+      subst (λ es. Appends sink.before sink.after (text_of line es)) (chain_heard taken y heard source.after end after eats tells.0) tells.1
   told taken y heard source sink (Err (Decode (Refused place reason))) after eats (fault, tells) = fault.2.refused (none_refused taken y place eats fault.0)
   told taken y heard source sink (Err (Decode (Truncated place))) after eats (fault, tells) =
       fault.3 (fs, subst (IsChain chain_limit fs) (whole taken y eats (subst IsAtEnd after fault.1)) chain)
@@ -67,8 +72,15 @@ module _ {A : Type 0} (line : Lines A) (fs : List (FitFile A)) (b : List ℕ) (a
   taken_of None taken eats = absurd eats
   taken_of (Some y) taken eats = (y, refl, eats)
 
-  pub reports_chain : (source sink : Channel) (result : Result (Unit {0}) ReportFault) → source.before ≡ Some b → Reports line source sink result
-      → ReportsChain line fs source sink result
-  reports_chain source sink result input (taken, heard, eats, says) =
+  pub reports_chain : {R : Type 0} (has_heard : R → List (Event A) → Type 0) (reporter : R) (source sink : Channel) (result : Result (Unit {0}) ReportFault)
+      → source.before ≡ Some b → Reports has_heard reporter line source sink result → ReportsChain line fs source sink result
+  reports_chain has_heard reporter source sink result input (taken, heard, eats, says, has) =
       let t = taken_of source.after taken (subst (λ h. Consumes h source.after taken) input eats) in
       told taken t.0 heard source sink result t.1 t.2 says
+
+  pub hears_chain : {R : Type 0} (has_heard : R → List (Event A) → Type 0) (reporter : R) (source sink : Channel) (result : Result (Unit {0}) ReportFault)
+      → source.before ≡ Some b → Reports has_heard reporter line source sink result → OnOk result (has_heard reporter (reverse (flat_map file_events fs)))
+  hears_chain has_heard reporter source sink (Err fault) input reports = tt
+  hears_chain has_heard reporter source sink (Ok x) input (taken, heard, eats, (end, well, files, tells), has) =
+      let t = taken_of source.after taken (subst (λ h. Consumes h source.after taken) input eats) in
+      subst (has_heard reporter) (chain_heard taken t.0 heard source.after end t.1 t.2 tells.0) has

@@ -5,6 +5,7 @@ use Rattle.fit_decode.specs.declared.event.Event.{Event as Answer}
 use Rattle.fit_decode.specs.declared.event.Event.TheVariants as answers
 use Rattle.fit_decode.specs.Answers.{event_of, Quiet, Least}
 use Rattle.fit_decode.specs.Events.{Event, header, item, file_end, AreEvents}
+use Rattle.fit_decode.proofs.Telling.{least_for, quiet_for}
 use Rattle.fit_report.specs.Heard.{hear}
 
 reverse-cons : {X : Type 0} (x : X) (xs : List X) → reverse (x ∷ xs) ≡ reverse xs ++ x ∷ []
@@ -17,10 +18,11 @@ pub record Told {A : Type 0} (bytes piece : List ℕ) (used : ℕ) (answer : Ans
 
 module _ {A : Type 0} (bytes piece : List ℕ) (used : ℕ) (heard : List (Event A)) (are : AreEvents bytes (reverse heard)) where
   one : (answer : Answer A) (x : Event A) → event_of answer ≡ Some x → Told bytes piece used answer → AreEvents (bytes ++ take used piece) (reverse (x ∷ heard))
-  one answer x is t = subst (AreEvents (bytes ++ take used piece)) (sym (reverse-cons x heard)) ((t.event x is).1 (reverse heard) are).0
+  one answer x is t = subst (AreEvents (bytes ++ take used piece)) (sym (reverse-cons x heard))
+      (least_for bytes piece used x (t.event x is).1 (reverse heard) are).0
 
   pub hears : (answer : Answer A) → Told bytes piece used answer → AreEvents (bytes ++ take used piece) (reverse (hear answer heard))
-  hears answers.More t = (t.more refl).1 (reverse heard) are used (omega arith)
+  hears answers.More t = quiet_for bytes piece used (t.more refl).1 (reverse heard) are used (omega arith)
   hears (answers.Header h n) t = one (answers.Header h n) (header h n) refl t
   hears (answers.Item r) t = one (answers.Item r) (item r) refl t
   hears answers.FileEnd t = one answers.FileEnd file_end refl t

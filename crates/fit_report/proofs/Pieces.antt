@@ -13,9 +13,10 @@ use Rattle.fit_decode.specs.Refusals.{IsRefused}
 use Rattle.fit_report.specs.declared.fault.ReportFault.{ReportFault}
 use Rattle.fit_report.specs.declared.fault.ReportFault.TheVariants.{Decode, NoMemory, Write}
 use Rattle.fit_report.specs.Heard.{Lines, hear}
-use Rattle.fit_report.specs.Reports.{Channel, Tells, report_fault}
+use Rattle.fit_report.specs.Reports.{Channel, HasHeard, Tells, report_fault}
 use Rattle.fit_report.specs.inner.Passing.{HasReported, Passed, PieceTold}
 use Rattle.fit_decode.proofs.PieceTold.{fed_on}
+use Rattle.fit_decode.proofs.Telling.{quiet_for}
 use Rattle.fit_report.proofs.Hearing.{Told, hears}
 use Rattle.fit_report.proofs.Texts.{stands_on, fails_on, tells}
 
@@ -61,7 +62,25 @@ module _ {A : Type 0} (line : Lines A) (old mid new : Seen) (piece : List ℕ) (
     fails_on line mid.bytes heard start sink.before written s answer sink.after sink.failed m n bad short put counted,
   )
 
--- a fault in a piece that isn't over
+-- ---- what the reporter heard before a fault
+
+-- It has heard no more where a piece stopped.
+pub hears_no_more : {A R : Type 0} (has_heard : R → List (Event A) → Type 0) (reporter : R) (heard : List (Event A)) (fault : Fault)
+    → has_heard reporter heard → HasHeard has_heard reporter heard (Err (report_fault fault))
+hears_no_more has_heard reporter heard (faults.Refused place reason) has = has
+hears_no_more has_heard reporter heard (faults.Truncated place) has = has
+hears_no_more has_heard reporter heard (faults.NoMemory used) has = tt
+hears_no_more has_heard reporter heard (faults.Read place) has = has
+
+-- An event that was not passed on is no fault of the input.
+pub heard_in_vain : {A R : Type 0} (has_heard : R → List (Event A) → Type 0) (reporter : R) (heard before : List (Event A)) (line : Lines A) (answer : Answer A)
+    (sink : Channel) (old new : ℕ) (fault : ReportFault) → Passed line before answer sink old new (Err fault)
+    → HasHeard has_heard reporter heard (Err fault)
+heard_in_vain has_heard reporter heard before line answer sink old new (Decode fault) none = absurd none
+heard_in_vain has_heard reporter heard before line answer sink old new NoMemory keeps = tt
+heard_in_vain has_heard reporter heard before line answer sink old new (Write count) fails = tt
+
+-- ---- a fault in a piece that isn't over
 pub record Stopped (A : Type 0) (mid : Seen) (piece : List ℕ) (new : Seen) (fault : Fault) : Type 0 where
   pub refused : (place : ℕ) (reason : Reason) → fault ≡ faults.Refused place reason → Refuses A mid piece new place reason
   pub others : (place : ℕ) → (fault ≡ faults.Truncated place → ⊥) × (fault ≡ faults.Read place → ⊥)
@@ -81,7 +100,11 @@ module _ {A : Type 0} (line : Lines A) (old mid new : Seen) (piece : List ℕ) (
         omega (arith, refuses.is_place, ap (λ (v : Seen). length v.bytes) is, length-append old.bytes (take at piece), length-take at piece, within),
         subst (λ bytes. IsRefused A chain_limit bytes (get_or piece (at + u) 0) reason) (joined old mid piece at u is)
             (subst (λ b. IsRefused A chain_limit (mid.bytes ++ take u (drop at piece)) b reason) (get_or-drop at piece u 0) refuses.why),
-        (subst (λ b. AreEvents b (reverse heard)) (joined old mid piece at u is) (refuses.quiet (reverse heard) s.are u (omega arith)), s.put),
+        (
+          subst (λ b. AreEvents b (reverse heard)) (joined old mid piece at u is)
+              (quiet_for mid.bytes (drop at piece) u refuses.quiet (reverse heard) s.are u (omega arith)),
+          s.put,
+        ),
       )
   stops (faults.NoMemory used) t = (at, heard, (subst (λ b. AreEvents b (reverse heard)) (ap (λ (v : Seen). v.bytes) is) s.are, s.put))
   stops (faults.Truncated place) t = absurd ((t.others place).0 refl)

@@ -7,14 +7,15 @@ use Rattle.fit_decode.specs.declared.event.Fault.{Fault}
 use Rattle.fit_decode.specs.declared.event.Fault.TheVariants.{Refused, NoMemory, Read}
 use Rattle.fit_decode.specs.Answers.{AreChain}
 use Rattle.fit_decode.specs.Events.{Event, AreEvents, file_events}
+pub use Rattle.fit_decode.specs.Reads.{Channel, channel}
 use Rattle.fit_decode.specs.Reads.{EndsReading, IsNearlyViable}
 use Rattle.fit_report.specs.declared.fault.ReportFault.{ReportFault}
 use Rattle.fit_report.specs.declared.fault.ReportFault.TheVariants as report
 use Rattle.fit_report.specs.Heard.{Lines, text_of}
 
 -- The fault that ended the reading of a chain of at most so many files, after these bytes were taken.
-abbrev pub Faults : Type 0 → ℕ → List ℕ → Option (List ℕ) → Bool → Fault → Type 0
-Faults A limit taken has failed fault = EndsReading A limit (AreChain A) taken has failed fault
+abbrev pub Faults : Type 0 → ℕ → List ℕ → Channel → Fault → Type 0
+Faults A limit taken source fault = EndsReading A limit (AreChain A) taken source fault
 
 -- the fault of a report
 abbrev pub report_fault : Fault → ReportFault
@@ -27,16 +28,6 @@ before_fault (Refused place reason) taken = take place taken
 before_fault fault taken = taken
 
 -- ---- the text that was put
-
--- a source or a sink over a call: the bytes that it has before and after it, where it tells them, and whether it has failed
-pub record Channel : Type 0 where
-  pub before : Option (List ℕ)
-  pub after : Option (List ℕ)
-  pub failed : Bool
-
--- a source or a sink over a call, by what tells its bytes, what tells whether it has failed, and its states before and after
-abbrev pub channel : {S : Type 0} → (S → Option (List ℕ)) → (S → Bool) → S → S → Channel
-channel contents has_failed old new = record { before = contents old; after = contents new; failed = has_failed new }
 
 -- The events of the bytes were heard, and their text was put.
 abbrev pub Tells : {A : Type 0} → Lines A → List ℕ → List (Event A) → Channel → Type 0
@@ -62,13 +53,21 @@ abbrev pub HasTold : {A : Type 0} → Lines A → List ℕ → Channel → Chann
 HasTold {A} line taken source sink heard (Ok _) = IsAtEnd source.after × (source.failed ≡ false) × AreChain A taken × Tells line taken heard sink
 HasTold line taken source sink heard (Err (report.Decode (NoMemory used))) = ⊥
 HasTold {A} line taken source sink heard (Err (report.Decode fault)) =
-    Faults A chain_limit taken source.after source.failed fault × Tells line (before_fault fault taken) heard sink
+    Faults A chain_limit taken source fault × Tells line (before_fault fault taken) heard sink
 HasTold {A} line taken source sink heard (Err report.NoMemory) = TellsSome line taken sink × IsNearlyViable A chain_limit taken
 HasTold {A} line taken source sink heard (Err (report.Write written)) = TextBreaksOff line taken sink written × IsNearlyViable A chain_limit taken
 
-abbrev pub Reports : {A : Type 0} → Lines A → Channel → Channel → Result (Unit {0}) ReportFault → Type 0
-Reports {A} line source sink result = (taken : List ℕ) × (heard : List (Event A)) × Consumes source.before source.after taken
-    × HasTold line taken source sink heard result
+-- The reporter has heard these events, unless memory was refused or the sink has failed.
+abbrev pub HasHeard : {A R : Type 0} → (R → List (Event A) → Type 0) → R → List (Event A) → Result (Unit {0}) ReportFault → Type 0
+HasHeard has_heard reporter heard (Ok _) = has_heard reporter heard
+HasHeard has_heard reporter heard (Err (report.Decode fault)) = has_heard reporter heard
+HasHeard has_heard reporter heard (Err report.NoMemory) = Unit {0}
+HasHeard has_heard reporter heard (Err (report.Write written)) = Unit {0}
+
+-- What a report did: the bytes that it took, and the events that it told a sink and this reporter.
+abbrev pub Reports : {A R : Type 0} → (R → List (Event A) → Type 0) → R → Lines A → Channel → Channel → Result (Unit {0}) ReportFault → Type 0
+Reports {A} has_heard reporter line source sink result = (taken : List ℕ) × (heard : List (Event A)) × Consumes source.before source.after taken
+    × HasTold line taken source sink heard result × HasHeard has_heard reporter heard result
 
 -- The answer where the input is the bytes of this chain: its text was put; or the source or the sink has failed, or memory was
 -- refused.

@@ -31,7 +31,7 @@ pub trait Report {
             → text.new.items ≡ text.old.items ++ line_of line heard event.now) };
 
     /// Skips bytes at the front of the piece whose events it doesn't need one by one, and which have no text. Returns how many
-    /// bytes were used, all of them fed to the decoder.
+    /// bytes were used, all of them fed to the decoder. After a refusal nothing is skipped.
     ///
     /// A reporter that needs each event leaves this method out, and skips nothing.
     fn skip(&mut self, decoder: &mut Decoder, piece: &[u8]) -> usize

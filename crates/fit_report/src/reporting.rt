@@ -1,12 +1,12 @@
 //! Passes the events of a source's bytes to a reporter, and its text to a sink.
-ghost use Rattle.std.specs.Prelude.{◌≡◌, ℕ, [], List, OnOk, Option, None, Some, reverse};
+ghost use Rattle.std.specs.Prelude.{◌≡◌, ℕ, [], List, OnOk, Option, None, Some, flat_map, reverse};
 ghost use Rattle.std.specs.Global.{Global};
 ghost use Rattle.fit_base.specs.Numbers.{IsBytes};
 ghost use Rattle.fit_record.specs.declared.file.FitFile.{FitFile};
 ghost use Rattle.fit_record.specs.Files.{chain_limit, IsChain, IsViable};
-ghost use Rattle.fit_decode.specs.Events.{Event as Told, AreEvents};
+ghost use Rattle.fit_decode.specs.Events.{Event as Told, AreEvents, file_events};
 ghost use Rattle.fit_report.specs.Heard.{AreHeard, hear};
-ghost use Rattle.fit_report.specs.Reports.{Reports, ReportsChain, channel};
+ghost use Rattle.fit_report.specs.Reports.{HasHeard, Reports, ReportsChain, channel};
 ghost use Rattle.fit_report.specs.inner.Passing.{Passed, PieceTold, HasReported};
 
 use crate::{Report, ReportFault};
@@ -62,7 +62,7 @@ fn tell_piece<K: Sink, R: Report>(
     ensures piece { (start : Option (List ℕ)) (before : List (Told Global))
         → R.has_heard reporter.old before → HasReported R.line decoder.old.bytes before start
         (K.contents sink.old) written.old
-        → (heard : List (Told Global)) × OnOk result (R.has_heard reporter.new heard)
+        → (heard : List (Told Global)) × HasHeard R.has_heard reporter.new heard result
         × PieceTold R.line decoder.old.bytes piece.now decoder.new heard
         (record { before = start; after = K.contents sink.new; failed = K.has_failed sink.new })
         written.new result }
@@ -88,7 +88,7 @@ fn tell_pieces<S: Source, K: Sink, R: Report>(
     reporter: &mut R,
 ) -> Result<(), ReportFault>
     requires { R.has_heard reporter.old [] }
-    ensures { Reports R.line
+    ensures { Reports R.has_heard reporter.new R.line
         (channel S.remaining S.has_failed source.old source.new)
         (channel K.contents K.has_failed sink.old sink.new) result }
 {
@@ -114,9 +114,9 @@ fn tell_pieces<S: Source, K: Sink, R: Report>(
 /// Passes the events of a source's bytes to a reporter, which has heard nothing yet, and its text to a sink. Takes pieces of at
 /// most 4,096 bytes, to the end of the input or the first fault.
 ///
-/// `Decode` where the input is no chain of files or the source failed, and then the text of all that is before the fault was put;
-/// `NoMemory` where an allocation failed, and `Write` where the sink failed. Then the text of some first bytes was put, with `Write`
-/// only `written` bytes of it.
+/// `Decode` where the input is no chain of files or the source failed, and then the text of all events before the fault was put,
+/// and the reporter has heard just those; `NoMemory` where an allocation failed, and `Write` where the sink failed. Then the text of
+/// some first bytes was put, with `Write` only `written` bytes of it.
 pub fn report<S: Source, K: Sink, R: Report>(
     alloc: Global,
     source: &mut S,
@@ -124,7 +124,7 @@ pub fn report<S: Source, K: Sink, R: Report>(
     reporter: &mut R,
 ) -> Result<(), ReportFault>
     requires { R.has_heard reporter.old [] }
-    ensures reports { Reports R.line
+    ensures reports { Reports R.has_heard reporter.new R.line
         (channel S.remaining S.has_failed source.old source.new)
         (channel K.contents K.has_failed sink.old sink.new) result }
     // Where the input is a chain's bytes, its text is put, unless memory is refused or the source or the sink fails.
@@ -133,6 +133,10 @@ pub fn report<S: Source, K: Sink, R: Report>(
         → ReportsChain R.line fs
         (channel S.remaining S.has_failed source.old source.new)
         (channel K.contents K.has_failed sink.old sink.new) result }
+    // The reporter has then heard the events of the chain.
+    ensures heard { (fs : List (FitFile Global)) (b : List ℕ) → S.remaining source.old ≡ Some b
+        → IsBytes b → IsChain chain_limit fs b
+        → OnOk result (R.has_heard reporter.new (reverse (flat_map file_events fs))) }
 {
     tell_pieces(alloc, source, sink, reporter)
 }

@@ -6,8 +6,9 @@ use Rattle.std.proofs.lemmas.Result.{err_from_is_err_and}
 use Rattle.fit_decode.specs.Answers.{Seen}
 use Rattle.fit_decode.proofs.PieceTold.{fed_on}
 use Rattle.fit_report.specs.Heard.{AreHeard, Skips, hear}
+use Rattle.fit_report.specs.Reports.{Channel}
 use Rattle.fit_report.proofs.Hearing.{Told}
-use Rattle.fit_report.proofs.Pieces.{Stopped, are_heard, passes, breaks, stops}
+use Rattle.fit_report.proofs.Pieces.{Stopped, are_heard, passes, breaks, stops, hears_no_more, heard_in_vain}
 use Rattle.fit_report.proofs.Skipped.{mid_within, mid_fed, mid_told, mid_stands}
 use Rattle.fit_report.proofs.reporting.tell_piece.Goals as goal
 
@@ -113,7 +114,7 @@ returns-in_err-fed-clause-piece g c = λ start before has s.
     }) in
     rw (p.1, p.2) (
       n.0,
-      tt,
+      hears_no_more g.R.Report.has_heard c.skip-at.new.self n.0 fault n.1,
       stops g.R.Report.line old mid c.feed.new.self piece at n.0 start (g.K.Sink.contents c.loop-at.sink) (g.K.Sink.has_failed c.loop-at.sink)
           c.loop-at.written within at_mid n.2 fault stopped,
     )
@@ -145,10 +146,15 @@ returns-in_err-pass_on-clause-piece g c = λ start before has s.
       are_heard new mid (drop at piece) more n.0 event c.in_ok-fed.ensures.viable after n.2.are told,
     ) in
     let p = err_from_is_err_and c.from_residual-in_err-pass_on.result c.from_residual-in_err-pass_on.ensures.1 in
+    let sink : Channel = record {
+      before = g.K.Sink.contents c.loop-at.sink;
+      after = g.K.Sink.contents c.pass_on.new.sink;
+      failed = g.K.Sink.has_failed c.pass_on.new.sink;
+    } in
+    let passed = c.in_err-pass_on.ensures.passed n.0 n.1 heard in
+    let fault = c.in_err-pass_on.field-0.0 in
     rw (p.1, p.2) (
       n.0,
-      tt,
-      breaks g.R.Report.line old mid new piece at more event n.0 n.0 start
-          (record { before = g.K.Sink.contents c.loop-at.sink; after = g.K.Sink.contents c.pass_on.new.sink; failed = g.K.Sink.has_failed c.pass_on.new.sink })
-          c.loop-at.written c.pass_on.new.written at_mid after told n.2 c.in_err-pass_on.field-0.0 (c.in_err-pass_on.ensures.passed n.0 n.1 heard),
+      heard_in_vain g.R.Report.has_heard c.pass_on.new.reporter n.0 n.0 g.R.Report.line event sink c.loop-at.written c.pass_on.new.written fault passed,
+      breaks g.R.Report.line old mid new piece at more event n.0 n.0 start sink c.loop-at.written c.pass_on.new.written at_mid after told n.2 fault passed,
     )

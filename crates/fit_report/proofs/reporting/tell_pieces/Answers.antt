@@ -11,6 +11,7 @@ use Rattle.fit_report.specs.Reports.{Channel}
 use Rattle.fit_decode.proofs.Consumed.{Consumes-nothing, Consumes-append}
 use Rattle.fit_decode.proofs.FileRead.{nothing_viable}
 use Rattle.fit_report.proofs.Outcomes.{stands_before, piece_fault, end_fault, ate_nothing}
+use Rattle.fit_report.proofs.Pieces.{hears_no_more}
 use Rattle.fit_report.proofs.reporting.tell_pieces.Goals as goal
 
 pub pieces-init : goal.pieces-init
@@ -48,6 +49,7 @@ returns-in_err-finish g c =
           (end_fault g.R.Report.line c.pieces.decoder i.stands.0 source sink c.pieces.written c.finish.result c.in_err-finish.field-0.0 i.fresh i.viable
           (c.in-Ok.ensures.bytes.1 c.if-got-eq0.true (omega arith)) c.in-Ok.ensures.good i.stands.2 c.finish.ensures.good c.finish.ensures.truncated
           c.in_err-finish.was),
+      rw (p.1, p.2) (hears_no_more g.R.Report.has_heard c.pieces.reporter i.stands.0 c.in_err-finish.field-0.0 i.stands.1),
     )
 
 pub returns-in_err-tell_piece : goal.returns-in_err-tell_piece
@@ -75,6 +77,7 @@ returns-in_err-tell_piece g c =
           (piece_fault g.R.Report.line c.pieces.decoder.bytes piece c.tell_piece.new.decoder told.0 source sink c.tell_piece.new.written (omega arith)
           c.in-Ok.ensures.good i.viable
           c.in_err-tell_piece.field-0.0 told.2),
+      rw (p.1, p.2) told.1,
     )
 
 pub pieces-preserved : goal.pieces-preserved

@@ -7,6 +7,7 @@ pub returns : goal.returns
 returns g c = record {
   within = omega arith;
   is_fed = none_fed c.args.decoder.now;
+  refused = λ reason is. (refl, refl, refl);
   viable = c.requires.viable;
   told = λ heard has are. (heard, has, are, refl);
 }
