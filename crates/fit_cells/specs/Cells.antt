@@ -35,7 +35,7 @@ hex_digits (suc k) n = hex_digit (n / 16 ^ k % 16) ∷ hex_digits k n
 abbrev pub bytes_text : List ℕ → List ℕ
 bytes_text bytes = codes "0x" ++ flat_map (λ b. hex_digits 2 b) bytes
 
--- raw / scale - offset, in units of the last of the scale's decimals
+-- raw / scale - offset, in units of the last of the scale's decimals. That it is exact is the law `scaled_is_exact`.
 abbrev pub scaled_value : ℤ → ℕ → ℕ → ℤ
 scaled_value raw scale offset = (raw -ℤ pos (offset * scale)) *ℤ pos (10 ^ decimals scale / scale)
 

@@ -2,7 +2,7 @@
 use Rattle.std.specs.Prelude.{◌≡◌, ◌≢◌, ◌++◌, ◌∷◌, [], ℕ, List, Bool, true, false, Vec, Some, unwrap_or, codes}
 use Rattle.std.specs.Borrow.{Bor}
 use Rattle.std.specs.Global.{Global}
-use Rattle.csv.specs.Reading.{AreRecords, Reached, Ready, default_config, reader_config, reader_state, reader_trim, source_of, strip_bom}
+use Rattle.csv.specs.Reading.{AreRecords, Reached, Ready, default_config, is_flexible, reader_config, reader_state, reader_trim, source_of, strip_bom}
 use Rattle.csv.specs.Writing.{default_writer, row_text, fields_written, has_written, text_written, writer_setup}
 use Rattle.csv.specs.declared.parser.State.TheVariants as st
 use Rattle.csv.specs.declared.reader.Reader.{Reader}
@@ -57,8 +57,9 @@ pub record HasAdded (rows : List Row) (old new : Writer (Vec ℕ Global)) : Type
   pub between : IsBetweenRows new
   pub text : written new ≡ written old ++ csv_text rows
 
--- a reader that has read these rows of a text
+-- a reader of rows of any length that has read these rows of a text
 pub record HasRead (text : List ℕ) (rows : List Row) (r : Reader (Bor (List ℕ))) : Type 0 where
+  pub flexible : is_flexible r ≡ true
   pub trim : reader_trim r ≡ trim.None
   pub ready : Ready r
   pub config : reader_config r ≡ default_config

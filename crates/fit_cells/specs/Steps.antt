@@ -1,4 +1,4 @@
--- How cells are put together and taken apart. No public contract names these definitions.
+-- How cells are put together and taken apart: what `read_bytes` reads; and what stands between items, which only private contracts name.
 use Rattle.std.specs.Prelude.{ℕ, zero, suc, ◌+◌, ◌-◌, ◌*◌, ◌%◌, ◌==◌, nat_lt, if◌then◌else◌, Bool, List, [], ◌∷◌, take, drop}
 
 -- what stands before the item at a place

@@ -1,7 +1,8 @@
 //! The cells of fields.
-ghost use Rattle.std.specs.Prelude.{◌≡◌, ◌<◌, ◌++◌, ◌⊎◌, ◌^◌, All, IfOk, IfSome, OnOk, option_map};
+ghost use Rattle.std.specs.Prelude.{◌≡◌, ◌<◌, ◌++◌, ◌⊎◌, ◌^◌, All, IfOk, IfSome, OnErr, OnOk, option_map};
 ghost use Rattle.std.specs.String.{string_bytes};
 ghost use Rattle.fit_base.specs.BaseTypes.{base_type};
+ghost use Rattle.fit_profile.specs.FixedText.{StillBegins};
 ghost use Rattle.fit_profile.specs.Names.{meaning};
 ghost use Rattle.fit_profile.specs.Scaled.{IsScale};
 ghost use Rattle.fit_cells.specs.Cells.{cell, class_of};
@@ -24,7 +25,8 @@ pub(crate) fn class_of(code: Code, width: u8) -> Class
     }
 }
 
-/// Puts the cell of a field after a text. Out of memory, a part of it may be there.
+/// Puts the cell of a field after a text. If memory runs out, the old text is still the beginning, and part of the cell may have
+/// been written.
 pub fn put_cell(
     text: &mut Vec<u8>,
     code: Code,
@@ -34,8 +36,9 @@ pub fn put_cell(
     requires scale { IfSome info (λ i. IsScale i.scale) }
     requires width { (items.now.width ≡ (base_type code.0).width) ⊎ (items.now.width ≡ 1) }
     requires bits { All (λ n. n < 256 ^ items.now.width) items.now.bits }
-    ensures { OnOk result (text.new.items ≡ text.old.items
+    ensures ok { OnOk result (text.new.items ≡ text.old.items
         ++ cell code.0 (option_map meaning info) items.now) }
+    ensures kept { OnErr result (StillBegins text.old.items text.new.items) }
 {
     let bits = items.bits.as_slice();
     if bits.is_empty() {

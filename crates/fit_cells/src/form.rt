@@ -1,7 +1,8 @@
 //! How the numbers of a field are shown, found out once for many of them.
-ghost use Rattle.std.specs.Prelude.{◌≡◌, ◌≤◌, ◌<◌, ◌⊎◌, ◌++◌, ◌^◌, ◌/◌, ◌*◌, pos, neg_ℤ, ◌*ℤ◌, ◌-ℤ◌, ◌≤ℤ◌, ◌∷◌, [], ℕ, ℤ, Option, IfSome, IsNone, OnOk, length, option_map, if◌then◌else◌};
+ghost use Rattle.std.specs.Prelude.{◌≡◌, ◌≤◌, ◌<◌, ◌⊎◌, ◌++◌, ◌^◌, ◌/◌, ◌*◌, pos, neg_ℤ, ◌*ℤ◌, ◌-ℤ◌, ◌≤ℤ◌, ◌∷◌, [], ℕ, ℤ, Option, IfSome, IsNone, OnErr, OnOk, length, option_map, if◌then◌else◌};
 ghost use Rattle.fit_base.specs.BaseTypes.{base_type};
 ghost use Rattle.fit_base.specs.Numbers.{twos_complement};
+ghost use Rattle.fit_profile.specs.FixedText.{StillBegins};
 ghost use Rattle.fit_profile.specs.FixedText.{fixed_text};
 ghost use Rattle.fit_profile.specs.Names.{meaning};
 ghost use Rattle.fit_profile.specs.Profile.{Meaning};
@@ -118,13 +119,14 @@ fn raw(form: NumberForm, bits: u64) -> i64
     }
 }
 
-/// Puts an item after a text.
+/// Puts an item after a text. Out of memory, the old text is still its beginning.
 pub fn put_formed(text: &mut Vec<u8>, form: NumberForm, bits: u64) -> Result<(), AllocError>
     requires small { IsSmallForm form }
     requires bits { bits < 256 ^ form.width }
-    ensures { (code : ℕ) (info : Option Meaning) → IsFormOf code info form
+    ensures ok { (code : ℕ) (info : Option Meaning) → IsFormOf code info form
         → OnOk result (text.new.items ≡ text.old.items
         ++ item_text (base_type code).class code info form.width bits) }
+    ensures kept { OnErr result (StillBegins text.old.items text.new.items) }
 {
     if bits == form.invalid {
         return Ok(());

@@ -1,5 +1,6 @@
 //! Hexadecimal digits.
-ghost use Rattle.std.specs.Prelude.{◌≡◌, ◌<◌, ◌≤◌, ◌++◌, ◌/◌, ◌%◌, ◌^◌, ◌⊎◌, ◌*◌, ℕ, codes, All, IfOk, OnOk, length, take, drop};
+ghost use Rattle.std.specs.Prelude.{◌≡◌, ◌<◌, ◌≤◌, ◌++◌, ◌/◌, ◌%◌, ◌^◌, ◌⊎◌, ◌*◌, ℕ, codes, All, IfOk, OnErr, OnOk, length, take, drop};
+ghost use Rattle.fit_profile.specs.FixedText.{StillBegins};
 ghost use Rattle.fit_cells.specs.Cells.{bytes_text, hex_digit, hex_digits};
 ghost use Rattle.fit_cells.specs.Steps.{hex_value, read_hex, read_pairs};
 
@@ -15,10 +16,11 @@ fn digit_at(number: u64, place: u8) -> u8
     if digit < 10 { 48 + digit } else { 55 + digit }
 }
 
-/// Puts the last digits of a number after a text.
+/// Puts the last digits of a number after a text. Out of memory, the old text is still its beginning.
 pub fn put_digits(text: &mut Vec<u8>, digits: u8, number: u64) -> Result<(), AllocError>
     requires { digits ≤ 16 }
-    ensures { OnOk result (text.new.items ≡ text.old.items ++ hex_digits digits number) }
+    ensures ok { OnOk result (text.new.items ≡ text.old.items ++ hex_digits digits number) }
+    ensures kept { OnErr result (StillBegins text.old.items text.new.items) }
 {
     for written in 0..digits {
         text.push(digit_at(number, digits - 1 - written))?;
@@ -27,8 +29,10 @@ pub fn put_digits(text: &mut Vec<u8>, digits: u8, number: u64) -> Result<(), All
 }
 
 /// Puts bytes behind a text, `0x` and two digits each.
+#[tactic(auto, using(fit_profile::proofs::KeptTexts::none_put, fit_profile::proofs::KeptTexts::more_put))]
 pub(crate) fn put_bytes(text: &mut Vec<u8>, bytes: &[u64]) -> Result<(), AllocError>
-    ensures { OnOk result (text.new.items ≡ text.old.items ++ bytes_text bytes.now) }
+    ensures ok { OnOk result (text.new.items ≡ text.old.items ++ bytes_text bytes.now) }
+    ensures kept { OnErr result (StillBegins text.old.items text.new.items) }
 {
     text.extend_from_slice(b"0x")?;
     for byte in bytes {

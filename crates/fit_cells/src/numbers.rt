@@ -1,6 +1,7 @@
 //! Numbers, as they are in a cell.
-ghost use Rattle.std.specs.Prelude.{◌≡◌, ◌<◌, ◌≤◌, ◌++◌, ◌⊎◌, ◌^◌, ◌==◌, ◌+◌, pos, neg_ℤ, ◌≤ℤ◌, ◌<ℤ◌, All, IfSome, OnOk, [], if◌then◌else◌, map, option_map};
+ghost use Rattle.std.specs.Prelude.{◌≡◌, ◌<◌, ◌≤◌, ◌++◌, ◌⊎◌, ◌^◌, ◌==◌, ◌+◌, pos, neg_ℤ, ◌≤ℤ◌, ◌<ℤ◌, All, IfSome, OnErr, OnOk, [], if◌then◌else◌, map, option_map};
 ghost use Rattle.fit_base.specs.BaseTypes.{base_type};
+ghost use Rattle.fit_profile.specs.FixedText.{StillBegins};
 ghost use Rattle.fit_profile.specs.Names.{meaning};
 ghost use Rattle.fit_profile.specs.Scaled.{decimals, IsScale};
 ghost use Rattle.fit_cells.specs.Cells.{barred, item_text, number_text, scaled_value};
@@ -28,8 +29,9 @@ fn put_text(text: &mut Vec<u8>, info: Option<Info>, raw: i128) -> Result<(), All
     requires least { neg_ℤ (pos (2 ^ 63)) ≤ℤ raw }
     requires most { raw <ℤ pos (2 ^ 64) }
     requires scale { IfSome info (λ i. IsScale i.scale) }
-    ensures { OnOk result (text.new.items ≡ text.old.items
+    ensures ok { OnOk result (text.new.items ≡ text.old.items
         ++ number_text (option_map meaning info) raw) }
+    ensures kept { OnErr result (StillBegins text.old.items text.new.items) }
 {
     match info {
         Some(info) => scaled(raw, info).put(text),
@@ -52,9 +54,10 @@ fn put_number(
     requires least { neg_ℤ (pos (2 ^ 63)) ≤ℤ raw }
     requires most { raw <ℤ pos (2 ^ 64) }
     requires scale { IfSome info (λ i. IsScale i.scale) }
-    ensures { OnOk result (text.new.items ≡ text.old.items
+    ensures ok { OnOk result (text.new.items ≡ text.old.items
         ++ (if bits == (base_type code.0).invalid then []
         else number_text (option_map meaning info) raw)) }
+    ensures kept { OnErr result (StillBegins text.old.items text.new.items) }
 {
     if bits == code.invalid() {
         return Ok(());
@@ -63,6 +66,7 @@ fn put_number(
 }
 
 /// Puts an item behind a text.
+#[tactic(auto, using(fit_profile::proofs::KeptTexts::none_put, fit_profile::proofs::KeptTexts::more_put))]
 fn put_item(
     text: &mut Vec<u8>,
     class: Class,
@@ -74,8 +78,9 @@ fn put_item(
     requires scale { IfSome info (λ i. IsScale i.scale) }
     requires width { (width ≡ 1) ⊎ (width ≡ 2) ⊎ (width ≡ 4) ⊎ (width ≡ 8) }
     requires bits { bits < 256 ^ width }
-    ensures { OnOk result (text.new.items ≡ text.old.items
+    ensures ok { OnOk result (text.new.items ≡ text.old.items
         ++ item_text class code.0 (option_map meaning info) width bits) }
+    ensures kept { OnErr result (StillBegins text.old.items text.new.items) }
 {
     match class {
         Class::Signed => put_number(text, code, info, bits, i128::from(signed(width, bits))),
@@ -89,7 +94,8 @@ fn put_item(
 
 /// Puts what stands before the item at a place.
 fn put_bar(text: &mut Vec<u8>, place: usize) -> Result<(), AllocError>
-    ensures { OnOk result (text.new.items ≡ text.old.items ++ bar place) }
+    ensures ok { OnOk result (text.new.items ≡ text.old.items ++ bar place) }
+    ensures err { OnErr result (text.new.items ≡ text.old.items) }
 {
     if place == 0 {
         return Ok(());
@@ -109,8 +115,9 @@ pub(crate) fn put_items(
     requires scale { IfSome info (λ i. IsScale i.scale) }
     requires width { (width ≡ 1) ⊎ (width ≡ 2) ⊎ (width ≡ 4) ⊎ (width ≡ 8) }
     requires bits { All (λ n. n < 256 ^ width) bits.now }
-    ensures { OnOk result (text.new.items ≡ text.old.items
+    ensures ok { OnOk result (text.new.items ≡ text.old.items
         ++ barred (map (item_text class code.0 (option_map meaning info) width) bits.now)) }
+    ensures kept { OnErr result (StillBegins text.old.items text.new.items) }
 {
     for (place, item) in bits.iter().enumerate() {
         put_bar(text, place)?;

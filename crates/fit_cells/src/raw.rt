@@ -3,7 +3,7 @@ ghost use Rattle.std.specs.Prelude.{◌≡◌, ◌<◌, ◌≤◌, ◌⊎◌, �
 ghost use Rattle.fit_base.specs.BaseTypes.{base_type};
 ghost use Rattle.fit_profile.specs.Names.{meaning};
 ghost use Rattle.fit_profile.specs.Scaled.{decimals, IsScale};
-ghost use Rattle.fit_cells.specs.Cells.{number_text, scaled_value};
+ghost use Rattle.fit_cells.specs.Cells.{number_text};
 
 use fit_base::Code;
 use fit_profile::{Fixed, Info, fixed};

@@ -1,5 +1,6 @@
 //! Rows of cells as text, through the crate `csv`.
-ghost use Rattle.std.specs.Prelude.{◌≡◌, ◌∷◌, [], ℕ, List, IfOk, OnOk, map};
+ghost use Rattle.std.specs.Prelude.{◌≡◌, ◌∷◌, [], ℕ, List, IfOk, OnErr, OnOk, map, true};
+ghost use Rattle.csv.specs.Reading.{has_failed};
 ghost use Rattle.csv.specs.Records.{fields_of};
 ghost use Rattle.fit_cells.specs.Rows.{Follows, HasAdded, HasRead, IsBetweenRows, Row, csv_text, written};
 
@@ -58,8 +59,11 @@ pub fn row_reader(alloc: Global, text: &[u8]) -> Reader<&[u8]>
 
 /// Reads the next row, and says whether there is one.
 pub fn next_row(reader: &mut Reader<&[u8]>, row: &mut ByteRecord) -> Result<bool, AllocError>
-    ensures { IfOk result (λ found. (text : List ℕ) (rows : List Row) → HasRead text rows reader.old
-        → Follows found (fields_of row.new) text rows reader.new) }
+    ensures read { IfOk result (λ found. (text : List ℕ) (rows : List Row)
+        → HasRead text rows reader.old → Follows found (fields_of row.new) text rows reader.new) }
+    // No row is refused: an error has stopped the reader for good.
+    ensures stopped { OnErr result ((text : List ℕ) (rows : List Row)
+        → HasRead text rows reader.old → has_failed reader.new ≡ true) }
 {
     let Ok(found) = reader.read_byte_record(row) else {
         return Err(AllocError);

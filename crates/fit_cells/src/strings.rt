@@ -1,7 +1,7 @@
 //! Strings, as they are in a cell.
-ghost use Rattle.std.specs.Prelude.{◌≡◌, List, ◌<◌, ◌≤◌, ◌++◌, ℕ, All, IfOk, OnOk, slice_index, take, length, not, ◌==◌};
+ghost use Rattle.std.specs.Prelude.{◌≡◌, List, ◌<◌, ◌++◌, ℕ, All, IfOk, OnErr, OnOk, slice_index, length, not, ◌==◌};
 ghost use Rattle.std.specs.List.{list_all};
-ghost use Rattle.fit_profile.specs.Described.{before_closing_zeros};
+ghost use Rattle.fit_profile.specs.FixedText.{StillBegins};
 ghost use Rattle.fit_cells.specs.Cells.{begins_as_bytes, is_plain, string_text};
 
 use crate::hexadecimal::{put_bytes, read_bytes};
@@ -38,9 +38,11 @@ fn is_plain(text: &[u8]) -> bool
 }
 
 /// Puts bytes behind a text, as they are.
+#[tactic(auto, using(fit_profile::proofs::KeptTexts::part_put))]
 fn put_text(text: &mut Vec<u8>, bytes: &[u64]) -> Result<(), AllocError>
     requires { All (λ b. b < 256) bytes.now }
-    ensures { OnOk result (text.new.items ≡ text.old.items ++ bytes.now) }
+    ensures ok { OnOk result (text.new.items ≡ text.old.items ++ bytes.now) }
+    ensures kept { OnErr result (StillBegins text.old.items text.new.items) }
 {
     for byte in bytes {
         text.push(*byte as u8)?;
@@ -49,9 +51,11 @@ fn put_text(text: &mut Vec<u8>, bytes: &[u64]) -> Result<(), AllocError>
 }
 
 /// Puts the text of a string behind a text, or its bytes where that can't stand as it is.
+#[tactic(auto, using(fit_profile::proofs::KeptTexts::none_put, fit_profile::proofs::KeptTexts::more_put))]
 pub(crate) fn put_string(text: &mut Vec<u8>, bytes: &[u64]) -> Result<(), AllocError>
     requires { All (λ b. b < 256) bytes.now }
-    ensures { OnOk result (text.new.items ≡ text.old.items ++ string_text bytes.now) }
+    ensures ok { OnOk result (text.new.items ≡ text.old.items ++ string_text bytes.now) }
+    ensures kept { OnErr result (StillBegins text.old.items text.new.items) }
 {
     let start = text.len();
     put_text(text, &bytes[..text_len(bytes)])?;

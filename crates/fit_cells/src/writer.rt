@@ -1,5 +1,5 @@
 //! Rows put after texts, through the crate `csv`.
-ghost use Rattle.std.specs.Prelude.{◌≡◌, ◌≤◌, ◌⊎◌, ◌++◌, ◌∷◌, [], IfOk, OnOk, drop, false, length, map};
+ghost use Rattle.std.specs.Prelude.{◌≡◌, ◌≤◌, ◌⊎◌, ◌++◌, ◌∷◌, [], IfOk, OnErr, OnOk, drop, false, length, map};
 ghost use Rattle.fit_cells.specs.Rows.{HasRows, IsBetweenRows, written};
 
 use crate::rows::{put_row, row_writer};
@@ -35,6 +35,7 @@ fn copy_behind(
     ensures same { OnOk result (written writer.new ≡ written writer.old) }
     ensures text { OnOk result (text.new.items
         ≡ text.old.items ++ drop start (written writer.old)) }
+    ensures err { OnErr result (text.new.items ≡ text.old.items) }
 {
     if writer.flush().is_err() {
         return Err(AllocError);
@@ -65,6 +66,7 @@ fn put_behind(
     requires { IsBetweenRows writer.old }
     ensures between { OnOk result (IsBetweenRows writer.new) }
     ensures rows { OnOk result (HasRows (map (λ f. f.now) cells.now ∷ []) text.old text.new) }
+    ensures err { OnErr result (text.new.items ≡ text.old.items) }
 {
     let start = flushed_len(writer)?;
     put_row(writer, cells)?;
@@ -97,9 +99,10 @@ impl RowWriter {
         }
     }
 
-    /// Puts a row after a text: each cell in quotes where it needs them.
+    /// Puts a row after a text: each cell in quotes where it needs them. Out of memory, the text stays as it is.
     pub fn put(&mut self, text: &mut Vec<u8>, cells: &[&[u8]]) -> Result<(), AllocError>
-        ensures { OnOk result (HasRows (map (λ f. f.now) cells.now ∷ []) text.old text.new) }
+        ensures ok { OnOk result (HasRows (map (λ f. f.now) cells.now ∷ []) text.old text.new) }
+        ensures err { OnErr result (text.new.items ≡ text.old.items) }
     {
         let put = put_behind(&mut self.writer, text, cells);
         renew(self.alloc, &mut self.writer, put.is_err());

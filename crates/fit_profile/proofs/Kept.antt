@@ -150,27 +150,33 @@ keeps-same e e' l n n' xs k env naming namings = record {
   namings_are = λ local. namings local ∙ k.namings_are local;
 }
 
-keeps-after : {A : Type 0} (e e' : Environment A) (l l' : Last) (n n' : Names A) (xs : List (Record A)) (r : Record A) (t : Option Told) → KeepsRecords e l n xs
-    → Fits (known xs) r
-    → e' ≡ learn e r → t ≡ tell e l r → l' ≡ last_after l t
+-- the last values after one more record
+pub last-now : {A : Type 0} (e : Environment A) (l l' : Last) (n : Names A) (xs now : List (Record A)) (r : Record A) (t : Option Told) → KeepsRecords e l n xs
+    → xs ≡ now → Fits (known now) r → t ≡ tell e l r → l' ≡ last_after l t → l' ≡ last_of (r ∷ now)
+last-now e l l' n xs now r t k view fits told last =
+    last ∙ ap₂ last_after k.last_is (told-kept xs now e l r t view k.env_is k.last_is fits told)
+    ∙ last-step xs r ∙ ap (λ ys. last_of (r ∷ ys)) view
+
+keeps-after : {A : Type 0} (e e' : Environment A) (l l' : Last) (n n' : Names A) (xs : List (Record A)) (r : Record A) → KeepsRecords e l n xs
+    → e' ≡ learn e r → l' ≡ last_of (r ∷ xs)
     → ((index number : ℕ) → naming_in n' index number ≡ naming_after e r index number (naming_in n index number))
     → ((local : ℕ) → namings_in n' local ≡ namings_after (naming_in n) r local (namings_in n local)) → KeepsRecords e' l' n' (r ∷ xs)
-keeps-after e e' l l' n n' xs r t k fits env told last naming namings =
+keeps-after e e' l l' n n' xs r k env last naming namings =
     let same_naming : naming_in n ≡ naming_of xs = λ i index number. k.naming_is index number i in
     record {
       env_is = env ∙ ap (λ x. learn x r) k.env_is;
-      last_is = last ∙ ap₂ last_after k.last_is (told ∙ ap₂ (λ x y. tell x y r) k.env_is k.last_is ∙ tell-fits xs r fits) ∙ last-step xs r;
+      last_is = last;
       naming_is = λ index number. naming index number ∙ ap₂ (λ x b. naming_after x r index number b) k.env_is (k.naming_is index number);
       namings_are = λ local. namings local ∙ ap₂ (λ f b. namings_after f r local b) same_naming (k.namings_are local);
     }
 
-pub keeps-next : {A : Type 0} (e e' : Environment A) (l l' : Last) (n n' : Names A) (items : List (Record A)) (r : Record A) (t : Option Told)
-    → KeepsRecords e l n (reverse items)
-    → Fits (known (reverse items)) r → e' ≡ learn e r → t ≡ tell e l r → l' ≡ last_after l t
+pub keeps-next : {A : Type 0} (e e' : Environment A) (l l' : Last) (n n' : Names A) (items now : List (Record A)) (r : Record A)
+    → KeepsRecords e l n (reverse items) → reverse items ≡ now → e' ≡ learn e r → l' ≡ last_of (r ∷ now)
     → ((index number : ℕ) → naming_in n' index number ≡ naming_after e r index number (naming_in n index number))
     → ((local : ℕ) → namings_in n' local ≡ namings_after (naming_in n) r local (namings_in n local)) → KeepsRecords e' l' n' (reverse (items ++ (r ∷ [])))
-keeps-next e e' l l' n n' items r t k fits env told last naming namings =
-    subst (KeepsRecords e' l' n') (sym (reverse-append items (r ∷ []))) (keeps-after e e' l l' n n' (reverse items) r t k fits env told last naming namings)
+keeps-next e e' l l' n n' items now r k view env last naming namings =
+    subst (KeepsRecords e' l' n') (sym (reverse-append items (r ∷ [])))
+    (keeps-after e e' l l' n n' (reverse items) r k env (last ∙ ap (λ ys. last_of (r ∷ ys)) (sym view)) naming namings)
 
 pub told-now : {A : Type 0} (e : Environment A) (l : Last) (n : Names A) (xs now : List (Record A)) (r : Record A) (t : Option Told) → KeepsRecords e l n xs
     → xs ≡ now

@@ -1,12 +1,15 @@
 mod DayFacts
 mod DegreeFacts
 mod DigitFacts
+mod PairFacts
 mod PutFacts
 pub mod FirstField
 mod Kept
+pub mod KeptTexts
 mod KnownFacts
 mod LeastFacts
 mod NameFacts
+mod NoCounters
 mod ScaleFacts
 mod ScanFacts
 mod ShownFacts

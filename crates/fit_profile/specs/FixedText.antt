@@ -1,5 +1,5 @@
 -- The text of a number with a fixed number of decimals.
-use Rattle.std.specs.Prelude.{◌++◌, ◌∷◌, [], ◌+◌, ◌-◌, ◌/◌, ◌%◌, ◌^◌, ◌==◌, zero, suc, ℕ, List, decimal, ℤ, pos, negsuc, neg_ℤ, ◌≤ℤ◌, unsigned_abs}
+use Rattle.std.specs.Prelude.{◌≡◌, ◌++◌, ◌∷◌, [], ◌+◌, ◌-◌, ◌/◌, ◌%◌, ◌^◌, ◌==◌, zero, suc, ℕ, List, decimal, ℤ, pos, negsuc, neg_ℤ, ◌≤ℤ◌, unsigned_abs}
 use Rattle.std.specs.Prelude.{if◌then◌else◌}
 
 -- the last k digits of n
@@ -23,3 +23,9 @@ fixed_text v d = sign v ++ decimal (unsigned_abs v / 10 ^ d) ++ fraction d (unsi
 -- the range of `i128`
 abbrev pub IsIn128 : ℤ → Type 0
 IsIn128 v = (neg_ℤ (pos (2 ^ 127)) ≤ℤ v) × (v ≤ℤ pos (2 ^ 127 - 1))
+
+-- ---- putting after a text
+
+-- The old text is still the beginning of the new one.
+abbrev pub StillBegins : List ℕ → List ℕ → Type 0
+StillBegins old new = (rest : List ℕ) × (new ≡ old ++ rest)

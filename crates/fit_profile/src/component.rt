@@ -1,11 +1,13 @@
 //! Accumulated values of record messages.
-ghost use Rattle.std.specs.Prelude.{◌≡◌, ◌≤◌, ◌<◌, ◌^◌, length, IfSome};
+ghost use Rattle.std.specs.Prelude.{◌≡◌, ◌≤◌, ◌<◌, ◌^◌, ◌==◌, ◌&&◌, length, IfSome};
+ghost use Rattle.std.specs.List.{list_any};
 ghost use Rattle.fit_base.specs.Numbers as numbers;
 ghost use Rattle.fit_profile.specs.Accumulated.{number_in, number_of};
+ghost use Rattle.fit_profile.specs.inner.Counters.{is_counter};
 
 use crate::look::first_of;
 use fit_base::Items;
-use fit_record::{MessageDef, Values};
+use fit_record::{FieldDef, MessageDef, Values};
 use std::alloc::Allocator;
 
 /// A field whose items hold a counter.
@@ -77,4 +79,21 @@ pub(crate) fn number<A: Allocator>(
         c.field,
     )?;
     number_at(c, items)
+}
+
+/// Whether one of the fields has the number of a component's field.
+fn have_counter(fields: &[FieldDef]) -> bool
+    ensures { result ≡ list_any (λ f. is_counter f.number) fields.now }
+{
+    fields
+        .iter()
+        .any(|f| f.number == 8 || f.number == 18 || f.number == 28)
+}
+
+/// Whether messages of this definition may have accumulated values. Most have none.
+pub(crate) fn may_count<A: Allocator>(definition: &MessageDef<A>) -> bool
+    ensures { result ≡ (definition.now.global == 20
+        && list_any (λ f. is_counter f.number) definition.now.fields) }
+{
+    definition.global == 20 && have_counter(definition.fields.as_slice())
 }

@@ -1,7 +1,7 @@
 //! Numbers with a fixed number of decimals, as text.
-ghost use Rattle.std.specs.Prelude.{◌≡◌, ◌≤◌, ◌++◌, ◌/◌, ◌%◌, ◌^◌, ℤ, Some, IfSome, OnOk, decimal};
+ghost use Rattle.std.specs.Prelude.{◌≡◌, ◌≤◌, ◌++◌, ◌/◌, ◌%◌, ◌^◌, ℤ, Some, IfSome, OnErr, OnOk, decimal};
 ghost use Rattle.arrayvec.specs.ArrayString.{array_string_len};
-ghost use Rattle.fit_profile.specs.FixedText.{fixed_text, fraction, sign, IsIn128};
+ghost use Rattle.fit_profile.specs.FixedText.{StillBegins, fixed_text, fraction, sign, IsIn128};
 
 use crate::digits::{is_below, power, push_fraction, size_of, with_sign};
 use crate::put::put_fixed;
@@ -70,11 +70,13 @@ impl Fixed {
         text
     }
 
-    /// Puts the text of the number after another text.
+    /// Puts the text of the number after another text. Out of memory, that text is still the beginning.
+    #[tactic(auto, using(crate::proofs::KeptTexts::none_put))]
     pub fn put(&self, text: &mut Vec<u8>) -> Result<(), AllocError>
         requires { self.now.decimals ≤ 8 }
-        ensures { OnOk result (text.new.items ≡ text.old.items
+        ensures ok { OnOk result (text.new.items ≡ text.old.items
             ++ fixed_text self.now.value self.now.decimals) }
+        ensures kept { OnErr result (StillBegins text.old.items text.new.items) }
     {
         match i64::try_from(self.value) {
             Ok(value) => put_fixed(text, value, self.decimals),

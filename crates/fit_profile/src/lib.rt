@@ -15,6 +15,7 @@ mod look;
 mod message;
 pub mod message_number;
 mod names;
+mod pairs;
 mod profile;
 mod put;
 mod scaled;

@@ -1,8 +1,9 @@
 //! Numbers with a fixed number of decimals, put after a text.
-ghost use Rattle.std.specs.Prelude.{◌≡◌, ◌≤◌, ◌<◌, ◌++◌, ◌+◌, ◌/◌, ◌%◌, ◌^◌, OnOk, decimal};
-ghost use Rattle.fit_profile.specs.FixedText.{fixed_text, fraction, last_digits};
+ghost use Rattle.std.specs.Prelude.{◌≡◌, ◌≤◌, ◌<◌, ◌++◌, ◌+◌, ◌/◌, ◌%◌, ◌^◌, OnErr, OnOk, decimal};
+ghost use Rattle.fit_profile.specs.FixedText.{fixed_text, fraction, last_digits, StillBegins};
 
 use crate::Fixed;
+use crate::pairs::{ones, tens};
 use itoa::Buffer;
 use std::alloc::AllocError;
 
@@ -18,70 +19,103 @@ fn digit(n: u64) -> u8
 #[tactic(auto, using(crate::proofs::PutFacts::one_digit, crate::proofs::PutFacts::two_digits, crate::proofs::PutFacts::three_digits, crate::proofs::PutFacts::four_digits))]
 fn put_few(text: &mut Vec<u8>, n: u64) -> Result<(), AllocError>
     requires { n < 10_000 }
-    ensures { OnOk result (text.new.items ≡ text.old.items ++ decimal n) }
+    ensures ok { OnOk result (text.new.items ≡ text.old.items ++ decimal n) }
+    ensures err { OnErr result (text.new.items ≡ text.old.items) }
 {
+    let high = n / 100;
+    let low = n % 100;
     if n < 10 {
         text.extend_from_slice(&[digit(n)])
     } else if n < 100 {
-        text.extend_from_slice(&[digit(n / 10), digit(n % 10)])
+        text.extend_from_slice(&[tens(n), ones(n)])
     } else if n < 1000 {
-        text.extend_from_slice(&[digit(n / 100), digit(n / 10 % 10), digit(n % 10)])
+        text.extend_from_slice(&[digit(high), tens(low), ones(low)])
     } else {
-        text.extend_from_slice(&[
-            digit(n / 1000),
-            digit(n / 100 % 10),
-            digit(n / 10 % 10),
-            digit(n % 10),
-        ])
+        text.extend_from_slice(&[tens(high), ones(high), tens(low), ones(low)])
     }
 }
 
 /// Puts the last four digits of a number behind a text.
 #[tactic(auto, using(crate::proofs::PutFacts::last_four))]
 fn put_four(text: &mut Vec<u8>, n: u64) -> Result<(), AllocError>
-    ensures { OnOk result (text.new.items ≡ text.old.items ++ last_digits 4 n) }
+    ensures ok { OnOk result (text.new.items ≡ text.old.items ++ last_digits 4 n) }
+    ensures err { OnErr result (text.new.items ≡ text.old.items) }
 {
+    let high = n / 100 % 100;
+    let low = n % 100;
+    text.extend_from_slice(&[tens(high), ones(high), tens(low), ones(low)])
+}
+
+/// Puts the last eight digits of a number behind a text.
+#[tactic(auto, using(crate::proofs::PutFacts::last_eight))]
+fn put_eight(text: &mut Vec<u8>, n: u64) -> Result<(), AllocError>
+    ensures ok { OnOk result (text.new.items ≡ text.old.items ++ last_digits 8 n) }
+    ensures err { OnErr result (text.new.items ≡ text.old.items) }
+{
+    let high = n / 10_000 % 10_000;
+    let low = n % 10_000;
+    let (a, b) = (high / 100, high % 100);
+    let (c, d) = (low / 100, low % 100);
     text.extend_from_slice(&[
-        digit(n / 1000 % 10),
-        digit(n / 100 % 10),
-        digit(n / 10 % 10),
-        digit(n % 10),
+        tens(a),
+        ones(a),
+        tens(b),
+        ones(b),
+        tens(c),
+        ones(c),
+        tens(d),
+        ones(d),
     ])
 }
 
-/// Puts a number of at most eight digits behind a text.
-#[tactic(auto, using(crate::proofs::PutFacts::put_parts))]
-fn put_some(text: &mut Vec<u8>, n: u64) -> Result<(), AllocError>
-    requires { n < 100_000_000 }
-    ensures { OnOk result (text.new.items ≡ text.old.items ++ decimal n) }
+/// Puts a number of more than twelve digits behind a text.
+#[inline(never)]
+fn put_long(text: &mut Vec<u8>, n: u64) -> Result<(), AllocError>
+    ensures ok { OnOk result (text.new.items ≡ text.old.items ++ decimal n) }
+    ensures err { OnErr result (text.new.items ≡ text.old.items) }
 {
-    if n < 10_000 {
-        return put_few(text, n);
-    }
-    put_few(text, n / 10_000)?;
-    put_four(text, n)
+    text.extend_from_slice(Buffer::new().format(n).as_bytes())
 }
 
-/// Puts a number after a text.
-#[tactic(auto, using(crate::proofs::PutFacts::put_parts))]
-pub fn put_whole(text: &mut Vec<u8>, n: u64) -> Result<(), AllocError>
-    ensures { OnOk result (text.new.items ≡ text.old.items ++ decimal n) }
+/// Puts a number of more than four digits behind a text.
+#[inline(never)]
+#[tactic(auto, using(crate::proofs::PutFacts::before_four, crate::proofs::PutFacts::before_eight, crate::proofs::KeptTexts::none_put, crate::proofs::KeptTexts::part_put))]
+fn put_many(text: &mut Vec<u8>, n: u64) -> Result<(), AllocError>
+    requires { 10_000 ≤ n }
+    ensures ok { OnOk result (text.new.items ≡ text.old.items ++ decimal n) }
+    ensures kept { OnErr result (StillBegins text.old.items text.new.items) }
 {
     if n < 100_000_000 {
-        return put_some(text, n);
+        put_few(text, n / 10_000)?;
+        return put_four(text, n);
     }
-    if n >= 1_000_000_000_000 {
-        return text.extend_from_slice(Buffer::new().format(n).as_bytes());
+    if n < 1_000_000_000_000 {
+        put_few(text, n / 100_000_000)?;
+        return put_eight(text, n);
     }
-    put_some(text, n / 10_000)?;
-    put_four(text, n)
+    put_long(text, n)
+}
+
+/// Puts a number after a text. Out of memory, the old text is still its beginning.
+#[inline(always)]
+#[tactic(auto, using(crate::proofs::KeptTexts::none_put))]
+pub fn put_whole(text: &mut Vec<u8>, n: u64) -> Result<(), AllocError>
+    ensures ok { OnOk result (text.new.items ≡ text.old.items ++ decimal n) }
+    ensures kept { OnErr result (StillBegins text.old.items text.new.items) }
+{
+    if n < 10_000 {
+        put_few(text, n)
+    } else {
+        put_many(text, n)
+    }
 }
 
 /// Puts the point and one decimal behind a text.
 #[tactic(auto, using(crate::proofs::PutFacts::one_decimal))]
 fn put_tenths(text: &mut Vec<u8>, part: u64) -> Result<(), AllocError>
     requires { part < 10 }
-    ensures { OnOk result (text.new.items ≡ text.old.items ++ fraction 1 part) }
+    ensures ok { OnOk result (text.new.items ≡ text.old.items ++ fraction 1 part) }
+    ensures err { OnErr result (text.new.items ≡ text.old.items) }
 {
     text.extend_from_slice(&[b'.', digit(part)])
 }
@@ -90,30 +124,30 @@ fn put_tenths(text: &mut Vec<u8>, part: u64) -> Result<(), AllocError>
 #[tactic(auto, using(crate::proofs::PutFacts::two_decimals))]
 fn put_hundredths(text: &mut Vec<u8>, part: u64) -> Result<(), AllocError>
     requires { part < 100 }
-    ensures { OnOk result (text.new.items ≡ text.old.items ++ fraction 2 part) }
+    ensures ok { OnOk result (text.new.items ≡ text.old.items ++ fraction 2 part) }
+    ensures err { OnErr result (text.new.items ≡ text.old.items) }
 {
-    text.extend_from_slice(&[b'.', digit(part / 10), digit(part % 10)])
+    text.extend_from_slice(&[b'.', tens(part), ones(part)])
 }
 
 /// Puts the point and three decimals behind a text.
 #[tactic(auto, using(crate::proofs::PutFacts::three_decimals))]
 fn put_thousandths(text: &mut Vec<u8>, part: u64) -> Result<(), AllocError>
     requires { part < 1000 }
-    ensures { OnOk result (text.new.items ≡ text.old.items ++ fraction 3 part) }
+    ensures ok { OnOk result (text.new.items ≡ text.old.items ++ fraction 3 part) }
+    ensures err { OnErr result (text.new.items ≡ text.old.items) }
 {
-    text.extend_from_slice(&[
-        b'.',
-        digit(part / 100),
-        digit(part / 10 % 10),
-        digit(part % 10),
-    ])
+    let low = part % 100;
+    text.extend_from_slice(&[b'.', digit(part / 100), tens(low), ones(low)])
 }
 
 /// Puts a size with at most three decimals behind a text.
+#[tactic(auto, using(crate::proofs::KeptTexts::more_put))]
 fn put_size(text: &mut Vec<u8>, size: u64, decimals: u8) -> Result<(), AllocError>
     requires { decimals ≤ 3 }
-    ensures { OnOk result (text.new.items ≡ text.old.items ++ decimal (size / 10 ^ decimals)
+    ensures ok { OnOk result (text.new.items ≡ text.old.items ++ decimal (size / 10 ^ decimals)
         ++ fraction decimals (size % 10 ^ decimals)) }
+    ensures kept { OnErr result (StillBegins text.old.items text.new.items) }
 {
     match decimals {
         0 => put_whole(text, size),
@@ -132,20 +166,48 @@ fn put_size(text: &mut Vec<u8>, size: u64, decimals: u8) -> Result<(), AllocErro
     }
 }
 
-/// Puts the number `value / 10^decimals` after a text, as `Fixed::print` shows it.
-pub fn put_fixed(text: &mut Vec<u8>, value: i64, decimals: u8) -> Result<(), AllocError>
+/// Puts a number with any decimals behind a text.
+#[inline(never)]
+fn put_printed(text: &mut Vec<u8>, value: i64, decimals: u8) -> Result<(), AllocError>
     requires { decimals ≤ 8 }
-    ensures { OnOk result (text.new.items ≡ text.old.items ++ fixed_text value decimals) }
+    ensures ok { OnOk result (text.new.items ≡ text.old.items ++ fixed_text value decimals) }
+    ensures err { OnErr result (text.new.items ≡ text.old.items) }
+{
+    let fixed = Fixed {
+        value: value as i128,
+        decimals,
+    };
+    text.extend_from_slice(fixed.print().as_str().as_bytes())
+}
+
+/// Puts a number with decimals or a sign behind a text.
+#[inline(never)]
+#[tactic(auto, using(crate::proofs::KeptTexts::none_put, crate::proofs::KeptTexts::more_put))]
+fn put_scaled(text: &mut Vec<u8>, value: i64, decimals: u8) -> Result<(), AllocError>
+    requires { decimals ≤ 8 }
+    ensures ok { OnOk result (text.new.items ≡ text.old.items ++ fixed_text value decimals) }
+    ensures kept { OnErr result (StillBegins text.old.items text.new.items) }
 {
     if decimals > 3 {
-        let fixed = Fixed {
-            value: value as i128,
-            decimals,
-        };
-        return text.extend_from_slice(fixed.print().as_str().as_bytes());
+        return put_printed(text, value, decimals);
     }
     if value < 0 {
         text.push(b'-')?;
     }
     put_size(text, value.unsigned_abs(), decimals)
+}
+
+/// Puts the number `value / 10^decimals` after a text, as `Fixed::print` shows it. Out of memory, the old text is still its
+/// beginning.
+#[inline(always)]
+pub fn put_fixed(text: &mut Vec<u8>, value: i64, decimals: u8) -> Result<(), AllocError>
+    requires { decimals ≤ 8 }
+    ensures ok { OnOk result (text.new.items ≡ text.old.items ++ fixed_text value decimals) }
+    ensures kept { OnErr result (StillBegins text.old.items text.new.items) }
+{
+    if decimals == 0 && value >= 0 {
+        put_whole(text, value as u64)
+    } else {
+        put_scaled(text, value, decimals)
+    }
 }

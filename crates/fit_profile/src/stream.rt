@@ -17,7 +17,7 @@ use crate::learn::take_in;
 use crate::message::{Message, message_of};
 use crate::names::{Names, Texts};
 use crate::time::header_time;
-use crate::told::{Last, Told, last_after, tell};
+use crate::told::{Last, Told, last_after, last_behind, tell};
 use fit_history::History;
 use fit_record::{Env, Record, Values};
 use std::alloc::{AllocError, Global};
@@ -122,6 +122,19 @@ impl Stream {
         self.texts_at(local, place)?.unit()
     }
 
+    /// Takes a record in, after which the times and accumulated values are these.
+    fn advance(&mut self, record_: &Record, last: Last) -> Result<(), AllocError>
+        requires fits { Fits (known self.old) record_.now }
+        requires last { last ≡ telling.last_of (record_.now ∷ self.old) }
+        ensures ok { OnOk result (self.new ≡ record_.now ∷ self.old) }
+        ensures err { OnErr result (self.new ≡ self.old) }
+    {
+        take_in(&mut self.env, &mut self.names, record_)?;
+        self.last = last;
+        self.pushed.add(record_);
+        Ok(())
+    }
+
     /// Takes a record in, and tells its times and accumulated values.
     fn note(&mut self, record_: &Record) -> Result<Option<Told>, AllocError>
         requires { Fits (known self.old) record_.now }
@@ -130,22 +143,32 @@ impl Stream {
         ensures told { IfOk result (λ t. t ≡ told_of self.old record_.now) }
     {
         let told = tell(&self.env, self.last, record_);
-        take_in(&mut self.env, &mut self.names, record_)?;
-        self.last = last_after(self.last, told);
-        self.pushed.add(record_);
+        let last = last_after(self.last, told);
+        self.advance(record_, last)?;
         Ok(told)
     }
 
     /// Takes the next record. A definition gives None, a data message what it means, given the records
-    /// before it. Out of memory, the stream stays as it was.
+    /// before it. If memory runs out, the stream stays as it was.
     pub fn push<'a>(&'a mut self, record_: &'a Record) -> Result<Option<Message<'a>>, AllocError>
         requires { Fits (known self.old) record_.now }
         ensures message { IfOk result (λ m. MessageOf self.old record_.now m) }
+        // With Ok the record is the latest of the stream, else the stream is as it was.
         ensures* after { sem 𝓛 (follows_so the_row the_row self.entry.ghost_name none (λ _ _. ⊤)
             (λ n. MatchResult result (λ _. n ≡ record_.now ∷ self.old) (λ _. n ≡ self.old))) }
     {
         let told = self.note(record_)?;
         Ok(self.message(told, record_))
+    }
+
+    /// Takes the next record in, as `push` does, and makes no message of it.
+    pub fn take(&mut self, record_: &Record) -> Result<(), AllocError>
+        requires { Fits (known self.old) record_.now }
+        ensures ok { OnOk result (self.new ≡ record_.now ∷ self.old) }
+        ensures err { OnErr result (self.new ≡ self.old) }
+    {
+        let last = last_behind(&self.env, self.last, record_);
+        self.advance(record_, last)
     }
 
     /// The data message that was just taken in.

@@ -1,12 +1,12 @@
 //! Times and accumulated values of a message.
-ghost use Rattle.std.specs.Prelude.{◌≡◌, ◌≤◌, ◌<◌, ◌^◌, ◌%◌, ◌/◌, option_map, option_and_then, unwrap_or};
+ghost use Rattle.std.specs.Prelude.{◌≡◌, ◌≤◌, ◌<◌, ◌^◌, ◌%◌, ◌/◌, Some, option_map, option_and_then, unwrap_or};
 ghost use Rattle.fit_record.specs.Environment.{defined_at};
 ghost use Rattle.fit_record.specs.Faults.{or_else};
 ghost use Rattle.fit_profile.specs.Times as times;
 ghost use Rattle.fit_profile.specs.Accumulated as sums;
 ghost use Rattle.fit_profile.specs.Told as telling;
 
-use crate::component::{Component, number};
+use crate::component::{Component, may_count, number};
 use crate::least::least_from;
 use crate::time::{field_time, header_time};
 use fit_record::{Env, MessageDef, Record, Values};
@@ -60,31 +60,21 @@ const ACCUMULATED_POWER: Component = Component {
     modulus: 65536,
 };
 
-/// The accumulated value of a component in a message.
-fn accumulated<A: Allocator>(
-    c: Component,
-    previous: u64,
-    definition: &MessageDef<A>,
-    values: &Values<A>,
-) -> Option<u64>
-    requires items { c.items ≤ 3 }
-    requires skipped { c.skipped ≤ 2 ^ 24 }
+/// The accumulated value of a component by its number in a message.
+fn accumulated(c: Component, previous: u64, number: Option<u64>) -> Option<u64>
     requires divisor { 0 < c.divisor }
     requires above { 0 < c.modulus }
     requires below { c.modulus ≤ 2 ^ 16 }
-    ensures { result ≡ telling.accumulated_at c previous definition.now values.now }
+    ensures { result ≡ option_and_then (sums.next_from previous c) number }
 {
-    let number = number(c, definition, values)?;
-    least_from(previous, number / c.divisor, c.modulus)
+    least_from(previous, number? / c.divisor, c.modulus)
 }
 
-/// The speed of a message.
-fn speed<A: Allocator>(definition: &MessageDef<A>, values: &Values<A>) -> Option<u64>
-    ensures { result ≡ option_map (λ x. x % 2 ^ 12)
-        (sums.number_of sums.distance definition.now values.now) }
+/// The speed in the number that speed and distance make up.
+fn speed(number: Option<u64>) -> Option<u64>
+    ensures { result ≡ option_map (λ x. x % 2 ^ 12) number }
 {
-    let number = number(DISTANCE, definition, values)?;
-    Some(number % 4096)
+    Some(number? % 4096)
 }
 
 /// The time of a message.
@@ -102,22 +92,37 @@ fn time<A: Allocator>(
     }
 }
 
+/// What is told of a message with counters by the last ones before it.
+fn counted_at<A: Allocator>(last: Last, definition: &MessageDef<A>, values: &Values<A>) -> Told
+    ensures { result ≡ telling.told_at last definition.now values.now }
+{
+    let distance = number(DISTANCE, definition, values);
+    let cycles = number(TOTAL_CYCLES, definition, values);
+    let power = number(ACCUMULATED_POWER, definition, values);
+    Told {
+        time: time(last.time, definition, values),
+        header_time: header_time(last.time, values.offset),
+        speed: speed(distance),
+        distance: accumulated(DISTANCE, last.distance, distance),
+        total_cycles: accumulated(TOTAL_CYCLES, last.total_cycles, cycles),
+        accumulated_power: accumulated(ACCUMULATED_POWER, last.accumulated_power, power),
+    }
+}
+
 /// What is told of a message by the last ones before it.
 fn told_at<A: Allocator>(last: Last, definition: &MessageDef<A>, values: &Values<A>) -> Told
     ensures { result ≡ telling.told_at last definition.now values.now }
 {
+    if may_count(definition) {
+        return counted_at(last, definition, values);
+    }
     Told {
         time: time(last.time, definition, values),
         header_time: header_time(last.time, values.offset),
-        speed: speed(definition, values),
-        distance: accumulated(DISTANCE, last.distance, definition, values),
-        total_cycles: accumulated(TOTAL_CYCLES, last.total_cycles, definition, values),
-        accumulated_power: accumulated(
-            ACCUMULATED_POWER,
-            last.accumulated_power,
-            definition,
-            values,
-        ),
+        speed: None,
+        distance: None,
+        total_cycles: None,
+        accumulated_power: None,
     }
 }
 
@@ -154,5 +159,42 @@ pub(crate) fn last_after(last: Last, told: Option<Told>) -> Last
         distance: told.distance.unwrap_or(last.distance),
         total_cycles: told.total_cycles.unwrap_or(last.total_cycles),
         accumulated_power: told.accumulated_power.unwrap_or(last.accumulated_power),
+    }
+}
+
+/// The last ones after a message.
+fn last_at<A: Allocator>(last: Last, definition: &MessageDef<A>, values: &Values<A>) -> Last
+    ensures { result ≡ telling.last_after last
+        (Some (telling.told_at last definition.now values.now)) }
+{
+    if may_count(definition) {
+        return last_after(last, Some(counted_at(last, definition, values)));
+    }
+    Last {
+        time: time(last.time, definition, values).or(last.time),
+        distance: last.distance,
+        total_cycles: last.total_cycles,
+        accumulated_power: last.accumulated_power,
+    }
+}
+
+/// The last ones after a data message.
+fn last_behind_values<A: Allocator>(env: &Env<A>, last: Last, values: &Values<A>) -> Last
+    ensures { result ≡ telling.last_after last (option_map
+        (λ p. telling.told_at last p.definition values.now) (defined_at env.now values.now.local)) }
+{
+    match env.definition(values.local) {
+        Some(definition) => last_at(last, definition, values),
+        None => last,
+    }
+}
+
+/// The last ones after a record, where nothing more of it is told.
+pub(crate) fn last_behind<A: Allocator>(env: &Env<A>, last: Last, record_: &Record<A>) -> Last
+    ensures { result ≡ telling.last_after last (telling.tell env.now last record_.now) }
+{
+    match record_ {
+        Record::Define(_) => last,
+        Record::Values(values) => last_behind_values(env, last, values),
     }
 }

@@ -11,7 +11,7 @@ returns-then-eq-clause-some c =
     let equal : Decides true (c.as_slice.result.now ≡ c.as_bytes.result.now) =
     subst (λ t. Decides t (c.as_slice.result.now ≡ c.as_bytes.result.now)) (sym c.if-eq.ensures)
     (bytes_eq-Decides c.as_slice.result.now c.as_bytes.result.now) in
-    let written = rw c.clear.ensures.items at c.in_ok-put_cell.ensures in (
+    let written = rw c.clear.ensures.items at c.in_ok-put_cell.ensures.ok in (
       record {
         width = c.width_of-width.ensures;
         whole = shape_whole c.args.code.0 c.args.size c.width_of-width.result c.in_ok-bits.bits c.width_of-width.ensures c.in_ok-bits.ensures.count;
@@ -29,7 +29,7 @@ pub returns-else-eq-clause-every : goal.returns-else-eq-clause-every
 returns-else-eq-clause-every c items shape e =
     let same = same-items c.args.code.0 c.args.size c.width_of-width.result (option_map meaning c.args.info) c.args.text.now c.in_ok-bits.bits items
     c.width_of-width.ensures shape e c.in_ok-bits.ensures.count c.in_ok-bits.ensures.every in
-    let written = rw c.clear.ensures.items at c.in_ok-put_cell.ensures in
+    let written = rw c.clear.ensures.items at c.in_ok-put_cell.ensures.ok in
     let differs : Decides false (c.as_slice.result.now ≡ c.as_bytes.result.now) =
     subst (λ t. Decides t (c.as_slice.result.now ≡ c.as_bytes.result.now)) (sym c.if-eq.ensures)
     (bytes_eq-Decides c.as_slice.result.now c.as_bytes.result.now) in

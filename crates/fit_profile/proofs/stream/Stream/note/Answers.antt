@@ -1,32 +1,13 @@
-use Rattle.std.proofs.Common.{◌∙◌, ◌∷◌, [], sym, ap, subst, reverse}
-use Rattle.std.proofs.lemmas.List.{reverse-append}
-use Rattle.fit_record.specs.Records.{Fits}
-use Rattle.fit_profile.specs.Looks.{known}
-use Rattle.fit_profile.specs.inner.Keeps.{KeepsRecords}
-use Rattle.fit_profile.proofs.Kept.{keeps-same, keeps-next, told-now}
+use Rattle.std.proofs.Common.{reverse}
+use Rattle.fit_profile.proofs.Kept.{last-now, told-now}
 use Rattle.fit_profile.proofs.stream.Stream.note.Goals as goal
 
-pub invariant_of-self : goal.invariant_of-self
-invariant_of-self c =
-    keeps-same c.self.inside.env c.take_in.new.env c.self.inside.last c.self.inside.names c.take_in.new.names (reverse c.self.inside.pushed.items)
-    c.self.invariant
-    c.in_err-take_in.ensures.env_kept c.in_err-take_in.ensures.naming_kept c.in_err-take_in.ensures.namings_kept
-
-pub invariant_of-self-2 : goal.invariant_of-self-2
-invariant_of-self-2 c =
-    let items = c.self.inside.pushed.items in
-    let r = c.args.record_.now in
-    let fits : Fits (known (reverse items)) r = subst (λ xs. Fits (known xs) r) (sym c.self.view_is) c.requires in
-    subst (λ ys. KeepsRecords c.take_in.new.env c.last_after-self-inside.result c.take_in.new.names (reverse ys)) (sym c.add.ensures)
-    (keeps-next c.self.inside.env c.take_in.new.env c.self.inside.last c.last_after-self-inside.result c.self.inside.names c.take_in.new.names items r
+pub advance-requires-clause-last : goal.advance-requires-clause-last
+advance-requires-clause-last c =
+    last-now c.self.inside.env c.self.inside.last c.last_after-last.result c.self.inside.names (reverse c.self.inside.pushed.items) c.args.self.now
+    c.args.record_.now
     c.tell-told.result
-    c.self.invariant fits c.in_ok-take_in.ensures.learned c.tell-told.ensures c.last_after-self-inside.ensures c.in_ok-take_in.ensures.naming
-    c.in_ok-take_in.ensures.namings)
-
-pub returns-clause-ok : goal.returns-clause-ok
-returns-clause-ok c =
-    let r = c.args.record_.now in
-    ap reverse c.add.ensures ∙ reverse-append c.self.inside.pushed.items (r ∷ []) ∙ ap (λ xs. r ∷ xs) c.self.view_is
+    c.self.invariant c.self.view_is c.requires c.tell-told.ensures c.last_after-last.ensures
 
 pub returns-clause-told : goal.returns-clause-told
 returns-clause-told c =

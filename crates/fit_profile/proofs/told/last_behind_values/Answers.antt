@@ -1,0 +1,20 @@
+use Rattle.std.proofs.Common.{◌∙◌, ap}
+use Rattle.fit_record.specs.declared.environment.Defined.{Defined}
+use Rattle.fit_record.specs.declared.definition.MessageDef.{MessageDef}
+use Rattle.fit_record.specs.Environment.{defined_at}
+use Rattle.fit_profile.specs.Told as telling
+use Rattle.fit_profile.proofs.Kept.{map-some, map-none}
+use Rattle.fit_profile.proofs.told.last_behind_values.Goals as goal
+
+pub returns-in-Some : goal.returns-in-Some
+returns-in-Some g c =
+    c.last_at.ensures
+    ∙ ap (telling.last_after c.args.last) (map-some (λ (p : Defined g.row.A.Denot). p.definition)
+    (λ (d : MessageDef g.row.A.Denot). telling.told_at c.args.last d c.args.values.now)
+    (defined_at c.args.env.now c.args.values.now.local) c.in-Some.definition.now c.in-Some.ensures)
+
+pub returns-in-None : goal.returns-in-None
+returns-in-None g c =
+    ap (telling.last_after c.args.last) (map-none (λ (p : Defined g.row.A.Denot). p.definition)
+    (λ (p : Defined g.row.A.Denot). telling.told_at c.args.last p.definition c.args.values.now)
+    (defined_at c.args.env.now c.args.values.now.local) c.in-None.ensures)

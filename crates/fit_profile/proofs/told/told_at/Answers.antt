@@ -1,0 +1,14 @@
+use Rattle.std.proofs.Common.{◌∙◌, sym, refl}
+use Rattle.fit_profile.specs.Accumulated as sums
+use Rattle.fit_profile.proofs.NoCounters.{no-number}
+use Rattle.fit_profile.proofs.told.told_at.Goals as goal
+
+pub returns : goal.returns
+returns g c =
+    let d = c.args.definition.now in
+    let v = c.args.values.now in
+    let none = sym c.may_count.ensures ∙ c.if-may_count.false in
+    let distance = no-number sums.distance d v refl none in
+    let cycles = no-number sums.total_cycles d v refl none in
+    let power = no-number sums.accumulated_power d v refl none in
+    rw (c.time.ensures, c.header_time.ensures, distance, cycles, power) refl
