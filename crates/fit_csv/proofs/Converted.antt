@@ -15,13 +15,13 @@ use Rattle.fit_decode.proofs.Nearly.{all_viable}
 use Rattle.fit_report.specs.declared.fault.ReportFault.{ReportFault}
 use Rattle.fit_report.specs.declared.fault.ReportFault.TheVariants as report
 use Rattle.fit_report.specs.Heard.{Lines, text_of}
-use Rattle.fit_report.specs.Reports.{Channel, TextFailsIn, Reports, ReportsChain, Tells}
+use Rattle.fit_report.specs.Reports.{Channel, TextFailsIn, HasTold, Reports, ReportsChain, Tells}
 use Rattle.fit_report.proofs.Outcomes.{nothing_heard}
 use Rattle.fit_report.proofs.Texts.{Appends-append}
 use Rattle.fit_csv.specs.declared.fault.CsvFault.{CsvFault}
 use Rattle.fit_csv.specs.declared.fault.CsvFault.TheVariants as csv
 use Rattle.fit_cells.specs.Rows.{csv_text}
-use Rattle.fit_csv.specs.Conversions.{Converts, ConvertsTo, RowsOf, WritesRows}
+use Rattle.fit_csv.specs.Conversions.{Converts, ConvertsTo, HasWritten, RowsOf, WritesRows}
 use Rattle.fit_csv.specs.inner.Reporting.{HasText, csv_fault}
 
 -- the answer of a conversion by that of its report
@@ -59,18 +59,21 @@ module _ (first : List ℕ) (line : Lines Global) (rows : RowsOf) (text : HasTex
         omega (arith, counted),
       )
 
-  pub converted : (source : Channel) (result : Result (Unit {0}) ReportFault) → Appends start mid first → Reports line source (channel mid end bad) result
+  written_as : (taken : List ℕ) (heard : List (Event Global)) (source : Channel) (result : Result (Unit {0}) ReportFault) → Appends start mid first
+      → HasTold line taken source (channel mid end bad) heard result
+      → HasWritten rows taken source (channel start end bad) (csv_answer result (length first))
+  written_as taken heard source (Ok u) put (ended, well, chain, tells) = (ended, well, chain, writes taken heard put tells)
+  written_as taken heard source (Err (report.Decode (faults.Refused place reason))) put (why, tells) = (why, writes (take place taken) heard put tells)
+  written_as taken heard source (Err (report.Decode (faults.Truncated place))) put (why, tells) = (why, writes taken heard put tells)
+  written_as taken heard source (Err (report.Decode (faults.NoMemory used))) put never = absurd never
+  written_as taken heard source (Err (report.Decode (faults.Read place))) put (why, tells) = (why, writes taken heard put tells)
+  written_as taken heard source (Err report.NoMemory) put ((k, told, tells), near) = ((k, writes (take k taken) told put tells), near)
+  written_as taken heard source (Err (report.Write written)) put ((k, told, are, part), near) = ((k, reverse told, are, fails told written put part), near)
+
+  pub converted : {R : Type 0} (has_heard : R → List (Event Global) → Type 0) (reporter : R) (source : Channel) (result : Result (Unit {0}) ReportFault)
+      → Appends start mid first → Reports has_heard reporter line source (channel mid end bad) result
       → Converts rows source (channel start end bad) (csv_answer result (length first))
-  converted source (Ok u) put (taken, heard, eaten, (ended, well, chain, tells)) = (taken, eaten, (ended, well, chain, writes taken heard put tells))
-  converted source (Err (report.Decode (faults.Refused place reason))) put (taken, heard, eaten, (why, tells)) =
-      (taken, eaten, (why, writes (take place taken) heard put tells))
-  converted source (Err (report.Decode (faults.Truncated place))) put (taken, heard, eaten, (why, tells)) = (taken, eaten, (why, writes taken heard put tells))
-  converted source (Err (report.Decode (faults.NoMemory used))) put (taken, heard, eaten, never) = absurd never
-  converted source (Err (report.Decode (faults.Read place))) put (taken, heard, eaten, (why, tells)) = (taken, eaten, (why, writes taken heard put tells))
-  converted source (Err report.NoMemory) put (taken, heard, eaten, ((k, told, tells), near)) =
-      (taken, eaten, ((k, writes (take k taken) told put tells), near))
-  converted source (Err (report.Write written)) put (taken, heard, eaten, ((k, told, are, part), near)) =
-      (taken, eaten, ((k, reverse told, are, fails told written put part), near))
+  converted has_heard reporter source result put (taken, heard, eaten, told, has) = (taken, eaten, written_as taken heard source result put told)
 
   -- of a chain
   pub chain_converted : (source : Channel) (fs : List (FitFile Global)) (result : Result (Unit {0}) ReportFault) → Appends start mid first

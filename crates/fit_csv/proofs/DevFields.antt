@@ -1,5 +1,5 @@
 -- The developer fields of a message, place by place.
-use Rattle.std.proofs.Common.{◌≡◌, ◌∙◌, ◌<◌, ◌++◌, ℕ, List, [], None, codes, decimal, length, map, get_or, sym, ap, ap₂, subst, arith}
+use Rattle.std.proofs.Common.{◌≡◌, ◌∙◌, ◌<◌, ◌≤◌, ◌++◌, ℕ, List, [], codes, decimal, length, map, get_or, sym, ap, ap₂, subst, arith}
 use Rattle.std.specs.Prelude.{option_and_then, slice_get, unwrap_or, zip}
 use Rattle.std.proofs.lemmas.List.{get_or-map, length-map}
 use Rattle.std.proofs.lemmas.Option.{slice_get-get_or}
@@ -9,8 +9,7 @@ use Rattle.fit_base.specs.Fields.{HasShape}
 use Rattle.fit_record.specs.declared.definition.DevDef.{DevDef}
 use Rattle.fit_record.specs.Records.{HaveShape}
 use Rattle.fit_profile.specs.Described.{Naming, nameless}
-use Rattle.fit_cells.specs.Cells.{cell}
-use Rattle.fit_csv.specs.ChainRows.{dev_label, dev_row, row}
+use Rattle.fit_csv.specs.ChainRows.{dev_label}
 use Rattle.fit_csv.proofs.Shapes.{as_long, shape_at}
 
 abbrev pub nothing : DevDef
@@ -37,24 +36,36 @@ dev_shape fields coded items k item long have within is =
 
 -- what stands at a place: field, code, naming and items
 pub dev_place : {A : Type 0} (fields : List DevDef) (coded : List ℕ) (namings : List Naming) (items : List (Items A)) (k : ℕ) (item : Items A)
-    → k < length fields → k < length coded → k < length namings → k < length items → item ≡ get_or items k item
-    → ((get_or fields k nothing, get_or coded k 0), (get_or namings k nameless, item))
-    ≡ get_or (zip (zip fields coded) (zip namings items)) k ((nothing, 0), (nameless, item))
-dev_place fields coded namings items k item a b c d is =
-    sym (get_or-zip (zip fields coded) (zip namings items) k ((nothing, 0), (nameless, item)) (omega (arith, length-zip fields coded, a, b))
-    (omega (arith, length-zip namings items, c, d))
-    ∙ ap₂ (λ x y. (x, y)) (get_or-zip fields coded k (nothing, 0) a b)
-    (get_or-zip namings items k (nameless, item) c d ∙ ap (λ i. (get_or namings k nameless, i)) (sym is)))
+    → length coded ≡ length fields → length namings ≡ length fields → HaveShape (zip coded (map (λ f. f.size) fields)) items → k < length fields
+    → item ≡ get_or items k item
+    → (k < length (zip (zip fields coded) (zip namings items)))
+    × (((get_or fields k nothing, get_or coded k 0), (get_or namings k nameless, item))
+    ≡ get_or (zip (zip fields coded) (zip namings items)) k ((nothing, 0), (nameless, item)))
+dev_place fields coded namings items k item coded_long named_long have a is =
+    let b : k < length coded = omega (arith, coded_long, a) in
+    let c : k < length namings = omega (arith, named_long, a) in
+    let d : k < length items = omega (arith, dev_long fields coded items coded_long have, a) in
+    let front : k < length (zip fields coded) = omega (arith, length-zip fields coded, a, b) in
+    let back : k < length (zip namings items) = omega (arith, length-zip namings items, c, d) in (
+      omega (arith, length-zip (zip fields coded) (zip namings items), front, back),
+      sym (get_or-zip (zip fields coded) (zip namings items) k ((nothing, 0), (nameless, item)) front back
+          ∙ ap₂ (λ x y. (x, y)) (get_or-zip fields coded k (nothing, 0) a b)
+          (get_or-zip namings items k (nameless, item) c d ∙ ap (λ i. (get_or namings k nameless, i)) (sym is))),
+    )
 
--- the row of a developer field by the label and the unit that its naming gives
-pub dev_named : {A : Type 0} (f : DevDef) (code : ℕ) (namings : List Naming) (item : Items A) (k : ℕ) (numbered label unit : List ℕ) → k < length namings
+-- all places are taken where those of the fields are
+pub dev_end : {A : Type 0} (fields : List DevDef) (coded : List ℕ) (namings : List Naming) (items : List (Items A)) (k : ℕ)
+    → length fields ≤ k → length (zip (zip fields coded) (zip namings items)) ≤ k
+dev_end fields coded namings items k end = omega (arith, length-zip (zip fields coded) (zip namings items), length-zip fields coded, end)
+
+-- the label and the unit that a naming gives
+pub dev_texts : (f : DevDef) (namings : List Naming) (k : ℕ) (numbered label unit : List ℕ) → k < length namings
     → numbered ≡ codes "dev_" ++ decimal f.index ++ codes "_" ++ decimal f.number
     → label ≡ unwrap_or (option_and_then (λ t. t.name) (slice_get namings k)) numbered
     → unit ≡ unwrap_or (option_and_then (λ t. t.unit) (slice_get namings k)) []
-    → row (codes "dev") label (cell code None item) unit [] [] [] ≡ dev_row f code (get_or namings k nameless) item
-dev_named f code namings item k numbered label unit within plain named measured =
-    let there = slice_get-get_or namings k nameless within in
-    let label_is : label ≡ dev_label f (get_or namings k nameless) =
-    named ∙ ap₂ (λ o text. unwrap_or (option_and_then (λ (t : Naming). t.name) o) text) there plain in
-    let unit_is : unit ≡ unwrap_or (get_or namings k nameless).unit [] = measured ∙ ap (λ o. unwrap_or (option_and_then (λ (t : Naming). t.unit) o) []) there in
-    ap₂ (λ l u. row (codes "dev") l (cell code None item) u [] [] []) label_is unit_is
+    → (label ≡ dev_label f (get_or namings k nameless)) × (unit ≡ unwrap_or (get_or namings k nameless).unit [])
+dev_texts f namings k numbered label unit within plain named measured =
+    let there = slice_get-get_or namings k nameless within in (
+      named ∙ ap₂ (λ o text. unwrap_or (option_and_then (λ (t : Naming). t.name) o) text) there plain,
+      measured ∙ ap (λ o. unwrap_or (option_and_then (λ (t : Naming). t.unit) o) []) there,
+    )

@@ -1,88 +1,155 @@
--- The row of a field between what stands around its value.
-use Rattle.std.proofs.Common.{◌≡◌, ◌∙◌, ◌++◌, ◌∷◌, [], ◌-◌, ℕ, List, length, take, refl, sym, ap, ap₂, append_assoc, arith, codes, Option}
-use Rattle.std.proofs.lemmas.List.{append-nil, length-append}
+-- Rows of values between what stands around these.
+use Rattle.std.proofs.Common.{◌≡◌, ◌∙◌, ◌++◌, ◌∷◌, [], ◌-◌, ◌+◌, ◌<◌, ℕ, zero, suc, List, length, take, get_or, map, refl, sym, ap, ap₂, append_assoc, arith}
+use Rattle.std.proofs.Common.{codes, decimal, Option, Some, None, false, add-one}
+use Rattle.std.specs.Prelude.{zip}
+use Rattle.std.proofs.lemmas.Slice.Zip.{get_or-zip, length-zip}
+use Rattle.std.proofs.lemmas.List.{append-nil, length-append, map-append, take_more}
 use Rattle.std.proofs.Math.Seq.{take-append_seam}
-use Rattle.csv.specs.Writing.{default_writer, escaped, field_text, fields_text, is_blank}
-use Rattle.fit_cells.specs.Rows.{Cell, csv_text}
-use Rattle.fit_base.specs.BaseTypes.{base_type}
+use Rattle.csv.specs.Writing.{default_writer, escaped, field_text, fields_text, is_blank, needs_quotes}
 use Rattle.fit_base.specs.declared.items.Items.{Items}
 use Rattle.fit_record.specs.declared.definition.FieldDef.{FieldDef}
-use Rattle.fit_profile.specs.Names as names
-use Rattle.fit_profile.specs.Profile.{Meaning}
-use Rattle.fit_cells.specs.declared.form.NumberForm.{NumberForm}
-use Rattle.fit_cells.specs.Cells.{cell, item_text}
-use Rattle.fit_cells.specs.Forms.{IsFormOf}
-use Rattle.fit_cells.proofs.PlainFacts.{lone_cell}
-use Rattle.fit_csv.specs.ChainRows.{field_row, row, unit_text}
-use Rattle.fit_csv.specs.inner.Frames.{FieldKey, head_text, tail_text}
+use Rattle.fit_cells.specs.Cells.{cell}
+use Rattle.fit_cells.specs.Rows.{Cell, Row, csv_text}
+use Rattle.fit_cells.proofs.AddedRows.{text_append}
+use Rattle.fit_cells.proofs.PlainFacts.{high-decimal, unquoted}
+use Rattle.fit_csv.specs.ChainRows.{field_row, field_rows, optional_number, row}
+use Rattle.fit_csv.specs.inner.Frames.{FrameKey, FrameText, end_of, field_key, frame_text, frames_of, head_text, tail_text, two_cells, value_row}
 
--- a cell and empty ones, in a row
-last_cells : (unit : Cell) → fields_text default_writer (unit ∷ [] ∷ [] ∷ [] ∷ []) ≡ 44 ∷ (field_text default_writer unit ++ codes ",,,")
-unfolding fields_text escaped
-last_cells unit = refl
-
-row_body : (name value unit : Cell) → csv_text (row (codes "field") name value unit [] [] [] ∷ [])
-    ≡ ((codes "field," ++ (field_text default_writer name
-    ++ (44 ∷ (field_text default_writer value ++ (44 ∷ (field_text default_writer unit ++ codes ",,,")))))) ++ (10 ∷ [])) ++ []
+whole_row : (a b c d e : Cell) → csv_text (row a b c d e [] [] ∷ [])
+    ≡ ((field_text default_writer a ++ (44 ∷ (field_text default_writer b ++ (44 ∷ (field_text default_writer c ++ (44 ∷ (field_text default_writer d
+    ++ (44 ∷ (field_text default_writer e ++ codes ",,"))))))))) ++ (10 ∷ [])) ++ []
 unfolding csv_text fields_text escaped is_blank
-row_body name value unit = refl
+whole_row a b c d e = refl
 
-pub framed : (text : List ℕ) (name value unit : Cell)
-    → ((text ++ (codes "field," ++ (field_text default_writer name ++ (44 ∷ [])))) ++ field_text default_writer value)
-    ++ (44 ∷ (field_text default_writer unit ++ codes ",,,\n"))
-    ≡ text ++ csv_text (row (codes "field") name value unit [] [] [] ∷ [])
-framed text name value unit =
-    let n = field_text default_writer name in
-    let v = field_text default_writer value in
-    let u = field_text default_writer unit in
-    let tail : codes ",,,\n" ≡ codes ",,," ++ (10 ∷ []) = refl in
-    append_assoc (text ++ (codes "field," ++ (n ++ (44 ∷ [])))) v (44 ∷ (u ++ codes ",,,\n"))
-    ∙ append_assoc text (codes "field," ++ (n ++ (44 ∷ []))) (v ++ (44 ∷ (u ++ codes ",,,\n")))
-    ∙ ap (λ (t : List ℕ). text ++ (codes "field," ++ t)) (append_assoc n (44 ∷ []) (v ++ (44 ∷ (u ++ codes ",,,\n")))
-    ∙ ap (λ (t : List ℕ). n ++ (44 ∷ t)) (ap (λ (t : List ℕ). v ++ (44 ∷ t)) (sym (append_assoc u (codes ",,,") (10 ∷ [])))
-    ∙ sym (append_assoc v (44 ∷ (u ++ codes ",,,")) (10 ∷ [])))
-    ∙ sym (append_assoc n (44 ∷ (v ++ (44 ∷ (u ++ codes ",,,")))) (10 ∷ [])))
-    ∙ ap (λ (t : List ℕ). text ++ t) (sym (row_body name value unit ∙ append-nil _))
+parted : (a b c d e : List ℕ) → ((a ++ (44 ∷ (b ++ (44 ∷ (c ++ (44 ∷ (d ++ (44 ∷ (e ++ (44 ∷ 44 ∷ [])))))))))) ++ (10 ∷ [])) ++ []
+    ≡ (a ++ (44 ∷ (b ++ (44 ∷ [])))) ++ (c ++ ((44 ∷ (d ++ (44 ∷ []))) ++ (e ++ (44 ∷ 44 ∷ 10 ∷ []))))
+parted a b c d e = simp (append_assoc, append-nil) refl
 
--- the row of a field whose value is a number, put in three parts
-pub framed_number : {A : Type 0} (key : FieldKey) (global : ℕ) (f : FieldDef) (items : Items A) (form : NumberForm) (bits : ℕ) (head tail t0 t1 t2 t3 : List ℕ)
-    → key ≡ record { global = global; number = f.number; code = f.code } → IsFormOf key.code (names.field key.global key.number) form
-    → items.width ≡ form.width → items.bits ≡ bits ∷ [] → head ≡ head_text key.global key.number → tail ≡ tail_text key.global key.number
-    → t1 ≡ t0 ++ head → t2 ≡ t1 ++ item_text (base_type key.code).class key.code (names.field key.global key.number) form.width bits → t3 ≡ t2 ++ tail
-    → t3 ≡ t0 ++ csv_text (field_row global f items ∷ [])
-framed_number key global f items form bits head tail t0 t1 t2 t3 is formed wide one before behind first second third =
-    let same : key.global ≡ global = ap (λ (k : FieldKey). k.global) is in
-    let number : key.number ≡ f.number = ap (λ (k : FieldKey). k.number) is in
-    let code : key.code ≡ f.code = ap (λ (k : FieldKey). k.code) is in
-    let info_is : names.field key.global key.number ≡ names.field global f.number = ap₂ (λ g n. names.field g n) same number in
-    let head_is : head ≡ head_text global f.number = before ∙ ap₂ (λ g n. head_text g n) same number in
-    let tail_is : tail ≡ tail_text global f.number = behind ∙ ap₂ (λ g n. tail_text g n) same number in
-    let value : item_text (base_type key.code).class key.code (names.field key.global key.number) form.width bits
-    ≡ field_text default_writer (cell f.code (names.field global f.number) items) =
-    sym (lone_cell form key.code (names.field key.global key.number) items bits formed wide one)
-    ∙ ap₂ (λ (n : ℕ) (i : Option Meaning). field_text default_writer (cell n i items)) code info_is in
-    third ∙ ap₂ (λ (a b : List ℕ). a ++ b) (second ∙ ap₂ (λ (a b : List ℕ). a ++ b) (first ∙ ap (λ (h : List ℕ). t0 ++ h) head_is) value) tail_is
-    ∙ framed t0 (names.field_label global f.number) (cell f.code (names.field global f.number) items) (unit_text (names.field global f.number))
-
--- what stands before the value, with a line feed after it, is a row of three cells
-front_row : (name : Cell) → csv_text ((codes "field" ∷ name ∷ [] ∷ []) ∷ [])
-    ≡ ((codes "field," ++ (field_text default_writer name ++ (44 ∷ []))) ++ (10 ∷ [])) ++ []
-unfolding csv_text fields_text escaped is_blank
-front_row name = refl
+-- a row of five cells and two empty ones, in its parts
+pub row_parts : (a b c d e : Cell) → csv_text (row a b c d e [] [] ∷ [])
+    ≡ two_cells a b ++ (field_text default_writer c ++ ((44 ∷ (field_text default_writer d ++ (44 ∷ []))) ++ (field_text default_writer e ++ codes ",,\n")))
+row_parts a b c d e = whole_row a b c d e
+    ∙ parted (field_text default_writer a) (field_text default_writer b) (field_text default_writer c) (field_text default_writer d)
+    (field_text default_writer e)
 
 take_front : (xs ys : List ℕ) (n : ℕ) → n ≡ length (xs ++ ys) - length ys → take n (xs ++ ys) ≡ xs
 take_front xs ys n e = ap (λ k. take k (xs ++ ys)) (e ∙ omega (arith, length-append xs ys)) ∙ take-append_seam xs ys
 
-pub front_of_row : (name text : List ℕ) → text ≡ csv_text ((codes "field" ∷ name ∷ [] ∷ []) ∷ [])
-    → take (length text - 1) text ≡ codes "field," ++ (field_text default_writer name ++ (44 ∷ []))
-front_of_row name text e =
-    let front = codes "field," ++ (field_text default_writer name ++ (44 ∷ [])) in
-    let all : text ≡ front ++ (10 ∷ []) = e ∙ front_row name ∙ append-nil (front ++ (10 ∷ [])) in
-    rw all (take_front front (10 ∷ []) (length (front ++ (10 ∷ [])) - 1) refl)
+-- a text without the last bytes of a row
+cut_row : (old front back text : List ℕ) → text ≡ old ++ (front ++ back) → take (length text - length back) text ≡ old ++ front
+cut_row old front back text e =
+    let all : text ≡ (old ++ front) ++ back = e ∙ sym (append_assoc old front back) in
+    rw all (take_front (old ++ front) back (length ((old ++ front) ++ back) - length back) refl)
 
--- what stands after the value is a row whose first cell is empty
-pub rest_of_row : (unit : Cell) → csv_text (([] ∷ unit ∷ [] ∷ [] ∷ [] ∷ []) ∷ []) ≡ 44 ∷ (field_text default_writer unit ++ codes ",,,\n")
-unfolding csv_text fields_text escaped is_blank
-rest_of_row unit =
-    let u = field_text default_writer unit in
-    append-nil (44 ∷ ((u ++ codes ",,,") ++ (10 ∷ []))) ∙ ap (λ (t : List ℕ). 44 ∷ t) (append_assoc u (codes ",,,") (10 ∷ []))
+-- the first two cells of a row without others
+pub two_of_row : (a b : Cell) (old text : List ℕ) → text ≡ old ++ csv_text (row a b [] [] [] [] [] ∷ [])
+    → take (length text - 5) text ≡ old ++ two_cells a b
+two_of_row a b old text e = cut_row old (two_cells a b) (codes ",,,,\n") text (e ∙ ap (λ t. old ++ t) (row_parts a b [] [] []))
+
+-- the first cell of a row without others
+pub one_of_row : (a : Cell) (old text : List ℕ) → text ≡ old ++ csv_text (row a [] [] [] [] [] [] ∷ [])
+    → take (length text - 7) text ≡ old ++ field_text default_writer a
+one_of_row a old text e =
+    cut_row old (field_text default_writer a) (codes ",,,,,,\n") text
+    (e ∙ ap (λ t. old ++ t) (row_parts a [] [] [] [] ∙ append_assoc (field_text default_writer a) (44 ∷ 44 ∷ []) (codes ",,,,\n")))
+
+-- ---- rows one after another
+
+pub frames-long : (before : List ℕ) (keys : List FrameKey) → length (frames_of before keys) ≡ length keys
+frames-long before [] = refl
+frames-long before (k ∷ keys) = ap suc (frames-long (tail_text k) keys)
+
+-- the frame at a place, behind the rows before it
+pub frame_at : (before : List ℕ) (keys : List FrameKey) (n : ℕ) (d : FrameText) (e : FrameKey) → n < length keys
+    → get_or (frames_of before keys) n d ≡ frame_text (end_of before (take n keys)) (get_or keys n e)
+frame_at before [] n d e within = absurd (omega (arith, within))
+frame_at before (k ∷ keys) zero d e within = refl
+frame_at before (k ∷ keys) (suc n) d e within = frame_at (tail_text k) keys n d e (omega (arith, within))
+
+-- the end of the rows up to a place
+pub end_at : (before : List ℕ) (keys : List FrameKey) (n : ℕ) (e : FrameKey) → n < length keys
+    → end_of before (take (suc n) keys) ≡ tail_text (get_or keys n e)
+end_at before [] n e within = absurd (omega (arith, within))
+end_at before (k ∷ keys) zero e within = refl
+end_at before (k ∷ keys) (suc n) e within = end_at (tail_text k) keys n e (omega (arith, within))
+
+-- one row more
+pub frames_more : (before : List ℕ) (keys : List FrameKey) (k : FrameKey)
+    → frames_of before (keys ++ (k ∷ [])) ≡ frames_of before keys ++ (frame_text (end_of before keys) k ∷ [])
+frames_more before [] k = refl
+frames_more before (j ∷ keys) k = ap (λ fs. frame_text before j ∷ fs) (frames_more (tail_text j) keys k)
+
+pub end_more : (before : List ℕ) (keys : List FrameKey) (k : FrameKey) → end_of before (keys ++ (k ∷ [])) ≡ tail_text k
+end_more before [] k = refl
+end_more before (j ∷ keys) k = end_more (tail_text j) keys k
+
+-- the codes and sizes are those of the fields
+pub frames_shape : (before : List ℕ) (global : ℕ) (fields : List FieldDef)
+    → map {B = ℕ × ℕ} (λ f. (f.code, f.size)) (frames_of before (map (field_key global) fields)) ≡ map (λ f. (f.code, f.size)) fields
+frames_shape before global [] = refl
+frames_shape before global (f ∷ fields) = ap (λ xs. (f.code, f.size) ∷ xs) (frames_shape (tail_text (field_key global f)) global fields)
+
+grouped : (t b h v w : List ℕ) → ((t ++ (b ++ h)) ++ v) ++ w ≡ (t ++ b) ++ (h ++ (v ++ w))
+grouped t b h v w = simp append_assoc refl
+
+-- a row without its end behind a text that lacks its end too
+pub framed : {A : Type 0} (k : FrameKey) (i : Items A) (text before : List ℕ)
+    → ((text ++ (before ++ head_text k)) ++ field_text default_writer (cell k.code k.info i)) ++ tail_text k ≡ (text ++ before) ++ csv_text (value_row k i ∷ [])
+framed k i text before =
+    grouped text before (head_text k) (field_text default_writer (cell k.code k.info i)) (tail_text k)
+    ∙ ap (λ t. (text ++ before) ++ t) (sym (row_parts k.kind k.name (cell k.code k.info i) k.unit []))
+
+-- the rows up to a place, and the next one, of which the end is still to come
+pub framed_more : {A : Type 0} (keys : List FrameKey) (items : List (Items A)) (n : ℕ) (e : FrameKey) (x : Items A) (start old new : List ℕ)
+    → n < length keys → n < length items
+    → old ++ end_of [] (take n keys) ≡ start ++ csv_text (map (λ y. value_row y.0 y.1) (take n (zip keys items)))
+    → new ≡ (old ++ (end_of [] (take n keys) ++ head_text (get_or keys n e)))
+    ++ field_text default_writer (cell (get_or keys n e).code (get_or keys n e).info (get_or items n x))
+    → new ++ end_of [] (take (n + 1) keys) ≡ start ++ csv_text (map (λ y. value_row y.0 y.1) (take (n + 1) (zip keys items)))
+framed_more keys items n e x start old new within items_too before put =
+    let key = get_or keys n e in
+    let item = get_or items n x in
+    let pair : get_or (zip keys items) n (e, x) ≡ (get_or keys n e, get_or items n x) = get_or-zip keys items n (e, x) within items_too in
+    let last : end_of [] (take (n + 1) keys) ≡ tail_text (get_or keys n e) = rw (add-one n) (end_at [] keys n e within) in
+    let longer : csv_text (map (λ y. value_row y.0 y.1) (take (n + 1) (zip keys items)))
+    ≡ csv_text (map (λ y. value_row y.0 y.1) (take n (zip keys items))) ++ csv_text (value_row (get_or keys n e) (get_or items n x) ∷ []) =
+    ap (λ ys. csv_text (map (λ y. value_row y.0 y.1) ys)) (take_more (zip keys items) n (e, x) (omega (arith, length-zip keys items, within, items_too)))
+    ∙ ap csv_text (map-append (λ y. value_row y.0 y.1) (take n (zip keys items)) (get_or (zip keys items) n (e, x) ∷ []))
+    ∙ text_append (map (λ y. value_row y.0 y.1) (take n (zip keys items)))
+    (value_row (get_or (zip keys items) n (e, x)).0 (get_or (zip keys items) n (e, x)).1 ∷ [])
+    ∙ ap (λ y. csv_text (map (λ z. value_row z.0 z.1) (take n (zip keys items))) ++ csv_text (value_row y.0 y.1 ∷ [])) pair in
+    ap₂ (λ a b. a ++ b) put last ∙ framed key item old (end_of [] (take n keys))
+    ∙ ap (λ t. t ++ csv_text (value_row (get_or keys n e) (get_or items n x) ∷ [])) before
+    ∙ append_assoc start (csv_text (map (λ y. value_row y.0 y.1) (take n (zip keys items)))) (csv_text (value_row key item ∷ []))
+    ∙ ap (λ t. start ++ t) (sym longer)
+
+-- the rows of fields
+pub field_values : {A : Type 0} (global : ℕ) (fields : List FieldDef) (items : List (Items A))
+    → map {B = Row} (λ x. value_row x.0 x.1) (zip (map (field_key global) fields) items) ≡ field_rows global fields items
+field_values global [] items = refl
+field_values global (f ∷ fields) [] = refl
+field_values global (f ∷ fields) (i ∷ items) = ap (λ rows. field_row global f i ∷ rows) (field_values global fields items)
+
+-- one field more
+pub keys_more : (global : ℕ) (fields : List FieldDef) (n : ℕ) (d : FieldDef) → n < length fields
+    → map (field_key global) (take (n + 1) fields) ≡ map (field_key global) (take n fields) ++ (field_key global (get_or fields n d) ∷ [])
+keys_more global fields n d within =
+    ap (map (field_key global)) (take_more fields n d within) ∙ map-append (field_key global) (take n fields) (get_or fields n d ∷ [])
+
+plain-optional : (number : Option ℕ) → field_text default_writer (optional_number number) ≡ optional_number number
+plain-optional None = refl
+plain-optional (Some n) = unquoted (decimal n) (high-decimal n)
+
+five : (t a b c d e : List ℕ) → ((((t ++ a) ++ b) ++ c) ++ d) ++ e ≡ t ++ (a ++ (b ++ (c ++ (d ++ e))))
+five t a b c d e = simp append_assoc refl
+
+-- the row with which a message begins, put in five parts
+pub data_parts : (local : ℕ) (offset : Option ℕ) (label time text : List ℕ) → needs_quotes default_writer time ≡ false
+    → ((((text ++ two_cells (codes "data") (decimal local)) ++ optional_number offset) ++ two_cells [] label) ++ time) ++ codes ",,\n"
+    ≡ text ++ csv_text (row (codes "data") (decimal local) (optional_number offset) label time [] [] ∷ [])
+data_parts local offset label time text plain =
+    let at_time : field_text default_writer time ≡ time = rw plain refl in
+    five text (two_cells (codes "data") (decimal local)) (optional_number offset) (two_cells [] label) time (codes ",,\n")
+    ∙ ap₂ (λ o t. text ++ (two_cells (codes "data") (decimal local) ++ (o ++ (two_cells [] label ++ (t ++ codes ",,\n")))))
+    (sym (plain-optional offset)) (sym at_time)
+    ∙ ap (λ t. text ++ t) (sym (row_parts (codes "data") (decimal local) (optional_number offset) label time))

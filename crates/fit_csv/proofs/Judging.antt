@@ -28,7 +28,7 @@ sound-run c (r ∷ rows) t sound (m, step, run) =
     let (sound_t, so_far) = sound-run m rows t (chain-sound c r m sound step) run in
     (sound_t, so_far ∙ ap (λ (l : List Row). l ++ rows) (chain-more c r m sound step) ∙ append_assoc (rows_so_far c) (r ∷ []) rows)
 
-nothing-sound : IsSoundChain nothing_yet
+pub nothing-sound : IsSoundChain nothing_yet
 nothing-sound = record { files = tt; current = omega arith }
 
 -- what holds of what has been read of a chain behind the first line

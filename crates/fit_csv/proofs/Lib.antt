@@ -7,6 +7,7 @@ mod ToldTable
 pub mod TableRows
 mod Shapes
 mod NamingFacts
+mod Fields
 mod DevFields
 mod InstantFacts
 mod PlainInstants
@@ -43,4 +44,6 @@ mod SevenRows
 mod FromChain
 mod Unwritten
 pub mod FramedRows
+mod BeginFacts
+mod TextRows
 pub mod TableNumbers

@@ -7,7 +7,8 @@ use Rattle.fit_record.specs.declared.message.Record.{Record}
 use Rattle.fit_record.specs.Files.{body}
 use Rattle.fit_decode.specs.Events.{Event, header, item, file_end, file_events}
 use Rattle.fit_report.specs.Heard.{Lines, latest_records, text_of}
-use Rattle.fit_csv.specs.ShowLines.{begun_files, header_line, record_line, record_lines, show_files, show_line, show_lines}
+use Rattle.fit_csv.specs.ChainRows.{files_heard}
+use Rattle.fit_csv.specs.ShowLines.{header_line, record_line, record_lines, show_files, show_line, show_lines}
 
 -- the text of events behind others
 abbrev text_after : {A : Type 0} → Lines A → List (Event A) → List (Event A) → List ℕ
@@ -23,8 +24,8 @@ text-behind line heard (x ∷ events) =
     ∙ append_assoc (text_of line heard) (line heard x) (text_after line (x ∷ heard) events)
 
 -- the records of a file, and then other events
-lines-of-records : {A : Type 0} (k : ℕ) (heard : List (Event A)) (records : List (Record A)) (rest : List (Event A)) (text : List ℕ) → begun_files heard ≡ k
-    → ((behind : List (Event A)) → begun_files behind ≡ k → text_after show_line behind rest ≡ text)
+lines-of-records : {A : Type 0} (k : ℕ) (heard : List (Event A)) (records : List (Record A)) (rest : List (Event A)) (text : List ℕ) → files_heard heard ≡ k
+    → ((behind : List (Event A)) → files_heard behind ≡ k → text_after show_line behind rest ≡ text)
     → text_after show_line heard (map item records ++ (file_end ∷ rest)) ≡ record_lines (latest_records heard) records ++ text
 unfolding record_lines
 lines-of-records k heard [] rest text count others = others (file_end ∷ heard) count
@@ -32,7 +33,7 @@ lines-of-records k heard (r ∷ records) rest text count others =
     ap (λ more. record_line (latest_records heard) r ++ more) (lines-of-records k (item r ∷ heard) records rest text count others)
     ∙ sym (append_assoc (record_line (latest_records heard) r) (record_lines (r ∷ latest_records heard) records) text)
 
-lines-of-files : {A : Type 0} (k : ℕ) (heard : List (Event A)) (files : List (FitFile A)) → begun_files heard + 1 ≡ k
+lines-of-files : {A : Type 0} (k : ℕ) (heard : List (Event A)) (files : List (FitFile A)) → files_heard heard + 1 ≡ k
     → text_after show_line heard (flat_map file_events files) ≡ show_files k files
 unfolding show_files
 lines-of-files k heard [] count = refl
@@ -40,9 +41,9 @@ lines-of-files k heard (f ∷ files) count =
     let n = length (body f) in
     let rest = flat_map file_events files in
     let now = header f.header (length (body f)) ∷ heard in
-    ap (λ events. header_line (begun_files heard + 1) f.header (length (body f)) ++ text_after show_line (header f.header (length (body f)) ∷ heard) events)
+    ap (λ events. header_line (files_heard heard + 1) f.header (length (body f)) ++ text_after show_line (header f.header (length (body f)) ∷ heard) events)
     (append_assoc (map item f.records) (file_end ∷ []) (flat_map file_events files))
-    ∙ ap (λ text. header_line (begun_files heard + 1) f.header (length (body f)) ++ text)
+    ∙ ap (λ text. header_line (files_heard heard + 1) f.header (length (body f)) ++ text)
     (lines-of-records k (header f.header (length (body f)) ∷ heard) f.records (flat_map file_events files) (show_files (k + 1) files) count
     (λ behind same. lines-of-files (k + 1) behind files (ap (λ m. m + 1) same)))
     ∙ ap (λ m. header_line m f.header n ++ (record_lines [] f.records ++ show_files (k + 1) files)) count

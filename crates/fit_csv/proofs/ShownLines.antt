@@ -9,20 +9,15 @@ use Rattle.fit_record.specs.Environment.{Environment, defined_at, describe, desc
 use Rattle.fit_record.specs.Records.{DataFits, Fits}
 use Rattle.fit_decode.specs.declared.event.Event.{Event as Answer}
 use Rattle.fit_decode.specs.declared.event.Event.TheVariants as answers
-use Rattle.fit_decode.specs.Events.{Event, header, item, file_end}
+use Rattle.fit_decode.specs.Events.{Event}
 use Rattle.fit_profile.specs.Described.{namings_at}
 use Rattle.fit_profile.specs.Looks.{known}
 use Rattle.fit_profile.specs.Times.{time}
 use Rattle.fit_report.specs.Heard.{hear, latest_records, line_of}
 use Rattle.fit_csv.specs.inner.Reporting.{AnswerFits}
-use Rattle.fit_csv.specs.ShowLines.{begun_files, listed, message_line, record_line, separator, show_line}
+use Rattle.fit_csv.specs.ChainRows.{files_heard}
+use Rattle.fit_csv.specs.ShowLines.{listed, message_line, record_line, separator, show_line}
 use Rattle.fit_csv.specs.inner.Showing.{line_with, text_with, time_told}
-
-pub few_begun : {A : Type 0} (heard : List (Event A)) → begun_files heard ≤ length heard
-few_begun [] = omega arith
-few_begun (header h n ∷ heard) = omega (arith, few_begun heard)
-few_begun (item r ∷ heard) = omega (arith, few_begun heard)
-few_begun (file_end ∷ heard) = omega (arith, few_begun heard)
 
 -- ---- fields one after another
 
@@ -78,7 +73,7 @@ answer_fits_upto heard answers.FileEnd fits = tt
 
 -- the text of an answer is its line
 pub answer_line : {A : Type 0} (heard : List (Event A)) (answer : Answer A)
-    → text_with (begun_files (hear answer heard)) (latest_records (hear answer heard)) (time_told (latest_records heard) answer) answer
+    → text_with (files_heard (hear answer heard)) (latest_records (hear answer heard)) (time_told (latest_records heard) answer) answer
     ≡ line_of show_line heard answer
 answer_line heard answers.More = refl
 answer_line heard (answers.Header h n) = refl

@@ -10,10 +10,10 @@ use Rattle.fit_decode.specs.Events.{Event, header, item, file_end}
 use Rattle.fit_report.specs.Heard.{AreHeard, hear, latest_records, line_of, text_of}
 use Rattle.fit_report.specs.Laws.{HeardAreFew}
 use Rattle.fit_cells.specs.Rows.{csv_text}
-use Rattle.fit_csv.specs.ChainRows.{records_behind}
+use Rattle.fit_csv.specs.ChainRows.{files_behind, files_heard, records_behind}
 use Rattle.fit_csv.specs.Conversions.{table_text}
 use Rattle.fit_csv.specs.inner.Reporting.{HasText}
-use Rattle.fit_csv.specs.Table.{files_behind, files_heard, table_event_rows, table_events_rows, table_of}
+use Rattle.fit_csv.specs.Table.{table_event_rows, table_events_rows, table_of}
 use Rattle.fit_csv.specs.inner.TableCells.{table_answer_rows}
 use Rattle.fit_cells.proofs.AddedRows.{text_append}
 use Rattle.fit_csv.proofs.RowsOfEvents.{records_after}

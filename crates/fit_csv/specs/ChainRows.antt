@@ -1,5 +1,5 @@
 -- The rows of a chain of files, and of the events of a reader.
-use Rattle.std.specs.Prelude.{ℕ, List, [], ◌∷◌, ◌++◌, length, map, flat_map, zip, option_map, unwrap_or, Option, None, codes, decimal}
+use Rattle.std.specs.Prelude.{ℕ, ◌+◌, List, [], ◌∷◌, ◌++◌, length, map, flat_map, zip, option_map, unwrap_or, Option, None, codes, decimal}
 use Rattle.fit_base.specs.declared.items.Items.{Items}
 use Rattle.fit_base.specs.declared.number.Order.{Order}
 use Rattle.fit_base.specs.declared.number.Order.TheVariants.{Little, Big}
@@ -156,6 +156,16 @@ abbrev pub records_behind : {A : Type 0} → List (Record A) → Event A → Lis
 records_behind before (header h n) = []
 records_behind before (item r) = r ∷ before
 records_behind before file_end = before
+
+-- how many files have begun behind an event
+abbrev pub files_behind : {A : Type 0} → ℕ → Event A → ℕ
+files_behind files (header h n) = files + 1
+files_behind files other = files
+
+-- the same of events, the latest first
+abbrev pub files_heard : {A : Type 0} → List (Event A) → ℕ
+files_heard [] = 0
+files_heard (x ∷ heard) = files_behind (files_heard heard) x
 
 -- events one after another
 unfoldable pub events_rows : {A : Type 0} → List (Record A) → List (Event A) → List Row

@@ -12,8 +12,8 @@ use Rattle.fit_report.specs.Reports.{Channel, TextFailsIn, Faults, before_fault}
 use Rattle.fit_csv.specs.declared.fault.CsvFault.{CsvFault}
 use Rattle.fit_csv.specs.declared.fault.CsvFault.TheVariants as csv
 use Rattle.fit_cells.specs.Rows.{Row, csv_text}
-use Rattle.fit_csv.specs.ChainRows.{event_rows}
-use Rattle.fit_csv.specs.Table.{files_heard, table_event_rows}
+use Rattle.fit_csv.specs.ChainRows.{event_rows, files_heard}
+use Rattle.fit_csv.specs.Table.{table_event_rows}
 
 -- the rows of events
 abbrev pub RowsOf : Type 0
@@ -35,7 +35,7 @@ abbrev pub HasWritten : RowsOf → List ℕ → Channel → Channel → Result (
 HasWritten rows taken source sink (Ok _) = IsAtEnd source.after × (source.failed ≡ false) × AreChain Global taken × WritesRows rows taken sink
 HasWritten rows taken source sink (Err (csv.Decode (faults.NoMemory used))) = ⊥
 HasWritten rows taken source sink (Err (csv.Decode fault)) =
-    Faults Global chain_limit taken source.after source.failed fault × WritesRows rows (before_fault fault taken) sink
+    Faults Global chain_limit taken source fault × WritesRows rows (before_fault fault taken) sink
 HasWritten rows taken source sink (Err csv.NoMemory) = ((k : ℕ) × WritesRows rows (take k taken) sink) × IsNearlyViable Global chain_limit taken
 HasWritten rows taken source sink (Err (csv.Write written)) = RowsBreakOff rows taken sink written × IsNearlyViable Global chain_limit taken
 HasWritten rows taken source sink (Err other) = ⊥

@@ -14,7 +14,7 @@ use Rattle.fit_record.specs.declared.message.Record.TheVariants.{Define, Values 
 use Rattle.fit_record.specs.declared.file.FitFile.{FitFile}
 use Rattle.fit_record.specs.Environment.{defined_at, dev_defs}
 use Rattle.fit_record.specs.Files.{body}
-use Rattle.fit_decode.specs.Events.{Event, header, item, file_end}
+use Rattle.fit_decode.specs.Events.{header, item, file_end}
 use Rattle.fit_profile.specs.Profile.{Meaning}
 use Rattle.fit_profile.specs.Names.{message_label, field_label}
 use Rattle.fit_profile.specs.Names as names
@@ -23,7 +23,7 @@ use Rattle.fit_profile.specs.Times.{time}
 use Rattle.fit_profile.specs.Described.{Naming, is_printable, namings_at}
 use Rattle.fit_report.specs.Heard.{Lines, latest_records}
 use Rattle.fit_cells.specs.Cells.{cell}
-use Rattle.fit_csv.specs.ChainRows.{sum_word, order_word, unit_text, dev_label}
+use Rattle.fit_csv.specs.ChainRows.{sum_word, order_word, unit_text, dev_label, files_heard}
 use Rattle.fit_csv.specs.InstantText.{instant_text}
 
 -- words one after another
@@ -126,15 +126,8 @@ show_lines files = show_files 1 files
 
 -- ---- events, the latest first
 
--- how many files have begun
-abbrev pub begun_files : {A : Type 0} → List (Event A) → ℕ
-begun_files [] = 0
-begun_files (header h n ∷ heard) = begun_files heard + 1
-begun_files (item r ∷ heard) = begun_files heard
-begun_files (file_end ∷ heard) = begun_files heard
-
 -- What `show` writes of an event behind those before it.
 abbrev pub show_line : {A : Type 0} → Lines A
-show_line heard (header h n) = header_line (begun_files heard + 1) h n
+show_line heard (header h n) = header_line (files_heard heard + 1) h n
 show_line heard (item r) = record_line (latest_records heard) r
 show_line heard file_end = []

@@ -19,7 +19,7 @@ use Rattle.fit_cells.specs.Cells.{scaled_value}
 use Rattle.fit_csv.specs.Degrees.{degrees_of}
 use Rattle.fit_csv.specs.InstantText.{instant_text}
 use Rattle.fit_cells.specs.Rows.{Cell, Row}
-use Rattle.fit_csv.specs.ChainRows.{records_behind}
+use Rattle.fit_csv.specs.ChainRows.{files_behind, records_behind}
 
 abbrev pub table_line : Row
 table_line =
@@ -84,16 +84,6 @@ abbrev pub table_event_rows : {A : Type 0} → ℕ → List (Record A) → Event
 table_event_rows file before (header h n) = []
 table_event_rows file before (item r) = table_record_rows file before r
 table_event_rows file before file_end = []
-
--- how many files have begun behind an event
-abbrev pub files_behind : {A : Type 0} → ℕ → Event A → ℕ
-files_behind files (header h n) = files + 1
-files_behind files other = files
-
--- the same of events, the latest first
-abbrev pub files_heard : {A : Type 0} → List (Event A) → ℕ
-files_heard [] = 0
-files_heard (x ∷ heard) = files_behind (files_heard heard) x
 
 -- events one after another, after so many headers
 unfoldable pub table_events_rows : {A : Type 0} → ℕ → List (Record A) → List (Event A) → List Row

@@ -1,7 +1,6 @@
 //! Why a conversion fails.
 use fit_decode::Fault;
 use fit_encode::EncodeFault;
-use fit_report::ReportFault;
 use thiserror::Error;
 
 /// Why a chain of files isn't written as text, or a text isn't written as a chain of files. Rows are

@@ -17,7 +17,9 @@ mod number;
 mod open_definition;
 mod open_file;
 mod open_message;
+mod plain;
 mod text;
+mod whole;
 
 use crate::CsvFault;
 use crate::from::judge::judge;

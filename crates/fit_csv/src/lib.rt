@@ -8,6 +8,7 @@ pub mod laws;
 mod rows;
 mod show;
 mod tables;
+mod words;
 
 pub use conversion::{table, to_csv};
 pub use fault::CsvFault;

@@ -47,14 +47,14 @@ impl Model for ShowReport {
     ghost use Rattle.std.specs.Global.{Global};
     ghost use Rattle.fit_decode.specs.Events.{Event as Told};
     ghost use Rattle.fit_report.specs.Heard.{latest_records};
-    ghost use Rattle.fit_csv.specs.ShowLines.{begun_files};
+    ghost use Rattle.fit_csv.specs.ChainRows.{files_heard};
 
     ghost Value = { List (Told Global) };
 
     ghost view = { λ r. r.heard };
 
     ghost invariant = { λ r. (r.stream ≡ latest_records r.heard)
-        × (r.files ≡ begun_files r.heard) };
+        × (r.files ≡ files_heard r.heard) };
 }
 
 impl ShowReport {

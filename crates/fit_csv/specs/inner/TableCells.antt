@@ -11,7 +11,8 @@ use Rattle.fit_profile.specs.FixedText.{fixed_text}
 use Rattle.fit_profile.specs.Meant.{shown}
 use Rattle.fit_csv.specs.declared.tables.rows.TableRow.{TableRow}
 use Rattle.fit_cells.specs.Rows.{Cell, Row}
-use Rattle.fit_csv.specs.Table.{files_behind, table_event_rows, table_row}
+use Rattle.fit_csv.specs.ChainRows.{files_behind}
+use Rattle.fit_csv.specs.Table.{table_event_rows, table_row}
 
 -- the text of a number, where there is one
 abbrev pub shown_text : Option Fixed → Option Cell

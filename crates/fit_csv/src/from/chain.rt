@@ -1,16 +1,17 @@
 //! The files of a chain, of which some rows have come.
-ghost use Rattle.std.specs.Prelude.{◌≡◌, ◌↔◌, IfErr, IsTrue, None, OnOk, Some, codes};
+ghost use Rattle.std.specs.Prelude.{◌≡◌, ◌↔◌, IfErr, IfOk, IfSome, IsNone, IsTrue, None, OnOk, Some, codes};
 ghost use Rattle.fit_csv.specs.declared.from.chain.Chain.{Chain};
 ghost use Rattle.fit_csv.specs.declared.from.open_file.OpenFile.{OpenFile};
 ghost use Rattle.fit_csv.specs.inner.Misfits.{IsMisfit};
-ghost use Rattle.fit_csv.specs.inner.Progress.{CanStandNext, ChainStep, FileStep, nothing_yet};
+ghost use Rattle.fit_csv.specs.inner.Progress.{ChainStep, nothing_yet};
 ghost use Rattle.fit_csv.specs.inner.Seven.{row_of};
-ghost use Rattle.fit_csv.specs.inner.SoundChain.{IsSoundChain, IsSoundFile};
+ghost use Rattle.fit_csv.specs.inner.SoundChain.{BeginsWithMore, IsSoundChain, rows_so_far};
 
 use crate::from::cells::{Cells, same};
 use crate::from::header::{file_end, file_header};
 use crate::from::misfit::Misfit;
 use crate::from::open_file::{OpenFile, Part};
+use crate::rows::maker::RowMaker;
 use fit_base::Entries;
 use fit_profile::Stream;
 use fit_record::{CHAIN_LIMIT, FitFile};
@@ -87,6 +88,26 @@ impl Chain {
         }) {
             Ok(()) => Ok(()),
             Err(_) => Err(Misfit::NoMemory),
+        }
+    }
+
+    /// Takes the data message with whose rows a text begins, as `to_csv` writes them, and answers what is left. Where it takes none,
+    /// nothing changes.
+    pub(crate) fn take_message<'a>(
+        &mut self,
+        maker: &mut RowMaker,
+        written: &mut Vec<u8>,
+        text: &'a [u8],
+    ) -> Result<Option<&'a [u8]>, Misfit>
+        requires { IsSoundChain self.old }
+        ensures sound { IfOk result (λ found. IfSome found (λ left. IsSoundChain self.new)) }
+        ensures rows { IfOk result (λ found. IfSome found (λ left.
+            BeginsWithMore text.now left.now (rows_so_far self.old) (rows_so_far self.new))) }
+        ensures same { IfOk result (λ found. IsNone found → self.new ≡ self.old) }
+    {
+        match &mut self.current {
+            Some(file) => file.take_message(maker, written, text),
+            None => Ok(None),
         }
     }
 

@@ -1,26 +1,86 @@
 //! The rows of the fields of a data message.
-ghost use Rattle.std.specs.Prelude.{◌≡◌, ◌<◌, IfErr, IfOk, OnOk, Some, codes, length, option_copied, option_map, slice_get, unwrap_or};
-ghost use Rattle.fit_base.specs.Fields.{HasShape};
-ghost use Rattle.fit_profile.specs.Described.{Naming};
-ghost use Rattle.fit_record.specs.Environment.{defined_at, dev_defs};
-ghost use Rattle.fit_record.specs.declared.message.Values.{Values};
-ghost use Rattle.fit_profile.specs.Looks.{known};
+ghost use Rattle.std.specs.Prelude.{◌≡◌, [], Some, IfErr, IfOk, IfSome, option_map};
 ghost use Rattle.std.specs.Global.{Global};
-ghost use Rattle.fit_csv.specs.ChainRows.{dev_row, field_row};
-ghost use Rattle.fit_csv.specs.inner.Misfits.{IsMisfit};
+ghost use Rattle.fit_base.specs.declared.items.Items.{Items};
+ghost use Rattle.fit_base.specs.Fields.{HasShape};
+ghost use Rattle.fit_profile.specs.Names.{meaning};
+ghost use Rattle.fit_profile.specs.Scaled.{IsScale};
+ghost use Rattle.fit_cells.specs.Cells.{cell};
+ghost use Rattle.fit_csv.specs.ChainRows.{dev_row, field_row, row};
 ghost use Rattle.fit_csv.specs.RowKinds.{IsDevRow, IsFieldRow, naming_at};
-ghost use Rattle.fit_csv.specs.inner.Progress.{DevStep, FieldStep, MessageStep};
+ghost use Rattle.fit_csv.specs.inner.Misfits.{IsCellFault, IsMisfit, IsValueRow};
 ghost use Rattle.fit_csv.specs.inner.Seven.{row_of};
 
-use crate::from::cells::{Cells, same};
-use crate::from::message::value_row;
+use crate::from::cells::{Cells, first_difference, same};
 use crate::from::misfit::Misfit;
-use crate::rows::developer::{dev_name, dev_unit, numbered_label};
-use crate::rows::message::unit_text;
+use crate::words::{dev_name, dev_unit, numbered_label, unit_text};
 use fit_base::{Code, Items};
-use fit_profile::{Stream, field_info, field_label};
-use fit_record::{Defined, DevDef, FieldDef, Values};
+use fit_cells::cell_items_by;
+use fit_profile::{Info, Stream, field_info, field_label};
+use fit_record::{DevDef, FieldDef};
 use std::alloc::Global;
+use std::str;
+
+/// The items that a cell shows, where it is the cell of some.
+fn items_in(
+    alloc: Global,
+    written: &mut Vec<u8>,
+    shown: &[u8],
+    code: Code,
+    size: u8,
+    info: Option<Info>,
+) -> Result<Option<Items>, Misfit>
+    requires { IfSome info (λ i. IsScale i.scale) }
+    ensures some { IfOk result (λ found. IfSome found (λ items.
+        HasShape code.0 size items × (cell code.0 (option_map meaning info) items ≡ shown.now))) }
+    ensures every { IfOk result (λ found. (items : Items Global) → HasShape code.0 size items
+        → cell code.0 (option_map meaning info) items ≡ shown.now → found ≡ Some items) }
+    ensures memory { IfErr result (λ misfit. misfit ≡ Misfit.NoMemory) }
+{
+    match str::from_utf8(shown) {
+        Ok(text) => Ok(cell_items_by(alloc, written, code, size, info, text)?),
+        Err(_) => Ok(None),
+    }
+}
+
+/// The row of a field with this label, code and size, and with this unit.
+fn value_row(
+    alloc: Global,
+    written: &mut Vec<u8>,
+    cells: &Cells,
+    label: &[u8],
+    code: Code,
+    size: u8,
+    info: Option<Info>,
+    unit: &[u8],
+) -> Result<Items, Misfit>
+    requires { IfSome info (λ i. IsScale i.scale) }
+    ensures shape { IfOk result (HasShape code.0 size) }
+    ensures ok { IfOk result (λ items. row_of cells.now ≡ row cells.now.kind.now label.now
+        (cell code.0 (option_map meaning info) items) unit.now [] [] []) }
+    ensures err { IfErr result (IsCellFault (IsValueRow cells.now.kind.now label.now code.0 size
+        (option_map meaning info) unit.now) (row_of cells.now)) }
+{
+    if !same(cells.a, label) {
+        return Err(Misfit::Cell(2));
+    }
+    let Some(items) = items_in(alloc, written, cells.b, code, size, info)? else {
+        return Err(Misfit::Cell(3));
+    };
+    let shown = Cells {
+        kind: cells.kind,
+        a: cells.a,
+        b: cells.b,
+        c: unit,
+        d: b"",
+        e: b"",
+        f: b"",
+    };
+    match first_difference(cells, &shown) {
+        None => Ok(items),
+        Some(column) => Err(Misfit::Cell(column)),
+    }
+}
 
 /// The row of a field of a message.
 pub(crate) fn field_items(

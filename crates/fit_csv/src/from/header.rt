@@ -1,5 +1,5 @@
 //! The rows in which files begin and end.
-ghost use Rattle.std.specs.Prelude.{◌≡◌, ◌≤◌, ◌<◌, ◌-◌, ◌^◌, [], ℕ, List, All, codes, decimal, IfErr, IfOk, IfSome, IsNone, OnOk, length};
+ghost use Rattle.std.specs.Prelude.{◌≡◌, ◌≤◌, ◌<◌, ◌-◌, ◌^◌, ℕ, List, All, codes, decimal, IfErr, IfOk, IfSome, IsNone, OnOk, length};
 ghost use Rattle.fit_frame.specs.declared.header.HeaderSum.{HeaderSum};
 ghost use Rattle.fit_csv.specs.ChainRows.{end_row, file_row};
 ghost use Rattle.fit_csv.specs.ChainRows as rows;
@@ -12,7 +12,7 @@ ghost use Rattle.fit_csv.specs.inner.Seven.{AsFar, DifferAt, row_of};
 use crate::from::cells::{Cells, first_difference, same};
 use crate::from::misfit::Misfit;
 use crate::from::number::{byte_in, number_in};
-use crate::rows::file::{put_rest, sum_word};
+use crate::words::{put_rest, sum_word};
 use arrayvec::ArrayVec;
 use fit_cells::read_bytes;
 use fit_frame::{Header, HeaderSum};

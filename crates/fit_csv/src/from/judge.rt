@@ -1,21 +1,23 @@
 //! Judges the rows of a text.
-ghost use Rattle.std.specs.Prelude.{◌≡◌, ◌↔◌, ◌<◌, ◌+◌, ◌^◌, ◌∷◌, [], None, IfErr, IfOk, IsTrue, OnOk, length};
+ghost use Rattle.std.specs.Prelude.{◌≡◌, ◌↔◌, ◌<◌, ◌+◌, ◌^◌, ◌++◌, ◌∷◌, [], None, IfErr, IfOk, IfSome, IsTrue, OnOk, length};
 ghost use Rattle.csv.specs.Records.{fields_of};
 ghost use Rattle.fit_csv.specs.declared.from.chain.Chain.{Chain};
 ghost use Rattle.fit_csv.specs.Judged.{AreFilesOf};
 ghost use Rattle.fit_csv.specs.inner.TextFaults.{IsTextFault, IsUnjudged};
 ghost use Rattle.fit_csv.specs.inner.Progress.{ChainStep};
-ghost use Rattle.fit_cells.specs.Rows.{HasRead, first_line};
+ghost use Rattle.fit_cells.specs.Rows.{HasRead, csv_text, first_line};
 ghost use Rattle.fit_csv.specs.inner.Seven.{row_of};
-ghost use Rattle.fit_csv.specs.inner.SoundChain.{IsSoundChain};
+ghost use Rattle.fit_csv.specs.inner.SoundChain.{BeginsWithMore, IsSoundChain, rows_so_far};
 
 use crate::CsvFault;
 use crate::from::cells::{Cells, cells_of, same};
 use crate::from::chain::Chain;
 use crate::from::misfit::Misfit;
+use crate::from::plain::plain_row;
+use crate::rows::maker::RowMaker;
 use csv::{ByteRecord, Reader};
 use fit_base::Entries;
-use fit_cells::{next_row, row_reader};
+use fit_cells::{RowWriter, next_row, row_reader};
 use fit_profile::laws::text_has_one_number;
 use fit_record::FitFile;
 use std::alloc::Global;
@@ -87,6 +89,17 @@ fn whole_files(chain: Chain, rows: u64) -> Result<Entries<FitFile>, CsvFault>
     Ok(chain.files)
 }
 
+/// The files of a chain that is whole.
+fn files_of(chain: Chain) -> Option<Entries<FitFile>>
+    ensures { IfSome result (λ files. (chain.current ≡ None) × (files ≡ chain.files)
+        × (0 < length files)) }
+{
+    match whole_files(chain, 0) {
+        Ok(files) => Some(files),
+        Err(_) => None,
+    }
+}
+
 /// Judges the rows behind the first line.
 fn judge_rest(
     alloc: Global,
@@ -113,8 +126,72 @@ fn judge_rest(
     unreachable!()
 }
 
-/// The files whose rows are those of a text, or the first fault of its rows.
-pub(crate) fn judge(alloc: Global, text: &[u8]) -> Result<Entries<FitFile>, CsvFault>
+/// What comes after the first line of a text, where that stands as `to_csv` writes it.
+fn behind_first_line(text: &[u8]) -> Option<&[u8]>
+    ensures { IfSome result (λ rest. text.now ≡ csv_text (first_line ∷ []) ++ rest.now) }
+{
+    text.strip_prefix(b"row,a,b,c,d,e,f\n")
+}
+
+/// Takes the row with which a text begins, as `to_csv` writes it, and answers what is left.
+fn take_plain<'a>(
+    alloc: Global,
+    writer: &mut RowWriter,
+    written: &mut Vec<u8>,
+    chain: &mut Chain,
+    text: &'a [u8],
+) -> Option<&'a [u8]>
+    requires { IsSoundChain chain.old }
+    ensures sound { IfSome result (λ left. IsSoundChain chain.new) }
+    ensures rows { IfSome result (λ left.
+        BeginsWithMore text.now left.now (rows_so_far chain.old) (rows_so_far chain.new)) }
+{
+    let (cells, left) = plain_row(writer, written, text)?;
+    match chain.take_row(alloc, written, &cells) {
+        Ok(()) => Some(left),
+        Err(_) => None,
+    }
+}
+
+/// Takes the data message with whose rows a text begins, or else its first row, and answers what is left.
+fn take_next<'a>(
+    alloc: Global,
+    maker: &mut RowMaker,
+    written: &mut Vec<u8>,
+    chain: &mut Chain,
+    text: &'a [u8],
+) -> Option<&'a [u8]>
+    requires { IsSoundChain chain.old }
+    ensures sound { IfSome result (λ left. IsSoundChain chain.new) }
+    ensures rows { IfSome result (λ left.
+        BeginsWithMore text.now left.now (rows_so_far chain.old) (rows_so_far chain.new)) }
+{
+    match chain.take_message(maker, written, text) {
+        Ok(Some(left)) => Some(left),
+        Ok(None) => take_plain(alloc, &mut maker.writer, written, chain, text),
+        Err(_) => None,
+    }
+}
+
+/// The files whose rows are those of a text, where it stands as `to_csv` writes it. Some such texts are left to `judge_any`.
+fn judge_plain(alloc: Global, text: &[u8]) -> Option<Entries<FitFile>>
+    ensures { IfSome result (AreFilesOf text.now) }
+{
+    let mut rest = behind_first_line(text)?;
+    let mut chain = Chain::new(alloc);
+    let mut maker = RowMaker::new(alloc);
+    let mut written = Vec::new(alloc);
+    for _ in 0..text.len() {
+        if rest.is_empty() {
+            return files_of(chain);
+        }
+        rest = take_next(alloc, &mut maker, &mut written, &mut chain, rest)?;
+    }
+    None
+}
+
+/// The files whose rows are those of a text, or the first fault of its rows. The crate csv reads its rows.
+fn judge_any(alloc: Global, text: &[u8]) -> Result<Entries<FitFile>, CsvFault>
     ensures ok { IfOk result (AreFilesOf text.now) }
     ensures err { IfErr result (IsTextFault text.now) }
 {
@@ -130,4 +207,15 @@ pub(crate) fn judge(alloc: Global, text: &[u8]) -> Result<Entries<FitFile>, CsvF
         return Err(CsvFault::Header);
     }
     judge_rest(alloc, text, &mut reader, &mut row)
+}
+
+/// The files whose rows are those of a text, or the first fault of its rows.
+pub(crate) fn judge(alloc: Global, text: &[u8]) -> Result<Entries<FitFile>, CsvFault>
+    ensures ok { IfOk result (AreFilesOf text.now) }
+    ensures err { IfErr result (IsTextFault text.now) }
+{
+    match judge_plain(alloc, text) {
+        Some(files) => Ok(files),
+        None => judge_any(alloc, text),
+    }
 }

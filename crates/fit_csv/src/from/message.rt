@@ -1,29 +1,21 @@
 //! Rows of data messages.
-ghost use Rattle.std.specs.Prelude.{◌≡◌, ◌<◌, [], ℕ, List, Option, Some, codes, decimal, IfErr, IfOk, IfSome, IsSome, is_some, option_map, unwrap_or};
-ghost use Rattle.std.specs.Global.{Global};
-ghost use Rattle.fit_base.specs.declared.items.Items.{Items};
-ghost use Rattle.fit_base.specs.Fields.{HasShape};
+ghost use Rattle.std.specs.Prelude.{◌≡◌, ◌<◌, ℕ, Option, Some, codes, decimal, IfErr, IfOk, IfSome, IsSome, is_some};
 ghost use Rattle.fit_profile.specs.Looks.{known};
-ghost use Rattle.fit_profile.specs.Names.{meaning};
-ghost use Rattle.fit_profile.specs.Scaled.{IsScale};
 ghost use Rattle.fit_record.specs.Environment.{defined_at};
 ghost use Rattle.fit_record.specs.Records.{DataHeaderFits};
-ghost use Rattle.fit_cells.specs.Cells.{cell};
-ghost use Rattle.fit_csv.specs.ChainRows.{optional_number, row};
-ghost use Rattle.fit_csv.specs.inner.Misfits.{IsMessageOrEnd, IsMessageRow, IsMessageStart, IsCellFault, IsValueRow, global_at, message_row};
+ghost use Rattle.fit_csv.specs.ChainRows.{optional_number};
+ghost use Rattle.fit_csv.specs.inner.Misfits.{IsMessageOrEnd, IsMessageRow, IsMessageStart, IsCellFault, global_at, message_row};
 ghost use Rattle.fit_csv.specs.inner.Seven.{row_of};
 
 use crate::from::cells::{Cells, first_difference, same};
 use crate::from::misfit::Misfit;
 use crate::from::number::byte_in;
-use crate::rows::message::{header_time, optional_number, time_text};
-use fit_base::{Code, Entries, Items};
-use fit_cells::cell_items_by;
-use fit_profile::{Info, Stream, message_label};
+use crate::words::{header_time, optional_number, time_text};
+use fit_base::Entries;
+use fit_profile::{Stream, message_label};
 use fit_record::Values;
 use itoa::Buffer;
 use std::alloc::Global;
-use std::str;
 
 /// Whether a local message type is defined.
 fn is_defined(before: &Stream, local: u8) -> bool
@@ -133,66 +125,5 @@ pub(crate) fn message_head(alloc: Global, cells: &Cells, before: &Stream) -> Res
     match defined_local(cells.a, before) {
         Some(local) => rest_of_message(alloc, cells, before, local),
         None => Err(Misfit::Cell(2)),
-    }
-}
-
-/// The items that a cell shows, where it is the cell of some.
-fn items_in(
-    alloc: Global,
-    written: &mut Vec<u8>,
-    shown: &[u8],
-    code: Code,
-    size: u8,
-    info: Option<Info>,
-) -> Result<Option<Items>, Misfit>
-    requires { IfSome info (λ i. IsScale i.scale) }
-    ensures some { IfOk result (λ found. IfSome found (λ items.
-        HasShape code.0 size items × (cell code.0 (option_map meaning info) items ≡ shown.now))) }
-    ensures every { IfOk result (λ found. (items : Items Global) → HasShape code.0 size items
-        → cell code.0 (option_map meaning info) items ≡ shown.now → found ≡ Some items) }
-    ensures memory { IfErr result (λ misfit. misfit ≡ Misfit.NoMemory) }
-{
-    match str::from_utf8(shown) {
-        Ok(text) => Ok(cell_items_by(alloc, written, code, size, info, text)?),
-        Err(_) => Ok(None),
-    }
-}
-
-/// The row of a field with this label, code and size, and with this unit.
-pub(crate) fn value_row(
-    alloc: Global,
-    written: &mut Vec<u8>,
-    cells: &Cells,
-    label: &[u8],
-    code: Code,
-    size: u8,
-    info: Option<Info>,
-    unit: &[u8],
-) -> Result<Items, Misfit>
-    requires { IfSome info (λ i. IsScale i.scale) }
-    ensures shape { IfOk result (HasShape code.0 size) }
-    ensures ok { IfOk result (λ items. row_of cells.now ≡ row cells.now.kind.now label.now
-        (cell code.0 (option_map meaning info) items) unit.now [] [] []) }
-    ensures err { IfErr result (IsCellFault (IsValueRow cells.now.kind.now label.now code.0 size
-        (option_map meaning info) unit.now) (row_of cells.now)) }
-{
-    if !same(cells.a, label) {
-        return Err(Misfit::Cell(2));
-    }
-    let Some(items) = items_in(alloc, written, cells.b, code, size, info)? else {
-        return Err(Misfit::Cell(3));
-    };
-    let shown = Cells {
-        kind: cells.kind,
-        a: cells.a,
-        b: cells.b,
-        c: unit,
-        d: b"",
-        e: b"",
-        f: b"",
-    };
-    match first_difference(cells, &shown) {
-        None => Ok(items),
-        Some(column) => Err(Misfit::Cell(column)),
     }
 }

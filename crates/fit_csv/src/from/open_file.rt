@@ -1,12 +1,12 @@
 //! A file of which not all rows have come.
-ghost use Rattle.std.specs.Prelude.{◌≡◌, ◌↔◌, IfErr, IfOk, IsTrue, OnOk, codes};
+ghost use Rattle.std.specs.Prelude.{◌≡◌, ◌↔◌, IfErr, IfOk, IfSome, IsNone, IsTrue, OnOk, codes};
 ghost use Rattle.fit_record.specs.Records.{Fits};
 ghost use Rattle.fit_profile.specs.Looks.{known};
 ghost use Rattle.fit_csv.specs.declared.from.open_file.Part.{Part};
 ghost use Rattle.fit_csv.specs.inner.Misfits.{IsMisfit};
 ghost use Rattle.fit_csv.specs.inner.Progress.{CanStandNext, FileStep, FitsOnceWhole, PartHasRoom, PartStep, settled, with_record};
 ghost use Rattle.fit_csv.specs.inner.Seven.{row_of};
-ghost use Rattle.fit_csv.specs.inner.SoundChain.{IsSoundFile};
+ghost use Rattle.fit_csv.specs.inner.SoundChain.{BeginsWithMore, IsSoundFile, open_file_rows};
 
 use crate::from::cells::{Cells, same};
 use crate::from::definition::{OpenDefinition, definition_head};
@@ -14,6 +14,8 @@ use crate::from::message::message_head;
 use crate::from::misfit::Misfit;
 use crate::from::open_definition::{definition_of, is_whole, take_definition};
 use crate::from::open_message::{is_whole_message, take_message};
+use crate::from::whole::whole_message;
+use crate::rows::maker::RowMaker;
 use fit_base::Entries;
 use fit_frame::Header;
 use fit_profile::Stream;
@@ -109,6 +111,30 @@ fn next_part(
 }
 
 impl OpenFile {
+    /// Takes the data message with whose rows a text begins, as `to_csv` writes them, and answers what is left. Where it takes none,
+    /// nothing changes.
+    pub(crate) fn take_message<'a>(
+        &mut self,
+        maker: &mut RowMaker,
+        written: &mut Vec<u8>,
+        text: &'a [u8],
+    ) -> Result<Option<&'a [u8]>, Misfit>
+        requires { IsSoundFile self.old }
+        ensures sound { IfOk result (λ found. IfSome found (λ left. IsSoundFile self.new)) }
+        ensures rows { IfOk result (λ found. IfSome found (λ left.
+            BeginsWithMore text.now left.now (open_file_rows self.old) (open_file_rows self.new))) }
+        ensures same { IfOk result (λ found. IsNone found → self.new ≡ self.old) }
+    {
+        if !self.is_between_records() {
+            return Ok(None);
+        }
+        let Some((message, left)) = whole_message(maker, written, &self.before, text) else {
+            return Ok(None);
+        };
+        self.add_record(message)?;
+        Ok(Some(left))
+    }
+
     /// A record is whole.
     fn add_record(&mut self, r: Record) -> Result<(), Misfit>
         requires { Fits (known self.old.before) r }
@@ -116,7 +142,7 @@ impl OpenFile {
         ensures err { IfErr result (λ misfit. misfit ≡ Misfit.NoMemory) }
     {
         self.part = Part::Nothing;
-        self.before.push(&r)?;
+        self.before.take(&r)?;
         match self.records.push(r) {
             Ok(()) => Ok(()),
             Err(_) => Err(Misfit::NoMemory),

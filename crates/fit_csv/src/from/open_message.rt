@@ -2,9 +2,7 @@
 ghost use Rattle.std.specs.Prelude.{◌≡◌, ◌≤◌, ◌⊎◌, ◌++◌, ◌∷◌, [], IfErr, OnOk, Some, length, slice_get};
 ghost use Rattle.std.specs.Global.{Global};
 ghost use Rattle.fit_record.specs.declared.message.Values.{Values};
-ghost use Rattle.fit_record.specs.Environment.{defined_at, dev_defs};
 ghost use Rattle.fit_record.specs.Sound.{IsSound};
-ghost use Rattle.fit_profile.specs.Looks.{known};
 ghost use Rattle.fit_csv.specs.inner.Misfits.{IsMisfit};
 ghost use Rattle.fit_csv.specs.inner.Progress.{DevStep, FieldStep, HasRoom, MessageStep, is_whole_message};
 ghost use Rattle.fit_csv.specs.inner.Seven.{row_of};
@@ -12,7 +10,7 @@ ghost use Rattle.fit_csv.specs.inner.Seven.{row_of};
 use crate::from::cells::Cells;
 use crate::from::fields::{dev_items, field_items};
 use crate::from::misfit::Misfit;
-use crate::rows::definition::dev_slice;
+use crate::words::dev_slice;
 use fit_base::{Entries, Items};
 use fit_profile::Stream;
 use fit_record::{Defined, FieldDef, Values};

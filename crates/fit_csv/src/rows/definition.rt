@@ -1,24 +1,14 @@
 //! The rows of definition messages.
 ghost use Rattle.std.specs.Prelude.{◌≡◌, ◌∷◌, [], OnOk, decimal, map};
-ghost use Rattle.fit_record.specs.Environment.{dev_defs};
 ghost use Rattle.fit_cells.specs.Rows.{HasRows};
 ghost use Rattle.fit_csv.specs.ChainRows as rows;
 
-use fit_base::{Entries, Order};
+use crate::words::{dev_slice, order_word};
+use fit_base::Entries;
 use fit_cells::RowWriter;
 use fit_record::{DevDef, FieldDef, MessageDef};
 use itoa::Buffer;
 use std::alloc::AllocError;
-
-/// The word for a byte order.
-pub(crate) fn order_word(order: Order) -> &'static str
-    ensures { result.now ≡ rows.order_word order }
-{
-    match order {
-        Order::Little => "little",
-        Order::Big => "big",
-    }
-}
 
 /// How many developer fields a definition has, as a cell.
 fn dev_count<'a>(digits: &'a mut Buffer, dev: &Option<Entries<DevDef>>) -> &'a [u8]
@@ -108,16 +98,6 @@ fn put_dev_defs(
         put_numbers(text, writer, b"ddef", field.number, field.size, field.index)?;
     }
     Ok(())
-}
-
-/// The developer fields of a definition, none where it has no such part.
-pub(crate) fn dev_slice(dev: &Option<Entries<DevDef>>) -> &[DevDef]
-    ensures { result.now ≡ dev_defs dev.now }
-{
-    match dev {
-        Some(fields) => fields.as_slice(),
-        None => &[],
-    }
 }
 
 /// Puts the rows of a definition message.

@@ -1,83 +1,174 @@
 //! The rows of the developer fields of data messages.
-ghost use Rattle.std.specs.Prelude.{◌≡◌, ◌<◌, ◌++◌, ◌∷◌, [], None, OnOk, codes, decimal, length, map, option_and_then, slice_get, unwrap_or, zip};
+ghost use Rattle.std.specs.Prelude.{◌≡◌, ◌<◌, ◌++◌, ◌∷◌, [], None, IfOk, IsTrue, OnOk, codes, decimal, length, map, option_and_then, slice_get, unwrap_or, zip};
 ghost use Rattle.fit_base.specs.Fields.{HasShape};
 ghost use Rattle.fit_record.specs.Records.{HaveShape};
 ghost use Rattle.fit_profile.specs.Described.{namings_at};
 ghost use Rattle.fit_cells.specs.Cells.{cell};
 ghost use Rattle.fit_cells.specs.Rows.{HasRows};
 ghost use Rattle.fit_csv.specs.ChainRows as rows;
+ghost use Rattle.fit_csv.specs.inner.Frames.{dev_key, value_row};
 
-use crate::rows::message::put_value;
-use fit_base::{Code, Items};
-use fit_cells::{RowWriter, put_cell};
-use fit_profile::{Label, Stream};
+use crate::rows::frames::{Frame, put_tail};
+use crate::rows::maker::{RowMaker, keep_at};
+use crate::words::{dev_unit, numbered_label};
+use fit_base::Items;
+use fit_cells::RowWriter;
+use fit_profile::Stream;
 use fit_record::DevDef;
-use itoa::Buffer;
-use std::alloc::AllocError;
+use std::alloc::{AllocError, Global};
+use std::marker::Model;
 
-/// The label of a developer field without a name: its developer data index and its number.
-pub(crate) fn numbered_label(field: &DevDef) -> Label
-    ensures { result.bytes ≡ codes "dev_" ++ decimal field.now.index ++ codes "_"
-        ++ decimal field.now.number }
-{
-    let mut label = Label::new();
-    label.push_str("dev_");
-    label.push_str(Buffer::new().format(field.index));
-    label.push_str("_");
-    label.push_str(Buffer::new().format(field.number));
-    label
+/// What stands around the values of a developer field of this name and unit in their rows.
+#[derive(Drop)]
+pub(crate) struct DevFrame {
+    name: Vec<u8>,
+    unit: Vec<u8>,
+    code: u8,
+    size: u8,
+    frame: Frame,
+    tail: Vec<u8>,
 }
 
-/// The name of a developer field of the next message of a local message type, or else this label.
-pub(crate) fn dev_name<'a>(stream: &'a Stream, local: u8, place: u8, label: &'a Label) -> &'a str
-    ensures { result.now ≡ unwrap_or (option_and_then (λ t. t.name)
-        (slice_get (namings_at stream.now local) place)) label.now.bytes }
-{
-    match stream.dev_name(local, place) {
-        Some(name) => name,
-        None => label.as_str(),
+impl Model for DevFrame {
+    ghost use Rattle.std.specs.Prelude.{◌≡◌, [], None, codes};
+    ghost use Rattle.fit_csv.specs.inner.Frames.{FrameKey, dev_key, frame_text, tail_text};
+
+    ghost Value = { FrameKey };
+
+    ghost view = { λ f. dev_key f.name.items f.unit.items f.code f.size };
+
+    ghost invariant = { λ f.
+        (f.frame ≡ frame_text [] (dev_key f.name.items f.unit.items f.code f.size))
+        × (f.tail.items ≡ tail_text (dev_key f.name.items f.unit.items f.code f.size)) };
+}
+
+impl DevFrame {
+    fn new(
+        alloc: Global,
+        writer: &mut RowWriter,
+        name: &str,
+        unit: &str,
+        code: u8,
+        size: u8,
+    ) -> Result<DevFrame, AllocError>
+        ensures { IfOk result (λ f. f ≡ dev_key name.now unit.now code size) }
+    {
+        let mut own_name = Vec::new(alloc);
+        own_name.extend_from_slice(name.as_bytes())?;
+        let mut own_unit = Vec::new(alloc);
+        own_unit.extend_from_slice(unit.as_bytes())?;
+        let kind = b"dev".as_slice();
+        let frame = Frame::new(
+            alloc,
+            writer,
+            b"",
+            kind,
+            own_name.as_slice(),
+            code,
+            size,
+            None,
+        )?;
+        let mut tail = Vec::new(alloc);
+        put_tail(&mut tail, writer, own_unit.as_slice())?;
+        Ok(DevFrame {
+            name: own_name,
+            unit: own_unit,
+            code,
+            size,
+            frame,
+            tail,
+        })
+    }
+
+    /// Whether it is that of a field of this name, unit, code and size.
+    fn is_of(&self, name: &str, unit: &str, code: u8, size: u8) -> bool
+        ensures { IsTrue result → self.now ≡ dev_key name.now unit.now code size }
+    {
+        self.code == code
+            && self.size == size
+            && self.name.as_slice() == name.as_bytes()
+            && self.unit.as_slice() == unit.as_bytes()
+    }
+
+    /// Puts the row of a value.
+    fn put(
+        &self,
+        text: &mut Vec<u8>,
+        writer: &mut RowWriter,
+        value: &mut Vec<u8>,
+        items: &Items,
+    ) -> Result<(), AllocError>
+        requires { HasShape self.now.code self.now.size items.now }
+        ensures { OnOk result (HasRows (value_row self.now items.now ∷ []) text.old text.new) }
+    {
+        self.frame.put(text, writer, value, items)?;
+        text.extend_from_slice(self.tail.as_slice())?;
+        Ok(())
     }
 }
 
-/// The unit of a developer field of the next message of a local message type, or an empty text.
-pub(crate) fn dev_unit(stream: &Stream, local: u8, place: u8) -> &str
-    ensures { result.now ≡ unwrap_or (option_and_then (λ t. t.unit)
-        (slice_get (namings_at stream.now local) place)) [] }
-{
-    match stream.dev_unit(local, place) {
-        Some(unit) => unit,
-        None => "",
-    }
-}
-
-/// Puts the row of a developer field by its described code, its label and its unit.
-fn put_dev_field<'a>(
+/// Puts the row of a developer field by its place, its described code, its name and its unit.
+fn put_dev_field(
     text: &mut Vec<u8>,
-    writer: &mut RowWriter,
-    value: &'a mut Vec<u8>,
+    maker: &mut RowMaker,
+    place: usize,
+    size: u8,
+    code: u8,
+    items: &Items,
+    name: &str,
+    unit: &str,
+) -> Result<(), AllocError>
+    requires { HasShape code size items.now }
+    ensures { OnOk result (HasRows
+        (value_row (dev_key name.now unit.now code size) items.now ∷ []) text.old text.new) }
+{
+    if let Some(Some(frame)) = maker.dev_frames.as_slice().get(place) {
+        if frame.is_of(name, unit, code, size) {
+            return frame.put(text, &mut maker.writer, &mut maker.value, items);
+        }
+    }
+    let frame = DevFrame::new(maker.alloc, &mut maker.writer, name, unit, code, size)?;
+    frame.put(text, &mut maker.writer, &mut maker.value, items)?;
+    keep_at(&mut maker.dev_frames, place, frame)
+}
+
+/// Puts the row of a developer field of the next message of a local message type by its described code, with the name and the unit
+/// that it has after the records of a stream.
+fn put_named(
+    text: &mut Vec<u8>,
+    maker: &mut RowMaker,
+    stream: &Stream,
+    local: u8,
+    place: u8,
     field: &DevDef,
     code: u8,
     items: &Items,
-    label: &'a str,
-    unit: &'a str,
 ) -> Result<(), AllocError>
     requires { HasShape code field.now.size items.now }
-    ensures { OnOk result (HasRows (rows.row (codes "dev") label.now (cell code None items.now)
-        unit.now [] [] [] ∷ []) text.old text.new) }
+    ensures { OnOk result (HasRows (rows.row (codes "dev")
+        (unwrap_or (option_and_then (λ t. t.name) (slice_get (namings_at stream.now local) place))
+        (codes "dev_" ++ decimal field.now.index ++ codes "_" ++ decimal field.now.number))
+        (cell code None items.now)
+        (unwrap_or (option_and_then (λ t. t.unit) (slice_get (namings_at stream.now local) place))
+        []) [] [] [] ∷ []) text.old text.new) }
 {
-    value.clear();
-    put_cell(value, Code(code), None, items)?;
-    let name = label.as_bytes();
-    let unit = unit.as_bytes();
-    put_value(text, writer, b"dev", name, value.as_slice(), unit)
+    let kept = place as usize * 16 + local as usize;
+    let unit = dev_unit(stream, local, place);
+    match stream.dev_name(local, place) {
+        Some(name) => put_dev_field(text, maker, kept, field.size, code, items, name, unit),
+        None => {
+            let label = numbered_label(field);
+            let name = label.as_str();
+            put_dev_field(text, maker, kept, field.size, code, items, name, unit)
+        }
+    }
 }
 
 /// Puts the rows of the developer fields of a message of this local message type, with the names and units that they have after
 /// the records of a stream.
 pub(crate) fn put_dev_fields(
     text: &mut Vec<u8>,
-    writer: &mut RowWriter,
-    value: &mut Vec<u8>,
+    maker: &mut RowMaker,
     stream: &Stream,
     local: u8,
     fields: &[DevDef],
@@ -92,11 +183,9 @@ pub(crate) fn put_dev_fields(
         (namings_at stream.now local) items.now) text.old text.new) }
 {
     for (place, field) in fields.iter().enumerate() {
-        let numbered = numbered_label(field);
-        let label = dev_name(stream, local, place as u8, &numbered);
-        let unit = dev_unit(stream, local, place as u8);
         let code = dev_codes[place];
-        put_dev_field(text, writer, value, field, code, &items[place], label, unit)?;
+        let item = &items[place];
+        put_named(text, maker, stream, local, place as u8, field, code, item)?;
     }
     Ok(())
 }

@@ -3,21 +3,12 @@ ghost use Rattle.std.specs.Prelude.{◌≡◌, ◌∷◌, [], OnOk};
 ghost use Rattle.fit_cells.specs.Rows.{HasRows};
 ghost use Rattle.fit_csv.specs.ChainRows as rows;
 
-use fit_cells::{RowWriter, put_digits};
-use fit_frame::{Header, HeaderSum};
+use crate::rows::maker::RowMaker;
+use crate::words::{put_rest, sum_word};
+use fit_cells::RowWriter;
+use fit_frame::Header;
 use itoa::Buffer;
 use std::alloc::AllocError;
-
-/// The word for what the two bytes behind the fixed part of a header hold.
-pub(crate) fn sum_word(sum: HeaderSum) -> &'static str
-    ensures { result.now ≡ rows.sum_word sum }
-{
-    match sum {
-        HeaderSum::Absent => "none",
-        HeaderSum::Zero => "zero",
-        HeaderSum::True => "sum",
-    }
-}
 
 /// Puts the row of a header by the word of its sum and the cell of its bytes from place 14 on.
 fn put_header_cells<'a>(
@@ -49,30 +40,15 @@ fn put_header_cells<'a>(
 /// Puts the row of a header.
 pub(crate) fn put_file_row(
     text: &mut Vec<u8>,
-    writer: &mut RowWriter,
-    value: &mut Vec<u8>,
+    maker: &mut RowMaker,
     header: &Header,
 ) -> Result<(), AllocError>
     ensures { OnOk result (HasRows (rows.file_row header.now ∷ []) text.old text.new) }
 {
-    put_rest(value, header.rest.as_slice())?;
+    put_rest(&mut maker.value, header.rest.as_slice())?;
     let word = sum_word(header.sum).as_bytes();
-    put_header_cells(text, writer, header, word, value.as_slice())
-}
-
-/// Makes a cell of the bytes of a header from place 14 on.
-pub(crate) fn put_rest(value: &mut Vec<u8>, rest: &[u8]) -> Result<(), AllocError>
-    ensures { OnOk result (value.new.items ≡ rows.rest_text rest.now) }
-{
-    value.clear();
-    if rest.is_empty() {
-        return Ok(());
-    }
-    value.extend_from_slice(b"0x")?;
-    for byte in rest {
-        put_digits(value, 2, *byte as u64)?;
-    }
-    Ok(())
+    let rest = maker.value.as_slice();
+    put_header_cells(text, &mut maker.writer, header, word, rest)
 }
 
 /// Puts the row that ends a file.

@@ -1,147 +1,149 @@
-//! What stands around the values of fields in their rows, found out once for many messages.
-ghost use Rattle.std.specs.Prelude.{◌≡◌, ◌∷◌, [], IfOk, IfSome, IsTrue, OnOk, option_map};
+//! What stands around values in their rows, found out once for many messages.
+ghost use Rattle.std.specs.Prelude.{◌≡◌, ◌++◌, ◌∷◌, [], IfOk, IfSome, List, OnOk, codes, map, option_map, zip};
+ghost use Rattle.csv.specs.Writing.{default_writer, field_text, needs_quotes};
 ghost use Rattle.fit_base.specs.Fields.{HasShape};
-ghost use Rattle.fit_profile.specs.Names as names;
+ghost use Rattle.fit_record.specs.Records.{HaveShape};
+ghost use Rattle.fit_profile.specs.Names.{meaning};
 ghost use Rattle.fit_profile.specs.Scaled.{IsScale};
+ghost use Rattle.fit_cells.specs.Cells.{cell};
 ghost use Rattle.fit_cells.specs.Forms.{IsFormOf, IsSmallForm};
 ghost use Rattle.fit_cells.specs.Rows.{HasRows};
-ghost use Rattle.fit_csv.specs.ChainRows as rows;
-ghost use Rattle.fit_csv.specs.inner.Frames.{head_text, tail_text};
+ghost use Rattle.fit_csv.specs.inner.Frames.{FrameKey, end_of, frames_of, two_cells, value_row};
 
-use crate::rows::message::{put_value, unit_text};
+pub(crate) mod likely;
+
 use fit_base::{Code, Items};
-use fit_cells::{NumberForm, RowWriter, lone_number, number_form, put_cell, put_formed, row_text};
-use fit_profile::{Info, field_info, field_label};
-use fit_record::FieldDef;
+use fit_cells::{NumberForm, RowWriter, lone_number, number_form, put_cell, put_formed};
+use fit_profile::Info;
 use std::alloc::{AllocError, Global};
 use std::marker::Model;
 
-/// How many fields are kept at most.
-const KEPT: usize = 1024;
-
-/// What stands before the value of a field in its row.
-#[tactic(auto, using(crate::proofs::FramedRows::front_of_row))]
-fn head_of(alloc: Global, global: u16, number: u8) -> Result<Vec<u8>, AllocError>
-    ensures { IfOk result (λ head. head.items ≡ head_text global number) }
-{
-    let label = field_label(global, number);
-    let cells = [
-        b"field".as_slice(),
-        label.as_str().as_bytes(),
-        b"".as_slice(),
-    ];
-    let mut head = row_text(alloc, cells.as_slice())?;
-    // without the line feed
-    head.truncate(head.len().saturating_sub(1));
-    Ok(head)
-}
-
-/// What stands after the value of a field in its row.
-#[tactic(auto, using(crate::proofs::FramedRows::rest_of_row))]
-fn tail_of(
-    alloc: Global,
-    global: u16,
-    number: u8,
-    info: Option<Info>,
-) -> Result<Vec<u8>, AllocError>
-    requires { option_map names.meaning info ≡ names.field global number }
-    ensures { IfOk result (λ tail. tail.items ≡ tail_text global number) }
-{
-    let cells = [
-        b"".as_slice(),
-        unit_text(info).as_bytes(),
-        b"".as_slice(),
-        b"".as_slice(),
-        b"".as_slice(),
-    ];
-    row_text(alloc, cells.as_slice())
-}
-
-/// Puts the row of a field through the crate csv.
-fn put_any(
+/// Puts two cells behind a text, each with a comma behind it.
+#[tactic(auto, using(crate::proofs::FramedRows::two_of_row))]
+pub(crate) fn put_two<'a>(
     text: &mut Vec<u8>,
     writer: &mut RowWriter,
-    value: &mut Vec<u8>,
-    global: u16,
-    field: &FieldDef,
-    items: &Items,
+    first: &'a [u8],
+    second: &'a [u8],
 ) -> Result<(), AllocError>
-    requires { HasShape field.now.code field.now.size items.now }
-    ensures { OnOk result (HasRows (rows.field_row global field.now items.now ∷ []) text.old
-        text.new) }
+    ensures { OnOk result (text.new.items ≡ text.old.items ++ two_cells first.now second.now) }
 {
-    let info = field_info(global, field.number);
-    value.clear();
-    put_cell(value, Code(field.code), info, items)?;
-    let label = field_label(global, field.number);
-    let name = label.as_str().as_bytes();
-    let unit = unit_text(info).as_bytes();
-    put_value(text, writer, b"field", name, value.as_slice(), unit)
+    let cells = [
+        first,
+        second,
+        b"".as_slice(),
+        b"".as_slice(),
+        b"".as_slice(),
+        b"".as_slice(),
+        b"".as_slice(),
+    ];
+    writer.put(text, cells.as_slice())?;
+    // without the commas behind the other cells, and the line feed
+    text.truncate(text.len().saturating_sub(5));
+    Ok(())
 }
 
-/// What stands around the value of a field of a base type in its row.
+/// Puts what stands behind a value with this unit in its row.
+pub(crate) fn put_tail(
+    text: &mut Vec<u8>,
+    writer: &mut RowWriter,
+    unit: &[u8],
+) -> Result<(), AllocError>
+    ensures { OnOk result (text.new.items ≡ text.old.items ++ two_cells [] unit.now
+        ++ codes ",,\n") }
+{
+    put_two(text, writer, b"", unit)?;
+    text.extend_from_slice(b",,\n")
+}
+
+/// Puts a cell behind a text as the crate csv writes it in a row.
+#[tactic(auto, using(crate::proofs::FramedRows::one_of_row))]
+fn put_any_cell(text: &mut Vec<u8>, writer: &mut RowWriter, cell: &[u8]) -> Result<(), AllocError>
+    ensures { OnOk result (text.new.items
+        ≡ text.old.items ++ field_text default_writer cell.now) }
+{
+    let cells = [
+        cell,
+        b"".as_slice(),
+        b"".as_slice(),
+        b"".as_slice(),
+        b"".as_slice(),
+        b"".as_slice(),
+        b"".as_slice(),
+    ];
+    writer.put(text, cells.as_slice())?;
+    // without the commas behind it, and the line feed
+    text.truncate(text.len().saturating_sub(7));
+    Ok(())
+}
+
+/// What stands between the value before and one's own, and how one's own is read.
 #[derive(Drop)]
 pub(crate) struct Frame {
-    global: u16,
-    number: u8,
+    between: Vec<u8>,
     code: u8,
+    size: u8,
     info: Option<Info>,
     form: Option<NumberForm>,
-    head: Vec<u8>,
-    tail: Vec<u8>,
 }
 
 impl Model for Frame {
-    ghost use Rattle.std.specs.Prelude.{◌≡◌, IfSome, option_map};
-    ghost use Rattle.fit_profile.specs.Names.{field, meaning};
+    ghost use Rattle.std.specs.Prelude.{IfSome, option_map};
+    ghost use Rattle.fit_profile.specs.Names.{meaning};
     ghost use Rattle.fit_profile.specs.Scaled.{IsScale};
     ghost use Rattle.fit_cells.specs.Forms.{IsFormOf, IsSmallForm};
-    ghost use Rattle.fit_csv.specs.inner.Frames.{FieldKey, head_text, tail_text};
+    ghost use Rattle.fit_csv.specs.inner.Frames.{FrameText};
 
-    ghost Value = { FieldKey };
+    ghost Value = { FrameText };
 
-    ghost view = { λ f. record { global = f.global; number = f.number; code = f.code } };
+    ghost view = { λ f. record {
+      between = f.between.items;
+      code = f.code;
+      size = f.size;
+      info = option_map meaning f.info;
+    } };
 
-    ghost invariant = { λ f. (option_map meaning f.info ≡ field f.global f.number)
-        × IfSome f.info (λ i. IsScale i.scale) × IfSome f.form IsSmallForm
-        × IfSome f.form (IsFormOf f.code (option_map meaning f.info))
-        × (f.head.items ≡ head_text f.global f.number)
-        × (f.tail.items ≡ tail_text f.global f.number) };
+    ghost invariant = { λ f. IfSome f.info (λ i. IsScale i.scale) × IfSome f.form IsSmallForm
+        × IfSome f.form (IsFormOf f.code (option_map meaning f.info)) };
 }
 
 impl Frame {
-    /// Finds out what stands around the value of a field.
-    fn new(alloc: Global, global: u16, field: &FieldDef) -> Result<Frame, AllocError>
-        ensures { IfOk result (λ f. f ≡
-            record { global = global; number = field.now.number; code = field.now.code }) }
+    /// What stands around a value of this code, size and meaning behind a row with this end.
+    pub(crate) fn new<'a>(
+        alloc: Global,
+        writer: &mut RowWriter,
+        before: &[u8],
+        kind: &'a [u8],
+        name: &'a [u8],
+        code: u8,
+        size: u8,
+        info: Option<Info>,
+    ) -> Result<Frame, AllocError>
+        requires { IfSome info (λ i. IsScale i.scale) }
+        ensures { IfOk result (λ f. f ≡ record {
+          between = before.now
+              ++ two_cells kind.now name.now;
+          code = code;
+          size = size;
+          info = option_map meaning info;
+        }) }
     {
-        let info = field_info(global, field.number);
-        let head = head_of(alloc, global, field.number)?;
-        let tail = tail_of(alloc, global, field.number, info)?;
+        let mut between = Vec::new(alloc);
+        between.extend_from_slice(before)?;
+        put_two(&mut between, writer, kind, name)?;
         Ok(Frame {
-            global,
-            number: field.number,
-            code: field.code,
+            between,
+            code,
+            size,
             info,
-            form: number_form(Code(field.code), info),
-            head,
-            tail,
+            form: number_form(Code(code), info),
         })
     }
 
-    /// Whether it is what stands around the value of this field.
-    fn is_of(&self, global: u16, field: &FieldDef) -> bool
-        ensures { IsTrue result → self.now ≡
-            record { global = global; number = field.now.number; code = field.now.code } }
-    {
-        self.number == field.number && self.code == field.code && self.global == global
-    }
-
-    /// The form and the bits of a value of its field that is just one number.
+    /// The form and the bits of a value that is just one number.
     fn number(&self, items: &Items) -> Option<(NumberForm, u64)>
         ensures small { IfSome result (λ p. IsSmallForm p.0) }
-        ensures form { IfSome result (λ p. IsFormOf self.now.code
-            (names.field self.now.global self.now.number) p.0) }
+        ensures form { IfSome result (λ p. IsFormOf self.now.code self.now.info p.0) }
         ensures lone { IfSome result (λ p. (items.now.width ≡ p.0.width)
             × (items.now.bits ≡ p.1 ∷ [])) }
     {
@@ -150,86 +152,63 @@ impl Frame {
         Some((form, bits))
     }
 
-    /// Puts the row of its field: a number alone between what stands around it, and any other value as the crate csv does.
-    fn put(
+    /// Puts a value that is no lone number behind a text.
+    #[inline(never)]
+    fn put_other(
         &self,
         text: &mut Vec<u8>,
         writer: &mut RowWriter,
         value: &mut Vec<u8>,
-        global: u16,
-        field: &FieldDef,
         items: &Items,
     ) -> Result<(), AllocError>
-        requires key { self.now ≡
-            record { global = global; number = field.now.number; code = field.now.code } }
-        requires shape { HasShape field.now.code field.now.size items.now }
-        ensures { OnOk result (HasRows (rows.field_row global field.now items.now ∷ []) text.old
-            text.new) }
+        requires { HasShape self.now.code self.now.size items.now }
+        ensures { OnOk result (text.new.items ≡ text.old.items
+            ++ field_text default_writer (cell self.now.code self.now.info items.now)) }
     {
-        let Some((form, bits)) = self.number(items) else {
-            return put_any(text, writer, value, global, field, items);
-        };
-        text.extend_from_slice(self.head.as_slice())?;
-        put_formed(text, form, bits)?;
-        text.extend_from_slice(self.tail.as_slice())?;
-        Ok(())
-    }
-}
-
-/// What stands around the values of fields that came before.
-#[derive(Drop)]
-pub(crate) struct Frames {
-    kept: Vec<Option<Frame>>,
-    alloc: Global,
-}
-
-/// Where a field is kept.
-fn place_of(global: u16, number: u8) -> usize {
-    (global as usize * 67 + number as usize) % KEPT
-}
-
-impl Frames {
-    /// None is kept.
-    pub(crate) fn new(alloc: Global) -> Frames {
-        Frames {
-            kept: Vec::new(alloc),
-            alloc,
-        }
+        value.clear();
+        put_cell(value, Code(self.code), self.info, items)?;
+        put_any_cell(text, writer, value.as_slice())
     }
 
-    /// Keeps what stands around the value of a field.
-    fn keep(&mut self, place: usize, frame: Frame) -> Result<(), AllocError> {
-        for _ in self.kept.len()..KEPT {
-            self.kept.push(None)?;
-        }
-        if place < self.kept.len() {
-            self.kept[place] = Some(frame);
-        }
-        Ok(())
-    }
-
-    /// Puts the row of a field.
-    pub(crate) fn put_field(
-        &mut self,
+    /// Puts what stands before the value, and the value.
+    #[inline(always)]
+    pub(crate) fn put(
+        &self,
         text: &mut Vec<u8>,
         writer: &mut RowWriter,
         value: &mut Vec<u8>,
-        global: u16,
-        field: &FieldDef,
         items: &Items,
     ) -> Result<(), AllocError>
-        requires { HasShape field.now.code field.now.size items.now }
-        ensures { OnOk result (HasRows (rows.field_row global field.now items.now ∷ []) text.old
-            text.new) }
+        requires { HasShape self.now.code self.now.size items.now }
+        ensures { OnOk result (text.new.items ≡ (text.old.items ++ self.now.between)
+            ++ field_text default_writer (cell self.now.code self.now.info items.now)) }
     {
-        let place = place_of(global, field.number);
-        if let Some(Some(frame)) = self.kept.as_slice().get(place) {
-            if frame.is_of(global, field) {
-                return frame.put(text, writer, value, global, field, items);
-            }
+        text.extend_from_slice(self.between.as_slice())?;
+        if let Some((form, bits)) = self.number(items) {
+            put_formed(text, form, bits)?;
+            return Ok(());
         }
-        let frame = Frame::new(self.alloc, global, field)?;
-        frame.put(text, writer, value, global, field, items)?;
-        self.keep(place, frame)
+        self.put_other(text, writer, value, items)
     }
+}
+
+/// Puts the rows of values one after another, the last of them with this end.
+pub(crate) fn put_frames(
+    text: &mut Vec<u8>,
+    writer: &mut RowWriter,
+    value: &mut Vec<u8>,
+    frames: &[Frame],
+    end: &[u8],
+    items: &[Items],
+) -> Result<(), AllocError>
+    requires { HaveShape (map (λ f. (f.code, f.size)) frames.now) items.now }
+    ensures { OnOk result ((keys : List FrameKey) → frames.now ≡ frames_of [] keys
+        → end.now ≡ end_of [] keys → HasRows (map (λ x. value_row x.0 x.1) (zip keys items.now))
+        text.old text.new) }
+{
+    for (place, frame) in frames.iter().enumerate() {
+        frame.put(text, writer, value, &items[place])?;
+    }
+    text.extend_from_slice(end)?;
+    Ok(())
 }

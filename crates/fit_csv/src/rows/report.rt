@@ -4,9 +4,8 @@ ghost use Rattle.fit_cells.specs.Rows.{HasRows};
 ghost use Rattle.fit_csv.specs.inner.Reporting.{AnswerFits, answer_rows, behind_answer};
 
 use crate::rows::file::{put_end_row, put_file_row};
-use crate::rows::frames::Frames;
+use crate::rows::maker::RowMaker;
 use crate::rows::message::put_record;
-use fit_cells::RowWriter;
 use fit_decode::Event;
 use fit_profile::Stream;
 use fit_profile::laws::looking_back_is_learning;
@@ -19,9 +18,7 @@ use std::marker::Model;
 #[tactic(auto, using(fit_cells::proofs::AddedRows::rows_none))]
 fn put_event(
     text: &mut Vec<u8>,
-    writer: &mut RowWriter,
-    value: &mut Vec<u8>,
-    frames: &mut Frames,
+    maker: &mut RowMaker,
     stream: &Stream,
     event: &Event,
 ) -> Result<(), AllocError>
@@ -30,14 +27,14 @@ fn put_event(
 {
     match event {
         Event::More => Ok(()),
-        Event::Header(header, _) => put_file_row(text, writer, value, header),
-        Event::Item(record_) => put_record(text, writer, value, frames, stream, record_),
-        Event::FileEnd => put_end_row(text, writer),
+        Event::Header(header, _) => put_file_row(text, maker, header),
+        Event::Item(record_) => put_record(text, maker, stream, record_),
+        Event::FileEnd => put_end_row(text, &mut maker.writer),
     }
 }
 
 /// Takes an event in. A header begins a file. Where memory is refused, the stream stays as it was.
-pub(crate) fn follow(stream: &mut Stream, event: &Event) -> Result<(), AllocError>
+fn follow(stream: &mut Stream, event: &Event) -> Result<(), AllocError>
     requires { AnswerFits stream.old event.now }
     ensures ok { OnOk result (stream.new ≡ behind_answer stream.old event.now) }
     ensures err { OnErr result (stream.new ≡ stream.old) }
@@ -47,10 +44,7 @@ pub(crate) fn follow(stream: &mut Stream, event: &Event) -> Result<(), AllocErro
             stream.begin_file();
             Ok(())
         }
-        Event::Item(record_) => {
-            stream.push(record_)?;
-            Ok(())
-        }
+        Event::Item(record_) => stream.take(record_),
         Event::More | Event::FileEnd => Ok(()),
     }
 }
@@ -59,10 +53,7 @@ pub(crate) fn follow(stream: &mut Stream, event: &Event) -> Result<(), AllocErro
 #[derive(Drop)]
 pub(crate) struct CsvReport {
     stream: Stream,
-    writer: RowWriter,
-    /// The memory of a cell.
-    value: Vec<u8>,
-    frames: Frames,
+    maker: RowMaker,
     heard: Heard,
 }
 
@@ -86,9 +77,7 @@ impl CsvReport {
     {
         CsvReport {
             stream: Stream::new(alloc),
-            writer: RowWriter::new(alloc),
-            value: Vec::new(alloc),
-            frames: Frames::new(alloc),
+            maker: RowMaker::new(alloc),
             heard: Heard::new(),
         }
     }
@@ -110,14 +99,7 @@ impl Report for CsvReport {
     {
         heard_records_fit::<Global>();
         looking_back_is_learning::<Global>();
-        put_event(
-            text,
-            &mut self.writer,
-            &mut self.value,
-            &mut self.frames,
-            &self.stream,
-            event,
-        )?;
+        put_event(text, &mut self.maker, &self.stream, event)?;
         follow(&mut self.stream, event)?;
         self.heard.add(event);
         Ok(())

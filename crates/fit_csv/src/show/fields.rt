@@ -9,8 +9,7 @@ ghost use Rattle.fit_profile.specs.Names.{meaning};
 ghost use Rattle.fit_profile.specs.Scaled.{IsScale};
 ghost use Rattle.fit_csv.specs.ShowLines as lines;
 
-use crate::rows::developer::{dev_name, dev_unit, numbered_label};
-use crate::rows::message::unit_text;
+use crate::words::{dev_name, dev_unit, numbered_label, unit_text};
 use fit_base::base_type::BYTE;
 use fit_base::{Code, Items};
 use fit_cells::put_cell;

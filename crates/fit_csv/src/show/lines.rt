@@ -10,10 +10,8 @@ ghost use Rattle.fit_csv.specs.ChainRows as rows;
 ghost use Rattle.fit_csv.specs.inner.Reporting.{AnswerFits};
 ghost use Rattle.fit_csv.specs.inner.Showing.{line_with, text_with};
 
-use crate::rows::definition::{dev_slice, order_word};
-use crate::rows::file::sum_word;
-use crate::rows::message::time_text;
 use crate::show::fields::{put_devs, put_fields, put_words};
+use crate::words::{dev_slice, order_word, sum_word, time_text};
 use fit_decode::Event;
 use fit_frame::Header;
 use fit_profile::{Stream, message_label};

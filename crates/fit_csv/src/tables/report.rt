@@ -106,7 +106,7 @@ impl Model for TableReport {
     ghost use Rattle.std.specs.Global.{Global};
     ghost use Rattle.fit_decode.specs.Events.{Event as Told};
     ghost use Rattle.fit_report.specs.Heard.{latest_records};
-    ghost use Rattle.fit_csv.specs.Table.{files_heard};
+    ghost use Rattle.fit_csv.specs.ChainRows.{files_heard};
 
     ghost Value = { List (Told Global) };
 

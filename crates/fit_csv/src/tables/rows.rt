@@ -9,7 +9,7 @@ ghost use Rattle.fit_csv.specs.Table as table;
 ghost use Rattle.fit_cells.specs.Rows.{HasRows};
 ghost use Rattle.fit_csv.specs.inner.TableCells.{IsPlain, cells_of, shown_text};
 
-use crate::rows::message::time_text;
+use crate::words::time_text;
 use fit_base::Items;
 use fit_profile::laws::degrees_are_one;
 use fit_profile::{Fixed, Label, Message, degrees, put_whole};

@@ -1,7 +1,7 @@
 use Rattle.std.proofs.Common.{Ok, Err, sym, subst}
 use Rattle.std.specs.Prelude.{flat_map}
 use Rattle.fit_decode.specs.Events.{file_events}
-use Rattle.fit_report.specs.Reports.{Channel}
+use Rattle.fit_report.specs.Reports.{channel}
 use Rattle.fit_csv.specs.Conversions.{Converts, ConvertsTo}
 use Rattle.fit_csv.proofs.Converted.{chain_converted, converted, unbegun}
 use Rattle.fit_csv.proofs.conversion.convert.Goals as goal
@@ -15,61 +15,31 @@ returns-in-Err-clause-converts g c rows text =
 
 pub returns-in-Ok-clause-converts : goal.returns-in-Ok-clause-converts
 returns-in-Ok-clause-converts g c rows text =
-    let source : Channel = record {
-      before = g.S.Source.remaining c.args.source.now;
-      after = g.S.Source.remaining c.report.new.source;
-      failed =
-          g.S.Source.has_failed c.report.new.source;
-    } in
+    let source = channel g.S.Source.remaining g.S.Source.has_failed c.args.source.now c.report.new.source in
     converted c.args.first.now g.R.Report.line rows text (g.K.Sink.contents c.args.sink.now) (g.K.Sink.contents c.put_all.new.sink)
     (g.K.Sink.contents c.report.new.sink) (g.K.Sink.has_failed c.report.new.sink)
-    source (Ok c.in-Ok.field-0) c.in_default.ensures.ok c.in-Ok.ensures.reports
+    g.R.Report.has_heard c.report.new.reporter source (Ok c.in-Ok.field-0) c.in_default.ensures.ok c.in-Ok.ensures.reports
 
 pub returns-in-Ok-clause-chain : goal.returns-in-Ok-clause-chain
 returns-in-Ok-clause-chain g c rows text fs b is are chain =
-    let source : Channel = record {
-      before = g.S.Source.remaining c.args.source.now;
-      after = g.S.Source.remaining c.report.new.source;
-      failed =
-          g.S.Source.has_failed c.report.new.source;
-    } in
+    let source = channel g.S.Source.remaining g.S.Source.has_failed c.args.source.now c.report.new.source in
     chain_converted c.args.first.now g.R.Report.line rows text (g.K.Sink.contents c.args.sink.now) (g.K.Sink.contents c.put_all.new.sink)
     (g.K.Sink.contents c.report.new.sink) (g.K.Sink.has_failed c.report.new.sink)
     source fs (Ok c.in-Ok.field-0) c.in_default.ensures.ok (c.in-Ok.ensures.chain fs b is are chain)
 
 pub returns-in-Err-report-clause-converts : goal.returns-in-Err-report-clause-converts
 returns-in-Err-report-clause-converts g c rows text =
-    let source : Channel = record {
-      before = g.S.Source.remaining c.args.source.now;
-      after = g.S.Source.remaining c.report.new.source;
-      failed =
-          g.S.Source.has_failed c.report.new.source;
-    } in
-    let sink : Channel = record {
-      before = g.K.Sink.contents c.args.sink.now;
-      after = g.K.Sink.contents c.report.new.sink;
-      failed =
-          g.K.Sink.has_failed c.report.new.sink;
-    } in
+    let source = channel g.S.Source.remaining g.S.Source.has_failed c.args.source.now c.report.new.source in
+    let sink = channel g.K.Sink.contents g.K.Sink.has_failed c.args.sink.now c.report.new.sink in
     subst (λ fault. Converts rows source sink (Err fault)) (sym c.csv_fault.ensures)
     (converted c.args.first.now g.R.Report.line rows text (g.K.Sink.contents c.args.sink.now) (g.K.Sink.contents c.put_all.new.sink)
     (g.K.Sink.contents c.report.new.sink) (g.K.Sink.has_failed c.report.new.sink)
-    source (Err c.in-Err-report.fault) c.in_default.ensures.ok c.in-Err-report.ensures.reports)
+    g.R.Report.has_heard c.report.new.reporter source (Err c.in-Err-report.fault) c.in_default.ensures.ok c.in-Err-report.ensures.reports)
 
 pub returns-in-Err-report-clause-chain : goal.returns-in-Err-report-clause-chain
 returns-in-Err-report-clause-chain g c rows text fs b is are chain =
-    let source : Channel = record {
-      before = g.S.Source.remaining c.args.source.now;
-      after = g.S.Source.remaining c.report.new.source;
-      failed =
-          g.S.Source.has_failed c.report.new.source;
-    } in
-    let sink : Channel = record {
-      before = g.K.Sink.contents c.args.sink.now;
-      after = g.K.Sink.contents c.report.new.sink;
-      failed =
-          g.K.Sink.has_failed c.report.new.sink;
-    } in
+    let source = channel g.S.Source.remaining g.S.Source.has_failed c.args.source.now c.report.new.source in
+    let sink = channel g.K.Sink.contents g.K.Sink.has_failed c.args.sink.now c.report.new.sink in
     subst (λ fault. ConvertsTo (rows (flat_map file_events fs)) source sink (Err fault)) (sym c.csv_fault.ensures)
     (chain_converted c.args.first.now g.R.Report.line rows text (g.K.Sink.contents c.args.sink.now) (g.K.Sink.contents c.put_all.new.sink)
     (g.K.Sink.contents c.report.new.sink) (g.K.Sink.has_failed c.report.new.sink)

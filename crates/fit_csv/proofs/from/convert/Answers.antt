@@ -2,7 +2,7 @@ use Rattle.std.proofs.Common.{Err, List, ℕ, sym, subst}
 use Rattle.std.specs.Global.{Global}
 use Rattle.std.proofs.lemmas.Result.{err_from_is_err_and}
 use Rattle.fit_record.specs.declared.file.FitFile.{FitFile}
-use Rattle.fit_report.specs.Reports.{Channel}
+use Rattle.fit_report.specs.Reports.{channel}
 use Rattle.fit_csv.specs.FromText.{Answers}
 use Rattle.fit_csv.specs.Judged.{AreFilesOf}
 use Rattle.fit_csv.specs.inner.TextFaults.{IsTextFault}
@@ -13,36 +13,16 @@ use Rattle.fit_csv.proofs.from.convert.Goals as goal
 pub returns-in_err-text-clause-reads : goal.returns-in_err-text-clause-reads
 returns-in_err-text-clause-reads g c =
     let p = err_from_is_err_and c.from_residual.result c.from_residual.ensures.1 in
-    let source : Channel = record {
-      before = g.S.Source.remaining c.args.source.now;
-      after = g.S.Source.remaining c.read_text.new.source;
-      failed =
-          g.S.Source.has_failed c.read_text.new.source;
-    } in
-    let sink : Channel = record {
-      before = g.K.Sink.contents c.args.sink.now;
-      after = g.K.Sink.contents c.args.sink.now;
-      failed =
-          g.K.Sink.has_failed c.args.sink.now;
-    } in
+    let source = channel g.S.Source.remaining g.S.Source.has_failed c.args.source.now c.read_text.new.source in
+    let sink = channel g.K.Sink.contents g.K.Sink.has_failed c.args.sink.now c.args.sink.now in
     rw (p.1, p.2) (from-unread source sink _ c.in_err-text.ensures.err)
 
 pub returns-in_err-files-clause-reads : goal.returns-in_err-files-clause-reads
 returns-in_err-files-clause-reads g c =
     let p = err_from_is_err_and c.from_residual-in_err-files.result c.from_residual-in_err-files.ensures.1 in
     let whole = c.in_ok-text.text.items in
-    let source : Channel = record {
-      before = g.S.Source.remaining c.args.source.now;
-      after = g.S.Source.remaining c.read_text.new.source;
-      failed =
-          g.S.Source.has_failed c.read_text.new.source;
-    } in
-    let sink : Channel = record {
-      before = g.K.Sink.contents c.args.sink.now;
-      after = g.K.Sink.contents c.args.sink.now;
-      failed =
-          g.K.Sink.has_failed c.args.sink.now;
-    } in
+    let source = channel g.S.Source.remaining g.S.Source.has_failed c.args.source.now c.read_text.new.source in
+    let sink = channel g.K.Sink.contents g.K.Sink.has_failed c.args.sink.now c.args.sink.now in
     let wrong = subst (λ (t : List ℕ). IsTextFault t c.in_err-files.field-0.0) c.as_slice.ensures.value c.in_err-files.ensures.err in
     rw (p.1, p.2) (
       whole,
@@ -54,18 +34,8 @@ pub returns-in-Ok-clause-reads : goal.returns-in-Ok-clause-reads
 returns-in-Ok-clause-reads g c =
     let whole = c.in_ok-text.text.items in
     let files = c.as_slice-2.result.now in
-    let source : Channel = record {
-      before = g.S.Source.remaining c.args.source.now;
-      after = g.S.Source.remaining c.read_text.new.source;
-      failed =
-          g.S.Source.has_failed c.read_text.new.source;
-    } in
-    let sink : Channel = record {
-      before = g.K.Sink.contents c.args.sink.now;
-      after = g.K.Sink.contents c.write_chain.new.sink;
-      failed =
-          g.K.Sink.has_failed c.write_chain.new.sink;
-    } in
+    let source = channel g.S.Source.remaining g.S.Source.has_failed c.args.source.now c.read_text.new.source in
+    let sink = channel g.K.Sink.contents g.K.Sink.has_failed c.args.sink.now c.write_chain.new.sink in
     let are : AreFilesOf whole files = subst (λ (fs : List (FitFile Global)). AreFilesOf whole fs) (sym c.as_slice-2.ensures)
     (subst (λ (t : List ℕ). AreFilesOf t c.in_ok-files.files) c.as_slice.ensures.value c.in_ok-files.ensures.ok) in (
       whole,
@@ -78,18 +48,8 @@ pub returns-clause-reads : goal.returns-clause-reads
 returns-clause-reads g c =
     let whole = c.in_ok-text.text.items in
     let files = c.as_slice-2.result.now in
-    let source : Channel = record {
-      before = g.S.Source.remaining c.args.source.now;
-      after = g.S.Source.remaining c.read_text.new.source;
-      failed =
-          g.S.Source.has_failed c.read_text.new.source;
-    } in
-    let sink : Channel = record {
-      before = g.K.Sink.contents c.args.sink.now;
-      after = g.K.Sink.contents c.write_chain.new.sink;
-      failed =
-          g.K.Sink.has_failed c.write_chain.new.sink;
-    } in
+    let source = channel g.S.Source.remaining g.S.Source.has_failed c.args.source.now c.read_text.new.source in
+    let sink = channel g.K.Sink.contents g.K.Sink.has_failed c.args.sink.now c.write_chain.new.sink in
     let are : AreFilesOf whole files = subst (λ (fs : List (FitFile Global)). AreFilesOf whole fs) (sym c.as_slice-2.ensures)
     (subst (λ (t : List ℕ). AreFilesOf t c.in_ok-files.files) c.as_slice.ensures.value c.in_ok-files.ensures.ok) in
     let given = from-fault c.faults_are_exact.ensures whole files c.in_ok-text.ensures.short are source sink

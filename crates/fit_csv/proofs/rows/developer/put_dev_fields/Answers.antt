@@ -1,11 +1,11 @@
-use Rattle.std.proofs.Common.{◌<◌, ◌∷◌, [], length, get_or, subst, arith}
-use Rattle.std.specs.Prelude.{zip}
-use Rattle.std.proofs.lemmas.Slice.Zip.{length-zip}
-use Rattle.fit_profile.specs.Described.{nameless, namings_at}
+use Rattle.std.proofs.Common.{◌++◌, ◌∷◌, [], None, codes, decimal, get_or, refl, ap₂, subst, arith}
+use Rattle.std.specs.Prelude.{option_and_then, slice_get, unwrap_or, zip}
+use Rattle.fit_profile.specs.Described.{Naming, nameless, namings_at}
+use Rattle.fit_cells.specs.Cells.{cell}
 use Rattle.fit_cells.specs.Rows.{HasRows}
-use Rattle.fit_csv.specs.ChainRows.{dev_row}
+use Rattle.fit_csv.specs.ChainRows.{dev_row, row}
 use Rattle.fit_cells.proofs.AddedRows.{rows_all, rows_more, rows_none}
-use Rattle.fit_csv.proofs.DevFields.{dev_long, dev_named, dev_place, dev_shape, nothing}
+use Rattle.fit_csv.proofs.DevFields.{dev_end, dev_long, dev_place, dev_shape, dev_texts, nothing}
 use Rattle.fit_csv.proofs.rows.developer.put_dev_fields.Goals as goal
 
 pub loop-place-init : goal.loop-place-init
@@ -16,8 +16,8 @@ bounds-items-place c =
     let long = dev_long c.args.fields.now c.args.dev_codes.now c.args.items.now c.requires.codes c.requires.shapes in
     omega (arith, long, c.loop-place-test.true)
 
-pub put_dev_field-requires : goal.put_dev_field-requires
-put_dev_field-requires c =
+pub put_named-requires : goal.put_named-requires
+put_named-requires c =
     dev_shape c.args.fields.now c.args.dev_codes.now c.args.items.now c.loop-place.place c.index-items-place.result c.requires.codes c.requires.shapes
     c.loop-place-test.true c.index-items-place.is
 
@@ -29,28 +29,18 @@ loop-place-preserved c =
     let namings = namings_at c.args.stream.now c.args.local in
     let items = c.args.items.now in
     let item = c.index-items-place.result in
-    let within : k < length fields = c.loop-place-test.true in
-    let coded_too : k < length coded = omega (arith, c.requires.codes, within) in
-    let named_too : k < length namings = omega (arith, c.requires.namings, within) in
-    let items_too : k < length items = omega (arith, dev_long fields coded items c.requires.codes c.requires.shapes, within) in
-    let named = dev_named (get_or fields k nothing) (get_or coded k 0) namings item k c.numbered_label-numbered.result.bytes c.dev_name-label.result.now
-    c.dev_unit-unit.result.now named_too
-    c.numbered_label-numbered.ensures c.dev_name-label.ensures c.dev_unit-unit.ensures in
+    let f = get_or fields k nothing in
+    let naming = slice_get namings k in
+    let numbered = codes "dev_" ++ decimal f.index ++ codes "_" ++ decimal f.number in
+    let texts = dev_texts f namings k numbered (unwrap_or (option_and_then (λ (t : Naming). t.name) naming) numbered)
+    (unwrap_or (option_and_then (λ (t : Naming). t.unit) naming) []) (omega (arith, c.requires.namings, c.loop-place-test.true)) refl refl refl in
+    let named = ap₂ (λ l u. row (codes "dev") l (cell (get_or coded k 0) None item) u [] [] []) texts.0 texts.1 in
+    let there = dev_place fields coded namings items k item c.requires.codes c.requires.namings c.requires.shapes c.loop-place-test.true
+    c.index-items-place.is in
     rows_more (λ x. dev_row x.0.0 x.0.1 x.1.0 x.1.1) (zip (zip fields coded) (zip namings items)) k ((nothing, 0), (nameless, item)) c.args.text.now
-    c.loop-place.text c.put_dev_field.new.text
-    (omega (
-      arith,
-      length-zip (zip fields coded) (zip namings items),
-      length-zip fields coded,
-      length-zip namings items,
-      within,
-      coded_too,
-      named_too,
-      items_too,
-    )) c.loop-place.invariant
-    (subst (λ x. HasRows (dev_row x.0.0 x.0.1 x.1.0 x.1.1 ∷ []) c.loop-place.text c.put_dev_field.new.text)
-    (dev_place fields coded namings items k item within coded_too named_too items_too c.index-items-place.is)
-    (subst (λ r. HasRows (r ∷ []) c.loop-place.text c.put_dev_field.new.text) named c.in_ok-put_dev_field.ensures))
+    c.loop-place.text c.put_named.new.text there.0 c.loop-place.invariant
+    (subst (λ x. HasRows (dev_row x.0.0 x.0.1 x.1.0 x.1.1 ∷ []) c.loop-place.text c.put_named.new.text) there.1
+    (subst (λ r. HasRows (r ∷ []) c.loop-place.text c.put_named.new.text) named c.in_ok-put_named.ensures))
 
 pub returns : goal.returns
 returns c =
@@ -59,4 +49,4 @@ returns c =
     let namings = namings_at c.args.stream.now c.args.local in
     let items = c.args.items.now in
     rows_all (λ x. dev_row x.0.0 x.0.1 x.1.0 x.1.1) (zip (zip fields coded) (zip namings items)) c.loop-place.place c.args.text.now c.loop-place.text
-    (omega (arith, length-zip (zip fields coded) (zip namings items), length-zip fields coded, c.loop-place-test.false)) c.loop-place.invariant
+    (dev_end fields coded namings items c.loop-place.place c.loop-place-test.false) c.loop-place.invariant

@@ -19,13 +19,11 @@ returns c =
     let p = c.args.defined.now in
     let time = header_time (previous_time before) v.offset in
     let namings = namings_at before v.local in
-    let first = subst (λ t. HasRows (data_row v p.definition.global t ∷ []) c.args.text.now c.put_data_row.new.text) c.header_time-time.ensures
-    c.in_ok-put_data_row.ensures in
-    let fields = subst (λ rows. HasRows rows c.put_data_row.new.text c.put_fields.new.text)
-    (ap₂ (λ fs is. field_rows p.definition.global fs is) c.as_slice-fields.ensures c.as_slice.ensures) c.in_ok-put_fields.ensures in
-    let dev = subst (λ rows. HasRows rows c.put_fields.new.text c.put_dev_fields.new.text)
+    let own = subst (λ t. HasRows (data_row v p.definition.global t ∷ field_rows p.definition.global p.definition.fields v.fields) c.args.text.now
+    c.put_own.new.text) c.header_time-time.ensures c.in_ok-put_own.ensures in
+    let dev = subst (λ rows. HasRows rows c.put_own.new.text c.put_dev_fields.new.text)
     (ap₂ (λ fs cs. dev_rows fs cs namings c.as_slice-items.result.now) c.dev_slice-fields.ensures c.as_slice-codes.ensures
     ∙ ap (λ is. dev_rows (dev_defs p.definition.dev) p.dev_codes namings is) c.as_slice-items.ensures)
     c.in_ok-put_dev_fields.ensures in
     subst (λ o. HasRows (unwrap_or (option_map (λ q. message_rows v q time namings) o) []) c.args.text.now c.put_dev_fields.new.text) (sym c.requires.place)
-    (rows_both (rows_both first fields) dev)
+    (rows_both own dev)

@@ -2,18 +2,17 @@
 use Rattle.std.proofs.Common.{◌∙◌, List, sym, ap, subst, arith}
 use Rattle.std.specs.Global.{Global}
 use Rattle.fit_decode.specs.Events.{Event}
-use Rattle.fit_report.specs.Heard.{hear, latest_records}
+use Rattle.fit_report.specs.Heard.{latest_records}
 use Rattle.fit_report.proofs.Records.{heard_are_few}
 use Rattle.fit_csv.specs.inner.Reporting.{AnswerFits}
-use Rattle.fit_csv.specs.ShowLines.{begun_files}
-use Rattle.fit_csv.proofs.ShownLines.{few_begun}
+use Rattle.fit_csv.specs.ChainRows.{files_heard}
+use Rattle.fit_csv.proofs.ToldTable.{few_files}
 use Rattle.fit_csv.proofs.show.ShowReport.note.Goals as goal
 
 pub overflow_add-self : goal.overflow_add-self
 overflow_add-self c =
-    let few = heard_are_few (hear c.args.event.now c.args.self.now) c.requires.heard in
-    let less = rw c.in-Header.is at few in
-    omega (arith, less, few_begun c.args.self.now, c.self.invariant.1, ap (λ (heard : List (Event Global)). begun_files heard) c.self.view_is)
+    let few = few_files heard_are_few c.args.self.now c.args.event.now c.requires.heard in
+    omega (arith, few, c.self.invariant.1, ap (λ (heard : List (Event Global)). files_heard heard) c.self.view_is)
 
 pub take_in-requires : goal.take_in-requires
 take_in-requires c =

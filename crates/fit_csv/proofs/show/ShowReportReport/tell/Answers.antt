@@ -4,7 +4,7 @@ use Rattle.std.specs.Global.{Global}
 use Rattle.fit_decode.specs.Events.{Event}
 use Rattle.fit_report.specs.Heard.{hear, latest_records}
 use Rattle.fit_csv.specs.inner.Reporting.{AnswerFits}
-use Rattle.fit_csv.specs.ShowLines.{begun_files}
+use Rattle.fit_csv.specs.ChainRows.{files_heard}
 use Rattle.fit_csv.specs.inner.Showing.{text_with, time_told}
 use Rattle.fit_csv.proofs.ShownLines.{answer_fits_upto, answer_line}
 use Rattle.fit_csv.proofs.ToldRows.{answer_fits}
@@ -28,7 +28,7 @@ returns-clause-text c =
     let old = c.args.self.now in
     let now : c.self.inside.heard ≡ hear event old = c.self.view_is ∙ c.in_ok-time.ensures.heard in
     let stream : c.self.inside.stream ≡ latest_records (hear event old) = c.self.invariant.0 ∙ ap latest_records now in
-    let files : c.self.inside.files ≡ begun_files (hear event old) = c.self.invariant.1 ∙ ap (λ (heard : List (Event Global)). begun_files heard) now in
+    let files : c.self.inside.files ≡ files_heard (hear event old) = c.self.invariant.1 ∙ ap (λ (heard : List (Event Global)). files_heard heard) now in
     let time : c.in_ok-time.time ≡ time_told (latest_records old) event = c.in_ok-time.ensures.time in
     let same = (λ i. text_with (files i) (stream i) (time i) event) ∙ answer_line old event in
     subst (λ t. OnOk c.put_event.result (c.put_event.new.text.items ≡ c.args.text.now.items ++ t)) same c.put_event.ensures

@@ -1,33 +1,18 @@
 -- The fields go behind one another.
-use Rattle.std.proofs.Common.{◌≡◌, ◌∙◌, ◌<◌, ◌+◌, ◌++◌, ℕ, length, map, get_or, sym, ap, subst, arith}
+use Rattle.std.proofs.Common.{◌≡◌, ◌∙◌, ◌+◌, ◌++◌, get_or, ap, arith}
 use Rattle.std.specs.Prelude.{zip}
-use Rattle.std.proofs.lemmas.List.{get_or-map, length-map}
-use Rattle.std.proofs.lemmas.Slice.Zip.{get_or-zip, length-zip}
-use Rattle.fit_base.specs.Fields.{HasShape}
-use Rattle.fit_record.specs.declared.definition.FieldDef.{FieldDef}
+use Rattle.std.proofs.lemmas.Slice.Zip.{length-zip}
 use Rattle.fit_csv.specs.ShowLines.{separator, shown_field}
-use Rattle.fit_csv.proofs.Shapes.{as_long, shape_at}
+use Rattle.fit_csv.proofs.Fields.{field_long, field_place, field_shape, nothing}
 use Rattle.fit_csv.proofs.ShownLines.{listed_all, listed_more}
 use Rattle.fit_csv.proofs.show.fields.put_fields.Goals as goal
 
-abbrev nothing : FieldDef
-nothing = record { number = 0; size = 0; code = 0 }
-
-abbrev parts : FieldDef → ℕ × ℕ
-parts f = (f.code, f.size)
-
 pub bounds-items-place : goal.bounds-items-place
-bounds-items-place c =
-    omega (arith, as_long (map parts c.args.fields.now) c.args.items.now c.requires.shapes, length-map c.args.fields.now parts, c.loop-place-test.true)
+bounds-items-place c = omega (arith, field_long c.args.fields.now c.args.items.now c.requires.shapes, c.loop-place-test.true)
 
 pub put_field-requires : goal.put_field-requires
 put_field-requires c =
-    let k = c.loop-place.place in
-    let fields = c.args.fields.now in
-    let item = c.index-items-place.result in
-    let shape = shape_at (map parts fields) c.args.items.now k (0, 0) item c.requires.shapes (omega (arith, length-map fields parts, c.loop-place-test.true)) in
-    subst (λ i. HasShape (get_or fields k nothing).code (get_or fields k nothing).size i) (sym c.index-items-place.is)
-    (subst (λ f. HasShape f.0 f.1 (get_or c.args.items.now k item)) (get_or-map parts fields k nothing (0, 0) c.loop-place-test.true) shape)
+    field_shape c.args.fields.now c.args.items.now c.loop-place.place c.index-items-place.result c.requires.shapes c.loop-place-test.true c.index-items-place.is
 
 pub loop-place-preserved : goal.loop-place-preserved
 loop-place-preserved c =
@@ -35,15 +20,11 @@ loop-place-preserved c =
     let fields = c.args.fields.now in
     let items = c.args.items.now in
     let item = c.index-items-place.result in
-    let long = as_long (map parts fields) items c.requires.shapes in
-    let within : k < length items = omega (arith, long, length-map fields parts, c.loop-place-test.true) in
-    let pair : (get_or fields k nothing, item) ≡ get_or (zip fields items) k (nothing, item) =
-    ap (λ i. (get_or fields k nothing, i)) c.index-items-place.is ∙ sym (get_or-zip fields items k (nothing, item) c.loop-place-test.true within) in
+    let there = field_place fields items k item c.requires.shapes c.loop-place-test.true c.index-items-place.is in
     let count : k ≡ 0 + k = omega arith in
     listed_more (λ x. shown_field c.args.global x.0 x.1) 0 (zip fields items) k (nothing, item) c.args.text.now.items c.loop-place.text.items
-    c.put_field.new.text.items
-    (omega (arith, length-zip fields items, within, c.loop-place-test.true)) c.loop-place.invariant
-    (c.in_ok-put_field.ensures ∙ ap (λ x. c.loop-place.text.items ++ (separator k ++ shown_field c.args.global x.0 x.1)) pair
+    c.put_field.new.text.items there.0 c.loop-place.invariant
+    (c.in_ok-put_field.ensures ∙ ap (λ x. c.loop-place.text.items ++ (separator k ++ shown_field c.args.global x.0 x.1)) there.1
     ∙ ap (λ m. c.loop-place.text.items ++ (separator m
     ++ shown_field c.args.global (get_or (zip fields items) k (nothing, item)).0 (get_or (zip fields items) k (nothing, item)).1)) count)
 

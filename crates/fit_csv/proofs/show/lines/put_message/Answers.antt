@@ -1,19 +1,15 @@
 -- The line of a message is its front, its fields and its developer fields.
-use Rattle.std.proofs.Common.{ℕ, ◌∙◌, ◌++◌, length, map, sym, ap, ap₂, arith}
+use Rattle.std.proofs.Common.{◌∙◌, ◌++◌, length, sym, ap, ap₂, arith}
 use Rattle.std.specs.Prelude.{zip}
 use Rattle.std.proofs.lemmas.List.{length-map}
 use Rattle.std.proofs.lemmas.Slice.Zip.{length-zip}
-use Rattle.fit_record.specs.declared.definition.FieldDef.{FieldDef}
 use Rattle.fit_record.specs.Environment.{dev_defs}
 use Rattle.fit_profile.specs.Described.{namings_at}
 use Rattle.fit_csv.specs.ShowLines.{listed, message_front, shown_devs, shown_field, shown_fields}
+use Rattle.fit_csv.proofs.Fields.{field_long}
 use Rattle.fit_csv.proofs.NamingFacts.{namings_long}
-use Rattle.fit_csv.proofs.Shapes.{as_long}
 use Rattle.fit_csv.proofs.ShownLines.{message_parts}
 use Rattle.fit_csv.proofs.show.lines.put_message.Goals as goal
-
-abbrev parts : FieldDef → ℕ × ℕ
-parts f = (f.code, f.size)
 
 pub put_devs-requires-clause-namings : goal.put_devs-requires-clause-namings
 put_devs-requires-clause-namings c =
@@ -42,6 +38,5 @@ returns c =
       ap length c.as_slice-fields.ensures,
       length-map (zip fields v.fields) (λ x. shown_field global x.0 x.1),
       length-zip fields v.fields,
-      as_long (map parts fields) v.fields c.requires.fits.fields,
-      length-map fields parts,
+      field_long fields v.fields c.requires.fits.fields,
     ))

@@ -2,7 +2,7 @@ use Rattle.std.proofs.Common.{◌≡◌, ◌∙◌, ◌++◌, ◌<◌, ◌^◌, 
 use Rattle.fit_report.specs.Heard.{latest_records}
 use Rattle.fit_cells.specs.Rows.{csv_text}
 use Rattle.fit_csv.specs.inner.Reporting.{AnswerFits}
-use Rattle.fit_csv.specs.Table.{files_heard}
+use Rattle.fit_csv.specs.ChainRows.{files_heard}
 use Rattle.fit_csv.specs.inner.TableCells.{table_answer_rows}
 use Rattle.fit_csv.proofs.ToldRows.{answer_fits}
 use Rattle.fit_csv.proofs.ToldTable.{few_files, table_answer_text}

@@ -2,7 +2,7 @@ use Rattle.std.proofs.Common.{arith}
 use Rattle.fit_csv.specs.InstantText.{instant_text}
 use Rattle.fit_csv.proofs.InstantFacts.{instant-text}
 use Rattle.fit_csv.proofs.PlainInstants.{plain-instant}
-use Rattle.fit_csv.proofs.rows.message.instant_text.Goals as goal
+use Rattle.fit_csv.proofs.words.instant_text.Goals as goal
 
 pub returns-clause-text : goal.returns-clause-text
 returns-clause-text c = c.instant_has_one_text.ensures c.args.time c.utc_text.result.bytes (instant_text c.args.time) c.utc_text.ensures

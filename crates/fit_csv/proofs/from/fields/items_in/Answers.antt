@@ -2,7 +2,7 @@ use Rattle.std.proofs.Common.{subst, option_map}
 use Rattle.std.specs.Str.{IsUtf8}
 use Rattle.fit_profile.specs.Names.{meaning}
 use Rattle.fit_cells.proofs.TextFacts.{utf8-cell}
-use Rattle.fit_csv.proofs.from.message.items_in.Goals as goal
+use Rattle.fit_csv.proofs.from.fields.items_in.Goals as goal
 
 pub returns-in-Err-clause-every : goal.returns-in-Err-clause-every
 returns-in-Err-clause-every c items shape e =

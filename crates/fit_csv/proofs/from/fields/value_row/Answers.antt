@@ -10,7 +10,7 @@ use Rattle.fit_csv.specs.inner.Seven.{DifferAt, row_of}
 use Rattle.fit_csv.proofs.Closest.{closest}
 use Rattle.fit_csv.proofs.SevenCells.{same-cells}
 use Rattle.fit_csv.proofs.ValueRows.{no-items, no-label, value-closest}
-use Rattle.fit_csv.proofs.from.message.value_row.Goals as goal
+use Rattle.fit_csv.proofs.from.fields.value_row.Goals as goal
 
 pub returns-then-not-same-clause-err : goal.returns-then-not-same-clause-err
 returns-then-not-same-clause-err c =

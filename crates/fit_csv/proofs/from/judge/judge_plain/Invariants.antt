@@ -1,0 +1,7 @@
+use Rattle.std.proofs.Common.{◌≡◌, ◌++◌, ◌∷◌}
+use Rattle.fit_cells.specs.Rows.{csv_text, first_line}
+use Rattle.fit_csv.specs.inner.SoundChain.{IsSoundChain, rows_so_far}
+use Rattle.fit_csv.proofs.from.judge.judge_plain.Given as goal
+
+abbrev pub invariant-loop : goal.invariant-loop
+invariant-loop l = IsSoundChain l.chain × (l.text ≡ csv_text (first_line ∷ rows_so_far l.chain) ++ l.rest)

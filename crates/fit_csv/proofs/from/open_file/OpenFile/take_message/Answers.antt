@@ -1,0 +1,18 @@
+use Rattle.std.proofs.Common.{sym, subst}
+use Rattle.fit_csv.specs.inner.SoundChain.{BeginsWithMore, IsSoundFile, open_file_rows}
+use Rattle.fit_csv.specs.declared.from.open_file.OpenFile.{OpenFile}
+use Rattle.fit_csv.proofs.SoundSteps.{with-record-sound}
+use Rattle.fit_csv.proofs.TextRows.{file-goes-on}
+use Rattle.fit_csv.proofs.from.open_file.OpenFile.take_message.Goals as goal
+
+pub returns-clause-sound : goal.returns-clause-sound
+returns-clause-sound c =
+    subst IsSoundFile (sym c.in_ok-add_record.ensures.ok)
+    (with-record-sound c.args.self.now c.in-Some.message c.requires c.in-Some.ensures.fits c.in-Some.ensures.range)
+
+pub returns-clause-rows : goal.returns-clause-rows
+returns-clause-rows c =
+    subst (λ (f : OpenFile). BeginsWithMore c.args.text.now c.in-Some.left.now (open_file_rows c.args.self.now) (open_file_rows f))
+    (sym c.in_ok-add_record.ensures.ok)
+    (file-goes-on c.args.self.now c.in-Some.message c.args.text.now c.in-Some.left.now c.requires
+    (c.is_between_records.ensures.0 c.if-not-is_between_records.false) c.in-Some.ensures.text)

@@ -1,0 +1,285 @@
+//! The rows of the messages of a definition without their values, found out once for many messages.
+ghost use Rattle.std.specs.Prelude.{◌≡◌, ◌++◌, ◌∷◌, [], IfOk, IsTrue, OnOk, codes, decimal, map, option_map, unwrap_or};
+ghost use Rattle.fit_record.specs.Records.{HaveShape};
+ghost use Rattle.fit_profile.specs.Names.{message_label};
+ghost use Rattle.fit_cells.specs.Rows.{HasRows};
+ghost use Rattle.fit_csv.specs.ChainRows as rows;
+ghost use Rattle.fit_csv.specs.InstantText.{instant_text};
+ghost use Rattle.fit_csv.specs.inner.Frames.{end_of, field_key, frame_text, frames_of, tail_text, two_cells};
+
+pub(crate) mod likely;
+
+use crate::rows::frames::{Frame, put_frames, put_tail, put_two};
+use crate::words::{time_text, unit_text};
+use fit_cells::RowWriter;
+use fit_profile::{field_info, field_label, message_label, put_whole};
+use fit_record::{FieldDef, MessageDef, Values};
+use itoa::Buffer;
+use std::alloc::{AllocError, Global};
+use std::marker::Model;
+
+/// Adds what stands around the value of a field, and sets `end` to the end of its row.
+fn push_field(
+    alloc: Global,
+    writer: &mut RowWriter,
+    frames: &mut Vec<Frame>,
+    end: &mut Vec<u8>,
+    global: u16,
+    field: &FieldDef,
+) -> Result<(), AllocError>
+    ensures frames { OnOk result (frames.new.items ≡ frames.old.items
+        ++ frame_text end.old.items (field_key global field.now) ∷ []) }
+    ensures end { OnOk result (end.new.items ≡ tail_text (field_key global field.now)) }
+{
+    let info = field_info(global, field.number);
+    let label = field_label(global, field.number);
+    let name = label.as_str().as_bytes();
+    let before = end.as_slice();
+    let frame = Frame::new(
+        alloc, writer, before, b"field", name, field.code, field.size, info,
+    )?;
+    frames.push(frame)?;
+    end.clear();
+    put_tail(end, writer, unit_text(info).as_bytes())
+}
+
+/// What stands around the values of fields. It sets `end` to the end of the last row.
+fn field_frames(
+    alloc: Global,
+    writer: &mut RowWriter,
+    end: &mut Vec<u8>,
+    global: u16,
+    fields: &[FieldDef],
+) -> Result<Vec<Frame>, AllocError>
+    requires { end.old.items ≡ [] }
+    ensures frames { IfOk result (λ frames.
+        frames.items ≡ frames_of [] (map (field_key global) fields.now)) }
+    ensures end { OnOk result (end.new.items ≡ end_of [] (map (field_key global) fields.now)) }
+{
+    let mut frames = Vec::new(alloc);
+    for field in fields {
+        push_field(alloc, writer, &mut frames, end, global, field)?;
+    }
+    Ok(frames)
+}
+
+/// Puts what stands before the time offset in the first row of a message.
+fn put_front(text: &mut Vec<u8>, writer: &mut RowWriter, local: u8) -> Result<(), AllocError>
+    ensures { OnOk result (text.new.items
+        ≡ text.old.items ++ two_cells (codes "data") (decimal local)) }
+{
+    let mut locals = Buffer::new();
+    put_two(text, writer, b"data", locals.format(local).as_bytes())
+}
+
+/// Puts what stands between the time offset and the time.
+fn put_label(text: &mut Vec<u8>, writer: &mut RowWriter, global: u16) -> Result<(), AllocError>
+    ensures { OnOk result (text.new.items
+        ≡ text.old.items ++ two_cells [] (message_label global)) }
+{
+    let label = message_label(global);
+    put_two(text, writer, b"", label.as_str().as_bytes())
+}
+
+/// Puts the first row of a message without a time offset.
+fn put_line(
+    text: &mut Vec<u8>,
+    writer: &mut RowWriter,
+    local: u8,
+    global: u16,
+) -> Result<(), AllocError>
+    ensures { OnOk result (HasRows (rows.row (codes "data") (decimal local) []
+        (message_label global) [] [] [] ∷ []) text.old text.new) }
+{
+    let mut locals = Buffer::new();
+    let label = message_label(global);
+    let cells = [
+        b"data".as_slice(),
+        locals.format(local).as_bytes(),
+        b"".as_slice(),
+        label.as_str().as_bytes(),
+        b"".as_slice(),
+        b"".as_slice(),
+        b"".as_slice(),
+    ];
+    writer.put(text, cells.as_slice())
+}
+
+/// Puts a number behind a text, where there is one.
+fn put_optional(text: &mut Vec<u8>, number: Option<u8>) -> Result<(), AllocError>
+    ensures { OnOk result (text.new.items ≡ text.old.items ++ rows.optional_number number) }
+{
+    match number {
+        Some(number) => put_whole(text, u64::from(number)),
+        None => Ok(()),
+    }
+}
+
+/// Whether two fields have the same number, size and base type.
+fn is_same(a: &FieldDef, b: &FieldDef) -> bool
+    ensures { IsTrue result → a.now ≡ b.now }
+{
+    a.number == b.number && a.size == b.size && a.code == b.code
+}
+
+/// Whether the fields are the same one by one.
+fn are_same(a: &[FieldDef], b: &[FieldDef]) -> bool
+    ensures { IsTrue result → a.now ≡ b.now }
+{
+    if a.len() != b.len() {
+        return false;
+    }
+    for (place, field) in a.iter().enumerate() {
+        if !is_same(field, &b[place]) {
+            return false;
+        }
+    }
+    true
+}
+
+/// The rows of the messages of a definition without their values.
+#[derive(Drop)]
+pub(crate) struct Template {
+    local: u8,
+    global: u16,
+    fields: Vec<FieldDef>,
+    /// The first row of a message without a time offset.
+    line: Vec<u8>,
+    /// What stands before the time offset.
+    front: Vec<u8>,
+    /// What stands between the time offset and the time.
+    label: Vec<u8>,
+    frames: Vec<Frame>,
+    /// The end of the last field's row.
+    end: Vec<u8>,
+}
+
+impl Model for Template {
+    ghost use Rattle.std.specs.Prelude.{◌≡◌, ◌∷◌, [], codes, decimal, map};
+    ghost use Rattle.fit_cells.specs.Rows.{csv_text};
+    ghost use Rattle.fit_csv.specs.ChainRows.{row};
+    ghost use Rattle.fit_profile.specs.Names.{message_label};
+    ghost use Rattle.fit_csv.specs.inner.Frames.{TemplateKey, end_of, field_key, frames_of, two_cells};
+
+    ghost Value = { TemplateKey };
+
+    ghost view = { λ t. record { local = t.local; global = t.global; fields = t.fields.items } };
+
+    ghost invariant = { λ t. (t.line.items ≡ csv_text (row (codes "data") (decimal t.local) []
+        (message_label t.global) [] [] [] ∷ []))
+        × (t.front.items ≡ two_cells (codes "data") (decimal t.local))
+        × (t.label.items ≡ two_cells [] (message_label t.global))
+        × (t.frames.items ≡ frames_of [] (map (field_key t.global) t.fields.items))
+        × (t.end.items ≡ end_of [] (map (field_key t.global) t.fields.items)) };
+}
+
+impl Template {
+    /// That of a definition of this local message type.
+    pub(crate) fn new(
+        alloc: Global,
+        writer: &mut RowWriter,
+        local: u8,
+        definition: &MessageDef,
+    ) -> Result<Template, AllocError>
+        ensures { IfOk result (λ t. t ≡ record {
+          local = local;
+          global = definition.now.global;
+          fields = definition.now.fields;
+        }) }
+    {
+        let global = definition.global;
+        let mut fields = Vec::new(alloc);
+        fields.extend_from_slice(definition.fields.as_slice())?;
+        let mut line = Vec::new(alloc);
+        put_line(&mut line, writer, local, global)?;
+        let mut front = Vec::new(alloc);
+        put_front(&mut front, writer, local)?;
+        let mut label = Vec::new(alloc);
+        put_label(&mut label, writer, global)?;
+        let mut end = Vec::new(alloc);
+        let frames = field_frames(alloc, writer, &mut end, global, fields.as_slice())?;
+        Ok(Template {
+            local,
+            global,
+            fields,
+            line,
+            front,
+            label,
+            frames,
+            end,
+        })
+    }
+
+    /// Whether it is that of a definition.
+    pub(crate) fn is_of(&self, local: u8, definition: &MessageDef) -> bool
+        ensures { IsTrue result → self.now ≡ record {
+          local = local;
+          global = definition.now.global;
+          fields = definition.now.fields;
+        } }
+    {
+        self.local == local
+            && self.global == definition.global
+            && are_same(self.fields.as_slice(), definition.fields.as_slice())
+    }
+
+    /// Puts the row with which a message begins between its time offset and the time of its header.
+    fn put_timed(
+        &self,
+        text: &mut Vec<u8>,
+        offset: Option<u8>,
+        time: Option<u32>,
+    ) -> Result<(), AllocError>
+        ensures { OnOk result (HasRows (rows.row (codes "data") (decimal self.now.local)
+            (rows.optional_number offset) (message_label self.now.global)
+            (unwrap_or (option_map instant_text time) []) [] [] ∷ []) text.old text.new) }
+    {
+        text.extend_from_slice(self.front.as_slice())?;
+        put_optional(text, offset)?;
+        text.extend_from_slice(self.label.as_slice())?;
+        text.extend_from_slice(time_text(time).as_str().as_bytes())?;
+        text.extend_from_slice(b",,\n")?;
+        Ok(())
+    }
+
+    /// Puts the row with which a message begins, by the time of its header.
+    fn put_first(
+        &self,
+        text: &mut Vec<u8>,
+        offset: Option<u8>,
+        time: Option<u32>,
+    ) -> Result<(), AllocError>
+        ensures { OnOk result (HasRows (rows.row (codes "data") (decimal self.now.local)
+            (rows.optional_number offset) (message_label self.now.global)
+            (unwrap_or (option_map instant_text time) []) [] [] ∷ []) text.old text.new) }
+    {
+        if offset.is_some() || time.is_some() {
+            return self.put_timed(text, offset, time);
+        }
+        text.extend_from_slice(self.line.as_slice())?;
+        Ok(())
+    }
+
+    /// Puts the rows of a message and its fields, by the time of its header.
+    pub(crate) fn put(
+        &self,
+        text: &mut Vec<u8>,
+        writer: &mut RowWriter,
+        value: &mut Vec<u8>,
+        values: &Values,
+        time: Option<u32>,
+    ) -> Result<(), AllocError>
+        requires local { values.now.local ≡ self.now.local }
+        requires shapes { HaveShape (map (λ f. (f.code, f.size)) self.now.fields)
+            values.now.fields }
+        ensures { OnOk result (HasRows (rows.data_row values.now self.now.global time
+            ∷ rows.field_rows self.now.global self.now.fields values.now.fields)
+            text.old text.new) }
+    {
+        self.put_first(text, values.offset, time)?;
+        let frames = self.frames.as_slice();
+        let end = self.end.as_slice();
+        put_frames(text, writer, value, frames, end, values.fields.as_slice())?;
+        Ok(())
+    }
+}
