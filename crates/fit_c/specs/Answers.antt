@@ -1,16 +1,18 @@
 -- What the calls for C answer: a status, and where and why.
 use Rattle.std.specs.Prelude.{◌≡◌, ◌⊎◌, ℕ, Bool, false, List, [], Option, Some, Result, Ok, Err, IfErr, IfOk}
 use Rattle.std.specs.declared.alloc.Global.{Global}
+use Rattle.std.specs.Io.KnownBytes.{Consumes}
 use Rattle.fit_frame.specs.declared.reason.Reason.{Reason}
 use Rattle.fit_frame.specs.declared.reason.Reason.TheVariants.{HeaderSize, Protocol, NoFit, Signature, HeaderSum, ReservedBit, UndefinedLocal, Overrun}
 use Rattle.fit_frame.specs.declared.reason.Reason.TheVariants.{Architecture, FileSum, TooManyFiles}
 use Rattle.fit_decode.specs.declared.event.Fault.{Fault}
 use Rattle.fit_decode.specs.declared.event.Fault.TheVariants as faults
 use Rattle.fit_decode.specs.Checks.{AreFiles, IsFaultOf}
+use Rattle.fit_decode.specs.Events.{Event}
 use Rattle.fit_report.specs.declared.fault.ReportFault.{ReportFault}
 use Rattle.fit_report.specs.declared.fault.ReportFault.TheVariants as reports
 use Rattle.fit_report.specs.Heard.{Lines}
-use Rattle.fit_report.specs.Reports.{Channel, Reports}
+use Rattle.fit_report.specs.Reports.{Channel, HasTold}
 use Rattle.fit_csv.specs.declared.fault.CsvFault.{CsvFault}
 use Rattle.fit_csv.specs.declared.fault.CsvFault.TheVariants as csv
 use Rattle.fit_csv.specs.Conversions.{Converts, RowsOf}
@@ -90,7 +92,8 @@ IsConverted rows bytes a text =
 -- The text is what a report of the bytes has told by these lines, and the answer is that report's.
 abbrev pub IsReported : Lines Global → List ℕ → FitAnswer → List ℕ → Type 0
 IsReported line bytes a text =
-    (r : Result (Unit {0}) ReportFault) × (left : List ℕ) × (failed : Bool) × (a ≡ report_answer r) × Reports line (given bytes left) (kept text failed) r
+    (r : Result (Unit {0}) ReportFault) × (left : List ℕ) × (failed : Bool) × (a ≡ report_answer r) × (taken : List ℕ) × (heard : List (Event Global))
+    × Consumes (Some bytes) (Some left) taken × HasTold line taken (given bytes left) (kept text failed) heard r
 
 -- The answer is that of reading the text to its end: its rows are those of a chain; or the first row that can't stand where it is and
 -- its first such cell; or why the files of its rows have no bytes.

@@ -89,9 +89,9 @@ module _ {K : Type 0} (contents : K → Option (List ℕ)) (has_failed : K → B
         ),
       )
 
-    pub ran : {A : Type 0} (line : Lines A) (answer : Result (Unit {0}) ReportFault) → Reports line source told answer
-        → Finishes answer old new said faults status → Runs line source all faults status
-    ran line answer (taken, heard, eats, says) = ran_so line heard answer (taken, eats, says)
+    pub ran : {A R : Type 0} (has_heard : R → List (Event A) → Type 0) (reporter : R) (line : Lines A) (answer : Result (Unit {0}) ReportFault)
+        → Reports has_heard reporter line source told answer → Finishes answer old new said faults status → Runs line source all faults status
+    ran has_heard reporter line answer (taken, heard, eats, says, has) = ran_so line heard answer (taken, eats, says)
 
     -- Where the input is a chain and neither the source nor the output has failed.
     module _ {A : Type 0} (line : Lines A) (fs : List (FitFile A)) (well : source.failed ≡ false) (good : has_failed new ≡ false) where

@@ -49,7 +49,7 @@ WritesLines lines wanted output faults status =
 abbrev pub ReportFinds : {X : Type 0} → Type 0 → List ℕ → Channel → Result X Fault → Type 0
 ReportFinds A taken source (Ok _) = IsAtEnd source.after × (source.failed ≡ false) × AreChain A taken
 ReportFinds A taken source (Err (NoMemory used)) = ⊥
-ReportFinds A taken source (Err fault) = Faults A chain_limit taken source.after source.failed fault
+ReportFinds A taken source (Err fault) = Faults A chain_limit taken source fault
 
 -- the bytes that were found good
 abbrev pub good_bytes : {X : Type 0} → Result X Fault → List ℕ → List ℕ

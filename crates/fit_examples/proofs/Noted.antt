@@ -1,5 +1,5 @@
 -- What is noted of the events of some bytes.
-use Rattle.std.proofs.Common.{◌≡◌, ◌∙◌, ℕ, ◌≤◌, List, [], ◌∷◌, ◌++◌, length, take, reverse, Some, None, refl, sym, ap, ap₂, subst, arith, append_assoc}
+use Rattle.std.proofs.Common.{◌≡◌, ◌∙◌, ℕ, List, [], ◌∷◌, ◌++◌, length, take, reverse, Some, None, refl, sym, ap, ap₂, subst, arith, append_assoc}
 use Rattle.std.specs.Prelude.{flat_map, map}
 use Rattle.std.specs.declared.alloc.Global.{Global}
 use Rattle.std.proofs.lemmas.List.{append-nil, reverse-append, reverse-reverse}
@@ -15,6 +15,7 @@ use Rattle.fit_decode.specs.Laws.{EventsAreOne}
 use Rattle.fit_decode.specs.Progress.{at_header}
 use Rattle.fit_decode.proofs.Checking.{Feeds}
 use Rattle.fit_decode.proofs.FileRead.{no_file_yet}
+use Rattle.fit_decode.proofs.Telling.{least_for, quiet_for}
 use Rattle.fit_profile.specs.Laws.{LookingBackIsLearning}
 use Rattle.fit_profile.specs.Looks.{known}
 use Rattle.fit_report.specs.Heard.{AreHeard, hear, latest_records}
@@ -82,13 +83,16 @@ pub record Answers (bytes piece : List ℕ) (used : ℕ) (answer : Answer Global
 
 events_on : (bytes piece : List ℕ) (used : ℕ) (answer : Answer Global) (heard : List (Event Global)) → Answers bytes piece used answer
     → AreEvents bytes (reverse heard) → AreEvents (bytes ++ take used piece) (reverse (hear answer heard))
-events_on bytes piece used answers.More heard a are = a.more refl (reverse heard) are used (omega arith)
+events_on bytes piece used answers.More heard a are = quiet_for bytes piece used (a.more refl) (reverse heard) are used (omega arith)
 events_on bytes piece used (answers.Header h n) heard a are =
-    subst (AreEvents (bytes ++ take used piece)) (sym (reverse-append (header h n ∷ []) heard)) (a.event (header h n) refl (reverse heard) are).0
+    subst (AreEvents (bytes ++ take used piece)) (sym (reverse-append (header h n ∷ []) heard))
+    (least_for bytes piece used (header h n) (a.event (header h n) refl) (reverse heard) are).0
 events_on bytes piece used (answers.Item r) heard a are =
-    subst (AreEvents (bytes ++ take used piece)) (sym (reverse-append (item r ∷ []) heard)) (a.event (item r) refl (reverse heard) are).0
+    subst (AreEvents (bytes ++ take used piece)) (sym (reverse-append (item r ∷ []) heard))
+    (least_for bytes piece used (item r) (a.event (item r) refl) (reverse heard) are).0
 events_on bytes piece used answers.FileEnd heard a are =
-    subst (AreEvents (bytes ++ take used piece)) (sym (reverse-append (file_end ∷ []) heard)) (a.event file_end refl (reverse heard) are).0
+    subst (AreEvents (bytes ++ take used piece)) (sym (reverse-append (file_end ∷ []) heard))
+    (least_for bytes piece used file_end (a.event file_end refl) (reverse heard) are).0
 
 records_on : {A : Type 0} (heard : List (Event A)) (answer : Answer A)
     → records_after_event (latest_records heard) answer ≡ latest_records (hear answer heard)

@@ -4,11 +4,11 @@ use Rattle.std.specs.declared.alloc.Global.{Global}
 use Rattle.fit_record.specs.declared.file.FitFile.{FitFile}
 use Rattle.fit_decode.specs.declared.event.Fault.{Fault}
 use Rattle.fit_decode.specs.declared.event.Fault.TheVariants.{Refused, Truncated, NoMemory, Read}
-use Rattle.fit_decode.specs.Reads.{GivesFile, Taking}
+use Rattle.fit_decode.specs.Reads.{GivesFile, Channel}
 use Rattle.fit_decode.specs.Checks.{LacksMemory}
 
 -- where a file begins the bytes of a source that doesn't fail, only memory can be lacking
-pub front_fault : (f : FitFile Global) (n : ℕ) (x : List ℕ) (source : Taking) (fault : Fault) → source.failed ≡ false → GivesFile f n x source (Err fault)
+pub front_fault : (f : FitFile Global) (n : ℕ) (x : List ℕ) (source : Channel) (fault : Fault) → source.failed ≡ false → GivesFile f n x source (Err fault)
     → LacksMemory fault
 front_fault f n x source (NoMemory used) good gives = tt
 front_fault f n x source (Read place) good gives = let both : true ≡ false = sym gives.0 ∙ good in absurd cc

@@ -1,16 +1,14 @@
 -- Why there is no table.
-use Rattle.std.proofs.Common.{◌≡◌, ◌∙◌, ℕ, ◌+◌, ◌<◌, ◌++◌, true, false, Bool, Option, Some, List, [], Err, arith, take, get_or, length, length-append, refl}
+use Rattle.std.proofs.Common.{◌≡◌, ◌∙◌, ℕ, ◌<◌, ◌++◌, true, false, Some, List, Err, arith, take, get_or, length, length-append}
 use Rattle.std.proofs.Common.{sym, ap, subst}
 use Rattle.std.specs.declared.alloc.Global.{Global}
 use Rattle.std.proofs.lemmas.List.{append-nil, get_or_append_left, take-append-le}
 use Rattle.fit_frame.specs.declared.reason.Reason.{Reason}
-use Rattle.fit_record.specs.Files.{IsViable, chain_limit}
-use Rattle.fit_decode.specs.declared.event.Fault.{Fault}
+use Rattle.fit_record.specs.Files.{chain_limit}
 use Rattle.fit_decode.specs.declared.event.Fault.TheVariants as faults
-use Rattle.fit_decode.specs.Answers.{AreChain}
 use Rattle.fit_decode.specs.Checks.{IsFaultOf}
 use Rattle.fit_decode.specs.Refusals.{IsRefused}
-use Rattle.fit_report.specs.Reports.{Channel, Faults}
+use Rattle.fit_report.specs.Reports.{Channel}
 use Rattle.fit_csv.specs.declared.fault.CsvFault.{CsvFault}
 use Rattle.fit_csv.specs.declared.fault.CsvFault.TheVariants as csv
 use Rattle.fit_csv.specs.Conversions.{Converts, ConvertsTo, RowsOf}
@@ -41,24 +39,14 @@ refused_here taken left place reason within why = (
       (subst (λ front. IsRefused Global chain_limit front (get_or taken place 0) reason) (sym (take-append-le place taken left (omega (arith, within)))) why),
 )
 
--- a fault of the bytes taken is one of all bytes, where the source doesn't fail
-fault_here : (ride taken left : List ℕ) (fault : Fault) (failed : Bool) → failed ≡ false → ride ≡ taken ++ left
-    → Faults Global chain_limit taken (Some left) failed fault → IsFaultOf ride fault
-fault_here ride taken left (faults.Refused place reason) failed good all ends =
-    subst (λ bytes. IsFaultOf bytes (faults.Refused place reason)) (sym all) (refused_here taken left place reason ends.0 ends.2)
-fault_here ride taken left (faults.Truncated place) failed good all ends =
-    subst (λ bytes. IsFaultOf bytes (faults.Truncated place)) (sym (all ∙ ap (λ l. taken ++ l) ends.1 ∙ append-nil taken)) (ends.0, ends.2, ends.3)
-fault_here ride taken left (faults.NoMemory used) failed good all ends = tt
-fault_here ride taken left (faults.Read place) failed good all ends = let both : true ≡ false = sym ends.1 ∙ good in absurd cc
-
+-- a fault of the bytes taken is one of all bytes, since the source doesn't fail
 pub table_fault : (rows : RowsOf) (ride left : List ℕ) (sink : Channel) (fault : CsvFault)
     → Converts rows (record { before = Some ride; after = Some left; failed = false }) sink (Err fault) → IsTableFault ride fault
-table_fault rows ride left sink (csv.Decode (faults.Refused place reason)) (taken, all, (fails, text)) =
-    fault_here ride taken left (faults.Refused place reason) false refl all fails
-table_fault rows ride left sink (csv.Decode (faults.Truncated place)) (taken, all, (fails, text)) =
-    fault_here ride taken left (faults.Truncated place) false refl all fails
-table_fault rows ride left sink (csv.Decode (faults.Read place)) (taken, all, (fails, text)) =
-    fault_here ride taken left (faults.Read place) false refl all fails
+table_fault rows ride left sink (csv.Decode (faults.Refused place reason)) (taken, all, (ends, text)) =
+    subst (λ bytes. IsFaultOf bytes (faults.Refused place reason)) (sym all) (refused_here taken left place reason ends.0 ends.2)
+table_fault rows ride left sink (csv.Decode (faults.Truncated place)) (taken, all, (ends, text)) =
+    subst (λ bytes. IsFaultOf bytes (faults.Truncated place)) (sym (all ∙ ap (λ l. taken ++ l) ends.1 ∙ append-nil taken)) (ends.0, ends.2, ends.3)
+table_fault rows ride left sink (csv.Decode (faults.Read place)) (taken, all, (ends, text)) = let both : true ≡ false = sym ends.1 in absurd cc
 table_fault rows ride left sink (csv.Decode (faults.NoMemory used)) (taken, all, none) = none
 table_fault rows ride left sink csv.NoMemory some = tt
 table_fault rows ride left sink (csv.Write written) some = tt

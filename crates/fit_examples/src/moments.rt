@@ -85,7 +85,7 @@ fn note(stream: &mut Stream, moments: &mut Vec<Moment>, event: Event) -> Result<
 /// Time and heart rate of each record message of a FIT file, or of a chain of such files.
 ///
 /// `Refused` has the first byte that cannot belong to any valid chain of files, counted from 0, and the reason; `Truncated` has the
-/// length of a ride that ends too soon. `NoMemory` says nothing about the ride.
+/// length of a ride that ends too soon. `NoMemory` has the number of bytes taken before memory was refused; they begin a chain.
 pub fn heart_rates(alloc: Global, ride: &[u8]) -> Result<Vec<Moment>, Fault>
     ensures good { OnOk result (AreChain Global ride.now) }
     ensures moments { (fs : List (FitFile Global)) → IsChain chain_limit fs ride.now →
@@ -100,14 +100,18 @@ pub fn heart_rates(alloc: Global, ride: &[u8]) -> Result<Vec<Moment>, Fault>
     let mut moments = Vec::new(alloc);
     let mut rest = ride;
     while !rest.is_empty() {
-        let fed = decoder.feed(rest)?;
-        let (_, left) = rest.split_at(fed.used);
-        rest = left;
-        let Ok(()) = note(&mut stream, &mut moments, fed.event) else {
-            return Err(Fault::NoMemory {
-                used: fed.used as u64,
-            });
-        };
+        let before = (ride.len() - rest.len()) as u64;
+        match decoder.feed(rest) {
+            Ok(fed) => {
+                rest = rest.split_at(fed.used).1;
+                let Ok(()) = note(&mut stream, &mut moments, fed.event) else {
+                    return Err(Fault::NoMemory {
+                        used: (ride.len() - rest.len()) as u64,
+                    });
+                };
+            }
+            Err(fault) => return Err(fault.after(before)),
+        }
     }
     decoder.finish()?;
     Ok(moments)

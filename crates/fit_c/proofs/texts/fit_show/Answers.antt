@@ -3,7 +3,7 @@ use Rattle.std.specs.Prelude.{flat_map, reverse}
 use Rattle.fit_base.proofs.ByteLists.{slice_is_bytes}
 use Rattle.fit_decode.specs.Events.{file_events}
 use Rattle.fit_report.specs.Heard.{text_of}
-use Rattle.fit_report.specs.Reports.{Channel, Reports}
+use Rattle.fit_report.specs.Reports.{Channel, HasTold}
 use Rattle.fit_csv.specs.ShowLines.{show_line}
 use Rattle.fit_c.specs.Answers.{IsTextUnlessWant, given}
 use Rattle.fit_c.proofs.Handed.{shown_chain}
@@ -14,14 +14,18 @@ returns-clause-reported c =
     let r = c.report-answered.result in
     let left = c.report-answered.new.source.now in
     let failed = c.report-answered.new.sink.failed in
-    let source : Channel = given c.args.bytes.now left in (
+    let source : Channel = given c.args.bytes.now left in
+    let (taken, heard, eaten, told, has) = c.report-answered.ensures.reports in (
       r,
       left,
       failed,
       c.of_report.ensures,
-      subst (λ b. Reports show_line source (record { before = b; after = Some c.handed.result.now; failed = failed }) r) c.memory-sink.ensures.held
-          (subst (λ a. Reports show_line source (record { before = c.memory-sink.result.held; after = a; failed = failed }) r) (sym c.handed.ensures)
-          c.report-answered.ensures.reports),
+      taken,
+      heard,
+      eaten,
+      subst (λ b. HasTold show_line taken source (record { before = b; after = Some c.handed.result.now; failed = failed }) heard r) c.memory-sink.ensures.held
+          (subst (λ a. HasTold show_line taken source (record { before = c.memory-sink.result.held; after = a; failed = failed }) heard r)
+          (sym c.handed.ensures) told),
     )
 
 pub returns-clause-chain : goal.returns-clause-chain

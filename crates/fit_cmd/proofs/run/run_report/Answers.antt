@@ -18,7 +18,7 @@ returns-clause-runs g c =
           g.E.Sink.has_failed c.finish.new.faults;
     } in
     ran g.K.Sink.contents g.K.Sink.has_failed c.report-told.new.sink c.finish.new.output (g.K.Sink.contents c.args.output.now) source faults c.finish.result
-    g.R.Report.line c.report-told.result c.report-told.ensures.reports c.finish.ensures
+    g.R.Report.has_heard c.report-told.new.reporter g.R.Report.line c.report-told.result c.report-told.ensures.reports c.finish.ensures
 
 pub returns-clause-chain : goal.returns-clause-chain
 returns-clause-chain g c = λ fs b input are chain well good.

@@ -1,12 +1,12 @@
 -- What is fed is a front of the ride, and what is noted is that of its events.
-use Rattle.std.proofs.Common.{rules, [], Err, ap, length, subst, sym, ◌∙◌, IfErr, OnOk}
+use Rattle.std.proofs.Common.{rules, ◌^◌, ◌<◌, [], length, subst, sym, ◌∙◌, IfErr, OnOk}
 use Rattle.std.specs.declared.alloc.Global.{Global}
 use Rattle.std.proofs.lemmas.Bool.{eqb-true}
 use Rattle.std.proofs.lemmas.Result.{err_from_is_err_and}
 use Rattle.fit_base.proofs.ByteLists.{slice_is_bytes}
 use Rattle.fit_decode.specs.Answers.{AreChain, Seen}
 use Rattle.fit_decode.specs.Checks.{IsFaultOf}
-use Rattle.fit_decode.proofs.Checking.{Feeds, bad_end, chain_end, feeds_on, good_end, stopped}
+use Rattle.fit_decode.proofs.Checking.{Feeds, bad_end, chain_end, fault_of_chain, feeds_on, good_end, stopped, stops, taken_before}
 use Rattle.fit_examples.proofs.Noted.{Noted, heard_on, noted_all, noted_on, nothing_noted}
 use Rattle.fit_examples.proofs.moments.heart_rates.Goals as goal
 
@@ -26,45 +26,46 @@ note-requires c =
       noted.records,
       (
         c.feed.new.self.bytes,
-        c.in_ok-fed.ensures.viable,
-        heard_on c.loop-rest.decoder c.feed.new.self c.loop-rest.rest.now c.in_ok-fed.fed.used c.in_ok-fed.fed.event noted.heard noted.are
-            (record { more = λ none. (c.in_ok-fed.ensures.more none).1; event = λ x is. (c.in_ok-fed.ensures.event x is).1 })
-            c.in_ok-fed.ensures.used.1,
+        c.in-Ok.ensures.viable,
+        heard_on c.loop-rest.decoder c.feed.new.self c.loop-rest.rest.now c.in-Ok.fed.used c.in-Ok.fed.event noted.heard noted.are
+            (record { more = λ none. (c.in-Ok.ensures.more none).1; event = λ x is. (c.in-Ok.ensures.event x is).1 })
+            c.in-Ok.ensures.used.1,
       ),
     )
 
 pub loop-rest-preserved : goal.loop-rest-preserved
 loop-rest-preserved c = (
   subst (Feeds c.args.ride.now c.feed.new.self) (sym c.split_at.ensures.back)
-      (feeds_on c.args.ride.now c.loop-rest.decoder c.feed.new.self c.loop-rest.rest.now c.in_ok-fed.fed.used c.loop-rest.invariant.0
-      c.in_ok-fed.ensures.used.1 c.in_ok-fed.ensures.viable),
-  noted_on c.loop-rest.decoder c.feed.new.self c.loop-rest.rest.now c.in_ok-fed.fed.used c.in_ok-fed.fed.event c.loop-rest.stream c.note.new.stream
+      (feeds_on c.args.ride.now c.loop-rest.decoder c.feed.new.self c.loop-rest.rest.now c.in-Ok.fed.used c.loop-rest.invariant.0
+      c.in-Ok.ensures.used.1 c.in-Ok.ensures.viable),
+  noted_on c.loop-rest.decoder c.feed.new.self c.loop-rest.rest.now c.in-Ok.fed.used c.in-Ok.fed.event c.loop-rest.stream c.note.new.stream
       c.loop-rest.moments.items c.note.new.moments.items c.loop-rest.invariant.1
-      (record { more = λ none. (c.in_ok-fed.ensures.more none).1; event = λ x is. (c.in_ok-fed.ensures.event x is).1 })
-      c.in_ok-fed.ensures.used.1 c.in-Ok.ensures.stream c.in-Ok.ensures.moments,
+      (record { more = λ none. (c.in-Ok.ensures.more none).1; event = λ x is. (c.in-Ok.ensures.event x is).1 })
+      c.in-Ok.ensures.used.1 c.in-Ok-note.ensures.stream c.in-Ok-note.ensures.moments,
 )
 
-pub returns-in_err-fed-clause-fault : goal.returns-in_err-fed-clause-fault
-returns-in_err-fed-clause-fault c =
-    let p = err_from_is_err_and c.from_residual.result c.from_residual.ensures.1 in
-    rw (p.1, p.2)
-    (stopped c.args.ride.now c.loop-rest.decoder c.feed.new.self c.loop-rest.rest.now c.in_err-fed.field-0.0 c.loop-rest.invariant.0
-    (record {
-      refused = λ place reason is. c.feed.ensures.refused place reason c.loop-rest.invariant.0.fresh (c.in_err-fed.was ∙ ap Err is);
-      others = λ place. (
-        λ is. (c.feed.ensures.others place).0 (c.in_err-fed.was ∙ ap Err is),
-        λ is.
-            (c.feed.ensures.others place).1 (c.in_err-fed.was ∙ ap Err is),
-      );
-    }))
+pub returns-in_default-clause-fault : goal.returns-in_default-clause-fault
+returns-in_default-clause-fault c =
+    taken_before c.args.ride.now c.feed.new.self c.split_at.result.1.now
+    (subst (Feeds c.args.ride.now c.feed.new.self) (sym c.split_at.ensures.back)
+    (feeds_on c.args.ride.now c.loop-rest.decoder c.feed.new.self c.loop-rest.rest.now c.in-Ok.fed.used c.loop-rest.invariant.0
+    c.in-Ok.ensures.used.1 c.in-Ok.ensures.viable))
 
-pub returns-in_err-fed-clause-memory : goal.returns-in_err-fed-clause-memory
-returns-in_err-fed-clause-memory c =
-    chain_end c.args.ride.now c.from_residual.result (slice_is_bytes c.args.ride.now c.type_inv.ride) (returns-in_err-fed-clause-fault c)
+pub returns-in-Err-clause-fault : goal.returns-in-Err-clause-fault
+returns-in-Err-clause-fault c =
+    let short : length c.args.ride.now < 2 ^ 64 = search rules in
+    subst (IsFaultOf c.args.ride.now) (sym c.after.ensures)
+    (stopped c.args.ride.now c.loop-rest.decoder c.feed.new.self c.loop-rest.rest.now c.in-Err.fault short c.loop-rest.invariant.0
+    (stops c.loop-rest.decoder c.feed.new.self c.loop-rest.rest.now c.feed.result c.in-Err.fault c.in-Err.is c.loop-rest.invariant.0.fresh
+    c.feed.ensures.refused c.feed.ensures.memory c.feed.ensures.others c.feed.ensures.viable))
+
+pub returns-in-Err-clause-memory : goal.returns-in-Err-clause-memory
+returns-in-Err-clause-memory c =
+    fault_of_chain c.args.ride.now c.after.result (slice_is_bytes c.args.ride.now c.type_inv.ride) (returns-in-Err-clause-fault c)
 
 pub returns-in_err-finish-clause-fault : goal.returns-in_err-finish-clause-fault
 returns-in_err-finish-clause-fault c =
-    let p = err_from_is_err_and c.from_residual-in_err-finish.result c.from_residual-in_err-finish.ensures.1 in
+    let p = err_from_is_err_and c.from_residual.result c.from_residual.ensures.1 in
     rw (p.1, p.2)
     (subst (λ r. IfErr r (IsFaultOf c.args.ride.now)) c.in_err-finish.was
     (bad_end c.args.ride.now c.loop-rest.decoder c.loop-rest.rest.now c.finish.result c.loop-rest.invariant.0
@@ -73,7 +74,7 @@ returns-in_err-finish-clause-fault c =
 
 pub returns-in_err-finish-clause-memory : goal.returns-in_err-finish-clause-memory
 returns-in_err-finish-clause-memory c =
-    chain_end c.args.ride.now c.from_residual-in_err-finish.result (slice_is_bytes c.args.ride.now c.type_inv.ride) (returns-in_err-finish-clause-fault c)
+    chain_end c.args.ride.now c.from_residual.result (slice_is_bytes c.args.ride.now c.type_inv.ride) (returns-in_err-finish-clause-fault c)
 
 pub returns-clause-good : goal.returns-clause-good
 returns-clause-good c =

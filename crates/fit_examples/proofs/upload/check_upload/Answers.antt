@@ -1,40 +1,30 @@
 -- What is fed is a front of the upload, and at the end all of it.
-use Rattle.std.proofs.Common.{Err, ap, length, subst, sym, ◌∙◌}
+use Rattle.std.proofs.Common.{◌^◌, ◌<◌, length, rules, subst, sym, ◌∙◌}
 use Rattle.std.proofs.lemmas.Bool.{eqb-true}
-use Rattle.std.proofs.lemmas.Result.{err_from_is_err_and}
 use Rattle.fit_base.proofs.ByteLists.{slice_is_bytes}
-use Rattle.fit_decode.proofs.Checking.{Feeds, bad_end, chain_end, feeds_on, good_end, stopped}
+use Rattle.fit_decode.specs.Checks.{IsFaultOf, LacksMemoryAt}
+use Rattle.fit_decode.proofs.Checking.{bad_end, chain_end, fault_of_chain, good_end, stopped, stopped_at, stops}
 use Rattle.fit_examples.proofs.upload.check_upload.Goals as goal
 
-pub loop-rest-preserved-in_ok-fed : goal.loop-rest-preserved-in_ok-fed
-loop-rest-preserved-in_ok-fed c =
-    subst (Feeds c.args.upload.now c.feed.new.self) (sym c.split_at.ensures.back)
-    (feeds_on c.args.upload.now c.loop-rest.decoder c.feed.new.self c.loop-rest.rest.now c.in_ok-fed.fed.used c.loop-rest.invariant c.in_ok-fed.ensures.used.1
-    c.in_ok-fed.ensures.viable)
+pub returns-in-Err-clause-fault : goal.returns-in-Err-clause-fault
+returns-in-Err-clause-fault c =
+    let short : length c.args.upload.now < 2 ^ 64 = search rules in
+    subst (IsFaultOf c.args.upload.now) (sym c.after.ensures)
+    (stopped c.args.upload.now c.loop-rest.decoder c.feed.new.self c.loop-rest.rest.now c.in-Err.fault short c.loop-rest.invariant
+    (stops c.loop-rest.decoder c.feed.new.self c.loop-rest.rest.now c.feed.result c.in-Err.fault c.in-Err.is c.loop-rest.invariant.fresh
+    c.feed.ensures.refused c.feed.ensures.memory c.feed.ensures.others c.feed.ensures.viable))
 
-pub loop-rest-preserved-in_ok-fed-3 : goal.loop-rest-preserved-in_ok-fed-3
-loop-rest-preserved-in_ok-fed-3 c =
-    subst (Feeds c.args.upload.now c.feed.new.self) (sym c.split_at.ensures.back)
-    (feeds_on c.args.upload.now c.loop-rest.decoder c.feed.new.self c.loop-rest.rest.now c.in_ok-fed.fed.used c.loop-rest.invariant c.in_ok-fed.ensures.used.1
-    c.in_ok-fed.ensures.viable)
+pub returns-in-Err-clause-place : goal.returns-in-Err-clause-place
+returns-in-Err-clause-place c =
+    let short : length c.args.upload.now < 2 ^ 64 = search rules in
+    subst (LacksMemoryAt c.args.upload.now) (sym c.after.ensures)
+    (stopped_at c.args.upload.now c.loop-rest.decoder c.feed.new.self c.loop-rest.rest.now c.in-Err.fault short c.loop-rest.invariant
+    (stops c.loop-rest.decoder c.feed.new.self c.loop-rest.rest.now c.feed.result c.in-Err.fault c.in-Err.is c.loop-rest.invariant.fresh
+    c.feed.ensures.refused c.feed.ensures.memory c.feed.ensures.others c.feed.ensures.viable))
 
-pub returns-in_err-fed-clause-fault : goal.returns-in_err-fed-clause-fault
-returns-in_err-fed-clause-fault c =
-    let p = err_from_is_err_and c.from_residual.result c.from_residual.ensures.1 in
-    rw (p.1, p.2)
-    (stopped c.args.upload.now c.loop-rest.decoder c.feed.new.self c.loop-rest.rest.now c.in_err-fed.field-0.0 c.loop-rest.invariant
-    (record {
-      refused = λ place reason is. c.feed.ensures.refused place reason c.loop-rest.invariant.fresh (c.in_err-fed.was ∙ ap Err is);
-      others = λ place. (
-        λ is. (c.feed.ensures.others place).0 (c.in_err-fed.was ∙ ap Err is),
-        λ is.
-            (c.feed.ensures.others place).1 (c.in_err-fed.was ∙ ap Err is),
-      );
-    }))
-
-pub returns-in_err-fed-clause-memory : goal.returns-in_err-fed-clause-memory
-returns-in_err-fed-clause-memory c =
-    chain_end c.args.upload.now c.from_residual.result (slice_is_bytes c.args.upload.now c.type_inv.upload) (returns-in_err-fed-clause-fault c)
+pub returns-in-Err-clause-memory : goal.returns-in-Err-clause-memory
+returns-in-Err-clause-memory c =
+    fault_of_chain c.args.upload.now c.after.result (slice_is_bytes c.args.upload.now c.type_inv.upload) (returns-in-Err-clause-fault c)
 
 pub returns-clause-good : goal.returns-clause-good
 returns-clause-good c =

@@ -1,5 +1,5 @@
 -- The records skipped are counted, and have no text.
-use Rattle.std.proofs.Common.{◌+◌, ◌∙◌, map, length, take, reverse, arith}
+use Rattle.std.proofs.Common.{ℕ, ◌+◌, ◌∙◌, add-zero, ap, map, length, take, reverse, arith}
 use Rattle.std.specs.Global.{Global}
 use Rattle.fit_record.specs.declared.message.Record.{Record}
 use Rattle.fit_report.specs.Heard.{hear_records}
@@ -25,6 +25,13 @@ returns c = record {
   within = c.skip_records-used.ensures.within;
   is_fed = fed_so c.args.decoder.now c.skip_records-used.new.self c.args.decoder.now.bytes (take c.skip_records-used.result.0 c.args.piece.now)
       c.skip_records-used.ensures.used;
+  refused = λ reason is.
+      let none = c.skip_records-used.ensures.refused reason is in (
+        ap (λ (r : ℕ × ℕ). r.0) none.0,
+        none.1,
+        ap (λ (r : ℕ × ℕ). record c.args.self.now { records = c.args.self.now.records + r.1 }) none.0
+            ∙ ap (λ n. record c.args.self.now { records = n }) (add-zero c.args.self.now.records),
+      );
   viable = c.skip_records-used.ensures.viable;
   told = λ heard has are.
       let self = c.args.self.now in
