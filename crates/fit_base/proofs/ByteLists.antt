@@ -1,9 +1,6 @@
 -- Lists of bytes, and their parts.
-use Rattle.std.proofs.Common.{ℕ, zero, suc, ◌<◌, List, [], ◌∷◌, ◌++◌, length, take, drop, get_or, replicate, sym, subst, lit<, arith, Fits, w8}
-use Rattle.std.specs.Prelude.{reverse}
-use Rattle.std.proofs.Math.Seq.{take-append_seam, drop-append_seam}
-use Rattle.std.proofs.lemmas.List.{reverse-append}
-use Rattle.fit_base.specs.Numbers.{IsBytes}
+use Rattle.fit_base.proofs.Common.{ℕ, zero, suc, ◌<◌, List, [], ◌∷◌, ◌++◌, length, take, drop, get_or, replicate, sym, subst, lit<, arith, Fits, w8, reverse}
+use Rattle.fit_base.proofs.Common.{take-append_seam, drop-append_seam, reverse-append, IsBytes}
 
 pub IsBytes-none : IsBytes []
 IsBytes-none i = lit< tt

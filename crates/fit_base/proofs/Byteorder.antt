@@ -1,11 +1,7 @@
 -- The numbers that the crate byteorder reads are those of the definitions.
-use Rattle.std.proofs.Common.{◌≡◌, ℕ, zero, suc, ◌+◌, ◌*◌, ◌^◌, ◌<◌, List, [], ◌∷◌, ◌++◌, length, get_or, drop, refl, sym, ap, ◌∙◌, arith}
-use Rattle.std.specs.Prelude.{reverse}
-use Rattle.std.proofs.lemmas.List.{reverse-append, length-reverse}
-use Rattle.std.proofs.Math.Seq.{drop-cons}
-use Rattle.std.proofs.Math.Nat.{pow-suc}
+use Rattle.fit_base.proofs.Common.{◌≡◌, ℕ, zero, suc, ◌+◌, ◌*◌, ◌^◌, ◌<◌, List, [], ◌∷◌, ◌++◌, length, get_or, drop, refl, sym, ap, ◌∙◌, arith, reverse}
+use Rattle.fit_base.proofs.Common.{reverse-append, length-reverse, drop-cons, pow-suc, little}
 use Rattle.byteorder.specs.Endian.{little_from, big_from}
-use Rattle.fit_base.specs.Numbers.{little}
 
 past : (i : ℕ) (xs : List ℕ) → length xs ≡ i → drop i xs ≡ []
 past zero [] h = refl

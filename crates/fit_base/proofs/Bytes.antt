@@ -1,14 +1,9 @@
 -- Lists of bytes, and numbers as bytes.
-use Rattle.std.proofs.Common.{◌≡◌, ℕ, zero, suc, ◌*◌, ◌/◌, ◌^◌, ◌<◌, Bool, true, false, cond, List, [], ◌∷◌, ◌++◌, length, refl, sym, ap, ◌∙◌, ltb, lit<, arith}
-use Rattle.std.proofs.Common.{append_assoc}
-use Rattle.std.specs.Prelude.{◌&&◌, flat_map, Some, unwrap_or, find}
-use Rattle.std.proofs.lemmas.List.{reverse-reverse, length-reverse}
-use Rattle.std.proofs.Math.Nat.{pow-suc}
+use Rattle.fit_base.proofs.Common.{◌≡◌, ℕ, zero, suc, ◌*◌, ◌/◌, ◌^◌, ◌<◌, Bool, true, false, cond, List, [], ◌∷◌, ◌++◌, length, refl, sym, ap, ◌∙◌, ltb, lit<}
+use Rattle.fit_base.proofs.Common.{arith, append_assoc, flat_map, Some, unwrap_or, find, reverse-reverse, length-reverse, pow-suc, list_all, AllByRecursion}
+use Rattle.fit_base.proofs.Common.{Order, Little, Big, IsBytes, little, number, little_bytes, number_bytes}
+use Rattle.std.specs.Prelude.{◌&&◌}
 use borrow.Author.Tests.{ltb-true}
-use Rattle.std.specs.List.{list_all, AllByRecursion}
-use Rattle.fit_base.specs.declared.number.Order.{Order}
-use Rattle.fit_base.specs.declared.number.Order.TheVariants.{Little, Big}
-use Rattle.fit_base.specs.Numbers.{IsBytes, little, number, little_bytes, number_bytes}
 
 pub both : (a b : Bool) → (a && b) ≡ true → (a ≡ true) × (b ≡ true)
 both true b h = (refl, h)

@@ -1,13 +1,7 @@
 -- An item of a field is the number of its piece of the field's bytes.
-use Rattle.std.proofs.Common.{◌≡◌, ℕ, zero, suc, ◌+◌, ◌*◌, ◌^◌, ◌<◌, List, [], ◌∷◌, ◌++◌, length, take, drop, refl, sym, ap, ◌∙◌, subst, arith}
-use Rattle.std.specs.Prelude.{flat_map, slice_index}
-use Rattle.std.specs.List.{AllByRecursion}
-use Rattle.std.proofs.Math.Nat.{suc-mul}
-use Rattle.std.proofs.Math.Seq.{take-append_seam, drop-append-add}
-use Rattle.std.proofs.lemmas.List.{take-append-drop, length-take-le, length-drop}
-use Rattle.fit_base.specs.declared.number.Order.{Order}
-use Rattle.fit_base.specs.Laws.{ItemsAndBytes}
-use Rattle.fit_base.specs.Numbers.{IsBytes, number, number_bytes}
+use Rattle.fit_base.proofs.Common.{◌≡◌, ℕ, zero, suc, ◌+◌, ◌*◌, ◌^◌, ◌<◌, List, [], ◌∷◌, ◌++◌, length, take, drop, refl, sym, ap, ◌∙◌, subst, arith, flat_map}
+use Rattle.fit_base.proofs.Common.{slice_index, AllByRecursion, suc-mul, take-append_seam, drop-append-add, take-append-drop, length-take-le, length-drop}
+use Rattle.fit_base.proofs.Common.{Order, ItemsAndBytes, IsBytes, number, number_bytes}
 use Rattle.fit_base.proofs.Bytes.{length-number_bytes, number-number_bytes}
 use Rattle.fit_base.proofs.NumberLaws.{number-below, number_bytes-number}
 use Rattle.fit_base.proofs.ShapeTests.{length-items_bytes}

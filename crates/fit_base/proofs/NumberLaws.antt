@@ -1,12 +1,7 @@
 -- Bytes and their number determine each other.
-use Rattle.std.proofs.Common.{◌≡◌, ℕ, zero, suc, ◌+◌, ◌*◌, ◌/◌, ◌%◌, ◌^◌, ◌<◌, ◌↔◌, List, [], ◌∷◌, length, refl, sym, ap, ◌∙◌, subst, lit<, arith}
-use Rattle.std.specs.Prelude.{reverse}
-use Rattle.std.proofs.lemmas.List.{reverse-reverse, length-reverse}
-use Rattle.std.proofs.Math.Nat.{pow-suc}
-use Rattle.fit_base.specs.declared.number.Order.{Order}
-use Rattle.fit_base.specs.declared.number.Order.TheVariants.{Little, Big}
-use Rattle.fit_base.specs.Laws.{NumbersAndBytes}
-use Rattle.fit_base.specs.Numbers.{IsBytes, little, number, little_bytes, number_bytes}
+use Rattle.fit_base.proofs.Common.{◌≡◌, ℕ, zero, suc, ◌+◌, ◌*◌, ◌/◌, ◌%◌, ◌^◌, ◌<◌, ◌↔◌, List, [], ◌∷◌, length, refl, sym, ap, ◌∙◌, subst, lit<, arith, reverse}
+use Rattle.fit_base.proofs.Common.{reverse-reverse, length-reverse, pow-suc, Order, Little, Big, NumbersAndBytes, IsBytes, little, number, little_bytes}
+use Rattle.fit_base.proofs.Common.{number_bytes}
 use Rattle.fit_base.proofs.ByteLists.{IsBytes-reverse}
 use Rattle.fit_base.proofs.Bytes.{length-number_bytes, number-number_bytes}
 

@@ -1,14 +1,8 @@
 -- The items of a field and their bytes determine each other.
-use Rattle.std.proofs.Common.{◌≡◌, ℕ, ◌*◌, ◌/◌, ◌^◌, ◌<◌, ◌%◌, true, false, cond, List, ◌++◌, length, refl, sym, ap, ◌∙◌, subst, ltb, lit<}
-use Rattle.std.specs.Prelude.{flat_map, ◌==◌}
-use Rattle.std.specs.List.{AllByRecursion}
-use Rattle.std.proofs.Math.Nat.{mul-div_cancel}
-use Rattle.fit_base.specs.Numbers.{number_bytes}
+use Rattle.fit_base.proofs.Common.{◌≡◌, ℕ, ◌*◌, ◌/◌, ◌^◌, ◌<◌, ◌%◌, true, false, cond, List, ◌++◌, length, refl, sym, ap, ◌∙◌, subst, ltb, lit<, flat_map}
+use Rattle.fit_base.proofs.Common.{AllByRecursion, mul-div_cancel, number_bytes, Items, Order, base_type, base_types, byte, item_width, HasShape, items_bytes}
+use Rattle.std.specs.Prelude.{◌==◌}
 use borrow.Author.Tests.{ltb-true}
-use Rattle.fit_base.specs.declared.items.Items.{Items}
-use Rattle.fit_base.specs.declared.number.Order.{Order}
-use Rattle.fit_base.specs.BaseTypes.{base_type, base_types, byte, item_width}
-use Rattle.fit_base.specs.Fields.{HasShape, items_bytes}
 use Rattle.fit_base.proofs.Bytes.{found_passes, same_numbers}
 
 pub width_positive : (code : ℕ) → 0 < (base_type code).width

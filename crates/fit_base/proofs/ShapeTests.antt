@@ -1,14 +1,9 @@
 -- The test of a field's shape says what the shape is, and the shape says how many bytes there are.
-use Rattle.std.proofs.Common.{◌≡◌, ℕ, ◌*◌, ◌^◌, ◌<◌, ◌↔◌, Bool, true, false, IsTrue, List, [], ◌∷◌, length, refl, sym, ◌∙◌, arith, ltb, ltb-true, lt-ltb}
-use Rattle.std.proofs.Common.{eqb-true, eq-eqb, length-append}
-use Rattle.std.specs.Prelude.{◌&&◌, flat_map}
-use Rattle.std.specs.List.{list_all, AllByRecursion}
-use Rattle.std.proofs.Math.Nat.{suc-mul}
-use Rattle.fit_base.specs.declared.items.Items.{Items}
-use Rattle.fit_base.specs.declared.number.Order.{Order}
-use Rattle.fit_base.specs.BaseTypes.{item_width}
-use Rattle.fit_base.specs.Numbers.{number_bytes}
-use Rattle.fit_base.specs.Fields.{HasShape, has_shape, items_bytes}
+use Rattle.fit_base.proofs.Common.{◌≡◌, ℕ, ◌*◌, ◌^◌, ◌<◌, ◌↔◌, Bool, true, false, IsTrue, List, [], ◌∷◌, length, refl, sym, ◌∙◌, arith, ltb, lt-ltb, eq-eqb}
+use Rattle.fit_base.proofs.Common.{length-append, flat_map, list_all, AllByRecursion, suc-mul, Items, Order, item_width, number_bytes, HasShape, has_shape}
+use Rattle.fit_base.proofs.Common.{items_bytes}
+use Rattle.std.proofs.Common.{ltb-true, eqb-true}
+use Rattle.std.specs.Prelude.{◌&&◌}
 use Rattle.fit_base.proofs.Bytes.{both, length-number_bytes}
 
 pub and_true : (a b : Bool) → a ≡ true → b ≡ true → (a && b) ≡ true

@@ -1,12 +1,10 @@
 -- What tests of a field's items say.
-use Rattle.std.proofs.Common.{◌≡◌, ℕ, ◌+◌, ◌*◌, ◌/◌, ◌%◌, ◌^◌, ◌<◌, ◌≤◌, ◌↔◌, Bool, true, false, cond, IsTrue, All, length, refl, sym, ap, ◌∙◌, arith}
+use Rattle.fit_base.proofs.Common.{◌≡◌, ℕ, ◌+◌, ◌*◌, ◌/◌, ◌%◌, ◌^◌, ◌<◌, ◌≤◌, ◌↔◌, Bool, true, false, cond, IsTrue, All, length, refl, sym, ap, ◌∙◌, arith}
+use Rattle.fit_base.proofs.Common.{Items, base_type, item_width, HasShape}
 use Rattle.std.specs.Prelude.{◌==◌}
 use Rattle.std.proofs.lemmas.Nat.{div-add-mod'}
 use borrow.Author.Tests.{eqb-true}
 use Rattle.std.proofs.lemmas.List.Elements.{recursion_from_All, All-from_recursion}
-use Rattle.fit_base.specs.declared.items.Items.{Items}
-use Rattle.fit_base.specs.BaseTypes.{base_type, item_width}
-use Rattle.fit_base.specs.Fields.{HasShape}
 
 divides : (w size : ℕ) (b : Bool) → (size % w == 0) ≡ b → (size / cond b w 1) * cond b w 1 ≡ size
 divides w size true h = let zero_rest : size % w ≡ 0 = eqb-true (size % w) 0 h in omega (arith, div-add-mod' size w, zero_rest)

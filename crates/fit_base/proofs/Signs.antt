@@ -1,8 +1,8 @@
 -- Bits stand for one number of two's complement.
-use Rattle.std.proofs.Common.{◌≡◌, ℕ, ◌*◌, ◌^◌, ◌<◌, ◌⊎◌, inl, inr, Bool, true, false, cond, refl, arith, ltb-true, ltb-false}
-use Rattle.std.specs.Prelude.{nat_lt, ℤ, pos, neg_ℤ, ◌+ℤ◌, ◌-ℤ◌, ◌≤ℤ◌, ◌<ℤ◌}
+use Rattle.fit_base.proofs.Common.{◌≡◌, ℕ, ◌*◌, ◌^◌, ◌<◌, ◌⊎◌, inl, inr, Bool, true, false, cond, refl, arith, ltb-false, nat_lt, ℤ, pos, neg_ℤ, ◌+ℤ◌, ◌-ℤ◌}
+use Rattle.fit_base.proofs.Common.{◌≤ℤ◌, ◌<ℤ◌, SignedNumbers}
+use Rattle.std.proofs.Common.{ltb-true}
 use Rattle.std.proofs.lemmas.Int.{ints}
-use Rattle.fit_base.specs.Laws.{SignedNumbers}
 
 -- at any bound in place of 256 ^ width
 one_value :

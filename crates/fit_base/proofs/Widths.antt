@@ -1,7 +1,7 @@
 -- The table of widths has the protocol's.
-use Rattle.std.proofs.Common.{◌≡◌, ℕ, zero, suc, ◌+◌, ◌<◌, ◌==◌, ◌&&◌, Bool, true, List, [], ◌∷◌, length, get_or, arith, ap, ◌∙◌}
+use Rattle.fit_base.proofs.Common.{◌≡◌, ℕ, zero, suc, ◌+◌, ◌<◌, Bool, true, List, [], ◌∷◌, length, get_or, arith, ap, ◌∙◌, base_type}
+use Rattle.std.proofs.Common.{◌==◌, ◌&&◌}
 use Rattle.std.proofs.lemmas.Bool.{eqb-true}
-use Rattle.fit_base.specs.BaseTypes.{base_type}
 use Rattle.fit_base.proofs.Bytes.{both}
 
 -- entry j of the list is the width of code i + j: a test, which computes over a whole table

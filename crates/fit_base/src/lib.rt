@@ -14,6 +14,3 @@ pub use code::{Class, Code, width_of};
 pub use entries::Entries;
 pub use items::{Items, has_shape};
 pub use number::{Order, bits_at, put_bits, signed};
-
-#[cfg(test)]
-mod tests;

@@ -1,17 +1,10 @@
 -- The bytes of a header of a file are judged well, each behind those before it.
-use Rattle.std.proofs.Common.{◌≡◌, ℕ, ◌/◌, ◌%◌, ◌^◌, ◌<◌, ◌≤◌, ◌⊎◌, inl, inr, List, [], ◌∷◌, ◌++◌, length, take, slice_index, length-append, refl, sym, ap, ◌∙◌}
-use Rattle.std.proofs.Common.{subst, arith, append_assoc}
-use Rattle.std.proofs.lemmas.List.{length-take-le, take-append-le, get_or_append_left}
+use Rattle.fit_frame.proofs.Common.{◌≡◌, ℕ, zero, suc, ◌/◌, ◌%◌, ◌^◌, ◌<◌, ◌≤◌, ◌⊎◌, inl, inr, List, [], ◌∷◌, ◌++◌, length, take, slice_index, length-append}
+use Rattle.fit_frame.proofs.Common.{refl, sym, ap, ◌∙◌, subst, arith, append_assoc, length-take-le, take-append-le, get_or_append_left, checksum}
+use Rattle.fit_frame.proofs.Common.{checksum-below, Header, HeaderSum, Absent, Zero, True, fixed_part, sum_part, header_bytes, SizeFits, HeaderFits, IsDataSize}
+use Rattle.fit_frame.proofs.Common.{IsWholeHeader, BeginsHeader, two_bytes, four_bytes, MayFollow, AreJudged, HasItsSize}
 use Rattle.std.proofs.Math.Seq.{get_or-append_seam, take-append_seam}
 use Rattle.std.proofs.Math.Nat.{eq-or-lt_of_le}
-use Rattle.fit_sum.specs.Checksum.{checksum}
-use Rattle.fit_sum.proofs.SixteenBits.{checksum-below}
-use Rattle.fit_frame.specs.declared.header.Header.{Header}
-use Rattle.fit_frame.specs.declared.header.HeaderSum.{HeaderSum}
-use Rattle.fit_frame.specs.declared.header.HeaderSum.TheVariants.{Absent, Zero, True}
-use Rattle.fit_frame.specs.Header.{fixed_part, sum_part, header_bytes, SizeFits, HeaderFits}
-use Rattle.fit_frame.specs.Beginning.{IsDataSize, IsWholeHeader, BeginsHeader}
-use Rattle.fit_frame.specs.inner.Judgement.{two_bytes, four_bytes, MayFollow, AreJudged, HasItsSize}
 use Rattle.fit_frame.proofs.OneHeader.{length-header_bytes}
 
 -- what is said of the first byte, by the word
@@ -44,32 +37,62 @@ module _ (h : Header) (n : ℕ) where
   high_said Zero fits more = inl (refl, refl)
   high_said True fits more = inr (two_again (checksum (fixed_part h n)) (checksum-below (fixed_part h n)))
 
-judged_header : (h : Header) (n : ℕ) → HeaderFits h n → IsDataSize n → AreJudged (header_bytes h n)
-judged_header h n fits data_size = go h.sum fits.form.size
+-- seven more, by constructors
+abbrev pub seven : ℕ → ℕ
+seven n = suc (suc (suc (suc (suc (suc (suc n))))))
+
+-- what is asked of a byte behind seven more than n others, and behind n others
+abbrev pub AskedLate : ℕ → List ℕ → ℕ → Type 0
+AskedLate zero bytes b = IsDataSize (four_bytes (slice_index bytes 4) (slice_index bytes 5) (slice_index bytes 6) b)
+AskedLate (suc zero) bytes b = b ≡ 0x2E
+AskedLate (suc (suc zero)) bytes b = b ≡ 0x46
+AskedLate (suc (suc (suc zero))) bytes b = b ≡ 0x49
+AskedLate (suc (suc (suc (suc zero)))) bytes b = b ≡ 0x54
+AskedLate (suc (suc (suc (suc (suc zero))))) bytes b = (b ≡ 0) ⊎ (b ≡ checksum bytes % 256)
+AskedLate (suc (suc (suc (suc (suc (suc zero)))))) bytes b =
+    ((slice_index bytes 12 ≡ 0) × (b ≡ 0)) ⊎ (two_bytes (slice_index bytes 12) b ≡ checksum (take 12 bytes))
+AskedLate n bytes b = Unit {0}
+
+abbrev pub Asked : ℕ → List ℕ → ℕ → Type 0
+Asked zero bytes b = (b ≡ 12) ⊎ (14 ≤ b)
+Asked (suc zero) bytes b = b / 16 ≤ 2
+Asked (suc (suc (suc (suc (suc (suc (suc n))))))) bytes b = AskedLate n bytes b
+Asked n bytes b = Unit {0}
+
+pub asked : (n : ℕ) (bytes : List ℕ) (b : ℕ) → length bytes ≡ n → Asked n bytes b → MayFollow bytes b
+asked n bytes b is what = record {
+  size = λ e. at 0 e;
+  version = λ e. at 1 e;
+  data_size = λ e. at 7 e;
+  letter_8 = λ e. at 8 e;
+  letter_9 = λ e. at 9 e;
+  letter_10 = λ e. at 10 e;
+  letter_11 = λ e. at 11 e;
+  low = λ e. at 12 e;
+  high = λ e. at 13 e;
+}
   where
-    go : (w : HeaderSum) → SizeFits w h.size h.rest.items → AreJudged (fixed_part h n ++ sum_part w (fixed_part h n) ++ h.rest.items)
-    go w size k within =
-        let bytes : List ℕ = fixed_part h n ++ sum_part w (fixed_part h n) ++ h.rest.items in
-        let before : length (take k bytes) ≡ k = length-take-le k bytes (omega arith) in
-        record {
-          size = λ e. let at : 0 ≡ k = sym e ∙ before in
-              subst (λ i. (slice_index bytes i ≡ 12) ⊎ (14 ≤ slice_index bytes i)) at (size_said w h.size h.rest.items size);
-          version = λ e. let at : 1 ≡ k = sym e ∙ before in subst (λ i. slice_index bytes i / 16 ≤ 2) at fits.form.version;
-          data_size = λ e. let at : 7 ≡ k = sym e ∙ before in
-              subst (λ i. IsDataSize (four_bytes (slice_index (take i bytes) 4) (slice_index (take i bytes) 5) (slice_index (take i bytes) 6)
-              (slice_index bytes i))) at
-              (subst IsDataSize (sym (four_again n fits.data_fits)) data_size);
-          letter_8 = λ e. let at : 8 ≡ k = sym e ∙ before in subst (λ i. slice_index bytes i ≡ 0x2E) at refl;
-          letter_9 = λ e. let at : 9 ≡ k = sym e ∙ before in subst (λ i. slice_index bytes i ≡ 0x46) at refl;
-          letter_10 = λ e. let at : 10 ≡ k = sym e ∙ before in subst (λ i. slice_index bytes i ≡ 0x49) at refl;
-          letter_11 = λ e. let at : 11 ≡ k = sym e ∙ before in subst (λ i. slice_index bytes i ≡ 0x54) at refl;
-          low = λ e. let at : 12 ≡ k = sym e ∙ before in
-              subst (λ i. i < length bytes → (slice_index bytes i ≡ 0) ⊎ (slice_index bytes i ≡ checksum (take i bytes) % 256)) at (low_said h n w size) within;
-          high = λ e. let at : 13 ≡ k = sym e ∙ before in
-              subst (λ i. i < length bytes → ((slice_index (take i bytes) 12 ≡ 0) × (slice_index bytes i ≡ 0))
-              ⊎ (two_bytes (slice_index (take i bytes) 12) (slice_index bytes i) ≡ checksum (take 12 (take i bytes)))) at
-              (high_said h n w size) within;
-        }
+    at : (k : ℕ) → length bytes ≡ k → Asked k bytes b
+    at k e = subst (λ i. Asked i bytes b) (sym is ∙ e) what
+
+judged_header : (h : Header) (n : ℕ) → HeaderFits h n → IsDataSize n → AreJudged (header_bytes h n)
+judged_header h n fits data_size k within = asked k _ _ (length-take-le k (header_bytes h n) (omega arith)) (go k within)
+  where
+    late : (k : ℕ) → seven k < length (header_bytes h n) → AskedLate k (take (seven k) (header_bytes h n)) (slice_index (header_bytes h n) (seven k))
+    late zero within = subst IsDataSize (sym (four_again n fits.data_fits)) data_size
+    late (suc zero) within = refl
+    late (suc (suc zero)) within = refl
+    late (suc (suc (suc zero))) within = refl
+    late (suc (suc (suc (suc zero)))) within = refl
+    late (suc (suc (suc (suc (suc zero))))) within = low_said h n h.sum fits.form.size within
+    late (suc (suc (suc (suc (suc (suc zero)))))) within = high_said h n h.sum fits.form.size within
+    late k within = tt
+
+    go : (k : ℕ) → k < length (header_bytes h n) → Asked k (take k (header_bytes h n)) (slice_index (header_bytes h n) k)
+    go zero within = size_said h.sum h.size h.rest.items fits.form.size
+    go (suc zero) within = fits.form.version
+    go (suc (suc (suc (suc (suc (suc (suc k))))))) within = late k within
+    go k within = tt
 
 pub judged : (bytes : List ℕ) → IsWholeHeader bytes → AreJudged bytes
 judged bytes whole = subst AreJudged (sym whole.is.0.1) (judged_header whole.header whole.data_size whole.is.0.0 whole.is.1)

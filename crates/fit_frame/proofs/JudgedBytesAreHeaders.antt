@@ -1,15 +1,9 @@
 -- Bytes that a reader has judged and that have their size are a header, the one that they are read as.
-use Rattle.std.proofs.Common.{◌≡◌, ◌≢◌, Bool, true, false, eqb, ℕ, ◌/◌, ◌%◌, ◌<◌, ◌≤◌, ◌⊎◌, inl, inr, List, [], ◌∷◌, length, take, drop, slice_index}
-use Rattle.std.proofs.Common.{length-drop, refl, sym, ap, ◌∙◌, subst, arith, lit<}
+use Rattle.fit_frame.proofs.Common.{◌≡◌, ◌≢◌, Bool, true, false, eqb, ℕ, ◌/◌, ◌%◌, ◌<◌, ◌≤◌, ◌⊎◌, inl, inr, List, [], ◌∷◌, ◌++◌, length, take, drop}
+use Rattle.fit_frame.proofs.Common.{slice_index, length-drop, refl, sym, ap, ◌∙◌, subst, arith, IsBytes, checksum, Header, HeaderSum, Absent, Zero, True}
+use Rattle.fit_frame.proofs.Common.{fixed_part, sum_part, SizeFits, IsDataSize, IsFileHeader, IsWholeHeader, two_bytes, four_bytes, AreJudged, HasItsSize}
+use Rattle.fit_frame.proofs.Common.{ReadsWord, ReadsAs}
 use Rattle.std.proofs.lemmas.Bool.{eqb-true, eqb-false}
-use Rattle.fit_base.specs.Numbers.{IsBytes}
-use Rattle.fit_sum.specs.Checksum.{checksum}
-use Rattle.fit_frame.specs.declared.header.Header.{Header}
-use Rattle.fit_frame.specs.declared.header.HeaderSum.{HeaderSum}
-use Rattle.fit_frame.specs.declared.header.HeaderSum.TheVariants.{Absent, Zero, True}
-use Rattle.fit_frame.specs.Header.{fixed_part, sum_part, SizeFits}
-use Rattle.fit_frame.specs.Beginning.{IsDataSize, IsFileHeader, IsWholeHeader}
-use Rattle.fit_frame.specs.inner.Judgement.{two_bytes, four_bytes, AreJudged, HasItsSize, ReadsWord, ReadsAs}
 
 -- the fixed part of the header that twelve bytes are read as
 front : (h : Header) (n s v p0 p1 n0 n1 n2 n3 c0 c1 c2 c3 : ℕ) → h.size ≡ s → h.protocol ≡ v → h.profile ≡ two_bytes p0 p1 → n ≡ four_bytes n0 n1 n2 n3
@@ -38,12 +32,6 @@ word w fixed a b la lb (inr (is, za, zb, some)) = (subst (λ v. sum_part v fixed
 sizes : (bytes : List ℕ) → AreJudged bytes → HasItsSize bytes → (length bytes ≡ 12) ⊎ (14 ≤ length bytes)
 sizes bytes judged whole = elim ((judged 0 whole.0).size refl) [ inl e ↦ inl (whole.1 ∙ e) | inr e ↦ inr (omega (arith, e, whole.1)) ]
 
-short : (bytes : List ℕ) → AreJudged bytes → HasItsSize bytes → length bytes < 12 → ⊥
-short bytes judged whole few = elim (sizes bytes judged whole) [ inl e ↦ omega arith | inr e ↦ omega arith ]
-
-thirteen : (bytes : List ℕ) → AreJudged bytes → HasItsSize bytes → length bytes ≡ 13 → ⊥
-thirteen bytes judged whole few = elim (sizes bytes judged whole) [ inl e ↦ omega arith | inr e ↦ omega arith ]
-
 -- what the two bytes are read as, once they are judged
 word_read : (w : HeaderSum) (fixed : List ℕ) (a b : ℕ) → ((a ≡ 0) × (b ≡ 0)) ⊎ (two_bytes a b ≡ checksum fixed)
     → ((w ≡ True) × (two_bytes a b ≡ checksum fixed)) ⊎ ((w ≡ Zero) × (two_bytes a b ≢ checksum fixed))
@@ -67,62 +55,45 @@ word_absent Absent bytes rest few read = (refl, read.1)
 word_absent Zero bytes rest few read = absurd (omega (arith, read.0))
 word_absent True bytes rest few read = absurd (omega (arith, read.0))
 
+module _ (h : Header) (n s v p0 p1 n0 n1 n2 n3 c0 c1 c2 c3 : ℕ) where
+  abbrev twelve : List ℕ
+  twelve = s ∷ v ∷ p0 ∷ p1 ∷ n0 ∷ n1 ∷ n2 ∷ n3 ∷ c0 ∷ c1 ∷ c2 ∷ c3 ∷ []
+
+  -- a header with what stands behind twelve bytes
+  with_tail : (tail : List ℕ) → AreJudged (twelve ++ tail) → IsBytes (twelve ++ tail) → ReadsAs h n (twelve ++ tail)
+      → SizeFits h.sum h.size h.rest.items → sum_part h.sum twelve ++ h.rest.items ≡ tail → ((h.sum ≡ Zero) × (checksum twelve ≡ 0) → ⊥)
+      → IsFileHeader h n (twelve ++ tail)
+  with_tail tail j l r size is sum =
+      let fixed = front h n s v p0 p1 n0 n1 n2 n3 c0 c1 c2 c3 r.size r.protocol r.profile r.data_size (l 2) (l 3) (l 4) (l 5) (l 6) (l 7)
+      ((j 8 (omega arith)).letter_8 refl) ((j 9 (omega arith)).letter_9 refl) ((j 10 (omega arith)).letter_10 refl) ((j 11 (omega arith)).letter_11 refl) in
+      let data_size : IsDataSize n = subst IsDataSize (sym r.data_size) ((j 7 (omega arith)).data_size refl) in (
+        (
+          record {
+            form = record { size = size; version = subst (λ x. x / 16 ≤ 2) (sym r.protocol) ((j 1 (omega arith)).version refl) };
+            size_fits = rw r.size (l 0);
+            profile_fits = rw r.profile (omega (arith, l 2, l 3));
+            data_fits = rw r.data_size (omega (arith, l 4, l 5, l 6, l 7));
+            sum = λ z. sum (z.0, ap checksum (sym fixed) ∙ z.1);
+          },
+          sym (ap (λ f. f ++ sum_part h.sum f ++ h.rest.items) fixed ∙ ap (λ t. twelve ++ t) is),
+        ),
+        data_size,
+      )
+
 pub whole : (h : Header) (n : ℕ) (bytes : List ℕ) → AreJudged bytes → IsBytes bytes → HasItsSize bytes → ReadsAs h n bytes → IsFileHeader h n bytes
-whole h n [] j l w r = absurd (omega (arith, w.0))
-whole h n (s ∷ []) j l w r = absurd (short (s ∷ []) j w (lit< tt))
-whole h n (s ∷ v ∷ []) j l w r = absurd (short (s ∷ v ∷ []) j w (lit< tt))
-whole h n (s ∷ v ∷ a ∷ []) j l w r = absurd (short (s ∷ v ∷ a ∷ []) j w (lit< tt))
-whole h n (s ∷ v ∷ a ∷ b ∷ []) j l w r = absurd (short (s ∷ v ∷ a ∷ b ∷ []) j w (lit< tt))
-whole h n (s ∷ v ∷ a ∷ b ∷ c ∷ []) j l w r = absurd (short (s ∷ v ∷ a ∷ b ∷ c ∷ []) j w (lit< tt))
-whole h n (s ∷ v ∷ a ∷ b ∷ c ∷ d ∷ []) j l w r = absurd (short (s ∷ v ∷ a ∷ b ∷ c ∷ d ∷ []) j w (lit< tt))
-whole h n (s ∷ v ∷ a ∷ b ∷ c ∷ d ∷ e ∷ []) j l w r = absurd (short (s ∷ v ∷ a ∷ b ∷ c ∷ d ∷ e ∷ []) j w (lit< tt))
-whole h n (s ∷ v ∷ a ∷ b ∷ c ∷ d ∷ e ∷ f ∷ []) j l w r = absurd (short (s ∷ v ∷ a ∷ b ∷ c ∷ d ∷ e ∷ f ∷ []) j w (lit< tt))
-whole h n (s ∷ v ∷ a ∷ b ∷ c ∷ d ∷ e ∷ f ∷ g ∷ []) j l w r = absurd (short (s ∷ v ∷ a ∷ b ∷ c ∷ d ∷ e ∷ f ∷ g ∷ []) j w (lit< tt))
-whole h n (s ∷ v ∷ a ∷ b ∷ c ∷ d ∷ e ∷ f ∷ g ∷ o ∷ []) j l w r = absurd (short (s ∷ v ∷ a ∷ b ∷ c ∷ d ∷ e ∷ f ∷ g ∷ o ∷ []) j w (lit< tt))
-whole h n (s ∷ v ∷ a ∷ b ∷ c ∷ d ∷ e ∷ f ∷ g ∷ o ∷ p ∷ []) j l w r = absurd (short (s ∷ v ∷ a ∷ b ∷ c ∷ d ∷ e ∷ f ∷ g ∷ o ∷ p ∷ []) j w (lit< tt))
 whole h n (s ∷ v ∷ p0 ∷ p1 ∷ n0 ∷ n1 ∷ n2 ∷ n3 ∷ c0 ∷ c1 ∷ c2 ∷ c3 ∷ []) j l w r =
-    let fixed = front h n s v p0 p1 n0 n1 n2 n3 c0 c1 c2 c3 r.size r.protocol r.profile r.data_size (l 2) (l 3) (l 4) (l 5) (l 6) (l 7)
-    ((j 8 (lit< tt)).letter_8 refl) ((j 9 (lit< tt)).letter_9 refl) ((j 10 (lit< tt)).letter_10 refl) ((j 11 (lit< tt)).letter_11 refl) in
     let absent = word_absent h.sum _ h.rest.items refl r.word in
-    let size : SizeFits h.sum h.size h.rest.items = subst (λ x. SizeFits x h.size h.rest.items) (sym absent.0) (r.size ∙ sym w.1, absent.1) in
-    let no_sum : sum_part h.sum (fixed_part h n) ≡ [] = ap (λ x. sum_part x (fixed_part h n)) absent.0 in
-    let data_size : IsDataSize n = subst IsDataSize (sym r.data_size) ((j 7 (lit< tt)).data_size refl) in (
-      (
-        record {
-          form = record { size = size; version = subst (λ x. x / 16 ≤ 2) (sym r.protocol) ((j 1 (lit< tt)).version refl) };
-          size_fits = rw r.size (l 0);
-          profile_fits = rw r.profile (omega (arith, l 2, l 3));
-          data_fits = rw r.data_size (omega (arith, l 4, l 5, l 6, l 7));
-          sum = λ z. cc (z.0, absent.0);
-        },
-        cc (fixed, no_sum, absent.1),
-      ),
-      data_size,
-    )
-whole h n (s ∷ v ∷ p0 ∷ p1 ∷ n0 ∷ n1 ∷ n2 ∷ n3 ∷ c0 ∷ c1 ∷ c2 ∷ c3 ∷ t ∷ []) j l w r =
-    absurd (thirteen (s ∷ v ∷ p0 ∷ p1 ∷ n0 ∷ n1 ∷ n2 ∷ n3 ∷ c0 ∷ c1 ∷ c2 ∷ c3 ∷ t ∷ []) j w refl)
+    with_tail h n s v p0 p1 n0 n1 n2 n3 c0 c1 c2 c3 [] j l r
+    (subst (λ x. SizeFits x h.size h.rest.items) (sym absent.0) (r.size ∙ sym w.1, absent.1))
+    (ap (λ x. sum_part x (s ∷ v ∷ p0 ∷ p1 ∷ n0 ∷ n1 ∷ n2 ∷ n3 ∷ c0 ∷ c1 ∷ c2 ∷ c3 ∷ []) ++ h.rest.items) absent.0 ∙ absent.1)
+    (λ z. cc (z.0, absent.0))
 whole h n (s ∷ v ∷ p0 ∷ p1 ∷ n0 ∷ n1 ∷ n2 ∷ n3 ∷ c0 ∷ c1 ∷ c2 ∷ c3 ∷ t ∷ u ∷ rest) j l w r =
-    let fixed = front h n s v p0 p1 n0 n1 n2 n3 c0 c1 c2 c3 r.size r.protocol r.profile r.data_size (l 2) (l 3) (l 4) (l 5) (l 6) (l 7)
-    ((j 8 (omega arith)).letter_8 refl) ((j 9 (omega arith)).letter_9 refl) ((j 10 (omega arith)).letter_10 refl) ((j 11 (omega arith)).letter_11 refl) in
     let read = word_of h.sum _ h.rest.items (omega arith) r.word in
     let said = word h.sum (s ∷ v ∷ p0 ∷ p1 ∷ n0 ∷ n1 ∷ n2 ∷ n3 ∷ c0 ∷ c1 ∷ c2 ∷ c3 ∷ []) t u (l 12) (l 13)
     (word_read h.sum _ t u ((j 13 (omega arith)).high refl) read.2) in
-    let size : SizeFits h.sum h.size h.rest.items =
-    subst (λ x. SizeFits h.sum h.size x) (sym read.1) (subst (λ x. SizeFits h.sum x rest) (w.1 ∙ sym r.size) read.0) in
-    let data_size : IsDataSize n = subst IsDataSize (sym r.data_size) ((j 7 (omega arith)).data_size refl) in
-    let sum : sum_part h.sum (fixed_part h n) ≡ t ∷ u ∷ [] = ap (sum_part h.sum) fixed ∙ said.0 in (
-      (
-        record {
-          form = record { size = size; version = subst (λ x. x / 16 ≤ 2) (sym r.protocol) ((j 1 (omega arith)).version refl) };
-          size_fits = rw r.size (l 0);
-          profile_fits = rw r.profile (omega (arith, l 2, l 3));
-          data_fits = rw r.data_size (omega (arith, l 4, l 5, l 6, l 7));
-          sum = λ z. said.1 (z.0, ap checksum (sym fixed) ∙ z.1);
-        },
-        cc (fixed, sum, read.1),
-      ),
-      data_size,
-    )
+    with_tail h n s v p0 p1 n0 n1 n2 n3 c0 c1 c2 c3 (t ∷ u ∷ rest) j l r
+    (subst (λ x. SizeFits h.sum h.size x) (sym read.1) (subst (λ x. SizeFits h.sum x rest) (w.1 ∙ sym r.size) read.0)) (rw (said.0, read.1) refl) said.1
+whole h n bytes j l w r = absurd (elim (sizes bytes j w) [ inl e ↦ omega arith | inr e ↦ omega arith ])
 
 -- the word that two bytes are read as
 decided : (fixed : List ℕ) (a b : ℕ) (test : Bool) → eqb (two_bytes a b) (checksum fixed) ≡ test

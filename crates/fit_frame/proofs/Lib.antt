@@ -1,3 +1,4 @@
+pub mod Common
 pub mod OneHeader
 mod HeaderRows
 mod JudgedBytesAreHeaders

@@ -1,14 +1,8 @@
 -- A header and its bytes determine each other, and no header's bytes begin those of another.
-use Rattle.std.proofs.Common.{◌≡◌, ◌≤◌, ◌⊎◌, inl, inr, ℕ, ◌/◌, ◌%◌, ◌<◌, List, [], ◌∷◌, ◌++◌, length, append_assoc, refl, sym, ap, ◌∙◌, subst, arith}
-use Rattle.std.proofs.lemmas.List.{append-nil}
+use Rattle.fit_frame.proofs.Common.{◌≡◌, ◌≤◌, ◌⊎◌, inl, inr, ℕ, ◌/◌, ◌%◌, ◌<◌, List, [], ◌∷◌, ◌++◌, length, append_assoc, refl, sym, ap, ◌∙◌, subst, arith}
+use Rattle.fit_frame.proofs.Common.{append-nil, checksum, checksum-below, Header, HeaderSum, Absent, Zero, True, fixed_part, sum_part, header_bytes, SizeFits}
+use Rattle.fit_frame.proofs.Common.{FormFits, HeaderFits, HeadersHaveOneSpelling, HeadersHaveTheirSize, HeadersEndOnce}
 use Rattle.fit_base.proofs.Bytes.{front_back}
-use Rattle.fit_sum.specs.Checksum.{checksum}
-use Rattle.fit_sum.proofs.SixteenBits.{checksum-below}
-use Rattle.fit_frame.specs.declared.header.Header.{Header}
-use Rattle.fit_frame.specs.declared.header.HeaderSum.{HeaderSum}
-use Rattle.fit_frame.specs.declared.header.HeaderSum.TheVariants.{Absent, Zero, True}
-use Rattle.fit_frame.specs.Header.{fixed_part, sum_part, header_bytes, SizeFits, FormFits, HeaderFits, HeadersHaveOneSpelling, HeadersHaveTheirSize}
-use Rattle.fit_frame.specs.Beginning.{HeadersEndOnce}
 
 two_bytes : (m n : ℕ) → m < 65536 → n < 65536 → m % 256 ≡ n % 256 → m / 256 % 256 ≡ n / 256 % 256 → m ≡ n
 two_bytes m n p q a b = omega arith
@@ -21,20 +15,17 @@ one_sum : (s t : HeaderSum) (size : ℕ) (fixed u v : List ℕ) → SizeFits s s
     → ((t ≡ Zero) × (checksum fixed ≡ 0) → ⊥)
     → sum_part s fixed ++ u ≡ sum_part t fixed ++ v → (s ≡ t) × (u ≡ v)
 one_sum Absent Absent size fixed u v p q r w e = (refl, e)
-one_sum Absent Zero size fixed u v p q r w e = absurd (omega (arith, p.0))
-one_sum Absent True size fixed u v p q r w e = absurd (omega (arith, p.0))
-one_sum Zero Absent size fixed u v p q r w e = absurd (omega (arith, q.0))
 one_sum Zero Zero size fixed u v p q r w e = (refl, cc)
 one_sum Zero True size fixed u v p q r w e =
     let low : 0 ≡ checksum fixed % 256 = cc in
     let high : 0 ≡ checksum fixed / 256 % 256 = cc in
     absurd (r (refl, omega (arith, low, high, checksum-below fixed)))
-one_sum True Absent size fixed u v p q r w e = absurd (omega (arith, q.0))
 one_sum True Zero size fixed u v p q r w e =
     let low : checksum fixed % 256 ≡ 0 = cc in
     let high : checksum fixed / 256 % 256 ≡ 0 = cc in
     absurd (w (refl, omega (arith, low, high, checksum-below fixed)))
 one_sum True True size fixed u v p q r w e = (refl, cc)
+one_sum s t size fixed u v p q r w e = absurd (omega arith)
 
 -- the size is the number of bytes
 pub length-header_bytes : (h : Header) (n : ℕ) → FormFits h → length (header_bytes h n) ≡ h.size
@@ -51,14 +42,8 @@ one_header h k m n x y p q e =
     let size : h.size ≡ k.size = cc in
     let whole = front_back (header_bytes h m) (header_bytes k n) x y (length-header_bytes h m p.form ∙ size ∙ sym (length-header_bytes k n q.form)) e in
     let protocol : h.protocol ≡ k.protocol = cc in
-    let p0 : h.profile % 256 ≡ k.profile % 256 = cc in
-    let p1 : h.profile / 256 % 256 ≡ k.profile / 256 % 256 = cc in
-    let profile = two_bytes h.profile k.profile p.profile_fits q.profile_fits p0 p1 in
-    let d0 : m % 256 ≡ n % 256 = cc in
-    let d1 : m / 256 % 256 ≡ n / 256 % 256 = cc in
-    let d2 : m / 256 / 256 % 256 ≡ n / 256 / 256 % 256 = cc in
-    let d3 : m / 256 / 256 / 256 % 256 ≡ n / 256 / 256 / 256 % 256 = cc in
-    let data_size = four_bytes m n p.data_fits q.data_fits d0 d1 d2 d3 in
+    let profile = two_bytes h.profile k.profile p.profile_fits q.profile_fits (cc) (cc) in
+    let data_size = four_bytes m n p.data_fits q.data_fits (cc) (cc) (cc) (cc) in
     let fixed : fixed_part h m ≡ fixed_part k n = cc in
     let rest : sum_part h.sum (fixed_part h m) ++ h.rest.items ≡ sum_part k.sum (fixed_part k n) ++ k.rest.items = cc in
     let sum = one_sum h.sum k.sum h.size (fixed_part h m) h.rest.items k.rest.items p.form.size

@@ -6,8 +6,6 @@ pub mod laws;
 mod reader;
 mod reason;
 mod spelling;
-#[cfg(test)]
-mod tests;
 
 pub use header::{Header, HeaderSum, PROTOCOL_2_0};
 pub use reader::HeadReader;

@@ -6,9 +6,6 @@ ghost use Rattle.std.specs.Borrow.{ftrue};
 
 use std::marker::{Model, PhantomData};
 
-#[cfg(test)]
-mod tests;
-
 /// The values that were handed to something so far, such as the bytes fed to a decoder.
 ///
 /// A type keeps one as a field, so that its contracts can speak of all the values since it was

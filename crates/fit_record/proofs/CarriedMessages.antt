@@ -1,22 +1,13 @@
 -- Which data messages can stand in a room: the test and what it means.
-use Rattle.std.proofs.Common.{◌≡◌, ℕ, ◌+◌, ◌-◌, List, ◌++◌, replicate, length-append, ◌<◌, ◌≤◌, ◌↔◌, IsTrue, Bool, true, false, length, refl, sym, ap, ◌∙◌}
-use Rattle.std.proofs.Common.{subst, arith, None, Some}
-use Rattle.std.specs.Prelude.{Option, option_map, nat_le, ◌&&◌, IfSome, IsSomeAnd}
-use Rattle.std.specs.Option.{option_map_or}
-use Rattle.std.proofs.lemmas.Bool.{true≢false, and_parts, and_from, and_left, leb-true, le-leb, lt-leb}
-use Rattle.fit_base.specs.Numbers.{IsBytes}
-use Rattle.fit_base.proofs.ByteLists.{IsBytes-append, IsBytes-zeros}
+use Rattle.fit_record.proofs.Common.{◌≡◌, ℕ, ◌+◌, ◌-◌, List, ◌++◌, length-append, ◌<◌, ◌≤◌, ◌↔◌, IsTrue, Bool, true, false, length, refl, sym, ap, ◌∙◌, subst}
+use Rattle.fit_record.proofs.Common.{arith, None, Some, option_map, nat_le, ◌&&◌, IfSome, IsSomeAnd, option_map_or, true≢false, and_parts, and_from, and_left}
+use Rattle.fit_record.proofs.Common.{leb-true, le-leb, lt-leb, IsBytes, IsBytes-append, IsBytes-zeros, Data, Defined, Environment, defined_at, learn}
+use Rattle.fit_record.proofs.Common.{data_header, DataHeaderFits, data_bytes, DataFits, order_at, message_size, CanFill, fills, has_length, can_fill, CanCarry}
+use Rattle.fit_record.proofs.Common.{can_carry, length-replicate}
+use Rattle.std.proofs.Common.{replicate}
+use Rattle.std.specs.Prelude.{Option}
 use Rattle.fit_record.specs.declared.message.Values.{Values}
-use Rattle.fit_record.specs.declared.message.Record.TheVariants.{Values as Data}
-use Rattle.fit_record.specs.declared.environment.Defined.{Defined}
-use Rattle.fit_record.specs.Environment.{Environment, defined_at, learn}
-use Rattle.fit_record.specs.Records.{data_header, DataHeaderFits, data_bytes, DataFits, order_at}
-use Rattle.fit_record.specs.Records.{message_size}
-use Rattle.fit_record.specs.Files.{CanFill}
-use Rattle.fit_record.specs.Rooms.{fills, has_length, can_fill}
-use Rattle.fit_record.specs.Unfinished.{CanCarry, can_carry}
-use Rattle.fit_record.proofs.OneRecord.{same_header}
-use Rattle.std.proofs.lemmas.List.{length-replicate}
+use Rattle.fit_record.proofs.OneRecord.{same_header, header_fits}
 use Rattle.fit_record.proofs.RecordLengths.{length-data}
 use Rattle.fit_record.proofs.MessageBytes.{values_from, message_fits}
 use Rattle.fit_record.proofs.FilledRooms.{can_fill_is, same_places}
@@ -30,10 +21,6 @@ pub can_fill_after_data : {A : Type 0} (e : Environment A) (v : Values A) (room 
 can_fill_after_data e v room sixteen =
     subst (λ b. IsTrue b ↔ CanFill (learn e (Data v)) room) (same_filling e v room)
     (can_fill_is (learn e (Data v)) room (ap length (same_places e v) ∙ sixteen))
-
-header_of : {A : Type 0} (o : Option (Defined A)) (v : Values A) → IsSomeAnd o (DataFits v) → DataHeaderFits v.local v.offset
-header_of None v h = absurd h
-header_of (Some p) v h = h.header
 
 module _ {A : Type 0} (e : Environment A) (local : ℕ) (offset : Option ℕ) (part : List ℕ) (room : ℕ)
     (sixteen : length e.places ≡ 16) (header : DataHeaderFits local offset) (are : IsBytes part)
@@ -79,7 +66,7 @@ module _ {A : Type 0} (e : Environment A) (local : ℕ) (offset : Option ℕ) (p
   can_carry_is = (carries (defined_at e local) refl begun, from) where
     from : CanCarry e (data_header local offset) part room → IsTrue (can_carry e local (length part + room))
     from (v, rest, left, fits, same, spelled, _, fill, total) =
-        let l : v.local ≡ local = (same_header v.local local v.offset offset (header_of (defined_at e v.local) v fits) header same).0 in
+        let l : v.local ≡ local = (same_header v.local local v.offset offset (header_fits (defined_at e v.local) v fits) header same).0 in
         carried v rest left spelled fill total (defined_at e local) refl (subst (λ n. IsSomeAnd (defined_at e n) (DataFits v)) l fits)
 
 -- ---- the test by the message's size

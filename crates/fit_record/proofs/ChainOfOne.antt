@@ -1,9 +1,6 @@
 -- A chain of at most one file is a file.
-use Rattle.std.proofs.Common.{◌≡◌, ℕ, List, [], ◌∷◌, refl, sym, ◌∙◌, subst, arith, lit<, lit≤}
-use Rattle.std.proofs.lemmas.List.{append-nil}
-use Rattle.fit_record.specs.declared.file.FitFile.{FitFile}
-use Rattle.fit_record.specs.Files.{file_bytes, IsFile, IsChain}
-use Rattle.fit_record.specs.Laws.{ChainOfOne}
+use Rattle.fit_record.proofs.Common.{◌≡◌, ℕ, List, [], ◌∷◌, refl, sym, ◌∙◌, subst, arith, lit<, lit≤, append-nil, FitFile, file_bytes, IsFile, IsChain}
+use Rattle.fit_record.proofs.Common.{ChainOfOne}
 
 one_of_chain : {A : Type 0} (fs : List (FitFile A)) (bytes : List ℕ) → IsChain 1 fs bytes → (f : FitFile A) × (fs ≡ f ∷ []) × IsFile f bytes
 one_of_chain [] bytes c = let some = c.0.some in absurd (omega (arith, some))

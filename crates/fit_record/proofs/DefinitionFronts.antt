@@ -1,20 +1,12 @@
 -- Which definitions can be completed while the number of their fields, or something before it, is to come.
-use Rattle.std.proofs.Common.{◌≡◌, ℕ, zero, suc, ◌+◌, ◌-◌, ◌*◌, ◌/◌, ◌%◌, ◌<◌, ◌≤◌, ◌^◌, ◌↔◌, IsTrue, Bool, true, false, List, [], ◌∷◌, ◌++◌, length, refl, sym}
-use Rattle.std.proofs.Common.{ap, ◌∙◌, subst, arith, lit<, length-append, None, Some}
-use Rattle.std.specs.Prelude.{Option, sum_by, flat_map, ◌==◌, ◌||◌, if◌then◌else◌, unwrap_or, option_map, slice_index}
-use Rattle.std.proofs.lemmas.Bool.{or_right, eq-eqb, leb-true, le-leb}
-use Rattle.fit_base.specs.declared.number.Order.{Order}
-use Rattle.fit_base.specs.declared.number.Order.TheVariants.{Little, Big}
-use Rattle.fit_base.specs.Numbers.{IsBytes, number_bytes, number}
-use Rattle.fit_base.proofs.ByteLists.{IsBytes-cons, IsBytes-none}
-use Rattle.fit_record.specs.declared.definition.DevDef.{DevDef}
-use Rattle.fit_record.specs.declared.definition.MessageDef.{MessageDef}
-use Rattle.fit_record.specs.Environment.{Environment, dev_defs}
-use Rattle.fit_record.specs.Records.{architecture, field_bytes, dev_part, definition_bytes}
-use Rattle.fit_record.specs.Rooms.{others_have}
-use Rattle.fit_record.specs.Unfinished.{can_complete_front, CanComplete}
+use Rattle.fit_record.proofs.Common.{◌≡◌, ℕ, zero, suc, ◌+◌, ◌-◌, ◌*◌, ◌/◌, ◌%◌, ◌<◌, ◌≤◌, ◌^◌, ◌↔◌, IsTrue, Bool, true, false, List, [], ◌∷◌, ◌++◌, length}
+use Rattle.fit_record.proofs.Common.{refl, sym, ap, ◌∙◌, subst, arith, lit<, length-append, None, Some, sum_by, flat_map, ◌==◌, ◌||◌, if◌then◌else◌, unwrap_or}
+use Rattle.fit_record.proofs.Common.{option_map, slice_index, or_right, eq-eqb, leb-true, le-leb, Order, Little, Big, IsBytes, number_bytes, number}
+use Rattle.fit_record.proofs.Common.{IsBytes-append, IsBytes-cons, IsBytes-none, IsBytes-zeros, DevDef, MessageDef, Environment, dev_defs, architecture}
+use Rattle.fit_record.proofs.Common.{field_bytes, dev_part, definition_bytes, others_have, can_complete_front, CanComplete, body_length}
+use Rattle.std.proofs.Common.{replicate}
+use Rattle.std.specs.Prelude.{Option}
 use Rattle.fit_record.proofs.RoomSums.{fills_by_ones}
-use Rattle.fit_record.specs.Records.{body_length}
 use Rattle.fit_record.proofs.DefinitionInPlace.{can_fill_after}
 
 -- ---- the least definitions
@@ -44,20 +36,8 @@ module _ (dev : Bool) where
   unfolding no_devs
   dev_bytes = elim dev as (λ b. IsBytes (dev_part (no_devs b))) [ true ↦ IsBytes-cons 0 [] (lit< tt) IsBytes-none | false ↦ IsBytes-none ]
 
-  after_one : IsBytes (0 ∷ dev_part (no_devs dev))
-  after_one = IsBytes-cons 0 (dev_part (no_devs dev)) (lit< tt) dev_bytes
-
-  after_two : IsBytes (0 ∷ 0 ∷ dev_part (no_devs dev))
-  after_two = IsBytes-cons 0 (0 ∷ dev_part (no_devs dev)) (lit< tt) after_one
-
-  after_three : IsBytes (0 ∷ 0 ∷ 0 ∷ dev_part (no_devs dev))
-  after_three = IsBytes-cons 0 (0 ∷ 0 ∷ dev_part (no_devs dev)) (lit< tt) after_two
-
-  after_four : IsBytes (0 ∷ 0 ∷ 0 ∷ 0 ∷ dev_part (no_devs dev))
-  after_four = IsBytes-cons 0 (0 ∷ 0 ∷ 0 ∷ dev_part (no_devs dev)) (lit< tt) after_three
-
-  after_five : IsBytes (0 ∷ 0 ∷ 0 ∷ 0 ∷ 0 ∷ dev_part (no_devs dev))
-  after_five = IsBytes-cons 0 (0 ∷ 0 ∷ 0 ∷ 0 ∷ dev_part (no_devs dev)) (lit< tt) after_four
+  behind_zeros : (n : ℕ) → IsBytes (replicate n 0 ++ dev_part (no_devs dev))
+  behind_zeros n = IsBytes-append (replicate n 0) (dev_part (no_devs dev)) (IsBytes-zeros n) dev_bytes
 
   dev_least : (if dev then 6 else 5) ≡ 5 + length (dev_part (no_devs dev))
   unfolding no_devs
@@ -95,23 +75,23 @@ module _ {A : Type 0} (e : Environment A) (local : ℕ) (dev : Bool) (room : ℕ
         → CanComplete e (0x40 + local + (if dev then 0x20 else 0)) (r ∷ architecture o ∷ gs) room
     after_order [] l are least =
         goes_on_least o r 0 0 (r ∷ architecture o ∷ []) (0 ∷ 0 ∷ 0 ∷ dev_part (no_devs dev)) (lit< tt) (lit< tt) refl
-        (after_three dev) (omega (arith, least, dev_least dev))
+        (behind_zeros dev 3) (omega (arith, least, dev_least dev))
     after_order (a ∷ []) l are least =
         goes_on_least o r a 0 (r ∷ architecture o ∷ a ∷ []) (0 ∷ 0 ∷ dev_part (no_devs dev)) (are 0) (lit< tt) refl
-        (after_two dev) (omega (arith, least, dev_least dev))
+        (behind_zeros dev 2) (omega (arith, least, dev_least dev))
     after_order (a ∷ b ∷ []) l are least =
         goes_on_least o r a b (r ∷ architecture o ∷ a ∷ b ∷ []) (0 ∷ dev_part (no_devs dev)) (are 0) (are 1) refl
-        (after_one dev) (omega (arith, least, dev_least dev))
+        (behind_zeros dev 1) (omega (arith, least, dev_least dev))
     after_order (a ∷ b ∷ c ∷ gs) l are least = absurd (omega arith)
 
   begins : (part : List ℕ) → length part < 5 → slice_index part 1 < 2 → IsBytes part → (if dev then 6 else 5) ≤ length part + room
       → CanComplete e (0x40 + local + (if dev then 0x20 else 0)) part room
   begins [] l arch are least =
       goes_on_least Little 0 0 0 [] (0 ∷ 0 ∷ 0 ∷ 0 ∷ 0 ∷ dev_part (no_devs dev)) (lit< tt) (lit< tt) refl
-      (after_five dev) (omega (arith, least, dev_least dev))
+      (behind_zeros dev 5) (omega (arith, least, dev_least dev))
   begins (r ∷ []) l arch are least =
       goes_on_least Little r 0 0 (r ∷ []) (0 ∷ 0 ∷ 0 ∷ 0 ∷ dev_part (no_devs dev)) (lit< tt) (lit< tt) refl
-      (after_four dev) (omega (arith, least, dev_least dev))
+      (behind_zeros dev 4) (omega (arith, least, dev_least dev))
   begins (r ∷ zero ∷ gs) l arch are least = after_order Little r gs (omega arith) (λ i. are (suc (suc i))) (omega (arith, least))
   begins (r ∷ suc zero ∷ gs) l arch are least = after_order Big r gs (omega arith) (λ i. are (suc (suc i))) (omega (arith, least))
   begins (r ∷ suc (suc a) ∷ gs) l arch are least = absurd (omega arith)
@@ -129,8 +109,7 @@ least_dev : (dev : Bool) (u : Option (List DevDef)) (l m : ℕ) → l < 16 → m
     → 0x40 + l + unwrap_or (option_map (λ _. 0x20) u) 0 ≡ 0x40 + m + (if dev then 0x20 else 0)
     → (if dev then 6 else 5) ≤ 5 + length (dev_part u)
 least_dev true None l m p q e = absurd (omega arith)
-least_dev true (Some u) l m p q e = omega arith
-least_dev false u l m p q e = omega arith
+least_dev _ _ l m p q e = omega arith
 
 -- where the number of fields, or something before it, is to come
 pub front_can_complete : {A : Type 0} (e : Environment A) (local : ℕ) (dev : Bool) (part : List ℕ) (room : ℕ) → length e.places ≡ 16 → local < 16

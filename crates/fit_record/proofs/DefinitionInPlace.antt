@@ -1,20 +1,10 @@
 -- What can be filled once a definition has taken its place.
-use Rattle.std.proofs.Common.{◌≡◌, ℕ, zero, suc, ◌+◌, ◌-◌, ◌<◌, ◌≤◌, ◌⊎◌, inl, inr, ◌↔◌, IsTrue, Bool, true, false, cond, List, [], ◌∷◌, length, refl, sym, ap}
-use Rattle.std.proofs.Common.{◌∙◌, subst, arith, lit<, None, Some}
-use Rattle.std.specs.Prelude.{Option, slice_set, ◌==◌, ◌||◌, nat_le}
-use Rattle.std.specs.Option.{option_map_or}
-use Rattle.std.proofs.lemmas.Bool.{or_cases, or_left, or_right, cases_lt, eqb-true, eq-eqb, leb-true, le-leb, lt-leb}
-use Rattle.std.proofs.Math.ListN.{length-set}
-use Rattle.fit_record.specs.declared.environment.Defined.{Defined}
-use Rattle.fit_record.specs.declared.definition.MessageDef.{MessageDef}
-use Rattle.fit_record.specs.declared.message.Record.TheVariants.{Define}
-use Rattle.fit_record.specs.Environment.{Environment, dev_defs, dev_code, defined_by, learn}
-use Rattle.fit_record.specs.Records.{body_length}
-use Rattle.std.proofs.lemmas.List.{length-map}
-use Rattle.fit_record.specs.Records.{message_size}
-use Rattle.fit_record.specs.Files.{CanFill}
-use Rattle.fit_record.specs.Rooms.{fills, has_length, others_have, can_fill, can_fill_with, can_fill_from}
-use Rattle.fit_record.specs.Unfinished.{finishes}
+use Rattle.fit_record.proofs.Common.{◌≡◌, ℕ, zero, suc, ◌+◌, ◌-◌, ◌<◌, ◌≤◌, ◌⊎◌, inl, inr, ◌↔◌, IsTrue, Bool, true, false, List, [], ◌∷◌, length, refl, ap, ◌∙◌}
+use Rattle.fit_record.proofs.Common.{subst, arith, lit<, None, Some, slice_set, ◌==◌, ◌||◌, nat_le, option_map_or, or_cases, or_left, or_right, cases_lt}
+use Rattle.fit_record.proofs.Common.{eqb-true, eq-eqb, leb-true, le-leb, lt-leb, length-set, Defined, MessageDef, Define, Environment, dev_defs, dev_code}
+use Rattle.fit_record.proofs.Common.{defined_by, learn, body_length, length-map, message_size, CanFill, fills, has_length, others_have, can_fill, can_fill_with}
+use Rattle.fit_record.proofs.Common.{can_fill_from, finishes}
+use Rattle.std.specs.Prelude.{Option}
 use Rattle.fit_record.proofs.RoomSums.{fills_6, fills_more, of_filled}
 use Rattle.fit_record.proofs.FilledRooms.{can_fill_is}
 use Rattle.fit_record.proofs.MessageSizes.{message_size_is}
@@ -106,9 +96,8 @@ pub finishes_from : {A : Type 0} (e : Environment A) (local t size found left : 
     → can_fill_with e local found left ≡ true → finishes e local t size left ≡ true
 finishes_from e local t size found left l k h = go (cases_lt t 2) where
   go : (t < 2) ⊎ (2 ≤ t) → finishes e local t size left ≡ true
-  go (inl b) = ap (λ c. cond c (can_fill_from e local size left) (can_fill_with e local size left)) (lt-leb 2 t b)
-      ∙ subst (λ s. can_fill_with e local s left ≡ true) (k b) h
-  go (inr b) = ap (λ c. cond c (can_fill_from e local size left) (can_fill_with e local size left)) (le-leb 2 t b) ∙ open_from e local size found left l h
+  go (inl b) = rw (lt-leb 2 t b) (subst (λ s. can_fill_with e local s left ≡ true) (k b) h)
+  go (inr b) = rw (le-leb 2 t b) (open_from e local size found left l h)
 
 abbrev pub IsSize : {A : Type 0} → Environment A → ℕ → ℕ → ℕ → ℕ → Type 0
 IsSize e local t size left = (extra : ℕ) × (extra < 256) × (t < 2 → extra ≡ 0) × (can_fill_with e local (size + extra) left ≡ true)
@@ -120,11 +109,7 @@ finishes_to e local t size left h = go (cases_lt t 2) where
 
   go : (t < 2) ⊎ (2 ≤ t) → IsSize e local t size left
   go (inl b) =
-      let k : can_fill_with e local size left ≡ true =
-      sym (ap (λ c. cond c (can_fill_from e local size left) (can_fill_with e local size left)) (lt-leb 2 t b)) ∙ h in
+      let k : can_fill_with e local size left ≡ true = rw (lt-leb 2 t b) at h in
       let z : size ≡ size + 0 = omega arith in
       (0, lit< tt, (λ c. refl), subst (λ s. can_fill_with e local s left ≡ true) z k)
-  go (inr b) =
-      let k : can_fill_from e local size left ≡ true =
-      sym (ap (λ c. cond c (can_fill_from e local size left) (can_fill_with e local size left)) (le-leb 2 t b)) ∙ h in
-      some b (open_to e local size left k)
+  go (inr b) = let k : can_fill_from e local size left ≡ true = rw (le-leb 2 t b) at h in some b (open_to e local size left k)

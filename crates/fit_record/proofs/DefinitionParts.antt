@@ -1,24 +1,14 @@
 -- Which definitions in progress can be completed so that records fill the room: the tests and what they mean.
-use Rattle.std.proofs.Common.{◌≡◌, ℕ, ◌+◌, ◌-◌, ◌*◌, ◌^◌, ◌<◌, ◌≤◌, ◌⊎◌, inl, inr, ◌↔◌, IsTrue, true, List, [], ◌∷◌, ◌++◌, length, refl, sym, ap, ◌∙◌, subst}
-use Rattle.std.proofs.Common.{arith, lit<, append_assoc, length-append, None, Some, get_or}
-use Rattle.std.specs.Prelude.{Option, sum_by, flat_map, ◌==◌, ◌||◌, ◌&&◌, nat_le, unwrap_or, option_map}
-use Rattle.std.proofs.lemmas.Bool.{or_cases, or_left, or_right, and_parts, and_from, leb-true, le-leb}
-use Rattle.std.proofs.lemmas.List.{append-nil}
-use Rattle.fit_base.specs.declared.number.Order.{Order}
-use Rattle.fit_base.specs.declared.number.Order.TheVariants.{Little, Big}
-use Rattle.fit_base.specs.Numbers.{IsBytes, number_bytes}
-use Rattle.fit_base.proofs.Bytes.{front_back}
-use Rattle.fit_base.proofs.ByteLists.{IsBytes-append, IsBytes-cons, IsBytes-none}
-use Rattle.fit_record.specs.declared.definition.FieldDef.{FieldDef}
-use Rattle.fit_record.specs.declared.definition.DevDef.{DevDef}
-use Rattle.fit_record.specs.declared.definition.MessageDef.{MessageDef}
-use Rattle.fit_record.specs.Environment.{Environment, dev_defs}
-use Rattle.fit_record.specs.Records.{architecture, field_bytes, dev_field_bytes, dev_part, definition_header, definition_bytes}
-use Rattle.fit_record.specs.Rooms.{others_have, can_fill_with, can_fill_from}
-use Rattle.fit_record.specs.Unfinished.{finishes, can_complete, can_complete_dev, CanComplete, IsCut, fields_part, dev_fields_part, size_so_far}
+use Rattle.fit_record.proofs.Common.{◌≡◌, ℕ, ◌+◌, ◌-◌, ◌*◌, ◌^◌, ◌<◌, ◌≤◌, ◌⊎◌, inl, inr, ◌↔◌, IsTrue, true, List, [], ◌∷◌, ◌++◌, length, refl, sym, ap, ◌∙◌}
+use Rattle.fit_record.proofs.Common.{subst, arith, lit<, append_assoc, length-append, None, Some, get_or, sum_by, flat_map, ◌==◌, ◌||◌, ◌&&◌, nat_le, unwrap_or}
+use Rattle.fit_record.proofs.Common.{option_map, or_cases, or_left, or_right, and_parts, and_from, leb-true, le-leb, append-nil, Order, Little, Big, IsBytes}
+use Rattle.fit_record.proofs.Common.{number_bytes, front_back, IsBytes-append, IsBytes-cons, IsBytes-none, FieldDef, DevDef, MessageDef, Environment, dev_defs}
+use Rattle.fit_record.proofs.Common.{architecture, field_bytes, dev_field_bytes, dev_part, definition_header, definition_bytes, others_have, can_fill_with}
+use Rattle.fit_record.proofs.Common.{can_fill_from, finishes, can_complete, can_complete_dev, CanComplete, IsCut, fields_part, dev_fields_part, size_so_far}
+use Rattle.fit_record.proofs.Common.{body_length}
+use Rattle.std.specs.Prelude.{Option}
 use Rattle.fit_record.proofs.RoomSums.{fills_6}
 use Rattle.fit_record.proofs.EntryParts.{spell, sizes_known, Goes, goes_on, length-entries}
-use Rattle.fit_record.specs.Records.{body_length}
 use Rattle.fit_record.proofs.DefinitionInPlace.{can_fill_after, open_from, open_to, IsOpenSize, finishes_from, finishes_to, IsSize}
 
 -- ---- what stands before the entries

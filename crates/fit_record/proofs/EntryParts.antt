@@ -1,9 +1,6 @@
 -- Entries of three bytes each, of which the second is a size, when only some of their bytes have come.
-use Rattle.std.proofs.Common.{◌≡◌, ℕ, zero, suc, ◌+◌, ◌*◌, ◌<◌, ◌≤◌, List, [], ◌∷◌, ◌++◌, length, refl, ap, ◌∙◌, subst, lit<, arith, length-append, get_or}
-use Rattle.std.specs.Prelude.{flat_map, sum_by}
-use Rattle.std.proofs.lemmas.List.Sums.{sum_by-cons}
-use Rattle.fit_base.specs.Numbers.{IsBytes}
-use Rattle.fit_base.proofs.ByteLists.{IsBytes-cons, IsBytes-none}
+use Rattle.fit_record.proofs.Common.{◌≡◌, ℕ, zero, suc, ◌+◌, ◌*◌, ◌<◌, ◌≤◌, List, [], ◌∷◌, ◌++◌, length, refl, ap, ◌∙◌, subst, lit<, arith, length-append}
+use Rattle.fit_record.proofs.Common.{get_or, flat_map, sum_by, sum_by-cons, IsBytes, IsBytes-cons, IsBytes-none}
 
 abbrev pub spell : {X : Type 0} → (X → ℕ) → (X → ℕ) → (X → ℕ) → X → List ℕ
 spell first size last x = first x ∷ size x ∷ last x ∷ []
@@ -18,19 +15,17 @@ module _ {X : Type 0} (first size last : X → ℕ) where
       → flat_map (spell first size last) xs ++ z ≡ flat_map (spell first size last) ys ++ entry ++ rest
       → (sum_by size ys + get_or entry 1 0 ≤ sum_by size xs) × (t < 2 → sum_by size xs ≡ sum_by size ys + get_or entry 1 0)
   sums [] [] [] rest z t l c e = (omega arith, λ h. refl)
-  sums [] [] (a ∷ entry) rest z t l c e = absurd (omega arith)
-  sums [] (y ∷ ys) entry rest z t l c e = absurd (omega arith)
   sums (x ∷ xs) [] [] rest z t l c e = (omega arith, λ h. absurd (omega arith))
   sums (x ∷ xs) [] (a ∷ []) rest z t l c e = (omega arith, λ h. absurd (omega arith))
   sums (x ∷ []) [] (a ∷ b ∷ []) rest z t l c e = let s : size x ≡ b = cc in
       (omega (arith, s, sum_by-cons size x []), λ h. omega (arith, s, sum_by-cons size x []))
   sums (x ∷ w ∷ xs) [] (a ∷ b ∷ []) rest z t l c e = let s : size x ≡ b = cc in (omega (arith, s, sum_by-cons size x (w ∷ xs)), λ h. absurd (omega arith))
-  sums (x ∷ xs) [] (a ∷ b ∷ d ∷ entry) rest z t l c e = absurd (omega arith)
   sums (x ∷ xs) (y ∷ ys) entry rest z t l c e =
       let s : size x ≡ size y = cc in
       let others : flat_map (spell first size last) xs ++ z ≡ flat_map (spell first size last) ys ++ entry ++ rest = cc in
       let r = sums xs ys entry rest z t l (omega arith) others in
       (omega (arith, s, r.0, sum_by-cons size x xs, sum_by-cons size y ys), λ h. omega (arith, s, r.1 h, sum_by-cons size x xs, sum_by-cons size y ys))
+  sums _ _ _ rest z t l c e = absurd (omega arith)
 
   pub sizes_known : (xs ys : List X) (entry rest z : List ℕ) (t : ℕ) → length entry < 3 → 3 * length ys + length entry + t ≡ 3 * length xs
       → flat_map (spell first size last) xs ++ z ≡ flat_map (spell first size last) ys ++ entry ++ rest
@@ -133,16 +128,12 @@ module _ {X : Type 0} (first size last : X → ℕ) (make : ℕ → ℕ → ℕ 
   goes_on [] [] t zero extra l c none small =
       record { entries = []; rest = []; counted = refl; sized = omega (arith, none); spelled = refl; are_bytes = IsBytes-none; to_come = omega arith }
   goes_on [] [] t (suc k) extra l c none small = at_length [] 0 (suc k) _ t extra (omega arith) (all_open k extra small)
-  goes_on [] (a ∷ []) t zero extra l c none small = absurd (omega arith)
   goes_on [] (a ∷ []) t (suc k) extra l c none small = at_length (a ∷ []) 0 (suc k) _ t extra (omega arith) (one_open a k extra small)
-  goes_on [] (a ∷ b ∷ []) t zero extra l c none small = absurd (omega arith)
   goes_on [] (a ∷ b ∷ []) t (suc zero) extra l c none small =
       subst (λ n. Goes first size last (a ∷ b ∷ []) (0 + b) 1 t n) (omega (arith, none))
       (at_length (a ∷ b ∷ []) (0 + b) 1 _ t 0 (omega arith) (after_size a b 0 0 0 (zeros 0)))
   goes_on [] (a ∷ b ∷ []) t (suc (suc k)) extra l c none small =
       at_length (a ∷ b ∷ []) (0 + b) (suc (suc k)) _ t extra (omega arith) (after_size a b (suc k) _ extra (all_open k extra small))
-  goes_on [] (a ∷ b ∷ d ∷ entry) t count extra l c none small = absurd (omega arith)
-  goes_on (y ∷ ys) entry t zero extra l c none small = absurd (omega arith)
   goes_on (y ∷ ys) entry t (suc k) extra l c none small =
       let r = goes_on ys entry t k extra l (omega arith) none small in
       record {
@@ -154,3 +145,4 @@ module _ {X : Type 0} (first size last : X → ℕ) (make : ℕ → ℕ → ℕ 
         are_bytes = r.are_bytes;
         to_come = r.to_come;
       }
+  goes_on _ _ t _ extra l c none small = absurd (omega arith)

@@ -1,24 +1,15 @@
 -- Which rooms records can fill: the test and what it means.
-use Rattle.std.proofs.Common.{◌≡◌, ℕ, suc, ◌+◌, ◌<◌, ◌≤◌, ◌⊎◌, inl, inr, ◌↔◌, ◌-◌, IsTrue, true, false, List, [], ◌∷◌, ◌++◌, length, replicate, refl, sym, ap}
-use Rattle.std.proofs.Common.{◌∙◌, subst, arith, length-append, None, Some, get_or}
-use Rattle.std.specs.Prelude.{Option, option_and_then, IsSomeAnd, ◌==◌}
-use Rattle.std.specs.Option.{option_map_or}
-use Rattle.std.proofs.lemmas.Bool.{true≢false, eqb-true, eq-eqb, or_cases, cases_lt}
-use Rattle.std.proofs.lemmas.List.{length-replicate}
-use Rattle.std.proofs.lemmas.List.Folds.{list_any_at}
+use Rattle.fit_record.proofs.Common.{◌≡◌, ℕ, suc, ◌+◌, ◌<◌, ◌≤◌, ◌⊎◌, inl, inr, ◌↔◌, ◌-◌, IsTrue, true, false, List, [], ◌∷◌, ◌++◌, length, refl, sym, ap, ◌∙◌}
+use Rattle.fit_record.proofs.Common.{subst, arith, length-append, None, Some, get_or, option_and_then, IsSomeAnd, ◌==◌, option_map_or, true≢false, eqb-true}
+use Rattle.fit_record.proofs.Common.{eq-eqb, or_cases, cases_lt, length-replicate, list_any_at, Record, Define, Data, Defined, Environment, defined_at}
+use Rattle.fit_record.proofs.Common.{describe, description, learn, DataHeaderFits, DataFits, AllFit, order_at, record_bytes, records_bytes, CanFill}
+use Rattle.fit_record.proofs.Common.{message_size, fills, has_length, can_fill, IsBytes-append, IsBytes-cons, IsBytes-none, IsBytes-zeros}
+use Rattle.std.proofs.Common.{replicate}
+use Rattle.std.specs.Prelude.{Option}
 use Rattle.fit_record.specs.declared.message.Values.{Values}
-use Rattle.fit_record.specs.declared.message.Record.{Record}
-use Rattle.fit_record.specs.declared.message.Record.TheVariants.{Define, Values as Data}
-use Rattle.fit_record.specs.declared.environment.Defined.{Defined}
-use Rattle.fit_record.specs.Environment.{Environment, defined_at, describe, description, learn}
 use Rattle.fit_record.specs.declared.learn.Description.{Description}
-use Rattle.fit_record.specs.Records.{DataHeaderFits, DataFits, AllFit, order_at, record_bytes, records_bytes}
-use Rattle.fit_record.specs.Files.{CanFill}
-use Rattle.fit_record.specs.Records.{message_size}
-use Rattle.fit_record.specs.Rooms.{fills, has_length, can_fill}
 use Rattle.fit_record.proofs.LargeRooms.{six_and_more}
 use Rattle.fit_record.proofs.RoomSums.{fills_6, fills_more, of_filled}
-use Rattle.fit_base.proofs.ByteLists.{IsBytes-append, IsBytes-cons, IsBytes-none, IsBytes-zeros}
 use Rattle.fit_record.proofs.RecordLengths.{length-definition, length-data}
 use Rattle.fit_record.proofs.MessageBytes.{values_from, message_fits}
 

@@ -1,14 +1,12 @@
 -- What is kept stays so as places are filled.
-use Rattle.std.proofs.Common.{◌≡◌, ℕ, zero, suc, List, [], ◌∷◌, length, replicate, set, get_or, arith, Some, None}
-use Rattle.std.specs.Prelude.{Option, IfSome}
-use Rattle.fit_record.specs.declared.environment.Defined.{Defined}
-use Rattle.fit_record.specs.inner.Kept.{IsKept, MayBeKept, AreKept}
-use Rattle.fit_record.specs.Sound.{IsSound}
+use Rattle.fit_record.proofs.Common.{◌≡◌, ℕ, zero, suc, List, [], ◌∷◌, length, set, get_or, arith, Some, None, IfSome, Defined, IsKept, MayBeKept, AreKept}
+use Rattle.fit_record.proofs.Common.{IsSound}
+use Rattle.std.proofs.Common.{replicate}
+use Rattle.std.specs.Prelude.{Option}
 
 pub kept_none : (A : Type 0) (n m local : ℕ) → MayBeKept {A = A} (get_or (replicate n None) local None) m
-kept_none A zero m local = tt
-kept_none A (suc n) m zero = tt
 kept_none A (suc n) m (suc local) = kept_none A n m local
+kept_none A _ m _ = tt
 
 pub kept_set : {A : Type 0} (places : List (Option (Defined A))) (lengths : List ℕ) (local : ℕ) (p : Defined A) (n : ℕ) → length places ≡ length lengths
     → AreKept places lengths → IsKept p n → AreKept (set places local (Some p)) (set lengths local n)

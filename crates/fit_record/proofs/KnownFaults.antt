@@ -1,17 +1,10 @@
 -- Worked records and the first reasons why they can't stand where they are.
-use Rattle.std.proofs.Common.{◌≡◌, ℕ, List, [], ◌∷◌, refl, Option, None, Some}
+use Rattle.fit_record.proofs.Common.{◌≡◌, ℕ, List, [], ◌∷◌, refl, None, Some, Items, Little, FieldDef, DevDef, ShapeFault, BadLocal, BadOffset, UndefinedLocal}
+use Rattle.fit_record.proofs.Common.{WrongShape, Record, Define, Environment, empty_environment, learn, first_fault}
+use Rattle.std.proofs.Common.{Option}
 use Rattle.std.specs.Prelude.{map, replicate}
-use Rattle.fit_base.specs.declared.items.Items.{Items}
-use Rattle.fit_base.specs.declared.number.Order.TheVariants.{Little}
+use Rattle.fit_record.specs.declared.message.Record.TheVariants.{Values}
 use Rattle.fit_record.proofs.KnownFiles.{field, dev_field, item}
-use Rattle.fit_record.specs.declared.definition.FieldDef.{FieldDef}
-use Rattle.fit_record.specs.declared.definition.DevDef.{DevDef}
-use Rattle.fit_record.specs.declared.fits.ShapeFault.{ShapeFault}
-use Rattle.fit_record.specs.declared.fits.ShapeFault.TheVariants.{BadLocal, BadOffset, UndefinedLocal, WrongShape}
-use Rattle.fit_record.specs.declared.message.Record.{Record}
-use Rattle.fit_record.specs.declared.message.Record.TheVariants.{Define, Values}
-use Rattle.fit_record.specs.Environment.{Environment, empty_environment, learn}
-use Rattle.fit_record.specs.Faults.{first_fault}
 
 abbrev nothing : Environment (Unit {0})
 nothing = empty_environment

@@ -1,18 +1,11 @@
 -- Whole files whose bytes are known from elsewhere: each value below is proved to be the file of its bytes.
-use Rattle.std.proofs.Common.{ℕ, ◌<◌, ◌^◌, List, [], ◌∷◌, refl, None, Some, lit<, lit≤}
-use Rattle.fit_base.specs.declared.items.Items.{Items}
-use Rattle.fit_base.specs.declared.number.Order.TheVariants as orders
-use Rattle.fit_sum.specs.Checksum.{checksum}
-use Rattle.fit_frame.specs.Header.{HeaderFits}
+use Rattle.fit_record.proofs.Common.{ℕ, ◌<◌, ◌^◌, List, [], ◌∷◌, refl, None, Some, lit<, lit≤, Items, checksum, HeaderFits, FieldDef, DevDef, FitFile, Record}
+use Rattle.fit_record.proofs.Common.{Define, IsFile}
 use Rattle.fit_frame.specs.declared.header.Header.{Header}
 use Rattle.fit_frame.specs.declared.header.HeaderSum.{HeaderSum}
+use Rattle.fit_record.specs.declared.message.Record.TheVariants.{Values}
+use Rattle.fit_base.specs.declared.number.Order.TheVariants as orders
 use Rattle.fit_frame.specs.declared.header.HeaderSum.TheVariants as sums
-use Rattle.fit_record.specs.declared.definition.FieldDef.{FieldDef}
-use Rattle.fit_record.specs.declared.definition.DevDef.{DevDef}
-use Rattle.fit_record.specs.declared.file.FitFile.{FitFile}
-use Rattle.fit_record.specs.declared.message.Record.{Record}
-use Rattle.fit_record.specs.declared.message.Record.TheVariants.{Define, Values}
-use Rattle.fit_record.specs.Files.{IsFile}
 
 -- protocol version 2.0
 abbrev pub header_of : ℕ → HeaderSum → Header

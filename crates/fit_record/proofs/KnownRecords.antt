@@ -1,17 +1,10 @@
 -- Worked environments: what a reader knows of developer fields after some records, and the lengths of definition messages.
-use Rattle.std.proofs.Common.{◌≡◌, ℕ, List, [], ◌∷◌, refl, Option, None, Some}
-use Rattle.std.specs.Prelude.{map, option_and_then, slice_get}
-use Rattle.fit_base.specs.declared.items.Items.{Items}
-use Rattle.fit_base.specs.declared.number.Order.TheVariants.{Little}
+use Rattle.fit_record.proofs.Common.{◌≡◌, ℕ, List, [], ◌∷◌, refl, None, Some, option_and_then, slice_get, Items, Little, FieldDef, DevDef, WrongShape, Record}
+use Rattle.fit_record.proofs.Common.{Define, Environment, empty_environment, defined_at, learn_all, first_fault, record_bytes}
+use Rattle.std.proofs.Common.{Option}
+use Rattle.std.specs.Prelude.{map}
+use Rattle.fit_record.specs.declared.message.Record.TheVariants.{Values}
 use Rattle.fit_record.proofs.KnownFiles.{field, dev_field, item}
-use Rattle.fit_record.specs.declared.definition.FieldDef.{FieldDef}
-use Rattle.fit_record.specs.declared.definition.DevDef.{DevDef}
-use Rattle.fit_record.specs.declared.fits.ShapeFault.TheVariants.{WrongShape}
-use Rattle.fit_record.specs.declared.message.Record.{Record}
-use Rattle.fit_record.specs.declared.message.Record.TheVariants.{Define, Values}
-use Rattle.fit_record.specs.Environment.{Environment, empty_environment, defined_at, learn_all}
-use Rattle.fit_record.specs.Faults.{first_fault}
-use Rattle.fit_record.specs.Records.{record_bytes}
 
 abbrev nothing : Environment (Unit {0})
 nothing = empty_environment

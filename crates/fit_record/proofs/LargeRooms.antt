@@ -1,16 +1,9 @@
 -- Rooms of six bytes and more can be filled: by a definition without fields, and messages of one byte.
-use Rattle.std.proofs.Common.{◌≡◌, ℕ, zero, suc, ◌+◌, ◌<◌, [], ◌∷◌, length, replicate, refl, sym, ap, ◌∙◌, subst, lit<, arith, None, Some, get_or-set_same}
-use Rattle.std.specs.Prelude.{option_and_then}
-use Rattle.fit_base.specs.declared.number.Order.TheVariants.{Little}
-use Rattle.fit_base.proofs.ByteLists.{IsBytes-append, IsBytes-cons, IsBytes-zeros}
-use Rattle.fit_record.specs.declared.definition.MessageDef.{MessageDef}
+use Rattle.fit_record.proofs.Common.{◌≡◌, ℕ, zero, suc, ◌+◌, ◌<◌, [], ◌∷◌, length, refl, sym, ap, ◌∙◌, subst, lit<, arith, None, Some, option_and_then, Little}
+use Rattle.fit_record.proofs.Common.{IsBytes-append, IsBytes-cons, IsBytes-zeros, MessageDef, Define, Data, Defined, Environment, defined_at, describe}
+use Rattle.fit_record.proofs.Common.{description, learn, Fits, AllFit, record_bytes, records_bytes, CanFill, length-replicate}
+use Rattle.std.proofs.Common.{replicate, get_or-set_same}
 use Rattle.fit_record.specs.declared.message.Values.{Values}
-use Rattle.fit_record.specs.declared.message.Record.TheVariants.{Define, Values as Data}
-use Rattle.fit_record.specs.declared.environment.Defined.{Defined}
-use Rattle.fit_record.specs.Environment.{Environment, defined_at, describe, description, learn}
-use Rattle.fit_record.specs.Records.{Fits, AllFit, record_bytes, records_bytes}
-use Rattle.fit_record.specs.Files.{CanFill}
-use Rattle.std.proofs.lemmas.List.{length-replicate}
 
 abbrev no_fields : {A : Type 0} → MessageDef A
 no_fields = record { local = 0; reserved = 0; order = Little; global = 0; fields = []; dev = None }

@@ -1,17 +1,10 @@
 -- What a record that fits has for its length.
-use Rattle.std.proofs.Common.{◌≡◌, ℕ, suc, ◌+◌, length, sym, ◌∙◌, subst, arith, Some, None, Ok, Err}
-use Rattle.std.specs.Prelude.{Option, Result, IfOk, IsSomeAnd, option_map, unwrap_or}
-use Rattle.fit_base.specs.declared.number.Order.TheVariants.{Little}
-use Rattle.fit_record.specs.declared.definition.MessageDef.{MessageDef}
+use Rattle.fit_record.proofs.Common.{◌≡◌, ℕ, suc, ◌+◌, length, sym, ◌∙◌, subst, arith, Some, None, Result, IfOk, IsSomeAnd, option_map, unwrap_or, Little}
+use Rattle.fit_record.proofs.Common.{MessageDef, Record, Define, Data, Defined, Environment, defined_at, DefinitionFits, DataFits, data_bytes, Fits}
+use Rattle.fit_record.proofs.Common.{record_bytes, definition_length, body_length, IsSound}
+use Rattle.std.proofs.Common.{Ok, Err}
+use Rattle.std.specs.Prelude.{Option}
 use Rattle.fit_record.specs.declared.message.Values.{Values}
-use Rattle.fit_record.specs.declared.message.Record.{Record}
-use Rattle.fit_record.specs.declared.message.Record.TheVariants.{Define, Values as Data}
-use Rattle.fit_record.specs.declared.environment.Defined.{Defined}
-use Rattle.fit_record.specs.Environment.{Environment, defined_at}
-use Rattle.fit_record.specs.Records.{DefinitionFits, DataFits, data_bytes, Fits, record_bytes}
-use Rattle.fit_record.specs.inner.DefinitionLengths.{definition_length}
-use Rattle.fit_record.specs.Records.{body_length}
-use Rattle.fit_record.specs.Sound.{IsSound}
 use Rattle.fit_record.proofs.RecordLengths.{length-definition, length-data}
 use Rattle.fit_record.proofs.MessageSizes.{message_size_is}
 

@@ -1,3 +1,4 @@
+pub mod Common
 pub mod KnownFiles
 pub mod OneRecord
 pub mod RecordLists

@@ -1,21 +1,15 @@
 -- Any bytes, as many as a data message has after its record header, are those of one.
-use Rattle.std.proofs.Common.{◌≡◌, ℕ, zero, suc, ◌+◌, ◌*◌, ◌/◌, ◌^◌, ◌<◌, List, [], ◌∷◌, ◌++◌, length, take, drop, refl, sym, ap, ◌∙◌, subst, arith}
-use Rattle.std.specs.Prelude.{Option, flat_map}
-use Rattle.std.specs.List.{AllByRecursion}
+use Rattle.fit_record.proofs.Common.{◌≡◌, ℕ, zero, suc, ◌+◌, ◌*◌, ◌/◌, ◌^◌, ◌<◌, List, [], ◌∷◌, ◌++◌, length, take, drop, refl, sym, ap, ◌∙◌, subst, arith}
+use Rattle.fit_record.proofs.Common.{flat_map, AllByRecursion, take-append-drop, length-take-le, length-drop, sum_by-cons, sum_by-append, Order, HasShape}
+use Rattle.fit_record.proofs.Common.{items_bytes, IsBytes, number, number_bytes, IsBytes-take, IsBytes-drop, Defined, layout, dev_layout, message_size}
+use Rattle.fit_record.proofs.Common.{HaveShape, DataHeaderFits, data_bytes, DataFits}
+use Rattle.std.specs.Prelude.{Option}
 use Rattle.std.proofs.Math.Nat.{suc-mul}
-use Rattle.std.proofs.lemmas.List.{take-append-drop, length-take-le, length-drop}
-use Rattle.std.proofs.lemmas.List.Sums.{sum_by-cons, sum_by-append}
-use Rattle.fit_base.specs.declared.number.Order.{Order}
 use Rattle.fit_base.specs.BaseTypes.{item_width}
-use Rattle.fit_base.specs.Fields.{HasShape, items_bytes}
-use Rattle.fit_base.specs.Numbers.{IsBytes, number, number_bytes}
 use Rattle.fit_base.proofs.NumberLaws.{number-below, number_bytes-number}
 use Rattle.fit_base.proofs.Shapes.{item_width_divides}
-use Rattle.fit_base.proofs.ByteLists.{IsBytes-take, IsBytes-drop}
-use Rattle.fit_record.specs.declared.environment.Defined.{Defined}
-pub use Rattle.fit_record.specs.inner.ReadMessages.{numbers_of, field_from, fields_from, values_from}
+pub use Rattle.fit_record.specs.ReadMessages.{numbers_of, field_from, fields_from, values_from}
 pub use Rattle.fit_record.specs.Records.{sizes}
-use Rattle.fit_record.specs.Records.{layout, dev_layout, message_size, HaveShape, DataHeaderFits, data_bytes, DataFits}
 
 no_elements : {X : Type 0} (xs : List X) → length xs ≡ 0 → xs ≡ []
 no_elements [] h = refl

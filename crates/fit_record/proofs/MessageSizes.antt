@@ -1,15 +1,7 @@
 -- The size of a data message, from the sizes of its definition.
-use Rattle.std.proofs.Common.{◌≡◌, ℕ, List, [], ◌∷◌, length, refl, sym, ap, ◌∙◌, arith, None, Some}
-use Rattle.std.specs.Prelude.{Option, option_map, map, zip, sum_by}
-use Rattle.std.proofs.lemmas.List.Sums.{sum_by-cons, sum_by-append}
-use Rattle.std.proofs.lemmas.Option.{none-some}
-use Rattle.fit_record.specs.declared.definition.FieldDef.{FieldDef}
-use Rattle.fit_record.specs.declared.definition.DevDef.{DevDef}
-use Rattle.fit_record.specs.declared.environment.Defined.{Defined}
-use Rattle.fit_record.specs.Environment.{dev_defs}
-use Rattle.fit_record.specs.inner.Kept.{MayBeKept}
-use Rattle.fit_record.specs.Records.{body_length}
-use Rattle.fit_record.specs.Records.{layout, dev_layout, message_size}
+use Rattle.fit_record.proofs.Common.{◌≡◌, ℕ, List, [], ◌∷◌, length, refl, sym, ap, ◌∙◌, arith, None, Some, option_map, zip, sum_by, sum_by-cons, sum_by-append}
+use Rattle.fit_record.proofs.Common.{none-some, FieldDef, DevDef, Defined, dev_defs, MayBeKept, body_length, layout, dev_layout, message_size}
+use Rattle.std.specs.Prelude.{Option, map}
 
 sum-fields : (fs : List FieldDef) → sum_by (λ (f : ℕ × ℕ). f.1) (map (λ f. (f.code, f.size)) fs) ≡ sum_by (λ (f : FieldDef). f.size) fs
 sum-fields [] = refl
@@ -23,8 +15,6 @@ sum-fields (f ∷ fs) = omega (
 sum-dev_fields : (codes : List ℕ) (fs : List DevDef) → length codes ≡ length fs
     → sum_by (λ (f : ℕ × ℕ). f.1) (zip codes (map (λ f. f.size) fs)) ≡ sum_by (λ (f : DevDef). f.size) fs
 sum-dev_fields [] [] h = refl
-sum-dev_fields [] (f ∷ fs) h = absurd (omega arith)
-sum-dev_fields (c ∷ codes) [] h = absurd (omega arith)
 sum-dev_fields (c ∷ codes) (f ∷ fs) h =
     omega (
       arith,
@@ -32,6 +22,7 @@ sum-dev_fields (c ∷ codes) (f ∷ fs) h =
       sum_by-cons (λ (f : DevDef). f.size) f fs,
       sum_by-cons (λ (f : ℕ × ℕ). f.1) (c, f.size) (zip codes (map (λ f. f.size) fs)),
     )
+sum-dev_fields _ _ h = absurd (omega arith)
 
 -- Each developer field has a code.
 pub message_size_is : {A : Type 0} (p : Defined A) → length p.dev_codes ≡ length (dev_defs p.definition.dev) → message_size p ≡ body_length p.definition

@@ -1,34 +1,21 @@
 -- There is no fault just where a record fits.
-use Rattle.std.proofs.Common.{◌≡◌, ℕ, ◌+◌, ◌^◌, ◌<◌, Bool, true, false, cond, length, refl, sym, ap, subst, ◌∙◌, Some, None, ltb, ltb-true, lt-ltb}
-use Rattle.std.specs.Prelude.{Option, Result, Ok, Err, IfErr, OnErr, option_map, IsSomeAnd}
-use Rattle.fit_record.specs.declared.definition.MessageDef.{MessageDef}
+use Rattle.fit_record.proofs.Common.{◌≡◌, ℕ, ◌^◌, ◌<◌, length, refl, sym, ap, subst, ◌∙◌, Some, None, ltb, ltb-true, lt-ltb, Result, IfErr, OnErr, option_map}
+use Rattle.fit_record.proofs.Common.{IsSomeAnd, MessageDef, Record, Define, Data, Defined, ShapeFault, UndefinedLocal, WrongShape, Environment, defined_at}
+use Rattle.fit_record.proofs.Common.{dev_defs, layout, dev_layout, DefinitionFits, DataHeaderFits, DataFits, Fits, or_else, wrong_from, header_fault}
+use Rattle.fit_record.proofs.Common.{body_fault, definition_fault, first_fault, FaultsAreExact}
+use Rattle.std.specs.Prelude.{Option, Ok, Err}
 use Rattle.fit_record.specs.declared.message.Values.{Values}
-use Rattle.fit_record.specs.declared.message.Record.{Record}
-use Rattle.fit_record.specs.declared.message.Record.TheVariants.{Define, Values as Data}
-use Rattle.fit_record.specs.declared.environment.Defined.{Defined}
-use Rattle.fit_record.specs.declared.fits.ShapeFault.{ShapeFault}
-use Rattle.fit_record.specs.declared.fits.ShapeFault.TheVariants.{BadLocal, BadOffset, UndefinedLocal, WrongShape}
-use Rattle.fit_record.specs.Environment.{Environment, defined_at, dev_defs}
-use Rattle.fit_record.specs.Records.{layout, dev_layout, DefinitionFits, DataHeaderFits, DataFits, Fits}
-use Rattle.fit_record.specs.Faults.{or_else, wrong_from, header_fault, body_fault, definition_fault, first_fault}
-use Rattle.fit_record.specs.Laws.{FaultsAreExact}
-use Rattle.fit_record.proofs.WrongPlace.{wrong_none, none_wrong}
+use Rattle.fit_record.proofs.WrongPlace.{wrong_none, none_wrong, cond_none}
 
 pub header_none : (local : ℕ) (offset : Option ℕ) → DataHeaderFits local offset → header_fault local offset ≡ None
-header_none local None h = ap (λ b. cond b None (Some BadLocal)) (lt-ltb local 16 h)
-header_none local (Some offset) h =
-    ap (λ b. cond b (cond (ltb offset 32) None (Some BadOffset)) (Some BadLocal)) (lt-ltb local 4 h.0)
-    ∙ ap (λ b. cond b None (Some BadOffset)) (lt-ltb offset 32 h.1)
-
-passes : {X : Type 0} (b : Bool) (rest : Option X) (x : X) → cond b rest (Some x) ≡ None → (b ≡ true) × (rest ≡ None)
-passes true rest x h = (refl, h)
-passes false rest x h = cc
+header_none local None h = rw (lt-ltb local 16 h) refl
+header_none local (Some offset) h = rw (lt-ltb local 4 h.0, lt-ltb offset 32 h.1) refl
 
 none_header : (local : ℕ) (offset : Option ℕ) → header_fault local offset ≡ None → DataHeaderFits local offset
-none_header local None h = ltb-true local 16 (passes _ _ _ h).0
+none_header local None h = ltb-true local 16 (cond_none _ _ _ h).0
 none_header local (Some offset) h =
-    let first = passes (ltb local 4) _ _ h in
-    (ltb-true local 4 first.0, ltb-true offset 32 (passes (ltb offset 32) _ _ first.1).0)
+    let first = cond_none (ltb local 4) _ _ h in
+    (ltb-true local 4 first.0, ltb-true offset 32 (cond_none (ltb offset 32) _ _ first.1).0)
 
 neither : {X : Type 0} (a b : Option X) → or_else a b ≡ None → (a ≡ None) × (b ≡ None)
 neither None b h = (refl, h)
@@ -58,19 +45,13 @@ none_data (Some p) v h =
     }
 
 definition_none : {A : Type 0} (d : MessageDef A) → DefinitionFits d → definition_fault d ≡ None
-definition_none d h =
-    let rest = cond (ltb (length d.fields) 256) (cond (ltb (length (dev_defs d.dev)) 256) None (Some (WrongShape (length d.fields + 255))))
-    (Some (WrongShape 255)) in
-    ap (λ b. cond b rest (Some BadLocal)) (lt-ltb d.local 16 h.local)
-    ∙ ap (λ b. cond b (cond (ltb (length (dev_defs d.dev)) 256) None (Some (WrongShape (length d.fields + 255)))) (Some (WrongShape 255)))
-    (lt-ltb (length d.fields) 256 h.fields)
-    ∙ ap (λ b. cond b None (Some (WrongShape (length d.fields + 255)))) (lt-ltb (length (dev_defs d.dev)) 256 h.dev_fields)
+definition_none d h = rw (lt-ltb d.local 16 h.local, lt-ltb (length d.fields) 256 h.fields, lt-ltb (length (dev_defs d.dev)) 256 h.dev_fields) refl
 
 none_definition : {A : Type 0} (d : MessageDef A) → definition_fault d ≡ None → d.global < 2 ^ 16 → DefinitionFits d
 none_definition d h r =
-    let first = passes (ltb d.local 16) _ _ h in
-    let second = passes (ltb (length d.fields) 256) _ _ first.1 in
-    let third = passes (ltb (length (dev_defs d.dev)) 256) _ _ second.1 in
+    let first = cond_none (ltb d.local 16) _ _ h in
+    let second = cond_none (ltb (length d.fields) 256) _ _ first.1 in
+    let third = cond_none (ltb (length (dev_defs d.dev)) 256) _ _ second.1 in
     record {
       local = ltb-true d.local 16 first.0;
       global = r;

@@ -1,13 +1,7 @@
 -- A file and its bytes determine each other, and no file's bytes begin those of another.
-use Rattle.std.proofs.Common.{◌≡◌, ℕ, List, ◌++◌, length, sym, ap, ◌∙◌, append_assoc}
-use Rattle.fit_base.specs.Numbers.{little_bytes}
-use Rattle.fit_sum.specs.Checksum.{checksum}
-use Rattle.fit_frame.specs.Header.{header_bytes}
+use Rattle.fit_record.proofs.Common.{◌≡◌, ℕ, List, ◌++◌, length, sym, ap, ◌∙◌, append_assoc, little_bytes, checksum, header_bytes, FitFile, empty_environment}
+use Rattle.fit_record.proofs.Common.{body, summed, file_bytes, IsWellFormed, FilesHaveOneSpelling}
 use Rattle.fit_frame.proofs.OneHeader.{one_header}
-use Rattle.fit_record.specs.declared.file.FitFile.{FitFile}
-use Rattle.fit_record.specs.Environment.{empty_environment}
-use Rattle.fit_record.specs.Files.{body, summed, file_bytes, IsWellFormed}
-use Rattle.fit_record.specs.Laws.{FilesHaveOneSpelling}
 use Rattle.fit_record.proofs.OneRecord.{same_records}
 
 regroup : (a b c d : List ℕ) → ((a ++ b) ++ c) ++ d ≡ a ++ (b ++ (c ++ d))

@@ -1,25 +1,12 @@
 -- Under an environment a record and its bytes determine each other, and no record's bytes begin those of another.
-use Rattle.std.proofs.Common.{◌≡◌, ℕ, ◌+◌, ◌<◌, List, [], ◌∷◌, ◌++◌, length, refl, sym, ap, ◌∙◌, subst, arith, append_assoc, length-append, Some, None}
-use Rattle.std.specs.Prelude.{Option, flat_map, option_map, unwrap_or, IsSomeAnd}
-use Rattle.fit_base.specs.declared.items.Items.{Items}
-use Rattle.fit_base.specs.declared.number.Order.{Order}
-use Rattle.fit_base.specs.declared.number.Order.TheVariants.{Little, Big}
-use Rattle.fit_base.specs.Numbers.{number_bytes}
-use Rattle.fit_base.specs.Fields.{items_bytes}
-use Rattle.fit_base.proofs.Bytes.{one_number}
+use Rattle.fit_record.proofs.Common.{◌≡◌, ℕ, ◌+◌, ◌<◌, List, [], ◌∷◌, ◌++◌, length, refl, sym, ap, ◌∙◌, subst, arith, append_assoc, length-append, Some, None}
+use Rattle.fit_record.proofs.Common.{flat_map, option_map, unwrap_or, IsSomeAnd, Items, Order, Little, Big, number_bytes, items_bytes, one_number, FieldDef}
+use Rattle.fit_record.proofs.Common.{DevDef, MessageDef, Record, Define, Data, Defined, Environment, defined_at, learn, architecture, field_bytes}
+use Rattle.fit_record.proofs.Common.{dev_field_bytes, dev_part, definition_header, definition_bytes, DefinitionFits, layout, dev_layout, HaveShape, data_header}
+use Rattle.fit_record.proofs.Common.{DataHeaderFits, data_bytes, DataFits, Fits, order_at, record_bytes, AllFit, records_bytes, RecordsHaveOneSpelling}
+use Rattle.std.specs.Prelude.{Option}
 use Rattle.fit_base.proofs.SameItems.{same_items}
-use Rattle.fit_record.specs.declared.definition.FieldDef.{FieldDef}
-use Rattle.fit_record.specs.declared.definition.DevDef.{DevDef}
-use Rattle.fit_record.specs.declared.definition.MessageDef.{MessageDef}
 use Rattle.fit_record.specs.declared.message.Values.{Values}
-use Rattle.fit_record.specs.declared.message.Record.{Record}
-use Rattle.fit_record.specs.declared.message.Record.TheVariants.{Define, Values as Data}
-use Rattle.fit_record.specs.declared.environment.Defined.{Defined}
-use Rattle.fit_record.specs.Environment.{Environment, defined_at, learn}
-use Rattle.fit_record.specs.Records.{architecture, field_bytes, dev_field_bytes, dev_part, definition_header, definition_bytes, DefinitionFits, layout}
-use Rattle.fit_record.specs.Records.{dev_layout, HaveShape, data_header, DataHeaderFits, data_bytes, DataFits, Fits, order_at, record_bytes, AllFit}
-use Rattle.fit_record.specs.Records.{records_bytes}
-use Rattle.fit_record.specs.Laws.{RecordsHaveOneSpelling}
 
 regroup : {X : Type 0} → (a b c d : List X) → (a ++ b ++ c) ++ d ≡ a ++ (b ++ (c ++ d))
 regroup a b c d = simp append_assoc
@@ -27,22 +14,20 @@ regroup a b c d = simp append_assoc
 -- ---- definitions
 
 one_order : (o p : Order) → architecture o ≡ architecture p → o ≡ p
-one_order Little Little e = refl
 one_order Little Big e = cc
 one_order Big Little e = cc
-one_order Big Big e = refl
+one_order _ _ e = refl
 
 -- lists of entries, as long as each other, of which each is known from its bytes
 module _ {F : Type 0} (bytes : F → List ℕ) (one : (f g : F) (x y : List ℕ) → bytes f ++ x ≡ bytes g ++ y → (f ≡ g) × (x ≡ y)) where
   same_entries : (fs gs : List F) (x y : List ℕ) → length fs ≡ length gs → flat_map bytes fs ++ x ≡ flat_map bytes gs ++ y → (fs ≡ gs) × (x ≡ y)
   same_entries [] [] x y l e = (refl, e)
-  same_entries [] (g ∷ gs) x y l e = absurd (omega arith)
-  same_entries (f ∷ fs) [] x y l e = absurd (omega arith)
   same_entries (f ∷ fs) (g ∷ gs) x y l e =
       let k = one f g (flat_map bytes fs ++ x) (flat_map bytes gs ++ y)
       (sym (append_assoc (bytes f) (flat_map bytes fs) x) ∙ e ∙ append_assoc (bytes g) (flat_map bytes gs) y) in
       let r = same_entries fs gs x y (omega arith) k.1 in
       (cc (k.0, r.0), r.1)
+  same_entries _ _ x y l e = absurd (omega arith)
 
 one_field : (f g : FieldDef) (x y : List ℕ) → field_bytes f ++ x ≡ field_bytes g ++ y → (f ≡ g) × (x ≡ y)
 one_field f g x y e =
@@ -73,13 +58,12 @@ same_dev : (u v : Option (List DevDef)) (l m : ℕ) (x y : List ℕ) → l < 16 
     → 0x40 + l + unwrap_or (option_map (λ _. 0x20) u) 0 ≡ 0x40 + m + unwrap_or (option_map (λ _. 0x20) v) 0
     → dev_part u ++ x ≡ dev_part v ++ y → (l ≡ m) × (u ≡ v) × (x ≡ y)
 same_dev None None l m x y p q h e = (omega arith, refl, e)
-same_dev None (Some v) l m x y p q h e = absurd (omega arith)
-same_dev (Some u) None l m x y p q h e = absurd (omega arith)
 same_dev (Some u) (Some v) l m x y p q h e =
     let n : length u ≡ length v = cc in
     let t : flat_map dev_field_bytes u ++ x ≡ flat_map dev_field_bytes v ++ y = cc in
     let r = same_dev_fields u v x y n t in
     (omega arith, ap Some r.0, r.1)
+same_dev _ _ l m x y p q h e = absurd (omega arith)
 
 pub same_definition : {A : Type 0} (c d : MessageDef A) (x y : List ℕ) → DefinitionFits c → DefinitionFits d
     → (definition_header c ∷ definition_bytes c) ++ x ≡ (definition_header d ∷ definition_bytes d) ++ y → (c ≡ d) × (x ≡ y)
@@ -107,15 +91,14 @@ same_definition c d x y p q e =
 same_values : {A : Type 0} (o : Order) (fs : List (ℕ × ℕ)) (us vs : List (Items A)) (x y : List ℕ) → HaveShape fs us → HaveShape fs vs
     → flat_map (items_bytes o) us ++ x ≡ flat_map (items_bytes o) vs ++ y → (us ≡ vs) × (x ≡ y)
 same_values o [] [] [] x y p q e = (refl, e)
-same_values o [] [] (v ∷ vs) x y p q e = absurd q
 same_values o [] (u ∷ us) vs x y p q e = absurd p
 same_values o (f ∷ fs) [] vs x y p q e = absurd p
-same_values o (f ∷ fs) (u ∷ us) [] x y p q e = absurd q
 same_values o (f ∷ fs) (u ∷ us) (v ∷ vs) x y p q e =
     let first = same_items o f.0 f.1 u v (flat_map (items_bytes o) us ++ x) (flat_map (items_bytes o) vs ++ y) p.0 q.0
     (sym (append_assoc (items_bytes o u) (flat_map (items_bytes o) us) x) ∙ e ∙ append_assoc (items_bytes o v) (flat_map (items_bytes o) vs) y) in
     let others = same_values o fs us vs x y p.1 q.1 first.1 in
     (cc (first.0, others.0), others.1)
+same_values o _ _ _ x y p q e = absurd q
 
 same_data : {A : Type 0} (o : Option (Defined A)) (v w : Values A) (x y : List ℕ) → IsSomeAnd o (DataFits v) → IsSomeAnd o (DataFits w)
     → data_bytes (unwrap_or (option_map (λ p. p.definition.order) o) Little) v ++ x
@@ -132,11 +115,10 @@ same_data (Some d) v w x y p q e =
 
 pub same_header : (l m : ℕ) (s t : Option ℕ) → DataHeaderFits l s → DataHeaderFits m t → data_header l s ≡ data_header m t → (l ≡ m) × (s ≡ t)
 same_header l m None None p q e = (e, refl)
-same_header l m None (Some t) p q e = absurd (omega arith)
-same_header l m (Some s) None p q e = absurd (omega arith)
 same_header l m (Some s) (Some t) p q e = (omega arith, ap Some (omega arith))
+same_header l m _ _ p q e = absurd (omega arith)
 
-header_fits : {A : Type 0} (o : Option (Defined A)) (v : Values A) → IsSomeAnd o (DataFits v) → DataHeaderFits v.local v.offset
+pub header_fits : {A : Type 0} (o : Option (Defined A)) (v : Values A) → IsSomeAnd o (DataFits v) → DataHeaderFits v.local v.offset
 header_fits None v p = absurd p
 header_fits (Some d) v p = p.header
 

@@ -1,31 +1,19 @@
 -- How many bytes a record has.
-use Rattle.std.proofs.Common.{◌≡◌, ℕ, suc, ◌*◌, List, [], ◌∷◌, ◌++◌, length, refl, arith, length-append, Some, None}
-use Rattle.std.specs.Prelude.{Option, flat_map, sum_by}
-use Rattle.std.proofs.lemmas.List.Sums.{sum_by-cons, sum_by-append}
-use Rattle.fit_base.specs.declared.items.Items.{Items}
-use Rattle.fit_base.specs.declared.number.Order.{Order}
-use Rattle.fit_base.specs.Numbers.{number_bytes}
-use Rattle.fit_base.specs.Fields.{items_bytes}
-use Rattle.fit_base.proofs.Bytes.{length-number_bytes}
-use Rattle.fit_base.proofs.ShapeTests.{length-items_bytes}
-use Rattle.fit_record.specs.declared.definition.FieldDef.{FieldDef}
-use Rattle.fit_record.specs.declared.definition.DevDef.{DevDef}
-use Rattle.fit_record.specs.declared.definition.MessageDef.{MessageDef}
+use Rattle.fit_record.proofs.Common.{◌≡◌, ℕ, suc, ◌*◌, List, [], ◌∷◌, ◌++◌, length, refl, arith, length-append, Some, None, flat_map, sum_by, sum_by-cons}
+use Rattle.fit_record.proofs.Common.{sum_by-append, Items, Order, number_bytes, items_bytes, length-number_bytes, length-items_bytes, FieldDef, DevDef}
+use Rattle.fit_record.proofs.Common.{MessageDef, Defined, architecture, field_bytes, dev_field_bytes, dev_part, definition_bytes, layout, dev_layout}
+use Rattle.fit_record.proofs.Common.{message_size, HaveShape, data_bytes, DataFits, dev_length, definition_length}
+use Rattle.std.specs.Prelude.{Option}
 use Rattle.fit_record.specs.declared.message.Values.{Values}
-use Rattle.fit_record.specs.declared.environment.Defined.{Defined}
-use Rattle.fit_record.specs.Records.{architecture, field_bytes, dev_field_bytes, dev_part, definition_bytes, layout, dev_layout, message_size, HaveShape}
-use Rattle.fit_record.specs.Records.{data_bytes, DataFits}
-use Rattle.fit_record.specs.inner.DefinitionLengths.{dev_length, definition_length}
+use Rattle.fit_record.proofs.EntryParts.{length-entries}
 
 -- ---- definition messages
 
 length-fields : (fs : List FieldDef) → length (flat_map field_bytes fs) ≡ 3 * length fs
-length-fields [] = refl
-length-fields (f ∷ fs) = omega (arith, length-fields fs)
+length-fields = length-entries (λ f. f.number) (λ f. f.size) (λ f. f.code)
 
 length-dev_fields : (fs : List DevDef) → length (flat_map dev_field_bytes fs) ≡ 3 * length fs
-length-dev_fields [] = refl
-length-dev_fields (f ∷ fs) = omega (arith, length-dev_fields fs)
+length-dev_fields = length-entries (λ f. f.number) (λ f. f.size) (λ f. f.index)
 
 length-dev_part : (fs : Option (List DevDef)) → length (dev_part fs) ≡ dev_length fs
 length-dev_part None = refl
@@ -49,8 +37,6 @@ length-definition d =
 length-items : {A : Type 0} (o : Order) (fs : List (ℕ × ℕ)) (is : List (Items A)) → HaveShape fs is
     → length (flat_map (items_bytes o) is) ≡ sum_by (λ f. f.1) fs
 length-items o [] [] h = refl
-length-items o [] (i ∷ is) h = absurd h
-length-items o (f ∷ fs) [] h = absurd h
 length-items o (f ∷ fs) (i ∷ is) h =
     omega (
       arith,
@@ -59,6 +45,7 @@ length-items o (f ∷ fs) (i ∷ is) h =
       length-items o fs is h.1,
       sum_by-cons (λ (f : ℕ × ℕ). f.1) f fs,
     )
+length-items o _ _ h = absurd h
 
 pub length-data : {A : Type 0} (o : Order) (v : Values A) (p : Defined A) → DataFits v p → length (data_bytes o v) ≡ message_size p
 length-data o v p h =

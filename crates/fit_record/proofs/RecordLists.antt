@@ -1,8 +1,6 @@
 -- Records behind records: they all fit, their bytes stand in a row, and what is known is what all of them teach.
-use Rattle.std.proofs.Common.{◌≡◌, List, [], ◌∷◌, ◌++◌, refl, sym, ap, ◌∙◌, append_assoc}
-use Rattle.fit_record.specs.declared.message.Record.{Record}
-use Rattle.fit_record.specs.Environment.{Environment, learn, learn_all}
-use Rattle.fit_record.specs.Records.{record_bytes, AllFit, records_bytes}
+use Rattle.fit_record.proofs.Common.{◌≡◌, List, [], ◌∷◌, ◌++◌, refl, sym, ap, ◌∙◌, append_assoc, Record, Environment, learn, learn_all, record_bytes, AllFit}
+use Rattle.fit_record.proofs.Common.{records_bytes}
 
 pub all_fit-append : {A : Type 0} (e : Environment A) (rs ss : List (Record A)) → AllFit e rs → AllFit (learn_all e rs) ss → AllFit e (rs ++ ss)
 all_fit-append e [] ss p q = q

@@ -1,12 +1,7 @@
 -- Worked rooms, and worked records that aren't whole.
-use Rattle.std.proofs.Common.{◌≡◌, ℕ, true, false, [], ◌∷◌, refl, None}
+use Rattle.fit_record.proofs.Common.{◌≡◌, ℕ, true, false, [], ◌∷◌, refl, None, Little, MessageDef, Define, Environment, empty_environment, learn, can_fill}
+use Rattle.fit_record.proofs.Common.{can_complete, can_complete_dev, can_carry}
 use Rattle.std.specs.Prelude.{map}
-use Rattle.fit_base.specs.declared.number.Order.TheVariants.{Little}
-use Rattle.fit_record.specs.declared.definition.MessageDef.{MessageDef}
-use Rattle.fit_record.specs.declared.message.Record.TheVariants.{Define}
-use Rattle.fit_record.specs.Environment.{Environment, empty_environment, learn}
-use Rattle.fit_record.specs.Rooms.{can_fill}
-use Rattle.fit_record.specs.Unfinished.{can_complete, can_complete_dev, can_carry}
 
 abbrev sized : ℕ → ℕ → MessageDef ℕ
 sized local size = record { local = local; reserved = 0; order = Little; global = 20; fields = record { number = 5; size = size; code = 2 } ∷ []; dev = None }

@@ -1,27 +1,17 @@
 -- Rooms as sums of lengths.
-use Rattle.std.proofs.Common.{◌≡◌, ℕ, zero, suc, ◌+◌, ◌<◌, ◌≤◌, ◌⊎◌, inl, inr, Bool, true, refl, lit<, arith}
-use Rattle.std.specs.Prelude.{◌&&◌, ◌||◌}
-use Rattle.std.proofs.lemmas.Bool.{or_cases, or_left, or_right, and_parts, and_from}
-use Rattle.fit_record.specs.Rooms.{fills}
+use Rattle.fit_record.proofs.Common.{◌≡◌, ℕ, zero, suc, ◌+◌, ◌<◌, ◌≤◌, ◌⊎◌, inl, inr, Bool, true, refl, lit<, arith, ◌&&◌, ◌||◌, or_cases, or_left, or_right}
+use Rattle.fit_record.proofs.Common.{and_parts, and_from, fills}
 
 module _ (has : ℕ → Bool) where
   pub fills_6 : (room : ℕ) → 6 ≤ room → fills has room ≡ true
-  fills_6 zero h = absurd (omega arith)
-  fills_6 (suc zero) h = absurd (omega arith)
-  fills_6 (suc (suc zero)) h = absurd (omega arith)
-  fills_6 (suc (suc (suc zero))) h = absurd (omega arith)
-  fills_6 (suc (suc (suc (suc zero)))) h = absurd (omega arith)
-  fills_6 (suc (suc (suc (suc (suc zero))))) h = absurd (omega arith)
   fills_6 (suc (suc (suc (suc (suc (suc room)))))) h = refl
+  fills_6 _ h = absurd (omega arith)
 
   pub fills_by_ones : has 1 ≡ true → (room : ℕ) → fills has room ≡ true
   fills_by_ones h zero = refl
   fills_by_ones h (suc zero) = h
-  fills_by_ones h (suc (suc zero)) = or_left (has 1) _ h
-  fills_by_ones h (suc (suc (suc zero))) = or_left (has 1) _ h
-  fills_by_ones h (suc (suc (suc (suc zero)))) = or_left (has 1) _ h
-  fills_by_ones h (suc (suc (suc (suc (suc zero))))) = or_left (has 1) _ h
   fills_by_ones h (suc (suc (suc (suc (suc (suc room)))))) = refl
+  fills_by_ones h _ = or_left (has 1) _ h
 
   by_three : has 2 ≡ true → (has 1 ≡ true) ⊎ (has 3 ≡ true) → fills has 5 ≡ true
   by_three h (inl k) = fills_by_ones k 5
@@ -38,27 +28,20 @@ module _ (has : ℕ → Bool) where
   fills_more (suc (suc zero)) (suc zero) p h k = fills_by_ones k 3
   fills_more (suc (suc zero)) (suc (suc zero)) p h k = or_right (has 1) _ (or_left (has 2) _ h)
   fills_more (suc (suc zero)) (suc (suc (suc zero))) p h k = by_three h (or_cases (has 1) (has 3) k)
-  fills_more (suc (suc zero)) (suc (suc (suc (suc room)))) p h k = fills_6 _ (omega arith)
   fills_more (suc (suc (suc zero))) zero p h k = or_right (has 1) _ h
   fills_more (suc (suc (suc zero))) (suc zero) p h k = fills_by_ones k 4
   fills_more (suc (suc (suc zero))) (suc (suc zero)) p h k = by_two h (or_cases (has 1) (has 2) k)
-  fills_more (suc (suc (suc zero))) (suc (suc (suc room))) p h k = fills_6 _ (omega arith)
   fills_more (suc (suc (suc (suc zero)))) zero p h k = or_right (has 1) _ (or_right (has 2) _ h)
   fills_more (suc (suc (suc (suc zero)))) (suc zero) p h k = fills_by_ones k 5
-  fills_more (suc (suc (suc (suc zero)))) (suc (suc room)) p h k = fills_6 _ (omega arith)
   fills_more (suc (suc (suc (suc (suc zero))))) zero p h k = or_right (has 1) _ (or_left (has 5) _ h)
-  fills_more (suc (suc (suc (suc (suc zero))))) (suc room) p h k = fills_6 _ (omega arith)
-  fills_more (suc (suc (suc (suc (suc (suc n)))))) room p h k = fills_6 _ (omega arith)
+  fills_more _ _ p h k = fills_6 _ (omega arith)
 
   pub fills_same : (other : ℕ → Bool) → other 1 ≡ has 1 → other 2 ≡ has 2 → other 3 ≡ has 3 → other 4 ≡ has 4 → other 5 ≡ has 5 → (room : ℕ)
       → fills other room ≡ fills has room
   fills_same other a b c d e zero = refl
   fills_same other a b c d e (suc zero) = a
-  fills_same other a b c d e (suc (suc zero)) = cc
-  fills_same other a b c d e (suc (suc (suc zero))) = cc
-  fills_same other a b c d e (suc (suc (suc (suc zero)))) = cc
-  fills_same other a b c d e (suc (suc (suc (suc (suc zero))))) = cc
   fills_same other a b c d e (suc (suc (suc (suc (suc (suc room)))))) = refl
+  fills_same other a b c d e _ = cc
 
   -- what holds of 0, and of the sum with each length, holds of each room below 6 that is filled
   module _ (P : ℕ → Type 0) (none : P 0) (one : (n room : ℕ) → 0 < n → has n ≡ true → P room → P (n + room)) where

@@ -1,9 +1,6 @@
 -- The room tests answer what they are for.
-use Rattle.std.proofs.Common.{◌≡◌, ℕ, ◌+◌, ◌<◌, ◌↔◌, IsTrue, Bool, length, sym, ap, ◌∙◌, subst}
-use Rattle.std.specs.Prelude.{if◌then◌else◌}
-use Rattle.fit_record.specs.Environment.{Environment}
-use Rattle.fit_record.specs.Records.{data_header}
-use Rattle.fit_record.specs.Unfinished.{CanComplete, can_complete, can_complete_dev, can_complete_front, CanCarry, can_carry}
+use Rattle.fit_record.proofs.Common.{◌≡◌, ℕ, ◌+◌, ◌<◌, ◌↔◌, IsTrue, Bool, length, sym, ap, ◌∙◌, subst, if◌then◌else◌, Environment, data_header, CanComplete}
+use Rattle.fit_record.proofs.Common.{can_complete, can_complete_dev, can_complete_front, CanCarry, can_carry}
 use Rattle.fit_record.specs.RoomAnswers.{AnswersFront, AnswersFields, AnswersDevNumber, AnswersDevFields, AnswersMessage}
 use Rattle.fit_record.proofs.DefinitionFronts.{front_can_complete}
 use Rattle.fit_record.proofs.DefinitionParts.{fields_can_complete, dev_can_complete, dev_fields_can_complete}

@@ -1,14 +1,9 @@
 -- The walks over the places of an environment, and the tests that are computed from them.
-use Rattle.std.proofs.Common.{◌≡◌, ℕ, ◌+◌, ◌-◌, ◌<◌, ◌≤◌, ◌≢◌, ◌⊎◌, inl, inr, Bool, true, false, List, length, take, get_or, sym, ap, ◌∙◌, subst, None}
-use Rattle.std.specs.Prelude.{Option, slice_set, ◌||◌, ◌&&◌, nat_le}
-use Rattle.std.proofs.lemmas.Bool.{cases_eq, or_from, and_right, and_left, lt-leb, le-leb}
-use Rattle.std.proofs.lemmas.List.Folds.{list_any_more, list_any_at}
-use Rattle.std.proofs.lemmas.List.{get_or-set_same, get_or-set_other}
-use Rattle.std.proofs.Math.ListN.{length-set}
-use Rattle.fit_record.specs.declared.environment.Defined.{Defined}
-use Rattle.fit_record.specs.Environment.{Environment}
-use Rattle.fit_record.specs.Rooms.{has_length_at, has_length, can_fill_from}
-use Rattle.fit_record.specs.Unfinished.{finishes, can_complete_dev}
+use Rattle.fit_record.proofs.Common.{refl, ◌≡◌, ℕ, ◌+◌, ◌-◌, ◌<◌, ◌≤◌, ◌≢◌, ◌⊎◌, inl, inr, Bool, true, false, List, length, take, get_or, sym, ap, ◌∙◌, subst}
+use Rattle.fit_record.proofs.Common.{None, slice_set, nat_le, cases_eq, or_from, and_right, and_left, lt-leb, le-leb, list_any_more, list_any_at}
+use Rattle.fit_record.proofs.Common.{get_or-set_other, length-set, Defined, Environment, has_length_at, has_length, can_fill_from, finishes, can_complete_dev}
+use Rattle.std.specs.Prelude.{Option}
+use Rattle.std.proofs.lemmas.List.{get_or-set_same}
 
 -- with the place of one local message type left out
 module _ {A : Type 0} (places : List (Option (Defined A))) (local n other : ℕ) (below : other < length places) where
@@ -44,7 +39,4 @@ module _ {A : Type 0} (e : Environment A) (local t size room : ℕ) (enough : t 
 
   pub with_one : (r : Bool) → 3 ≤ room - (t + 1) → r ≡ can_fill_from e local size (room - (t + 1) - 3) → r ≡ can_complete_dev e local t size room
   with_one r l h =
-      h ∙ sym (ap (λ b. b && (finishes e local t size (room - (t + 1)) || (nat_le 3 (room - (t + 1)) && can_fill_from e local size (room - (t + 1) - 3))))
-      (le-leb (t + 1) room enough)
-      ∙ ap (λ b. b || (nat_le 3 (room - (t + 1)) && can_fill_from e local size (room - (t + 1) - 3))) not_without
-      ∙ ap (λ b. b && can_fill_from e local size (room - (t + 1) - 3)) (le-leb 3 (room - (t + 1)) l))
+      h ∙ sym (rw (le-leb (t + 1) room enough, not_without, le-leb 3 (room - (t + 1)) l) refl)

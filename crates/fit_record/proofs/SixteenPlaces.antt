@@ -1,9 +1,6 @@
 -- Records leave an environment with as many places as it had.
-use Rattle.std.proofs.Common.{◌≡◌, List, [], ◌∷◌, length, refl, ap, ◌∙◌}
-use Rattle.std.proofs.Math.ListN.{length-set}
-use Rattle.fit_record.specs.declared.message.Record.{Record}
-use Rattle.fit_record.specs.declared.message.Record.TheVariants.{Define, Values as Data}
-use Rattle.fit_record.specs.Environment.{Environment, empty_environment, learn, learn_all}
+use Rattle.fit_record.proofs.Common.{◌≡◌, List, [], ◌∷◌, length, refl, ap, ◌∙◌, length-set, Record, Define, Data, Environment, empty_environment, learn}
+use Rattle.fit_record.proofs.Common.{learn_all}
 use Rattle.fit_record.specs.RoomLaws.{HaveSixteenPlaces}
 use Rattle.fit_record.proofs.FilledRooms.{same_places}
 

@@ -1,6 +1,8 @@
 pub mod Environment
 pub mod Sizes
 pub mod Records
+pub mod ReadMessages
+pub mod DefinitionLengths
 pub mod HeaderByte
 pub mod Files
 pub mod Faults

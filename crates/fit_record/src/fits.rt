@@ -3,7 +3,7 @@ ghost use Rattle.std.specs.Prelude.{◌≡◌, ℕ, ◌+◌, ◌<◌, ◌≤◌,
 ghost use Rattle.fit_record.specs.Records.{DefinitionFits, DataHeaderFits, HaveShape, layout, dev_layout, DataFits, body_length};
 ghost use Rattle.fit_record.specs.Environment.{defined_at, dev_defs};
 ghost use Rattle.fit_record.specs.Faults.{wrong_from, wrong_place, header_fault, body_fault, data_fault, definition_fault};
-ghost use Rattle.fit_record.specs.inner.DefinitionLengths.{definition_length};
+ghost use Rattle.fit_record.specs.DefinitionLengths.{definition_length};
 ghost use Rattle.fit_record.specs.Sound.{IsSound};
 
 use crate::environment::Defined;

@@ -7,8 +7,8 @@ use crate::{FieldDef, MessageDef, Values};
 use fit_base::Items;
 use std::alloc::Allocator;
 
-/// The global message number of field descriptions.
-const FIELD_DESCRIPTION: u16 = 206;
+/// The global message number of field descriptions ("Developer Fields").
+pub const FIELD_DESCRIPTION: u16 = 206;
 
 /// A developer field by its developer data index and its number.
 #[derive(Clone, Copy, Debug, PartialEq, Eq, PartialOrd, Ord)]

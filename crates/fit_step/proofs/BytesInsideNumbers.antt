@@ -1,18 +1,8 @@
 -- A byte that ends no number only moves on.
-use Rattle.std.proofs.Common.{◌≡◌, cond, false, ℕ, ◌+◌, ◌-◌, ◌<◌, List, [], ◌∷◌, ◌++◌, length, length-append, sym, ap, ◌∙◌, arith, Some, None, Ok}
-use Rattle.std.specs.Prelude.{Option, ◌==◌}
-use Rattle.std.proofs.lemmas.Bool.{cond-false, ne_eqb}
-use Rattle.fit_base.specs.Numbers.{number}
-use Rattle.fit_record.specs.declared.message.Record.{Record}
-use Rattle.fit_record.specs.declared.message.Record.TheVariants.{Values as Data}
-use Rattle.fit_record.specs.declared.message.Values.{Values}
-use Rattle.fit_record.specs.Environment.{Environment}
-use Rattle.fit_record.specs.Records.{order_at}
-use Rattle.fit_step.specs.declared.phase.Phase.{Phase}
-use Rattle.fit_step.specs.declared.phase.Phase.TheVariants.{FieldItems, DevItems}
-use Rattle.fit_step.specs.declared.position.Position.{Position}
-use Rattle.fit_step.specs.Machine.{Tests, add_number, reading, field_move, dev_move, values_of, step, step_at}
-use Rattle.fit_step.specs.Places.{state_at}
+use Rattle.fit_step.proofs.Common.{◌≡◌, cond, false, ℕ, ◌+◌, ◌-◌, ◌<◌, List, [], ◌∷◌, ◌++◌, length, length-append, sym, ap, ◌∙◌, arith, Some, None, Ok, Option}
+use Rattle.fit_step.proofs.Common.{cond-false, ne_eqb, number, Record, Data, Values, Environment, order_at, Phase, FieldItems, DevItems, Position, Tests}
+use Rattle.fit_step.proofs.Common.{add_number, reading, field_move, dev_move, values_of, step, step_at, state_at}
+use Rattle.std.specs.Prelude.{◌==◌}
 
 module _ {A : Type 0} (e : Environment A) (place width left room : ℕ) (v : Values A) (partial : List ℕ) (b : ℕ) (some : 1 < left)
     (short : length partial + 1 < width) where

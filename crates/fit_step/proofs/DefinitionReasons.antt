@@ -1,48 +1,23 @@
 -- The reason that belongs to a place in a definition.
-use Rattle.std.proofs.Common.{◌≡◌, ℕ, ◌+◌, ◌-◌, ◌*◌, ◌%◌, ◌<◌, true, false, List, ◌∷◌, ◌++◌, length, refl, arith, Some}
-use Rattle.std.specs.Prelude.{slice_index, ◌==◌, nat_lt}
-use Rattle.std.proofs.lemmas.Bool.{eq-eqb, ne_eqb, lt-ltb, le-ltb}
-use Rattle.fit_base.specs.declared.number.Order.{Order}
-use Rattle.fit_base.specs.declared.number.Order.TheVariants.{Little, Big}
-use Rattle.fit_base.specs.Numbers.{number_bytes}
-use Rattle.fit_frame.specs.declared.reason.Reason.TheVariants.{NoFit, Overrun}
-use Rattle.fit_step.specs.Reasons.{definition_reason, overrun_or_no_fit}
+use Rattle.fit_step.proofs.Common.{◌≡◌, ℕ, ◌+◌, ◌*◌, ◌<◌, List, ◌∷◌, ◌++◌, length, refl, arith, Some, Order, Little, Big, number_bytes, NoFit, Overrun}
+use Rattle.fit_step.proofs.Common.{definition_reason, overrun_or_no_fit, nat_tests}
+use Rattle.std.specs.Prelude.{slice_index}
 
 pub at_count : (h room b : ℕ) (bytes : List ℕ) → length bytes ≡ 4 → definition_reason h bytes room b ≡ Some Overrun
 at_count h room b bytes l = rw l refl
 
 -- the size of the field behind k whole ones
 pub at_size : (h room b n k : ℕ) (bytes : List ℕ) → slice_index bytes 4 ≡ n → length bytes ≡ 6 + 3 * k → k < n → definition_reason h bytes room b ≡ Some NoFit
-at_size h room b n k bytes i l less =
-    let one : (length bytes == 1) ≡ false = ne_eqb (length bytes) 1 (λ e. omega arith) in
-    let low : nat_lt (length bytes) 4 ≡ false = le-ltb (length bytes) 4 (omega arith) in
-    let four : (length bytes == 4) ≡ false = ne_eqb (length bytes) 4 (λ e. omega arith) in
-    let inside : nat_lt (length bytes) (5 + 3 * slice_index bytes 4) ≡ true = lt-ltb (length bytes) (5 + 3 * slice_index bytes 4) (omega arith) in
-    let size : ((length bytes - 5) % 3 == 1) ≡ true = eq-eqb ((length bytes - 5) % 3) 1 (omega arith) in
-    rw (one, low, four, inside, size) refl
+at_size h room b n k bytes i l less = grind (arith, nat_tests)
 
 pub at_dev_count : (h room b n : ℕ) (bytes : List ℕ) → slice_index bytes 4 ≡ n → length bytes ≡ 5 + 3 * n
     → definition_reason h bytes room b ≡ Some (overrun_or_no_fit (1 + 3 * b) room)
-at_dev_count h room b n bytes i l =
-    let one : (length bytes == 1) ≡ false = ne_eqb (length bytes) 1 (λ e. omega arith) in
-    let low : nat_lt (length bytes) 4 ≡ false = le-ltb (length bytes) 4 (omega arith) in
-    let four : (length bytes == 4) ≡ false = ne_eqb (length bytes) 4 (λ e. omega arith) in
-    let inside : nat_lt (length bytes) (5 + 3 * slice_index bytes 4) ≡ false = le-ltb (length bytes) (5 + 3 * slice_index bytes 4) (omega arith) in
-    let here : (length bytes == 5 + 3 * slice_index bytes 4) ≡ true = eq-eqb (length bytes) (5 + 3 * slice_index bytes 4) (omega arith) in
-    rw (one, low, four, inside, here) refl
+at_dev_count h room b n bytes i l = grind (arith, nat_tests)
 
 -- the size of the developer field behind k whole ones
 pub at_dev_size : (h room b n k : ℕ) (bytes : List ℕ) → slice_index bytes 4 ≡ n → length bytes ≡ 7 + 3 * n + 3 * k
     → definition_reason h bytes room b ≡ Some NoFit
-at_dev_size h room b n k bytes i l =
-    let one : (length bytes == 1) ≡ false = ne_eqb (length bytes) 1 (λ e. omega arith) in
-    let low : nat_lt (length bytes) 4 ≡ false = le-ltb (length bytes) 4 (omega arith) in
-    let four : (length bytes == 4) ≡ false = ne_eqb (length bytes) 4 (λ e. omega arith) in
-    let inside : nat_lt (length bytes) (5 + 3 * slice_index bytes 4) ≡ false = le-ltb (length bytes) (5 + 3 * slice_index bytes 4) (omega arith) in
-    let here : (length bytes == 5 + 3 * slice_index bytes 4) ≡ false = ne_eqb (length bytes) (5 + 3 * slice_index bytes 4) (λ e. omega arith) in
-    let size : ((length bytes - 1 - (5 + 3 * slice_index bytes 4)) % 3 == 1) ≡ true =
-    eq-eqb ((length bytes - 1 - (5 + 3 * slice_index bytes 4)) % 3) 1 (omega arith) in
-    rw (one, low, four, inside, here, size) refl
+at_dev_size h room b n k bytes i l = grind (arith, nat_tests)
 
 -- the number of fields stands at place 4
 pub count_at : (o : Order) (g x y n : ℕ) (more after : List ℕ) → slice_index (x ∷ y ∷ ((number_bytes o 2 g ++ n ∷ more) ++ after)) 4 ≡ n

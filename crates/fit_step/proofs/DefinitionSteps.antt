@@ -1,28 +1,16 @@
 -- The bytes of a definition message behind its record header.
-use Rattle.std.proofs.Common.{◌≡◌, inl, inr, ℕ, suc, ◌+◌, ◌-◌, ◌*◌, ◌^◌, ◌<◌, ◌≤◌, true, false, List, [], ◌∷◌, ◌++◌, length, refl, sym, ap, ◌∙◌, arith}
-use Rattle.std.proofs.Common.{append_assoc, length-append, Some, None, Ok}
-use Rattle.std.specs.Prelude.{Option, flat_map, option_map, unwrap_or, ◌==◌, nat_lt}
-use Rattle.std.proofs.lemmas.Bool.{cases_Bool, cases_eq, cases_lt, both_ways, cond_both, eq-eqb, ne_eqb, eqb-true, eqb-false, lt-ltb, le-ltb}
-use Rattle.std.proofs.lemmas.List.{append-nil, flat_map_more}
-use Rattle.fit_base.specs.Numbers.{number as number_of, number_bytes}
-use Rattle.fit_base.proofs.Bytes.{front_back, length-number_bytes}
-use Rattle.fit_base.proofs.ByteLists.{IsBytes-none, IsBytes-cons}
-use Rattle.fit_base.proofs.NumberLaws.{number_bytes-number, number-below}
-use Rattle.fit_frame.specs.declared.reason.Reason.TheVariants.{NoFit, Overrun, Architecture}
-use Rattle.fit_record.specs.declared.definition.FieldDef.{FieldDef}
-use Rattle.fit_record.specs.declared.definition.DevDef.{DevDef}
-use Rattle.fit_record.specs.declared.definition.MessageDef.{MessageDef}
-use Rattle.fit_record.specs.declared.message.Record.TheVariants.{Define, Values as Data}
-use Rattle.fit_step.specs.declared.phase.DefinitionPhase.{DefinitionPhase}
-use Rattle.fit_step.specs.declared.phase.DefinitionPhase.TheVariants.{Reserved, Architecture as AtArchitecture, GlobalFirst, GlobalSecond, FieldCount}
-use Rattle.fit_step.specs.declared.phase.DefinitionPhase.TheVariants.{FieldNumber, FieldSize, FieldCode, DevCount, DevNumber, DevSize, DevIndex}
-use Rattle.fit_record.specs.Environment.{Environment, dev_defs}
-use Rattle.fit_record.specs.HeaderByte.{is_definition}
-use Rattle.fit_record.specs.Records.{architecture, field_bytes, dev_field_bytes, dev_part, definition_header, definition_bytes, DefinitionFits}
-use Rattle.fit_step.specs.Machine.{Tests, Step, step, definition_move, next_field, next_dev, after_fields, dev_count_byte}
-use Rattle.fit_step.specs.Parts.{in_definition, definition_front, fields_front, dev_front, definition_part, HasNone, IsNew, AwaitsFields, AwaitsDev}
-use Rattle.fit_step.specs.Parts.{IsDefinitionPart, IsShut}
-use Rattle.fit_record.proofs.OneRecord.{same_fields}
+use Rattle.fit_step.proofs.Common.{◌≡◌, inl, inr, ℕ, suc, ◌+◌, ◌-◌, ◌*◌, ◌^◌, ◌<◌, true, false, List, [], ◌∷◌, ◌++◌, length, refl, sym, ap, ◌∙◌, arith}
+use Rattle.fit_step.proofs.Common.{append_assoc, length-append, Some, None, Ok, Err, Option, flat_map, option_map, unwrap_or, nat_lt, cases_Bool, cases_eq}
+use Rattle.fit_step.proofs.Common.{cases_lt, both_ways, cond_both, eq-eqb, ne_eqb, eqb-true, eqb-false, lt-ltb, le-ltb, append-nil, flat_map_more, Order}
+use Rattle.fit_step.proofs.Common.{Little, Big, number_of, number_bytes, front_back, length-number_bytes, IsBytes-none, IsBytes-cons, number_bytes-number}
+use Rattle.fit_step.proofs.Common.{number-below, Reason, record_reason, NoFit, Overrun, Architecture, FieldDef, DevDef, MessageDef, Define, Data}
+use Rattle.fit_step.proofs.Common.{DefinitionPhase, Reserved, AtArchitecture, GlobalFirst, GlobalSecond, FieldCount, FieldNumber, FieldSize, FieldCode}
+use Rattle.fit_step.proofs.Common.{DevCount, DevNumber, DevSize, DevIndex, Environment, dev_defs, is_definition, architecture, field_bytes, dev_field_bytes}
+use Rattle.fit_step.proofs.Common.{dev_part, definition_header, definition_bytes, DefinitionFits, Tests, Step, defining, step, definition_move, next_field}
+use Rattle.fit_step.proofs.Common.{next_dev, after_fields, dev_count_byte, in_definition, definition_front, fields_front, dev_front, definition_part, HasNone}
+use Rattle.fit_step.proofs.Common.{IsNew, AwaitsFields, AwaitsDev, IsDefinitionPart, IsShut, same_fields}
+use Rattle.std.proofs.Common.{◌≤◌}
+use Rattle.std.specs.Prelude.{◌==◌}
 use Rattle.fit_step.proofs.Lengths.{dev_size_of, length-field_bytes, length-dev_field_bytes, length-dev_part, length-fields_front}
 use Rattle.fit_step.proofs.HeaderBits.{definition_bits, is_some_dev}
 use Rattle.fit_step.proofs.HeaderSteps.{message_first}
@@ -101,9 +89,9 @@ dev_go e room left d bytes w s =
 
 -- ---- where it is refused
 
-architecture_at : (o : Rattle.fit_base.specs.declared.number.Order.Order) (b : ℕ) → architecture o ≡ b → (b ≡ 0 → ⊥) → (b ≡ 1 → ⊥) → ⊥
-architecture_at Rattle.fit_base.specs.declared.number.Order.TheVariants.Little b h z o = z (sym h)
-architecture_at Rattle.fit_base.specs.declared.number.Order.TheVariants.Big b h z o = o (sym h)
+architecture_at : (o : Order) (b : ℕ) → architecture o ≡ b → (b ≡ 0 → ⊥) → (b ≡ 1 → ⊥) → ⊥
+architecture_at Little b h z o = z (sym h)
+architecture_at Big b h z o = o (sym h)
 
 architecture_shut : {A : Type 0} (e : Environment A) (room b : ℕ) (d : MessageDef A) → d.local < 16 → (b ≡ 0 → ⊥) → (b ≡ 1 → ⊥)
     → IsShut e room (definition_part AtArchitecture d) b Architecture
@@ -131,10 +119,9 @@ same_front c d more f l s =
     (sym one.with_dev ∙ other.with_dev, rest.1)
 
 counted : (a b : Option (List DevDef)) → is_some_dev a ≡ is_some_dev b → dev_count_byte b ≤ dev_size_of a
-counted None None h = omega arith
 counted None (Some _) h = absurd cc
 counted (Some _) None h = omega arith
-counted (Some _) (Some _) h = omega arith
+counted a b h = omega arith
 
 field_count_shut : {A : Type 0} (e : Environment A) (room b : ℕ) (d : MessageDef A) → d.local < 16 → room < 1 + 3 * b + dev_count_byte d.dev
     → IsShut e room (definition_front d) b Overrun
@@ -179,307 +166,189 @@ dev_count_shut e room b d l less (Data v) rest f s =
 
 -- ---- each place
 
--- the definition goes on behind b
-abbrev Onward : {A : Type 0} → Environment A → Tests A → ℕ → DefinitionPhase → MessageDef A → ℕ → Type 0
-Onward e tests room k d b = Moves e (room - 1) (definition_part k d ++ b ∷ []) (definition_move tests k room d b)
-
-abbrev At : {A : Type 0} → Environment A → Tests A → ℕ → DefinitionPhase → MessageDef A → ℕ → Type 0
-At e tests room k d b = Outcome e room (definition_part k d) b (definition_move tests k room d b)
-
-pub reserved_on : {A : Type 0} (e : Environment A) (tests : Tests A) (room : ℕ) (d : MessageDef A) (b : ℕ) → IsNew d → Onward e tests room Reserved d b
-unfolding definition_move
-reserved_on e tests room d b h =
-    inl (record {
-      next = in_definition AtArchitecture (record d { reserved = b });
-      stands =
-          record { local = h.local; global = h.global; fields = h.fields; dev = h.dev };
-      begun = tt;
-      spelled = refl;
-      is = refl;
-    })
-
-pub little_on : {A : Type 0} (e : Environment A) (tests : Tests A) (room : ℕ) (d : MessageDef A) (b : ℕ) → IsNew d → b ≡ 0
-    → Onward e tests room AtArchitecture d b
-unfolding definition_move
-little_on e tests room d b h is =
-    let zero_ : (b == 0) ≡ true = eq-eqb b 0 is in
-    rw zero_ (inl (record {
-      next = in_definition GlobalFirst (record d { order = Rattle.fit_base.specs.declared.number.Order.TheVariants.Little });
-      stands = record { local = h.local; global = h.global; fields = h.fields; dev = h.dev };
-      begun = tt;
-      spelled = ap (λ n. definition_header d ∷ d.reserved ∷ n ∷ []) (sym is);
-      is = refl;
-    }))
-
-architecture_outcome : {A : Type 0} (e : Environment A) (tests : Tests A) (room : ℕ) (d : MessageDef A) (b : ℕ) → IsNew d → At e tests room AtArchitecture d b
-unfolding definition_move little_on
-architecture_outcome e tests room d b h =
-    elim (cases_eq b 0) [
-      | inl zero_ ↦ inl (little_on e tests room d b h zero_)
-      | inr some ↦
-          let not_zero : (b == 0) ≡ false = ne_eqb b 0 some in
-          elim (cases_eq b 1) [
-            | inl is ↦
-                let one : (b == 1) ≡ true = eq-eqb b 1 is in
-                rw (not_zero, one) (inl (inl (record {
-                  next = in_definition GlobalFirst (record d { order = Rattle.fit_base.specs.declared.number.Order.TheVariants.Big });
-                  stands = record { local = h.local; global = h.global; fields = h.fields; dev = h.dev };
-                  begun = tt;
-                  spelled = ap (λ n. definition_header d ∷ d.reserved ∷ n ∷ []) (sym is);
-                  is = refl;
-                })))
-            | inr other ↦
-                let not_one : (b == 1) ≡ false = ne_eqb b 1 other in
-                inr (record {
-                  reason = Architecture;
-                  is = rw (not_zero, not_one) refl;
-                  because = rw (is_a_definition d h.local) refl;
-                  shut = architecture_shut e room b d h.local some other;
-                })
-          ]
-    ]
-
-pub global_first_on : {A : Type 0} (e : Environment A) (tests : Tests A) (room : ℕ) (d : MessageDef A) (b : ℕ) → IsNew d → b < 256
-    → Onward e tests room GlobalFirst d b
-unfolding definition_move
-global_first_on e tests room d b h low =
-    inl (record { next = in_definition (GlobalSecond b) d; stands = (h, low); begun = tt; spelled = refl; is = refl })
-
-pub global_second_on : {A : Type 0} (e : Environment A) (tests : Tests A) (room : ℕ) (first : ℕ) (d : MessageDef A) (b : ℕ) → IsNew d → first < 256 → b < 256
-    → Onward e tests room (GlobalSecond first) d b
-unfolding definition_move
-global_second_on e tests room first d b h low below =
-    let bytes = IsBytes-cons first (b ∷ []) low (IsBytes-cons b [] below IsBytes-none) in
-    inl (record {
-      next = in_definition FieldCount (record d { global = number_of d.order (first ∷ b ∷ []) });
-      stands = record { local = h.local; global = number-below d.order (first ∷ b ∷ []) bytes; fields = h.fields; dev = h.dev };
-      begun = tt;
-      spelled = ap (λ z. definition_header d ∷ d.reserved ∷ architecture d.order ∷ z) (number_bytes-number d.order (first ∷ b ∷ []) bytes);
-      is = refl;
-    })
-
-pub field_count_on : {A : Type 0} (e : Environment A) (tests : Tests A) (room : ℕ) (d : MessageDef A) (b : ℕ) → IsNew d → b < 256
-    → 1 + 3 * b + dev_count_byte d.dev ≤ room → Onward e tests room FieldCount d b
-unfolding definition_move
-field_count_on e tests room d b h low fits =
-    let short : nat_lt room (1 + 3 * b + dev_count_byte d.dev) ≡ false = le-ltb room (1 + 3 * b + dev_count_byte d.dev) fits in
-    let none : length d.fields ≡ 0 = ap length h.fields in
-    let count : length d.fields + b ≡ b = omega arith in
-    rw short (fields_go e (room - 1) b d _ h.dev h.local h.global (omega arith)
-    (ap (λ z. definition_front d ++ (length d.fields + b) ∷ flat_map field_bytes z) h.fields ∙ ap (λ n. definition_front d ++ n ∷ []) count))
-
-field_count_outcome : {A : Type 0} (e : Environment A) (tests : Tests A) (room : ℕ) (d : MessageDef A) (b : ℕ) → IsNew d → b < 256
-    → At e tests room FieldCount d b
-unfolding definition_move field_count_on
-field_count_outcome e tests room d b h low =
-    elim (cases_lt room (1 + 3 * b + dev_count_byte d.dev)) [
-      | inr fits ↦ inl (field_count_on e tests room d b h low fits)
-      | inl less ↦
-          let long : nat_lt room (1 + 3 * b + dev_count_byte d.dev) ≡ true = lt-ltb room (1 + 3 * b + dev_count_byte d.dev) less in
-          inr (record {
-            reason = Overrun;
-            is = rw long refl;
-            because = rw (is_a_definition d h.local)
-                (at_count (definition_header d) room b (d.reserved ∷ architecture d.order ∷ number_bytes d.order 2 d.global)
-                (ap (λ n. suc (suc n)) (length-number_bytes d.order 2 d.global)));
-            shut = field_count_shut e room b d h.local less;
-          })
-    ]
-
-pub field_number_on : {A : Type 0} (e : Environment A) (tests : Tests A) (room left : ℕ) (d : MessageDef A) (b : ℕ) → AwaitsFields d left
-    → Onward e tests room (FieldNumber left) d b
-unfolding definition_move
-field_number_on e tests room left d b h =
-    inl (record { next = in_definition (FieldSize left b) d; stands = h; begun = tt; spelled = refl; is = refl })
-
-pub field_size_on : {A : Type 0} (e : Environment A) (tests : Tests A) (room left number : ℕ) (d : MessageDef A) (b : ℕ) → AwaitsFields d left
-    → tests.field_size d (left - 1) (room - 1) b ≡ true → Onward e tests room (FieldSize left number) d b
-unfolding definition_move
-field_size_on e tests room left number d b h fills =
-    rw fills (inl (record {
-      next = in_definition (FieldCode left number b) d;
-      stands = h;
-      begun = tt;
-      spelled = sym (append_assoc (fields_front d (length d.fields + left)) (number ∷ []) (b ∷ []));
-      is = refl;
-    }))
-
-field_size_outcome : {A : Type 0} (e : Environment A) (tests : Tests A) (room left number : ℕ) (d : MessageDef A) (b : ℕ) → AwaitsFields d left
-    → At e tests room (FieldSize left number) d b
-unfolding definition_move field_size_on
-field_size_outcome e tests room left number d b h =
-    elim (cases_Bool (tests.field_size d (left - 1) (room - 1) b)) [
-      | inl fills ↦ inl (field_size_on e tests room left number d b h fills)
-      | inr no_fit ↦
-          let n : ℕ = length d.fields + left in
-          let place : length (definition_part (FieldSize left number) d) ≡ 7 + 3 * length d.fields =
-          omega (arith, length-append (fields_front d n) (number ∷ []), length-fields_front d n) in
-          let some = h.some in
-          inr (record {
-            reason = NoFit;
-            is = rw no_fit refl;
-            because = rw (is_a_definition d h.local)
-                (at_size (definition_header d) room b n (length d.fields)
-                (d.reserved ∷ architecture d.order ∷ ((number_bytes d.order 2 d.global ++ n ∷ flat_map field_bytes d.fields) ++ number ∷ []))
-                (count_at d.order d.global d.reserved (architecture d.order) n (flat_map field_bytes d.fields) (number ∷ [])) (omega (arith, place))
-                (omega arith));
-            shut = tt;
-          })
-    ]
-
 regroup_entry : (f y : List ℕ) (n p q b : ℕ) → f ++ (n ∷ (y ++ p ∷ q ∷ b ∷ [])) ≡ ((f ++ n ∷ y) ++ p ∷ q ∷ []) ++ b ∷ []
 regroup_entry f y n p q b = simp append_assoc
 
-pub field_code_on : {A : Type 0} (e : Environment A) (tests : Tests A) (room left number size : ℕ) (d : MessageDef A) (b : ℕ) → AwaitsFields d left
-    → Onward e tests room (FieldCode left number size) d b
-unfolding definition_move
-field_code_on {A} e tests room left number size d b h =
-    let f : FieldDef = record { number = number; size = size; code = b } in
-    let c : MessageDef A = record d { fields = d.fields ++ f ∷ [] } in
-    let some = h.some in
-    let few = h.few in
-    let longer : length (d.fields ++ f ∷ []) ≡ length d.fields + 1 = length-append d.fields (f ∷ []) in
-    let count : length c.fields + (left - 1) ≡ length d.fields + left = omega (arith, longer) in
-    let entries : flat_map field_bytes c.fields ≡ flat_map field_bytes d.fields ++ number ∷ size ∷ b ∷ [] = sym (flat_map_more field_bytes [] d.fields f) in
-    fields_go e (room - 1) (left - 1) c _ h.dev h.local h.global (omega (arith, longer))
-    (ap (λ n. definition_front d ++ n ∷ flat_map field_bytes c.fields) count
-    ∙ ap (λ z. definition_front d ++ (length d.fields + left) ∷ z) entries
-    ∙ regroup_entry (definition_front d) (flat_map field_bytes d.fields) (length d.fields + left) number size b)
+module _ {A : Type 0} (e : Environment A) (tests : Tests A) (room : ℕ) (d : MessageDef A) (b : ℕ) where
+  abbrev At : DefinitionPhase → Type 0
+  At k = Outcome e room (definition_part k d) b (definition_move tests k room d b)
 
--- ---- developer fields
+  goes_to : {bytes : List ℕ} {made : Step A} (k : DefinitionPhase) (c : MessageDef A) → IsDefinitionPart k c → definition_part k c ≡ bytes ++ b ∷ []
+      → made ≡ Ok (defining k (room - 1) c, None) → Outcome e room bytes b made
+  goes_to k c h s is = inl (inl (record { next = in_definition k c; stands = h; begun = tt; spelled = s; is = is }))
 
-pub dev_count_on : {A : Type 0} (e : Environment A) (tests : Tests A) (room : ℕ) (d : MessageDef A) (b : ℕ) → AwaitsDev d 0 → d.dev ≡ Some [] → b < 256
-    → 1 + 3 * b ≤ room → tests.dev_count d (room - 1) b ≡ true → Onward e tests room DevCount d b
-unfolding definition_move
-dev_count_on e tests room d b h none low fits fills =
-    let short : nat_lt room (1 + 3 * b) ≡ false = le-ltb room (1 + 3 * b) fits in
-    let same : dev_defs d.dev ≡ [] = ap dev_defs none in
-    let count : length (dev_defs d.dev) + b ≡ b = omega (arith, ap length same) in
-    rw (short, fills) (dev_go e (room - 1) b d _ (record { local = h.local; global = h.global; fields = h.fields; defs = []; dev = none; few = omega arith })
-    (ap (λ z. fields_front d (length d.fields) ++ (length (dev_defs d.dev) + b) ∷ flat_map dev_field_bytes z) same
-    ∙ ap (λ n. fields_front d (length d.fields) ++ n ∷ []) count))
+  stops_at : {bytes : List ℕ} {made : Step A} (reason : Reason) → made ≡ Err reason → record_reason e bytes room b ≡ Some reason
+      → IsShut e room bytes b reason → Outcome e room bytes b made
+  stops_at reason is because shut = inr (record { reason = reason; is = is; because = because; shut = shut })
 
-dev_count_outcome : {A : Type 0} (e : Environment A) (tests : Tests A) (room : ℕ) (d : MessageDef A) (b : ℕ) → AwaitsDev d 0 → d.dev ≡ Some [] → b < 256
-    → At e tests room DevCount d b
-unfolding definition_move dev_count_on
-dev_count_outcome e tests room d b h none low =
-    let place : length (fields_front d (length d.fields)) ≡ 6 + 3 * length d.fields = length-fields_front d (length d.fields) in
-    let because = at_dev_count (definition_header d) room b (length d.fields)
-    (d.reserved ∷ architecture d.order ∷ (number_bytes d.order 2 d.global ++ length d.fields ∷ flat_map field_bytes d.fields))
-    (count_before d.order d.global d.reserved (architecture d.order) (length d.fields) (flat_map field_bytes d.fields)) (omega (arith, place)) in
-    elim (cases_lt room (1 + 3 * b)) [
-      | inl less ↦
-          let long : nat_lt room (1 + 3 * b) ≡ true = lt-ltb room (1 + 3 * b) less in
-          inr (record {
-            reason = Overrun;
-            is = rw long refl;
-            because = rw (is_a_definition d h.local) (because ∙ rw long refl);
-            shut = dev_count_shut e room b d h.local less;
-          })
-      | inr fits ↦ elim (cases_Bool (tests.dev_count d (room - 1) b)) [
-        | inl fills ↦ inl (dev_count_on e tests room d b h none low fits fills)
-        | inr no_fit ↦
-            let short : nat_lt room (1 + 3 * b) ≡ false = le-ltb room (1 + 3 * b) fits in
-            inr (record {
-              reason = NoFit;
-              is = rw (short, no_fit) refl;
-              because = rw (is_a_definition d h.local) (because ∙ rw short refl);
-              shut = tt;
-            })
+  -- ---- up to the fields
+
+  architecture_outcome : IsNew d → At AtArchitecture
+  unfolding definition_move
+  architecture_outcome h =
+      elim (cases_eq b 0) [
+        | inl is ↦
+            let zero_ : (b == 0) ≡ true = eq-eqb b 0 is in
+            goes_to GlobalFirst (record d { order = Little }) (record { local = h.local; global = h.global; fields = h.fields; dev = h.dev })
+            (ap (λ n. definition_header d ∷ d.reserved ∷ n ∷ []) (sym is)) (rw zero_ refl)
+        | inr some ↦
+            let not_zero : (b == 0) ≡ false = ne_eqb b 0 some in
+            elim (cases_eq b 1) [
+              | inl is ↦
+                  let one : (b == 1) ≡ true = eq-eqb b 1 is in
+                  goes_to GlobalFirst (record d { order = Big }) (record { local = h.local; global = h.global; fields = h.fields; dev = h.dev })
+                  (ap (λ n. definition_header d ∷ d.reserved ∷ n ∷ []) (sym is)) (rw (not_zero, one) refl)
+              | inr other ↦
+                  let not_one : (b == 1) ≡ false = ne_eqb b 1 other in
+                  stops_at Architecture (rw (not_zero, not_one) refl) (rw (is_a_definition d h.local) refl)
+                  (architecture_shut e room b d h.local some other)
+            ]
       ]
-    ]
 
-pub dev_number_on : {A : Type 0} (e : Environment A) (tests : Tests A) (room left : ℕ) (d : MessageDef A) (b : ℕ) → AwaitsDev d left → 0 < left
-    → Onward e tests room (DevNumber left) d b
-unfolding definition_move
-dev_number_on e tests room left d b h some =
-    inl (record { next = in_definition (DevSize left b) d; stands = (h, some); begun = tt; spelled = refl; is = refl })
+  field_count_outcome : IsNew d → b < 256 → At FieldCount
+  unfolding definition_move
+  field_count_outcome h low =
+      let least : ℕ = 1 + 3 * b + dev_count_byte d.dev in
+      elim (cases_lt room least) [
+        | inr fits ↦
+            let short : nat_lt room least ≡ false = le-ltb room least fits in
+            let count : length d.fields + b ≡ b = omega (arith, ap length h.fields) in
+            rw short (inl (fields_go e (room - 1) b d _ h.dev h.local h.global (omega (arith, count))
+            (ap (λ z. definition_front d ++ (length d.fields + b) ∷ flat_map field_bytes z) h.fields ∙ ap (λ n. definition_front d ++ n ∷ []) count)))
+        | inl less ↦
+            let long : nat_lt room least ≡ true = lt-ltb room least less in
+            stops_at Overrun (rw long refl)
+            (rw (is_a_definition d h.local) (at_count (definition_header d) room b (d.reserved ∷ architecture d.order ∷ number_bytes d.order 2 d.global)
+            (ap (λ n. suc (suc n)) (length-number_bytes d.order 2 d.global))))
+            (field_count_shut e room b d h.local less)
+      ]
 
-pub dev_size_on : {A : Type 0} (e : Environment A) (tests : Tests A) (room left number : ℕ) (d : MessageDef A) (b : ℕ) → AwaitsDev d left → 0 < left
-    → tests.dev_size d (left - 1) (room - 1) b ≡ true → Onward e tests room (DevSize left number) d b
-unfolding definition_move
-dev_size_on e tests room left number d b h some fills =
-    rw fills (inl (record {
-      next = in_definition (DevIndex left number b) d;
-      stands = (h, some);
-      begun = tt;
-      spelled = sym (append_assoc (dev_front d (length (dev_defs d.dev) + left)) (number ∷ []) (b ∷ []));
-      is = refl;
-    }))
+  -- ---- fields
 
-dev_size_outcome : {A : Type 0} (e : Environment A) (tests : Tests A) (room left number : ℕ) (d : MessageDef A) (b : ℕ) → AwaitsDev d left → 0 < left
-    → At e tests room (DevSize left number) d b
-unfolding definition_move dev_size_on
-dev_size_outcome e tests room left number d b h some =
-    elim (cases_Bool (tests.dev_size d (left - 1) (room - 1) b)) [
-      | inl fills ↦ inl (dev_size_on e tests room left number d b h some fills)
-      | inr no_fit ↦
-          let n : ℕ = length d.fields in
-          let m : ℕ = length (dev_defs d.dev) + left in
-          let entries : List ℕ = m ∷ flat_map dev_field_bytes (dev_defs d.dev) in
-          let place : length (definition_part (DevSize left number) d) ≡ 8 + 3 * n + 3 * length (dev_defs d.dev) =
-          omega (
-            arith,
-            length-append (dev_front d m) (number ∷ []),
-            length-append (fields_front d n) entries,
-            length-fields_front d n,
-            length-dev_field_bytes (dev_defs d.dev),
-          ) in
-          inr (record {
-            reason = NoFit;
-            is = rw no_fit refl;
-            because = rw (is_a_definition d h.local)
-                (at_dev_size (definition_header d) room b n (length (dev_defs d.dev))
-                (d.reserved ∷ architecture d.order ∷ (((number_bytes d.order 2 d.global ++ n ∷ flat_map field_bytes d.fields) ++ entries) ++ number ∷ []))
-                (count_in_dev d.order d.global d.reserved (architecture d.order) n (flat_map field_bytes d.fields) entries (number ∷ []))
-                (omega (arith, place)));
-            shut = tt;
-          })
-    ]
+  field_size_outcome : (left number : ℕ) → AwaitsFields d left → At (FieldSize left number)
+  unfolding definition_move
+  field_size_outcome left number h =
+      let n : ℕ = length d.fields + left in
+      elim (cases_Bool (tests.field_size d (left - 1) (room - 1) b)) [
+        | inl fills ↦ goes_to (FieldCode left number b) d h (sym (append_assoc (fields_front d n) (number ∷ []) (b ∷ []))) (rw fills refl)
+        | inr no_fit ↦
+            let place : length (definition_part (FieldSize left number) d) ≡ 7 + 3 * length d.fields =
+            omega (arith, length-append (fields_front d n) (number ∷ []), length-fields_front d n) in
+            let some = h.some in
+            stops_at NoFit (rw no_fit refl)
+            (rw (is_a_definition d h.local) (at_size (definition_header d) room b n (length d.fields)
+            (d.reserved ∷ architecture d.order ∷ ((number_bytes d.order 2 d.global ++ n ∷ flat_map field_bytes d.fields) ++ number ∷ []))
+            (count_at d.order d.global d.reserved (architecture d.order) n (flat_map field_bytes d.fields) (number ∷ [])) (omega (arith, place)) (omega arith)))
+            tt
+      ]
 
-pub dev_index_on : {A : Type 0} (e : Environment A) (tests : Tests A) (room left number size : ℕ) (d : MessageDef A) (b : ℕ) → AwaitsDev d left → 0 < left
-    → Onward e tests room (DevIndex left number size) d b
-unfolding definition_move
-dev_index_on {A} e tests room left number size d b h some =
-    let f : DevDef = record { number = number; size = size; index = b } in
-    let old : List DevDef = dev_defs d.dev in
-    let c : MessageDef A = record d { dev = Some (old ++ f ∷ []) } in
-    let few = h.few in
-    let same : old ≡ h.defs = ap dev_defs h.dev in
-    let longer : length (old ++ f ∷ []) ≡ length old + 1 = length-append old (f ∷ []) in
-    let count : length (old ++ f ∷ []) + (left - 1) ≡ length old + left = omega (arith, longer) in
-    let header : definition_header c ≡ definition_header d =
-    ap (λ (o : Option (List DevDef)). 0x40 + d.local + unwrap_or (option_map (λ _. 0x20) o) 0) (sym h.dev) in
-    let entries : flat_map dev_field_bytes (old ++ f ∷ []) ≡ flat_map dev_field_bytes old ++ number ∷ size ∷ b ∷ [] =
-    sym (flat_map_more dev_field_bytes [] old f) in
-    dev_go e (room - 1) (left - 1) c _
-    (record { local = h.local; global = h.global; fields = h.fields; defs = old ++ f ∷ []; dev = refl; few = omega (arith, longer, ap length same) })
-    (ap (λ z. ((z ∷ d.reserved ∷ architecture d.order ∷ number_bytes d.order 2 d.global) ++ length d.fields ∷ flat_map field_bytes d.fields)
-    ++ (length (old ++ f ∷ []) + (left - 1)) ∷ flat_map dev_field_bytes (old ++ f ∷ [])) header
-    ∙ ap (λ n. fields_front d (length d.fields) ++ n ∷ flat_map dev_field_bytes (old ++ f ∷ [])) count
-    ∙ ap (λ z. fields_front d (length d.fields) ++ (length old + left) ∷ z) entries
-    ∙ regroup_entry (fields_front d (length d.fields)) (flat_map dev_field_bytes old) (length old + left) number size b)
+  field_code_on : (left number size : ℕ) → AwaitsFields d left
+      → Moves e (room - 1) (definition_part (FieldCode left number size) d ++ b ∷ []) (definition_move tests (FieldCode left number size) room d b)
+  unfolding definition_move
+  field_code_on left number size h =
+      let f : FieldDef = record { number = number; size = size; code = b } in
+      let c : MessageDef A = record d { fields = d.fields ++ f ∷ [] } in
+      let some = h.some in
+      let few = h.few in
+      let longer : length (d.fields ++ f ∷ []) ≡ length d.fields + 1 = length-append d.fields (f ∷ []) in
+      let count : length c.fields + (left - 1) ≡ length d.fields + left = omega (arith, longer) in
+      fields_go e (room - 1) (left - 1) c _ h.dev h.local h.global (omega (arith, longer))
+      ((λ i. definition_front d ++ count i ∷ sym (flat_map_more field_bytes [] d.fields f) i)
+      ∙ regroup_entry (definition_front d) (flat_map field_bytes d.fields) (length d.fields + left) number size b)
 
--- ---- all of them
+  -- ---- developer fields
 
-definition_at : {A : Type 0} (e : Environment A) (tests : Tests A) (room : ℕ) (k : DefinitionPhase) (d : MessageDef A) (b : ℕ) → IsDefinitionPart k d → b < 256
-    → At e tests room k d b
-unfolding reserved_on global_first_on global_second_on field_number_on field_code_on dev_number_on dev_index_on
-definition_at e tests room Reserved d b h low = inl (reserved_on e tests room d b h)
-definition_at e tests room AtArchitecture d b h low = architecture_outcome e tests room d b h
-definition_at e tests room GlobalFirst d b h low = inl (global_first_on e tests room d b h low)
-definition_at e tests room (GlobalSecond first) d b h low = inl (global_second_on e tests room first d b h.0 h.1 low)
-definition_at e tests room FieldCount d b h low = field_count_outcome e tests room d b h low
-definition_at e tests room (FieldNumber left) d b h low = inl (field_number_on e tests room left d b h)
-definition_at e tests room (FieldSize left number) d b h low = field_size_outcome e tests room left number d b h
-definition_at e tests room (FieldCode left number size) d b h low = inl (field_code_on e tests room left number size d b h)
-definition_at e tests room DevCount d b h low = dev_count_outcome e tests room d b h.0 h.1 low
-definition_at e tests room (DevNumber left) d b h low = inl (dev_number_on e tests room left d b h.0 h.1)
-definition_at e tests room (DevSize left number) d b h low = dev_size_outcome e tests room left number d b h.0 h.1
-definition_at e tests room (DevIndex left number size) d b h low = inl (dev_index_on e tests room left number size d b h.0 h.1)
+  dev_count_outcome : AwaitsDev d 0 → d.dev ≡ Some [] → b < 256 → At DevCount
+  unfolding definition_move
+  dev_count_outcome h none low =
+      let because = at_dev_count (definition_header d) room b (length d.fields)
+      (d.reserved ∷ architecture d.order ∷ (number_bytes d.order 2 d.global ++ length d.fields ∷ flat_map field_bytes d.fields))
+      (count_before d.order d.global d.reserved (architecture d.order) (length d.fields) (flat_map field_bytes d.fields))
+      (omega (arith, length-fields_front d (length d.fields))) in
+      elim (cases_lt room (1 + 3 * b)) [
+        | inl less ↦
+            let long : nat_lt room (1 + 3 * b) ≡ true = lt-ltb room (1 + 3 * b) less in
+            stops_at Overrun (rw long refl) (rw (is_a_definition d h.local) (because ∙ rw long refl)) (dev_count_shut e room b d h.local less)
+        | inr fits ↦
+            let short : nat_lt room (1 + 3 * b) ≡ false = le-ltb room (1 + 3 * b) fits in
+            elim (cases_Bool (tests.dev_count d (room - 1) b)) [
+              | inl fills ↦
+                  let same : dev_defs d.dev ≡ [] = ap dev_defs none in
+                  let count : length (dev_defs d.dev) + b ≡ b = omega (arith, ap length same) in
+                  rw (short, fills) (inl (dev_go e (room - 1) b d _
+                  (record { local = h.local; global = h.global; fields = h.fields; defs = []; dev = none; few = omega arith })
+                  (ap (λ z. fields_front d (length d.fields) ++ (length (dev_defs d.dev) + b) ∷ flat_map dev_field_bytes z) same
+                  ∙ ap (λ n. fields_front d (length d.fields) ++ n ∷ []) count)))
+              | inr no_fit ↦ stops_at NoFit (rw (short, no_fit) refl) (rw (is_a_definition d h.local) (because ∙ rw short refl)) tt
+            ]
+      ]
+
+  dev_size_outcome : (left number : ℕ) → AwaitsDev d left → 0 < left → At (DevSize left number)
+  unfolding definition_move
+  dev_size_outcome left number h some =
+      let n : ℕ = length d.fields in
+      let m : ℕ = length (dev_defs d.dev) + left in
+      elim (cases_Bool (tests.dev_size d (left - 1) (room - 1) b)) [
+        | inl fills ↦ goes_to (DevIndex left number b) d (h, some) (sym (append_assoc (dev_front d m) (number ∷ []) (b ∷ []))) (rw fills refl)
+        | inr no_fit ↦
+            let entries : List ℕ = m ∷ flat_map dev_field_bytes (dev_defs d.dev) in
+            let place : length (definition_part (DevSize left number) d) ≡ 8 + 3 * n + 3 * length (dev_defs d.dev) =
+            omega (
+              arith,
+              length-append (dev_front d m) (number ∷ []),
+              length-append (fields_front d n) entries,
+              length-fields_front d n,
+              length-dev_field_bytes (dev_defs d.dev),
+            ) in
+            stops_at NoFit (rw no_fit refl)
+            (rw (is_a_definition d h.local) (at_dev_size (definition_header d) room b n (length (dev_defs d.dev))
+            (d.reserved ∷ architecture d.order ∷ (((number_bytes d.order 2 d.global ++ n ∷ flat_map field_bytes d.fields) ++ entries) ++ number ∷ []))
+            (count_in_dev d.order d.global d.reserved (architecture d.order) n (flat_map field_bytes d.fields) entries (number ∷ [])) (omega (arith, place))))
+            tt
+      ]
+
+  dev_index_on : (left number size : ℕ) → AwaitsDev d left → 0 < left
+      → Moves e (room - 1) (definition_part (DevIndex left number size) d ++ b ∷ []) (definition_move tests (DevIndex left number size) room d b)
+  unfolding definition_move
+  dev_index_on left number size h some =
+      let f : DevDef = record { number = number; size = size; index = b } in
+      let old : List DevDef = dev_defs d.dev in
+      let c : MessageDef A = record d { dev = Some (old ++ f ∷ []) } in
+      let few = h.few in
+      let same : length old ≡ length h.defs = ap (λ o. length (dev_defs o)) h.dev in
+      let longer : length (old ++ f ∷ []) ≡ length old + 1 = length-append old (f ∷ []) in
+      let count : length (old ++ f ∷ []) + (left - 1) ≡ length old + left = omega (arith, longer) in
+      let header : definition_header c ≡ definition_header d =
+      ap (λ (o : Option (List DevDef)). 0x40 + d.local + unwrap_or (option_map (λ _. 0x20) o) 0) (sym h.dev) in
+      dev_go e (room - 1) (left - 1) c _
+      (record { local = h.local; global = h.global; fields = h.fields; defs = old ++ f ∷ []; dev = refl; few = omega (arith, longer, same) })
+      ((λ i. ((header i ∷ d.reserved ∷ architecture d.order ∷ number_bytes d.order 2 d.global) ++ length d.fields ∷ flat_map field_bytes d.fields)
+      ++ count i ∷ sym (flat_map_more dev_field_bytes [] old f) i)
+      ∙ regroup_entry (fields_front d (length d.fields)) (flat_map dev_field_bytes old) (length old + left) number size b)
+
+  -- ---- all of them
+
+  definition_at : (k : DefinitionPhase) → IsDefinitionPart k d → b < 256 → At k
+  unfolding definition_move architecture_outcome field_count_outcome field_size_outcome field_code_on dev_count_outcome dev_size_outcome dev_index_on
+  definition_at Reserved h low =
+      goes_to AtArchitecture (record d { reserved = b }) (record { local = h.local; global = h.global; fields = h.fields; dev = h.dev }) refl refl
+  definition_at AtArchitecture h low = architecture_outcome h
+  definition_at GlobalFirst h low = goes_to (GlobalSecond b) d (h, low) refl refl
+  definition_at (GlobalSecond first) h low =
+      let bytes = IsBytes-cons first (b ∷ []) h.1 (IsBytes-cons b [] low IsBytes-none) in
+      goes_to FieldCount (record d { global = number_of d.order (first ∷ b ∷ []) })
+      (record { local = h.0.local; global = number-below d.order (first ∷ b ∷ []) bytes; fields = h.0.fields; dev = h.0.dev })
+      (ap (λ z. definition_header d ∷ d.reserved ∷ architecture d.order ∷ z) (number_bytes-number d.order (first ∷ b ∷ []) bytes)) refl
+  definition_at FieldCount h low = field_count_outcome h low
+  definition_at (FieldNumber left) h low = goes_to (FieldSize left b) d h refl refl
+  definition_at (FieldSize left number) h low = field_size_outcome left number h
+  definition_at (FieldCode left number size) h low = inl (field_code_on left number size h)
+  definition_at DevCount h low = dev_count_outcome h.0 h.1 low
+  definition_at (DevNumber left) h low = goes_to (DevSize left b) d h refl refl
+  definition_at (DevSize left number) h low = dev_size_outcome left number h.0 h.1
+  definition_at (DevIndex left number size) h low = inl (dev_index_on left number size h.0 h.1)
 
 pub definition_outcome : {A : Type 0} (e : Environment A) (tests : Tests A) (room : ℕ) (k : DefinitionPhase) (d : MessageDef A) (b : ℕ) → IsDefinitionPart k d
-    → b < 256
-    → Outcome e room (definition_part k d) b (step e tests (Rattle.fit_step.specs.Machine.defining k room d) b)
+    → b < 256 → Outcome e room (definition_part k d) b (step e tests (defining k room d) b)
 unfolding step
-definition_outcome e tests room k d b h low = definition_at e tests room k d b h low
+definition_outcome e tests room k d b h low = definition_at e tests room d b k h low

@@ -1,23 +1,10 @@
 -- A data message without fields and developer fields describes nothing, and is whole with its record header.
-use Rattle.std.proofs.Common.{◌≡◌, inr, ℕ, suc, ◌+◌, ◌-◌, ◌==◌, Bool, false, List, [], ◌∷◌, refl, sym, ap, ◌∙◌, subst, Some, None, Ok, Err}
-use Rattle.std.specs.Prelude.{Option, IsSomeAnd, nat_lt}
-use Rattle.std.proofs.lemmas.Bool.{cond_both}
-use Rattle.fit_record.specs.declared.definition.MessageDef.{MessageDef}
-use Rattle.fit_record.specs.declared.environment.Defined.{Defined}
-use Rattle.fit_record.specs.declared.message.Record.{Record}
-use Rattle.fit_record.specs.declared.message.Record.TheVariants.{Values as Data}
-use Rattle.fit_record.specs.declared.message.Values.{Values}
-use Rattle.fit_record.specs.Environment.{Environment, defined_at, only_byte, description, DescribesNothing}
-use Rattle.fit_record.specs.HeaderByte.{is_definition, has_reserved_bit, local_type}
-use Rattle.fit_record.specs.Records.{layout, dev_layout, message_size}
-use Rattle.fit_record.specs.Sizes.{HasNoFields, HeadsEmptyMessage}
-use Rattle.fit_step.specs.declared.phase.Phase.TheVariants.{RecordHeader}
-use Rattle.fit_step.specs.declared.position.Position.{Position}
-use Rattle.fit_step.specs.declared.stop.Stop.{Stop}
-use Rattle.fit_step.specs.declared.stop.Stop.TheVariants.{Refused, NoMemory}
-use Rattle.fit_step.specs.Machine.{Tests, State, Step, NextState, begin_dev, begin_fields, new_message, message_move, header_move, step, step_at}
-use Rattle.fit_step.specs.Places.{Steps, TakesNone, WantsNone}
-use Rattle.fit_step.specs.inner.Scans.{RecordByte}
+use Rattle.fit_step.proofs.Common.{◌≡◌, inr, ℕ, suc, ◌+◌, ◌-◌, Bool, false, List, [], ◌∷◌, refl, sym, ap, ◌∙◌, subst, Some, None, Ok, Err, Option, IsSomeAnd}
+use Rattle.fit_step.proofs.Common.{nat_lt, cond_both, MessageDef, Defined, Record, Data, Values, Environment, defined_at, only_byte, description}
+use Rattle.fit_step.proofs.Common.{DescribesNothing, is_definition, has_reserved_bit, local_type, layout, dev_layout, message_size, HasNoFields}
+use Rattle.fit_step.proofs.Common.{HeadsEmptyMessage, RecordHeader, Position, Stop, Refused, NoMemory, Tests, State, Step, NextState, begin_dev, begin_fields}
+use Rattle.fit_step.proofs.Common.{new_message, message_move, header_move, step, step_at, Steps, TakesNone, WantsNone, RecordByte}
+use Rattle.std.proofs.Common.{◌==◌}
 
 undescribed : {A : Type 0} (d : MessageDef A) (v : Values A) → d.fields ≡ [] → description d v ≡ None
 undescribed d v none =
@@ -26,14 +13,14 @@ undescribed d v none =
 
 -- ---- what a record header makes whole
 
-dev_whole : {A : Type 0} (room : ℕ) (v : Values A) (place : ℕ) (fields : List (ℕ × ℕ)) (t : State A) (r : Record A)
+pub dev_whole : {A : Type 0} (room : ℕ) (v : Values A) (place : ℕ) (fields : List (ℕ × ℕ)) (t : State A) (r : Record A)
     → begin_dev room v place fields ≡ (t, Some r) → Data v ≡ r
 dev_whole room v place [] t r = λ is. let both : Some (Data v) ≡ Some r = ap (λ n. n.1) is in cc
 dev_whole {A} room v place (f ∷ fields) t r =
     cond_both (f.1 == 0) _ _ (λ (n : NextState A). n ≡ (t, Some r) → Data v ≡ r) (λ _ is. dev_whole room v (suc place) fields t r is)
     (λ _ is. absurd (let none : None ≡ Some r = ap (λ n. n.1) is in cc))
 
-fields_whole : {A : Type 0} (room : ℕ) (v : Values A) (place : ℕ) (fields dev : List (ℕ × ℕ)) (t : State A) (r : Record A)
+pub fields_whole : {A : Type 0} (room : ℕ) (v : Values A) (place : ℕ) (fields dev : List (ℕ × ℕ)) (t : State A) (r : Record A)
     → begin_fields room v place fields dev ≡ (t, Some r) → Data v ≡ r
 fields_whole room v place [] dev t r = dev_whole room v 0 dev t r
 fields_whole {A} room v place (f ∷ fields) dev t r =

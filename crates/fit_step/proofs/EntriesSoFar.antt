@@ -1,123 +1,110 @@
 -- What there is of a definition message in progress is what is whole in its bytes.
-use Rattle.std.proofs.Common.{◌≡◌, cond, ℕ, ◌+◌, ◌-◌, ◌*◌, ◌/◌, ◌<◌, ◌≤◌, List, [], ◌∷◌, ◌++◌, length, length-append, refl, sym, ap, ◌∙◌, subst, arith, Some}
-use Rattle.std.specs.Prelude.{flat_map, slice_index, nat_le}
-use Rattle.std.specs.Option.{option_map_or}
-use Rattle.std.proofs.lemmas.Bool.{cond-true, cond-false, le-leb, lt-leb}
-use Rattle.fit_base.specs.Numbers.{number_bytes}
-use Rattle.fit_base.proofs.Bytes.{length-number_bytes}
-use Rattle.fit_record.specs.declared.definition.MessageDef.{MessageDef}
-use Rattle.fit_record.specs.Environment.{Environment, defined_at, dev_defs}
-use Rattle.fit_record.specs.HeaderByte.{local_type}
-use Rattle.fit_record.specs.Records.{architecture, field_bytes, definition_header, layout, dev_layout}
-use Rattle.fit_record.specs.Sizes.{entry_count}
-use Rattle.fit_step.specs.declared.phase.DefinitionPhase.{DefinitionPhase}
-use Rattle.fit_step.specs.declared.phase.DefinitionPhase.TheVariants.{Reserved, Architecture as AtArchitecture, GlobalFirst, GlobalSecond, FieldCount}
-use Rattle.fit_step.specs.declared.phase.DefinitionPhase.TheVariants.{FieldNumber, FieldSize, FieldCode, DevCount, DevNumber, DevSize, DevIndex}
-use Rattle.fit_step.specs.Parts.{RecordPart, nothing, in_definition, in_fields, in_dev_fields, definition_part, part_bytes, IsNew, AwaitsFields, AwaitsDev}
-use Rattle.fit_step.specs.Parts.{IsDefinitionPart, IsPart, state_of}
+use Rattle.fit_step.proofs.Common.{◌≡◌, ℕ, ◌+◌, ◌*◌, ◌<◌, List, [], ◌∷◌, ◌++◌, length, length-append, refl, sym, ap, subst, arith, Some, flat_map, number_bytes}
+use Rattle.fit_step.proofs.Common.{length-number_bytes, MessageDef, Environment, defined_at, dev_defs, architecture, field_bytes, definition_header, layout}
+use Rattle.fit_step.proofs.Common.{dev_layout, dev_field_bytes, DefinitionFits, order_at, entry_count, DefinitionPhase, Reserved, AtArchitecture, GlobalFirst}
+use Rattle.fit_step.proofs.Common.{GlobalSecond, FieldCount, FieldNumber, FieldSize, FieldCode, DevCount, DevNumber, DevSize, DevIndex, RecordPart, nothing}
+use Rattle.fit_step.proofs.Common.{in_definition, in_fields, in_dev_fields, definition_part, part_bytes, IsNew, AwaitsFields, AwaitsDev, IsDefinitionPart}
+use Rattle.fit_step.proofs.Common.{IsPart, state_of, taken, HasNone, fields_front, dev_front, entries_so_far, held_of_record, part_size, in_progress_size}
+use Rattle.fit_step.proofs.Common.{IsCountable, length-map, append-nil, items_bytes, DevDef, Defined, no_items, IsDefining, nat_tests}
+use Rattle.std.proofs.Common.{◌≤◌}
+use Rattle.std.specs.Prelude.{slice_index}
 use Rattle.fit_step.proofs.DefinitionReasons.{count_at, count_before, count_in_dev}
 use Rattle.fit_step.proofs.HeaderBits.{definition_bits}
 use Rattle.fit_step.proofs.Lengths.{length-fields_front, length-dev_field_bytes}
-use Rattle.fit_step.specs.Held.{entries_so_far, items_so_far, held_of_record}
-use Rattle.fit_step.specs.InProgress.{in_progress_size}
-use Rattle.fit_step.proofs.HeldParts.{front_of, devs_of, no_dev_fields}
+use Rattle.fit_step.proofs.HeldParts.{front_of, devs_of, no_dev_fields, fields_counted, dev_counted, behind_both, layout_items, dev_fields, whole_items}
+use Rattle.fit_step.proofs.HeldParts.{no_items_yet, taking_items, message_part}
 use Rattle.fit_step.proofs.Limits.{AreLimited, IsLimited}
 use Rattle.fit_step.proofs.SoFar.{in_fields_held, in_dev_held}
+use Rattle.fit_step.proofs.Preconditions.{is_defining, as_defined}
+use Rattle.fit_step.proofs.Takes.{as_many}
 
 -- ---- counts of entries, by the bytes
 
 none_so_far : (bytes : List ℕ) → length bytes < 5 → entries_so_far bytes ≡ 0
-none_so_far bytes short =
-    cond-true (nat_le (length bytes) (5 + 3 * slice_index bytes 4)) _ _ (le-leb (length bytes) (5 + 3 * slice_index bytes 4) (omega (arith, short)))
-    ∙ (let none : (length bytes - 5) / 3 ≡ 0 = omega (arith, short) in none)
+none_so_far bytes short = grind (arith, nat_tests)
 
 fields_so_far : (bytes : List ℕ) (k r : ℕ) → length bytes ≡ 5 + 3 * k + r → r < 3 → length bytes ≤ 5 + 3 * slice_index bytes 4 → entries_so_far bytes ≡ k
-fields_so_far bytes k r long low within =
-    cond-true (nat_le (length bytes) (5 + 3 * slice_index bytes 4)) _ _ (le-leb (length bytes) (5 + 3 * slice_index bytes 4) within)
-    ∙ (let all : (length bytes - 5) / 3 ≡ k = omega (arith, long, low) in all)
+fields_so_far bytes k r long low within = grind (arith, nat_tests)
 
 dev_so_far : (bytes : List ℕ) (n m r : ℕ) → slice_index bytes 4 ≡ n → length bytes ≡ 6 + 3 * n + 3 * m + r → r < 3 → entries_so_far bytes ≡ n + m
-dev_so_far bytes n m r at long low =
-    cond-false (nat_le (length bytes) (5 + 3 * slice_index bytes 4)) _ _ (lt-leb (length bytes) (5 + 3 * slice_index bytes 4) (omega (arith, at, long)))
-    ∙ (let all : slice_index bytes 4 + (length bytes - 1 - (5 + 3 * slice_index bytes 4)) / 3 ≡ n + m = omega (arith, at, long, low) in all)
+dev_so_far bytes n m r at long low = grind (arith, nat_tests)
 
 -- ---- by the parts that have come
 
 module _ {A : Type 0} (e : Environment A) (d : MessageDef A) where
+  -- as many entries as are whole in the bytes, and no more than these allow
+  abbrev Counts : List ℕ → Type 0
+  Counts bytes = (entry_count d ≡ held_of_record e bytes) × (entry_count d ≤ part_size e bytes)
+
   definition_so_far : (more : List ℕ) → d.local < 16 → held_of_record e (definition_header d ∷ more) ≡ entries_so_far more
-  definition_so_far more local =
-      ap (λ c. cond c (entries_so_far more) (option_map_or (λ q. entry_count q.definition + items_so_far (layout q ++ dev_layout q) (length more))
-      (defined_at e (local_type (definition_header d))) 0))
-      (definition_bits (definition_header d) d.local d.dev refl local).kind
+  definition_so_far more local = let kind = (definition_bits (definition_header d) d.local d.dev refl local).kind in rw kind refl
 
   length-front : (n : ℕ) → length (front_of d n) ≡ 5 + 3 * length d.fields
   length-front n = omega (arith, length-fields_front d n)
 
-  new_so_far : (more : List ℕ) → length more < 5 → IsNew d → entry_count d ≡ held_of_record e (definition_header d ∷ more)
-  new_so_far more short h = omega (arith, definition_so_far more h.local, none_so_far more short, ap length h.fields, no_dev_fields d.dev h.dev)
-
-  fields_held : (left r : ℕ) (more : List ℕ) → AwaitsFields d left → slice_index more 4 ≡ length d.fields + left → length more ≡ 5 + 3 * length d.fields + r
-      → r < 3
-      → entry_count d ≡ held_of_record e (definition_header d ∷ more)
-  fields_held left r more h at long low =
-      let some = h.some in
-      omega (
-        arith,
-        definition_so_far more h.local,
-        fields_so_far more (length d.fields) r long low (omega (arith, at, long, low, some)),
-        no_dev_fields d.dev h.dev,
-      )
-
-  dev_held : (left r : ℕ) (more : List ℕ) → AwaitsDev d left → slice_index more 4 ≡ length d.fields
-      → length more ≡ 6 + 3 * length d.fields + 3 * length (dev_defs d.dev) + r → r < 3
-      → entry_count d ≡ held_of_record e (definition_header d ∷ more)
-  dev_held left r more h at long low = omega (arith, definition_so_far more h.local, dev_so_far more (length d.fields) (length (dev_defs d.dev)) r at long low)
-
-  length-devs : (left : ℕ) → length (front_of d (length d.fields) ++ devs_of d left) ≡ 6 + 3 * length d.fields + 3 * length (dev_defs d.dev)
-  length-devs left = omega (
-    arith,
-    length-append (front_of d (length d.fields)) (devs_of d left),
-    length-front (length d.fields),
-    length-dev_field_bytes (dev_defs d.dev),
+  new_so_far : (more : List ℕ) → length more < 5 → IsNew d → Counts (definition_header d ∷ more)
+  new_so_far more short h = (
+    omega (arith, definition_so_far more h.local, none_so_far more short, ap length h.fields, no_dev_fields d.dev h.dev),
+    fields_counted e d h.local more h.dev (omega (arith, ap length h.fields)),
   )
 
-  definition_is : (k : DefinitionPhase) → IsDefinitionPart k d → entry_count d ≡ held_of_record e (definition_part k d)
+  -- some bytes of the next entry behind those that have come
+  among_fields : (left : ℕ) (entry : List ℕ) → AwaitsFields d left → length entry < 3
+      → Counts (definition_header d ∷ (front_of d (length d.fields + left) ++ entry))
+  among_fields left entry h few =
+      let n : ℕ = length d.fields + left in
+      let more : List ℕ = front_of d n ++ entry in
+      let at = count_at d.order d.global d.reserved (architecture d.order) n (flat_map field_bytes d.fields) entry in
+      let long : length more ≡ 5 + 3 * length d.fields + length entry = omega (arith, length-append (front_of d n) entry, length-front n) in
+      let some = h.some in
+      let whole = fields_so_far more (length d.fields) (length entry) long few (omega (arith, at, long, few, some)) in (
+        omega (arith, definition_so_far more h.local, whole, no_dev_fields d.dev h.dev),
+        fields_counted e d h.local more h.dev (omega (arith, at)),
+      )
+
+  among_dev : (left : ℕ) (entry : List ℕ) → AwaitsDev d left → length entry < 3
+      → Counts (definition_header d ∷ ((front_of d (length d.fields) ++ devs_of d left) ++ entry))
+  among_dev left entry h few =
+      let front : List ℕ = front_of d (length d.fields) in
+      let come : List DevDef = dev_defs d.dev in
+      let more : List ℕ = (front ++ devs_of d left) ++ entry in
+      let at = count_in_dev d.order d.global d.reserved (architecture d.order) (length d.fields) (flat_map field_bytes d.fields) (devs_of d left) entry in
+      let long : length more ≡ 6 + 3 * length d.fields + 3 * length come + length entry =
+      omega (
+        arith,
+        length-append (front ++ devs_of d left) entry,
+        length-append front (devs_of d left),
+        length-front (length d.fields),
+        length-dev_field_bytes come,
+      ) in (
+        omega (arith, definition_so_far more h.local, dev_so_far more (length d.fields) (length come) (length entry) at long few),
+        dev_counted e d h.local more h.defs (length come + left) h.dev at
+            (behind_both front (5 + 3 * length d.fields) (length come + left) (flat_map dev_field_bytes come) entry (length-front (length d.fields)))
+            (omega arith),
+      )
+
+  definition_is : (k : DefinitionPhase) → IsDefinitionPart k d → Counts (definition_part k d)
   definition_is Reserved h = new_so_far [] (omega arith) h
   definition_is AtArchitecture h = new_so_far (d.reserved ∷ []) (omega arith) h
   definition_is GlobalFirst h = new_so_far (d.reserved ∷ architecture d.order ∷ []) (omega arith) h
   definition_is (GlobalSecond first) h = new_so_far (d.reserved ∷ architecture d.order ∷ first ∷ []) (omega arith) h.0
   definition_is FieldCount h = new_so_far (d.reserved ∷ architecture d.order ∷ number_bytes d.order 2 d.global)
       (omega (arith, length-number_bytes d.order 2 d.global)) h
-  definition_is (FieldNumber left) h =
-      fields_held left 0 (front_of d (length d.fields + left)) h
-      (count_before d.order d.global d.reserved (architecture d.order) (length d.fields + left) (flat_map field_bytes d.fields))
-      (omega (arith, length-front (length d.fields + left))) (omega arith)
-  definition_is (FieldSize left number) h =
-      fields_held left 1 (front_of d (length d.fields + left) ++ number ∷ []) h
-      (count_at d.order d.global d.reserved (architecture d.order) (length d.fields + left) (flat_map field_bytes d.fields) (number ∷ []))
-      (omega (arith, length-append (front_of d (length d.fields + left)) (number ∷ []), length-front (length d.fields + left))) (omega arith)
-  definition_is (FieldCode left number size) h =
-      fields_held left 2 (front_of d (length d.fields + left) ++ number ∷ size ∷ []) h
-      (count_at d.order d.global d.reserved (architecture d.order) (length d.fields + left) (flat_map field_bytes d.fields) (number ∷ size ∷ []))
-      (omega (arith, length-append (front_of d (length d.fields + left)) (number ∷ size ∷ []), length-front (length d.fields + left))) (omega arith)
+  definition_is (FieldNumber left) h = subst Counts (append-nil (fields_front d (length d.fields + left))) (among_fields left [] h (omega arith))
+  definition_is (FieldSize left number) h = among_fields left (number ∷ []) h (omega arith)
+  definition_is (FieldCode left number size) h = among_fields left (number ∷ size ∷ []) h (omega arith)
   definition_is DevCount h =
+      let front : List ℕ = front_of d (length d.fields) in
       let at = count_before d.order d.global d.reserved (architecture d.order) (length d.fields) (flat_map field_bytes d.fields) in
       let none : length (dev_defs d.dev) ≡ 0 = ap (λ o. length (dev_defs o)) h.1 in
-      let whole = fields_so_far (front_of d (length d.fields)) (length d.fields) 0 (omega (arith, length-front (length d.fields))) (omega arith)
-      (omega (arith, at, length-front (length d.fields))) in
-      omega (arith, definition_so_far (front_of d (length d.fields)) h.0.local, whole, none)
-  definition_is (DevNumber left) h =
-      dev_held left 0 (front_of d (length d.fields) ++ devs_of d left) h.0
-      (count_at d.order d.global d.reserved (architecture d.order) (length d.fields) (flat_map field_bytes d.fields) (devs_of d left))
-      (omega (arith, length-devs left)) (omega arith)
-  definition_is (DevSize left number) h =
-      dev_held left 1 ((front_of d (length d.fields) ++ devs_of d left) ++ number ∷ []) h.0
-      (count_in_dev d.order d.global d.reserved (architecture d.order) (length d.fields) (flat_map field_bytes d.fields) (devs_of d left) (number ∷ []))
-      (omega (arith, length-append (front_of d (length d.fields) ++ devs_of d left) (number ∷ []), length-devs left)) (omega arith)
-  definition_is (DevIndex left number size) h =
-      dev_held left 2 ((front_of d (length d.fields) ++ devs_of d left) ++ number ∷ size ∷ []) h.0
-      (count_in_dev d.order d.global d.reserved (architecture d.order) (length d.fields) (flat_map field_bytes d.fields) (devs_of d left) (number ∷ size ∷ []))
-      (omega (arith, length-append (front_of d (length d.fields) ++ devs_of d left) (number ∷ size ∷ []), length-devs left)) (omega arith)
+      let whole = fields_so_far front (length d.fields) 0 (omega (arith, length-front (length d.fields))) (omega arith)
+      (omega (arith, at, length-front (length d.fields))) in (
+        omega (arith, definition_so_far front h.0.local, whole, none),
+        fields_counted e d h.0.local front (subst HasNone (sym h.1) refl) (omega (arith, at)),
+      )
+  definition_is (DevNumber left) h = subst Counts (append-nil (dev_front d (length (dev_defs d.dev) + left))) (among_dev left [] h.0 (omega arith))
+  definition_is (DevSize left number) h = among_dev left (number ∷ []) h.0 (omega arith)
+  definition_is (DevIndex left number size) h = among_dev left (number ∷ size ∷ []) h.0 (omega arith)
 
 -- ---- any record
 
@@ -128,10 +115,63 @@ codes_known e local p known at = (subst IsLimited at (known.places local)).2
 pub part_is : {A : Type 0} (e : Environment A) (room : ℕ) (f : RecordPart A) → AreLimited e → IsPart e f
     → in_progress_size (state_of room f).in_progress ≡ held_of_record e (part_bytes e f)
 part_is e room nothing known h = refl
-part_is e room (in_definition k d) known h = definition_is e d k h
+part_is e room (in_definition k d) known h = (definition_is e d k h).0
 part_is e room (in_fields local offset t dev) known (p, at, fits, taking, same) =
     subst (λ l. in_progress_size (state_of room (in_fields local offset t l)).in_progress ≡ held_of_record e (part_bytes e (in_fields local offset t l)))
     (sym same)
     (in_fields_held e local offset p at fits (codes_known e local p known at) t taking)
 part_is e room (in_dev_fields local offset items t) known (p, at, fits, shape, taking) =
     in_dev_held e local offset p at fits (codes_known e local p known at) items t shape taking
+
+-- what there is of a record is no more than its bytes tell
+pub part_held : {A : Type 0} (e : Environment A) (room : ℕ) (f : RecordPart A) → IsPart e f
+    → in_progress_size (state_of room f).in_progress ≤ part_size e (part_bytes e f)
+part_held e room nothing h = omega arith
+part_held e room (in_definition k d) h = (definition_is e d k h).1
+part_held {A} e room (in_fields local offset t dev) (p, known, fits, taking, same) =
+    let all = message_part e local offset p known fits (flat_map (items_bytes (order_at e local)) (taken t) ++ t.partial) in
+    omega (
+      arith,
+      all,
+      layout_items p,
+      taking_items (layout p) t taking,
+      as_defined (layout p) t taking,
+      no_items_yet A dev,
+      length-map dev (no_items {A = A}),
+      ap length same,
+      dev_fields p,
+      length-map {B = ℕ × ℕ} p.definition.fields (λ f. (f.code, f.size)),
+    )
+part_held {A} e room (in_dev_fields local offset items t) (p, known, fits, shape, taking) =
+    let all = message_part e local offset p known fits
+    (flat_map (items_bytes (order_at e local)) items ++ (flat_map (items_bytes (order_at e local)) (taken t) ++ t.partial)) in
+    omega (
+      arith,
+      all,
+      layout_items p,
+      taking_items (dev_layout p) t taking,
+      as_defined (dev_layout p) t taking,
+      whole_items (layout p) items shape,
+      as_many (layout p) items shape,
+      dev_fields p,
+      length-map {B = ℕ × ℕ} p.definition.fields (λ f. (f.code, f.size)),
+    )
+
+-- ---- how much that can be
+
+fits_of : {A : Type 0} (k : DefinitionPhase) (d : MessageDef A) → IsDefining k d → DefinitionFits d
+fits_of (FieldNumber left) d h = h.0
+fits_of (FieldSize left number) d h = h.0
+fits_of (FieldCode left number size) d h = h.0
+fits_of DevCount d h = h.0
+fits_of (DevNumber left) d h = h.0
+fits_of (DevSize left number) d h = h.0
+fits_of (DevIndex left number size) d h = h.0
+fits_of k d h = h
+
+pub part_small : {A : Type 0} (e : Environment A) (room : ℕ) (f : RecordPart A) → IsPart e f → part_size e (part_bytes e f) ≤ 130560
+    → IsCountable (state_of room f).in_progress
+part_small e room nothing h few = tt
+part_small e room (in_definition k d) h few = let fits = fits_of k d (is_defining k d h) in (fits.fields, fits.dev_fields)
+part_small e room (in_fields local offset t dev) h few = omega (arith, part_held e room (in_fields local offset t dev) h, few)
+part_small e room (in_dev_fields local offset items t) h few = omega (arith, part_held e room (in_dev_fields local offset items t) h, few)

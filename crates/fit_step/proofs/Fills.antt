@@ -1,32 +1,22 @@
 -- Where a test of rooms refuses.
-use Rattle.std.proofs.Common.{◌≡◌, ℕ, ◌+◌, ◌-◌, ◌*◌, false, refl, Some, None, Err}
-use Rattle.std.specs.Prelude.{Option, ◌==◌, nat_lt}
-use Rattle.std.proofs.lemmas.Bool.{cond_both}
-use Rattle.fit_frame.specs.declared.reason.Reason.TheVariants.{NoFit}
-use Rattle.fit_record.specs.declared.definition.MessageDef.{MessageDef}
-use Rattle.fit_record.specs.declared.environment.Defined.{Defined}
-use Rattle.fit_step.specs.declared.phase.DefinitionPhase.{DefinitionPhase}
-use Rattle.fit_step.specs.declared.phase.DefinitionPhase.TheVariants.{Reserved, Architecture as AtArchitecture, GlobalFirst, GlobalSecond, FieldCount}
-use Rattle.fit_step.specs.declared.phase.DefinitionPhase.TheVariants.{FieldNumber, FieldSize, FieldCode, DevCount, DevNumber, DevSize, DevIndex}
-use Rattle.fit_record.specs.Environment.{Environment, defined_at}
-use Rattle.fit_record.specs.HeaderByte.{is_definition, has_reserved_bit, local_type}
-use Rattle.fit_step.specs.Reasons.{least_definition}
-use Rattle.fit_record.specs.Records.{message_size}
-use Rattle.fit_step.specs.Machine.{Tests, Step, step, header_move, message_move, definition_move, field_move, dev_move, dev_count_byte}
-use Rattle.fit_step.specs.Parts.{nothing, in_definition, in_fields, in_dev_fields}
-use Rattle.fit_step.specs.inner.Runs.{Fails, NoFitFails}
+use Rattle.fit_step.proofs.Common.{◌≡◌, ℕ, ◌+◌, ◌-◌, ◌*◌, false, refl, Some, None, Err, Option, nat_lt, cond_both, NoFit, MessageDef, Defined, DefinitionPhase}
+use Rattle.fit_step.proofs.Common.{AtArchitecture, FieldCount, FieldSize, DevCount, DevSize, Environment, defined_at, is_definition, has_reserved_bit}
+use Rattle.fit_step.proofs.Common.{local_type, least_definition, message_size, Tests, Step, step, header_move, message_move, definition_move, field_move}
+use Rattle.fit_step.proofs.Common.{dev_move, dev_count_byte, nothing, in_definition, in_fields, in_dev_fields, Fails, NoFitFails}
+use Rattle.std.specs.Prelude.{◌==◌}
 
 -- where a step refuses for want of records, P holds
 abbrev Tells : {A : Type 0} → Type 0 → Step A → Type 0
 Tells P n = n ≡ Err NoFit → P
 
-message_tells : {A : Type 0} (e : Environment A) (tests : Tests A) (room b : ℕ) (o : Option (Defined A)) → defined_at e (local_type b) ≡ o
-    → Tells (Fails e tests room nothing b) (message_move tests room b o)
+message_tells : {A : Type 0} (e : Environment A) (tests : Tests A) (room b : ℕ) (o : Option (Defined A)) → is_definition b ≡ false
+    → defined_at e (local_type b) ≡ o → Tells (Fails e tests room nothing b) (message_move tests room b o)
 unfolding message_move
-message_tells e tests room b None known = λ h. absurd cc
-message_tells {A} e tests room b (Some p) known =
+message_tells e tests room b None plain known = λ h. absurd cc
+message_tells {A} e tests room b (Some p) plain known =
     cond_both (nat_lt room (1 + message_size p)) _ _ (Tells (Fails {A = A} e tests room nothing b)) (λ z h. absurd cc)
-    (λ z. cond_both (tests.message (room - (1 + message_size p))) _ _ (Tells (Fails {A = A} e tests room nothing b)) (λ y h. absurd cc) (λ y h. (p, known, y)))
+    (λ z. cond_both (tests.message (room - (1 + message_size p))) _ _ (Tells (Fails {A = A} e tests room nothing b))
+    (λ y h. absurd cc) (λ y h. (plain, p, known, y)))
 
 header_tells : {A : Type 0} (e : Environment A) (tests : Tests A) (room b : ℕ) → Tells (Fails e tests room nothing b) (header_move e tests room b)
 unfolding header_move
@@ -34,28 +24,22 @@ header_tells {A} e tests room b =
     cond_both (has_reserved_bit b) _ _ (Tells (Fails {A = A} e tests room nothing b)) (λ z h. absurd cc)
     (λ z. cond_both (is_definition b) _ _ (Tells (Fails {A = A} e tests room nothing b))
     (λ y. cond_both (nat_lt room (least_definition b)) _ _ (Tells (Fails {A = A} e tests room nothing b)) (λ x h. absurd cc) (λ x h. absurd cc))
-    (λ y. message_tells e tests room b (defined_at e (local_type b)) refl))
+    (λ y. message_tells e tests room b (defined_at e (local_type b)) y refl))
 
 definition_tells : {A : Type 0} (e : Environment A) (tests : Tests A) (room : ℕ) (k : DefinitionPhase) (d : MessageDef A) (b : ℕ)
     → Tells (Fails e tests room (in_definition k d) b) (definition_move tests k room d b)
 unfolding definition_move
-definition_tells e tests room Reserved d b = λ h. absurd cc
 definition_tells e tests room AtArchitecture d b =
     cond_both (b == 0) _ _ (Tells ⊥) (λ z h. absurd cc) (λ z. cond_both (b == 1) _ _ (Tells ⊥) (λ y h. absurd cc) (λ y h. absurd cc))
-definition_tells e tests room GlobalFirst d b = λ h. absurd cc
-definition_tells e tests room (GlobalSecond first) d b = λ h. absurd cc
 definition_tells e tests room FieldCount d b = cond_both (nat_lt room (1 + 3 * b + dev_count_byte d.dev)) _ _ (Tells ⊥) (λ z h. absurd cc) (λ z h. absurd cc)
-definition_tells e tests room (FieldNumber left) d b = λ h. absurd cc
 definition_tells e tests room (FieldSize left number) d b =
     cond_both (tests.field_size d (left - 1) (room - 1) b) _ _ (Tells (tests.field_size d (left - 1) (room - 1) b ≡ false)) (λ z h. absurd cc) (λ z h. z)
-definition_tells e tests room (FieldCode left number size) d b = λ h. absurd cc
 definition_tells e tests room DevCount d b =
     cond_both (nat_lt room (1 + 3 * b)) _ _ (Tells (tests.dev_count d (room - 1) b ≡ false)) (λ z h. absurd cc)
     (λ z. cond_both (tests.dev_count d (room - 1) b) _ _ (Tells (tests.dev_count d (room - 1) b ≡ false)) (λ y h. absurd cc) (λ y h. y))
-definition_tells e tests room (DevNumber left) d b = λ h. absurd cc
 definition_tells e tests room (DevSize left number) d b =
     cond_both (tests.dev_size d (left - 1) (room - 1) b) _ _ (Tells (tests.dev_size d (left - 1) (room - 1) b ≡ false)) (λ z h. absurd cc) (λ z h. z)
-definition_tells e tests room (DevIndex left number size) d b = λ h. absurd cc
+definition_tells e tests room k d b = λ h. absurd cc
 
 pub no_fit_fails : {A : Type 0} → NoFitFails A
 unfolding step field_move dev_move

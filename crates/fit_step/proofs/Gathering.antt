@@ -1,18 +1,9 @@
 -- One number more of a field, and one field more of a data message.
-use Rattle.std.proofs.Common.{◌≡◌, ℕ, suc, ◌+◌, ◌-◌, ◌*◌, ◌/◌, ◌<◌, ◌≤◌, List, [], ◌∷◌, ◌++◌, length, take, drop, sym, ap, ◌∙◌, arith, append_assoc, refl}
-use Rattle.std.proofs.Common.{length-drop, get_or}
-use Rattle.std.specs.Prelude.{map, sum_by, zip}
-use Rattle.std.proofs.Math.Nat.{suc-mul}
-use Rattle.std.proofs.lemmas.List.{append-nil, drop_more, drop-take, take-take}
-use Rattle.std.proofs.lemmas.List.Sums.{sum_by-cons}
-use Rattle.fit_base.specs.declared.items.Items.{Items}
-use Rattle.fit_base.specs.declared.number.Order.{Order}
-use Rattle.fit_base.specs.declared.number.Order.TheVariants.{Little, Big}
-use Rattle.fit_base.specs.Numbers.{number}
-use Rattle.fit_record.specs.declared.definition.DevDef.{DevDef}
-use Rattle.fit_record.specs.declared.definition.FieldDef.{FieldDef}
-use Rattle.fit_record.specs.inner.ReadMessages.{numbers_of, field_from, fields_from}
-use Rattle.fit_record.specs.Records.{sizes}
+use Rattle.fit_step.proofs.Common.{◌≡◌, ℕ, suc, ◌+◌, ◌-◌, ◌*◌, ◌/◌, ◌<◌, List, [], ◌∷◌, ◌++◌, length, take, sym, ap, ◌∙◌, arith, append_assoc, refl}
+use Rattle.fit_step.proofs.Common.{length-drop, get_or, zip, suc-mul, append-nil, drop_more, drop-take, take-take, sum_by-cons, Items, Order, Little, Big}
+use Rattle.fit_step.proofs.Common.{number, DevDef, FieldDef, numbers_of, field_from, fields_from, sizes}
+use Rattle.std.proofs.Common.{◌≤◌, drop}
+use Rattle.std.specs.Prelude.{map, sum_by}
 
 -- ---- numbers
 

@@ -1,21 +1,9 @@
 -- The record header of a data message, by the length of the message and the test of what is left behind it.
-use Rattle.std.proofs.Common.{◌≡◌, ℕ, ◌+◌, ◌-◌, ◌<◌, ◌≤◌, Bool, true, false, refl, sym, ap, ◌∙◌, arith, Some, None, Ok, Err}
-use Rattle.std.specs.Prelude.{Option, option_map, nat_lt, nat_le, ◌&&◌}
-use Rattle.std.specs.Option.{option_map_or}
-use Rattle.std.proofs.lemmas.Bool.{cond-true, cond-false, lt-ltb, le-ltb, le-leb}
-use Rattle.fit_frame.specs.declared.reason.Reason.TheVariants.{NoFit, UndefinedLocal, Overrun}
-use Rattle.fit_record.specs.declared.environment.Defined.{Defined}
-use Rattle.fit_record.specs.declared.message.Values.{Values}
-use Rattle.fit_record.specs.declared.message.Record.TheVariants.{Values as Data}
-use Rattle.fit_record.specs.Environment.{Environment, defined_at}
-use Rattle.fit_record.specs.HeaderByte.{local_type}
-use Rattle.fit_record.specs.Records.{layout, dev_layout, message_size}
-use Rattle.fit_record.specs.Rooms.{can_fill}
-use Rattle.fit_record.specs.Unfinished.{can_carry}
-use Rattle.fit_step.specs.declared.phase.Phase.{Phase}
-use Rattle.fit_step.specs.inner.Steps.{message_begun, entered}
-use Rattle.fit_step.specs.Machine.{Step, begin_fields, message_move, new_message}
-use Rattle.fit_step.specs.Tests.{tests_of}
+use Rattle.fit_step.proofs.Common.{◌≡◌, ℕ, ◌+◌, ◌-◌, ◌<◌, Bool, true, false, refl, sym, ap, ◌∙◌, arith, Some, None, Ok, Err, Option, option_map, nat_lt, nat_le}
+use Rattle.fit_step.proofs.Common.{◌&&◌, option_map_or, cond-true, cond-false, lt-ltb, le-ltb, le-leb, NoFit, UndefinedLocal, Overrun, Defined, Values, Data}
+use Rattle.fit_step.proofs.Common.{Environment, defined_at, local_type, layout, dev_layout, message_size, can_fill, can_carry, Phase, message_begun, entered}
+use Rattle.fit_step.proofs.Common.{Step, begin_fields, message_move, new_message, tests_of}
+use Rattle.std.proofs.Common.{◌≤◌}
 
 -- what a data message of this definition begins
 abbrev pub begun_message : {A : Type 0} → ℕ → ℕ → Defined A → Step A
@@ -35,14 +23,13 @@ overrun e room b n (Some p) h less =
     let size : n ≡ message_size p = cc in
     cond-true (nat_lt room (1 + message_size p)) _ _ (lt-ltb room (1 + message_size p) (omega (arith, size, less)))
 
-carry_test : {A : Type 0} (e : Environment A) (room local : ℕ) (p : Defined A) → defined_at e local ≡ Some p → 1 + message_size p ≤ room
-    → can_carry e local (room - 1) ≡ can_fill e (room - (1 + message_size p))
-carry_test e room local p known within =
-    let enough : nat_le (message_size p) (room - 1) ≡ true = le-leb (message_size p) (room - 1) (omega (arith, within)) in
-    let left : room - 1 - message_size p ≡ room - (1 + message_size p) = omega (arith, within) in
-    ap (λ o. option_map_or (λ q. nat_le (message_size q) (room - 1) && can_fill e (room - 1 - message_size q)) o false) known
-    ∙ ap (λ c. c && can_fill e (room - 1 - message_size p)) enough
-    ∙ ap (can_fill e) left
+pub carry_test : {A : Type 0} (e : Environment A) (local : ℕ) (p : Defined A) (room left : ℕ) → defined_at e local ≡ Some p → room ≡ message_size p + left
+    → can_carry e local room ≡ can_fill e left
+carry_test e local p room left known is =
+    let enough : nat_le (message_size p) room ≡ true = le-leb (message_size p) room (omega arith) in
+    let rest : room - message_size p ≡ left = omega arith in
+    ap (λ o. option_map_or (λ q. nat_le (message_size q) room && can_fill e (room - message_size q)) o false) known
+    ∙ (λ i. enough i && can_fill e (rest i))
 
 pub no_fit : {A : Type 0} (e : Environment A) (room b n local : ℕ) (o : Option (Defined A)) → defined_at e local ≡ o → Some n ≡ option_map message_size o
     → 1 + n ≤ room
@@ -52,8 +39,9 @@ no_fit e room b n local None known h within test = absurd cc
 no_fit e room b n local (Some p) known h within test =
     let size : n ≡ message_size p = cc in
     let long : 1 + message_size p ≤ room = omega (arith, size, within) in
+    let tested = carry_test e local p (room - 1) (room - (1 + message_size p)) known (omega (arith, long)) in
     cond-false (nat_lt room (1 + message_size p)) _ _ (le-ltb room (1 + message_size p) long)
-    ∙ cond-false (can_fill e (room - (1 + message_size p))) _ _ (sym (carry_test e room local p known long) ∙ sym test)
+    ∙ cond-false (can_fill e (room - (1 + message_size p))) _ _ (sym tested ∙ sym test)
 
 pub message_goes : {A : Type 0} (e : Environment A) (room b n local : ℕ) (p : Defined A) → defined_at e local ≡ Some p
     → Some n ≡ option_map message_size (defined_at e local) → 1 + n ≤ room
@@ -63,8 +51,9 @@ message_goes e room b n local p known h within test =
     let wrapped : Some n ≡ Some (message_size p) = h ∙ ap (option_map message_size) known in
     let size : n ≡ message_size p = cc in
     let long : 1 + message_size p ≤ room = omega (arith, size, within) in
+    let tested = carry_test e local p (room - 1) (room - (1 + message_size p)) known (omega (arith, long)) in
     cond-false (nat_lt room (1 + message_size p)) _ _ (le-ltb room (1 + message_size p) long)
-    ∙ cond-true (can_fill e (room - (1 + message_size p))) _ _ (sym (carry_test e room local p known long) ∙ sym test)
+    ∙ cond-true (can_fill e (room - (1 + message_size p))) _ _ (sym tested ∙ sym test)
 
 -- ---- at the local message type that was read
 

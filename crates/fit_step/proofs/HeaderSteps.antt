@@ -1,20 +1,10 @@
 -- A record header.
-use Rattle.std.proofs.Common.{◌≡◌, inl, inr, ℕ, ◌+◌, ◌-◌, ◌*◌, ◌<◌, ◌≤◌, Bool, true, false, cond, List, [], ◌∷◌, length, refl, sym, ap, ◌∙◌, arith, Some, None}
-use Rattle.std.specs.Prelude.{Option, IsSomeAnd, nat_lt}
-use Rattle.std.proofs.lemmas.Bool.{cases_Bool, both_ways, ltb-true}
-use Rattle.fit_frame.specs.declared.reason.Reason.TheVariants.{NoFit, ReservedBit, UndefinedLocal, Overrun}
-use Rattle.fit_record.specs.declared.definition.MessageDef.{MessageDef}
-use Rattle.fit_record.specs.declared.message.Values.{Values}
-use Rattle.fit_record.specs.declared.environment.Defined.{Defined}
-use Rattle.fit_record.specs.declared.message.Record.TheVariants.{Define, Values as Data}
-use Rattle.fit_step.specs.declared.phase.DefinitionPhase.TheVariants.{Reserved}
-use Rattle.fit_record.specs.Environment.{Environment, defined_at}
-use Rattle.fit_record.specs.HeaderByte.{is_definition, has_developer_fields, has_reserved_bit, local_type}
-use Rattle.fit_record.specs.Records.{definition_header, definition_bytes, DefinitionFits, data_header, data_bytes, DataFits, order_at, layout}
-use Rattle.fit_step.specs.Reasons.{least_definition}
-use Rattle.fit_record.specs.Records.{message_size}
-use Rattle.fit_step.specs.Machine.{Tests, Step, step, header_move, message_move, start, new_definition, new_message}
-use Rattle.fit_step.specs.Parts.{in_definition, IsShut}
+use Rattle.fit_step.proofs.Common.{◌≡◌, inl, inr, ℕ, ◌+◌, ◌-◌, ◌*◌, ◌<◌, Bool, true, false, cond, List, [], ◌∷◌, length, refl, sym, ap, ◌∙◌, arith, Some, None}
+use Rattle.fit_step.proofs.Common.{Option, IsSomeAnd, nat_lt, cases_Bool, both_ways, ltb-true, NoFit, ReservedBit, UndefinedLocal, Overrun, MessageDef, Values}
+use Rattle.fit_step.proofs.Common.{Defined, Define, Data, Reserved, Environment, defined_at, is_definition, has_developer_fields, has_reserved_bit, local_type}
+use Rattle.fit_step.proofs.Common.{definition_header, definition_bytes, DefinitionFits, data_header, data_bytes, DataFits, order_at, layout, least_definition}
+use Rattle.fit_step.proofs.Common.{message_size, Tests, Step, step, header_move, message_move, start, new_definition, new_message, in_definition, IsShut}
+use Rattle.std.proofs.Common.{◌≤◌}
 use Rattle.fit_step.proofs.Lengths.{dev_size_of, length-definition, length-data}
 use Rattle.fit_step.proofs.HeaderBits.{definition_spelled, data_spelled, DefinitionBits, definition_bits, DataBits, data_bits, is_some_dev}
 use Rattle.fit_step.proofs.MessageSteps.{fields_begin}

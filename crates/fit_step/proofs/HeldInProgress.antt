@@ -1,13 +1,10 @@
 -- How much is kept of a record in progress.
-use Rattle.std.proofs.Common.{◌≤◌, sym, ap, ◌∙◌, subst}
-use Rattle.fit_record.specs.Environment.{Environment, empty_environment, learn_all}
+use Rattle.fit_step.proofs.Common.{sym, ap, ◌∙◌, subst, Environment, empty_environment, learn_all, held_of_record, part_size, in_progress_size, IsCountable}
+use Rattle.fit_step.proofs.Common.{HeldIsOfBytes, HeldIsLimited, State, part_bytes}
+use Rattle.std.proofs.Common.{◌≤◌}
 use Rattle.fit_record.proofs.SixteenPlaces.{sixteen_places}
-use Rattle.fit_step.specs.Held.{held_of_record, part_size}
-use Rattle.fit_step.specs.InProgress.{in_progress_size, IsCountable, HeldIsOfBytes, HeldIsLimited}
-use Rattle.fit_step.specs.Machine.{State}
-use Rattle.fit_step.specs.Parts.{part_bytes}
-use Rattle.fit_step.proofs.EntriesSoFar.{part_is}
-use Rattle.fit_step.proofs.HeldParts.{part_held, part_small, part_limited}
+use Rattle.fit_step.proofs.EntriesSoFar.{part_is, part_held, part_small}
+use Rattle.fit_step.proofs.HeldParts.{part_limited}
 use Rattle.fit_step.proofs.Limits.{AreLimited, all_limited, environment_limited, nothing_limited}
 
 pub held_is_of_bytes : {A : Type 0} → HeldIsOfBytes A

@@ -1,20 +1,9 @@
 -- How long the bytes of records are.
-use Rattle.std.proofs.Common.{◌≡◌, ℕ, ◌+◌, ◌*◌, List, [], ◌∷◌, length, refl, sym, ◌∙◌, ap, arith, length-append, Some, None}
-use Rattle.std.specs.Prelude.{Option, flat_map, sum_by}
-use Rattle.std.proofs.lemmas.List.Sums.{sum_by-append, sum_by-cons}
-use Rattle.fit_base.specs.declared.items.Items.{Items}
-use Rattle.fit_base.specs.declared.number.Order.{Order}
-use Rattle.fit_base.specs.Numbers.{number_bytes}
-use Rattle.fit_base.specs.Fields.{items_bytes}
-use Rattle.fit_base.proofs.Bytes.{length-number_bytes}
-use Rattle.fit_record.specs.declared.definition.FieldDef.{FieldDef}
-use Rattle.fit_record.specs.declared.definition.DevDef.{DevDef}
-use Rattle.fit_record.specs.declared.definition.MessageDef.{MessageDef}
-use Rattle.fit_record.specs.declared.message.Values.{Values}
-use Rattle.fit_record.specs.declared.environment.Defined.{Defined}
-use Rattle.fit_record.specs.Records.{field_bytes, dev_field_bytes, dev_part, definition_bytes, HaveShape, layout, dev_layout, data_bytes, DataFits}
-use Rattle.fit_record.specs.Records.{message_size}
-use Rattle.fit_step.specs.Parts.{definition_front, fields_front}
+use Rattle.fit_step.proofs.Common.{◌≡◌, ℕ, ◌+◌, ◌*◌, List, [], ◌∷◌, ◌++◌, length, refl, sym, ◌∙◌, ap, arith, length-append, Some, None, Option, flat_map}
+use Rattle.fit_step.proofs.Common.{flat_map_more, sum_by-append, sum_by-cons, Items, Order, number_bytes, items_bytes, length-number_bytes, FieldDef, DevDef}
+use Rattle.fit_step.proofs.Common.{MessageDef, Values, Defined, field_bytes, dev_field_bytes, dev_part, definition_bytes, HaveShape, layout, dev_layout}
+use Rattle.fit_step.proofs.Common.{data_bytes, DataFits, message_size, sizes, definition_front, fields_front, TakenFields, taken, width_of, IsTaking}
+use Rattle.std.specs.Prelude.{sum_by}
 
 pub length-field_bytes : (fs : List FieldDef) → length (flat_map field_bytes fs) ≡ 3 * length fs
 length-field_bytes [] = refl
@@ -56,14 +45,13 @@ length-items o i = length-numbers o i.width i.bits
 pub length-shaped : {A : Type 0} (o : Order) (fs : List (ℕ × ℕ)) (items : List (Items A)) → HaveShape fs items
     → length (flat_map (items_bytes o) items) ≡ sum_by (λ f. f.1) fs
 length-shaped o [] [] h = refl
-length-shaped o [] (i ∷ items) h = absurd h
-length-shaped o (f ∷ fs) [] h = absurd h
 length-shaped o (f ∷ fs) (i ∷ items) h =
     let total : length (flat_map (items_bytes o) (i ∷ items)) ≡ length (items_bytes o i) + length (flat_map (items_bytes o) items) =
     length-append (items_bytes o i) (flat_map (items_bytes o) items) in
     let one : length (items_bytes o i) ≡ f.1 = length-items o i ∙ h.0.whole in
     total ∙ ap (λ n. n + length (flat_map (items_bytes o) items)) one ∙ ap (λ n. f.1 + n) (length-shaped o fs items h.1)
     ∙ sym (sum_by-cons (λ (f : ℕ × ℕ). f.1) f fs)
+length-shaped o fs items h = absurd h
 
 pub length-data : {A : Type 0} (o : Order) (v : Values A) (p : Defined A) → DataFits v p → length (data_bytes o v) ≡ message_size p
 length-data o v p h =
@@ -74,3 +62,24 @@ length-data o v p h =
       length-shaped o (dev_layout p) v.dev h.dev_fields,
       sum_by-append (λ (f : ℕ × ℕ). f.1) (layout p) (dev_layout p),
     )
+
+-- the bytes of the fields that have come, and those that are to come
+pub taken_rest : {A : Type 0} (o : Order) (all : List (ℕ × ℕ)) (t : TakenFields A) → IsTaking all t
+    → length (flat_map (items_bytes o) (taken t) ++ t.partial) + t.left + sizes t.to_come ≡ sizes all
+taken_rest {A} o all t s =
+    let last : Items A = record { width = width_of t; bits = t.bits } in
+    omega (
+      arith,
+      length-append (flat_map (items_bytes o) (taken t)) t.partial,
+      ap length (sym (flat_map_more (items_bytes o) [] t.whole last)),
+      length-append (flat_map (items_bytes o) t.whole) (items_bytes o last),
+      length-items o last,
+      length-shaped o t.done t.whole s.shapes,
+      ap sizes s.layout,
+      sum_by-append (λ (f : ℕ × ℕ). f.1) t.done (t.field ∷ t.to_come),
+      sum_by-cons (λ (f : ℕ × ℕ). f.1) t.field t.to_come,
+      s.size,
+    )
+
+pub message_sizes : {A : Type 0} (p : Defined A) → message_size p ≡ sizes (layout p) + sizes (dev_layout p)
+message_sizes p = sum_by-append (λ (f : ℕ × ℕ). f.1) (layout p) (dev_layout p)

@@ -1,3 +1,4 @@
+pub mod Common
 pub mod Takes
 pub mod Lengths
 pub mod HeaderBits

@@ -1,38 +1,22 @@
 -- How much can be known, and how much of a record there can be.
-use Rattle.std.proofs.Common.{◌≡◌, cond, ℕ, zero, suc, ◌+◌, ◌*◌, ◌/◌, ◌==◌, ◌<◌, ◌≤◌, List, [], ◌∷◌, ◌++◌, length, get_or, set, replicate, refl, ap, ◌∙◌, subst}
-use Rattle.std.proofs.Common.{arith, Some, None}
-use Rattle.std.specs.Prelude.{Option, IsSomeAnd, map, flat_map, zip, sum_by, option_and_then}
-use Rattle.std.specs.Option.{option_map_or}
+use Rattle.fit_step.proofs.Common.{◌≡◌, cond, ℕ, zero, suc, ◌+◌, ◌*◌, ◌/◌, ◌<◌, List, [], ◌∷◌, ◌++◌, length, get_or, set, refl, ap, ◌∙◌, subst, arith, Some}
+use Rattle.fit_step.proofs.Common.{None, Option, IsSomeAnd, flat_map, zip, option_and_then, option_map_or, div-le_self, cond_both, eqb-true, length-map}
+use Rattle.fit_step.proofs.Common.{sum_by-append, sum_by-cons, sum_by-le, Items, item_width, IsBytes, number_bytes, IsBytes-tail, IsBytes-front, IsBytes-back}
+use Rattle.fit_step.proofs.Common.{DevDef, FieldDef, MessageDef, Defined, Record, Define, Data, Values, Environment, empty_environment, defined_at, defined_by}
+use Rattle.fit_step.proofs.Common.{describe, described_by, description, dev_code, dev_defs, dev_key_cmp, first_items, learn, learn_all, only, only_byte}
+use Rattle.fit_step.proofs.Common.{architecture, layout, dev_layout, field_bytes, dev_field_bytes, dev_part, DefinitionFits, DataFits, HaveShape, Fits}
+use Rattle.fit_step.proofs.Common.{record_bytes, AllFit, records_bytes, entry_count, environment_size, item_count}
+use Rattle.std.proofs.Common.{◌==◌, ◌≤◌, replicate}
+use Rattle.std.specs.Prelude.{map, sum_by}
 use Rattle.std.specs.Ordering.{nat_cmp, ordering_then, match_ordering, MatchOrdering}
 use Rattle.std.specs.BTreeMap.{insert_entry}
 use Rattle.std.specs.declared.cmp.Ordering.{Ordering}
 use Rattle.std.specs.declared.cmp.Ordering.TheVariants.{Less, Equal, Greater}
-use Rattle.std.proofs.Math.Nat.{div-le_self}
-use Rattle.std.proofs.lemmas.Bool.{cond_both, eqb-true}
 use Rattle.std.proofs.lemmas.Cmp.{ranked}
-use Rattle.std.proofs.lemmas.List.{length-map}
 use Rattle.std.proofs.lemmas.List.Elements.{All-from_get_or}
-use Rattle.std.proofs.lemmas.List.Sums.{sum_by-append, sum_by-cons, sum_by-le}
-use Rattle.fit_base.specs.declared.items.Items.{Items}
-use Rattle.fit_base.specs.BaseTypes.{item_width}
-use Rattle.fit_base.specs.Numbers.{IsBytes, number_bytes}
-use Rattle.fit_base.proofs.ByteLists.{IsBytes-tail, IsBytes-front, IsBytes-back}
-use Rattle.fit_record.specs.declared.definition.DevDef.{DevDef}
-use Rattle.fit_record.specs.declared.definition.FieldDef.{FieldDef}
-use Rattle.fit_record.specs.declared.definition.MessageDef.{MessageDef}
-use Rattle.fit_record.specs.declared.environment.Defined.{Defined}
 use Rattle.fit_record.specs.declared.learn.Description.{Description}
 use Rattle.fit_record.specs.declared.learn.DevKey.{DevKey}
-use Rattle.fit_record.specs.declared.message.Record.{Record}
-use Rattle.fit_record.specs.declared.message.Record.TheVariants.{Define, Values as Data}
-use Rattle.fit_record.specs.declared.message.Values.{Values}
-use Rattle.fit_record.specs.Environment.{Environment, empty_environment, defined_at, defined_by, describe, described_by, description, dev_code, dev_defs}
-use Rattle.fit_record.specs.Environment.{dev_key_cmp, first_items, learn, learn_all, only, only_byte}
-use Rattle.fit_record.specs.Records.{architecture, layout, dev_layout, field_bytes, dev_field_bytes, dev_part, DefinitionFits, DataFits, HaveShape, Fits}
-use Rattle.fit_record.specs.Records.{record_bytes, AllFit, records_bytes}
-use Rattle.fit_record.specs.Sizes.{entry_count, environment_size}
 use Rattle.fit_record.proofs.FirstOfNumber.{first_below}
-use Rattle.fit_step.specs.Held.{item_count}
 
 -- ---- described developer fields
 
@@ -157,9 +141,8 @@ only_below : {A : Type 0} (fields : List FieldDef) (items : List (Items A)) (n b
 only_below {A} fields items n b shape = found (first_items fields items n) refl
   where
     bits_below : (i : Items A) → first_items fields items n ≡ Some i → i.width ≡ 1 → (bits : List ℕ) → i.bits ≡ bits → only bits ≡ Some b → b < 256
-    bits_below i at one [] is told = absurd cc
     bits_below i at one (x ∷ []) is told = let same : x ≡ b = cc in first_below fields items n i b shape at one (is ∙ ap (λ y. y ∷ []) same)
-    bits_below i at one (x ∷ y ∷ more) is told = absurd cc
+    bits_below i at one bits is told = absurd cc
 
     found : (o : Option (Items A)) → first_items fields items n ≡ o → option_and_then (λ i. cond (i.width == 1) (only i.bits) None) o ≡ Some b → b < 256
     found None at = λ told. absurd cc
@@ -176,15 +159,13 @@ described_below {A} d v s shape =
     first : (index number code : Option ℕ) → only_byte d.fields v.fields 0 ≡ index → only_byte d.fields v.fields 1 ≡ number
         → option_and_then (λ i. option_and_then (λ n. option_and_then (λ c. Some (record { key = record { index = i; number = n }; code = c })) code) number)
         index ≡ Some s → (s.key.index < 256) × (s.key.number < 256)
-    first None number code at_index at_number told = absurd cc
-    first (Some i) None code at_index at_number told = absurd cc
-    first (Some i) (Some n) None at_index at_number told = absurd cc
     first (Some i) (Some n) (Some c) at_index at_number told =
         let one : i ≡ s.key.index = ap (λ (o : Option Description). option_map_or (λ (t : Description). t.key.index) o i) told in
         let two : n ≡ s.key.number = ap (λ (o : Option Description). option_map_or (λ (t : Description). t.key.number) o n) told in (
           subst (λ x. x < 256) one (only_below d.fields v.fields 0 i shape at_index),
           subst (λ x. x < 256) two (only_below d.fields v.fields 1 n shape at_number),
         )
+    first index number code at_index at_number told = absurd cc
 
 describe_limited : {A : Type 0} (e : Environment A) (o : Option Description) → ((s : Description) → o ≡ Some s → (s.key.index < 256) × (s.key.number < 256))
     → AreLimited e → AreLimited (describe e o)

@@ -1,22 +1,11 @@
 -- The bytes of a data message behind its record header: none is refused, and the last one makes it whole.
-use Rattle.std.proofs.Common.{◌≡◌, inl, inr, ℕ, suc, ◌-◌, ◌<◌, true, false, List, [], ◌∷◌, ◌++◌, length, refl, sym, ap, ◌∙◌, subst, arith, append_assoc}
-use Rattle.std.proofs.Common.{length-append, Some, None, Ok}
-use Rattle.std.specs.Prelude.{Option, map, drop, flat_map, ◌==◌, option_map, unwrap_or}
-use Rattle.std.proofs.lemmas.Bool.{cond_both, eqb-true, eqb-false, eq-eqb, ne_eqb, cases_eq}
-use Rattle.std.proofs.lemmas.List.{append-nil, flat_map_more}
-use Rattle.fit_base.specs.declared.items.Items.{Items}
-use Rattle.fit_base.specs.declared.number.Order.{Order}
-use Rattle.fit_base.specs.BaseTypes.{item_width}
-use Rattle.fit_base.specs.Fields.{HasShape, items_bytes}
-use Rattle.fit_step.specs.declared.phase.Phase.TheVariants.{FieldItems, DevItems}
-use Rattle.fit_base.proofs.SameItems.{item_width_positive}
-use Rattle.fit_base.proofs.ByteLists.{IsBytes-none}
-use Rattle.fit_record.specs.declared.environment.Defined.{Defined}
-use Rattle.fit_record.specs.declared.message.Record.TheVariants.{Values as Data}
-use Rattle.fit_record.specs.Environment.{Environment, defined_at}
-use Rattle.fit_record.specs.Records.{layout, dev_layout, HaveShape, data_header, DataHeaderFits, order_at}
-use Rattle.fit_step.specs.Machine.{Tests, Step, reading, no_items, begin_dev, begin_fields, layout_at, dev_layout_at, field_move, dev_move, step}
-use Rattle.fit_step.specs.Parts.{TakenFields, in_fields, in_dev_fields, taken, IsTaking, part_bytes, IsPart, state_of}
+use Rattle.fit_step.proofs.Common.{◌≡◌, inl, inr, ℕ, suc, ◌-◌, ◌<◌, true, false, List, [], ◌∷◌, ◌++◌, length, refl, sym, ap, ◌∙◌, subst, arith, append_assoc}
+use Rattle.fit_step.proofs.Common.{length-append, Some, None, Ok, Option, flat_map, option_map, unwrap_or, cond_both, eqb-true, eqb-false, eq-eqb, ne_eqb}
+use Rattle.fit_step.proofs.Common.{cases_eq, append-nil, flat_map_more, Items, Order, item_width, HasShape, items_bytes, FieldItems, DevItems}
+use Rattle.fit_step.proofs.Common.{item_width_positive, IsBytes-none, Defined, Data, Environment, defined_at, layout, dev_layout, HaveShape, data_header}
+use Rattle.fit_step.proofs.Common.{DataHeaderFits, order_at, Tests, Step, reading, no_items, begin_dev, begin_fields, layout_at, dev_layout_at, field_move}
+use Rattle.fit_step.proofs.Common.{dev_move, step, TakenFields, in_fields, in_dev_fields, taken, IsTaking, part_bytes, IsPart, state_of}
+use Rattle.std.specs.Prelude.{map, drop, ◌==◌}
 use Rattle.fit_step.proofs.Takes.{HaveShape-last, grown, grown-items, grown-rest, grown-bytes, grown-stands, grown-whole}
 use Rattle.fit_step.proofs.Outcomes.{Moves}
 
@@ -127,7 +116,7 @@ fields_begin {A} e room local offset p known header (f ∷ rest) done place item
 
 -- ---- inside a field
 
-dev_layout-known : {A : Type 0} (e : Environment A) (local : ℕ) (p : Defined A) → defined_at e local ≡ Some p → dev_layout_at e local ≡ dev_layout p
+pub dev_layout-known : {A : Type 0} (e : Environment A) (local : ℕ) (p : Defined A) → defined_at e local ≡ Some p → dev_layout_at e local ≡ dev_layout p
 dev_layout-known e local p known = ap (λ o. unwrap_or (option_map dev_layout o) []) known
 
 layout-known : {A : Type 0} (e : Environment A) (local : ℕ) (p : Defined A) → defined_at e local ≡ Some p → layout_at e local ≡ layout p

@@ -1,12 +1,6 @@
 -- What one byte more makes of the parts that have come: more parts, a whole record, or a refusal.
-use Rattle.std.proofs.Common.{◌≡◌, ◌⊎◌, ℕ, ◌-◌, List, [], ◌∷◌, ◌++◌, Some, None, Ok, Err}
-use Rattle.fit_frame.specs.declared.reason.Reason.{Reason}
-use Rattle.fit_record.specs.declared.message.Record.{Record}
-use Rattle.fit_record.specs.Environment.{Environment}
-use Rattle.fit_record.specs.Records.{Fits, record_bytes}
-use Rattle.fit_step.specs.Reasons.{record_reason}
-use Rattle.fit_step.specs.Machine.{Step, start}
-use Rattle.fit_step.specs.Parts.{RecordPart, part_bytes, IsPart, HasBegun, state_of, IsShut}
+use Rattle.fit_step.proofs.Common.{◌≡◌, ◌⊎◌, ℕ, ◌-◌, List, [], ◌∷◌, ◌++◌, Some, None, Ok, Err, Reason, Record, Environment, Fits, record_bytes, record_reason}
+use Rattle.fit_step.proofs.Common.{Step, start, RecordPart, part_bytes, IsPart, HasBegun, state_of, IsShut}
 
 -- the bytes are those of more parts, and this much room is left
 pub record Goes {A : Type 0} (e : Environment A) (room : ℕ) (bytes : List ℕ) (made : Step A) : Type 0 where

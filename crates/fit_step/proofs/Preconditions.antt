@@ -1,17 +1,9 @@
 -- What the code's steps ask for holds of all parts of a record.
-use Rattle.std.proofs.Common.{◌≡◌, ℕ, suc, ◌+◌, ◌<◌, List, ◌∷◌, length, refl, sym, ap, ◌∙◌, subst, arith, length-append, Some, None}
-use Rattle.std.specs.Prelude.{Option, IsSome, map}
-use Rattle.std.proofs.lemmas.List.{length-map}
-use Rattle.fit_record.specs.declared.definition.DevDef.{DevDef}
-use Rattle.fit_record.specs.declared.definition.MessageDef.{MessageDef}
-use Rattle.fit_record.specs.Environment.{dev_defs}
-use Rattle.fit_record.specs.Records.{DefinitionFits}
-use Rattle.fit_step.specs.declared.phase.DefinitionPhase.{DefinitionPhase}
-use Rattle.fit_step.specs.declared.phase.DefinitionPhase.TheVariants.{Reserved, Architecture as AtArchitecture, GlobalFirst, GlobalSecond, FieldCount}
-use Rattle.fit_step.specs.declared.phase.DefinitionPhase.TheVariants.{FieldNumber, FieldSize, FieldCode, DevCount, DevNumber, DevSize, DevIndex}
-use Rattle.fit_step.specs.Machine.{no_items}
-use Rattle.fit_step.specs.Parts.{TakenFields, taken, all_items, IsNew, HasNone, AwaitsFields, AwaitsDev, IsDefinitionPart, IsTaking}
-use Rattle.fit_step.specs.inner.Steps.{IsDefining}
+use Rattle.fit_step.proofs.Common.{◌≡◌, ℕ, ◌<◌, List, [], ◌∷◌, length, refl, sym, ap, subst, arith, length-append, Some, None, Option, IsSome, length-map}
+use Rattle.fit_step.proofs.Common.{DevDef, MessageDef, dev_defs, DefinitionFits, DefinitionPhase, GlobalSecond, FieldNumber, FieldSize, FieldCode, DevCount}
+use Rattle.fit_step.proofs.Common.{DevNumber, DevSize, DevIndex, no_items, TakenFields, width_of, taken, all_items, IsNew, HasNone, AwaitsFields, AwaitsDev}
+use Rattle.fit_step.proofs.Common.{IsDefinitionPart, IsTaking, IsDefining}
+use Rattle.std.specs.Prelude.{map}
 use Rattle.fit_step.proofs.Takes.{as_many}
 
 no_dev_fields : (dev : Option (List DevDef)) → HasNone dev → length (dev_defs dev) < 256
@@ -34,11 +26,7 @@ some_dev : {A : Type 0} (d : MessageDef A) (left : ℕ) → AwaitsDev d left →
 some_dev d left h = subst IsSome (sym h.dev) refl
 
 pub is_defining : {A : Type 0} (k : DefinitionPhase) (d : MessageDef A) → IsDefinitionPart k d → IsDefining k d
-is_defining Reserved d h = new_fits d h
-is_defining AtArchitecture d h = new_fits d h
-is_defining GlobalFirst d h = new_fits d h
 is_defining (GlobalSecond first) d h = new_fits d h.0
-is_defining FieldCount d h = new_fits d h
 is_defining (FieldNumber left) d h = (fields_fit d left h, h.some)
 is_defining (FieldSize left number) d h = (fields_fit d left h, h.some)
 is_defining (FieldCode left number size) d h = (fields_fit d left h, h.some)
@@ -46,11 +34,17 @@ is_defining DevCount d h = (dev_fits d 0 h.0, some_dev d 0 h.0)
 is_defining (DevNumber left) d h = (dev_fits d left h.0, h.1, some_dev d left h.0)
 is_defining (DevSize left number) d h = (dev_fits d left h.0, h.1, some_dev d left h.0)
 is_defining (DevIndex left number size) d h = (dev_fits d left h.0, h.1, some_dev d left h.0)
+is_defining k d h = new_fits d h
 
 -- a data message in progress has as many fields as are defined
 pub as_defined : {A : Type 0} (all : List (ℕ × ℕ)) (t : TakenFields A) → IsTaking all t → length (all_items t) ≡ length all
 as_defined {A} all t s =
-    let listed : length all ≡ length t.done + suc (length t.to_come) = ap length s.layout ∙ length-append t.done (t.field ∷ t.to_come) in
-    let front : length (taken t) ≡ length t.whole + 1 = length-append t.whole _ in
-    let both : length (all_items t) ≡ length (taken t) + length (map no_items t.to_come) = length-append (taken t) (map no_items t.to_come) in
-    omega (arith, listed, front, both, as_many t.done t.whole s.shapes, length-map t.to_come (no_items {A = A}))
+    omega (
+      arith,
+      ap length s.layout,
+      length-append t.done (t.field ∷ t.to_come),
+      length-append t.whole ((record { width = width_of t; bits = t.bits }) ∷ []),
+      length-append (taken t) (map no_items t.to_come),
+      as_many t.done t.whole s.shapes,
+      length-map t.to_come (no_items {A = A}),
+    )

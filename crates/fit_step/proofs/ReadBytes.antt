@@ -1,21 +1,10 @@
 -- What a byte of a piece makes of a record in progress.
-use Rattle.std.proofs.Common.{◌≡◌, ℕ, ◌+◌, ◌-◌, ◌<◌, ◌≤◌, append_assoc, Bool, true, false, List, [], ◌∷◌, ◌++◌, length, take, slice_index, refl, sym, ap}
-use Rattle.std.proofs.Common.{◌∙◌, subst, arith, Some, None, Ok, Err}
-use Rattle.std.specs.Prelude.{Option, Result, OnOk, OnErr}
+use Rattle.fit_step.proofs.Common.{◌≡◌, ℕ, ◌+◌, ◌-◌, ◌<◌, append_assoc, Bool, true, false, List, [], ◌∷◌, ◌++◌, length, take, refl, sym, ap, ◌∙◌, subst, arith}
+use Rattle.fit_step.proofs.Common.{Some, None, Ok, Err, Option, Result, OnOk, OnErr, take_more, Record, Environment, learn, Fits, Position, Stop, Refused}
+use Rattle.fit_step.proofs.Common.{NoMemory, State, Step, start, step, RecordPart, nothing, state_of, state_at, PartFitsRoom, Steps, KeepsPart, tests_of}
+use Rattle.fit_step.proofs.Common.{StandsBehind, IsInProgress, ReadsRecord, StandsWithRoom, RecordByte}
+use Rattle.std.proofs.Common.{◌≤◌, slice_index}
 use Rattle.std.specs.Result.{is_ok}
-use Rattle.std.proofs.lemmas.List.{take_more}
-use Rattle.fit_record.specs.declared.message.Record.{Record}
-use Rattle.fit_record.specs.Environment.{Environment, learn}
-use Rattle.fit_record.specs.Records.{Fits}
-use Rattle.fit_step.specs.declared.position.Position.{Position}
-use Rattle.fit_step.specs.declared.stop.Stop.{Stop}
-use Rattle.fit_step.specs.declared.stop.Stop.TheVariants.{Refused, NoMemory}
-use Rattle.fit_step.specs.Machine.{State, Step, start, step}
-use Rattle.fit_step.specs.Parts.{RecordPart, nothing, in_definition, in_fields, in_dev_fields, state_of}
-use Rattle.fit_step.specs.Places.{state_at, PartFitsRoom, Steps, KeepsPart}
-use Rattle.fit_step.specs.Tests.{tests_of}
-use Rattle.fit_step.specs.InProgress.{StandsBehind, IsInProgress, ReadsRecord}
-use Rattle.fit_step.specs.inner.Scans.{StandsWithRoom, RecordByte}
 use Rattle.fit_step.proofs.Kept.{still_stands, still_room}
 use Rattle.fit_step.proofs.RecordsInProgress.{EndsBehind, starts_behind, sixteen_learned, starts_where_none, goes_behind, ends_behind, wants_behind}
 use Rattle.fit_step.proofs.RecordsInProgress.{refused_behind}
@@ -35,9 +24,7 @@ begins_where_none {A} e s h none = go h.part h.is
   where
     go : (f : RecordPart A) → s ≡ state_of s.room f → s ≡ start s.room
     go nothing is = is
-    go (in_definition k d) is = absurd (let some = sym none ∙ ap (λ (t : State A). t.in_progress) is in cc)
-    go (in_fields local offset t dev) is = absurd (let some = sym none ∙ ap (λ (t : State A). t.in_progress) is in cc)
-    go (in_dev_fields local offset items t) is = absurd (let some = sym none ∙ ap (λ (t : State A). t.in_progress) is in cc)
+    go f is = absurd (let some = sym none ∙ ap (λ (t : State A). t.in_progress) is in cc)
 
 pub stands_on : {A : Type 0} (e : Environment A) (s t : State A) (b : ℕ) → b < 256 → StandsWithRoom e s → step e (tests_of e) s b ≡ Ok (t, None)
     → StandsWithRoom e t

@@ -1,37 +1,19 @@
 -- The definition message that bytes spell.
-use Rattle.std.proofs.Common.{◌≡◌, ℕ, suc, ◌+◌, ◌-◌, ◌^◌, ◌<◌, ◌≤◌, true, false, List, [], ◌∷◌, ◌++◌, length, take, drop, slice_index, refl, sym, ap, ◌∙◌}
-use Rattle.std.proofs.Common.{subst, arith, length-drop, lit<, Some, None}
-use Rattle.std.specs.Prelude.{flat_map, option_map, unwrap_or}
-use Rattle.std.proofs.lemmas.List.{append-nil, length-take-le}
-use Rattle.std.proofs.Math.ListN.{length-set}
-use Rattle.std.proofs.Math.Seq.{take-add}
-use Rattle.fit_base.specs.declared.number.Order.{Order}
-use Rattle.fit_base.specs.Numbers.{IsBytes, number, number_bytes}
-use Rattle.fit_base.proofs.ByteLists.{IsBytes-cons, IsBytes-none, IsBytes-tail, IsBytes-take}
-use Rattle.fit_base.proofs.NumberLaws.{number-below, number_bytes-number}
-use Rattle.fit_record.specs.declared.definition.FieldDef.{FieldDef}
-use Rattle.fit_record.specs.declared.definition.MessageDef.{MessageDef}
-use Rattle.fit_record.specs.declared.message.Record.TheVariants.{Define}
-use Rattle.fit_record.specs.Environment.{Environment, defined_by, learn}
-use Rattle.fit_record.specs.Files.{CanFill}
-use Rattle.fit_record.specs.HeaderByte.{has_developer_fields, has_reserved_bit, is_definition, local_type}
-use Rattle.fit_record.specs.Records.{architecture, field_bytes, definition_bytes, definition_header, DefinitionFits, IsRecord}
-use Rattle.fit_record.proofs.LargeRooms.{six_and_more}
-use Rattle.fit_step.specs.Machine.{new_dev, start, Ends}
-use Rattle.fit_step.specs.Tests.{tests_of}
+use Rattle.fit_step.proofs.Common.{◌≡◌, ℕ, suc, ◌+◌, ◌-◌, ◌^◌, ◌<◌, true, false, List, [], ◌∷◌, ◌++◌, length, take, refl, sym, ap, ◌∙◌, subst, arith, lit<}
+use Rattle.fit_step.proofs.Common.{Some, None, flat_map, option_map, unwrap_or, append-nil, length-take-le, length-set, take-add, Order, IsBytes, number}
+use Rattle.fit_step.proofs.Common.{number_bytes, IsBytes-cons, IsBytes-none, IsBytes-tail, IsBytes-take, number-below, number_bytes-number, FieldDef}
+use Rattle.fit_step.proofs.Common.{MessageDef, Define, Environment, defined_by, learn, CanFill, has_developer_fields, has_reserved_bit, is_definition}
+use Rattle.fit_step.proofs.Common.{local_type, architecture, field_bytes, definition_bytes, definition_header, DefinitionFits, IsRecord, six_and_more, new_dev}
+use Rattle.fit_step.proofs.Common.{start, Ends, tests_of}
+use Rattle.std.proofs.Common.{◌≤◌, drop, slice_index}
 use Rattle.fit_step.proofs.TakenAndRefusedBytes.{records_end}
 use Rattle.fit_step.proofs.HeaderBits.{definition_spelled}
 
 -- ---- a list of a known length
 
 five_of : (l : List ℕ) → length l ≡ 5 → slice_index l 0 ∷ slice_index l 1 ∷ slice_index l 2 ∷ slice_index l 3 ∷ slice_index l 4 ∷ [] ≡ l
-five_of [] h = absurd (omega (arith, h))
-five_of (a ∷ []) h = absurd (omega (arith, h))
-five_of (a ∷ b ∷ []) h = absurd (omega (arith, h))
-five_of (a ∷ b ∷ c ∷ []) h = absurd (omega (arith, h))
-five_of (a ∷ b ∷ c ∷ d ∷ []) h = absurd (omega (arith, h))
 five_of (a ∷ b ∷ c ∷ d ∷ e ∷ []) h = refl
-five_of (a ∷ b ∷ c ∷ d ∷ e ∷ f ∷ l) h = absurd (omega (arith, h))
+five_of l h = absurd (omega (arith, h))
 
 -- ---- all of the message
 
@@ -83,9 +65,6 @@ module _ {A : Type 0} (e : Environment A) (b : ℕ) (rest piece front : List ℕ
       ap (take (6 + size)) begins ∙ (let next : 6 + size ≡ suc (5 + size) = omega arith in ap (λ k. take k (b ∷ rest)) next)
           ∙ (λ i. sym header.1 i ∷ (take-add 5 size rest ∙ ap (λ l. l ++ take size (drop 5 rest)) (sym is_front) ∙ of_front) i),
     )
-
-    pub read_within : (0 < 6 + size) × (6 + size ≤ length piece)
-    read_within = (omega arith, omega (arith, within, length-drop 5 rest, ap length begins, long))
 
 -- where six bytes or more are to come after it, records can fill them
 pub definition_ends : {A : Type 0} (e : Environment A) (d : MessageDef A) (used room : ℕ) (piece : List ℕ) → length e.places ≡ 16 → IsBytes piece

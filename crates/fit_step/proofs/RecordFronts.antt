@@ -1,13 +1,7 @@
 -- Bytes that no record begins: a record's bytes less some at the end.
-use Rattle.std.proofs.Common.{◌≡◌, ℕ, ◌<◌, List, [], ◌∷◌, ◌++◌, length, sym, ap, ◌∙◌, arith, append_assoc}
+use Rattle.fit_step.proofs.Common.{◌≡◌, ℕ, ◌<◌, List, [], ◌∷◌, ◌++◌, length, sym, ap, ◌∙◌, arith, append_assoc, append-nil, Record, Environment, Fits}
+use Rattle.fit_step.proofs.Common.{record_bytes, same_record, no_bytes, NoRecord, RecordPart, nothing, part_bytes, IsPart, HasBegun}
 use Rattle.std.specs.Prelude.{replicate}
-use Rattle.std.proofs.lemmas.List.{append-nil}
-use Rattle.fit_record.specs.declared.message.Record.{Record}
-use Rattle.fit_record.specs.Environment.{Environment}
-use Rattle.fit_record.specs.Records.{Fits, record_bytes}
-use Rattle.fit_record.proofs.OneRecord.{same_record, no_bytes}
-use Rattle.fit_step.specs.InProgress.{NoRecord}
-use Rattle.fit_step.specs.Parts.{RecordPart, nothing, in_definition, in_fields, in_dev_fields, part_bytes, IsPart, HasBegun}
 use Rattle.fit_step.proofs.PartsCompletedByZeros.{cuts_go_on}
 
 pub empty_back : (a b : List ℕ) → a ++ b ≡ [] → b ≡ []
@@ -36,6 +30,4 @@ begun_part e f is begun =
 -- parts of a record are none
 pub part_of_record : {A : Type 0} (e : Environment A) (f : RecordPart A) → IsPart e f → NoRecord e (part_bytes e f)
 part_of_record e nothing is = no_record_yet e
-part_of_record e (in_definition k d) is = begun_part e (in_definition k d) is tt
-part_of_record e (in_fields local offset t dev) is = begun_part e (in_fields local offset t dev) is tt
-part_of_record e (in_dev_fields local offset items t) is = begun_part e (in_dev_fields local offset items t) is tt
+part_of_record e f is = begun_part e f is tt

@@ -1,34 +1,13 @@
 -- What has come of a record, and what a byte more makes of it.
-use Rattle.std.proofs.Common.{◌≡◌, inl, inr, ℕ, zero, ◌+◌, ◌-◌, ◌<◌, ◌≤◌, true, List, [], ◌∷◌, ◌++◌, length, refl, sym, ap, ◌∙◌, subst, arith, append_assoc}
-use Rattle.std.proofs.Common.{length-append, Some, None, Ok, Err}
-use Rattle.std.specs.Prelude.{IsOk}
-use Rattle.std.proofs.lemmas.List.{append-nil}
-use Rattle.std.proofs.Math.ListN.{length-set}
-use Rattle.fit_base.specs.Numbers.{IsBytes}
-use Rattle.fit_base.proofs.ByteLists.{IsBytes-append, IsBytes-cons, IsBytes-front, IsBytes-back, IsBytes-none, IsBytes-tail}
-use Rattle.fit_frame.specs.declared.reason.Reason.{Reason}
-use Rattle.fit_record.specs.declared.message.Record.{Record}
-use Rattle.fit_record.specs.declared.message.Record.TheVariants.{Define, Values as Data}
-use Rattle.fit_record.specs.Environment.{Environment, learn}
-use Rattle.fit_record.specs.Files.{CanFill}
-use Rattle.fit_record.specs.Records.{IsRecord, record_bytes, records_bytes}
-use Rattle.fit_record.proofs.FilledRooms.{can_fill_is, same_places}
-use Rattle.fit_record.specs.declared.definition.MessageDef.{MessageDef}
-use Rattle.fit_step.specs.declared.phase.DefinitionPhase.{DefinitionPhase}
-use Rattle.fit_step.specs.declared.phase.DefinitionPhase.TheVariants.{Reserved, Architecture as AtArchitecture, GlobalFirst, GlobalSecond, FieldCount}
-use Rattle.fit_step.specs.declared.phase.DefinitionPhase.TheVariants.{FieldNumber, FieldSize, FieldCode, DevCount, DevNumber, DevSize, DevIndex}
-use Rattle.fit_step.specs.declared.position.Position.{Position}
-use Rattle.fit_step.specs.GoingOn.{goes_on, Continues}
-use Rattle.fit_step.specs.InProgress.{NoRecord, FillFrom, StandsBehind, IsInProgress}
-use Rattle.fit_step.specs.InProgress.{RecordsBegin, RecordsInProgress, IdleIsBetweenRecords, RefusedBytesHaveReasons}
-use Rattle.fit_step.specs.Laws.{CanBecomeRecord}
-use Rattle.fit_step.specs.Machine.{State, Step, start, step, least_rest, Ends}
-use Rattle.fit_step.specs.Parts.{RecordPart, nothing, in_definition, in_fields, in_dev_fields, definition_part, part_bytes, IsPart, state_of}
-use Rattle.fit_step.specs.Places.{state_at, Begins}
-use Rattle.fit_step.specs.Reasons.{record_reason}
-use Rattle.fit_step.specs.Tests.{tests_of}
-use Rattle.fit_step.specs.inner.Scans.{StandsWithRoom}
-use Rattle.fit_step.proofs.Kept.{takes_more}
+use Rattle.fit_step.proofs.Common.{◌≡◌, inl, inr, ℕ, zero, ◌+◌, ◌-◌, ◌<◌, true, List, [], ◌∷◌, ◌++◌, length, refl, sym, ap, ◌∙◌, subst, arith, append_assoc}
+use Rattle.fit_step.proofs.Common.{length-append, Some, None, Ok, Err, IsOk, append-nil, length-set, IsBytes, IsBytes-append, IsBytes-cons, IsBytes-front}
+use Rattle.fit_step.proofs.Common.{IsBytes-back, IsBytes-none, IsBytes-tail, Reason, Record, Define, Data, Environment, learn, CanFill, IsRecord, record_bytes}
+use Rattle.fit_step.proofs.Common.{records_bytes, can_fill_is, same_places, MessageDef, DefinitionPhase, Reserved, Position, goes_on, Continues, NoRecord}
+use Rattle.fit_step.proofs.Common.{FillFrom, StandsBehind, IsInProgress, RecordsInProgress, IdleIsBetweenRecords, RefusedBytesHaveReasons, CanBecomeRecord}
+use Rattle.fit_step.proofs.Common.{State, Step, start, step, least_rest, Ends, RecordPart, nothing, in_definition, definition_part, part_bytes, IsPart}
+use Rattle.fit_step.proofs.Common.{state_of, state_at, Begins, record_reason, tests_of, StandsWithRoom}
+use Rattle.std.proofs.Common.{◌≤◌}
+use Rattle.fit_step.proofs.Rest.{takes_more}
 use Rattle.fit_step.proofs.RecordFronts.{part_of_record}
 use Rattle.fit_step.proofs.Rest.{keeps, KeepsRoom}
 use Rattle.fit_step.proofs.Runs.{one_more}
@@ -152,9 +131,7 @@ module _ {A : Type 0} (e : Environment A) (room : ℕ) (bytes : List ℕ) (s : S
           let none : length bytes ≡ 0 = ap length (sym spelled) in
           let all : s.room ≡ room = omega (arith, h.total, none) in
           subst (FillFrom e room) spelled (fill_nothing e room (subst (CanFill e) all fill))
-      go (in_definition k d) spelled c = begun (in_definition k d) spelled c
-      go (in_fields local offset t dev) spelled c = begun (in_fields local offset t dev) spelled c
-      go (in_dev_fields local offset items t) spelled c = begun (in_dev_fields local offset items t) spelled c
+      go f spelled c = begun f spelled c
 
   -- there is room for the next byte, unless all of the room has been filled
   pub room_behind : 0 < room → StandsWithRoom e s
@@ -162,9 +139,7 @@ module _ {A : Type 0} (e : Environment A) (room : ℕ) (bytes : List ℕ) (s : S
     where
       go : (f : RecordPart A) → part_bytes e f ≡ bytes → IsPart e f → least_rest e (state_of s.room f) ≤ s.room → 0 < s.room
       go nothing spelled is less = let none : length bytes ≡ 0 = ap length (sym spelled) in omega (arith, none, h.total, some)
-      go (in_definition k d) spelled is less = omega (arith, less, takes_more e s.room (in_definition k d) is tt)
-      go (in_fields local offset t dev) spelled is less = omega (arith, less, takes_more e s.room (in_fields local offset t dev) is tt)
-      go (in_dev_fields local offset items t) spelled is less = omega (arith, less, takes_more e s.room (in_dev_fields local offset items t) is tt)
+      go f spelled is less = omega (arith, less, takes_more e s.room f is tt)
 
   module _ (b : ℕ) (low : b < 256) where
     at_part : (made : Step A) → step e (tests_of e) s b ≡ made → step e (tests_of e) (state_of s.room h.part) b ≡ made
@@ -240,17 +215,7 @@ ends_further e room bytes (b ∷ more) s t r h low (inr (u, made, ends)) =
 
 some_bytes : {A : Type 0} (k : DefinitionPhase) (d : MessageDef A) → definition_part k d ≡ [] → ⊥
 some_bytes Reserved d is = cc
-some_bytes AtArchitecture d is = cc
-some_bytes GlobalFirst d is = cc
-some_bytes (GlobalSecond first) d is = cc
-some_bytes FieldCount d is = cc
-some_bytes (FieldNumber left) d is = cc
-some_bytes (FieldSize left number) d is = cc
-some_bytes (FieldCode left number size) d is = cc
-some_bytes DevCount d is = cc
-some_bytes (DevNumber left) d is = cc
-some_bytes (DevSize left number) d is = cc
-some_bytes (DevIndex left number size) d is = cc
+some_bytes k d is = cc
 
 pub starts_where_none : {A : Type 0} (e : Environment A) (room : ℕ) (bytes : List ℕ) (s : State A) → StandsBehind e room bytes s → bytes ≡ []
     → s ≡ start s.room
@@ -259,8 +224,7 @@ starts_where_none {A} e room bytes s h none = go h.part h.is (h.spelled ∙ none
     go : (f : RecordPart A) → s ≡ state_of s.room f → part_bytes e f ≡ [] → s ≡ start s.room
     go nothing is empty = is
     go (in_definition k d) is empty = absurd (some_bytes k d empty)
-    go (in_fields local offset t dev) is empty = absurd cc
-    go (in_dev_fields local offset items t) is empty = absurd cc
+    go f is empty = absurd cc
 
 -- no record is in progress just where no byte has come
 pub idle_between_records : {A : Type 0} → IdleIsBetweenRecords A
@@ -271,12 +235,7 @@ idle_between_records {A} e room bytes p in_progress h = (
   where
     go : (f : RecordPart A) → state_at p in_progress ≡ state_of p.room f → part_bytes e f ≡ bytes → in_progress ≡ None → bytes ≡ []
     go nothing is spelled idle = sym spelled
-    go (in_definition k d) is spelled idle = absurd (let some = sym idle ∙ ap (λ (t : State A). t.in_progress) is in cc)
-    go (in_fields local offset t dev) is spelled idle = absurd (let some = sym idle ∙ ap (λ (t : State A). t.in_progress) is in cc)
-    go (in_dev_fields local offset items t) is spelled idle = absurd (let some = sym idle ∙ ap (λ (t : State A). t.in_progress) is in cc)
-
-pub records_begin : {A : Type 0} → RecordsBegin A
-records_begin e p sixteen h fill = begins_record e p sixteen h fill
+    go f is spelled idle = absurd (let some = sym idle ∙ ap (λ (t : State A). t.in_progress) is in cc)
 
 pub records_in_progress : {A : Type 0} → RecordsInProgress A
 records_in_progress e room bytes p in_progress h =

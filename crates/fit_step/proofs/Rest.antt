@@ -1,26 +1,14 @@
 -- The room inside a record: each byte takes one of it, and what the record still takes is there.
-use Rattle.std.proofs.Common.{◌≡◌, inl, inr, ℕ, zero, suc, ◌+◌, ◌-◌, ◌*◌, ◌<◌, ◌≤◌, Bool, true, false, List, [], ◌∷◌, ◌++◌, length, refl, sym, ap, ◌∙◌, subst}
-use Rattle.std.proofs.Common.{arith, Some, None, Ok, Err}
-use Rattle.std.specs.Prelude.{Option, drop, ◌==◌, nat_lt, option_map, unwrap_or}
-use Rattle.std.proofs.lemmas.Bool.{cond_both, eqb-true, eqb-false, ltb-false}
-use Rattle.std.proofs.lemmas.List.Sums.{sum_by-append, sum_by-cons}
-use Rattle.fit_record.specs.declared.definition.DevDef.{DevDef}
-use Rattle.fit_record.specs.declared.definition.MessageDef.{MessageDef}
-use Rattle.fit_record.specs.declared.message.Values.{Values}
-use Rattle.fit_record.specs.declared.environment.Defined.{Defined}
-use Rattle.fit_step.specs.declared.phase.DefinitionPhase.{DefinitionPhase}
-use Rattle.fit_step.specs.declared.phase.DefinitionPhase.TheVariants.{Reserved, Architecture as AtArchitecture, GlobalFirst, GlobalSecond, FieldCount}
-use Rattle.fit_step.specs.declared.phase.DefinitionPhase.TheVariants.{FieldNumber, FieldSize, FieldCode, DevCount, DevNumber, DevSize, DevIndex}
-use Rattle.fit_record.specs.Environment.{Environment, defined_at}
-use Rattle.fit_record.specs.HeaderByte.{is_definition, has_developer_fields, has_reserved_bit, local_type}
-use Rattle.fit_record.specs.Records.{layout, dev_layout}
-use Rattle.fit_step.specs.Reasons.{least_definition}
-use Rattle.fit_record.specs.Records.{message_size}
-use Rattle.fit_step.specs.Machine.{Tests, State, Step, NextState, start, step, least_rest, begin_dev, begin_fields, layout_at, dev_layout_at, fields_rest}
-use Rattle.fit_step.specs.Machine.{dev_rest, field_move, dev_move, definition_move, next_field, next_dev, after_fields, dev_count_byte, new_definition}
-use Rattle.fit_step.specs.Machine.{new_message, new_dev, header_move, message_move, Ends}
-use Rattle.fit_record.specs.Records.{sizes}
-use Rattle.fit_step.specs.Parts.{RecordPart, nothing, in_definition, in_fields, in_dev_fields, IsDefinitionPart, IsPart, state_of}
+use Rattle.fit_step.proofs.Common.{◌≡◌, inl, inr, ℕ, zero, suc, ◌+◌, ◌-◌, ◌*◌, ◌<◌, Bool, true, false, List, [], ◌∷◌, ◌++◌, length, refl, sym, ap, ◌∙◌, subst}
+use Rattle.fit_step.proofs.Common.{arith, Some, None, Ok, Err, Option, nat_lt, option_map, unwrap_or, cond_both, eqb-true, eqb-false, ltb-false, sum_by-append}
+use Rattle.fit_step.proofs.Common.{sum_by-cons, DevDef, MessageDef, Values, Defined, DefinitionPhase, AtArchitecture, FieldCount, FieldSize, FieldCode}
+use Rattle.fit_step.proofs.Common.{DevCount, DevSize, DevIndex, Reserved, Environment, defined_at, is_definition, has_developer_fields, has_reserved_bit}
+use Rattle.fit_step.proofs.Common.{local_type, layout, dev_layout, message_size, sizes, least_definition, Tests, State, Step, NextState, start, step}
+use Rattle.fit_step.proofs.Common.{least_rest, begin_dev, begin_fields, layout_at, dev_layout_at, fields_rest, dev_rest, field_move, dev_move, definition_move}
+use Rattle.fit_step.proofs.Common.{next_field, next_dev, after_fields, dev_count_byte, new_definition, new_message, new_dev, header_move, message_move, Ends}
+use Rattle.fit_step.proofs.Common.{RecordPart, nothing, in_definition, in_fields, in_dev_fields, IsDefinitionPart, IsPart, state_of, HasBegun}
+use Rattle.std.proofs.Common.{◌≤◌}
+use Rattle.std.specs.Prelude.{drop, ◌==◌}
 
 -- what a step leaves of a room
 abbrev pub KeepsRoom : {A : Type 0} → Environment A → ℕ → Step A → Type 0
@@ -100,16 +88,12 @@ next_dev_keeps e room left n d h less =
 definition_keeps : {A : Type 0} (e : Environment A) (tests : Tests A) (k : DefinitionPhase) (room : ℕ) (d : MessageDef A) (b : ℕ) → IsDefinitionPart k d
     → Rattle.fit_step.specs.Machine.definition_rest k d ≤ room → KeepsRoom e room (definition_move tests k room d b)
 unfolding definition_move
-definition_keeps e tests Reserved room d b h less = (omega arith, omega arith)
 definition_keeps e tests AtArchitecture room d b h less =
     cond_both (b == 0) _ _ (λ n. KeepsRoom e room n) (λ z. (omega arith, omega arith))
     (λ z. cond_both (b == 1) _ _ (λ n. KeepsRoom e room n) (λ y. (omega arith, omega arith)) (λ y. tt))
-definition_keeps e tests GlobalFirst room d b h less = (omega arith, omega arith)
-definition_keeps e tests (GlobalSecond first) room d b h less = (omega arith, omega arith)
 definition_keeps e tests FieldCount room d b h less =
     cond_both (nat_lt room (1 + 3 * b + dev_count_byte d.dev)) _ _ (λ n. KeepsRoom e room n) (λ z. tt)
     (λ z. let within = ltb-false room (1 + 3 * b + dev_count_byte d.dev) z in next_keeps e room (room - 1) b d (omega arith) (omega arith))
-definition_keeps e tests (FieldNumber left) room d b h less = (omega arith, omega arith)
 definition_keeps e tests (FieldSize left number) room d b h less =
     cond_both (tests.field_size d (left - 1) (room - 1) b) _ _ (λ n. KeepsRoom e room n) (λ z. (omega arith, omega arith)) (λ z. tt)
 definition_keeps e tests (FieldCode left number size) room d b h less =
@@ -119,11 +103,11 @@ definition_keeps e tests DevCount room d b h less =
     (λ z. cond_both (tests.dev_count d (room - 1) b) _ _ (λ n. KeepsRoom e room n)
     (λ y. let within = ltb-false room (1 + 3 * b) z in next_dev_keeps e room (room - 1) b d (omega arith) (omega arith))
     (λ y. tt))
-definition_keeps e tests (DevNumber left) room d b h less = (omega arith, omega arith)
 definition_keeps e tests (DevSize left number) room d b h less =
     cond_both (tests.dev_size d (left - 1) (room - 1) b) _ _ (λ n. KeepsRoom e room n) (λ z. (omega arith, omega arith)) (λ z. tt)
 definition_keeps e tests (DevIndex left number size) room d b h less =
     next_dev_keeps e room (room - 1) (left - 1) _ (omega arith) (omega arith)
+definition_keeps e tests k room d b h less = (omega arith, omega arith)
 
 -- ---- record headers
 
@@ -167,10 +151,17 @@ keeps e tests room (in_fields local offset t dev) b (p, known, header, s, same) 
 keeps e tests room (in_dev_fields local offset items t) b (p, known, header, shapes, s) less =
     dev_field_keeps e (length t.done) _ t.left room _ t.partial b s.some less
 
--- ---- runs
+-- ---- the least rest
 
-pub room_of : {A : Type 0} (room : ℕ) (f : RecordPart A) → (state_of room f).room ≡ room
-room_of room nothing = refl
-room_of room (in_definition k d) = refl
-room_of room (in_fields local offset t dev) = refl
-room_of room (in_dev_fields local offset items t) = refl
+-- a record in progress takes one byte more at least
+pub takes_more : {A : Type 0} (e : Environment A) (room : ℕ) (f : RecordPart A) → IsPart e f → HasBegun f → 0 < least_rest e (state_of room f)
+takes_more e room nothing is begun = absurd begun
+takes_more e room (in_definition Reserved d) is begun = omega arith
+takes_more e room (in_definition k d) is begun = omega arith
+takes_more e room (in_fields local offset t dev) is begun = let some = is.3.some in omega (arith, some)
+takes_more e room (in_dev_fields local offset items t) is begun = let some = is.4.some in omega (arith, some)
+
+-- the room doesn't count
+pub rest_same : {A : Type 0} (e : Environment A) (room left : ℕ) (f : RecordPart A) → least_rest e (state_of room f) ≡ least_rest e (state_of left f)
+rest_same e room left nothing = refl
+rest_same e room left f = refl

@@ -1,35 +1,19 @@
 -- A byte that isn't refused leaves a room that can still be filled.
-use Rattle.std.proofs.Common.{◌≡◌, inl, inr, ◌⊎◌, ℕ, zero, suc, ◌+◌, ◌-◌, ◌*◌, ◌<◌, ◌≤◌, Bool, true, false, cond, List, [], ◌∷◌, ◌++◌, length, refl, sym, ap}
-use Rattle.std.proofs.Common.{◌∙◌, subst, arith, Some, None, Ok, Err}
-use Rattle.std.specs.Prelude.{Option, drop, ◌==◌, ◌&&◌, ◌||◌, nat_lt, nat_le, option_map, unwrap_or, sum_by}
-use Rattle.std.proofs.lemmas.Bool.{cond_both, eqb-true, eqb-false, ltb-false, leb-true, le-leb, lt-leb, or_left, or_right, or_cases, and_parts, and_from}
-use Rattle.std.proofs.lemmas.Bool.{cases_lt}
-use Rattle.std.proofs.lemmas.List.Sums.{sum_by-append, sum_by-cons}
-use Rattle.fit_record.specs.declared.definition.DevDef.{DevDef}
-use Rattle.fit_record.specs.declared.definition.FieldDef.{FieldDef}
-use Rattle.fit_record.specs.declared.definition.MessageDef.{MessageDef}
-use Rattle.fit_record.specs.declared.environment.Defined.{Defined}
-use Rattle.fit_record.specs.declared.message.Record.TheVariants.{Define}
-use Rattle.fit_record.specs.declared.message.Values.{Values}
-use Rattle.fit_record.specs.Environment.{Environment, defined_at, dev_defs, learn}
-use Rattle.fit_record.specs.HeaderByte.{is_definition, has_developer_fields, has_reserved_bit, local_type}
-use Rattle.fit_record.specs.Records.{layout, dev_layout, message_size, body_length}
-use Rattle.fit_record.specs.Rooms.{fills, has_length, can_fill, can_fill_with, can_fill_from, others_have}
-use Rattle.fit_record.specs.Unfinished.{finishes, can_complete, can_complete_dev}
-use Rattle.fit_record.proofs.FilledRooms.{same_places, can_fill_is}
+use Rattle.fit_step.proofs.Common.{◌≡◌, inl, inr, ◌⊎◌, ℕ, zero, suc, ◌+◌, ◌-◌, ◌*◌, ◌<◌, Bool, true, false, cond, List, [], ◌∷◌, ◌++◌, length, refl, sym, ap}
+use Rattle.fit_step.proofs.Common.{◌∙◌, subst, arith, Some, None, Ok, Err, Option, ◌&&◌, ◌||◌, nat_lt, nat_le, option_map, unwrap_or, cond_both, eqb-true}
+use Rattle.fit_step.proofs.Common.{eqb-false, ltb-false, leb-true, le-leb, lt-leb, or_left, or_right, or_cases, and_parts, and_from, cases_lt, sum_by-append}
+use Rattle.fit_step.proofs.Common.{sum_by-cons, DevDef, FieldDef, MessageDef, Defined, Define, Values, Environment, defined_at, dev_defs, learn, is_definition}
+use Rattle.fit_step.proofs.Common.{has_developer_fields, has_reserved_bit, local_type, layout, dev_layout, message_size, body_length, fills, has_length}
+use Rattle.fit_step.proofs.Common.{can_fill, can_fill_with, can_fill_from, others_have, finishes, can_complete, can_complete_dev, same_places, can_fill_is}
+use Rattle.fit_step.proofs.Common.{length-set, DefinitionPhase, Reserved, AtArchitecture, GlobalFirst, GlobalSecond, FieldCount, FieldNumber, FieldSize}
+use Rattle.fit_step.proofs.Common.{FieldCode, DevCount, DevNumber, DevSize, DevIndex, least_definition, Step, start, step, least_rest, begin_dev, begin_fields}
+use Rattle.fit_step.proofs.Common.{layout_at, dev_layout_at, fields_rest, dev_rest, field_move, dev_move, definition_move, definition_rest, next_field}
+use Rattle.fit_step.proofs.Common.{next_dev, after_fields, dev_count_byte, new_message, new_dev, header_move, message_move, sizes, RecordPart, nothing}
+use Rattle.fit_step.proofs.Common.{in_definition, in_fields, in_dev_fields, IsDefinitionPart, IsNew, HasNone, IsPart, state_of, entries_complete, tests_of}
+use Rattle.fit_step.proofs.Common.{has_dev, definition_goes_on, goes_on}
+use Rattle.std.proofs.Common.{◌≤◌}
+use Rattle.std.specs.Prelude.{drop, ◌==◌, sum_by}
 use Rattle.fit_record.proofs.DefinitionInPlace.{can_fill_after}
-use Rattle.std.proofs.Math.ListN.{length-set}
-use Rattle.fit_step.specs.declared.phase.DefinitionPhase.{DefinitionPhase}
-use Rattle.fit_step.specs.declared.phase.DefinitionPhase.TheVariants.{Reserved, Architecture as AtArchitecture, GlobalFirst, GlobalSecond, FieldCount}
-use Rattle.fit_step.specs.declared.phase.DefinitionPhase.TheVariants.{FieldNumber, FieldSize, FieldCode, DevCount, DevNumber, DevSize, DevIndex}
-use Rattle.fit_step.specs.Reasons.{least_definition}
-use Rattle.fit_step.specs.Machine.{Step, start, step, least_rest, begin_dev, begin_fields, layout_at, dev_layout_at, fields_rest, dev_rest, field_move}
-use Rattle.fit_step.specs.Machine.{dev_move, definition_move, definition_rest, next_field, next_dev, after_fields, dev_count_byte, new_message, new_dev}
-use Rattle.fit_step.specs.Machine.{header_move, message_move}
-use Rattle.fit_record.specs.Records.{sizes}
-use Rattle.fit_step.specs.Parts.{RecordPart, nothing, in_definition, in_fields, in_dev_fields, IsDefinitionPart, IsNew, HasNone, IsPart, state_of}
-use Rattle.fit_step.specs.Tests.{entries_complete, tests_of}
-use Rattle.fit_step.specs.GoingOn.{has_dev, definition_goes_on, goes_on}
 use Rattle.fit_step.proofs.Rest.{behind}
 
 -- what a step leaves can go on, and behind a whole record the room can be filled
@@ -174,13 +158,16 @@ module _ {A : Type 0} (e : Environment A) (sixteen : length e.places ≡ 16) whe
   defined_on room d low h =
       (can_fill_is (learn e (Define d)) room (length-set e.places d.local _ ∙ sixteen)).1 ((can_fill_after e d room sixteen low).0 h)
 
-  after_on : (room : ℕ) (d : MessageDef A) (dev : Option (List DevDef)) → d.dev ≡ dev → d.local < 16
-      → entries_complete e dev d.local 0 (body_length d) room ≡ true → GoesOn e (Ok (after_fields room d dev))
-  after_on room d None is low h =
+  whole_on : (room : ℕ) (d : MessageDef A) → d.local < 16 → can_complete e d.local 0 (body_length d) room ≡ true → GoesOn e (Ok (start room, Some (Define d)))
+  whole_on room d low h =
       let parts = and_parts (nat_le 0 room) (finishes e d.local 0 (body_length d) (room - 0)) h in
       let same : room - 0 ≡ room = omega arith in
       defined_on room d low (subst (λ n. can_fill_with e d.local (body_length d) n ≡ true) same
       (with_of e d.local 0 (body_length d) (room - 0) (omega arith) parts.1))
+
+  after_on : (room : ℕ) (d : MessageDef A) (dev : Option (List DevDef)) → d.dev ≡ dev → d.local < 16
+      → entries_complete e dev d.local 0 (body_length d) room ≡ true → GoesOn e (Ok (after_fields room d dev))
+  after_on room d None is low h = whole_on room d low h
   after_on room d (Some defs) is low h = h
 
   next_on : (room n : ℕ) (d : MessageDef A) → d.local < 16 → ((n ≡ 0 → ⊥) → entries_complete e d.dev d.local (3 + 3 * (n - 1)) (body_length d) room ≡ true)
@@ -194,11 +181,7 @@ module _ {A : Type 0} (e : Environment A) (sixteen : length e.places ≡ 16) whe
       → (n ≡ 0 → can_complete e d.local 0 (body_length d) room ≡ true) → GoesOn e (Ok (next_dev n room d))
   next_dev_on room n d low some none =
       cond_both (n == 0) _ _ (λ m. GoesOn e (Ok m))
-      (λ z.
-      let parts = and_parts (nat_le 0 room) (finishes e d.local 0 (body_length d) (room - 0)) (none (eqb-true n 0 z)) in
-      let same : room - 0 ≡ room = omega arith in
-      defined_on room d low (subst (λ m. can_fill_with e d.local (body_length d) m ≡ true) same
-      (with_of e d.local 0 (body_length d) (room - 0) (omega arith) parts.1)))
+      (λ z. whole_on room d low (none (eqb-true n 0 z)))
       (λ z. some (eqb-false n 0 z))
 
 -- the number of fields, or a byte before it
@@ -222,19 +205,10 @@ empty_on e local (Some defs) size room none enough =
 
 -- the length of data messages with one field more, and with one developer field more
 one_field : {A : Type 0} (d : MessageDef A) (f : FieldDef) → body_length (record d { fields = d.fields ++ f ∷ [] }) ≡ body_length d + f.size
-one_field d f =
-    let all : sum_by (λ (f : FieldDef). f.size) (d.fields ++ f ∷ []) ≡ sum_by (λ (f : FieldDef). f.size) d.fields + sum_by (λ (f : FieldDef). f.size) (f ∷ []) =
-    sum_by-append (λ (f : FieldDef). f.size) d.fields (f ∷ []) in
-    let one : sum_by (λ (f : FieldDef). f.size) (f ∷ []) ≡ f.size + sum_by (λ (f : FieldDef). f.size) [] = sum_by-cons (λ (f : FieldDef). f.size) f [] in
-    omega (arith, all, one)
+one_field d f = omega (arith, sum_by-append (λ (f : FieldDef). f.size) d.fields (f ∷ []), sum_by-cons (λ (f : FieldDef). f.size) f [])
 
 one_dev : {A : Type 0} (d : MessageDef A) (f : DevDef) → body_length (record d { dev = Some (dev_defs d.dev ++ f ∷ []) }) ≡ body_length d + f.size
-one_dev d f =
-    let all : sum_by (λ (f : DevDef). f.size) (dev_defs d.dev ++ f ∷ [])
-    ≡ sum_by (λ (f : DevDef). f.size) (dev_defs d.dev) + sum_by (λ (f : DevDef). f.size) (f ∷ []) =
-    sum_by-append (λ (f : DevDef). f.size) (dev_defs d.dev) (f ∷ []) in
-    let one : sum_by (λ (f : DevDef). f.size) (f ∷ []) ≡ f.size + sum_by (λ (f : DevDef). f.size) [] = sum_by-cons (λ (f : DevDef). f.size) f [] in
-    omega (arith, all, one)
+one_dev d f = omega (arith, sum_by-append (λ (f : DevDef). f.size) (dev_defs d.dev) (f ∷ []), sum_by-cons (λ (f : DevDef). f.size) f [])
 
 module _ {A : Type 0} (e : Environment A) (sixteen : length e.places ≡ 16) where
   -- one byte of entries has come, and the sizes are these

@@ -1,11 +1,7 @@
 -- The machine on some records.
-use Rattle.std.proofs.Common.{◌≡◌, ℕ, List, [], ◌∷◌, refl, Some, None, Ok, Err}
-use Rattle.fit_base.specs.declared.number.Order.TheVariants.{Big}
-use Rattle.fit_frame.specs.declared.reason.Reason.TheVariants.{ReservedBit, UndefinedLocal, Overrun, Architecture}
-use Rattle.fit_record.specs.declared.definition.MessageDef.{MessageDef}
-use Rattle.fit_record.specs.declared.message.Record.TheVariants.{Define, Values as Data}
-use Rattle.fit_record.specs.Environment.{Environment, empty_environment, learn}
-use Rattle.fit_step.specs.Machine.{Tests, Step, start, step, header_move, message_move, definition_move, field_move, dev_move}
+use Rattle.fit_step.proofs.Common.{◌≡◌, ℕ, List, [], ◌∷◌, refl, Some, None, Ok, Err, Big, ReservedBit, UndefinedLocal, Overrun, Architecture, MessageDef}
+use Rattle.fit_step.proofs.Common.{Define, Data, Environment, empty_environment, learn, Tests, Step, start, step, header_move, message_move, definition_move}
+use Rattle.fit_step.proofs.Common.{field_move, dev_move}
 use Rattle.fit_step.proofs.OneByte.{no_tests}
 
 abbrev after : {A : Type 0} → Environment A → Tests A → Step A → List ℕ → Step A

@@ -1,19 +1,10 @@
 -- From the machine to the form, and from the form to the machine.
-use Rattle.std.proofs.Common.{◌≡◌, inl, inr, ℕ, zero, suc, ◌-◌, ◌<◌, ◌≤◌, List, [], ◌∷◌, ◌++◌, length, replicate, refl, sym, ap, ◌∙◌, subst, arith}
-use Rattle.std.proofs.Common.{append_assoc, Some, None, Ok, Err}
-use Rattle.std.proofs.lemmas.List.{append-nil}
-use Rattle.fit_base.specs.Numbers.{IsBytes}
-use Rattle.fit_base.proofs.ByteLists.{IsBytes-tail}
-use Rattle.fit_frame.specs.declared.reason.Reason.{Reason}
-use Rattle.fit_frame.specs.declared.reason.Reason.TheVariants.{NoFit, Overrun}
-use Rattle.fit_record.specs.declared.message.Record.{Record}
-use Rattle.fit_record.specs.Environment.{Environment}
-use Rattle.fit_record.specs.Records.{Fits, record_bytes}
-use Rattle.fit_step.specs.Machine.{Tests, State, NextState, start, step, Ends, RoomsFill}
-use Rattle.fit_step.specs.Parts.{RecordPart, nothing, in_definition, in_fields, in_dev_fields, part_bytes, IsPart, HasBegun, state_of, IsShut}
-use Rattle.fit_step.specs.inner.Runs.{RecordsRunThrough}
-use Rattle.fit_record.proofs.OneRecord.{same_record, no_bytes}
-use Rattle.fit_step.proofs.PartsCompletedByZeros.{cuts_go_on}
+use Rattle.fit_step.proofs.Common.{◌≡◌, inl, inr, ℕ, zero, suc, ◌-◌, ◌<◌, List, [], ◌∷◌, ◌++◌, length, refl, sym, ap, ◌∙◌, subst, arith, append_assoc, Some}
+use Rattle.fit_step.proofs.Common.{None, Ok, Err, append-nil, IsBytes, IsBytes-tail, Reason, NoFit, Overrun, Record, Environment, Fits, record_bytes, Tests}
+use Rattle.fit_step.proofs.Common.{State, NextState, start, step, Ends, RoomsFill, RecordPart, nothing, part_bytes, IsPart, HasBegun, state_of, IsShut}
+use Rattle.fit_step.proofs.Common.{RecordsRunThrough, same_record}
+use Rattle.std.proofs.Common.{◌≤◌}
+use Rattle.fit_step.proofs.RecordFronts.{part_of_record}
 use Rattle.fit_step.proofs.OneByte.{outcome}
 
 -- ---- from the machine to the form
@@ -27,7 +18,7 @@ one_more xs b ys = append_assoc xs (b ∷ []) ys
 -- what a step to a state was
 pub step_goes : {A : Type 0} (e : Environment A) (tests : Tests A) (room : ℕ) (f : RecordPart A) (b : ℕ) (u : State A) → IsPart e f → b < 256
     → step e tests (state_of room f) b ≡ Ok (u, None)
-    → (next : RecordPart A) × IsPart e next × (part_bytes e next ≡ part_bytes e f ++ b ∷ []) × (u ≡ state_of (room - 1) next)
+    → (next : RecordPart A) × IsPart e next × (part_bytes e next ≡ part_bytes e f ++ b ∷ []) × (u ≡ state_of (room - 1) next) × HasBegun next
 step_goes {A} e tests room f b u h low made =
     elim (outcome e tests room f b h low) [
       | inr stops ↦ absurd (cc (made, stops.is))
@@ -35,7 +26,7 @@ step_goes {A} e tests room f b u h low made =
         | inr c ↦ absurd (let same : (u, None) ≡ (start (room - 1), Some c.whole) = cc (made, c.is) in let none : None ≡ Some c.whole =
             ap (λ (n : NextState A). n.1) same in cc)
         | inl g ↦ let same : (u, None) ≡ (state_of (room - 1) g.next, None) = cc (made, g.is) in
-            (g.next, g.stands, g.spelled, ap (λ (n : NextState A). n.0) same)
+            (g.next, g.stands, g.spelled, ap (λ (n : NextState A). n.0) same, g.begun)
       ]
     ]
 
@@ -58,23 +49,9 @@ step_ends {A} e tests room f b u r h low made =
 
 -- ---- from the form to the machine
 
-whole_is_whole : {A : Type 0} (e : Environment A) (f : RecordPart A) (r : Record A) → IsPart e f → HasBegun f → Fits e r → record_bytes e r ≡ part_bytes e f → ⊥
-whole_is_whole e f r h begun fits is =
-    let k = cuts_go_on e f h begun in
-    let one = same_record e r k.0 (0 ∷ replicate k.1 0) [] fits k.2.0
-    (ap (λ z. z ++ 0 ∷ replicate k.1 0) is ∙ k.2.1 ∙ sym (append-nil (record_bytes e k.0))) in
-    let none : 0 ∷ replicate k.1 0 ≡ [] = one.1 in
-    cc
-
--- the bytes of a record are no part of one
-not_a_part : {A : Type 0} (e : Environment A) (f : RecordPart A) (r : Record A) → IsPart e f → Fits e r → record_bytes e r ≡ part_bytes e f → ⊥
-not_a_part e nothing r h fits is = no_bytes e r [] (ap length (append-nil (record_bytes e r) ∙ is))
-not_a_part e (in_definition k d) r h fits is = whole_is_whole e (in_definition k d) r h tt fits is
-not_a_part e (in_fields local offset t dev) r h fits is = whole_is_whole e (in_fields local offset t dev) r h tt fits is
-not_a_part e (in_dev_fields local offset items t) r h fits is = whole_is_whole e (in_dev_fields local offset items t) r h tt fits is
-
 -- a refusal of a byte that a record in the room goes on with is for want of records after it
-shut_out : {A : Type 0} (e : Environment A) (room : ℕ) (bytes : List ℕ) (b : ℕ) (reason : Reason) (r : Record A) (rest : List ℕ) → IsShut e room bytes b reason
+pub shut_out : {A : Type 0} (e : Environment A) (room : ℕ) (bytes : List ℕ) (b : ℕ) (reason : Reason) (r : Record A) (rest : List ℕ)
+    → IsShut e room bytes b reason
     → Fits e r → record_bytes e r ≡ bytes ++ b ∷ rest → length rest < room → (reason ≡ NoFit → ⊥) → ⊥
 shut_out e room bytes b NoFit r rest shut fits is less other = other refl
 shut_out e room bytes b Overrun r rest shut fits is less other = omega (arith, shut r rest fits is, less)
@@ -84,7 +61,8 @@ through : {A : Type 0} (e : Environment A) (tests : Tests A) (r : Record A) (byt
     → Fits e r
     → record_bytes e r ≡ part_bytes e f ++ bytes
     → length bytes ≤ room → RoomsFill e tests (state_of room f) bytes → Ends e tests (state_of room f) bytes (start (room - length bytes)) r
-through e tests r [] room f h low fits is within fill = absurd (not_a_part e f r h fits (is ∙ append-nil (part_bytes e f)))
+through e tests r [] room f h low fits is within fill =
+    absurd (part_of_record e f h r [] fits (sym (append-nil (record_bytes e r) ∙ is ∙ append-nil (part_bytes e f))))
 through {A} e tests r (b ∷ bytes) room f h low fits is within fill =
     elim (outcome e tests room f b h (low zero)) [
       | inr stops ↦ absurd (shut_out e room (part_bytes e f) b stops.reason r bytes stops.shut fits is (omega arith) (λ same. fill.0 (stops.is ∙ ap Err same)))

@@ -1,14 +1,7 @@
 -- Behind records that are skipped the next one can begin.
-use Rattle.std.proofs.Common.{◌≡◌, ℕ, ◌+◌, ◌-◌, ◌≤◌, List, [], ◌∷◌, length, ap, sym, subst, arith, None}
-use Rattle.std.specs.Prelude.{Option}
-use Rattle.fit_record.specs.declared.message.Record.{Record}
-use Rattle.fit_record.specs.Environment.{Environment, learn, learn_all}
-use Rattle.fit_record.specs.Files.{CanFill}
-use Rattle.fit_record.proofs.LargeRooms.{six_and_more}
-use Rattle.fit_step.specs.declared.position.Position.{Position}
-use Rattle.fit_step.specs.InProgress.{IsInProgress}
-use Rattle.fit_step.specs.Places.{Begins}
-use Rattle.fit_step.specs.Skipping.{AreSkipped}
+use Rattle.fit_step.proofs.Common.{◌≡◌, ℕ, ◌+◌, ◌-◌, List, [], ◌∷◌, length, ap, sym, subst, arith, None, Option, Record, Environment, learn, learn_all, CanFill}
+use Rattle.fit_step.proofs.Common.{six_and_more, Position, IsInProgress, Begins, AreSkipped}
+use Rattle.std.proofs.Common.{◌≤◌}
 use Rattle.fit_step.proofs.RecordsInProgress.{begins_record, idle_between_records, sixteen_learned}
 
 pub sixteen_all : {A : Type 0} (e : Environment A) (records : List (Record A)) → length e.places ≡ 16 → length (learn_all e records).places ≡ 16

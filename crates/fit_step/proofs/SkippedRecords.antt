@@ -1,27 +1,15 @@
 -- What is skipped are records.
-use Rattle.std.proofs.Common.{◌≡◌, cond, ℕ, zero, suc, ◌+◌, ◌<◌, ◌≤◌, ◌==◌, ◌%◌, ◌/◌, inl, inr, Bool, true, false, List, [], ◌∷◌, ◌++◌, length, take, drop}
-use Rattle.std.proofs.Common.{slice_index, refl, sym, ap, ◌∙◌, subst, arith, length-append, Some, None}
-use Rattle.std.specs.Prelude.{Option, slice_set, IsSomeAnd, option_map, option_and_then, unwrap_or}
-use Rattle.std.specs.Option.{option_map_or}
-use Rattle.std.proofs.Math.Seq.{take-add}
+use Rattle.fit_step.proofs.Common.{◌≡◌, cond, ℕ, zero, suc, ◌+◌, ◌<◌, ◌%◌, ◌/◌, inl, inr, Bool, true, false, List, [], ◌∷◌, ◌++◌, length, take, refl, sym, ap}
+use Rattle.fit_step.proofs.Common.{◌∙◌, subst, arith, length-append, Some, None, Option, option_and_then, option_map_or, take-add, eqb_tells, append-nil}
+use Rattle.fit_step.proofs.Common.{length-take-le, get_or-set_other, IsBytes, IsBytes-take, IsBytes-tail, IsBytes-cons, Defined, MessageDef, Define, Data}
+use Rattle.fit_step.proofs.Common.{Values, Environment, defined_at, defined_by, describe, description, learn, bit, has_reserved_bit, is_definition, local_type}
+use Rattle.fit_step.proofs.Common.{message_size, AllFit, record_bytes, records_bytes, IsRecord, size_to_skip, AreSizesToSkip, HeadsMessage, IsSkipped}
+use Rattle.fit_step.proofs.Common.{AreSkipped}
+use Rattle.std.proofs.Common.{◌≤◌, ◌==◌, drop, slice_index}
+use Rattle.std.specs.Prelude.{slice_set}
 use Rattle.std.proofs.lemmas.Grind.{get_or-set_at}
-use Rattle.std.proofs.lemmas.Bool.Decides.{eqb_tells}
-use Rattle.std.proofs.lemmas.List.{append-nil, length-take-le, get_or-set_other}
-use Rattle.fit_base.specs.declared.number.Order.TheVariants.{Little}
-use Rattle.fit_base.specs.Numbers.{IsBytes}
-use Rattle.fit_base.proofs.ByteLists.{IsBytes-take, IsBytes-tail}
-use Rattle.fit_record.specs.declared.environment.Defined.{Defined}
-use Rattle.fit_record.specs.declared.definition.MessageDef.{MessageDef}
-use Rattle.fit_record.specs.declared.message.Record.TheVariants.{Define, Values as Data}
-use Rattle.fit_record.specs.declared.message.Values.{Values}
-use Rattle.fit_record.specs.Environment.{Environment, defined_at, defined_by, describe, description, learn}
-use Rattle.fit_record.specs.HeaderByte.{bit, has_reserved_bit, is_compressed, is_definition, local_type}
-use Rattle.fit_record.specs.inner.ReadMessages.{values_from}
-use Rattle.fit_record.specs.Records.{message_size, data_header, data_bytes, DataFits, order_at, AllFit, record_bytes, records_bytes}
-use Rattle.fit_record.proofs.MessageBytes.{message_fits}
 use Rattle.fit_record.proofs.RecordLists.{all_fit-append, records_bytes-append, learn_all-append}
-use Rattle.fit_step.specs.Skipping.{size_to_skip, AreSizesToSkip, HeadsMessage, IsSkipped, AreSkipped}
-use Rattle.fit_step.proofs.HeaderBits.{data_spelled}
+use Rattle.fit_step.proofs.WholeMessage.{data_read, data_record}
 
 -- ---- one message
 
@@ -35,19 +23,13 @@ module _ {A : Type 0} (e : Environment A) (b : ℕ) (rest : List ℕ) (are : IsB
   one_of p known plain size long within =
       let n = message_size p in
       let body : List ℕ = take n rest in
-      let offset = cond (is_compressed b) (Some (b % 32)) None in
-      let header = data_spelled b (are zero) clean kind in
-      let size_of_body : length body ≡ n = length-take-le n rest (omega (arith, long, within)) in
-      let message : Values A = values_from (local_type b) offset p.definition.order p body in
-      let fits = message_fits (local_type b) offset p.definition.order p body header.0 (IsBytes-take n rest (IsBytes-tail b rest are)) size_of_body in
-      let order : order_at e (local_type b) ≡ p.definition.order = ap (λ o. unwrap_or (option_map (λ (q : Defined A). q.definition.order) o) Little) known in
       let all : b ∷ body ≡ take size (b ∷ rest) = ap (λ k. take k (b ∷ rest)) (let next : suc n ≡ size = omega (arith, long) in next) in
-      let spelled : b ∷ body ≡ record_bytes e (Data message) =
-      (λ i. sym header.1 i ∷ sym fits.1 i) ∙ ap (λ o. data_header (local_type b) offset ∷ data_bytes o message) (sym order) in
-      let silent : description p.definition message ≡ None = off (p.definition.global == 206) _ plain in
+      let whole = data_record e p b body (IsBytes-cons b body (are zero) (IsBytes-take n rest (IsBytes-tail b rest are))) clean kind known
+      (length-take-le n rest (omega (arith, long, within))) in
+      let message : Values A = data_read p b body in
       let nothing : option_and_then (λ q. description q.definition message) (defined_at e (local_type b)) ≡ None =
-      ap (λ o. option_and_then (λ (q : Defined A). description q.definition message) o) known ∙ silent in
-      (Data message, (subst (λ o. IsSomeAnd o (DataFits message)) (sym known) fits.0, sym all ∙ spelled), ap (describe e) nothing)
+      ap (λ o. option_and_then (λ (q : Defined A). description q.definition message) o) known ∙ off (p.definition.global == 206) _ plain in
+      (Data message, subst (IsRecord e (Data message)) all whole, ap (describe e) nothing)
 
   pub one_skipped : (size : ℕ) → 0 < size → size ≡ size_to_skip e (local_type b) → size ≤ length (b ∷ rest) → IsSkipped e e (take size (b ∷ rest))
   one_skipped size some is within = go (defined_at e (local_type b)) refl is

@@ -1,30 +1,15 @@
 -- What there is of a record in progress is what is whole in its bytes.
-use Rattle.std.proofs.Common.{◌≡◌, cond, ℕ, suc, ◌+◌, ◌-◌, ◌*◌, ◌/◌, List, [], ◌∷◌, ◌++◌, length, length-append, refl, sym, ap, ◌∙◌, arith, append_assoc, Some}
-use Rattle.std.specs.Prelude.{Option, map, flat_map, zip, sum_by, min}
-use Rattle.std.specs.Option.{option_map_or}
-use Rattle.std.proofs.Math.Nat.{div-le_self}
-use Rattle.std.proofs.lemmas.List.{append-nil, length-map}
-use Rattle.std.proofs.lemmas.List.Sums.{sum_by-append, sum_by-cons}
-use Rattle.std.proofs.lemmas.Nat.{div-mul-add}
-use Rattle.fit_base.specs.declared.items.Items.{Items}
-use Rattle.fit_base.specs.declared.number.Order.{Order}
-use Rattle.fit_base.specs.BaseTypes.{item_width}
-use Rattle.fit_base.specs.Fields.{items_bytes}
-use Rattle.fit_record.specs.declared.environment.Defined.{Defined}
-use Rattle.fit_record.specs.Environment.{Environment, defined_at, dev_defs}
-use Rattle.fit_record.specs.HeaderByte.{local_type}
-use Rattle.fit_record.specs.Records.{layout, dev_layout, data_header, DataHeaderFits, HaveShape, order_at}
-use Rattle.fit_record.specs.Sizes.{entry_count}
-use Rattle.fit_step.specs.Machine.{no_items}
-use Rattle.fit_record.specs.Records.{sizes}
-use Rattle.fit_step.specs.Parts.{TakenFields, width_of, taken, all_items, IsTaking}
-use Rattle.fit_step.proofs.Carried.{taken_rest}
+use Rattle.fit_step.proofs.Common.{◌≡◌, ℕ, ◌+◌, ◌-◌, ◌*◌, ◌/◌, List, [], ◌∷◌, ◌++◌, length, length-append, refl, sym, ap, ◌∙◌, arith, append_assoc, Some}
+use Rattle.fit_step.proofs.Common.{Option, flat_map, min, div-le_self, append-nil, length-map, sum_by-append, sum_by-cons, div-mul-add, Items, Order}
+use Rattle.fit_step.proofs.Common.{item_width, items_bytes, Defined, Environment, defined_at, dev_defs, layout, dev_layout, data_header, DataHeaderFits}
+use Rattle.fit_step.proofs.Common.{HaveShape, order_at, entry_count, no_items, sizes, TakenFields, width_of, taken, all_items, IsTaking, length-dev_layout}
+use Rattle.fit_step.proofs.Common.{items_so_far, held_of_record, items_in, values_size}
+use Rattle.std.specs.Prelude.{map, sum_by}
 use Rattle.fit_step.proofs.HeaderBits.{data_bits}
-use Rattle.fit_step.proofs.Lengths.{length-shaped}
+use Rattle.fit_step.proofs.Lengths.{length-shaped, taken_rest}
 use Rattle.fit_step.proofs.Takes.{as_many}
-use Rattle.fit_step.specs.Held.{entries_so_far, items_so_far, held_of_record}
-use Rattle.fit_step.specs.InProgress.{items_in, values_size}
-use Rattle.fit_step.proofs.HeldParts.{items_of, whole_items, no_items_yet, taking_fields}
+use Rattle.fit_step.proofs.HeldParts.{items_of, whole_items, no_items_yet}
+use Rattle.fit_step.proofs.Preconditions.{as_defined}
 
 -- ---- items
 
@@ -104,24 +89,7 @@ module _ {A : Type 0} (e : Environment A) (local : ℕ) (offset : Option ℕ) (p
     (fits : DataHeaderFits local offset) (more : List ℕ) where
   message_held : held_of_record e (data_header local offset ∷ more) ≡ entry_count p.definition + items_so_far (layout p ++ dev_layout p) (length more)
   message_held =
-      let bits = data_bits (data_header local offset) local offset refl fits in
-      ap (λ c. cond c (entries_so_far more) (option_map_or (λ q. entry_count q.definition + items_so_far (layout q ++ dev_layout q) (length more))
-      (defined_at e (local_type (data_header local offset))) 0)) bits.kind
-      ∙ ap (λ l. option_map_or (λ q. entry_count q.definition + items_so_far (layout q ++ dev_layout q) (length more)) (defined_at e l) 0) bits.type
-      ∙ ap (λ q. option_map_or (λ q. entry_count q.definition + items_so_far (layout q ++ dev_layout q) (length more)) q 0) known
-
-as_many_zipped : (codes sizes : List ℕ) → length codes ≡ length sizes → length (zip codes sizes) ≡ length sizes
-as_many_zipped [] [] same = refl
-as_many_zipped [] (s ∷ sizes) same = absurd (omega arith)
-as_many_zipped (c ∷ codes) [] same = absurd (omega arith)
-as_many_zipped (c ∷ codes) (s ∷ sizes) same = ap suc (as_many_zipped codes sizes (omega (arith, same)))
-
-as_many_dev : {A : Type 0} (p : Defined A) → length p.dev_codes ≡ length (dev_defs p.definition.dev)
-    → length (dev_layout p) ≡ length (dev_defs p.definition.dev)
-as_many_dev p same =
-    let count : length (map (λ f. f.size) (dev_defs p.definition.dev)) ≡ length (dev_defs p.definition.dev) =
-    length-map (dev_defs p.definition.dev) (λ f. f.size) in
-    as_many_zipped p.dev_codes (map (λ f. f.size) (dev_defs p.definition.dev)) (omega (arith, same, count)) ∙ count
+      let bits = data_bits (data_header local offset) local offset refl fits in rw (bits.kind, bits.type, known) refl
 
 module _ {A : Type 0} (e : Environment A) (local : ℕ) (offset : Option ℕ) (p : Defined A) (known : defined_at e local ≡ Some p)
     (fits : DataHeaderFits local offset) (codes : length p.dev_codes ≡ length (dev_defs p.definition.dev)) where
@@ -136,10 +104,10 @@ module _ {A : Type 0} (e : Environment A) (local : ℕ) (offset : Option ℕ) (p
         arith,
         message_held e local offset p known fits (flat_map (items_bytes order) (taken t) ++ t.partial),
         taking_so_far order (layout p) t taking (dev_layout p),
-        taking_fields (layout p) t taking,
+        as_defined (layout p) t taking,
         no_items_yet A (dev_layout p),
         length-map (dev_layout p) (no_items {A = A}),
-        as_many_dev p codes,
+        length-dev_layout p.dev_codes (dev_defs p.definition.dev) codes,
         length-map {B = ℕ × ℕ} p.definition.fields (λ f. (f.code, f.size)),
       )
 
@@ -162,7 +130,7 @@ module _ {A : Type 0} (e : Environment A) (local : ℕ) (offset : Option ℕ) (p
         all,
         whole_items (layout p) items shape,
         as_many (layout p) items shape,
-        taking_fields (dev_layout p) t taking,
-        as_many_dev p codes,
+        as_defined (dev_layout p) t taking,
+        length-dev_layout p.dev_codes (dev_defs p.definition.dev) codes,
         length-map {B = ℕ × ℕ} p.definition.fields (λ f. (f.code, f.size)),
       )

@@ -1,5 +1,5 @@
 -- Two ways to begin one list.
-use Rattle.std.proofs.Common.{◌≡◌, ◌⊎◌, inl, inr, ℕ, List, [], ◌∷◌, ◌++◌, refl}
+use Rattle.fit_step.proofs.Common.{◌≡◌, ◌⊎◌, inl, inr, ℕ, List, [], ◌∷◌, ◌++◌, refl}
 
 -- the second goes on behind the first
 pub record GoesPast (a b x y : List ℕ) : Type 0 where

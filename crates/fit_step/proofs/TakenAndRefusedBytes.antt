@@ -1,59 +1,28 @@
 -- What isn't refused begins records that fill the room, and what is refused begins none.
-use Rattle.std.proofs.Common.{◌≡◌, inl, inr, ℕ, zero, suc, ◌+◌, ◌-◌, ◌*◌, ◌<◌, ◌≤◌, true, false, List, [], ◌∷◌, ◌++◌, length, refl, sym, ap, ◌∙◌, subst, lit<}
-use Rattle.std.proofs.Common.{arith, append_assoc, length-append, Some, None, Err}
-use Rattle.std.specs.Prelude.{Option, flat_map, nat_lt, option_map, unwrap_or, drop}
-use Rattle.std.proofs.lemmas.Bool.{both_ways, cond_both}
-use Rattle.std.proofs.lemmas.List.{append-nil}
-use Rattle.std.proofs.lemmas.List.Sums.{sum_by-append}
-use Rattle.std.proofs.Math.ListN.{length-set}
-use Rattle.fit_base.specs.Numbers.{IsBytes}
-use Rattle.fit_base.specs.Fields.{items_bytes}
-use Rattle.fit_base.proofs.ByteLists.{IsBytes-tail}
-use Rattle.fit_frame.specs.declared.reason.Reason.{Reason}
-use Rattle.fit_frame.specs.declared.reason.Reason.TheVariants.{NoFit, Overrun}
-use Rattle.fit_record.specs.declared.definition.MessageDef.{MessageDef}
-use Rattle.fit_record.specs.declared.environment.Defined.{Defined}
-use Rattle.fit_record.specs.declared.message.Record.{Record}
-use Rattle.fit_record.specs.declared.message.Record.TheVariants.{Define, Values as Data}
-use Rattle.fit_record.specs.Environment.{Environment, defined_at, dev_defs, learn}
-use Rattle.fit_record.specs.Files.{CanFill}
-use Rattle.fit_record.specs.HeaderByte.{is_definition, has_reserved_bit, local_type}
-use Rattle.fit_record.specs.Records.{dev_field_bytes, layout, dev_layout, message_size, body_length, data_header, order_at, record_bytes, Fits}
-use Rattle.fit_record.specs.Rooms.{can_fill}
-use Rattle.fit_record.specs.Unfinished.{can_complete}
-use Rattle.fit_record.proofs.CarriedMessages.{can_fill_after_data}
-use Rattle.fit_record.proofs.FilledRooms.{can_fill_is, same_places}
-use Rattle.fit_step.specs.declared.phase.DefinitionPhase.{DefinitionPhase}
-use Rattle.fit_step.specs.declared.phase.DefinitionPhase.TheVariants.{FieldSize, DevCount, DevSize}
-use Rattle.fit_step.specs.GoingOn.{Continues}
-use Rattle.fit_step.specs.Laws.{PartsAreTested, RecordsEnd, TakenBytesGoOn, TakenBytesEnd, RefusedBytesEndAll, TakenBytesStand}
-use Rattle.fit_step.specs.Machine.{Tests, State, Step, start, step, least_rest, layout_at, dev_layout_at, fields_rest, dev_rest, header_move, message_move}
-use Rattle.fit_step.specs.Machine.{Ends, RoomsFill}
-use Rattle.fit_record.specs.Records.{sizes}
-use Rattle.fit_step.specs.Parts.{RecordPart, nothing, in_definition, in_fields, in_dev_fields, taken, part_bytes, dev_front, fields_front, definition_part}
-use Rattle.fit_step.specs.Parts.{IsPart, IsDefinitionPart, AwaitsDev, state_of, IsShut}
-use Rattle.fit_step.specs.Reasons.{least_definition}
-use Rattle.fit_step.specs.inner.Runs.{Fails}
-use Rattle.fit_step.specs.Tests.{tests_of, entries_complete}
-use Rattle.fit_step.proofs.Lengths.{length-data, length-shaped}
+use Rattle.fit_step.proofs.Common.{◌≡◌, inl, inr, ℕ, zero, suc, ◌+◌, ◌-◌, ◌*◌, ◌<◌, true, false, List, [], ◌∷◌, ◌++◌, length, refl, sym, ap, ◌∙◌, subst, lit<}
+use Rattle.fit_step.proofs.Common.{arith, append_assoc, length-append, Some, Err, flat_map, both_ways, append-nil, length-set, IsBytes, items_bytes}
+use Rattle.fit_step.proofs.Common.{IsBytes-tail, NoFit, MessageDef, Defined, Record, Define, Data, Environment, defined_at, dev_defs, learn, CanFill}
+use Rattle.fit_step.proofs.Common.{is_definition, local_type, dev_field_bytes, layout, dev_layout, message_size, body_length, data_header, order_at}
+use Rattle.fit_step.proofs.Common.{record_bytes, Fits, can_fill, can_complete, can_fill_after_data, can_fill_is, same_places, DefinitionPhase, FieldSize}
+use Rattle.fit_step.proofs.Common.{DevCount, DevSize, Continues, PartsAreTested, RecordsEnd, TakenBytesGoOn, TakenBytesEnd, RefusedBytesEndAll, TakenBytesStand}
+use Rattle.fit_step.proofs.Common.{State, start, step, least_rest, layout_at, dev_layout_at, fields_rest, dev_rest, Ends, RoomsFill, sizes, RecordPart, nothing}
+use Rattle.fit_step.proofs.Common.{in_definition, in_fields, in_dev_fields, taken, part_bytes, dev_front, fields_front, definition_part, IsPart}
+use Rattle.fit_step.proofs.Common.{IsDefinitionPart, AwaitsDev, state_of, Fails, tests_of, entries_complete}
+use Rattle.std.proofs.Common.{◌≤◌}
+use Rattle.std.specs.Prelude.{drop}
+use Rattle.fit_step.proofs.Lengths.{length-data, length-shaped, taken_rest, message_sizes}
 use Rattle.fit_step.proofs.HeaderSteps.{message_first, definition_first}
-use Rattle.fit_step.proofs.MessageSteps.{fields_to_come, dev_to_come}
+use Rattle.fit_step.proofs.MessageSteps.{fields_to_come, dev_to_come, dev_layout-known}
 use Rattle.fit_step.proofs.OneByte.{outcome}
-use Rattle.fit_step.proofs.Runs.{step_goes, step_ends, one_more, records_run_through}
+use Rattle.fit_step.proofs.Runs.{step_goes, step_ends, one_more, records_run_through, shut_out}
 use Rattle.fit_step.proofs.Rest.{keeps, KeepsRoom}
 use Rattle.fit_step.proofs.Fills.{no_fit_fails}
 use Rattle.fit_step.proofs.RoomsStayFillable.{goes, GoesOn}
-use Rattle.fit_step.proofs.Carried.{taken_rest, data_continues}
+use Rattle.fit_step.proofs.Carried.{data_continues}
 use Rattle.fit_step.proofs.UnfinishedDefinitions.{definition_continues, among_fields, among_dev_fields}
 use Rattle.fit_step.proofs.Kept.{still_stands}
 
 -- ---- what has come can go on just where the test says so
-
-message_sizes : {A : Type 0} (p : Defined A) → message_size p ≡ sizes (layout p) + sizes (dev_layout p)
-message_sizes p = sum_by-append (λ (f : ℕ × ℕ). f.1) (layout p) (dev_layout p)
-
-dev_known : {A : Type 0} (e : Environment A) (local : ℕ) (p : Defined A) → defined_at e local ≡ Some p → dev_layout_at e local ≡ dev_layout p
-dev_known e local p known = ap (λ o. unwrap_or (option_map dev_layout o) []) known
 
 pub parts_are_tested : {A : Type 0} → PartsAreTested A
 parts_are_tested e nothing room sixteen h are within = can_fill_is e room sixteen
@@ -63,7 +32,7 @@ parts_are_tested e (in_fields local offset t dev) room sixteen (p, known, header
     let part : List ℕ = flat_map (items_bytes o) (taken t) ++ t.partial in
     let rest : ℕ = t.left + fields_rest e (length t.done) local in
     let fields : sizes (drop (suc (length t.done)) (layout_at e local)) ≡ sizes t.to_come = ap sizes (fields_to_come e local p t known s) in
-    let devs : sizes (dev_layout_at e local) ≡ sizes (dev_layout p) = ap sizes (dev_known e local p known) in
+    let devs : sizes (dev_layout_at e local) ≡ sizes (dev_layout p) = ap sizes (dev_layout-known e local p known) in
     let size : message_size p ≡ length part + rest = omega (arith, message_sizes p, taken_rest o (layout p) t s, fields, devs) in
     data_continues e local offset part rest room sixteen header (IsBytes-tail (data_header local offset) part are) p known size within
 parts_are_tested e (in_dev_fields local offset items t) room sixteen (p, known, header, shapes, s) are within =
@@ -100,30 +69,6 @@ pub taken_bytes_stand : {A : Type 0} → TakenBytesStand A
 taken_bytes_stand e s t b low h made = still_stands e (tests_of e) b low s t h made
 
 -- ---- a byte that is refused
-
--- the room behind a data message can't be filled
-module _ {A : Type 0} (e : Environment A) (tests : Tests A) (room b : ℕ) where
-  abbrev MessageFails : Step A → Type 0
-  MessageFails n = n ≡ Err NoFit → (p : Defined A) × (defined_at e (local_type b) ≡ Some p) × (tests.message (room - (1 + message_size p)) ≡ false)
-
-  message_fails : (o : Option (Defined A)) → defined_at e (local_type b) ≡ o → MessageFails (message_move tests room b o)
-  unfolding message_move
-  message_fails None known = λ h. absurd cc
-  message_fails (Some p) known =
-      cond_both (nat_lt room (1 + message_size p)) _ _ MessageFails (λ z h. absurd cc)
-      (λ z. cond_both (tests.message (room - (1 + message_size p))) _ _ MessageFails (λ y h. absurd cc) (λ y h. (p, known, y)))
-
-  abbrev HeaderFails : Step A → Type 0
-  HeaderFails n = n ≡ Err NoFit → (is_definition b ≡ false) × (p : Defined A) × (defined_at e (local_type b) ≡ Some p)
-      × (tests.message (room - (1 + message_size p)) ≡ false)
-
-  header_fails : HeaderFails (header_move e tests room b)
-  unfolding header_move
-  header_fails =
-      cond_both (has_reserved_bit b) _ _ HeaderFails (λ z h. absurd cc)
-      (λ z. cond_both (is_definition b) _ _ HeaderFails
-      (λ y. cond_both (nat_lt room (least_definition b)) _ _ HeaderFails (λ x h. absurd cc) (λ x h. absurd cc))
-      (λ y h. let k = message_fails (defined_at e (local_type b)) refl h in (y, k.0, k.1, k.2)))
 
 -- a data message with this record header, behind which the room can be filled
 carried : {A : Type 0} (e : Environment A) (room b : ℕ) (p : Defined A) → length e.places ≡ 16 → 0 < room → is_definition b ≡ false
@@ -172,25 +117,13 @@ module _ {A : Type 0} (e : Environment A) (room : ℕ) (d : MessageDef A) (b : �
 -- behind parts of which a test of rooms refuses the byte, no record fills the room
 no_fit_ends : {A : Type 0} (e : Environment A) (room : ℕ) (f : RecordPart A) (b : ℕ) → length e.places ≡ 16 → IsPart e f → 0 < room → b < 256
     → step e (tests_of e) (state_of room f) b ≡ Err NoFit → Continues e (part_bytes e f ++ b ∷ []) (room - 1) → ⊥
-unfolding step
 no_fit_ends e room nothing b sixteen h some low refused c =
-    let k = header_fails e (tests_of e) room b refused in
+    let k = no_fit_fails e (tests_of e) room nothing b refused in
     both_ways (can_fill e (room - (1 + message_size k.1))) k.3
     (carried e room b k.1 sixteen some k.0 k.2 c.whole c.rest c.left c.fits c.spelled c.filled c.total)
 no_fit_ends {A} e room (in_definition k d) b sixteen h some low refused c =
     definition_ends e room d b sixteen low k h (no_fit_fails e (tests_of e) room (in_definition k d) b refused) c
-no_fit_ends e room (in_fields local offset t dev) b sixteen h some low refused c = no_fit_fails e (tests_of e) room (in_fields local offset t dev) b refused
-no_fit_ends e room (in_dev_fields local offset items t) b sixteen h some low refused c =
-    no_fit_fails e (tests_of e) room (in_dev_fields local offset items t) b refused
-
--- no record begins so that the room can be filled
-shut_ends : {A : Type 0} (e : Environment A) (room : ℕ) (bytes : List ℕ) (b : ℕ) (reason : Reason) → 0 < room → IsShut e room bytes b reason
-    → Continues e (bytes ++ b ∷ []) (room - 1) → (reason ≡ NoFit → ⊥) → ⊥
-shut_ends e room bytes b NoFit some shut c other = other refl
-shut_ends e room bytes b Overrun some shut c other =
-    let long = shut c.whole c.rest c.fits (c.spelled ∙ one_more bytes b c.rest) in
-    omega (arith, long, c.total, some)
-shut_ends e room bytes b reason some shut c other = shut c.whole c.rest c.fits (c.spelled ∙ one_more bytes b c.rest)
+no_fit_ends e room f b sixteen h some low refused c = no_fit_fails e (tests_of e) room f b refused
 
 pub refused_bytes_end_all : {A : Type 0} → RefusedBytesEndAll A
 refused_bytes_end_all {A} e part room b reason sixteen h some low refused =
@@ -199,8 +132,8 @@ refused_bytes_end_all {A} e part room b reason sixteen h some low refused =
       | inr stops ↦
           let same : stops.reason ≡ reason = cc (refused, stops.is) in (
             stops.because ∙ ap Some same,
-            λ c. shut_ends e room (part_bytes e part) b stops.reason some stops.shut c
-                (λ none. no_fit_ends e room part b sixteen h some low (stops.is ∙ ap Err none) c),
+            λ c. shut_out e room (part_bytes e part) b stops.reason c.whole c.rest stops.shut c.fits (c.spelled ∙ one_more (part_bytes e part) b c.rest)
+                (let total = c.total in omega (arith, total, some)) (λ none. no_fit_ends e room part b sixteen h some low (stops.is ∙ ap Err none) c),
           )
     ]
 

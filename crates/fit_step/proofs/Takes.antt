@@ -1,22 +1,13 @@
 -- One byte more in the fields of a data message.
-use Rattle.std.proofs.Common.{◌≡◌, inl, inr, ℕ, suc, ◌+◌, ◌-◌, ◌*◌, ◌/◌, ◌^◌, ◌<◌, ◌≤◌, Bool, true, false, cond, List, [], ◌∷◌, ◌++◌, length, refl, sym, ap}
-use Rattle.std.proofs.Common.{◌∙◌, subst, arith, append_assoc, length-append}
-use Rattle.std.specs.Prelude.{map, flat_map, ◌==◌}
+use Rattle.fit_step.proofs.Common.{◌≡◌, inl, inr, ℕ, suc, ◌+◌, ◌-◌, ◌*◌, ◌/◌, ◌^◌, ◌<◌, Bool, true, false, cond, List, [], ◌∷◌, ◌++◌, length, refl, sym, ap}
+use Rattle.fit_step.proofs.Common.{◌∙◌, subst, arith, append_assoc, length-append, flat_map, cond-true, cond-false, eqb-true, eqb-false, cases_lt, append-nil}
+use Rattle.fit_step.proofs.Common.{flat_map_more, mul-le-mul_right, Items, Order, IsBytes, number, number_bytes, HasShape, items_bytes, IsBytes-append}
+use Rattle.fit_step.proofs.Common.{IsBytes-cons, IsBytes-none, number_bytes-number, number-below, item_width_positive, HaveShape, no_items, add_number}
+use Rattle.fit_step.proofs.Common.{with_number, beyond_number, TakenFields, width_of, taken, all_items, IsTaking}
+use Rattle.std.proofs.Common.{◌≤◌}
+use Rattle.std.specs.Prelude.{map, ◌==◌}
 use Rattle.std.specs.List.{AllByRecursion}
-use Rattle.std.proofs.lemmas.Bool.{cond-true, cond-false, eqb-true, eqb-false, cases_lt}
-use Rattle.std.proofs.lemmas.List.{append-nil, flat_map_more}
-use Rattle.std.proofs.Math.Nat.{mul-le-mul_right}
-use Rattle.fit_base.specs.declared.items.Items.{Items}
-use Rattle.fit_base.specs.declared.number.Order.{Order}
-use Rattle.fit_base.specs.Numbers.{IsBytes, number, number_bytes}
-use Rattle.fit_base.specs.Fields.{HasShape, items_bytes}
-use Rattle.fit_base.proofs.ByteLists.{IsBytes-append, IsBytes-cons, IsBytes-none}
-use Rattle.fit_base.proofs.NumberLaws.{number_bytes-number, number-below}
-use Rattle.fit_base.proofs.SameItems.{item_width_positive}
 use Rattle.fit_base.proofs.Shapes.{item_width_divides}
-use Rattle.fit_record.specs.Records.{HaveShape}
-use Rattle.fit_step.specs.Machine.{no_items, add_number, with_number, beyond_number}
-use Rattle.fit_step.specs.Parts.{TakenFields, width_of, taken, all_items, IsTaking}
 
 pub add_number-at : {A : Type 0} (items more : List (Items A)) (i : Items A) (n : ℕ)
     → add_number (length items) (items ++ i ∷ more) n ≡ items ++ (record i { bits = i.bits ++ n ∷ [] }) ∷ more
@@ -25,9 +16,8 @@ add_number-at (j ∷ items) more i n = ap (λ l. j ∷ l) (add_number-at items m
 
 pub as_many : {A : Type 0} (fs : List (ℕ × ℕ)) (items : List (Items A)) → HaveShape fs items → length items ≡ length fs
 as_many [] [] h = refl
-as_many [] (i ∷ items) h = absurd h
-as_many (f ∷ fs) [] h = absurd h
 as_many (f ∷ fs) (i ∷ items) h = ap suc (as_many fs items h.1)
+as_many fs items h = absurd h
 
 pub AllByRecursion-last : {X : Type 0} (P : X → Type 0) (xs : List X) (x : X) → AllByRecursion P xs → P x → AllByRecursion P (xs ++ x ∷ [])
 AllByRecursion-last P [] x h p = (p, tt)
@@ -36,9 +26,8 @@ AllByRecursion-last P (y ∷ ys) x h p = (h.0, AllByRecursion-last P ys x h.1 p)
 pub HaveShape-last : {A : Type 0} (fs : List (ℕ × ℕ)) (items : List (Items A)) (f : ℕ × ℕ) (i : Items A) → HaveShape fs items → HasShape f.0 f.1 i
     → HaveShape (fs ++ f ∷ []) (items ++ i ∷ [])
 HaveShape-last [] [] f i h s = (s, tt)
-HaveShape-last [] (j ∷ items) f i h s = absurd h
-HaveShape-last (g ∷ fs) [] f i h s = absurd h
 HaveShape-last (g ∷ fs) (j ∷ items) f i h s = (h.0, HaveShape-last fs items f i h.1 s)
+HaveShape-last fs items f i h s = absurd h
 
 -- ---- one byte more
 

@@ -1,46 +1,29 @@
 -- Developer fields, whose codes and sizes stand in two lists, and the search for the next field that has bytes.
-use Rattle.std.proofs.Common.{◌≡◌, inl, inr, ℕ, zero, suc, ◌+◌, ◌<◌, List, [], ◌∷◌, ◌++◌, length, take, drop, map, get_or, set, refl, ap, ◌∙◌, subst, arith}
-use Rattle.std.proofs.Common.{Some, None, Ok, Err}
-use Rattle.std.specs.Prelude.{Option, Result, OnOk, OnErr, zip, ◌==◌, ◌≤◌}
-use Rattle.fit_base.specs.declared.items.Items.{Items}
-use Rattle.std.proofs.lemmas.Bool.{cond-true, eq-eqb, cases_Bool}
-use Rattle.fit_record.specs.declared.definition.DevDef.{DevDef}
-use Rattle.fit_record.specs.declared.message.Record.TheVariants.{Values as Data}
-use Rattle.fit_record.specs.declared.message.Values.{Values}
-use Rattle.fit_step.specs.declared.phase.Phase.TheVariants.{FieldItems, DevItems}
-use Rattle.fit_step.specs.Machine.{NextState, start, reading, no_items, add_number, begin_dev, begin_fields}
-use Rattle.fit_step.specs.inner.Steps.{next_with_bytes}
+use Rattle.fit_step.proofs.Common.{◌≡◌, inl, inr, ℕ, zero, suc, ◌+◌, ◌<◌, List, [], ◌∷◌, ◌++◌, length, take, get_or, set, refl, ap, ◌∙◌, subst, arith, Some}
+use Rattle.fit_step.proofs.Common.{None, Ok, Err, Option, Result, OnOk, OnErr, zip, Items, cond-true, eq-eqb, cases_Bool, DevDef, Data, Values, FieldItems}
+use Rattle.fit_step.proofs.Common.{DevItems, NextState, start, reading, no_items, add_number, begin_dev, begin_fields, next_with_bytes, map-append}
+use Rattle.std.proofs.Common.{drop, map}
+use Rattle.std.specs.Prelude.{◌==◌, ◌≤◌}
+use Rattle.fit_step.proofs.Gathering.{next_coded}
 
 -- code and size of each developer field
 abbrev pub coded : List ℕ → List DevDef → List (ℕ × ℕ)
 coded codes fields = zip codes (map (λ f. f.size) fields)
 
-passed : (codes : List ℕ) (fields : List DevDef) (i k : ℕ) (d : DevDef) → length codes ≡ length fields → i < length fields → (get_or fields i d).size ≤ 0
-    → next_with_bytes k (coded (drop i codes) (drop i fields)) ≡ next_with_bytes (suc k) (coded (drop (suc i) codes) (drop (suc i) fields))
-passed [] [] i k d same below none = absurd (omega arith)
-passed [] (g ∷ gs) i k d same below none = absurd (omega arith)
-passed (c ∷ cs) [] i k d same below none = absurd (omega arith)
-passed (c ∷ cs) (g ∷ gs) zero k d same below none = cond-true (g.size == 0) _ _ (eq-eqb g.size 0 (omega arith))
-passed (c ∷ cs) (g ∷ gs) (suc i) k d same below none = passed cs gs i k d (omega arith) (omega arith) none
-
 -- a developer field without bytes is passed by
 pub passed_by : (codes : List ℕ) (fields : List DevDef) (i : ℕ) (d : DevDef) → length codes ≡ length fields → i < length fields → (get_or fields i d).size ≤ 0
     → next_with_bytes i (coded (drop i codes) (drop i fields)) ≡ next_with_bytes (i + 1) (coded (drop (i + 1) codes) (drop (i + 1) fields))
 passed_by codes fields i d same below none =
-    subst (λ n. next_with_bytes i (coded (drop i codes) (drop i fields)) ≡ next_with_bytes n (coded (drop n codes) (drop n fields)))
-    (let next : suc i ≡ i + 1 = omega arith in next) (passed codes fields i i d same below none)
+    let next : suc i ≡ i + 1 = omega arith in
+    ap (next_with_bytes i) (next_coded codes fields i d same below)
+    ∙ cond-true ((get_or fields i d).size == 0) _ _ (eq-eqb (get_or fields i d).size 0 (omega (arith, none)))
+    ∙ ap (λ n. next_with_bytes n (coded (drop (i + 1) codes) (drop (i + 1) fields))) next
 
 one_more : (codes : List ℕ) (fields : List DevDef) (i c : ℕ) (d : DevDef) → length codes ≡ length fields → i < length fields
     → coded (take (suc i) codes) (take (suc i) fields) ≡ coded (take i codes) (take i fields) ++ (get_or codes i c, (get_or fields i d).size) ∷ []
-one_more [] [] i c d same below = absurd (omega arith)
-one_more [] (g ∷ gs) i c d same below = absurd (omega arith)
-one_more (b ∷ cs) [] i c d same below = absurd (omega arith)
 one_more (b ∷ cs) (g ∷ gs) zero c d same below = refl
 one_more (b ∷ cs) (g ∷ gs) (suc i) c d same below = ap (λ l. (b, g.size) ∷ l) (one_more cs gs i c d (omega arith) (omega arith))
-
-map_last : {X Y : Type 0} (f : X → Y) (xs : List X) (y : X) → map f (xs ++ y ∷ []) ≡ map f xs ++ f y ∷ []
-map_last f [] y = refl
-map_last f (x ∷ xs) y = ap (λ l. f x ∷ l) (map_last f xs y)
+one_more codes fields i c d same below = absurd (omega arith)
 
 -- one developer field more, without items
 pub one_more_field : {A : Type 0} (codes : List ℕ) (fields : List DevDef) (i c : ℕ) (d : DevDef) → length codes ≡ length fields → i < length fields
@@ -51,22 +34,15 @@ one_more_field {A} codes fields i c d same below =
     ≡ map no_items (coded (take i codes) (take i fields)) ++ no_items (get_or codes i c, (get_or fields i d).size) ∷ [])
     (let next : suc i ≡ i + 1 = omega arith in next)
     (ap (map no_items) (one_more codes fields i c d same below)
-    ∙ map_last no_items (coded (take i codes) (take i fields)) (get_or codes i c, (get_or fields i d).size))
-
-pub drop_map : {X Y : Type 0} (f : X → Y) (xs : List X) (n : ℕ) → drop n (map f xs) ≡ map f (drop n xs)
-drop_map f [] zero = refl
-drop_map f [] (suc n) = refl
-drop_map f (x ∷ xs) zero = refl
-drop_map f (x ∷ xs) (suc n) = drop_map f xs n
+    ∙ map-append no_items (coded (take i codes) (take i fields)) ((get_or codes i c, (get_or fields i d).size) ∷ []))
 
 pub drop_coded : (codes : List ℕ) (fields : List DevDef) (n : ℕ) → length codes ≡ length fields
     → drop n (coded codes fields) ≡ coded (drop n codes) (drop n fields)
 drop_coded [] [] zero same = refl
 drop_coded [] [] (suc n) same = refl
-drop_coded [] (g ∷ gs) n same = absurd (omega arith)
-drop_coded (c ∷ cs) [] n same = absurd (omega arith)
 drop_coded (c ∷ cs) (g ∷ gs) zero same = refl
 drop_coded (c ∷ cs) (g ∷ gs) (suc n) same = drop_coded cs gs n (omega arith)
+drop_coded codes fields n same = absurd (omega arith)
 
 -- ---- a number more in a field
 
@@ -80,8 +56,7 @@ on_err (Err x) f p = f p
 
 set_at : {A : Type 0} (items : List (Items A)) (k n : ℕ) (l : Items A) → l ≡ get_or items k l
     → set items k (record { width = l.width; bits = l.bits ++ n ∷ [] }) ≡ add_number k items n
-set_at [] zero n l here = refl
-set_at [] (suc k) n l here = refl
+set_at [] k n l here = refl
 set_at (i ∷ items) zero n l here = ap (λ (x : Items _). (record { width = x.width; bits = x.bits ++ n ∷ [] }) ∷ items) here
 set_at (i ∷ items) (suc k) n l here = ap (λ t. i ∷ t) (set_at items k n l here)
 
@@ -92,8 +67,7 @@ set_number items fields k n l bits same here grown =
     ap (λ b. set items k (record { width = l.width; bits = b })) grown ∙ set_at items k n l here ∙ ap (λ i. add_number k i n) same
 
 set_same : {A : Type 0} (items : List (Items A)) (k : ℕ) (l : Items A) → l ≡ get_or items k l → set items k l ≡ items
-set_same [] zero l here = refl
-set_same [] (suc k) l here = refl
+set_same [] k l here = refl
 set_same (i ∷ items) zero l here = ap (λ x. x ∷ items) here
 set_same (i ∷ items) (suc k) l here = ap (λ t. i ∷ t) (set_same items k l here)
 

@@ -1,42 +1,20 @@
 -- The last byte of a record adds an entry or a number to it, or nothing, and that can be taken away again.
-use Rattle.std.proofs.Common.{◌≡◌, ◌↔◌, ℕ, zero, suc, ◌+◌, ◌-◌, ◌*◌, ◌<◌, Bool, true, false, cond, List, [], ◌∷◌, ◌++◌, length, get_or, set, refl, sym, ap, ◌∙◌}
-use Rattle.std.proofs.Common.{subst, arith, length-append, Some, None, Ok}
-use Rattle.std.specs.Prelude.{Option, IsSome, option_to_list, ◌==◌, nat_lt, drop, map}
-use Rattle.std.proofs.lemmas.Bool.{cond_both, cond-true, eqb-true}
-use Rattle.fit_base.specs.declared.items.Items.{Items}
-use Rattle.fit_base.specs.declared.number.Order.{Order}
-use Rattle.fit_record.specs.declared.definition.DevDef.{DevDef}
-use Rattle.fit_record.specs.declared.definition.MessageDef.{MessageDef}
-use Rattle.fit_record.specs.declared.message.Record.{Record}
-use Rattle.fit_record.specs.declared.message.Record.TheVariants.{Define, Values as Data}
-use Rattle.fit_record.specs.declared.message.Values.{Values}
-use Rattle.fit_record.specs.Environment.{Environment, dev_defs}
-use Rattle.fit_record.specs.Records.{layout, dev_layout, order_at}
-use Rattle.fit_base.specs.Numbers.{number}
-use Rattle.fit_step.specs.declared.phase.DefinitionPhase.{DefinitionPhase}
-use Rattle.fit_step.specs.declared.phase.DefinitionPhase.TheVariants.{Reserved, Architecture as AtArchitecture, GlobalFirst, GlobalSecond, FieldCount}
-use Rattle.fit_step.specs.declared.phase.DefinitionPhase.TheVariants.{FieldNumber, FieldSize, FieldCode, DevCount, DevNumber, DevSize, DevIndex}
-use Rattle.fit_step.specs.declared.phase.Phase.TheVariants.{Definition, FieldItems, DevItems}
-use Rattle.fit_step.specs.Machine.{Tests, State, Step, NextState, start, step, no_items, add_number, with_number, begin_dev, begin_fields, layout_at}
-use Rattle.fit_step.specs.Machine.{dev_layout_at, field_move, dev_move, definition_move, after_fields, next_field, next_dev, dev_count_byte}
-use Rattle.fit_step.specs.Parts.{RecordPart, nothing, in_definition, in_fields, in_dev_fields, TakenFields, IsTaking, IsPart, IsDefinitionPart, state_of}
-use Rattle.fit_step.specs.Parts.{width_of, all_items}
-use Rattle.fit_step.specs.Places.{PartFitsRoom}
-use Rattle.fit_step.specs.inner.Steps.{next_with_bytes}
-use Rattle.fit_step.specs.inner.Undone.{Adds, AddsEntry}
+use Rattle.fit_step.proofs.Common.{◌≡◌, ◌↔◌, ℕ, zero, suc, ◌+◌, ◌-◌, ◌*◌, ◌<◌, Bool, true, false, cond, List, [], ◌∷◌, ◌++◌, length, get_or, set, refl, sym, ap}
+use Rattle.fit_step.proofs.Common.{◌∙◌, subst, arith, length-append, Some, None, Ok, Option, IsSome, option_to_list, nat_lt, cond_both, cond-true, eqb-true}
+use Rattle.fit_step.proofs.Common.{Items, Order, DevDef, MessageDef, Record, Define, Data, Values, Environment, dev_defs, layout, dev_layout, order_at, number}
+use Rattle.fit_step.proofs.Common.{DefinitionPhase, AtArchitecture, FieldCount, FieldSize, FieldCode, DevCount, DevSize, DevIndex, Definition, FieldItems}
+use Rattle.fit_step.proofs.Common.{DevItems, Tests, State, Step, NextState, start, step, no_items, add_number, with_number, layout_at, dev_layout_at}
+use Rattle.fit_step.proofs.Common.{field_move, dev_move, definition_move, after_fields, next_field, next_dev, dev_count_byte, RecordPart, nothing}
+use Rattle.fit_step.proofs.Common.{in_definition, in_fields, in_dev_fields, TakenFields, IsTaking, IsPart, IsDefinitionPart, state_of, width_of, all_items}
+use Rattle.fit_step.proofs.Common.{PartFitsRoom, Adds, AddsEntry, front_back}
+use Rattle.std.specs.Prelude.{◌==◌, drop, map}
 use Rattle.fit_step.proofs.Preconditions.{as_defined}
 use Rattle.fit_step.proofs.Takes.{ends_number, grown-whole}
-use Rattle.fit_step.proofs.TwoLists.{dev_begun, field_begun, dev_found, field_found}
+use Rattle.fit_step.proofs.EmptyMessages.{dev_whole, fields_whole}
 
 same_front : {X : Type 0} (xs ys : List X) (x y : X) → xs ++ x ∷ [] ≡ ys ++ y ∷ [] → xs ≡ ys
-same_front [] [] x y e = refl
-same_front [] (z ∷ ys) x y e = absurd (let count : 1 ≡ suc (length (ys ++ y ∷ [])) = ap length e in omega (arith, count, length-append ys (y ∷ [])))
-same_front (z ∷ xs) [] x y e = absurd (let count : suc (length (xs ++ x ∷ [])) ≡ 1 = ap length e in omega (arith, count, length-append xs (x ∷ [])))
-same_front (z ∷ xs) (w ∷ ys) x y e =
-    let first : z ≡ w = cc in
-    let rest : xs ++ x ∷ [] ≡ ys ++ y ∷ [] = cc in
-    let same = same_front xs ys x y rest in
-    cc
+same_front xs ys x y e =
+    (front_back xs ys (x ∷ []) (y ∷ []) (omega (arith, ap length e, length-append xs (x ∷ []), length-append ys (y ∷ []))) e).0
 
 no_element : (X : Type 0) → IsSome {T = X} None → ⊥
 no_element X h = cc
@@ -107,17 +85,13 @@ module _ {A : Type 0} (t : State A) (r : Record A) where
   entry_adds : (tests : Tests A) (k : DefinitionPhase) (room : ℕ) (d : MessageDef A) (b : ℕ) → IsDefinitionPart k d → Ends (definition_move tests k room d b)
       → Adds (Definition k) (Some (Define d)) r
   unfolding definition_move
-  entry_adds tests Reserved room d b h = λ made. absurd (not_whole _ made)
   entry_adds tests AtArchitecture room d b h =
       cond_both (b == 0) _ _ (λ n. Ends n → Adds (Definition AtArchitecture) (Some (Define d)) r) (λ z made. absurd (not_whole _ made))
       (λ z. cond_both (b == 1) _ _ (λ n. Ends n → Adds (Definition AtArchitecture) (Some (Define d)) r) (λ y made. absurd (not_whole _ made))
       (λ y made. absurd cc))
-  entry_adds tests GlobalFirst room d b h = λ made. absurd (not_whole _ made)
-  entry_adds tests (GlobalSecond first) room d b h = λ made. absurd (not_whole _ made)
   entry_adds tests FieldCount room d b h =
       cond_both (nat_lt room (1 + 3 * b + dev_count_byte d.dev)) _ _ (λ n. Ends n → Adds (Definition FieldCount) (Some (Define d)) r) (λ z made. absurd cc)
       (λ z. next_adds FieldCount d d refl b (room - 1))
-  entry_adds tests (FieldNumber left) room d b h = λ made. absurd (not_whole _ made)
   entry_adds tests (FieldSize left number) room d b h =
       cond_both (tests.field_size d (left - 1) (room - 1) b) _ _ (λ n. Ends n → Adds (Definition (FieldSize left number)) (Some (Define d)) r)
       (λ z made. absurd (not_whole _ made)) (λ z made. absurd cc)
@@ -128,28 +102,16 @@ module _ {A : Type 0} (t : State A) (r : Record A) where
       cond_both (nat_lt room (1 + 3 * b)) _ _ (λ n. Ends n → Adds (Definition DevCount) (Some (Define d)) r) (λ z made. absurd cc)
       (λ z. cond_both (tests.dev_count d (room - 1) b) _ _ (λ n. Ends n → Adds (Definition DevCount) (Some (Define d)) r)
       (λ y. next_dev_adds DevCount d d refl b (room - 1)) (λ y made. absurd cc))
-  entry_adds tests (DevNumber left) room d b h = λ made. absurd (not_whole _ made)
   entry_adds tests (DevSize left number) room d b h =
       cond_both (tests.dev_size d (left - 1) (room - 1) b) _ _ (λ n. Ends n → Adds (Definition (DevSize left number)) (Some (Define d)) r)
       (λ z made. absurd (not_whole _ made)) (λ z made. absurd cc)
   entry_adds tests (DevIndex left number size) room d b h =
       next_dev_adds (DevIndex left number size) d (record d { dev = Some (dev_defs d.dev ++ (record { number = number; size = size; index = b }) ∷ []) })
       (record { number = number; size = size; index = b }, subst IsSome (sym h.0.dev) refl, refl) (left - 1) (room - 1)
+  entry_adds tests k room d b h = λ made. absurd (not_whole _ made)
 
-  -- behind the last byte of a field
-  dev_begun_is : (room : ℕ) (v : Values A) (o : Option (ℕ × ℕ × ℕ)) → Ends (Ok (dev_begun room v o)) → Data v ≡ r
-  dev_begun_is room v None made = whole_is (start room) (Data v) made
-  dev_begun_is room v (Some (place, width, left)) made = absurd (not_whole _ made)
-
-  begin_dev_is : (room : ℕ) (v : Values A) (place : ℕ) (rest : List (ℕ × ℕ)) → Ends (Ok (begin_dev room v place rest)) → Data v ≡ r
-  begin_dev_is room v place rest made = dev_begun_is room v (next_with_bytes place rest) (ap Ok (sym (dev_found room v place rest)) ∙ made)
-
-  field_begun_is : (room : ℕ) (v : Values A) (dev : List (ℕ × ℕ)) (o : Option (ℕ × ℕ × ℕ)) → Ends (Ok (field_begun room v dev o)) → Data v ≡ r
-  field_begun_is room v dev None made = begin_dev_is room v 0 dev made
-  field_begun_is room v dev (Some (place, width, left)) made = absurd (not_whole _ made)
-
-  begin_fields_is : (room : ℕ) (v : Values A) (place : ℕ) (rest dev : List (ℕ × ℕ)) → Ends (Ok (begin_fields room v place rest dev)) → Data v ≡ r
-  begin_fields_is room v place rest dev made = field_begun_is room v dev (next_with_bytes place rest) (ap Ok (sym (field_found room v place rest dev)) ∙ made)
+  whole_of : (n : NextState A) → Ends (Ok n) → n ≡ (t, Some r)
+  whole_of n made = cc
 
 -- the last byte of a field ends a number
 ends_one : (c : Bool) (bytes : List ℕ) (b : ℕ) → cond c [] (bytes ++ b ∷ []) ≡ [] → c ≡ true
@@ -180,7 +142,7 @@ module _ {A : Type 0} (e : Environment A) (tests : Tests A) (b : ℕ) (low : b <
       (λ z ends.
       let last = eqb-true u.left 1 z in
       subst (Adds (FieldItems (length u.done) (width_of u) u.left) (Some (Data v)))
-      (begin_fields_is t r (room - 1) _ (suc (length u.done)) (drop (suc (length u.done)) (layout_at e local)) (dev_layout_at e local) ends) (
+      (fields_whole (room - 1) _ (suc (length u.done)) (drop (suc (length u.done)) (layout_at e local)) (dev_layout_at e local) t r (whole_of t r _ ends)) (
         number o (u.partial ++ b ∷ []),
         place_within (layout p) u s,
         ap (λ i. record v { fields = i }) (number_added o (layout p) u b (all_items u) (length u.done) s low last),
@@ -193,7 +155,7 @@ module _ {A : Type 0} (e : Environment A) (tests : Tests A) (b : ℕ) (low : b <
       (λ z ends.
       let last = eqb-true u.left 1 z in
       subst (Adds (DevItems (length u.done) (width_of u) u.left) (Some (Data v)))
-      (begin_dev_is t r (room - 1) _ (suc (length u.done)) (drop (suc (length u.done)) (dev_layout_at e local)) ends) (
+      (dev_whole (room - 1) _ (suc (length u.done)) (drop (suc (length u.done)) (dev_layout_at e local)) t r (whole_of t r _ ends)) (
         number o (u.partial ++ b ∷ []),
         place_within (dev_layout p) u s,
         ap (λ i. record v { dev = i }) (number_added o (dev_layout p) u b (all_items u) (length u.done) s low last),

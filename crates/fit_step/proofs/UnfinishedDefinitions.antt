@@ -1,31 +1,17 @@
 -- What there is of a definition message can go on just where it can be completed so that records fill the room.
-use Rattle.std.proofs.Common.{◌≡◌, ◌↔◌, IsTrue, ℕ, ◌+◌, ◌-◌, ◌*◌, ◌<◌, Bool, true, List, [], ◌∷◌, ◌++◌, length, refl, ap, ◌∙◌, subst, arith, lit<, Some, None}
-use Rattle.std.specs.Prelude.{Option, flat_map, if◌then◌else◌, unwrap_or, option_map, slice_index}
-use Rattle.std.proofs.lemmas.Bool.{both_ways}
-use Rattle.std.proofs.lemmas.List.{append-nil}
-use Rattle.fit_base.specs.declared.number.Order.{Order}
-use Rattle.fit_base.specs.declared.number.Order.TheVariants.{Little, Big}
-use Rattle.fit_base.specs.Numbers.{IsBytes, number_bytes}
-use Rattle.fit_base.proofs.Bytes.{length-number_bytes}
-use Rattle.fit_base.proofs.ByteLists.{IsBytes-tail}
-use Rattle.fit_record.specs.declared.definition.DevDef.{DevDef}
-use Rattle.fit_record.specs.declared.definition.MessageDef.{MessageDef}
-use Rattle.fit_record.specs.declared.message.Record.{Record}
-use Rattle.fit_record.specs.declared.message.Record.TheVariants.{Define, Values as Data}
-use Rattle.fit_record.specs.Environment.{Environment, dev_defs}
-use Rattle.fit_record.specs.HeaderByte.{is_definition}
-use Rattle.fit_record.specs.Records.{architecture, dev_field_bytes, definition_header, definition_bytes, record_bytes, body_length, Fits}
-use Rattle.fit_record.specs.Unfinished.{CanComplete, fields_part, dev_fields_part, size_so_far, can_complete, can_complete_dev, can_complete_front}
+use Rattle.fit_step.proofs.Common.{◌≡◌, ◌↔◌, IsTrue, ℕ, ◌+◌, ◌-◌, ◌*◌, ◌<◌, Bool, true, List, [], ◌∷◌, ◌++◌, length, refl, ap, ◌∙◌, subst, arith, lit<, Some}
+use Rattle.fit_step.proofs.Common.{None, Option, flat_map, if◌then◌else◌, unwrap_or, option_map, both_ways, append-nil, Order, Little, Big, IsBytes}
+use Rattle.fit_step.proofs.Common.{number_bytes, length-number_bytes, IsBytes-tail, DevDef, MessageDef, Record, Define, Data, Environment, dev_defs}
+use Rattle.fit_step.proofs.Common.{is_definition, architecture, dev_field_bytes, definition_header, definition_bytes, record_bytes, body_length, Fits}
+use Rattle.fit_step.proofs.Common.{CanComplete, fields_part, dev_fields_part, size_so_far, can_complete, can_complete_dev, can_complete_front, DefinitionPhase}
+use Rattle.fit_step.proofs.Common.{Reserved, AtArchitecture, GlobalFirst, GlobalSecond, FieldCount, FieldNumber, FieldSize, FieldCode, DevCount, DevNumber}
+use Rattle.fit_step.proofs.Common.{DevSize, DevIndex, fields_front, dev_front, definition_part, HasNone, AwaitsFields, AwaitsDev, IsDefinitionPart}
+use Rattle.fit_step.proofs.Common.{entries_complete, has_dev, definition_goes_on, Continues}
+use Rattle.std.specs.Prelude.{slice_index}
 use Rattle.fit_record.proofs.DefinitionFronts.{front_can_complete}
 use Rattle.fit_record.proofs.DefinitionParts.{fields_can_complete, dev_can_complete, dev_fields_can_complete}
-use Rattle.fit_step.specs.declared.phase.DefinitionPhase.{DefinitionPhase}
-use Rattle.fit_step.specs.declared.phase.DefinitionPhase.TheVariants.{Reserved, Architecture as AtArchitecture, GlobalFirst, GlobalSecond, FieldCount}
-use Rattle.fit_step.specs.declared.phase.DefinitionPhase.TheVariants.{FieldNumber, FieldSize, FieldCode, DevCount, DevNumber, DevSize, DevIndex}
-use Rattle.fit_step.specs.Parts.{fields_front, dev_front, definition_part, HasNone, AwaitsFields, AwaitsDev, IsDefinitionPart}
-use Rattle.fit_step.specs.Tests.{entries_complete}
-use Rattle.fit_step.specs.GoingOn.{has_dev, definition_goes_on, Continues}
-use Rattle.fit_step.proofs.HeaderBits.{definition_bits}
 use Rattle.fit_step.proofs.HeaderSteps.{message_first}
+use Rattle.fit_step.proofs.DefinitionSteps.{is_a_definition}
 
 -- ---- with the record header
 
@@ -57,9 +43,6 @@ module _ {A : Type 0} (e : Environment A) (header : ℕ) (part : List ℕ) (room
   same_words : {c : Bool} → is_definition header ≡ true → IsTrue c ↔ CanComplete e header part room → IsTrue c ↔ Continues e (header ∷ part) room
   same_words kind law = (λ h. completed (law.0 h), λ h. law.1 (continued kind h))
 
-is_definition_header : {A : Type 0} (d : MessageDef A) → d.local < 16 → is_definition (definition_header d) ≡ true
-is_definition_header d low = (definition_bits (definition_header d) d.local d.dev refl low).kind
-
 -- ---- before the number of fields
 
 header_of_dev : (local : ℕ) (dev : Option (List DevDef))
@@ -80,7 +63,7 @@ fronts {A} e d part come room sixteen low count few order are =
     subst (λ h. IsTrue (can_complete_front (has_dev d.dev) come room) ↔ CanComplete {A = A} e h part room) (header_of_dev d.local d.dev)
     (subst (λ n. IsTrue (can_complete_front (has_dev d.dev) n room) ↔ CanComplete {A = A} e (0x40 + d.local + (if has_dev d.dev then 0x20 else 0)) part room)
     count law) in
-    same_words e (definition_header d) part room (is_definition_header d low) here
+    same_words e (definition_header d) part room (is_a_definition d low) here
 
 -- ---- fields
 
@@ -103,13 +86,13 @@ among_fields {A} e d None left t size room entry sixteen h is none short cut sum
     let count : ℕ = length d.fields + left in
     let law = fields_can_complete e d count entry t room sixteen h.local h.global h.few (short, omega (arith, cut)) is in
     subst (λ bytes. IsTrue (can_complete e d.local t size room) ↔ Continues {A = A} e bytes room) (fields_spelled d count entry)
-    (same_words e (definition_header d) (fields_part d count entry) room (is_definition_header d h.local)
+    (same_words e (definition_header d) (fields_part d count entry) room (is_a_definition d h.local)
     (subst (λ s. IsTrue (can_complete e d.local t s room) ↔ CanComplete {A = A} e (definition_header d) (fields_part d count entry) room) sum law))
 among_fields {A} e d (Some defs) left t size room entry sixteen h is none short cut sum =
     let count : ℕ = length d.fields + left in
     let law = dev_can_complete e d count entry t room sixteen h.local h.global h.few (short, omega (arith, cut)) (is ∙ ap Some none) in
     subst (λ bytes. IsTrue (can_complete_dev e d.local t size room) ↔ Continues {A = A} e bytes room) (fields_spelled d count entry)
-    (same_words e (definition_header d) (fields_part d count entry) room (is_definition_header d h.local)
+    (same_words e (definition_header d) (fields_part d count entry) room (is_a_definition d h.local)
     (subst (λ s. IsTrue (can_complete_dev e d.local t s room) ↔ CanComplete {A = A} e (definition_header d) (fields_part d count entry) room) sum law))
 
 -- ---- developer fields
@@ -123,7 +106,7 @@ among_dev_fields {A} e d left t size room entry sixteen h short cut sum =
     let law = dev_fields_can_complete e d h.defs count entry t room sixteen h.local h.global h.fields (omega (arith, known, h.few)) h.dev
     (short, omega (arith, cut, known)) in
     subst (λ bytes. IsTrue (can_complete e d.local t size room) ↔ Continues {A = A} e bytes room) (dev_spelled d count entry)
-    (same_words e (definition_header d) (dev_fields_part d count entry) room (is_definition_header d h.local)
+    (same_words e (definition_header d) (dev_fields_part d count entry) room (is_a_definition d h.local)
     (subst (λ s. IsTrue (can_complete e d.local t s room) ↔ CanComplete {A = A} e (definition_header d) (dev_fields_part d count entry) room) sum law))
 
 -- ---- all of it
@@ -159,7 +142,7 @@ definition_continues {A} e DevCount d room sixteen h are =
     let law = dev_can_complete e d count [] 0 room sixteen w.local w.global w.fields (lit< tt, omega arith) h.1 in
     subst (λ bytes. IsTrue (can_complete_dev e d.local 0 (body_length d) room) ↔ Continues {A = A} e bytes room)
     (fields_spelled d count [] ∙ append-nil (fields_front d count))
-    (same_words e (definition_header d) (fields_part d count []) room (is_definition_header d w.local)
+    (same_words e (definition_header d) (fields_part d count []) room (is_a_definition d w.local)
     (subst (λ s. IsTrue (can_complete_dev e d.local 0 s room) ↔ CanComplete {A = A} e (definition_header d) (fields_part d count []) room) (no_size d) law))
 definition_continues {A} e (DevNumber left) d room sixteen h are =
     subst (λ bytes. IsTrue (can_complete e d.local (3 + 3 * (left - 1)) (body_length d) room) ↔ Continues {A = A} e bytes room)

@@ -1,34 +1,16 @@
 -- A data message read at once is the record that its bytes end.
-use Rattle.std.proofs.Common.{◌≡◌, cond, ℕ, zero, suc, ◌+◌, ◌-◌, ◌%◌, ◌<◌, ◌≤◌, true, false, List, [], ◌∷◌, length, take, drop, refl, sym, ap, ◌∙◌, subst}
-use Rattle.std.proofs.Common.{arith, Some, None, length-drop}
-use Rattle.std.specs.Prelude.{Option, map, sum_by, nat_le, ◌&&◌, IsSomeAnd, option_map, unwrap_or}
-use Rattle.std.specs.Option.{option_map_or}
-use Rattle.std.proofs.lemmas.Bool.{leb-true}
-use Rattle.std.proofs.lemmas.List.{length-take-le}
-use Rattle.std.proofs.lemmas.List.Sums.{sum_by-append, sum_by-cons}
-use Rattle.fit_base.specs.declared.items.Items.{Items}
-use Rattle.fit_base.specs.declared.number.Order.TheVariants.{Little}
-use Rattle.fit_base.specs.Numbers.{IsBytes}
-use Rattle.fit_base.proofs.Bytes.{both}
-use Rattle.fit_base.proofs.ByteLists.{IsBytes-take, IsBytes-cons, IsBytes-tail}
-use Rattle.fit_record.specs.declared.definition.FieldDef.{FieldDef}
-use Rattle.fit_record.specs.declared.environment.Defined.{Defined}
-use Rattle.fit_record.specs.declared.message.Record.TheVariants.{Values as Data}
-use Rattle.fit_record.specs.declared.message.Values.{Values}
-use Rattle.fit_record.specs.Environment.{Environment, defined_at, learn}
-use Rattle.fit_record.specs.Files.{CanFill}
-use Rattle.fit_record.specs.HeaderByte.{is_compressed, is_definition, has_reserved_bit, local_type}
-use Rattle.fit_record.specs.inner.ReadMessages.{fields_from, values_from}
-use Rattle.fit_record.specs.Records.{sizes}
-use Rattle.fit_record.specs.Records.{layout, dev_layout, message_size, data_header, DataHeaderFits, data_bytes, DataFits, Fits, order_at, IsRecord}
-use Rattle.fit_record.specs.Rooms.{can_fill, fills, has_length}
-use Rattle.fit_record.specs.Unfinished.{can_carry}
-use Rattle.fit_record.proofs.FilledRooms.{can_fill_is, same_places}
+use Rattle.fit_step.proofs.Common.{◌≡◌, cond, ℕ, zero, suc, ◌+◌, ◌-◌, ◌%◌, ◌<◌, true, false, List, [], ◌∷◌, length, take, refl, sym, ap, ◌∙◌, subst, arith}
+use Rattle.fit_step.proofs.Common.{Some, None, length-drop, Option, nat_le, ◌&&◌, IsSomeAnd, option_map, unwrap_or, option_map_or, leb-true, length-take-le}
+use Rattle.fit_step.proofs.Common.{sum_by-cons, Items, Little, IsBytes, both, IsBytes-take, IsBytes-cons, IsBytes-tail, FieldDef, Defined, Data, Values}
+use Rattle.fit_step.proofs.Common.{Environment, defined_at, learn, CanFill, is_compressed, is_definition, has_reserved_bit, local_type, fields_from}
+use Rattle.fit_step.proofs.Common.{values_from, sizes, layout, dev_layout, message_size, data_header, data_bytes, DataFits, Fits, order_at, IsRecord, can_fill}
+use Rattle.fit_step.proofs.Common.{fills, has_length, can_carry, can_fill_is, same_places, start, Ends, tests_of}
+use Rattle.std.proofs.Common.{◌≤◌, drop}
+use Rattle.std.specs.Prelude.{map, sum_by}
 use Rattle.fit_record.proofs.MessageBytes.{message_fits}
-use Rattle.fit_step.specs.Machine.{start, Ends}
-use Rattle.fit_step.specs.Tests.{tests_of}
 use Rattle.fit_step.proofs.TakenAndRefusedBytes.{records_end}
 use Rattle.fit_step.proofs.HeaderBits.{data_spelled}
+use Rattle.fit_step.proofs.Lengths.{message_sizes}
 
 pub sized : {A : Type 0} (p : Defined A) → sum_by (λ f. f.size) p.definition.fields ≡ sizes (layout p)
 sized p = go p.definition.fields
@@ -42,9 +24,6 @@ sized p = go p.definition.fields
       sum_by-cons (λ (f : ℕ × ℕ). f.1) (f.code, f.size) (map (λ f. (f.code, f.size)) fields),
     )
 
-pub all_sizes : {A : Type 0} (p : Defined A) → message_size p ≡ sizes (layout p) + sizes (dev_layout p)
-all_sizes p = sum_by-append (λ (f : ℕ × ℕ). f.1) (layout p) (dev_layout p)
-
 -- what is behind the bytes of the fields
 pub behind_fields : {A : Type 0} (p : Defined A) (fields : List FieldDef) (bytes back : List ℕ) → fields ≡ p.definition.fields
     → back ≡ drop (sum_by (λ f. f.size) fields) bytes → back ≡ drop (sizes (layout p)) bytes
@@ -52,7 +31,7 @@ behind_fields p fields bytes back same is = is ∙ ap (λ n. drop n bytes) (ap (
 
 pub left_for_dev : {A : Type 0} (p : Defined A) (bytes back : List ℕ) → length bytes ≡ message_size p → back ≡ drop (sizes (layout p)) bytes
     → length back ≡ sizes (dev_layout p)
-left_for_dev p bytes back long is = omega (arith, ap length is ∙ length-drop (sizes (layout p)) bytes, long, all_sizes p)
+left_for_dev p bytes back long is = omega (arith, ap length is ∙ length-drop (sizes (layout p)) bytes, long, message_sizes p)
 
 -- the items of the fields, and those of the developer fields, of a message of these bytes
 abbrev pub read_front : {A : Type 0} → Defined A → List ℕ → List (Items A)
@@ -60,6 +39,21 @@ read_front p body = fields_from p.definition.order (layout p) (take (sizes (layo
 
 abbrev pub read_back : {A : Type 0} → Defined A → List ℕ → List (Items A)
 read_back p body = fields_from p.definition.order (dev_layout p) (drop (sizes (layout p)) body)
+
+-- the data message that a record header and the bytes behind it are
+abbrev pub data_read : {A : Type 0} → Defined A → ℕ → List ℕ → Values A
+data_read p b body = values_from (local_type b) (cond (is_compressed b) (Some (b % 32)) None) p.definition.order p body
+
+pub data_record : {A : Type 0} (e : Environment A) (p : Defined A) (b : ℕ) (body : List ℕ) → IsBytes (b ∷ body) → has_reserved_bit b ≡ false
+    → is_definition b ≡ false → defined_at e (local_type b) ≡ Some p → length body ≡ message_size p → IsRecord e (Data (data_read p b body)) (b ∷ body)
+data_record e p b body are clean kind known long =
+    let v = data_read p b body in
+    let header = data_spelled b (are zero) clean kind in
+    let fits = message_fits v.local v.offset p.definition.order p body header.0 (IsBytes-tail b body are) long in
+    let order : order_at e v.local ≡ p.definition.order = ap (λ o. unwrap_or (option_map (λ (q : Defined _). q.definition.order) o) Little) known in (
+      subst (λ o. IsSomeAnd o (DataFits v)) (sym known) fits.0,
+      (λ i. sym header.1 i ∷ sym fits.1 i) ∙ ap (λ o. data_header v.local v.offset ∷ data_bytes o v) (sym order),
+    )
 
 module _ {A : Type 0} (e : Environment A) (p : Defined A) (b size room local : ℕ) (offset : Option ℕ) (rest piece : List ℕ) (fields : List (Items A))
     (dev : List (Items A))
@@ -74,9 +68,6 @@ module _ {A : Type 0} (e : Environment A) (p : Defined A) (b size room local : �
   abbrev message : Values A
   message = record { local = local; offset = offset; fields = fields; dev = dev }
 
-  abbrev told : Values A
-  told = values_from local offset p.definition.order p body
-
   all_are : IsBytes (b ∷ rest)
   all_are = subst IsBytes begins are
 
@@ -86,28 +77,10 @@ module _ {A : Type 0} (e : Environment A) (p : Defined A) (b size room local : �
   body_long : length body ≡ size
   body_long = length-take-le size rest within
 
-  is_told : told ≡ message
-  is_told = λ i. record { local = local; offset = offset; fields = sym read i; dev = sym read_dev i }
-
-  header : DataHeaderFits local offset × (data_header local offset ≡ b)
-  header =
-      let low : b < 256 = all_are zero in
-      let spelled = data_spelled b low clean kind in
-      subst (λ o. DataHeaderFits local o × (data_header local o ≡ b)) (sym timed)
-      (subst (λ l. DataHeaderFits l (cond (is_compressed b) (Some (b % 32)) None) × (data_header l (cond (is_compressed b) (Some (b % 32)) None) ≡ b))
-      (sym same) spelled)
-
-  is_message : DataFits message p × (data_bytes p.definition.order message ≡ body)
-  is_message = subst (λ v. DataFits v p × (data_bytes p.definition.order v ≡ body)) is_told
-      (message_fits local offset p.definition.order p body header.0 body_are (body_long ∙ long))
-
-  pub message_can_stand : Fits e (Data message)
-  message_can_stand = subst (λ o. IsSomeAnd o (DataFits message)) (sym known) is_message.0
-
   is_record : IsRecord e (Data message) (b ∷ body)
   is_record =
-      let order : order_at e local ≡ p.definition.order = ap (λ o. unwrap_or (option_map (λ (q : Defined A). q.definition.order) o) Little) known in
-      (message_can_stand, (λ i. sym header.1 i ∷ sym is_message.1 i) ∙ ap (λ o. data_header local offset ∷ data_bytes o message) (sym order))
+      subst (λ v. IsRecord e (Data v) (b ∷ body)) (λ i. record { local = sym same i; offset = sym timed i; fields = sym read i; dev = sym read_dev i })
+      (data_record e p b body (IsBytes-cons b body (all_are zero) body_are) clean kind (ap (defined_at e) (sym same) ∙ known) (body_long ∙ long))
 
   tested : (nat_le (message_size p) (room - 1) && can_fill e (room - 1 - message_size p)) ≡ true
   tested = sym (ap (λ o. option_map_or (λ q. nat_le (message_size q) (room - 1) && can_fill e (room - 1 - message_size q)) o false) known) ∙ carry
@@ -118,7 +91,7 @@ module _ {A : Type 0} (e : Environment A) (p : Defined A) (b size room local : �
   enough : 1 + size ≤ room
   enough = omega (arith, leb-true (message_size p) (room - 1) parts.0, long, some)
 
-  pub message_within : (0 < 1 + size) × (1 + size ≤ length piece) × (1 + size ≤ room)
+  message_within : (0 < 1 + size) × (1 + size ≤ length piece) × (1 + size ≤ room)
   message_within = (omega arith, omega (arith, within, ap length begins), enough)
 
   filled : CanFill (learn e (Data message)) (room - (1 + size))
@@ -129,7 +102,7 @@ module _ {A : Type 0} (e : Environment A) (p : Defined A) (b size room local : �
       (can_fill_is (learn e (Data message)) (room - (1 + size)) (ap length places ∙ sixteen)).0
       (ap (λ l. fills (has_length l) (room - (1 + size))) places ∙ fill)
 
-  pub message_ends : Ends e (tests_of e) (start room) (take (1 + size) piece) (start (room - (1 + size))) (Data message)
+  message_ends : Ends e (tests_of e) (start room) (take (1 + size) piece) (start (room - (1 + size))) (Data message)
   message_ends =
       let all : b ∷ body ≡ take (1 + size) piece =
       ap (λ k. take k (b ∷ rest)) (let next : suc size ≡ 1 + size = omega arith in next) ∙ ap (take (1 + size)) (sym begins) in
@@ -137,6 +110,10 @@ module _ {A : Type 0} (e : Environment A) (p : Defined A) (b size room local : �
       subst (λ l. Ends e (tests_of e) (start room) l (start (room - (1 + size))) (Data message)) all
       (subst (λ n. Ends e (tests_of e) (start n) (b ∷ body) (start (room - (1 + size))) (Data message)) total
       (records_end e (Data message) (b ∷ body) (room - (1 + size)) sixteen is_record (IsBytes-cons b body (all_are zero) body_are) filled))
+
+  pub message_read : ((0 < 1 + size) × (1 + size ≤ length piece) × (1 + size ≤ room)) × Fits e (Data message)
+      × Ends e (tests_of e) (start room) (take (1 + size) piece) (start (room - (1 + size))) (Data message)
+  message_read = (message_within, is_record.0, message_ends)
 
 -- the length that is kept is that of the definition's messages
 pub same_size : {A : Type 0} (p : Defined A) (o : Option (Defined A)) (size : ℕ) → Some p ≡ o → Some size ≡ option_map message_size o → size ≡ message_size p

@@ -25,7 +25,7 @@ part_size e (b ∷ bytes) =
     else option_map_or (λ p. entry_count p.definition + item_count p) (defined_at e (local_type b)) 0
 
 -- The entries that are whole in some bytes of a definition message after its record header: the fields begin behind five bytes, an
--- entry has three, and one byte stands between the fields and the developer fields. `proofs/HeldRows` of `fit_decode` computes it after each byte of
+-- entry has three, and one byte stands between the fields and the developer fields. `proofs/HeldRows` of `fit_chain` computes it after each byte of
 -- a definition message.
 abbrev pub entries_so_far : List ℕ → ℕ
 entries_so_far bytes =
@@ -33,7 +33,7 @@ entries_so_far bytes =
     if nat_le (length bytes) fields_end then (length bytes - 5) / 3
     else slice_index bytes 4 + (length bytes - 1 - fields_end) / 3
 
--- The items that are whole in that many bytes of fields, by code and size of each field. `proofs/HeldRows` of `fit_decode` computes it after each
+-- The items that are whole in that many bytes of fields, by code and size of each field. `proofs/HeldRows` of `fit_chain` computes it after each
 -- byte of a message.
 abbrev pub items_so_far : List (ℕ × ℕ) → ℕ → ℕ
 items_so_far [] count = 0

@@ -24,7 +24,7 @@ use Rattle.fit_step.specs.declared.phase.Phase.TheVariants.{RecordHeader, Defini
 use Rattle.fit_record.specs.Environment.{Environment, defined_at, dev_defs}
 use Rattle.fit_record.specs.Records.{sizes}
 use Rattle.fit_record.specs.Records.{layout, dev_layout, order_at}
-use Rattle.fit_record.specs.HeaderByte.{is_compressed, is_definition, has_developer_fields, has_reserved_bit, local_type}
+use Rattle.fit_record.specs.HeaderByte.{is_definition, has_developer_fields, has_reserved_bit, local_type, time_offset}
 use Rattle.fit_step.specs.Reasons.{least_definition}
 use Rattle.fit_record.specs.Records.{message_size}
 
@@ -174,7 +174,7 @@ new_definition b = record { local = local_type b; reserved = 0; order = Little; 
 
 abbrev pub new_message : {A : Type 0} → ℕ → List (ℕ × ℕ) → List (ℕ × ℕ) → Values A
 new_message b fields dev =
-    record { local = local_type b; offset = if is_compressed b then Some (b % 32) else None; fields = map no_items fields; dev = map no_items dev }
+    record { local = local_type b; offset = time_offset b; fields = map no_items fields; dev = map no_items dev }
 
 unfoldable pub message_move : {A : Type 0} → Tests A → ℕ → ℕ → Option (Defined A) → Step A
 message_move tests room b None = Err UndefinedLocal

@@ -22,7 +22,7 @@ record_header_reason e room b =
     else option_map_or (λ p. overrun_or_no_fit (1 + message_size p) room) (defined_at e (local_type b)) UndefinedLocal
 
 -- A byte in a definition message, by what there is of it after the record header: the architecture, the number of fields,
--- the number of developer fields, or the size of either. `proofs/KnownRefusals` of `fit_decode` computes it for a byte of each kind.
+-- the number of developer fields, or the size of either. `proofs/KnownRefusals` of `fit_chain` computes it for a byte of each kind.
 abbrev pub definition_reason : ℕ → List ℕ → ℕ → ℕ → Option Reason
 definition_reason header_byte bytes room b =
     let place = length bytes in

@@ -1,6 +1,6 @@
 //! The record header byte (FIT protocol, "Record Header").
 ghost use Rattle.std.specs.Prelude.{◌≡◌, ◌<◌, IfOk, IsOk, [], length, map, zip};
-ghost use Rattle.fit_record.specs.HeaderByte.{bit, is_compressed, is_definition, has_developer_fields, has_reserved_bit, local_type};
+ghost use Rattle.fit_record.specs.HeaderByte.{bit, is_compressed, is_definition, has_developer_fields, has_reserved_bit, local_type, time_offset};
 ghost use Rattle.fit_record.specs.Sound.{IsSound};
 ghost use Rattle.fit_record.specs.Records.{layout, dev_layout};
 ghost use Rattle.fit_record.specs.Sizes.{HasNoFields};
@@ -20,6 +20,12 @@ const DEVELOPER_FIELDS: u8 = 5;
 const RESERVED: u8 = 4;
 /// The bits of the local message type in a normal header.
 const LOCAL_TYPE: u8 = 0x0F;
+/// In a compressed header, the lowest bit of the local message type, and its bits from there on.
+const COMPRESSED_LOCAL_PLACE: u8 = 5;
+
+const COMPRESSED_LOCAL_TYPE: u8 = 0x03;
+/// In a compressed header, the bits of the time offset.
+const TIME_OFFSET: u8 = 0x1F;
 
 /// Whether a bit is set.
 #[inline(always)]
@@ -69,9 +75,20 @@ pub(crate) fn local_type(byte: u8) -> u8
     ensures { result ≡ local_type byte }
 {
     if is_compressed(byte) {
-        byte / 32 % 4
+        (byte >> COMPRESSED_LOCAL_PLACE) & COMPRESSED_LOCAL_TYPE
     } else {
         byte & LOCAL_TYPE
+    }
+}
+
+/// The time offset of a data message with a compressed header, in seconds.
+pub(crate) fn time_offset(byte: u8) -> Option<u8>
+    ensures { result ≡ time_offset byte }
+{
+    if is_compressed(byte) {
+        Some(byte & TIME_OFFSET)
+    } else {
+        None
     }
 }
 
@@ -110,14 +127,9 @@ pub(crate) fn new_message<A: Allocator + Copy>(
         Some(dev) => empty_dev_fields(alloc, defined.dev_codes.as_slice(), dev.as_slice())?,
         None => Entries::new(alloc),
     };
-    let offset = if is_compressed(byte) {
-        Some(byte % 32)
-    } else {
-        None
-    };
     Ok(Values {
         local: local_type(byte),
-        offset,
+        offset: time_offset(byte),
         fields,
         dev,
     })

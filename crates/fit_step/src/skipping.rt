@@ -6,11 +6,8 @@ ghost use Rattle.fit_step.specs.Skipping.{size_to_skip, AreSizesToSkip, HeadsMes
 use crate::Position;
 use crate::header::{has_reserved_bit, is_definition, local_type};
 use crate::read_definition::whole_definition;
-use fit_record::{Env, Record};
+use fit_record::{Env, FIELD_DESCRIPTION, Record};
 use std::alloc::Allocator;
-
-/// The global message number of field descriptions.
-const FIELD_DESCRIPTION: u16 = 206;
 
 /// How many bytes a data message of a local message type has, or 0 where it may describe a developer field or isn't defined.
 fn size_to_skip<A: Allocator>(env: &Env<A>, local: u8) -> u32

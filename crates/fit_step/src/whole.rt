@@ -1,14 +1,13 @@
 //! Records of which all bytes are in one piece.
 ghost use Rattle.std.specs.Prelude.{◌≡◌, ◌⊎◌, ◌-◌, ◌*◌, ◌/◌, ◌%◌, ◌<◌, ◌≤◌, ◌++◌, [], ◌∷◌, if◌then◌else◌, IfOk, IfSome, OnOk, Some, None, length, map, sum_by, take, drop, zip};
 ghost use Rattle.fit_record.specs.declared.message.Record.TheVariants.{Values as Data};
-ghost use Rattle.fit_record.specs.HeaderByte.{is_compressed};
-ghost use Rattle.fit_record.specs.inner.ReadMessages.{field_from, fields_from, numbers_of};
+ghost use Rattle.fit_record.specs.ReadMessages.{field_from, fields_from, numbers_of};
 ghost use Rattle.fit_record.specs.Records.{sizes, layout, dev_layout, message_size, Fits};
 ghost use Rattle.fit_record.specs.Sound.{IsSound};
 ghost use Rattle.fit_step.specs.Machine.{start, Ends};
 ghost use Rattle.fit_step.specs.Tests.{tests_of};
 
-use crate::header::{has_reserved_bit, is_compressed, is_definition, local_type};
+use crate::header::{has_reserved_bit, is_definition, local_type, time_offset};
 use crate::read_definition::definition_within;
 use fit_base::{Bits, Code, Entries, Items, Order, bits_at, width_of};
 use fit_record::{Defined, DevDef, Env, FieldDef, Record, Values};
@@ -234,15 +233,4 @@ pub fn whole_record<A: Allocator + Copy>(
     }
     let (definition, used) = definition_within(alloc, env, room, piece)?;
     Some((Record::Define(definition), used))
-}
-
-/// The time offset of a record header.
-fn time_offset(byte: u8) -> Option<u8>
-    ensures { result ≡ (if is_compressed byte then Some (byte % 32) else None) }
-{
-    if is_compressed(byte) {
-        Some(byte % 32)
-    } else {
-        None
-    }
 }

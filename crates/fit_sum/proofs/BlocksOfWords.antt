@@ -1,8 +1,6 @@
 -- Blocks of 128 bytes through the register of sixteen words.
-use Rattle.std.proofs.Common.{◌≡◌, ℕ, ◌+◌, ◌*◌, ◌^◌, ◌<◌, ◌≤◌, ◌-◌, List, [], ◌∷◌, ◌++◌, length, subst, refl, ap, sym, ◌∙◌, arith, length-append, append_assoc}
-use Rattle.std.specs.Int.Bits.{bit_xor, xor_assoc, xor_zero_l}
-use Rattle.fit_sum.specs.inner.Register.{shifts, run, AllBytes}
-use Rattle.fit_sum.specs.inner.Words.{bytes_number, words_from, mix, turns, spelled}
+use Rattle.fit_sum.proofs.Common.{◌≡◌, ℕ, ◌+◌, ◌*◌, ◌^◌, ◌<◌, ◌≤◌, ◌-◌, List, [], ◌∷◌, ◌++◌, length, subst, refl, ap, sym, ◌∙◌, arith, length-append}
+use Rattle.fit_sum.proofs.Common.{append_assoc, bit_xor, xor_assoc, xor_zero_l, shifts, run, AllBytes, bytes_number, words_from, mix, turns, spelled}
 use Rattle.fit_sum.proofs.ShiftsOfSums.{steps-xor, steps-add, steps-shift}
 use Rattle.fit_sum.proofs.Division.{run-steps}
 use Rattle.fit_sum.proofs.RegisterOfAdded.{IsBytes-append}

@@ -1,12 +1,7 @@
 -- Bytes and words as numbers: how a list of bytes and its words agree.
-use Rattle.std.proofs.Common.{◌≡◌, ℕ, zero, suc, ◌+◌, ◌*◌, ◌^◌, ◌<◌, ◌≤◌, List, [], ◌∷◌, ◌++◌, length, take, drop, get_or, refl, ap, sym, ◌∙◌, arith, drop-drop}
-use Rattle.std.proofs.Common.{take-add, subst, add-one, drop-cons}
-use Rattle.std.specs.Int.Bits.{bit_xor, xor_assoc, xor_zero_l}
-use Rattle.std.proofs.Math.Nat.{pow-suc}
-use Rattle.std.proofs.lemmas.Nat.{xor_lt}
-use Rattle.std.proofs.lemmas.List.{take_all}
-use Rattle.fit_sum.specs.inner.Register.{AllBytes}
-use Rattle.fit_sum.specs.inner.Words.{bytes_number, words_from, mix}
+use Rattle.fit_sum.proofs.Common.{◌≡◌, ℕ, zero, suc, ◌+◌, ◌*◌, ◌^◌, ◌<◌, ◌≤◌, List, [], ◌∷◌, ◌++◌, length, take, drop, get_or, refl, ap, sym, ◌∙◌, arith}
+use Rattle.fit_sum.proofs.Common.{drop-drop, take-add, subst, add-one, drop-cons, bit_xor, xor_assoc, xor_zero_l, pow-suc, xor_lt, take_all, AllBytes}
+use Rattle.fit_sum.proofs.Common.{bytes_number, words_from, mix}
 use Rattle.fit_sum.proofs.ShiftsOfSums.{xor_pairs, xor_apart, shl-xor}
 use Rattle.fit_sum.proofs.TurnsAreShifts.{IsWords, joined}
 

@@ -1,14 +1,9 @@
 -- Long division is the shifting register.
-use Rattle.std.proofs.Common.{◌≡◌, ℕ, zero, suc, ◌+◌, ◌*◌, ◌/◌, ◌%◌, ◌^◌, ◌<◌, ◌≤◌, ◌==◌, Bool, true, false, List, [], ◌∷◌, ◌++◌, length, replicate, refl, ap}
-use Rattle.std.proofs.Common.{sym, ◌∙◌, arith, lit<, zero-add, append_assoc}
-use Rattle.std.specs.Prelude.{flat_map, if◌then◌else◌}
-use Rattle.std.specs.Int.Bits.{bit_xor, xor_assoc, xor_zero_l, xor_zero_r}
-use Rattle.std.proofs.lemmas.Nat.{xor_block}
-use Rattle.std.proofs.Math.Nat.{pow-suc}
+use Rattle.fit_sum.proofs.Common.{◌≡◌, ℕ, zero, suc, ◌+◌, ◌*◌, ◌/◌, ◌%◌, ◌^◌, ◌<◌, ◌≤◌, ◌==◌, Bool, true, false, List, [], ◌∷◌, ◌++◌, length, refl, ap, sym}
+use Rattle.fit_sum.proofs.Common.{◌∙◌, arith, lit<, zero-add, append_assoc, flat_map, if◌then◌else◌, bit_xor, xor_assoc, xor_zero_l, xor_zero_r, xor_block}
+use Rattle.fit_sum.proofs.Common.{pow-suc, add_to_front, divisor, remainder, low_bits, from_bits, checksum, shift, shifts, run, AllBytes, bytes_number}
+use Rattle.std.proofs.Common.{replicate}
 use Rattle.std.proofs.lemmas.Bool.Decides.{nat_tests}
-use Rattle.fit_sum.specs.Checksum.{add_to_front, divisor, remainder, low_bits, from_bits, checksum}
-use Rattle.fit_sum.specs.inner.Register.{shift, shifts, run, AllBytes}
-use Rattle.fit_sum.specs.inner.Words.{bytes_number}
 use Rattle.fit_sum.proofs.ShiftsOfSums.{xor_apart, doubled, step-double, step-odd, steps-xor, steps-add, steps-shift}
 use Rattle.fit_sum.proofs.PolynomialLengths.{length-add_to_front, length-dividend}
 

@@ -1,8 +1,5 @@
 -- The divisor to the power 64 has four terms, and each multiple of it leaves nothing.
-use Rattle.std.proofs.Common.{◌≡◌, ℕ, zero, suc, ◌+◌, ◌*◌, ◌/◌, ◌%◌, ◌^◌, ◌<◌, refl, ap, sym, ◌∙◌, arith}
-use Rattle.std.specs.Int.Bits.{bit_xor}
-use Rattle.std.proofs.Math.Nat.{pow-suc}
-use Rattle.fit_sum.specs.inner.Register.{shift, shifts}
+use Rattle.fit_sum.proofs.Common.{◌≡◌, ℕ, zero, suc, ◌+◌, ◌*◌, ◌/◌, ◌%◌, ◌^◌, ◌<◌, refl, ap, sym, ◌∙◌, arith, bit_xor, pow-suc, shift, shifts}
 use Rattle.fit_sum.proofs.ShiftsOfSums.{xor_pairs, xor_apart, shl-xor, step-double, steps-xor, steps-zero, steps-add}
 
 -- x^1024 + x^960 + x^128 + 1, its highest power as bit 0

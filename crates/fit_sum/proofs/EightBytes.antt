@@ -1,9 +1,6 @@
 -- Eight bytes at once: the register is the sum of what each of them gives alone.
-use Rattle.std.proofs.Common.{◌≡◌, ℕ, ◌+◌, ◌*◌, ◌/◌, ◌%◌, ◌<◌, List, [], ◌∷◌, length, get_or, refl, ap, sym, ◌∙◌, arith}
-use Rattle.std.specs.Int.Bits.{bit_xor, xor_assoc, xor_zero_l}
-use Rattle.std.proofs.lemmas.Nat.{xor_comm}
-use Rattle.fit_sum.specs.inner.Register.{shifts, run, AllBytes}
-use Rattle.fit_sum.specs.inner.Words.{bytes_number}
+use Rattle.fit_sum.proofs.Common.{◌≡◌, ℕ, ◌+◌, ◌*◌, ◌/◌, ◌%◌, ◌<◌, List, [], ◌∷◌, length, get_or, refl, ap, sym, ◌∙◌, arith, bit_xor, xor_assoc, xor_zero_l}
+use Rattle.fit_sum.proofs.Common.{xor_comm, shifts, run, AllBytes, bytes_number}
 use Rattle.fit_sum.proofs.ShiftsOfSums.{steps-xor, steps-add}
 use Rattle.fit_sum.proofs.Division.{run-steps}
 use Rattle.fit_sum.proofs.TableEntries.{byte-step}

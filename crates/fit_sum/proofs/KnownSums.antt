@@ -1,6 +1,5 @@
 -- Checksums that are known from outside, computed by the definition.
-use Rattle.std.proofs.Common.{◌≡◌, [], ◌∷◌, refl}
-use Rattle.fit_sum.specs.Checksum.{checksum}
+use Rattle.fit_sum.proofs.Common.{◌≡◌, [], ◌∷◌, refl, checksum}
 
 -- of the nine digits 1 to 9, the check value that catalogues of checksums give
 nine_digits : checksum (0x31 ∷ 0x32 ∷ 0x33 ∷ 0x34 ∷ 0x35 ∷ 0x36 ∷ 0x37 ∷ 0x38 ∷ 0x39 ∷ []) ≡ 0xBB3D

@@ -1,3 +1,4 @@
+pub mod Common
 pub mod SixteenBits
 mod ShiftsOfSums
 mod PolynomialLengths

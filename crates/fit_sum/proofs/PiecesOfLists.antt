@@ -1,13 +1,6 @@
 -- A list cut into pieces of one length, and loops over bytes and pieces.
-use Rattle.std.proofs.Common.{◌≡◌, ℕ, zero, suc, ◌+◌, ◌*◌, ◌<◌, List, [], ◌∷◌, ◌++◌, length, take, drop, get_or, refl, ap, ◌∙◌, arith, add-one, append_assoc}
-use Rattle.std.proofs.Common.{drop-drop}
-use Rattle.std.specs.Int.Bits.{bit_xor}
-use Rattle.std.specs.List.{concat}
-use Rattle.std.specs.Simd.{first_chunks}
-use Rattle.std.proofs.Math.Seq.{take-suc}
-use Rattle.std.proofs.lemmas.List.{take-append-drop, append-nil}
-use Rattle.std.proofs.lemmas.List.Folds.{concat-append}
-use Rattle.fit_sum.specs.inner.Register.{shifts, run}
+use Rattle.fit_sum.proofs.Common.{◌≡◌, ℕ, zero, suc, ◌+◌, ◌*◌, ◌<◌, List, [], ◌∷◌, ◌++◌, length, take, drop, get_or, refl, ap, ◌∙◌, arith, add-one}
+use Rattle.fit_sum.proofs.Common.{append_assoc, drop-drop, bit_xor, concat, first_chunks, take-suc, take-append-drop, append-nil, concat-append, shifts, run}
 use Rattle.fit_sum.proofs.Division.{run-append}
 
 pub chunks-whole : (n k : ℕ) (xs : List ℕ) → concat (first_chunks n k xs) ++ drop (k * n) xs ≡ xs

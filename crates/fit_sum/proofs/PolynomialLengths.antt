@@ -1,7 +1,7 @@
 -- How long the polynomials of the division are.
-use Rattle.std.proofs.Common.{◌≡◌, ℕ, zero, suc, ◌+◌, ◌*◌, Bool, true, false, List, [], ◌∷◌, ◌++◌, length, refl, ap, arith, length-append}
-use Rattle.std.specs.Prelude.{flat_map, replicate}
-use Rattle.fit_sum.specs.Checksum.{add_to_front, divisor, remainder, low_bits}
+use Rattle.fit_sum.proofs.Common.{◌≡◌, ℕ, zero, suc, ◌+◌, ◌*◌, Bool, true, false, List, [], ◌∷◌, ◌++◌, length, refl, ap, arith, length-append, flat_map}
+use Rattle.fit_sum.proofs.Common.{add_to_front, divisor, remainder, low_bits}
+use Rattle.std.specs.Prelude.{replicate}
 
 pub length-add_to_front : (p q : List Bool) → length (add_to_front p q) ≡ length p
 length-add_to_front [] q = refl

@@ -1,7 +1,5 @@
 -- How the register and the bytes added grow together.
-use Rattle.std.proofs.Common.{◌≡◌, ℕ, suc, ◌^◌, ◌<◌, List, [], ◌∷◌, ◌++◌, get_or, Fits, w8, ap, sym, ◌∙◌, arith}
-use Rattle.std.specs.Int.Bits.{bit_xor}
-use Rattle.fit_sum.specs.inner.Register.{shifts, run, AllBytes, IsSumOf}
+use Rattle.fit_sum.proofs.Common.{◌≡◌, ℕ, suc, ◌^◌, ◌<◌, List, [], ◌∷◌, ◌++◌, get_or, Fits, w8, ap, sym, ◌∙◌, arith, bit_xor, shifts, run, AllBytes, IsSumOf}
 use Rattle.fit_sum.proofs.Division.{run-checksum, run-append}
 
 pub IsBytes-fits : (bytes : List ℕ) → ((k : ℕ) → Fits w8 (get_or bytes k 0)) → AllBytes bytes

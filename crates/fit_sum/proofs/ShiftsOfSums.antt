@@ -1,9 +1,6 @@
 -- Shifts of the register go through sums, and a shift down undoes one up.
-use Rattle.std.proofs.Common.{◌≡◌, ℕ, zero, suc, ◌+◌, ◌*◌, ◌/◌, ◌%◌, ◌^◌, ◌<◌, refl, ap, sym, ◌∙◌, arith}
-use Rattle.std.specs.Int.Bits.{bit_xor, xor_assoc, xor_zero_l, xor_zero_r}
-use Rattle.std.proofs.lemmas.Nat.{xor_comm, xor_shr, xor_mod, xor_block, pow_pos, shr_split, div-add-mod', mod_below}
-use Rattle.std.proofs.Math.Nat.{pow-suc}
-use Rattle.fit_sum.specs.inner.Register.{shift, shifts}
+use Rattle.fit_sum.proofs.Common.{◌≡◌, ℕ, zero, suc, ◌+◌, ◌*◌, ◌/◌, ◌%◌, ◌^◌, ◌<◌, refl, ap, sym, ◌∙◌, arith, bit_xor, xor_assoc, xor_zero_l, xor_zero_r}
+use Rattle.fit_sum.proofs.Common.{xor_comm, xor_shr, xor_mod, xor_block, pow_pos, shr_split, div-add-mod', mod_below, pow-suc, shift, shifts}
 
 pub xor_pairs : (a b c d : ℕ) → bit_xor (bit_xor a b) (bit_xor c d) ≡ bit_xor (bit_xor a c) (bit_xor b d)
 xor_pairs a b c d =

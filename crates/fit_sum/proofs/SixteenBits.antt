@@ -1,8 +1,7 @@
 -- A checksum has sixteen bits.
-use Rattle.std.proofs.Common.{◌≡◌, ℕ, ◌*◌, ◌^◌, ◌<◌, Bool, true, false, List, [], ◌∷◌, ◌++◌, length, subst, lit<, arith}
-use Rattle.std.specs.Prelude.{flat_map, replicate}
-use Rattle.std.proofs.Math.Nat.{pow-suc}
-use Rattle.fit_sum.specs.Checksum.{remainder, low_bits, from_bits, checksum}
+use Rattle.fit_sum.proofs.Common.{◌≡◌, ℕ, ◌*◌, ◌^◌, ◌<◌, Bool, true, false, List, [], ◌∷◌, ◌++◌, length, subst, lit<, arith, flat_map, pow-suc, remainder}
+use Rattle.fit_sum.proofs.Common.{low_bits, from_bits, checksum}
+use Rattle.std.specs.Prelude.{replicate}
 use Rattle.fit_sum.proofs.PolynomialLengths.{length-remainder, length-dividend}
 
 from_bits-below : (bits : List Bool) → from_bits bits < 2 ^ length bits

@@ -1,11 +1,6 @@
 -- Words spelled as bytes.
-use Rattle.std.proofs.Common.{◌≡◌, ℕ, ◌+◌, ◌*◌, ◌^◌, ◌<◌, List, [], ◌∷◌, ◌++◌, length, take, get_or, refl, ap, sym, ◌∙◌, arith, add-one, append_assoc}
-use Rattle.std.specs.Int.{to_le_bytes, w64}
-use Rattle.std.proofs.Math.Seq.{take-suc}
-use Rattle.std.proofs.lemmas.Nat.{from_le_bytes-to_le_bytes_8}
-use Rattle.std.proofs.lemmas.List.{append-nil}
-use Rattle.fit_sum.specs.inner.Register.{run, AllBytes}
-use Rattle.fit_sum.specs.inner.Words.{bytes_number, spelled}
+use Rattle.fit_sum.proofs.Common.{◌≡◌, ℕ, ◌+◌, ◌*◌, ◌^◌, ◌<◌, List, [], ◌∷◌, ◌++◌, length, take, get_or, refl, ap, sym, ◌∙◌, arith, add-one, append_assoc}
+use Rattle.fit_sum.proofs.Common.{to_le_bytes, w64, take-suc, from_le_bytes-to_le_bytes_8, append-nil, run, AllBytes, bytes_number, spelled}
 use Rattle.fit_sum.proofs.Division.{run-append}
 use Rattle.fit_sum.proofs.RegisterOfAdded.{IsBytes-append}
 use Rattle.fit_sum.proofs.TurnsAreShifts.{IsWords, joined}

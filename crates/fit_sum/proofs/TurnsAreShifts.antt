@@ -1,11 +1,7 @@
 -- The register of words: a word that is shifted out, and added in three places, leaves what 64 shifts leave.
-use Rattle.std.proofs.Common.{◌≡◌, ℕ, zero, suc, ◌+◌, ◌*◌, ◌^◌, ◌<◌, List, [], ◌∷◌, ◌++◌, length, get_or, refl, ap, sym, ◌∙◌, arith, length-append}
-use Rattle.std.specs.Int.Bits.{bit_xor, xor_assoc, xor_zero_r}
-use Rattle.std.proofs.lemmas.Nat.{xor_comm, xor_lt}
+use Rattle.fit_sum.proofs.Common.{◌≡◌, ℕ, zero, suc, ◌+◌, ◌*◌, ◌^◌, ◌<◌, List, [], ◌∷◌, ◌++◌, length, get_or, refl, ap, sym, ◌∙◌, arith, length-append, bit_xor}
+use Rattle.fit_sum.proofs.Common.{xor_assoc, xor_zero_r, xor_comm, xor_lt, pow-suc, mul_assoc, shifts, xor_into, turn, turns}
 use Rattle.std.proofs.lemmas.Nat.Bits.{bit_at_xor, same_from_bits}
-use Rattle.std.proofs.Math.Nat.{pow-suc, mul_assoc}
-use Rattle.fit_sum.specs.inner.Register.{shifts}
-use Rattle.fit_sum.specs.inner.Words.{xor_into, turn, turns}
 use Rattle.fit_sum.proofs.ShiftsOfSums.{xor_apart, shl-xor, steps-xor, steps-zero, steps-add, steps-shift}
 use Rattle.fit_sum.proofs.DivisorPower.{multiple, steps-multiple}
 

@@ -5,8 +5,6 @@ mod nibbles;
 mod slices;
 mod sum;
 mod tables;
-#[cfg(test)]
-mod tests;
 mod words;
 
 pub use crate::sum::Sum;

@@ -4,6 +4,7 @@ ghost use Rattle.std.specs.Prelude.{◌≡◌};
 ghost use Rattle.fit_sum.specs.inner.Register.{shifts};
 
 #[inline]
+#[tactic(auto, using(crate::proofs::TableEntries::after_8))]
 pub(crate) fn after_8(byte: u8) -> u16
     ensures { result ≡ shifts 8 byte }
 {
@@ -11,6 +12,7 @@ pub(crate) fn after_8(byte: u8) -> u16
 }
 
 #[inline]
+#[tactic(auto, using(crate::proofs::TableEntries::after_16))]
 pub(crate) fn after_16(byte: u8) -> u16
     ensures { result ≡ shifts 16 byte }
 {
@@ -18,6 +20,7 @@ pub(crate) fn after_16(byte: u8) -> u16
 }
 
 #[inline]
+#[tactic(auto, using(crate::proofs::TableEntries::after_24))]
 pub(crate) fn after_24(byte: u8) -> u16
     ensures { result ≡ shifts 24 byte }
 {
@@ -25,6 +28,7 @@ pub(crate) fn after_24(byte: u8) -> u16
 }
 
 #[inline]
+#[tactic(auto, using(crate::proofs::TableEntries::after_32))]
 pub(crate) fn after_32(byte: u8) -> u16
     ensures { result ≡ shifts 32 byte }
 {
@@ -32,6 +36,7 @@ pub(crate) fn after_32(byte: u8) -> u16
 }
 
 #[inline]
+#[tactic(auto, using(crate::proofs::TableEntries::after_40))]
 pub(crate) fn after_40(byte: u8) -> u16
     ensures { result ≡ shifts 40 byte }
 {
@@ -39,6 +44,7 @@ pub(crate) fn after_40(byte: u8) -> u16
 }
 
 #[inline]
+#[tactic(auto, using(crate::proofs::TableEntries::after_48))]
 pub(crate) fn after_48(byte: u8) -> u16
     ensures { result ≡ shifts 48 byte }
 {
@@ -46,6 +52,7 @@ pub(crate) fn after_48(byte: u8) -> u16
 }
 
 #[inline]
+#[tactic(auto, using(crate::proofs::TableEntries::after_56))]
 pub(crate) fn after_56(byte: u8) -> u16
     ensures { result ≡ shifts 56 byte }
 {
@@ -53,6 +60,7 @@ pub(crate) fn after_56(byte: u8) -> u16
 }
 
 #[inline]
+#[tactic(auto, using(crate::proofs::TableEntries::after_64))]
 pub(crate) fn after_64(byte: u8) -> u16
     ensures { result ≡ shifts 64 byte }
 {

@@ -6,7 +6,7 @@ use Rattle.fit_frame.specs.declared.reason.Reason.TheVariants.{NoFit}
 use Rattle.fit_record.specs.declared.environment.Defined.{Defined}
 use Rattle.fit_step.specs.declared.phase.DefinitionPhase.TheVariants.{FieldSize, DevCount, DevSize}
 use Rattle.fit_record.specs.Environment.{Environment, defined_at}
-use Rattle.fit_record.specs.HeaderByte.{local_type}
+use Rattle.fit_record.specs.HeaderByte.{is_definition, local_type}
 use Rattle.fit_record.specs.Records.{IsRecord}
 use Rattle.fit_record.specs.Records.{message_size}
 use Rattle.fit_step.specs.Machine.{Tests, start, step, Ends, RoomsFill}
@@ -25,7 +25,8 @@ CutsGoOn A = (e : Environment A) (part : RecordPart A) → IsPart e part → Has
 
 -- The test of rooms that is asked about b behind these parts is false.
 abbrev pub Fails : {A : Type 0} → Environment A → Tests A → ℕ → RecordPart A → ℕ → Type 0
-Fails {A} e tests room nothing b = (p : Defined A) × (defined_at e (local_type b) ≡ Some p) × (tests.message (room - (1 + message_size p)) ≡ false)
+Fails {A} e tests room nothing b =
+    (is_definition b ≡ false) × (p : Defined A) × (defined_at e (local_type b) ≡ Some p) × (tests.message (room - (1 + message_size p)) ≡ false)
 Fails e tests room (in_definition (FieldSize left number) d) b = tests.field_size d (left - 1) (room - 1) b ≡ false
 Fails e tests room (in_definition DevCount d) b = tests.dev_count d (room - 1) b ≡ false
 Fails e tests room (in_definition (DevSize left number) d) b = tests.dev_size d (left - 1) (room - 1) b ≡ false

@@ -1,6 +1,4 @@
-use Rattle.std.proofs.Common.{◌≡◌, true, refl, ap, ◌∙◌}
-use Rattle.fit_sum.specs.Checksum.{checksum}
-use Rattle.fit_frame.specs.Header.{FormFits, ZeroIsSum}
+use Rattle.fit_frame.proofs.Common.{◌≡◌, true, refl, ap, ◌∙◌, checksum, FormFits, ZeroIsSum}
 use Rattle.fit_frame.proofs.spelling.head_bytes.Goals as goal
 
 pub returns-clause-ok : goal.returns-clause-ok

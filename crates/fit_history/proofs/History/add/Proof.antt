@@ -1,34 +1,13 @@
 -- `add` has an empty body. Its borrow is opened, and closed at the longer list.
-use Rattle.std.proofs.Common.{List, [], ◌∷◌, ◌++◌, refl}
-use seplogic.Ra.Ura.{Ura}
-use mir.Syntax.{Fn, Args, a_type, named}
-use mir.Val.{Val, vunit, vptr}
-use mir.MapTy.{inst_fn}
-use base.Logic.{SProp, id⊢}
-use base.Fml.{ftrue, flft}
-use prog.Memory.{Memory}
-use prog.Routine.{Routine}
-use prog.Wp.{WpFn, Tables}
-use contract.Monad.{Fun}
-use contract.Running.{tables, tables_of}
-use sound.WpLaws.{WpFn-mono}
-use types.Logic.{Logic}
-use types.Kit.{‵, raw, ◌⊛◌, ◌$◌, ◌∵◌, !, qed, move, keep, drop, use1, split, join, fsplit, fsplit3, fjoin, fjoin3, feq_i, suffices, frame, done}
-use types.Run.{enter, of_opd, unit_lit, returns}
-use types.ByLocal.{alloc_all, pass_all, free_all, look_at, sets}
-use denote.RattleType.{RattleType, Valss, owns}
-use denote.Param.{param, layouts}
-use denote.Exit.{yes}
-use denote.Ref.{mut_vals, mut_Tells, shr_vals, shr_Tells}
-use denote.Signature.{plain, types_at}
-use denote.Steps.{opens, closes}
-use denote.Triple.Clauses.{Clauses, Ended, closing}
-use denote.Triple.Spec.{Meets, triple_of}
-use denote.Triple.Table.{entered}
-use denote.Triple.Walked.{says, Stays, stay_ref, stay_none_ref, AllGo, Goes-ref, Goes-none_ref, ends_at, walked, walk_Meets}
+use Rattle.fit_history.proofs.Common.{List, [], ◌∷◌, ◌++◌, refl, Ura, Fn, Args, a_type, named, Val, vunit, vptr, inst_fn, SProp, id⊢, ftrue, flft, Memory}
+use Rattle.fit_history.proofs.Common.{Routine, WpFn, Tables, Fun, tables, tables_of, WpFn-mono, Logic, ‵, raw, ◌⊛◌, ◌$◌, ◌∵◌, !, qed, move, keep, drop, use1}
+use Rattle.fit_history.proofs.Common.{split, join, fsplit, fsplit3, fjoin, fjoin3, feq_i, suffices, frame, done, enter, of_opd, unit_lit, returns, alloc_all}
+use Rattle.fit_history.proofs.Common.{pass_all, free_all, look_at, sets, RattleType, Valss, owns, param, layouts, yes, mut_vals, mut_Tells, shr_vals, shr_Tells}
+use Rattle.fit_history.proofs.Common.{plain, types_at, opens, closes, Clauses, Ended, closing, Meets, triple_of, entered, says, Stays, stay_ref, stay_none_ref}
+use Rattle.fit_history.proofs.Common.{AllGo, Goes-ref, Goes-none_ref, ends_at, walked, walk_Meets}
+use Rattle.fit_history.specs.contracts.History.add.Key.{name as #self}
 use Rattle.fit_history.specs.contracts.History as C
 use Rattle.fit_history.specs.contracts.History.add as F
-use Rattle.fit_history.specs.contracts.History.add.Key.{name as #self}
 use Rattle.fit_history.proofs.History.add.Statement.{statement}
 use Rattle.fit_history.proofs.History.add.Code as code
 

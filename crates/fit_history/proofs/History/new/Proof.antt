@@ -1,34 +1,14 @@
 -- `new` makes a value of no bytes, whose list is empty.
-use Rattle.std.proofs.Common.{[], ◌∷◌, refl}
-use seplogic.Ra.Ura.{Ura}
-use mir.Syntax.{Fn, Args, a_type}
-use mir.Val.{Val, vstruct, vcons, vnil}
-use mir.MapTy.{inst_fn}
-use base.Logic.{SProp}
-use prog.Memory.{Memory}
-use prog.Routine.{Routine}
-use prog.Wp.{WpFn, Tables}
-use contract.Monad.{Fun}
-use contract.Running.{tables, tables_of}
-use sound.WpLaws.{WpFn-mono}
-use types.Logic.{Logic}
-use types.Kit.{‵, raw, ◌⊛◌, ◌$◌, ◌∵◌, !, qed, move, keep, split, suffices, done}
+use Rattle.fit_history.proofs.Common.{[], ◌∷◌, refl, Ura, Fn, Args, a_type, Val, vstruct, vcons, vnil, inst_fn, SProp, Memory, Routine, WpFn, Tables, Fun}
+use Rattle.fit_history.proofs.Common.{tables, tables_of, WpFn-mono, Logic, ‵, raw, ◌⊛◌, ◌$◌, ◌∵◌, !, qed, move, keep, split, suffices, done, enter, returns}
+use Rattle.fit_history.proofs.Common.{and_then, no_more, alloc_all, pass_all, free_all, look_at, get, sets, RattleType, owns, types_at, param, layouts, nothing}
+use Rattle.fit_history.proofs.Common.{Clauses, Ended, closing, Meets, triple_of, entered, says, ends_at, walked, walk_Meets}
 use types.Part.{agg}
-use types.Run.{enter, returns, and_then, no_more}
-use types.ByLocal.{alloc_all, pass_all, free_all, look_at, get, sets}
-use denote.RattleType.{RattleType, owns}
-use denote.Signature.{types_at}
-use denote.Param.{param, layouts}
 use denote.Shadow.{pure_i}
-use denote.Steps.{nothing}
-use denote.Triple.Clauses.{Clauses, Ended, closing}
 use denote.Triple.Entry.{alive}
-use denote.Triple.Spec.{Meets, triple_of}
-use denote.Triple.Table.{entered}
-use denote.Triple.Walked.{says, ends_at, walked, walk_Meets}
+use Rattle.fit_history.specs.contracts.History.new.Key.{name as #self}
 use Rattle.fit_history.specs.contracts.History as C
 use Rattle.fit_history.specs.contracts.History.new as F
-use Rattle.fit_history.specs.contracts.History.new.Key.{name as #self}
 use Rattle.fit_history.proofs.History.new.Statement.{statement}
 use Rattle.fit_history.proofs.History.new.Code as code
 

@@ -1,5 +1,4 @@
-use Rattle.std.proofs.Common.{◌≡◌, ◌*◌, ◌≤◌, take}
-use Rattle.std.specs.Prelude.{sum_by}
+use Rattle.fit_record.proofs.Common.{◌≡◌, ◌*◌, ◌≤◌, take, sum_by}
 use Rattle.fit_record.proofs.definition.sizes_of_dev_fields.Given as goal
 
 abbrev pub invariant-loop-f : goal.invariant-loop-f

@@ -1,5 +1,4 @@
-use Rattle.std.proofs.Common.{◌∙◌, ne_eqb}
-use Rattle.std.proofs.lemmas.Option.{slice_get-get_or}
+use Rattle.fit_record.proofs.Common.{◌∙◌, ne_eqb, slice_get-get_or}
 use Rattle.fit_record.proofs.FirstOfNumber.{after_other}
 use Rattle.fit_record.proofs.learn.first_items.Goals as goal
 

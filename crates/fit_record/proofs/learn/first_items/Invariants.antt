@@ -1,5 +1,4 @@
-use Rattle.std.proofs.Common.{◌≡◌, drop}
-use Rattle.fit_record.specs.Environment.{first_items}
+use Rattle.fit_record.proofs.Common.{◌≡◌, drop, first_items}
 use Rattle.fit_record.proofs.learn.first_items.Given as goal
 
 abbrev pub invariant-loop-place : goal.invariant-loop-place

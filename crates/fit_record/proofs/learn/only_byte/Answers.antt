@@ -1,4 +1,4 @@
-use Rattle.std.proofs.Common.{◌<◌, get_or, sym, ◌∙◌, arith}
+use Rattle.fit_record.proofs.Common.{◌<◌, get_or, sym, ◌∙◌, arith}
 use Rattle.fit_record.proofs.FirstOfNumber.{first_below, one_of}
 use Rattle.fit_record.proofs.learn.only_byte.Goals as goal
 

@@ -1,6 +1,5 @@
-use Rattle.std.proofs.Common.{◌≡◌, take, map}
-use Rattle.std.specs.Prelude.{zip}
-use Rattle.fit_step.specs.Machine.{no_items}
+use Rattle.fit_step.proofs.Common.{◌≡◌, take, zip, no_items}
+use Rattle.std.proofs.Common.{map}
 use Rattle.fit_step.proofs.header.empty_dev_fields.Given as goal
 
 abbrev pub invariant-loop-i : goal.invariant-loop-i

@@ -1,5 +1,4 @@
-use Rattle.std.proofs.Common.{◌≡◌, take}
-use Rattle.fit_step.specs.InProgress.{items_in}
+use Rattle.fit_step.proofs.Common.{◌≡◌, take, items_in}
 use Rattle.fit_step.proofs.held.items_in.Given as goal
 
 abbrev pub invariant-loop-field : goal.invariant-loop-field

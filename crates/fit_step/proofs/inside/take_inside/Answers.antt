@@ -1,6 +1,4 @@
-use Rattle.std.proofs.Common.{refl, arith}
-use Rattle.fit_step.specs.Machine.{values_of}
-use Rattle.fit_step.specs.Tests.{tests_of}
+use Rattle.fit_step.proofs.Common.{refl, arith, values_of, tests_of}
 use Rattle.fit_step.proofs.BytesInsideNumbers.{inside_field, inside_dev}
 use Rattle.fit_step.proofs.inside.take_inside.Goals as goal
 use Rattle.fit_step.proofs.inside.take_inside.Goals.{in-FieldItems, in-DevItems}

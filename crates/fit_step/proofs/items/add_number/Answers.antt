@@ -1,4 +1,4 @@
-use Rattle.std.proofs.Common.{◌∙◌}
+use Rattle.fit_step.proofs.Common.{◌∙◌}
 use Rattle.fit_step.proofs.TwoLists.{on_ok, on_err, set_number, set_back}
 use Rattle.fit_step.proofs.items.add_number.Goals as goal
 

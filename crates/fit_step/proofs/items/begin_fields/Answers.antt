@@ -1,8 +1,6 @@
-use Rattle.std.proofs.Common.{◌≡◌, ◌∙◌, ℕ, List, drop, map, sym, ap}
-use Rattle.fit_record.specs.declared.definition.FieldDef.{FieldDef}
-use Rattle.fit_record.specs.Records.{layout, dev_layout}
-use Rattle.fit_step.specs.inner.Steps.{next_with_bytes}
-use Rattle.fit_step.proofs.TwoLists.{drop_map, field_begun, field_found}
+use Rattle.fit_step.proofs.Common.{drop-map, ◌≡◌, ◌∙◌, ℕ, List, sym, ap, FieldDef, layout, dev_layout, next_with_bytes}
+use Rattle.std.proofs.Common.{drop, map}
+use Rattle.fit_step.proofs.TwoLists.{field_begun, field_found}
 use Rattle.fit_step.proofs.items.begin_fields.Goals as goal
 
 abbrev pair : FieldDef → ℕ × ℕ
@@ -10,7 +8,7 @@ pair f = (f.code, f.size)
 
 listed : (from : ℕ) (slice fields : List FieldDef) → slice ≡ fields
     → next_with_bytes from (map pair (drop from slice)) ≡ next_with_bytes from (drop from (map pair fields))
-listed from slice fields same = ap (λ l. next_with_bytes from (map pair (drop from l))) same ∙ ap (next_with_bytes from) (sym (drop_map pair fields from))
+listed from slice fields same = ap (λ l. next_with_bytes from (map pair (drop from l))) same ∙ ap (next_with_bytes from) (sym (drop-map pair from fields))
 
 pub returns-in-Some : goal.returns-in-Some
 returns-in-Some g c = λ room v.

@@ -1,4 +1,4 @@
-use Rattle.std.proofs.Common.{◌∙◌}
+use Rattle.fit_step.proofs.Common.{◌∙◌}
 use Rattle.fit_step.proofs.TwoLists.{passed_by}
 use Rattle.fit_step.proofs.items.dev_from.Goals as goal
 

@@ -1,6 +1,5 @@
-use Rattle.std.proofs.Common.{◌≡◌, drop, map}
-use Rattle.std.specs.Prelude.{zip}
-use Rattle.fit_step.specs.inner.Steps.{next_with_bytes}
+use Rattle.fit_step.proofs.Common.{◌≡◌, zip, next_with_bytes}
+use Rattle.std.proofs.Common.{drop, map}
 use Rattle.fit_step.proofs.items.dev_from.Given as goal
 
 abbrev pub invariant-loop-i : goal.invariant-loop-i

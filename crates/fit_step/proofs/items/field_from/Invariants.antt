@@ -1,5 +1,5 @@
-use Rattle.std.proofs.Common.{◌≡◌, drop, map}
-use Rattle.fit_step.specs.inner.Steps.{next_with_bytes}
+use Rattle.fit_step.proofs.Common.{◌≡◌, next_with_bytes}
+use Rattle.std.proofs.Common.{drop, map}
 use Rattle.fit_step.proofs.items.field_from.Given as goal
 
 abbrev pub invariant-loop-i : goal.invariant-loop-i

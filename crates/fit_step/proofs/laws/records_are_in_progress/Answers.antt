@@ -1,8 +1,8 @@
-use Rattle.fit_step.proofs.RecordsInProgress.{records_begin, records_in_progress, idle_between_records}
+use Rattle.fit_step.proofs.RecordsInProgress.{begins_record, records_in_progress, idle_between_records}
 use Rattle.fit_step.proofs.laws.records_are_in_progress.Goals as goal
 
 pub returns-clause-begin : goal.returns-clause-begin
-returns-clause-begin g c = records_begin
+returns-clause-begin g c = begins_record
 
 pub returns-clause-go_on : goal.returns-clause-go_on
 returns-clause-go_on g c = records_in_progress

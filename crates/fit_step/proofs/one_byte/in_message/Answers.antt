@@ -1,6 +1,5 @@
-use Rattle.std.proofs.Common.{sym}
-use Rattle.fit_step.specs.Tests.{tests_of}
-use Rattle.fit_step.proofs.InPlace.{not_reading, reads_defined, sound_of, fields_read, dev_read, field_step, dev_step}
+use Rattle.fit_step.proofs.Common.{sym}
+use Rattle.fit_step.proofs.InPlace.{not_reading, reads_defined, sound_of, fields_read, dev_read}
 use Rattle.fit_step.proofs.TwoLists.{on_err}
 use Rattle.fit_step.proofs.one_byte.in_message.Goals as goal
 
@@ -31,21 +30,13 @@ unreachable-requires-in_default-phase g c =
     c.in_default-phase.not-DevItems
 
 pub returns-in-FieldItems-clause-made : goal.returns-in-FieldItems-clause-made
-returns-in-FieldItems-clause-made g c =
-    let e = c.args.env.now in
-    field_step e (tests_of e) c.args.phase.now _ c.args.room.now _ c.args.values.now c.args.partial.now _ c.args.byte _ _ c.in-FieldItems.place
-    c.in-FieldItems.width c.in-FieldItems.left c.in-FieldItems.is
-    (c.at_field_items.ensures.made e (sym c.in-Some.ensures.place))
+returns-in-FieldItems-clause-made g c = rw c.in-FieldItems.is (c.at_field_items.ensures.made c.args.env.now (sym c.in-Some.ensures.place))
 
 pub returns-in-FieldItems-clause-err : goal.returns-in-FieldItems-clause-err
 returns-in-FieldItems-clause-err g c = on_err c.at_field_items.result (λ same. same.3) c.at_field_items.ensures.err
 
 pub returns-in-DevItems-clause-made : goal.returns-in-DevItems-clause-made
-returns-in-DevItems-clause-made g c =
-    let e = c.args.env.now in
-    dev_step e (tests_of e) c.args.phase.now _ c.args.room.now _ c.args.values.now c.args.partial.now _ c.args.byte _ _ c.in-DevItems.place c.in-DevItems.width
-    c.in-DevItems.left c.in-DevItems.is
-    (c.at_dev_items.ensures.made e (sym c.in-Some.ensures.place))
+returns-in-DevItems-clause-made g c = rw c.in-DevItems.is (c.at_dev_items.ensures.made c.args.env.now (sym c.in-Some.ensures.place))
 
 pub returns-in-DevItems-clause-err : goal.returns-in-DevItems-clause-err
 returns-in-DevItems-clause-err g c = on_err c.at_dev_items.result (λ same. same.3) c.at_dev_items.ensures.err

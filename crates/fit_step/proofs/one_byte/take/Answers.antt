@@ -1,9 +1,4 @@
-use Rattle.std.proofs.Common.{rules, ◌≡◌, ◌∙◌, ap, sym, subst, Some}
-use Rattle.fit_record.specs.declared.message.Record.TheVariants.{Define}
-use Rattle.fit_step.specs.Machine.{step}
-use Rattle.fit_step.specs.Places.{PartFitsRoom}
-use Rattle.fit_step.specs.inner.Steps.{state, Made}
-use Rattle.fit_step.specs.Tests.{tests_of}
+use Rattle.fit_step.proofs.Common.{rules, ◌≡◌, ◌∙◌, ap, sym, subst, Some, Define, step, PartFitsRoom, state, Made, tests_of}
 use Rattle.fit_step.proofs.InPlace.{stands_define, stands_values, definition_taken}
 use Rattle.fit_step.proofs.one_byte.take.Goals as goal
 

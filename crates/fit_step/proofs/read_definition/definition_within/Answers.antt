@@ -1,4 +1,4 @@
-use Rattle.fit_base.proofs.ByteLists.{slice_is_bytes}
+use Rattle.fit_step.proofs.Common.{slice_is_bytes}
 use Rattle.fit_step.proofs.ReadDefinitions.{definition_ends}
 use Rattle.fit_step.proofs.read_definition.definition_within.Goals as goal
 

@@ -1,6 +1,4 @@
-use Rattle.std.proofs.Common.{◌≡◌, ◌-◌, ◌*◌, ◌++◌, length}
-use Rattle.std.specs.Prelude.{flat_map}
-use Rattle.fit_record.specs.Records.{field_bytes}
+use Rattle.fit_step.proofs.Common.{◌≡◌, ◌-◌, ◌*◌, ◌++◌, length, flat_map, field_bytes}
 use Rattle.fit_step.proofs.read_definition.read_entries.Given as goal
 
 abbrev pub invariant-loop : goal.invariant-loop

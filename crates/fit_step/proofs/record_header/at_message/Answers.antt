@@ -1,6 +1,4 @@
-use Rattle.std.proofs.Common.{◌∙◌, ◌-◌, ap, sym, Ok}
-use Rattle.fit_record.specs.declared.message.Record.TheVariants.{Values as Data}
-use Rattle.fit_step.specs.inner.Steps.{entered}
+use Rattle.fit_step.proofs.Common.{◌∙◌, ◌-◌, ap, sym, Ok, Data, entered}
 use Rattle.fit_step.proofs.HeaderCode.{begun_entered}
 use Rattle.fit_step.proofs.record_header.at_message.Goals as goal
 

@@ -1,4 +1,4 @@
-use Rattle.std.proofs.Common.{arith}
+use Rattle.fit_step.proofs.Common.{arith}
 use Rattle.fit_step.proofs.HeaderCode.{undefined_at, overrun_at, no_fit_at, goes_at}
 use Rattle.fit_step.proofs.record_header.defined_for.Goals as goal
 

@@ -1,5 +1,4 @@
-use Rattle.std.proofs.Common.{◌≡◌, ◌∙◌, sym, subst}
-use Rattle.fit_record.specs.Environment.{DescribesNothing, learn}
+use Rattle.fit_step.proofs.Common.{◌≡◌, ◌∙◌, sym, subst, DescribesNothing, learn}
 use Rattle.fit_step.proofs.ReadBytes.{when_ok, when_err}
 use Rattle.fit_step.proofs.record_reader.is_learned.Goals as goal
 

@@ -1,6 +1,4 @@
-use Rattle.std.proofs.Common.{rules}
-use Rattle.fit_step.specs.Places.{state_at}
-use Rattle.fit_step.specs.inner.Scans.{StandsWithRoom}
+use Rattle.fit_step.proofs.Common.{rules, state_at, StandsWithRoom}
 use Rattle.fit_step.proofs.RecordsInProgress.{room_behind}
 use Rattle.fit_step.proofs.record_reader.read_record.Goals as goal
 

@@ -1,8 +1,4 @@
-use Rattle.std.proofs.Common.{◌≡◌, ◌<◌, ◌++◌, length, take, get_or, refl, sym, ◌∙◌, subst, arith}
-use Rattle.fit_step.specs.InProgress.{IsInProgress}
-use Rattle.fit_base.proofs.ByteLists.{slice_is_bytes}
-use Rattle.fit_step.specs.Places.{state_at}
-use Rattle.fit_step.specs.inner.Scans.{StandsWithRoom}
+use Rattle.fit_step.proofs.Common.{◌≡◌, ◌<◌, ◌++◌, length, take, get_or, refl, sym, ◌∙◌, subst, arith, IsInProgress, slice_is_bytes, state_at, StandsWithRoom}
 use Rattle.fit_step.proofs.ReadBytes.{record_ends, record_stops, record_goes, stands_on}
 use Rattle.fit_step.proofs.record_reader.scan_bytes.Goals as goal
 

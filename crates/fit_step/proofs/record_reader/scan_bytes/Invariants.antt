@@ -1,7 +1,4 @@
-use Rattle.std.proofs.Common.{◌≡◌, ℕ, List, ◌++◌, take}
-use Rattle.fit_step.specs.InProgress.{IsInProgress}
-use Rattle.fit_step.specs.Places.{state_at}
-use Rattle.fit_step.specs.inner.Scans.{StandsWithRoom}
+use Rattle.fit_step.proofs.Common.{◌≡◌, ℕ, List, ◌++◌, take, IsInProgress, state_at, StandsWithRoom}
 use Rattle.fit_step.proofs.record_reader.scan_bytes.Given as goal
 
 abbrev pub invariant-loop-i : goal.invariant-loop-i

@@ -1,9 +1,4 @@
-use Rattle.std.proofs.Common.{rules, ◌≡◌, refl, sym, subst}
-use Rattle.std.specs.Prelude.{OnErr}
-use Rattle.fit_step.specs.Machine.{step}
-use Rattle.fit_step.specs.Places.{state_at}
-use Rattle.fit_step.specs.Tests.{tests_of}
-use Rattle.fit_step.specs.inner.Scans.{RecordByte, StandsWithRoom}
+use Rattle.fit_step.proofs.Common.{rules, ◌≡◌, refl, sym, subst, OnErr, step, state_at, tests_of, RecordByte, StandsWithRoom}
 use Rattle.fit_step.proofs.record_reader.take_byte.Goals as goal
 
 pub take_inside-requires : goal.take_inside-requires

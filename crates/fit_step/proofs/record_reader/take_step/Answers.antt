@@ -1,9 +1,4 @@
-use Rattle.std.proofs.Common.{rules, ◌≡◌, None, Some, sym, ap, ◌∙◌, subst, arith}
-use Rattle.std.specs.Prelude.{IsOk}
-use Rattle.std.proofs.lemmas.Bool.{both_ways}
-use Rattle.fit_step.specs.Machine.{step}
-use Rattle.fit_step.specs.Places.{state_at}
-use Rattle.fit_step.specs.Tests.{tests_of}
+use Rattle.fit_step.proofs.Common.{rules, ◌≡◌, None, Some, sym, ap, ◌∙◌, subst, arith, IsOk, both_ways, step, state_at, tests_of}
 use Rattle.fit_step.proofs.EmptyMessages.{describes_nothing, record_stopped}
 use Rattle.fit_step.proofs.ReadBytes.{step_whole}
 use Rattle.fit_step.proofs.record_reader.take_step.Goals as goal

@@ -1,8 +1,4 @@
-use Rattle.std.proofs.Common.{rules, ◌≡◌, ◌-◌, take, sym, subst}
-use Rattle.fit_base.proofs.ByteLists.{IsBytes-take, slice_is_bytes}
-use Rattle.fit_step.specs.Machine.{start, Ends}
-use Rattle.fit_step.specs.Places.{state_at}
-use Rattle.fit_step.specs.Tests.{tests_of}
+use Rattle.fit_step.proofs.Common.{rules, ◌≡◌, ◌-◌, take, sym, subst, IsBytes-take, slice_is_bytes, start, Ends, state_at, tests_of}
 use Rattle.fit_step.proofs.ReadBytes.{begins_where_none, whole_read}
 use Rattle.fit_step.proofs.RecordsInProgress.{ends_further}
 use Rattle.fit_step.proofs.record_reader.take_whole.Goals as goal

@@ -1,8 +1,5 @@
-use Rattle.std.proofs.Common.{◌+◌, ◌==◌, cond, sym, ap, ◌∙◌}
-use Rattle.std.specs.Option.{option_map_or}
-use Rattle.std.proofs.lemmas.Bool.{ne_eqb}
-use Rattle.fit_record.specs.declared.environment.Defined.{Defined}
-use Rattle.fit_record.specs.Records.{message_size}
+use Rattle.fit_step.proofs.Common.{◌+◌, cond, sym, ap, ◌∙◌, option_map_or, ne_eqb, Defined, message_size}
+use Rattle.std.proofs.Common.{◌==◌}
 use Rattle.fit_step.proofs.WholeMessage.{same_size}
 use Rattle.fit_step.proofs.skipping.size_to_skip.Goals as goal
 

@@ -1,4 +1,4 @@
-use Rattle.std.proofs.Common.{arith, rules}
+use Rattle.fit_step.proofs.Common.{arith, rules}
 use Rattle.fit_step.proofs.SkippedRecords.{table_more}
 use Rattle.fit_step.proofs.skipping.sizes_to_skip.Goals as goal
 

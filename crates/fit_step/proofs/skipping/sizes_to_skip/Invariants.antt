@@ -1,5 +1,5 @@
-use Rattle.std.proofs.Common.{◌≡◌, ℕ, ◌<◌, length, slice_index}
-use Rattle.fit_step.specs.Skipping.{size_to_skip}
+use Rattle.fit_step.proofs.Common.{◌≡◌, ℕ, ◌<◌, length, size_to_skip}
+use Rattle.std.proofs.Common.{slice_index}
 use Rattle.fit_step.proofs.skipping.sizes_to_skip.Given as goal
 
 abbrev pub invariant-loop-local : goal.invariant-loop-local

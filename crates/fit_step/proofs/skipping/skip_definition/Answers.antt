@@ -1,6 +1,5 @@
-use Rattle.std.proofs.Common.{slice_set, sym, ap, ◌∙◌, subst, rules}
-use Rattle.fit_record.specs.declared.message.Record.TheVariants.{Define}
-use Rattle.fit_step.specs.Skipping.{size_to_skip, AreSizesToSkip}
+use Rattle.fit_step.proofs.Common.{sym, ap, ◌∙◌, subst, rules, Define, size_to_skip, AreSizesToSkip}
+use Rattle.std.proofs.Common.{slice_set}
 use Rattle.fit_step.proofs.SkippedRecords.{sizes_after}
 use Rattle.fit_step.proofs.skipping.skip_definition.Goals as goal
 

@@ -1,6 +1,5 @@
-use Rattle.std.proofs.Common.{◌≡◌, ◌+◌, ◌≤◌, inr, take, ap, ◌∙◌, subst, arith}
-use Rattle.std.proofs.lemmas.List.{take-take}
-use Rattle.fit_step.specs.Skipping.{AreSkipped}
+use Rattle.fit_step.proofs.Common.{◌≡◌, ◌+◌, inr, take, ap, ◌∙◌, subst, arith, take-take, AreSkipped}
+use Rattle.std.proofs.Common.{◌≤◌}
 use Rattle.fit_step.proofs.SkippedInSection.{skipped_behind}
 use Rattle.fit_step.proofs.skipping.skip_in_section.Goals as goal
 

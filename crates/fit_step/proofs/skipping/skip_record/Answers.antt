@@ -1,4 +1,4 @@
-use Rattle.fit_base.proofs.ByteLists.{slice_is_bytes}
+use Rattle.fit_step.proofs.Common.{slice_is_bytes}
 use Rattle.fit_step.proofs.SkippedRecords.{message_skipped}
 use Rattle.fit_step.proofs.skipping.skip_record.Goals as goal
 

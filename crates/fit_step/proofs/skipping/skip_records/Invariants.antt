@@ -1,5 +1,5 @@
-use Rattle.std.proofs.Common.{◌≤◌, length, take}
-use Rattle.fit_step.specs.Skipping.{AreSizesToSkip, AreSkipped}
+use Rattle.fit_step.proofs.Common.{length, take, AreSizesToSkip, AreSkipped}
+use Rattle.std.proofs.Common.{◌≤◌}
 use Rattle.fit_step.proofs.skipping.skip_records.Given as goal
 
 abbrev pub invariant-loop-count : goal.invariant-loop-count

@@ -1,4 +1,4 @@
-use Rattle.std.proofs.Common.{◌∙◌, ap, length, arith}
+use Rattle.fit_step.proofs.Common.{◌∙◌, ap, length, arith}
 use Rattle.fit_step.proofs.Undoing.{number_taken, length-add_number}
 use Rattle.fit_step.proofs.undone.take_number.Goals as goal
 

@@ -1,7 +1,4 @@
-use Rattle.std.proofs.Common.{◌≡◌, ◌∙◌, sym, subst, Some}
-use Rattle.fit_step.specs.Places.{state_at}
-use Rattle.fit_step.specs.Tests.{tests_of}
-use Rattle.fit_step.specs.inner.Undone.{Adds}
+use Rattle.fit_step.proofs.Common.{◌≡◌, ◌∙◌, sym, subst, Some, state_at, tests_of, Adds}
 use Rattle.fit_step.proofs.Undoing.{adds}
 use Rattle.fit_step.proofs.undone.undo.Goals as goal
 

@@ -1,6 +1,5 @@
-use Rattle.std.proofs.Common.{◌+◌, ◌∷◌, ℕ, ◌++◌, [], take, drop, length, ap, ◌∙◌, get_or}
-use Rattle.fit_record.specs.declared.definition.DevDef.{DevDef}
-use Rattle.fit_record.specs.inner.ReadMessages.{field_from, fields_from}
+use Rattle.fit_step.proofs.Common.{◌+◌, ◌∷◌, ℕ, ◌++◌, [], take, length, ap, ◌∙◌, get_or, DevDef, field_from, fields_from}
+use Rattle.std.proofs.Common.{drop}
 use Rattle.fit_step.proofs.Gathering.{coded, layout_more, layout_left, next_coded}
 use Rattle.fit_step.proofs.whole.read_dev_fields.Goals as goal
 

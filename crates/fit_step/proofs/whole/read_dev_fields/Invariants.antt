@@ -1,7 +1,6 @@
-use Rattle.std.proofs.Common.{◌≡◌, ◌++◌, length, drop}
-use Rattle.std.specs.Prelude.{map, zip}
-use Rattle.fit_record.specs.inner.ReadMessages.{fields_from}
-use Rattle.fit_record.specs.Records.{sizes}
+use Rattle.fit_step.proofs.Common.{◌≡◌, ◌++◌, length, zip, fields_from, sizes}
+use Rattle.std.proofs.Common.{drop}
+use Rattle.std.specs.Prelude.{map}
 use Rattle.fit_step.proofs.whole.read_dev_fields.Given as goal
 
 abbrev pub invariant-loop-place : goal.invariant-loop-place

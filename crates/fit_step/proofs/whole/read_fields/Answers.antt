@@ -1,8 +1,7 @@
-use Rattle.std.proofs.Common.{◌+◌, ◌++◌, ◌∷◌, [], length, take, drop, sum_by, sym, ap, ◌∙◌, arith, get_or, length-drop}
+use Rattle.fit_step.proofs.Common.{◌+◌, ◌++◌, ◌∷◌, [], length, take, sym, ap, ◌∙◌, arith, get_or, length-drop, drop-drop, drop_more, FieldDef, field_from}
+use Rattle.fit_step.proofs.Common.{fields_from}
+use Rattle.std.proofs.Common.{drop, sum_by}
 use Rattle.std.specs.Prelude.{map}
-use Rattle.std.proofs.lemmas.List.{drop-drop, drop_more}
-use Rattle.fit_record.specs.declared.definition.FieldDef.{FieldDef}
-use Rattle.fit_record.specs.inner.ReadMessages.{field_from, fields_from}
 use Rattle.fit_step.proofs.Gathering.{layout_more, pair, sizes_more}
 use Rattle.fit_step.proofs.whole.read_fields.Goals as goal
 

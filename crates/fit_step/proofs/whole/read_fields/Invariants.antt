@@ -1,6 +1,6 @@
-use Rattle.std.proofs.Common.{◌≡◌, ◌≤◌, ◌++◌, length, drop}
+use Rattle.fit_step.proofs.Common.{◌≡◌, ◌++◌, length, fields_from}
+use Rattle.std.proofs.Common.{◌≤◌, drop}
 use Rattle.std.specs.Prelude.{map, sum_by}
-use Rattle.fit_record.specs.inner.ReadMessages.{fields_from}
 use Rattle.fit_step.proofs.whole.read_fields.Given as goal
 
 abbrev pub invariant-loop-field : goal.invariant-loop-field

@@ -1,6 +1,4 @@
-use Rattle.std.proofs.Common.{◌≡◌, ◌/◌, ◌-◌, ◌+◌, ◌++◌, ◌∷◌, [], length, take, ap, ◌∙◌, subst, arith, IfOk}
-use Rattle.fit_base.specs.Numbers.{number}
-use Rattle.fit_record.specs.inner.ReadMessages.{numbers_of}
+use Rattle.fit_step.proofs.Common.{◌≡◌, ◌/◌, ◌-◌, ◌+◌, ◌++◌, ◌∷◌, [], length, take, ap, ◌∙◌, subst, arith, IfOk, number, numbers_of}
 use Rattle.fit_step.proofs.Gathering.{one_less, numbers_more, left_more, some_left, all_numbers, all_read, one_wide}
 use Rattle.fit_step.proofs.whole.read_numbers.Goals as goal
 

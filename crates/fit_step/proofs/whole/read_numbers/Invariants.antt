@@ -1,5 +1,4 @@
-use Rattle.std.proofs.Common.{◌≡◌, ◌-◌, ◌*◌, ◌++◌, length}
-use Rattle.fit_record.specs.inner.ReadMessages.{numbers_of}
+use Rattle.fit_step.proofs.Common.{◌≡◌, ◌-◌, ◌*◌, ◌++◌, length, numbers_of}
 use Rattle.fit_step.proofs.whole.read_numbers.Given as goal
 
 abbrev pub invariant-loop : goal.invariant-loop

@@ -1,4 +1,4 @@
-use Rattle.std.proofs.Common.{rules}
+use Rattle.fit_sum.proofs.Common.{rules}
 use Rattle.fit_sum.proofs.TableEntries.{byte-nibbles}
 use Rattle.fit_sum.proofs.nibbles.add_byte.Goals as goal
 

@@ -1,8 +1,4 @@
-use Rattle.std.proofs.Common.{◌≡◌, [], get_or, length, take, sym, ap, ◌∙◌, ◌++◌, ◌/◌}
-use Rattle.std.specs.List.{concat}
-use Rattle.std.specs.Simd.{first_chunks}
-use Rattle.std.proofs.lemmas.List.{take_all}
-use Rattle.fit_sum.specs.inner.Register.{run}
+use Rattle.fit_sum.proofs.Common.{◌≡◌, [], get_or, length, take, sym, ap, ◌∙◌, ◌++◌, ◌/◌, concat, first_chunks, take_all, run}
 use Rattle.fit_sum.proofs.Division.{run-append}
 use Rattle.fit_sum.proofs.PiecesOfLists.{run-none, run-piece, chunks-whole}
 use Rattle.fit_sum.proofs.slices.add_by_eights.Goals as goal

@@ -1,6 +1,4 @@
-use Rattle.std.proofs.Common.{◌≡◌, take}
-use Rattle.std.specs.List.{concat}
-use Rattle.fit_sum.specs.inner.Register.{run}
+use Rattle.fit_sum.proofs.Common.{◌≡◌, take, concat, run}
 use Rattle.fit_sum.proofs.slices.add_by_eights.Given as goal
 
 abbrev pub invariant-loop-eight : goal.invariant-loop-eight

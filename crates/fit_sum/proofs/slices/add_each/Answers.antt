@@ -1,6 +1,4 @@
-use Rattle.std.proofs.Common.{get_or, sym, ◌∙◌, ap}
-use Rattle.std.specs.Int.Bits.{bit_xor}
-use Rattle.fit_sum.specs.inner.Register.{shifts}
+use Rattle.fit_sum.proofs.Common.{get_or, sym, ◌∙◌, ap, bit_xor, shifts}
 use Rattle.fit_sum.proofs.PiecesOfLists.{run-none, run-byte}
 use Rattle.fit_sum.proofs.slices.add_each.Goals as goal
 

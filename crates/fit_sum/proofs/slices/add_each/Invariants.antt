@@ -1,5 +1,4 @@
-use Rattle.std.proofs.Common.{◌≡◌, take}
-use Rattle.fit_sum.specs.inner.Register.{run}
+use Rattle.fit_sum.proofs.Common.{◌≡◌, take, run}
 use Rattle.fit_sum.proofs.slices.add_each.Given as goal
 
 abbrev pub invariant-loop-byte : goal.invariant-loop-byte

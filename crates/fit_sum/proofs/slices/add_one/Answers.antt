@@ -1,4 +1,4 @@
-use Rattle.std.proofs.Common.{rules}
+use Rattle.fit_sum.proofs.Common.{rules}
 use Rattle.fit_sum.proofs.TableEntries.{byte-step}
 use Rattle.fit_sum.proofs.slices.add_one.Goals as goal
 

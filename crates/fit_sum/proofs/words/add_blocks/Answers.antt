@@ -1,8 +1,4 @@
-use Rattle.std.proofs.Common.{◌≡◌, [], ◌++◌, get_or, take, ap, sym, ◌∙◌, rules}
-use Rattle.std.specs.List.{concat}
-use Rattle.std.proofs.lemmas.List.{take_all}
-use Rattle.fit_sum.specs.inner.Register.{run}
-use Rattle.fit_sum.specs.inner.Words.{spelled}
+use Rattle.fit_sum.proofs.Common.{◌≡◌, [], ◌++◌, get_or, take, ap, sym, ◌∙◌, rules, concat, take_all, run, spelled}
 use Rattle.fit_sum.proofs.BlocksOfWords.{keeps-none, keeps-block, keeps-last}
 use Rattle.fit_sum.proofs.PiecesOfLists.{concat-turn}
 use Rattle.fit_sum.proofs.words.add_blocks.Goals as goal

@@ -1,5 +1,4 @@
-use Rattle.std.proofs.Common.{take}
-use Rattle.std.specs.List.{concat}
+use Rattle.fit_sum.proofs.Common.{take, concat}
 use Rattle.fit_sum.proofs.BlocksOfWords.{Keeps}
 use Rattle.fit_sum.proofs.words.add_blocks.Given as goal
 

@@ -1,9 +1,4 @@
-use Rattle.std.proofs.Common.{◌≡◌, ◌++◌, ◌∷◌, [], ◌/◌, length, ap, sym, ◌∙◌}
-use Rattle.std.specs.List.{concat}
-use Rattle.std.specs.Simd.{first_chunks}
-use Rattle.std.proofs.lemmas.List.{append-nil}
-use Rattle.std.proofs.lemmas.List.Folds.{concat-append}
-use Rattle.fit_sum.specs.inner.Register.{run}
+use Rattle.fit_sum.proofs.Common.{◌≡◌, ◌++◌, ◌∷◌, [], ◌/◌, length, ap, sym, ◌∙◌, concat, first_chunks, append-nil, concat-append, run}
 use Rattle.fit_sum.proofs.Division.{run-append}
 use Rattle.fit_sum.proofs.PiecesOfLists.{chunks-whole}
 use Rattle.fit_sum.proofs.words.add_bytes.Goals as goal

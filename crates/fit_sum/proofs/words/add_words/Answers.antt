@@ -1,6 +1,4 @@
-use Rattle.std.proofs.Common.{get_or, ap, sym, ◌∙◌, arith}
-use Rattle.std.specs.Int.{to_le_bytes, w64}
-use Rattle.fit_sum.specs.inner.Register.{run}
+use Rattle.fit_sum.proofs.Common.{get_or, ap, sym, ◌∙◌, arith, to_le_bytes, w64, run}
 use Rattle.fit_sum.proofs.SpelledWords.{spelled-none, spelled-turn}
 use Rattle.fit_sum.proofs.words.add_words.Goals as goal
 

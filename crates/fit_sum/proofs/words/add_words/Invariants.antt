@@ -1,6 +1,4 @@
-use Rattle.std.proofs.Common.{◌≡◌, take}
-use Rattle.fit_sum.specs.inner.Register.{run}
-use Rattle.fit_sum.specs.inner.Words.{spelled}
+use Rattle.fit_sum.proofs.Common.{◌≡◌, take, run, spelled}
 use Rattle.fit_sum.proofs.words.add_words.Given as goal
 
 abbrev pub invariant-loop-word : goal.invariant-loop-word

@@ -1,5 +1,4 @@
-use Rattle.std.proofs.Common.{ap, sym}
-use Rattle.fit_sum.specs.inner.Words.{mix, words_from}
+use Rattle.fit_sum.proofs.Common.{ap, sym, mix, words_from}
 use Rattle.fit_sum.proofs.RegisterOfAdded.{IsBytes-below}
 use Rattle.fit_sum.proofs.TurnsAreShifts.{sixteen}
 use Rattle.fit_sum.proofs.words.mixed.Goals as goal

@@ -1,5 +1,4 @@
-use Rattle.std.proofs.Common.{ap, sym}
-use Rattle.fit_sum.specs.inner.Words.{xor_into, turn, turns}
+use Rattle.fit_sum.proofs.Common.{ap, sym, xor_into, turn, turns}
 use Rattle.fit_sum.proofs.TurnsAreShifts.{sixteen}
 use Rattle.fit_sum.proofs.words.shifted.Goals as goal
 

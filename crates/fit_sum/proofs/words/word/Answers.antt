@@ -1,5 +1,4 @@
-use Rattle.std.proofs.Common.{arith, ap, sym, ◌∙◌, ◌≤◌, ◌*◌, ◌+◌, length}
-use Rattle.fit_sum.specs.inner.Words.{bytes_number}
+use Rattle.fit_sum.proofs.Common.{arith, ap, sym, ◌∙◌, ◌≤◌, ◌*◌, ◌+◌, length, bytes_number}
 use Rattle.fit_sum.proofs.BytesOfWords.{eight_at, number-eight}
 use Rattle.fit_sum.proofs.words.word.Goals as goal
 

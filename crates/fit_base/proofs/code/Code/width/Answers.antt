@@ -1,4 +1,4 @@
-use Rattle.std.proofs.Common.{rules, refl}
+use Rattle.fit_base.proofs.Common.{rules, refl}
 use Rattle.fit_base.specs.declared.code.TheConstants.{WIDTHS}
 use Rattle.fit_base.proofs.Widths.{are_widths, width_at}
 use Rattle.fit_base.proofs.code.Code.width.Goals as goal

@@ -1,5 +1,4 @@
-use Rattle.std.proofs.Common.{sym, subst}
-use Rattle.fit_frame.specs.inner.Judgement.{HasItsSize}
+use Rattle.fit_frame.proofs.Common.{sym, subst, HasItsSize}
 use Rattle.fit_frame.proofs.HeadersAreJudged.{has_its_size}
 use Rattle.fit_frame.proofs.JudgedBytesBegin.{is_done}
 use Rattle.fit_frame.proofs.reader.HeadReader.done.Goals as goal

@@ -1,5 +1,4 @@
-use Rattle.std.proofs.Common.{[], length, sym, ap, subst, arith}
-use Rattle.fit_frame.specs.Beginning.{BeginsHeader, IsWholeHeader}
+use Rattle.fit_frame.proofs.Common.{[], length, sym, ap, subst, arith, BeginsHeader, IsWholeHeader}
 use Rattle.fit_frame.proofs.HeadersAreJudged.{has_its_size}
 use Rattle.fit_frame.proofs.JudgedBytesBegin.{begins, no_byte}
 use Rattle.fit_frame.proofs.reader.HeadReader.new.Goals as goal

@@ -1,10 +1,8 @@
-use Rattle.std.proofs.Common.{◌≡◌, Some, lit<, sym, ap, ◌∙◌, subst}
+use Rattle.fit_frame.proofs.Common.{◌≡◌, Some, lit<, sym, ap, ◌∙◌, subst, Seen, IsWholeHeader, RefusesByte, header_reason, MayFollow, HasItsSize, ReadsAs}
 use Rattle.fit_frame.specs.declared.reason.Reason.{Reason}
-use Rattle.fit_frame.specs.Beginning.{Seen, IsWholeHeader, RefusesByte, header_reason}
-use Rattle.fit_frame.specs.inner.Judgement.{MayFollow, HasItsSize, IsReading, ReadsAs}
 use Rattle.fit_frame.proofs.JudgedBytesAreHeaders.{whole}
 use Rattle.fit_frame.proofs.HeadersAreJudged.{has_its_size}
-use Rattle.fit_frame.proofs.JudgedBytesBegin.{begins, one_more, room, refused}
+use Rattle.fit_frame.proofs.JudgedBytesBegin.{begins, put-on, room, refused}
 use Rattle.fit_frame.proofs.reader.HeadReader.put.Goals as goal
 
 pub returns-then-not-may_follow-clause-refused : goal.returns-then-not-may_follow-clause-refused
@@ -24,10 +22,8 @@ push-requires c =
 
 pub invariant_of-self-then-not-has_its_size : goal.invariant_of-self-then-not-has_its_size
 invariant_of-self-then-not-has_its_size c =
-    let fresh : IsWholeHeader c.self.inside.bytes.items → ⊥ = λ w. c.requires (subst IsWholeHeader (ap (λ (s : Seen). s.bytes) c.self.view_is) w) in
-    let follows : MayFollow c.self.inside.bytes.items c.args.byte =
-    subst (λ x. MayFollow x c.args.byte) c.as_slice.ensures.value (c.may_follow.ensures.0 c.if-not-may_follow.false) in
-    subst IsReading (sym c.push.ensures.items) (one_more c.self.inside.bytes.items c.args.byte c.self.invariant fresh c.ranges.byte.fits follows)
+    put-on _ _ _ c.args.byte c.self.invariant (λ w. c.requires (subst IsWholeHeader (ap (λ (s : Seen). s.bytes) c.self.view_is) w)) c.ranges.byte.fits
+    c.as_slice.ensures.value (c.may_follow.ensures.0 c.if-not-may_follow.false) c.push.ensures.items
 
 pub returns-then-not-has_its_size-clause-none : goal.returns-then-not-has_its_size-clause-none
 returns-then-not-has_its_size-clause-none c = λ e.
@@ -38,10 +34,8 @@ returns-then-not-has_its_size-clause-none c = λ e.
 
 pub invariant_of-self-2 : goal.invariant_of-self-2
 invariant_of-self-2 c =
-    let fresh : IsWholeHeader c.self.inside.bytes.items → ⊥ = λ w. c.requires (subst IsWholeHeader (ap (λ (s : Seen). s.bytes) c.self.view_is) w) in
-    let follows : MayFollow c.self.inside.bytes.items c.args.byte =
-    subst (λ x. MayFollow x c.args.byte) c.as_slice.ensures.value (c.may_follow.ensures.0 c.if-not-may_follow.false) in
-    subst IsReading (sym c.push.ensures.items) (one_more c.self.inside.bytes.items c.args.byte c.self.invariant fresh c.ranges.byte.fits follows)
+    put-on _ _ _ c.args.byte c.self.invariant (λ w. c.requires (subst IsWholeHeader (ap (λ (s : Seen). s.bytes) c.self.view_is) w)) c.ranges.byte.fits
+    c.as_slice.ensures.value (c.may_follow.ensures.0 c.if-not-may_follow.false) c.push.ensures.items
 
 pub returns-clause-some : goal.returns-clause-some
 returns-clause-some c = λ h n e.

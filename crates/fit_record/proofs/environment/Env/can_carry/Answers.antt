@@ -1,4 +1,4 @@
-use Rattle.std.proofs.Common.{◌∙◌, arith, None, Some}
+use Rattle.fit_record.proofs.Common.{◌∙◌, arith, None, Some}
 use Rattle.fit_record.proofs.CarriedMessages.{carried_by_size, behind_it, too_long}
 use Rattle.fit_record.proofs.RoomTestsAnswer.{message_answered}
 use Rattle.fit_record.proofs.environment.Env.can_carry.Goals as goal

@@ -1,4 +1,4 @@
-use Rattle.std.proofs.Common.{rules, ◌≡◌, length}
+use Rattle.fit_record.proofs.Common.{rules, ◌≡◌, length}
 use Rattle.fit_record.proofs.RoomTestsAnswer.{fields_answered, dev_fields_answered}
 use Rattle.fit_record.proofs.environment.Env.can_complete.Goals as goal
 

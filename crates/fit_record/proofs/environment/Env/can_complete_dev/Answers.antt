@@ -1,4 +1,4 @@
-use Rattle.std.proofs.Common.{rules, ◌≡◌, length}
+use Rattle.fit_record.proofs.Common.{rules, ◌≡◌, length}
 use Rattle.fit_record.proofs.RoomTestsAnswer.{dev_number_answered}
 use Rattle.fit_record.proofs.environment.Env.can_complete_dev.Goals as goal
 

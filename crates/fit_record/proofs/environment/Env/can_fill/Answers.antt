@@ -1,6 +1,4 @@
-use Rattle.std.proofs.Common.{rules, ◌≡◌, ◌↔◌, ◌∙◌, IsTrue, length, sym, subst, arith, get_or, false, ◌∷◌, []}
-use Rattle.fit_record.specs.Files.{CanFill}
-use Rattle.fit_record.specs.Rooms.{has_length}
+use Rattle.fit_record.proofs.Common.{rules, ◌≡◌, ◌↔◌, ◌∙◌, IsTrue, length, sym, subst, arith, get_or, false, ◌∷◌, [], CanFill, has_length}
 use Rattle.fit_record.proofs.RoomSums.{fills_same, fills_6}
 use Rattle.fit_record.proofs.FilledRooms.{can_fill_is}
 use Rattle.fit_record.proofs.environment.Env.can_fill.Goals as goal

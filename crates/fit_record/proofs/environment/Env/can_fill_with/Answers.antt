@@ -1,6 +1,4 @@
-use Rattle.std.proofs.Common.{◌∙◌, get_or, false, ◌∷◌, [], ◌+◌}
-use Rattle.std.specs.Prelude.{◌==◌, ◌||◌}
-use Rattle.fit_record.specs.Rooms.{others_have}
+use Rattle.fit_record.proofs.Common.{◌∙◌, get_or, false, ◌∷◌, [], ◌+◌, ◌==◌, ◌||◌, others_have}
 use Rattle.fit_record.proofs.RoomSums.{fills_same}
 use Rattle.fit_record.proofs.environment.Env.can_fill_with.Goals as goal
 

@@ -1,6 +1,4 @@
-use Rattle.std.proofs.Common.{ap, ◌∙◌}
-use Rattle.std.specs.Prelude.{unwrap_or}
-use Rattle.fit_record.specs.Environment.{dev_code}
+use Rattle.fit_record.proofs.Common.{ap, ◌∙◌, unwrap_or, dev_code}
 use Rattle.fit_record.proofs.environment.Env.code_of.Goals as goal
 
 pub returns-in-Some : goal.returns-in-Some

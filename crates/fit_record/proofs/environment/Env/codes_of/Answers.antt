@@ -1,6 +1,5 @@
-use Rattle.std.proofs.Common.{sym, ap, ◌∙◌, map, take, ◌++◌, [], ◌∷◌}
-use Rattle.std.proofs.lemmas.List.{map_more}
-use Rattle.fit_record.specs.Environment.{dev_code}
+use Rattle.fit_record.proofs.Common.{sym, ap, ◌∙◌, take, ◌++◌, [], ◌∷◌, map_more, dev_code}
+use Rattle.std.proofs.Common.{map}
 use Rattle.fit_record.proofs.environment.Env.codes_of.Goals as goal
 
 pub loop-f-preserved : goal.loop-f-preserved

@@ -1,4 +1,4 @@
-use Rattle.std.proofs.Common.{◌∙◌, sym, arith}
+use Rattle.fit_record.proofs.Common.{◌∙◌, sym, arith}
 use Rattle.fit_record.proofs.RoomWalks.{too_short, with_one}
 use Rattle.fit_record.proofs.environment.Env.completes_dev.Goals as goal
 

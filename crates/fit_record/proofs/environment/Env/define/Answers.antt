@@ -1,7 +1,4 @@
-use Rattle.std.proofs.Common.{◌≡◌, length, set, sym, ap, ◌∙◌, subst, arith}
-use Rattle.std.proofs.lemmas.List.{length-map}
-use Rattle.fit_record.specs.Environment.{dev_code, dev_defs}
-use Rattle.fit_record.specs.inner.Kept.{IsKept, AreKept}
+use Rattle.fit_record.proofs.Common.{◌≡◌, length, set, sym, ap, ◌∙◌, subst, arith, length-map, dev_code, dev_defs, IsKept, AreKept}
 use Rattle.fit_record.proofs.KeptInPlaces.{kept_set}
 use Rattle.fit_record.proofs.environment.Env.define.Goals as goal
 

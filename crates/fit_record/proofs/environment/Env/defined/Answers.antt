@@ -1,7 +1,4 @@
-use Rattle.std.proofs.Common.{ap, subst}
-use Rattle.std.specs.Prelude.{IfSome}
-use Rattle.fit_record.specs.Environment.{defined_at}
-use Rattle.fit_record.specs.Sound.{IsSound}
+use Rattle.fit_record.proofs.Common.{ap, subst, IfSome, defined_at, IsSound}
 use Rattle.fit_record.proofs.KeptInPlaces.{sound_of}
 use Rattle.fit_record.proofs.environment.Env.defined.Goals as goal
 

@@ -1,6 +1,5 @@
-use Rattle.std.proofs.Common.{ap, ◌∙◌}
+use Rattle.fit_record.proofs.Common.{ap, ◌∙◌, dev_key_cmp}
 use Rattle.std.specs.BTreeMap.{insert_entry}
-use Rattle.fit_record.specs.Environment.{dev_key_cmp}
 use Rattle.fit_record.proofs.environment.Env.describe.Goals as goal
 
 pub returns-clause-ok : goal.returns-clause-ok

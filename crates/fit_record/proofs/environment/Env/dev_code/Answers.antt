@@ -1,5 +1,4 @@
-use Rattle.std.proofs.Common.{ap, ◌∙◌}
-use Rattle.std.specs.Prelude.{slice_get, option_and_then}
+use Rattle.fit_record.proofs.Common.{ap, ◌∙◌, slice_get, option_and_then}
 use Rattle.fit_record.proofs.environment.Env.dev_code.Goals as goal
 
 pub returns : goal.returns

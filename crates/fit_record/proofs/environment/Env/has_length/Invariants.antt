@@ -1,5 +1,4 @@
-use Rattle.std.proofs.Common.{◌≡◌, ◌<◌, length, take, false}
-use Rattle.fit_record.specs.Rooms.{has_length}
+use Rattle.fit_record.proofs.Common.{◌≡◌, ◌<◌, length, take, false, has_length}
 use Rattle.fit_record.proofs.environment.Env.has_length.Given as goal
 
 abbrev pub invariant-loop-local : goal.invariant-loop-local

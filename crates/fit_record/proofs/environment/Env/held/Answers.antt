@@ -1,9 +1,4 @@
-use Rattle.std.proofs.Common.{◌≡◌, length, ap, ◌∙◌, arith, None}
-use Rattle.std.specs.Prelude.{sum_by}
-use Rattle.std.specs.Option.{option_map_or}
-use Rattle.std.proofs.lemmas.List.{take_all}
-use Rattle.std.proofs.lemmas.List.Sums.{sum_by_more}
-use Rattle.fit_record.specs.Sizes.{entry_count}
+use Rattle.fit_record.proofs.Common.{◌≡◌, length, ap, ◌∙◌, arith, None, sum_by, option_map_or, take_all, sum_by_more, entry_count}
 use Rattle.fit_record.proofs.environment.Env.held.Goals as goal
 
 pub loop-local-preserved : goal.loop-local-preserved

@@ -1,7 +1,4 @@
-use Rattle.std.proofs.Common.{◌≡◌, ◌*◌, ◌<◌, ◌≤◌, length, take}
-use Rattle.std.specs.Prelude.{sum_by}
-use Rattle.std.specs.Option.{option_map_or}
-use Rattle.fit_record.specs.Sizes.{entry_count}
+use Rattle.fit_record.proofs.Common.{◌≡◌, ◌*◌, ◌<◌, ◌≤◌, length, take, sum_by, option_map_or, entry_count}
 use Rattle.fit_record.proofs.environment.Env.held.Given as goal
 
 abbrev pub invariant-loop-local : goal.invariant-loop-local

@@ -1,11 +1,6 @@
-use Rattle.std.proofs.Common.{get_or, sym, ap, ◌∙◌, subst, Some, None}
-use Rattle.std.specs.Prelude.{option_map}
-use Rattle.std.proofs.lemmas.Option.{get_or_from_slice_get}
-use Rattle.fit_record.specs.Environment.{defined_at}
-use Rattle.fit_record.specs.inner.Kept.{MayBeKept}
-use Rattle.fit_record.specs.Records.{body_length}
+use Rattle.fit_record.proofs.Common.{get_or, sym, ap, ◌∙◌, subst, Some, None, option_map, get_or_from_slice_get, defined_at, MayBeKept, body_length}
+use Rattle.fit_record.proofs.Common.{message_size}
 use Rattle.fit_record.proofs.WrongPlace.{found}
-use Rattle.fit_record.specs.Records.{message_size}
 use Rattle.fit_record.proofs.MessageSizes.{kept_size}
 use Rattle.fit_record.proofs.environment.Env.length.Goals as goal
 

@@ -1,4 +1,4 @@
-use Rattle.std.proofs.Common.{sym, ◌∙◌, arith}
+use Rattle.fit_record.proofs.Common.{sym, ◌∙◌, arith}
 use Rattle.fit_record.proofs.RoomWalks.{left_out, not_here, here}
 use Rattle.fit_record.proofs.environment.Env.others_have.Goals as goal
 use Rattle.fit_record.proofs.environment.Env.others_have.Goals.{else-has_length_at-via-then-has_length_at+else-other-local}

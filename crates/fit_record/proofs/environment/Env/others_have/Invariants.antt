@@ -1,6 +1,4 @@
-use Rattle.std.proofs.Common.{◌≡◌, ◌<◌, length, take, false, None}
-use Rattle.std.specs.Prelude.{slice_set}
-use Rattle.fit_record.specs.Rooms.{has_length}
+use Rattle.fit_record.proofs.Common.{◌≡◌, ◌<◌, length, take, false, None, slice_set, has_length}
 use Rattle.fit_record.proofs.environment.Env.others_have.Given as goal
 
 abbrev pub invariant-loop-other : goal.invariant-loop-other

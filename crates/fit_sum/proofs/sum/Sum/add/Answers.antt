@@ -1,4 +1,4 @@
-use Rattle.std.proofs.Common.{rules}
+use Rattle.fit_sum.proofs.Common.{rules}
 use Rattle.fit_sum.proofs.RegisterOfAdded.{IsSumOf-one}
 use Rattle.fit_sum.proofs.sum.Sum.add.Goals as goal
 

@@ -1,4 +1,4 @@
--- How many bytes a definition message has, as the code counts them.
+-- How many bytes a definition message has.
 use Rattle.std.specs.Prelude.{ℕ, ◌+◌, ◌*◌, List, length, Option, Some, None}
 use Rattle.fit_record.specs.declared.definition.MessageDef.{MessageDef}
 use Rattle.fit_record.specs.declared.definition.DevDef.{DevDef}

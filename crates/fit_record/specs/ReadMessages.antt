@@ -1,4 +1,4 @@
--- The data message that bytes make, as the code reads it.
+-- The data message that bytes make.
 use Rattle.std.specs.Prelude.{ℕ, zero, suc, ◌/◌, List, [], ◌∷◌, Option, take, drop}
 use Rattle.fit_base.specs.declared.items.Items.{Items}
 use Rattle.fit_base.specs.declared.number.Order.{Order}

@@ -1,9 +1,0 @@
-use Rattle.std.proofs.Common.{rules, refl}
-use Rattle.fit_sum.specs.inner.Register.{shift, shifts}
-use Rattle.fit_sum.specs.declared.tables.TheConstants.{TABLE_16}
-use Rattle.fit_sum.proofs.TableEntries.{is_table, entry}
-use Rattle.fit_sum.proofs.tables.after_16.Goals as goal
-
-pub returns : goal.returns
-unfolding is_table shifts shift
-returns c = entry 16 TABLE_16 c.args.byte refl (search rules)
