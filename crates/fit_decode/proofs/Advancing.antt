@@ -1,24 +1,10 @@
 -- What a piece makes of the fields, by the section that its first byte belongs to.
-use Rattle.std.proofs.Common.{◌≡◌, ℕ, ◌-◌, ◌<◌, List, [], length, sym, ap, ◌∙◌, subst, arith, None}
+use Rattle.fit_decode.proofs.Common.{◌≡◌, ℕ, ◌-◌, ◌<◌, List, [], length, sym, ap, ◌∙◌, subst, arith, None, append-nil, IsBytes, header_bytes, Record}
+use Rattle.fit_decode.proofs.Common.{Environment, empty_environment, records_bytes, chain_limit, Position, Stop, AwaitsByte, Answer, Section, Data, ClosingSum}
+use Rattle.fit_decode.proofs.Common.{IsHeaderPart, HeaderFed, DataFed, SumFed, Fields, InHeader, InData, InSum, HoldsAt, Stand, Advances, no_header_in}
 use Rattle.std.specs.Prelude.{Bool, Option, Result}
-use Rattle.std.proofs.lemmas.List.{append-nil}
-use Rattle.fit_base.specs.Numbers.{IsBytes}
-use Rattle.fit_frame.specs.Header.{header_bytes}
 use Rattle.fit_frame.specs.Beginning.{Seen}
-use Rattle.fit_record.specs.declared.message.Record.{Record}
-use Rattle.fit_record.specs.Environment.{Environment, empty_environment}
-use Rattle.fit_record.specs.Records.{records_bytes}
-use Rattle.fit_record.specs.Files.{chain_limit}
-use Rattle.fit_step.specs.declared.position.Position.{Position}
-use Rattle.fit_step.specs.declared.stop.Stop.{Stop}
-use Rattle.fit_step.specs.InProgress.{AwaitsByte}
-use Rattle.fit_decode.specs.declared.event.Event.{Event as Answer}
-use Rattle.fit_decode.specs.declared.section.Section.{Section}
-use Rattle.fit_decode.specs.declared.section.Section.TheVariants.{Header, Data, ClosingSum}
-use Rattle.fit_decode.specs.inner.Scans.{IsHeaderPart}
-use Rattle.fit_decode.specs.inner.Sections.{HeaderFed, DataFed, SumFed}
-use Rattle.fit_decode.specs.inner.Kept.{Fields, InHeader, InData, InSum, HoldsAt, Stand, Advances}
-use Rattle.fit_decode.proofs.Whole.{no_header_in}
+use Rattle.fit_decode.specs.declared.section.Section.TheVariants.{Header}
 use Rattle.fit_decode.proofs.Sections.{header_fed, data_fed, sum_fed}
 
 module _ {A : Type 0} {d : Fields A} (s : Stand d) (at : d.section ≡ Header) where

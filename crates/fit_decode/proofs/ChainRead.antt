@@ -1,29 +1,14 @@
 -- What the reading of all files tells.
-use Rattle.std.proofs.Common.{◌≡◌, Bool, true, false, ℕ, ◌+◌, ◌<◌, suc, List, [], ◌∷◌, ◌++◌, length, take, drop, get_or, Option, Some, None, Result, Ok, Err}
-use Rattle.std.proofs.Common.{sym, ap, ◌∙◌, subst, append_assoc, arith, length-append}
-use Rattle.std.specs.Prelude.{Vec, if◌then◌else◌}
-use Rattle.std.specs.Result.{is_ok, is_err}
-use Rattle.std.specs.declared.alloc.Global.{Global}
-use Rattle.std.specs.Io.KnownBytes.{Consumes, IsAtEnd}
-use Rattle.std.proofs.lemmas.List.{append-nil}
-use Rattle.fit_base.specs.Numbers.{IsBytes, little_bytes}
+use Rattle.fit_decode.proofs.Common.{◌≡◌, true, false, ℕ, ◌+◌, ◌<◌, suc, List, [], ◌∷◌, ◌++◌, length, take, drop, get_or, Some, None, Ok, Err, sym, ap, ◌∙◌}
+use Rattle.fit_decode.proofs.Common.{subst, append_assoc, arith, length-append, Vec, if◌then◌else◌, is_ok, is_err, Global, Consumes, IsAtEnd, append-nil}
+use Rattle.fit_decode.proofs.Common.{IsBytes, little_bytes, Reason, FitFile, checksum, summed, IsFile, IsChain, IsViable, chain_limit, Fault, Truncated, Read}
+use Rattle.fit_decode.proofs.Common.{AreChain, IsBehind, IsEnd, at_header, EndsReading, ReadsChain, GivesChain, IsRefused, FileRead, at_place, one_place}
+use Rattle.std.proofs.Common.{Bool, Option, Result}
 use Rattle.fit_base.proofs.Bytes.{length-little_bytes}
-use Rattle.fit_frame.specs.declared.reason.Reason.{Reason}
-use Rattle.fit_record.specs.declared.file.FitFile.{FitFile}
-use Rattle.fit_sum.specs.Checksum.{checksum}
-use Rattle.fit_record.specs.Files.{summed, IsFile, IsChain, IsViable, chain_limit}
-use Rattle.fit_decode.specs.declared.event.Fault.{Fault}
-use Rattle.fit_decode.specs.declared.event.Fault.TheVariants.{Refused, Truncated, NoMemory, Read}
-use Rattle.fit_decode.specs.Answers.{Seen, AreChain}
-use Rattle.fit_decode.specs.inner.Between.{IsBehind, IsEnd}
-use Rattle.fit_decode.specs.Progress.{at_header}
-use Rattle.fit_decode.specs.Reads.{EndsReading, ReadsChain, GivesChain}
-use Rattle.fit_decode.specs.Refusals.{IsRefused}
-use Rattle.fit_decode.specs.inner.Turns.{FileRead}
+use Rattle.fit_chain.specs.declared.event.Fault.TheVariants.{Refused, NoMemory}
+use Rattle.fit_decode.specs.Answers.{Seen}
 use Rattle.fit_decode.proofs.Consumed.{Consumes-append}
-use Rattle.fit_decode.proofs.FileGiven.{at_place}
 use Rattle.fit_decode.proofs.NextRead.{chain_comes, behind_file, next_file, next_fault, next_end}
-use Rattle.fit_decode.proofs.OnePlace.{one_place}
 
 -- no byte of a chain is refused
 chain_byte : {A : Type 0} (fs : List (FitFile A)) (b taken y : List ℕ) (place : ℕ) (reason : Reason) → IsBytes b → IsChain chain_limit fs b → b ≡ taken ++ y

@@ -1,22 +1,12 @@
 -- Bytes in memory are fed to a decoder from their front: what was fed, and the rest.
-use Rattle.std.proofs.Common.{◌≡◌, ℕ, suc, ◌+◌, ◌-◌, ◌^◌, ◌<◌, min, List, [], ◌∷◌, ◌++◌, length, take, drop, get_or, None, Result, Ok, Err, refl, sym}
-use Rattle.std.proofs.Common.{ap, ◌∙◌, subst, append_assoc, length-append, arith}
-use Rattle.std.specs.Prelude.{IfErr, IsErr, IsOk, OnOk, ◌↔◌}
-use Rattle.std.specs.declared.alloc.Global.{Global}
-use Rattle.std.proofs.lemmas.List.{append-nil, get_or-append-add, length-take-le, take-append-drop}
-use Rattle.std.proofs.Math.Seq.{drop-cons, take-append-add, take-append_seam}
-use Rattle.fit_base.specs.Numbers.{IsBytes}
-use Rattle.fit_frame.specs.declared.reason.Reason.{Reason}
-use Rattle.fit_record.specs.declared.file.FitFile.{FitFile}
-use Rattle.fit_record.specs.Files.{IsChain, IsViable, chain_limit}
-use Rattle.fit_decode.specs.declared.event.Fault.{Fault}
-use Rattle.fit_decode.specs.declared.event.Fault.TheVariants.{Refused, Truncated, NoMemory, Read}
-use Rattle.fit_decode.specs.Progress.{Progress, at_header, HasCome}
-use Rattle.fit_decode.specs.Answers.{AreChain, Refuses, Seen, Wants, fed}
-use Rattle.fit_decode.specs.Refusals.{IsRefused}
-use Rattle.fit_decode.specs.Checks.{AreFiles, IsFaultOf, LacksMemory, LacksMemoryAt, fault_after}
-use Rattle.fit_decode.specs.Memory.{MayTakeMemory}
-use Rattle.fit_decode.proofs.Ended.{chain_come}
+use Rattle.fit_decode.proofs.Common.{◌≡◌, ℕ, ◌+◌, ◌-◌, ◌^◌, ◌<◌, min, List, [], ◌∷◌, ◌++◌, length, take, drop, None, Ok, Err, refl, sym, ap, ◌∙◌, subst}
+use Rattle.fit_decode.proofs.Common.{append_assoc, length-append, arith, IsErr, IsOk, ◌↔◌, Global, append-nil, length-take-le, take-append-drop}
+use Rattle.fit_decode.proofs.Common.{take-append_seam, Reason, FitFile, IsViable, chain_limit, Fault, Truncated, Read, Progress, at_header, HasCome, AreChain}
+use Rattle.fit_decode.proofs.Common.{AreFiles, IsFaultOf, LacksMemoryAt, fault_after, Refuses, Wants, fed, chain_come, refused_in, wants_in}
+use Rattle.std.proofs.Common.{Result}
+use Rattle.std.specs.Prelude.{IfErr, OnOk}
+use Rattle.fit_chain.specs.declared.event.Fault.TheVariants.{Refused, NoMemory}
+use Rattle.fit_decode.specs.Answers.{Seen}
 
 -- ---- feeding
 
@@ -50,16 +40,6 @@ pub passed_over : (upload : List ℕ) (old new : Seen) (rest left : List ℕ) (u
 passed_over upload old new rest left used f after viable is = subst (Feeds upload new) (sym is) (feeds_over upload old new rest used f after viable)
 
 -- ---- faults
-
-refused_in : (front rest : List ℕ) (used place : ℕ) (reason : Reason) → place ≡ length front + used → used < length rest
-    → IsRefused Global chain_limit (front ++ take used rest) (get_or rest used 0) reason → IsFaultOf (front ++ rest) (Refused place reason)
-refused_in front rest used place reason is within why = (
-  omega (arith, length-append front rest),
-  subst (λ bytes. IsRefused Global chain_limit bytes (get_or (front ++ rest) place 0) reason)
-      (sym (take-append-add front rest used) ∙ ap (λ n. take n (front ++ rest)) (sym is))
-      (subst (λ b. IsRefused Global chain_limit (front ++ take used rest) b reason)
-      (sym (get_or-append-add front rest used 0) ∙ ap (λ n. get_or (front ++ rest) n 0) (sym is)) why),
-)
 
 -- what a decoder says that isn't fed on
 pub record Stops (old : Seen) (rest : List ℕ) (new : Seen) (fault : Fault) : Type 0 where
@@ -118,20 +98,6 @@ stopped upload old new rest (NoMemory used) short f s =
     ))
 stopped upload old new rest (Read place) short f s = absurd ((s.others place).1 refl)
 
--- where memory was refused
-wants_in : (front rest : List ℕ) (used place : ℕ) → place ≡ length front + used → used < length rest
-    → IsViable Global chain_limit (front ++ take (used + 1) rest) → MayTakeMemory Global (front ++ take used rest) (get_or rest used 0)
-    → LacksMemoryAt (front ++ rest) (NoMemory place)
-wants_in front rest used place is within viable takes = (
-  omega (arith, length-append front rest),
-  subst (IsViable Global chain_limit)
-      (sym (take-append-add front rest (used + 1)) ∙ ap (λ n. take n (front ++ rest)) (omega (arith, is))) viable,
-  subst (λ bytes. MayTakeMemory Global bytes (get_or (front ++ rest) place 0))
-      (sym (take-append-add front rest used) ∙ ap (λ n. take n (front ++ rest)) (sym is))
-      (subst (MayTakeMemory Global (front ++ take used rest))
-      (sym (get_or-append-add front rest used 0) ∙ ap (λ n. get_or (front ++ rest) n 0) (sym is)) takes),
-)
-
 pub stopped_at : (upload : List ℕ) (old new : Seen) (rest : List ℕ) (fault : Fault) → length upload < 2 ^ 64 → Feeds upload old rest → Stops old rest new fault
     → LacksMemoryAt upload (fault_after (length upload - length rest) fault)
 stopped_at upload old new rest (Refused place reason) short f s = tt
@@ -143,21 +109,6 @@ stopped_at upload old new rest (NoMemory used) short f s =
     subst (λ bytes. LacksMemoryAt bytes (NoMemory place)) f.joined
     (wants_in old.bytes rest used place (omega (arith, short, whole, w.within)) w.within w.next w.takes)
 stopped_at upload old new rest (Read place) short f s = tt
-
--- ---- chains
-
-at_place : (bytes : List ℕ) (place : ℕ) → place < length bytes → (take place bytes ++ get_or bytes place 0 ∷ []) ++ drop (suc place) bytes ≡ bytes
-at_place bytes place within =
-    append_assoc (take place bytes) (get_or bytes place 0 ∷ []) (drop (suc place) bytes)
-    ∙ ap (λ t. take place bytes ++ t) (sym (drop-cons bytes place 0 within)) ∙ take-append-drop place bytes
-
-pub fault_of_chain : (bytes : List ℕ) (fault : Fault) → IsBytes bytes → IsFaultOf bytes fault → AreChain Global bytes → LacksMemory fault
-fault_of_chain bytes (Refused place reason) are (within, why) (files, chain) =
-    let all = sym (at_place bytes place within) in
-    absurd (why.refused (drop (suc place) bytes, files, subst IsBytes all are, subst (IsChain chain_limit files) all chain))
-fault_of_chain bytes (Truncated place) are (end, viable, none) chain = absurd (none chain)
-fault_of_chain bytes (NoMemory used) are begins chain = tt
-fault_of_chain bytes (Read place) are fault chain = fault
 
 -- ---- the end
 
@@ -192,8 +143,3 @@ pub counted_end : (upload : List ℕ) (seen : Seen) (rest : List ℕ) (count : �
 counted_end upload seen rest count f none (files, chain) counts =
     let come = subst (HasCome files (at_header [])) (sym (at_end upload seen rest f none)) (chain_come upload (files, chain)) in
     (files, chain, sym (counts f.fresh files (at_header []) come))
-
-pub chain_end : {X : Type 0} (upload : List ℕ) (result : Result X Fault) → IsBytes upload → IfErr result (IsFaultOf upload) → AreChain Global upload
-    → IfErr result LacksMemory
-chain_end upload (Ok x) are fault chain = tt
-chain_end upload (Err fault) are is chain = fault_of_chain upload fault are is chain

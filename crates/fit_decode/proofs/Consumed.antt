@@ -1,6 +1,6 @@
 -- Bytes taken one after another.
-use Rattle.std.proofs.Common.{ℕ, List, [], ◌++◌, Option, Some, None, refl, sym, ap, ◌∙◌, append_assoc}
-use Rattle.std.specs.Io.KnownBytes.{Consumes, Keeps}
+use Rattle.fit_decode.proofs.Common.{ℕ, List, [], ◌++◌, Some, None, refl, sym, ap, ◌∙◌, append_assoc, Consumes, Keeps}
+use Rattle.std.proofs.Common.{Option}
 
 pub Consumes-nothing : (a : Option (List ℕ)) → Consumes a a []
 Consumes-nothing None = tt

@@ -1,29 +1,12 @@
 -- The bytes that have come are a chain exactly where files have ended, and no byte has come of a next one.
-use Rattle.std.proofs.Common.{◌≡◌, ℕ, ◌<◌, ◌≤◌, List, [], ◌++◌, length, refl, sym, ap, ◌∙◌, subst, arith}
-use Rattle.std.proofs.lemmas.List.{append-nil}
+use Rattle.fit_decode.proofs.Common.{◌≡◌, ℕ, ◌<◌, ◌≤◌, List, [], ◌++◌, length, refl, sym, ap, ◌∙◌, subst, arith, append-nil, FitFile, chain_bytes, chain_limit}
+use Rattle.fit_decode.proofs.Common.{Section, Data, ClosingSum, Progress, at_header, at_data, HasCome, files_begun, AreChain, Fields, InHeader, Holds, HoldsAt}
+use Rattle.fit_decode.proofs.Common.{one_place, chain_come}
 use Rattle.fit_frame.specs.Beginning.{Seen}
-use Rattle.fit_record.specs.declared.file.FitFile.{FitFile}
-use Rattle.fit_record.specs.Files.{chain_bytes, chain_limit}
-use Rattle.fit_decode.specs.declared.section.Section.{Section}
-use Rattle.fit_decode.specs.declared.section.Section.TheVariants.{Header, Data, ClosingSum}
-use Rattle.fit_decode.specs.Progress.{Progress, at_header, at_data, HasCome}
-use Rattle.fit_decode.specs.GoingOn.{files_begun}
-use Rattle.fit_decode.specs.Answers.{AreChain}
-use Rattle.fit_decode.specs.inner.Kept.{Fields, InHeader, Holds, HoldsAt}
-use Rattle.fit_decode.proofs.OnePlace.{one_place}
-use Rattle.fit_decode.proofs.Whole.{unfinished}
+use Rattle.fit_decode.specs.declared.section.Section.TheVariants.{Header}
 
 abbrev pub HasEnded : {A : Type 0} → Fields A → Type 0
 HasEnded d = (d.section ≡ Header) × (0 < d.count) × (d.reader.bytes ≡ [])
-
--- all files of a chain have come, and nothing of a next one
-pub chain_come : {A : Type 0} (bytes : List ℕ) (chain : AreChain A bytes) → HasCome chain.0 (at_header []) bytes
-chain_come {A} bytes chain = record {
-  files = chain.1.0.each;
-  next = unfinished A [] (λ h n rest fits is. cc);
-  spelled =
-      chain.1.1 ∙ sym (append-nil (chain_bytes chain.0));
-}
 
 module _ {A : Type 0} (d : Fields A) (bytes : List ℕ) where
   pub ended_chain : Holds d bytes → HasEnded d → AreChain A bytes

@@ -1,24 +1,12 @@
 -- What a caller of `feed` sees: that the invariant is kept, and what is told of the bytes used.
-use Rattle.std.proofs.Common.{◌≡◌, ℕ, ◌+◌, ◌<◌, ◌≤◌, List, ◌++◌, length, take, slice_index, sym, ap, ◌∙◌, subst, arith, length-append, Fits, w64, Some, None}
-use Rattle.std.proofs.Common.{Ok, Err}
+use Rattle.fit_decode.proofs.Common.{◌≡◌, ℕ, ◌+◌, ◌<◌, ◌≤◌, List, ◌++◌, length, take, slice_index, sym, ap, ◌∙◌, subst, arith, length-append, Fits, w64, Some}
+use Rattle.fit_decode.proofs.Common.{None, Ok, Err, length-take-le, IsBytes, IsBytes-append, IsBytes-take, Reason, empty_environment, chain_limit, IsViable}
+use Rattle.fit_decode.proofs.Common.{Stop, Inside, Answer, Event, header, item, file_end, event_of, Refuses, Wants, Quiet, Least, AreChain, IsRefused, Fields}
+use Rattle.fit_decode.proofs.Common.{Advanced, Advances, NotRefused, NextAnswer, Stand, Holds, IsSoundDecoder, fields_inside, short_bytes}
 use Rattle.std.specs.Prelude.{Result}
-use Rattle.std.proofs.lemmas.List.{length-take-le}
-use Rattle.fit_base.specs.Numbers.{IsBytes}
-use Rattle.fit_base.proofs.ByteLists.{IsBytes-append, IsBytes-take}
-use Rattle.fit_frame.specs.declared.reason.Reason.{Reason}
-use Rattle.fit_record.specs.Environment.{empty_environment}
-use Rattle.fit_record.specs.Files.{chain_limit, IsViable}
-use Rattle.fit_step.specs.declared.stop.Stop.{Stop}
 use Rattle.fit_step.specs.declared.stop.Stop.TheVariants.{Refused, NoMemory}
-use Rattle.fit_decode.specs.declared.decoder.Decoder.TheInside.{Inside}
-use Rattle.fit_decode.specs.declared.event.Event.{Event as Answer}
-use Rattle.fit_decode.specs.declared.event.Event.TheVariants as answers
-use Rattle.fit_decode.specs.Events.{Event, header, item, file_end}
-use Rattle.fit_decode.specs.Answers.{Seen, event_of, Quiet, Least, Refuses, Wants, AreChain}
-use Rattle.fit_decode.specs.Refusals.{IsRefused}
-use Rattle.fit_decode.specs.inner.Kept.{Fields, Advanced, Advances, NotRefused, NextAnswer, Stand, Holds}
-use Rattle.fit_decode.specs.inner.Invariant.{IsSoundDecoder, fields_inside}
-use Rattle.fit_decode.proofs.Bounds.{short_bytes}
+use Rattle.fit_decode.specs.Answers.{Seen}
+use Rattle.fit_chain.specs.declared.event.Event.TheVariants as answers
 use Rattle.fit_decode.proofs.Ended.{HasEnded, ended_chain, chain_ended}
 
 -- ---- what is told

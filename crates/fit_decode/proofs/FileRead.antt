@@ -1,22 +1,11 @@
 -- The turns that read one file.
-use Rattle.std.proofs.Common.{◌≡◌, Bool, true, false, ℕ, ◌-◌, ◌<◌, List, [], ◌++◌, length, Option, Some, None, Result, Ok, Err, refl, sym, ap, ◌∙◌, subst}
-use Rattle.std.proofs.Common.{arith, append_assoc, length-append}
-use Rattle.std.specs.Io.KnownBytes.{Consumes}
-use Rattle.std.proofs.lemmas.List.{append-nil}
+use Rattle.fit_decode.proofs.Common.{◌≡◌, true, false, ℕ, ◌-◌, ◌<◌, List, [], ◌++◌, length, Some, None, Ok, Err, refl, sym, ap, ◌∙◌, subst, arith, append_assoc}
+use Rattle.fit_decode.proofs.Common.{length-append, Consumes, append-nil, FitFile, Record, chain_limit, IsViable, IsBytes-none, Fault, at_header, HasCome}
+use Rattle.fit_decode.proofs.Common.{ComesToRecords, Ended, Turned, FaultIn, FileRead, Eaten, unrefused, short_bytes, goes_viable, begins_nothing, unfinished}
+use Rattle.std.proofs.Common.{Bool, Option, Result}
 use Rattle.fit_frame.specs.declared.header.Header.{Header}
-use Rattle.fit_record.specs.declared.file.FitFile.{FitFile}
-use Rattle.fit_record.specs.declared.message.Record.{Record}
-use Rattle.fit_record.specs.Files.{chain_limit, IsViable}
-use Rattle.fit_base.proofs.ByteLists.{IsBytes-none}
-use Rattle.fit_decode.specs.declared.event.Fault.{Fault}
 use Rattle.fit_decode.specs.Answers.{Seen}
-use Rattle.fit_decode.specs.Progress.{at_header, HasCome}
-use Rattle.fit_decode.specs.inner.Turns.{ComesToRecords, Ended, Turned, FaultIn, FileRead, Eaten, unrefused}
-use Rattle.fit_decode.proofs.Bounds.{short_bytes}
-use Rattle.fit_decode.proofs.Completions.{goes_viable}
 use Rattle.fit_decode.proofs.Consumed.{Consumes-nothing, Consumes-append}
-use Rattle.fit_decode.proofs.ViableGoesOn.{begins_nothing}
-use Rattle.fit_decode.proofs.Whole.{unfinished}
 
 -- of no bytes, no file and nothing of a next one have come
 pub no_file_yet : (A : Type 0) → HasCome {A = A} [] (at_header []) []

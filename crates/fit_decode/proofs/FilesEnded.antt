@@ -1,14 +1,8 @@
 -- How many files have ended, by the fields, is the number of those that are whole in the bytes fed.
-use Rattle.std.proofs.Common.{◌≡◌, ℕ, List, length, None, ap, ◌∙◌, subst, sym}
-use Rattle.fit_record.specs.declared.file.FitFile.{FitFile}
-use Rattle.fit_decode.specs.declared.decoder.Decoder.TheInside.{Inside}
-use Rattle.fit_decode.specs.declared.section.Section.{Section}
-use Rattle.fit_decode.specs.declared.section.Section.TheVariants.{Header, Data, ClosingSum}
-use Rattle.fit_decode.specs.Progress.{Progress, HasCome}
+use Rattle.fit_decode.proofs.Common.{◌≡◌, ℕ, List, length, None, ap, ◌∙◌, subst, sym, FitFile, Inside, Section, Data, ClosingSum, Progress, HasCome, Fields}
+use Rattle.fit_decode.proofs.Common.{HoldsAt, IsSoundDecoder, fields_inside, one_place}
+use Rattle.fit_decode.specs.declared.section.Section.TheVariants.{Header}
 use Rattle.fit_decode.specs.Answers.{Seen}
-use Rattle.fit_decode.specs.inner.Kept.{Fields, HoldsAt}
-use Rattle.fit_decode.specs.inner.Invariant.{IsSoundDecoder, fields_inside}
-use Rattle.fit_decode.proofs.OnePlace.{one_place}
 
 module _ {A : Type 0} (d : Fields A) (bytes : List ℕ) (fs : List (FitFile A)) (g : Progress A) (come : HasCome fs g bytes) where
   ended_at : (s : Section) → HoldsAt s d bytes → d.count ≡ length fs

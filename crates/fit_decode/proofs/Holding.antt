@@ -1,66 +1,20 @@
 -- How much a decoder holds, by the bytes that were fed.
-use Rattle.std.proofs.Common.{◌≡◌, cond, Bool, true, false, ℕ, ◌+◌, ◌-◌, ◌≤◌, List, ◌++◌, length, refl, sym, ap, ◌∙◌, subst, arith, Some, None}
-use Rattle.std.specs.Prelude.{Option, ◌==◌}
-use Rattle.std.proofs.lemmas.Bool.{cond-true, cond-false, eq-eqb, ne_eqb}
-use Rattle.fit_base.specs.Numbers.{IsBytes}
-use Rattle.fit_base.proofs.ByteLists.{IsBytes-front, IsBytes-back}
-use Rattle.fit_sum.specs.Checksum.{checksum}
-use Rattle.fit_frame.specs.declared.reason.Reason.{Reason}
-use Rattle.fit_frame.specs.Header.{header_bytes}
-use Rattle.fit_record.specs.declared.file.FitFile.{FitFile}
-use Rattle.fit_record.specs.declared.message.Record.{Record}
-use Rattle.fit_record.specs.Environment.{Environment, empty_environment, learn_all}
-use Rattle.fit_record.specs.Records.{records_bytes}
-use Rattle.fit_record.specs.Files.{chain_bytes}
+use Rattle.fit_decode.proofs.Common.{◌≡◌, cond, false, ℕ, ◌+◌, ◌-◌, ◌≤◌, List, length, refl, sym, ap, ◌∙◌, subst, arith, Some, None, ◌==◌, cond-true}
+use Rattle.fit_decode.proofs.Common.{cond-false, eq-eqb, ne_eqb, IsBytes, checksum, Reason, Environment, empty_environment, learn_all, records_bytes}
+use Rattle.fit_decode.proofs.Common.{in_progress_size, IsCountable, IsInProgress, idle_between_records, Inside, Section, Data, ClosingSum, at_header, at_data}
+use Rattle.fit_decode.proofs.Common.{AreChain, Fields, InData, InHeader, HoldsAt, IsSoundDecoder, fields_inside, half_sum}
+use Rattle.std.specs.Prelude.{Option}
 use Rattle.fit_record.specs.Sizes.{environment_size}
 use Rattle.fit_step.specs.Held.{held_of_record, part_size}
-use Rattle.fit_step.specs.InProgress.{in_progress_size, IsCountable}
-use Rattle.fit_step.specs.InProgress.{IsInProgress}
-use Rattle.fit_step.proofs.HeldInProgress.{held_is_of_bytes, held_is_limited}
-use Rattle.fit_step.proofs.RecordsInProgress.{idle_between_records}
-use Rattle.fit_decode.specs.declared.decoder.Decoder.TheInside.{Inside}
-use Rattle.fit_decode.specs.declared.section.Section.{Section}
-use Rattle.fit_decode.specs.declared.section.Section.TheVariants.{Header, Data, ClosingSum}
-use Rattle.fit_decode.specs.Progress.{at_header, at_data, progress_bytes, HasCome}
-use Rattle.fit_decode.specs.Events.{bound}
-use Rattle.fit_decode.specs.Answers.{Seen, AreChain}
-use Rattle.fit_decode.specs.Held.{IsHeld, bound_limit}
-use Rattle.fit_decode.specs.inner.Kept.{Fields, InData, InHeader, HoldsAt}
-use Rattle.fit_decode.specs.inner.Invariant.{IsSoundDecoder, fields_inside}
-use Rattle.fit_decode.specs.inner.Scans.{half_sum}
-use Rattle.fit_decode.specs.Laws.{BoundsAreLimited}
+use Rattle.fit_step.proofs.HeldInProgress.{held_is_of_bytes}
+use Rattle.fit_decode.specs.declared.section.Section.TheVariants.{Header}
+use Rattle.fit_decode.specs.Answers.{Seen}
+use Rattle.fit_chain.specs.Held.{IsHeld, bound_limit}
+use Rattle.fit_chain.proofs.HeldLimit.{limited_bound, records_are}
 use Rattle.fit_decode.proofs.Ended.{chain_ended}
 
 nothing_known : (A : Type 0) → environment_size {A = A} empty_environment ≡ 0
 nothing_known A = refl
-
--- ---- the limit
-
-module _ {A : Type 0} (files : List (FitFile A)) (h : Rattle.fit_frame.specs.declared.header.Header.Header) (n : ℕ) (records : List (Record A))
-    (part bytes : List ℕ)
-    (here : HasCome files (at_data h n records part) bytes) (are : IsBytes bytes) where
-  next_are : IsBytes ((header_bytes h n ++ records_bytes empty_environment records) ++ part)
-  next_are = IsBytes-back (chain_bytes files) (progress_bytes (at_data h n records part)) (subst IsBytes here.spelled are)
-
-  pub part_are : IsBytes part
-  part_are = IsBytes-back (header_bytes h n ++ records_bytes empty_environment records) part next_are
-
-  pub records_are : IsBytes (records_bytes empty_environment records)
-  records_are = IsBytes-back (header_bytes h n) (records_bytes empty_environment records)
-      (IsBytes-front (header_bytes h n ++ records_bytes empty_environment records) part next_are)
-
-  none_or : (b : Bool) (m : ℕ) → cond b 0 m ≤ m
-  none_or true m = omega arith
-  none_or false m = omega arith
-
-  limited_data : bound (at_data h n records part) ≤ bound_limit
-  limited_data =
-      let limits = held_is_limited records part here.next.1 records_are part_are in
-      omega (arith, none_or (length (records_bytes empty_environment records) == n) (part_size (learn_all empty_environment records) part), limits.0, limits.1)
-
-pub limited_bound : {A : Type 0} → BoundsAreLimited A
-limited_bound files (at_header front) bytes here are = omega arith
-limited_bound files (at_data h n records part) bytes here are = limited_data files h n records part bytes here are
 
 -- ---- by the fields
 

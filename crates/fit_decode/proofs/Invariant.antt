@@ -1,18 +1,8 @@
 -- The invariant of a decoder holds before the first byte.
-use Rattle.std.proofs.Common.{◌≡◌, false, [], length, refl, sym, ap, ◌∙◌, subst, arith, None}
-use Rattle.fit_base.specs.Numbers.{IsBytes}
-use Rattle.fit_base.proofs.ByteLists.{IsBytes-none}
-use Rattle.fit_record.specs.Environment.{empty_environment}
-use Rattle.fit_record.specs.Files.{chain_limit, IsViable}
-use Rattle.fit_decode.specs.declared.decoder.Decoder.TheInside.{Inside}
+use Rattle.fit_decode.proofs.Common.{◌≡◌, false, [], length, refl, sym, ap, ◌∙◌, subst, arith, None, IsBytes, IsBytes-none, empty_environment, chain_limit}
+use Rattle.fit_decode.proofs.Common.{IsViable, Inside, at_header, HasCome, ChainGoesOn, HoldsAt, IsSoundDecoder, fields_inside, goes_viable, begins_nothing}
+use Rattle.fit_decode.proofs.Common.{unfinished}
 use Rattle.fit_decode.specs.declared.section.Section.TheVariants.{Header}
-use Rattle.fit_decode.specs.Progress.{at_header, HasCome}
-use Rattle.fit_decode.specs.GoingOn.{ChainGoesOn}
-use Rattle.fit_decode.specs.inner.Kept.{HoldsAt}
-use Rattle.fit_decode.specs.inner.Invariant.{IsSoundDecoder, fields_inside}
-use Rattle.fit_decode.proofs.Completions.{goes_viable}
-use Rattle.fit_decode.proofs.ViableGoesOn.{begins_nothing}
-use Rattle.fit_decode.proofs.Whole.{unfinished}
 
 -- of no bytes, no file and nothing of a next one have come
 nothing_come : (A : Type 0) → HasCome {A = A} [] (at_header []) []

@@ -1,24 +1,7 @@
-pub mod OnePlace
-pub mod OneReason
-pub mod HasReason
-pub mod Following
-pub mod ViableGoesOn
-pub mod Completions
-pub mod Whole
-pub mod Next
-pub mod Telling
+pub mod Common
 pub mod Pieces
-pub mod HeaderFed
-pub mod DataFed
-pub mod SumFed
 pub mod Scanned
-pub mod Places
 pub mod Sections
-pub mod Bounds
-mod KnownRefusals
-pub mod FirstFile
-pub mod Gathered
-pub mod FileEnds
 pub mod PieceTold
 pub mod Sizes
 pub mod Invariant
@@ -26,10 +9,8 @@ pub mod Advancing
 pub mod Ended
 pub mod Feeding
 pub mod Needed
-pub mod NoSooner
 pub mod Consumed
 pub mod PieceTaken
-pub mod Missing
 pub mod FileRead
 pub mod FileGiven
 pub mod OneRead
@@ -38,6 +19,5 @@ pub mod NextRead
 pub mod ChainRead
 pub mod Skipping
 pub mod Nearly
-pub mod HeldRows
 pub mod Checking
 pub mod FilesEnded

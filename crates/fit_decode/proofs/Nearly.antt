@@ -1,9 +1,6 @@
 -- All but a last piece begins some files.
-use Rattle.std.proofs.Common.{◌≡◌, ℕ, ◌≤◌, List, [], ◌++◌, length, take, sym, ap, ◌∙◌, subst, arith, length-append}
-use Rattle.std.proofs.lemmas.List.{append-nil}
-use Rattle.std.proofs.Math.Seq.{take-append_seam}
-use Rattle.fit_record.specs.Files.{IsViable}
-use Rattle.fit_decode.specs.Reads.{IsNearlyViable, piece_size}
+use Rattle.fit_decode.proofs.Common.{◌≡◌, ℕ, ◌≤◌, List, [], ◌++◌, length, take, sym, ap, ◌∙◌, subst, arith, length-append, append-nil, take-append_seam}
+use Rattle.fit_decode.proofs.Common.{IsViable, IsNearlyViable, piece_size}
 
 pub nearly : {A : Type 0} (limit : ℕ) (before piece taken : List ℕ) → taken ≡ before ++ piece → length piece ≤ piece_size → IsViable A limit before
     → IsNearlyViable A limit taken

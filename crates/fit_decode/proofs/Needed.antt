@@ -1,24 +1,14 @@
 -- How many bytes are to come, by the fields, are those that are missing by the bytes fed.
-use Rattle.std.proofs.Common.{◌≡◌, ℕ, ◌+◌, ◌-◌, ◌<◌, ◌^◌, Bool, true, false, List, [], ◌∷◌, length, take, drop, refl, sym, ap, ◌∙◌, subst, arith, None}
-use Rattle.std.specs.Prelude.{if◌then◌else◌}
+use Rattle.fit_decode.proofs.Common.{◌≡◌, ℕ, ◌+◌, ◌-◌, ◌<◌, ◌^◌, true, false, List, [], ◌∷◌, length, take, drop, refl, sym, ap, ◌∙◌, subst, arith, None}
+use Rattle.fit_decode.proofs.Common.{if◌then◌else◌, IsBytes, number, IsBytes-take, IsBytes-drop, checksum, empty_environment, records_bytes}
+use Rattle.fit_decode.proofs.Common.{records_in_progress, Inside, Section, Data, ClosingSum, at_header, at_data, Fed, half_sum, Fields, HoldsAt, Holds, to_come}
+use Rattle.fit_decode.proofs.Common.{IsSoundDecoder, fields_inside}
+use Rattle.std.proofs.Common.{Bool}
 use Rattle.fit_base.specs.declared.number.Order.TheVariants.{Little}
-use Rattle.fit_base.specs.Numbers.{IsBytes, number}
 use Rattle.fit_base.proofs.NumberLaws.{number-below}
-use Rattle.fit_base.proofs.ByteLists.{IsBytes-take, IsBytes-drop}
-use Rattle.fit_sum.specs.Checksum.{checksum}
 use Rattle.fit_frame.specs.Beginning.{Seen}
-use Rattle.fit_record.specs.Environment.{empty_environment}
-use Rattle.fit_record.specs.Records.{records_bytes}
-use Rattle.fit_step.proofs.RecordsInProgress.{records_in_progress}
-use Rattle.fit_decode.specs.declared.decoder.Decoder.TheInside.{Inside}
-use Rattle.fit_decode.specs.declared.section.Section.{Section}
-use Rattle.fit_decode.specs.declared.section.Section.TheVariants.{Header, Data, ClosingSum}
-use Rattle.fit_decode.specs.Progress.{at_header, at_data}
-use Rattle.fit_decode.specs.Needs.{missing, Needs}
-use Rattle.fit_decode.specs.Answers.{Seen as Fed}
-use Rattle.fit_decode.specs.inner.Scans.{half_sum}
-use Rattle.fit_decode.specs.inner.Kept.{Fields, HoldsAt, Holds, to_come}
-use Rattle.fit_decode.specs.inner.Invariant.{IsSoundDecoder, fields_inside}
+use Rattle.fit_decode.specs.declared.section.Section.TheVariants.{Header}
+use Rattle.fit_chain.specs.Needs.{missing, Needs}
 
 -- the number in four bytes
 pub four_bytes_below : (all some bytes : List ℕ) (n : ℕ) → IsBytes all → some ≡ drop 4 all → bytes ≡ take 4 some → length bytes ≡ 4 → n ≡ number Little bytes

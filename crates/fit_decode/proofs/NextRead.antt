@@ -1,25 +1,15 @@
 -- What the reading of the next file of a chain tells.
-use Rattle.std.proofs.Common.{◌≡◌, Bool, true, false, ℕ, ◌+◌, List, [], ◌∷◌, ◌++◌, length, Option, Some, None, Result, Ok, Err, refl, sym, ap, ◌∙◌, subst}
-use Rattle.std.proofs.Common.{arith}
-use Rattle.std.specs.Io.KnownBytes.{Consumes, Keeps, IsAtEnd}
-use Rattle.std.proofs.lemmas.List.{append-nil, append_cancel_left}
-use Rattle.fit_base.specs.Numbers.{IsBytes}
-use Rattle.fit_record.specs.declared.file.FitFile.{FitFile}
-use Rattle.fit_record.specs.Files.{IsFile, IsChain, IsViable, chain_bytes, chain_limit}
-use Rattle.fit_decode.specs.declared.event.Fault.{Fault}
-use Rattle.fit_decode.specs.declared.event.Fault.TheVariants.{Refused, Truncated, NoMemory, Read}
-use Rattle.fit_decode.specs.Answers.{Seen, AreChain}
-use Rattle.fit_decode.specs.inner.Between.{IsBehind, IsEnd}
-use Rattle.fit_decode.specs.Progress.{at_header, HasCome}
-use Rattle.fit_decode.specs.Reads.{EndsReading, EndsChain, GivesFile, GivesNext, Past, Channel}
-use Rattle.fit_decode.specs.inner.Turns.{ComesTo, Ended, FaultIn, FileTold, FileRead, unrefused}
-use Rattle.fit_decode.proofs.FileGiven.{given, next_bytes}
+use Rattle.fit_decode.proofs.Common.{◌≡◌, true, false, ℕ, ◌+◌, List, [], ◌∷◌, ◌++◌, length, Some, None, Ok, Err, refl, sym, ap, ◌∙◌, subst, arith, Consumes}
+use Rattle.fit_decode.proofs.Common.{Keeps, IsAtEnd, append-nil, append_cancel_left, IsBytes, FitFile, IsFile, IsChain, IsViable, chain_bytes, chain_limit}
+use Rattle.fit_decode.proofs.Common.{Fault, Truncated, Read, AreChain, IsBehind, IsEnd, at_header, HasCome, EndsReading, EndsChain, GivesFile, GivesNext, Past}
+use Rattle.fit_decode.proofs.Common.{Channel, ComesTo, Ended, FaultIn, FileTold, FileRead, unrefused, next_bytes, viable_goes, ended_chain, one_place}
+use Rattle.fit_decode.proofs.Common.{unfinished}
+use Rattle.std.proofs.Common.{Bool, Option, Result}
+use Rattle.fit_chain.specs.declared.event.Fault.TheVariants.{Refused, NoMemory}
+use Rattle.fit_decode.specs.Answers.{Seen}
+use Rattle.fit_decode.proofs.FileGiven.{given}
 use Rattle.fit_decode.proofs.FileRead.{no_file_yet, nothing_viable}
-use Rattle.fit_decode.proofs.ViableGoesOn.{viable_goes}
-use Rattle.fit_decode.proofs.Missing.{ended_chain}
 use Rattle.fit_decode.proofs.Nearly.{nearly}
-use Rattle.fit_decode.proofs.OnePlace.{one_place}
-use Rattle.fit_decode.proofs.Whole.{unfinished}
 
 -- a chain is its files, and nothing of a next one
 pub chain_comes : {A : Type 0} (limit : ℕ) (fs : List (FitFile A)) (bytes : List ℕ) → IsChain limit fs bytes → HasCome fs (at_header []) bytes

@@ -1,23 +1,15 @@
 -- What the reading of one file tells.
-use Rattle.std.proofs.Common.{◌≡◌, Bool, ℕ, List, [], ◌∷◌, ◌++◌, length, take, Option, Some, Result, Ok, Err, sym, ap, ◌∙◌, subst, arith}
-use Rattle.std.specs.Io.KnownBytes.{Consumes}
-use Rattle.std.proofs.lemmas.List.{append-nil}
-use Rattle.fit_base.specs.Numbers.{IsBytes}
-use Rattle.fit_frame.specs.declared.reason.Reason.{Reason}
-use Rattle.fit_record.specs.declared.file.FitFile.{FitFile}
-use Rattle.fit_record.specs.Files.{file_bytes, IsFile, IsChain, IsViable, chain_limit}
-use Rattle.fit_decode.specs.declared.event.Fault.{Fault}
-use Rattle.fit_decode.specs.declared.event.Fault.TheVariants.{Refused, Truncated, NoMemory, Read}
+use Rattle.fit_decode.proofs.Common.{◌≡◌, ℕ, List, [], ◌∷◌, ◌++◌, length, take, Some, Ok, Err, sym, ap, ◌∙◌, subst, arith, Consumes, append-nil, IsBytes}
+use Rattle.fit_decode.proofs.Common.{Reason, FitFile, file_bytes, IsFile, IsChain, IsViable, chain_limit, Fault, Truncated, Read, Progress, HasCome, IsRefused}
+use Rattle.fit_decode.proofs.Common.{reason_at, BeginsWithFile, Channel, EndsReading, ReadsOne, GivesFile, FaultIn, FileTold, FileRead, are_of_bytes}
+use Rattle.fit_decode.proofs.Common.{next_bytes, one_place, no_file}
+use Rattle.std.proofs.Common.{Bool, Option, Result}
+use Rattle.fit_chain.specs.declared.event.Fault.TheVariants.{Refused, NoMemory}
 use Rattle.fit_decode.specs.Answers.{Seen}
-use Rattle.fit_decode.specs.Progress.{Progress, HasCome}
-use Rattle.fit_decode.specs.Refusals.{IsRefused, reason_at}
-use Rattle.fit_decode.specs.Reads.{BeginsWithFile, Channel, EndsReading, ReadsOne, GivesFile}
-use Rattle.fit_decode.specs.inner.Turns.{FaultIn, FileTold, FileRead}
-use Rattle.fit_decode.proofs.FileGiven.{are_of_bytes, given, next_bytes}
+use Rattle.fit_chain.proofs.FirstFile.{other_limit}
+use Rattle.fit_decode.proofs.FileGiven.{given}
 use Rattle.fit_decode.proofs.Nearly.{nearly}
 use Rattle.fit_decode.proofs.FileRead.{no_file_yet}
-use Rattle.fit_decode.proofs.FirstFile.{other_limit}
-use Rattle.fit_decode.proofs.OnePlace.{one_place, no_file}
 
 -- ---- what begins a chain and has no whole file begins a file
 

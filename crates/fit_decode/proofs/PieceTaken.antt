@@ -1,19 +1,12 @@
 -- A turn of a reader: a piece taken and fed.
-use Rattle.std.proofs.Common.{◌≡◌, Bool, true, false, ℕ, ◌<◌, ◌≤◌, List, [], ◌++◌, length, take, get_or, Option, None, Result, Ok, Err, refl, sym, ap, ◌∙◌}
-use Rattle.std.proofs.Common.{subst, arith, length-append}
-use Rattle.std.specs.Io.KnownBytes.{IsAtEnd}
-use Rattle.std.proofs.lemmas.List.{append-nil, length-take, get_or-append-add}
-use Rattle.std.proofs.Math.Seq.{take-length, take-append-add}
+use Rattle.fit_decode.proofs.Common.{◌≡◌, true, false, ℕ, ◌<◌, ◌≤◌, List, [], ◌++◌, length, take, get_or, None, Ok, Err, refl, sym, ap, ◌∙◌, subst, arith}
+use Rattle.fit_decode.proofs.Common.{length-append, IsAtEnd, append-nil, length-take, get_or-append-add, take-length, take-append-add, FitFile, Record}
+use Rattle.fit_decode.proofs.Common.{chain_limit, IsViable, Fault, Truncated, Read, piece_size, IsRefused, ComesToRecords, ComesTo, Ended, NoSooner, PieceFed}
+use Rattle.fit_decode.proofs.Common.{TurnTold, unrefused}
+use Rattle.std.proofs.Common.{Bool, Option, Result}
 use Rattle.fit_frame.specs.declared.header.Header.{Header}
-use Rattle.fit_record.specs.declared.file.FitFile.{FitFile}
-use Rattle.fit_record.specs.declared.message.Record.{Record}
-use Rattle.fit_record.specs.Files.{chain_limit, IsViable}
-use Rattle.fit_decode.specs.declared.event.Fault.{Fault}
-use Rattle.fit_decode.specs.declared.event.Fault.TheVariants.{Refused, Truncated, NoMemory, Read}
+use Rattle.fit_chain.specs.declared.event.Fault.TheVariants.{Refused, NoMemory}
 use Rattle.fit_decode.specs.Answers.{Seen}
-use Rattle.fit_decode.specs.Reads.{piece_size}
-use Rattle.fit_decode.specs.Refusals.{IsRefused}
-use Rattle.fit_decode.specs.inner.Turns.{ComesToRecords, ComesTo, Ended, PieceFed, TurnTold, NoSooner, unrefused}
 
 -- what feeding the piece told is what the turn told
 pub turn_of : {A : Type 0} (files : List (FitFile A)) (bytes piece : List ℕ) (n : ℕ) (has : Option (List ℕ)) (failed : Bool) (new : Seen) (head : Option Header)

@@ -1,21 +1,14 @@
 -- What feeding a piece tells a reader, event by event.
-use Rattle.std.proofs.Common.{◌≡◌, true, false, ℕ, ◌+◌, ◌≤◌, List, [], ◌∷◌, ◌++◌, length, take, drop, get_or, Option, Some, None, Ok, Err, refl, sym, ap, ◌∙◌}
-use Rattle.std.proofs.Common.{subst, arith, append_assoc, length-append}
-use Rattle.std.proofs.lemmas.List.{length-drop, length-take, get_or-drop}
-use Rattle.std.proofs.Math.Seq.{take-add, take-length}
+use Rattle.fit_decode.proofs.Common.{◌≡◌, true, false, ℕ, ◌+◌, ◌≤◌, List, [], ◌∷◌, ◌++◌, length, take, drop, get_or, Some, None, Ok, Err, refl, sym, ap, ◌∙◌}
+use Rattle.fit_decode.proofs.Common.{subst, arith, append_assoc, length-append, length-drop, length-take, get_or-drop, take-add, take-length, Reason, FitFile}
+use Rattle.fit_decode.proofs.Common.{Record, chain_limit, Event, AreEvents, header, item, file_end, fed, Refuses, Quiet, Least, IsRefused, ComesToRecords}
+use Rattle.fit_decode.proofs.Common.{ComesTo, Ended, PieceFed, unrefused, least_for, quiet_for}
+use Rattle.std.proofs.Common.{Option}
 use Rattle.fit_frame.specs.declared.header.Header.{Header}
-use Rattle.fit_frame.specs.declared.reason.Reason.{Reason}
-use Rattle.fit_record.specs.declared.file.FitFile.{FitFile}
-use Rattle.fit_record.specs.declared.message.Record.{Record}
-use Rattle.fit_record.specs.Files.{chain_limit}
-use Rattle.fit_decode.specs.declared.event.Fault.TheVariants.{Refused}
-use Rattle.fit_decode.specs.Events.{Event, AreEvents, header, item, file_end}
-use Rattle.fit_decode.specs.Answers.{Seen, fed, Quiet, Least, Refuses}
-use Rattle.fit_decode.specs.Refusals.{IsRefused}
-use Rattle.fit_decode.specs.inner.Turns.{ComesToRecords, ComesTo, Ended, PieceFed, unrefused}
-use Rattle.fit_decode.proofs.Gathered.{stands_quiet, stands_header, stands_item}
-use Rattle.fit_decode.proofs.FileEnds.{ends_file}
-use Rattle.fit_decode.proofs.Telling.{least_for, quiet_for}
+use Rattle.fit_chain.specs.declared.event.Fault.TheVariants.{Refused}
+use Rattle.fit_decode.specs.Answers.{Seen}
+use Rattle.fit_chain.proofs.Gathered.{stands_quiet, stands_header, stands_item}
+use Rattle.fit_chain.proofs.FileEnds.{ends_file}
 
 pub fed_on : (old mid new : Seen) (piece : List ℕ) (at used : ℕ) → mid ≡ fed old piece at → new ≡ fed mid (drop at piece) used → new ≡ fed old piece (at + used)
 fed_on old mid new piece at used is after =

@@ -1,12 +1,9 @@
 -- Fronts of a piece, one byte more each.
-use Rattle.std.proofs.Common.{◌≡◌, ℕ, ◌+◌, ◌<◌, List, [], ◌∷◌, ◌++◌, length, take, get_or, sym, ap, ◌∙◌, subst, arith, append_assoc, Some, None, Ok, Err, true}
-use Rattle.std.proofs.Common.{false}
-use Rattle.std.specs.Prelude.{Result, OnOk, OnErr}
-use Rattle.std.specs.Result.{is_ok}
-use Rattle.std.proofs.lemmas.List.{take_more}
+use Rattle.fit_decode.proofs.Common.{◌≡◌, ℕ, ◌+◌, ◌<◌, List, [], ◌∷◌, ◌++◌, length, take, get_or, sym, ap, ◌∙◌, subst, arith, append_assoc, Some, None, Ok, Err}
+use Rattle.fit_decode.proofs.Common.{true, false, OnErr, is_ok, take_more, IsFileHeader, HeaderScanned}
+use Rattle.std.specs.Prelude.{Result, OnOk}
 use Rattle.fit_frame.specs.declared.header.Header.{Header}
-use Rattle.fit_frame.specs.Beginning.{Seen, IsFileHeader}
-use Rattle.fit_decode.specs.inner.Scans.{HeaderScanned}
+use Rattle.fit_frame.specs.Beginning.{Seen}
 
 -- one byte more of the piece
 pub bytes_more : (front piece : List ℕ) (i : ℕ) → i < length piece → (front ++ take i piece) ++ get_or piece i 0 ∷ [] ≡ front ++ take (i + 1) piece

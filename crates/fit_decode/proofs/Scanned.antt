@@ -1,8 +1,7 @@
 -- What the walk over a closing sum says, where the sum has two names.
-use Rattle.std.proofs.Common.{◌≡◌, ℕ, Bool, List, subst, Err}
+use Rattle.fit_decode.proofs.Common.{◌≡◌, ℕ, List, subst, Err, Reason, SumScanned}
+use Rattle.std.proofs.Common.{Bool}
 use Rattle.std.specs.Prelude.{Result}
-use Rattle.fit_frame.specs.declared.reason.Reason.{Reason}
-use Rattle.fit_decode.specs.inner.Scans.{SumScanned}
 
 pub sum_answered : (n m : ℕ) (before : Bool) (piece : List ℕ) (half : Bool) (used : ℕ) (answer : Result Bool Reason) (reason : Reason) → n ≡ m
     → answer ≡ Err reason

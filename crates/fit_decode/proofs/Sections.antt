@@ -1,46 +1,24 @@
 -- What the bytes used of a piece leave in the fields: they are those behind the bytes fed, and what was told is what these tell.
-use Rattle.std.proofs.Common.{◌≡◌, cond, ◌⊎◌, inl, inr, ℕ, ◌-◌, ◌/◌, ◌%◌, ◌<◌, ◌≤◌, Bool, true, false, List, [], ◌∷◌, ◌++◌, length, take, slice_index, refl}
-use Rattle.std.proofs.Common.{sym, ap, ◌∙◌, subst, arith, append_assoc, length-append, None, Ok, Err}
+use Rattle.fit_decode.proofs.Common.{◌≡◌, cond, ◌⊎◌, inl, inr, ℕ, ◌-◌, ◌/◌, ◌%◌, ◌<◌, ◌≤◌, true, false, List, [], ◌∷◌, ◌++◌, length, take, slice_index, refl}
+use Rattle.fit_decode.proofs.Common.{sym, ap, ◌∙◌, subst, arith, append_assoc, length-append, None, Ok, Err, append-nil, IsBytes, little_bytes, IsBytes-append}
+use Rattle.fit_decode.proofs.Common.{IsBytes-take, checksum, FileHeader, header_bytes, IsFileHeader, RefusesByte, FitFile, Record, Environment}
+use Rattle.fit_decode.proofs.Common.{empty_environment, learn, learn_all, IsRecord, record_bytes, records_bytes, CanFill, chain_limit, IsViable}
+use Rattle.fit_decode.proofs.Common.{records_bytes-append, learn_all-append, Position, Stop, FillFrom, IsInProgress, begins_record, fill_nothing}
+use Rattle.fit_decode.proofs.Common.{idle_between_records, record_fills, records_in_progress, Answer, Section, Data, ClosingSum, at_header, at_data, HasCome}
+use Rattle.fit_decode.proofs.Common.{AreEvents, IsRefused, files_begun, ChainGoesOn, IsHeaderPart, half_sum, section_of, HeaderFed, DataFed, SumFed, Fields}
+use Rattle.fit_decode.proofs.Common.{InHeader, InData, InSum, Holds, HoldsAt, NextAnswer, goes_viable, fill_data, whole_header, quiet_of, begun_header}
+use Rattle.fit_decode.proofs.Common.{InRecords, data_starts, data_quiet, data_come, data_viable, left_behind, item_come, item_least, data_refuses, data_wants}
+use Rattle.fit_decode.proofs.Common.{data_takes}
+use Rattle.std.proofs.Common.{Bool}
 use Rattle.std.specs.Prelude.{Option, Result}
 use Rattle.std.proofs.lemmas.Bool.Decides.{eqb_tells}
-use Rattle.std.proofs.lemmas.List.{append-nil}
-use Rattle.fit_base.specs.Numbers.{IsBytes, little_bytes}
-use Rattle.fit_base.proofs.ByteLists.{IsBytes-append, IsBytes-take}
-use Rattle.fit_sum.specs.Checksum.{checksum}
-use Rattle.fit_frame.specs.declared.header.Header.{Header as FileHeader}
-use Rattle.fit_frame.specs.Header.{header_bytes}
-use Rattle.fit_frame.specs.Beginning.{IsFileHeader, RefusesByte, Seen}
-use Rattle.fit_record.specs.declared.file.FitFile.{FitFile}
-use Rattle.fit_record.specs.declared.message.Record.{Record}
-use Rattle.fit_record.specs.Environment.{Environment, empty_environment, learn, learn_all}
-use Rattle.fit_record.specs.Records.{IsRecord, record_bytes, records_bytes}
-use Rattle.fit_record.specs.Files.{CanFill, chain_limit, IsViable}
-use Rattle.fit_record.proofs.RecordLists.{records_bytes-append, learn_all-append}
-use Rattle.fit_step.specs.declared.position.Position.{Position}
-use Rattle.fit_step.specs.declared.stop.Stop.{Stop}
+use Rattle.fit_frame.specs.Beginning.{Seen}
 use Rattle.fit_step.specs.declared.stop.Stop.TheVariants.{Refused, NoMemory}
-use Rattle.fit_step.specs.InProgress.{FillFrom, IsInProgress}
-use Rattle.fit_step.proofs.RecordsInProgress.{begins_record, fill_nothing, idle_between_records, record_fills, records_in_progress}
-use Rattle.fit_decode.specs.declared.event.Event.{Event as Answer}
-use Rattle.fit_decode.specs.declared.event.Event.TheVariants as answers
-use Rattle.fit_decode.specs.declared.section.Section.{Section}
-use Rattle.fit_decode.specs.declared.section.Section.TheVariants.{Header, Data, ClosingSum}
-use Rattle.fit_decode.specs.Progress.{at_header, at_data, HasCome}
+use Rattle.fit_decode.specs.declared.section.Section.TheVariants.{Header}
 use Rattle.fit_frame.specs.declared.reason.Reason.TheVariants.{TooManyFiles}
-use Rattle.fit_decode.specs.Events.{AreEvents}
-use Rattle.fit_decode.specs.Refusals.{IsRefused}
-use Rattle.fit_decode.specs.GoingOn.{files_begun, ChainGoesOn}
-use Rattle.fit_decode.specs.inner.Scans.{IsHeaderPart, half_sum}
-use Rattle.fit_decode.specs.inner.Sections.{section_of, HeaderFed, DataFed, SumFed}
-use Rattle.fit_decode.specs.inner.Kept.{Fields, InHeader, InData, InSum, Holds, HoldsAt, NextAnswer}
-use Rattle.fit_decode.proofs.Completions.{goes_viable, fill_data}
-use Rattle.fit_decode.proofs.Next.{whole_header}
-use Rattle.fit_decode.proofs.Telling.{quiet_of}
-use Rattle.fit_decode.proofs.Whole.{begun_header}
-use Rattle.fit_decode.proofs.HeaderFed.{header_fronts, header_quiet, header_least, header_refuses, full_refuses}
-use Rattle.fit_decode.proofs.SumFed.{sum_fronts, sum_quiet, sum_viable, file_come, file_goes, file_viable, file_least, sum_refuses}
-use Rattle.fit_decode.proofs.DataFed.{data_starts, data_quiet, data_come, data_viable, left_behind, item_come, item_least}
-use Rattle.fit_decode.proofs.DataFed.{data_refuses, data_wants, data_takes}
+use Rattle.fit_chain.proofs.HeaderFed.{header_fronts, header_quiet, header_least, header_refuses, full_refuses}
+use Rattle.fit_chain.proofs.SumFed.{sum_fronts, sum_quiet, sum_viable, file_come, file_goes, file_viable, file_least, sum_refuses}
+use Rattle.fit_chain.specs.declared.event.Event.TheVariants as answers
 
 -- ---- where records begin
 
@@ -197,6 +175,18 @@ module _ {A : Type 0} (d : Fields A) (bytes piece : List ℕ) (k : InData d byte
   abbrev taken : ℕ
   taken = length (records_bytes empty_environment k.records)
 
+  abbrev here_in : InRecords A bytes
+  here_in = record {
+    files = k.files;
+    header = k.header;
+    size = k.size;
+    records = k.records;
+    part = k.part;
+    come = k.come;
+    few = k.few;
+    some = k.some;
+  }
+
   abbrev known : Environment A
   known = learn_all empty_environment k.records
 
@@ -223,7 +213,7 @@ module _ {A : Type 0} (d : Fields A) (bytes piece : List ℕ) (k : InData d byte
           size = k.size;
           records = k.records;
           part = k.part ++ take used piece;
-          come = data_come d bytes piece k are low used within none;
+          come = data_come bytes piece here_in are low used within none;
           few = k.few;
           counted = k.counted;
           whole = k.whole;
@@ -239,8 +229,8 @@ module _ {A : Type 0} (d : Fields A) (bytes piece : List ℕ) (k : InData d byte
         → length (k.part ++ take used piece) ≤ room → IsInProgress env (room - length (k.part ++ take used piece)) [] position in_progress
         → section ≡ section_of position.room → Holds now (bytes ++ take used piece)
     behind_record covered r within same is fits here at =
-        let come = item_come d bytes piece k are low used r within is fits in
-        let left = left_behind d bytes piece k are low used r within is fits in
+        let come = item_come bytes piece here_in are low used r within is fits in
+        let left = left_behind bytes piece here_in are low used r within is fits in
         let all : records_bytes empty_environment (k.records ++ r ∷ []) ≡ records_bytes empty_environment k.records ++ (k.part ++ take used piece) =
         records_bytes-append empty_environment k.records (r ∷ [])
         ∙ ap (λ l. records_bytes empty_environment k.records ++ l) (append-nil (record_bytes known r) ∙ sym is.1) in
@@ -268,8 +258,8 @@ module _ {A : Type 0} (d : Fields A) (bytes piece : List ℕ) (k : InData d byte
             let within : used ≤ length piece = omega (arith, all) in
             let goes = records_in_progress known room (k.part ++ take used piece) position in_progress here in
             record {
-              told = (all, data_quiet d bytes piece k are low used within goes.0);
-              viable = data_viable d bytes piece k are low used goes.1;
+              told = (all, data_quiet bytes piece here_in are low used within goes.0);
+              viable = data_viable bytes piece here_in are low used goes.1;
               holds = λ _. within_record covered within same here at;
             }
         told_of (Ok (answers.Item r)) (reads, covered, at) =
@@ -278,8 +268,8 @@ module _ {A : Type 0} (d : Fields A) (bytes piece : List ℕ) (k : InData d byte
             let goes : FillFrom (learn known r) left [] =
             subst (λ e. FillFrom e left []) same (records_in_progress env left [] position in_progress here).1 in
             record {
-              told = (some, within, item_least d bytes piece k are low used r within is fits);
-              viable = data_viable d bytes piece k are low used (record_fills known room r (k.part ++ take used piece) is fits goes);
+              told = (some, within, item_least bytes piece here_in are low used r within is fits);
+              viable = data_viable bytes piece here_in are low used (record_fills known room r (k.part ++ take used piece) is fits goes);
               holds = λ _. behind_record covered r within same is fits here at;
             }
         told_of (Ok (answers.Header h n)) fed = absurd fed
@@ -288,9 +278,9 @@ module _ {A : Type 0} (d : Fields A) (bytes piece : List ℕ) (k : InData d byte
             let (within, same, here, because, ends) = reads room k.part before in
             let upto : used ≤ length piece = omega (arith, within) in
             let goes = records_in_progress known room (k.part ++ take used piece) position in_progress here in
-            let why = data_refuses d bytes piece k are low used reason within goes.0 goes.1 because ends in
+            let why = data_refuses bytes piece here_in are low used reason within goes.0 goes.1 because ends in
             record {
-              told = (within, data_quiet d bytes piece k are low used upto goes.0, why);
+              told = (within, data_quiet bytes piece here_in are low used upto goes.0, why);
               viable = why.viable;
               holds = λ never. absurd never;
             }
@@ -301,11 +291,11 @@ module _ {A : Type 0} (d : Fields A) (bytes piece : List ℕ) (k : InData d byte
             record {
               told = (
                 within,
-                data_quiet d bytes piece k are low used upto goes.0,
-                data_wants d bytes piece k are low used within fill,
-                data_takes d bytes piece k are low used upto goes.0 heads,
+                data_quiet bytes piece here_in are low used upto goes.0,
+                data_wants bytes piece here_in are low used within fill,
+                data_takes bytes piece here_in are low used upto goes.0 heads,
               );
-              viable = data_viable d bytes piece k are low used goes.1;
+              viable = data_viable bytes piece here_in are low used goes.1;
               holds = λ _. within_record covered upto same here at;
             }
 

@@ -1,7 +1,6 @@
 -- A field of a struct takes no more memory than the struct.
-use Rattle.std.proofs.Common.{ℕ, zero, ◌+◌, ◌<◌, ◌≤◌, arith}
-use mir.Syntax.{Ty, ty_int, ty_bool, ty_float, ty_ptr, ty_ref, ty_array, ty_unit, ty_struct, ty_enum, Tys, tnil, tcons, ty_param, ty_const, ty_array_p}
-use mir.Syntax.{ty_named}
+use Rattle.fit_decode.proofs.Common.{ℕ, zero, ◌+◌, ◌<◌, ◌≤◌, arith, Ty, ty_int, ty_bool, ty_float, ty_ptr, ty_ref, ty_array, ty_unit, ty_struct, ty_enum, Tys}
+use Rattle.fit_decode.proofs.Common.{tnil, tcons, ty_param, ty_const, ty_array_p, ty_named}
 use prog.Memory.{align, size, pad, end_of}
 
 ends_behind : (τs : Tys) (e : ℕ) → e ≤ end_of e τs

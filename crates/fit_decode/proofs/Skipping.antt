@@ -1,39 +1,18 @@
 -- What the skipping of records makes of the fields and of the events.
-use Rattle.std.proofs.Common.{◌≡◌, cond, inl, inr, ℕ, ◌+◌, ◌-◌, ◌≤◌, Bool, true, false, List, [], ◌++◌, length, take, refl, sym, ap, ◌∙◌, subst, arith}
-use Rattle.std.proofs.Common.{append_assoc, length-append, Fits, w64, Some, None}
-use Rattle.std.specs.Prelude.{Option, is_some, map}
-use Rattle.std.proofs.lemmas.Bool.{ne_eqb}
-use Rattle.std.proofs.lemmas.List.{append-nil, length-take-le}
-use Rattle.fit_base.specs.Numbers.{IsBytes}
-use Rattle.fit_base.proofs.ByteLists.{IsBytes-append, IsBytes-take}
+use Rattle.fit_decode.proofs.Common.{◌≡◌, cond, inl, inr, ℕ, ◌+◌, ◌-◌, ◌≤◌, true, false, List, [], ◌++◌, length, take, refl, sym, ap, ◌∙◌, subst, arith}
+use Rattle.fit_decode.proofs.Common.{append_assoc, length-append, Fits, w64, Some, None, is_some, map, ne_eqb, append-nil, length-take-le, IsBytes}
+use Rattle.fit_decode.proofs.Common.{IsBytes-append, IsBytes-take, header_bytes, FitFile, Record, Environment, empty_environment, learn_all, chain_limit}
+use Rattle.fit_decode.proofs.Common.{IsViable, AllFit, records_bytes, all_fit-append, records_bytes-append, learn_all-append, Position, FillFrom, IsInProgress}
+use Rattle.fit_decode.proofs.Common.{records_in_progress, Reason, Inside, TellsRecords, IsSoundDecoder, fields_inside, short_bytes, InSection, ClosingSum}
+use Rattle.fit_decode.proofs.Common.{at_data, HasCome, Event, item, AreEvents, Fields, InData, Holds, HoldsAt, section_of, goes_viable, data_starts, more_of}
+use Rattle.fit_decode.proofs.Common.{items_told, all_told, partial_nothing}
+use Rattle.std.proofs.Common.{Bool}
+use Rattle.std.specs.Prelude.{Option}
 use Rattle.fit_frame.specs.declared.header.Header.{Header}
-use Rattle.fit_frame.specs.Header.{header_bytes}
-use Rattle.fit_record.specs.declared.file.FitFile.{FitFile}
-use Rattle.fit_record.specs.declared.message.Record.{Record}
-use Rattle.fit_record.specs.Environment.{Environment, empty_environment, learn_all}
-use Rattle.fit_record.specs.Files.{chain_limit, IsViable}
-use Rattle.fit_record.specs.Records.{AllFit, records_bytes}
-use Rattle.fit_record.proofs.RecordLists.{all_fit-append, records_bytes-append, learn_all-append}
-use Rattle.fit_step.specs.declared.position.Position.{Position}
-use Rattle.fit_step.specs.InProgress.{FillFrom, IsInProgress}
 use Rattle.fit_step.specs.Skipping.{AreSkipped}
-use Rattle.fit_step.proofs.RecordsInProgress.{records_in_progress}
-use Rattle.fit_frame.specs.declared.reason.Reason.{Reason}
-use Rattle.fit_decode.specs.declared.decoder.Decoder.TheInside.{Inside}
-use Rattle.fit_decode.specs.Answers.{Seen, TellsRecords}
-use Rattle.fit_decode.specs.inner.Invariant.{IsSoundDecoder, fields_inside}
-use Rattle.fit_decode.proofs.Bounds.{short_bytes}
-use Rattle.fit_decode.specs.declared.section.Section.TheVariants.{Data as InSection, ClosingSum}
-use Rattle.fit_decode.specs.Progress.{at_data, HasCome}
-use Rattle.fit_decode.specs.Events.{Event, item, AreEvents}
-use Rattle.fit_decode.specs.inner.Kept.{Fields, InData, Holds, HoldsAt}
-use Rattle.fit_decode.specs.inner.Sections.{section_of}
+use Rattle.fit_decode.specs.Answers.{Seen}
 use Rattle.fit_decode.specs.inner.Skips.{DataSkipped, Skipped}
-use Rattle.fit_decode.proofs.Completions.{goes_viable}
-use Rattle.fit_decode.proofs.DataFed.{data_starts}
-use Rattle.fit_decode.proofs.Next.{more_of, items_told, all_told}
 use Rattle.fit_decode.proofs.Sections.{begins_records}
-use Rattle.fit_decode.proofs.Whole.{partial_nothing}
 
 -- ---- records behind records
 

@@ -1,13 +1,4 @@
-pub mod Progress
-pub mod Events
-pub mod Memory
-pub mod Held
-pub mod GoingOn
-pub mod Refusals
-pub mod Needs
-pub mod Laws
 pub mod Answers
 pub mod Sources
 pub mod Reads
-pub mod Checks
 pub mod inner

@@ -7,10 +7,10 @@ use Rattle.std.specs.declared.alloc.Global.{Global}
 use Rattle.std.specs.Io.KnownBytes.{Consumes, Keeps, IsAtEnd}
 use Rattle.fit_record.specs.declared.file.FitFile.{FitFile}
 use Rattle.fit_record.specs.Files.{IsFile, IsChain, IsViable, chain_limit}
-use Rattle.fit_decode.specs.declared.event.Fault.{Fault}
-use Rattle.fit_decode.specs.declared.event.Fault.TheVariants.{Refused, Truncated, NoMemory, Read}
-use Rattle.fit_decode.specs.Answers.{AreChain}
-use Rattle.fit_decode.specs.Refusals.{IsRefused}
+use Rattle.fit_chain.specs.declared.event.Fault.{Fault}
+use Rattle.fit_chain.specs.declared.event.Fault.TheVariants.{Refused, Truncated, NoMemory, Read}
+use Rattle.fit_chain.specs.Checks.{AreChain}
+use Rattle.fit_chain.specs.Refusals.{IsRefused}
 
 -- A source or a sink over a call: the bytes that it has before and after it, where it tells them, and whether it has failed after it.
 pub record Channel : Type 0 where

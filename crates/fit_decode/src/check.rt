@@ -1,8 +1,7 @@
 //! Bytes that are all in memory: whether they are a chain of files, in one call.
 ghost use Rattle.std.specs.Prelude.{IfErr, IfOk};
 ghost use Rattle.std.specs.declared.alloc.Global.{Global};
-ghost use Rattle.fit_decode.specs.Answers.{AreChain};
-ghost use Rattle.fit_decode.specs.Checks.{AreFiles, IsFaultOf, LacksMemory, LacksMemoryAt};
+ghost use Rattle.fit_chain.specs.Checks.{AreChain, AreFiles, IsFaultOf, LacksMemory, LacksMemoryAt};
 
 use crate::{Decoder, Fault};
 use std::alloc::Global;

@@ -4,11 +4,13 @@ ghost use Rattle.fit_frame.specs.declared.reason.Reason.{Reason};
 ghost use Rattle.fit_record.specs.Files.{chain_limit, IsViable};
 ghost use Rattle.fit_record.specs.Environment.{empty_environment};
 ghost use Rattle.fit_record.specs.declared.file.FitFile.{FitFile};
-ghost use Rattle.fit_decode.specs.Events.{Event as Told, AreEvents};
-ghost use Rattle.fit_decode.specs.Held.{bound_limit, IsHeld};
-ghost use Rattle.fit_decode.specs.Progress.{HasCome, Progress};
-ghost use Rattle.fit_decode.specs.Needs.{Needs, NoFileEndsBefore};
-ghost use Rattle.fit_decode.specs.Answers.{event_of, fed, Quiet, Least, Refuses, Wants, AreChain, TellsRecords};
+ghost use Rattle.fit_chain.specs.Events.{Event as Told, AreEvents};
+ghost use Rattle.fit_chain.specs.Held.{bound_limit, IsHeld};
+ghost use Rattle.fit_chain.specs.Progress.{HasCome, Progress};
+ghost use Rattle.fit_chain.specs.Needs.{Needs, NoFileEndsBefore};
+ghost use Rattle.fit_decode.specs.Answers.{event_of, fed, Refuses, Wants};
+ghost use Rattle.fit_chain.specs.Pieces.{Quiet, Least, TellsRecords};
+ghost use Rattle.fit_chain.specs.Checks.{AreChain};
 
 #[cfg(test)]
 mod tests;

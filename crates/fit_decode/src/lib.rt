@@ -3,8 +3,6 @@
 
 mod check;
 mod decoder;
-mod event;
-pub mod laws;
 mod need;
 mod readers;
 mod scan;
@@ -13,6 +11,6 @@ mod source;
 
 pub use check::check_bytes;
 pub use decoder::Decoder;
-pub use event::{Event, Fault, Fed};
+pub use fit_chain::{Event, Fault, Fed, laws};
 pub use readers::{PIECE_SIZE, Reading, read_chain, read_one};
 pub use source::{CutSource, ReadSource, Source, SourceFailed};

@@ -1,22 +1,11 @@
 -- What a report answers where the input is the bytes of a chain.
-use Rattle.std.proofs.Common.{◌≡◌, ℕ, suc, ◌<◌, List, [], ◌∷◌, ◌++◌, length, take, drop, get_or, reverse, Option, Some, None, Result, Ok, Err, refl, sym, ap}
-use Rattle.std.proofs.Common.{◌∙◌, subst, append_assoc}
-use Rattle.std.specs.Prelude.{OnOk, flat_map}
-use Rattle.std.specs.Io.KnownBytes.{Appends, Consumes, IsAtEnd}
-use Rattle.std.proofs.lemmas.List.{append-nil, take-append-drop, reverse-reverse}
-use Rattle.std.proofs.Math.Seq.{drop-cons}
+use Rattle.fit_report.proofs.Common.{◌≡◌, ℕ, suc, ◌<◌, List, [], ◌∷◌, ◌++◌, length, take, drop, get_or, reverse, Option, Some, None, Result, Ok, Err, refl, sym}
+use Rattle.fit_report.proofs.Common.{ap, ◌∙◌, subst, append_assoc, OnOk, flat_map, Appends, Consumes, IsAtEnd, append-nil, take-append-drop, reverse-reverse}
+use Rattle.fit_report.proofs.Common.{drop-cons, FitFile, chain_bytes, chain_limit, IsChain, IsViable, Refused, Truncated, Read, NoRoom, Event, AreEvents}
+use Rattle.fit_report.proofs.Common.{file_events, at_header, ReportFault, Decode, NoMemory, Write, Lines, text_of, Channel, Reports, ReportsChain, HasTold}
 use Rattle.fit_base.specs.Numbers.{IsBytes}
-use Rattle.fit_record.specs.declared.file.FitFile.{FitFile}
-use Rattle.fit_record.specs.Files.{chain_bytes, chain_limit, IsChain, IsViable}
-use Rattle.fit_decode.specs.declared.event.Fault.TheVariants.{Refused, Truncated, Read, NoMemory as NoRoom}
-use Rattle.fit_decode.specs.Events.{Event, AreEvents, file_events}
-use Rattle.fit_decode.specs.Progress.{at_header}
-use Rattle.fit_decode.proofs.OneReason.{one_list_of_events}
-use Rattle.fit_decode.proofs.Whole.{unfinished}
-use Rattle.fit_report.specs.declared.fault.ReportFault.{ReportFault}
-use Rattle.fit_report.specs.declared.fault.ReportFault.TheVariants.{Decode, NoMemory, Write}
-use Rattle.fit_report.specs.Heard.{Lines, text_of}
-use Rattle.fit_report.specs.Reports.{Channel, Reports, ReportsChain, HasTold}
+use Rattle.fit_chain.proofs.OneReason.{one_list_of_events}
+use Rattle.fit_chain.proofs.Whole.{unfinished}
 
 -- the events of a chain
 pub chain_events : {A : Type 0} (limit : ℕ) (fs : List (FitFile A)) (bytes : List ℕ) → IsChain limit fs bytes → AreEvents bytes (flat_map file_events fs)

@@ -1,12 +1,8 @@
 -- What is heard when a decoder is fed.
-use Rattle.std.proofs.Common.{◌≡◌, ℕ, ◌<◌, List, [], ◌∷◌, ◌++◌, length, take, reverse, Some, None, refl, sym, subst, arith}
-use Rattle.std.proofs.lemmas.List.{reverse-append}
-use Rattle.fit_decode.specs.declared.event.Event.{Event as Answer}
-use Rattle.fit_decode.specs.declared.event.Event.TheVariants as answers
-use Rattle.fit_decode.specs.Answers.{event_of, Quiet, Least}
-use Rattle.fit_decode.specs.Events.{Event, header, item, file_end, AreEvents}
-use Rattle.fit_decode.proofs.Telling.{least_for, quiet_for}
-use Rattle.fit_report.specs.Heard.{hear}
+use Rattle.fit_report.proofs.Common.{◌≡◌, ℕ, ◌<◌, List, [], ◌∷◌, ◌++◌, length, take, reverse, Some, None, refl, sym, subst, arith, reverse-append, Answer}
+use Rattle.fit_report.proofs.Common.{event_of, Event, header, item, file_end, AreEvents, least_for, quiet_for, hear}
+use Rattle.fit_chain.specs.Pieces.{Quiet, Least}
+use Rattle.fit_chain.specs.declared.event.Event.TheVariants as answers
 
 reverse-cons : {X : Type 0} (x : X) (xs : List X) → reverse (x ∷ xs) ≡ reverse xs ++ x ∷ []
 reverse-cons x xs = reverse-append (x ∷ []) xs

@@ -1,26 +1,13 @@
 -- How a report begins and ends.
-use Rattle.std.proofs.Common.{◌≡◌, ℕ, ◌+◌, ◌≤◌, List, [], ◌++◌, length, take, get_or, reverse, Option, None, false, Result, Ok, Err, IsOk, IsErr, ◌↔◌, refl}
-use Rattle.std.proofs.Common.{sym, ap, ◌∙◌, subst, arith, length-append}
-use Rattle.std.specs.Io.KnownBytes.{Consumes, IsAtEnd}
-use Rattle.std.proofs.lemmas.List.{append-nil, get_or-append-add}
-use Rattle.std.proofs.Math.Seq.{take-append-add}
-use Rattle.fit_record.specs.Files.{chain_limit, IsViable}
-use Rattle.fit_decode.specs.declared.event.Fault.TheVariants.{Refused, Truncated, Read, NoMemory as NoRoom}
-use Rattle.fit_decode.specs.declared.event.Fault.{Fault}
-use Rattle.fit_decode.specs.Answers.{Seen, AreChain}
-use Rattle.fit_decode.specs.Events.{Event, AreEvents}
-use Rattle.fit_decode.specs.Progress.{at_header}
+use Rattle.fit_report.proofs.Common.{◌≡◌, ℕ, ◌+◌, ◌≤◌, List, [], ◌++◌, length, take, get_or, reverse, Option, None, false, Result, Ok, Err, IsOk, IsErr, ◌↔◌}
+use Rattle.fit_report.proofs.Common.{refl, sym, ap, ◌∙◌, subst, arith, length-append, Consumes, IsAtEnd, append-nil, get_or-append-add, take-append-add}
+use Rattle.fit_report.proofs.Common.{chain_limit, IsViable, Refused, Truncated, Read, NoRoom, Fault, Seen, Event, AreEvents, at_header, IsRefused, no_file_yet}
+use Rattle.fit_report.proofs.Common.{ReportFault, Decode, NoMemory, Write, Lines, HasReported, PieceTold, Channel, Tells, HasTold, report_fault}
+use Rattle.fit_report.proofs.Common.{Consumes-append}
+use Rattle.fit_chain.specs.Checks.{AreChain}
 use Rattle.fit_decode.specs.Reads.{piece_size}
-use Rattle.fit_decode.specs.Refusals.{IsRefused}
-use Rattle.fit_decode.proofs.FileRead.{no_file_yet}
 use Rattle.fit_decode.proofs.Nearly.{nearly}
-use Rattle.fit_report.specs.declared.fault.ReportFault.{ReportFault}
-use Rattle.fit_report.specs.declared.fault.ReportFault.TheVariants.{Decode, NoMemory, Write}
-use Rattle.fit_report.specs.Heard.{Lines}
-use Rattle.fit_report.specs.inner.Passing.{HasReported, PieceTold}
-use Rattle.fit_report.specs.Reports.{Channel, Tells, HasTold, report_fault}
 use Rattle.fit_report.proofs.Texts.{Appends-nothing}
-use Rattle.fit_decode.proofs.Consumed.{Consumes-append}
 
 -- ---- no bytes
 

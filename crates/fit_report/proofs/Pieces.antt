@@ -1,22 +1,10 @@
 -- What the telling of a piece did.
-use Rattle.std.proofs.Common.{◌≡◌, Bool, ℕ, ◌+◌, ◌≤◌, List, ◌++◌, length, take, drop, get_or, reverse, Option, Ok, Err, refl, sym, ap, ◌∙◌, subst, arith}
-use Rattle.std.proofs.Common.{length-append}
-use Rattle.std.proofs.lemmas.List.{length-drop, length-take, get_or-drop}
+use Rattle.fit_report.proofs.Common.{◌≡◌, Bool, ℕ, ◌+◌, ◌≤◌, List, ◌++◌, length, take, drop, get_or, reverse, Option, Ok, Err, refl, sym, ap, ◌∙◌, subst, arith}
+use Rattle.fit_report.proofs.Common.{length-append, length-drop, length-take, get_or-drop, chain_limit, IsViable, Answer, Fault, Seen, fed, Refuses, Event}
+use Rattle.fit_report.proofs.Common.{AreEvents, IsRefused, ReportFault, Decode, NoMemory, Write, Lines, hear, Channel, HasHeard, Tells, report_fault}
+use Rattle.fit_report.proofs.Common.{HasReported, Passed, PieceTold, fed_on, quiet_for}
 use Rattle.fit_frame.specs.declared.reason.Reason.{Reason}
-use Rattle.fit_record.specs.Files.{chain_limit, IsViable}
-use Rattle.fit_decode.specs.declared.event.Event.{Event as Answer}
-use Rattle.fit_decode.specs.declared.event.Fault.{Fault}
-use Rattle.fit_decode.specs.declared.event.Fault.TheVariants as faults
-use Rattle.fit_decode.specs.Answers.{Seen, fed, Refuses}
-use Rattle.fit_decode.specs.Events.{Event, AreEvents}
-use Rattle.fit_decode.specs.Refusals.{IsRefused}
-use Rattle.fit_report.specs.declared.fault.ReportFault.{ReportFault}
-use Rattle.fit_report.specs.declared.fault.ReportFault.TheVariants.{Decode, NoMemory, Write}
-use Rattle.fit_report.specs.Heard.{Lines, hear}
-use Rattle.fit_report.specs.Reports.{Channel, HasHeard, Tells, report_fault}
-use Rattle.fit_report.specs.inner.Passing.{HasReported, Passed, PieceTold}
-use Rattle.fit_decode.proofs.PieceTold.{fed_on}
-use Rattle.fit_decode.proofs.Telling.{quiet_for}
+use Rattle.fit_chain.specs.declared.event.Fault.TheVariants as faults
 use Rattle.fit_report.proofs.Hearing.{Told, hears}
 use Rattle.fit_report.proofs.Texts.{stands_on, fails_on, tells}
 

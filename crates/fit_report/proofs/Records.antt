@@ -1,20 +1,13 @@
 -- The records that are heard, and the count of events.
-use Rattle.std.proofs.Common.{◌≡◌, ℕ, ◌+◌, ◌<◌, ◌≤◌, List, [], ◌∷◌, ◌++◌, length, map, reverse, refl, sym, ap, ◌∙◌, subst, arith, append_assoc, length-append}
-use Rattle.std.proofs.Common.{◌⊎◌, inl, inr}
-use Rattle.std.specs.Prelude.{flat_map}
-use Rattle.std.proofs.lemmas.List.{append-nil, length-reverse, map-append, reverse-append, reverse-reverse}
+use Rattle.fit_report.proofs.Common.{◌≡◌, ℕ, ◌+◌, ◌<◌, ◌≤◌, List, [], ◌∷◌, ◌++◌, length, map, reverse, refl, sym, ap, ◌∙◌, subst, arith, append_assoc}
+use Rattle.fit_report.proofs.Common.{length-append, ◌⊎◌, inl, inr, flat_map, append-nil, length-reverse, map-append, reverse-append, reverse-reverse, FitFile}
+use Rattle.fit_report.proofs.Common.{Record, body, summed, file_bytes, chain_bytes, Event, header, item, file_end, file_events, progress_events, AreEvents}
+use Rattle.fit_report.proofs.Common.{Progress, at_header, at_data, progress_bytes, IsUnfinished, short_bytes, latest_records}
 use Rattle.fit_frame.specs.declared.header.Header.{Header}
 use Rattle.fit_frame.specs.Header.{header_bytes}
-use Rattle.fit_record.specs.declared.file.FitFile.{FitFile}
-use Rattle.fit_record.specs.declared.message.Record.{Record}
 use Rattle.fit_record.specs.declared.message.Record.TheVariants.{Define, Values}
 use Rattle.fit_record.specs.Environment.{Environment, empty_environment, learn, learn_all}
 use Rattle.fit_record.specs.Records.{AllFit, Fits, record_bytes, records_bytes}
-use Rattle.fit_record.specs.Files.{body, summed, file_bytes, chain_bytes}
-use Rattle.fit_decode.specs.Events.{Event, header, item, file_end, file_events, progress_events, AreEvents}
-use Rattle.fit_decode.specs.Progress.{Progress, at_header, at_data, progress_bytes, IsUnfinished}
-use Rattle.fit_decode.proofs.Bounds.{short_bytes}
-use Rattle.fit_report.specs.Heard.{latest_records}
 use Rattle.fit_report.specs.Laws.{HeardAreFew, HeardRecordsFit}
 
 -- ---- the count

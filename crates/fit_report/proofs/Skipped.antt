@@ -1,13 +1,7 @@
 -- What skipping leaves, in a piece that isn't over.
-use Rattle.std.proofs.Common.{◌≡◌, ℕ, ◌+◌, ◌-◌, ◌^◌, ◌≤◌, min, List, [], ◌++◌, length, drop, map, reverse, Option, None, sym, ap, ◌∙◌, subst, arith}
-use Rattle.std.specs.Io.KnownBytes.{Appends}
-use Rattle.std.proofs.lemmas.List.{append-nil, length-drop, reverse-append, reverse-reverse}
-use Rattle.fit_record.specs.declared.message.Record.{Record}
-use Rattle.fit_decode.specs.Answers.{Seen, fed}
-use Rattle.fit_decode.specs.Events.{Event, AreEvents, item}
-use Rattle.fit_decode.proofs.PieceTold.{fed_on}
-use Rattle.fit_report.specs.Heard.{Lines, Skips, hear_records}
-use Rattle.fit_report.specs.inner.Passing.{HasReported}
+use Rattle.fit_report.proofs.Common.{◌≡◌, ℕ, ◌+◌, ◌-◌, ◌^◌, ◌≤◌, min, List, [], ◌++◌, length, drop, map, reverse, Option, None, sym, ap, ◌∙◌, subst, arith}
+use Rattle.fit_report.proofs.Common.{Appends, append-nil, length-drop, reverse-append, reverse-reverse, Record, Seen, fed, Event, AreEvents, item, fed_on}
+use Rattle.fit_report.proofs.Common.{Lines, Skips, hear_records, HasReported}
 
 pub records_heard : {A : Type 0} (bytes : List ℕ) (records : List (Record A)) (heard : List (Event A)) → AreEvents bytes (reverse heard ++ map item records)
     → AreEvents bytes (reverse (hear_records records heard))

@@ -1,15 +1,8 @@
 -- The text of what was heard, in a sink.
-use Rattle.std.proofs.Common.{◌≡◌, ℕ, ◌+◌, ◌-◌, ◌^◌, ◌<◌, min, true, List, [], ◌++◌, length, take, reverse, Option, Some, None, refl, sym, ap, ◌∙◌, subst}
-use Rattle.std.proofs.Common.{arith, append_assoc, length-append}
-use Rattle.std.specs.Io.KnownBytes.{Appends, Keeps}
-use Rattle.std.proofs.lemmas.List.{append-nil}
-use Rattle.std.proofs.Math.Seq.{take-append-add}
-use Rattle.fit_decode.specs.declared.event.Event.{Event as Answer}
-use Rattle.fit_decode.specs.declared.event.Event.TheVariants as answers
-use Rattle.fit_decode.specs.Events.{Event, AreEvents}
-use Rattle.fit_report.specs.Heard.{Lines, hear, line_of, text_of}
-use Rattle.fit_report.specs.Reports.{Tells, TextFailsIn}
-use Rattle.fit_report.specs.inner.Passing.{HasReported}
+use Rattle.fit_report.proofs.Common.{◌≡◌, ℕ, ◌+◌, ◌-◌, ◌^◌, ◌<◌, min, true, List, [], ◌++◌, length, take, reverse, Option, Some, None, refl, sym, ap, ◌∙◌}
+use Rattle.fit_report.proofs.Common.{subst, arith, append_assoc, length-append, Appends, Keeps, append-nil, take-append-add, Answer, Event, AreEvents, Lines}
+use Rattle.fit_report.proofs.Common.{hear, line_of, text_of, Tells, TextFailsIn, HasReported}
+use Rattle.fit_chain.specs.declared.event.Event.TheVariants as answers
 
 pub Appends-append : (a b c : Option (List ℕ)) (p q : List ℕ) → Appends a b p → Appends b c q → Appends a c (p ++ q)
 Appends-append None b c p q h k = tt

@@ -4,9 +4,9 @@ use Rattle.std.specs.Option.{option_map_or}
 use Rattle.fit_frame.specs.declared.reason.Reason.{Reason}
 use Rattle.fit_record.specs.declared.message.Record.{Record}
 use Rattle.fit_record.specs.Files.{chain_limit, IsViable}
-use Rattle.fit_decode.specs.declared.event.Event.{Event as Answer}
+use Rattle.fit_chain.specs.declared.event.Event.{Event as Answer}
 use Rattle.fit_decode.specs.Answers.{Seen, fed, event_of}
-use Rattle.fit_decode.specs.Events.{Event, header, item, file_end, AreEvents}
+use Rattle.fit_chain.specs.Events.{Event, header, item, file_end, AreEvents}
 
 -- what is heard behind an answer of a decoder
 abbrev pub hear : {A : Type 0} → Answer A → List (Event A) → List (Event A)

@@ -3,7 +3,7 @@ use Rattle.std.specs.Prelude.{◌<◌, List, ◌∷◌, length, reverse}
 use Rattle.fit_record.specs.declared.message.Record.{Record}
 use Rattle.fit_record.specs.Environment.{empty_environment, learn_all}
 use Rattle.fit_record.specs.Records.{Fits}
-use Rattle.fit_decode.specs.Events.{Event, item}
+use Rattle.fit_chain.specs.Events.{Event, item}
 use Rattle.fit_report.specs.Heard.{AreHeard, latest_records}
 
 -- A record can stand behind the records of its file.

@@ -3,10 +3,10 @@ use Rattle.std.specs.Prelude.{◌≡◌, ℕ, ◌-◌, ◌^◌, ◌<◌, min, Bo
 use Rattle.std.specs.Io.KnownBytes.{Appends, Consumes, IsAtEnd}
 use Rattle.fit_record.specs.declared.file.FitFile.{FitFile}
 use Rattle.fit_record.specs.Files.{chain_limit}
-use Rattle.fit_decode.specs.declared.event.Fault.{Fault}
-use Rattle.fit_decode.specs.declared.event.Fault.TheVariants.{Refused, NoMemory, Read}
-use Rattle.fit_decode.specs.Answers.{AreChain}
-use Rattle.fit_decode.specs.Events.{Event, AreEvents, file_events}
+use Rattle.fit_chain.specs.declared.event.Fault.{Fault}
+use Rattle.fit_chain.specs.declared.event.Fault.TheVariants.{Refused, NoMemory, Read}
+use Rattle.fit_chain.specs.Checks.{AreChain}
+use Rattle.fit_chain.specs.Events.{Event, AreEvents, file_events}
 pub use Rattle.fit_decode.specs.Reads.{Channel, channel}
 use Rattle.fit_decode.specs.Reads.{EndsReading, IsNearlyViable}
 use Rattle.fit_report.specs.declared.fault.ReportFault.{ReportFault}

@@ -2,7 +2,7 @@
 ghost use Rattle.std.specs.Prelude.{◌≡◌, ◌++◌, [], ℕ, List, OnOk, reverse};
 ghost use Rattle.std.specs.Global.{Global};
 ghost use Rattle.fit_record.specs.Files.{chain_limit, IsViable};
-ghost use Rattle.fit_decode.specs.Events.{Event as Told, AreEvents};
+ghost use Rattle.fit_chain.specs.Events.{Event as Told, AreEvents};
 ghost use Rattle.fit_report.specs.Heard.{AreHeard, hear, line_of, Skips};
 
 use fit_decode::{Decoder, Event};
@@ -54,7 +54,7 @@ pub struct Heard {
 impl Model for Heard {
     ghost use Rattle.std.specs.Prelude.{List, reverse};
     ghost use Rattle.std.specs.Global.{Global};
-    ghost use Rattle.fit_decode.specs.Events.{Event as Told};
+    ghost use Rattle.fit_chain.specs.Events.{Event as Told};
     ghost use Rattle.fit_report.specs.Heard.{heard_of};
 
     ghost Value = { List (Told Global) };

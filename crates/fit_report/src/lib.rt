@@ -5,8 +5,6 @@ mod fault;
 mod heard;
 pub mod laws;
 mod reporting;
-#[cfg(test)]
-mod tests;
 
 pub use fault::ReportFault;
 pub use heard::{Heard, Report};

@@ -4,7 +4,7 @@ ghost use Rattle.std.specs.Global.{Global};
 ghost use Rattle.fit_base.specs.Numbers.{IsBytes};
 ghost use Rattle.fit_record.specs.declared.file.FitFile.{FitFile};
 ghost use Rattle.fit_record.specs.Files.{chain_limit, IsChain, IsViable};
-ghost use Rattle.fit_decode.specs.Events.{Event as Told, AreEvents, file_events};
+ghost use Rattle.fit_chain.specs.Events.{Event as Told, AreEvents, file_events};
 ghost use Rattle.fit_report.specs.Heard.{AreHeard, hear};
 ghost use Rattle.fit_report.specs.Reports.{HasHeard, Reports, ReportsChain, channel};
 ghost use Rattle.fit_report.specs.inner.Passing.{Passed, PieceTold, HasReported};

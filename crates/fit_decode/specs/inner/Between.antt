@@ -2,10 +2,11 @@
 use Rattle.std.specs.Prelude.{◌≡◌, ◌↔◌, ℕ, Bool, true, false, List, [], length, Option, None}
 use Rattle.fit_record.specs.declared.file.FitFile.{FitFile}
 use Rattle.fit_record.specs.Files.{chain_limit, IsViable}
-use Rattle.fit_decode.specs.declared.event.Fault.{Fault}
-use Rattle.fit_decode.specs.declared.event.Fault.TheVariants.{Truncated}
-use Rattle.fit_decode.specs.Answers.{Seen, AreChain}
-use Rattle.fit_decode.specs.Progress.{at_header, HasCome}
+use Rattle.fit_chain.specs.declared.event.Fault.{Fault}
+use Rattle.fit_chain.specs.declared.event.Fault.TheVariants.{Truncated}
+use Rattle.fit_decode.specs.Answers.{Seen}
+use Rattle.fit_chain.specs.Checks.{AreChain}
+use Rattle.fit_chain.specs.Progress.{at_header, HasCome}
 use Rattle.fit_decode.specs.inner.Turns.{unrefused}
 
 -- The decoder was fed the bytes taken, which are those of these files.

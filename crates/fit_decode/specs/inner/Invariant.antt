@@ -6,7 +6,7 @@ use Rattle.fit_record.specs.Environment.{empty_environment}
 use Rattle.fit_record.specs.Files.{chain_limit, IsViable}
 use Rattle.fit_step.specs.declared.stop.Stop.{Stop}
 use Rattle.fit_step.specs.declared.stop.Stop.TheVariants.{Refused}
-use Rattle.fit_decode.specs.declared.event.Event.{Event as Answer}
+use Rattle.fit_chain.specs.declared.event.Event.{Event as Answer}
 use Rattle.fit_decode.specs.declared.decoder.Decoder.TheInside.{Inside}
 use Rattle.fit_decode.specs.Answers.{Seen, fed}
 use Rattle.fit_decode.specs.inner.Kept.{Fields, Holds, Advanced}

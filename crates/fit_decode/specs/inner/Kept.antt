@@ -17,15 +17,15 @@ use Rattle.fit_step.specs.InProgress.{IsInProgress}
 use Rattle.fit_step.specs.declared.position.Position.{Position}
 use Rattle.fit_decode.specs.declared.section.Section.{Section}
 use Rattle.fit_decode.specs.declared.section.Section.TheVariants.{Header, Data, ClosingSum}
-use Rattle.fit_decode.specs.declared.event.Event.{Event as Answer}
-use Rattle.fit_decode.specs.declared.event.Event.TheVariants as answers
-use Rattle.fit_decode.specs.Progress.{at_header, at_data, HasCome}
-use Rattle.fit_decode.specs.Events.{header, item, file_end}
-use Rattle.fit_decode.specs.GoingOn.{ChainGoesOn}
-use Rattle.fit_decode.specs.Memory.{MayTakeMemory}
-use Rattle.fit_decode.specs.Refusals.{IsRefused}
-use Rattle.fit_decode.specs.Answers.{Quiet, Least}
-use Rattle.fit_decode.specs.Needs.{missing}
+use Rattle.fit_chain.specs.declared.event.Event.{Event as Answer}
+use Rattle.fit_chain.specs.declared.event.Event.TheVariants as answers
+use Rattle.fit_chain.specs.Progress.{at_header, at_data, HasCome}
+use Rattle.fit_chain.specs.Events.{header, item, file_end}
+use Rattle.fit_chain.specs.GoingOn.{ChainGoesOn}
+use Rattle.fit_chain.specs.Memory.{MayTakeMemory}
+use Rattle.fit_chain.specs.Refusals.{IsRefused}
+use Rattle.fit_chain.specs.Pieces.{Quiet, Least}
+use Rattle.fit_chain.specs.Needs.{missing}
 use Rattle.fit_decode.specs.inner.Scans.{half_sum}
 
 -- A decoder's fields, but for the count of the bytes and the refusal: how many files have ended, the section that the next

@@ -12,8 +12,8 @@ use Rattle.fit_step.specs.declared.stop.Stop.{Stop}
 use Rattle.fit_step.specs.declared.stop.Stop.TheVariants.{Refused}
 use Rattle.fit_step.specs.InProgress.{Reads}
 use Rattle.fit_step.specs.Places.{Begins}
-use Rattle.fit_decode.specs.declared.event.Event.{Event as Answer}
-use Rattle.fit_decode.specs.declared.event.Event.TheVariants as answers
+use Rattle.fit_chain.specs.declared.event.Event.{Event as Answer}
+use Rattle.fit_chain.specs.declared.event.Event.TheVariants as answers
 use Rattle.fit_decode.specs.declared.section.Section.{Section}
 use Rattle.fit_decode.specs.declared.section.Section.TheVariants.{Header, Data, ClosingSum}
 use Rattle.fit_decode.specs.inner.Scans.{IsHeaderPart, HeaderScanned, SumScanned}

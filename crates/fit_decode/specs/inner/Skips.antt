@@ -7,8 +7,8 @@ use Rattle.fit_step.specs.declared.position.Position.{Position}
 use Rattle.fit_step.specs.Skipping.{SkipsInSection}
 use Rattle.fit_decode.specs.declared.section.Section.{Section}
 use Rattle.fit_decode.specs.declared.section.Section.TheVariants.{Data}
-use Rattle.fit_decode.specs.Answers.{TellsRecords}
-use Rattle.fit_decode.specs.Events.{Event, AreEvents}
+use Rattle.fit_chain.specs.Pieces.{TellsRecords}
+use Rattle.fit_chain.specs.Events.{Event, AreEvents}
 use Rattle.fit_decode.specs.inner.Kept.{Fields, Holds}
 
 -- Some records of a data section were skipped.

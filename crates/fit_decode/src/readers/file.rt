@@ -3,8 +3,9 @@ ghost use Rattle.std.specs.Prelude.{◌≡◌, ◌+◌, List, [], length, None};
 ghost use Rattle.fit_record.specs.declared.file.FitFile.{FitFile};
 ghost use Rattle.fit_record.specs.Files.{chain_limit, IsViable};
 ghost use Rattle.fit_decode.specs.inner.Between.{IsEnd};
-ghost use Rattle.fit_decode.specs.Progress.{at_header, HasCome};
-ghost use Rattle.fit_decode.specs.inner.Turns.{FileRead, ComesToRecords, Turned};
+ghost use Rattle.fit_chain.specs.Progress.{at_header, HasCome};
+ghost use Rattle.fit_decode.specs.inner.Turns.{FileRead, Turned};
+ghost use Rattle.fit_chain.specs.Comes.{ComesToRecords};
 
 use crate::readers::piece::{PIECE_SIZE, take_piece, take_some};
 use crate::{Decoder, Fault, Source};

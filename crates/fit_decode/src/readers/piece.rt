@@ -3,7 +3,8 @@ ghost use Rattle.std.specs.Prelude.{◌≡◌, ◌+◌, ◌<◌, ◌≤◌, IfOk
 ghost use Rattle.std.specs.Io.KnownBytes.{Consumes, Keeps, IsAtEnd};
 ghost use Rattle.fit_record.specs.declared.file.FitFile.{FitFile};
 ghost use Rattle.fit_record.specs.Files.{chain_limit, IsViable};
-ghost use Rattle.fit_decode.specs.inner.Turns.{PieceFed, ComesToRecords};
+ghost use Rattle.fit_decode.specs.inner.Turns.{PieceFed};
+ghost use Rattle.fit_chain.specs.Comes.{ComesToRecords};
 
 use crate::{Decoder, Event, Fault, Source, SourceFailed};
 use fit_base::Entries;

@@ -1,6 +1,6 @@
 //! Reads the files of a chain from a source, one after another.
 ghost use Rattle.std.specs.Prelude.{◌≡◌, ℕ, [], ◌∷◌, List, ◌++◌, length, None, Some, Err};
-ghost use Rattle.fit_decode.specs.declared.event.Fault.{Fault};
+ghost use Rattle.fit_chain.specs.declared.event.Fault.{Fault};
 ghost use Rattle.fit_base.specs.Numbers.{IsBytes};
 ghost use Rattle.fit_record.specs.declared.file.FitFile.{FitFile};
 ghost use Rattle.fit_record.specs.Files.{chain_limit, IsChain, IsFile};

@@ -2,11 +2,11 @@
 use Rattle.std.specs.Prelude.{◌≡◌, ℕ, ◌+◌, ◌-◌, ◌^◌, ◌<◌, min, true, List, ◌++◌, Option, None, Result, Ok, Err, take, length, reverse, slice_index}
 use Rattle.std.specs.Io.KnownBytes.{Appends, Keeps}
 use Rattle.fit_record.specs.Files.{chain_limit}
-use Rattle.fit_decode.specs.declared.event.Event.{Event as Answer}
-use Rattle.fit_decode.specs.declared.event.Fault.TheVariants.{Refused}
+use Rattle.fit_chain.specs.declared.event.Event.{Event as Answer}
+use Rattle.fit_chain.specs.declared.event.Fault.TheVariants.{Refused}
 use Rattle.fit_decode.specs.Answers.{Seen}
-use Rattle.fit_decode.specs.Events.{Event, AreEvents}
-use Rattle.fit_decode.specs.Refusals.{IsRefused}
+use Rattle.fit_chain.specs.Events.{Event, AreEvents}
+use Rattle.fit_chain.specs.Refusals.{IsRefused}
 use Rattle.fit_report.specs.declared.fault.ReportFault.{ReportFault}
 use Rattle.fit_report.specs.declared.fault.ReportFault.TheVariants.{Decode, NoMemory, Write}
 use Rattle.fit_report.specs.Heard.{Lines, line_of, text_of}

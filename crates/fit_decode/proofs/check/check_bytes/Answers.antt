@@ -1,12 +1,9 @@
 -- What was passed over and fed is a front of the bytes, and at the end all of them.
-use Rattle.std.proofs.Common.{◌^◌, ◌<◌, length, rules, subst, sym, ◌∙◌, IfErr, OnOk}
-use Rattle.std.specs.declared.alloc.Global.{Global}
-use Rattle.std.proofs.lemmas.Bool.{eqb-true}
+use Rattle.fit_decode.proofs.Common.{◌^◌, ◌<◌, length, rules, subst, sym, ◌∙◌, Global, eqb-true, slice_is_bytes, AreChain, IsFaultOf, LacksMemoryAt, chain_end}
+use Rattle.fit_decode.proofs.Common.{fault_of_chain}
+use Rattle.std.proofs.Common.{IfErr, OnOk}
 use Rattle.std.proofs.lemmas.Result.{err_from_is_err_and}
-use Rattle.fit_base.proofs.ByteLists.{slice_is_bytes}
-use Rattle.fit_decode.specs.Answers.{AreChain}
-use Rattle.fit_decode.specs.Checks.{IsFaultOf, LacksMemoryAt}
-use Rattle.fit_decode.proofs.Checking.{bad_end, chain_end, counted_end, fault_of_chain, good_end, passed_over, stopped, stopped_at, stops}
+use Rattle.fit_decode.proofs.Checking.{bad_end, counted_end, good_end, passed_over, stopped, stopped_at, stops}
 use Rattle.fit_decode.proofs.check.check_bytes.Goals as goal
 
 pub returns-in-Err-clause-fault : goal.returns-in-Err-clause-fault

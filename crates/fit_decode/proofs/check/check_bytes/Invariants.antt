@@ -1,4 +1,4 @@
-use Rattle.std.proofs.Common.{length}
+use Rattle.fit_decode.proofs.Common.{length}
 use Rattle.fit_decode.proofs.Checking.{Feeds}
 use Rattle.fit_decode.proofs.check.check_bytes.Given as goal
 

@@ -1,5 +1,4 @@
-use Rattle.std.proofs.Common.{zero, ◌<◌, arith}
-use Rattle.fit_base.proofs.ByteLists.{slice_is_bytes}
+use Rattle.fit_decode.proofs.Common.{zero, ◌<◌, arith, slice_is_bytes}
 use Rattle.fit_decode.proofs.Needed.{four_bytes_below}
 use Rattle.fit_decode.proofs.need.bytes_to_come.Goals as goal
 

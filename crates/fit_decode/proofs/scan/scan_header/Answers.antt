@@ -1,4 +1,4 @@
-use Rattle.std.proofs.Common.{ap, ◌∙◌, Ok}
+use Rattle.fit_decode.proofs.Common.{ap, ◌∙◌, Ok}
 use Rattle.fit_decode.proofs.Pieces.{header_scanned}
 use Rattle.fit_decode.proofs.scan.scan_header.Goals as goal
 

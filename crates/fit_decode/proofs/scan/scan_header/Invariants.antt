@@ -1,5 +1,4 @@
-use Rattle.std.proofs.Common.{◌≡◌, ◌++◌, take, None}
-use Rattle.fit_decode.specs.inner.Scans.{IsHeaderPart}
+use Rattle.fit_decode.proofs.Common.{◌≡◌, ◌++◌, take, None, IsHeaderPart}
 use Rattle.fit_decode.proofs.scan.scan_header.Given as goal
 
 abbrev pub invariant-loop-i : goal.invariant-loop-i

@@ -1,5 +1,4 @@
-use Rattle.std.proofs.Common.{◌++◌, Ok, ap, ◌∙◌, subst}
-use Rattle.fit_step.specs.InProgress.{Reads}
+use Rattle.fit_decode.proofs.Common.{◌++◌, Ok, ap, ◌∙◌, subst, Reads}
 use Rattle.fit_decode.proofs.section.feed_data.Goals as goal
 
 pub returns-in-Ok-None : goal.returns-in-Ok-None

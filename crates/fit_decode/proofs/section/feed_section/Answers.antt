@@ -1,5 +1,4 @@
-use Rattle.std.proofs.Common.{rules}
-use Rattle.fit_base.proofs.ByteLists.{slice_is_bytes}
+use Rattle.fit_decode.proofs.Common.{rules, slice_is_bytes}
 use Rattle.fit_decode.proofs.Advancing.{header_open, header_advances, data_reading, data_advances, sum_advances}
 use Rattle.fit_decode.proofs.section.feed_section.Goals as goal
 

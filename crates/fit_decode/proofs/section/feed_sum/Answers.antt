@@ -1,5 +1,4 @@
-use Rattle.std.proofs.Common.{refl}
-use Rattle.fit_sum.specs.Checksum.{checksum}
+use Rattle.fit_decode.proofs.Common.{refl, checksum}
 use Rattle.fit_decode.proofs.Scanned.{sum_answered}
 use Rattle.fit_decode.proofs.section.feed_sum.Goals as goal
 

@@ -1,5 +1,5 @@
 -- Of what was told, where the input is a chain's bytes.
-use Rattle.fit_report.specs.Reports.{channel}
+use Rattle.fit_report.proofs.Common.{channel}
 use Rattle.fit_report.proofs.Chains.{hears_chain, reports_chain}
 use Rattle.fit_report.proofs.reporting.report.Goals as goal
 

@@ -1,12 +1,6 @@
 -- A piece is told event by event, but for what the reporter skips.
-use Rattle.std.proofs.Common.{◌+◌, length, drop, Err, ap, ◌∙◌, subst, arith}
-use Rattle.std.specs.Global.{Global}
-use Rattle.std.proofs.lemmas.List.{length-drop}
-use Rattle.std.proofs.lemmas.Result.{err_from_is_err_and}
-use Rattle.fit_decode.specs.Answers.{Seen}
-use Rattle.fit_decode.proofs.PieceTold.{fed_on}
-use Rattle.fit_report.specs.Heard.{AreHeard, Skips, hear}
-use Rattle.fit_report.specs.Reports.{Channel}
+use Rattle.fit_report.proofs.Common.{◌+◌, length, drop, Err, ap, ◌∙◌, subst, arith, Global, length-drop, err_from_is_err_and, Seen, fed_on, AreHeard, Skips}
+use Rattle.fit_report.proofs.Common.{hear, Channel}
 use Rattle.fit_report.proofs.Hearing.{Told}
 use Rattle.fit_report.proofs.Pieces.{Stopped, are_heard, passes, breaks, stops, hears_no_more, heard_in_vain}
 use Rattle.fit_report.proofs.Skipped.{mid_within, mid_fed, mid_told, mid_stands}

@@ -1,9 +1,4 @@
-use Rattle.std.proofs.Common.{◌≡◌, ℕ, ◌-◌, ◌≤◌, List, Option, length, reverse}
-use Rattle.std.specs.Global.{Global}
-use Rattle.fit_record.specs.Files.{chain_limit, IsViable}
-use Rattle.fit_decode.specs.Answers.{fed}
-use Rattle.fit_decode.specs.Events.{Event, AreEvents}
-use Rattle.fit_report.specs.inner.Passing.{HasReported}
+use Rattle.fit_report.proofs.Common.{◌≡◌, ℕ, ◌-◌, ◌≤◌, List, Option, length, reverse, Global, chain_limit, IsViable, fed, Event, AreEvents, HasReported}
 use Rattle.fit_report.proofs.reporting.tell_piece.Given as goal
 
 abbrev pub invariant-loop-at : goal.invariant-loop-at

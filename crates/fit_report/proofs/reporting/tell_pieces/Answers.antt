@@ -1,15 +1,6 @@
 -- A report goes on piece by piece.
-use Rattle.std.proofs.Common.{◌++◌, [], length, refl, sym, ap, subst, arith, length-append}
-use Rattle.std.specs.Global.{Global}
-use Rattle.std.specs.Io.KnownBytes.{Consumes}
-use Rattle.std.proofs.lemmas.Result.{err_from_is_err_and}
-use Rattle.fit_record.specs.Files.{chain_limit, IsViable}
-use Rattle.fit_decode.specs.Answers.{Seen}
-use Rattle.fit_decode.proofs.Bounds.{short_bytes}
-use Rattle.fit_report.specs.inner.Passing.{HasReported}
-use Rattle.fit_report.specs.Reports.{Channel}
-use Rattle.fit_decode.proofs.Consumed.{Consumes-nothing, Consumes-append}
-use Rattle.fit_decode.proofs.FileRead.{nothing_viable}
+use Rattle.fit_report.proofs.Common.{◌++◌, [], length, refl, sym, ap, subst, arith, length-append, Global, Consumes, err_from_is_err_and, chain_limit, IsViable}
+use Rattle.fit_report.proofs.Common.{Seen, short_bytes, HasReported, Channel, Consumes-nothing, Consumes-append, nothing_viable}
 use Rattle.fit_report.proofs.Outcomes.{stands_before, piece_fault, end_fault, ate_nothing}
 use Rattle.fit_report.proofs.Pieces.{hears_no_more}
 use Rattle.fit_report.proofs.reporting.tell_pieces.Goals as goal

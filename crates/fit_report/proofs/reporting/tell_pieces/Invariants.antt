@@ -1,9 +1,4 @@
-use Rattle.std.proofs.Common.{◌≡◌, ◌-◌, List, None, length}
-use Rattle.std.specs.Global.{Global}
-use Rattle.std.specs.Io.KnownBytes.{Consumes}
-use Rattle.fit_record.specs.Files.{chain_limit, IsViable}
-use Rattle.fit_decode.specs.Events.{Event}
-use Rattle.fit_report.specs.inner.Passing.{HasReported}
+use Rattle.fit_report.proofs.Common.{◌≡◌, ◌-◌, List, None, length, Global, Consumes, chain_limit, IsViable, Event, HasReported}
 use Rattle.fit_report.proofs.reporting.tell_pieces.Given as goal
 
 abbrev pub invariant-pieces : goal.invariant-pieces

@@ -1,10 +1,8 @@
-use Rattle.std.proofs.Common.{◌≡◌, ◌+◌, ◌++◌, length, refl, ap, ◌∙◌, Err, rules}
-use denote.Param.{layout}
-use Rattle.fit_step.specs.declared.stop.Stop.TheVariants as stops
+use Rattle.fit_decode.proofs.Common.{◌≡◌, ◌+◌, ◌++◌, length, refl, ap, ◌∙◌, Err, rules, layout, slice_is_bytes}
 use Rattle.fit_decode.specs.contracts.decoder.Decoder.{the_row}
 use Rattle.fit_decode.specs.contracts.decoder.Decoder.feed.{A-row}
-use Rattle.fit_decode.specs.declared.event.Fault.TheVariants.{Refused}
-use Rattle.fit_base.proofs.ByteLists.{slice_is_bytes}
+use Rattle.fit_chain.specs.declared.event.Fault.TheVariants.{Refused}
+use Rattle.fit_step.specs.declared.stop.Stop.TheVariants as stops
 use Rattle.fit_decode.proofs.Sizes.{fourth_is_within}
 use Rattle.fit_decode.proofs.Feeding.{stopped, stands, within, few_bytes, still_kept, refused_kept, not_refused, not_for_memory, was_viable, place_seen}
 use Rattle.fit_decode.proofs.Feeding.{reason_seen, no_event, one_event, refuses, wants}

@@ -1,4 +1,4 @@
-use Rattle.std.proofs.Common.{◌∙◌}
+use Rattle.fit_decode.proofs.Common.{◌∙◌}
 use Rattle.fit_decode.proofs.FilesEnded.{files_ended}
 use Rattle.fit_decode.proofs.decoder.Decoder.files.Goals as goal
 

@@ -1,5 +1,5 @@
-use Rattle.std.proofs.Common.{◌≡◌, length, refl, sym, ◌∙◌, Err, true}
-use Rattle.fit_decode.specs.declared.event.Fault.TheVariants.{Refused, Truncated}
+use Rattle.fit_decode.proofs.Common.{◌≡◌, length, refl, sym, ◌∙◌, Err, true, Truncated}
+use Rattle.fit_chain.specs.declared.event.Fault.TheVariants.{Refused}
 use Rattle.fit_decode.proofs.Feeding.{place_seen, reason_seen, reason_kept, chain_fed, ends_with_chain}
 use Rattle.fit_decode.proofs.decoder.Decoder.finish.Goals as goal
 

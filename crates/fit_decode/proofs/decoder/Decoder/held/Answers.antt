@@ -1,5 +1,4 @@
-use Rattle.std.proofs.Common.{rules}
-use denote.Param.{layout}
+use Rattle.fit_decode.proofs.Common.{rules, layout}
 use Rattle.fit_decode.specs.contracts.decoder.Decoder.{the_row}
 use Rattle.fit_decode.specs.contracts.decoder.Decoder.held.{A-row}
 use Rattle.fit_decode.proofs.Sizes.{fourth_is_within}

@@ -1,5 +1,5 @@
 use Rattle.fit_decode.proofs.Needed.{needed_seen}
-use Rattle.fit_decode.proofs.NoSooner.{need_is_least}
+use Rattle.fit_chain.proofs.NoSooner.{need_is_least}
 use Rattle.fit_decode.proofs.decoder.Decoder.need.Goals as goal
 
 pub returns-clause-need : goal.returns-clause-need

@@ -1,5 +1,4 @@
-use Rattle.std.proofs.Common.{refl, rules}
-use denote.Param.{layout}
+use Rattle.fit_decode.proofs.Common.{refl, rules, layout}
 use Rattle.fit_decode.specs.contracts.decoder.Decoder.{the_row}
 use Rattle.fit_decode.specs.contracts.decoder.Decoder.new.{A-row}
 use Rattle.fit_decode.proofs.Invariant.{begins_kept}

@@ -1,8 +1,6 @@
-use Rattle.std.proofs.Common.{◌++◌, refl, ap, ◌∙◌, rules}
-use denote.Param.{layout}
+use Rattle.fit_decode.proofs.Common.{◌++◌, refl, ap, ◌∙◌, rules, layout, slice_is_bytes}
 use Rattle.fit_decode.specs.contracts.decoder.Decoder.{the_row}
 use Rattle.fit_decode.specs.contracts.decoder.Decoder.skip_records.{A-row}
-use Rattle.fit_base.proofs.ByteLists.{slice_is_bytes}
 use Rattle.fit_decode.proofs.Sizes.{fourth_is_within}
 use Rattle.fit_decode.proofs.Feeding.{was_viable}
 use Rattle.fit_decode.proofs.Skipping.{fresh, within_piece, few_skipped, skipped_kept, records_skipped}

@@ -1,12 +1,8 @@
 -- Each turn takes one file, or ends the reading.
-use Rattle.std.proofs.Common.{Ok, Err, sym, subst, arith}
-use Rattle.std.specs.declared.alloc.Global.{Global}
-use Rattle.fit_decode.specs.inner.Between.{IsBehind, IsEnd}
-use Rattle.fit_decode.proofs.Bounds.{short_bytes}
+use Rattle.fit_decode.proofs.Common.{Ok, Err, sym, subst, arith, Global, IsBehind, IsEnd, short_bytes, chain_limit}
 use Rattle.fit_decode.proofs.ChainRead.{chain_ended, chain_stopped, gives_chain, one_longer, one_more, pushed}
 use Rattle.fit_decode.proofs.Nearly.{all_viable}
 use Rattle.fit_decode.proofs.NextRead.{comes_behind, next_good}
-use Rattle.fit_record.specs.Files.{chain_limit}
 use Rattle.fit_decode.proofs.readers.chain.read_chain.Goals as goal
 
 pub returns-then-is_err-clause-exact : goal.returns-then-is_err-clause-exact

@@ -1,6 +1,4 @@
-use Rattle.std.proofs.Common.{◌-◌, length}
-use Rattle.std.specs.Io.KnownBytes.{Consumes}
-use Rattle.fit_decode.specs.inner.Between.{IsBehind}
+use Rattle.fit_decode.proofs.Common.{◌-◌, length, Consumes, IsBehind}
 use Rattle.fit_decode.proofs.readers.chain.read_chain.Given as goal
 
 -- the files so far, and the bytes taken for them

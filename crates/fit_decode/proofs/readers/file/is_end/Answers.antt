@@ -1,5 +1,4 @@
-use Rattle.std.proofs.Common.{sym, ◌∙◌, subst}
-use Rattle.fit_decode.specs.inner.Between.{IsEnd}
+use Rattle.fit_decode.proofs.Common.{sym, ◌∙◌, subst, IsEnd}
 use Rattle.fit_decode.proofs.readers.file.is_end.Goals as goal
 
 pub returns-in-Truncated : goal.returns-in-Truncated

@@ -1,5 +1,5 @@
 -- The last turn's answer is the reading's.
-use Rattle.std.proofs.Common.{refl, ap, arith, length, length-append}
+use Rattle.fit_decode.proofs.Common.{refl, ap, arith, length, length-append}
 use Rattle.fit_decode.specs.Answers.{Seen}
 use Rattle.fit_decode.proofs.FileRead.{stands_before, eaten_nothing, eaten_more, file_ended, file_stopped, goes_on_standing, fewer_left}
 use Rattle.fit_decode.proofs.readers.file.read_file.Goals as goal

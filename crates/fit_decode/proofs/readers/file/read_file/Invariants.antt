@@ -1,8 +1,4 @@
-use Rattle.std.proofs.Common.{◌≡◌, ◌+◌, ◌-◌, List, [], length, None}
-use Rattle.fit_record.specs.declared.file.FitFile.{FitFile}
-use Rattle.fit_record.specs.Files.{chain_limit, IsViable}
-use Rattle.fit_decode.specs.Progress.{at_header, HasCome}
-use Rattle.fit_decode.specs.inner.Turns.{ComesToRecords, Eaten}
+use Rattle.fit_decode.proofs.Common.{◌≡◌, ◌+◌, ◌-◌, List, [], length, None, FitFile, chain_limit, IsViable, at_header, HasCome, ComesToRecords, Eaten}
 use Rattle.fit_decode.proofs.readers.file.read_file.Given as goal
 
 abbrev pub invariant-reading : goal.invariant-reading

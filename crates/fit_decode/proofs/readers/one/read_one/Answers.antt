@@ -1,8 +1,6 @@
 -- The reading of one file begins with no bytes.
-use Rattle.std.proofs.Common.{[], sym, ap, subst}
-use Rattle.std.specs.declared.alloc.Global.{Global}
+use Rattle.fit_decode.proofs.Common.{[], sym, ap, subst, Global, at_header, HasCome}
 use Rattle.fit_decode.specs.Answers.{Seen}
-use Rattle.fit_decode.specs.Progress.{at_header, HasCome}
 use Rattle.fit_decode.proofs.FileRead.{no_file_yet}
 use Rattle.fit_decode.proofs.OneRead.{reads_one, gives_file}
 use Rattle.fit_decode.proofs.readers.one.read_one.Goals as goal

@@ -1,4 +1,4 @@
-use Rattle.std.proofs.Common.{◌∙◌, sym}
+use Rattle.fit_decode.proofs.Common.{◌∙◌, sym}
 use Rattle.fit_decode.proofs.Pieces.{when_ok}
 use Rattle.fit_decode.proofs.readers.piece.is_kept.Goals as goal
 

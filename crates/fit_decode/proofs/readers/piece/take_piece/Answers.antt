@@ -1,8 +1,6 @@
 -- A piece is fed event by event.
-use Rattle.std.proofs.Common.{length, drop, Some, Err, sym, ap, ◌∙◌, subst, arith}
-use Rattle.std.proofs.lemmas.List.{length-drop}
-use Rattle.fit_decode.specs.Answers.{Seen, event_of}
-use Rattle.fit_decode.specs.inner.Turns.{ComesToRecords}
+use Rattle.fit_decode.proofs.Common.{length, drop, Some, Err, sym, ap, ◌∙◌, subst, arith, length-drop, event_of, ComesToRecords}
+use Rattle.fit_decode.specs.Answers.{Seen}
 use Rattle.fit_decode.proofs.PieceTold.{fed_on, feeds_header, feeds_item, piece_over, piece_more, piece_end, piece_refused}
 use Rattle.fit_decode.proofs.readers.piece.take_piece.Goals as goal
 use Rattle.fit_decode.proofs.readers.piece.take_piece.Goals.{In-Ok}

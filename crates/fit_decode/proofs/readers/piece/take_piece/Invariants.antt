@@ -1,8 +1,4 @@
-use Rattle.std.proofs.Common.{◌≡◌, ◌-◌, ◌≤◌, List, length}
-use Rattle.fit_record.specs.declared.file.FitFile.{FitFile}
-use Rattle.fit_record.specs.Files.{chain_limit, IsViable}
-use Rattle.fit_decode.specs.Answers.{fed}
-use Rattle.fit_decode.specs.inner.Turns.{ComesToRecords}
+use Rattle.fit_decode.proofs.Common.{◌≡◌, ◌-◌, ◌≤◌, List, length, FitFile, chain_limit, IsViable, fed, ComesToRecords}
 use Rattle.fit_decode.proofs.readers.piece.take_piece.Given as goal
 
 abbrev pub invariant-loop-at : goal.invariant-loop-at

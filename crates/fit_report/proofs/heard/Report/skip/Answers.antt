@@ -1,5 +1,5 @@
 -- Nothing is skipped.
-use Rattle.std.proofs.Common.{refl, arith}
+use Rattle.fit_report.proofs.Common.{refl, arith}
 use Rattle.fit_report.proofs.Skipped.{none_fed}
 use Rattle.fit_report.proofs.heard.Report.skip.Goals as goal
 

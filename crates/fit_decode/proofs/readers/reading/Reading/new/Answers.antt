@@ -1,5 +1,4 @@
-use Rattle.std.proofs.Common.{[], rules}
-use denote.Param.{layout}
+use Rattle.fit_decode.proofs.Common.{[], rules, layout}
 use Rattle.fit_decode.specs.contracts.readers.reading.Reading.{the_row}
 use Rattle.fit_decode.specs.contracts.readers.reading.Reading.new.{S-row, A-row}
 use Rattle.fit_decode.proofs.NextRead.{behind_none}

@@ -1,12 +1,8 @@
 -- Until a fault a reading is behind some files, and takes the next one.
-use Rattle.std.proofs.Common.{rules, [], ◌∷◌, ◌++◌, length, Ok, Err, refl, sym, ap, ◌∙◌, subst}
-use denote.Param.{layout}
-use Rattle.fit_record.specs.Files.{chain_limit, IsViable}
+use Rattle.fit_decode.proofs.Common.{rules, [], ◌∷◌, ◌++◌, length, Ok, Err, refl, sym, ap, ◌∙◌, subst, layout, chain_limit, IsViable, IsEnd, Channel}
 use Rattle.fit_decode.specs.contracts.readers.reading.Reading.{the_row}
 use Rattle.fit_decode.specs.contracts.readers.reading.Reading.next.{S-row, A-row}
 use Rattle.fit_decode.specs.Answers.{Seen}
-use Rattle.fit_decode.specs.inner.Between.{IsEnd}
-use Rattle.fit_decode.specs.Reads.{Channel}
 use Rattle.fit_decode.proofs.NextRead.{behind_file, comes_behind, end_not_given, fault_given, keeps, next_chain, next_end, next_fault, next_file, next_given}
 use Rattle.fit_decode.proofs.NextRead.{next_good, NextGiven}
 use Rattle.fit_decode.proofs.Sizes.{fourth_is_within}

@@ -1,0 +1,25 @@
+pub mod Common
+pub mod OnePlace
+pub mod OneReason
+pub mod HasReason
+pub mod Following
+pub mod ViableGoesOn
+pub mod Completions
+pub mod Whole
+pub mod Next
+pub mod Telling
+pub mod HeaderFed
+pub mod DataFed
+pub mod SumFed
+pub mod Places
+pub mod Bounds
+mod KnownRefusals
+pub mod FirstFile
+pub mod NoSooner
+pub mod Missing
+pub mod HeldRows
+pub mod HeldLimit
+pub mod Faults
+pub mod Gathered
+pub mod FileEnds
+pub mod NextFile

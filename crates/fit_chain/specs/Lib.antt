@@ -1,0 +1,11 @@
+pub mod Progress
+pub mod Events
+pub mod Memory
+pub mod Held
+pub mod GoingOn
+pub mod Refusals
+pub mod Needs
+pub mod Laws
+pub mod Pieces
+pub mod Comes
+pub mod Checks

@@ -1,5 +1,0 @@
-use Rattle.fit_decode.proofs.OneReason.{one_list_of_events}
-use Rattle.fit_decode.proofs.laws.events_are_one.Goals as goal
-
-pub returns : goal.returns
-returns g c = one_list_of_events

@@ -1,5 +1,0 @@
-use Rattle.fit_decode.proofs.NoSooner.{no_sooner}
-use Rattle.fit_decode.proofs.laws.files_end_no_sooner.Goals as goal
-
-pub returns : goal.returns
-returns g c = no_sooner
