@@ -1,40 +1,27 @@
 -- What an encoder keeps from call to call.
-use Rattle.std.proofs.Common.{◌≡◌, ℕ, ◌+◌, ◌<◌, ◌≤◌, ◌^◌, Bool, true, false, List, [], ◌∷◌, ◌++◌, length, take, Some, None, refl, sym, ap, ◌∙◌, subst}
-use Rattle.std.proofs.Common.{append_assoc, append-nil, length-append, arith}
-use Rattle.std.specs.Prelude.{Option, Result, Ok, Err, OnErr, is_err, unwrap_or, option_map}
-use Rattle.std.specs.Io.KnownBytes.{Appends}
-use lib.Seq.{take-append_seam}
-use Rattle.fit_base.specs.declared.number.Order.TheVariants.{Little}
-use Rattle.fit_base.specs.Numbers.{little_bytes}
-use Rattle.fit_sum.specs.Checksum.{checksum}
-use Rattle.fit_frame.specs.Header.{HeaderFits, header_bytes}
-use Rattle.fit_record.specs.declared.environment.Defined.{Defined}
-use Rattle.fit_record.specs.declared.definition.MessageDef.{MessageDef}
-use Rattle.fit_record.specs.declared.fits.ShapeFault.{ShapeFault}
-use Rattle.fit_record.specs.declared.fits.ShapeFault.TheVariants.{BadLocal as NoLocal, BadOffset as NoOffset, UndefinedLocal as NotDefined}
-use Rattle.fit_record.specs.declared.fits.ShapeFault.TheVariants.{WrongShape as WrongField}
-use Rattle.fit_record.specs.declared.message.Record.{Record}
-use Rattle.fit_record.specs.declared.message.Values.{Values}
-use Rattle.fit_record.specs.declared.message.Record.TheVariants.{Define, Values as Data}
-use Rattle.fit_record.specs.Environment.{Environment, empty_environment, learn, learn_all, defined_at}
-use Rattle.fit_record.specs.Records.{Fits, AllFit, record_bytes, records_bytes, data_header, data_bytes}
-use Rattle.fit_record.specs.Faults.{first_fault}
-use Rattle.fit_encode.specs.declared.fault.EncodeFault.{EncodeFault}
-use Rattle.fit_encode.specs.declared.fault.EncodeFault.TheVariants.{BadHeader, ZeroIsSum, BadLocal, BadOffset, UndefinedLocal, WrongShape, TooLong}
-use Rattle.fit_encode.specs.declared.fault.EncodeFault.TheVariants.{DeclaredLength, ChainLength, NoMemory, Write}
-use Rattle.fit_encode.specs.Encoding.{Encoding, data_so_far, BreaksOff, HasPlace, IsWhole, IsPlaceFault, fault_when}
-use Rattle.fit_encode.specs.Faults.{shape_fault, StopsAt, IfWrite}
+use Rattle.fit_encode.proofs.Common.{◌≡◌, ℕ, ◌<◌, ◌≤◌, Bool, true, false, List, [], ◌∷◌, ◌++◌, length, take, Some, None, refl, sym, ap, ◌∙◌, subst}
+use Rattle.fit_encode.proofs.Common.{append_assoc, append-nil, length-append, arith, OnErr, is_err, unwrap_or, option_map, Appends, take-append_seam, Little}
+use Rattle.fit_encode.proofs.Common.{little_bytes, checksum, HeaderFits, header_bytes, Defined, MessageDef, ShapeFault, NoLocal, Record, Values, Define, Data}
+use Rattle.fit_encode.proofs.Common.{Environment, empty_environment, learn, learn_all, defined_at, Fits, AllFit, record_bytes, records_bytes, data_header}
+use Rattle.fit_encode.proofs.Common.{data_bytes, first_fault, EncodeFault, Write, Encoding, data_so_far, BreaksOff, HasPlace, IsWhole, IsPlaceFault, fault_when}
+use Rattle.fit_encode.proofs.Common.{shape_fault, StopsAt, IfWrite, Written, bytes_in_order, Sending, Breaks, IsCounted, fresh, all_fit-append}
+use Rattle.fit_encode.proofs.Common.{learn_all-append}
+use Rattle.std.proofs.Common.{◌+◌, ◌^◌}
+use Rattle.std.specs.Prelude.{Option, Result, Ok, Err}
 use Rattle.fit_encode.specs.inner.Open.{IsOpenFile}
-use Rattle.fit_encode.specs.Sinks.{Written}
-use Rattle.fit_encode.specs.inner.Spelling.{bytes_in_order}
-use Rattle.fit_encode.specs.inner.Sending.{Sending, Breaks, IsCounted, fresh}
-use Rattle.fit_encode.proofs.Sendings.{Breaks-from}
-use Rattle.fit_encode.proofs.RecordSteps.{learn_all-last, AllFit-last, records_bytes-last}
+use Rattle.fit_encode.proofs.Sendings.{Breaks-from, StopsAt-as, stops_in}
+use Rattle.fit_encode.proofs.RecordSteps.{records_bytes-last}
 
-pub when_open : (finished : Bool) (failed : Option ℕ) → fault_when finished failed ≡ None → (failed ≡ None) × (finished ≡ false)
-when_open true failed h = absurd (cc)
-when_open false None h = (refl, refl)
-when_open false (Some written) h = absurd (cc)
+-- what holds of an encoder that no call closed
+pub while_open : {P : Type 0} (finished : Bool) (failed : Option ℕ) {closed : Option EncodeFault} → (failed ≡ None → finished ≡ false → P)
+    → closed ≡ fault_when finished failed → closed ≡ None → P
+while_open false None h is none = h refl refl
+while_open _ _ h is none = absurd (cc)
+
+-- all data is there
+pub all_there : {A : Type 0} {env : Environment A} {out : Sending} {declared size count : ℕ} {head : List ℕ} {records : List (Record A)}
+    → IsOpenFile env out declared size count head records → declared ≤ size → length (records_bytes empty_environment records) ≡ declared
+all_there h enough = omega arith
 
 -- what holds where memory was refused
 pub on_err_at : {T E : Type 0} (P : Type 0) (r : Result T E) → is_err r ≡ true → OnErr r P → P
@@ -44,23 +31,12 @@ on_err_at P (Err e) good h = h
 pub of_shape : {A : Type 0} (e : Environment A) (count declared size : ℕ) (r : Record A) (s : ShapeFault) → first_fault e r ≡ Some s
     → IsPlaceFault e count declared size r (shape_fault 1 count s)
 of_shape e count declared size r NoLocal h = (refl, refl, h)
-of_shape e count declared size r NoOffset h = (refl, refl, h)
-of_shape e count declared size r NotDefined h = (refl, refl, h)
-of_shape e count declared size r (WrongField field) h = (refl, refl, h)
+of_shape e count declared size r _ h = (refl, refl, h)
 
 pub not_written : {A : Type 0} (e : Environment A) (count declared size : ℕ) (r : Record A) (fault : EncodeFault) (P : ℕ → Type 0)
     → IsPlaceFault e count declared size r fault → IfWrite fault P
 not_written e count declared size r (Write written) P h = absurd h
-not_written e count declared size r (BadHeader file) P h = tt
-not_written e count declared size r (ZeroIsSum file) P h = tt
-not_written e count declared size r (BadLocal file index) P h = tt
-not_written e count declared size r (BadOffset file index) P h = tt
-not_written e count declared size r (UndefinedLocal file index) P h = tt
-not_written e count declared size r (WrongShape file index field) P h = tt
-not_written e count declared size r (TooLong file index) P h = tt
-not_written e count declared size r DeclaredLength P h = tt
-not_written e count declared size r ChainLength P h = tt
-not_written e count declared size r NoMemory P h = tt
+not_written e count declared size r _ P h = tt
 
 -- the byte order of a definition is that of its place
 order_at_place : {A : Type 0} (p : Option (Defined A)) (d : Option (MessageDef A)) → d ≡ option_map (λ x. x.definition) p
@@ -80,7 +56,6 @@ broke {a} {b} {s} {p} {w} held fits broken stopped =
     let all : broken.went ++ broken.rest ≡ p = broken.joined ∙ ap (λ (x : List ℕ). x ++ p) held in
     let parts = length-append broken.went broken.rest in
     let whole = ap length all in
-    let some = broken.some in
     let there : w ≡ s.count + length broken.went = broken.total (omega arith) in (
       length broken.went,
       record {
@@ -108,30 +83,21 @@ pub breaks_off : {A : Type 0} {a b : Written} {env : Environment A} {out : Sendi
     → BreaksOff a.held b.held b.failed (record { head = head; declared = declared; records = records; failed = failed; finished = finished })
     (record { head = head; declared = declared; records = records; failed = Some w; finished = finished }) bytes w
 breaks_off {A} {a} {b} {env} {out} {declared} {size} {count} {w} {head} {bytes} {records} failed finished h less broken stopped =
-    let total = h.total in
-    let within = h.within in
-    let small = h.small in
-    let size_is = h.data_size in
-    let short = h.short in
     let halves = length-append head (records_bytes {A = A} empty_environment records) in
     let there = broke h.held (omega arith) broken stopped in
-    record { sent = there.0; stops = there.1; total = there.2 ∙ ap (λ (n : ℕ). n + there.0) total; latched = refl }
+    record { sent = there.0; stops = there.1; total = there.2 ∙ ap (λ (n : ℕ). n + there.0) h.total; latched = refl }
 
 -- a record that can be put is small
 pub small_record : {A : Type 0} {env : Environment A} {out : Sending} {declared size count : ℕ} {head : List ℕ} {records : List (Record A)} {e : Environment A}
     {n : ℕ} {r : Record A}
     → IsOpenFile env out declared size count head records → HasPlace e declared n r → length (record_bytes e r) < 2 ^ 33
-small_record h place = omega (arith, h.small, place.within)
+small_record h place = omega arith
 
 -- the sink failed in the middle of the first bytes
 pub first_broke : {a b : Written} {s : Sending} {bytes head : List ℕ} {w : ℕ} → s ≡ fresh 0 → bytes ≡ head → length bytes < 2 ^ 64 → Breaks a b s bytes w
     → b.failed ≡ true
     → StopsAt a.held b.held b.failed head w
-first_broke {a} {b} {s} {bytes} {head} {w} new same short broken stopped =
-    let there = broke refl (omega arith) (Breaks-from new broken) stopped in
-    let total : w ≡ 0 + there.0 = there.2 in
-    let all : there.0 ≡ w = omega arith in
-    subst (λ (x : List ℕ). StopsAt a.held b.held b.failed x w) same (subst (StopsAt a.held b.held b.failed bytes) all there.1)
+first_broke new same short broken stopped = StopsAt-as same (stops_in _ short (Breaks-from new broken) stopped)
 
 -- nothing is held back, and all bytes so far went out
 pub sent_so_far : {A : Type 0} {env : Environment A} {out : Sending} {declared size count : ℕ} {head : List ℕ} {records : List (Record A)}
@@ -160,25 +126,20 @@ next_open {A} {env} {out} {declared} {size} {count} {head} {records} after sent 
     let new_length = length-append head (records_bytes empty_environment (records ++ r ∷ [])) in
     let some = some_byte env r in
     let more = length-append records (r ∷ []) in
-    let total = h.total in
-    let size_is = h.data_size in
-    let few = h.few in
-    let small = h.small in
-    let short = h.short in
     let counts : sent.count ≡ out.count + length (record_bytes env r) = counted (omega arith) in
     record {
-      known = learned ∙ ap (λ (e : Environment A). learn e r) h.known ∙ sym (learn_all-last empty_environment records r);
-      fit = AllFit-last empty_environment records r h.fit (subst (λ (e : Environment A). Fits e r) h.known fits);
+      known = learned ∙ ap (λ (e : Environment A). learn e r) h.known ∙ sym (learn_all-append empty_environment records (r ∷ []));
+      fit = all_fit-append empty_environment records (r ∷ []) h.fit (subst (λ (e : Environment A). Fits e r) h.known fits, tt);
       sent = bytes ∙ ap (λ (x : List ℕ). x ++ record_bytes env r) h.sent ∙ append_assoc head before (record_bytes env r)
           ∙ ap (λ (x : List ℕ). head ++ x) (sym grown);
       held = none;
       total = omega arith;
       data_size = omega arith;
       within = within;
-      small = small;
-      place = (let place = h.place in omega arith);
+      small = h.small;
+      place = omega arith;
       few = omega arith;
-      short = short;
+      short = h.short;
     }
 
 -- behind the header

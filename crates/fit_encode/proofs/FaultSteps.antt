@@ -1,58 +1,28 @@
 -- From the fault of a record to that of its file, and from there to that of the chain.
-use Rattle.std.proofs.Common.{◌≡◌, ℕ, ◌+◌, ◌<◌, ◌^◌, List, [], ◌∷◌, ◌++◌, ◌⊎◌, inl, inr, length, take, drop, get_or, Some, Result, Ok, Err, true, false, refl}
-use Rattle.std.proofs.Common.{sym, ap, ◌∙◌, subst, length-take, arith}
-use Rattle.std.specs.Prelude.{OnOk, IfErr, is_err}
-use Rattle.std.specs.List.{AllByRecursion}
-use Rattle.std.proofs.lemmas.List.{take_more, drop_more, take-append-drop}
-use Rattle.fit_record.specs.declared.file.FitFile.{FitFile}
-use Rattle.fit_record.specs.declared.message.Record.{Record}
-use Rattle.fit_record.specs.declared.fits.ShapeFault.{ShapeFault}
-use Rattle.fit_record.specs.declared.fits.ShapeFault.TheVariants.{BadLocal as NoLocal, BadOffset as NoOffset, UndefinedLocal as NotDefined}
-use Rattle.fit_record.specs.declared.fits.ShapeFault.TheVariants.{WrongShape as WrongField}
-use Rattle.fit_record.specs.Faults.{first_fault}
-use Rattle.fit_record.specs.Files.{IsWellFormed, body}
-use Rattle.fit_record.specs.Environment.{empty_environment}
-use Rattle.fit_record.specs.Records.{AllFit, records_bytes}
-use Rattle.fit_frame.specs.Header.{FormFits, HeaderFits, ZeroIsSum as SumIsZero}
-use Rattle.fit_encode.specs.declared.fault.EncodeFault.{EncodeFault}
-use Rattle.fit_encode.specs.declared.fault.EncodeFault.TheVariants.{BadHeader, ZeroIsSum, BadLocal, BadOffset, UndefinedLocal, WrongShape, TooLong}
-use Rattle.fit_encode.specs.declared.fault.EncodeFault.TheVariants.{DeclaredLength, ChainLength, NoMemory, Write}
-use Rattle.fit_encode.specs.Faults.{shape_fault, AtRecord, IsRecordFault, IsFileFault, IsChainLength, AtFile, IsFirstFault, IfWrite, UnlessWrite, IfRefused}
+use Rattle.fit_encode.proofs.Common.{◌≡◌, ℕ, ◌<◌, ◌≤◌, List, [], ◌∷◌, ◌++◌, ◌⊎◌, inl, inr, length, take, drop, get_or, Some, true, false, refl, sym, ap, ◌∙◌}
+use Rattle.fit_encode.proofs.Common.{subst, length-take, length-append, arith, OnOk, IfErr, is_err, AllByRecursion, FitFile, Record, ShapeFault, NoLocal}
+use Rattle.fit_encode.proofs.Common.{first_fault, IsWellFormed, body, Environment, empty_environment, learn, learn_all, Fits, AllFit, record_bytes}
+use Rattle.fit_encode.proofs.Common.{records_bytes, FormFits, HeaderFits, SumIsZero, EncodeFault, BadHeader, TooLong, ZeroIsSum, ChainLength, NoMemory, Write}
+use Rattle.fit_encode.proofs.Common.{shape_fault, AtRecord, IsRecordFault, IsFileFault, IsChainLength, AtFile, IsFirstFault, UnlessWrite}
+use Rattle.std.proofs.Common.{◌+◌, ◌^◌, Result, Ok, Err}
+use Rattle.fit_encode.proofs.RecordSteps.{at_record, next_known, next_fit, next_bytes}
+use Rattle.fit_encode.proofs.Sendings.{split_here, one_more}
 
 pub of_shape : {A : Type 0} (number index : ℕ) (records : List (Record A)) (s : ShapeFault) → AtRecord records index (λ e n r. first_fault e r ≡ Some s)
     → IsRecordFault number records (shape_fault number index s)
 of_shape number index records NoLocal h = (refl, h)
-of_shape number index records NoOffset h = (refl, h)
-of_shape number index records NotDefined h = (refl, h)
-of_shape number index records (WrongField field) h = (refl, h)
+of_shape number index records _ h = (refl, h)
 
 pub of_record : {A : Type 0} (number : ℕ) (f : FitFile A) (fault : EncodeFault) → FormFits f.header → IsRecordFault number f.records fault
     → IsFileFault number f fault
 of_record number f (BadHeader file) form h = absurd h
 of_record number f (ZeroIsSum file) form h = absurd h
-of_record number f (BadLocal file index) form h = (form, h)
-of_record number f (BadOffset file index) form h = (form, h)
-of_record number f (UndefinedLocal file index) form h = (form, h)
-of_record number f (WrongShape file index field) form h = (form, h)
-of_record number f (TooLong file index) form h = (form, h)
-of_record number f DeclaredLength form h = absurd h
-of_record number f ChainLength form h = absurd h
-of_record number f NoMemory form h = absurd h
-of_record number f (Write written) form h = absurd h
+of_record number f _ form h = (form, h)
 
 pub of_file : {A : Type 0} (fs : List (FitFile A)) (fault : EncodeFault) → IsChainLength (length fs) → AtFile fs (λ number f. IsFileFault number f fault)
     → IsFirstFault fs fault
-of_file fs (BadHeader file) allowed h = (allowed, h)
-of_file fs (ZeroIsSum file) allowed h = (allowed, h)
-of_file fs (BadLocal file index) allowed h = (allowed, h)
-of_file fs (BadOffset file index) allowed h = (allowed, h)
-of_file fs (UndefinedLocal file index) allowed h = (allowed, h)
-of_file fs (WrongShape file index field) allowed h = (allowed, h)
-of_file fs (TooLong file index) allowed h = (allowed, h)
-of_file fs DeclaredLength allowed h = absurd h.holds.1
 of_file fs ChainLength allowed h = absurd h.holds.1
-of_file fs NoMemory allowed h = absurd h.holds.1
-of_file fs (Write written) allowed h = absurd h.holds.1
+of_file fs _ allowed h = (allowed, h)
 
 -- the file at a place, behind those before it
 pub at_file : {A : Type 0} (P : ℕ → FitFile A → Type 0) (fs : List (FitFile A)) (i : ℕ) (f : FitFile A) → i < length fs → f ≡ get_or fs i f
@@ -61,7 +31,7 @@ at_file P fs i f less is good here = record {
   front = take i fs;
   this = f;
   back = drop (i + 1) fs;
-  joined = sym (take-append-drop i fs) ∙ ap (λ x. take i fs ++ x) (drop_more fs i f less ∙ ap (λ x. x ∷ drop (i + 1) fs) (sym is));
+  joined = split_here fs i f f less is;
   good = good;
   holds = subst (λ n. P (n + 1) f) (omega (arith, length-take i fs)) here;
 }
@@ -110,7 +80,8 @@ zero_fault f rs n same all size small zero =
     let is : n ≡ length (body f) = size ∙ ap (λ x. length (records_bytes empty_environment x)) same in
     (zero.0, subst (AllFit empty_environment) same all, subst (λ m. m < 2 ^ 32) is small, subst (SumIsZero f.header) is zero.1)
 
-last_good : {A : Type 0} (fs : List (FitFile A)) (f : FitFile A) → AllByRecursion IsWellFormed fs → IsWellFormed f → AllByRecursion IsWellFormed (fs ++ f ∷ [])
+pub last_good : {A : Type 0} (fs : List (FitFile A)) (f : FitFile A) → AllByRecursion IsWellFormed fs → IsWellFormed f
+    → AllByRecursion IsWellFormed (fs ++ f ∷ [])
 last_good [] f all one = (one, tt)
 last_good (x ∷ fs) f all one = (all.0, last_good fs f all.1 one)
 
@@ -118,56 +89,43 @@ pub next_good : {A : Type 0} (fs : List (FitFile A)) (i : ℕ) (f : FitFile A) �
     → IsWellFormed f
     → AllByRecursion IsWellFormed (take (i + 1) fs)
 next_good fs i f less is all one =
-    subst (AllByRecursion IsWellFormed) (sym (take_more fs i f less ∙ ap (λ x. take i fs ++ x ∷ []) (sym is))) (last_good (take i fs) f all one)
+    subst (AllByRecursion IsWellFormed) (sym (one_more fs i f f less is)) (last_good (take i fs) f all one)
 
 -- ---- a chain of which no byte went out
 
-pub refused_for : {A : Type 0} (fs : List (FitFile A)) (fault : EncodeFault) → (fault ≡ NoMemory) ⊎ IsFirstFault fs fault
-    → IfRefused fault (IsFirstFault fs fault)
-refused_for fs (BadHeader file) (inl none) = absurd (cc)
-refused_for fs (BadHeader file) (inr h) = h
-refused_for fs (ZeroIsSum file) (inl none) = absurd (cc)
-refused_for fs (ZeroIsSum file) (inr h) = h
-refused_for fs (BadLocal file index) (inl none) = absurd (cc)
-refused_for fs (BadLocal file index) (inr h) = h
-refused_for fs (BadOffset file index) (inl none) = absurd (cc)
-refused_for fs (BadOffset file index) (inr h) = h
-refused_for fs (UndefinedLocal file index) (inl none) = absurd (cc)
-refused_for fs (UndefinedLocal file index) (inr h) = h
-refused_for fs (WrongShape file index field) (inl none) = absurd (cc)
-refused_for fs (WrongShape file index field) (inr h) = h
-refused_for fs (TooLong file index) (inl none) = absurd (cc)
-refused_for fs (TooLong file index) (inr h) = h
-refused_for fs DeclaredLength (inl none) = absurd (cc)
-refused_for fs DeclaredLength (inr h) = h
-refused_for fs ChainLength (inl none) = absurd (cc)
-refused_for fs ChainLength (inr h) = h
-refused_for fs NoMemory h = tt
-refused_for fs (Write written) h = tt
-
-pub no_write : {A : Type 0} (fs : List (FitFile A)) (fault : EncodeFault) (P : ℕ → Type 0) → (fault ≡ NoMemory) ⊎ IsFirstFault fs fault → IfWrite fault P
-no_write fs (Write written) P (inl none) = absurd (cc)
-no_write fs (Write written) P (inr h) = absurd h.1.holds.1
-no_write fs (BadHeader file) P h = tt
-no_write fs (ZeroIsSum file) P h = tt
-no_write fs (BadLocal file index) P h = tt
-no_write fs (BadOffset file index) P h = tt
-no_write fs (UndefinedLocal file index) P h = tt
-no_write fs (WrongShape file index field) P h = tt
-no_write fs (TooLong file index) P h = tt
-no_write fs DeclaredLength P h = tt
-no_write fs ChainLength P h = tt
-no_write fs NoMemory P h = tt
-
 pub unless_write : (fault : EncodeFault) (P : Type 0) → P → UnlessWrite fault P
 unless_write (Write written) P h = tt
-unless_write (BadHeader file) P h = h
-unless_write (ZeroIsSum file) P h = h
-unless_write (BadLocal file index) P h = h
-unless_write (BadOffset file index) P h = h
-unless_write (UndefinedLocal file index) P h = h
-unless_write (WrongShape file index field) P h = h
-unless_write (TooLong file index) P h = h
-unless_write DeclaredLength P h = h
-unless_write ChainLength P h = h
-unless_write NoMemory P h = h
+unless_write _ P h = h
+
+-- ---- measuring, as far as a place
+
+module _ {A : Type 0} (number : ℕ) (rs : List (Record A)) (i : ℕ) (r : Record A) (env : Environment A) (n : ℕ) (less : i < length rs)
+    (is : r ≡ get_or rs i r) (known : env ≡ learn_all empty_environment (take i rs)) (fit : AllFit empty_environment (take i rs))
+    (total : n ≡ length (records_bytes empty_environment (take i rs))) (small : n < 2 ^ 32) where
+  pub shape_at : (s : ShapeFault) (fault : EncodeFault) → first_fault env r ≡ Some s → fault ≡ shape_fault number i s → IsRecordFault number rs fault
+  shape_at s fault here same =
+      subst (IsRecordFault number rs) (sym same) (of_shape number i rs s (at_record (λ e m x. first_fault e x ≡ Some s) rs i r less is fit (omega arith)
+      (subst (λ (e : Environment A). first_fault e r ≡ Some s) known here)))
+
+  module _ (more : ℕ) (fits : Fits env r) (size : more ≡ length (record_bytes env r)) where
+    fits_here : Fits (learn_all empty_environment (take i rs)) r × (more ≡ length (record_bytes (learn_all empty_environment (take i rs)) r))
+    fits_here = subst (λ (e : Environment A). Fits e r × (more ≡ length (record_bytes e r))) known (fits, size)
+
+    pub long_at : 2 ^ 32 ≤ n + more → IsRecordFault number rs (TooLong number i)
+    long_at much = (
+      refl,
+      at_record (λ e m x. Fits e x × (2 ^ 32 ≤ m + length (record_bytes e x))) rs i r less is fit (omega arith)
+          (fits_here.0, let here = fits_here.1 in omega arith),
+    )
+
+    pub measured_past : (after : Environment A) (sum : ℕ) → after ≡ learn env r → sum ≡ n + more
+        → (after ≡ learn_all empty_environment (take (i + 1) rs)) × AllFit empty_environment (take (i + 1) rs)
+        × (sum ≡ length (records_bytes empty_environment (take (i + 1) rs)))
+    measured_past after sum learned sum_is =
+        let here = fits_here.1 in
+        let grown = ap length (next_bytes empty_environment rs i r less is) in
+        let both = length-append (records_bytes empty_environment (take i rs)) (record_bytes (learn_all empty_environment (take i rs)) r) in (
+          learned ∙ ap (λ (e : Environment A). learn e r) known ∙ next_known empty_environment rs i r less is,
+          next_fit empty_environment rs i r less is fit fits_here.0,
+          omega arith,
+        )

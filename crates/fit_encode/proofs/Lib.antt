@@ -1,3 +1,4 @@
+pub mod Common
 pub mod Written
 pub mod Sendings
 pub mod Messages
@@ -10,3 +11,4 @@ pub mod NoFault
 pub mod OneFault
 pub mod SomeFault
 pub mod Encoders
+pub mod Kept

@@ -1,10 +1,6 @@
 -- The parts of a record's bytes.
-use Rattle.std.proofs.Common.{◌≡◌, ℕ, List, [], ◌∷◌, ◌++◌, length, ap, append_assoc}
-use Rattle.std.specs.Prelude.{flat_map}
-use Rattle.fit_base.specs.Numbers.{number_bytes}
-use Rattle.fit_record.specs.declared.definition.MessageDef.{MessageDef}
-use Rattle.fit_record.specs.Records.{architecture, field_bytes, dev_part, definition_header, definition_bytes}
-use Rattle.fit_encode.specs.inner.Spelling.{definition_head}
+use Rattle.fit_encode.proofs.Common.{◌≡◌, ℕ, List, [], ◌∷◌, ◌++◌, length, ap, append_assoc, flat_map, number_bytes, MessageDef, architecture, field_bytes}
+use Rattle.fit_encode.proofs.Common.{dev_part, definition_header, definition_bytes, definition_head}
 
 pub definition_parts : {A : Type 0} (d : MessageDef A)
     → (definition_head d ++ flat_map field_bytes d.fields) ++ dev_part d.dev ≡ definition_header d ∷ definition_bytes d

@@ -1,25 +1,13 @@
 -- Files have one first fault at most.
-use Rattle.std.proofs.Common.{◌≡◌, ℕ, ◌+◌, ◌<◌, ◌≤◌, ◌^◌, List, [], ◌∷◌, ◌++◌, ◌⊎◌, inl, inr, length, Some, refl, sym, ap, ◌∙◌, subst, length-append, arith}
-use Rattle.std.specs.List.{AllByRecursion}
-use Rattle.std.proofs.lemmas.Bool.{cases_lt}
-use Rattle.fit_frame.specs.Header.{FormFits}
-use Rattle.fit_record.specs.declared.file.FitFile.{FitFile}
-use Rattle.fit_record.specs.declared.message.Record.{Record}
-use Rattle.fit_record.specs.declared.fits.ShapeFault.{ShapeFault}
-use Rattle.fit_record.specs.declared.fits.ShapeFault.TheVariants.{BadLocal as NoLocal, BadOffset as NoOffset, UndefinedLocal as NotDefined}
-use Rattle.fit_record.specs.declared.fits.ShapeFault.TheVariants.{WrongShape as WrongField}
-use Rattle.fit_record.specs.Environment.{Environment, empty_environment, learn, learn_all}
-use Rattle.fit_record.specs.Records.{Fits, AllFit, record_bytes, records_bytes}
-use Rattle.fit_record.specs.Faults.{first_fault}
-use Rattle.fit_record.specs.Files.{IsWellFormed, body}
-use Rattle.fit_record.specs.Laws.{FaultsAreExact}
-use Rattle.fit_encode.specs.declared.fault.EncodeFault.{EncodeFault}
-use Rattle.fit_encode.specs.declared.fault.EncodeFault.TheVariants.{BadHeader, ZeroIsSum, BadLocal, BadOffset, UndefinedLocal, WrongShape, TooLong}
-use Rattle.fit_encode.specs.declared.fault.EncodeFault.TheVariants.{DeclaredLength, ChainLength, NoMemory, Write}
-use Rattle.fit_encode.specs.Faults.{shape_fault, AtRecord, IsRecordFault, IsFileFault, IsChainLength, AtFile, IsFirstFault}
-use Rattle.fit_encode.specs.Laws.{FaultsAreOne}
-use Rattle.fit_encode.proofs.NoFault.{fits_between, good_between, no_file_fault}
-use Rattle.fit_encode.proofs.Spellable.{records_joined}
+use Rattle.fit_encode.proofs.Common.{◌≡◌, ℕ, ◌<◌, ◌≤◌, List, [], ◌∷◌, ◌++◌, ◌⊎◌, inl, inr, length, Some, refl, sym, ap, ◌∙◌, subst, length-append, arith}
+use Rattle.fit_encode.proofs.Common.{AllByRecursion, cases_order, front_back, FormFits, FitFile, Record, ShapeFault, NoLocal, NoOffset, NotDefined, WrongField}
+use Rattle.fit_encode.proofs.Common.{Environment, empty_environment, learn, learn_all, Fits, AllFit, record_bytes, records_bytes, first_fault, IsWellFormed}
+use Rattle.fit_encode.proofs.Common.{body, FaultsAreExact, EncodeFault, BadHeader, ZeroIsSum, BadLocal, BadOffset, UndefinedLocal, WrongShape, TooLong}
+use Rattle.fit_encode.proofs.Common.{ChainLength, shape_fault, AtRecord, IsRecordFault, IsFileFault, IsChainLength, AtFile, IsFirstFault, FaultsAreOne}
+use Rattle.fit_encode.proofs.Common.{records_bytes-append}
+use Rattle.std.proofs.Common.{◌+◌, ◌^◌}
+use Rattle.fit_encode.proofs.NoFault.{good_between, no_file_fault}
+use Rattle.fit_encode.proofs.RecordSteps.{fits_between}
 
 -- ---- two places of a list
 
@@ -33,20 +21,14 @@ rest_same e = cc
 -- an earlier place stands in what comes before a later one
 before_later : {X : Type 0} (xs ys : List X) (x y : X) (us vs : List X) → xs ++ x ∷ us ≡ ys ++ y ∷ vs → length xs < length ys
     → (mid : List X) × (ys ≡ xs ++ x ∷ mid)
-before_later [] [] x y us vs e less = absurd (omega arith)
 before_later [] (b ∷ ys) x y us vs e less = (ys, ap (λ z. z ∷ ys) (sym (first_same e)))
-before_later (a ∷ xs) [] x y us vs e less = absurd (omega arith)
 before_later {X} (a ∷ xs) (b ∷ ys) x y us vs e less =
     let there = before_later xs ys x y us vs (rest_same e) (omega arith) in
     (there.0, ap (λ (z : X). z ∷ ys) (sym (first_same e)) ∙ ap (λ (zs : List X). a ∷ zs) there.1)
+before_later _ _ x y us vs e less = absurd (omega arith)
 
 same_place : {X : Type 0} (xs ys : List X) (x y : X) (us vs : List X) → xs ++ x ∷ us ≡ ys ++ y ∷ vs → length xs ≡ length ys → (xs ≡ ys) × (x ≡ y)
-same_place [] [] x y us vs e same = (refl, first_same e)
-same_place [] (b ∷ ys) x y us vs e same = absurd (omega arith)
-same_place (a ∷ xs) [] x y us vs e same = absurd (omega arith)
-same_place {X} (a ∷ xs) (b ∷ ys) x y us vs e same =
-    let there = same_place xs ys x y us vs (rest_same e) (omega arith) in
-    (ap (λ (z : X). z ∷ xs) (first_same e) ∙ ap (λ (zs : List X). b ∷ zs) there.0, there.1)
+same_place xs ys x y us vs e same = let both = front_back xs ys (x ∷ us) (y ∷ vs) same e in (both.0, first_same both.1)
 
 -- ---- records
 
@@ -58,47 +40,31 @@ Spoils number index fault e n r = ((s : ShapeFault) × (first_fault e r ≡ Some
 abbrev SpoilsAt : {A : Type 0} → ℕ → List (Record A) → EncodeFault → Type 0
 SpoilsAt number records fault = (index : ℕ) × AtRecord records index (Spoils number index fault)
 
+more_at : {A : Type 0} {records : List (Record A)} {index : ℕ} (P Q : Environment A → ℕ → Record A → Type 0)
+    → ((e : Environment A) (n : ℕ) (r : Record A) → P e n r → Q e n r) → AtRecord records index P → AtRecord records index Q
+more_at P Q f h = record {
+  front = h.front;
+  this = h.this;
+  back = h.back;
+  joined = h.joined;
+  place = h.place;
+  fit = h.fit;
+  short = h.short;
+  holds = f _ _ h.this h.holds;
+}
+
 of_reason : {A : Type 0} (number file index : ℕ) (records : List (Record A)) (s : ShapeFault) → file ≡ number
     → AtRecord records index (λ e n r. first_fault e r ≡ Some s)
     → SpoilsAt number records (shape_fault file index s)
-of_reason number file index records s is h = (
-  index,
-  record {
-    front = h.front;
-    this = h.this;
-    back = h.back;
-    joined = h.joined;
-    place = h.place;
-    fit = h.fit;
-    short = h.short;
-    holds = inl (s, h.holds, ap (λ n. shape_fault n index s) is);
-  },
-)
+of_reason number file index records s is h = (index, more_at _ _ (λ e n r some. inl (s, some, ap (λ k. shape_fault k index s) is)) h)
 
 spoils : {A : Type 0} (number : ℕ) (records : List (Record A)) (fault : EncodeFault) → IsRecordFault number records fault → SpoilsAt number records fault
 spoils number records (BadLocal file index) h = of_reason number file index records NoLocal h.0 h.1
 spoils number records (BadOffset file index) h = of_reason number file index records NoOffset h.0 h.1
 spoils number records (UndefinedLocal file index) h = of_reason number file index records NotDefined h.0 h.1
 spoils number records (WrongShape file index field) h = of_reason number file index records (WrongField field) h.0 h.1
-spoils number records (TooLong file index) h = (
-  index,
-  record {
-    front = h.1.front;
-    this = h.1.this;
-    back = h.1.back;
-    joined = h.1.joined;
-    place = h.1.place;
-    fit = h.1.fit;
-    short = h.1.short;
-    holds = inr (h.1.holds.0, h.1.holds.1, ap (λ n. TooLong n index) h.0);
-  },
-)
-spoils number records (BadHeader file) h = absurd h
-spoils number records (ZeroIsSum file) h = absurd h
-spoils number records DeclaredLength h = absurd h
-spoils number records ChainLength h = absurd h
-spoils number records NoMemory h = absurd h
-spoils number records (Write written) h = absurd h
+spoils number records (TooLong file index) h = (index, more_at _ _ (λ e n r long. inr (long.0, long.1, ap (λ k. TooLong k index) h.0)) h.1)
+spoils number records _ h = absurd h
 
 -- no such record stands where it fits and the data is short
 no_spoils : {A : Type 0} → FaultsAreExact A → (number index : ℕ) (fault : EncodeFault) (front mid : List (Record A)) (r : Record A)
@@ -110,8 +76,7 @@ no_spoils exact number index fault front mid r (inl h) fit short =
     absurd (cc)
 no_spoils {A} exact number index fault front mid r (inr h) fit short =
     let e = learn_all {A = A} empty_environment front in
-    let all = ap length (records_joined empty_environment front (r ∷ mid)) in
-    let much = h.1 in
+    let all = ap length (records_bytes-append empty_environment front (r ∷ mid)) in
     omega (
       arith,
       length-append (records_bytes empty_environment front) (records_bytes e (r ∷ mid)),
@@ -138,23 +103,19 @@ no_earlier {A} exact number i j records a b h k less =
 at_one : {A : Type 0} → FaultsAreExact A → (number i j : ℕ) (records : List (Record A)) (a b : EncodeFault)
     → AtRecord records i (Spoils number i a) → AtRecord records j (Spoils number j b) → i ≡ j → a ≡ b
 at_one {A} exact number i j records a b h k same =
-    let there = same_place h.front k.front h.this k.this h.back k.back (sym h.joined ∙ k.joined) (omega (arith, h.place, k.place)) in
-    let moved = subst (λ (m : ℕ). Spoils number m b (learn_all empty_environment k.front) (length (records_bytes empty_environment k.front)) k.this) (sym same)
-    k.holds in
-    let onto = subst (λ (x : List (Record A)). Spoils number i b (learn_all empty_environment x) (length (records_bytes empty_environment x)) k.this)
-    (sym there.0) moved in
+    let there = same_place h.front k.front h.this k.this h.back k.back (sym h.joined ∙ k.joined) (sym h.place ∙ same ∙ k.place) in
     one_spoils exact number i a b (learn_all empty_environment h.front) (length (records_bytes empty_environment h.front)) h.this h.holds
-    (subst (λ (r : Record A). Spoils number i b (learn_all empty_environment h.front) (length (records_bytes empty_environment h.front)) r) (sym there.1) onto)
+    (rw (← same, ← there.0, ← there.1) at k.holds)
 
 ordered : {A : Type 0} → FaultsAreExact A → (number i j : ℕ) (records : List (Record A)) (a b : EncodeFault)
-    → AtRecord records i (Spoils number i a) → AtRecord records j (Spoils number j b) → (i < j) ⊎ (j ≤ i) → (j < i) ⊎ (i ≤ j) → a ≡ b
-ordered exact number i j records a b h k (inl less) other = absurd (no_earlier exact number i j records a b h k less)
-ordered exact number i j records a b h k (inr least) (inl less) = absurd (no_earlier exact number j i records b a k h less)
-ordered exact number i j records a b h k (inr least) (inr most) = at_one exact number i j records a b h k (omega arith)
+    → AtRecord records i (Spoils number i a) → AtRecord records j (Spoils number j b) → (i ≡ j) ⊎ ((i < j) ⊎ (j < i)) → a ≡ b
+ordered exact number i j records a b h k (inl same) = at_one exact number i j records a b h k same
+ordered exact number i j records a b h k (inr (inl less)) = absurd (no_earlier exact number i j records a b h k less)
+ordered exact number i j records a b h k (inr (inr less)) = absurd (no_earlier exact number j i records b a k h less)
 
 record_faults_are_one : {A : Type 0} → FaultsAreExact A → (number : ℕ) (records : List (Record A)) (a b : EncodeFault)
     → SpoilsAt number records a → SpoilsAt number records b → a ≡ b
-record_faults_are_one exact number records a b h k = ordered exact number h.0 k.0 records a b h.1 k.1 (cases_lt h.0 k.0) (cases_lt k.0 h.0)
+record_faults_are_one exact number records a b h k = ordered exact number h.0 k.0 records a b h.1 k.1 (cases_order h.0 k.0)
 
 -- ---- files
 
@@ -167,15 +128,7 @@ Spoiled number f fault = ((FormFits f.header → ⊥) × (fault ≡ BadHeader nu
 spoiled : {A : Type 0} (number : ℕ) (f : FitFile A) (fault : EncodeFault) → IsFileFault number f fault → Spoiled number f fault
 spoiled number f (BadHeader file) h = inl (h.1, ap BadHeader h.0)
 spoiled number f (ZeroIsSum file) h = inr (inr (h.1, h.2, h.3, ap ZeroIsSum h.0))
-spoiled number f (BadLocal file index) h = inr (inl (h.0, spoils number f.records (BadLocal file index) h.1))
-spoiled number f (BadOffset file index) h = inr (inl (h.0, spoils number f.records (BadOffset file index) h.1))
-spoiled number f (UndefinedLocal file index) h = inr (inl (h.0, spoils number f.records (UndefinedLocal file index) h.1))
-spoiled number f (WrongShape file index field) h = inr (inl (h.0, spoils number f.records (WrongShape file index field) h.1))
-spoiled number f (TooLong file index) h = inr (inl (h.0, spoils number f.records (TooLong file index) h.1))
-spoiled number f DeclaredLength h = absurd h.1
-spoiled number f ChainLength h = absurd h.1
-spoiled number f NoMemory h = absurd h.1
-spoiled number f (Write written) h = absurd h.1
+spoiled number f fault h = inr (inl (h.0, spoils number f.records fault h.1))
 
 -- no record of such a file is at fault
 no_record : {A : Type 0} → FaultsAreExact A → (number : ℕ) (f : FitFile A) (fault : EncodeFault) → AllFit empty_environment f.records → length (body f) < 2 ^ 32
@@ -210,30 +163,20 @@ one_at : {A : Type 0} → FaultsAreExact A → (fs : List (FitFile A)) (a b : En
     → a ≡ b
 one_at {A} exact fs a b h k same =
     let there = same_place h.front k.front h.this k.this h.back k.back (sym h.joined ∙ k.joined) same in
-    let moved = subst (λ (n : ℕ). IsFileFault (n + 1) k.this b) (sym same) k.holds in
-    let onto = subst (λ (f : FitFile A). IsFileFault (length h.front + 1) f b) (sym there.1) moved in
-    one_spoiled exact (length h.front + 1) h.this a b (spoiled (length h.front + 1) h.this a h.holds) (spoiled (length h.front + 1) h.this b onto)
+    one_spoiled exact (length h.front + 1) h.this a b (spoiled (length h.front + 1) h.this a h.holds)
+    (spoiled (length h.front + 1) h.this b (rw (← same, ← there.1) at k.holds))
 
 files_ordered : {A : Type 0} → FaultsAreExact A → (fs : List (FitFile A)) (a b : EncodeFault) (h : AtFault fs a) (k : AtFault fs b)
-    → (length h.front < length k.front) ⊎ (length k.front ≤ length h.front) → (length k.front < length h.front) ⊎ (length h.front ≤ length k.front) → a ≡ b
-files_ordered exact fs a b h k (inl less) other = absurd (no_earlier_file exact fs a b h k less)
-files_ordered exact fs a b h k (inr least) (inl less) = absurd (no_earlier_file exact fs b a k h less)
-files_ordered exact fs a b h k (inr least) (inr most) = one_at exact fs a b h k (omega arith)
+    → (length h.front ≡ length k.front) ⊎ ((length h.front < length k.front) ⊎ (length k.front < length h.front)) → a ≡ b
+files_ordered exact fs a b h k (inl same) = one_at exact fs a b h k same
+files_ordered exact fs a b h k (inr (inl less)) = absurd (no_earlier_file exact fs a b h k less)
+files_ordered exact fs a b h k (inr (inr less)) = absurd (no_earlier_file exact fs b a k h less)
 
 -- the number of files, or one of them
 first_of_all : {A : Type 0} (fs : List (FitFile A)) (fault : EncodeFault) → IsFirstFault fs fault
     → ((IsChainLength (length fs) → ⊥) × (fault ≡ ChainLength)) ⊎ (IsChainLength (length fs) × AtFault fs fault)
 first_of_all fs ChainLength h = inl (h, refl)
-first_of_all fs (BadHeader file) h = inr h
-first_of_all fs (ZeroIsSum file) h = inr h
-first_of_all fs (BadLocal file index) h = inr h
-first_of_all fs (BadOffset file index) h = inr h
-first_of_all fs (UndefinedLocal file index) h = inr h
-first_of_all fs (WrongShape file index field) h = inr h
-first_of_all fs (TooLong file index) h = inr h
-first_of_all fs DeclaredLength h = inr h
-first_of_all fs NoMemory h = inr h
-first_of_all fs (Write written) h = inr h
+first_of_all fs _ h = inr h
 
 one_of_all : {A : Type 0} → FaultsAreExact A → (fs : List (FitFile A)) (a b : EncodeFault)
     → ((IsChainLength (length fs) → ⊥) × (a ≡ ChainLength)) ⊎ (IsChainLength (length fs) × AtFault fs a)
@@ -242,7 +185,7 @@ one_of_all exact fs a b (inl h) (inl k) = h.1 ∙ sym k.1
 one_of_all exact fs a b (inl h) (inr k) = absurd (h.0 k.0)
 one_of_all exact fs a b (inr h) (inl k) = absurd (k.0 h.0)
 one_of_all exact fs a b (inr h) (inr k) =
-    files_ordered exact fs a b h.1 k.1 (cases_lt (length h.1.front) (length k.1.front)) (cases_lt (length k.1.front) (length h.1.front))
+    files_ordered exact fs a b h.1 k.1 (cases_order (length h.1.front) (length k.1.front))
 
 pub one_fault : {A : Type 0} → FaultsAreExact A → FaultsAreOne A
 one_fault exact fs a b h k = one_of_all exact fs a b (first_of_all fs a h) (first_of_all fs b k)

@@ -1,18 +1,11 @@
 -- The byte order of each local message type is all that the bytes of records depend on.
-use Rattle.std.proofs.Common.{◌≡◌, ℕ, ◌<◌, inl, inr, Bool, true, false, cond, List, [], ◌∷◌, length, get_or, set, Some, None, refl, sym, ap, ◌∙◌, subst, ltb}
-use Rattle.std.proofs.Common.{lt-ltb, get_or-set_same, get_or-set_other, arith}
-use Rattle.std.specs.Prelude.{Option, slice_index_or, unwrap_or, option_map, option_and_then}
-use Rattle.std.proofs.lemmas.Bool.{cases_eq}
+use Rattle.fit_encode.proofs.Common.{◌≡◌, ℕ, ◌<◌, inl, inr, Bool, true, false, cond, List, ◌∷◌, length, get_or, set, Some, None, refl, sym, ap, ◌∙◌, subst, ltb}
+use Rattle.fit_encode.proofs.Common.{lt-ltb, get_or-set_same, get_or-set_other, arith, slice_index_or, unwrap_or, option_map, option_and_then, cases_eq, Order}
+use Rattle.fit_encode.proofs.Common.{Little, Defined, Record, Define, Data, Environment, learn, defined_at, defined_by, describe, description, Fits}
+use Rattle.fit_encode.proofs.Common.{data_header, data_bytes, record_bytes, order_at, bytes_in_order, order_in, orders_after}
+use Rattle.std.specs.Prelude.{Option}
 use Rattle.std.proofs.Math.ListN.{length-set}
-use Rattle.fit_base.specs.declared.number.Order.{Order}
-use Rattle.fit_base.specs.declared.number.Order.TheVariants.{Little}
-use Rattle.fit_record.specs.declared.environment.Defined.{Defined}
 use Rattle.fit_record.specs.declared.learn.Description.{Description}
-use Rattle.fit_record.specs.declared.message.Record.{Record}
-use Rattle.fit_record.specs.declared.message.Record.TheVariants.{Define, Values as Data}
-use Rattle.fit_record.specs.Environment.{Environment, learn, learn_all, defined_at, defined_by, describe, description}
-use Rattle.fit_record.specs.Records.{Fits, data_header, data_bytes, record_bytes, order_at}
-use Rattle.fit_encode.specs.inner.Spelling.{bytes_in_order, order_in, orders_after}
 
 -- the orders are those of the local message types that are known
 abbrev pub AreOrders : {A : Type 0} → Environment A → List Order → Type 0
@@ -57,15 +50,3 @@ long_after orders (Define d) = go (ltb d.local 16)
     go true = length-set orders d.local d.order
     go false = refl
 long_after orders (Data v) = refl
-
-places_described : {A : Type 0} (e : Environment A) (s : Option Description) → length (describe e s).places ≡ length e.places
-places_described e None = refl
-places_described e (Some s) = refl
-
-places_learned : {A : Type 0} (e : Environment A) (r : Record A) → length (learn e r).places ≡ length e.places
-places_learned e (Define d) = length-set e.places d.local (Some (defined_by e d))
-places_learned e (Data v) = places_described e (option_and_then (λ p. description p.definition v) (defined_at e v.local))
-
-pub sixteen_places : {A : Type 0} (e : Environment A) (rs : List (Record A)) → length e.places ≡ 16 → length (learn_all e rs).places ≡ 16
-sixteen_places e [] long = long
-sixteen_places e (r ∷ rs) long = sixteen_places (learn e r) rs (places_learned e r ∙ long)

@@ -1,15 +1,10 @@
 -- Bytes that are spelled one after another.
-use Rattle.std.proofs.Common.{◌≡◌, ℕ, ◌+◌, ◌<◌, ◌^◌, add-zero, Bool, true, false, List, [], ◌∷◌, ◌++◌, Option, Result, Ok, Err, length, take, drop, get_or, sym}
-use Rattle.std.proofs.Common.{ap, ◌∙◌, subst, refl, append_assoc, append-nil, length-append, length-take, length-drop, arith}
-use Rattle.std.specs.Prelude.{flat_map}
-use Rattle.std.specs.Io.KnownBytes.{Appends}
-use Rattle.std.proofs.KnownBytes.{Appends-trans, Appends-nil}
-use Rattle.std.proofs.lemmas.List.{take_more, drop_more, take-append-drop}
-use lib.Seq.{take-append_seam}
+use Rattle.fit_encode.proofs.Common.{◌≡◌, ℕ, ◌<◌, add-zero, Bool, true, false, List, [], ◌∷◌, ◌++◌, length, take, drop, get_or, sym, ap, ◌∙◌, subst, refl}
+use Rattle.fit_encode.proofs.Common.{append_assoc, append-nil, length-append, length-take, arith, flat_map, IsErrAnd, Appends, Appends-trans, Appends-nil}
+use Rattle.fit_encode.proofs.Common.{take_more, drop_more, take-append-drop, take-append_seam, Written, Sending, Spells, Breaks, Sends, PutsAll, IsCounted}
+use Rattle.fit_encode.proofs.Common.{fresh, StopsAt}
+use Rattle.std.proofs.Common.{◌+◌, ◌^◌, Option, Result, Ok, Err, length-drop}
 use Rattle.std.proofs.lemmas.List.Concat.{flat_map-append}
-use Rattle.fit_encode.specs.Sinks.{Written}
-use Rattle.fit_encode.specs.inner.Sending.{Sending, Spells, Breaks, Sends, IsCounted, fresh}
-use Rattle.fit_encode.specs.Faults.{StopsAt}
 
 pub IsCounted-more : (n m k : ℕ) (p q : List ℕ) → IsCounted n (length p) m → IsCounted m (length q) k → IsCounted n (length (p ++ q)) k
 IsCounted-more n m k p q first second fits =
@@ -73,19 +68,6 @@ Breaks-more {a} {b} {s} {p} {w} q h = record {
 
 -- ---- a put
 
--- all that was held went out
-pub Spells-flush : (a b : Written) (s : Sending) (held : List ℕ) (n : ℕ) → held ≡ s.held → Appends a.held b.held held → IsCounted s.count (length held) n
-    → (0 < length held → b.failed ≡ false) → (a.failed ≡ false → b.failed ≡ false) → Spells a b s (record { sent = s.sent ++ held; held = []; count = n }) []
-Spells-flush a b s held n e went total works keeps = record {
-  went = held;
-  appended = went;
-  sent = refl;
-  joined = ap (λ (x : List ℕ). x ++ []) e;
-  total = total;
-  works = works;
-  keeps = keeps;
-}
-
 -- a part of what was held went out
 pub Breaks-flush : (a b : Written) (s : Sending) (held : List ℕ) (k w : ℕ) → held ≡ s.held → Appends a.held b.held (take k held) → k < length held
     → IsCounted s.count k w → Breaks a b s [] w
@@ -118,6 +100,17 @@ Spells-as {a} {b} {s} {t} e h = subst (Spells a b s t) e h
 
 pub Breaks-as : {a b : Written} {s : Sending} {p q : List ℕ} {w : ℕ} → p ≡ q → Breaks a b s p w → Breaks a b s q w
 Breaks-as {a} {b} {s} {p} {q} {w} e h = subst (λ (y : List ℕ). Breaks a b s y w) e h
+
+-- a call that failed, and whose error the `?` behind it passes on
+pub Sends-err : {T : Type 0} (a b : Written) (s t : Sending) (p : List ℕ) (r : Result T ℕ) {w : ℕ} → IsErrAnd r (λ y. y ≡ w)
+    → Breaks a b s p w × (b.failed ≡ true) → Sends a b s t p r
+Sends-err a b s t p (Ok x) h broken = absurd h
+Sends-err a b s t p (Err y) h broken = (subst (λ v. Breaks a b s p v) (sym h) broken.0, broken.1)
+
+pub PutsAll-err : (a b : Written) (count : ℕ) (p : List ℕ) (r : Result ℕ ℕ) {w : ℕ} → IsErrAnd r (λ y. y ≡ w) → Breaks a b (fresh count) p w × (b.failed ≡ true)
+    → PutsAll a b count p r
+PutsAll-err a b count p (Ok x) h broken = absurd h
+PutsAll-err a b count p (Err y) h broken = (subst (λ v. Breaks a b (fresh count) p v) (sym h) broken.0, broken.1)
 
 -- a call behind another, which is the last one
 pub Sends-on : {T : Type 0} (a b c : Written) (s t u : Sending) (p q bytes : List ℕ) (r : Result T ℕ) → p ++ q ≡ bytes → Spells a b s t p
@@ -171,7 +164,6 @@ stops_at {a} {b} {c} {w} front bytes back count short first counted broken faile
     let halves = length-append front bytes in
     let joined = ap length broken.joined in
     let parts = length-append broken.went broken.rest in
-    let some = broken.some in
     let before_is = counted (omega arith) in
     let before : count ≡ length front = omega arith in
     let there : w ≡ count + length broken.went = broken.total (omega arith) in
@@ -196,33 +188,32 @@ stops_in {a} {b} {w} bytes short broken failed =
 
 -- ---- lists
 
--- a part for each element, of which some are spelled
-parts : {X : Type 0} (f : X → List ℕ) (xs : List X) (i : ℕ) (d : X) → i < length xs
-    → (flat_map f (take i xs) ++ f (get_or xs i d)) ++ flat_map f (drop (i + 1) xs) ≡ flat_map f xs
-parts f xs i d less =
-    append_assoc (flat_map f (take i xs)) (f (get_or xs i d)) (flat_map f (drop (i + 1) xs))
-    ∙ ap (λ (y : List ℕ). flat_map f (take i xs) ++ y) (sym (ap (flat_map f) (drop_more xs i d less)))
-    ∙ sym (flat_map-append f (take i xs) (drop i xs)) ∙ ap (flat_map f) (take-append-drop i xs)
+-- a list, with one element of it by its place
+pub split_here : {X : Type 0} (xs : List X) (i : ℕ) (d x : X) → i < length xs → x ≡ get_or xs i d → xs ≡ take i xs ++ x ∷ drop (i + 1) xs
+split_here xs i d x less is =
+    sym (take-append-drop i xs) ∙ ap (λ y. take i xs ++ y) (drop_more xs i d less ∙ ap (λ y. y ∷ drop (i + 1) xs) (sym is))
 
-next_part : {X : Type 0} (f : X → List ℕ) (xs : List X) (i : ℕ) (d : X) → i < length xs
-    → flat_map f (take i xs) ++ f (get_or xs i d) ≡ flat_map f (take (i + 1) xs)
-next_part f xs i d less =
-    sym (ap (flat_map f) (take_more xs i d less) ∙ flat_map-append f (take i xs) (get_or xs i d ∷ [])
-    ∙ ap (λ (y : List ℕ). flat_map f (take i xs) ++ y) (append-nil (f (get_or xs i d))))
+pub one_more : {X : Type 0} (xs : List X) (i : ℕ) (d x : X) → i < length xs → x ≡ get_or xs i d → take (i + 1) xs ≡ take i xs ++ x ∷ []
+one_more xs i d x less is = take_more xs i d less ∙ ap (λ y. take i xs ++ y ∷ []) (sym is)
+
+-- a part for each element, of which some are spelled
+pub parts_of : {X : Type 0} (f : X → List ℕ) (xs : List X) (i : ℕ) (d x : X) → i < length xs → x ≡ get_or xs i d
+    → (flat_map f (take i xs) ++ f x) ++ flat_map f (drop (i + 1) xs) ≡ flat_map f xs
+parts_of f xs i d x less is =
+    append_assoc (flat_map f (take i xs)) (f x) (flat_map f (drop (i + 1) xs))
+    ∙ sym (ap (flat_map f) (split_here xs i d x less is) ∙ flat_map-append f (take i xs) (x ∷ drop (i + 1) xs))
 
 pub next_part_of : {X : Type 0} (f : X → List ℕ) (xs : List X) (i : ℕ) (d x : X) → i < length xs → x ≡ get_or xs i d
     → flat_map f (take i xs) ++ f x ≡ flat_map f (take (i + 1) xs)
-next_part_of f xs i d x less is = ap (λ (y : List ℕ). flat_map f (take i xs) ++ y) (ap f is) ∙ next_part f xs i d less
-
-pub parts_of : {X : Type 0} (f : X → List ℕ) (xs : List X) (i : ℕ) (d x : X) → i < length xs → x ≡ get_or xs i d
-    → (flat_map f (take i xs) ++ f x) ++ flat_map f (drop (i + 1) xs) ≡ flat_map f xs
-parts_of f xs i d x less is = ap (λ (y : List ℕ). (flat_map f (take i xs) ++ y) ++ flat_map f (drop (i + 1) xs)) (ap f is) ∙ parts f xs i d less
+next_part_of f xs i d x less is =
+    sym (ap (flat_map f) (one_more xs i d x less is) ∙ flat_map-append f (take i xs) (x ∷ [])
+    ∙ ap (λ (y : List ℕ). flat_map f (take i xs) ++ y) (append-nil (f x)))
 
 pub Spells-next : {X : Type 0} {a b c : Written} {s t u : Sending} (f : X → List ℕ) (xs : List X) (i : ℕ) (d x : X) → i < length xs → x ≡ get_or xs i d
     → Spells a b s t (flat_map f (take i xs)) → Spells b c t u (f x) → Spells a c s u (flat_map f (take (i + 1) xs))
-Spells-next f xs i d x less is first second = Spells-as (next_part f xs i d less) (Spells-on first (Spells-as (ap f is) second))
+Spells-next f xs i d x less is first second = Spells-as (next_part_of f xs i d x less is) (Spells-on first second)
 
 pub Breaks-next : {X : Type 0} {a b c : Written} {s t : Sending} {w : ℕ} (f : X → List ℕ) (xs : List X) (i : ℕ) (d x : X) → i < length xs → x ≡ get_or xs i d
     → Spells a b s t (flat_map f (take i xs)) → Breaks b c t (f x) w → Breaks a c s (flat_map f xs) w
 Breaks-next f xs i d x less is first second =
-    Breaks-as (parts f xs i d less) (Breaks-more (flat_map f (drop (i + 1) xs)) (Breaks-on first (Breaks-as (ap f is) second)))
+    Breaks-as (parts_of f xs i d x less is) (Breaks-more (flat_map f (drop (i + 1) xs)) (Breaks-on first second))

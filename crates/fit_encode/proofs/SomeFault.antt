@@ -1,28 +1,14 @@
 -- Files that can't be written as a chain have a first fault.
-use Rattle.std.proofs.Common.{◌≡◌, ℕ, ◌+◌, ◌/◌, ◌<◌, ◌≤◌, ◌^◌, List, [], ◌∷◌, ◌++◌, ◌⊎◌, inl, inr, length, Some, None, refl, sym, ap, subst, append_assoc}
-use Rattle.std.proofs.Common.{append-nil, length-append, arith}
+use Rattle.fit_encode.proofs.Common.{◌≡◌, ℕ, ◌/◌, ◌<◌, ◌≤◌, List, [], ◌∷◌, ◌++◌, ◌⊎◌, inl, inr, length, Some, None, refl, sym, ap, subst, append_assoc}
+use Rattle.fit_encode.proofs.Common.{append-nil, length-append, arith, AllByRecursion, cases_eq, cases_lt, checksum, Header, HeaderSum, Absent, Zero, FormFits}
+use Rattle.fit_encode.proofs.Common.{SizeFits, SumIsZero, fixed_part, FitFile, Record, ShapeFault, empty_environment, learn_all, Fits, AllFit, record_bytes}
+use Rattle.fit_encode.proofs.Common.{records_bytes, HasRange, first_fault, IsWellFormed, IsWellFormedChain, body, chain_limit, FaultsAreExact, EncodeFault}
+use Rattle.fit_encode.proofs.Common.{BadHeader, ZeroIsSum, TooLong, ChainLength, shape_fault, IsRecordFault, IsFileFault, IsChainLength, AtFile, IsFirstFault}
+use Rattle.fit_encode.proofs.Common.{BadChainsHaveAFault, HasFileRange, all_fit-append}
+use Rattle.std.proofs.Common.{◌+◌, ◌^◌}
 use Rattle.std.specs.Prelude.{Option}
-use Rattle.std.specs.List.{AllByRecursion}
-use Rattle.std.proofs.lemmas.Bool.{cases_eq, cases_lt}
-use Rattle.fit_sum.specs.Checksum.{checksum}
-use Rattle.fit_frame.specs.declared.header.Header.{Header}
-use Rattle.fit_frame.specs.declared.header.HeaderSum.{HeaderSum}
-use Rattle.fit_frame.specs.declared.header.HeaderSum.TheVariants.{Absent, Zero, True}
-use Rattle.fit_frame.specs.Header.{FormFits, SizeFits, ZeroIsSum as SumIsZero, fixed_part}
-use Rattle.fit_record.specs.declared.file.FitFile.{FitFile}
-use Rattle.fit_record.specs.declared.message.Record.{Record}
-use Rattle.fit_record.specs.declared.fits.ShapeFault.{ShapeFault}
-use Rattle.fit_record.specs.Environment.{empty_environment, learn_all}
-use Rattle.fit_record.specs.Records.{Fits, AllFit, record_bytes, records_bytes}
-use Rattle.fit_record.specs.Faults.{HasRange, first_fault}
-use Rattle.fit_record.specs.Files.{IsWellFormed, IsWellFormedChain, body, chain_limit}
-use Rattle.fit_record.specs.Laws.{FaultsAreExact}
-use Rattle.fit_encode.specs.declared.fault.EncodeFault.{EncodeFault}
-use Rattle.fit_encode.specs.declared.fault.EncodeFault.TheVariants.{BadHeader, ZeroIsSum, TooLong, ChainLength}
-use Rattle.fit_encode.specs.Faults.{shape_fault, IsRecordFault, IsFileFault, IsChainLength, AtFile, IsFirstFault}
-use Rattle.fit_encode.specs.Laws.{BadChainsHaveAFault, HasFileRange}
-use Rattle.fit_encode.proofs.FaultSteps.{of_file, of_record, of_shape}
-use Rattle.fit_encode.proofs.RecordSteps.{AllFit-last, records_bytes-last}
+use Rattle.fit_encode.proofs.FaultSteps.{last_good, of_file, of_record, of_shape}
+use Rattle.fit_encode.proofs.RecordSteps.{records_bytes-last}
 
 -- ---- records
 
@@ -50,7 +36,7 @@ by_length {A} number front r back good fits rest (inl less) =
     let e = learn_all {A = A} empty_environment front in
     let grown = ap length (records_bytes-last empty_environment front r) in
     let long = length-append (records_bytes {A = A} empty_environment front) (record_bytes e r) in
-    subst (RecordsDecided number) (append_assoc front (r ∷ []) back) (rest (AllFit-last empty_environment front r good.0 fits, omega arith))
+    subst (RecordsDecided number) (append_assoc front (r ∷ []) back) (rest (all_fit-append empty_environment front (r ∷ []) good.0 (fits, tt), omega arith))
 
 -- the next record has a fault, or it fits
 by_shape : {A : Type 0} → FaultsAreExact A → (number : ℕ) (front : List (Record A)) (r : Record A) (back : List (Record A)) → Stand front → HasRange r
@@ -78,13 +64,8 @@ records_decided {A} exact number front (r ∷ back) good range =
 
 size_decided : (word : HeaderSum) (size : ℕ) (rest : List ℕ) → SizeFits word size rest ⊎ (SizeFits word size rest → ⊥)
 size_decided Absent size (b ∷ rest) = inr (λ h. let none = h.1 in absurd (cc))
-size_decided Absent size [] = twelve size (cases_eq size 12)
-  where
-    twelve : (size : ℕ) → (size ≡ 12) ⊎ (size ≡ 12 → ⊥) → SizeFits Absent size [] ⊎ (SizeFits Absent size [] → ⊥)
-    twelve size (inl is) = inl (is, refl)
-    twelve size (inr never) = inr (λ h. never h.0)
-size_decided Zero size rest = cases_eq size (14 + length rest)
-size_decided True size rest = cases_eq size (14 + length rest)
+size_decided Absent size [] = elim (cases_eq size 12) [ inl is ↦ inl (is, refl) | inr never ↦ inr (λ h. never h.0) ]
+size_decided _ size rest = cases_eq size (14 + length rest)
 
 form_of : (h : Header) → SizeFits h.sum h.size h.rest.items ⊎ (SizeFits h.sum h.size h.rest.items → ⊥) → (2 < h.protocol / 16) ⊎ (h.protocol / 16 ≤ 2)
     → FormFits h ⊎ (FormFits h → ⊥)
@@ -93,9 +74,8 @@ form_of h (inl size) (inl late) = inr (λ form. let version = form.version in om
 form_of h (inr never) version = inr (λ form. never form.size)
 
 zero_word : (word : HeaderSum) → (word ≡ Zero) ⊎ (word ≡ Zero → ⊥)
-zero_word Absent = inr (λ e. cc)
 zero_word Zero = inl refl
-zero_word True = inr (λ e. cc)
+zero_word _ = inr (λ e. cc)
 
 sum_of : (h : Header) (n : ℕ) → (h.sum ≡ Zero) ⊎ (h.sum ≡ Zero → ⊥) → (checksum (fixed_part h n) ≡ 0) ⊎ (checksum (fixed_part h n) ≡ 0 → ⊥)
     → SumIsZero h n ⊎ (SumIsZero h n → ⊥)
@@ -131,10 +111,6 @@ file_decided exact number f range =
 
 abbrev HasFileFault : {A : Type 0} → List (FitFile A) → Type 0
 HasFileFault fs = (fault : EncodeFault) × AtFile fs (λ number f. IsFileFault number f fault)
-
-last_good : {A : Type 0} (fs : List (FitFile A)) (f : FitFile A) → AllByRecursion IsWellFormed fs → IsWellFormed f → AllByRecursion IsWellFormed (fs ++ f ∷ [])
-last_good [] f all one = (one, tt)
-last_good (x ∷ fs) f all one = (all.0, last_good fs f all.1 one)
 
 abbrev FilesDecided : {A : Type 0} → List (FitFile A) → Type 0
 FilesDecided fs = AllByRecursion IsWellFormed fs ⊎ HasFileFault fs

@@ -1,7 +1,7 @@
 -- One write behind another.
-use Rattle.std.proofs.Common.{ℕ, ◌+◌, List, ◌++◌, take, drop, Option, Some, None, ap, ◌∙◌, append_assoc}
+use Rattle.fit_encode.proofs.Common.{ℕ, List, ◌++◌, take, drop, Some, None, ap, ◌∙◌, append_assoc, Appends}
+use Rattle.std.proofs.Common.{◌+◌, Option}
 use Rattle.std.proofs.Math.Seq.{take-add}
-use Rattle.std.specs.Io.KnownBytes.{Appends}
 
 pub Appends-on : (a b c : Option (List ℕ)) (p q : List ℕ) → Appends a b p → Appends b c q → Appends a c (p ++ q)
 Appends-on None b c p q h g = tt

@@ -2,3 +2,4 @@
 pub mod Sending
 pub mod Spelling
 pub mod Open
+pub mod Kept

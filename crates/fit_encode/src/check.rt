@@ -67,7 +67,7 @@ fn check_file<A: Allocator + Copy>(
 }
 
 /// Whether the parts of a header go together, whatever the data is.
-fn has_form(header: &Header) -> bool
+pub(crate) fn has_form(header: &Header) -> bool
     ensures { IsTrue result ↔ FormFits header.now }
 {
     match head_bytes(header, 0) {

@@ -230,7 +230,7 @@ fn record_size<A: Allocator>(
 }
 
 /// The byte order of a record.
-fn order_of<A: Allocator>(env: &Env<A>, r: &Record<A>) -> Order
+pub(crate) fn order_of<A: Allocator>(env: &Env<A>, r: &Record<A>) -> Order
     ensures { bytes_in_order result r.now ≡ record_bytes env.now r.now }
 {
     match r {
@@ -255,7 +255,7 @@ fn send<K: Sink>(out: &mut Spelling, sink: &mut K, bytes: &[u8]) -> Result<(), u
 }
 
 /// Sends a record.
-fn send_record<K: Sink, A: Allocator>(
+pub(crate) fn send_record<K: Sink, A: Allocator>(
     out: &mut Spelling,
     sink: &mut K,
     order: Order,

@@ -2,7 +2,7 @@
 ghost use Rattle.std.specs.Prelude.{◌≡◌, ◌-◌, ◌<◌, ◌^◌, min, length, sum_by};
 ghost use Rattle.fit_record.specs.Environment.{empty_environment};
 ghost use Rattle.fit_record.specs.Records.{records_bytes};
-ghost use Rattle.fit_record.specs.inner.DefinitionLengths.{definition_length};
+ghost use Rattle.fit_record.specs.DefinitionLengths.{definition_length};
 ghost use Rattle.fit_encode.specs.inner.Spelling.{items_size, record_size};
 
 use fit_base::Items;

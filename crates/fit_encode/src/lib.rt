@@ -6,12 +6,17 @@ mod encoder;
 mod fault;
 pub mod laws;
 mod length;
+mod memory;
 mod message;
 mod sink;
+mod spelled;
+mod spelled_files;
 mod spelling;
 mod write;
 
 pub use encoder::Encoder;
 pub use fault::EncodeFault;
 pub use sink::{CutSink, Sink, SinkFailed, WriteSink, put_all};
+pub use spelled::{SpelledFile, SpelledRecords};
+pub use spelled_files::write_spelled;
 pub use write::{write_chain, write_one};

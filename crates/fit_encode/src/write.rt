@@ -124,7 +124,7 @@ fn write_file<K: Sink, A: Allocator>(
 }
 
 /// Spells a header that can stand before that many bytes of data.
-fn spell_head<K: Sink>(
+pub(crate) fn spell_head<K: Sink>(
     out: &mut Spelling,
     sink: &mut K,
     header: &Header,

@@ -8,7 +8,7 @@ use Rattle.fit_base.specs.Numbers.{number_bytes}
 use Rattle.fit_record.specs.declared.definition.MessageDef.{MessageDef}
 use Rattle.fit_record.specs.declared.message.Record.{Record}
 use Rattle.fit_record.specs.declared.message.Record.TheVariants.{Define, Values as Data}
-use Rattle.fit_record.specs.inner.DefinitionLengths.{definition_length}
+use Rattle.fit_record.specs.DefinitionLengths.{definition_length}
 use Rattle.fit_record.specs.Records.{architecture, definition_header, definition_bytes, DefinitionFits, data_header, data_bytes, DataHeaderFits}
 
 abbrev pub bytes_in_order : {A : Type 0} → Order → Record A → List ℕ

@@ -1,7 +1,5 @@
-use Rattle.std.proofs.Common.{Err, inr, length, refl, ap, ◌∙◌}
-use Rattle.std.proofs.lemmas.Result.{err_from_is_err_and}
-use Rattle.fit_record.specs.Environment.{empty_environment}
-use Rattle.fit_record.specs.Records.{records_bytes}
+use Rattle.fit_encode.proofs.Common.{inr, length, refl, ap, ◌∙◌, err_from_is_err_and, empty_environment, records_bytes}
+use Rattle.std.proofs.Common.{Err}
 use Rattle.fit_encode.proofs.FaultSteps.{record_or, good_file, zero_fault}
 use Rattle.fit_encode.proofs.check.check_file.Goals as goal
 

@@ -1,5 +1,4 @@
-use Rattle.std.proofs.Common.{arith}
-use Rattle.std.proofs.lemmas.Result.{err_from_is_err_and}
+use Rattle.fit_encode.proofs.Common.{arith, err_from_is_err_and}
 use Rattle.fit_encode.proofs.FaultSteps.{file_or, next_good}
 use Rattle.fit_encode.proofs.check.check_files.Goals as goal
 

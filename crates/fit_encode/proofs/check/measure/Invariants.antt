@@ -1,6 +1,5 @@
-use Rattle.std.proofs.Common.{◌≡◌, ◌<◌, ◌^◌, take, length}
-use Rattle.fit_record.specs.Environment.{empty_environment, learn_all}
-use Rattle.fit_record.specs.Records.{AllFit, records_bytes}
+use Rattle.fit_encode.proofs.Common.{◌≡◌, ◌<◌, take, length, empty_environment, learn_all, AllFit, records_bytes}
+use Rattle.std.proofs.Common.{◌^◌}
 use Rattle.fit_encode.proofs.check.measure.Given as goal
 
 abbrev pub invariant-loop-index : goal.invariant-loop-index

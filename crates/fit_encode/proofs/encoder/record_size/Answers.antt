@@ -1,5 +1,4 @@
-use Rattle.std.proofs.Common.{sym, subst}
-use Rattle.fit_encode.specs.Encoding.{IsPlaceFault}
+use Rattle.fit_encode.proofs.Common.{sym, subst, IsPlaceFault}
 use Rattle.fit_encode.proofs.Encoders.{of_shape}
 use Rattle.fit_encode.proofs.encoder.record_size.Goals as goal
 

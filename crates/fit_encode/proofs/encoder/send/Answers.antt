@@ -1,12 +1,10 @@
-use Rattle.std.proofs.Common.{[], append-nil}
-use Rattle.std.proofs.lemmas.Result.{err_from_is_err_and}
-use Rattle.fit_encode.proofs.Sendings.{Sends-on}
+use Rattle.fit_encode.proofs.Common.{[], append-nil}
+use Rattle.fit_encode.proofs.Sendings.{Sends-on, Sends-err}
 use Rattle.fit_encode.proofs.encoder.send.Goals as goal
 
 pub returns-in_err-bytes-clause-sends : goal.returns-in_err-bytes-clause-sends
 returns-in_err-bytes-clause-sends g c =
-    let p = err_from_is_err_and c.from_residual.result c.from_residual.ensures.1 in
-    rw (p.1, p.2) c.in_err-bytes.ensures
+    Sends-err _ _ _ _ _ c.from_residual.result c.from_residual.ensures.1 c.in_err-bytes.ensures
 
 pub returns-clause-sends : goal.returns-clause-sends
 returns-clause-sends g c =

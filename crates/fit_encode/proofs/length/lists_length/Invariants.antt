@@ -1,6 +1,5 @@
-use Rattle.std.proofs.Common.{◌≡◌, ◌-◌, ◌^◌, min, take}
-use Rattle.std.specs.Prelude.{sum_by}
-use Rattle.fit_encode.specs.inner.Spelling.{items_size}
+use Rattle.fit_encode.proofs.Common.{◌≡◌, take, sum_by, items_size}
+use Rattle.std.proofs.Common.{◌-◌, ◌^◌, min}
 use Rattle.fit_encode.proofs.length.lists_length.Given as goal
 
 abbrev pub invariant-loop-items : goal.invariant-loop-items

@@ -1,8 +1,5 @@
-use Rattle.std.proofs.Common.{◌≡◌, length, take, ap, ◌∙◌, length-append, arith}
+use Rattle.fit_encode.proofs.Common.{◌≡◌, length, take, ap, ◌∙◌, length-append, arith, take_all, empty_environment, learn_all, record_bytes, records_bytes}
 use Rattle.std.specs.Prelude.{min, ◌-◌, ◌^◌}
-use Rattle.std.proofs.lemmas.List.{take_all}
-use Rattle.fit_record.specs.Environment.{empty_environment, learn_all}
-use Rattle.fit_record.specs.Records.{record_bytes, records_bytes}
 use Rattle.fit_encode.proofs.RecordSteps.{next_bytes}
 use Rattle.fit_encode.proofs.Lengths.{length-record_bytes}
 use Rattle.fit_encode.proofs.length.records_length.Goals as goal

@@ -1,6 +1,5 @@
-use Rattle.std.proofs.Common.{◌≡◌, ◌-◌, ◌^◌, min, take, length}
-use Rattle.fit_record.specs.Environment.{empty_environment}
-use Rattle.fit_record.specs.Records.{records_bytes}
+use Rattle.fit_encode.proofs.Common.{◌≡◌, take, length, empty_environment, records_bytes}
+use Rattle.std.proofs.Common.{◌-◌, ◌^◌, min}
 use Rattle.fit_encode.proofs.length.records_length.Given as goal
 
 abbrev pub invariant-loop-r : goal.invariant-loop-r

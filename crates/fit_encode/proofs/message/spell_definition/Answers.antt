@@ -1,27 +1,23 @@
-use Rattle.std.proofs.Common.{ap}
-use Rattle.std.specs.Prelude.{flat_map}
-use Rattle.std.proofs.lemmas.Result.{err_from_is_err_and}
-use Rattle.fit_record.specs.Records.{field_bytes, dev_part}
-use Rattle.fit_encode.proofs.Sendings.{Breaks-more, Breaks-on, Breaks-as, Spells-on, Spells-as, Sends-on}
+use Rattle.fit_encode.proofs.Common.{ap, flat_map, field_bytes, dev_part}
+use Rattle.fit_encode.proofs.Sendings.{Breaks-more, Breaks-on, Breaks-as, Spells-on, Spells-as, Sends-on, Sends-err}
 use Rattle.fit_encode.proofs.Messages.{definition_parts}
 use Rattle.fit_encode.proofs.message.spell_definition.Goals as goal
 
 pub returns-in_err-bytes : goal.returns-in_err-bytes
 returns-in_err-bytes g c =
-    let p = err_from_is_err_and c.from_residual.result c.from_residual.ensures.1 in
     let broken = c.in_err-bytes.ensures in
     let d = c.args.d.now in
     let fields = Breaks-more (flat_map field_bytes d.fields) (Breaks-as c.definition_head.ensures broken.0) in
-    rw (p.1, p.2) (Breaks-as (definition_parts d) (Breaks-more (dev_part d.dev) fields), broken.1)
+    Sends-err _ _ _ _ _ c.from_residual.result c.from_residual.ensures.1 (Breaks-as (definition_parts d) (Breaks-more (dev_part d.dev) fields), broken.1)
 
 pub returns-in_err-spell_fields : goal.returns-in_err-spell_fields
 returns-in_err-spell_fields g c =
-    let p = err_from_is_err_and c.from_residual-in_err-spell_fields.result c.from_residual-in_err-spell_fields.ensures.1 in
     let broken = c.in_err-spell_fields.ensures in
     let d = c.args.d.now in
     let head = Spells-as c.definition_head.ensures c.in_ok-bytes.ensures in
     let fields = Breaks-as (ap (flat_map field_bytes) c.as_slice.ensures) broken.0 in
-    rw (p.1, p.2) (Breaks-as (definition_parts d) (Breaks-more (dev_part d.dev) (Breaks-on head fields)), broken.1)
+    Sends-err _ _ _ _ _ c.from_residual-in_err-spell_fields.result c.from_residual-in_err-spell_fields.ensures.1
+    (Breaks-as (definition_parts d) (Breaks-more (dev_part d.dev) (Breaks-on head fields)), broken.1)
 
 pub returns : goal.returns
 returns g c =

@@ -1,7 +1,4 @@
-use Rattle.std.proofs.Common.{take}
-use Rattle.std.specs.Prelude.{flat_map}
-use Rattle.fit_record.specs.Records.{dev_field_bytes}
-use Rattle.fit_encode.specs.inner.Sending.{sink_state, Spells}
+use Rattle.fit_encode.proofs.Common.{take, flat_map, dev_field_bytes, sink_state, Spells}
 use Rattle.fit_encode.proofs.message.spell_dev_fields.Given as goal
 
 abbrev pub invariant-loop-f : goal.invariant-loop-f

@@ -1,15 +1,11 @@
-use Rattle.std.proofs.Common.{refl}
-use Rattle.std.specs.Prelude.{flat_map}
-use Rattle.std.proofs.lemmas.Result.{err_from_is_err_and}
-use Rattle.fit_record.specs.Records.{dev_field_bytes}
-use Rattle.fit_encode.proofs.Sendings.{Breaks-more, Sends-on}
+use Rattle.fit_encode.proofs.Common.{refl, flat_map, dev_field_bytes}
+use Rattle.fit_encode.proofs.Sendings.{Breaks-more, Sends-on, Sends-err}
 use Rattle.fit_encode.proofs.message.spell_dev_list.Goals as goal
 
 pub returns-in_err-bytes : goal.returns-in_err-bytes
 returns-in_err-bytes g c =
-    let p = err_from_is_err_and c.from_residual.result c.from_residual.ensures.1 in
     let broken = c.in_err-bytes.ensures in
-    rw (p.1, p.2) (Breaks-more (flat_map dev_field_bytes c.args.fields.now) broken.0, broken.1)
+    Sends-err _ _ _ _ _ c.from_residual.result c.from_residual.ensures.1 (Breaks-more (flat_map dev_field_bytes c.args.fields.now) broken.0, broken.1)
 
 pub returns : goal.returns
 returns g c = Sends-on _ _ _ _ _ _ _ _ _ c.spell_dev_fields.result refl c.in_ok-bytes.ensures c.spell_dev_fields.ensures

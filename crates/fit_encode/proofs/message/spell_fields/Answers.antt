@@ -1,14 +1,11 @@
-use Rattle.std.proofs.Common.{refl, arith}
-use Rattle.std.proofs.lemmas.Result.{err_from_is_err_and}
-use Rattle.fit_record.specs.Records.{field_bytes}
-use Rattle.fit_encode.proofs.Sendings.{Spells-next, Breaks-next}
+use Rattle.fit_encode.proofs.Common.{refl, arith, field_bytes}
+use Rattle.fit_encode.proofs.Sendings.{Spells-next, Breaks-next, Sends-err}
 use Rattle.fit_encode.proofs.message.spell_fields.Goals as goal
 
 pub returns-in_err-bytes : goal.returns-in_err-bytes
 returns-in_err-bytes g c =
-    let p = err_from_is_err_and c.from_residual.result c.from_residual.ensures.1 in
     let broken = c.in_err-bytes.ensures in
-    rw (p.1, p.2) (
+    Sends-err _ _ _ _ _ c.from_residual.result c.from_residual.ensures.1 (
       Breaks-next field_bytes c.args.fields.now c.loop-f.f-index (record { number = 0; size = 0; code = 0 }) _ (omega arith) refl c.loop-f.invariant broken.0,
       broken.1,
     )

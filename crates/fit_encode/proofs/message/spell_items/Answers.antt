@@ -1,17 +1,13 @@
-use Rattle.std.proofs.Common.{refl, ap, arith}
-use Rattle.std.specs.Prelude.{flat_map}
-use Rattle.std.proofs.lemmas.Result.{err_from_is_err_and}
-use Rattle.fit_base.specs.Numbers.{number_bytes}
-use Rattle.fit_encode.proofs.Sendings.{Spells-next, Breaks-next, Breaks-as}
+use Rattle.fit_encode.proofs.Common.{refl, ap, arith, flat_map, number_bytes}
+use Rattle.fit_encode.proofs.Sendings.{Spells-next, Breaks-next, Breaks-as, Sends-err}
 use Rattle.fit_encode.proofs.message.spell_items.Goals as goal
 
 pub returns-in_err-number : goal.returns-in_err-number
 returns-in_err-number g c =
-    let p = err_from_is_err_and c.from_residual.result c.from_residual.ensures.1 in
     let broken = c.in_err-number.ensures in
     let f = number_bytes c.args.order c.args.items.now.width in
     let bits = c.as_slice-bits-items in
-    rw (p.1, p.2) (
+    Sends-err _ _ _ _ _ c.from_residual.result c.from_residual.ensures.1 (
       Breaks-as (ap (flat_map f) bits.ensures) (Breaks-next f bits.result.now c.loop-bits.bits-index 0 _ (omega arith) refl c.loop-bits.invariant broken.0),
       broken.1,
     )

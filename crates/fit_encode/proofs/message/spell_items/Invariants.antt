@@ -1,7 +1,4 @@
-use Rattle.std.proofs.Common.{take}
-use Rattle.std.specs.Prelude.{flat_map}
-use Rattle.fit_base.specs.Numbers.{number_bytes}
-use Rattle.fit_encode.specs.inner.Sending.{sink_state, Spells}
+use Rattle.fit_encode.proofs.Common.{take, flat_map, number_bytes, sink_state, Spells}
 use Rattle.fit_encode.proofs.message.spell_items.Given as goal
 
 abbrev pub invariant-loop-bits : goal.invariant-loop-bits

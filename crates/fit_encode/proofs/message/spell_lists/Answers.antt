@@ -1,14 +1,11 @@
-use Rattle.std.proofs.Common.{arith}
-use Rattle.std.proofs.lemmas.Result.{err_from_is_err_and}
-use Rattle.fit_base.specs.Fields.{items_bytes}
-use Rattle.fit_encode.proofs.Sendings.{Spells-next, Breaks-next}
+use Rattle.fit_encode.proofs.Common.{arith, items_bytes}
+use Rattle.fit_encode.proofs.Sendings.{Spells-next, Breaks-next, Sends-err}
 use Rattle.fit_encode.proofs.message.spell_lists.Goals as goal
 
 pub returns-in_err-spell_items : goal.returns-in_err-spell_items
 returns-in_err-spell_items g c =
-    let p = err_from_is_err_and c.from_residual.result c.from_residual.ensures.1 in
     let broken = c.in_err-spell_items.ensures in
-    rw (p.1, p.2) (
+    Sends-err _ _ _ _ _ c.from_residual.result c.from_residual.ensures.1 (
       Breaks-next (items_bytes {A = g.row.A.Denot} c.args.order) c.args.lists.now c.loop-items.items-index c.items-item.result _ (omega arith) c.items-item.is
           c.loop-items.invariant broken.0,
       broken.1,

@@ -1,7 +1,4 @@
-use Rattle.std.proofs.Common.{take}
-use Rattle.std.specs.Prelude.{flat_map}
-use Rattle.fit_base.specs.Fields.{items_bytes}
-use Rattle.fit_encode.specs.inner.Sending.{sink_state, Spells}
+use Rattle.fit_encode.proofs.Common.{take, flat_map, items_bytes, sink_state, Spells}
 use Rattle.fit_encode.proofs.message.spell_lists.Given as goal
 
 abbrev pub invariant-loop-items : goal.invariant-loop-items

@@ -1,29 +1,24 @@
-use Rattle.std.proofs.Common.{◌++◌, [], ◌∷◌, ap}
-use Rattle.std.specs.Prelude.{flat_map}
-use Rattle.std.proofs.lemmas.Result.{err_from_is_err_and}
-use Rattle.fit_base.specs.Fields.{items_bytes}
-use Rattle.fit_record.specs.Records.{data_header}
-use Rattle.fit_encode.proofs.Sendings.{Breaks-more, Breaks-on, Breaks-as, Spells-on, Spells-as, Sends-on}
+use Rattle.fit_encode.proofs.Common.{◌++◌, [], ◌∷◌, ap, flat_map, items_bytes, data_header}
+use Rattle.fit_encode.proofs.Sendings.{Breaks-more, Breaks-on, Breaks-as, Spells-on, Spells-as, Sends-on, Sends-err}
 use Rattle.fit_encode.proofs.message.spell_values.Goals as goal
 
 pub returns-in_err-bytes : goal.returns-in_err-bytes
 returns-in_err-bytes g c =
-    let p = err_from_is_err_and c.from_residual.result c.from_residual.ensures.1 in
     let broken = c.in_err-bytes.ensures in
     let v = c.args.v.now in
     let f = items_bytes {A = g.row.A.Denot} c.args.order in
     let head = Breaks-as (ap (λ n. n ∷ []) c.data_header.ensures) broken.0 in
-    rw (p.1, p.2) (Breaks-more (flat_map f v.dev) (Breaks-more (flat_map f v.fields) head), broken.1)
+    Sends-err _ _ _ _ _ c.from_residual.result c.from_residual.ensures.1 (Breaks-more (flat_map f v.dev) (Breaks-more (flat_map f v.fields) head), broken.1)
 
 pub returns-in_err-spell_lists : goal.returns-in_err-spell_lists
 returns-in_err-spell_lists g c =
-    let p = err_from_is_err_and c.from_residual-in_err-spell_lists.result c.from_residual-in_err-spell_lists.ensures.1 in
     let broken = c.in_err-spell_lists.ensures in
     let v = c.args.v.now in
     let f = items_bytes {A = g.row.A.Denot} c.args.order in
     let head = Spells-as (ap (λ n. n ∷ []) c.data_header.ensures) c.in_ok-bytes.ensures in
     let fields = Breaks-as (ap (flat_map f) c.as_slice.ensures) broken.0 in
-    rw (p.1, p.2) (Breaks-more (flat_map f v.dev) (Breaks-on head fields), broken.1)
+    Sends-err _ _ _ _ _ c.from_residual-in_err-spell_lists.result c.from_residual-in_err-spell_lists.ensures.1
+    (Breaks-more (flat_map f v.dev) (Breaks-on head fields), broken.1)
 
 pub returns : goal.returns
 returns g c =

@@ -1,4 +1,4 @@
-use Rattle.std.proofs.Common.{ap, length, arith}
+use Rattle.fit_encode.proofs.Common.{ap, length, arith}
 use Rattle.std.proofs.lemmas.List.{length-drop}
 use Rattle.fit_encode.proofs.Written.{Appends-more}
 use Rattle.fit_encode.proofs.sink.put_all.Goals as goal

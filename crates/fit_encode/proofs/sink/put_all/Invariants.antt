@@ -1,5 +1,5 @@
-use Rattle.std.proofs.Common.{◌≡◌, ◌<◌, ◌≤◌, ◌-◌, false, length, take}
-use Rattle.std.specs.Io.KnownBytes.{Appends}
+use Rattle.fit_encode.proofs.Common.{◌≡◌, ◌<◌, ◌≤◌, false, length, take, Appends}
+use Rattle.std.proofs.Common.{◌-◌}
 use Rattle.fit_encode.proofs.sink.put_all.Given as goal
 
 abbrev pub invariant-loop-written : goal.invariant-loop-written

@@ -1,15 +1,11 @@
-use Rattle.std.proofs.Common.{ℕ, ◌+◌, ◌∙◌, take, drop, length, List, ◌<◌, refl, sym, ap, arith}
-use Rattle.std.specs.Prelude.{slice_index_or}
-use Rattle.std.proofs.lemmas.Result.{err_from_is_err_and}
-use Rattle.fit_base.specs.declared.number.Order.{Order}
-use Rattle.fit_base.specs.declared.number.Order.TheVariants.{Little}
-use Rattle.fit_record.specs.Environment.{Environment, empty_environment, learn, learn_all}
-use Rattle.fit_record.specs.Records.{records_bytes, order_at}
-use Rattle.fit_encode.specs.inner.Spelling.{bytes_in_order}
+use Rattle.fit_encode.proofs.Common.{ℕ, ◌∙◌, take, drop, length, List, ◌<◌, sym, ap, arith, slice_index_or, Order, Little, Environment, empty_environment}
+use Rattle.fit_encode.proofs.Common.{learn, learn_all, records_bytes, order_at, bytes_in_order}
+use Rattle.std.proofs.Common.{◌+◌}
+use Rattle.fit_record.proofs.SixteenPlaces.{sixteen_places}
 use Rattle.fit_encode.proofs.RecordSteps.{next_known, next_bytes}
-use Rattle.fit_encode.proofs.Orders.{in_order, orders_next, long_after, sixteen_places}
+use Rattle.fit_encode.proofs.Orders.{in_order, orders_next, long_after}
 use Rattle.fit_encode.proofs.Spellable.{spellable, fits_at, record_parts}
-use Rattle.fit_encode.proofs.Sendings.{Breaks-more, Breaks-on, Breaks-as, Spells-on, Spells-as}
+use Rattle.fit_encode.proofs.Sendings.{Breaks-more, Breaks-on, Breaks-as, Spells-on, Spells-as, Sends-err}
 use Rattle.fit_encode.proofs.write.spell_records.Goals as goal
 
 pub spell_record-requires : goal.spell_record-requires
@@ -21,14 +17,13 @@ spell_record-requires g c =
 
 pub returns-in_err-spell_record : goal.returns-in_err-spell_record
 returns-in_err-spell_record g c =
-    let p = err_from_is_err_and c.from_residual.result c.from_residual.ensures.1 in
     let broken = c.in_err-spell_record.ensures in
     let rs = c.args.records.now in
     let i = c.loop-r.r-index in
     let r = c.r-item.result in
     let e = learn_all {A = g.row.A.Denot} empty_environment (take i rs) in
     let same = ap (λ o. bytes_in_order o r) c.order_in.ensures ∙ in_order e c.loop-r.orders r c.loop-r.invariant.orders in
-    rw (p.1, p.2) (
+    Sends-err _ _ _ _ _ c.from_residual.result c.from_residual.ensures.1 (
       Breaks-as (record_parts empty_environment rs i r (omega arith) c.r-item.is)
           (Breaks-more (records_bytes (learn e r) (drop (i + 1) rs)) (Breaks-on c.loop-r.invariant.spelled (Breaks-as same broken.0))),
       broken.1,
@@ -44,7 +39,7 @@ loop-r-preserved g c =
     let e = learn_all {A = g.row.A.Denot} empty_environment (take i rs) in
     let fits = fits_at empty_environment rs i r less c.r-item.is c.requires in
     let same = ap (λ o. bytes_in_order o r) c.order_in.ensures ∙ in_order e c.loop-r.orders r inv.orders in
-    let orders = orders_next e c.loop-r.orders r fits (sixteen_places empty_environment (take i rs) refl) inv.long inv.orders in
+    let orders = orders_next e c.loop-r.orders r fits (sixteen_places (take i rs)) inv.long inv.orders in
     record {
       spelled = Spells-as (sym (next_bytes empty_environment rs i r less c.r-item.is)) (Spells-on inv.spelled (Spells-as same c.in_ok-spell_record.ensures));
       long = ap length c.note_order.ensures ∙ long_after c.loop-r.orders r ∙ inv.long;

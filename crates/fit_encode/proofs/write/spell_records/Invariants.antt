@@ -1,9 +1,4 @@
-use Rattle.std.proofs.Common.{◌≡◌, ℕ, take, length}
-use Rattle.std.specs.Prelude.{slice_index_or}
-use Rattle.fit_base.specs.declared.number.Order.TheVariants.{Little}
-use Rattle.fit_record.specs.Environment.{empty_environment, learn_all}
-use Rattle.fit_record.specs.Records.{records_bytes, order_at}
-use Rattle.fit_encode.specs.inner.Sending.{sink_state, Spells}
+use Rattle.fit_encode.proofs.Common.{◌≡◌, ℕ, take, length, slice_index_or, Little, empty_environment, learn_all, records_bytes, order_at, sink_state, Spells}
 use Rattle.fit_encode.proofs.write.spell_records.Given as goal
 
 abbrev pub invariant-loop-r : goal.invariant-loop-r

@@ -1,8 +1,5 @@
-use Rattle.std.proofs.Common.{ℕ, ◌+◌, ◌<◌, ◌^◌, List, take, drop, length, sym, subst, arith}
-use Rattle.std.specs.Prelude.{flat_map}
-use Rattle.std.proofs.KnownBytes.{Appends-trans}
-use Rattle.std.proofs.lemmas.Result.{err_from_is_err_and}
-use Rattle.fit_record.specs.Files.{file_bytes}
+use Rattle.fit_encode.proofs.Common.{ℕ, ◌<◌, List, take, drop, length, sym, subst, arith, flat_map, Appends-trans, err_from_is_err_and, file_bytes}
+use Rattle.std.proofs.Common.{◌+◌, ◌^◌}
 use Rattle.fit_encode.proofs.Sendings.{IsCounted-more, next_part_of, parts_of, stops_at, StopsAt-as, Appends-as, IsCounted-as}
 use Rattle.fit_encode.proofs.Lengths.{chain_short, some_file_byte}
 use Rattle.fit_encode.proofs.write.write_files.Goals as goal

@@ -1,8 +1,4 @@
-use Rattle.std.proofs.Common.{◌≡◌, ◌<◌, false, take, length}
-use Rattle.std.specs.Prelude.{flat_map}
-use Rattle.std.specs.Io.KnownBytes.{Appends}
-use Rattle.fit_record.specs.Files.{file_bytes}
-use Rattle.fit_encode.specs.inner.Sending.{IsCounted}
+use Rattle.fit_encode.proofs.Common.{◌≡◌, ◌<◌, false, take, length, flat_map, Appends, file_bytes, IsCounted}
 use Rattle.fit_encode.proofs.write.write_files.Given as goal
 
 abbrev pub invariant-loop-file : goal.invariant-loop-file

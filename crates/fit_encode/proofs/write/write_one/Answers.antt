@@ -1,5 +1,4 @@
-use Rattle.std.proofs.Common.{arith}
-use Rattle.fit_record.specs.Files.{file_bytes}
+use Rattle.fit_encode.proofs.Common.{arith, file_bytes}
 use Rattle.fit_encode.proofs.Lengths.{file_short, some_file_byte}
 use Rattle.fit_encode.proofs.Sendings.{stops_in}
 use Rattle.fit_encode.proofs.write.write_one.Goals as goal

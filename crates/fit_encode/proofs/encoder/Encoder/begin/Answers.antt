@@ -1,4 +1,4 @@
-use Rattle.std.proofs.Common.{◌≡◌, ◌∙◌, ◌++◌, List, ℕ, refl, sym, ap, length, arith}
+use Rattle.fit_encode.proofs.Common.{◌≡◌, ◌∙◌, ◌++◌, List, ℕ, refl, sym, ap, length, arith}
 use Rattle.std.specs.Prelude.{Err}
 use Rattle.fit_encode.proofs.Encoders.{first_broke, open_begun}
 use Rattle.fit_encode.proofs.Sendings.{Appends-as, Spells-from, went_out}

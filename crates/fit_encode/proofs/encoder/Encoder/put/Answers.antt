@@ -1,10 +1,7 @@
-use Rattle.std.proofs.Common.{◌≡◌, ◌∙◌, ℕ, Global, refl, sym, ap, subst, arith}
-use Rattle.std.specs.Prelude.{Some}
-use Rattle.std.proofs.lemmas.Result.{err_from_is_err_and}
-use Rattle.fit_record.specs.Environment.{Environment, learn}
-use Rattle.fit_record.specs.Records.{record_bytes}
-use Rattle.fit_encode.specs.Encoding.{Encoding, learned, BreaksOff, CanPut, HasPlace, IsPlaceFault, IsPutFault}
-use Rattle.fit_encode.proofs.Encoders.{breaks_off, in_terms, next_open, not_written, on_err_at, small_record, some_byte, when_open}
+use Rattle.fit_encode.proofs.Common.{◌≡◌, ◌∙◌, ℕ, refl, sym, ap, subst, arith, err_from_is_err_and, Environment, learn, record_bytes, Encoding, learned, CanPut}
+use Rattle.fit_encode.proofs.Common.{HasPlace, IsPlaceFault, IsPutFault}
+use Rattle.std.proofs.Common.{Global}
+use Rattle.fit_encode.proofs.Encoders.{breaks_off, in_terms, next_open, not_written, on_err_at, small_record, some_byte, while_open}
 use Rattle.fit_encode.proofs.FaultSteps.{on_ok_at, unless_write}
 use Rattle.fit_encode.proofs.Sendings.{Appends-as, Breaks-as, Spells-as, went_out}
 use Rattle.fit_encode.proofs.Spellable.{spellable}
@@ -12,16 +9,16 @@ use Rattle.fit_encode.proofs.encoder.Encoder.put.Goals as goal
 
 pub record_size-requires : goal.record_size-requires
 record_size-requires g c =
-    let still = when_open c.self.inside.finished c.self.inside.failed (sym c.closed_fault.ensures ∙ c.in_default.is) in
-    (omega arith, (c.self.invariant still.0 still.1).within)
+    let inv = while_open c.self.inside.finished c.self.inside.failed c.self.invariant c.closed_fault.ensures c.in_default.is in
+    (omega arith, inv.within)
 
 pub returns-in_err-size-clause-refused : goal.returns-in_err-size-clause-refused
 returns-in_err-size-clause-refused g c =
     let p = err_from_is_err_and c.from_residual.result c.from_residual.ensures.1 in
-    let still = when_open c.self.inside.finished c.self.inside.failed (sym c.closed_fault.ensures ∙ c.in_default.is) in
+    let inv = while_open c.self.inside.finished c.self.inside.failed c.self.invariant c.closed_fault.ensures c.in_default.is in
     let err = c.in_err-size.ensures.err in
     let here = in_terms (λ (e : Environment Global) (n m : ℕ). IsPlaceFault e n c.self.inside.declared m c.args.r.now c.in_err-size.field-0.0)
-    (c.self.invariant still.0 still.1) err in
+    inv err in
     λ _. rw (p.1, p.2) (unless_write c.in_err-size.field-0.0 _
     (subst (λ (e : Encoding Global). IsPutFault e c.args.r.now c.in_err-size.field-0.0) c.self.view_is here, refl, refl))
 
@@ -44,8 +41,8 @@ invariant_of-self g c =
 
 pub returns-then-is_err-clause-refused : goal.returns-then-is_err-clause-refused
 returns-then-is_err-clause-refused g c =
-    let still = when_open c.self.inside.finished c.self.inside.failed (sym c.closed_fault.ensures ∙ c.in_default.is) in
-    let here = in_terms (λ (e : Environment Global) (n m : ℕ). HasPlace e c.self.inside.declared m c.args.r.now) (c.self.invariant still.0 still.1)
+    let inv = while_open c.self.inside.finished c.self.inside.failed c.self.invariant c.closed_fault.ensures c.in_default.is in
+    let here = in_terms (λ (e : Environment Global) (n m : ℕ). HasPlace e c.self.inside.declared m c.args.r.now) inv
     c.in_ok-size.ensures.ok.0 in
     λ _. (subst (λ (e : Encoding Global). CanPut e c.args.r.now) c.self.view_is here, c.self.view_is, refl)
 
@@ -54,31 +51,17 @@ send_record-requires g c = spellable c.self.inside.env c.args.r.now c.in_ok-size
 
 pub returns-in-Err-clause-written : goal.returns-in-Err-clause-written
 returns-in-Err-clause-written g c =
-    let still = when_open c.self.inside.finished c.self.inside.failed (sym c.closed_fault.ensures ∙ c.in_default.is) in
-    let inv = c.self.invariant still.0 still.1 in
+    let inv = while_open c.self.inside.finished c.self.inside.failed c.self.invariant c.closed_fault.ensures c.in_default.is in
     let r = c.args.r.now in
     let here = in_terms (λ (e : Environment Global) (n m : ℕ). HasPlace e c.self.inside.declared m r) inv c.in_ok-size.ensures.ok.0 in
     let bytes = c.order_of-order.ensures ∙ ap (λ (e : Environment Global). record_bytes e r) inv.known in
     let broken = c.in-Err.ensures.sends in
-    let new : Encoding Global = record {
-      head = c.self.inside.head.items;
-      declared = c.self.inside.declared;
-      records = c.self.inside.records.items;
-      failed = Some c.in-Err.written;
-      finished = c.self.inside.finished;
-    } in
     let off = breaks_off c.self.inside.failed c.self.inside.finished inv (small_record inv here) (Breaks-as bytes broken.0) broken.1 in
-    λ _. (
-      subst (λ (e : Encoding Global). CanPut e r) c.self.view_is here,
-      subst (λ (e : Encoding Global). BreaksOff (g.K.Sink.contents c.args.sink.now) (g.K.Sink.contents c.send_record.new.sink)
-          (g.K.Sink.has_failed c.send_record.new.sink) e new
-          (record_bytes (learned e) r) c.in-Err.written) c.self.view_is off,
-    )
+    λ _. rw (← c.self.view_is) (here, off)
 
 pub overflow_add-self-2 : goal.overflow_add-self-2
 overflow_add-self-2 g c =
-    let still = when_open c.self.inside.finished c.self.inside.failed (sym c.closed_fault.ensures ∙ c.in_default.is) in
-    let inv = c.self.invariant still.0 still.1 in
+    let inv = while_open c.self.inside.finished c.self.inside.failed c.self.invariant c.closed_fault.ensures c.in_default.is in
     omega (arith, inv.place, inv.few, inv.data_size, inv.within, inv.small)
 
 pub invariant_of-self-2 : goal.invariant_of-self-2
@@ -96,15 +79,14 @@ invariant_of-self-2 g c =
 
 pub returns-clause-ok : goal.returns-clause-ok
 returns-clause-ok g c =
-    let still = when_open c.self.inside.finished c.self.inside.failed (sym c.closed_fault.ensures ∙ c.in_default.is) in
-    let here = in_terms (λ (e : Environment Global) (n m : ℕ). HasPlace e c.self.inside.declared m c.args.r.now) (c.self.invariant still.0 still.1)
+    let inv = while_open c.self.inside.finished c.self.inside.failed c.self.invariant c.closed_fault.ensures c.in_default.is in
+    let here = in_terms (λ (e : Environment Global) (n m : ℕ). HasPlace e c.self.inside.declared m c.args.r.now) inv
     c.in_ok-size.ensures.ok.0 in
     subst (λ (e : Encoding Global). CanPut e c.args.r.now) c.self.view_is here
 
 pub returns-clause-spelled : goal.returns-clause-spelled
 returns-clause-spelled g c =
-    let still = when_open c.self.inside.finished c.self.inside.failed (sym c.closed_fault.ensures ∙ c.in_default.is) in
-    let inv = c.self.invariant still.0 still.1 in
+    let inv = while_open c.self.inside.finished c.self.inside.failed c.self.invariant c.closed_fault.ensures c.in_default.is in
     let r = c.args.r.now in
     let spelled = c.in_default-send_record.ensures in
     let out = went_out (Spells-as c.order_of-order.ensures spelled.sends) inv.held spelled.empty in
@@ -112,7 +94,6 @@ returns-clause-spelled g c =
 
 pub returns-clause-works : goal.returns-clause-works
 returns-clause-works g c =
-    let still = when_open c.self.inside.finished c.self.inside.failed (sym c.closed_fault.ensures ∙ c.in_default.is) in
-    let inv = c.self.invariant still.0 still.1 in
+    let inv = while_open c.self.inside.finished c.self.inside.failed c.self.invariant c.closed_fault.ensures c.in_default.is in
     let spelled = c.in_default-send_record.ensures in
     (went_out (Spells-as c.order_of-order.ensures spelled.sends) inv.held spelled.empty).3 (some_byte c.self.inside.env c.args.r.now)

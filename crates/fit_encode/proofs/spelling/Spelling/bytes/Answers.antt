@@ -1,14 +1,11 @@
-use Rattle.std.proofs.Common.{◌≡◌, ◌++◌, ◌∙◌, ap, rules}
-use Rattle.std.proofs.lemmas.Result.{err_from_is_err_and}
-use Rattle.fit_encode.specs.inner.Sending.{Sending}
-use Rattle.fit_encode.proofs.Sendings.{Spells-held, Breaks-more}
+use Rattle.fit_encode.proofs.Common.{◌≡◌, ◌++◌, ◌∙◌, ap, rules, Sending}
+use Rattle.fit_encode.proofs.Sendings.{Spells-held, Breaks-more, Sends-err}
 use Rattle.fit_encode.proofs.spelling.Spelling.bytes.Goals as goal
 
 pub returns-in_err-make_room : goal.returns-in_err-make_room
 returns-in_err-make_room g c =
-    let p = err_from_is_err_and c.from_residual.result c.from_residual.ensures.1 in
     let broken = c.in_err-make_room.ensures.sends in
-    rw (p.1, p.2) (Breaks-more c.args.bytes.now broken.0, broken.1)
+    Sends-err _ _ _ _ _ c.from_residual.result c.from_residual.ensures.1 (Breaks-more c.args.bytes.now broken.0, broken.1)
 
 pub returns : goal.returns
 returns g c =

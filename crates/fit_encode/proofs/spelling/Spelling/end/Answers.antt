@@ -1,23 +1,19 @@
-use Rattle.std.proofs.Common.{◌++◌, [], ◌∙◌, ap, append-nil}
-use Rattle.std.proofs.lemmas.Result.{err_from_is_err_and}
-use Rattle.fit_base.specs.Numbers.{little_bytes}
-use Rattle.fit_sum.specs.Checksum.{checksum}
-use Rattle.fit_encode.proofs.Sendings.{Breaks-more, Breaks-on, Breaks-as, Spells-on, Spells-as, Sends-on, all_sent}
+use Rattle.fit_encode.proofs.Common.{◌++◌, [], ◌∙◌, ap, append-nil, little_bytes, checksum}
+use Rattle.fit_encode.proofs.Sendings.{Breaks-more, Breaks-on, Breaks-as, Spells-on, Spells-as, Sends-on, all_sent, Sends-err}
 use Rattle.fit_encode.proofs.spelling.Spelling.end.Goals as goal
 
 pub returns-in_err-flush-clause-sends : goal.returns-in_err-flush-clause-sends
 returns-in_err-flush-clause-sends g c =
-    let p = err_from_is_err_and c.from_residual.result c.from_residual.ensures.1 in
     let broken = c.in_err-flush.ensures.sends in
-    rw (p.1, p.2) (Breaks-more (little_bytes 2 (checksum (c.args.self.now.sent ++ c.args.self.now.held))) broken.0, broken.1)
+    Sends-err _ _ _ _ _ c.from_residual.result c.from_residual.ensures.1
+    (Breaks-more (little_bytes 2 (checksum (c.args.self.now.sent ++ c.args.self.now.held))) broken.0, broken.1)
 
 pub returns-in_err-bytes-clause-sends : goal.returns-in_err-bytes-clause-sends
 returns-in_err-bytes-clause-sends g c =
-    let p = err_from_is_err_and c.from_residual-in_err-bytes.result c.from_residual-in_err-bytes.ensures.1 in
     let broken = c.in_err-bytes.ensures in
     let flushed = c.in_ok-flush.ensures in
     let sum = c.sum_bytes-sum.ensures ∙ ap (little_bytes 2) (c.checksum.ensures ∙ ap checksum (all_sent flushed.sends flushed.empty)) in
-    rw (p.1, p.2) (Breaks-on flushed.sends (Breaks-as sum broken.0), broken.1)
+    Sends-err _ _ _ _ _ c.from_residual-in_err-bytes.result c.from_residual-in_err-bytes.ensures.1 (Breaks-on flushed.sends (Breaks-as sum broken.0), broken.1)
 
 pub returns-clause-sends : goal.returns-clause-sends
 returns-clause-sends g c =

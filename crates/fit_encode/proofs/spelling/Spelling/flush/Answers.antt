@@ -1,5 +1,4 @@
-use Rattle.std.proofs.Common.{◌∙◌, ap, arith}
-use Rattle.fit_encode.specs.inner.Sending.{Sending}
+use Rattle.fit_encode.proofs.Common.{◌∙◌, ap, arith, Sending}
 use Rattle.fit_encode.proofs.Sendings.{Breaks-flush}
 use Rattle.fit_encode.proofs.spelling.Spelling.flush.Goals as goal
 

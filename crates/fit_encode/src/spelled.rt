@@ -1,0 +1,156 @@
+//! Records and files that are kept as their bytes.
+ghost use Rattle.std.specs.Prelude.{◌≡◌, ◌<◌, ◌^◌, [], ◌∷◌, ◌++◌, OnOk, OnErr, IfSome, None, length};
+ghost use Rattle.fit_record.specs.Environment.{empty_environment, learn_all};
+ghost use Rattle.fit_record.specs.Records.{AllFit, Fits, record_bytes, records_bytes};
+ghost use Rattle.fit_encode.specs.inner.Kept.{AreTooLong};
+
+use crate::encoder::{order_of, send_record};
+use crate::memory::MemorySink;
+use crate::spelling::Spelling;
+use fit_frame::Header;
+use fit_history::History;
+use fit_record::{Env, Record};
+use std::alloc::{AllocError, Global};
+use std::marker::Model;
+
+/// The most bytes of a data section.
+const MOST: usize = 0xFFFF_FFFF;
+
+/// Records of a file, which are kept as their bytes and not as records: so they take the memory of their bytes.
+#[derive(Drop)]
+pub struct SpelledRecords {
+    bytes: Vec<u8>,
+    /// Holds the bytes of one record.
+    one: MemorySink,
+    /// How many records have bytes here: all of them, or those before the first with which they are too many.
+    count: u64,
+    too_long: bool,
+    records: History<Record>,
+}
+
+impl Model for SpelledRecords {
+    ghost use Rattle.std.specs.Prelude.{List};
+    ghost use Rattle.std.specs.declared.alloc.Global.{Global};
+    ghost use Rattle.fit_record.specs.declared.message.Record.{Record};
+    ghost use Rattle.fit_encode.specs.inner.Kept.{AreSpelled};
+
+    ghost Value = { List (Record Global) };
+
+    ghost view = { λ s. s.records.items };
+
+    ghost invariant = { λ s. AreSpelled s.bytes.items s.count s.too_long s.records.items };
+}
+
+impl SpelledRecords {
+    /// No records.
+    pub fn new(alloc: Global) -> SpelledRecords
+        ensures { result ≡ [] }
+    {
+        SpelledRecords {
+            bytes: Vec::new(alloc),
+            one: MemorySink::new(alloc),
+            count: 0,
+            too_long: false,
+            records: History::new(),
+        }
+    }
+
+    /// Puts a record at the end, which fits behind the others. The environment is what these make known. Where memory is
+    /// refused, nothing changes.
+    pub fn push(&mut self, env: &Env, r: &Record) -> Result<(), AllocError>
+        requires known { env.now ≡ learn_all empty_environment self.old }
+        requires fits { Fits env.now r.now }
+        ensures ok { OnOk result (self.new ≡ self.old ++ r.now ∷ []) }
+        ensures err { OnErr result (self.new ≡ self.old) }
+    {
+        if self.too_long {
+            self.records.add(r);
+            return Ok(());
+        }
+        spell_alone(&mut self.one, env, r)?;
+        if self.one.bytes.len() > MOST - self.bytes.len() {
+            self.too_long = true;
+            self.records.add(r);
+            return Ok(());
+        }
+        self.bytes.extend_from_slice(self.one.bytes.as_slice())?;
+        self.count += 1;
+        self.records.add(r);
+        Ok(())
+    }
+
+    /// The place of the first record with which they have more bytes than a data section may have.
+    pub(crate) fn too_long(&self) -> Option<u64>
+        ensures fit { AllFit empty_environment self.now }
+        ensures none { result ≡ None
+            → length (records_bytes empty_environment self.now) < 2 ^ 32 }
+        ensures some { IfSome result (λ index. AreTooLong index self.now) }
+    {
+        if self.too_long {
+            Some(self.count)
+        } else {
+            None
+        }
+    }
+
+    /// The bytes of the records, if they may be those of a data section.
+    pub(crate) fn bytes(&self) -> &[u8]
+        ensures { length (records_bytes empty_environment self.now) < 2 ^ 32
+            → result.now ≡ records_bytes empty_environment self.now }
+    {
+        self.bytes.as_slice()
+    }
+}
+
+/// Spells a record in place of what was held.
+fn spell_alone(one: &mut MemorySink, env: &Env, r: &Record) -> Result<(), AllocError>
+    requires { Fits env.now r.now }
+    ensures { OnOk result (one.new.bytes.items ≡ record_bytes env.now r.now) }
+{
+    one.clear();
+    let order = order_of(env, r);
+    let mut out = Spelling::new(0);
+    match send_record(&mut out, one, order, r) {
+        Ok(()) => Ok(()),
+        Err(_) => Err(AllocError),
+    }
+}
+
+/// A file, of which the records are kept as their bytes.
+#[derive(Drop)]
+pub struct SpelledFile {
+    header: Header,
+    records: SpelledRecords,
+}
+
+impl Model for SpelledFile {
+    ghost use Rattle.std.specs.declared.alloc.Global.{Global};
+    ghost use Rattle.fit_record.specs.declared.file.FitFile.{FitFile};
+
+    ghost Value = { FitFile Global };
+
+    ghost view = { λ s. record { header = s.header; records = s.records } };
+}
+
+impl SpelledFile {
+    /// The file with this header and these records.
+    pub fn new(header: Header, records: SpelledRecords) -> SpelledFile
+        ensures { result ≡ record { header = header; records = records } }
+    {
+        SpelledFile { header, records }
+    }
+
+    /// The header.
+    pub(crate) fn header(&self) -> &Header
+        ensures { result.now ≡ self.now.header }
+    {
+        &self.header
+    }
+
+    /// The records.
+    pub(crate) fn records(&self) -> &SpelledRecords
+        ensures { result.now ≡ self.now.records }
+    {
+        &self.records
+    }
+}
