@@ -1,11 +1,11 @@
 -- Rows written one after another.
-use Rattle.std.proofs.Common.{◌≡◌, ◌∙◌, ◌<◌, ◌≤◌, ◌+◌, ℕ, List, [], ◌∷◌, ◌++◌, length, map, drop, take, get_or, Vec, refl, sym, ap, subst, append_assoc, arith}
+use Rattle.fit_cells.proofs.Common.{◌≡◌, ◌∙◌, ◌<◌, ◌≤◌, ◌+◌, ℕ, List, [], ◌∷◌, ◌++◌, length, map, drop, take, get_or, Vec, refl, sym, ap, subst, append_assoc}
+use Rattle.fit_cells.proofs.Common.{arith, map-append, take_all, take_more, default_writer, field_text, fields_text, is_blank, row_text, Row, HasAdded, HasRows}
+use Rattle.fit_cells.proofs.Common.{csv_text, written}
 use Rattle.std.specs.Global.{Global}
-use Rattle.std.proofs.lemmas.List.{append-nil, map-append, take_all, take_more}
+use Rattle.std.proofs.lemmas.List.{append-nil}
 use Rattle.std.proofs.Math.Seq.{drop-append_seam}
-use Rattle.csv.specs.Writing.{default_writer, field_text, fields_text, is_blank, row_text}
 use Rattle.csv.specs.declared.writer.Writer.{Writer}
-use Rattle.fit_cells.specs.Rows.{Row, HasAdded, HasRows, csv_text, written}
 
 pub text_append : (a b : List Row) → csv_text (a ++ b) ≡ csv_text a ++ csv_text b
 unfolding csv_text

@@ -1,14 +1,9 @@
 -- Widths and classes of base types.
-use Rattle.std.proofs.Common.{◌≡◌, ◌∙◌, ℕ, ◌⊎◌, inl, inr, Bool, true, false, refl, eqb-true, eq-eqb, List, map, ◌%◌}
-use Rattle.std.specs.Prelude.{◌==◌, ◌||◌, Option}
-use Rattle.std.proofs.lemmas.Bool.{cases_Bool}
-use Rattle.fit_base.specs.declared.code.Class.{Class}
-use Rattle.fit_base.specs.declared.code.Class.TheVariants.{Signed, Unsigned, Text, Float, Bytes}
-use Rattle.fit_base.specs.BaseTypes as base
-use Rattle.fit_base.specs.BaseTypes.{base_type, base_types, byte}
+use Rattle.fit_cells.proofs.Common.{◌≡◌, ◌∙◌, ℕ, ◌⊎◌, inl, inr, Bool, true, false, refl, eqb-true, eq-eqb, List, map, ◌%◌, ◌||◌, cases_Bool, Class, Text, Bytes}
+use Rattle.fit_cells.proofs.Common.{base_type, base_types, byte, Meaning, barred, class_of, item_text, items_text}
+use Rattle.std.specs.Prelude.{◌==◌, Option}
 use Rattle.fit_base.proofs.Bytes.{found_passes}
-use Rattle.fit_profile.specs.Profile.{Meaning}
-use Rattle.fit_cells.specs.Cells.{barred, class_of, item_text, items_text}
+use Rattle.fit_base.specs.BaseTypes as base
 
 abbrev is_width : ℕ → Bool
 is_width w = ((w == 1) || (w == 2)) || ((w == 4) || (w == 8))
@@ -46,20 +41,15 @@ item_width-kinds code size = elim (cases_Bool (size % (base_type code).width == 
 
 -- strings and bytes are one byte wide
 abbrev narrow : Class → ℕ → Bool
-narrow Signed w = true
-narrow Unsigned w = true
-narrow Float w = true
-narrow _ w = w == 1
+narrow Text w = w == 1
+narrow Bytes w = w == 1
+narrow _ w = true
 
 narrow_text : (class : Class) (w : ℕ) → narrow class w ≡ true → (class ≡ Text) ⊎ (class ≡ Bytes) → w ≡ 1
 narrow_text Text w h e = eqb-true w 1 h
 narrow_text Bytes w h e = eqb-true w 1 h
-narrow_text Signed w h (inl e) = cc
-narrow_text Signed w h (inr e) = cc
-narrow_text Unsigned w h (inl e) = cc
-narrow_text Unsigned w h (inr e) = cc
-narrow_text Float w h (inl e) = cc
-narrow_text Float w h (inr e) = cc
+narrow_text class w h (inl e) = cc
+narrow_text class w h (inr e) = cc
 
 code_narrow : (code : ℕ) → ((base_type code).class ≡ Text) ⊎ ((base_type code).class ≡ Bytes) → (base_type code).width ≡ 1
 code_narrow code e = narrow_text (base_type code).class (base_type code).width
@@ -84,8 +74,6 @@ own_width code width h = elim (cases_Bool (width == (base_type code).width)) [
 -- the other classes stand item by item
 pub side_by_side : (class : Class) (code : ℕ) (info : Option Meaning) (width : ℕ) (bits : List ℕ) → (class ≡ Text → ⊥) → (class ≡ Bytes → ⊥)
     → items_text class code info width bits ≡ barred (map (item_text class code info width) bits)
-side_by_side Signed code info width bits t b = refl
-side_by_side Unsigned code info width bits t b = refl
-side_by_side Float code info width bits t b = refl
 side_by_side Text code info width bits t b = absurd (t refl)
 side_by_side Bytes code info width bits t b = absurd (b refl)
+side_by_side class code info width bits t b = refl

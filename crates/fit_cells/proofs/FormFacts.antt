@@ -1,16 +1,8 @@
 -- Items by the form of their field.
-use Rattle.std.proofs.Common.{◌≡◌, ◌∙◌, ◌/◌, ◌^◌, ℕ, ℤ, pos, ◌-ℤ◌, ◌*ℤ◌, Option, sym, false, inl, inr, ◌==◌}
+use Rattle.fit_cells.proofs.Common.{◌≡◌, ◌∙◌, ◌/◌, ◌^◌, ℕ, ℤ, pos, ◌-ℤ◌, ◌*ℤ◌, sym, false, inl, inr, cases_Bool, ne_eqb, Signed, Unsigned, base_type}
+use Rattle.fit_cells.proofs.Common.{twos_complement, fixed_text, Meaning, decimals, NumberForm, item_text, IsFormOf}
+use Rattle.std.proofs.Common.{Option, ◌==◌}
 use Rattle.std.specs.Prelude.{if◌then◌else◌}
-use Rattle.std.proofs.lemmas.Bool.{cases_Bool, ne_eqb}
-use Rattle.fit_base.specs.declared.code.Class.TheVariants.{Signed, Unsigned}
-use Rattle.fit_base.specs.BaseTypes.{base_type}
-use Rattle.fit_base.specs.Numbers.{twos_complement}
-use Rattle.fit_profile.specs.FixedText.{fixed_text}
-use Rattle.fit_profile.specs.Profile.{Meaning}
-use Rattle.fit_profile.specs.Scaled.{decimals}
-use Rattle.fit_cells.specs.declared.form.NumberForm.{NumberForm}
-use Rattle.fit_cells.specs.Cells.{item_text}
-use Rattle.fit_cells.specs.Forms.{IsFormOf}
 
 pub formed_item : (f : NumberForm) (code : ℕ) (info : Option Meaning) (bits : ℕ) (number : ℤ) → IsFormOf code info f → (bits ≡ f.invalid → ⊥)
     → number ≡ (if f.signed then twos_complement f.width bits else pos bits) -ℤ pos f.shift

@@ -1,9 +1,7 @@
 -- Hexadecimal digits, from the first to the last.
-use Rattle.std.proofs.Common.{◌≡◌, ◌∙◌, ℕ, zero, suc, ◌+◌, ◌-◌, ◌*◌, ◌/◌, ◌%◌, ◌^◌, ◌<◌, ◌≤◌, List, [], ◌∷◌, ◌++◌, refl, sym, ap, arith, append_assoc}
+use Rattle.fit_cells.proofs.Common.{◌≡◌, ◌∙◌, ℕ, zero, suc, ◌+◌, ◌-◌, ◌*◌, ◌/◌, ◌%◌, ◌^◌, ◌<◌, ◌≤◌, List, [], ◌∷◌, ◌++◌, refl, sym, ap, arith, append_assoc}
+use Rattle.fit_cells.proofs.Common.{pow-suc, nat_tests, hex_digit, hex_digits}
 use Rattle.std.proofs.Common.{append-nil}
-use Rattle.std.proofs.Math.Nat.{pow-suc}
-use Rattle.std.proofs.lemmas.Bool.Decides.{nat_tests}
-use Rattle.fit_cells.specs.Cells.{hex_digit, hex_digits}
 
 pub two-sixteen : (p : ℕ) → 2 ^ (4 * p) ≡ 16 ^ p
 two-sixteen zero = refl

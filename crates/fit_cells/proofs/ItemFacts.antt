@@ -1,17 +1,10 @@
 -- Items of one shape that a cell shows are one list.
-use Rattle.std.proofs.Common.{◌≡◌, ◌∙◌, ℕ, ◌*◌, ◌/◌, ◌^◌, ◌<◌, ◌==◌, false, List, length, All, Result, Ok, Err, Option, sym, ap, subst, inl, inr, eqb-true}
-use Rattle.std.proofs.Common.{IfOk}
-use Rattle.std.proofs.Math.Nat.{mul-div_cancel}
-use Rattle.std.proofs.lemmas.Bool.{cases_Bool}
-use Rattle.std.proofs.lemmas.List.{nil_from_length}
-use Rattle.std.proofs.lemmas.List.Elements.{All-from_recursion}
-use Rattle.fit_base.specs.declared.items.Items.{Items}
-use Rattle.fit_base.specs.BaseTypes.{item_width}
-use Rattle.fit_base.specs.Fields.{HasShape}
+use Rattle.fit_cells.proofs.Common.{◌≡◌, ◌∙◌, ℕ, ◌*◌, ◌/◌, ◌^◌, ◌<◌, false, List, length, All, Result, Ok, Err, sym, ap, subst, inl, inr, eqb-true, IfOk}
+use Rattle.fit_cells.proofs.Common.{mul-div_cancel, cases_Bool, nil_from_length, All-from_recursion, Items, item_width, HasShape, Meaning, cell, class_of}
+use Rattle.fit_cells.proofs.Common.{items_text}
+use Rattle.std.proofs.Common.{◌==◌, Option}
 use Rattle.fit_base.proofs.SameItems.{item_width_positive}
 use Rattle.fit_base.proofs.Shapes.{item_width_divides}
-use Rattle.fit_profile.specs.Profile.{Meaning}
-use Rattle.fit_cells.specs.Cells.{cell, class_of, items_text}
 
 -- two facts of one answer
 pub both-ok : {T E : Type 0} (r : Result T E) (P Q : T → Type 0) → IfOk r P → IfOk r Q → IfOk r (λ x. P x × Q x)

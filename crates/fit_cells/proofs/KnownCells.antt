@@ -1,11 +1,7 @@
 -- Cells that are known from outside.
-use Rattle.std.proofs.Common.{◌≡◌, refl, ℕ, List, [], ◌∷◌, Option, Some, None, codes}
-use Rattle.std.specs.Fmt.{digits}
-use Rattle.std.specs.Str.{is_utf8, chars}
+use Rattle.fit_cells.proofs.Common.{◌≡◌, refl, ℕ, List, [], ◌∷◌, Some, None, codes, digits, is_utf8, chars, Meaning, last_digits, cell, hex_digits}
+use Rattle.std.proofs.Common.{Option}
 use lib.Utf8.{encode}
-use Rattle.fit_profile.specs.Profile.{Meaning}
-use Rattle.fit_profile.specs.FixedText.{last_digits}
-use Rattle.fit_cells.specs.Cells.{cell, hex_digits}
 
 -- the cell of items of a width
 abbrev shown : ℕ → Option Meaning → ℕ → List ℕ → List ℕ

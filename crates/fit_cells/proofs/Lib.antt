@@ -1,3 +1,4 @@
+pub mod Common
 mod KnownCells
 pub mod AddedRows
 mod HexFacts

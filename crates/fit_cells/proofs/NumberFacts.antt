@@ -1,16 +1,9 @@
 -- Scaled numbers, and items side by side.
-use Rattle.std.proofs.Common.{◌≡◌, ◌∙◌, ℕ, zero, suc, ◌*◌, ◌/◌, ◌%◌, ◌^◌, ◌<◌, ◌≤◌, Bool, true, false, cond, List, [], ◌∷◌, ◌++◌, ℤ, pos, neg_ℤ, ◌*ℤ◌, ◌-ℤ◌}
-use Rattle.std.proofs.Common.{◌≤ℤ◌, ◌<ℤ◌, unsigned_abs, ◌⊎◌, inl, inr, Option, Some, None, length, refl, sym, ap, arith, length-append, decimal, nat_lt, ◌==◌}
-use Rattle.std.proofs.Common.{to_z, of_z, FitsSigned}
-use Rattle.std.specs.Fmt.{digits, digits_onto, digit_glyph}
-use Rattle.std.proofs.lemmas.Bool.{cases_Bool}
-use Rattle.std.proofs.lemmas.Int.{ints, to_z-of_z}
-use Rattle.std.specs.Int.{w128}
-use Rattle.fit_base.specs.Numbers.{twos_complement}
-use Rattle.fit_profile.specs.Profile.{Meaning}
-use Rattle.fit_profile.specs.FixedText.{fixed_text, fraction, sign, IsIn128}
-use Rattle.fit_profile.specs.Scaled.{IsScale, IsScaled, decimals}
-use Rattle.fit_cells.specs.Cells.{number_text, scaled_value}
+use Rattle.fit_cells.proofs.Common.{◌≡◌, ◌∙◌, ℕ, zero, suc, ◌*◌, ◌/◌, ◌%◌, ◌^◌, ◌<◌, ◌≤◌, Bool, true, false, cond, List, [], ◌∷◌, ◌++◌, ℤ, pos, neg_ℤ, ◌*ℤ◌}
+use Rattle.fit_cells.proofs.Common.{◌-ℤ◌, ◌≤ℤ◌, ◌<ℤ◌, unsigned_abs, ◌⊎◌, inl, inr, Some, None, length, refl, sym, ap, arith, length-append, decimal, nat_lt}
+use Rattle.fit_cells.proofs.Common.{to_z, of_z, FitsSigned, digits, digits_onto, digit_glyph, cases_Bool, ints, to_z-of_z, w128, twos_complement, Meaning}
+use Rattle.fit_cells.proofs.Common.{fixed_text, fraction, sign, IsIn128, IsScale, IsScaled, decimals, number_text, scaled_value}
+use Rattle.std.proofs.Common.{Option, ◌==◌}
 
 -- a value that a raw one stands for is the scaled one
 pub is_scaled : (raw v : ℤ) (scale offset : ℕ) → IsScale scale → IsScaled raw scale offset v → v ≡ scaled_value raw scale offset

@@ -1,24 +1,11 @@
 -- Items with the shape that a code and a size give have a cell of their own.
-use Rattle.std.proofs.Common.{◌≡◌, ◌∙◌, ℕ, ◌*◌, ◌^◌, ◌<◌, ◌==◌, Bool, true, false, cond, List, [], ◌∷◌, length, map, All, refl, sym, ap, ap₂, subst, arith, inl}
-use Rattle.std.proofs.Common.{inr, ◌⊎◌, ℤ, pos, neg_ℤ, ◌-ℤ◌, ◌≤ℤ◌, ◌<ℤ◌, Option, Some, None, IfSome, eqb-true, nat_lt}
-use Rattle.std.specs.List.{AllByRecursion, before_first, after_first}
-use Rattle.std.proofs.lemmas.Bool.{cases_Bool}
-use Rattle.std.proofs.lemmas.Int.{ints}
-use Rattle.std.proofs.lemmas.List.{nil_from_length}
-use Rattle.std.proofs.lemmas.List.Elements.{All-from_recursion}
-use Rattle.fit_base.specs.declared.code.Class.{Class}
-use Rattle.fit_base.specs.declared.code.Class.TheVariants.{Signed, Unsigned, Text, Float, Bytes}
-use Rattle.fit_base.specs.declared.items.Items.{Items}
-use Rattle.fit_base.specs.BaseTypes.{base_type, item_width}
-use Rattle.fit_base.specs.Fields.{HasShape}
-use Rattle.fit_base.specs.Numbers.{twos_complement}
-use Rattle.fit_profile.specs.Profile.{Meaning}
+use Rattle.fit_cells.proofs.Common.{◌≡◌, ◌∙◌, ℕ, ◌*◌, ◌^◌, ◌<◌, Bool, true, false, cond, List, [], ◌∷◌, length, map, All, refl, sym, ap, ap₂, subst, arith, inl}
+use Rattle.fit_cells.proofs.Common.{inr, ◌⊎◌, ℤ, pos, neg_ℤ, ◌-ℤ◌, ◌≤ℤ◌, ◌<ℤ◌, Some, None, IfSome, eqb-true, nat_lt, AllByRecursion, before_first, after_first}
+use Rattle.fit_cells.proofs.Common.{cases_Bool, ints, nil_from_length, All-from_recursion, Class, Signed, Unsigned, Text, Bytes, Items, base_type, item_width}
+use Rattle.fit_cells.proofs.Common.{HasShape, twos_complement, Meaning, IsScale, decimals, IsIn128, barred, begins_as_bytes, cell, class_of, hex_digits}
+use Rattle.fit_cells.proofs.Common.{item_text, items_text, number_text, scaled_value, string_text, bytes_text, is_bar, read_hex}
+use Rattle.std.proofs.Common.{◌==◌, Option}
 use Rattle.fit_profile.specs.Laws.{TextHasOneNumber}
-use Rattle.fit_profile.specs.Scaled.{IsScale, decimals}
-use Rattle.fit_profile.specs.FixedText.{IsIn128}
-use Rattle.fit_cells.specs.Cells.{barred, begins_as_bytes, cell, class_of, hex_digits, item_text, items_text, number_text, scaled_value, string_text}
-use Rattle.fit_cells.specs.Cells.{bytes_text}
-use Rattle.fit_cells.specs.Steps.{is_bar, read_hex}
 use Rattle.fit_cells.proofs.ClassFacts.{text_width, bytes_width, item_width as kinds, item_width-kinds}
 use Rattle.fit_cells.proofs.ItemFacts.{shape_count}
 use Rattle.fit_cells.proofs.NumberFacts.{complement-is, power-bound, raw-least, raw-most, raw-in, scaled-in, shift-bound, one-raw, number-some}
@@ -88,9 +75,7 @@ one-item law Unsigned code info w m n k kinds p q e =
     (raw-least _ m (256 ^ w) limit (inl refl)) (raw-most _ m (256 ^ w) limit p (inl refl)) (raw-least _ n (256 ^ w) limit (inl refl))
     (raw-most _ n (256 ^ w) limit q (inl refl))
     (pos-same m n) e
-one-item law Text code info w m n k kinds p q e = one-float w m n p q e
-one-item law Float code info w m n k kinds p q e = one-float w m n p q e
-one-item law Bytes code info w m n k kinds p q e = one-float w m n p q e
+one-item law class code info w m n k kinds p q e = one-float w m n p q e
 
 one-list : (f : ℕ → List ℕ) (top : ℕ) → ((n : ℕ) → Low (f n)) → ((m n : ℕ) → m < top → n < top → f m ≡ f n → m ≡ n)
     → (a b : List ℕ) → length a ≡ length b → AllByRecursion (λ n. n < top) a → AllByRecursion (λ n. n < top) b → barred (map f a) ≡ barred (map f b) → a ≡ b
@@ -115,12 +100,6 @@ one-bytes a b l p q e = sym (bytes-shown a (bytes_text a) (length a) refl refl p
 one-items : TextHasOneNumber → (class : Class) (code : ℕ) (info : Option Meaning) (w : ℕ) (a b : List ℕ) → IsKnown info → (w ≡ 1) ⊎ (w ≡ 2) ⊎ (w ≡ 4) ⊎ (w ≡ 8)
     → ((class ≡ Text) ⊎ (class ≡ Bytes) → w ≡ 1) → length a ≡ length b → AllByRecursion (λ n. n < 256 ^ w) a → AllByRecursion (λ n. n < 256 ^ w) b
     → items_text class code info w a ≡ items_text class code info w b → a ≡ b
-one-items law Signed code info w a b k kinds narrow l p q e =
-    one-list (item_text Signed code info w) (256 ^ w) (low-item Signed code info w) (λ m n. one-item law Signed code info w m n k kinds) a b l p q e
-one-items law Unsigned code info w a b k kinds narrow l p q e =
-    one-list (item_text Unsigned code info w) (256 ^ w) (low-item Unsigned code info w) (λ m n. one-item law Unsigned code info w m n k kinds) a b l p q e
-one-items law Float code info w a b k kinds narrow l p q e =
-    one-list (item_text Float code info w) (256 ^ w) (low-item Float code info w) (λ m n. one-item law Float code info w m n k kinds) a b l p q e
 one-items law Text code info w a b k kinds narrow l p q e =
     let one = narrow (inl refl) in
     one-string a b l (subst (λ v. All (λ n. n < 256 ^ v) a) one (All-from_recursion (λ n. n < 256 ^ w) a p))
@@ -129,6 +108,8 @@ one-items law Bytes code info w a b k kinds narrow l p q e =
     let one = narrow (inr refl) in
     one-bytes a b l (subst (λ v. All (λ n. n < 256 ^ v) a) one (All-from_recursion (λ n. n < 256 ^ w) a p))
     (subst (λ v. All (λ n. n < 256 ^ v) b) one (All-from_recursion (λ n. n < 256 ^ w) b q)) e
+one-items law class code info w a b k kinds narrow l p q e =
+    one-list (item_text class code info w) (256 ^ w) (low-item class code info w) (λ m n. one-item law class code info w m n k kinds) a b l p q e
 
 one-narrow : (code size : ℕ) → (class_of code (item_width code size) ≡ Text) ⊎ (class_of code (item_width code size) ≡ Bytes) → item_width code size ≡ 1
 one-narrow code size (inl text) = text_width code (item_width code size) text

@@ -1,74 +1,73 @@
 -- Numbers stand in a row without quotes.
-use Rattle.std.proofs.Common.{◌≡◌, ◌∙◌, ℕ, zero, suc, ◌/◌, ◌%◌, ◌^◌, ◌<◌, ◌≤◌, ◌==◌, Bool, true, false, List, [], ◌∷◌, ◌++◌, length, get_or, refl, ap, arith}
-use Rattle.std.proofs.Common.{inl, inr, lit<, cond, unsigned_abs, ℤ, pos, negsuc, Option, Some, None, decimal}
-use Rattle.std.specs.Fmt.{digits, digits_onto, digit_glyph}
-use Rattle.std.specs.List.{AllByRecursion}
-use Rattle.std.proofs.lemmas.Bool.{cases_Bool, ne_eqb}
-use Rattle.std.proofs.lemmas.Bool.Decides.{nat_tests}
+use Rattle.fit_cells.proofs.Common.{◌≡◌, ◌∙◌, ℕ, zero, suc, ◌+◌, ◌/◌, ◌%◌, ◌^◌, ◌<◌, ◌≤◌, Bool, true, false, List, [], ◌∷◌, ◌++◌, length, get_or, refl, ap}
+use Rattle.fit_cells.proofs.Common.{arith, inl, inr, lit<, cond, unsigned_abs, ℤ, pos, negsuc, Some, None, decimal, digits, digits_onto, digit_glyph}
+use Rattle.fit_cells.proofs.Common.{AllByRecursion, cases_Bool, ne_eqb, nat_tests, default_writer, field_text, needs_byte, needs_quotes, Signed, Unsigned}
+use Rattle.fit_cells.proofs.Common.{Items, base_type, twos_complement, Meaning, fixed_text, fraction, last_digits, sign, NumberForm, cell, item_text}
+use Rattle.fit_cells.proofs.Common.{number_text, IsFormOf}
+use Rattle.std.proofs.Common.{◌==◌, Option}
 use Rattle.std.proofs.lemmas.List.{append-nil}
-use Rattle.csv.specs.Writing.{default_writer, field_text, needs_byte, needs_quotes}
-use Rattle.fit_base.specs.declared.code.Class.TheVariants.{Signed, Unsigned}
-use Rattle.fit_base.specs.declared.items.Items.{Items}
-use Rattle.fit_base.specs.BaseTypes.{base_type}
-use Rattle.fit_base.specs.Numbers.{twos_complement}
-use Rattle.fit_profile.specs.Profile.{Meaning}
-use Rattle.fit_profile.specs.FixedText.{fixed_text, fraction, last_digits, sign}
-use Rattle.fit_cells.specs.declared.form.NumberForm.{NumberForm}
-use Rattle.fit_cells.specs.Cells.{cell, item_text, number_text}
-use Rattle.fit_cells.specs.Forms.{IsFormOf}
 
 -- each byte comes behind the comma
 abbrev pub High : List ℕ → Type 0
 High text = AllByRecursion (λ b. 44 < b) text
 
+-- what every digit, the sign and the point have, every byte of a number's text has
+module _ (P : ℕ → Type 0) (of_byte : (b : ℕ) → 44 < b → b < 58 → P b) where
+  pub all-append : (a b : List ℕ) → AllByRecursion P a → AllByRecursion P b → AllByRecursion P (a ++ b)
+  all-append [] b p q = q
+  all-append (x ∷ a) b p q = (p.0, all-append a b p.1 q)
+
+  glyph : (d : ℕ) → d < 10 → P (digit_glyph false d)
+  glyph d h = of_byte (digit_glyph false d) (grind (arith, nat_tests)) (grind (arith, nat_tests))
+
+  digits-onto : (k n : ℕ) (acc : List ℕ) → AllByRecursion P acc → AllByRecursion P (digits_onto k 10 false n acc)
+  digits-onto zero n acc h = h
+  digits-onto (suc k) n acc h =
+      let more : AllByRecursion P (digit_glyph false (n % 10) ∷ acc) = (glyph (n % 10) (omega arith), h) in
+      elim (cases_Bool (n / 10 == 0)) [
+        | inl last ↦ rw last more
+        | inr other ↦ rw other (digits-onto k (n / 10) (digit_glyph false (n % 10) ∷ acc) more)
+      ]
+
+  pub all-decimal : (n : ℕ) → AllByRecursion P (decimal n)
+  unfolding digits
+  all-decimal n = digits-onto 64 n [] tt
+
+  all-last : (k n : ℕ) → AllByRecursion P (last_digits k n)
+  unfolding last_digits
+  all-last zero n = tt
+  all-last (suc k) n = (of_byte (48 + n / 10 ^ k % 10) (omega arith) (omega arith), all-last k n)
+
+  all-fraction : (d n : ℕ) → AllByRecursion P (fraction d n)
+  all-fraction d n = elim (cases_Bool (d == 0)) [
+    | inl none ↦ rw none tt
+    | inr some ↦ rw some (of_byte 46 (lit< tt) (lit< tt), all-last d n)
+  ]
+
+  all-sign : (v : ℤ) → AllByRecursion P (sign v)
+  all-sign (pos n) = tt
+  all-sign (negsuc n) = (of_byte 45 (lit< tt) (lit< tt), tt)
+
+  pub all-fixed : (v : ℤ) (d : ℕ) → AllByRecursion P (fixed_text v d)
+  all-fixed v d = all-append _ _ (all-append _ _ (all-sign v) (all-decimal (unsigned_abs v / 10 ^ d))) (all-fraction d (unsigned_abs v % 10 ^ d))
+
+  all-number : (info : Option Meaning) (raw : ℤ) → AllByRecursion P (number_text info raw)
+  all-number None raw = all-fixed raw 0
+  all-number (Some i) raw = all-fixed _ _
+
+  -- that of a number, or nothing where it is the invalid one
+  pub all-valid : (b : Bool) (info : Option Meaning) (raw : ℤ) → AllByRecursion P (cond b [] (number_text info raw))
+  all-valid true info raw = tt
+  all-valid false info raw = all-number info raw
+
 pub high-append : (a b : List ℕ) → High a → High b → High (a ++ b)
-high-append [] b p q = q
-high-append (x ∷ a) b p q = (p.0, high-append a b p.1 q)
-
-glyph : (d : ℕ) → d < 10 → 44 < digit_glyph false d
-glyph d h = grind (arith, nat_tests)
-
-digits-onto : (k n : ℕ) (acc : List ℕ) → High acc → High (digits_onto k 10 false n acc)
-digits-onto zero n acc h = h
-digits-onto (suc k) n acc h =
-    let more : High (digit_glyph false (n % 10) ∷ acc) = (glyph (n % 10) (omega arith), h) in
-    elim (cases_Bool (n / 10 == 0)) [
-      | inl last ↦ rw last more
-      | inr other ↦ rw other (digits-onto k (n / 10) (digit_glyph false (n % 10) ∷ acc) more)
-    ]
+high-append = all-append (λ b. 44 < b) (λ b h _. h)
 
 pub high-decimal : (n : ℕ) → High (decimal n)
-unfolding digits
-high-decimal n = digits-onto 64 n [] tt
-
-high-last : (k n : ℕ) → High (last_digits k n)
-unfolding last_digits
-high-last zero n = tt
-high-last (suc k) n = (omega arith, high-last k n)
-
-high-fraction : (d n : ℕ) → High (fraction d n)
-high-fraction d n = elim (cases_Bool (d == 0)) [
-  | inl none ↦ rw none tt
-  | inr some ↦ rw some (lit< tt, high-last d n)
-]
-
-high-sign : (v : ℤ) → High (sign v)
-high-sign (pos n) = tt
-high-sign (negsuc n) = (lit< tt, tt)
+high-decimal = all-decimal (λ b. 44 < b) (λ b h _. h)
 
 pub high-fixed : (v : ℤ) (d : ℕ) → High (fixed_text v d)
-high-fixed v d =
-    high-append (sign v ++ decimal (unsigned_abs v / 10 ^ d)) (fraction d (unsigned_abs v % 10 ^ d))
-    (high-append (sign v) (decimal (unsigned_abs v / 10 ^ d)) (high-sign v) (high-decimal (unsigned_abs v / 10 ^ d)))
-    (high-fraction d (unsigned_abs v % 10 ^ d))
-
-high-number : (info : Option Meaning) (raw : ℤ) → High (number_text info raw)
-high-number None raw = high-fixed raw 0
-high-number (Some i) raw = high-fixed _ _
-
-high-valid : (b : Bool) (text : List ℕ) → High text → High (cond b [] text)
-high-valid true text h = tt
-high-valid false text h = h
+high-fixed = all-fixed (λ b. 44 < b) (λ b h _. h)
 
 plain-byte : (b : ℕ) → 44 < b → needs_byte default_writer b ≡ false
 plain-byte b h =
@@ -91,15 +90,14 @@ signed-cell : (code : ℕ) (info : Option Meaning) (width bits : ℕ)
 signed-cell code info width bits =
     let text = item_text Signed code info width bits in
     ap (field_text default_writer) (append-nil text)
-    ∙ unquoted text (high-valid (bits == (base_type code).invalid) (number_text info (twos_complement width bits))
-    (high-number info (twos_complement width bits)))
+    ∙ unquoted text (all-valid (λ b. 44 < b) (λ b h _. h) (bits == (base_type code).invalid) info (twos_complement width bits))
 
 unsigned-cell : (code : ℕ) (info : Option Meaning) (width bits : ℕ)
     → field_text default_writer (item_text Unsigned code info width bits ++ []) ≡ item_text Unsigned code info width bits
 unsigned-cell code info width bits =
     let text = item_text Unsigned code info width bits in
     ap (field_text default_writer) (append-nil text)
-    ∙ unquoted text (high-valid (bits == (base_type code).invalid) (number_text info (pos bits)) (high-number info (pos bits)))
+    ∙ unquoted text (all-valid (λ b. 44 < b) (λ b h _. h) (bits == (base_type code).invalid) info (pos bits))
 
 same-test : (n : ℕ) → (n == n) ≡ true
 same-test n = grind (arith, nat_tests)
@@ -123,4 +121,19 @@ lone_cell f code info items bits form same one =
       | inr other ↦
           let class : (base_type code).class ≡ Unsigned = rw other at form.class in
           rw (one, wide, class) (unsigned-cell code info f.width bits)
+    ]
+
+-- the same without quotes
+pub formed_cell : {A : Type 0} (f : NumberForm) (code : ℕ) (info : Option Meaning) (items : Items A) (bits : ℕ) → IsFormOf code info f
+    → items.width ≡ f.width → items.bits ≡ bits ∷ []
+    → cell code info items ≡ item_text (base_type code).class code info f.width bits
+formed_cell f code info items bits form same one =
+    let wide : (items.width == (base_type code).width) ≡ true = rw (same, form.width) (same-test (base_type code).width) in
+    elim (cases_Bool f.signed) [
+      | inl signed ↦
+          let class : (base_type code).class ≡ Signed = rw signed at form.class in
+          rw (one, wide, class, same) (append-nil (item_text Signed code info f.width bits))
+      | inr other ↦
+          let class : (base_type code).class ≡ Unsigned = rw other at form.class in
+          rw (one, wide, class) (append-nil (item_text Unsigned code info f.width bits))
     ]

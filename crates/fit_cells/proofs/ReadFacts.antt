@@ -1,13 +1,10 @@
 -- What hexadecimal digits read as.
-use Rattle.std.proofs.Common.{◌≡◌, ◌∙◌, ℕ, zero, suc, ◌+◌, ◌-◌, ◌*◌, ◌/◌, ◌%◌, ◌^◌, ◌<◌, ◌≤◌, List, [], ◌∷◌, ◌++◌, length, take, drop, get_or, flat_map, All}
-use Rattle.std.proofs.Common.{refl, sym, ap, ap₂, subst, arith, append_assoc, append-nil, drop-cons, add-one, mul_assoc}
-use Rattle.std.proofs.Math.Nat.{pow-suc, pow-succ', add-mul, mod-eq_of_lt}
+use Rattle.fit_cells.proofs.Common.{◌≡◌, ◌∙◌, ℕ, zero, suc, ◌+◌, ◌-◌, ◌*◌, ◌/◌, ◌%◌, ◌^◌, ◌<◌, ◌≤◌, List, [], ◌∷◌, ◌++◌, length, take, drop, get_or, flat_map}
+use Rattle.fit_cells.proofs.Common.{All, refl, sym, ap, ap₂, subst, arith, append_assoc, drop-cons, add-one, mul_assoc, pow-suc, pow-succ', add-mul}
+use Rattle.fit_cells.proofs.Common.{mod-eq_of_lt, nat_tests, AllByRecursion, recursion_from_All, hex_digit, hex_digits, bytes_text, hex_value, read_hex}
+use Rattle.fit_cells.proofs.Common.{read_pairs}
+use Rattle.std.proofs.Common.{append-nil}
 use Rattle.std.proofs.Math.Arith.{mod-mul}
-use Rattle.std.proofs.lemmas.Bool.Decides.{nat_tests}
-use Rattle.std.specs.List.{AllByRecursion}
-use Rattle.std.proofs.lemmas.List.Elements.{recursion_from_All}
-use Rattle.fit_cells.specs.Cells.{hex_digit, hex_digits, bytes_text}
-use Rattle.fit_cells.specs.Steps.{hex_value, read_hex, read_pairs}
 
 pub value_of_digit : (d : ℕ) → d < 16 → hex_value (hex_digit d) ≡ d
 value_of_digit d h = grind (arith, nat_tests)

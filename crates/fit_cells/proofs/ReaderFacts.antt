@@ -1,10 +1,9 @@
 -- The next row of a reader.
-use Rattle.std.proofs.Common.{◌≡◌, ◌∙◌, ℕ, List, Bool, true, false, Bor, Some, inl}
-use Rattle.csv.specs.Reading.{ReadRecord, default_config, is_flexible, reader_state, strip_bom, took_first}
-use Rattle.csv.specs.declared.parser.State.TheVariants as st
+use Rattle.fit_cells.proofs.Common.{◌≡◌, ◌∙◌, ℕ, List, Bool, true, false, Bor, Some, inl, ReadRecord, default_config, is_flexible, reader_state, strip_bom}
+use Rattle.fit_cells.proofs.Common.{took_first, Follows, HasRead, Row}
 use Rattle.csv.specs.declared.reader.Reader.{Reader}
 use Rattle.csv.proofs.ReadFacts.{rows-end, rows-more}
-use Rattle.fit_cells.specs.Rows.{Follows, HasRead, Row}
+use Rattle.csv.specs.declared.parser.State.TheVariants as st
 
 pub next : (a b : Reader (Bor (List ℕ))) (found : Bool) (row : Row) (text : List ℕ) (rows : List Row) → HasRead text rows a
     → ReadRecord (λ s. Some s.now) a b found row → took_first b ≡ true → is_flexible b ≡ is_flexible a → Follows found row text rows b

@@ -1,15 +1,11 @@
 -- The text of rows reads back as those rows, and a text has one list of rows.
-use Rattle.std.proofs.Common.{◌≡◌, ◌<◌, ◌==◌, ◌&&◌, Bool, if◌then◌else◌, inl, inr, arith, length, ◌≢◌, ◌++◌, ◌∷◌, [], ℕ, List, Some, None, true, false, refl}
-use Rattle.std.proofs.Common.{sym, ◌∙◌, ap, ap₂, subst, eqb-true}
-use Rattle.csv.specs.Machine.{Read, next_record}
-use Rattle.std.proofs.lemmas.Bool.{cases_Bool}
-use Rattle.csv.specs.Reading.{Reached, AreRecords, default_config, strip_bom, is_bom}
-use Rattle.csv.specs.Writing.{default_writer, escaped, field_text, fields_text, is_blank, needs_quotes, read_back, row_text}
-use Rattle.csv.specs.declared.parser.Config.{Config}
-use Rattle.csv.specs.declared.parser.State.{State}
-use Rattle.csv.specs.declared.parser.State.TheVariants as st
+use Rattle.fit_cells.proofs.Common.{◌≡◌, ◌<◌, Bool, inl, inr, arith, length, ◌≢◌, ◌++◌, ◌∷◌, [], ℕ, List, Some, None, true, refl, sym, ◌∙◌, ap, ap₂, subst}
+use Rattle.fit_cells.proofs.Common.{eqb-true, Read, next_record, cases_Bool, Reached, AreRecords, default_config, strip_bom, is_bom, default_writer, escaped}
+use Rattle.fit_cells.proofs.Common.{field_text, fields_text, is_blank, needs_quotes, read_back, row_text, Config, State, BeginsWithMark, NoneEmpty, Row}
+use Rattle.fit_cells.proofs.Common.{RowsOfText, csv_text}
+use Rattle.std.proofs.Common.{◌==◌, ◌&&◌, if◌then◌else◌}
 use Rattle.csv.proofs.RoundTrip.{read-write}
-use Rattle.fit_cells.specs.Rows.{BeginsWithMark, NoneEmpty, Row, RowsOfText, csv_text}
+use Rattle.csv.specs.declared.parser.State.TheVariants as st
 
 back-same : (row : Row) → row ≢ [] → read_back row ≡ row
 back-same [] n = absurd (n refl)
@@ -44,27 +40,20 @@ third-is a b c x y z xs ys e = cc e
 
 all-true : (x y z : Bool) → (x && y && z) ≡ true → (x ≡ true) × (y ≡ true) × (z ≡ true)
 all-true true true true e = (refl, refl, refl)
-all-true true true false e = cc e
-all-true true false z e = cc e
-all-true false y z e = cc e
+all-true x y z e = cc e
 
 mark-is : (a b c : ℕ) (rest : List ℕ) → is_bom a b c ≡ true → a ∷ b ∷ c ∷ rest ≡ 0xEF ∷ 0xBB ∷ 0xBF ∷ rest
 mark-is a b c rest e =
     let (x, y, z) = all-true (a == 0xEF) (b == 0xBB) (c == 0xBF) e in
-    let p = eqb-true a 0xEF x in
-    let q = eqb-true b 0xBB y in
-    let r = eqb-true c 0xBF z in
-    λ i. p i ∷ q i ∷ r i ∷ rest
+    cc (eqb-true a 0xEF x, eqb-true b 0xBB y, eqb-true c 0xBF z)
 
 strip-none : (text : List ℕ) → ((rest : List ℕ) → text ≡ 0xEF ∷ 0xBB ∷ 0xBF ∷ rest → ⊥) → strip_bom text ≡ text
 unfolding strip_bom
-strip-none [] none = refl
-strip-none (a ∷ []) none = refl
-strip-none (a ∷ b ∷ []) none = refl
 strip-none (a ∷ b ∷ c ∷ rest) none = elim (cases_Bool (is_bom a b c)) [
   | inl mark ↦ absurd (none rest (mark-is a b c rest mark))
   | inr other ↦ rw other refl
 ]
+strip-none text none = refl
 
 abbrev HasMark : List ℕ → Type 0
 HasMark text = (more : List ℕ) × (text ≡ 0xEF ∷ 0xBB ∷ 0xBF ∷ more)
@@ -115,22 +104,16 @@ no-mark ((cell ∷ cells) ∷ rows) n none = strip-none (csv_text ((cell ∷ cel
     let (more, is) = row-has-mark cell cells (csv_text rows) rest e in
     none (more, cells, rows, ap (λ (c : List ℕ). (c ∷ cells) ∷ rows) is))
 
-first-cell : (a b : List ℕ) (xs ys : Row) (x y : List Row) → (a ∷ xs) ∷ x ≡ (b ∷ ys) ∷ y → a ≡ b
-first-cell a b xs ys x y e = cc e
-
 -- rows whose first byte is another one
 pub begins-otherwise : (b : ℕ) (cell : List ℕ) (cells : Row) (rows : List Row) → b < 0xEF → BeginsWithMark (((b ∷ cell) ∷ cells) ∷ rows) → ⊥
 begins-otherwise b cell cells rows less (more, others, rest, e) =
-    let same = head-is b 0xEF cell (0xBB ∷ 0xBF ∷ more) (first-cell (b ∷ cell) (0xEF ∷ 0xBB ∷ 0xBF ∷ more) cells others rows rest e) in
+    let same : b ≡ 0xEF = cc e in
     omega (arith, same, less)
 
 -- ---- there and back
 
 pub reads-back : (rows : List Row) → NoneEmpty rows → (BeginsWithMark rows → ⊥) → RowsOfText (csv_text rows) rows
 reads-back rows n none = rw (no-mark rows n none) (st.StartRecord, [], reached-text rows n, none-left)
-
-some-same : {A : Type 0} (a b : A) → Some a ≡ Some b → a ≡ b
-some-same a b e = cc e
 
 one-way : (cfg : Config) (a b : List Row) (s s1 s2 : State) (xs y1 y2 : List ℕ) → Reached cfg s xs a s1 y1 → next_record cfg s1 [] [] y1 ≡ None
     → Reached cfg s xs b s2 y2 → next_record cfg s2 [] [] y2 ≡ None → a ≡ b
@@ -139,7 +122,7 @@ one-way cfg [] [] s s1 s2 xs y1 y2 ra na rb nb = refl
 one-way cfg [] (r ∷ rs) s s1 s2 xs y1 y2 (es, ex) na (p, e, same, more) nb = cc (rw (← es, ← ex) at na, e)
 one-way cfg (r ∷ rs) [] s s1 s2 xs y1 y2 (p, e, same, more) na (es, ex) nb = cc (rw (← es, ← ex) at nb, e)
 one-way cfg (r ∷ rs) (q ∷ qs) s s1 s2 xs y1 y2 (p, e, same, more) na (p', e', same', more') nb =
-    let pp = some-same p p' (sym e ∙ e') in
+    let pp : p ≡ p' = cc in
     let m : Reached cfg p.1 p.2 qs s2 y2 = rw (← pp) at more' in
     rw (same, same', ← pp, one-way cfg rs qs p.1 s1 s2 p.2 y1 y2 more na m nb) refl
 
@@ -153,7 +136,7 @@ unfolding Reached
 reached-first cfg [] rows s s2 xs y (es, ex) all = (rows, refl, rw (← es, ← ex) all)
 reached-first cfg (r ∷ pre) [] s s2 xs y (p, e, same, more) (s3, z, (es, ex), ends) = cc (rw (← es, ← ex) at ends, e)
 reached-first cfg (r ∷ pre) (q ∷ rows) s s2 xs y (p, e, same, more) (s3, z, (p', e', same', more'), ends) =
-    let pp = some-same p p' (sym e ∙ e') in
+    let pp : p ≡ p' = cc in
     let m : Reached cfg p.1 p.2 rows s3 z = rw (← pp) at more' in
     let (rest, is, left) = reached-first cfg pre rows p.1 s2 p.2 y more (s3, z, m, ends) in
     let head : q ≡ r = same' ∙ ap (λ (x : Read). x.0) (sym pp) ∙ sym same in

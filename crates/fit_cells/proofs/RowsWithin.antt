@@ -1,18 +1,13 @@
 -- A text has no more rows than bytes.
-use Rattle.std.proofs.Common.{◌≡◌, ◌∙◌, ◌<◌, ◌≤◌, ◌+◌, ◌==◌, ◌&&◌, ◌⊎◌, Bool, if◌then◌else◌, inl, inr, arith, length, ◌∷◌, [], ℕ, List, Some, true, false, refl}
-use Rattle.std.proofs.Common.{sym, ap}
-use Rattle.csv.specs.Machine.{Read, next_record, ends_at_end, is_end, step, after_end, in_field, start_field, start_record, ends_with, is_byte, fields_after}
-use Rattle.csv.specs.Machine.{field_after}
+use Rattle.fit_cells.proofs.Common.{◌≡◌, ◌∙◌, ◌<◌, ◌≤◌, ◌+◌, ◌⊎◌, Bool, inl, inr, arith, length, ◌∷◌, [], ℕ, List, Some, true, false, refl, sym, ap, Read}
+use Rattle.fit_cells.proofs.Common.{next_record, ends_at_end, is_end, step, after_end, in_field, start_field, start_record, ends_with, is_byte, fields_after}
+use Rattle.fit_cells.proofs.Common.{field_after, cases_Bool, Reached, default_config, strip_bom, is_bom, Config, State, Row}
+use Rattle.std.proofs.Common.{◌==◌, ◌&&◌, if◌then◌else◌}
 use Rattle.csv.specs.declared.parser.Action.{Action}
-use Rattle.csv.specs.declared.parser.Action.TheVariants as act
 use Rattle.csv.specs.declared.parser.Terminator.{Terminator}
+use Rattle.csv.specs.declared.parser.Action.TheVariants as act
 use Rattle.csv.specs.declared.parser.Terminator.TheVariants as term
-use Rattle.std.proofs.lemmas.Bool.{cases_Bool}
-use Rattle.csv.specs.Reading.{Reached, default_config, strip_bom, is_bom}
-use Rattle.csv.specs.declared.parser.Config.{Config}
-use Rattle.csv.specs.declared.parser.State.{State}
 use Rattle.csv.specs.declared.parser.State.TheVariants as st
-use Rattle.fit_cells.specs.Rows.{Row}
 
 some-same : {A : Type 0} (a b : A) → Some a ≡ Some b → a ≡ b
 some-same a b e = cc e
@@ -122,13 +117,11 @@ rows-within cfg (r ∷ rows) s s2 xs y b (p, e, same, more) =
 
 strip-length : (xs : List ℕ) → length (strip_bom xs) ≤ length xs
 unfolding strip_bom
-strip-length [] = omega arith
-strip-length (a ∷ []) = omega arith
-strip-length (a ∷ b ∷ []) = omega arith
 strip-length (a ∷ b ∷ c ∷ rest) = elim (cases_Bool (is_bom a b c)) [
   | inl mark ↦ rw mark (omega arith)
   | inr none ↦ rw none (omega arith)
 ]
+strip-length xs = omega arith
 
 -- a text has no more rows than bytes
 pub rows-of-text : (text : List ℕ) (rows : List Row) (s : State) (y : List ℕ) → Reached default_config st.StartRecord (strip_bom text) rows s y

@@ -1,12 +1,8 @@
 -- The items of a cell, cut at its bars.
-use Rattle.std.proofs.lemmas.List.Elements.{All-head}
-use Rattle.std.proofs.Common.{All, ◌≡◌, ◌∙◌, ℕ, suc, ◌+◌, ◌<◌, false, List, [], ◌∷◌, ◌++◌, length, map, drop, get_or, refl, sym, ap, arith, add-one, append-nil}
-use Rattle.std.proofs.Common.{drop-cons}
-use Rattle.std.specs.List.{position_or_len, before_first, after_first}
-use Rattle.std.proofs.lemmas.Bool.{ne_eqb}
+use Rattle.fit_cells.proofs.Common.{All-head, All, ◌≡◌, ◌∙◌, ℕ, suc, ◌+◌, ◌<◌, false, List, [], ◌∷◌, ◌++◌, length, map, drop, get_or, refl, sym, ap, arith}
+use Rattle.fit_cells.proofs.Common.{add-one, drop-cons, position_or_len, before_first, after_first, ne_eqb, barred, is_bar}
+use Rattle.std.proofs.Common.{append-nil}
 use Rattle.std.proofs.Math.Numerals.{one-add}
-use Rattle.fit_cells.specs.Cells.{barred}
-use Rattle.fit_cells.specs.Steps.{is_bar}
 use Rattle.fit_cells.proofs.TextFacts.{Low}
 
 plain-byte : (b : ℕ) → b < 124 → is_bar b ≡ false

@@ -1,15 +1,9 @@
 -- Texts that can stand as they are.
-use Rattle.std.proofs.Common.{◌≡◌, ◌∙◌, ℕ, zero, suc, ◌<◌, Bool, true, false, List, [], ◌∷◌, ◌++◌, length, drop, get_or, reverse, All, refl, sym, ap, inl, inr}
-use Rattle.std.proofs.Common.{arith, eqb-true}
-use Rattle.std.specs.Prelude.{◌==◌, ◌&&◌, not}
-use Rattle.std.specs.List.{list_all}
-use Rattle.std.specs.Str.{IsUtf8, is_utf8}
-use Rattle.std.proofs.lemmas.Bool.{cases_Bool}
-use Rattle.std.proofs.lemmas.Str.{is_utf8-from_IsUtf8, IsUtf8-from_is_utf8}
-use Rattle.std.proofs.lemmas.List.{reverse-append, reverse-reverse, ext_get_or}
-use Rattle.fit_profile.specs.Described.{before_closing_zeros, without_zeros}
-use Rattle.fit_cells.specs.Cells.{begins_as_bytes, bytes_text, is_plain, string_text}
-use Rattle.fit_cells.specs.Steps.{read_pairs}
+use Rattle.fit_cells.proofs.Common.{◌≡◌, ◌∙◌, ℕ, zero, suc, ◌<◌, Bool, true, false, List, [], ◌∷◌, ◌++◌, length, drop, get_or, reverse, All, refl, sym, ap, inl}
+use Rattle.fit_cells.proofs.Common.{inr, arith, eqb-true, not, list_all, IsUtf8, is_utf8, cases_Bool, is_utf8-from_IsUtf8, IsUtf8-from_is_utf8, reverse-append}
+use Rattle.fit_cells.proofs.Common.{reverse-reverse, ext_get_or, before_closing_zeros, without_zeros, begins_as_bytes, bytes_text, is_plain, string_text}
+use Rattle.fit_cells.proofs.Common.{read_pairs}
+use Rattle.std.specs.Prelude.{◌==◌, ◌&&◌}
 use Rattle.fit_cells.proofs.ReadFacts.{bytes-shown}
 
 pub no_utf8 : (text : List ℕ) → (IsUtf8 text → ⊥) → false ≡ is_plain text

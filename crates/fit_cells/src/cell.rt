@@ -1,12 +1,14 @@
 //! The cells of fields.
-ghost use Rattle.std.specs.Prelude.{◌≡◌, ◌<◌, ◌++◌, ◌⊎◌, ◌^◌, All, IfOk, IfSome, OnErr, OnOk, option_map};
+ghost use Rattle.std.specs.Prelude.{◌≡◌, ◌<◌, ◌++◌, ◌∷◌, [], ◌⊎◌, ◌^◌, All, IfOk, IfSome, OnErr, OnOk, option_map};
 ghost use Rattle.std.specs.String.{string_bytes};
 ghost use Rattle.fit_base.specs.BaseTypes.{base_type};
 ghost use Rattle.fit_profile.specs.FixedText.{StillBegins};
 ghost use Rattle.fit_profile.specs.Names.{meaning};
 ghost use Rattle.fit_profile.specs.Scaled.{IsScale};
 ghost use Rattle.fit_cells.specs.Cells.{cell, class_of};
+ghost use Rattle.fit_cells.specs.Forms.{IsFormOf, IsSmallForm};
 
+use crate::form::{NumberForm, lone_number, number_form, put_formed};
 use crate::hexadecimal::put_bytes;
 use crate::numbers::put_items;
 use crate::strings::put_string;
@@ -25,9 +27,8 @@ pub(crate) fn class_of(code: Code, width: u8) -> Class
     }
 }
 
-/// Puts the cell of a field after a text. If memory runs out, the old text is still the beginning, and part of the cell may have
-/// been written.
-pub fn put_cell(
+/// Puts the cell of a field by the class of its items.
+fn put_by_class(
     text: &mut Vec<u8>,
     code: Code,
     info: Option<Info>,
@@ -48,6 +49,40 @@ pub fn put_cell(
         Class::Text => put_string(text, bits),
         Class::Bytes => put_bytes(text, bits),
         class => put_items(text, class, code, info, items.width, bits),
+    }
+}
+
+/// The form and the bits of a field that is just one number of at most four bytes.
+fn formed(code: Code, info: Option<Info>, items: &Items) -> Option<(NumberForm, u64)>
+    requires { IfSome info (λ i. IsScale i.scale) }
+    ensures small { IfSome result (λ p. IsSmallForm p.0) }
+    ensures form { IfSome result (λ p. IsFormOf code.0 (option_map meaning info) p.0) }
+    ensures lone { IfSome result (λ p. (items.now.width ≡ p.0.width)
+        × (items.now.bits ≡ p.1 ∷ [])) }
+{
+    let form = number_form(code, info)?;
+    let bits = lone_number(form, items)?;
+    Some((form, bits))
+}
+
+/// Puts the cell of a field after a text. If memory runs out, the old text is still the beginning, and part of the cell may have
+/// been written.
+pub fn put_cell(
+    text: &mut Vec<u8>,
+    code: Code,
+    info: Option<Info>,
+    items: &Items,
+) -> Result<(), AllocError>
+    requires scale { IfSome info (λ i. IsScale i.scale) }
+    requires width { (items.now.width ≡ (base_type code.0).width) ⊎ (items.now.width ≡ 1) }
+    requires bits { All (λ n. n < 256 ^ items.now.width) items.now.bits }
+    ensures ok { OnOk result (text.new.items ≡ text.old.items
+        ++ cell code.0 (option_map meaning info) items.now) }
+    ensures kept { OnErr result (StillBegins text.old.items text.new.items) }
+{
+    match formed(code, info, items) {
+        Some((form, bits)) => put_formed(text, form, bits),
+        None => put_by_class(text, code, info, items),
     }
 }
 

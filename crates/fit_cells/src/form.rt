@@ -1,5 +1,5 @@
 //! How the numbers of a field are shown, found out once for many of them.
-ghost use Rattle.std.specs.Prelude.{◌≡◌, ◌≤◌, ◌<◌, ◌⊎◌, ◌++◌, ◌^◌, ◌/◌, ◌*◌, pos, neg_ℤ, ◌*ℤ◌, ◌-ℤ◌, ◌≤ℤ◌, ◌∷◌, [], ℕ, ℤ, Option, IfSome, IsNone, OnErr, OnOk, length, option_map, if◌then◌else◌};
+ghost use Rattle.std.specs.Prelude.{◌≡◌, ◌≢◌, ◌≤◌, ◌<◌, ◌⊎◌, ◌++◌, ◌^◌, ◌/◌, ◌*◌, pos, neg_ℤ, ◌*ℤ◌, ◌-ℤ◌, ◌≤ℤ◌, ◌∷◌, [], ℕ, ℤ, Option, IfSome, IsNone, OnErr, OnOk, length, option_map, if◌then◌else◌};
 ghost use Rattle.fit_base.specs.BaseTypes.{base_type};
 ghost use Rattle.fit_base.specs.Numbers.{twos_complement};
 ghost use Rattle.fit_profile.specs.FixedText.{StillBegins};
@@ -11,7 +11,7 @@ ghost use Rattle.fit_cells.specs.Cells.{item_text, number_text};
 ghost use Rattle.fit_cells.specs.Forms.{IsFormOf, IsSmallForm};
 
 use fit_base::{Class, Code, Items, signed};
-use fit_profile::{Info, decimals_of, put_fixed};
+use fit_profile::{Fixed, Info, decimals_of, put_fixed};
 use std::alloc::AllocError;
 
 /// How the items of a field are shown, where they are numbers of at most four bytes.
@@ -119,7 +119,26 @@ fn raw(form: NumberForm, bits: u64) -> i64
     }
 }
 
+/// The number of an item that isn't the invalid one.
+#[inline(always)]
+pub fn formed_number(form: NumberForm, bits: u64) -> Fixed
+    requires small { IsSmallForm form }
+    requires bits { bits < 256 ^ form.width }
+    requires valid { bits ≢ form.invalid }
+    ensures text { (code : ℕ) (info : Option Meaning) → IsFormOf code info form
+        → fixed_text result.value result.decimals
+        ≡ item_text (base_type code).class code info form.width bits }
+    ensures few { result.decimals ≤ 8 }
+{
+    let number = raw(form, bits) - form.shift as i64;
+    Fixed {
+        value: i128::from(in_decimals(number, form.scale)),
+        decimals: form.decimals,
+    }
+}
+
 /// Puts an item after a text. Out of memory, the old text is still its beginning.
+#[inline(always)]
 pub fn put_formed(text: &mut Vec<u8>, form: NumberForm, bits: u64) -> Result<(), AllocError>
     requires small { IsSmallForm form }
     requires bits { bits < 256 ^ form.width }

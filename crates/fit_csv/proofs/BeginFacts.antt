@@ -1,9 +1,7 @@
 -- What comes after a beginning of a text.
-use Rattle.std.proofs.Common.{◌≡◌, ◌∙◌, ◌++◌, ◌==◌, List, ℕ, Bor, ◌+◌, Option, Some, None, IfSome, length, take, drop, true, false, sym, ap, refl}
+use Rattle.fit_csv.proofs.Common.{◌≡◌, ◌∙◌, ◌++◌, Bor, ◌+◌, length, take, drop, true, false, sym, ap, refl, MatchOption, Decides-eqb, take-append-drop}
+use Rattle.std.proofs.Common.{◌==◌, List, ℕ, Option, Some, None, IfSome}
 use Rattle.std.specs.Cmp.Lexicographic.{pointwise}
-use Rattle.std.specs.Prelude.{MatchOption}
-use Rattle.std.proofs.lemmas.Bool.Decides.{Decides-eqb}
-use Rattle.std.proofs.lemmas.List.{take-append-drop}
 use Rattle.std.proofs.lemmas.Slice.Eq.{slice_eq-Decides}
 
 pub stripped : (text beginning : List ℕ) (o : Option (Bor (List ℕ))) → MatchOption o (pointwise ◌==◌ (take (length beginning) text) beginning ≡ false)

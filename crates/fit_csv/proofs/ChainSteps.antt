@@ -1,19 +1,9 @@
 -- One more row of a chain.
-use Rattle.std.proofs.Common.{◌≡◌, ◌<◌, List, [], ◌∷◌, length, take, Option, Some, None, arith, refl, sym, subst, inl, inr}
+use Rattle.fit_csv.proofs.Common.{◌≡◌, [], ◌∷◌, length, take, arith, refl, sym, subst, inl, inr, Global, Record, chain_limit, Agree, IsCellFault, IsMisfit}
+use Rattle.fit_csv.proofs.Common.{head_row, message_row, IsEndRow, IsFileRow, CanStandNext, ChainStep, OpenStep, PartStep, file_begun, settled, with_file, Row}
+use Rattle.fit_csv.proofs.Common.{Chain, Misfit, OpenFile, Part, Nothing}
+use Rattle.std.proofs.Common.{◌<◌, List, Option, Some, None}
 use Rattle.std.specs.Prelude.{codes}
-use Rattle.std.specs.Global.{Global}
-use Rattle.fit_record.specs.declared.message.Record.{Record}
-use Rattle.fit_record.specs.Files.{chain_limit}
-use Rattle.fit_csv.specs.Judged.{Agree}
-use Rattle.fit_csv.specs.inner.Misfits.{IsCellFault, IsMisfit, head_row, message_row}
-use Rattle.fit_csv.specs.RowKinds.{IsEndRow, IsFileRow}
-use Rattle.fit_csv.specs.inner.Progress.{CanStandNext, ChainStep, OpenStep, PartStep, file_begun, settled, with_file}
-use Rattle.fit_cells.specs.Rows.{Row}
-use Rattle.fit_csv.specs.declared.from.chain.Chain.{Chain}
-use Rattle.fit_csv.specs.declared.from.misfit.Misfit.{Misfit}
-use Rattle.fit_csv.specs.declared.from.open_file.OpenFile.{OpenFile}
-use Rattle.fit_csv.specs.declared.from.open_file.Part.{Part}
-use Rattle.fit_csv.specs.declared.from.open_file.Part.TheVariants.{Nothing}
 use Rattle.fit_csv.proofs.Closest.{cell-fault, of-kind, same-rows}
 use Rattle.fit_csv.proofs.PartSteps.{letters}
 

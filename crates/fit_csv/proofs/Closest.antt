@@ -1,24 +1,17 @@
 -- The first cell in which a row differs from the closest row that can stand there.
-use Rattle.std.proofs.Common.{◌≡◌, ◌∙◌, ℕ, zero, suc, ◌≤◌, [], ◌∷◌, take, refl, sym, ap, ap₂, arith, inl}
-use Rattle.std.proofs.lemmas.List.{take-take}
-use Rattle.fit_cells.specs.Rows.{Row}
-use Rattle.fit_csv.specs.Judged.{Agree, IsBadCell}
-use Rattle.fit_csv.specs.inner.Seven.{AsFar, DifferAt}
-use Rattle.fit_csv.specs.inner.Misfits.{IsCellFault, IsMisfit}
-use Rattle.fit_csv.specs.declared.from.misfit.Misfit.{Misfit}
+use Rattle.fit_csv.proofs.Common.{◌≡◌, ◌∙◌, zero, suc, ◌≤◌, [], ◌∷◌, take, refl, sym, ap, ap₂, arith, inl, take-take, Row, Agree, IsBadCell, AsFar, DifferAt}
+use Rattle.fit_csv.proofs.Common.{IsCellFault, IsMisfit, Misfit}
+use Rattle.std.proofs.Common.{ℕ}
 use Rattle.fit_csv.specs.declared.from.misfit.Misfit.TheVariants.{Kind, Cell, NoMemory}
 
 pub as_far : (count : ℕ) (xs ys ts : Row) → AsFar xs ys ts → Agree count xs ts → Agree count ys ts
 as_far zero xs ys ts h e = refl
 as_far (suc count) [] [] [] h e = refl
-as_far (suc count) [] [] (t ∷ ts) h e = absurd h
-as_far (suc count) [] (y ∷ ys) ts h e = absurd h
-as_far (suc count) (x ∷ xs) [] ts h e = absurd h
-as_far (suc count) (x ∷ xs) (y ∷ ys) [] h e = absurd h
 as_far (suc count) (x ∷ xs) (y ∷ ys) (t ∷ ts) h e =
     let same : x ≡ t = cc e in
     let rest : take count xs ≡ take count ts = cc e in
     ap₂ (λ z zs. z ∷ zs) (h same).0 (as_far count xs ys ts (h same).1 rest)
+as_far count xs ys ts h e = absurd h
 
 -- Where a row that can stand there is as close as any, the first cell in which it differs is the bad one.
 pub closest : (CanStand : Row → Type 0) (row candidate : Row) (column : ℕ) → CanStand candidate → ((other : Row) → CanStand other → AsFar other candidate row)

@@ -1,13 +1,9 @@
 -- The closest row of each kind: each of its cells is the one there is, where that can stand.
-use Rattle.std.proofs.Common.{◌≡◌, ◌∙◌, ℕ, ◌<◌, ◌^◌, [], length, decimal, Option, Some, None, refl, sym, ap, subst, arith}
+use Rattle.fit_csv.proofs.Common.{◌≡◌, ◌∙◌, ◌^◌, [], length, refl, sym, ap, subst, arith, decimal_nonempty, Order, Row, optional_number, order_word, row, AsFar}
+use Rattle.fit_csv.proofs.Common.{DefinitionHead, IsHeadRow, IsRowOfThree, head_row}
+use Rattle.std.proofs.Common.{ℕ, ◌<◌, decimal, Option, Some, None}
 use Rattle.std.specs.Prelude.{codes, IfSome}
-use Rattle.std.proofs.lemmas.Fmt.{decimal_nonempty}
-use Rattle.fit_base.specs.declared.number.Order.{Order}
-use Rattle.fit_cells.specs.Rows.{Cell, Row}
-use Rattle.fit_csv.specs.ChainRows.{optional_number, order_word, row}
-use Rattle.fit_csv.specs.inner.Seven.{AsFar}
-use Rattle.fit_csv.specs.declared.from.definition.DefinitionHead.{DefinitionHead}
-use Rattle.fit_csv.specs.inner.Misfits.{IsHeadRow, IsRowOfThree, head_row}
+use Rattle.fit_cells.specs.Rows.{Cell}
 
 -- the number is that of the cell, where the cell shows one below the limit
 abbrev pub IsNumberIn : ℕ → Cell → ℕ → Type 0

@@ -1,36 +1,16 @@
 -- What has been read of a chain can be completed.
-use Rattle.std.proofs.Common.{◌≡◌, ◌∙◌, ℕ, zero, suc, ◌<◌, ◌≤◌, ◌+◌, ◌-◌, Bool, true, false, List, [], ◌∷◌, ◌++◌, length, Option, Some, None, refl, sym, ap}
-use Rattle.std.proofs.Common.{inl, inr, arith, append_assoc, eq-eqb, eqb-true}
-use Rattle.std.specs.Prelude.{◌==◌, ◌&&◌, ◌⊎◌, flat_map, slice_get}
-use Rattle.std.specs.Global.{Global}
-use Rattle.std.specs.List.{AllByRecursion}
-use Rattle.std.proofs.lemmas.Bool.{cases_lt}
+use Rattle.fit_csv.proofs.Common.{◌≡◌, ◌∙◌, zero, suc, ◌≤◌, ◌+◌, ◌-◌, true, false, [], ◌∷◌, ◌++◌, length, refl, sym, ap, inl, inr, arith, append_assoc, eq-eqb}
+use Rattle.fit_csv.proofs.Common.{eqb-true, flat_map, slice_get, Global, AllByRecursion, cases_lt, false_from_ne_true, both_true, DevDef, FieldDef, Defined}
+use Rattle.fit_csv.proofs.Common.{FitFile, Record, Define, Data, Values, defined_at, dev_defs, DataFits, Fits, dev_layout, layout, chain_limit, known}
+use Rattle.fit_csv.proofs.Common.{chain_rows, data_rows, dev_def_row, dev_row, end_row, field_def_row, field_row, file_row, file_rows, record_rows}
+use Rattle.fit_csv.proofs.Common.{records_rows, DevDefInRange, FieldDefInRange, IsFileOfRows, MayGoOn, RecordInRange, DefinitionStep, DevStep, FieldStep}
+use Rattle.fit_csv.proofs.Common.{built_definition, dev_total, has_all, is_whole, with_dev_field, with_dev_items, with_field, with_items, with_record}
+use Rattle.fit_csv.proofs.Common.{naming_at, Row, first_line, IsSoundChain, IsSoundCurrent, IsSoundDefinition, IsSoundFile, IsSoundMessage, IsSoundSoFar}
+use Rattle.fit_csv.proofs.Common.{current_rows, open_file_rows, open_rows, part_rows, rows_so_far, Chain, OpenDefinition, OpenFile, Part, Nothing, Definition}
+use Rattle.std.proofs.Common.{ℕ, ◌<◌, List, Option, Some, None}
+use Rattle.std.specs.Prelude.{◌==◌, ◌⊎◌}
 use Rattle.std.proofs.lemmas.List.{append-nil}
-use Rattle.fit_record.specs.declared.definition.DevDef.{DevDef}
-use Rattle.fit_record.specs.declared.definition.FieldDef.{FieldDef}
-use Rattle.fit_record.specs.declared.environment.Defined.{Defined}
-use Rattle.fit_record.specs.declared.file.FitFile.{FitFile}
-use Rattle.fit_record.specs.declared.message.Record.{Record}
-use Rattle.fit_record.specs.declared.message.Record.TheVariants.{Define, Values as Data}
-use Rattle.fit_record.specs.declared.message.Values.{Values}
-use Rattle.fit_record.specs.Environment.{defined_at, dev_defs}
-use Rattle.fit_record.specs.Records.{DataFits, Fits, dev_layout, layout}
-use Rattle.fit_record.specs.Files.{chain_limit}
-use Rattle.fit_profile.specs.Looks.{known}
-use Rattle.fit_csv.specs.ChainRows.{chain_rows, data_rows, dev_def_row, dev_row, end_row, field_def_row, field_row, file_row, file_rows, record_rows}
-use Rattle.fit_csv.specs.ChainRows.{records_rows}
-use Rattle.fit_csv.specs.Judged.{DevDefInRange, FieldDefInRange, IsFileOfRows, MayGoOn, RecordInRange}
-use Rattle.fit_csv.specs.inner.Progress.{DefinitionStep, DevStep, FieldStep, built_definition, dev_total, has_all, is_whole, with_dev_field, with_dev_items}
-use Rattle.fit_csv.specs.inner.Progress.{with_field, with_items, with_record}
-use Rattle.fit_csv.specs.RowKinds.{naming_at}
-use Rattle.fit_cells.specs.Rows.{Row, first_line}
-use Rattle.fit_csv.specs.inner.SoundChain.{IsSoundChain, IsSoundCurrent, IsSoundDefinition, IsSoundFile, IsSoundMessage, IsSoundSoFar, current_rows}
-use Rattle.fit_csv.specs.inner.SoundChain.{open_file_rows, open_rows, part_rows, rows_so_far}
-use Rattle.fit_csv.specs.declared.from.chain.Chain.{Chain}
-use Rattle.fit_csv.specs.declared.from.definition.OpenDefinition.{OpenDefinition}
-use Rattle.fit_csv.specs.declared.from.open_file.OpenFile.{OpenFile}
-use Rattle.fit_csv.specs.declared.from.open_file.Part.{Part}
-use Rattle.fit_csv.specs.declared.from.open_file.Part.TheVariants.{Nothing, Definition, Message}
+use Rattle.fit_csv.specs.declared.from.open_file.Part.TheVariants.{Message}
 use Rattle.fit_csv.proofs.KnownDefinitions.{codes-long}
 use Rattle.fit_csv.proofs.MoreRows.{ended-rows, flat-last, record-added}
 use Rattle.fit_csv.proofs.SoFar.{both-true, definition-more, definition-whole, message-more, some-at}
@@ -43,15 +23,6 @@ use Rattle.fit_csv.proofs.ZeroItems.{zero-items}
 one-and-others : (a b c more : List Row) (r : Row) → b ≡ a ++ r ∷ [] → c ≡ b ++ more → c ≡ a ++ (r ∷ more)
 one-and-others a b c more r e f = f ∙ ap (λ (rows : List Row). rows ++ more) e ∙ append_assoc a (r ∷ []) more
 
-pub both-holds : (a b : Bool) → a ≡ true → b ≡ true → (a && b) ≡ true
-both-holds true true p q = refl
-both-holds true false p q = cc q
-both-holds false b p q = cc p
-
-pub not-whole : (b : Bool) → (b ≡ true → ⊥) → b ≡ false
-not-whole true h = absurd (h refl)
-not-whole false h = refl
-
 -- ---- definitions
 
 abbrev pub CompletedDefinition : OpenDefinition → Type 0
@@ -62,7 +33,7 @@ abbrev pub left : OpenDefinition → ℕ
 left o = (o.head.fields - length o.fields) + (dev_total o.head - length o.dev)
 
 unfinished : (o : OpenDefinition) → 0 < left o → is_whole o ≡ false
-unfinished o some = not-whole (is_whole o) (λ whole.
+unfinished o some = false_from_ne_true (is_whole o) (λ whole.
     let both = both-true (length o.fields == o.head.fields) (length o.dev == dev_total o.head) whole in
     let fields = eqb-true (length o.fields) o.head.fields both.0 in
     let dev = eqb-true (length o.dev) (dev_total o.head) both.1 in
@@ -87,7 +58,7 @@ complete-definition zero o sound none =
     let dev : length o.dev ≡ dev_total o.head = omega (arith, sound.few_dev_fields, none) in (
       o,
       sound,
-      both-holds _ _ (eq-eqb (length o.fields) o.head.fields fields) (eq-eqb (length o.dev) (dev_total o.head) dev),
+      both_true (eq-eqb (length o.fields) o.head.fields fields) (eq-eqb (length o.dev) (dev_total o.head) dev),
       refl,
       ([], sym (append-nil (open_rows o))),
     )
@@ -150,7 +121,7 @@ complete-message zero before p v is sound none =
       v,
       sound,
       refl,
-      both-holds _ _ (eq-eqb (length v.fields) (length p.definition.fields) fields)
+      both_true (eq-eqb (length v.fields) (length p.definition.fields) fields)
           (eq-eqb (length v.dev) (length (dev_defs p.definition.dev)) dev),
       ([], sym (append-nil (data_rows before v))),
     )

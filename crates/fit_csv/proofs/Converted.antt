@@ -1,28 +1,18 @@
 -- What a report put behind a first line.
-use Rattle.std.proofs.Common.{◌≡◌, ◌∙◌, ℕ, ◌+◌, ◌-◌, ◌^◌, ◌<◌, min, true, Bool, List, [], ◌++◌, length, take, reverse, Option, Some, None, Result, Ok, Err}
-use Rattle.std.proofs.Common.{refl, sym, ap, subst, arith, length-append}
-use Rattle.std.specs.Prelude.{flat_map}
-use Rattle.std.specs.Global.{Global}
-use Rattle.std.specs.Io.KnownBytes.{Appends, Consumes}
-use Rattle.std.proofs.lemmas.List.{append-nil, reverse-reverse}
-use Rattle.std.proofs.Math.Seq.{take-append-add}
-use Rattle.fit_record.specs.declared.file.FitFile.{FitFile}
-use Rattle.fit_record.specs.Files.{chain_limit}
-use Rattle.fit_decode.specs.declared.event.Fault.TheVariants as faults
-use Rattle.fit_decode.specs.Events.{Event, file_events}
+use Rattle.fit_csv.proofs.Common.{◌≡◌, ◌∙◌, ◌+◌, ◌-◌, ◌^◌, min, true, Bool, [], ◌++◌, length, take, Result, Err, refl, sym, ap, subst, arith, flat_map, Global}
+use Rattle.fit_csv.proofs.Common.{Appends, Consumes, reverse-reverse, take-append-add, FitFile, chain_limit, Event, file_events, Lines, text_of, Channel}
+use Rattle.fit_csv.proofs.Common.{TextFailsIn, HasTold, Reports, ReportsChain, Tells, CsvFault, csv_text, Converts, ConvertsTo, HasWritten, RowsOf, WritesRows}
+use Rattle.fit_csv.proofs.Common.{HasText, csv_fault}
+use Rattle.std.proofs.Common.{ℕ, ◌<◌, List, reverse, Option, Some, None, Ok, length-append}
+use Rattle.std.proofs.lemmas.List.{append-nil}
 use Rattle.fit_decode.proofs.FileRead.{nothing_viable}
 use Rattle.fit_decode.proofs.Nearly.{all_viable}
 use Rattle.fit_report.specs.declared.fault.ReportFault.{ReportFault}
-use Rattle.fit_report.specs.declared.fault.ReportFault.TheVariants as report
-use Rattle.fit_report.specs.Heard.{Lines, text_of}
-use Rattle.fit_report.specs.Reports.{Channel, TextFailsIn, HasTold, Reports, ReportsChain, Tells}
 use Rattle.fit_report.proofs.Outcomes.{nothing_heard}
 use Rattle.fit_report.proofs.Texts.{Appends-append}
-use Rattle.fit_csv.specs.declared.fault.CsvFault.{CsvFault}
+use Rattle.fit_chain.specs.declared.event.Fault.TheVariants as faults
+use Rattle.fit_report.specs.declared.fault.ReportFault.TheVariants as report
 use Rattle.fit_csv.specs.declared.fault.CsvFault.TheVariants as csv
-use Rattle.fit_cells.specs.Rows.{csv_text}
-use Rattle.fit_csv.specs.Conversions.{Converts, ConvertsTo, HasWritten, RowsOf, WritesRows}
-use Rattle.fit_csv.specs.inner.Reporting.{HasText, csv_fault}
 
 -- the answer of a conversion by that of its report
 abbrev pub csv_answer : Result (Unit {0}) ReportFault → ℕ → Result (Unit {0}) CsvFault
@@ -85,11 +75,7 @@ module _ (first : List ℕ) (line : Lines Global) (rows : RowsOf) (text : HasTex
       ap (λ es. csv_text (rows es)) (sym (reverse-reverse events)) ∙ text (reverse events) in
       subst (Appends start end) (sym all) (Appends-append start mid end first (text_of line (reverse events)) put told)
   chain_converted source fs (Err (report.Decode (faults.Refused place reason))) put told = told
-  chain_converted source fs (Err (report.Decode (faults.Truncated place))) put told = told
-  chain_converted source fs (Err (report.Decode (faults.NoMemory used))) put told = told
-  chain_converted source fs (Err (report.Decode (faults.Read place))) put told = told
-  chain_converted source fs (Err report.NoMemory) put told = told
-  chain_converted source fs (Err (report.Write written)) put told = told
+  chain_converted source fs (Err fault) put told = told
 
   -- the sink has failed in the first line
   pub unbegun : (has : Option (List ℕ)) (unread : Bool) (written : ℕ) → length first < 1000 → written < length first → bad ≡ true

@@ -1,12 +1,8 @@
 -- Rows of definition messages.
-use Rattle.std.proofs.Common.{◌≡◌, ◌<◌, length, refl}
+use Rattle.fit_csv.proofs.Common.{◌≡◌, length, refl, Row, IsCellFault, IsMisfit, IsRowOfThree, IsDevDefRow, IsFieldDefRow, DevDefStep, FieldDefStep}
+use Rattle.fit_csv.proofs.Common.{with_dev_field, with_field, OpenDefinition, Misfit}
+use Rattle.std.proofs.Common.{◌<◌}
 use Rattle.std.specs.Prelude.{codes}
-use Rattle.fit_cells.specs.Rows.{Row}
-use Rattle.fit_csv.specs.inner.Misfits.{IsCellFault, IsMisfit, IsRowOfThree}
-use Rattle.fit_csv.specs.RowKinds.{IsDevDefRow, IsFieldDefRow}
-use Rattle.fit_csv.specs.inner.Progress.{DevDefStep, FieldDefStep, with_dev_field, with_field}
-use Rattle.fit_csv.specs.declared.from.definition.OpenDefinition.{OpenDefinition}
-use Rattle.fit_csv.specs.declared.from.misfit.Misfit.{Misfit}
 use Rattle.fit_csv.proofs.Closest.{cell-fault, of-kind}
 
 -- the row of a field is one of three numbers

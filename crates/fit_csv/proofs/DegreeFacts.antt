@@ -1,7 +1,7 @@
 -- The computed number of degrees is the nearest one.
-use Rattle.std.proofs.Common.{ℤ, pos, negsuc, arith}
+use Rattle.fit_csv.proofs.Common.{negsuc, arith, IsDegrees}
+use Rattle.std.proofs.Common.{ℤ, pos}
 use Rattle.std.proofs.lemmas.Int.{ints}
-use Rattle.fit_profile.specs.Scaled.{IsDegrees}
 use Rattle.fit_csv.specs.Degrees.{degrees_of}
 
 pub nearest-degrees : (s : ℤ) → IsDegrees s (degrees_of s)

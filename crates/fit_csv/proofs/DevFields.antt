@@ -1,15 +1,8 @@
 -- The developer fields of a message, place by place.
-use Rattle.std.proofs.Common.{◌≡◌, ◌∙◌, ◌<◌, ◌≤◌, ◌++◌, ℕ, List, [], codes, decimal, length, map, get_or, sym, ap, ap₂, subst, arith}
-use Rattle.std.specs.Prelude.{option_and_then, slice_get, unwrap_or, zip}
-use Rattle.std.proofs.lemmas.List.{get_or-map, length-map}
-use Rattle.std.proofs.lemmas.Option.{slice_get-get_or}
-use Rattle.std.proofs.lemmas.Slice.Zip.{get_or-zip, length-zip}
-use Rattle.fit_base.specs.declared.items.Items.{Items}
-use Rattle.fit_base.specs.Fields.{HasShape}
-use Rattle.fit_record.specs.declared.definition.DevDef.{DevDef}
-use Rattle.fit_record.specs.Records.{HaveShape}
-use Rattle.fit_profile.specs.Described.{Naming, nameless}
-use Rattle.fit_csv.specs.ChainRows.{dev_label}
+use Rattle.fit_csv.proofs.Common.{◌≡◌, ◌∙◌, ◌≤◌, ◌++◌, [], length, map, get_or, sym, ap, ap₂, subst, arith, option_and_then, slice_get, zip, get_or-map}
+use Rattle.fit_csv.proofs.Common.{length-map, slice_get-get_or, get_or-zip, length-zip, Items, HasShape, DevDef, HaveShape, Naming, nameless, dev_label}
+use Rattle.std.proofs.Common.{◌<◌, ℕ, List, codes, decimal}
+use Rattle.std.specs.Prelude.{unwrap_or}
 use Rattle.fit_csv.proofs.Shapes.{as_long, shape_at}
 
 abbrev pub nothing : DevDef

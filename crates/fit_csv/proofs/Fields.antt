@@ -1,12 +1,7 @@
 -- The fields of a message, place by place.
-use Rattle.std.proofs.Common.{◌≡◌, ◌∙◌, ◌<◌, ℕ, List, length, map, get_or, sym, ap, subst, arith}
-use Rattle.std.specs.Prelude.{zip}
-use Rattle.std.proofs.lemmas.List.{get_or-map, length-map}
-use Rattle.std.proofs.lemmas.Slice.Zip.{get_or-zip, length-zip}
-use Rattle.fit_base.specs.declared.items.Items.{Items}
-use Rattle.fit_base.specs.Fields.{HasShape}
-use Rattle.fit_record.specs.declared.definition.FieldDef.{FieldDef}
-use Rattle.fit_record.specs.Records.{HaveShape}
+use Rattle.fit_csv.proofs.Common.{◌≡◌, ◌∙◌, length, map, get_or, sym, ap, subst, arith, zip, get_or-map, length-map, get_or-zip, length-zip, Items, HasShape}
+use Rattle.fit_csv.proofs.Common.{FieldDef, HaveShape}
+use Rattle.std.proofs.Common.{◌<◌, ℕ, List}
 use Rattle.fit_csv.proofs.Shapes.{as_long, shape_at}
 
 abbrev pub nothing : FieldDef

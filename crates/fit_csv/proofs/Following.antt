@@ -1,34 +1,15 @@
 -- The rows that can follow others, by what has been read of a chain.
-use Rattle.std.proofs.Common.{◌≡◌, ◌⊎◌, ℕ, List, ◌∷◌, ◌++◌, length, Option, Some, None, refl, sym, subst, inl, inr}
-use Rattle.std.specs.Prelude.{IsSomeAnd, ◌<◌, ◌↔◌, flat_map, slice_get}
-use Rattle.std.specs.Global.{Global}
-use Rattle.fit_base.specs.declared.items.Items.{Items}
-use Rattle.fit_base.specs.Fields.{HasShape}
-use Rattle.fit_profile.specs.Described.{Naming}
-use Rattle.fit_profile.specs.Laws.{TextHasOneNumber}
-use Rattle.fit_profile.specs.Looks.{known}
-use Rattle.fit_record.specs.declared.definition.DevDef.{DevDef}
-use Rattle.fit_record.specs.declared.definition.FieldDef.{FieldDef}
-use Rattle.fit_record.specs.declared.environment.Defined.{Defined}
-use Rattle.fit_record.specs.declared.message.Record.{Record}
-use Rattle.fit_record.specs.declared.message.Values.{Values}
-use Rattle.fit_record.specs.Environment.{defined_at, dev_defs}
-use Rattle.fit_cells.specs.Rows.{Row, first_line}
-use Rattle.fit_csv.specs.ChainRows.{dev_row, field_row, file_rows}
-use Rattle.fit_csv.specs.Judged.{CanFollow, MayGoOn}
-use Rattle.fit_csv.specs.RowKinds.{IsDevDefRow, IsDevRow, IsEndRow, IsFieldDefRow, IsFieldRow, IsFileRow, naming_at}
-use Rattle.fit_record.specs.Files.{chain_limit}
-use Rattle.fit_csv.specs.inner.Misfits.{IsHeadRow, IsMessageRow}
-use Rattle.fit_csv.specs.inner.SoundChain.{IsSoundChain, rows_so_far}
-use Rattle.fit_csv.specs.inner.Progress.{DefinitionStep, DevStep, FieldStep, MessageStep, OpenStep, PartStep, Run, file_begun, nothing_yet, opened, settled}
-use Rattle.fit_csv.specs.inner.Progress.{with_dev_field, with_dev_items, with_field, with_file, with_items}
-use Rattle.fit_csv.specs.declared.from.chain.Chain.{Chain}
-use Rattle.fit_csv.specs.declared.from.definition.OpenDefinition.{OpenDefinition}
-use Rattle.fit_csv.specs.declared.from.open_file.OpenFile.{OpenFile}
-use Rattle.fit_csv.specs.declared.from.open_file.Part.{Part}
-use Rattle.fit_csv.specs.declared.from.open_file.Part.TheVariants.{Nothing, Definition, Message}
+use Rattle.fit_csv.proofs.Common.{◌≡◌, ◌∷◌, ◌++◌, length, refl, sym, subst, inl, inr, IsSomeAnd, ◌↔◌, flat_map, slice_get, Global, Items, HasShape, Naming}
+use Rattle.fit_csv.proofs.Common.{TextHasOneNumber, known, DevDef, FieldDef, Defined, Record, Values, defined_at, dev_defs, Row, first_line, dev_row, field_row}
+use Rattle.fit_csv.proofs.Common.{file_rows, CanFollow, MayGoOn, IsDevDefRow, IsDevRow, IsEndRow, IsFieldDefRow, IsFieldRow, IsFileRow, naming_at, chain_limit}
+use Rattle.fit_csv.proofs.Common.{IsHeadRow, IsMessageRow, IsSoundChain, rows_so_far, DefinitionStep, DevStep, FieldStep, MessageStep, OpenStep, PartStep, Run}
+use Rattle.fit_csv.proofs.Common.{file_begun, nothing_yet, opened, settled, with_dev_field, with_dev_items, with_field, with_file, with_items, Chain}
+use Rattle.fit_csv.proofs.Common.{OpenDefinition, OpenFile, Part, Nothing, Definition}
+use Rattle.std.proofs.Common.{◌⊎◌, ℕ, List, Option, Some, None}
+use Rattle.std.specs.Prelude.{◌<◌}
+use Rattle.fit_csv.specs.declared.from.open_file.Part.TheVariants.{Message}
 use Rattle.fit_csv.proofs.Judging.{can-follow, can-step, judged}
-use Rattle.fit_csv.proofs.OneWay.{run-split}
+use Rattle.fit_csv.proofs.OneWay.{run-split, tail-same}
 use Rattle.fit_csv.proofs.WholeRuns.{chain-run}
 
 -- ---- the table, by what has been read
@@ -154,9 +135,6 @@ come-of-step c (Some f) r t step = of-step c f r t step
 step-of-come : (c : Chain) (m : Option OpenFile) (r : Row) → NextIn (length c.files) m r → (t : Chain) × OpenStep c m r t
 step-of-come c None r (room, (h, range, e)) = (record c { current = Some (file_begun h) }, (room, (h, range, e, refl)))
 step-of-come c (Some f) r h = to-step c f r f.part refl h
-
-tail-same : (a b : Row) (xs ys : List Row) → a ∷ xs ≡ b ∷ ys → xs ≡ ys
-tail-same a b xs ys e = cc e
 
 pub next-rows : TextHasOneNumber → (rows : List Row) → MayGoOn (first_line ∷ rows)
     → (c : Chain) × IsSoundChain c × (rows_so_far c ≡ rows) × ((r : Row) → CanFollow (first_line ∷ rows) r ↔ NextIn (length c.files) c.current r)

@@ -1,19 +1,12 @@
 -- Rows of values between what stands around these.
-use Rattle.std.proofs.Common.{◌≡◌, ◌∙◌, ◌++◌, ◌∷◌, [], ◌-◌, ◌+◌, ◌<◌, ℕ, zero, suc, List, length, take, get_or, map, refl, sym, ap, ap₂, append_assoc, arith}
-use Rattle.std.proofs.Common.{codes, decimal, Option, Some, None, false, add-one}
-use Rattle.std.specs.Prelude.{zip}
-use Rattle.std.proofs.lemmas.Slice.Zip.{get_or-zip, length-zip}
-use Rattle.std.proofs.lemmas.List.{append-nil, length-append, map-append, take_more}
-use Rattle.std.proofs.Math.Seq.{take-append_seam}
-use Rattle.csv.specs.Writing.{default_writer, escaped, field_text, fields_text, is_blank, needs_quotes}
-use Rattle.fit_base.specs.declared.items.Items.{Items}
-use Rattle.fit_record.specs.declared.definition.FieldDef.{FieldDef}
-use Rattle.fit_cells.specs.Cells.{cell}
-use Rattle.fit_cells.specs.Rows.{Cell, Row, csv_text}
-use Rattle.fit_cells.proofs.AddedRows.{text_append}
-use Rattle.fit_cells.proofs.PlainFacts.{high-decimal, unquoted}
-use Rattle.fit_csv.specs.ChainRows.{field_row, field_rows, optional_number, row}
-use Rattle.fit_csv.specs.inner.Frames.{FrameKey, FrameText, end_of, field_key, frame_text, frames_of, head_text, tail_text, two_cells, value_row}
+use Rattle.fit_csv.proofs.Common.{◌≡◌, ◌∙◌, ◌++◌, ◌∷◌, [], ◌-◌, ◌+◌, zero, suc, length, take, get_or, map, refl, sym, ap, ap₂, append_assoc, arith, false}
+use Rattle.fit_csv.proofs.Common.{add-one, zip, get_or-zip, length-zip, map-append, take_more, take-append_seam, default_writer, escaped, field_text}
+use Rattle.fit_csv.proofs.Common.{fields_text, is_blank, needs_quotes, Items, FieldDef, cell, Row, csv_text, text_append, high-decimal, unquoted, field_row}
+use Rattle.fit_csv.proofs.Common.{field_rows, optional_number, row, FrameKey, FrameText, end_of, field_key, frame_text, frames_of, head_text, tail_text}
+use Rattle.fit_csv.proofs.Common.{two_cells, value_row}
+use Rattle.std.proofs.Common.{◌<◌, ℕ, List, codes, decimal, Option, Some, None}
+use Rattle.std.proofs.lemmas.List.{append-nil, length-append}
+use Rattle.fit_cells.specs.Rows.{Cell}
 
 whole_row : (a b c d e : Cell) → csv_text (row a b c d e [] [] ∷ [])
     ≡ ((field_text default_writer a ++ (44 ∷ (field_text default_writer b ++ (44 ∷ (field_text default_writer c ++ (44 ∷ (field_text default_writer d

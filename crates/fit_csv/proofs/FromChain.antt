@@ -1,29 +1,14 @@
 -- What `from_csv` answers where the rows of a text are those of a chain.
-use Rattle.std.proofs.Common.{◌≡◌, ◌∙◌, ℕ, ◌<◌, ◌≤◌, List, [], ◌∷◌, ◌++◌, length, Option, Some, None, Result, Ok, Err, refl, sym, ap, subst, inl, inr, arith}
-use Rattle.std.proofs.Common.{append_assoc, length-append}
+use Rattle.fit_csv.proofs.Common.{◌≡◌, ◌∙◌, ◌≤◌, [], ◌∷◌, ◌++◌, length, Result, Err, refl, sym, ap, subst, inl, inr, arith, append_assoc, Global, Appends}
+use Rattle.fit_csv.proofs.Common.{Consumes, IsAtEnd, Consumes-whole, default_config, strip_bom, IsBytes, FitFile, chain_bytes, EncodeFault, IsFirstFault}
+use Rattle.fit_csv.proofs.Common.{StopsAt, GoodChainsHaveNoFault, chain_rows, Channel, Answers, FromTextOf, IsTextOf, IsUnwritable, ReadsText, CanFollow}
+use Rattle.fit_csv.proofs.Common.{HasNoHeader, IsChainOfRows, IsCutOff, IsRefusedRow, ChainsHaveOwnRows, RowsOfText, CsvFault, reached-first, reads-one-way}
+use Rattle.std.proofs.Common.{ℕ, ◌<◌, List, Option, Some, None, Ok, length-append}
 use Rattle.std.specs.Prelude.{IfSome}
-use Rattle.std.specs.Global.{Global}
-use Rattle.std.specs.Io.KnownBytes.{Appends, Consumes, IsAtEnd}
-use Rattle.std.proofs.KnownBytes.{Consumes-whole}
-use Rattle.csv.specs.Reading.{default_config, strip_bom}
 use Rattle.csv.specs.declared.parser.State.TheVariants as st
-use Rattle.fit_base.specs.Numbers.{IsBytes}
-use Rattle.fit_record.specs.declared.file.FitFile.{FitFile}
-use Rattle.fit_record.specs.Files.{chain_bytes}
-use Rattle.fit_encode.specs.declared.fault.EncodeFault.{EncodeFault}
 use Rattle.fit_encode.specs.declared.fault.EncodeFault.TheVariants as encode
-use Rattle.fit_encode.specs.Faults.{IsFirstFault, StopsAt}
-use Rattle.fit_encode.specs.Laws.{GoodChainsHaveNoFault}
-use Rattle.fit_csv.specs.ChainRows.{chain_rows}
-use Rattle.fit_report.specs.Reports.{Channel}
-use Rattle.fit_csv.specs.FromText.{Answers, FromTextOf, IsTextOf, IsUnwritable, ReadsText}
-use Rattle.fit_csv.specs.Judged.{CanFollow, HasNoHeader, IsChainOfRows, IsCutOff, IsRefusedRow}
-use Rattle.fit_csv.specs.Laws.{ChainsHaveOwnRows}
-use Rattle.fit_cells.specs.Rows.{RowsOfText}
-use Rattle.fit_csv.specs.declared.fault.CsvFault.{CsvFault}
 use Rattle.fit_csv.specs.declared.fault.CsvFault.TheVariants as faults
 use Rattle.fit_csv.proofs.InRange.{chain-of-rows}
-use Rattle.fit_cells.proofs.RowFacts.{reached-first, reads-one-way}
 use Rattle.fit_csv.proofs.SevenRows.{row-seven}
 
 module _ (text : List ℕ) (fs : List (FitFile Global)) (read : RowsOfText text (chain_rows fs)) (good : IsChainOfRows fs) where
@@ -89,20 +74,11 @@ of-answer law whole text files bytes source sink (Err (faults.BadRow row)) h (ou
     absurd (not-cut text files h.rows (good-files text files bytes h) row h.chain.0.some cut)
 of-answer law whole text files bytes source sink (Err (faults.BadCell row column)) h (out, (short, wrong)) =
     absurd (no-bad-cell text files h.rows (good-files text files bytes h) row column wrong)
-of-answer law whole text files bytes source sink (Err (faults.Decode fault)) h (out, none) = absurd none
 of-answer law whole text files bytes source sink (Err (faults.Encode (encode.TooLong file index))) h (out, wrong) =
     absurd (writable law whole text files bytes (encode.TooLong file index) h wrong)
 of-answer law whole text files bytes source sink (Err (faults.Encode (encode.ZeroIsSum file))) h (out, wrong) =
     absurd (writable law whole text files bytes (encode.ZeroIsSum file) h wrong)
-of-answer law whole text files bytes source sink (Err (faults.Encode (encode.BadHeader file))) h (out, none) = absurd none
-of-answer law whole text files bytes source sink (Err (faults.Encode (encode.BadLocal file index))) h (out, none) = absurd none
-of-answer law whole text files bytes source sink (Err (faults.Encode (encode.BadOffset file index))) h (out, none) = absurd none
-of-answer law whole text files bytes source sink (Err (faults.Encode (encode.UndefinedLocal file index))) h (out, none) = absurd none
-of-answer law whole text files bytes source sink (Err (faults.Encode (encode.WrongShape file index field))) h (out, none) = absurd none
-of-answer law whole text files bytes source sink (Err (faults.Encode encode.DeclaredLength)) h (out, none) = absurd none
-of-answer law whole text files bytes source sink (Err (faults.Encode encode.ChainLength)) h (out, none) = absurd none
-of-answer law whole text files bytes source sink (Err (faults.Encode encode.NoMemory)) h (out, none) = absurd none
-of-answer law whole text files bytes source sink (Err (faults.Encode (encode.Write written))) h (out, none) = absurd none
+of-answer law whole text files bytes source sink (Err fault) h answer = absurd answer.1
 
 -- all that a source had was taken, where it is at its end
 taken-all : (before after : Option (List ℕ)) (text taken : List ℕ) → before ≡ Some text → Consumes before after taken → IsAtEnd after → taken ≡ text
@@ -128,14 +104,8 @@ module _ (law : ChainsHaveOwnRows) (whole : GoodChainsHaveNoFault Global) (text 
       (subst (λ (t : List ℕ). Answers t source sink result) (taken-all source.before source.after text taken input eats end) answer)
 
   pub from-text-of : (result : Result (Unit {0}) CsvFault) → ReadsText source sink result → FromTextOf bytes source sink result
-  from-text-of (Ok u) (taken, eats, answer) = of-whole (Ok u) taken eats answer.0.0 answer
   from-text-of (Err faults.Read) (taken, eats, inl failed) = failed
   from-text-of (Err faults.Read) (taken, eats, inr long) =
       let short = h.short in let some = taken-some source.before source.after text taken input eats in absurd (omega arith)
   from-text-of (Err faults.NoMemory) (taken, eats, answer) = tt
-  from-text-of (Err (faults.Write written)) (taken, eats, answer) = of-whole (Err (faults.Write written)) taken eats answer.0.0 answer
-  from-text-of (Err faults.Header) (taken, eats, answer) = of-whole (Err faults.Header) taken eats answer.0.0 answer
-  from-text-of (Err (faults.BadRow row)) (taken, eats, answer) = of-whole (Err (faults.BadRow row)) taken eats answer.0.0 answer
-  from-text-of (Err (faults.BadCell row column)) (taken, eats, answer) = of-whole (Err (faults.BadCell row column)) taken eats answer.0.0 answer
-  from-text-of (Err (faults.Decode fault)) (taken, eats, answer) = of-whole (Err (faults.Decode fault)) taken eats answer.0.0 answer
-  from-text-of (Err (faults.Encode fault)) (taken, eats, answer) = of-whole (Err (faults.Encode fault)) taken eats answer.0.0 answer
+  from-text-of result (taken, eats, answer) = of-whole result taken eats answer.0.0 answer

@@ -1,17 +1,11 @@
 -- The rows in which files begin.
-use Rattle.std.proofs.Common.{◌≡◌, ◌∙◌, inl, inr, ℕ, ◌<◌, ◌-◌, ◌^◌, List, [], ◌∷◌, length, drop, decimal, All, refl, sym, ap, subst, arith}
+use Rattle.fit_csv.proofs.Common.{◌≡◌, ◌∙◌, inl, inr, ◌-◌, ◌^◌, [], ◌∷◌, length, drop, All, refl, sym, ap, subst, arith, Header, HeaderSum, Zero, True}
+use Rattle.fit_csv.proofs.Common.{SizeFits, file_row, rest_text, row, sum_word, HasSum, IsHeaderSize, IsFileRow, Row, AsFar, bytes-shown}
+use Rattle.std.proofs.Common.{ℕ, ◌<◌, List, decimal}
 use Rattle.std.specs.Prelude.{codes}
-use Rattle.fit_frame.specs.declared.header.Header.{Header}
-use Rattle.fit_frame.specs.declared.header.HeaderSum.{HeaderSum}
-use Rattle.fit_frame.specs.declared.header.HeaderSum.TheVariants.{Absent, Zero, True}
-use Rattle.fit_frame.specs.Header.{SizeFits}
-use Rattle.fit_csv.specs.ChainRows.{file_row, rest_text, row, sum_word}
-use Rattle.fit_csv.specs.inner.Misfits.{HasSum, IsHeaderSize}
-use Rattle.fit_csv.specs.RowKinds.{IsFileRow}
-use Rattle.fit_cells.specs.Rows.{Cell, Row}
-use Rattle.fit_csv.specs.inner.Seven.{AsFar}
+use Rattle.fit_frame.specs.declared.header.HeaderSum.TheVariants.{Absent}
+use Rattle.fit_cells.specs.Rows.{Cell}
 use Rattle.fit_cells.specs.Steps.{read_pairs}
-use Rattle.fit_cells.proofs.ReadFacts.{bytes-shown}
 
 pub rest-shown : (bytes text : List ℕ) (count : ℕ) → rest_text bytes ≡ text → length bytes ≡ count → All (λ b. b < 2 ^ 8) bytes
     → read_pairs count (drop 2 text) ≡ bytes

@@ -1,33 +1,17 @@
 -- The numbers of files are in their ranges just where their bytes are bytes.
-use Rattle.std.proofs.Common.{ℕ, ◌<◌, ◌+◌, ◌^◌, List, [], ◌∷◌, ◌++◌, length, Option, Some, None, arith, lit<}
-use Rattle.std.specs.Prelude.{IsSomeAnd, flat_map, option_map, unwrap_or}
-use Rattle.std.specs.List.{AllByRecursion}
+use Rattle.fit_csv.proofs.Common.{◌+◌, ◌^◌, [], ◌∷◌, ◌++◌, length, arith, lit<, IsSomeAnd, flat_map, AllByRecursion, Global, Items, Order, Little, Big}
+use Rattle.fit_csv.proofs.Common.{items_bytes, IsBytes, little_bytes, number_bytes, Header, HeaderSum, Zero, True, fixed_part, header_bytes, signature}
+use Rattle.fit_csv.proofs.Common.{sum_part, DevDef, FieldDef, MessageDef, Defined, FitFile, Record, Define, Data, Values, Environment, defined_at, dev_defs}
+use Rattle.fit_csv.proofs.Common.{empty_environment, learn, IsWellFormed, IsWellFormedChain, body, chain_bytes, chain_limit, file_bytes, AllFit, DataFits}
+use Rattle.fit_csv.proofs.Common.{DataHeaderFits, DefinitionFits, Fits, architecture, data_bytes, data_header, definition_bytes, definition_header}
+use Rattle.fit_csv.proofs.Common.{dev_field_bytes, dev_part, field_bytes, order_at, record_bytes, records_bytes, DefinitionInRange, DevDefInRange}
+use Rattle.fit_csv.proofs.Common.{FieldDefInRange, HeaderInRange, IsChainOfRows, IsFileOfRows, RecordInRange}
+use Rattle.std.proofs.Common.{ℕ, ◌<◌, List, Option, Some, None}
+use Rattle.std.specs.Prelude.{option_map, unwrap_or}
 use Rattle.std.proofs.lemmas.List.Elements.{All-from_recursion, recursion_from_All}
-use Rattle.std.specs.Global.{Global}
-use Rattle.fit_base.specs.declared.items.Items.{Items}
-use Rattle.fit_base.specs.declared.number.Order.{Order}
-use Rattle.fit_base.specs.declared.number.Order.TheVariants.{Little, Big}
-use Rattle.fit_base.specs.Fields.{items_bytes}
-use Rattle.fit_base.specs.Numbers.{IsBytes, little_bytes, number_bytes}
 use Rattle.fit_base.proofs.ByteLists.{IsBytes-append, IsBytes-back, IsBytes-cons, IsBytes-front, IsBytes-none, IsBytes-tail}
 use Rattle.fit_base.proofs.NumberLaws.{IsBytes-number_bytes}
-use Rattle.fit_frame.specs.declared.header.Header.{Header}
-use Rattle.fit_frame.specs.declared.header.HeaderSum.{HeaderSum}
-use Rattle.fit_frame.specs.declared.header.HeaderSum.TheVariants.{Absent, Zero, True}
-use Rattle.fit_frame.specs.Header.{fixed_part, header_bytes, signature, sum_part}
-use Rattle.fit_record.specs.declared.definition.DevDef.{DevDef}
-use Rattle.fit_record.specs.declared.definition.FieldDef.{FieldDef}
-use Rattle.fit_record.specs.declared.definition.MessageDef.{MessageDef}
-use Rattle.fit_record.specs.declared.environment.Defined.{Defined}
-use Rattle.fit_record.specs.declared.file.FitFile.{FitFile}
-use Rattle.fit_record.specs.declared.message.Record.{Record}
-use Rattle.fit_record.specs.declared.message.Record.TheVariants.{Define, Values as Data}
-use Rattle.fit_record.specs.declared.message.Values.{Values}
-use Rattle.fit_record.specs.Environment.{Environment, defined_at, dev_defs, empty_environment, learn}
-use Rattle.fit_record.specs.Files.{IsWellFormed, IsWellFormedChain, body, chain_bytes, chain_limit, file_bytes}
-use Rattle.fit_record.specs.Records.{AllFit, DataFits, DataHeaderFits, DefinitionFits, Fits, architecture, data_bytes, data_header, definition_bytes}
-use Rattle.fit_record.specs.Records.{definition_header, dev_field_bytes, dev_part, field_bytes, order_at, record_bytes, records_bytes}
-use Rattle.fit_csv.specs.Judged.{DefinitionInRange, DevDefInRange, FieldDefInRange, HeaderInRange, IsChainOfRows, IsFileOfRows, RecordInRange}
+use Rattle.fit_frame.specs.declared.header.HeaderSum.TheVariants.{Absent}
 
 -- ---- from bytes to numbers
 

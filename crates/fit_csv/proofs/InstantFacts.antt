@@ -1,13 +1,11 @@
 -- The text of an instant, counted off by years and months, is the text of its civil date and time.
-use Rattle.std.proofs.Common.{◌≡◌, ℕ, zero, suc, ◌+◌, ◌-◌, ◌*◌, ◌/◌, ◌^◌, ◌<◌, ◌≤◌, false, inl, inr, List, pos, ◌+ℤ◌, arith, refl, subst}
-use Rattle.std.specs.Prelude.{nat_lt}
-use Rattle.std.proofs.lemmas.Bool.{cases_Bool, le-ltb, lt-ltb, ltb-false, ltb-true}
+use Rattle.fit_csv.proofs.Common.{◌≡◌, zero, suc, ◌+◌, ◌-◌, ◌*◌, ◌/◌, ◌^◌, ◌≤◌, false, inl, inr, ◌+ℤ◌, arith, refl, subst, nat_lt, cases_Bool, le-ltb, lt-ltb}
+use Rattle.fit_csv.proofs.Common.{ltb-false, ltb-true, date_digits, IsDayAfterEpoch, IsInstantText, date_after, date_in_year, instant_text}
+use Rattle.std.proofs.Common.{ℕ, ◌<◌, List, pos}
 use Rattle.jiff_core.specs.Calendar.{day_count, days_from_civil, days_in_month, days_in_year, IsCivilDate}
-use Rattle.jiff_core.proofs.CalendarLemmas.{day_count-day, day_count-last_of_year, day_count-next_month, day_count-next_year, days_from_civil-day_count}
-use Rattle.jiff_core.proofs.CalendarLemmas.{days_in_year_bounds}
+use Rattle.jiff_core.proofs.CalendarLemmas.{day_count-day, day_count-last_of_year, day_count-next_month, day_count-next_year}
+use Rattle.jiff_core.proofs.CalendarLemmas.{days_from_civil-day_count, days_in_year_bounds}
 use Rattle.jiff_core.proofs.SignedLemmas.{signed_arith}
-use Rattle.fit_profile.specs.Instant.{date_digits, IsDayAfterEpoch, IsInstantText}
-use Rattle.fit_csv.specs.InstantText.{date_after, date_in_year, instant_text}
 
 -- the text of the date before which so many days are counted
 IsDate : ℕ → List ℕ → Type 0

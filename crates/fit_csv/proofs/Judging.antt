@@ -1,24 +1,17 @@
 -- Judging the rows of a text one after another tells which of them can stand where they are.
-use Rattle.std.proofs.Common.{◌≡◌, ◌∙◌, ℕ, ◌<◌, ◌≤◌, ◌+◌, List, [], ◌∷◌, ◌++◌, length, Bor, None, sym, ap, subst, inl, inr, arith, append_assoc}
-use Rattle.std.specs.Prelude.{flat_map}
+use Rattle.fit_csv.proofs.Common.{◌≡◌, ◌∙◌, ◌≤◌, ◌+◌, [], ◌∷◌, ◌++◌, length, Bor, sym, ap, subst, inl, inr, arith, append_assoc, flat_map, reader_state}
+use Rattle.fit_csv.proofs.Common.{TextHasOneNumber, chain_rows, file_rows, AreFilesOf, AreWhole, CanFollow, FirstRows, IsBadCell, IsChainOfRows, IsCutOff}
+use Rattle.fit_csv.proofs.Common.{IsRefusedRow, IsRowFault, MayGoOn, IsTextFault, IsUnjudged, ChainStep, Run, nothing_yet, HasRead, Row, RowsOfText, first_line}
+use Rattle.fit_csv.proofs.Common.{IsSoundChain, IsSoundCurrent, current_rows, rows_so_far, CsvFault, Chain}
+use Rattle.std.proofs.Common.{ℕ, ◌<◌, List, None}
 use Rattle.std.proofs.lemmas.List.{append-nil}
-use Rattle.csv.specs.Reading.{reader_state}
 use Rattle.csv.specs.declared.reader.Reader.{Reader}
-use Rattle.fit_profile.specs.Laws.{TextHasOneNumber}
-use Rattle.fit_csv.specs.ChainRows.{chain_rows, file_rows}
-use Rattle.fit_csv.specs.Judged.{AreFilesOf, AreWhole, CanFollow, FirstRows, IsBadCell, IsChainOfRows, IsCutOff, IsRefusedRow, IsRowFault, MayGoOn}
-use Rattle.fit_csv.specs.inner.TextFaults.{IsTextFault, IsUnjudged}
-use Rattle.fit_csv.specs.inner.Progress.{ChainStep, Run, nothing_yet}
-use Rattle.fit_cells.specs.Rows.{HasRead, Row, RowsOfText, first_line}
-use Rattle.fit_csv.specs.inner.SoundChain.{IsSoundChain, IsSoundCurrent, current_rows, rows_so_far}
-use Rattle.fit_csv.specs.declared.fault.CsvFault.{CsvFault}
+use Rattle.fit_cells.proofs.RowsWithin.{rows-of-text}
 use Rattle.fit_csv.specs.declared.fault.CsvFault.TheVariants as faults
-use Rattle.fit_csv.specs.declared.from.chain.Chain.{Chain}
 use Rattle.fit_csv.proofs.ChainSteps.{CanStep}
 use Rattle.fit_csv.proofs.Completed.{may-go-on}
 use Rattle.fit_csv.proofs.MoreRows.{chain-more, chain-sound}
-use Rattle.fit_csv.proofs.OneWay.{first-of-run, one-run, run-join, run-one, run-split}
-use Rattle.fit_cells.proofs.RowsWithin.{rows-of-text}
+use Rattle.fit_csv.proofs.OneWay.{first-of-run, one-run, run-join, run-one, run-split, tail-same}
 use Rattle.fit_csv.proofs.WholeRuns.{chain-run}
 
 sound-run : (c : Chain) (rows : List Row) (t : Chain) → IsSoundChain c → Run c rows t → IsSoundChain t × (rows_so_far t ≡ rows_so_far c ++ rows)
@@ -43,9 +36,6 @@ one-more rows c r t run step = run-join nothing_yet rows (r ∷ []) c t run (run
 
 pub can-follow : (rows : List Row) (c : Chain) (r : Row) → Run nothing_yet rows c → CanStep c r → CanFollow (first_line ∷ rows) r
 can-follow rows c r run (t, step) = begins (rows ++ r ∷ []) t (one-more rows c r t run step)
-
-tail-same : (a b : Row) (xs ys : List Row) → a ∷ xs ≡ b ∷ ys → xs ≡ ys
-tail-same a b xs ys e = cc e
 
 pub can-step : TextHasOneNumber → (rows : List Row) (c : Chain) (r : Row) → Run nothing_yet rows c → CanFollow (first_line ∷ rows) r → CanStep c r
 can-step law rows c r run (files, more, good, e) =
@@ -72,12 +62,7 @@ pub row-fault : (P Q : Row → Type 0) (r : Row) (number : ℕ) (fault : CsvFaul
 row-fault P Q r number (faults.BadRow row) up down (place, inl long) = (place, inl long)
 row-fault P Q r number (faults.BadRow row) up down (place, inr none) = (place, inr (λ other stands. none other (down other stands)))
 row-fault P Q r number (faults.BadCell row column) up down (place, seven, bad) = (place, seven, bad-cell P Q r column up down bad)
-row-fault P Q r number faults.NoMemory up down h = absurd h
-row-fault P Q r number faults.Header up down h = absurd h
-row-fault P Q r number faults.Read up down h = absurd h
-row-fault P Q r number (faults.Decode f) up down h = absurd h
-row-fault P Q r number (faults.Encode f) up down h = absurd h
-row-fault P Q r number (faults.Write n) up down h = absurd h
+row-fault P Q r number fault up down h = absurd h
 
 followed : TextHasOneNumber → (rows : List Row) (c : Chain) (r : Row) (number : ℕ) (fault : CsvFault) → Run nothing_yet rows c
     → IsRowFault (CanStep c) r number fault
@@ -108,11 +93,7 @@ text-fault : (CanStand : Row → Type 0) (r : Row) (number : ℕ) (text : List �
 text-fault CanStand r number text (faults.BadRow row) refused h = inl (refused h)
 text-fault CanStand r number text (faults.BadCell row column) refused h = refused h
 text-fault CanStand r number text faults.NoMemory refused h = tt
-text-fault CanStand r number text faults.Header refused h = absurd h
-text-fault CanStand r number text faults.Read refused h = absurd h
-text-fault CanStand r number text (faults.Decode f) refused h = absurd h
-text-fault CanStand r number text (faults.Encode f) refused h = absurd h
-text-fault CanStand r number text (faults.Write n) refused h = absurd h
+text-fault CanStand r number text fault refused h = absurd h
 
 pub first-rows : (text : List ℕ) (rows : List Row) (r : Reader (Bor (List ℕ))) → HasRead text rows r → FirstRows text rows
 first-rows text rows r read = (reader_state r, read.place.0, read.place.2)

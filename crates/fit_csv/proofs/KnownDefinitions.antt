@@ -1,23 +1,11 @@
 -- What is known behind records.
-use Rattle.std.proofs.Common.{◌≡◌, ◌∙◌, ℕ, zero, suc, ◌≤◌, inl, inr, List, [], ◌∷◌, ◌++◌, length, replicate, set, get_or, Option, Some, None, refl, sym, ap}
-use Rattle.std.proofs.Common.{subst, arith, append_assoc, eqb-true, eq-eqb, ◌==◌}
+use Rattle.fit_csv.proofs.Common.{◌≡◌, ◌∙◌, zero, suc, ◌≤◌, inl, inr, [], ◌∷◌, ◌++◌, length, replicate, set, get_or, refl, sym, ap, true, false, subst, arith}
+use Rattle.fit_csv.proofs.Common.{append_assoc, eqb-true, eq-eqb, cases_Bool, cases_lt, none-some, get_or_past, get_or-set_same, get_or-set_other, length-map}
+use Rattle.fit_csv.proofs.Common.{length-set, reverse-append, MessageDef, Defined, Description, Record, Define, Data, Values, Environment, defined_at}
+use Rattle.fit_csv.proofs.Common.{defined_by, describe, dev_code, dev_defs, empty_environment, learn, learn_all, AllFit, Fits, known}
+use Rattle.std.proofs.Common.{ℕ, List, Option, Some, None, ◌==◌}
 use Rattle.std.specs.Prelude.{reverse}
-use Rattle.std.proofs.lemmas.Bool.{cases_Bool, cases_lt}
-use Rattle.std.proofs.lemmas.Option.{none-some}
-use Rattle.std.proofs.lemmas.List.{append-nil, get_or-set_same, get_or-set_other, length-map, length-set, reverse-append}
-use Rattle.fit_record.specs.declared.definition.MessageDef.{MessageDef}
-use Rattle.fit_record.specs.declared.environment.Defined.{Defined}
-use Rattle.fit_record.specs.declared.learn.Description.{Description}
-use Rattle.fit_record.specs.declared.message.Record.{Record}
-use Rattle.fit_record.specs.declared.message.Record.TheVariants.{Define, Values as Data}
-use Rattle.fit_record.specs.Environment.{Environment, defined_at, defined_by, describe, dev_code, dev_defs, empty_environment, learn, learn_all}
-use Rattle.fit_record.specs.Records.{AllFit, Fits}
-use Rattle.fit_profile.specs.Looks.{known}
-
-outside : {X : Type 0} (xs : List X) (k : ℕ) (d : X) → length xs ≤ k → get_or xs k d ≡ d
-outside [] k d past = refl
-outside (x ∷ xs) zero d past = absurd (omega (arith, past))
-outside (x ∷ xs) (suc k) d past = outside xs k d (omega (arith, past))
+use Rattle.std.proofs.lemmas.List.{append-nil}
 
 nothing-defined : {X : Type 0} (none : X) (n k : ℕ) → get_or (replicate n none) k none ≡ none
 nothing-defined none zero k = refl
@@ -31,15 +19,17 @@ same-places e (Some s) = refl
 some-same : {X : Type 0} (a b : X) → Some a ≡ Some b → a ≡ b
 some-same a b e = cc e
 
--- what a definition has when it comes, it has in its place
-pub known-has : {A : Type 0} (P : Defined A → Type 0) → ((e : Environment A) (d : MessageDef A) → P (defined_by e d))
-    → (before : List (Record A)) (local : ℕ) (p : Defined A)
-    → defined_at (known before) local ≡ Some p → P p
-known-has P holds [] local p is = let absent : get_or (replicate 16 None) local None ≡ None = nothing-defined None 16 local in
-    absurd (none-some p (sym absent ∙ is))
-known-has P holds (Data v ∷ before) local p is =
-    known-has P holds before local p (ap (λ places. get_or places local None) (sym (same-places (known before) _)) ∙ is)
-known-has P holds (Define d ∷ before) local p is =
+-- what a definition has when it comes, and keeps behind other records, it has in its place
+pub known-has : {A : Type 0} (P : List (Record A) → Defined A → Type 0) (local : ℕ)
+    → ((before : List (Record A)) (d : MessageDef A) → (d.local == local) ≡ true → P (Define d ∷ before) (defined_by (known before) d))
+    → ((before : List (Record A)) (d : MessageDef A) (p : Defined A) → (d.local == local) ≡ false → P before p → P (Define d ∷ before) p)
+    → ((before : List (Record A)) (v : Values A) (p : Defined A) → P before p → P (Data v ∷ before) p)
+    → (before : List (Record A)) (p : Defined A) → defined_at (known before) local ≡ Some p → P before p
+known-has P local holds keeps stays [] p is =
+    let absent : get_or (replicate 16 None) local None ≡ None = nothing-defined None 16 local in absurd (none-some p (sym absent ∙ is))
+known-has P local holds keeps stays (Data v ∷ before) p is =
+    stays before v p (known-has P local holds keeps stays before p (ap (λ places. get_or places local None) (sym (same-places (known before) _)) ∙ is))
+known-has P local holds keeps stays (Define d ∷ before) p is =
     let new = Some (defined_by (known before) d) in
     elim (cases_Bool (d.local == local)) [
       | inl test ↦
@@ -50,23 +40,24 @@ known-has P holds (Define d ∷ before) local p is =
                 subst (λ k. get_or (set (known before).places k (Some (defined_by (known before) d))) local None ≡ Some (defined_by (known before) d))
                 (sym same)
                 (get_or-set_same (known before).places local (Some (defined_by (known before) d)) None within) in
-                subst P (some-same (defined_by (known before) d) p (sym here ∙ is)) (holds (known before) d)
+                subst (P (Define d ∷ before)) (some-same (defined_by (known before) d) p (sym here ∙ is)) (holds before d test)
             | inr past ↦
                 let absent : get_or (set (known before).places d.local (Some (defined_by (known before) d))) local None ≡ None =
-                outside (set (known before).places d.local (Some (defined_by (known before) d))) local None
+                get_or_past (set (known before).places d.local (Some (defined_by (known before) d))) local None
                 (omega (arith, past, length-set (known before).places d.local (Some (defined_by (known before) d)))) in
                 absurd (none-some p (sym absent ∙ is))
           ]
       | inr test ↦
           let other : d.local ≡ local → ⊥ = λ e. cc (sym test ∙ eq-eqb d.local local e) in
-          known-has P holds before local p (sym (get_or-set_other (known before).places d.local local (Some (defined_by (known before) d)) None
-          (λ e. other (sym e))) ∙ is)
+          keeps before d p test (known-has P local holds keeps stays before p
+          (sym (get_or-set_other (known before).places d.local local (Some (defined_by (known before) d)) None (λ e. other (sym e))) ∙ is))
     ]
 
 -- there is a code for each developer field
 pub codes-long : {A : Type 0} (before : List (Record A)) (local : ℕ) (p : Defined A) → defined_at (known before) local ≡ Some p
     → length p.dev_codes ≡ length (dev_defs p.definition.dev)
-codes-long = known-has (λ p. length p.dev_codes ≡ length (dev_defs p.definition.dev)) (λ e d. length-map (dev_defs d.dev) (dev_code e))
+codes-long before local p = known-has (λ _ p. length p.dev_codes ≡ length (dev_defs p.definition.dev)) local
+    (λ b d _. length-map (dev_defs d.dev) (dev_code (known b))) (λ b d p _ h. h) (λ b v p h. h) before p
 
 -- ---- records one after another
 

@@ -1,18 +1,11 @@
 -- Rows of chains that are known from elsewhere.
-use Rattle.std.proofs.Common.{◌≡◌, ◌++◌, ℕ, refl, [], ◌∷◌, codes}
+use Rattle.fit_csv.proofs.Common.{◌≡◌, ◌++◌, refl, [], ◌∷◌, is_utf8, chars, file_events, last_digits, hex_digits, date_after, date_in_year, instant_text}
+use Rattle.fit_csv.proofs.Common.{csv_text, chain_rows, field_row, file_row, records_rows, table_events_rows, table_of, escaped, fields_text, is_blank}
+use Rattle.std.proofs.Common.{ℕ, codes}
 use Rattle.std.specs.Fmt.{digits}
-use Rattle.std.specs.Str.{is_utf8, chars}
 use lib.Utf8.{encode}
-use Rattle.fit_frame.specs.declared.header.HeaderSum.TheVariants as sums
 use Rattle.fit_record.proofs.KnownFiles.{both_architectures, described_field, empty_file, one_byte_message}
-use Rattle.fit_decode.specs.Events.{file_events}
-use Rattle.fit_profile.specs.FixedText.{last_digits}
-use Rattle.fit_cells.specs.Cells.{hex_digits}
-use Rattle.fit_csv.specs.InstantText.{date_after, date_in_year, instant_text}
-use Rattle.fit_cells.specs.Rows.{csv_text}
-use Rattle.fit_csv.specs.ChainRows.{chain_rows, field_row, file_row, records_rows}
-use Rattle.fit_csv.specs.Table.{table_events_rows, table_of}
-use Rattle.csv.specs.Writing.{escaped, fields_text, is_blank}
+use Rattle.fit_frame.specs.declared.header.HeaderSum.TheVariants as sums
 
 midnight_before : instant_text 1000000000 ≡ codes "2021-09-08T01:46:40Z"
 unfolding date_after date_in_year digits

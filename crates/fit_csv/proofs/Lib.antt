@@ -1,3 +1,4 @@
+pub mod Common
 mod KnownRows
 pub mod RowsOfEvents
 mod ToldRows
@@ -46,4 +47,5 @@ mod Unwritten
 pub mod FramedRows
 mod BeginFacts
 mod TextRows
+pub mod TableColumnFacts
 pub mod TableNumbers

@@ -1,14 +1,9 @@
 -- The lines of a chain, as `show` writes them, are those of its events.
-use Rattle.std.proofs.Common.{◌≡◌, ◌∙◌, ◌+◌, ℕ, List, [], ◌∷◌, ◌++◌, length, map, reverse, refl, sym, ap, append_assoc}
-use Rattle.std.specs.Prelude.{flat_map}
-use Rattle.std.proofs.lemmas.List.{append-nil, reverse-append}
-use Rattle.fit_record.specs.declared.file.FitFile.{FitFile}
-use Rattle.fit_record.specs.declared.message.Record.{Record}
-use Rattle.fit_record.specs.Files.{body}
-use Rattle.fit_decode.specs.Events.{Event, header, item, file_end, file_events}
-use Rattle.fit_report.specs.Heard.{Lines, latest_records, text_of}
-use Rattle.fit_csv.specs.ChainRows.{files_heard}
-use Rattle.fit_csv.specs.ShowLines.{header_line, record_line, record_lines, show_files, show_line, show_lines}
+use Rattle.fit_csv.proofs.Common.{◌≡◌, ◌∙◌, ◌+◌, [], ◌∷◌, ◌++◌, length, map, refl, sym, ap, append_assoc, flat_map, reverse-append, FitFile, Record, body}
+use Rattle.fit_csv.proofs.Common.{Event, header, item, file_end, file_events, Lines, latest_records, text_of, files_heard, header_line, record_line}
+use Rattle.fit_csv.proofs.Common.{record_lines, show_files, show_line, show_lines}
+use Rattle.std.proofs.Common.{ℕ, List, reverse}
+use Rattle.std.proofs.lemmas.List.{append-nil}
 
 -- the text of events behind others
 abbrev text_after : {A : Type 0} → Lines A → List (Event A) → List (Event A) → List ℕ

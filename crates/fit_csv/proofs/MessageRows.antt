@@ -1,21 +1,10 @@
 -- Rows of data messages.
-use Rattle.std.proofs.Common.{◌≡◌, ◌∙◌, ℕ, ◌<◌, ◌^◌, List, [], ◌∷◌, length, take, decimal, Option, Some, None, refl, sym, ap, subst, inl, inr, arith}
-use Rattle.std.specs.Prelude.{codes, IfSome, IsSome, option_map, unwrap_or}
-use Rattle.std.specs.Global.{Global}
-use Rattle.std.proofs.lemmas.Fmt.{decimal_injective}
-use Rattle.fit_record.specs.declared.message.Record.{Record}
-use Rattle.fit_record.specs.Environment.{defined_at}
-use Rattle.fit_record.specs.Records.{DataHeaderFits}
-use Rattle.fit_profile.specs.Looks.{known}
-use Rattle.fit_profile.specs.Names.{message_label}
-use Rattle.fit_profile.specs.Times.{header_time, previous_time}
-use Rattle.fit_csv.specs.ChainRows.{end_row, optional_number, row}
-use Rattle.fit_csv.specs.Judged.{IsBadCell}
-use Rattle.fit_csv.specs.declared.from.misfit.Misfit.{Misfit}
-use Rattle.fit_csv.specs.InstantText.{instant_text}
-use Rattle.fit_csv.specs.inner.Misfits.{IsCellFault, IsMessageOrEnd, IsMessageRow, global_at, message_row}
-use Rattle.fit_cells.specs.Rows.{Cell, Row}
-use Rattle.fit_csv.specs.inner.Seven.{AsFar}
+use Rattle.fit_csv.proofs.Common.{◌≡◌, ◌∙◌, ◌^◌, [], ◌∷◌, length, take, refl, sym, ap, subst, inl, inr, arith, IsSome, Global, decimal_injective, Record}
+use Rattle.fit_csv.proofs.Common.{defined_at, DataHeaderFits, known, message_label, header_time, previous_time, end_row, optional_number, row, IsBadCell}
+use Rattle.fit_csv.proofs.Common.{Misfit, instant_text, IsCellFault, IsMessageOrEnd, IsMessageRow, global_at, message_row, Row, AsFar}
+use Rattle.std.proofs.Common.{ℕ, ◌<◌, List, decimal, Option, Some, None}
+use Rattle.std.specs.Prelude.{codes, IfSome, option_map, unwrap_or}
+use Rattle.fit_cells.specs.Rows.{Cell}
 use Rattle.fit_csv.proofs.Closest.{of-kind}
 use Rattle.fit_csv.proofs.ClosestRows.{none-shown}
 

@@ -1,34 +1,15 @@
 -- One more row stands behind the rows of a file and of a chain.
-use Rattle.std.proofs.Common.{◌≡◌, ◌∙◌, ℕ, List, [], ◌∷◌, ◌++◌, length, Option, Some, None, refl, sym, ap, subst, inl, inr, arith, append_assoc}
-use Rattle.std.specs.Prelude.{◌⊎◌, flat_map, reverse, option_map, unwrap_or, IsSomeAnd}
-use Rattle.std.specs.Global.{Global}
-use Rattle.std.specs.List.{AllByRecursion}
-use Rattle.std.proofs.lemmas.Bool.{cases_Bool}
+use Rattle.fit_csv.proofs.Common.{◌≡◌, ◌∙◌, [], ◌∷◌, ◌++◌, length, refl, sym, ap, subst, inl, inr, arith, append_assoc, flat_map, IsSomeAnd, Global}
+use Rattle.fit_csv.proofs.Common.{AllByRecursion, cases_Bool, Items, Header, FieldDef, Defined, FitFile, Record, Define, Data, Values, defined_at, dev_defs}
+use Rattle.fit_csv.proofs.Common.{namings_at, known, header_time, previous_time, data_row, data_rows, end_row, field_rows, file_row, file_rows, record_rows}
+use Rattle.fit_csv.proofs.Common.{records_rows, IsFileOfRows, IsMessageStart, global_at, message_row, ChainStep, DevStep, FieldStep, FileStep, OpenStep}
+use Rattle.fit_csv.proofs.Common.{PartStep, file_begun, built_definition, is_whole, is_whole_message, settled, with_record, Row, IsSoundChain, IsSoundCurrent}
+use Rattle.fit_csv.proofs.Common.{IsSoundFile, IsSoundMessage, IsSoundPart, current_rows, open_file_rows, part_rows, rows_so_far, Chain, OpenFile, Part}
+use Rattle.fit_csv.proofs.Common.{Nothing, Definition}
+use Rattle.std.proofs.Common.{ℕ, List, Option, Some, None}
+use Rattle.std.specs.Prelude.{◌⊎◌, reverse, option_map, unwrap_or}
 use Rattle.std.proofs.lemmas.List.{append-nil}
-use Rattle.fit_base.specs.declared.items.Items.{Items}
-use Rattle.fit_frame.specs.declared.header.Header.{Header}
-use Rattle.fit_record.specs.declared.definition.FieldDef.{FieldDef}
-use Rattle.fit_record.specs.declared.environment.Defined.{Defined}
-use Rattle.fit_record.specs.declared.file.FitFile.{FitFile}
-use Rattle.fit_record.specs.declared.message.Record.{Record}
-use Rattle.fit_record.specs.declared.message.Record.TheVariants.{Define, Values as Data}
-use Rattle.fit_record.specs.declared.message.Values.{Values}
-use Rattle.fit_record.specs.Environment.{defined_at, dev_defs}
-use Rattle.fit_profile.specs.Described.{namings_at}
-use Rattle.fit_profile.specs.Looks.{known}
-use Rattle.fit_profile.specs.Times.{header_time, previous_time}
-use Rattle.fit_csv.specs.ChainRows.{data_row, data_rows, end_row, field_rows, file_row, file_rows, record_rows, records_rows}
-use Rattle.fit_csv.specs.Judged.{IsFileOfRows}
-use Rattle.fit_csv.specs.inner.Misfits.{IsMessageStart, global_at, message_row}
-use Rattle.fit_csv.specs.inner.Progress.{ChainStep, DevStep, FieldStep, FileStep, OpenStep, PartStep, file_begun, built_definition, is_whole, is_whole_message}
-use Rattle.fit_csv.specs.inner.Progress.{settled, with_record}
-use Rattle.fit_cells.specs.Rows.{Row}
-use Rattle.fit_csv.specs.inner.SoundChain.{IsSoundChain, IsSoundCurrent, IsSoundFile, IsSoundMessage, IsSoundPart, current_rows, open_file_rows, part_rows}
-use Rattle.fit_csv.specs.inner.SoundChain.{rows_so_far}
-use Rattle.fit_csv.specs.declared.from.chain.Chain.{Chain}
-use Rattle.fit_csv.specs.declared.from.open_file.OpenFile.{OpenFile}
-use Rattle.fit_csv.specs.declared.from.open_file.Part.{Part}
-use Rattle.fit_csv.specs.declared.from.open_file.Part.TheVariants.{Nothing, Definition, Message}
+use Rattle.fit_csv.specs.declared.from.open_file.Part.TheVariants.{Message}
 use Rattle.fit_csv.proofs.SoFar.{data-rows-at, definition-more, definition-whole, message-more, rows-of-more, some-at, without-dev-rows}
 use Rattle.fit_csv.proofs.SoundSteps.{all-last, file-sound, is-some-at, length-last}
 

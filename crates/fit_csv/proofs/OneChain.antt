@@ -1,28 +1,14 @@
 -- The rows of a chain are those of no other, and no record's rows begin another's.
-use Rattle.std.proofs.Common.{◌≡◌, ◌∙◌, suc, ◌<◌, ◌≤◌, List, [], ◌∷◌, ◌++◌, length, None, refl, sym, ap, subst, inl, inr, arith}
-use Rattle.std.specs.Prelude.{◌⊎◌, flat_map}
-use Rattle.std.specs.Global.{Global}
-use Rattle.std.proofs.lemmas.Bool.{cases_Bool}
+use Rattle.fit_csv.proofs.Common.{◌≡◌, ◌∙◌, suc, ◌≤◌, [], ◌∷◌, ◌++◌, length, refl, sym, ap, subst, inl, inr, arith, flat_map, Global, cases_Bool, FitFile}
+use Rattle.fit_csv.proofs.Common.{Record, Define, Data, Fits, TextHasOneNumber, known, chain_rows, file_rows, record_rows, IsChainOfRows, RecordInRange}
+use Rattle.fit_csv.proofs.Common.{FileStep, PartStep, Run, built_definition, is_whole, is_whole_message, nothing_yet, settled, with_record, Row, first_line}
+use Rattle.fit_csv.proofs.Common.{Chain, OpenFile, Part, Nothing, Definition}
+use Rattle.std.proofs.Common.{◌<◌, List, None}
+use Rattle.std.specs.Prelude.{◌⊎◌}
 use Rattle.fit_frame.specs.declared.header.HeaderSum.TheVariants.{Absent}
-use Rattle.fit_record.specs.declared.file.FitFile.{FitFile}
-use Rattle.fit_record.specs.declared.message.Record.{Record}
-use Rattle.fit_record.specs.declared.message.Record.TheVariants.{Define, Values as Data}
-use Rattle.fit_record.specs.Records.{Fits}
-use Rattle.fit_profile.specs.Laws.{TextHasOneNumber}
-use Rattle.fit_profile.specs.Looks.{known}
-use Rattle.fit_csv.specs.ChainRows.{chain_rows, file_rows, record_rows}
-use Rattle.fit_csv.specs.Judged.{IsChainOfRows, RecordInRange}
-use Rattle.fit_csv.specs.inner.Progress.{FileStep, PartStep, Run, built_definition, is_whole, is_whole_message, nothing_yet, settled, with_record}
-use Rattle.fit_cells.specs.Rows.{Row, first_line}
-use Rattle.fit_csv.specs.declared.from.chain.Chain.{Chain}
-use Rattle.fit_csv.specs.declared.from.open_file.OpenFile.{OpenFile}
-use Rattle.fit_csv.specs.declared.from.open_file.Part.{Part}
-use Rattle.fit_csv.specs.declared.from.open_file.Part.TheVariants.{Nothing, Definition, Message}
-use Rattle.fit_csv.proofs.OneWay.{one-part, one-run}
+use Rattle.fit_csv.specs.declared.from.open_file.Part.TheVariants.{Message}
+use Rattle.fit_csv.proofs.OneWay.{one-part, one-run, tail-same}
 use Rattle.fit_csv.proofs.WholeRuns.{FileRun, chain-run, record-run}
-
-tail-same : (a b : Row) (xs ys : List Row) → a ∷ xs ≡ b ∷ ys → xs ≡ ys
-tail-same a b xs ys e = cc e
 
 pub one-chain : TextHasOneNumber → (a b : List (FitFile Global)) → IsChainOfRows a → IsChainOfRows b → chain_rows a ≡ chain_rows b → a ≡ b
 one-chain law a b p q e =

@@ -1,58 +1,39 @@
 -- A text has one finding at most.
-use Rattle.std.proofs.Common.{◌≡◌, ◌⊎◌, ◌∙◌, ℕ, ◌<◌, ◌≤◌, ◌+◌, ◌-◌, List, [], ◌∷◌, ◌++◌, length, take, zero, suc, Some, Ok, Err, refl, sym, ap, subst, inl, inr}
-use Rattle.std.proofs.Common.{arith, append_assoc, append-nil, length-append}
-use Rattle.std.specs.Global.{Global}
-use Rattle.std.proofs.lemmas.Bool.{cases_lt}
+use Rattle.fit_csv.proofs.Common.{nil_from_length, ◌≡◌, ◌∙◌, ◌≤◌, ◌+◌, ◌-◌, [], ◌∷◌, ◌++◌, length, take, zero, suc, Err, refl, sym, ap, subst, inl, inr, arith}
+use Rattle.fit_csv.proofs.Common.{append_assoc, Global, cases_lt, Reached, default_config, strip_bom, FitFile, EncodeFault, IsFirstFault, FaultsAreOne}
+use Rattle.fit_csv.proofs.Common.{GoodChainsHaveNoFault, Row, RowsOfText, first_line, reached-first, reads-one-way, chain_rows, IsTextOf, IsUnwritable, IsWrong}
+use Rattle.fit_csv.proofs.Common.{Agree, CanFollow, FirstRows, HasNoHeader, IsBadCell, IsChainOfRows, IsCutOff, IsRefusedRow, IsRowFault, MayBeOfKind, MayGoOn}
+use Rattle.fit_csv.proofs.Common.{ChainsHaveOwnRows, TextsHaveOneFinding, CsvFault}
+use Rattle.std.proofs.Common.{◌⊎◌, ℕ, ◌<◌, List, Some, Ok, append-nil, length-append}
 use Rattle.csv.specs.Machine.{Read}
-use Rattle.csv.specs.Reading.{Reached, default_config, strip_bom}
 use Rattle.csv.specs.declared.parser.Config.{Config}
 use Rattle.csv.specs.declared.parser.State.{State}
 use Rattle.csv.specs.declared.parser.State.TheVariants as st
-use Rattle.fit_record.specs.declared.file.FitFile.{FitFile}
-use Rattle.fit_encode.specs.declared.fault.EncodeFault.{EncodeFault}
 use Rattle.fit_encode.specs.declared.fault.EncodeFault.TheVariants as encode
-use Rattle.fit_encode.specs.Faults.{IsFirstFault}
-use Rattle.fit_encode.specs.Laws.{FaultsAreOne, GoodChainsHaveNoFault}
-use Rattle.fit_cells.specs.Rows.{Row, RowsOfText, first_line}
-use Rattle.fit_cells.proofs.RowFacts.{reached-first, reads-one-way}
-use Rattle.fit_csv.specs.ChainRows.{chain_rows}
-use Rattle.fit_csv.specs.FromText.{IsTextOf, IsUnwritable, IsWrong}
-use Rattle.fit_csv.specs.Judged.{Agree, CanFollow, FirstRows, HasNoHeader, IsBadCell, IsChainOfRows, IsCutOff, IsRefusedRow, IsRowFault, MayBeOfKind, MayGoOn}
-use Rattle.fit_csv.specs.Laws.{ChainsHaveOwnRows, TextsHaveOneFinding}
-use Rattle.fit_csv.specs.declared.fault.CsvFault.{CsvFault}
 use Rattle.fit_csv.specs.declared.fault.CsvFault.TheVariants as faults
 use Rattle.fit_csv.proofs.FromChain.{good-files, headed, not-cut, same-bytes, same-files, stands, writable}
 use Rattle.fit_csv.proofs.SevenRows.{row-seven}
 
 -- ---- two places of a list
 
-first-same : (a b : Row) (xs ys : List Row) → a ∷ xs ≡ b ∷ ys → a ≡ b
-first-same a b xs ys e = cc e
-
-rest-same : (a b : Row) (xs ys : List Row) → a ∷ xs ≡ b ∷ ys → xs ≡ ys
-rest-same a b xs ys e = cc e
-
 -- an earlier place stands in what comes before a later one
 before-later : (xs ys : List Row) (x y : Row) (us vs : List Row) → xs ++ x ∷ us ≡ ys ++ y ∷ vs → length xs < length ys → (mid : List Row) × (ys ≡ xs ++ x ∷ mid)
 before-later [] [] x y us vs e less = absurd (omega arith)
-before-later [] (b ∷ ys) x y us vs e less = (ys, ap (λ z. z ∷ ys) (sym (first-same x b us (ys ++ y ∷ vs) e)))
+before-later [] (b ∷ ys) x y us vs e less = (ys, cc)
 before-later (a ∷ xs) [] x y us vs e less = absurd (omega arith)
 before-later (a ∷ xs) (b ∷ ys) x y us vs e less =
-    let there = before-later xs ys x y us vs (rest-same a b (xs ++ x ∷ us) (ys ++ y ∷ vs) e) (omega arith) in
-    (there.0, ap (λ (z : Row). z ∷ ys) (sym (first-same a b (xs ++ x ∷ us) (ys ++ y ∷ vs) e)) ∙ ap (λ (zs : List Row). a ∷ zs) there.1)
+    let there = before-later xs ys x y us vs (cc) (omega arith) in
+    (there.0, cc there.1)
 
 same-place : (xs ys : List Row) (x y : Row) (us vs : List Row) → xs ++ x ∷ us ≡ ys ++ y ∷ vs → length xs ≡ length ys → (xs ≡ ys) × (x ≡ y)
-same-place [] [] x y us vs e same = (refl, first-same x y us vs e)
+same-place [] [] x y us vs e same = (refl, cc)
 same-place [] (b ∷ ys) x y us vs e same = absurd (omega arith)
 same-place (a ∷ xs) [] x y us vs e same = absurd (omega arith)
 same-place (a ∷ xs) (b ∷ ys) x y us vs e same =
-    let there = same-place xs ys x y us vs (rest-same a b (xs ++ x ∷ us) (ys ++ y ∷ vs) e) (omega arith) in
-    (ap (λ (z : Row). z ∷ xs) (first-same a b (xs ++ x ∷ us) (ys ++ y ∷ vs) e) ∙ ap (λ (zs : List Row). b ∷ zs) there.0, there.1)
+    let there = same-place xs ys x y us vs (cc) (omega arith) in
+    (cc there.0, there.1)
 
 -- ---- first rows of a text
-
-some-read : (p q : Read) → Some p ≡ Some q → p ≡ q
-some-read p q e = cc e
 
 -- of two lists of first rows, one begins the other
 both-reached : (cfg : Config) (a b : List Row) (s s1 s2 : State) (xs y1 y2 : List ℕ) → Reached cfg s xs a s1 y1 → Reached cfg s xs b s2 y2
@@ -61,7 +42,7 @@ unfolding Reached
 both-reached cfg [] b s s1 s2 xs y1 y2 ra rb = inl (b, refl)
 both-reached cfg (r ∷ a) [] s s1 s2 xs y1 y2 ra rb = inr (r ∷ a, refl)
 both-reached cfg (r ∷ a) (q ∷ b) s s1 s2 xs y1 y2 (p, e, same, more) (p', e', same', more') =
-    let pp = some-read p p' (sym e ∙ e') in
+    let pp : p ≡ p' = cc in
     let m : Reached cfg p.1 p.2 b s2 y2 = rw (← pp) at more' in
     let head : q ≡ r = same' ∙ ap (λ (x : Read). x.0) (sym pp) ∙ sym same in
     elim (both-reached cfg a b p.1 s1 s2 p.2 y1 y2 more m) [
@@ -74,13 +55,8 @@ begins-other : (a b : List Row) → ((rest : List Row) × (b ≡ a ++ rest)) ⊎
     → (rest : List Row) × (b ≡ a ++ rest)
 begins-other a b (inl h) less = h
 begins-other a b (inr (rest, is)) less =
-    let long = ap length is in
-    let none : length rest ≡ 0 = omega (arith, length-append b rest) in
-    (rest, empty-rest rest none is)
-  where
-    empty-rest : (rest : List Row) → length rest ≡ 0 → a ≡ b ++ rest → b ≡ a ++ rest
-    empty-rest [] none is = sym (append-nil b) ∙ sym is ∙ sym (append-nil a)
-    empty-rest (r ∷ rest) none is = absurd (omega arith)
+    let none = nil_from_length rest (let long = ap length is in omega (arith, long, length-append b rest)) in
+    (rest, cc (ap (λ (l : List Row). b ++ l) none, ap (λ (l : List Row). a ++ l) none, append-nil a, append-nil b))
 
 first-begins : (text : List ℕ) (a b : List Row) → FirstRows text a → FirstRows text b → length a ≤ length b → (rest : List Row) × (b ≡ a ++ rest)
 first-begins text a b (s1, y1, ra) (s2, y2, rb) less = begins-other a b (both-reached default_config a b st.StartRecord s1 s2 (strip_bom text) y1 y2 ra rb) less
@@ -102,7 +78,7 @@ headed-front text front this read some go (inr (r, reads, other)) =
     let begun = first-row front some go in
     let there = first-begins text (r ∷ []) (front ++ this ∷ []) reads read (omega (arith, length-append front (this ∷ []))) in
     let joined : first_line ∷ (begun.0 ++ this ∷ []) ≡ r ∷ there.0 = ap (λ (z : List Row). z ++ this ∷ []) (sym begun.1) ∙ there.1 in
-    other (sym (first-same first_line r (begun.0 ++ this ∷ []) there.0 joined))
+    other (cc joined)
 
 headed-cut : (text : List ℕ) (row : ℕ) → IsCutOff text row → HasNoHeader text → ⊥
 headed-cut text row h (inl none) =
@@ -113,7 +89,7 @@ headed-cut text row h (inl none) =
 headed-cut text row h (inr (r, reads, other)) =
     let begun = first-row h.rows h.some h.begins in
     let (rest, is, others) = reached-first default_config (r ∷ []) h.rows st.StartRecord reads.0 (strip_bom text) reads.1 reads.2 h.read in
-    other (sym (first-same first_line r begun.0 rest (sym begun.1 ∙ is)))
+    other (cc (begun.1, is))
 
 -- ---- refused rows
 
@@ -130,12 +106,7 @@ no-row-fault : (front : List Row) (this : Row) (number : ℕ) (fault : CsvFault)
 no-row-fault front this number (faults.BadRow row) some can (place, inl short) = short (follows-seven front this can)
 no-row-fault front this number (faults.BadRow row) some can (place, inr none) = none this can (inl refl)
 no-row-fault front this number (faults.BadCell row column) some can (place, seven, bad) = bad.bad this can refl
-no-row-fault front this number faults.NoMemory some can h = some refl
-no-row-fault front this number faults.Header some can h = h
-no-row-fault front this number faults.Read some can h = h
-no-row-fault front this number (faults.Decode f) some can h = h
-no-row-fault front this number (faults.Encode f) some can h = h
-no-row-fault front this number (faults.Write n) some can h = h
+no-row-fault front this number fault some can h = h
 
 module _ (text : List ℕ) (a b : CsvFault) (some : a ≡ faults.NoMemory → ⊥) (h : IsRefusedRow text a) (k : IsRefusedRow text b) where
   one-of-rows : length h.front ≤ length k.front → (rest : List Row) × (k.front ++ k.this ∷ [] ≡ h.front ++ h.this ∷ rest)
@@ -192,18 +163,9 @@ one-row-fault C r number (faults.BadCell i column) (faults.BadRow j) some other 
 one-row-fault C r number (faults.BadCell i column) (faults.BadCell j other_column) some other h k =
     let same = one-column C r column other_column h.2 k.2 (cases_lt column other_column) (cases_lt other_column column) in
     ap (λ n. faults.BadCell n column) (h.0 ∙ sym k.0) ∙ ap (λ n. faults.BadCell j n) same
-one-row-fault C r number faults.NoMemory b some other h k = absurd (some refl)
-one-row-fault C r number faults.Header b some other h k = absurd h
-one-row-fault C r number faults.Read b some other h k = absurd h
-one-row-fault C r number (faults.Decode f) b some other h k = absurd h
-one-row-fault C r number (faults.Encode f) b some other h k = absurd h
-one-row-fault C r number (faults.Write n) b some other h k = absurd h
-one-row-fault C r number a faults.NoMemory some other h k = absurd (other refl)
-one-row-fault C r number a faults.Header some other h k = absurd k
-one-row-fault C r number a faults.Read some other h k = absurd k
-one-row-fault C r number a (faults.Decode f) some other h k = absurd k
-one-row-fault C r number a (faults.Encode f) some other h k = absurd k
-one-row-fault C r number a (faults.Write n) some other h k = absurd k
+one-row-fault C r number (faults.BadRow i) b some other h k = absurd k
+one-row-fault C r number (faults.BadCell i column) b some other h k = absurd k
+one-row-fault C r number a b some other h k = absurd h
 
 module _ (text : List ℕ) (a b : CsvFault) (some : a ≡ faults.NoMemory → ⊥) (other : b ≡ faults.NoMemory → ⊥) (h : IsRefusedRow text a) (k : IsRefusedRow text b)
   where
@@ -255,19 +217,7 @@ wrong text (faults.BadRow row) (short, inr h) = inr (inr (inl (row, h, refl)))
 wrong text (faults.BadCell row column) h = inr (inl (h.1, (λ e. cc e)))
 wrong text (faults.Encode (encode.TooLong file index)) h = inr (inr (inr (encode.TooLong file index, h, refl)))
 wrong text (faults.Encode (encode.ZeroIsSum file)) h = inr (inr (inr (encode.ZeroIsSum file, h, refl)))
-wrong text (faults.Encode (encode.BadHeader file)) h = absurd h
-wrong text (faults.Encode (encode.BadLocal file index)) h = absurd h
-wrong text (faults.Encode (encode.BadOffset file index)) h = absurd h
-wrong text (faults.Encode (encode.UndefinedLocal file index)) h = absurd h
-wrong text (faults.Encode (encode.WrongShape file index field)) h = absurd h
-wrong text (faults.Encode encode.DeclaredLength) h = absurd h
-wrong text (faults.Encode encode.ChainLength) h = absurd h
-wrong text (faults.Encode encode.NoMemory) h = absurd h
-wrong text (faults.Encode (encode.Write written)) h = absurd h
-wrong text faults.NoMemory h = absurd h
-wrong text faults.Read h = absurd h
-wrong text (faults.Decode f) h = absurd h
-wrong text (faults.Write n) h = absurd h
+wrong text fault h = absurd h
 
 -- nothing is wrong with the rows of files
 none-refused : (text : List ℕ) (files : List (FitFile Global)) (fault : CsvFault) → RowsOfText text (chain_rows files) → IsChainOfRows files

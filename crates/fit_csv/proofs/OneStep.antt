@@ -1,23 +1,12 @@
 -- A row goes on in one way.
-use Rattle.std.proofs.Common.{◌≡◌, ◌∙◌, ℕ, ◌<◌, ◌≤◌, ◌-◌, ◌^◌, List, [], length, get_or, decimal, All, Option, Some, None, arith, refl, sym, ap}
+use Rattle.fit_csv.proofs.Common.{◌≡◌, ◌∙◌, ◌≤◌, ◌-◌, ◌^◌, [], length, get_or, All, arith, refl, sym, ap, Global, decimal_injective, decimal_nonempty, Order}
+use Rattle.fit_csv.proofs.Common.{Little, Big, Header, HeaderSum, Zero, True, DevDef, FieldDef, Record, Values, DataHeaderFits, dev_def_row, field_def_row}
+use Rattle.fit_csv.proofs.Common.{file_row, optional_number, order_word, rest_text, sum_word, DevDefInRange, FieldDefInRange, HeaderInRange, HeadInRange}
+use Rattle.fit_csv.proofs.Common.{IsMessageStart, head_row, message_row, Row, DefinitionHead}
+use Rattle.std.proofs.Common.{ℕ, ◌<◌, List, decimal, Option, Some, None}
 use Rattle.std.specs.Prelude.{IfSome}
-use Rattle.std.specs.Global.{Global}
-use Rattle.std.proofs.lemmas.Fmt.{decimal_injective, decimal_nonempty}
-use Rattle.fit_base.specs.declared.number.Order.{Order}
-use Rattle.fit_base.specs.declared.number.Order.TheVariants.{Little, Big}
-use Rattle.fit_frame.specs.declared.header.Header.{Header}
-use Rattle.fit_frame.specs.declared.header.HeaderSum.{HeaderSum}
-use Rattle.fit_frame.specs.declared.header.HeaderSum.TheVariants.{Absent, Zero, True}
-use Rattle.fit_record.specs.declared.definition.DevDef.{DevDef}
-use Rattle.fit_record.specs.declared.definition.FieldDef.{FieldDef}
-use Rattle.fit_record.specs.declared.message.Record.{Record}
-use Rattle.fit_record.specs.declared.message.Values.{Values}
-use Rattle.fit_record.specs.Records.{DataHeaderFits}
-use Rattle.fit_csv.specs.ChainRows.{dev_def_row, field_def_row, file_row, optional_number, order_word, rest_text, sum_word}
-use Rattle.fit_csv.specs.Judged.{DevDefInRange, FieldDefInRange, HeaderInRange}
-use Rattle.fit_csv.specs.inner.Misfits.{HeadInRange, IsMessageStart, head_row, message_row}
-use Rattle.fit_cells.specs.Rows.{Cell, Row}
-use Rattle.fit_csv.specs.declared.from.definition.DefinitionHead.{DefinitionHead}
+use Rattle.fit_frame.specs.declared.header.HeaderSum.TheVariants.{Absent}
+use Rattle.fit_cells.specs.Rows.{Cell}
 use Rattle.fit_csv.proofs.HeaderRows.{rest-long, rest-shown}
 use Rattle.fit_csv.proofs.MessageRows.{small-local}
 
@@ -43,14 +32,9 @@ one-order Big Big e = refl
 
 one-sum : (a b : HeaderSum) → sum_word a ≡ sum_word b → a ≡ b
 one-sum Absent Absent e = refl
-one-sum Absent Zero e = absurd (omega (arith, ap (λ (c : Cell). get_or c 0 0) e))
-one-sum Absent True e = absurd (omega (arith, ap (λ (c : Cell). get_or c 0 0) e))
-one-sum Zero Absent e = absurd (omega (arith, ap (λ (c : Cell). get_or c 0 0) e))
 one-sum Zero Zero e = refl
-one-sum Zero True e = absurd (omega (arith, ap (λ (c : Cell). get_or c 0 0) e))
-one-sum True Absent e = absurd (omega (arith, ap (λ (c : Cell). get_or c 0 0) e))
-one-sum True Zero e = absurd (omega (arith, ap (λ (c : Cell). get_or c 0 0) e))
 one-sum True True e = refl
+one-sum a b e = absurd (omega (arith, ap (λ (c : Cell). get_or c 0 0) e))
 
 one-rest : (a b : List ℕ) → length a ≡ length b → All (λ n. n < 2 ^ 8) a → All (λ n. n < 2 ^ 8) b → rest_text a ≡ rest_text b → a ≡ b
 one-rest a b l p q e = sym (rest-shown a (rest_text a) (length a) refl refl p) ∙ rest-shown b (rest_text a) (length a) (sym e) (sym l) q

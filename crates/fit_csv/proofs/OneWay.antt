@@ -1,29 +1,12 @@
 -- Rows go on in one way.
-use Rattle.std.proofs.Common.{◌≡◌, ◌∙◌, ℕ, List, [], ◌∷◌, ◌++◌, length, take, Option, Some, None, arith, refl, sym, ap, subst, inl, inr}
-use Rattle.std.specs.Prelude.{◌⊎◌, slice_get, IsSomeAnd}
-use Rattle.std.specs.Global.{Global}
-use Rattle.std.proofs.lemmas.Option.{slice_get_within}
-use Rattle.fit_base.specs.declared.items.Items.{Items}
-use Rattle.fit_base.specs.Fields.{HasShape}
-use Rattle.fit_record.specs.declared.definition.DevDef.{DevDef}
-use Rattle.fit_record.specs.declared.definition.FieldDef.{FieldDef}
-use Rattle.fit_record.specs.declared.environment.Defined.{Defined}
-use Rattle.fit_record.specs.declared.message.Record.{Record}
-use Rattle.fit_record.specs.declared.message.Values.{Values}
-use Rattle.fit_record.specs.Environment.{defined_at, dev_defs}
-use Rattle.fit_profile.specs.Laws.{TextHasOneNumber}
-use Rattle.fit_profile.specs.Looks.{known}
-use Rattle.fit_csv.specs.ChainRows.{dev_row, end_row, field_row}
-use Rattle.fit_csv.specs.inner.Misfits.{head_row, message_row}
-use Rattle.fit_csv.specs.inner.Progress.{ChainStep, DefinitionStep, DevStep, FieldStep, OpenStep, PartStep, Run, file_begun, opened, settled, with_dev_field}
-use Rattle.fit_csv.specs.inner.Progress.{with_dev_items, with_field, with_items}
-use Rattle.fit_csv.specs.RowKinds.{naming_at}
-use Rattle.fit_cells.specs.Rows.{Row}
-use Rattle.fit_csv.specs.declared.from.chain.Chain.{Chain}
-use Rattle.fit_csv.specs.declared.from.definition.OpenDefinition.{OpenDefinition}
-use Rattle.fit_csv.specs.declared.from.open_file.OpenFile.{OpenFile}
-use Rattle.fit_csv.specs.declared.from.open_file.Part.{Part}
-use Rattle.fit_csv.specs.declared.from.open_file.Part.TheVariants.{Nothing, Definition, Message}
+use Rattle.fit_csv.proofs.Common.{◌≡◌, ◌∙◌, [], ◌∷◌, ◌++◌, length, take, arith, refl, sym, ap, subst, inl, inr, slice_get, IsSomeAnd, Global, slice_get_within}
+use Rattle.fit_csv.proofs.Common.{Items, HasShape, DevDef, FieldDef, Defined, Record, Values, defined_at, dev_defs, TextHasOneNumber, known, dev_row, end_row}
+use Rattle.fit_csv.proofs.Common.{field_row, head_row, message_row, ChainStep, DefinitionStep, DevStep, FieldStep, OpenStep, PartStep, Run, file_begun, opened}
+use Rattle.fit_csv.proofs.Common.{settled, with_dev_field, with_dev_items, with_field, with_items, naming_at, Row, Chain, OpenDefinition, OpenFile, Part}
+use Rattle.fit_csv.proofs.Common.{Nothing, Definition}
+use Rattle.std.proofs.Common.{ℕ, List, Option, Some, None}
+use Rattle.std.specs.Prelude.{◌⊎◌}
+use Rattle.fit_csv.specs.declared.from.open_file.Part.TheVariants.{Message}
 use Rattle.fit_csv.proofs.ChainSteps.{not-end}
 use Rattle.fit_csv.proofs.OneStep.{one-dev-def, one-field-def, one-head, one-header, one-start}
 use Rattle.fit_csv.proofs.PartSteps.{letter}
@@ -134,3 +117,6 @@ first-of-run c r rows t (m, step, run) = (m, step)
 pub run-none : (c t : Chain) → c ≡ t → Run c [] t
 unfolding Run
 run-none c t e = e
+
+pub tail-same : (a b : Row) (xs ys : List Row) → a ∷ xs ≡ b ∷ ys → xs ≡ ys
+tail-same a b xs ys e = cc e

@@ -1,17 +1,11 @@
 -- One more row of a record.
-use Rattle.std.proofs.Common.{◌≡◌, ◌∙◌, ℕ, List, [], ◌∷◌, take, get_or, arith, refl, sym, ap, inl, inr}
+use Rattle.fit_csv.proofs.Common.{◌≡◌, ◌∙◌, [], ◌∷◌, take, get_or, arith, refl, sym, ap, inl, inr, Global, Record, Values, end_row, Agree, IsCellFault}
+use Rattle.fit_csv.proofs.Common.{IsHeadRow, IsMessageOrEnd, IsMisfit, head_row, message_row, CanStandNext, DefinitionStep, MessageStep, opened, Row}
+use Rattle.fit_csv.proofs.Common.{OpenDefinition, Misfit, Nothing, Definition}
+use Rattle.std.proofs.Common.{ℕ, List}
 use Rattle.std.specs.Prelude.{codes}
-use Rattle.std.specs.Global.{Global}
-use Rattle.fit_record.specs.declared.message.Record.{Record}
-use Rattle.fit_record.specs.declared.message.Values.{Values}
-use Rattle.fit_csv.specs.ChainRows.{end_row}
-use Rattle.fit_csv.specs.Judged.{Agree}
-use Rattle.fit_csv.specs.inner.Misfits.{IsCellFault, IsHeadRow, IsMessageOrEnd, IsMisfit, head_row, message_row}
-use Rattle.fit_csv.specs.inner.Progress.{CanStandNext, DefinitionStep, MessageStep, opened}
-use Rattle.fit_cells.specs.Rows.{Cell, Row}
-use Rattle.fit_csv.specs.declared.from.definition.OpenDefinition.{OpenDefinition}
-use Rattle.fit_csv.specs.declared.from.misfit.Misfit.{Misfit}
-use Rattle.fit_csv.specs.declared.from.open_file.Part.TheVariants.{Nothing, Definition, Message}
+use Rattle.fit_cells.specs.Rows.{Cell}
+use Rattle.fit_csv.specs.declared.from.open_file.Part.TheVariants.{Message}
 use Rattle.fit_csv.proofs.Closest.{cell-fault, of-kind, same-rows}
 
 -- the second letter of the first cell

@@ -1,48 +1,26 @@
 -- What has been read of a chain is a place in it, and the rows that can stand next are those of the table there.
-use Rattle.std.proofs.Common.{◌≡◌, ◌∙◌, ℕ, ◌<◌, ◌≤◌, ◌+◌, ◌-◌, true, false, List, [], ◌∷◌, ◌++◌, length, map, take, Option, Some, None, refl, sym, ap, subst}
-use Rattle.std.proofs.Common.{inl, inr, arith, eq-eqb, eqb-true, length-append}
-use Rattle.std.specs.Prelude.{◌==◌, ◌⊎◌, ◌↔◌, IsSome, IsSomeAnd, flat_map, option_map, reverse, slice_get, unwrap_or, zip}
-use Rattle.std.specs.Global.{Global}
-use Rattle.std.specs.List.{AllByRecursion}
-use Rattle.std.specs.Option.{option_map_or}
-use Rattle.std.proofs.lemmas.Bool.{cases_lt}
-use Rattle.std.proofs.lemmas.List.{append-nil, length-map, take_at}
-use Rattle.std.proofs.lemmas.Option.{slice_get_within}
-use Rattle.fit_record.specs.declared.environment.Defined.{Defined}
-use Rattle.fit_record.specs.declared.file.FitFile.{FitFile}
-use Rattle.fit_record.specs.declared.message.Record.{Record}
-use Rattle.fit_record.specs.declared.message.Record.TheVariants.{Define, Values as Data}
-use Rattle.fit_record.specs.declared.message.Values.{Values}
-use Rattle.fit_record.specs.Environment.{defined_at, dev_defs}
-use Rattle.fit_record.specs.Records.{DataFits, dev_layout, layout}
-use Rattle.fit_profile.specs.Laws.{TextHasOneNumber}
-use Rattle.fit_profile.specs.Looks.{known}
-use Rattle.fit_profile.specs.Times.{header_time, previous_time}
-use Rattle.fit_profile.specs.Described.{namings_at}
-use Rattle.fit_cells.specs.Rows.{Row, first_line}
-use Rattle.fit_csv.specs.ChainRows.{chain_rows, data_row, data_rows, definition_rows, dev_def_row, dev_row, dev_rows, field_def_row, field_row, field_rows}
-use Rattle.fit_csv.specs.ChainRows.{file_row, file_rows, records_rows}
-use Rattle.fit_csv.specs.Follows.{CanCome, CanComeInDefinition, CanComeInMessage, IsPlace, Place, RowsThatFollow, between_files, between_records, in_record}
-use Rattle.fit_csv.specs.Follows.{rows_to}
-use Rattle.fit_csv.specs.Judged.{IsChainOfRows, IsFileOfRows}
-use Rattle.fit_csv.specs.inner.Misfits.{IsHeadRow, IsMessageRow, global_at}
-use Rattle.fit_csv.specs.inner.Progress.{built_definition, dev_total, has_all, is_whole}
-use Rattle.fit_csv.specs.RowKinds.{IsDataRow, IsDefinitionRow, IsDevRow, IsEndRow, IsFieldRow, naming_at}
-use Rattle.fit_record.specs.Files.{chain_limit}
-use Rattle.fit_csv.specs.inner.SoundChain.{IsSoundCurrent, IsSoundDefinition, IsSoundMessage, IsSoundPart, current_rows, open_rows, part_rows}
-use Rattle.fit_csv.specs.declared.from.chain.Chain.{Chain}
-use Rattle.fit_csv.specs.declared.from.definition.DefinitionHead.{DefinitionHead}
-use Rattle.fit_csv.specs.declared.from.definition.OpenDefinition.{OpenDefinition}
-use Rattle.fit_csv.specs.declared.from.open_file.OpenFile.{OpenFile}
-use Rattle.fit_csv.specs.declared.from.open_file.Part.{Part}
-use Rattle.fit_csv.specs.declared.from.open_file.Part.TheVariants.{Nothing, Definition, Message}
+use Rattle.fit_csv.proofs.Common.{length-zip, ◌≡◌, ◌∙◌, ◌≤◌, ◌+◌, ◌-◌, true, false, [], ◌∷◌, ◌++◌, length, map, take, refl, sym, ap, subst, inl, inr, arith}
+use Rattle.fit_csv.proofs.Common.{eqb-true, ◌↔◌, IsSome, IsSomeAnd, flat_map, slice_get, zip, Global, AllByRecursion, option_map_or, length-map, take_at}
+use Rattle.fit_csv.proofs.Common.{slice_get_within, Defined, FitFile, Record, Define, Data, Values, defined_at, dev_defs, DataFits, dev_layout, layout}
+use Rattle.fit_csv.proofs.Common.{TextHasOneNumber, known, header_time, previous_time, namings_at, Row, first_line, chain_rows, data_row, data_rows}
+use Rattle.fit_csv.proofs.Common.{definition_rows, dev_def_row, dev_row, dev_rows, field_def_row, field_row, field_rows, file_row, file_rows, records_rows}
+use Rattle.fit_csv.proofs.Common.{IsChainOfRows, IsFileOfRows, IsHeadRow, IsMessageRow, global_at, built_definition, dev_total, has_all, is_whole, IsDataRow}
+use Rattle.fit_csv.proofs.Common.{IsDefinitionRow, IsDevRow, IsEndRow, IsFieldRow, naming_at, chain_limit, IsSoundCurrent, IsSoundDefinition, IsSoundMessage}
+use Rattle.fit_csv.proofs.Common.{IsSoundPart, current_rows, open_rows, part_rows, Chain, DefinitionHead, OpenDefinition, OpenFile, Part, Nothing, Definition}
+use Rattle.std.proofs.Math.Logic.{⊎_map}
+use Rattle.std.proofs.Common.{ℕ, ◌<◌, List, Option, Some, None, length-append}
+use Rattle.std.specs.Prelude.{◌==◌, ◌⊎◌, option_map, reverse, unwrap_or}
+use Rattle.std.proofs.lemmas.List.{append-nil}
+use Rattle.fit_csv.specs.Follows.{CanCome, CanComeInDefinition, CanComeInMessage, IsPlace, Place, RowsThatFollow, between_files, between_records}
+use Rattle.fit_csv.specs.Follows.{in_record, rows_to}
+use Rattle.fit_csv.specs.declared.from.open_file.Part.TheVariants.{Message}
 use Rattle.fit_csv.proofs.Completed.{complete-definition, complete-message, left, to_come}
 use Rattle.fit_csv.proofs.Following.{NextIn, NextInDefinition, NextInFile, NextInMessage, next-rows}
 use Rattle.fit_csv.proofs.KnownDefinitions.{codes-long}
 use Rattle.fit_csv.proofs.NamingFacts.{namings_long}
-use Rattle.fit_csv.proofs.SoFar.{both-true, data-rows-at, definition-whole, some-at, zip-long}
-use Rattle.fit_csv.proofs.SoundSteps.{all-last, at-some, both-false, definition-fits, definition-range, dev-layout-long, dev-left, is-some-at, layout-long}
-use Rattle.fit_csv.proofs.SoundSteps.{length-last, message-fits, shapes-few}
+use Rattle.fit_csv.proofs.SoFar.{both-true, data-rows-at, definition-whole, some-at}
+use Rattle.fit_csv.proofs.SoundSteps.{all-last, at-some, definition-fits, definition-range, dev-layout-long, is-some-at, layout-long}
+use Rattle.fit_csv.proofs.SoundSteps.{length-last, message-fits, shapes-few, some-left}
 
 -- ---- the first row of a record
 
@@ -84,21 +62,14 @@ kind-message before r (v, header, h) =
     )
 
 first-row : (before : List (Record Global)) (r : Row) → NextInFile before Nothing r → IsDefinitionRow r ⊎ (IsDataRow before r ⊎ IsEndRow r)
-first-row before r (inl h) = inl (head-kind r h)
-first-row before r (inr (inl h)) = inr (inl (message-kind before r h))
-first-row before r (inr (inr h)) = inr (inr h)
+first-row before r h = ⊎_map (head-kind r) (⊎_map (message-kind before r) (λ x. x)) h
 
 row-first : (before : List (Record Global)) (r : Row) → IsDefinitionRow r ⊎ (IsDataRow before r ⊎ IsEndRow r) → NextInFile before Nothing r
-row-first before r (inl h) = inl (kind-head r h)
-row-first before r (inr (inl h)) = inr (inl (kind-message before r h))
-row-first before r (inr (inr h)) = inr (inr h)
+row-first before r h = ⊎_map (kind-head r) (⊎_map (kind-message before r) (λ x. x)) h
 
 -- a list is full where others have come that come after it
 full-when : (have all others : ℕ) → have ≤ all → (have < all → others ≡ 0) → all ≤ have + others → have ≡ all
-full-when have all others few none past = elim (cases_lt have all) [
-  | inl less ↦ (let nothing = none less in absurd (omega (arith, nothing, less, past)))
-  | inr most ↦ omega (arith, most, few)
-]
+full-when have all others few none past = grind arith
 
 -- ---- definitions
 
@@ -107,13 +78,7 @@ open-long o =
     omega (arith, length-append (map field_def_row o.fields) (map dev_def_row o.dev), length-map o.fields field_def_row, length-map o.dev dev_def_row)
 
 definition-left : (o : OpenDefinition) → IsSoundDefinition o → is_whole o ≡ false → length o.fields + length o.dev < o.head.fields + dev_total o.head
-definition-left o sound going = elim (cases_lt (length o.fields) o.head.fields) [
-  | inl room ↦ omega (arith, room, sound.few_dev_fields)
-  | inr full ↦
-      let all : length o.fields ≡ o.head.fields = omega (arith, full, sound.few) in
-      let more = dev-left o sound going all in
-      omega (arith, all, more)
-]
+definition-left o sound going = some-left _ _ _ _ going sound.few sound.few_dev_fields
 
 module _ (o q : OpenDefinition) (sound : IsSoundDefinition o) (whole : is_whole q ≡ true) (head : q.head ≡ o.head) where
   all-fields : length q.fields ≡ o.head.fields
@@ -153,33 +118,24 @@ module _ (before : List (Record Global)) (v : Values Global) (p : Defined Global
       let namings = namings_at before v.local in
       let devs = dev_defs p.definition.dev in
       let coded = codes-long before v.local p is in
-      let of_fields = zip-long p.definition.fields v.fields few in
-      let of_devs = zip-long (dev_defs p.definition.dev) p.dev_codes (omega (arith, coded)) in
-      let of_items = zip-long (namings_at before v.local) v.dev (omega (arith, few-dev, namings_long before v.local p is)) in
-      let of_both = zip-long (zip (dev_defs p.definition.dev) p.dev_codes) (zip (namings_at before v.local) v.dev)
-      (omega (arith, of_devs, of_items, coded, few-dev)) in
       ap length (data-rows-at before v p is)
       ∙ omega (
         arith,
-        of_fields,
-        of_both,
-        of_items,
+        coded,
+        few,
+        few-dev,
+        namings_long before v.local p is,
+        length-zip p.definition.fields v.fields,
+        length-zip devs p.dev_codes,
+        length-zip namings v.dev,
+        length-zip (zip devs p.dev_codes) (zip namings v.dev),
         length-append (field_rows p.definition.global p.definition.fields v.fields) (dev_rows (dev_defs p.definition.dev) p.dev_codes namings v.dev),
         length-map (zip p.definition.fields v.fields) (λ x. field_row p.definition.global x.0 x.1),
         length-map (zip (zip devs p.dev_codes) (zip namings v.dev)) (λ x. dev_row {A = Global} x.0.0 x.0.1 x.1.0 x.1.1),
       )
 
   message-left : has_all v p ≡ false → length v.fields + length v.dev < length p.definition.fields + length (dev_defs p.definition.dev)
-  message-left going = elim (cases_lt (length v.fields) (length p.definition.fields)) [
-    | inl room ↦ omega (arith, room, few-dev)
-    | inr full ↦
-        let all : length v.fields ≡ length p.definition.fields = omega (arith, full, few) in
-        let other = both-false (length v.fields == length p.definition.fields) (length v.dev == length (dev_defs p.definition.dev)) going
-        (eq-eqb (length v.fields) (length p.definition.fields) all) in
-        let differ : length v.dev ≡ length (dev_defs p.definition.dev) → ⊥ =
-        λ e. cc (sym other ∙ eq-eqb (length v.dev) (length (dev_defs p.definition.dev)) e) in
-        omega (arith, all, differ, few-dev)
-  ]
+  message-left going = some-left _ _ _ _ going few few-dev
 
   no-dev : length v.fields < length p.definition.fields → length v.dev ≡ 0
   no-dev less = ap length (sound.in_order less)

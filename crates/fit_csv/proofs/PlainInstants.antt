@@ -1,11 +1,7 @@
 -- The text of an instant needs no quotes.
-use Rattle.std.proofs.Common.{◌≡◌, ℕ, ◌<◌, ◌/◌, ◌%◌, ◌^◌, ◌++◌, false, inl, inr, arith, lit<, codes, decimal}
-use Rattle.std.specs.Prelude.{nat_lt}
-use Rattle.std.proofs.lemmas.Bool.{cases_Bool}
-use Rattle.csv.specs.Writing.{default_writer, needs_quotes}
-use Rattle.fit_profile.specs.Instant.{clock_digits, date_digits, four_digits, two_digits}
-use Rattle.fit_cells.proofs.PlainFacts.{High, high-append, high-decimal, plain}
-use Rattle.fit_csv.specs.InstantText.{instant_text}
+use Rattle.fit_csv.proofs.Common.{◌≡◌, ◌/◌, ◌%◌, ◌^◌, ◌++◌, false, inl, inr, arith, lit<, nat_lt, cases_Bool, default_writer, needs_quotes, clock_digits}
+use Rattle.fit_csv.proofs.Common.{date_digits, four_digits, two_digits, High, high-append, high-decimal, plain, instant_text}
+use Rattle.std.proofs.Common.{ℕ, ◌<◌, codes, decimal}
 use Rattle.fit_csv.proofs.InstantFacts.{date-of-day}
 
 two : (n : ℕ) → High (two_digits n)

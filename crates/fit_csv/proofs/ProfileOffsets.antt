@@ -1,20 +1,10 @@
 -- The offsets of the profile, and items that a row of a field shows.
-use Rattle.std.proofs.Common.{◌≡◌, ◌∙◌, ℕ, ◌<◌, ◌^◌, ◌==◌, Bool, true, List, Option, Some, None, refl, sym, ap, inl, inr, arith}
-use Rattle.std.specs.Prelude.{nat_lt, find, option_and_then, option_map, IfSome, if◌then◌else◌}
-use Rattle.std.specs.List.{list_all}
-use Rattle.std.specs.Global.{Global}
-use Rattle.std.proofs.lemmas.Bool.{cases_Bool}
-use Rattle.std.proofs.lemmas.Bool.Decides.{nat_tests}
-use Rattle.fit_base.specs.declared.items.Items.{Items}
-use Rattle.fit_base.specs.Fields.{HasShape}
-use Rattle.fit_record.specs.declared.definition.FieldDef.{FieldDef}
-use Rattle.fit_record.specs.declared.definition.DevDef.{DevDef}
-use Rattle.fit_profile.specs.Described.{Naming}
-use Rattle.fit_profile.specs.Laws.{TextHasOneNumber}
-use Rattle.fit_profile.specs.Names.{field, field_of, message_of}
-use Rattle.fit_profile.specs.Profile.{Field, Meaning, Message, message_index, messages, timestamp}
-use Rattle.fit_profile.specs.Scaled.{IsScale}
-use Rattle.fit_csv.specs.ChainRows.{dev_row, field_row}
+use Rattle.fit_csv.proofs.Common.{◌≡◌, ◌∙◌, ◌^◌, Bool, true, refl, sym, ap, inl, inr, arith, nat_lt, find, option_and_then, list_all, Global, cases_Bool}
+use Rattle.fit_csv.proofs.Common.{nat_tests, Items, HasShape, FieldDef, DevDef, Naming, TextHasOneNumber, field, field_of, message_of, Field, Meaning}
+use Rattle.fit_csv.proofs.Common.{message_index, messages, timestamp, IsScale, dev_row, field_row}
+use Rattle.std.proofs.Common.{ℕ, ◌<◌, ◌==◌, List, Option, Some, None}
+use Rattle.std.specs.Prelude.{option_map, IfSome, if◌then◌else◌}
+use Rattle.fit_profile.specs.Profile.{Message}
 use Rattle.fit_cells.proofs.OneCell.{one-cell}
 use Rattle.fit_csv.proofs.OneStep.{cell_at}
 use Rattle.fit_csv.proofs.ProfileScales.{found, known_scale, some_same}

@@ -1,21 +1,10 @@
 -- The scales of the profile, and numbers as the table shows them.
-use Rattle.std.proofs.Common.{◌≡◌, ◌∙◌, ℕ, ◌==◌, inl, inr, Bool, true, List, [], ◌∷◌, Option, Some, None, refl, sym, ap, ap₂, eqb-true}
-use Rattle.std.specs.Prelude.{◌||◌, find, option_and_then, option_map, if◌then◌else◌, ℤ}
-use Rattle.std.specs.List.{list_all}
-use Rattle.std.proofs.lemmas.Bool.{cases_Bool}
-use Rattle.fit_base.specs.declared.items.Items.{Items}
-use Rattle.fit_record.specs.declared.definition.FieldDef.{FieldDef}
-use Rattle.fit_record.specs.declared.definition.MessageDef.{MessageDef}
-use Rattle.fit_record.specs.declared.message.Values.{Values}
-use Rattle.fit_profile.specs.declared.decimal.Fixed.{Fixed}
-use Rattle.fit_profile.specs.FixedText.{fixed_text}
-use Rattle.fit_profile.specs.Profile.{Field, Meaning, Message, message_index, messages, timestamp}
-use Rattle.fit_profile.specs.Names.{field, field_of, message_of}
-use Rattle.fit_profile.specs.Scaled.{IsScale}
-use Rattle.fit_profile.specs.Looks.{first_field}
-use Rattle.fit_profile.specs.Values.{IsValueOf, first_number, known_number}
-use Rattle.fit_csv.specs.Table.{amount_text, value_text}
-use Rattle.fit_csv.specs.inner.TableCells.{shown_text}
+use Rattle.fit_csv.proofs.Common.{◌≡◌, ◌∙◌, inl, inr, Bool, true, [], ◌∷◌, refl, sym, ap, ap₂, eqb-true, ◌||◌, find, option_and_then, list_all, cases_Bool}
+use Rattle.fit_csv.proofs.Common.{Items, FieldDef, MessageDef, Values, Fixed, fixed_text, Field, Meaning, message_index, messages, timestamp, field, field_of}
+use Rattle.fit_csv.proofs.Common.{message_of, IsScale, first_field, IsValueOf, first_number, known_number, amount_text, value_text, shown_text}
+use Rattle.std.proofs.Common.{ℕ, ◌==◌, List, Option, Some, None}
+use Rattle.std.specs.Prelude.{option_map, if◌then◌else◌, ℤ}
+use Rattle.fit_profile.specs.Profile.{Message}
 use Rattle.fit_cells.proofs.NumberFacts.{is_scaled}
 
 abbrev is_scale : ℕ → Bool

@@ -1,12 +1,9 @@
 -- The rows of events, one after another, and those of whole files.
-use Rattle.std.proofs.Common.{◌≡◌, ◌∙◌, List, [], ◌∷◌, ◌++◌, map, refl, sym, ap, append_assoc}
+use Rattle.fit_csv.proofs.Common.{◌≡◌, ◌∙◌, [], ◌∷◌, ◌++◌, map, refl, sym, ap, append_assoc, flat_map, FitFile, Record, Event, item, file_end, file_events, Row}
+use Rattle.fit_csv.proofs.Common.{first_line, chain_rows, end_row, event_rows, events_rows, file_row, file_rows, record_rows, records_behind, records_rows}
+use Rattle.fit_csv.proofs.Common.{rows_of}
+use Rattle.std.proofs.Common.{List}
 use Rattle.std.proofs.lemmas.List.{append-nil}
-use Rattle.std.specs.Prelude.{flat_map}
-use Rattle.fit_record.specs.declared.file.FitFile.{FitFile}
-use Rattle.fit_record.specs.declared.message.Record.{Record}
-use Rattle.fit_decode.specs.Events.{Event, item, file_end, file_events}
-use Rattle.fit_cells.specs.Rows.{Row, first_line}
-use Rattle.fit_csv.specs.ChainRows.{chain_rows, end_row, event_rows, events_rows, file_row, file_rows, record_rows, records_behind, records_rows, rows_of}
 
 -- ---- the records of a file
 

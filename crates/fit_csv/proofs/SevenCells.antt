@@ -1,7 +1,6 @@
 -- Rows of seven cells.
-use Rattle.std.proofs.Common.{◌≡◌, ◌∙◌, ℕ, suc, List, [], ◌∷◌, length, Some, refl, ap₂, arith}
-use Rattle.csv.specs.Records.{field_at}
-use Rattle.fit_csv.specs.ChainRows.{row}
+use Rattle.fit_csv.proofs.Common.{◌≡◌, ◌∙◌, suc, [], ◌∷◌, length, refl, ap₂, arith, field_at, row}
+use Rattle.std.proofs.Common.{ℕ, List, Some}
 use Rattle.fit_cells.specs.Rows.{Cell}
 
 one-more : (fields : List (List ℕ)) (n : ℕ) (x : List ℕ) (xs : List (List ℕ)) → length fields ≡ suc n → field_at fields 0 ≡ Some x

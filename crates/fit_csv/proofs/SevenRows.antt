@@ -1,21 +1,10 @@
 -- Each row of a chain has seven cells.
-use Rattle.std.proofs.Common.{◌≡◌, arith, List, [], ◌∷◌, ◌++◌, ℕ, length, map, Option, Some, None, refl, subst}
-use Rattle.std.specs.Prelude.{codes, flat_map, option_map, unwrap_or, zip}
-use Rattle.std.specs.List.{AllByRecursion}
-use Rattle.fit_record.specs.declared.definition.MessageDef.{MessageDef}
-use Rattle.fit_record.specs.declared.environment.Defined.{Defined}
-use Rattle.fit_record.specs.declared.file.FitFile.{FitFile}
-use Rattle.fit_record.specs.declared.message.Record.{Record}
-use Rattle.fit_record.specs.declared.message.Record.TheVariants.{Define, Values as Data}
-use Rattle.fit_record.specs.declared.message.Values.{Values}
-use Rattle.fit_record.specs.Environment.{defined_at, dev_defs}
-use Rattle.fit_profile.specs.Described.{Naming, namings_at}
-use Rattle.fit_profile.specs.Looks.{known}
-use Rattle.fit_profile.specs.Times.{header_time, previous_time}
-use Rattle.fit_csv.specs.ChainRows.{chain_rows, data_row, def_row, definition_rows, dev_def_row, dev_row, dev_rows, end_row, field_def_row, field_row}
-use Rattle.fit_csv.specs.ChainRows.{field_rows, file_row, file_rows, message_rows, record_rows, records_rows}
-use Rattle.fit_cells.specs.Rows.{NoneEmpty, Row, RowsOfText, csv_text}
-use Rattle.fit_cells.proofs.RowFacts.{begins-otherwise, reads-back}
+use Rattle.fit_csv.proofs.Common.{◌≡◌, arith, [], ◌∷◌, ◌++◌, length, map, refl, subst, flat_map, zip, AllByRecursion, MessageDef, Defined, FitFile, Record}
+use Rattle.fit_csv.proofs.Common.{Define, Data, Values, defined_at, dev_defs, Naming, namings_at, known, header_time, previous_time, chain_rows, data_row}
+use Rattle.fit_csv.proofs.Common.{def_row, definition_rows, dev_def_row, dev_row, dev_rows, end_row, field_def_row, field_row, field_rows, file_row, file_rows}
+use Rattle.fit_csv.proofs.Common.{message_rows, record_rows, records_rows, NoneEmpty, Row, RowsOfText, csv_text, begins-otherwise, reads-back}
+use Rattle.std.proofs.Common.{List, ℕ, Option, Some, None}
+use Rattle.std.specs.Prelude.{codes, option_map, unwrap_or}
 
 abbrev AllSeven : List Row → Type 0
 AllSeven rows = AllByRecursion (λ r. length r ≡ 7) rows

@@ -1,8 +1,6 @@
 -- Items that have the shapes of a layout, one by one.
-use Rattle.std.proofs.Common.{◌≡◌, ◌<◌, ℕ, zero, suc, List, [], ◌∷◌, length, get_or, refl, ap, arith}
-use Rattle.fit_base.specs.declared.items.Items.{Items}
-use Rattle.fit_base.specs.Fields.{HasShape}
-use Rattle.fit_record.specs.Records.{HaveShape}
+use Rattle.fit_csv.proofs.Common.{◌≡◌, zero, suc, [], ◌∷◌, length, get_or, refl, ap, arith, Items, HasShape, HaveShape}
+use Rattle.std.proofs.Common.{◌<◌, ℕ, List}
 
 -- there is one for each place
 pub as_long : {A : Type 0} (layout : List (ℕ × ℕ)) (items : List (Items A)) → HaveShape layout items → length items ≡ length layout

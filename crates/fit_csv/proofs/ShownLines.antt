@@ -1,23 +1,12 @@
 -- The lines of `show`, part by part.
-use Rattle.std.proofs.Common.{◌≡◌, ℕ, ◌+◌, ◌<◌, ◌≤◌, List, [], ◌∷◌, ◌++◌, length, map, take, get_or, refl, sym, ap, ◌∙◌, subst, arith, append_assoc}
-use Rattle.std.specs.Prelude.{codes, option_map, unwrap_or, Option, None, Some, IsSomeAnd}
-use Rattle.std.proofs.lemmas.List.{append-nil, length-map, length-take, map-append, take_all, take_more}
-use Rattle.fit_record.specs.declared.learn.Description.{Description}
-use Rattle.fit_record.specs.declared.message.Record.{Record}
-use Rattle.fit_record.specs.declared.message.Record.TheVariants.{Define, Values as Data}
-use Rattle.fit_record.specs.Environment.{Environment, defined_at, describe, described_by}
-use Rattle.fit_record.specs.Records.{DataFits, Fits}
-use Rattle.fit_decode.specs.declared.event.Event.{Event as Answer}
-use Rattle.fit_decode.specs.declared.event.Event.TheVariants as answers
-use Rattle.fit_decode.specs.Events.{Event}
-use Rattle.fit_profile.specs.Described.{namings_at}
-use Rattle.fit_profile.specs.Looks.{known}
-use Rattle.fit_profile.specs.Times.{time}
-use Rattle.fit_report.specs.Heard.{hear, latest_records, line_of}
-use Rattle.fit_csv.specs.inner.Reporting.{AnswerFits}
-use Rattle.fit_csv.specs.ChainRows.{files_heard}
-use Rattle.fit_csv.specs.ShowLines.{listed, message_line, record_line, separator, show_line}
-use Rattle.fit_csv.specs.inner.Showing.{line_with, text_with, time_told}
+use Rattle.fit_csv.proofs.Common.{◌≡◌, ◌+◌, ◌≤◌, [], ◌∷◌, ◌++◌, length, map, take, get_or, refl, sym, ap, ◌∙◌, subst, arith, append_assoc, IsSomeAnd}
+use Rattle.fit_csv.proofs.Common.{length-map, length-take, map-append, take_all, take_more, Description, Record, Define, Data, Environment, defined_at}
+use Rattle.fit_csv.proofs.Common.{describe, described_by, DataFits, Fits, Answer, Event, namings_at, known, time, hear, latest_records, line_of, AnswerFits}
+use Rattle.fit_csv.proofs.Common.{files_heard, listed, message_line, record_line, separator, show_line, line_with, text_with, time_told}
+use Rattle.std.proofs.Common.{ℕ, ◌<◌, List}
+use Rattle.std.specs.Prelude.{codes, option_map, unwrap_or, Option, None, Some}
+use Rattle.std.proofs.lemmas.List.{append-nil}
+use Rattle.fit_chain.specs.declared.event.Event.TheVariants as answers
 
 -- ---- fields one after another
 
@@ -66,19 +55,15 @@ fits_upto before (Data v) fits = subst (λ o. IsSomeAnd o (DataFits v)) (sym (sa
 
 pub answer_fits_upto : {A : Type 0} (heard : List (Event A)) (answer : Answer A) → AnswerFits (latest_records heard) answer
     → AnswerFits (latest_records (hear answer heard)) answer
-answer_fits_upto heard answers.More fits = tt
-answer_fits_upto heard (answers.Header h n) fits = tt
 answer_fits_upto heard (answers.Item r) fits = fits_upto (latest_records heard) r fits
-answer_fits_upto heard answers.FileEnd fits = tt
+answer_fits_upto heard answer fits = tt
 
 -- the text of an answer is its line
 pub answer_line : {A : Type 0} (heard : List (Event A)) (answer : Answer A)
     → text_with (files_heard (hear answer heard)) (latest_records (hear answer heard)) (time_told (latest_records heard) answer) answer
     ≡ line_of show_line heard answer
-answer_line heard answers.More = refl
-answer_line heard (answers.Header h n) = refl
 answer_line heard (answers.Item r) = line_of_record (latest_records heard) r
-answer_line heard answers.FileEnd = refl
+answer_line heard answer = refl
 
 -- ---- the parts of a message
 

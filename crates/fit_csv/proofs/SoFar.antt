@@ -1,29 +1,14 @@
 -- One more row stands behind the rows that a chain was read from.
-use Rattle.std.proofs.Common.{◌≡◌, ◌∙◌, ℕ, zero, suc, ◌<◌, ◌≤◌, Bool, true, false, List, [], ◌∷◌, ◌++◌, length, map, Option, Some, None, refl, sym, ap, ap₂}
-use Rattle.std.proofs.Common.{inl, inr, arith, append_assoc, eqb-true}
-use Rattle.std.specs.Prelude.{codes, decimal, ◌⊎◌, ◌==◌, ◌&&◌, reverse, zip, option_map, unwrap_or, slice_get, IsSomeAnd}
-use Rattle.std.specs.Global.{Global}
-use Rattle.std.proofs.lemmas.List.{append-nil, map-append, reverse-append}
-use Rattle.fit_base.specs.declared.items.Items.{Items}
-use Rattle.std.proofs.lemmas.Option.{slice_get_within}
-use Rattle.fit_base.specs.Fields.{HasShape}
-use Rattle.fit_record.specs.declared.definition.DevDef.{DevDef}
-use Rattle.fit_record.specs.declared.definition.FieldDef.{FieldDef}
-use Rattle.fit_record.specs.declared.environment.Defined.{Defined}
-use Rattle.fit_record.specs.declared.message.Record.{Record}
-use Rattle.fit_record.specs.declared.message.Values.{Values}
-use Rattle.fit_record.specs.Environment.{defined_at, dev_defs}
-use Rattle.fit_profile.specs.Described.{Naming, namings_at, nameless}
-use Rattle.fit_profile.specs.Looks.{known}
-use Rattle.fit_profile.specs.Times.{header_time, previous_time}
-use Rattle.fit_csv.specs.ChainRows.{data_row, data_rows, def_row, definition_rows, dev_count, dev_def_row, dev_row, dev_rows, field_def_row, field_row}
-use Rattle.fit_csv.specs.ChainRows.{field_rows, message_rows, optional_number, order_word, record_rows, records_rows, row}
-use Rattle.fit_csv.specs.inner.Misfits.{head_row}
-use Rattle.fit_csv.specs.inner.Progress.{DefinitionStep, DevStep, FieldStep, built_definition, dev_total, is_whole, with_dev_items, with_items}
-use Rattle.fit_csv.specs.RowKinds.{naming_at}
-use Rattle.fit_cells.specs.Rows.{Row}
-use Rattle.fit_csv.specs.inner.SoundChain.{IsSoundDefinition, IsSoundMessage, open_rows}
-use Rattle.fit_csv.specs.declared.from.definition.OpenDefinition.{OpenDefinition}
+use Rattle.fit_csv.proofs.Common.{◌≡◌, ◌∙◌, zero, suc, ◌≤◌, Bool, true, false, [], ◌∷◌, ◌++◌, length, map, refl, sym, ap, ap₂, inl, inr, arith, append_assoc}
+use Rattle.fit_csv.proofs.Common.{eqb-true, ◌&&◌, zip, slice_get, IsSomeAnd, Global, map-append, nil_from_length, reverse-append, length-zip, Items}
+use Rattle.fit_csv.proofs.Common.{slice_get_within, slice_get-get_or, HasShape, DevDef, FieldDef, Defined, Record, Values, defined_at, dev_defs, Naming}
+use Rattle.fit_csv.proofs.Common.{namings_at, nameless, known, header_time, previous_time, data_row, data_rows, def_row, definition_rows, dev_count}
+use Rattle.fit_csv.proofs.Common.{dev_def_row, dev_row, dev_rows, field_def_row, field_row, field_rows, message_rows, optional_number, order_word, record_rows}
+use Rattle.fit_csv.proofs.Common.{records_rows, row, head_row, DefinitionStep, DevStep, FieldStep, built_definition, dev_total, is_whole, with_dev_items}
+use Rattle.fit_csv.proofs.Common.{with_items, naming_at, Row, IsSoundDefinition, IsSoundMessage, open_rows, OpenDefinition}
+use Rattle.std.proofs.Common.{ℕ, ◌<◌, List, Option, Some, None}
+use Rattle.std.specs.Prelude.{codes, decimal, ◌⊎◌, ◌==◌, reverse, option_map, unwrap_or}
+use Rattle.std.proofs.lemmas.List.{append-nil}
 use Rattle.fit_csv.proofs.NamingFacts.{namings_long}
 
 -- ---- lists
@@ -46,10 +31,7 @@ get-zip (a ∷ xs) (b ∷ ys) zero x y e f = let p : a ≡ x = cc e in let q : b
 get-zip (a ∷ xs) (b ∷ ys) (suc k) x y e f = get-zip xs ys k x y e f
 
 pub zip-long : {X Y : Type 0} (xs : List X) (ys : List Y) → length ys ≤ length xs → length (zip xs ys) ≡ length ys
-zip-long [] [] h = refl
-zip-long [] (b ∷ ys) h = absurd (omega (arith, h))
-zip-long (a ∷ xs) [] h = refl
-zip-long (a ∷ xs) (b ∷ ys) h = let more = zip-long xs ys (omega (arith, h)) in omega (arith, more)
+zip-long xs ys h = omega (arith, length-zip xs ys)
 
 pub reverse-first : {X : Type 0} (x : X) (xs : List X) → reverse (x ∷ xs) ≡ reverse xs ++ x ∷ []
 reverse-first x xs = reverse-append (x ∷ []) xs
@@ -66,13 +48,6 @@ rows-of-more before (x ∷ records) r =
     ∙ ap (λ b. (record_rows before x ++ records_rows (x ∷ before) records) ++ record_rows b r) place
 
 -- ---- definitions
-
-no-more : (n : ℕ) (xs : List DevDef) → length xs ≡ 0 → xs ≡ []
-no-more n [] e = refl
-no-more n (x ∷ xs) e = absurd (omega (arith, e))
-
-last-apart : (a : Row) (xs ys : List Row) (r : Row) → (a ∷ (xs ++ r ∷ [])) ++ ys ≡ ((a ∷ xs) ++ (r ∷ [])) ++ ys
-last-apart a xs ys r = refl
 
 pub definition-more : (o : OpenDefinition) (r : Row) (q : OpenDefinition) → IsSoundDefinition o → DefinitionStep o r q → open_rows q ≡ open_rows o ++ r ∷ []
 definition-more o r q sound (inl (room, (f, range, e, is))) =
@@ -95,13 +70,9 @@ both-true true true e = (refl, refl)
 both-true true false e = cc e
 both-true false b e = cc e
 
-no-dev-fields : (xs : List DevDef) → length xs ≡ 0 → xs ≡ []
-no-dev-fields [] e = refl
-no-dev-fields (x ∷ xs) e = absurd (omega (arith, e))
-
 dev-whole : (m : Option ℕ) (dev : List DevDef) → length dev ≡ unwrap_or m 0
     → (optional_number m ≡ dev_count (option_map (λ _. dev) m)) × (dev ≡ dev_defs (option_map (λ _. dev) m))
-dev-whole None dev e = (refl, no-dev-fields dev e)
+dev-whole None dev e = (refl, nil_from_length dev e)
 dev-whole (Some n) dev e = (ap decimal (sym e), refl)
 
 -- a whole definition has come from its rows
@@ -134,9 +105,7 @@ field-rows-more global fields items f i e =
     ap (map (λ x. field_row global x.0 x.1)) (zip-last fields items f i e) ∙ map-append (λ x. field_row global x.0 x.1) (zip fields items) ((f, i) ∷ [])
 
 named : (namings : List Naming) (k : ℕ) → k < length namings → slice_get namings k ≡ Some (unwrap_or (slice_get namings k) nameless)
-named [] k h = absurd (omega (arith, h))
-named (n ∷ namings) zero h = refl
-named (n ∷ namings) (suc k) h = named namings k (omega (arith, h))
+named namings k h = rw (slice_get-get_or namings k nameless h) refl
 
 dev-rows-more : (fields : List DevDef) (dev_codes : List ℕ) (namings : List Naming) (items : List (Items Global)) (f : DevDef) (code : ℕ) (i : Items Global)
     → length items < length namings

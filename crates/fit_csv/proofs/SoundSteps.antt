@@ -1,36 +1,16 @@
 -- One more row keeps what holds of what has been read.
-use Rattle.std.proofs.Common.{◌≡◌, ◌∙◌, ℕ, suc, ◌<◌, ◌≤◌, ◌^◌, Bool, true, false, List, [], ◌∷◌, ◌++◌, length, map, Option, Some, None, refl, sym, ap, subst}
-use Rattle.std.proofs.Common.{inl, inr, arith, eqb-true, eq-eqb}
-use Rattle.std.specs.Prelude.{◌==◌, ◌&&◌, ◌⊎◌, zip, option_map, unwrap_or, slice_get, IfSome, IsSome, IsSomeAnd}
-use Rattle.std.specs.Option.{option_map_or}
-use Rattle.std.specs.Global.{Global}
-use Rattle.std.specs.List.{AllByRecursion}
-use Rattle.std.proofs.lemmas.Bool.{cases_Bool}
-use Rattle.std.proofs.lemmas.List.{length-map, reverse-append}
-use Rattle.std.proofs.lemmas.Option.{slice_get_within, slice_get-map}
-use Rattle.fit_base.specs.declared.items.Items.{Items}
-use Rattle.fit_base.specs.Fields.{HasShape}
-use Rattle.fit_record.specs.declared.definition.DevDef.{DevDef}
-use Rattle.fit_record.specs.declared.environment.Defined.{Defined}
-use Rattle.fit_record.specs.declared.message.Record.{Record}
-use Rattle.fit_record.specs.declared.message.Record.TheVariants.{Define, Values as Data}
-use Rattle.fit_record.specs.declared.message.Values.{Values}
-use Rattle.fit_record.specs.Environment.{defined_at, dev_defs, empty_environment}
-use Rattle.fit_record.specs.Records.{DataFits, DefinitionFits, Fits, HaveShape, dev_layout, layout}
-use Rattle.fit_profile.specs.Looks.{known}
-use Rattle.fit_csv.specs.ChainRows.{dev_row, field_row}
-use Rattle.fit_csv.specs.Judged.{DefinitionInRange, DevDefInRange, FieldDefInRange, RecordInRange}
-use Rattle.fit_csv.specs.inner.Misfits.{HeadInRange, IsMessageStart}
-use Rattle.fit_csv.specs.inner.Progress.{DefinitionStep, DevStep, FieldStep, FileStep, FitsOnceWhole, PartHasRoom, PartStep, built_definition, dev_total}
-use Rattle.fit_csv.specs.inner.Progress.{has_all, is_whole, is_whole_message, opened, settled, with_dev_items, with_items, with_record}
-use Rattle.fit_csv.specs.RowKinds.{naming_at}
-use Rattle.fit_cells.specs.Rows.{Row}
-use Rattle.fit_csv.specs.inner.SoundChain.{HaveShapeSoFar, IsSoundDefinition, IsSoundFile, IsSoundMessage, IsSoundPart, IsSoundSoFar}
-use Rattle.fit_csv.specs.declared.from.definition.DefinitionHead.{DefinitionHead}
-use Rattle.fit_csv.specs.declared.from.definition.OpenDefinition.{OpenDefinition}
-use Rattle.fit_csv.specs.declared.from.open_file.OpenFile.{OpenFile}
-use Rattle.fit_csv.specs.declared.from.open_file.Part.{Part}
-use Rattle.fit_csv.specs.declared.from.open_file.Part.TheVariants.{Nothing, Definition, Message}
+use Rattle.fit_csv.proofs.Common.{◌≡◌, ◌∙◌, suc, ◌+◌, ◌≤◌, ◌^◌, true, false, [], ◌∷◌, ◌++◌, length, map, refl, sym, ap, subst, inl, inr, arith, eqb-true, ◌&&◌}
+use Rattle.fit_csv.proofs.Common.{slice_get, IsSome, IsSomeAnd, option_map_or, Global, AllByRecursion, cases_Bool, eqb-false, length-map, reverse-append}
+use Rattle.fit_csv.proofs.Common.{length-zip, slice_get_within, slice_get-map, Items, HasShape, DevDef, Defined, Record, Define, Data, Values, defined_at}
+use Rattle.fit_csv.proofs.Common.{dev_defs, empty_environment, DataFits, DefinitionFits, Fits, HaveShape, dev_layout, layout, known, dev_row, field_row}
+use Rattle.fit_csv.proofs.Common.{DefinitionInRange, DevDefInRange, FieldDefInRange, RecordInRange, HeadInRange, IsMessageStart, DefinitionStep, DevStep}
+use Rattle.fit_csv.proofs.Common.{FieldStep, FileStep, FitsOnceWhole, PartHasRoom, PartStep, built_definition, dev_total, has_all, is_whole, is_whole_message}
+use Rattle.fit_csv.proofs.Common.{opened, settled, with_dev_items, with_items, with_record, naming_at, Row, HaveShapeSoFar, IsSoundDefinition, IsSoundFile}
+use Rattle.fit_csv.proofs.Common.{IsSoundMessage, IsSoundPart, IsSoundSoFar, DefinitionHead, OpenDefinition, OpenFile, Part, Nothing, Definition}
+use Rattle.std.proofs.Common.{ℕ, ◌<◌, List, Option, Some, None}
+use Rattle.std.specs.Prelude.{◌==◌, ◌⊎◌, option_map, unwrap_or, IfSome}
+use Rattle.std.proofs.lemmas.List.{length-append}
+use Rattle.fit_csv.specs.declared.from.open_file.Part.TheVariants.{Message}
 use Rattle.fit_csv.proofs.KnownDefinitions.{codes-long, fit-last, known-all}
 use Rattle.fit_csv.proofs.SoFar.{both-true, get-zip, some-at}
 
@@ -41,21 +21,20 @@ all-last P [] x h p = (p, tt)
 all-last P (y ∷ xs) x h p = (h.0, all-last P xs x h.1 p)
 
 pub length-last : {X : Type 0} (xs : List X) (x : X) → length (xs ++ x ∷ []) ≡ suc (length xs)
-length-last [] x = refl
-length-last (y ∷ xs) x = let more = length-last xs x in omega (arith, more)
+length-last xs x = omega (arith, length-append xs (x ∷ []))
 
 -- ---- definitions
 
-pub both-false : (a b : Bool) → (a && b) ≡ false → a ≡ true → b ≡ false
-both-false true b e h = e
-both-false false b e h = cc h
+-- of two lists, one that isn't full leaves room
+pub some-left : (a b c d : ℕ) → (a == c && b == d) ≡ false → a ≤ c → b ≤ d → a + b < c + d
+some-left a b c d e few few_more = elim (cases_Bool (a == c)) [
+  | inl same ↦ (let differ = eqb-false b d (rw same at e) in omega (arith, differ))
+  | inr other ↦ (let differ = eqb-false a c other in omega (arith, differ))
+]
 
 -- developer fields are to come
 pub dev-left : (o : OpenDefinition) → IsSoundDefinition o → is_whole o ≡ false → length o.fields ≡ o.head.fields → length o.dev < dev_total o.head
-dev-left o sound going all =
-    let other = both-false (length o.fields == o.head.fields) (length o.dev == dev_total o.head) going (eq-eqb (length o.fields) o.head.fields all) in
-    let differ : length o.dev ≡ dev_total o.head → ⊥ = λ e. cc (sym other ∙ eq-eqb (length o.dev) (dev_total o.head) e) in
-    omega (arith, differ, sound.few_dev_fields)
+dev-left o sound going all = omega (arith, all, some-left _ _ _ _ going sound.few sound.few_dev_fields)
 
 pub definition-sound : (o : OpenDefinition) (r : Row) (q : OpenDefinition) → IsSoundDefinition o → is_whole o ≡ false → DefinitionStep o r q
     → IsSoundDefinition q
@@ -124,20 +103,14 @@ shapes-few fields [] so_far = omega arith
 shapes-few [] (i ∷ items) so_far = absurd so_far
 shapes-few (f ∷ fields) (i ∷ items) so_far = let more = shapes-few fields items so_far.1 in omega (arith, more)
 
-zip-as-long : {X Y : Type 0} (xs : List X) (ys : List Y) → length xs ≡ length ys → length (zip xs ys) ≡ length ys
-zip-as-long [] [] e = refl
-zip-as-long [] (y ∷ ys) e = e
-zip-as-long (x ∷ xs) [] e = refl
-zip-as-long (x ∷ xs) (y ∷ ys) e = let more = zip-as-long xs ys (omega (arith, e)) in omega (arith, more)
-
 pub layout-long : (p : Defined Global) → length (layout p) ≡ length p.definition.fields
 layout-long p = length-map p.definition.fields (λ f. (f.code, f.size))
 
 pub dev-layout-long : (p : Defined Global) → length p.dev_codes ≡ length (dev_defs p.definition.dev)
     → length (dev_layout p) ≡ length (dev_defs p.definition.dev)
 dev-layout-long p coded =
-    zip-as-long p.dev_codes (map (λ f. f.size) (dev_defs p.definition.dev)) (coded ∙ sym (length-map (dev_defs p.definition.dev) (λ f. f.size)))
-    ∙ length-map (dev_defs p.definition.dev) (λ f. f.size)
+    let sizes = map (λ f. f.size) (dev_defs p.definition.dev) in
+    omega (arith, coded, length-zip p.dev_codes sizes, length-map (dev_defs p.definition.dev) (λ f. f.size))
 
 pub message-sound : (before : List (Record Global)) (p : Defined Global) (v : Values Global) (r : Row) (w : Values Global) → IsSoundMessage v p
     → FieldStep p v r w ⊎ DevStep before p v r w

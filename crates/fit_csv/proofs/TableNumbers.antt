@@ -1,12 +1,8 @@
 -- The cells of numbers in a row of the table.
-use Rattle.std.proofs.Common.{◌≡◌, ◌∙◌, ◌++◌, ◌∷◌, [], ℕ, List, Option, Some, None, decimal, false, refl, sym, ap, append_assoc, arith}
-use Rattle.csv.specs.Writing.{default_writer, field_text, fields_text, needs_quotes}
-use Rattle.fit_profile.specs.declared.decimal.Fixed.{Fixed}
-use Rattle.fit_profile.specs.FixedText.{fixed_text}
-use Rattle.fit_cells.specs.Rows.{Cell, Row, csv_text}
-use Rattle.fit_cells.proofs.AddedRows.{fields_append, fields_one, whole_row}
-use Rattle.fit_cells.proofs.PlainFacts.{high-decimal, high-fixed, unquoted}
-use Rattle.fit_csv.specs.inner.TableCells.{number_cell as cell_of}
+use Rattle.fit_csv.proofs.Common.{◌≡◌, ◌∙◌, ◌++◌, ◌∷◌, [], false, refl, sym, ap, append_assoc, arith, default_writer, field_text, fields_text, needs_quotes}
+use Rattle.fit_csv.proofs.Common.{Fixed, fixed_text, Row, csv_text, fields_append, fields_one, whole_row, high-decimal, high-fixed, unquoted, cell_of}
+use Rattle.std.proofs.Common.{ℕ, List, Option, Some, None, decimal}
+use Rattle.fit_cells.specs.Rows.{Cell}
 
 -- a cell that needs no quotes
 pub plain_cell : (text cell : List ℕ) → needs_quotes default_writer cell ≡ false → (text ++ (44 ∷ [])) ++ cell ≡ text ++ fields_text default_writer (cell ∷ [])

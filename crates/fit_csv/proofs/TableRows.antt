@@ -1,20 +1,11 @@
 -- The table of a chain: it is that of its events, and its text reads as its rows.
-use Rattle.std.proofs.Common.{◌≡◌, ◌≢◌, ◌∙◌, ◌==◌, ◌+◌, if◌then◌else◌, Bool, true, false, ℕ, List, [], ◌∷◌, ◌++◌, map, Option, Some, None, refl, sym, ap, arith}
-use Rattle.std.proofs.Common.{append_assoc}
-use Rattle.std.specs.Prelude.{codes, flat_map, option_map, unwrap_or}
-use Rattle.std.specs.List.{AllByRecursion}
-use Rattle.fit_record.specs.declared.environment.Defined.{Defined}
-use Rattle.fit_record.specs.declared.file.FitFile.{FitFile}
-use Rattle.fit_record.specs.declared.message.Record.{Record}
-use Rattle.fit_record.specs.declared.message.Record.TheVariants.{Define, Values as Data}
-use Rattle.fit_record.specs.declared.message.Values.{Values}
-use Rattle.fit_record.specs.Environment.{defined_at}
-use Rattle.fit_decode.specs.Events.{Event, item, file_end, file_events}
-use Rattle.fit_profile.specs.Looks.{known}
+use Rattle.fit_csv.proofs.Common.{◌≡◌, ◌≢◌, ◌∙◌, ◌+◌, Bool, true, false, [], ◌∷◌, ◌++◌, map, refl, sym, ap, arith, append_assoc, flat_map, AllByRecursion}
+use Rattle.fit_csv.proofs.Common.{Defined, FitFile, Record, Define, Data, Values, defined_at, Event, item, file_end, file_events, known, NoneEmpty, Row}
+use Rattle.fit_csv.proofs.Common.{RowsOfText, csv_text, begins-otherwise, reads-back, table_events_rows, table_files_rows, table_line, table_of}
+use Rattle.fit_csv.proofs.Common.{table_record_rows, table_records_rows, table_row, table_rows}
+use Rattle.std.proofs.Common.{◌==◌, if◌then◌else◌, ℕ, List, Option, Some, None}
+use Rattle.std.specs.Prelude.{codes, option_map, unwrap_or}
 use Rattle.fit_profile.specs.Told.{told}
-use Rattle.fit_cells.specs.Rows.{NoneEmpty, Row, RowsOfText, csv_text}
-use Rattle.fit_cells.proofs.RowFacts.{begins-otherwise, reads-back}
-use Rattle.fit_csv.specs.Table.{table_events_rows, table_files_rows, table_line, table_of, table_record_rows, table_records_rows, table_row, table_rows}
 
 -- ---- the rows of events
 

@@ -1,19 +1,10 @@
 -- A text whose rows are those of a chain as far as it has been read.
-use Rattle.std.proofs.Common.{◌≡◌, ◌∙◌, ℕ, ◌<◌, List, [], ◌∷◌, ◌++◌, length, Some, None, sym, ap, subst, append_assoc}
-use Rattle.std.specs.Prelude.{flat_map}
-use Rattle.std.specs.Global.{Global}
+use Rattle.fit_csv.proofs.Common.{◌≡◌, ◌∙◌, [], ◌∷◌, ◌++◌, length, sym, ap, subst, append_assoc, flat_map, Global, Record, Row, RowsOfText, csv_text}
+use Rattle.fit_csv.proofs.Common.{first_line, text_append, chain_rows, file_row, file_rows, record_rows, records_rows, AreFilesOf, ChainStep, with_record}
+use Rattle.fit_csv.proofs.Common.{BeginsWithMore, IsSoundChain, IsSoundCurrent, IsSoundFile, current_rows, open_file_rows, part_rows, rows_so_far, Chain}
+use Rattle.fit_csv.proofs.Common.{OpenFile, Part, Nothing}
+use Rattle.std.proofs.Common.{ℕ, ◌<◌, List, Some, None}
 use Rattle.std.proofs.lemmas.List.{append-nil}
-use Rattle.fit_record.specs.declared.message.Record.{Record}
-use Rattle.fit_cells.specs.Rows.{Row, RowsOfText, csv_text, first_line}
-use Rattle.fit_cells.proofs.AddedRows.{text_append}
-use Rattle.fit_csv.specs.ChainRows.{chain_rows, file_row, file_rows, record_rows, records_rows}
-use Rattle.fit_csv.specs.Judged.{AreFilesOf}
-use Rattle.fit_csv.specs.inner.Progress.{ChainStep, with_record}
-use Rattle.fit_csv.specs.inner.SoundChain.{BeginsWithMore, IsSoundChain, IsSoundCurrent, IsSoundFile, current_rows, open_file_rows, part_rows, rows_so_far}
-use Rattle.fit_csv.specs.declared.from.chain.Chain.{Chain}
-use Rattle.fit_csv.specs.declared.from.open_file.OpenFile.{OpenFile}
-use Rattle.fit_csv.specs.declared.from.open_file.Part.{Part}
-use Rattle.fit_csv.specs.declared.from.open_file.Part.TheVariants.{Nothing}
 use Rattle.fit_csv.proofs.MoreRows.{chain-more, record-added}
 use Rattle.fit_csv.proofs.SevenRows.{chain-reads-back}
 

@@ -1,40 +1,25 @@
 -- The rows of what a decoder answers, told one after another.
-use Rattle.std.proofs.Common.{◌≡◌, ◌∙◌, List, [], ◌∷◌, ◌++◌, codes, reverse, refl, sym, ap, subst}
-use Rattle.std.proofs.lemmas.List.{reverse-append, reverse-reverse}
-use Rattle.csv.specs.Writing.{escaped, fields_text, is_blank}
-use Rattle.fit_record.specs.Records.{Fits}
-use Rattle.fit_decode.specs.declared.event.Event.{Event as Answer}
-use Rattle.fit_decode.specs.declared.event.Event.TheVariants as answers
-use Rattle.fit_decode.specs.Events.{Event, header, item, file_end}
-use Rattle.fit_profile.specs.Laws.{LookingBackIsLearning}
-use Rattle.fit_profile.specs.Looks.{known}
-use Rattle.fit_report.specs.Heard.{AreHeard, hear, latest_records, line_of, text_of}
-use Rattle.fit_report.specs.Laws.{HeardRecordsFit}
-use Rattle.std.specs.Global.{Global}
-use Rattle.fit_cells.specs.Rows.{csv_text}
-use Rattle.fit_csv.specs.ChainRows.{event_rows, events_rows, records_behind, rows_of}
-use Rattle.fit_csv.specs.Conversions.{csv_line}
-use Rattle.fit_csv.specs.inner.Reporting.{AnswerFits, HasText, answer_rows}
-use Rattle.fit_cells.proofs.AddedRows.{text_append}
+use Rattle.fit_csv.proofs.Common.{◌≡◌, ◌∙◌, [], ◌∷◌, ◌++◌, refl, sym, ap, subst, reverse-append, reverse-reverse, escaped, fields_text, is_blank, Fits, Answer}
+use Rattle.fit_csv.proofs.Common.{Event, header, item, file_end, LookingBackIsLearning, known, AreHeard, hear, latest_records, line_of, text_of}
+use Rattle.fit_csv.proofs.Common.{HeardRecordsFit, Global, csv_text, event_rows, events_rows, records_behind, rows_of, csv_line, AnswerFits, HasText}
+use Rattle.fit_csv.proofs.Common.{answer_rows, text_append}
+use Rattle.std.proofs.Common.{List, codes, reverse}
+use Rattle.fit_chain.specs.declared.event.Event.TheVariants as answers
 use Rattle.fit_csv.proofs.RowsOfEvents.{records-more, records_after, rows-more}
 
 -- a record that is heard fits behind the latest records
 pub answer_fits : {A : Type 0} → HeardRecordsFit A → LookingBackIsLearning A → (heard : List (Event A)) (answer : Answer A) → AreHeard (hear answer heard)
     → AnswerFits (latest_records heard) answer
-answer_fits fit back heard answers.More are = tt
-answer_fits fit back heard (answers.Header h n) are = tt
 answer_fits fit back heard (answers.Item r) are =
     let before = latest_records heard in
     subst (λ e. Fits e r) (sym (back (reverse before)) ∙ ap known (reverse-reverse before)) (fit heard r are)
-answer_fits fit back heard answers.FileEnd are = tt
+answer_fits fit back heard answer are = tt
 
 -- the text of the rows of an answer is its line
 pub answer_text : (heard : List (Event Global)) (answer : Answer Global) → csv_text (answer_rows (latest_records heard) answer) ≡ line_of csv_line heard answer
 unfolding csv_text
 answer_text heard answers.More = refl
-answer_text heard (answers.Header h n) = refl
-answer_text heard (answers.Item r) = refl
-answer_text heard answers.FileEnd = refl
+answer_text heard answer = refl
 
 -- the latest records are those behind the events in their order
 pub latest : {A : Type 0} (heard : List (Event A)) → records_after [] (reverse heard) ≡ latest_records heard
@@ -44,8 +29,7 @@ latest (x ∷ heard) =
   where
     behind : (x : Event _) → records_behind (latest_records heard) x ≡ latest_records (x ∷ heard)
     behind (header h n) = refl
-    behind (item r) = refl
-    behind file_end = refl
+    behind event = refl
 
 -- the text of events is that of their rows
 pub events_text : (heard : List (Event Global)) → csv_text (events_rows [] (reverse heard)) ≡ text_of csv_line heard

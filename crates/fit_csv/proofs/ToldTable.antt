@@ -1,21 +1,11 @@
 -- The rows of the table, told one after another.
-use Rattle.std.proofs.Common.{◌≡◌, ◌∙◌, ℕ, ◌<◌, ◌≤◌, ◌^◌, List, [], ◌∷◌, ◌++◌, codes, length, reverse, refl, sym, ap, ap₂, arith, append_assoc}
-use Rattle.std.specs.Global.{Global}
-use Rattle.std.proofs.lemmas.List.{append-nil, reverse-append}
-use Rattle.csv.specs.Writing.{escaped, fields_text, is_blank}
-use Rattle.fit_record.specs.declared.message.Record.{Record}
-use Rattle.fit_decode.specs.declared.event.Event.{Event as Answer}
-use Rattle.fit_decode.specs.declared.event.Event.TheVariants as answers
-use Rattle.fit_decode.specs.Events.{Event, header, item, file_end}
-use Rattle.fit_report.specs.Heard.{AreHeard, hear, latest_records, line_of, text_of}
-use Rattle.fit_report.specs.Laws.{HeardAreFew}
-use Rattle.fit_cells.specs.Rows.{csv_text}
-use Rattle.fit_csv.specs.ChainRows.{files_behind, files_heard, records_behind}
-use Rattle.fit_csv.specs.Conversions.{table_text}
-use Rattle.fit_csv.specs.inner.Reporting.{HasText}
-use Rattle.fit_csv.specs.Table.{table_event_rows, table_events_rows, table_of}
-use Rattle.fit_csv.specs.inner.TableCells.{table_answer_rows}
-use Rattle.fit_cells.proofs.AddedRows.{text_append}
+use Rattle.fit_csv.proofs.Common.{◌≡◌, ◌∙◌, ◌≤◌, ◌^◌, [], ◌∷◌, ◌++◌, length, refl, sym, ap, ap₂, arith, append_assoc, Global, reverse-append, escaped}
+use Rattle.fit_csv.proofs.Common.{fields_text, is_blank, Record, Answer, Event, header, item, file_end, AreHeard, hear, latest_records, line_of, text_of}
+use Rattle.fit_csv.proofs.Common.{HeardAreFew, csv_text, files_behind, files_heard, records_behind, table_text, HasText, table_event_rows, table_events_rows}
+use Rattle.fit_csv.proofs.Common.{table_of, table_answer_rows, text_append}
+use Rattle.std.proofs.Common.{ℕ, ◌<◌, List, codes, reverse}
+use Rattle.std.proofs.lemmas.List.{append-nil}
+use Rattle.fit_chain.specs.declared.event.Event.TheVariants as answers
 use Rattle.fit_csv.proofs.RowsOfEvents.{records_after}
 use Rattle.fit_csv.proofs.ToldRows.{latest}
 
@@ -67,22 +57,17 @@ pub table_answer_text : (heard : List (Event Global)) (answer : Answer Global)
     → csv_text (table_answer_rows (files_heard heard) (latest_records heard) answer) ≡ line_of table_text heard answer
 unfolding csv_text
 table_answer_text heard answers.More = refl
-table_answer_text heard (answers.Header h n) = refl
-table_answer_text heard (answers.Item r) = refl
-table_answer_text heard answers.FileEnd = refl
+table_answer_text heard answer = refl
 
 -- there are no more files than events
 files_within : {A : Type 0} (heard : List (Event A)) → files_heard heard ≤ length heard
 files_within [] = omega arith
 files_within (header h n ∷ heard) = omega (arith, files_within heard)
-files_within (item r ∷ heard) = omega (arith, files_within heard)
-files_within (file_end ∷ heard) = omega (arith, files_within heard)
+files_within (event ∷ heard) = omega (arith, files_within heard)
 
 longer : {A : Type 0} (answer : Answer A) (heard : List (Event A)) → length heard ≤ length (hear answer heard)
 longer answers.More heard = omega arith
-longer (answers.Header h n) heard = omega arith
-longer (answers.Item r) heard = omega arith
-longer answers.FileEnd heard = omega arith
+longer answer heard = omega arith
 
 pub few_files : {A : Type 0} → HeardAreFew A → (heard : List (Event A)) (answer : Answer A) → AreHeard (hear answer heard) → files_heard heard < 2 ^ 60
 few_files few heard answer are = omega (arith, few (hear answer heard) are, longer answer heard, files_within heard)

@@ -1,26 +1,15 @@
 -- Why files that rows gave aren't written.
-use Rattle.std.proofs.Common.{◌≡◌, ℕ, ◌≤◌, ◌^◌, false, List, [], ◌∷◌, ◌++◌, length, Err, Some, refl, subst}
-use Rattle.std.specs.Global.{Global}
-use Rattle.std.specs.List.{AllByRecursion}
-use Rattle.std.specs.Io.KnownBytes.{Appends}
-use Rattle.fit_record.specs.declared.file.FitFile.{FitFile}
+use Rattle.fit_csv.proofs.Common.{◌≡◌, ◌≤◌, ◌^◌, false, [], ◌∷◌, ◌++◌, length, Err, refl, subst, Global, AllByRecursion, Appends, FitFile, Record, Environment}
+use Rattle.fit_csv.proofs.Common.{empty_environment, learn, learn_all, IsWellFormedChain, chain_bytes, chain_limit, AllFit, Fits, EncodeFault, AtFile, AtRecord}
+use Rattle.fit_csv.proofs.Common.{IfWrite, IsFirstFault, StopsAt, UnlessWrite, Channel, CsvFault, Answers, FromText, IsReadOut, IsTextOf, ReadsText}
+use Rattle.fit_csv.proofs.Common.{written_fault, AreFilesOf, IsFileOfRows, IsReadFault, IsTextFault}
+use Rattle.std.proofs.Common.{ℕ, List, Some}
 use Rattle.fit_record.specs.declared.fits.ShapeFault.{ShapeFault}
-use Rattle.fit_record.specs.declared.message.Record.{Record}
-use Rattle.fit_record.specs.Environment.{Environment, empty_environment, learn, learn_all}
 use Rattle.fit_record.specs.Faults.{first_fault}
-use Rattle.fit_record.specs.Files.{IsWellFormedChain, chain_bytes, chain_limit}
 use Rattle.fit_record.specs.Laws.{FaultsAreExact}
-use Rattle.fit_record.specs.Records.{AllFit, Fits}
-use Rattle.fit_encode.specs.declared.fault.EncodeFault.{EncodeFault}
 use Rattle.fit_encode.specs.declared.fault.EncodeFault.TheVariants.{BadHeader, BadLocal, BadOffset, ChainLength, DeclaredLength, NoMemory, TooLong}
 use Rattle.fit_encode.specs.declared.fault.EncodeFault.TheVariants.{UndefinedLocal, WrongShape, Write, ZeroIsSum}
-use Rattle.fit_encode.specs.Faults.{AtFile, AtRecord, IfRefused, IfWrite, IsFirstFault, StopsAt}
-use Rattle.fit_report.specs.Reports.{Channel}
-use Rattle.fit_csv.specs.declared.fault.CsvFault.{CsvFault}
 use Rattle.fit_csv.specs.declared.fault.CsvFault.TheVariants as faults
-use Rattle.fit_csv.specs.FromText.{Answers, FromText, IsReadOut, IsTextOf, ReadsText, written_fault}
-use Rattle.fit_csv.specs.Judged.{AreFilesOf, IsFileOfRows}
-use Rattle.fit_csv.specs.inner.TextFaults.{IsReadFault, IsTextFault}
 use Rattle.fit_csv.proofs.InRange.{chain-bytes}
 
 fits-between : {A : Type 0} (e : Environment A) (front : List (Record A)) (r : Record A) (back : List (Record A)) → AllFit e (front ++ r ∷ back)
@@ -54,7 +43,7 @@ module _ (exact : FaultsAreExact Global) (text : List ℕ) (files : List (FitFil
       → IsReadOut source × FromText text sink
   from-text good put works = (out, (files, chain_bytes files, text-of good, put, works))
 
-  pub from-fault : (fault : EncodeFault) → IfRefused fault (IsFirstFault files fault) → IfWrite fault (λ written. IsWellFormedChain chain_limit files)
+  pub from-fault : (fault : EncodeFault) → UnlessWrite fault (IsFirstFault files fault) → IfWrite fault (λ written. IsWellFormedChain chain_limit files)
       → IfWrite fault (StopsAt sink.before sink.after sink.failed (chain_bytes files)) → Answers text source sink (Err (written_fault fault))
   from-fault NoMemory wrong good stops = tt
   from-fault (Write written) wrong good stops = (out, (files, chain_bytes files, text-of good, stops))
@@ -62,22 +51,14 @@ module _ (exact : FaultsAreExact Global) (text : List ℕ) (files : List (FitFil
   from-fault (ZeroIsSum file) wrong good stops = (out, (short, (files, are, wrong)))
   from-fault ChainLength wrong good stops = absurd (wrong (are.2, are.1.0))
   from-fault (BadHeader file) wrong good stops = absurd (wrong.1.holds.1 (at-fault files _ are.1.1 wrong.1).header.form)
-  from-fault (BadLocal file index) wrong good stops = absurd (no-shape exact wrong.1.this index _ (at-fault files _ are.1.1 wrong.1) wrong.1.holds.1.1)
-  from-fault (BadOffset file index) wrong good stops = absurd (no-shape exact wrong.1.this index _ (at-fault files _ are.1.1 wrong.1) wrong.1.holds.1.1)
-  from-fault (UndefinedLocal file index) wrong good stops = absurd (no-shape exact wrong.1.this index _ (at-fault files _ are.1.1 wrong.1) wrong.1.holds.1.1)
-  from-fault (WrongShape file index field) wrong good stops = absurd (no-shape exact wrong.1.this index _ (at-fault files _ are.1.1 wrong.1) wrong.1.holds.1.1)
   from-fault DeclaredLength wrong good stops = absurd (wrong.1.holds.1)
+  from-fault fault wrong good stops = absurd (no-shape exact wrong.1.this _ _ (at-fault files _ are.1.1 wrong.1) wrong.1.holds.1.1)
 
 -- the source gave no whole text
 pub from-unread : (source sink : Channel) (fault : CsvFault) → IsReadFault source.before source.after source.failed fault → ReadsText source sink (Err fault)
 from-unread source sink faults.Read h = h
 from-unread source sink faults.NoMemory h = h
-from-unread source sink faults.Header h = absurd h.2
-from-unread source sink (faults.BadRow row) h = absurd h.2
-from-unread source sink (faults.BadCell row column) h = absurd h.2
-from-unread source sink (faults.Decode fault) h = absurd h.2
-from-unread source sink (faults.Encode fault) h = absurd h.2
-from-unread source sink (faults.Write written) h = absurd h.2
+from-unread source sink fault h = absurd h.2
 
 -- its rows aren't those of files
 pub from-judged : (text : List ℕ) (source sink : Channel) (fault : CsvFault) → length text ≤ 2 ^ 62 → IsReadOut source → IsTextFault text fault
@@ -86,7 +67,4 @@ from-judged text source sink faults.Header short out h = (out, (short, h))
 from-judged text source sink (faults.BadRow row) short out h = (out, (short, h))
 from-judged text source sink (faults.BadCell row column) short out h = (out, (short, h))
 from-judged text source sink faults.NoMemory short out h = tt
-from-judged text source sink faults.Read short out h = absurd h
-from-judged text source sink (faults.Decode fault) short out h = absurd h
-from-judged text source sink (faults.Encode fault) short out h = absurd h
-from-judged text source sink (faults.Write written) short out h = absurd h
+from-judged text source sink fault short out h = absurd h

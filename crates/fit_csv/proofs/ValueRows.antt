@@ -1,15 +1,8 @@
 -- Rows of the fields of a data message.
-use Rattle.std.proofs.Common.{◌≡◌, ◌∙◌, ℕ, [], ◌∷◌, take, Option, refl, sym, ap, subst, inl, arith}
-use Rattle.std.specs.Global.{Global}
-use Rattle.fit_base.specs.Fields.{HasShape}
-use Rattle.fit_base.specs.declared.items.Items.{Items}
-use Rattle.fit_profile.specs.Profile.{Meaning}
-use Rattle.fit_cells.specs.Cells.{cell}
-use Rattle.fit_csv.specs.ChainRows.{row}
-use Rattle.fit_csv.specs.Judged.{IsBadCell}
-use Rattle.fit_csv.specs.inner.Misfits.{IsValueRow}
-use Rattle.fit_cells.specs.Rows.{Cell, Row}
-use Rattle.fit_csv.specs.inner.Seven.{AsFar}
+use Rattle.fit_csv.proofs.Common.{◌≡◌, ◌∙◌, [], ◌∷◌, take, refl, sym, ap, subst, inl, arith, Global, HasShape, Items, Meaning, cell, row, IsBadCell, IsValueRow}
+use Rattle.fit_csv.proofs.Common.{Row, AsFar}
+use Rattle.std.proofs.Common.{ℕ, Option}
+use Rattle.fit_cells.specs.Rows.{Cell}
 use Rattle.fit_csv.proofs.ZeroItems.{zero-items}
 
 -- a cell that shows no items, behind the label

@@ -1,21 +1,8 @@
 -- One more row of a data message.
-use Rattle.std.proofs.Common.{◌≡◌, ℕ, List, Option, Some, length, refl, sym, subst}
-use Rattle.std.specs.Prelude.{IsSomeAnd, slice_get}
-use Rattle.std.specs.Global.{Global}
-use Rattle.fit_base.specs.declared.items.Items.{Items}
-use Rattle.fit_base.specs.Fields.{HasShape}
-use Rattle.fit_record.specs.declared.definition.DevDef.{DevDef}
-use Rattle.fit_record.specs.declared.definition.FieldDef.{FieldDef}
-use Rattle.fit_record.specs.declared.environment.Defined.{Defined}
-use Rattle.fit_record.specs.declared.message.Record.{Record}
-use Rattle.fit_record.specs.declared.message.Values.{Values}
-use Rattle.fit_record.specs.Environment.{dev_defs}
-use Rattle.fit_csv.specs.ChainRows.{dev_row, field_row}
-use Rattle.fit_csv.specs.inner.Misfits.{IsMisfit}
-use Rattle.fit_csv.specs.RowKinds.{IsDevRow, IsFieldRow, naming_at}
-use Rattle.fit_csv.specs.inner.Progress.{DevStep, FieldStep, with_dev_items, with_items}
-use Rattle.fit_cells.specs.Rows.{Row}
-use Rattle.fit_csv.specs.declared.from.misfit.Misfit.{Misfit}
+use Rattle.fit_csv.proofs.Common.{◌≡◌, length, refl, sym, subst, IsSomeAnd, slice_get, Global, Items, HasShape, DevDef, FieldDef, Defined, Record, Values}
+use Rattle.fit_csv.proofs.Common.{dev_defs, dev_row, field_row, IsMisfit, IsDevRow, IsFieldRow, naming_at, DevStep, FieldStep, with_dev_items, with_items, Row}
+use Rattle.fit_csv.proofs.Common.{Misfit}
+use Rattle.std.proofs.Common.{ℕ, List, Option, Some}
 use Rattle.fit_csv.proofs.Closest.{same-rows}
 
 -- the row of the next field

@@ -1,41 +1,18 @@
 -- The rows of a chain are read one after another.
-use Rattle.std.proofs.Common.{◌≡◌, ◌∙◌, ℕ, zero, suc, ◌<◌, ◌≤◌, ◌+◌, ◌^◌, true, false, List, [], ◌∷◌, ◌++◌, length, map, Option, Some, None, refl, sym, ap}
-use Rattle.std.proofs.Common.{subst, inl, inr, arith, append_assoc, eq-eqb, eqb-true}
-use Rattle.std.specs.Prelude.{◌==◌, ◌⊎◌, flat_map, zip, option_map, unwrap_or, slice_get, IfSome, IsSome, IsSomeAnd}
-use Rattle.std.specs.Option.{option_map_or}
-use Rattle.std.specs.Global.{Global}
-use Rattle.std.specs.List.{AllByRecursion}
-use Rattle.std.proofs.lemmas.List.{append-nil}
-use Rattle.fit_base.specs.declared.items.Items.{Items}
-use Rattle.fit_record.specs.declared.definition.DevDef.{DevDef}
-use Rattle.fit_record.specs.declared.definition.FieldDef.{FieldDef}
-use Rattle.fit_record.specs.declared.definition.MessageDef.{MessageDef}
-use Rattle.fit_record.specs.declared.environment.Defined.{Defined}
-use Rattle.fit_record.specs.declared.file.FitFile.{FitFile}
-use Rattle.fit_record.specs.declared.message.Record.{Record}
-use Rattle.fit_record.specs.declared.message.Record.TheVariants.{Define, Values as Data}
-use Rattle.fit_record.specs.declared.message.Values.{Values}
-use Rattle.fit_record.specs.Environment.{defined_at, dev_defs}
-use Rattle.fit_record.specs.Files.{chain_limit}
-use Rattle.fit_record.specs.Records.{AllFit, DataFits, DefinitionFits, Fits, HaveShape, dev_layout, layout}
-use Rattle.fit_profile.specs.Described.{Naming, namings_at, nameless}
-use Rattle.fit_profile.specs.Looks.{known}
-use Rattle.fit_profile.specs.Times.{header_time, previous_time}
-use Rattle.fit_csv.specs.ChainRows.{data_row, data_rows, def_row, definition_rows, dev_def_row, dev_row, dev_rows, end_row, field_def_row, field_row}
-use Rattle.fit_csv.specs.ChainRows.{field_rows, file_row, file_rows, record_rows, records_rows}
-use Rattle.fit_csv.specs.Judged.{DefinitionInRange, DevDefInRange, FieldDefInRange, IsChainOfRows, IsFileOfRows, RecordInRange}
-use Rattle.fit_csv.specs.inner.Misfits.{HeadInRange, IsMessageStart, global_at, message_row}
-use Rattle.fit_csv.specs.inner.Progress.{ChainStep, DevStep, FieldStep, FileStep, PartStep, Run, file_begun, built_definition, dev_total, has_all, is_whole}
-use Rattle.fit_csv.specs.inner.Progress.{is_whole_message, nothing_yet, opened, settled, with_dev_field, with_dev_items, with_field, with_items, with_record}
-use Rattle.fit_csv.specs.RowKinds.{naming_at}
-use Rattle.fit_cells.specs.Rows.{Row}
-use Rattle.fit_csv.specs.declared.from.chain.Chain.{Chain}
-use Rattle.fit_csv.specs.declared.from.definition.DefinitionHead.{DefinitionHead}
-use Rattle.fit_csv.specs.declared.from.definition.OpenDefinition.{OpenDefinition}
-use Rattle.fit_csv.specs.declared.from.open_file.OpenFile.{OpenFile}
-use Rattle.fit_csv.specs.declared.from.open_file.Part.{Part}
-use Rattle.fit_csv.specs.declared.from.open_file.Part.TheVariants.{Nothing, Definition, Message}
-use Rattle.fit_csv.proofs.Completed.{both-holds, not-whole}
+use Rattle.fit_csv.proofs.Common.{◌≡◌, ◌∙◌, suc, ◌≤◌, ◌+◌, ◌^◌, true, false, [], ◌∷◌, ◌++◌, length, map, refl, sym, ap, subst, inl, inr, arith, append_assoc}
+use Rattle.fit_csv.proofs.Common.{eq-eqb, eqb-true, flat_map, zip, slice_get, IsSome, IsSomeAnd, option_map_or, Global, AllByRecursion, Items, DevDef, FieldDef}
+use Rattle.fit_csv.proofs.Common.{MessageDef, Defined, FitFile, Record, Define, Data, Values, defined_at, dev_defs, chain_limit, AllFit, DataFits}
+use Rattle.fit_csv.proofs.Common.{DefinitionFits, Fits, HaveShape, dev_layout, layout, Naming, namings_at, nameless, known, header_time, previous_time}
+use Rattle.fit_csv.proofs.Common.{data_row, data_rows, def_row, definition_rows, dev_def_row, dev_row, dev_rows, end_row, field_def_row, field_row, field_rows}
+use Rattle.fit_csv.proofs.Common.{file_row, file_rows, record_rows, records_rows, DefinitionInRange, DevDefInRange, FieldDefInRange, IsChainOfRows}
+use Rattle.fit_csv.proofs.Common.{IsFileOfRows, RecordInRange, HeadInRange, IsMessageStart, global_at, message_row, ChainStep, DevStep, FieldStep, FileStep}
+use Rattle.fit_csv.proofs.Common.{PartStep, Run, file_begun, built_definition, dev_total, has_all, is_whole, is_whole_message, nothing_yet, opened, settled}
+use Rattle.fit_csv.proofs.Common.{with_dev_field, with_dev_items, with_field, with_items, with_record, naming_at, Row, Chain, DefinitionHead, OpenDefinition}
+use Rattle.fit_csv.proofs.Common.{OpenFile, Part, Nothing, Definition, false_from_ne_true, both_true, get_or-append_seam, slice_get-get_or}
+use Rattle.std.proofs.Common.{ℕ, ◌<◌, List, Option, Some, None}
+use Rattle.std.specs.Prelude.{◌==◌, ◌⊎◌, option_map, unwrap_or, IfSome}
+use Rattle.std.proofs.lemmas.List.{append-nil, length-append}
+use Rattle.fit_csv.specs.declared.from.open_file.Part.TheVariants.{Message}
 use Rattle.fit_csv.proofs.KnownDefinitions.{codes-long}
 use Rattle.fit_csv.proofs.NamingFacts.{namings_long}
 use Rattle.fit_csv.proofs.OneWay.{run-join, run-one}
@@ -71,31 +48,22 @@ lifted-run files f (r ∷ rows) g (m, step, run) = (record { files = files; curr
 -- what has come before of the record doesn't matter
 settled-again : (f : OpenFile) (old new : Part) → settled (record f { part = old }) new ≡ settled f new
 settled-again f old Nothing = refl
-settled-again f old (Definition o) = refl
-settled-again f old (Message v) = refl
+settled-again f old part = refl
 
 get-middle : {X : Type 0} (front : List X) (x : X) (rest : List X) (k : ℕ) → length front ≡ k → slice_get (front ++ x ∷ rest) k ≡ Some x
-get-middle [] x rest zero e = refl
-get-middle [] x rest (suc k) e = absurd (omega (arith, e))
-get-middle (a ∷ front) x rest zero e = absurd (omega (arith, e))
-get-middle (a ∷ front) x rest (suc k) e = get-middle front x rest k (omega (arith, e))
-
-length-append-more : {X : Type 0} (front : List X) (x : X) (rest : List X) → length front < length (front ++ x ∷ rest)
-length-append-more [] x rest = omega arith
-length-append-more (a ∷ front) x rest = let more = length-append-more front x rest in omega (arith, more)
+get-middle front x rest k e =
+    rw (← e) (slice_get-get_or (front ++ x ∷ rest) (length front) x (omega (arith, length-append front (x ∷ rest)))
+    ∙ ap Some (get_or-append_seam front x rest x))
 
 -- ---- definitions
 
 whole-definition : (o : OpenDefinition) → length o.fields ≡ o.head.fields → length o.dev ≡ dev_total o.head → is_whole o ≡ true
-whole-definition o p q = both-holds _ _ (eq-eqb (length o.fields) o.head.fields p) (eq-eqb (length o.dev) (dev_total o.head) q)
+whole-definition o p q = both_true (eq-eqb (length o.fields) o.head.fields p) (eq-eqb (length o.dev) (dev_total o.head) q)
 
 open-definition : (o : OpenDefinition) → (length o.fields ≡ o.head.fields → length o.dev ≡ dev_total o.head → ⊥) → is_whole o ≡ false
-open-definition o h = not-whole (is_whole o) (λ whole.
+open-definition o h = false_from_ne_true (is_whole o) (λ whole.
     let both = both-true (length o.fields == o.head.fields) (length o.dev == dev_total o.head) whole in
     h (eqb-true (length o.fields) o.head.fields both.0) (eqb-true (length o.dev) (dev_total o.head) both.1))
-
-added : OpenDefinition → List FieldDef → List DevDef → OpenDefinition
-added o fs ds = record { head = o.head; fields = o.fields ++ fs; dev = o.dev ++ ds }
 
 definition-run : (f : OpenFile) (fs : List FieldDef) (ds : List DevDef) (o q : OpenDefinition) → AllByRecursion FieldDefInRange fs
     → AllByRecursion DevDefInRange ds
@@ -116,9 +84,7 @@ definition-run f (x ∷ fs) ds o q pf pd lf ld eh ef ed =
       (with_field o x, inl (omega (arith, lf), (x, pf.0, refl, refl)), refl),
       sym (settled-again f (Definition o) (Definition (with_field o x))),
     ) in
-    more-run (record f { part = Definition o }) (settled f (Definition o)) (settled f (Definition (with_field o x)))
-    (with_record f (Define (built_definition q)))
-    (field_def_row x) (map field_def_row fs ++ map dev_def_row ds) here step
+    more-run _ _ _ _ _ _ here step
     (definition-run f fs ds (with_field o x) q pf.1 pd (omega (arith, lf, length-last o.fields x)) ld eh (ef ∙ sym (append_assoc o.fields (x ∷ []) fs)) ed)
 definition-run f [] (y ∷ ds) o q pf pd lf ld eh ef ed =
     let going = open-definition o (λ all dev. omega (arith, ld, dev)) in
@@ -128,8 +94,7 @@ definition-run f [] (y ∷ ds) o q pf pd lf ld eh ef ed =
       (with_dev_field o y, inr (omega (arith, lf), (y, pd.0, refl, refl)), refl),
       sym (settled-again f (Definition o) (Definition (with_dev_field o y))),
     ) in
-    more-run (record f { part = Definition o }) (settled f (Definition o)) (settled f (Definition (with_dev_field o y)))
-    (with_record f (Define (built_definition q))) (dev_def_row y) (map dev_def_row ds) here step
+    more-run _ _ _ _ _ _ here step
     (definition-run f [] ds (with_dev_field o y) q tt pd.1 lf (omega (arith, ld, length-last o.dev y)) eh ef (ed ∙ sym (append_assoc o.dev (y ∷ []) ds)))
 
 abbrev head_of : MessageDef Global → DefinitionHead
@@ -188,7 +153,7 @@ open-message : (f : OpenFile) (v : Values Global) (p : Defined Global) → place
     → (length v.fields ≡ length p.definition.fields → length v.dev ≡ length (dev_defs p.definition.dev) → ⊥)
     → settled f (Message v) ≡ record f { part = Message v }
 open-message f v p is h =
-    let going : is_whole_message f.before v ≡ false = has-at f v p is ∙ not-whole (has_all v p) (λ whole.
+    let going : is_whole_message f.before v ≡ false = has-at f v p is ∙ false_from_ne_true (has_all v p) (λ whole.
     let both = both-true (length v.fields == length p.definition.fields) (length v.dev == length (dev_defs p.definition.dev)) whole in
     h (eqb-true (length v.fields) (length p.definition.fields) both.0) (eqb-true (length v.dev) (length (dev_defs p.definition.dev)) both.1)) in
     rw going refl
@@ -198,7 +163,7 @@ whole-message : (f : OpenFile) (v : Values Global) (p : Defined Global) → plac
     → settled f (Message v) ≡ with_record f (Data v)
 whole-message f v p is fields dev =
     let whole : is_whole_message f.before v ≡ true =
-    has-at f v p is ∙ both-holds _ _ (eq-eqb (length v.fields) (length p.definition.fields) fields)
+    has-at f v p is ∙ both_true (eq-eqb (length v.fields) (length p.definition.fields) fields)
     (eq-eqb (length v.dev) (length (dev_defs p.definition.dev)) dev) in
     rw whole refl
 
@@ -221,14 +186,13 @@ fields-run f p front [] (i ∷ items) v w is all long shapes e = absurd shapes
 fields-run f p front (x ∷ fs) [] v w is all long shapes e = absurd shapes
 fields-run f p front (x ∷ fs) (i ∷ items) v w is all long shapes e =
     let more : length p.definition.fields ≡ length (front ++ x ∷ fs) = ap length all in
-    let short = length-append-more front x fs in
+    let short = length-append front (x ∷ fs) in
     let here = open-message f v p is (λ fields dev. omega (arith, fields, more, short, long)) in
     let next : slice_get p.definition.fields (length v.fields) ≡ Some x =
     ap (λ l. slice_get l (length v.fields)) all ∙ get-middle front x fs (length v.fields) long in
     let r = field_row p.definition.global x i in
     let step = message-step f v (with_items v i) p r is (inl (field-step p v x r i next shapes.0 refl)) in
-    more-run (record f { part = Message v }) (settled f (Message v)) (settled f (Message (with_items v i))) (settled f (Message w)) r
-    (field_rows p.definition.global fs items) here step
+    more-run _ _ _ _ _ _ here step
     (fields-run f p (front ++ x ∷ []) fs items (with_items v i) w is (all ∙ sym (append_assoc front (x ∷ []) fs))
     (length-last front x ∙ ap suc long ∙ sym (length-last v.fields i)) shapes.1
     (e ∙ ap (λ (l : List (Items Global)). record v { fields = l }) (sym (append_assoc v.fields (i ∷ []) items))))
@@ -250,14 +214,10 @@ dev-run f p front [] done [] names [] [] v w is fields all coded named lf lc ln 
     none-run (settled f (Message v)) (settled f (Message w))
     (ap (λ (l : List (Items Global)). settled f (Message (record v { dev = l }))) (sym (append-nil v.dev)) ∙ ap (λ x. settled f (Message x)) (sym e))
 dev-run f p front [] done [] names [] (i ∷ items) v w is fields all coded named lf lc ln same_c same_n shapes e = absurd shapes
-dev-run f p front [] done [] names (n ∷ ns) items v w is fields all coded named lf lc ln same_c same_n shapes e = absurd (omega (arith, same_n))
-dev-run f p front [] done (c ∷ cs) names ns items v w is fields all coded named lf lc ln same_c same_n shapes e = absurd (omega (arith, same_c))
-dev-run f p front (d ∷ ds) done [] names ns items v w is fields all coded named lf lc ln same_c same_n shapes e = absurd (omega (arith, same_c))
-dev-run f p front (d ∷ ds) done (c ∷ cs) names [] items v w is fields all coded named lf lc ln same_c same_n shapes e = absurd (omega (arith, same_n))
 dev-run f p front (d ∷ ds) done (c ∷ cs) names (n ∷ ns) [] v w is fields all coded named lf lc ln same_c same_n shapes e = absurd shapes
 dev-run f p front (d ∷ ds) done (c ∷ cs) names (n ∷ ns) (i ∷ items) v w is fields all coded named lf lc ln same_c same_n shapes e =
     let more : length (dev_defs p.definition.dev) ≡ length (front ++ d ∷ ds) = ap length all in
-    let short = length-append-more front d ds in
+    let short = length-append front (d ∷ ds) in
     let here = open-message f v p is (λ _ dev. omega (arith, dev, more, short, lf)) in
     let k = length v.dev in
     let next : slice_get (dev_defs p.definition.dev) (length v.dev) ≡ Some d =
@@ -267,8 +227,7 @@ dev-run f p front (d ∷ ds) done (c ∷ cs) names (n ∷ ns) (i ∷ items) v w 
     let r = dev_row d c n i in
     let row : dev_row d c n i ≡ dev_row d c (naming_at f.before v.local (length v.dev)) i = ap (λ x. dev_row d c x i) (sym naming) in
     let step = message-step f v (with_dev_items v i) p r is (inr (dev-step f.before p v d c r i fields next code shapes.0 row)) in
-    more-run (record f { part = Message v }) (settled f (Message v)) (settled f (Message (with_dev_items v i))) (settled f (Message w)) r
-    (dev_rows ds cs ns items) here step
+    more-run _ _ _ _ _ _ here step
     (dev-run f p (front ++ d ∷ []) ds (done ++ c ∷ []) cs (names ++ n ∷ []) ns items (with_dev_items v i) w is fields
     (all ∙ sym (append_assoc front (d ∷ []) ds))
     (coded ∙ sym (append_assoc done (c ∷ []) cs)) (named ∙ sym (append_assoc names (n ∷ []) ns))
@@ -276,10 +235,10 @@ dev-run f p front (d ∷ ds) done (c ∷ cs) names (n ∷ ns) (i ∷ items) v w 
     (length-last names n ∙ ap suc ln ∙ sym (length-last v.dev i))
     (omega (arith, same_c)) (omega (arith, same_n)) shapes.1
     (e ∙ ap (λ (l : List (Items Global)). record v { dev = l }) (sym (append_assoc v.dev (i ∷ []) items))))
+dev-run f p front ds done cs names ns items v w is fields all coded named lf lc ln same_c same_n shapes e = absurd (omega (arith, same_c, same_n))
 
 some-is : {X : Type 0} (o : Option X) (x : X) → o ≡ Some x → IsSome o
-some-is None x e = cc e
-some-is (Some y) x e = refl
+some-is o x e = rw e refl
 
 data-run : (f : OpenFile) (v : Values Global) (p : Defined Global) → f.part ≡ Nothing → placed f v p → DataFits v p
     → FileRun f (data_rows f.before v) (with_record f (Data v))

@@ -1,11 +1,7 @@
 -- Items of any shape.
-use Rattle.std.proofs.Common.{◌≡◌, ℕ, zero, suc, ◌<◌, ◌^◌, ◌/◌, List, [], ◌∷◌, length, refl, arith}
-use Rattle.std.specs.List.{AllByRecursion}
-use Rattle.std.specs.Global.{Global}
+use Rattle.fit_csv.proofs.Common.{◌≡◌, zero, suc, ◌^◌, ◌/◌, [], ◌∷◌, length, refl, arith, AllByRecursion, Global, item_width, HasShape, Items}
+use Rattle.std.proofs.Common.{ℕ, ◌<◌, List}
 use Rattle.std.proofs.Math.Nat.{pow-suc}
-use Rattle.fit_base.specs.BaseTypes.{item_width}
-use Rattle.fit_base.specs.Fields.{HasShape}
-use Rattle.fit_base.specs.declared.items.Items.{Items}
 use Rattle.fit_cells.proofs.ItemFacts.{shape_whole}
 
 power_above : (w : ℕ) → 0 < 256 ^ w

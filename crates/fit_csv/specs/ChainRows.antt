@@ -15,7 +15,7 @@ use Rattle.fit_record.specs.declared.message.Record.{Record}
 use Rattle.fit_record.specs.declared.message.Record.TheVariants.{Define, Values as Data}
 use Rattle.fit_record.specs.declared.file.FitFile.{FitFile}
 use Rattle.fit_record.specs.Environment.{defined_at, dev_defs}
-use Rattle.fit_decode.specs.Events.{Event, header, item, file_end}
+use Rattle.fit_chain.specs.Events.{Event, header, item, file_end}
 use Rattle.fit_profile.specs.Profile.{Meaning}
 use Rattle.fit_profile.specs.Names.{message_label, field_label}
 use Rattle.fit_profile.specs.Names as names

@@ -3,9 +3,9 @@ use Rattle.std.specs.Prelude.{◌≡◌, ℕ, true, false, List, Result, Ok, Err
 use Rattle.std.specs.Global.{Global}
 use Rattle.std.specs.Io.KnownBytes.{Appends, Consumes, IsAtEnd}
 use Rattle.fit_record.specs.Files.{chain_limit}
-use Rattle.fit_decode.specs.declared.event.Fault.TheVariants as faults
-use Rattle.fit_decode.specs.Answers.{AreChain}
-use Rattle.fit_decode.specs.Events.{Event, AreEvents}
+use Rattle.fit_chain.specs.declared.event.Fault.TheVariants as faults
+use Rattle.fit_chain.specs.Checks.{AreChain}
+use Rattle.fit_chain.specs.Events.{Event, AreEvents}
 use Rattle.fit_decode.specs.Reads.{IsNearlyViable}
 use Rattle.fit_report.specs.Heard.{Lines, latest_records}
 use Rattle.fit_report.specs.Reports.{Channel, TextFailsIn, Faults, before_fault}

@@ -7,7 +7,7 @@ use Rattle.fit_record.specs.declared.message.Record.{Record}
 use Rattle.fit_record.specs.Files.{IsChain, chain_limit}
 use Rattle.fit_record.specs.Records.{Fits}
 use Rattle.fit_profile.specs.Looks.{known}
-use Rattle.fit_decode.specs.Events.{file_events}
+use Rattle.fit_chain.specs.Events.{file_events}
 use Rattle.fit_profile.specs.Instant.{IsInstantText}
 use Rattle.fit_profile.specs.Scaled.{IsDegrees}
 use Rattle.fit_cells.specs.Rows.{Row, RowsOfText, csv_text}

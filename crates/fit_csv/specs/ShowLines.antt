@@ -14,7 +14,7 @@ use Rattle.fit_record.specs.declared.message.Record.TheVariants.{Define, Values 
 use Rattle.fit_record.specs.declared.file.FitFile.{FitFile}
 use Rattle.fit_record.specs.Environment.{defined_at, dev_defs}
 use Rattle.fit_record.specs.Files.{body}
-use Rattle.fit_decode.specs.Events.{header, item, file_end}
+use Rattle.fit_chain.specs.Events.{header, item, file_end}
 use Rattle.fit_profile.specs.Profile.{Meaning}
 use Rattle.fit_profile.specs.Names.{message_label, field_label}
 use Rattle.fit_profile.specs.Names as names

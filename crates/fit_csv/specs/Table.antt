@@ -8,7 +8,7 @@ use Rattle.fit_record.specs.declared.message.Record.TheVariants.{Define, Values 
 use Rattle.fit_record.specs.declared.file.FitFile.{FitFile}
 use Rattle.fit_record.specs.Environment.{defined_at}
 use Rattle.fit_record.specs.Faults.{or_else}
-use Rattle.fit_decode.specs.Events.{Event, header, item, file_end}
+use Rattle.fit_chain.specs.Events.{Event, header, item, file_end}
 use Rattle.fit_profile.specs.declared.told.Told.{Told}
 use Rattle.fit_profile.specs.FixedText.{fixed_text}
 use Rattle.fit_profile.specs.Looks.{known, first_field}

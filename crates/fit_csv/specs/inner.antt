@@ -1,5 +1,6 @@
 -- Definitions that no public contract cites: what private functions and proofs need.
 pub mod TableCells
+pub mod TableColumns
 pub mod Reporting
 pub mod TextFaults
 pub mod Seven

@@ -4,7 +4,7 @@ ghost use Rattle.std.specs.Global.{Global};
 ghost use Rattle.fit_base.specs.Numbers.{IsBytes};
 ghost use Rattle.fit_record.specs.declared.file.FitFile.{FitFile};
 ghost use Rattle.fit_record.specs.Files.{chain_limit, IsChain};
-ghost use Rattle.fit_decode.specs.Events.{file_events};
+ghost use Rattle.fit_chain.specs.Events.{file_events};
 ghost use Rattle.fit_report.specs.Reports.{channel};
 ghost use Rattle.fit_csv.specs.ChainRows.{chain_rows, rows_of};
 ghost use Rattle.fit_csv.specs.Conversions.{Converts, ConvertsTo, RowsOf};

@@ -27,7 +27,7 @@ use crate::from::text::read_text;
 use crate::laws::chains_have_own_rows;
 use fit_decode::Source;
 use fit_encode::laws::good_chains_have_no_fault;
-use fit_encode::{EncodeFault, Sink, write_chain};
+use fit_encode::{EncodeFault, Sink, write_spelled};
 use fit_record::laws::faults_are_exact;
 use std::alloc::Global;
 
@@ -52,7 +52,7 @@ fn convert<S: Source, K: Sink>(alloc: Global, source: &mut S, sink: &mut K) -> R
     faults_are_exact::<Global>();
     let text = read_text(alloc, source)?;
     let files = judge(alloc, text.as_slice())?;
-    match write_chain(alloc, sink, files.as_slice()) {
+    match write_spelled(sink, files.as_slice()) {
         Ok(()) => Ok(()),
         Err(fault) => Err(from_fault(fault)),
     }

@@ -45,7 +45,7 @@ pub struct ShowReport {
 impl Model for ShowReport {
     ghost use Rattle.std.specs.Prelude.{◌≡◌, List};
     ghost use Rattle.std.specs.Global.{Global};
-    ghost use Rattle.fit_decode.specs.Events.{Event as Told};
+    ghost use Rattle.fit_chain.specs.Events.{Event as Told};
     ghost use Rattle.fit_report.specs.Heard.{latest_records};
     ghost use Rattle.fit_csv.specs.ChainRows.{files_heard};
 

@@ -1,4 +1,6 @@
 //! The table of a ride, event by event.
 
+pub(crate) mod columns;
+pub(crate) mod maker;
 pub(crate) mod report;
 pub(crate) mod rows;

@@ -1,12 +1,9 @@
 -- The day from which instants are counted, and dates after it.
-use Rattle.std.proofs.Common.{inl, inr, ◌≡◌, ◌∙◌, ℕ, pos, ◌≤ℤ◌, ◌<ℤ◌, List, ◌/◌, arith, refl, sym}
-use Rattle.std.proofs.lemmas.Bool.{cases_lt}
-use Rattle.jiff.specs.Words.{epoch_day}
+use Rattle.fit_profile.proofs.Common.{inl, inr, ◌≡◌, ◌∙◌, ℕ, pos, ◌≤ℤ◌, ◌<ℤ◌, List, ◌/◌, arith, refl, sym, cases_lt, epoch_day, by_lt_z}
 use Rattle.jiff_core.specs.Calendar.{days_from_civil, day_count, days_of_years, days_of_months, IsCivilDate}
 use Rattle.jiff_core.specs.declared.civil.date.Date.{Date}
 use Rattle.jiff_core.proofs.CalendarLemmas.{day_count-lt_year, days_from_civil-day_count}
 use Rattle.jiff_core.proofs.SignedLemmas.{signed_arith}
-use Rattle.std.proofs.lemmas.Int.{by_lt_z}
 use Rattle.jiff_core.proofs.DateLemmas.{epoch_day_injective}
 use Rattle.fit_profile.specs.Instant.{IsDayAfterEpoch, IsUtcText, IsInstantText}
 

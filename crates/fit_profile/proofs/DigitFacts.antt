@@ -1,15 +1,12 @@
 -- The last digits of a number.
-use Rattle.std.proofs.Common.{◌≡◌, inl, inr, drop, drop-cons, get_or, ◌∙◌, ◌++◌, ◌∷◌, [], ◌+◌, ◌*◌, ◌/◌, ◌%◌, ◌^◌, ◌<◌, ◌≤◌, zero, suc, ℕ, ℤ, pos, negsuc}
-use Rattle.std.proofs.Common.{mul_assoc, unsigned_abs, decimal, List, refl, ap, ap₂, sym, arith, add-one, length, append_assoc}
-use Rattle.std.proofs.Math.Nat.{pow-suc, pow-succ', div-lt_iff_lt-mul, div-le_self, mod-lt, mod-eq_of_lt, add-mul, mul_comm, div-div-eq-div-mul}
+use Rattle.fit_profile.proofs.Common.{◌≡◌, inl, inr, drop, drop-cons, get_or, ◌∙◌, ◌++◌, ◌∷◌, [], ◌+◌, ◌*◌, ◌/◌, ◌%◌, ◌^◌, ◌<◌, ◌≤◌, zero, suc, ℕ, ℤ, pos}
+use Rattle.fit_profile.proofs.Common.{negsuc, mul_assoc, unsigned_abs, decimal, List, refl, ap, ap₂, sym, arith, add-one, length, append_assoc, pow-suc}
+use Rattle.fit_profile.proofs.Common.{pow-succ', div-lt_iff_lt-mul, div-le_self, mod-lt, mod-eq_of_lt, add-mul, mul_comm, div-div-eq-div-mul, is_ascii_digit}
+use Rattle.fit_profile.proofs.Common.{decimal_by_steps_wide, decimal_step_wide, cases_Bool, ne_eqb, last_digits, fixed_text, fraction, sign, digits_in}
+use Rattle.fit_profile.proofs.Common.{next_value}
 use Rattle.std.proofs.Math.Arith.{mod-mul}
-use Rattle.std.specs.Char.{is_ascii_digit}
 use Rattle.std.proofs.lemmas.Bool.Decides.{nat_tests}
-use Rattle.std.proofs.lemmas.Fmt.{decimal_by_steps_wide, decimal_step_wide}
 use Rattle.std.specs.Fmt.{digits}
-use Rattle.std.proofs.lemmas.Bool.{cases_Bool, ne_eqb}
-use Rattle.fit_profile.specs.FixedText.{last_digits, fixed_text, fraction, sign}
-use Rattle.fit_profile.specs.inner.Digits.{digits_in, next_value}
 
 pub last_digits-none : (n : ℕ) → last_digits 0 n ≡ []
 unfolding last_digits
@@ -60,10 +57,6 @@ behind-one text d n p power small below is =
 -- the part before the point, where there is a point
 pub short-whole : (n u : ℕ) → n < 2 ^ 128 → 10 ≤ u → n / u < 10 ^ 38
 short-whole n u h t = (div-lt_iff_lt-mul {k = u} {x = n} {y = 10 ^ 38} (omega (arith, t))).1 (omega (arith, h, t))
-
-pub power_ten : (k : ℕ) → 0 < k → 10 ≤ 10 ^ k
-power_ten zero h = absurd (omega (arith, h))
-power_ten (suc k) h = let above = power_above k in rw (pow-suc 10 k) (omega (arith, above))
 
 next_above : (n b : ℕ) → n ≤ next_value n b
 next_above n b = elim (cases_Bool (is_ascii_digit b)) [

@@ -1,13 +1,9 @@
 -- The first field of a number, place by place.
-use Rattle.std.proofs.Common.{◌≡◌, ℕ, zero, suc, ◌<◌, ◌==◌, List, [], ◌∷◌, length, drop, get_or, ◌≤◌, drop_of_length-le, ap, refl, sym, arith, eq-eqb, ◌∙◌}
-use Rattle.std.proofs.Common.{Some, None, inl, inr}
-use Rattle.std.proofs.lemmas.Bool.{ne_eqb}
-use Rattle.fit_base.specs.declared.items.Items.{Items}
-use Rattle.fit_record.specs.declared.definition.FieldDef.{FieldDef}
-use Rattle.std.specs.Prelude.{option_and_then, option_map, if◌then◌else◌}
-use Rattle.std.proofs.lemmas.Bool.{cases_Bool}
-use Rattle.fit_record.specs.Environment.{first_items, only, only_byte}
-use Rattle.fit_profile.specs.Looks.{first_field}
+use Rattle.fit_profile.proofs.Common.{◌≡◌, ℕ, suc, ◌<◌, List, [], ◌∷◌, length, drop, get_or, ◌≤◌, drop_of_length-le, ap, ap₂, refl, sym, eq-eqb, ◌∙◌, add-one}
+use Rattle.fit_profile.proofs.Common.{drop-cons, false, drop-drop, Some, None, inl, inr, ne_eqb, Items, FieldDef, option_and_then, if◌then◌else◌, cases_Bool}
+use Rattle.fit_profile.proofs.Common.{first_items, only, only_byte, first_field}
+use Rattle.std.proofs.Common.{◌==◌}
+use Rattle.std.specs.Prelude.{option_map}
 
 pub no-items : {A : Type 0} (fields : List FieldDef) (number : ℕ) → first_field {A = A} fields [] number ≡ None
 no-items [] number = refl
@@ -16,23 +12,25 @@ no-items (f ∷ fields) number = refl
 pub here : {A : Type 0} (fields : List FieldDef) (items : List (Items A)) (number i : ℕ) (d : FieldDef) (x : Items A) → i < length fields
     → (get_or fields i d).number ≡ number
     → i < length items → first_field (drop i fields) (drop i items) number ≡ Some (get_or fields i d, get_or items i x)
-here [] items number i d x h e l = absurd (omega (arith, h))
-here (f ∷ fields) [] number i d x h e l = absurd (omega (arith, l))
-here (f ∷ fields) (y ∷ items) number zero d x h e l = let test = eq-eqb f.number number e in rw test refl
-here (f ∷ fields) (y ∷ items) number (suc i) d x h e l = here fields items number i d x (omega (arith, h)) e (omega (arith, l))
+here fields items number i d x h e l =
+    ap₂ (λ fs xs. first_field fs xs number) (drop-cons fields i d h) (drop-cons items i x l) ∙ rw (eq-eqb (get_or fields i d).number number e) refl
 
 pub no-more : {A : Type 0} (fields : List FieldDef) (items : List (Items A)) (number i : ℕ) → length items ≤ i
     → first_field (drop i fields) (drop i items) number ≡ None
 no-more fields items number i h = ap (λ xs. first_field (drop i fields) xs number) (drop_of_length-le items h) ∙ no-items (drop i fields) number
 
+behind-other : {A : Type 0} (f : FieldDef) (fields : List FieldDef) (items : List (Items A)) (number : ℕ) → (f.number == number) ≡ false
+    → first_field (f ∷ fields) items number ≡ first_field fields (drop 1 items) number
+behind-other f fields [] number e = sym (no-items fields number)
+behind-other f fields (x ∷ items) number e = rw e refl
+
 pub past : {A : Type 0} (fields : List FieldDef) (items : List (Items A)) (number i : ℕ) (d : FieldDef) → i < length fields
     → ((get_or fields i d).number ≡ number → ⊥)
     → first_field (drop i fields) (drop i items) number ≡ first_field (drop (suc i) fields) (drop (suc i) items) number
-past [] items number i d h e = absurd (omega (arith, h))
-past (f ∷ fields) [] number zero d h e = sym (no-items fields number)
-past (f ∷ fields) (x ∷ items) number zero d h e = let test = ne_eqb f.number number e in rw test refl
-past (f ∷ fields) [] number (suc i) d h e = no-items (drop i fields) number ∙ sym (no-items (drop (suc i) fields) number)
-past (f ∷ fields) (x ∷ items) number (suc i) d h e = past fields items number i d (omega (arith, h)) e
+past fields items number i d h e =
+    ap (λ fs. first_field fs (drop i items) number) (drop-cons fields i d h)
+    ∙ behind-other (get_or fields i d) (drop (suc i) fields) (drop i items) number (ne_eqb (get_or fields i d).number number e)
+    ∙ ap (λ xs. first_field (drop (suc i) fields) xs number) (drop-drop 1 i items ∙ ap (λ k. drop k items) (add-one i))
 
 pub none-left : {A : Type 0} (fields : List FieldDef) (items : List (Items A)) (number i : ℕ) → length fields ≤ i
     → first_field (drop i fields) (drop i items) number ≡ None

@@ -1,26 +1,18 @@
 -- What is kept of the records so far suffices for what is told of the next one.
-use Rattle.std.proofs.Common.{◌≡◌, ◌∙◌, ℕ, List, [], ◌∷◌, ◌++◌, reverse, map, cond, refl, sym, ap, ap₂, subst, None, Some, Option, option_map}
-use Rattle.std.specs.Prelude.{IsSomeAnd, option_and_then, unwrap_or, if◌then◌else◌, ◌==◌, ◌&&◌}
-use Rattle.std.proofs.lemmas.List.{reverse-append}
-use Rattle.fit_record.specs.declared.definition.MessageDef.{MessageDef}
-use Rattle.fit_record.specs.Environment.{dev_defs, description}
+use Rattle.fit_profile.proofs.Common.{◌≡◌, ◌∙◌, ℕ, List, [], ◌∷◌, ◌++◌, reverse, map, cond, refl, sym, ap, ap₂, subst, None, Some, Option, IsSomeAnd}
+use Rattle.fit_profile.proofs.Common.{option_and_then, unwrap_or, if◌then◌else◌, reverse-append, MessageDef, dev_defs, description, Naming, nameless, naming}
+use Rattle.fit_profile.proofs.Common.{naming_by, naming_after, namings_after, naming_of, KeepsRecords, described, is_key, naming_in, namings_in, none-some}
+use Rattle.fit_profile.proofs.Common.{same_Some, Defined, Values, Record, Environment, empty_environment, defined_at, describe, learn, Fits, DataFits, known}
+use Rattle.fit_profile.proofs.Common.{told, told_at, told_of, tell, last_of, last_after}
+use Rattle.std.proofs.Common.{option_map}
+use Rattle.std.specs.Prelude.{◌==◌, ◌&&◌}
 use Rattle.fit_profile.specs.declared.names.Described.{Described}
 use Rattle.fit_profile.specs.declared.names.Names.{Names}
-use Rattle.fit_profile.specs.Described.{Naming, nameless, naming, naming_by, naming_after, namings_after, naming_of}
-use Rattle.fit_profile.specs.inner.Keeps.{KeepsRecords, described, is_key, naming_in, namings_in}
-use Rattle.fit_profile.proofs.NameFacts.{or-kept}
-use Rattle.std.proofs.lemmas.Option.{none-some, same_Some}
-use Rattle.fit_record.specs.declared.environment.Defined.{Defined}
-use Rattle.fit_record.specs.declared.message.Values.{Values}
-use Rattle.fit_record.specs.declared.message.Record.{Record}
 use Rattle.fit_record.specs.declared.message.Record.TheVariants.{Define, Values as Data}
 use Rattle.fit_record.specs.declared.learn.Description.{Description}
-use Rattle.fit_record.specs.Environment.{Environment, empty_environment, defined_at, describe, learn}
-use Rattle.fit_record.specs.Records.{Fits, DataFits}
 use Rattle.fit_profile.specs.declared.told.Told.{Told}
 use Rattle.fit_profile.specs.declared.told.Last.{Last}
-use Rattle.fit_profile.specs.Looks.{known}
-use Rattle.fit_profile.specs.Told.{told, told_at, told_of, tell, last_of, last_after}
+use Rattle.fit_profile.proofs.NameFacts.{or-kept}
 
 pub map-some : {X Y Z : Type 0} (g : X → Y) (f : Y → Z) (o : Option X) (y : Y) → Some y ≡ option_map g o → Some (f y) ≡ option_map (λ x. f (g x)) o
 map-some g f None y e = absurd (none-some y (sym e))
@@ -77,10 +69,6 @@ pub through : {X Y Z : Type 0} (g : X → Y) (f : Y → Option Z) (o : Option X)
 through g f None y e = absurd (none-some y (sym e))
 through g f (Some x) y e = ap f (same_Some y (g x) e)
 
-pub through-none : {X Y Z : Type 0} (g : X → Y) (f : Y → Option Z) (o : Option X) → None ≡ option_map g o → None ≡ option_and_then (λ x. f (g x)) o
-through-none g f None e = refl
-through-none g f (Some x) e = absurd (none-some (g x) e)
-
 -- what a described field changes
 pub given : {A : Type 0} → Option (Described A) → ℕ → ℕ → Naming → Naming
 given None index number before = before
@@ -102,12 +90,6 @@ described-placed v None x index number before e = sym (ap (λ y. given y index n
 described-placed {A = A} v (Some p) x index number before e =
     described-helper A (description p.definition v) (naming p.definition v) index number before ∙ sym (ap (λ y. given y index number before) e)
 
-pub nothing-described : {A : Type 0} (e : Environment A) (r : Record A) (v : Values A) (index number : ℕ) (before now : Naming) → r ≡ Data v
-    → None ≡ option_and_then (λ p. described p.definition v) (defined_at e v.local) → now ≡ before → now ≡ naming_after e r index number before
-unfolding given
-nothing-described e r v index number before now is none same =
-    same ∙ sym (described-placed v (defined_at e v.local) None index number before none) ∙ sym (ap (λ s. naming_after e s index number before) is)
-
 pub one-described : {A : Type 0} (e : Environment A) (r : Record A) (v : Values A) (x : Described A) (index number : ℕ) (before held now : Naming) → r ≡ Data v
     → Some x ≡ option_and_then (λ p. described p.definition v) (defined_at e v.local) → held ≡ before → now ≡ cond (is_key x.key index number) x.texts held
     → now ≡ naming_after e r index number before
@@ -119,10 +101,6 @@ one-described e r v x index number before held now is some same set =
 pub no-definition : {A : Type 0} (f : ℕ → ℕ → Naming) (r : Record A) (v : Values A) (local : ℕ) (before now : List Naming) → r ≡ Data v → now ≡ before
     → now ≡ namings_after f r local before
 no-definition f r v local before now is same = same ∙ sym (ap (λ s. namings_after f s local before) is)
-
-pub no-description : {A : Type 0} (e : Environment A) (r : Record A) (d : MessageDef A) (index number : ℕ) (before now : Naming) → r ≡ Define d → now ≡ before
-    → now ≡ naming_after e r index number before
-no-description e r d index number before now is same = same ∙ sym (ap (λ s. naming_after e s index number before) is)
 
 pub one-definition : {A : Type 0} (f : ℕ → ℕ → Naming) (r : Record A) (d : MessageDef A) (local : ℕ) (before held now given_now : List Naming) → r ≡ Define d
     → given_now ≡ map (λ x. f x.index x.number) (dev_defs d.dev) → held ≡ before → now ≡ cond (d.local == local) given_now held

@@ -1,7 +1,6 @@
 -- What is still there where memory was refused for the rest of a text.
-use Rattle.std.proofs.Common.{◌≡◌, ◌∙◌, ◌++◌, [], ℕ, List, Result, Ok, Err, ap, sym, append_assoc, append-nil}
-use Rattle.std.specs.Prelude.{OnErr}
-use Rattle.fit_profile.specs.FixedText.{StillBegins}
+use Rattle.fit_profile.proofs.Common.{◌≡◌, ◌∙◌, ◌++◌, [], ℕ, List, Result, Ok, Err, ap, sym, append_assoc, OnErr, StillBegins}
+use Rattle.std.proofs.Common.{append-nil}
 
 -- nothing was put
 pub none_put : (old new : List ℕ) → new ≡ old → StillBegins old new

@@ -1,7 +1,6 @@
 -- What the items of the accumulated fields count, by the table of the protocol's profile.
-use Rattle.std.proofs.Common.{◌≡◌, ◌∷◌, [], refl, Some, None}
+use Rattle.fit_profile.proofs.Common.{◌≡◌, ◌∷◌, [], refl, Some, None, accumulated_power, distance, number_in, total_cycles}
 use Rattle.std.specs.Global.{Global}
-use Rattle.fit_profile.specs.Accumulated.{accumulated_power, distance, number_in, total_cycles}
 
 -- three bytes, the lowest first
 counted_distance : number_in {A = Global} distance (record { width = 1; bits = 0x64 ∷ 0x00 ∷ 0x10 ∷ [] }) ≡ Some 0x100064

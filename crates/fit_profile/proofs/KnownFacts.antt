@@ -1,9 +1,6 @@
 -- Looking back over records is learning them in their order.
-use Rattle.std.proofs.Common.{◌≡◌, ◌∙◌, List, [], ◌∷◌, ◌++◌, reverse, refl, ap}
-use Rattle.std.proofs.lemmas.List.{reverse-append}
-use Rattle.fit_record.specs.declared.message.Record.{Record}
-use Rattle.fit_record.specs.Environment.{Environment, empty_environment, learn, learn_all}
-use Rattle.fit_profile.specs.Looks.{known}
+use Rattle.fit_profile.proofs.Common.{◌≡◌, ◌∙◌, List, [], ◌∷◌, ◌++◌, reverse, refl, ap, reverse-append, Record, Environment, empty_environment, learn}
+use Rattle.fit_profile.proofs.Common.{learn_all, known}
 
 -- what is known after records, latest first, where this was known before
 known_from : {A : Type 0} → Environment A → List (Record A) → Environment A

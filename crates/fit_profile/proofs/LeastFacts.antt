@@ -1,11 +1,8 @@
 -- The least number from a start on that leaves a given rest, by arithmetic.
-use Rattle.std.proofs.Common.{◌≡◌, ◌∙◌, ℕ, zero, suc, ◌+◌, ◌-◌, ◌*◌, ◌/◌, ◌%◌, ◌<◌, ◌≤◌, ◌==◌, Bool, true, false, Some, None, inl, inr, refl, sym, ap, arith}
-use Rattle.std.proofs.Common.{subst, eq-eqb}
-use Rattle.std.specs.Prelude.{find, IsSomeAnd}
-use Rattle.std.specs.List.{range_with_len}
-use Rattle.std.proofs.Math.Nat.{add-mod_right, mod-add-div', mod-lt}
+use Rattle.fit_profile.proofs.Common.{◌≡◌, ◌∙◌, ℕ, zero, suc, ◌+◌, ◌-◌, ◌*◌, ◌/◌, ◌%◌, ◌<◌, ◌≤◌, Bool, true, false, Some, None, inl, inr, refl, sym, ap, arith}
+use Rattle.fit_profile.proofs.Common.{subst, eq-eqb, find, IsSomeAnd, range_with_len, add-mod_right, mod-add-div', mod-lt, ne_eqb, cases_lt}
+use Rattle.std.proofs.Common.{◌==◌}
 use Rattle.std.proofs.lemmas.Nat.{mod-mul-add}
-use Rattle.std.proofs.lemmas.Bool.{ne_eqb, cases_lt}
 use Rattle.fit_profile.specs.Least.{least_from, IsLeastFrom}
 
 find-none : (p : ℕ → Bool) (n start : ℕ) → ((j : ℕ) → j < n → p (start + j) ≡ false) → find p (range_with_len start n) ≡ None

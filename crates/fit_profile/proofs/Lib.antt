@@ -1,3 +1,4 @@
+pub mod Common
 mod DayFacts
 mod DegreeFacts
 mod DigitFacts

@@ -1,26 +1,20 @@
 -- A message without a field for a component has no number of it.
-use Rattle.std.proofs.Common.{◌≡◌, ℕ, ◌==◌, ◌&&◌, List, [], ◌∷◌, None, true, false, inl, inr, refl, ap, sym, ◌∙◌}
-use Rattle.std.specs.List.{list_any}
-use Rattle.std.proofs.lemmas.Bool.{cases_Bool, or_parts, both_ways, eqb-true}
-use Rattle.fit_base.specs.declared.items.Items.{Items}
-use Rattle.fit_record.specs.declared.definition.FieldDef.{FieldDef}
-use Rattle.fit_record.specs.declared.definition.MessageDef.{MessageDef}
-use Rattle.fit_record.specs.declared.message.Values.{Values}
+use Rattle.fit_profile.proofs.Common.{◌≡◌, ℕ, List, ◌∷◌, None, true, false, inl, inr, refl, ap, sym, ◌∙◌, list_any, cases_Bool, or_parts, both_ways, Items}
+use Rattle.fit_profile.proofs.Common.{FieldDef, MessageDef, Values, first_field, number_of}
+use Rattle.std.proofs.Common.{◌==◌, ◌&&◌}
+use Rattle.std.proofs.lemmas.Bool.{eqb-true}
 use Rattle.fit_profile.specs.declared.component.Component.{Component}
-use Rattle.fit_profile.specs.Looks.{first_field}
-use Rattle.fit_profile.specs.Accumulated.{number_of}
 use Rattle.fit_profile.specs.inner.Counters.{is_counter}
 
 no-field : {A : Type 0} (fields : List FieldDef) (items : List (Items A)) (number : ℕ) → is_counter number ≡ true
     → list_any (λ f. is_counter f.number) fields ≡ false → first_field fields items number ≡ None
-no-field [] items number is none = refl
-no-field (f ∷ fields) [] number is none = refl
 no-field (f ∷ fields) (i ∷ items) number is none =
     let parts = or_parts (is_counter f.number) (list_any (λ g. is_counter g.number) fields) none in
     elim (cases_Bool (f.number == number)) [
       | inl same ↦ absurd (both_ways (is_counter number) (ap is_counter (sym (eqb-true f.number number same)) ∙ parts.0) is)
       | inr other ↦ rw other (no-field fields items number is parts.1)
     ]
+no-field _ _ number is none = refl
 
 pub no-number : {A : Type 0} (c : Component) (d : MessageDef A) (v : Values A) → is_counter c.field ≡ true
     → (d.global == 20 && list_any (λ f. is_counter f.number) d.fields) ≡ false → number_of c d v ≡ None

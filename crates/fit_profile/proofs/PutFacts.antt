@@ -1,10 +1,8 @@
 -- The digits of numbers that are put one after another.
-use Rattle.std.proofs.Common.{◌≡◌, ◌∙◌, ◌++◌, ◌∷◌, [], ◌+◌, ◌*◌, ◌/◌, ◌%◌, ◌^◌, ◌<◌, ◌≤◌, zero, suc, ℕ, decimal, List, refl, ap, ap₂, sym, arith, append_assoc}
-use Rattle.std.proofs.Math.Nat.{pow-succ', div-div-eq-div-mul}
-use Rattle.std.proofs.lemmas.Fmt.{decimal_by_steps_wide, decimal_step_wide}
-use Rattle.fit_profile.specs.FixedText.{last_digits}
-use Rattle.fit_profile.proofs.DigitFacts.{last_digits-end, last_digits-none, power_above}
+use Rattle.fit_profile.proofs.Common.{◌≡◌, ◌∙◌, ◌++◌, ◌∷◌, [], ◌+◌, ◌*◌, ◌/◌, ◌%◌, ◌^◌, ◌<◌, ◌≤◌, zero, suc, ℕ, decimal, List, refl, ap, ap₂, sym, arith}
+use Rattle.fit_profile.proofs.Common.{append_assoc, pow-succ', div-div-eq-div-mul, decimal_by_steps_wide, decimal_step_wide, last_digits}
 use Rattle.std.proofs.lemmas.List.{append-nil}
+use Rattle.fit_profile.proofs.DigitFacts.{last_digits-end, last_digits-none, power_above}
 
 pub one_digit : (n : ℕ) → n < 10 → decimal n ≡ (48 + n) ∷ []
 one_digit n h = decimal_by_steps_wide (λ m ds. m < 10 → ds ≡ (48 + m) ∷ []) (λ m l less. refl) (λ m ds l more less. absurd (omega (arith, l, less))) n
@@ -106,3 +104,17 @@ three_decimals n h =
     let b : n / 10 % 10 ≡ n % 100 / 10 = omega arith in
     let c : n / 1 % 10 ≡ n % 100 % 10 = omega arith in
     rw (a, b, c) refl
+
+pub seven_decimals : (n : ℕ) → n < 10_000_000 → last_digits 7 n
+    ≡ (48 + n / 10_000 / 100) ∷ (48 + n / 10_000 % 100 / 10) ∷ (48 + n / 10_000 % 100 % 10) ∷ (48 + n % 10_000 / 100 / 10)
+    ∷ (48 + n % 10_000 / 100 % 10) ∷ (48 + n % 10_000 % 100 / 10) ∷ (48 + n % 10_000 % 100 % 10) ∷ []
+unfolding last_digits
+seven_decimals n h =
+    let a : n / 1_000_000 % 10 ≡ n / 10_000 / 100 = omega (arith, h) in
+    let b : n / 100_000 % 10 ≡ n / 10_000 % 100 / 10 = omega arith in
+    let c : n / 10_000 % 10 ≡ n / 10_000 % 100 % 10 = omega arith in
+    let d : n / 1000 % 10 ≡ n % 10_000 / 100 / 10 = omega arith in
+    let e : n / 100 % 10 ≡ n % 10_000 / 100 % 10 = omega arith in
+    let f : n / 10 % 10 ≡ n % 10_000 % 100 / 10 = omega arith in
+    let g : n / 1 % 10 ≡ n % 10_000 % 100 % 10 = omega arith in
+    rw (a, b, c, d, e, f, g) refl

@@ -1,7 +1,5 @@
 -- A raw value stands for one number.
-use Rattle.std.proofs.Common.{◌≡◌, ◌∙◌, ℕ, ℤ, pos, ◌*ℤ◌, inl, inr, arith, sym}
-use Rattle.std.proofs.lemmas.Int.{ints}
-use Rattle.fit_profile.specs.Scaled.{IsScale, IsScaled}
+use Rattle.fit_profile.proofs.Common.{◌≡◌, ◌∙◌, ℕ, ℤ, pos, ◌*ℤ◌, inl, inr, arith, sym, ints, IsScale, IsScaled}
 
 same-times : (v w : ℤ) (s : ℕ) → IsScale s → v *ℤ pos s ≡ w *ℤ pos s → v ≡ w
 same-times v w s (inl one) e = let h = rw one at e in omega (arith, ints, h)

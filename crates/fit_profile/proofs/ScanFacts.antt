@@ -1,14 +1,7 @@
 -- What a printed text reads as.
-use Rattle.std.proofs.Common.{◌≡◌, ◌∙◌, ◌++◌, ◌∷◌, [], ◌/◌, ◌%◌, ◌^◌, ◌<◌, ◌≤◌, ℕ, ℤ, pos, negsuc, unsigned_abs, decimal, List, false, refl, ap, ap₂, arith}
-use Rattle.std.proofs.Common.{sym, length, subst}
-use Rattle.std.proofs.Math.Nat.{div-le_self}
-use Rattle.std.proofs.lemmas.Bool.{ne_eqb}
-use Rattle.std.proofs.lemmas.Int.{ints}
-use Rattle.std.proofs.lemmas.Fmt.{decimal_is_IsNumeral_wide}
-use Rattle.std.specs.Str.Parse.{starts_with_minus, AllDigits}
-use Rattle.std.specs.Char.{digit_value}
-use Rattle.fit_profile.specs.FixedText.{fixed_text, fraction, IsIn128}
-use Rattle.fit_profile.specs.inner.Digits.{digits_in, signed_value}
+use Rattle.fit_profile.proofs.Common.{◌≡◌, ◌∙◌, ◌++◌, ◌∷◌, [], ◌/◌, ◌%◌, ◌^◌, ◌<◌, ◌≤◌, ℕ, ℤ, pos, negsuc, unsigned_abs, decimal, List, false, refl, ap, ap₂}
+use Rattle.fit_profile.proofs.Common.{arith, sym, length, subst, div-le_self, ne_eqb, ints, decimal_is_IsNumeral_wide, starts_with_minus, AllDigits}
+use Rattle.fit_profile.proofs.Common.{digit_value, fixed_text, fraction, IsIn128, digits_in, signed_value}
 use Rattle.fit_profile.proofs.DigitFacts.{digits_in-text}
 
 minus-digit : digit_value 45 < 10 → ⊥

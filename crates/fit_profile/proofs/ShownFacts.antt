@@ -1,14 +1,6 @@
 -- What a message shows, by what is kept.
-use Rattle.std.proofs.Common.{◌≡◌, List, Option, Some, None, refl, sym, subst}
-use Rattle.std.specs.Prelude.{IsSomeAnd, IsSome}
-use Rattle.std.proofs.lemmas.Option.{none-some, same_Some}
-use Rattle.fit_record.specs.declared.environment.Defined.{Defined}
-use Rattle.fit_record.specs.declared.message.Values.{Values}
-use Rattle.fit_record.specs.declared.message.Record.{Record}
-use Rattle.fit_record.specs.Records.{DataFits}
-use Rattle.fit_profile.specs.Told.{told}
-use Rattle.fit_profile.specs.Described.{namings_at}
-use Rattle.fit_profile.specs.Meant.{Shown, meant}
+use Rattle.fit_profile.proofs.Common.{◌≡◌, List, Option, Some, None, refl, sym, subst, IsSomeAnd, IsSome, none-some, same_Some, Defined, Values, Record}
+use Rattle.fit_profile.proofs.Common.{DataFits, told, namings_at, Shown, meant}
 
 pub not-none : {X : Type 0} (o : Option X) → IsSome o → None ≡ o → ⊥
 not-none None h e = cc

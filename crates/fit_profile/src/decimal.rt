@@ -89,9 +89,7 @@ impl Fixed {
         ensures { (v : ℤ) → IsIn128 v → text.now ≡ fixed_text v decimals
             → result ≡ Some (record { value = v; decimals = decimals }) }
     {
-        let size = size_of(text.as_bytes())?;
-        let value = with_sign(is_below(text.as_bytes()), size)?;
-        Some(Fixed { value, decimals })
+        read_back(text, decimals)
     }
 
     /// The number that `print` writes as this text; None where it writes none so.
@@ -102,13 +100,23 @@ impl Fixed {
         ensures every { (v : ℤ) → IsIn128 v → text.now ≡ fixed_text v decimals
             → result ≡ Some (record { value = v; decimals = decimals }) }
     {
-        let size = size_of(text.as_bytes())?;
-        let value = with_sign(is_below(text.as_bytes()), size)?;
-        let fixed = Fixed { value, decimals };
+        let fixed = read_back(text, decimals)?;
         if fixed.print().as_str() == text {
             Some(fixed)
         } else {
             None
         }
     }
+}
+
+/// The number with so many decimals that prints as this text, and some such number, or None, where
+/// none does.
+fn read_back(text: &str, decimals: u8) -> Option<Fixed>
+    ensures every { (v : ℤ) → IsIn128 v → text.now ≡ fixed_text v decimals
+        → result ≡ Some (record { value = v; decimals = decimals }) }
+    ensures alike { IfSome result (λ f. f.decimals ≡ decimals) }
+{
+    let size = size_of(text.as_bytes())?;
+    let value = with_sign(is_below(text.as_bytes()), size)?;
+    Some(Fixed { value, decimals })
 }

@@ -13,7 +13,7 @@ use crate::told::Told;
 use crate::value::{in_scale, value_of};
 use crate::{Fixed, message_name};
 use fit_base::Items;
-use fit_record::{Defined, Env, FieldDef, Values};
+use fit_record::{Defined, Env, FieldDef, MessageDef, Values};
 use std::alloc::{Allocator, Global};
 
 /// A field of a message: its number, its base type code and its items.
@@ -40,6 +40,20 @@ impl<'a, A: Allocator> Message<'a, A> {
         ensures { result ≡ (shown self.now).definition.global }
     {
         self.defined.definition.global
+    }
+
+    /// The definition of the message.
+    pub fn definition(&self) -> &MessageDef<A>
+        ensures { result.now ≡ (shown self.now).definition }
+    {
+        &self.defined.definition
+    }
+
+    /// The values of the message, as the record has them.
+    pub fn values(&self) -> &Values<A>
+        ensures { result.now ≡ (shown self.now).values }
+    {
+        self.values
     }
 
     /// The name of the message, where the profile lists it.

@@ -23,7 +23,7 @@ pub const FILE_CREATOR: u16 = 49;
 /// Times between heartbeats.
 pub const HRV: u16 = 78;
 /// The description of a developer field.
-pub const FIELD_DESCRIPTION: u16 = 206;
+pub const FIELD_DESCRIPTION: u16 = fit_record::FIELD_DESCRIPTION;
 /// The application that a developer data index stands for.
 pub const DEVELOPER_DATA_ID: u16 = 207;
 

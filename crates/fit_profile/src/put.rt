@@ -141,6 +141,40 @@ fn put_thousandths(text: &mut Vec<u8>, part: u64) -> Result<(), AllocError>
     text.extend_from_slice(&[b'.', digit(part / 100), tens(low), ones(low)])
 }
 
+/// Puts the point and seven decimals behind a text.
+#[tactic(auto, using(crate::proofs::PutFacts::seven_decimals))]
+fn put_ten_millionths(text: &mut Vec<u8>, part: u64) -> Result<(), AllocError>
+    requires { part < 10_000_000 }
+    ensures ok { OnOk result (text.new.items ≡ text.old.items ++ fraction 7 part) }
+    ensures err { OnErr result (text.new.items ≡ text.old.items) }
+{
+    let high = part / 10_000;
+    let low = part % 10_000;
+    let (a, b) = (high / 100, high % 100);
+    let (c, d) = (low / 100, low % 100);
+    text.extend_from_slice(&[
+        b'.',
+        digit(a),
+        tens(b),
+        ones(b),
+        tens(c),
+        ones(c),
+        tens(d),
+        ones(d),
+    ])
+}
+
+/// Puts a size with seven decimals behind a text.
+#[tactic(auto, using(crate::proofs::KeptTexts::more_put))]
+fn put_fine(text: &mut Vec<u8>, size: u64) -> Result<(), AllocError>
+    ensures ok { OnOk result (text.new.items ≡ text.old.items ++ decimal (size / 10 ^ 7)
+        ++ fraction 7 (size % 10 ^ 7)) }
+    ensures kept { OnErr result (StillBegins text.old.items text.new.items) }
+{
+    put_whole(text, size / 10_000_000)?;
+    put_ten_millionths(text, size % 10_000_000)
+}
+
 /// Puts a size with at most three decimals behind a text.
 #[tactic(auto, using(crate::proofs::KeptTexts::more_put))]
 fn put_size(text: &mut Vec<u8>, size: u64, decimals: u8) -> Result<(), AllocError>
@@ -188,11 +222,14 @@ fn put_scaled(text: &mut Vec<u8>, value: i64, decimals: u8) -> Result<(), AllocE
     ensures ok { OnOk result (text.new.items ≡ text.old.items ++ fixed_text value decimals) }
     ensures kept { OnErr result (StillBegins text.old.items text.new.items) }
 {
-    if decimals > 3 {
+    if decimals > 3 && decimals != 7 {
         return put_printed(text, value, decimals);
     }
     if value < 0 {
         text.push(b'-')?;
+    }
+    if decimals == 7 {
+        return put_fine(text, value.unsigned_abs());
     }
     put_size(text, value.unsigned_abs(), decimals)
 }

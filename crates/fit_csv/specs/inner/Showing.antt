@@ -3,8 +3,8 @@ use Rattle.std.specs.Prelude.{ℕ, List, [], option_map, unwrap_or, Option, None
 use Rattle.fit_record.specs.declared.message.Record.{Record}
 use Rattle.fit_record.specs.declared.message.Record.TheVariants.{Define, Values as Data}
 use Rattle.fit_record.specs.Environment.{defined_at}
-use Rattle.fit_decode.specs.declared.event.Event.{Event as Answer}
-use Rattle.fit_decode.specs.declared.event.Event.TheVariants as answers
+use Rattle.fit_chain.specs.declared.event.Event.{Event as Answer}
+use Rattle.fit_chain.specs.declared.event.Event.TheVariants as answers
 use Rattle.fit_profile.specs.Described.{namings_at}
 use Rattle.fit_profile.specs.Looks.{known}
 use Rattle.fit_profile.specs.Times.{time}

@@ -3,7 +3,7 @@ use Rattle.std.specs.Prelude.{◌≡◌, ◌≤◌, ℕ, false, List, [], ◌∷
 use Rattle.std.specs.Option.{option_map_or}
 use Rattle.csv.specs.Writing.{default_writer, needs_quotes}
 use Rattle.fit_record.specs.declared.message.Record.{Record}
-use Rattle.fit_decode.specs.declared.event.Event.{Event as Answer}
+use Rattle.fit_chain.specs.declared.event.Event.{Event as Answer}
 use Rattle.fit_decode.specs.Answers.{event_of}
 use Rattle.fit_profile.specs.declared.decimal.Fixed.{Fixed}
 use Rattle.fit_profile.specs.declared.message.Message.{Message}

@@ -13,15 +13,16 @@ use crate::from::misfit::Misfit;
 use crate::from::open_file::{OpenFile, Part};
 use crate::rows::maker::RowMaker;
 use fit_base::Entries;
+use fit_encode::{SpelledFile, SpelledRecords};
 use fit_profile::Stream;
-use fit_record::{CHAIN_LIMIT, FitFile};
+use fit_record::CHAIN_LIMIT;
 use std::alloc::Global;
 use std::mem;
 
 /// The files of a chain that are whole, and the one that isn't.
 #[derive(Drop)]
 pub(crate) struct Chain {
-    pub files: Entries<FitFile>,
+    pub files: Entries<SpelledFile>,
     pub current: Option<OpenFile>,
 }
 
@@ -52,7 +53,7 @@ impl Chain {
         let header = file_header(alloc, cells)?;
         self.current = Some(OpenFile {
             header,
-            records: Entries::new(alloc),
+            records: SpelledRecords::new(alloc),
             before: Stream::new(alloc),
             part: Part::Nothing,
         });
@@ -82,10 +83,7 @@ impl Chain {
         let Some(file) = mem::replace(&mut self.current, None) else {
             return Err(Misfit::Kind);
         };
-        match self.files.push(FitFile {
-            header: file.header,
-            records: file.records,
-        }) {
+        match self.files.push(SpelledFile::new(file.header, file.records)) {
             Ok(()) => Ok(()),
             Err(_) => Err(Misfit::NoMemory),
         }

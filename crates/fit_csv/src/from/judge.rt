@@ -18,8 +18,8 @@ use crate::rows::maker::RowMaker;
 use csv::{ByteRecord, Reader};
 use fit_base::Entries;
 use fit_cells::{RowWriter, next_row, row_reader};
+use fit_encode::SpelledFile;
 use fit_profile::laws::text_has_one_number;
-use fit_record::FitFile;
 use std::alloc::Global;
 
 /// Whether cells are those of the first line.
@@ -73,7 +73,7 @@ fn judge_row(
 }
 
 /// The files of a chain of which so many rows have come, where the text may end behind them.
-fn whole_files(chain: Chain, rows: u64) -> Result<Entries<FitFile>, CsvFault>
+fn whole_files(chain: Chain, rows: u64) -> Result<Entries<SpelledFile>, CsvFault>
     requires { rows < 2 ^ 63 }
     ensures ok { IfOk result (λ files. (chain.current ≡ None) × (files ≡ chain.files)
         × (0 < length files)) }
@@ -90,7 +90,7 @@ fn whole_files(chain: Chain, rows: u64) -> Result<Entries<FitFile>, CsvFault>
 }
 
 /// The files of a chain that is whole.
-fn files_of(chain: Chain) -> Option<Entries<FitFile>>
+fn files_of(chain: Chain) -> Option<Entries<SpelledFile>>
     ensures { IfSome result (λ files. (chain.current ≡ None) × (files ≡ chain.files)
         × (0 < length files)) }
 {
@@ -106,7 +106,7 @@ fn judge_rest(
     text: &[u8],
     reader: &mut Reader<&[u8]>,
     row: &mut ByteRecord,
-) -> Result<Entries<FitFile>, CsvFault>
+) -> Result<Entries<SpelledFile>, CsvFault>
     requires { HasRead text.now (first_line ∷ []) reader.old }
     ensures ok { IfOk result (AreFilesOf text.now) }
     ensures err { IfErr result (IsTextFault text.now) }
@@ -174,7 +174,7 @@ fn take_next<'a>(
 }
 
 /// The files whose rows are those of a text, where it stands as `to_csv` writes it. Some such texts are left to `judge_any`.
-fn judge_plain(alloc: Global, text: &[u8]) -> Option<Entries<FitFile>>
+fn judge_plain(alloc: Global, text: &[u8]) -> Option<Entries<SpelledFile>>
     ensures { IfSome result (AreFilesOf text.now) }
 {
     let mut rest = behind_first_line(text)?;
@@ -191,7 +191,7 @@ fn judge_plain(alloc: Global, text: &[u8]) -> Option<Entries<FitFile>>
 }
 
 /// The files whose rows are those of a text, or the first fault of its rows. The crate csv reads its rows.
-fn judge_any(alloc: Global, text: &[u8]) -> Result<Entries<FitFile>, CsvFault>
+fn judge_any(alloc: Global, text: &[u8]) -> Result<Entries<SpelledFile>, CsvFault>
     ensures ok { IfOk result (AreFilesOf text.now) }
     ensures err { IfErr result (IsTextFault text.now) }
 {
@@ -210,7 +210,7 @@ fn judge_any(alloc: Global, text: &[u8]) -> Result<Entries<FitFile>, CsvFault>
 }
 
 /// The files whose rows are those of a text, or the first fault of its rows.
-pub(crate) fn judge(alloc: Global, text: &[u8]) -> Result<Entries<FitFile>, CsvFault>
+pub(crate) fn judge(alloc: Global, text: &[u8]) -> Result<Entries<SpelledFile>, CsvFault>
     ensures ok { IfOk result (AreFilesOf text.now) }
     ensures err { IfErr result (IsTextFault text.now) }
 {

@@ -1,5 +1,5 @@
 //! A file of which not all rows have come.
-ghost use Rattle.std.specs.Prelude.{◌≡◌, ◌↔◌, IfErr, IfOk, IfSome, IsNone, IsTrue, OnOk, codes};
+ghost use Rattle.std.specs.Prelude.{◌≡◌, ◌↔◌, IfErr, IfOk, IfSome, IsNone, IsTrue, OnOk, codes, reverse};
 ghost use Rattle.fit_record.specs.Records.{Fits};
 ghost use Rattle.fit_profile.specs.Looks.{known};
 ghost use Rattle.fit_csv.specs.declared.from.open_file.Part.{Part};
@@ -17,6 +17,7 @@ use crate::from::open_message::{is_whole_message, take_message};
 use crate::from::whole::whole_message;
 use crate::rows::maker::RowMaker;
 use fit_base::Entries;
+use fit_encode::SpelledRecords;
 use fit_frame::Header;
 use fit_profile::Stream;
 use fit_record::{Record, Values};
@@ -36,7 +37,7 @@ pub(crate) enum Part {
 pub(crate) struct OpenFile {
     pub header: Header,
     /// The records that are whole.
-    pub records: Entries<Record>,
+    pub records: SpelledRecords,
     /// The same records, as the rows of data messages need them.
     pub before: Stream,
     pub part: Part,
@@ -137,21 +138,21 @@ impl OpenFile {
 
     /// A record is whole.
     fn add_record(&mut self, r: Record) -> Result<(), Misfit>
-        requires { Fits (known self.old.before) r }
+        requires same_records { self.old.before ≡ reverse self.old.records }
+        requires fits { Fits (known self.old.before) r }
         ensures ok { OnOk result (self.new ≡ with_record self.old r) }
         ensures err { IfErr result (λ misfit. misfit ≡ Misfit.NoMemory) }
     {
         self.part = Part::Nothing;
+        self.records.push(self.before.env(), &r)?;
         self.before.take(&r)?;
-        match self.records.push(r) {
-            Ok(()) => Ok(()),
-            Err(_) => Err(Misfit::NoMemory),
-        }
+        Ok(())
     }
 
     /// This part of a record has come, or all of it.
     fn settle(&mut self, part: Part) -> Result<(), Misfit>
-        requires { FitsOnceWhole self.old.before part }
+        requires same_records { self.old.before ≡ reverse self.old.records }
+        requires fits { FitsOnceWhole self.old.before part }
         ensures ok { OnOk result (self.new ≡ settled self.old part) }
         ensures err { IfErr result (λ misfit. misfit ≡ Misfit.NoMemory) }
     {

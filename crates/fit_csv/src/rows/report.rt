@@ -60,7 +60,7 @@ pub(crate) struct CsvReport {
 impl Model for CsvReport {
     ghost use Rattle.std.specs.Prelude.{◌≡◌, List};
     ghost use Rattle.std.specs.Global.{Global};
-    ghost use Rattle.fit_decode.specs.Events.{Event as Told};
+    ghost use Rattle.fit_chain.specs.Events.{Event as Told};
     ghost use Rattle.fit_report.specs.Heard.{latest_records};
 
     ghost Value = { List (Told Global) };

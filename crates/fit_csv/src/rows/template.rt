@@ -123,7 +123,7 @@ fn is_same(a: &FieldDef, b: &FieldDef) -> bool
 }
 
 /// Whether the fields are the same one by one.
-fn are_same(a: &[FieldDef], b: &[FieldDef]) -> bool
+pub(crate) fn are_same(a: &[FieldDef], b: &[FieldDef]) -> bool
     ensures { IsTrue result → a.now ≡ b.now }
 {
     if a.len() != b.len() {

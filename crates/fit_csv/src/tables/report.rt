@@ -1,16 +1,16 @@
 //! The rows of the table, told one after another.
-ghost use Rattle.std.specs.Prelude.{◌≡◌, ◌<◌, ◌^◌, ◌++◌, ◌∷◌, [], ℕ, List, Some, IfOk, OnErr, OnOk};
+ghost use Rattle.std.specs.Prelude.{◌≡◌, ◌<◌, ◌^◌, ◌++◌, ◌∷◌, [], ℕ, List, Some, IfOk, IfSome, OnErr, OnOk};
 ghost use Rattle.std.specs.Global.{Global};
 ghost use Rattle.fit_record.specs.declared.message.Record.{Record};
 ghost use Rattle.fit_record.specs.Records.{Fits};
 ghost use Rattle.fit_profile.specs.Looks.{known};
-ghost use Rattle.fit_profile.specs.Meant.{MessageOf};
+ghost use Rattle.fit_profile.specs.Meant.{MessageOf, shown};
 ghost use Rattle.fit_cells.specs.Rows.{csv_text};
 ghost use Rattle.fit_csv.specs.inner.Reporting.{AnswerFits, behind_answer};
 ghost use Rattle.fit_csv.specs.Table.{table_record_rows};
 ghost use Rattle.fit_csv.specs.inner.TableCells.{files_behind_answer, rows_in, table_answer_rows};
 
-use crate::tables::rows::put_table_row;
+use crate::tables::maker::{TableMaker, put_table_row};
 use fit_decode::Event;
 use fit_profile::laws::looking_back_is_learning;
 use fit_profile::message_number::RECORD;
@@ -23,7 +23,8 @@ use std::marker::Model;
 
 /// A message, where it is a record message.
 fn row_of(message: Option<Message>) -> Option<Message>
-    ensures { (file : ℕ) (before : List (Record Global)) (r : Record Global)
+    ensures global { IfSome result (λ m. (shown m).definition.global ≡ 20) }
+    ensures rows { (file : ℕ) (before : List (Record Global)) (r : Record Global)
         → MessageOf before r message.entry → rows_in file result ≡ table_record_rows file before r }
 {
     let message = message?;
@@ -34,11 +35,17 @@ fn row_of(message: Option<Message>) -> Option<Message>
 }
 
 /// Puts the text of the row of a record message, where there is one.
-fn put_text(text: &mut Vec<u8>, message: &Option<Message>, file: u64) -> Result<(), AllocError>
+fn put_text(
+    text: &mut Vec<u8>,
+    maker: &mut TableMaker,
+    message: &Option<Message>,
+    file: u64,
+) -> Result<(), AllocError>
+    requires { IfSome message.now (λ m. (shown m).definition.global ≡ 20) }
     ensures { OnOk result (text.new.items ≡ text.old.items ++ csv_text (rows_in file message.now)) }
 {
     match message {
-        Some(message) => put_table_row(text, message, file),
+        Some(message) => put_table_row(text, maker, message, file),
         None => Ok(()),
     }
 }
@@ -47,6 +54,7 @@ fn put_text(text: &mut Vec<u8>, message: &Option<Message>, file: u64) -> Result<
 /// stays as it was; the answer within says whether the text was put.
 fn take_record(
     text: &mut Vec<u8>,
+    maker: &mut TableMaker,
     stream: &mut Stream,
     file: u64,
     record_: &Record,
@@ -59,7 +67,7 @@ fn take_record(
     ensures err { OnErr result (stream.new ≡ stream.old) }
 {
     let message = row_of(stream.push(record_)?);
-    Ok(put_text(text, &message, file))
+    Ok(put_text(text, maker, &message, file))
 }
 
 /// Takes an event in, and puts the text of its row. A header begins a file. Where memory is refused for the event, stream and files
@@ -67,6 +75,7 @@ fn take_record(
 #[tactic(auto, using(fit_cells::proofs::AddedRows::text_none))]
 fn hear(
     text: &mut Vec<u8>,
+    maker: &mut TableMaker,
     stream: &mut Stream,
     files: &mut u64,
     event: &Event,
@@ -87,7 +96,7 @@ fn hear(
             *files += 1;
             Ok(Ok(()))
         }
-        Event::Item(record_) => take_record(text, stream, *files, record_),
+        Event::Item(record_) => take_record(text, maker, stream, *files, record_),
         Event::More | Event::FileEnd => Ok(Ok(())),
     }
 }
@@ -98,13 +107,14 @@ pub(crate) struct TableReport {
     stream: Stream,
     /// How many files have begun.
     files: u64,
+    maker: TableMaker,
     heard: Heard,
 }
 
 impl Model for TableReport {
     ghost use Rattle.std.specs.Prelude.{◌≡◌, List};
     ghost use Rattle.std.specs.Global.{Global};
-    ghost use Rattle.fit_decode.specs.Events.{Event as Told};
+    ghost use Rattle.fit_chain.specs.Events.{Event as Told};
     ghost use Rattle.fit_report.specs.Heard.{latest_records};
     ghost use Rattle.fit_csv.specs.ChainRows.{files_heard};
 
@@ -124,6 +134,7 @@ impl TableReport {
         TableReport {
             stream: Stream::new(alloc),
             files: 0,
+            maker: TableMaker::new(alloc),
             heard: Heard::new(),
         }
     }
@@ -146,7 +157,13 @@ impl Report for TableReport {
         heard_records_fit::<Global>();
         heard_are_few::<Global>();
         looking_back_is_learning::<Global>();
-        let put = hear(text, &mut self.stream, &mut self.files, event)?;
+        let put = hear(
+            text,
+            &mut self.maker,
+            &mut self.stream,
+            &mut self.files,
+            event,
+        )?;
         self.heard.add(event);
         put
     }

@@ -9,7 +9,6 @@ ghost use Rattle.fit_csv.specs.Table as table;
 ghost use Rattle.fit_cells.specs.Rows.{HasRows};
 ghost use Rattle.fit_csv.specs.inner.TableCells.{IsPlain, cells_of, shown_text};
 
-use crate::words::time_text;
 use fit_base::Items;
 use fit_profile::laws::degrees_are_one;
 use fit_profile::{Fixed, Label, Message, degrees, put_whole};
@@ -17,18 +16,18 @@ use std::alloc::AllocError;
 
 /// The numbers of a row of the table.
 #[derive(Drop)]
-struct TableRow {
-    file: u64,
-    timestamp: Label,
-    position_lat: Option<Fixed>,
-    position_long: Option<Fixed>,
-    altitude: Option<Fixed>,
-    distance: Option<Fixed>,
-    speed: Option<Fixed>,
-    heart_rate: Option<Fixed>,
-    cadence: Option<Fixed>,
-    power: Option<Fixed>,
-    temperature: Option<Fixed>,
+pub(crate) struct TableRow {
+    pub file: u64,
+    pub timestamp: Label,
+    pub position_lat: Option<Fixed>,
+    pub position_long: Option<Fixed>,
+    pub altitude: Option<Fixed>,
+    pub distance: Option<Fixed>,
+    pub speed: Option<Fixed>,
+    pub heart_rate: Option<Fixed>,
+    pub cadence: Option<Fixed>,
+    pub power: Option<Fixed>,
+    pub temperature: Option<Fixed>,
 }
 
 /// Puts the cell of a number that isn't the first of its row behind a text. It is empty where there is no number.
@@ -46,7 +45,7 @@ fn put_number(text: &mut Vec<u8>, value: &Option<Fixed>) -> Result<(), AllocErro
 }
 
 /// A number, and else another.
-fn either(value: Option<Fixed>, other: Option<Fixed>) -> Option<Fixed>
+pub(crate) fn either(value: Option<Fixed>, other: Option<Fixed>) -> Option<Fixed>
     requires value { IfSome value (λ v. v.decimals ≤ 8) }
     requires other { IfSome other (λ v. v.decimals ≤ 8) }
     ensures text { shown_text result ≡ or_else (shown_text value) (shown_text other) }
@@ -59,7 +58,7 @@ fn either(value: Option<Fixed>, other: Option<Fixed>) -> Option<Fixed>
 }
 
 /// The number of the first field of this number.
-fn value(message: &Message, number: u8) -> Option<Fixed>
+pub(crate) fn value(message: &Message, number: u8) -> Option<Fixed>
     ensures text { shown_text result ≡ table.value_text (shown message.now).definition
         (shown message.now).values number }
     ensures few { IfSome result (λ v. v.decimals ≤ 8) }
@@ -68,7 +67,7 @@ fn value(message: &Message, number: u8) -> Option<Fixed>
 }
 
 /// The accumulated distance.
-fn distance(message: &Message) -> Option<Fixed>
+pub(crate) fn distance(message: &Message) -> Option<Fixed>
     ensures text { shown_text result ≡ option_map (λ n. table.amount_text (pos n) 16 0)
         (shown message.now).told.distance }
     ensures few { IfSome result (λ v. v.decimals ≤ 8) }
@@ -77,7 +76,7 @@ fn distance(message: &Message) -> Option<Fixed>
 }
 
 /// The speed in compressed_speed_distance.
-fn speed(message: &Message) -> Option<Fixed>
+pub(crate) fn speed(message: &Message) -> Option<Fixed>
     ensures text { shown_text result ≡ option_map (λ n. table.amount_text (pos n) 100 0)
         (shown message.now).told.speed }
     ensures few { IfSome result (λ v. v.decimals ≤ 8) }
@@ -86,7 +85,7 @@ fn speed(message: &Message) -> Option<Fixed>
 }
 
 /// The first item of a field of the base type sint32, where it is valid.
-fn semicircles(items: &Items) -> Option<i32>
+pub(crate) fn semicircles(items: &Items) -> Option<i32>
     ensures { result ≡ option_and_then (values.valid_number 0x85 items.now.width)
         (slice_get items.now.bits 0) }
 {
@@ -99,7 +98,7 @@ fn semicircles(items: &Items) -> Option<i32>
 }
 
 /// A position in degrees.
-fn in_degrees(semicircles: i32) -> Fixed
+pub(crate) fn in_degrees(semicircles: i32) -> Fixed
     ensures value { result.value ≡ degrees_of semicircles }
     ensures decimals { result.decimals ≡ 7 }
 {
@@ -108,7 +107,7 @@ fn in_degrees(semicircles: i32) -> Fixed
 }
 
 /// The position in the first field of this number, where that is of the base type sint32.
-fn position(message: &Message, number: u8) -> Option<Fixed>
+pub(crate) fn position(message: &Message, number: u8) -> Option<Fixed>
     ensures text { shown_text result ≡ table.degrees_text (shown message.now).definition
         (shown message.now).values number }
     ensures few { IfSome result (λ v. v.decimals ≤ 8) }
@@ -118,30 +117,6 @@ fn position(message: &Message, number: u8) -> Option<Fixed>
         return None;
     }
     Some(in_degrees(semicircles(field.items)?))
-}
-
-/// The row of a record message of a file.
-fn table_row(message: &Message, file: u64) -> TableRow
-    ensures cells { cells_of result ≡ table.table_row file (shown message.now).definition
-        (shown message.now).values (shown message.now).told }
-    ensures plain { IsPlain result }
-{
-    TableRow {
-        file,
-        timestamp: time_text(message.time()),
-        position_lat: position(message, 0),
-        position_long: position(message, 1),
-        altitude: either(value(message, 78), value(message, 2)),
-        distance: either(value(message, 5), distance(message)),
-        speed: either(
-            value(message, 73),
-            either(value(message, 6), speed(message)),
-        ),
-        heart_rate: value(message, 3),
-        cadence: value(message, 4),
-        power: value(message, 7),
-        temperature: value(message, 13),
-    }
 }
 
 /// Puts the first two cells of a row behind a text.
@@ -157,7 +132,7 @@ fn put_first(text: &mut Vec<u8>, row: &TableRow) -> Result<(), AllocError>
 }
 
 /// Puts a row behind a text.
-fn put_cells(text: &mut Vec<u8>, row: &TableRow) -> Result<(), AllocError>
+pub(crate) fn put_cells(text: &mut Vec<u8>, row: &TableRow) -> Result<(), AllocError>
     requires { IsPlain row.now }
     ensures { OnOk result (HasRows (cells_of row.now ∷ []) text.old text.new) }
 {
@@ -173,17 +148,4 @@ fn put_cells(text: &mut Vec<u8>, row: &TableRow) -> Result<(), AllocError>
     put_number(text, &row.temperature)?;
     text.push(b'\n')?;
     Ok(())
-}
-
-/// Puts the row of a record message of a file behind a text.
-pub(crate) fn put_table_row(
-    text: &mut Vec<u8>,
-    message: &Message,
-    file: u64,
-) -> Result<(), AllocError>
-    ensures { OnOk result (HasRows (table.table_row file (shown message.now).definition
-        (shown message.now).values (shown message.now).told ∷ []) text.old text.new) }
-{
-    let row = table_row(message, file);
-    put_cells(text, &row)
 }

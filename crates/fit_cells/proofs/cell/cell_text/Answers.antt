@@ -1,6 +1,4 @@
-use Rattle.std.proofs.Common.{sym, subst, option_map}
-use Rattle.std.specs.Str.{IsUtf8}
-use Rattle.fit_profile.specs.Names.{meaning}
+use Rattle.fit_cells.proofs.Common.{sym, subst, option_map, IsUtf8, meaning}
 use Rattle.fit_cells.proofs.TextFacts.{utf8-cell}
 use Rattle.fit_cells.proofs.cell.cell_text.Goals as goal
 

@@ -1,10 +1,5 @@
-use Rattle.std.proofs.Common.{rules, ◌≡◌, ◌∙◌, ◌++◌, ◌/◌, ◌^◌, ◌*ℤ◌, OnOk, ap, subst, arith, ℤ, pos, ◌-ℤ◌, to_z, of_z, List, ℕ}
-use Rattle.std.proofs.lemmas.Int.{ints, to_z-of_z}
-use Rattle.std.specs.Int.{w64}
-use Rattle.fit_profile.specs.FixedText.{fixed_text}
-use Rattle.fit_profile.specs.Scaled.{decimals}
-use Rattle.fit_base.specs.BaseTypes.{base_type}
-use Rattle.fit_cells.specs.Cells.{item_text}
+use Rattle.fit_cells.proofs.Common.{rules, ◌≡◌, ◌∙◌, ◌++◌, ◌/◌, ◌^◌, ◌*ℤ◌, OnOk, ap, subst, arith, ℤ, pos, ◌-ℤ◌, to_z, of_z, List, ℕ, ints, to_z-of_z, w64}
+use Rattle.fit_cells.proofs.Common.{fixed_text, decimals, base_type, item_text}
 use Rattle.fit_cells.proofs.FormFacts.{formed_item}
 use Rattle.fit_cells.proofs.form.put_formed.Goals as goal
 

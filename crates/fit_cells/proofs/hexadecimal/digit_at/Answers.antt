@@ -1,5 +1,4 @@
-use Rattle.std.proofs.Common.{◌∙◌, ◌*◌, ◌/◌, ◌%◌, ◌^◌, ap}
-use Rattle.fit_cells.specs.Cells.{hex_digit}
+use Rattle.fit_cells.proofs.Common.{◌∙◌, ◌*◌, ◌/◌, ◌%◌, ◌^◌, ap, hex_digit}
 use Rattle.fit_cells.proofs.HexFacts.{two-sixteen, low_digit, high_digit}
 use Rattle.fit_cells.proofs.hexadecimal.digit_at.Goals as goal
 

@@ -1,5 +1,4 @@
-use Rattle.std.proofs.Common.{◌≡◌, ◌++◌, take, flat_map}
-use Rattle.fit_cells.specs.Cells.{hex_digits}
+use Rattle.fit_cells.proofs.Common.{◌≡◌, ◌++◌, take, flat_map, hex_digits}
 use Rattle.fit_cells.proofs.hexadecimal.put_bytes.Given as goal
 
 abbrev pub invariant-loop-byte : goal.invariant-loop-byte

@@ -1,6 +1,5 @@
-use Rattle.std.proofs.Common.{◌≡◌, ◌∷◌, [], ◌++◌, ◌-◌, ◌+◌, is_ok, true, false, refl, rules, ap, ◌∙◌}
-use Rattle.fit_profile.proofs.KeptTexts.{last_put, none_put, on_err_always, then_none}
-use Rattle.fit_cells.specs.Cells.{hex_digits}
+use Rattle.fit_cells.proofs.Common.{◌≡◌, ◌∷◌, [], ◌++◌, ◌-◌, ◌+◌, is_ok, true, false, refl, rules, ap, ◌∙◌, last_put, none_put, on_err_always, then_none}
+use Rattle.fit_cells.proofs.Common.{hex_digits}
 use Rattle.fit_cells.proofs.HexFacts.{more_digits, all_digits}
 use Rattle.fit_cells.proofs.hexadecimal.put_digits.Goals as goal
 

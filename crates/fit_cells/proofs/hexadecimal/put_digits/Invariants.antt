@@ -1,6 +1,4 @@
-use Rattle.std.proofs.Common.{◌≡◌, ◌++◌, ◌-◌}
-use Rattle.fit_profile.specs.FixedText.{StillBegins}
-use Rattle.fit_cells.specs.Cells.{hex_digits}
+use Rattle.fit_cells.proofs.Common.{◌≡◌, ◌++◌, ◌-◌, StillBegins, hex_digits}
 use Rattle.fit_cells.proofs.hexadecimal.put_digits.Given as goal
 
 abbrev pub invariant-loop-written : goal.invariant-loop-written

@@ -1,6 +1,4 @@
-use Rattle.std.proofs.Common.{◌∙◌, ◌++◌, ◌-◌, ◌+◌, ◌<◌, All, ap₂, subst, sym}
-use Rattle.std.proofs.lemmas.List.Elements.{All-push}
-use Rattle.fit_cells.specs.Steps.{read_pairs}
+use Rattle.fit_cells.proofs.Common.{◌∙◌, ◌++◌, ◌-◌, ◌+◌, ◌<◌, All, ap₂, subst, sym, All-push, read_pairs}
 use Rattle.fit_cells.proofs.ReadFacts.{pairs-more, pairs-end}
 use Rattle.fit_cells.proofs.hexadecimal.read_bytes.Goals as goal
 

@@ -1,5 +1,4 @@
-use Rattle.std.proofs.Common.{◌≡◌, ◌<◌, ◌++◌, ◌-◌, All, drop}
-use Rattle.fit_cells.specs.Steps.{read_pairs}
+use Rattle.fit_cells.proofs.Common.{◌≡◌, ◌<◌, ◌++◌, ◌-◌, All, drop, read_pairs}
 use Rattle.fit_cells.proofs.hexadecimal.read_bytes.Given as goal
 
 abbrev pub invariant-loop-place : goal.invariant-loop-place

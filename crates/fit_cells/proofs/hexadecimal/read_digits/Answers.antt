@@ -1,5 +1,4 @@
-use Rattle.std.proofs.Common.{◌∙◌, ◌*◌, ◌+◌, arith, drop, ap, sym, drop_of_length-le}
-use Rattle.fit_cells.specs.Steps.{read_hex}
+use Rattle.fit_cells.proofs.Common.{◌∙◌, ◌*◌, ◌+◌, arith, drop, ap, sym, drop_of_length-le, read_hex}
 use Rattle.fit_cells.proofs.ReadFacts.{room, below_next, read_hex-at, read_hex-end}
 use Rattle.fit_cells.proofs.hexadecimal.read_digits.Goals as goal
 

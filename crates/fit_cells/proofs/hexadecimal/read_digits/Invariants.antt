@@ -1,5 +1,4 @@
-use Rattle.std.proofs.Common.{◌≡◌, ◌<◌, ◌^◌, drop}
-use Rattle.fit_cells.specs.Steps.{read_hex}
+use Rattle.fit_cells.proofs.Common.{◌≡◌, ◌<◌, ◌^◌, drop, read_hex}
 use Rattle.fit_cells.proofs.hexadecimal.read_digits.Given as goal
 
 abbrev pub invariant-loop-digit : goal.invariant-loop-digit

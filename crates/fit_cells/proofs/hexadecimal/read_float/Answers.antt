@@ -1,6 +1,4 @@
-use Rattle.std.proofs.Common.{◌∙◌, ap}
-use Rattle.std.proofs.lemmas.List.{take_rest}
-use Rattle.fit_cells.specs.Steps.{read_hex}
+use Rattle.fit_cells.proofs.Common.{◌∙◌, ap, take_rest, read_hex}
 use Rattle.fit_cells.proofs.ReadFacts.{float-length, float-read}
 use Rattle.fit_cells.proofs.hexadecimal.read_float.Goals as goal
 

@@ -1,5 +1,5 @@
 -- The items before are still there.
-use Rattle.fit_profile.proofs.KeptTexts.{more_put, on_err_always, part_put}
+use Rattle.fit_cells.proofs.Common.{more_put, on_err_always, part_put}
 use Rattle.fit_cells.proofs.numbers.put_items.Goals as goal
 
 pub returns-in_err-put_bar-clause-kept : goal.returns-in_err-put_bar-clause-kept

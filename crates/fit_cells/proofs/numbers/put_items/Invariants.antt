@@ -1,6 +1,4 @@
-use Rattle.std.proofs.Common.{◌≡◌, ◌++◌, take, map, option_map}
-use Rattle.fit_profile.specs.Names.{meaning}
-use Rattle.fit_cells.specs.Cells.{barred, item_text}
+use Rattle.fit_cells.proofs.Common.{◌≡◌, ◌++◌, take, map, option_map, meaning, barred, item_text}
 use Rattle.fit_cells.proofs.numbers.put_items.Given as goal
 
 abbrev pub invariant-loop-place : goal.invariant-loop-place

@@ -1,7 +1,4 @@
-use Rattle.std.proofs.Common.{◌≡◌, arith, to_z, of_z, FitsSigned, subst, ℤ}
-use Rattle.std.proofs.lemmas.Int.{ints, to_z-of_z}
-use Rattle.std.specs.Int.{w128}
-use Rattle.fit_profile.specs.Scaled.{IsScaled}
+use Rattle.fit_cells.proofs.Common.{◌≡◌, arith, to_z, of_z, FitsSigned, subst, ℤ, ints, to_z-of_z, w128, IsScaled}
 use Rattle.fit_cells.proofs.NumberFacts.{is_scaled}
 use Rattle.fit_cells.proofs.numbers.scaled.Goals as goal
 

@@ -1,7 +1,5 @@
-use Rattle.std.proofs.Common.{◌≡◌, ◌∙◌, ◌^◌, ◌<◌, ◌==◌, sym, eqb-true, eq-eqb, subst, length, option_map}
-use Rattle.std.proofs.lemmas.Option.{same_Some, none-some}
-use Rattle.fit_base.specs.BaseTypes.{base_type}
-use Rattle.fit_profile.specs.Names.{meaning}
+use Rattle.fit_cells.proofs.Common.{◌≡◌, ◌∙◌, ◌^◌, ◌<◌, sym, eqb-true, eq-eqb, subst, length, option_map, same_Some, none-some, base_type, meaning}
+use Rattle.std.proofs.Common.{◌==◌}
 use Rattle.fit_cells.proofs.ClassFacts.{code_width}
 use Rattle.fit_cells.proofs.NumberFacts.{empty-number, some-number, power-bound, raw-least, raw-most, raw-in, kept, same-raw}
 use Rattle.fit_cells.proofs.raw.read_number.Goals as goal

@@ -1,7 +1,4 @@
-use Rattle.std.proofs.Common.{◌≡◌, ◌∙◌, ◌-ℤ◌, pos, Some, arith, ap}
-use Rattle.std.proofs.lemmas.Int.{ints, to_z-of_z}
-use Rattle.std.specs.Int.{w128}
-use Rattle.std.proofs.lemmas.Option.{same_Some, none-some}
+use Rattle.fit_cells.proofs.Common.{◌≡◌, ◌∙◌, ◌-ℤ◌, pos, Some, arith, ap, ints, to_z-of_z, w128, same_Some, none-some}
 use Rattle.fit_cells.proofs.raw.unscaled.Goals as goal
 
 pub returns-in_err-number : goal.returns-in_err-number

@@ -1,5 +1,4 @@
-use Rattle.std.proofs.Common.{◌∙◌, sym, refl, ap, inr}
-use Rattle.csv.specs.Reading.{Reached, strip_bom, with_flexible}
+use Rattle.fit_cells.proofs.Common.{◌∙◌, sym, refl, ap, inr, Reached, strip_bom, with_flexible}
 use Rattle.fit_cells.proofs.rows.row_reader.Goals as goal
 
 pub returns : goal.returns

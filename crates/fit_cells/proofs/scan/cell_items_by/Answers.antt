@@ -1,8 +1,5 @@
-use Rattle.std.proofs.Common.{◌≡◌, ◌∙◌, ◌<◌, ◌^◌, Some, true, false, Decides, refl, sym, ap, subst, option_map}
-use Rattle.std.proofs.lemmas.List.Elements.{recursion_from_All}
+use Rattle.fit_cells.proofs.Common.{◌≡◌, ◌∙◌, ◌<◌, ◌^◌, Some, true, false, Decides, refl, sym, ap, subst, option_map, recursion_from_All, meaning, cell}
 use Rattle.std.proofs.lemmas.Slice.Eq.{bytes_eq-Decides}
-use Rattle.fit_profile.specs.Names.{meaning}
-use Rattle.fit_cells.specs.Cells.{cell}
 use Rattle.fit_cells.proofs.ItemFacts.{same-items, shape_whole}
 use Rattle.fit_cells.proofs.scan.cell_items_by.Goals as goal
 

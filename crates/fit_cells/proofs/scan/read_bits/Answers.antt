@@ -1,10 +1,5 @@
-use Rattle.std.proofs.Common.{◌≡◌, ◌∙◌, ◌<◌, ◌^◌, ℕ, List, All, length, drop, map, sym, ap, subst, option_map}
-use Rattle.std.proofs.lemmas.Result.{IfOk-weaker}
-use Rattle.fit_base.specs.declared.code.Class.TheVariants.{Bytes}
-use Rattle.fit_base.specs.BaseTypes.{base_type}
-use Rattle.fit_profile.specs.Names.{meaning}
-use Rattle.fit_cells.specs.Cells.{barred, class_of, item_text, items_text}
-use Rattle.fit_cells.specs.Steps.{read_pairs}
+use Rattle.fit_cells.proofs.Common.{◌≡◌, ◌∙◌, ◌<◌, ◌^◌, ℕ, List, All, length, drop, map, sym, ap, subst, option_map, IfOk-weaker, Bytes, base_type, meaning}
+use Rattle.fit_cells.proofs.Common.{barred, class_of, item_text, items_text, read_pairs}
 use Rattle.fit_cells.proofs.ClassFacts.{bytes_width, own_width, side_by_side}
 use Rattle.fit_cells.proofs.ReadFacts.{bytes-shown, length-pairs}
 use Rattle.fit_cells.proofs.scan.read_bits.Goals as goal

@@ -1,7 +1,4 @@
-use Rattle.std.proofs.Common.{◌^◌, option_map}
-use Rattle.fit_base.specs.BaseTypes.{base_type}
-use Rattle.fit_profile.specs.Names.{meaning}
-use Rattle.fit_cells.specs.Cells.{item_text}
+use Rattle.fit_cells.proofs.Common.{◌^◌, option_map, base_type, meaning, item_text}
 use Rattle.fit_cells.proofs.SplitFacts.{lone_list}
 use Rattle.fit_cells.proofs.scan.read_items.Goals as goal
 

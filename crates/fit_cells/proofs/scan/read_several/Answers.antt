@@ -1,9 +1,5 @@
-use Rattle.std.proofs.Common.{◌≡◌, ◌∙◌, ◌<◌, ◌^◌, ◌++◌, ◌∷◌, [], All, rules, arith, sym, ap, ap₂, subst, length, get_or, length-append, option_map}
-use Rattle.std.proofs.lemmas.List.{take_more}
-use Rattle.std.proofs.lemmas.List.Elements.{All-push}
-use Rattle.fit_base.specs.BaseTypes.{base_type}
-use Rattle.fit_profile.specs.Names.{meaning}
-use Rattle.fit_cells.specs.Cells.{item_text}
+use Rattle.fit_cells.proofs.Common.{◌≡◌, ◌∙◌, ◌<◌, ◌^◌, ◌++◌, ◌∷◌, [], All, rules, arith, sym, ap, ap₂, subst, length, get_or, length-append, option_map}
+use Rattle.fit_cells.proofs.Common.{take_more, All-push, base_type, meaning, item_text}
 use Rattle.fit_cells.proofs.TextFacts.{low-item}
 use Rattle.fit_cells.proofs.SplitFacts.{piece, behind-piece}
 use Rattle.fit_cells.proofs.scan.read_several.Goals as goal

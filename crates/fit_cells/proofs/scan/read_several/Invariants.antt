@@ -1,9 +1,6 @@
-use Rattle.std.proofs.Common.{◌≡◌, ◌<◌, ◌^◌, ℕ, List, All, length, map, take, drop, option_map}
+use Rattle.fit_cells.proofs.Common.{◌≡◌, ◌<◌, ◌^◌, ℕ, List, All, length, map, take, drop, option_map, base_type, meaning, barred, item_text}
 use denote.Text.{Utf8}
 use denote.Shadow.{shadow}
-use Rattle.fit_base.specs.BaseTypes.{base_type}
-use Rattle.fit_profile.specs.Names.{meaning}
-use Rattle.fit_cells.specs.Cells.{barred, item_text}
 use Rattle.fit_cells.proofs.scan.read_several.Given as goal
 
 abbrev pub invariant-loop-place : goal.invariant-loop-place

@@ -1,5 +1,4 @@
-use Rattle.std.proofs.Common.{◌∙◌, ap, sym}
-use Rattle.std.specs.Prelude.{not}
+use Rattle.fit_cells.proofs.Common.{◌∙◌, ap, sym, not}
 use Rattle.fit_cells.proofs.StringFacts.{no_utf8, no_zero}
 use Rattle.fit_cells.proofs.strings.is_plain.Goals as goal
 

@@ -1,4 +1,4 @@
-use Rattle.std.proofs.Common.{◌≡◌, ◌++◌, take}
+use Rattle.fit_cells.proofs.Common.{◌≡◌, ◌++◌, take}
 use Rattle.fit_cells.proofs.strings.put_text.Given as goal
 
 abbrev pub invariant-loop-byte : goal.invariant-loop-byte

@@ -1,6 +1,4 @@
-use Rattle.std.proofs.Common.{◌≡◌, ◌∙◌, ◌<◌, ℕ, length, drop, get_or, sym, ap}
-use Rattle.std.proofs.lemmas.Result.{IfOk-weaker}
-use Rattle.fit_cells.specs.Steps.{read_pairs}
+use Rattle.fit_cells.proofs.Common.{◌≡◌, ◌∙◌, ◌<◌, ℕ, length, drop, get_or, sym, ap, IfOk-weaker, read_pairs}
 use Rattle.fit_cells.proofs.ItemFacts.{both-ok}
 use Rattle.fit_cells.proofs.ReadFacts.{length-pairs}
 use Rattle.fit_cells.proofs.StringFacts.{string-bytes, string-plain}

@@ -1,4 +1,4 @@
-use Rattle.std.proofs.Common.{◌≡◌, ◌<◌, ℕ, All, length, get_or}
+use Rattle.fit_cells.proofs.Common.{◌≡◌, ◌<◌, ℕ, All, length, get_or}
 use Rattle.fit_cells.proofs.strings.read_text.Given as goal
 
 abbrev pub invariant-loop-place : goal.invariant-loop-place

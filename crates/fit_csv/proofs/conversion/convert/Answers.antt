@@ -1,8 +1,5 @@
-use Rattle.std.proofs.Common.{Ok, Err, sym, subst}
-use Rattle.std.specs.Prelude.{flat_map}
-use Rattle.fit_decode.specs.Events.{file_events}
-use Rattle.fit_report.specs.Reports.{channel}
-use Rattle.fit_csv.specs.Conversions.{Converts, ConvertsTo}
+use Rattle.fit_csv.proofs.Common.{Err, sym, subst, flat_map, file_events, channel, Converts, ConvertsTo}
+use Rattle.std.proofs.Common.{Ok}
 use Rattle.fit_csv.proofs.Converted.{chain_converted, converted, unbegun}
 use Rattle.fit_csv.proofs.conversion.convert.Goals as goal
 

@@ -1,4 +1,4 @@
-use Rattle.fit_csv.specs.Table.{table_of}
+use Rattle.fit_csv.proofs.Common.{table_of}
 use Rattle.fit_csv.proofs.ToldTable.{table_has_text}
 use Rattle.fit_csv.proofs.conversion.table.Goals as goal
 

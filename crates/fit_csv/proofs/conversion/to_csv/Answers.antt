@@ -1,7 +1,4 @@
-use Rattle.std.proofs.Common.{subst}
-use Rattle.fit_report.specs.Reports.{channel}
-use Rattle.fit_csv.specs.ChainRows.{rows_of}
-use Rattle.fit_csv.specs.Conversions.{ConvertsTo}
+use Rattle.fit_csv.proofs.Common.{subst, channel, rows_of, ConvertsTo}
 use Rattle.fit_csv.proofs.RowsOfEvents.{rows-of-chain}
 use Rattle.fit_csv.proofs.ToldRows.{rows_text}
 use Rattle.fit_csv.proofs.conversion.to_csv.Goals as goal

@@ -1,12 +1,5 @@
-use Rattle.std.proofs.Common.{Err, List, ℕ, sym, subst}
-use Rattle.std.specs.Global.{Global}
-use Rattle.std.proofs.lemmas.Result.{err_from_is_err_and}
-use Rattle.fit_record.specs.declared.file.FitFile.{FitFile}
-use Rattle.fit_report.specs.Reports.{channel}
-use Rattle.fit_csv.specs.FromText.{Answers}
-use Rattle.fit_csv.specs.Judged.{AreFilesOf}
-use Rattle.fit_csv.specs.inner.TextFaults.{IsTextFault}
-use Rattle.fit_csv.specs.declared.fault.CsvFault.{CsvFault}
+use Rattle.fit_csv.proofs.Common.{Err, sym, subst, Global, err_from_is_err_and, FitFile, channel, Answers, AreFilesOf, IsTextFault, CsvFault}
+use Rattle.std.proofs.Common.{List, ℕ}
 use Rattle.fit_csv.proofs.Unwritten.{from-fault, from-judged, from-text, from-unread}
 use Rattle.fit_csv.proofs.from.convert.Goals as goal
 
@@ -35,7 +28,7 @@ returns-in-Ok-clause-reads g c =
     let whole = c.in_ok-text.text.items in
     let files = c.as_slice-2.result.now in
     let source = channel g.S.Source.remaining g.S.Source.has_failed c.args.source.now c.read_text.new.source in
-    let sink = channel g.K.Sink.contents g.K.Sink.has_failed c.args.sink.now c.write_chain.new.sink in
+    let sink = channel g.K.Sink.contents g.K.Sink.has_failed c.args.sink.now c.write_spelled.new.sink in
     let are : AreFilesOf whole files = subst (λ (fs : List (FitFile Global)). AreFilesOf whole fs) (sym c.as_slice-2.ensures)
     (subst (λ (t : List ℕ). AreFilesOf t c.in_ok-files.files) c.as_slice.ensures.value c.in_ok-files.ensures.ok) in (
       whole,
@@ -49,7 +42,7 @@ returns-clause-reads g c =
     let whole = c.in_ok-text.text.items in
     let files = c.as_slice-2.result.now in
     let source = channel g.S.Source.remaining g.S.Source.has_failed c.args.source.now c.read_text.new.source in
-    let sink = channel g.K.Sink.contents g.K.Sink.has_failed c.args.sink.now c.write_chain.new.sink in
+    let sink = channel g.K.Sink.contents g.K.Sink.has_failed c.args.sink.now c.write_spelled.new.sink in
     let are : AreFilesOf whole files = subst (λ (fs : List (FitFile Global)). AreFilesOf whole fs) (sym c.as_slice-2.ensures)
     (subst (λ (t : List ℕ). AreFilesOf t c.in_ok-files.files) c.as_slice.ensures.value c.in_ok-files.ensures.ok) in
     let given = from-fault c.faults_are_exact.ensures whole files c.in_ok-text.ensures.short are source sink

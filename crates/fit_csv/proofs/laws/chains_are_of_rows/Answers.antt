@@ -1,5 +1,4 @@
-use Rattle.std.proofs.Common.{subst}
-use Rattle.fit_base.specs.Numbers.{IsBytes}
+use Rattle.fit_csv.proofs.Common.{subst, IsBytes}
 use Rattle.fit_csv.proofs.InRange.{chain-of-rows}
 use Rattle.fit_csv.proofs.laws.chains_are_of_rows.Goals as goal
 

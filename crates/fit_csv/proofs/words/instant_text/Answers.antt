@@ -1,5 +1,4 @@
-use Rattle.std.proofs.Common.{arith}
-use Rattle.fit_csv.specs.InstantText.{instant_text}
+use Rattle.fit_csv.proofs.Common.{arith, instant_text}
 use Rattle.fit_csv.proofs.InstantFacts.{instant-text}
 use Rattle.fit_csv.proofs.PlainInstants.{plain-instant}
 use Rattle.fit_csv.proofs.words.instant_text.Goals as goal

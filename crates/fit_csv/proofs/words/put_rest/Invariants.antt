@@ -1,6 +1,5 @@
-use Rattle.std.proofs.Common.{◌≡◌, ◌++◌, codes, take}
-use Rattle.std.specs.Prelude.{flat_map}
-use Rattle.fit_cells.specs.Cells.{hex_digits}
+use Rattle.fit_csv.proofs.Common.{◌≡◌, ◌++◌, take, flat_map, hex_digits}
+use Rattle.std.proofs.Common.{codes}
 use Rattle.fit_csv.proofs.words.put_rest.Given as goal
 
 abbrev pub invariant-loop-byte : goal.invariant-loop-byte

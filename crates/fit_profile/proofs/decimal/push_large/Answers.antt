@@ -1,6 +1,4 @@
-use Rattle.std.proofs.Common.{◌<◌, ◌≤◌, ◌/◌, arith, length, inl, inr}
-use Rattle.std.proofs.lemmas.Bool.{cases_eq}
-use Rattle.std.proofs.lemmas.Fmt.{length-decimal-le_wide}
+use Rattle.fit_profile.proofs.Common.{◌<◌, ◌≤◌, ◌/◌, arith, length, inl, inr, cases_eq, length-decimal-le_wide}
 use Rattle.fit_profile.proofs.DigitFacts.{short-whole}
 use Rattle.fit_profile.proofs.decimal.push_large.Goals as goal
 

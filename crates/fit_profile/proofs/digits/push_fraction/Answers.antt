@@ -1,7 +1,5 @@
-use Rattle.std.proofs.Common.{◌≡◌, ◌∙◌, ◌+◌, ◌∷◌, [], length, ap, arith, append_assoc, length-append, drop, List, ℕ}
-use Rattle.std.proofs.lemmas.Str.{IsCharBoundary-from_ascii}
-use Rattle.std.proofs.lemmas.Bool.{ne_eqb}
-use Rattle.fit_profile.specs.FixedText.{last_digits}
+use Rattle.fit_profile.proofs.Common.{◌≡◌, ◌∙◌, ◌+◌, ◌∷◌, [], length, ap, arith, append_assoc, length-append, drop, List, ℕ, IsCharBoundary-from_ascii, ne_eqb}
+use Rattle.fit_profile.proofs.Common.{last_digits}
 use Rattle.fit_profile.proofs.DigitFacts.{behind-one, length-last_digits}
 use Rattle.fit_profile.proofs.digits.push_fraction.Goals as goal
 

@@ -1,5 +1,4 @@
-use Rattle.std.proofs.Common.{◌∙◌, ◌+◌, drop, drop_of_length-le, arith, sym, ap, refl, get_or}
-use Rattle.fit_profile.specs.inner.Digits.{digits_in, next_value}
+use Rattle.fit_profile.proofs.Common.{◌∙◌, ◌+◌, drop, drop_of_length-le, arith, sym, ap, refl, get_or, digits_in, next_value}
 use Rattle.fit_profile.proofs.DigitFacts.{digits_in-grows, digits_in-end, digits_in-at}
 use Rattle.fit_profile.proofs.digits.size_behind.Goals as goal
 

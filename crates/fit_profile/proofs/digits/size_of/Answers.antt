@@ -1,5 +1,4 @@
-use Rattle.std.proofs.Common.{◌∙◌, drop_of_length-le, sym, ap}
-use Rattle.fit_profile.specs.inner.Digits.{digits_in}
+use Rattle.fit_profile.proofs.Common.{◌∙◌, drop_of_length-le, sym, ap, digits_in}
 use Rattle.fit_profile.proofs.DigitFacts.{digits_in-end, digits_in-at}
 use Rattle.fit_profile.proofs.digits.size_of.Goals as goal
 

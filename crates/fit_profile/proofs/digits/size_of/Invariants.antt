@@ -1,5 +1,4 @@
-use Rattle.std.proofs.Common.{◌≡◌, drop}
-use Rattle.fit_profile.specs.inner.Digits.{digits_in}
+use Rattle.fit_profile.proofs.Common.{◌≡◌, drop, digits_in}
 use Rattle.fit_profile.proofs.digits.size_of.Given as goal
 
 abbrev pub invariant-loop-place : goal.invariant-loop-place

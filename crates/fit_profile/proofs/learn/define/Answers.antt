@@ -1,4 +1,4 @@
-use Rattle.fit_profile.specs.inner.Keeps.{naming_in, namings_in}
+use Rattle.fit_profile.proofs.Common.{naming_in, namings_in}
 use Rattle.fit_profile.proofs.Kept.{one-definition}
 use Rattle.fit_profile.proofs.learn.define.Goals as goal
 

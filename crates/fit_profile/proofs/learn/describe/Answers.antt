@@ -1,5 +1,4 @@
-use Rattle.std.proofs.Common.{◌∙◌, sym}
-use Rattle.fit_profile.specs.inner.Keeps.{naming_in, namings_in}
+use Rattle.fit_profile.proofs.Common.{◌∙◌, sym, naming_in, namings_in}
 use Rattle.fit_profile.proofs.Kept.{one-described, no-definition}
 use Rattle.fit_profile.proofs.learn.describe.Goals as goal
 

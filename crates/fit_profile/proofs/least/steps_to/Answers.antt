@@ -1,4 +1,4 @@
-use Rattle.std.proofs.Common.{sym}
+use Rattle.fit_profile.proofs.Common.{sym}
 use Rattle.fit_profile.proofs.LeastFacts.{least-none, least-before, least-after}
 use Rattle.fit_profile.proofs.least.steps_to.Goals as goal
 

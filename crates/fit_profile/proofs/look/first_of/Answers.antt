@@ -1,6 +1,4 @@
-use Rattle.std.proofs.Common.{◌∙◌, sym, ap, drop, add-one}
-use Rattle.fit_record.specs.declared.definition.FieldDef.{FieldDef}
-use Rattle.fit_profile.specs.Looks.{first_field}
+use Rattle.fit_profile.proofs.Common.{◌∙◌, sym, ap, drop, add-one, FieldDef, first_field}
 use Rattle.fit_profile.proofs.FirstField.{past}
 use Rattle.fit_profile.proofs.look.first_of.Goals as goal
 

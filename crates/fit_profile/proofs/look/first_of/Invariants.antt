@@ -1,5 +1,4 @@
-use Rattle.std.proofs.Common.{◌≡◌, drop}
-use Rattle.fit_profile.specs.Looks.{first_field}
+use Rattle.fit_profile.proofs.Common.{◌≡◌, drop, first_field}
 use Rattle.fit_profile.proofs.look.first_of.Given as goal
 
 abbrev pub invariant-loop-i : goal.invariant-loop-i

@@ -1,6 +1,4 @@
-use Rattle.std.proofs.Common.{◌≡◌, true, take}
-use Rattle.std.specs.List.{list_all}
-use Rattle.fit_profile.specs.Described.{is_printable}
+use Rattle.fit_profile.proofs.Common.{◌≡◌, true, take, list_all, is_printable}
 use Rattle.fit_profile.proofs.text.printable_bytes.Given as goal
 
 abbrev pub invariant-loop-number : goal.invariant-loop-number

@@ -1,5 +1,4 @@
-use Rattle.std.proofs.Common.{◌≡◌, ◌≤◌, take}
-use Rattle.fit_profile.specs.Described.{before_closing_zeros}
+use Rattle.fit_profile.proofs.Common.{◌≡◌, ◌≤◌, take, before_closing_zeros}
 use Rattle.fit_profile.proofs.text.text_len.Given as goal
 
 abbrev pub invariant-loop-place : goal.invariant-loop-place

@@ -1,6 +1,5 @@
-use Rattle.std.proofs.Common.{◌≡◌, ◌∙◌, sym, ap, subst, Some, length, false}
+use Rattle.fit_profile.proofs.Common.{◌≡◌, ◌∙◌, sym, ap, subst, Some, length, false, IsUtf8}
 use Rattle.std.specs.Prelude.{◌==◌}
-use Rattle.std.specs.Str.{IsUtf8}
 use Rattle.fit_profile.proofs.TextFacts.{text-some, text-none}
 use Rattle.fit_profile.proofs.text.text_of.Goals as goal
 

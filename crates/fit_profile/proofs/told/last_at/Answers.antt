@@ -1,4 +1,4 @@
-use Rattle.std.proofs.Common.{◌≡◌, ◌∙◌, ℕ, Option, Some, None, sym, refl, ap}
+use Rattle.fit_profile.proofs.Common.{◌≡◌, ◌∙◌, ℕ, Option, Some, None, sym, refl, ap}
 use Rattle.std.specs.Option.{option_or}
 use Rattle.fit_record.specs.Faults.{or_else}
 use Rattle.fit_profile.specs.Accumulated as sums

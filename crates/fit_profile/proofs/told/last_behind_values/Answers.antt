@@ -1,7 +1,4 @@
-use Rattle.std.proofs.Common.{◌∙◌, ap}
-use Rattle.fit_record.specs.declared.environment.Defined.{Defined}
-use Rattle.fit_record.specs.declared.definition.MessageDef.{MessageDef}
-use Rattle.fit_record.specs.Environment.{defined_at}
+use Rattle.fit_profile.proofs.Common.{◌∙◌, ap, Defined, MessageDef, defined_at}
 use Rattle.fit_profile.specs.Told as telling
 use Rattle.fit_profile.proofs.Kept.{map-some, map-none}
 use Rattle.fit_profile.proofs.told.last_behind_values.Goals as goal

@@ -1,4 +1,4 @@
-use Rattle.std.proofs.Common.{◌∙◌, sym, refl}
+use Rattle.fit_profile.proofs.Common.{◌∙◌, sym, refl}
 use Rattle.fit_profile.specs.Accumulated as sums
 use Rattle.fit_profile.proofs.NoCounters.{no-number}
 use Rattle.fit_profile.proofs.told.told_at.Goals as goal

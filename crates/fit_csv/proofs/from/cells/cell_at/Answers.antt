@@ -1,4 +1,4 @@
-use Rattle.csv.specs.Records.{fields_of}
+use Rattle.fit_csv.proofs.Common.{fields_of}
 use Rattle.csv.proofs.RecordFacts.{field-there}
 use Rattle.fit_csv.proofs.from.cells.cell_at.Goals as goal
 

@@ -1,5 +1,4 @@
-use Rattle.std.proofs.Common.{◌≡◌, length, arith}
-use Rattle.csv.specs.Records.{fields_of}
+use Rattle.fit_csv.proofs.Common.{◌≡◌, length, arith, fields_of}
 use Rattle.fit_csv.proofs.SevenCells.{seven-cells}
 use Rattle.fit_csv.proofs.from.cells.cells_of.Goals as goal
 

@@ -1,6 +1,4 @@
-use Rattle.std.proofs.Common.{◌∙◌, refl}
-use Rattle.fit_csv.specs.inner.Misfits.{IsHeadRow, head_row}
-use Rattle.fit_csv.specs.inner.Seven.{DifferAt, row_of}
+use Rattle.fit_csv.proofs.Common.{◌∙◌, refl, IsHeadRow, head_row, DifferAt, row_of}
 use Rattle.fit_csv.proofs.Closest.{closest}
 use Rattle.fit_csv.proofs.from.definition.definition_head.Goals as goal
 

@@ -1,4 +1,4 @@
-use Rattle.std.proofs.Common.{◌∙◌, length, sym, eqb-true}
+use Rattle.fit_csv.proofs.Common.{◌∙◌, length, sym, eqb-true}
 use Rattle.fit_csv.proofs.ClosestRows.{none-shown}
 use Rattle.fit_csv.proofs.from.definition.dev_count_in.Goals as goal
 

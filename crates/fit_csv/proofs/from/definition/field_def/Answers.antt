@@ -1,8 +1,5 @@
-use Rattle.std.proofs.Common.{subst}
-use Rattle.std.proofs.lemmas.Result.{err_from_is_err_and}
+use Rattle.fit_csv.proofs.Common.{subst, err_from_is_err_and, IsCellFault, IsRowOfThree, row_of}
 use Rattle.fit_cells.specs.Rows.{Cell}
-use Rattle.fit_csv.specs.inner.Misfits.{IsCellFault, IsRowOfThree}
-use Rattle.fit_csv.specs.inner.Seven.{row_of}
 use Rattle.fit_csv.proofs.DefinitionRows.{field_def-misfit}
 use Rattle.fit_csv.proofs.from.definition.field_def.Goals as goal
 

@@ -1,8 +1,5 @@
-use Rattle.std.proofs.Common.{◌∙◌, [], decimal, refl}
-use Rattle.fit_csv.specs.ChainRows.{row}
-use Rattle.fit_csv.specs.inner.Misfits.{IsRowOfThree}
-use Rattle.fit_cells.specs.Rows.{Row}
-use Rattle.fit_csv.specs.inner.Seven.{DifferAt, row_of}
+use Rattle.fit_csv.proofs.Common.{◌∙◌, [], refl, row, IsRowOfThree, Row, DifferAt, row_of}
+use Rattle.std.proofs.Common.{decimal}
 use Rattle.fit_csv.proofs.Closest.{closest}
 use Rattle.fit_csv.proofs.ClosestRows.{three-closest}
 use Rattle.fit_csv.proofs.from.definition.three_bytes.Goals as goal

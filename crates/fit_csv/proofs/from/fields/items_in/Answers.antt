@@ -1,6 +1,5 @@
-use Rattle.std.proofs.Common.{subst, option_map}
-use Rattle.std.specs.Str.{IsUtf8}
-use Rattle.fit_profile.specs.Names.{meaning}
+use Rattle.fit_csv.proofs.Common.{subst, IsUtf8, meaning}
+use Rattle.std.proofs.Common.{option_map}
 use Rattle.fit_cells.proofs.TextFacts.{utf8-cell}
 use Rattle.fit_csv.proofs.from.fields.items_in.Goals as goal
 

@@ -1,12 +1,5 @@
-use Rattle.std.proofs.Common.{◌≡◌, [], refl, sym, subst}
+use Rattle.fit_csv.proofs.Common.{◌≡◌, [], refl, sym, subst, HasShape, meaning, cell, row, IsValueRow, Row, DifferAt, row_of}
 use Rattle.std.specs.Prelude.{option_map}
-use Rattle.fit_base.specs.Fields.{HasShape}
-use Rattle.fit_profile.specs.Names.{meaning}
-use Rattle.fit_cells.specs.Cells.{cell}
-use Rattle.fit_csv.specs.ChainRows.{row}
-use Rattle.fit_csv.specs.inner.Misfits.{IsValueRow}
-use Rattle.fit_cells.specs.Rows.{Row}
-use Rattle.fit_csv.specs.inner.Seven.{DifferAt, row_of}
 use Rattle.fit_csv.proofs.Closest.{closest}
 use Rattle.fit_csv.proofs.SevenCells.{same-cells}
 use Rattle.fit_csv.proofs.ValueRows.{no-items, no-label, value-closest}

@@ -1,4 +1,4 @@
-use Rattle.std.proofs.Common.{◌≡◌, take}
+use Rattle.fit_csv.proofs.Common.{◌≡◌, take}
 use Rattle.fit_csv.proofs.from.header.bytes_of.Given as goal
 
 abbrev pub invariant-loop-number : goal.invariant-loop-number

@@ -1,4 +1,4 @@
-use Rattle.std.proofs.Common.{arith}
+use Rattle.fit_csv.proofs.Common.{arith}
 use Rattle.fit_csv.proofs.HeaderRows.{header-closest, sizes-fit}
 use Rattle.fit_csv.proofs.from.header.closest_header.Goals as goal
 

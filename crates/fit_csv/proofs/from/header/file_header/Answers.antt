@@ -1,7 +1,4 @@
-use Rattle.std.proofs.Common.{refl}
-use Rattle.fit_csv.specs.ChainRows.{file_row}
-use Rattle.fit_csv.specs.RowKinds.{IsFileRow}
-use Rattle.fit_csv.specs.inner.Seven.{DifferAt, row_of}
+use Rattle.fit_csv.proofs.Common.{refl, file_row, IsFileRow, DifferAt, row_of}
 use Rattle.fit_csv.proofs.Closest.{closest}
 use Rattle.fit_csv.proofs.from.header.file_header.Goals as goal
 

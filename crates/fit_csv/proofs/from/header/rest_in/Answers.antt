@@ -1,5 +1,5 @@
-use Rattle.std.proofs.Common.{◌≡◌, ◌∙◌, ℕ, ◌<◌, ◌^◌, List, All, length, drop, ap, sym, subst, arith}
-use Rattle.fit_cells.proofs.ReadFacts.{length-pairs}
+use Rattle.fit_csv.proofs.Common.{◌≡◌, ◌∙◌, ◌^◌, All, length, drop, ap, sym, subst, arith, length-pairs}
+use Rattle.std.proofs.Common.{ℕ, ◌<◌, List}
 use Rattle.fit_csv.proofs.HeaderRows.{rest-shown}
 use Rattle.fit_csv.proofs.from.header.rest_in.Goals as goal
 

@@ -1,6 +1,5 @@
-use Rattle.std.proofs.Common.{◌≡◌, [], ◌∷◌, codes, refl, subst, List, ℕ, IfSome, ◌++◌}
-use Rattle.csv.specs.Writing.{fields_text, is_blank}
-use Rattle.fit_cells.specs.Rows.{csv_text, first_line}
+use Rattle.fit_csv.proofs.Common.{◌≡◌, [], ◌∷◌, refl, subst, ◌++◌, fields_text, is_blank, csv_text, first_line}
+use Rattle.std.proofs.Common.{codes, List, ℕ, IfSome}
 use Rattle.fit_csv.proofs.BeginFacts.{stripped}
 use Rattle.fit_csv.proofs.from.judge.behind_first_line.Goals as goal
 

@@ -1,6 +1,4 @@
-use Rattle.std.proofs.Common.{Bool, [], ◌∷◌, inl, inr, subst}
-use Rattle.csv.specs.Records.{fields_of}
-use Rattle.fit_cells.specs.Rows.{Follows, HasRead, Row}
+use Rattle.fit_csv.proofs.Common.{Bool, [], ◌∷◌, inl, inr, subst, fields_of, Follows, HasRead, Row}
 use Rattle.fit_csv.proofs.Judging.{first-rows}
 use Rattle.fit_csv.proofs.from.judge.judge_any.Goals as goal
 

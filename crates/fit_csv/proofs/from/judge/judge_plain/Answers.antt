@@ -1,12 +1,7 @@
-use Rattle.std.proofs.Common.{◌≡◌, ◌∙◌, ◌++◌, ◌<◌, List, ℕ, [], ◌∷◌, length, sym, ap, subst, eqb-true}
-use Rattle.std.specs.Global.{Global}
-use Rattle.std.proofs.lemmas.List.{append-nil, nil_from_length}
-use Rattle.std.proofs.lemmas.Option.{IfSome_then}
-use Rattle.fit_record.specs.declared.file.FitFile.{FitFile}
-use Rattle.fit_cells.specs.Rows.{csv_text, first_line}
-use Rattle.fit_csv.specs.Judged.{AreFilesOf}
-use Rattle.fit_csv.specs.inner.SoundChain.{IsSoundChain, rows_so_far}
-use Rattle.fit_csv.specs.declared.from.chain.Chain.{Chain}
+use Rattle.fit_csv.proofs.Common.{◌≡◌, ◌∙◌, ◌++◌, [], ◌∷◌, length, sym, ap, subst, eqb-true, Global, nil_from_length, IfSome_then, FitFile, csv_text}
+use Rattle.fit_csv.proofs.Common.{first_line, AreFilesOf, IsSoundChain, rows_so_far, Chain}
+use Rattle.std.proofs.Common.{◌<◌, List, ℕ}
+use Rattle.std.proofs.lemmas.List.{append-nil}
 use Rattle.fit_csv.proofs.Judging.{nothing-sound}
 use Rattle.fit_csv.proofs.TextRows.{text-goes-on, text-of-files}
 use Rattle.fit_csv.proofs.from.judge.judge_plain.Goals as goal

@@ -1,6 +1,4 @@
-use Rattle.std.proofs.Common.{◌≡◌, ◌++◌, ◌∷◌}
-use Rattle.fit_cells.specs.Rows.{csv_text, first_line}
-use Rattle.fit_csv.specs.inner.SoundChain.{IsSoundChain, rows_so_far}
+use Rattle.fit_csv.proofs.Common.{◌≡◌, ◌++◌, ◌∷◌, csv_text, first_line, IsSoundChain, rows_so_far}
 use Rattle.fit_csv.proofs.from.judge.judge_plain.Given as goal
 
 abbrev pub invariant-loop : goal.invariant-loop

@@ -1,12 +1,6 @@
-use Rattle.std.proofs.Common.{◌≡◌, ◌+◌, ◌<◌, ℕ, Bool, List, [], ◌∷◌, ◌++◌, length, sym, subst, arith, refl, inr, length-append}
-use Rattle.std.proofs.lemmas.Result.{MatchResult-weaker, err_from_is_err_and}
-use Rattle.std.specs.Global.{Global}
-use Rattle.csv.specs.Records.{fields_of}
-use Rattle.fit_record.specs.declared.file.FitFile.{FitFile}
-use Rattle.fit_csv.specs.Judged.{AreFilesOf, IsCutOff}
-use Rattle.fit_csv.specs.inner.TextFaults.{IsTextFault}
-use Rattle.fit_cells.specs.Rows.{Follows, first_line}
-use Rattle.fit_csv.specs.declared.fault.CsvFault.{CsvFault}
+use Rattle.fit_csv.proofs.Common.{◌≡◌, ◌+◌, Bool, [], ◌∷◌, ◌++◌, length, sym, subst, arith, refl, inr, MatchResult-weaker, err_from_is_err_and, Global}
+use Rattle.fit_csv.proofs.Common.{fields_of, FitFile, AreFilesOf, IsCutOff, IsTextFault, Follows, first_line, CsvFault}
+use Rattle.std.proofs.Common.{◌<◌, ℕ, List, length-append}
 use Rattle.fit_csv.proofs.Judging.{cut-text, judged, one-more, refused-row, too-many, whole-text}
 use Rattle.fit_csv.proofs.OneWay.{run-none}
 use Rattle.fit_csv.proofs.from.judge.judge_rest.Goals as goal

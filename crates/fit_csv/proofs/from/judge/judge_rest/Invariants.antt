@@ -1,6 +1,5 @@
-use Rattle.std.proofs.Common.{◌≡◌, ◌+◌, List, ◌∷◌, length}
-use Rattle.fit_csv.specs.inner.Progress.{Run, nothing_yet}
-use Rattle.fit_cells.specs.Rows.{HasRead, Row, first_line}
+use Rattle.fit_csv.proofs.Common.{◌≡◌, ◌+◌, ◌∷◌, length, Run, nothing_yet, HasRead, Row, first_line}
+use Rattle.std.proofs.Common.{List}
 use Rattle.fit_csv.proofs.from.judge.judge_rest.Given as goal
 
 abbrev pub invariant-loop-number : goal.invariant-loop-number

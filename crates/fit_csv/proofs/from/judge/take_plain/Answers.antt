@@ -1,4 +1,4 @@
-use Rattle.fit_csv.specs.inner.Seven.{row_of}
+use Rattle.fit_csv.proofs.Common.{row_of}
 use Rattle.fit_csv.proofs.MoreRows.{chain-sound}
 use Rattle.fit_csv.proofs.TextRows.{row-goes-on}
 use Rattle.fit_csv.proofs.from.judge.take_plain.Goals as goal

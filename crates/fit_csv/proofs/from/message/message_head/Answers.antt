@@ -1,7 +1,5 @@
-use Rattle.std.proofs.Common.{[], ◌∷◌, ap}
-use Rattle.std.proofs.lemmas.Result.{MatchResult-weaker}
+use Rattle.fit_csv.proofs.Common.{[], ◌∷◌, ap, MatchResult-weaker, row_of}
 use Rattle.fit_cells.specs.Rows.{Cell}
-use Rattle.fit_csv.specs.inner.Seven.{row_of}
 use Rattle.fit_csv.proofs.MessageRows.{message-or-end, no-message}
 use Rattle.fit_csv.proofs.from.message.message_head.Goals as goal
 

@@ -1,4 +1,4 @@
-use Rattle.std.proofs.Common.{◌∙◌, length, sym, eqb-true}
+use Rattle.fit_csv.proofs.Common.{◌∙◌, length, sym, eqb-true}
 use Rattle.fit_csv.proofs.MessageRows.{no-offset}
 use Rattle.fit_csv.proofs.from.message.offset_in.Goals as goal
 

@@ -1,11 +1,7 @@
-use Rattle.std.proofs.Common.{◌≡◌, ◌∙◌, [], decimal, refl, sym, ap, subst}
+use Rattle.fit_csv.proofs.Common.{◌≡◌, ◌∙◌, [], refl, sym, ap, subst, instant_text, message_label, optional_number, row, IsMessageRow, global_at, Row, DifferAt}
+use Rattle.fit_csv.proofs.Common.{row_of}
+use Rattle.std.proofs.Common.{decimal}
 use Rattle.std.specs.Prelude.{codes, option_map, unwrap_or}
-use Rattle.fit_csv.specs.InstantText.{instant_text}
-use Rattle.fit_profile.specs.Names.{message_label}
-use Rattle.fit_csv.specs.ChainRows.{optional_number, row}
-use Rattle.fit_csv.specs.inner.Misfits.{IsMessageRow, global_at}
-use Rattle.fit_cells.specs.Rows.{Row}
-use Rattle.fit_csv.specs.inner.Seven.{DifferAt, row_of}
 use Rattle.fit_csv.proofs.Closest.{closest}
 use Rattle.fit_csv.proofs.SevenCells.{same-cells}
 use Rattle.fit_csv.proofs.MessageRows.{message-closest, time_cell}

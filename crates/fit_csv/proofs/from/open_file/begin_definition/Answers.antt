@@ -1,7 +1,5 @@
-use Rattle.std.proofs.Common.{[], ◌∷◌, ap}
-use Rattle.std.proofs.lemmas.Result.{err_from_is_err_and}
+use Rattle.fit_csv.proofs.Common.{[], ◌∷◌, ap, err_from_is_err_and, row_of}
 use Rattle.fit_cells.specs.Rows.{Cell}
-use Rattle.fit_csv.specs.inner.Seven.{row_of}
 use Rattle.fit_csv.proofs.PartSteps.{head-misfit}
 use Rattle.fit_csv.proofs.from.open_file.begin_definition.Goals as goal
 

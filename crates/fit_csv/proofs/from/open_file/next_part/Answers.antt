@@ -1,9 +1,4 @@
-use Rattle.std.proofs.Common.{sym, subst}
-use Rattle.std.proofs.lemmas.Result.{err_from_is_err_and}
-use Rattle.fit_csv.specs.inner.Misfits.{IsMisfit}
-use Rattle.fit_csv.specs.inner.Progress.{CanStandNext}
-use Rattle.fit_csv.specs.inner.Seven.{row_of}
-use Rattle.fit_csv.specs.declared.from.open_file.Part.{Part}
+use Rattle.fit_csv.proofs.Common.{sym, subst, err_from_is_err_and, IsMisfit, CanStandNext, row_of, Part}
 use Rattle.fit_csv.proofs.PartSteps.{definition-misfit, values-misfit}
 use Rattle.fit_csv.proofs.from.open_file.next_part.Goals as goal
 

@@ -1,15 +1,7 @@
-use Rattle.std.proofs.Common.{◌≡◌, Some, length, refl, sym, subst}
-use Rattle.std.specs.Prelude.{List, ℕ, slice_get}
-use Rattle.std.proofs.lemmas.Option.{slice_get_read}
-use Rattle.std.proofs.lemmas.Result.{err_from_is_err_and, on_ok_weaker}
-use Rattle.std.specs.Global.{Global}
-use Rattle.fit_base.specs.declared.items.Items.{Items}
-use Rattle.fit_record.specs.Environment.{dev_defs}
-use Rattle.fit_csv.specs.ChainRows.{dev_row}
-use Rattle.fit_csv.specs.inner.Misfits.{IsMisfit}
-use Rattle.fit_csv.specs.RowKinds.{IsDevRow, naming_at}
-use Rattle.fit_csv.specs.inner.Progress.{DevStep}
-use Rattle.fit_csv.specs.inner.Seven.{row_of}
+use Rattle.fit_csv.proofs.Common.{◌≡◌, length, refl, sym, subst, slice_get, slice_get_read, err_from_is_err_and, on_ok_weaker, Global, Items, dev_defs, dev_row}
+use Rattle.fit_csv.proofs.Common.{IsMisfit, IsDevRow, naming_at, DevStep, row_of}
+use Rattle.std.proofs.Common.{Some}
+use Rattle.std.specs.Prelude.{List, ℕ}
 use Rattle.fit_csv.proofs.ValueSteps.{dev-misfit, dev-step}
 use Rattle.fit_csv.proofs.from.open_message.take_dev_field.Goals as goal
 

@@ -1,5 +1,4 @@
-use Rattle.std.proofs.lemmas.Result.{err_from_is_err_and}
-use Rattle.fit_csv.specs.inner.Seven.{row_of}
+use Rattle.fit_csv.proofs.Common.{err_from_is_err_and, row_of}
 use Rattle.fit_csv.proofs.ValueSteps.{field-misfit}
 use Rattle.fit_csv.proofs.from.open_message.take_field.Goals as goal
 

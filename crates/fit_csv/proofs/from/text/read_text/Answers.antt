@@ -1,6 +1,5 @@
-use Rattle.std.proofs.Common.{◌≡◌, ◌++◌, inr, take, arith, sym, subst, List, ℕ}
-use Rattle.std.specs.Io.KnownBytes.{Consumes}
-use Rattle.std.proofs.KnownBytes.{Consumes-trans}
+use Rattle.fit_csv.proofs.Common.{◌≡◌, ◌++◌, inr, take, arith, sym, subst, Consumes, Consumes-trans}
+use Rattle.std.proofs.Common.{List, ℕ}
 use Rattle.fit_csv.proofs.from.text.read_text.Goals as goal
 
 pub returns-then-is_err-clause-err : goal.returns-then-is_err-clause-err

@@ -1,5 +1,4 @@
-use Rattle.std.proofs.Common.{◌≤◌, ◌^◌, length}
-use Rattle.std.specs.Io.KnownBytes.{Consumes}
+use Rattle.fit_csv.proofs.Common.{◌≤◌, ◌^◌, length, Consumes}
 use Rattle.fit_csv.proofs.from.text.read_text.Given as goal
 
 abbrev pub invariant-loop-count : goal.invariant-loop-count

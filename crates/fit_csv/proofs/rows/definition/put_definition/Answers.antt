@@ -1,7 +1,4 @@
-use Rattle.std.proofs.Common.{map, subst}
-use Rattle.fit_cells.specs.Rows.{HasRows}
-use Rattle.fit_csv.specs.ChainRows.{dev_def_row, field_def_row}
-use Rattle.fit_cells.proofs.AddedRows.{rows_both}
+use Rattle.fit_csv.proofs.Common.{map, subst, HasRows, dev_def_row, field_def_row, rows_both}
 use Rattle.fit_csv.proofs.rows.definition.put_definition.Goals as goal
 
 pub returns : goal.returns

@@ -1,5 +1,4 @@
-use Rattle.fit_csv.specs.ChainRows.{dev_def_row}
-use Rattle.fit_cells.proofs.AddedRows.{rows_more, rows_none}
+use Rattle.fit_csv.proofs.Common.{dev_def_row, rows_more, rows_none}
 use Rattle.fit_csv.proofs.rows.definition.put_dev_defs.Goals as goal
 
 pub loop-field-init : goal.loop-field-init

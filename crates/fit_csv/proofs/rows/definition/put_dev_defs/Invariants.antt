@@ -1,6 +1,4 @@
-use Rattle.std.proofs.Common.{map, take}
-use Rattle.fit_cells.specs.Rows.{HasRows}
-use Rattle.fit_csv.specs.ChainRows.{dev_def_row}
+use Rattle.fit_csv.proofs.Common.{map, take, HasRows, dev_def_row}
 use Rattle.fit_csv.proofs.rows.definition.put_dev_defs.Given as goal
 
 abbrev pub invariant-loop-field : goal.invariant-loop-field

@@ -1,5 +1,4 @@
-use Rattle.fit_csv.specs.ChainRows.{field_def_row}
-use Rattle.fit_cells.proofs.AddedRows.{rows_more, rows_none}
+use Rattle.fit_csv.proofs.Common.{field_def_row, rows_more, rows_none}
 use Rattle.fit_csv.proofs.rows.definition.put_field_defs.Goals as goal
 
 pub loop-field-init : goal.loop-field-init

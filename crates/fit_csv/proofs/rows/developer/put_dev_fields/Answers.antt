@@ -1,10 +1,7 @@
-use Rattle.std.proofs.Common.{◌++◌, ◌∷◌, [], None, codes, decimal, get_or, refl, ap₂, subst, arith}
-use Rattle.std.specs.Prelude.{option_and_then, slice_get, unwrap_or, zip}
-use Rattle.fit_profile.specs.Described.{Naming, nameless, namings_at}
-use Rattle.fit_cells.specs.Cells.{cell}
-use Rattle.fit_cells.specs.Rows.{HasRows}
-use Rattle.fit_csv.specs.ChainRows.{dev_row, row}
-use Rattle.fit_cells.proofs.AddedRows.{rows_all, rows_more, rows_none}
+use Rattle.fit_csv.proofs.Common.{◌++◌, ◌∷◌, [], get_or, refl, ap₂, subst, arith, option_and_then, slice_get, zip, Naming, nameless, namings_at, cell, HasRows}
+use Rattle.fit_csv.proofs.Common.{dev_row, row, rows_all, rows_more, rows_none}
+use Rattle.std.proofs.Common.{None, codes, decimal}
+use Rattle.std.specs.Prelude.{unwrap_or}
 use Rattle.fit_csv.proofs.DevFields.{dev_end, dev_long, dev_place, dev_shape, dev_texts, nothing}
 use Rattle.fit_csv.proofs.rows.developer.put_dev_fields.Goals as goal
 

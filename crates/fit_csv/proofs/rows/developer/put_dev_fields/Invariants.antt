@@ -1,8 +1,4 @@
-use Rattle.std.proofs.Common.{map, take}
-use Rattle.std.specs.Prelude.{zip}
-use Rattle.fit_profile.specs.Described.{namings_at}
-use Rattle.fit_cells.specs.Rows.{HasRows}
-use Rattle.fit_csv.specs.ChainRows.{dev_row}
+use Rattle.fit_csv.proofs.Common.{map, take, zip, namings_at, HasRows, dev_row}
 use Rattle.fit_csv.proofs.rows.developer.put_dev_fields.Given as goal
 
 abbrev pub invariant-loop-place : goal.invariant-loop-place

@@ -1,13 +1,8 @@
-use Rattle.std.proofs.Common.{◌≡◌, ◌∙◌, ◌<◌, ◌≤◌, ◌++◌, [], ℕ, length, map, get_or, sym, ap, subst, take, arith}
-use Rattle.std.specs.Prelude.{None, zip}
-use Rattle.std.proofs.lemmas.List.{append-nil, get_or-map, length-map, take_all}
-use Rattle.std.proofs.lemmas.Slice.Zip.{length-zip}
-use Rattle.csv.specs.Writing.{default_writer, field_text}
-use Rattle.fit_base.specs.Fields.{HasShape}
-use Rattle.fit_cells.specs.Cells.{cell}
-use Rattle.fit_cells.specs.Rows.{csv_text}
-use Rattle.fit_cells.proofs.AddedRows.{text_none}
-use Rattle.fit_csv.specs.inner.Frames.{FrameKey, FrameText, end_of, frame_text, value_row}
+use Rattle.fit_csv.proofs.Common.{◌≡◌, ◌∙◌, ◌≤◌, ◌++◌, [], length, map, get_or, sym, ap, subst, take, arith, zip, get_or-map, length-map, take_all, length-zip}
+use Rattle.fit_csv.proofs.Common.{default_writer, field_text, HasShape, cell, csv_text, text_none, FrameKey, FrameText, end_of, frame_text, value_row}
+use Rattle.std.proofs.Common.{◌<◌, ℕ}
+use Rattle.std.specs.Prelude.{None}
+use Rattle.std.proofs.lemmas.List.{append-nil}
 use Rattle.fit_csv.proofs.FramedRows.{frame_at, framed_more, frames-long}
 use Rattle.fit_csv.proofs.Shapes.{as_long, shape_at}
 use Rattle.fit_csv.proofs.rows.frames.put_frames.Goals as goal

@@ -1,7 +1,5 @@
-use Rattle.std.proofs.Common.{◌≡◌, ◌++◌, [], List, map, take}
-use Rattle.std.specs.Prelude.{zip}
-use Rattle.fit_cells.specs.Rows.{csv_text}
-use Rattle.fit_csv.specs.inner.Frames.{FrameKey, end_of, frames_of, value_row}
+use Rattle.fit_csv.proofs.Common.{◌≡◌, ◌++◌, [], map, take, zip, csv_text, FrameKey, end_of, frames_of, value_row}
+use Rattle.std.proofs.Common.{List}
 use Rattle.fit_csv.proofs.rows.frames.put_frames.Given as goal
 
 abbrev pub invariant-loop-place : goal.invariant-loop-place

@@ -1,10 +1,6 @@
-use Rattle.std.proofs.Common.{◌∙◌, ◌∷◌, [], length, sym, ap, ap₂, subst, option_map, unwrap_or}
-use Rattle.fit_record.specs.Environment.{dev_defs}
-use Rattle.fit_profile.specs.Described.{namings_at}
-use Rattle.fit_profile.specs.Times.{header_time, previous_time}
-use Rattle.fit_cells.specs.Rows.{HasRows}
-use Rattle.fit_csv.specs.ChainRows.{data_row, dev_rows, field_rows, message_rows}
-use Rattle.fit_cells.proofs.AddedRows.{rows_both}
+use Rattle.fit_csv.proofs.Common.{◌∙◌, ◌∷◌, [], length, sym, ap, ap₂, subst, dev_defs, namings_at, header_time, previous_time, HasRows, data_row, dev_rows}
+use Rattle.fit_csv.proofs.Common.{field_rows, message_rows, rows_both}
+use Rattle.std.proofs.Common.{option_map, unwrap_or}
 use Rattle.fit_csv.proofs.NamingFacts.{namings_long}
 use Rattle.fit_csv.proofs.rows.message.put_values.Goals as goal
 

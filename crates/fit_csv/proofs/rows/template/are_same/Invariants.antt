@@ -1,4 +1,4 @@
-use Rattle.std.proofs.Common.{◌≡◌, take}
+use Rattle.fit_csv.proofs.Common.{◌≡◌, take}
 use Rattle.fit_csv.proofs.rows.template.are_same.Given as goal
 
 abbrev pub invariant-loop-place : goal.invariant-loop-place

@@ -1,5 +1,4 @@
-use Rattle.std.proofs.Common.{◌∙◌, ◌++◌, ◌∷◌, [], map, get_or, sym, ap, ap₂, take}
-use Rattle.fit_csv.specs.inner.Frames.{FrameKey, end_of, field_key, frame_text, frames_of}
+use Rattle.fit_csv.proofs.Common.{◌∙◌, ◌++◌, ◌∷◌, [], map, get_or, sym, ap, ap₂, take, FrameKey, end_of, field_key, frame_text, frames_of}
 use Rattle.fit_csv.proofs.Fields.{nothing}
 use Rattle.fit_csv.proofs.FramedRows.{end_more, frames_more, keys_more}
 use Rattle.fit_csv.proofs.rows.template.field_frames.Goals as goal

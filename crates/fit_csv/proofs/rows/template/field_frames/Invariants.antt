@@ -1,5 +1,4 @@
-use Rattle.std.proofs.Common.{◌≡◌, [], map, take}
-use Rattle.fit_csv.specs.inner.Frames.{end_of, field_key, frames_of}
+use Rattle.fit_csv.proofs.Common.{◌≡◌, [], map, take, end_of, field_key, frames_of}
 use Rattle.fit_csv.proofs.rows.template.field_frames.Given as goal
 
 abbrev pub invariant-loop-field : goal.invariant-loop-field

@@ -1,11 +1,7 @@
 -- An event is taken in: a record fits behind those of its file, and the count of files has room.
-use Rattle.std.proofs.Common.{◌∙◌, List, sym, ap, subst, arith}
-use Rattle.std.specs.Global.{Global}
-use Rattle.fit_decode.specs.Events.{Event}
-use Rattle.fit_report.specs.Heard.{latest_records}
+use Rattle.fit_csv.proofs.Common.{◌∙◌, sym, ap, subst, arith, Global, Event, latest_records, AnswerFits, files_heard}
+use Rattle.std.proofs.Common.{List}
 use Rattle.fit_report.proofs.Records.{heard_are_few}
-use Rattle.fit_csv.specs.inner.Reporting.{AnswerFits}
-use Rattle.fit_csv.specs.ChainRows.{files_heard}
 use Rattle.fit_csv.proofs.ToldTable.{few_files}
 use Rattle.fit_csv.proofs.show.ShowReport.note.Goals as goal
 

@@ -1,11 +1,6 @@
 -- The text of an event is its line.
-use Rattle.std.proofs.Common.{◌≡◌, ◌∙◌, ◌++◌, List, OnOk, sym, ap, subst}
-use Rattle.std.specs.Global.{Global}
-use Rattle.fit_decode.specs.Events.{Event}
-use Rattle.fit_report.specs.Heard.{hear, latest_records}
-use Rattle.fit_csv.specs.inner.Reporting.{AnswerFits}
-use Rattle.fit_csv.specs.ChainRows.{files_heard}
-use Rattle.fit_csv.specs.inner.Showing.{text_with, time_told}
+use Rattle.fit_csv.proofs.Common.{◌≡◌, ◌∙◌, ◌++◌, OnOk, sym, ap, subst, Global, Event, hear, latest_records, AnswerFits, files_heard, text_with, time_told}
+use Rattle.std.proofs.Common.{List}
 use Rattle.fit_csv.proofs.ShownLines.{answer_fits_upto, answer_line}
 use Rattle.fit_csv.proofs.ToldRows.{answer_fits}
 use Rattle.fit_csv.proofs.show.ShowReportReport.tell.Goals as goal

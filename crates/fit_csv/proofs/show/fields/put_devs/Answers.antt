@@ -1,8 +1,6 @@
 -- The developer fields go behind one another.
-use Rattle.std.proofs.Common.{◌∙◌, ◌+◌, ◌++◌, None, get_or, ap, ap₂, arith}
-use Rattle.std.specs.Prelude.{zip}
-use Rattle.fit_profile.specs.Described.{nameless, namings_at}
-use Rattle.fit_csv.specs.ShowLines.{separator, shown_part, shown_cell, shown_dev}
+use Rattle.fit_csv.proofs.Common.{◌∙◌, ◌+◌, ◌++◌, get_or, ap, ap₂, arith, zip, nameless, namings_at, separator, shown_part, shown_cell, shown_dev}
+use Rattle.std.proofs.Common.{None}
 use Rattle.fit_csv.proofs.DevFields.{dev_end, dev_long, dev_place, dev_shape, dev_texts, nothing}
 use Rattle.fit_csv.proofs.ShownLines.{listed_all, listed_more}
 use Rattle.fit_csv.proofs.show.fields.put_devs.Goals as goal

@@ -1,7 +1,4 @@
-use Rattle.std.proofs.Common.{◌≡◌, ◌++◌, map, take}
-use Rattle.std.specs.Prelude.{zip}
-use Rattle.fit_profile.specs.Described.{namings_at}
-use Rattle.fit_csv.specs.ShowLines.{listed, shown_dev}
+use Rattle.fit_csv.proofs.Common.{◌≡◌, ◌++◌, map, take, zip, namings_at, listed, shown_dev}
 use Rattle.fit_csv.proofs.show.fields.put_devs.Given as goal
 
 abbrev pub invariant-loop-place : goal.invariant-loop-place

@@ -1,8 +1,5 @@
 -- The fields go behind one another.
-use Rattle.std.proofs.Common.{◌≡◌, ◌∙◌, ◌+◌, ◌++◌, get_or, ap, arith}
-use Rattle.std.specs.Prelude.{zip}
-use Rattle.std.proofs.lemmas.Slice.Zip.{length-zip}
-use Rattle.fit_csv.specs.ShowLines.{separator, shown_field}
+use Rattle.fit_csv.proofs.Common.{◌≡◌, ◌∙◌, ◌+◌, ◌++◌, get_or, ap, arith, zip, length-zip, separator, shown_field}
 use Rattle.fit_csv.proofs.Fields.{field_long, field_place, field_shape, nothing}
 use Rattle.fit_csv.proofs.ShownLines.{listed_all, listed_more}
 use Rattle.fit_csv.proofs.show.fields.put_fields.Goals as goal

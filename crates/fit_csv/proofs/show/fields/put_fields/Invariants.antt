@@ -1,6 +1,4 @@
-use Rattle.std.proofs.Common.{◌≡◌, ◌++◌, map, take}
-use Rattle.std.specs.Prelude.{zip}
-use Rattle.fit_csv.specs.ShowLines.{listed, shown_field}
+use Rattle.fit_csv.proofs.Common.{◌≡◌, ◌++◌, map, take, zip, listed, shown_field}
 use Rattle.fit_csv.proofs.show.fields.put_fields.Given as goal
 
 abbrev pub invariant-loop-place : goal.invariant-loop-place

@@ -1,5 +1,4 @@
-use Rattle.std.proofs.Common.{◌≡◌, ◌++◌, map, take}
-use Rattle.fit_csv.specs.ShowLines.{joined}
+use Rattle.fit_csv.proofs.Common.{◌≡◌, ◌++◌, map, take, joined}
 use Rattle.fit_csv.proofs.show.fields.put_words.Given as goal
 
 abbrev pub invariant-loop-word : goal.invariant-loop-word

@@ -1,11 +1,6 @@
 -- The line of a message is its front, its fields and its developer fields.
-use Rattle.std.proofs.Common.{◌∙◌, ◌++◌, length, sym, ap, ap₂, arith}
-use Rattle.std.specs.Prelude.{zip}
-use Rattle.std.proofs.lemmas.List.{length-map}
-use Rattle.std.proofs.lemmas.Slice.Zip.{length-zip}
-use Rattle.fit_record.specs.Environment.{dev_defs}
-use Rattle.fit_profile.specs.Described.{namings_at}
-use Rattle.fit_csv.specs.ShowLines.{listed, message_front, shown_devs, shown_field, shown_fields}
+use Rattle.fit_csv.proofs.Common.{◌∙◌, ◌++◌, length, sym, ap, ap₂, arith, zip, length-map, length-zip, dev_defs, namings_at, listed, message_front, shown_devs}
+use Rattle.fit_csv.proofs.Common.{shown_field, shown_fields}
 use Rattle.fit_csv.proofs.Fields.{field_long}
 use Rattle.fit_csv.proofs.NamingFacts.{namings_long}
 use Rattle.fit_csv.proofs.ShownLines.{message_parts}

@@ -1,6 +1,5 @@
-use Rattle.std.proofs.Common.{◌≡◌, ◌∙◌, ◌++◌, ◌∷◌, [], OnOk, map, ap, subst}
+use Rattle.fit_csv.proofs.Common.{◌≡◌, ◌∙◌, ◌++◌, ◌∷◌, [], OnOk, map, ap, subst, joined}
 use Rattle.std.specs.Prelude.{codes, decimal}
-use Rattle.fit_csv.specs.ShowLines.{joined}
 use Rattle.fit_csv.proofs.show.lines.put_versions.Goals as goal
 
 pub returns : goal.returns

@@ -1,7 +1,5 @@
-use Rattle.std.proofs.Common.{◌∙◌, ◌++◌, ap, sym}
+use Rattle.fit_csv.proofs.Common.{◌∙◌, ◌++◌, ap, sym, csv_text, rows_in}
 use Rattle.std.proofs.lemmas.List.{append-nil}
-use Rattle.fit_cells.specs.Rows.{csv_text}
-use Rattle.fit_csv.specs.inner.TableCells.{rows_in}
 use Rattle.fit_csv.proofs.tables.report.put_text.Goals as goal
 
 pub returns-in-None : goal.returns-in-None

@@ -1,5 +1,5 @@
-use Rattle.std.proofs.Common.{◌++◌, ◌∷◌, [], decimal}
-use Rattle.fit_csv.specs.inner.TableCells.{number_cell}
+use Rattle.fit_csv.proofs.Common.{◌++◌, ◌∷◌, [], number_cell}
+use Rattle.std.proofs.Common.{decimal}
 use Rattle.fit_csv.proofs.TableNumbers.{first_cells, last_cells, one_more_cell}
 use Rattle.fit_csv.proofs.tables.rows.put_cells.Goals as goal
 

@@ -1,4 +1,5 @@
-use Rattle.std.proofs.Common.{◌≡◌, ◌∙◌, ◌++◌, ◌∷◌, [], List, ℕ, ap, ap₂}
+use Rattle.fit_csv.proofs.Common.{◌≡◌, ◌∙◌, ◌++◌, ◌∷◌, [], ap, ap₂}
+use Rattle.std.proofs.Common.{List, ℕ}
 use Rattle.fit_csv.proofs.TableNumbers.{first_plain}
 use Rattle.fit_csv.proofs.tables.rows.put_first.Goals as goal
 

@@ -1,48 +1,14 @@
-use Rattle.std.proofs.Common.{◌≡◌, ◌∙◌, ℤ, arith, sym, refl, ap, ap₂, subst, unsigned_abs, FitsSigned, Decides, false, Some, to_z, of_z}
-use Rattle.std.proofs.lemmas.Int.{ints, to_z-of_z}
+use Rattle.fit_profile.proofs.Common.{◌≡◌, ◌∙◌, sym, ap, subst, Decides, false, fixed_text}
 use Rattle.std.proofs.lemmas.Slice.Eq.{bytes_eq-Decides}
-use Rattle.std.specs.Str.Parse.{starts_with_minus}
-use Rattle.std.specs.Int.{w128}
-use Rattle.fit_profile.specs.FixedText.{fixed_text, IsIn128}
-use Rattle.fit_profile.specs.inner.Digits.{digits_in, signed_value}
-use Rattle.fit_profile.proofs.ScanFacts.{size-in, size-of-text, text-value}
+use Rattle.fit_profile.specs.declared.decimal.Fixed.{Fixed}
 use Rattle.fit_profile.proofs.decimal.Fixed.scan.Goals as goal
-
--- a number read back from its 128 bits
-kept : (x v : ℤ) → IsIn128 v → x ≡ v → to_z w128 (of_z w128 x) ≡ v
-kept x v inside e = let fits : FitsSigned w128 x = rw e (omega (arith, ints, inside)) in to_z-of_z w128 x fits ∙ e
-
-pub returns-in_err-size-clause-every : goal.returns-in_err-size-clause-every
-returns-in_err-size-clause-every c v inside e =
-    let big = rw c.as_bytes.ensures.value at (c.in_err-size.ensures.none refl) in
-    let size : digits_in 0 c.args.text.now ≡ unsigned_abs v = ap (digits_in 0) e ∙ size-of-text v c.args.decimals inside in
-    absurd (omega (arith, size, big, size-in v inside))
-
-pub returns-in_err-value-clause-every : goal.returns-in_err-value-clause-every
-returns-in_err-value-clause-every c v inside e =
-    let out = c.in_err-value.ensures.none refl in
-    let is = text-value c.args.text.now v c.args.decimals inside e in
-    let value : signed_value c.is_below.result c.in_ok-size.size ≡ v =
-    ap₂ signed_value (c.is_below.ensures ∙ ap starts_with_minus c.as_bytes-2.ensures.value)
-    (c.in_ok-size.ensures.some ∙ ap (digits_in 0) c.as_bytes.ensures.value) ∙ is in
-    absurd (out (subst IsIn128 (sym value) inside))
-
-pub returns-then-eq-clause-every : goal.returns-then-eq-clause-every
-returns-then-eq-clause-every c v inside e =
-    let is = text-value c.args.text.now v c.args.decimals inside e in
-    let value : c.in_ok-value.value ≡ v = c.in_ok-value.ensures.some
-    ∙ ap₂ signed_value (c.is_below.ensures ∙ ap starts_with_minus c.as_bytes-2.ensures.value)
-    (c.in_ok-size.ensures.some ∙ ap (digits_in 0) c.as_bytes.ensures.value) ∙ is in
-    ap (λ (z : ℤ). Some (record { value = z; decimals = c.args.decimals })) (kept c.in_ok-value.value v inside value)
 
 pub returns-else-eq-clause-every : goal.returns-else-eq-clause-every
 returns-else-eq-clause-every c v inside e =
-    let is = text-value c.args.text.now v c.args.decimals inside e in
-    let value : c.in_ok-value.value ≡ v = c.in_ok-value.ensures.some
-    ∙ ap₂ signed_value (c.is_below.ensures ∙ ap starts_with_minus c.as_bytes-2.ensures.value)
-    (c.in_ok-size.ensures.some ∙ ap (digits_in 0) c.as_bytes.ensures.value) ∙ is in
+    let is = c.in_ok-fixed.ensures.every v inside e in
+    let number : c.in_ok-fixed.fixed ≡ record { value = v; decimals = c.args.decimals } = cc in
     let same : c.as_str.result.now ≡ c.args.text.now =
-    c.as_str.ensures.value ∙ c.print.ensures ∙ ap (λ (z : ℤ). fixed_text z c.args.decimals) (kept c.in_ok-value.value v inside value) ∙ sym e in
+    c.as_str.ensures.value ∙ c.print.ensures ∙ ap (λ (f : Fixed). fixed_text f.value f.decimals) number ∙ sym e in
     let differs : Decides false (c.as_str.result.now ≡ c.args.text.now) =
     subst (λ t. Decides t (c.as_str.result.now ≡ c.args.text.now)) (sym c.if-eq.ensures) (bytes_eq-Decides c.as_str.result.now c.args.text.now) in
     absurd (cc (differs.1 same))

@@ -1,8 +1,5 @@
-use Rattle.std.proofs.Common.{sym, ap, ◌∙◌, map, take, ◌++◌, [], ◌∷◌}
-use Rattle.std.proofs.lemmas.List.{map_more}
+use Rattle.fit_profile.proofs.Common.{sym, ap, ◌∙◌, map, take, ◌++◌, [], ◌∷◌, map_more, Naming, naming_in}
 use Rattle.fit_record.specs.declared.definition.DevDef.{DevDef}
-use Rattle.fit_profile.specs.Described.{Naming}
-use Rattle.fit_profile.specs.inner.Keeps.{naming_in}
 use Rattle.fit_profile.proofs.names.Names.all_texts_at.Goals as goal
 
 pub loop-field-preserved : goal.loop-field-preserved

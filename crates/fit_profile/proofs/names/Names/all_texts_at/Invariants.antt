@@ -1,5 +1,4 @@
-use Rattle.std.proofs.Common.{◌≡◌, map, take}
-use Rattle.fit_profile.specs.inner.Keeps.{naming_in}
+use Rattle.fit_profile.proofs.Common.{◌≡◌, map, take, naming_in}
 use Rattle.fit_profile.proofs.names.Names.all_texts_at.Given as goal
 
 abbrev pub invariant-loop-field : goal.invariant-loop-field

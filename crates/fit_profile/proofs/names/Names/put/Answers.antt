@@ -1,4 +1,4 @@
-use Rattle.std.proofs.Common.{[]}
+use Rattle.fit_profile.proofs.Common.{[]}
 use Rattle.fit_profile.proofs.NameFacts.{place-updated}
 use Rattle.fit_profile.proofs.names.Names.put.Goals as goal
 

@@ -1,7 +1,4 @@
-use Rattle.std.proofs.Common.{subst, Some}
-use Rattle.std.specs.BTreeMap.{get, Updates}
-use Rattle.fit_profile.specs.Described.{Naming, nameless}
-use Rattle.fit_profile.specs.inner.Keeps.{key_cmp}
+use Rattle.fit_profile.proofs.Common.{subst, Some, get, Updates, Naming, nameless, key_cmp}
 use Rattle.fit_profile.proofs.NameFacts.{naming-reserved, absent}
 use Rattle.fit_profile.proofs.names.Names.reserve.Goals as goal
 

@@ -1,7 +1,4 @@
-use Rattle.std.proofs.Common.{[], List, Some, subst}
-use Rattle.fit_profile.specs.Described.{Naming}
-use Rattle.std.specs.Ordering.{nat_cmp}
-use Rattle.std.specs.BTreeMap.{get, Updates}
+use Rattle.fit_profile.proofs.Common.{[], List, Some, subst, Naming, nat_cmp, get, Updates}
 use Rattle.fit_profile.proofs.NameFacts.{place-reserved, absent}
 use Rattle.fit_profile.proofs.names.Names.reserve_place.Goals as goal
 

@@ -1,4 +1,4 @@
-use Rattle.fit_profile.specs.Described.{nameless}
+use Rattle.fit_profile.proofs.Common.{nameless}
 use Rattle.fit_profile.proofs.NameFacts.{naming-updated}
 use Rattle.fit_profile.proofs.names.Names.set.Goals as goal
 

@@ -1,6 +1,4 @@
-use Rattle.std.proofs.Common.{◌∙◌, ◌∷◌, [], sym, ap, subst, reverse}
-use Rattle.std.proofs.lemmas.List.{reverse-append}
-use Rattle.fit_profile.specs.inner.Keeps.{KeepsRecords}
+use Rattle.fit_profile.proofs.Common.{◌∙◌, ◌∷◌, [], sym, ap, subst, reverse, reverse-append, KeepsRecords}
 use Rattle.fit_profile.proofs.Kept.{keeps-same, keeps-next}
 use Rattle.fit_profile.proofs.stream.Stream.advance.Goals as goal
 

@@ -1,8 +1,4 @@
-use Rattle.std.proofs.Common.{◌∙◌, ap, drop, reverse, arith}
-use Rattle.fit_record.specs.Environment.{defined_at}
-use Rattle.fit_profile.specs.Looks.{known}
-use Rattle.fit_profile.specs.Described.{namings_at}
-use Rattle.fit_profile.specs.Meant.{shown}
+use Rattle.fit_profile.proofs.Common.{◌∙◌, ap, drop, reverse, arith, defined_at, known, namings_at, shown}
 use Rattle.fit_profile.proofs.Kept.{place-kept}
 use Rattle.fit_profile.proofs.ShownFacts.{shown-meant, is-defined}
 use Rattle.fit_profile.proofs.stream.Stream.data_message.Goals as goal

@@ -1,4 +1,4 @@
-use Rattle.std.proofs.Common.{reverse}
+use Rattle.fit_profile.proofs.Common.{reverse}
 use Rattle.fit_profile.proofs.Kept.{last-now, told-now}
 use Rattle.fit_profile.proofs.stream.Stream.note.Goals as goal
 

@@ -1,5 +1,4 @@
-use Rattle.std.proofs.Common.{refl, reverse}
-use Rattle.fit_profile.specs.Told.{tell}
+use Rattle.fit_profile.proofs.Common.{refl, reverse, tell}
 use Rattle.fit_profile.proofs.Kept.{last-now}
 use Rattle.fit_profile.proofs.stream.Stream.take.Goals as goal
 

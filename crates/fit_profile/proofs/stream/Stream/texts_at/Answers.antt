@@ -1,6 +1,4 @@
-use Rattle.std.proofs.Common.{◌∙◌, ap}
-use Rattle.std.specs.Prelude.{slice_get}
-use Rattle.fit_profile.specs.Described.{namings_at}
+use Rattle.fit_profile.proofs.Common.{◌∙◌, ap, slice_get, namings_at}
 use Rattle.fit_profile.proofs.stream.Stream.texts_at.Goals as goal
 
 pub returns : goal.returns

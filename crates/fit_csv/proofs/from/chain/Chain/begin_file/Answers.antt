@@ -1,6 +1,4 @@
-use Rattle.std.proofs.Common.{arith}
-use Rattle.std.proofs.lemmas.Result.{err_from_is_err_and}
-use Rattle.fit_csv.specs.inner.Seven.{row_of}
+use Rattle.fit_csv.proofs.Common.{arith, err_from_is_err_and, row_of}
 use Rattle.fit_csv.proofs.ChainSteps.{begin-misfit}
 use Rattle.fit_csv.proofs.from.chain.Chain.begin_file.Goals as goal
 

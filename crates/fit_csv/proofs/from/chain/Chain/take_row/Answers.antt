@@ -1,5 +1,4 @@
-use Rattle.std.proofs.lemmas.Result.{MatchResult-weaker}
-use Rattle.fit_csv.specs.inner.Seven.{row_of}
+use Rattle.fit_csv.proofs.Common.{MatchResult-weaker, row_of}
 use Rattle.fit_csv.proofs.ChainSteps.{current-misfit}
 use Rattle.fit_csv.proofs.from.chain.Chain.take_row.Goals as goal
 

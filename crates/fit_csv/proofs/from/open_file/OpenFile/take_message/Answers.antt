@@ -1,9 +1,10 @@
-use Rattle.std.proofs.Common.{sym, subst}
-use Rattle.fit_csv.specs.inner.SoundChain.{BeginsWithMore, IsSoundFile, open_file_rows}
-use Rattle.fit_csv.specs.declared.from.open_file.OpenFile.{OpenFile}
+use Rattle.fit_csv.proofs.Common.{sym, subst, BeginsWithMore, IsSoundFile, open_file_rows, OpenFile}
 use Rattle.fit_csv.proofs.SoundSteps.{with-record-sound}
 use Rattle.fit_csv.proofs.TextRows.{file-goes-on}
 use Rattle.fit_csv.proofs.from.open_file.OpenFile.take_message.Goals as goal
+
+pub add_record-requires-clause-same_records : goal.add_record-requires-clause-same_records
+add_record-requires-clause-same_records c = c.requires.same_records
 
 pub returns-clause-sound : goal.returns-clause-sound
 returns-clause-sound c =

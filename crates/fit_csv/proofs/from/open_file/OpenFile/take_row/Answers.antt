@@ -1,7 +1,4 @@
-use Rattle.std.proofs.Common.{sym, subst}
-use Rattle.fit_csv.specs.inner.Progress.{PartHasRoom, PartStep}
-use Rattle.fit_csv.specs.inner.Seven.{row_of}
-use Rattle.fit_csv.specs.declared.from.open_file.Part.{Part}
+use Rattle.fit_csv.proofs.Common.{sym, subst, PartHasRoom, PartStep, row_of, Part}
 use Rattle.fit_csv.proofs.SoundSteps.{part-fits, part-room, part-sound}
 use Rattle.fit_csv.proofs.from.open_file.OpenFile.take_row.Goals as goal
 
@@ -10,10 +7,13 @@ next_part-requires-clause-room c =
     let f = c.args.self.now in
     subst (PartHasRoom c.args.self.now.before) (sym c.replace-part.ensures.value) (part-room f.before f.part c.requires.sound.part.0)
 
-pub settle-requires : goal.settle-requires
-settle-requires c =
+pub settle-requires-clause-fits : goal.settle-requires-clause-fits
+settle-requires-clause-fits c =
     let f = c.args.self.now in
     let r = row_of c.args.cells.now in
     let step = subst (λ (part : Part). PartStep c.args.self.now.before part (row_of c.args.cells.now) c.in_ok-part.part) c.replace-part.ensures.value
     c.in_ok-part.ensures.ok in
     part-fits f.before c.in_ok-part.part (part-sound f.before f.part r c.in_ok-part.part c.requires.sound.part step)
+
+pub settle-requires-clause-same_records : goal.settle-requires-clause-same_records
+settle-requires-clause-same_records c = c.requires.sound.same_records

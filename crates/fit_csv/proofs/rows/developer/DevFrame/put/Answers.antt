@@ -1,9 +1,6 @@
-use Rattle.std.proofs.Common.{◌≡◌, ◌∙◌, ◌++◌, ◌∷◌, [], ap, ap₂, subst}
+use Rattle.fit_csv.proofs.Common.{◌≡◌, ◌∙◌, ◌++◌, ◌∷◌, [], ap, ap₂, subst, default_writer, field_text, cell, csv_text, FrameKey, FrameText, frame_text}
+use Rattle.fit_csv.proofs.Common.{tail_text, value_row}
 use Rattle.std.proofs.lemmas.List.{append-nil}
-use Rattle.csv.specs.Writing.{default_writer, field_text}
-use Rattle.fit_cells.specs.Cells.{cell}
-use Rattle.fit_cells.specs.Rows.{csv_text}
-use Rattle.fit_csv.specs.inner.Frames.{FrameKey, FrameText, frame_text, tail_text, value_row}
 use Rattle.fit_csv.proofs.FramedRows.{framed}
 use Rattle.fit_csv.proofs.rows.developer.DevFrame.put.Goals as goal
 

@@ -1,6 +1,4 @@
-use Rattle.std.proofs.Common.{◌∙◌, ◌++◌, sym, ap, ap₂}
-use Rattle.fit_csv.specs.inner.Frames.{FrameText}
-use Rattle.fit_cells.proofs.PlainFacts.{lone_cell}
+use Rattle.fit_csv.proofs.Common.{◌∙◌, ◌++◌, sym, ap, ap₂, FrameText, lone_cell}
 use Rattle.fit_csv.proofs.rows.frames.Frame.put.Goals as goal
 
 pub returns-in-Some : goal.returns-in-Some

@@ -1,7 +1,4 @@
-use Rattle.std.proofs.Common.{◌∙◌, ◌++◌, sym, ap, subst}
-use Rattle.fit_report.specs.Heard.{latest_records}
-use Rattle.fit_cells.specs.Rows.{csv_text}
-use Rattle.fit_csv.specs.inner.Reporting.{AnswerFits, answer_rows}
+use Rattle.fit_csv.proofs.Common.{◌∙◌, ◌++◌, sym, ap, subst, latest_records, csv_text, AnswerFits, answer_rows}
 use Rattle.fit_csv.proofs.ToldRows.{answer_fits, answer_text}
 use Rattle.fit_csv.proofs.rows.report.CsvReportReport.tell.Goals as goal
 

@@ -1,11 +1,6 @@
-use Rattle.std.proofs.Common.{◌∙◌, ◌∷◌, [], map, sym, ap, subst, option_map, unwrap_or, ℕ, decimal, codes}
-use Rattle.fit_record.specs.Records.{HaveShape}
-use Rattle.fit_profile.specs.Names.{message_label}
-use Rattle.fit_cells.specs.Rows.{HasRows}
-use Rattle.fit_cells.proofs.AddedRows.{rows_both}
-use Rattle.fit_csv.specs.ChainRows.{field_rows, optional_number, row}
-use Rattle.fit_csv.specs.InstantText.{instant_text}
-use Rattle.fit_csv.specs.inner.Frames.{TemplateKey, end_of, field_key, frames_of}
+use Rattle.fit_csv.proofs.Common.{◌∙◌, ◌∷◌, [], map, sym, ap, subst, HaveShape, message_label, HasRows, rows_both, field_rows, optional_number, row}
+use Rattle.fit_csv.proofs.Common.{instant_text, TemplateKey, end_of, field_key, frames_of}
+use Rattle.std.proofs.Common.{option_map, unwrap_or, ℕ, decimal, codes}
 use Rattle.fit_csv.proofs.FramedRows.{field_values, frames_shape}
 use Rattle.fit_csv.proofs.rows.template.Template.put.Goals as goal
 

@@ -1,8 +1,5 @@
-use Rattle.std.proofs.Common.{◌∙◌, ◌++◌, ◌∷◌, [], ap, codes, decimal}
-use Rattle.fit_profile.specs.Names.{message_label}
-use Rattle.fit_cells.specs.Rows.{csv_text}
-use Rattle.fit_csv.specs.ChainRows.{optional_number, row}
-use Rattle.fit_csv.specs.inner.Frames.{TemplateKey, two_cells}
+use Rattle.fit_csv.proofs.Common.{◌∙◌, ◌++◌, ◌∷◌, [], ap, message_label, csv_text, optional_number, row, TemplateKey, two_cells}
+use Rattle.std.proofs.Common.{codes, decimal}
 use Rattle.fit_csv.proofs.FramedRows.{data_parts}
 use Rattle.fit_csv.proofs.rows.template.Template.put_timed.Goals as goal
 

@@ -1,9 +1,5 @@
-use Rattle.std.proofs.Common.{◌≡◌, ◌∙◌, ◌++◌, ◌<◌, ◌^◌, OnOk, sym, ap, ap₂, subst}
-use Rattle.fit_report.specs.Heard.{latest_records}
-use Rattle.fit_cells.specs.Rows.{csv_text}
-use Rattle.fit_csv.specs.inner.Reporting.{AnswerFits}
-use Rattle.fit_csv.specs.ChainRows.{files_heard}
-use Rattle.fit_csv.specs.inner.TableCells.{table_answer_rows}
+use Rattle.fit_csv.proofs.Common.{◌≡◌, ◌∙◌, ◌++◌, ◌^◌, OnOk, sym, ap, ap₂, subst, latest_records, csv_text, AnswerFits, files_heard, table_answer_rows}
+use Rattle.std.proofs.Common.{◌<◌}
 use Rattle.fit_csv.proofs.ToldRows.{answer_fits}
 use Rattle.fit_csv.proofs.ToldTable.{few_files, table_answer_text}
 use Rattle.fit_csv.proofs.tables.report.TableReportReport.tell.Goals as goal
