@@ -1,20 +1,14 @@
 -- What a text has that was handed over.
-use Rattle.std.proofs.Common.{◌≡◌, inr, inl, true, false, Bool, ℕ, List, [], Option, Some, None, Result, Ok, Err, ◌++◌, refl, sym, ap, ◌∙◌, subst}
-use Rattle.std.specs.Prelude.{flat_map, is_ok, reverse}
+use Rattle.fit_c.proofs.Common.{◌≡◌, inr, inl, true, false, Bool, ℕ, List, [], Option, Some, None, Result, Ok, Err, ◌++◌, refl, sym, ap, ◌∙◌, subst, flat_map}
+use Rattle.fit_c.proofs.Common.{is_ok, reverse, Global, file_events, Lines, text_of, Channel, ReportsChain, CsvFault, FromText, FromTextOf, IsTextOf, ReadsText}
+use Rattle.fit_c.proofs.Common.{IsTextUnlessWant, answer, given, report_answer}
 use Rattle.std.proofs.lemmas.List.{append-nil}
-use Rattle.std.specs.declared.alloc.Global.{Global}
 use Rattle.std.specs.Io.KnownBytes.{Appends}
 use Rattle.fit_record.specs.declared.file.FitFile.{FitFile}
-use Rattle.fit_decode.specs.declared.event.Fault.TheVariants as faults
-use Rattle.fit_decode.specs.Events.{file_events}
 use Rattle.fit_report.specs.declared.fault.ReportFault.{ReportFault}
+use Rattle.fit_chain.specs.declared.event.Fault.TheVariants as faults
 use Rattle.fit_report.specs.declared.fault.ReportFault.TheVariants as reports
-use Rattle.fit_report.specs.Heard.{Lines, text_of}
-use Rattle.fit_report.specs.Reports.{Channel, ReportsChain}
-use Rattle.fit_csv.specs.declared.fault.CsvFault.{CsvFault}
 use Rattle.fit_csv.specs.declared.fault.CsvFault.TheVariants as csv
-use Rattle.fit_csv.specs.FromText.{FromText, FromTextOf, IsTextOf, ReadsText}
-use Rattle.fit_c.specs.Answers.{IsTextUnlessWant, answer, given, report_answer}
 use Rattle.fit_c.proofs.Said.{conversion_bad}
 
 -- what was put in a sink that was empty is all that it has

@@ -1,14 +1,9 @@
 -- What follows from a status.
-use Rattle.std.proofs.Common.{◌≡◌, ℕ, List, Result, Ok, Err, inl, inr, refl}
-use Rattle.std.specs.Prelude.{◌⊎◌, IfErr, IfOk}
-use Rattle.std.specs.declared.alloc.Global.{Global}
-use Rattle.fit_decode.specs.declared.event.Fault.{Fault}
-use Rattle.fit_decode.specs.declared.event.Fault.TheVariants as faults
-use Rattle.fit_decode.specs.Answers.{AreChain}
-use Rattle.fit_decode.specs.Checks.{AreFiles, LacksMemory}
-use Rattle.fit_csv.specs.declared.fault.CsvFault.{CsvFault}
+use Rattle.fit_c.proofs.Common.{◌≡◌, ℕ, List, Result, Ok, Err, inl, inr, refl, ◌⊎◌, IfErr, IfOk, Global, CsvFault, answer, check_answer, fault_answer}
+use Rattle.fit_chain.specs.declared.event.Fault.{Fault}
+use Rattle.fit_chain.specs.Checks.{AreChain, AreFiles, LacksMemory}
+use Rattle.fit_chain.specs.declared.event.Fault.TheVariants as faults
 use Rattle.fit_csv.specs.declared.fault.CsvFault.TheVariants as csv
-use Rattle.fit_c.specs.Answers.{answer, check_answer, fault_answer}
 
 -- ---- a fault never has status 0
 

@@ -5,10 +5,10 @@ use Rattle.std.specs.Io.KnownBytes.{Consumes}
 use Rattle.fit_frame.specs.declared.reason.Reason.{Reason}
 use Rattle.fit_frame.specs.declared.reason.Reason.TheVariants.{HeaderSize, Protocol, NoFit, Signature, HeaderSum, ReservedBit, UndefinedLocal, Overrun}
 use Rattle.fit_frame.specs.declared.reason.Reason.TheVariants.{Architecture, FileSum, TooManyFiles}
-use Rattle.fit_decode.specs.declared.event.Fault.{Fault}
-use Rattle.fit_decode.specs.declared.event.Fault.TheVariants as faults
-use Rattle.fit_decode.specs.Checks.{AreFiles, IsFaultOf}
-use Rattle.fit_decode.specs.Events.{Event}
+use Rattle.fit_chain.specs.declared.event.Fault.{Fault}
+use Rattle.fit_chain.specs.declared.event.Fault.TheVariants as faults
+use Rattle.fit_chain.specs.Checks.{AreFiles, IsFaultOf}
+use Rattle.fit_chain.specs.Events.{Event}
 use Rattle.fit_report.specs.declared.fault.ReportFault.{ReportFault}
 use Rattle.fit_report.specs.declared.fault.ReportFault.TheVariants as reports
 use Rattle.fit_report.specs.Heard.{Lines}

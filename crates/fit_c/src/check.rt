@@ -1,7 +1,7 @@
 //! Whether bytes are a chain of files.
 ghost use Rattle.std.specs.Prelude.{◌≡◌, ◌⊎◌};
 ghost use Rattle.std.specs.declared.alloc.Global.{Global};
-ghost use Rattle.fit_decode.specs.Answers.{AreChain};
+ghost use Rattle.fit_chain.specs.Checks.{AreChain};
 ghost use Rattle.fit_c.specs.Answers.{IsFinding};
 
 use crate::FitAnswer;

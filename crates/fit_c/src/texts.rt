@@ -3,8 +3,8 @@ ghost use Rattle.std.specs.Prelude.{◌≡◌, ◌≢◌, ℕ, List, Some, [], f
 ghost use Rattle.std.specs.declared.alloc.Global.{Global};
 ghost use Rattle.fit_record.specs.declared.file.FitFile.{FitFile};
 ghost use Rattle.fit_record.specs.Files.{IsChain, chain_limit};
-ghost use Rattle.fit_decode.specs.Answers.{AreChain};
-ghost use Rattle.fit_decode.specs.Events.{file_events};
+ghost use Rattle.fit_chain.specs.Checks.{AreChain};
+ghost use Rattle.fit_chain.specs.Events.{file_events};
 ghost use Rattle.fit_report.specs.Heard.{text_of};
 ghost use Rattle.fit_cells.specs.Rows.{csv_text};
 ghost use Rattle.fit_csv.specs.ChainRows.{chain_rows, rows_of};

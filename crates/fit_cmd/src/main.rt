@@ -1,19 +1,15 @@
 //! The program `fit`, which checks files of the FIT protocol.
 #![tactic(auto)]
 
-mod check;
-mod command_line;
-mod laws;
-mod lines;
-mod run;
 #[cfg(test)]
 mod tests;
 
-use crate::command_line::{Command, Line, LineFault, parse_line};
-use crate::lines::{OUT_OF_MEMORY, WRITE_FAULT};
-use crate::run::{BAD_USAGE, FAILED, GOOD, NO_MEMORY, run};
 use fit_decode::ReadSource;
 use fit_encode::{CutSink, WriteSink};
+use fit_run::{
+    BAD_USAGE, Command, FAILED, GOOD, Line, LineFault, NO_MEMORY, OUT_OF_MEMORY, WRITE_FAULT,
+    parse_line, run,
+};
 use std::alloc::Global;
 use std::fs::File;
 use std::io;

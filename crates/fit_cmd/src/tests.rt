@@ -10,10 +10,9 @@ mod refused_texts;
 mod show;
 mod streams;
 
-use crate::command_line::Command;
-use crate::run::run;
 use fit_decode::Source;
 use fit_encode::CutSink;
+use fit_run::{Command, run};
 use std::alloc::Global;
 use std::process::Abort;
 use std::test::Fail;

@@ -1,22 +1,14 @@
 -- What an encoder has written of a ride.
-use Rattle.std.proofs.Common.{◌≡◌, false, ℕ, ◌+◌, ◌<◌, List, [], ◌∷◌, ◌++◌, length, take, get_or, Option, Some, None, Result, Ok, Err, refl, sym, ap, ◌∙◌}
-use Rattle.std.proofs.Common.{subst, append_assoc}
-use Rattle.std.specs.Prelude.{IfOk, OnOk, map}
+use Rattle.fit_examples.proofs.Common.{◌≡◌, false, ℕ, ◌+◌, ◌<◌, List, [], ◌∷◌, ◌++◌, length, take, get_or, Option, Some, None, Result, Ok, Err, refl, sym, ap}
+use Rattle.fit_examples.proofs.Common.{◌∙◌, subst, append_assoc, IfOk, map, Global, map-append, take_more, HeaderFits, IsHeader, header_bytes, Record, Define}
+use Rattle.fit_examples.proofs.Common.{empty_environment, record_bytes, IsFile, Encoding, IsWhole, bytes_so_far, closing_bytes, data_so_far, learned}
+use Rattle.fit_examples.proofs.Common.{IsRecording, definition, ride_message, ride_records}
+use Rattle.std.specs.Prelude.{OnOk}
 use Rattle.std.specs.Result.{result_ok}
-use Rattle.std.specs.declared.alloc.Global.{Global}
 use Rattle.std.specs.Io.KnownBytes.{Appends}
-use Rattle.std.proofs.lemmas.List.{map-append, take_more}
 use Rattle.fit_frame.specs.declared.header.Header.{Header}
 use Rattle.fit_frame.specs.declared.header.HeaderSum.TheVariants.{True}
-use Rattle.fit_frame.specs.Header.{HeaderFits, IsHeader, header_bytes}
-use Rattle.fit_record.specs.declared.message.Record.{Record}
-use Rattle.fit_record.specs.declared.message.Record.TheVariants.{Define}
-use Rattle.fit_record.specs.Environment.{empty_environment}
-use Rattle.fit_record.specs.Records.{record_bytes}
-use Rattle.fit_record.specs.Files.{IsFile}
-use Rattle.fit_encode.specs.Encoding.{Encoding, IsWhole, bytes_so_far, closing_bytes, data_so_far, learned}
 use Rattle.fit_encode.proofs.RecordSteps.{records_bytes-last}
-use Rattle.fit_examples.specs.Recordings.{IsRecording, definition, ride_message, ride_records}
 
 -- after a header of these bytes, with these records
 abbrev pub after_header : List ℕ → ℕ → List (Record Global) → Encoding Global

@@ -1,3 +1,4 @@
+pub mod Common
 pub mod RoundTrip
 pub mod TableText
 pub mod Holding

@@ -1,29 +1,21 @@
 -- What is noted of the events of some bytes.
-use Rattle.std.proofs.Common.{◌≡◌, ◌∙◌, ℕ, List, [], ◌∷◌, ◌++◌, length, take, reverse, Some, None, refl, sym, ap, ap₂, subst, arith, append_assoc}
-use Rattle.std.specs.Prelude.{flat_map, map}
-use Rattle.std.specs.declared.alloc.Global.{Global}
-use Rattle.std.proofs.lemmas.List.{append-nil, reverse-append, reverse-reverse}
-use Rattle.fit_record.specs.declared.file.FitFile.{FitFile}
-use Rattle.fit_record.specs.declared.message.Record.{Record}
-use Rattle.fit_record.specs.Files.{IsChain, chain_limit}
-use Rattle.fit_record.specs.Records.{Fits}
-use Rattle.fit_decode.specs.declared.event.Event.{Event as Answer}
-use Rattle.fit_decode.specs.declared.event.Event.TheVariants as answers
-use Rattle.fit_decode.specs.Answers.{Least, Quiet, Seen, event_of, fed}
-use Rattle.fit_decode.specs.Events.{AreEvents, Event, file_end, file_events, header, item}
-use Rattle.fit_decode.specs.Laws.{EventsAreOne}
-use Rattle.fit_decode.specs.Progress.{at_header}
-use Rattle.fit_decode.proofs.Checking.{Feeds}
+use Rattle.fit_examples.proofs.Common.{◌≡◌, ◌∙◌, ℕ, List, [], ◌∷◌, ◌++◌, length, take, reverse, Some, None, refl, sym, ap, ap₂, subst, arith, append_assoc}
+use Rattle.fit_examples.proofs.Common.{flat_map, map, Global, append-nil, reverse-append, reverse-reverse, FitFile, Record, IsChain, chain_limit, Fits, Seen}
+use Rattle.fit_examples.proofs.Common.{event_of, fed, AreEvents, Event, file_end, file_events, header, item, Feeds, AreHeard, hear, latest_records}
+use Rattle.fit_chain.specs.declared.event.Event.{Event as Answer}
+use Rattle.fit_chain.specs.Pieces.{Least, Quiet}
+use Rattle.fit_chain.specs.Laws.{EventsAreOne}
+use Rattle.fit_chain.specs.Progress.{at_header}
 use Rattle.fit_decode.proofs.FileRead.{no_file_yet}
-use Rattle.fit_decode.proofs.Telling.{least_for, quiet_for}
+use Rattle.fit_chain.proofs.Telling.{least_for, quiet_for}
 use Rattle.fit_profile.specs.Laws.{LookingBackIsLearning}
 use Rattle.fit_profile.specs.Looks.{known}
-use Rattle.fit_report.specs.Heard.{AreHeard, hear, latest_records}
 use Rattle.fit_report.specs.Laws.{HeardRecordsFit}
 use Rattle.fit_report.proofs.Chains.{chain_events}
 use Rattle.fit_examples.specs.declared.moments.Moment.{Moment}
 use Rattle.fit_examples.specs.HeartRates.{file_moments, record_moments, records_moments}
 use Rattle.fit_examples.specs.inner.Noting.{event_moments, records_after_event}
+use Rattle.fit_chain.specs.declared.event.Event.TheVariants as answers
 
 -- ---- the moments of events
 

@@ -1,21 +1,16 @@
 -- A record of a ride that can't be put: only memory can be lacking.
-use Rattle.std.proofs.Common.{◌≡◌, ℕ, ◌+◌, ◌*◌, ◌<◌, ◌≤◌, List, [], ◌∷◌, length, take, Option, Some, None, arith, refl, sym, ap, ◌∙◌, subst}
-use Rattle.std.specs.Prelude.{map}
-use Rattle.std.specs.declared.alloc.Global.{Global}
-use Rattle.std.proofs.lemmas.List.{length-append, length-take-le}
-use Rattle.fit_record.specs.declared.message.Record.{Record}
-use Rattle.fit_record.specs.declared.message.Record.TheVariants.{Define}
+use Rattle.fit_examples.proofs.Common.{◌≡◌, ℕ, ◌+◌, ◌*◌, ◌<◌, ◌≤◌, List, [], ◌∷◌, length, take, Option, Some, None, arith, refl, sym, ap, ◌∙◌, subst, map}
+use Rattle.fit_examples.proofs.Common.{Global, length-take-le, Record, Define, Environment, empty_environment, learn, learn_all, Fits, record_bytes}
+use Rattle.fit_examples.proofs.Common.{records_bytes, Encoding, IsFinishFault, IsPlaceFault, IsPutFault, closed_fault, data_so_far, learned, FitsRide}
+use Rattle.fit_examples.proofs.Common.{IsRideFault, definition, ride_message, ride_records}
+use Rattle.std.proofs.lemmas.List.{length-append}
 use Rattle.fit_record.specs.declared.fits.ShapeFault.{ShapeFault}
-use Rattle.fit_record.specs.Environment.{Environment, empty_environment, learn, learn_all}
-use Rattle.fit_record.specs.Records.{Fits, record_bytes, records_bytes}
 use Rattle.fit_record.specs.Faults.{first_fault}
 use Rattle.fit_record.proofs.NoFaultWhereFits.{faults_are_exact}
 use Rattle.fit_encode.specs.declared.fault.EncodeFault.{EncodeFault}
 use Rattle.fit_encode.specs.declared.fault.EncodeFault.TheVariants.{BadHeader, ZeroIsSum, BadLocal, BadOffset, UndefinedLocal, WrongShape, TooLong}
 use Rattle.fit_encode.specs.declared.fault.EncodeFault.TheVariants.{DeclaredLength, ChainLength, NoMemory, Write}
-use Rattle.fit_encode.specs.Encoding.{Encoding, IsFinishFault, IsPlaceFault, IsPutFault, closed_fault, data_so_far, learned}
 use Rattle.fit_encode.specs.Faults.{UnlessWrite}
-use Rattle.fit_examples.specs.Recordings.{FitsRide, IsRideFault, definition, ride_message, ride_records}
 use Rattle.fit_examples.proofs.Holding.{Holds}
 
 -- what the definition message makes known

@@ -1,11 +1,8 @@
 -- Why bytes that a file begins aren't read.
-use Rattle.std.proofs.Common.{◌≡◌, true, false, ℕ, List, Err, sym, ◌∙◌}
-use Rattle.std.specs.declared.alloc.Global.{Global}
-use Rattle.fit_record.specs.declared.file.FitFile.{FitFile}
-use Rattle.fit_decode.specs.declared.event.Fault.{Fault}
-use Rattle.fit_decode.specs.declared.event.Fault.TheVariants.{Refused, Truncated, NoMemory, Read}
-use Rattle.fit_decode.specs.Reads.{GivesFile, Channel}
-use Rattle.fit_decode.specs.Checks.{LacksMemory}
+use Rattle.fit_examples.proofs.Common.{◌≡◌, true, false, ℕ, List, Err, sym, ◌∙◌, Global, FitFile, GivesFile, LacksMemory}
+use Rattle.fit_chain.specs.declared.event.Fault.{Fault}
+use Rattle.fit_chain.specs.declared.event.Fault.TheVariants.{Refused, Truncated, NoMemory, Read}
+use Rattle.fit_decode.specs.Reads.{Channel}
 
 -- where a file begins the bytes of a source that doesn't fail, only memory can be lacking
 pub front_fault : (f : FitFile Global) (n : ℕ) (x : List ℕ) (source : Channel) (fault : Fault) → source.failed ≡ false → GivesFile f n x source (Err fault)

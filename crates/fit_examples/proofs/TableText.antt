@@ -1,19 +1,16 @@
 -- Why there is no table.
-use Rattle.std.proofs.Common.{◌≡◌, ◌∙◌, ℕ, ◌<◌, ◌++◌, true, false, Some, List, Err, arith, take, get_or, length, length-append}
-use Rattle.std.proofs.Common.{sym, ap, subst}
-use Rattle.std.specs.declared.alloc.Global.{Global}
-use Rattle.std.proofs.lemmas.List.{append-nil, get_or_append_left, take-append-le}
+use Rattle.fit_examples.proofs.Common.{◌≡◌, ◌∙◌, ℕ, ◌<◌, ◌++◌, true, false, Some, List, Err, arith, take, get_or, length, sym, ap, subst, Global, append-nil}
+use Rattle.fit_examples.proofs.Common.{get_or_append_left, take-append-le, chain_limit, IsFaultOf}
+use Rattle.std.proofs.Common.{length-append}
 use Rattle.fit_frame.specs.declared.reason.Reason.{Reason}
-use Rattle.fit_record.specs.Files.{chain_limit}
-use Rattle.fit_decode.specs.declared.event.Fault.TheVariants as faults
-use Rattle.fit_decode.specs.Checks.{IsFaultOf}
-use Rattle.fit_decode.specs.Refusals.{IsRefused}
+use Rattle.fit_chain.specs.Refusals.{IsRefused}
 use Rattle.fit_report.specs.Reports.{Channel}
 use Rattle.fit_csv.specs.declared.fault.CsvFault.{CsvFault}
-use Rattle.fit_csv.specs.declared.fault.CsvFault.TheVariants as csv
 use Rattle.fit_csv.specs.Conversions.{Converts, ConvertsTo, RowsOf}
 use Rattle.fit_cells.specs.Rows.{Row}
 use Rattle.fit_examples.specs.Tables.{CsvLacksMemory, IsTableFault}
+use Rattle.fit_chain.specs.declared.event.Fault.TheVariants as faults
+use Rattle.fit_csv.specs.declared.fault.CsvFault.TheVariants as csv
 
 pub wants_memory : (rows : List Row) (source sink : Channel) (fault : CsvFault) → source.failed ≡ false → ConvertsTo rows source sink (Err fault)
     → CsvLacksMemory fault

@@ -1,7 +1,7 @@
 -- Why there is no table.
 use Rattle.std.specs.Prelude.{ℕ, List}
-use Rattle.fit_decode.specs.declared.event.Fault.TheVariants as faults
-use Rattle.fit_decode.specs.Checks.{IsFaultOf}
+use Rattle.fit_chain.specs.declared.event.Fault.TheVariants as faults
+use Rattle.fit_chain.specs.Checks.{IsFaultOf}
 use Rattle.fit_csv.specs.declared.fault.CsvFault.{CsvFault}
 use Rattle.fit_csv.specs.declared.fault.CsvFault.TheVariants.{Decode, NoMemory, Write}
 

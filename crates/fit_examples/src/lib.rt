@@ -5,8 +5,6 @@ mod moments;
 mod recording;
 mod round_trip;
 mod tables;
-#[cfg(test)]
-mod tests;
 mod upload;
 
 pub use moments::{Moment, heart_rates};

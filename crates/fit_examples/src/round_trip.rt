@@ -5,7 +5,7 @@ ghost use Rattle.fit_record.specs.declared.file.FitFile.{FitFile};
 ghost use Rattle.fit_record.specs.Files.{IsFile, IsWellFormed};
 ghost use Rattle.fit_encode.specs.Faults.{IfRefused, IsFirstFault};
 ghost use Rattle.fit_examples.specs.RoundTrips.{EncodeLacksMemory};
-ghost use Rattle.fit_decode.specs.Checks.{LacksMemory};
+ghost use Rattle.fit_chain.specs.Checks.{LacksMemory};
 
 use fit_decode::{Fault, read_one};
 use fit_encode::laws::good_chains_have_no_fault;

@@ -3,8 +3,8 @@ ghost use Rattle.std.specs.Prelude.{◌≡◌, IfErr, IfOk, List, OnOk, flat_map
 ghost use Rattle.std.specs.declared.alloc.Global.{Global};
 ghost use Rattle.fit_record.specs.declared.file.FitFile.{FitFile};
 ghost use Rattle.fit_record.specs.Files.{IsChain, chain_limit};
-ghost use Rattle.fit_decode.specs.Answers.{AreChain};
-ghost use Rattle.fit_decode.specs.Events.{file_events};
+ghost use Rattle.fit_chain.specs.Checks.{AreChain};
+ghost use Rattle.fit_chain.specs.Events.{file_events};
 ghost use Rattle.fit_cells.specs.Rows.{csv_text};
 ghost use Rattle.fit_csv.specs.Table.{table_of};
 ghost use Rattle.fit_examples.specs.Tables.{CsvLacksMemory, IsTableFault};

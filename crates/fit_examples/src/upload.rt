@@ -1,8 +1,7 @@
 //! Whether an upload is a FIT file, or a chain of such files.
 ghost use Rattle.std.specs.Prelude.{IfErr, OnOk};
 ghost use Rattle.std.specs.declared.alloc.Global.{Global};
-ghost use Rattle.fit_decode.specs.Answers.{AreChain};
-ghost use Rattle.fit_decode.specs.Checks.{IsFaultOf, LacksMemory, LacksMemoryAt};
+ghost use Rattle.fit_chain.specs.Checks.{AreChain, IsFaultOf, LacksMemory, LacksMemoryAt};
 
 use fit_decode::{Decoder, Fault};
 use std::alloc::Global;

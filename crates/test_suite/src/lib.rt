@@ -16,11 +16,20 @@ mod edges;
 #[cfg(test)]
 mod fed;
 #[cfg(test)]
+mod headers;
+#[cfg(test)]
+mod history;
+#[cfg(test)]
+mod numbers;
+#[cfg(test)]
 mod reading;
 #[cfg(test)]
 mod refused;
 #[cfg(test)]
+mod reports;
+#[cfg(test)]
 mod rooms;
+#[cfg(test)]
 #[cfg(test)]
 mod skipped;
 #[cfg(test)]
@@ -29,5 +38,7 @@ mod sources;
 mod starved;
 #[cfg(test)]
 mod steps;
+#[cfg(test)]
+mod sums;
 #[cfg(test)]
 mod written;

@@ -1,4 +1,4 @@
-//! Tests over `fit_profile` and `fit_csv`. They stand apart so that the proofs of those crates stay short.
+//! Tests over `fit_profile`, `fit_cells`, `fit_csv` and `fit_examples`. They stand apart so that the proofs of those crates stay short.
 #![tactic(auto)]
 
 #[cfg(test)]
@@ -9,6 +9,8 @@ mod cells;
 mod conversions;
 #[cfg(test)]
 mod cut;
+#[cfg(test)]
+mod examples;
 #[cfg(test)]
 mod from_text;
 #[cfg(test)]

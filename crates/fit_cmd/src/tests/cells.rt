@@ -1,7 +1,7 @@
 //! Values, times and developer fields, as rows that come back, shown, and in a table.
 
-use crate::command_line::Command;
 use crate::tests::{TABLE_HEAD, answer_of, both_ways, bytes_of, expect};
+use fit_run::Command;
 use std::test::Fail;
 
 /// Three altitudes, times of hrv, a battery's voltage, and two product names, one without bytes and one that begins as hexadecimal digits do.

@@ -1,10 +1,10 @@
 //! Files and chains checked.
 
-use crate::command_line::Command;
 use crate::tests::{
     DEVELOPER_FIELD, EMPTY, EMPTY_WITH_ZEROS, LONG, ONE_BYTE_MESSAGE, SHORT, TRUE_ZERO,
     TWO_MESSAGES, answer_of, bytes_of, expect,
 };
+use fit_run::Command;
 use std::alloc::Global;
 use std::process::Abort;
 use std::test::Fail;

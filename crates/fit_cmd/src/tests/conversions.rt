@@ -1,11 +1,11 @@
 //! Files as CSV text and back, and as a table.
 
-use crate::command_line::Command;
 use crate::tests::{
     DEVELOPER_FIELD, DEVELOPER_FIELD_TEXT, EMPTY, EMPTY_TEXT, EMPTY_WITH_ZEROS, LONG, LONG_TEXT,
     ONE_BYTE_MESSAGE, SHORT, TABLE_HEAD, TRUE_ZERO, TWO_MESSAGES, TWO_MESSAGES_TEXT, answer_of,
     both_ways, bytes_of, expect,
 };
+use fit_run::Command;
 use std::test::Fail;
 
 /// A product name with a comma and a quote.

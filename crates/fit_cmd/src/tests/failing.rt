@@ -1,10 +1,9 @@
 //! Inputs cut at each byte, and sources and sinks that fail there, by each command.
 
-use crate::command_line::Command;
-use crate::run::run;
 use crate::tests::{TABLE_HEAD, answer_of, expect};
 use fit_decode::CutSource;
 use fit_encode::{CutSink, Sink};
+use fit_run::{Command, run};
 use std::alloc::{AllocError, Global};
 use std::process::Abort;
 use std::test::Fail;

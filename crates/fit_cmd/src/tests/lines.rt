@@ -1,6 +1,6 @@
 //! Command lines.
 
-use crate::command_line::{Command, LineFault, parse_line};
+use fit_run::{Command, LineFault, parse_line};
 use std::alloc::{AllocError, Global};
 use std::test::Fail;
 

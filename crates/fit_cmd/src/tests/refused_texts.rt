@@ -1,7 +1,7 @@
 //! Texts of which no file is made.
 
-use crate::command_line::Command;
 use crate::tests::{DEVELOPER_FIELD_TEXT, TWO_MESSAGES_TEXT, answer_of, expect};
+use fit_run::Command;
 use std::alloc::Global;
 use std::process::Abort;
 use std::test::Fail;

@@ -1,10 +1,10 @@
 //! Files shown.
 
-use crate::command_line::Command;
 use crate::tests::{
     DEVELOPER_FIELD, DEVELOPER_FIELD_SHOWN, EMPTY_WITH_ZEROS, LONG, SHORT, TWO_MESSAGES,
     TWO_MESSAGES_SHOWN, answer_of, bytes_of, expect,
 };
+use fit_run::Command;
 use std::test::Fail;
 
 /// A file_id message whose product_name is `m` and a line feed.

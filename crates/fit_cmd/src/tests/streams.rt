@@ -1,10 +1,9 @@
 //! Readers and writers as sources and sinks, and inputs of more than one piece.
 
-use crate::command_line::Command;
-use crate::run::run;
 use crate::tests::{SHORT, bytes_of};
 use fit_decode::{ReadSource, Source};
 use fit_encode::{CutSink, Sink, WriteSink};
+use fit_run::{Command, run};
 use std::io;
 use std::io::{ErrorKind, Read};
 use std::test::Fail;

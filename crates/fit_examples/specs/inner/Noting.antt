@@ -1,8 +1,8 @@
 -- What is noted of an event. No public contract names this.
 use Rattle.std.specs.Prelude.{List, [], ◌∷◌}
 use Rattle.fit_record.specs.declared.message.Record.{Record}
-use Rattle.fit_decode.specs.declared.event.Event.{Event as Answer}
-use Rattle.fit_decode.specs.declared.event.Event.TheVariants as answers
+use Rattle.fit_chain.specs.declared.event.Event.{Event as Answer}
+use Rattle.fit_chain.specs.declared.event.Event.TheVariants as answers
 use Rattle.fit_examples.specs.declared.moments.Moment.{Moment}
 use Rattle.fit_examples.specs.HeartRates.{record_moments}
 

@@ -1,5 +1,4 @@
-use Rattle.std.proofs.Common.{ap, subst, sym, ◌∙◌, ◌≡◌}
-use Rattle.std.specs.Prelude.{◌⊎◌}
+use Rattle.fit_c.proofs.Common.{ap, subst, sym, ◌∙◌, ◌≡◌, ◌⊎◌}
 use Rattle.fit_c.proofs.Said.{chain_checked, check_good}
 use Rattle.fit_c.proofs.check.fit_check.Goals as goal
 

@@ -1,7 +1,4 @@
-use Rattle.std.proofs.Common.{false, List, ℕ, Some, refl, ap, subst, sym, ◌∙◌}
-use Rattle.fit_report.specs.Reports.{Channel}
-use Rattle.fit_csv.specs.FromText.{ReadsText}
-use Rattle.fit_c.specs.Answers.{IsTextUnlessWant, given}
+use Rattle.fit_c.proofs.Common.{false, List, ℕ, Some, refl, ap, subst, sym, ◌∙◌, Channel, ReadsText, IsTextUnlessWant, given}
 use Rattle.fit_c.proofs.Handed.{bytes_back, text_good}
 use Rattle.fit_c.proofs.texts.fit_from_csv.Goals as goal
 

@@ -1,11 +1,6 @@
-use Rattle.std.proofs.Common.{false, Some, refl, subst, sym}
-use Rattle.std.specs.Prelude.{flat_map, reverse}
+use Rattle.fit_c.proofs.Common.{false, Some, refl, subst, sym, flat_map, reverse, file_events, text_of, Channel, HasTold, IsTextUnlessWant, given}
 use Rattle.fit_base.proofs.ByteLists.{slice_is_bytes}
-use Rattle.fit_decode.specs.Events.{file_events}
-use Rattle.fit_report.specs.Heard.{text_of}
-use Rattle.fit_report.specs.Reports.{Channel, HasTold}
 use Rattle.fit_csv.specs.ShowLines.{show_line}
-use Rattle.fit_c.specs.Answers.{IsTextUnlessWant, given}
 use Rattle.fit_c.proofs.Handed.{shown_chain}
 use Rattle.fit_c.proofs.texts.fit_show.Goals as goal
 

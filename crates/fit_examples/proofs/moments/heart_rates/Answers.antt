@@ -1,12 +1,7 @@
 -- What is fed is a front of the ride, and what is noted is that of its events.
-use Rattle.std.proofs.Common.{rules, ◌^◌, ◌<◌, [], length, subst, sym, ◌∙◌, IfErr, OnOk}
-use Rattle.std.specs.declared.alloc.Global.{Global}
-use Rattle.std.proofs.lemmas.Bool.{eqb-true}
-use Rattle.std.proofs.lemmas.Result.{err_from_is_err_and}
-use Rattle.fit_base.proofs.ByteLists.{slice_is_bytes}
-use Rattle.fit_decode.specs.Answers.{AreChain, Seen}
-use Rattle.fit_decode.specs.Checks.{IsFaultOf}
-use Rattle.fit_decode.proofs.Checking.{Feeds, bad_end, chain_end, fault_of_chain, feeds_on, good_end, stopped, stops, taken_before}
+use Rattle.fit_examples.proofs.Common.{rules, ◌^◌, ◌<◌, [], length, subst, sym, ◌∙◌, IfErr, Global, eqb-true, err_from_is_err_and, slice_is_bytes, AreChain}
+use Rattle.fit_examples.proofs.Common.{IsFaultOf, Seen, Feeds, bad_end, feeds_on, good_end, stopped, stops, taken_before, chain_end, fault_of_chain}
+use Rattle.std.proofs.Common.{OnOk}
 use Rattle.fit_examples.proofs.Noted.{Noted, heard_on, noted_all, noted_on, nothing_noted}
 use Rattle.fit_examples.proofs.moments.heart_rates.Goals as goal
 

@@ -1,5 +1,4 @@
-use Rattle.std.proofs.Common.{subst}
-use Rattle.fit_report.specs.Heard.{AreHeard, hear}
+use Rattle.fit_examples.proofs.Common.{subst, AreHeard, hear}
 use Rattle.fit_examples.proofs.Noted.{heard_fits}
 use Rattle.fit_examples.proofs.moments.note.Goals as goal
 

@@ -1,10 +1,6 @@
 -- Each call that is good has written the bytes of its part of the file.
-use Rattle.std.proofs.Common.{◌∷◌, ◌++◌, [], ap, arith, subst, take, ◌∙◌}
+use Rattle.fit_examples.proofs.Common.{◌∷◌, ◌++◌, [], ap, arith, subst, take, ◌∙◌, err_from_is_err_and, header_bytes, Encoding, ride_records}
 use Rattle.std.proofs.Math.Seq.{take-length}
-use Rattle.std.proofs.lemmas.Result.{err_from_is_err_and}
-use Rattle.fit_frame.specs.Header.{header_bytes}
-use Rattle.fit_encode.specs.Encoding.{Encoding}
-use Rattle.fit_examples.specs.Recordings.{ride_records}
 use Rattle.fit_examples.proofs.Holding.{Holds, is_recording, holds_more, next_message}
 use Rattle.fit_examples.proofs.RideFaults.{end_fault, message_fault}
 use Rattle.fit_examples.proofs.recording.ride_file.Goals as goal

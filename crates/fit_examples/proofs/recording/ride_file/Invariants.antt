@@ -1,5 +1,4 @@
-use Rattle.std.proofs.Common.{take}
-use Rattle.fit_examples.specs.Recordings.{ride_records}
+use Rattle.fit_examples.proofs.Common.{take, ride_records}
 use Rattle.fit_examples.proofs.Holding.{Holds}
 use Rattle.fit_examples.proofs.recording.ride_file.Given as goal
 

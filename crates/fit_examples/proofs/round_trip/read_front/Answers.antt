@@ -1,7 +1,5 @@
-use Rattle.std.proofs.Common.{◌≡◌, Some, false, ap, subst, refl, length}
-use Rattle.std.proofs.lemmas.Result.{err_from_is_err_and}
+use Rattle.fit_examples.proofs.Common.{◌≡◌, Some, false, ap, subst, refl, length, err_from_is_err_and, slice_is_bytes, IsBytes-front}
 use Rattle.fit_base.specs.Numbers.{IsBytes}
-use Rattle.fit_base.proofs.ByteLists.{slice_is_bytes, IsBytes-front}
 use Rattle.fit_decode.specs.Reads.{Channel}
 use Rattle.fit_examples.proofs.RoundTrip.{front_fault}
 use Rattle.fit_examples.proofs.round_trip.read_front.Goals as goal

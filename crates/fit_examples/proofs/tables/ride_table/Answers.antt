@@ -1,8 +1,4 @@
-use Rattle.std.proofs.Common.{false, Some, refl}
-use Rattle.std.specs.Prelude.{flat_map}
-use Rattle.std.proofs.lemmas.Result.{err_from_is_err_and}
-use Rattle.fit_base.proofs.ByteLists.{slice_is_bytes}
-use Rattle.fit_decode.specs.Events.{file_events}
+use Rattle.fit_examples.proofs.Common.{false, Some, refl, flat_map, err_from_is_err_and, slice_is_bytes, file_events}
 use Rattle.fit_report.specs.Reports.{Channel}
 use Rattle.fit_csv.specs.Table.{table_of}
 use Rattle.fit_examples.proofs.TableText.{table_fault, wants_memory}

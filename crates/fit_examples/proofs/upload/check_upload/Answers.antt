@@ -1,9 +1,6 @@
 -- What is fed is a front of the upload, and at the end all of it.
-use Rattle.std.proofs.Common.{◌^◌, ◌<◌, length, rules, subst, sym, ◌∙◌}
-use Rattle.std.proofs.lemmas.Bool.{eqb-true}
-use Rattle.fit_base.proofs.ByteLists.{slice_is_bytes}
-use Rattle.fit_decode.specs.Checks.{IsFaultOf, LacksMemoryAt}
-use Rattle.fit_decode.proofs.Checking.{bad_end, chain_end, fault_of_chain, good_end, stopped, stopped_at, stops}
+use Rattle.fit_examples.proofs.Common.{◌^◌, ◌<◌, length, rules, subst, sym, ◌∙◌, eqb-true, slice_is_bytes, IsFaultOf, LacksMemoryAt, bad_end, good_end, stopped}
+use Rattle.fit_examples.proofs.Common.{stopped_at, stops, chain_end, fault_of_chain}
 use Rattle.fit_examples.proofs.upload.check_upload.Goals as goal
 
 pub returns-in-Err-clause-fault : goal.returns-in-Err-clause-fault

@@ -1,5 +1,4 @@
-use Rattle.std.proofs.Common.{length}
-use Rattle.fit_decode.proofs.Checking.{Feeds}
+use Rattle.fit_examples.proofs.Common.{length, Feeds}
 use Rattle.fit_examples.proofs.upload.check_upload.Given as goal
 
 abbrev pub invariant-loop-rest : goal.invariant-loop-rest

@@ -1,5 +1,0 @@
-use Rattle.fit_cmd.proofs.OneRun.{runs_are_one}
-use Rattle.fit_cmd.proofs.laws.runs_are_one.Goals as goal
-
-pub returns : goal.returns
-returns c = runs_are_one c.reasons_are_one.ensures c.events_are_one.ensures c.texts_have_one_finding.ensures

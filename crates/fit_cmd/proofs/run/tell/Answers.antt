@@ -1,6 +1,0 @@
-use Rattle.fit_cmd.proofs.Said.{Puts-all}
-use Rattle.fit_cmd.proofs.run.tell.Goals as goal
-
-pub returns : goal.returns
-returns g c = rw c.as_bytes.ensures.value at
-    (Puts-all _ _ _ _ c.as_bytes.result.now c.put_all.ensures.ok c.put_all.ensures.err c.put_all.ensures.part c.put_all.ensures.failed)

@@ -1,0 +1,11 @@
+pub mod Common
+pub mod LineFacts
+pub mod Names
+pub mod Said
+pub mod Counts
+pub mod Ran
+pub mod TextRead
+pub mod Findings
+pub mod OneText
+pub mod OneRun
+pub mod Concluded

@@ -1,0 +1,45 @@
+//! Sums that are known from outside.
+use fit_sum::Sum;
+
+// What catalogues of checksums give for this text.
+#[test]
+fn nine_digits(rt: HostRuntime) {
+    let mut one_by_one = Sum::new();
+    for byte in b"123456789" {
+        one_by_one.add(*byte);
+    }
+    assert_eq!(rt; one_by_one.value(), 0xBB3D);
+
+    let mut together = Sum::new();
+    together.add_all(b"123456789");
+    assert_eq!(rt; together.value(), 0xBB3D);
+}
+
+// The expected sums were computed by a Python program, one nibble at a time by the table that the
+// FIT protocol prints.
+#[test]
+fn a_thousand_bytes_in_pieces(rt: HostRuntime) {
+    let mut bytes = [0; 1000];
+    for i in 0..1000 {
+        bytes[i] = ((37 * i + 11) % 256) as u8;
+    }
+    for (len, expected) in [
+        (7, 0x4409),
+        (128, 0x61E8),
+        (257, 0x95D0),
+        (999, 0xED3E),
+        (1000, 0x3CED),
+    ] {
+        let mut whole = Sum::new();
+        whole.add_all(&bytes[..len]);
+        assert_eq!(rt; whole.value(), expected, "of {len} bytes");
+
+        for size in [1, 3, 8, 100, 128, 300] {
+            let mut sum = Sum::new();
+            for piece in bytes[..len].chunks(size) {
+                sum.add_all(piece);
+            }
+            assert_eq!(rt; sum.value(), expected, "of {len} bytes in pieces of {size}");
+        }
+    }
+}
