@@ -3,7 +3,7 @@ use Rattle.fit_record.proofs.Common.{◌≡◌, ℕ, zero, suc, ◌+◌, ◌-◌
 use Rattle.fit_record.proofs.Common.{subst, arith, lit<, None, Some, slice_set, ◌==◌, ◌||◌, nat_le, option_map_or, or_cases, or_left, or_right, cases_lt}
 use Rattle.fit_record.proofs.Common.{eqb-true, eq-eqb, leb-true, le-leb, lt-leb, length-set, Defined, MessageDef, Define, Environment, dev_defs, dev_code}
 use Rattle.fit_record.proofs.Common.{defined_by, learn, body_length, length-map, message_size, CanFill, fills, has_length, others_have, can_fill, can_fill_with}
-use Rattle.fit_record.proofs.Common.{can_fill_from, finishes}
+use Rattle.fit_record.proofs.Common.{can_fill_from, finishes, can_complete, and_from}
 use Rattle.std.specs.Prelude.{Option}
 use Rattle.fit_record.proofs.RoomSums.{fills_6, fills_more, of_filled}
 use Rattle.fit_record.proofs.FilledRooms.{can_fill_is}
@@ -113,3 +113,11 @@ finishes_to e local t size left h = go (cases_lt t 2) where
       let z : size ≡ size + 0 = omega arith in
       (0, lit< tt, (λ c. refl), subst (λ s. can_fill_with e local s left ≡ true) z k)
   go (inr b) = let k : can_fill_from e local size left ≡ true = rw (le-leb 2 t b) at h in some b (open_to e local size left k)
+
+-- bytes of entries alone are to come
+pub completes_from : {A : Type 0} (e : Environment A) (local t size found left room : ℕ) → size ≤ found → (t < 2 → found ≡ size) → t + left ≡ room
+    → can_fill_with e local found left ≡ true → can_complete e local t size room ≡ true
+completes_from e local t size found left room l k total h =
+    and_from (nat_le t room) _ (le-leb t room (omega (arith, total)))
+    (finishes_from e local t size found (room - t) l k
+    (subst (λ n. can_fill_with e local found n ≡ true) (let same : left ≡ room - t = omega (arith, total) in same) h))

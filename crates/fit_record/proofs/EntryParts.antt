@@ -1,6 +1,6 @@
 -- Entries of three bytes each, of which the second is a size, when only some of their bytes have come.
-use Rattle.fit_record.proofs.Common.{◌≡◌, ℕ, zero, suc, ◌+◌, ◌*◌, ◌<◌, ◌≤◌, List, [], ◌∷◌, ◌++◌, length, refl, ap, ◌∙◌, subst, lit<, arith, length-append}
-use Rattle.fit_record.proofs.Common.{get_or, flat_map, sum_by, sum_by-cons, IsBytes, IsBytes-cons, IsBytes-none}
+use Rattle.fit_record.proofs.Common.{◌≡◌, ℕ, zero, suc, ◌+◌, ◌-◌, ◌*◌, ◌<◌, ◌≤◌, List, [], ◌∷◌, ◌++◌, length, refl, sym, ap, ◌∙◌, lit<, arith, length-append}
+use Rattle.fit_record.proofs.Common.{append_assoc, get_or, flat_map, sum_by, sum_by-cons, IsBytes, IsBytes-append, IsBytes-cons, IsBytes-none}
 
 abbrev pub spell : {X : Type 0} → (X → ℕ) → (X → ℕ) → (X → ℕ) → X → List ℕ
 spell first size last x = first x ∷ size x ∷ last x ∷ []
@@ -56,84 +56,39 @@ pub record Goes {X : Type 0} (first size last : X → ℕ) (before : List ℕ) (
   pub to_come : length rest ≡ t
 
 module _ {X : Type 0} (first size last : X → ℕ) (make : ℕ → ℕ → ℕ → X)
-    (first_is : (a b c : ℕ) → first (make a b c) ≡ a) (size_is : (a b c : ℕ) → size (make a b c) ≡ b) (last_is : (a b c : ℕ) → last (make a b c) ≡ c) where
-  zeros : (k : ℕ) → Goes first size last [] 0 k (3 * k) 0
-  zeros zero = record { entries = []; rest = []; counted = refl; sized = refl; spelled = refl; are_bytes = IsBytes-none; to_come = refl }
-  zeros (suc k) =
-      let r = zeros k in
-      let x = make 0 0 0 in
+    (made : (a b c : ℕ) → spell first size last (make a b c) ≡ a ∷ b ∷ c ∷ []) where
+  -- an entry of which these last bytes are to come, and the entries behind it
+  one_more : (a b c : ℕ) (before more : List ℕ) (known k u t part extra : ℕ) → before ++ more ≡ a ∷ b ∷ c ∷ [] → IsBytes more
+      → Goes first size last [] 0 k u part → b + part ≡ known + extra → length more + u ≡ t → Goes first size last before known (suc k) t extra
+  one_more a b c before more known k u t part extra is are r total long =
+      let x = make a b c in
+      let three = made a b c in
+      let size_is : size x ≡ b = cc in
       record {
         entries = x ∷ r.entries;
-        rest = first x ∷ size x ∷ last x ∷ r.rest;
+        rest = more ++ r.rest;
         counted = ap suc r.counted;
-        sized = omega (arith, sum_by-cons size x r.entries, size_is 0 0 0, r.sized);
-        spelled = ap (λ bs. first x ∷ size x ∷ last x ∷ bs) r.spelled;
-        are_bytes = IsBytes-cons (first x) (size x ∷ last x ∷ r.rest) (omega (arith, first_is 0 0 0))
-            (IsBytes-cons (size x) (last x ∷ r.rest) (omega (arith, size_is 0 0 0)) (IsBytes-cons (last x) r.rest (omega (arith, last_is 0 0 0)) r.are_bytes));
-        to_come = omega (arith, r.to_come);
+        sized = omega (arith, sum_by-cons size x r.entries, size_is, r.sized, total);
+        spelled = (λ i. three i ++ r.spelled i) ∙ ap (λ l. l ++ r.rest) (sym is) ∙ append_assoc before more r.rest;
+        are_bytes = IsBytes-append more r.rest are r.are_bytes;
+        to_come = omega (arith, length-append more r.rest, r.to_come, long);
       }
-
-  -- an entry with this first byte and an open size
-  one_open : (a k extra : ℕ) → extra < 256 → Goes first size last (a ∷ []) 0 (suc k) (2 + 3 * k) extra
-  one_open a k extra small =
-      let r = zeros k in
-      let x = make a extra 0 in
-      record {
-        entries = x ∷ r.entries;
-        rest = size x ∷ last x ∷ r.rest;
-        counted = ap suc r.counted;
-        sized = omega (arith, sum_by-cons size x r.entries, size_is a extra 0, r.sized);
-        spelled = ap (λ bs. first x ∷ size x ∷ last x ∷ bs) r.spelled ∙ ap (λ b. b ∷ size x ∷ last x ∷ r.rest) (first_is a extra 0);
-        are_bytes = IsBytes-cons (size x) (last x ∷ r.rest) (omega (arith, size_is a extra 0))
-            (IsBytes-cons (last x) r.rest (omega (arith, last_is a extra 0)) r.are_bytes);
-        to_come = omega (arith, r.to_come);
-      }
-
-  all_open : (k extra : ℕ) → extra < 256 → Goes first size last [] 0 (suc k) (3 + 3 * k) extra
-  all_open k extra small =
-      let r = one_open 0 k extra small in
-      record {
-        entries = r.entries;
-        rest = 0 ∷ r.rest;
-        counted = r.counted;
-        sized = r.sized;
-        spelled = r.spelled;
-        are_bytes =
-            IsBytes-cons 0 r.rest (lit< tt) r.are_bytes;
-        to_come = omega (arith, r.to_come);
-      }
-
-  -- an entry of which only the last byte is to come
-  after_size : (a b k t extra : ℕ) → Goes first size last [] 0 k t extra → Goes first size last (a ∷ b ∷ []) (0 + b) (suc k) (suc t) extra
-  after_size a b k t extra r =
-      let x = make a b 0 in
-      record {
-        entries = x ∷ r.entries;
-        rest = last x ∷ r.rest;
-        counted = ap suc r.counted;
-        sized = omega (arith, sum_by-cons size x r.entries, size_is a b 0, r.sized);
-        spelled = ap (λ bs. first x ∷ size x ∷ last x ∷ bs) r.spelled ∙ ap (λ n. n ∷ size x ∷ last x ∷ r.rest) (first_is a b 0)
-            ∙ ap (λ n. a ∷ n ∷ last x ∷ r.rest) (size_is a b 0);
-        are_bytes = IsBytes-cons (last x) r.rest (omega (arith, last_is a b 0)) r.are_bytes;
-        to_come = omega (arith, r.to_come);
-      }
-
-  at_length : (before : List ℕ) (known count t u extra : ℕ) → t ≡ u → Goes first size last before known count t extra
-      → Goes first size last before known count u extra
-  at_length before known count t u extra h r = subst (λ n. Goes first size last before known count n extra) h r
 
   pub goes_on : (ys : List X) (entry : List ℕ) (t count extra : ℕ) → length entry < 3 → 3 * length ys + length entry + t ≡ 3 * count
       → (t < 2 → extra ≡ 0) → extra < 256
       → Goes first size last (flat_map (spell first size last) ys ++ entry) (sum_by size ys + get_or entry 1 0) count t extra
   goes_on [] [] t zero extra l c none small =
       record { entries = []; rest = []; counted = refl; sized = omega (arith, none); spelled = refl; are_bytes = IsBytes-none; to_come = omega arith }
-  goes_on [] [] t (suc k) extra l c none small = at_length [] 0 (suc k) _ t extra (omega arith) (all_open k extra small)
-  goes_on [] (a ∷ []) t (suc k) extra l c none small = at_length (a ∷ []) 0 (suc k) _ t extra (omega arith) (one_open a k extra small)
-  goes_on [] (a ∷ b ∷ []) t (suc zero) extra l c none small =
-      subst (λ n. Goes first size last (a ∷ b ∷ []) (0 + b) 1 t n) (omega (arith, none))
-      (at_length (a ∷ b ∷ []) (0 + b) 1 _ t 0 (omega arith) (after_size a b 0 0 0 (zeros 0)))
-  goes_on [] (a ∷ b ∷ []) t (suc (suc k)) extra l c none small =
-      at_length (a ∷ b ∷ []) (0 + b) (suc (suc k)) _ t extra (omega arith) (after_size a b (suc k) _ extra (all_open k extra small))
+  goes_on [] [] t (suc k) extra l c none small =
+      one_more 0 extra 0 [] (0 ∷ extra ∷ 0 ∷ []) 0 k (3 * k) t 0 extra refl
+      (IsBytes-cons 0 (extra ∷ 0 ∷ []) (lit< tt) (IsBytes-cons extra (0 ∷ []) small (IsBytes-cons 0 [] (lit< tt) IsBytes-none)))
+      (goes_on [] [] (3 * k) k 0 l (omega arith) (λ _. refl) (lit< tt)) (omega arith) (omega arith)
+  goes_on [] (a ∷ []) t (suc k) extra l c none small =
+      one_more a extra 0 (a ∷ []) (extra ∷ 0 ∷ []) 0 k (3 * k) t 0 extra refl (IsBytes-cons extra (0 ∷ []) small (IsBytes-cons 0 [] (lit< tt) IsBytes-none))
+      (goes_on [] [] (3 * k) k 0 (lit< tt) (omega arith) (λ _. refl) (lit< tt)) (omega arith) (omega arith)
+  goes_on [] (a ∷ b ∷ []) t (suc k) extra l c none small =
+      one_more a b 0 (a ∷ b ∷ []) (0 ∷ []) (0 + b) k (t - 1) t extra extra refl (IsBytes-cons 0 [] (lit< tt) IsBytes-none)
+      (goes_on [] [] (t - 1) k extra (lit< tt) (omega arith) (λ h. none (omega arith)) small) (omega arith) (omega arith)
   goes_on (y ∷ ys) entry t (suc k) extra l c none small =
       let r = goes_on ys entry t k extra l (omega arith) none small in
       record {
