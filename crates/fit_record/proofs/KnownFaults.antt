@@ -1,25 +1,18 @@
 -- Worked records and the first reasons why they can't stand where they are.
-use Rattle.fit_record.proofs.Common.{◌≡◌, ℕ, List, [], ◌∷◌, refl, None, Some, Items, Little, FieldDef, DevDef, ShapeFault, BadLocal, BadOffset, UndefinedLocal}
-use Rattle.fit_record.proofs.Common.{WrongShape, Record, Define, Environment, empty_environment, learn, first_fault}
+use Rattle.fit_record.proofs.Common.{◌≡◌, ℕ, List, [], ◌∷◌, refl, None, Some, Items, FieldDef, DevDef, ShapeFault, BadLocal, BadOffset, UndefinedLocal}
+use Rattle.fit_record.proofs.Common.{WrongShape, Environment, empty_environment, learn, first_fault}
 use Rattle.std.proofs.Common.{Option}
 use Rattle.std.specs.Prelude.{map, replicate}
-use Rattle.fit_record.specs.declared.message.Record.TheVariants.{Values}
-use Rattle.fit_record.proofs.KnownFiles.{field, dev_field, item}
+use Rattle.fit_record.proofs.KnownFiles.{field, dev_field, item, defines, message}
 
 abbrev nothing : Environment (Unit {0})
 nothing = empty_environment
-
-abbrev defines : ℕ → List FieldDef → Option (List DevDef) → Record (Unit {0})
-defines local fields dev = Define (record { local = local; reserved = 0; order = Little; global = 20; fields = fields; dev = dev })
-
-abbrev message : ℕ → Option ℕ → List (Items (Unit {0})) → List (Items (Unit {0})) → Record (Unit {0})
-message local offset fields dev = Values (record { local = local; offset = offset; fields = fields; dev = dev })
 
 -- ---- fields that are single bytes
 
 -- a uint32 field of six bytes, a field of an unknown code, and a uint16 field of no bytes
 abbrev odd_fields : Environment (Unit {0})
-odd_fields = learn nothing (defines 0 (field 3 6 0x86 ∷ field 4 4 0x1F ∷ field 5 0 0x84 ∷ []) None)
+odd_fields = learn nothing (defines 0 20 (field 3 6 0x86 ∷ field 4 4 0x1F ∷ field 5 0 0x84 ∷ []) None)
 
 abbrev odd_fault : Items (Unit {0}) → Items (Unit {0}) → Items (Unit {0}) → Option ShapeFault
 odd_fault a b c = first_fault odd_fields (message 0 None (a ∷ b ∷ c ∷ []) [])
@@ -35,23 +28,19 @@ odd_sizes_and_unknown_codes : odd_fault six four (item 2 []) ≡ None
 odd_sizes_and_unknown_codes = refl
 
 -- One number of four bytes is neither.
-a_number_of_an_odd_size : odd_fault (item 4 (1 ∷ [])) four (item 2 []) ≡ Some (WrongShape 0)
-a_number_of_an_odd_size = refl
+numbers_of_four_bytes : (odd_fault (item 4 (1 ∷ [])) four (item 2 []) ∷ odd_fault six (item 4 (1 ∷ [])) (item 2 []) ∷ [])
+    ≡ (Some (WrongShape 0) ∷ Some (WrongShape 1) ∷ [])
+numbers_of_four_bytes = refl
 
-a_number_of_an_unknown_code : odd_fault six (item 4 (1 ∷ [])) (item 2 []) ≡ Some (WrongShape 1)
-a_number_of_an_unknown_code = refl
-
-a_number_of_no_bytes : odd_fault six four (item 2 (1 ∷ [])) ≡ Some (WrongShape 2)
-a_number_of_no_bytes = refl
-
-no_bytes_as_bytes : odd_fault six four (item 1 []) ≡ Some (WrongShape 2)
-no_bytes_as_bytes = refl
+-- The field of no bytes has no number, and no bytes as items either.
+no_bytes : map (odd_fault six four) (item 2 (1 ∷ []) ∷ item 1 [] ∷ []) ≡ (Some (WrongShape 2) ∷ Some (WrongShape 2) ∷ [])
+no_bytes = refl
 
 -- ---- the order of the reasons
 
 -- Local type 0 has a uint32 field, a uint8 field, and a developer field of two bytes.
 abbrev known : Environment (Unit {0})
-known = learn nothing (defines 0 (field 253 4 0x86 ∷ field 3 1 2 ∷ []) (Some (dev_field 5 2 0 ∷ [])))
+known = learn nothing (defines 0 20 (field 253 4 0x86 ∷ field 3 1 2 ∷ []) (Some (dev_field 5 2 0 ∷ [])))
 
 -- of a message without fields
 abbrev header_fault_of : ℕ → Option ℕ → Option ShapeFault
@@ -95,31 +84,19 @@ large = item 1 (256 ∷ [])
 abbrev wide : Items (Unit {0})
 wide = item 2 (4660 ∷ [])
 
-as_defined : fault_of (time ∷ pulse ∷ []) (power ∷ []) ≡ None
-as_defined = refl
-
-too_large : fault_of (time ∷ large ∷ []) (power ∷ []) ≡ Some (WrongShape 1)
-too_large = refl
-
-missing : fault_of (time ∷ []) (power ∷ []) ≡ Some (WrongShape 1)
-missing = refl
-
-too_many : fault_of (time ∷ pulse ∷ pulse ∷ []) (power ∷ []) ≡ Some (WrongShape 2)
-too_many = refl
+-- as defined; with a number that is too large; one field missing; one too many
+fields : map (λ fields. fault_of fields (power ∷ [])) ((time ∷ pulse ∷ []) ∷ (time ∷ large ∷ []) ∷ (time ∷ []) ∷ (time ∷ pulse ∷ pulse ∷ []) ∷ [])
+    ≡ (None ∷ Some (WrongShape 1) ∷ Some (WrongShape 1) ∷ Some (WrongShape 2) ∷ [])
+fields = refl
 
 -- Of several the first counts.
 all_wrong : fault_of (large ∷ large ∷ []) (wide ∷ []) ≡ Some (WrongShape 0)
 all_wrong = refl
 
--- Developer fields are counted on from the two fields.
-wrong_developer_field : fault_of (time ∷ pulse ∷ []) (wide ∷ []) ≡ Some (WrongShape 2)
-wrong_developer_field = refl
-
-missing_developer_field : fault_of (time ∷ pulse ∷ []) [] ≡ Some (WrongShape 2)
-missing_developer_field = refl
-
-too_many_developer_fields : fault_of (time ∷ pulse ∷ []) (power ∷ power ∷ []) ≡ Some (WrongShape 3)
-too_many_developer_fields = refl
+-- Developer fields are counted on from the two fields: one that is wrong, one missing, one too many.
+developer_fields : map (fault_of (time ∷ pulse ∷ [])) ((wide ∷ []) ∷ [] ∷ (power ∷ power ∷ []) ∷ [])
+    ≡ (Some (WrongShape 2) ∷ Some (WrongShape 2) ∷ Some (WrongShape 3) ∷ [])
+developer_fields = refl
 
 -- ---- definition messages
 
@@ -130,15 +107,15 @@ abbrev so_many_dev : ℕ → Option (List DevDef)
 so_many_dev count = Some (replicate count (dev_field 5 2 0))
 
 -- The place of 256 of either list is too many. Developer fields are counted on from the definition's own fields.
-fields_of_a_definition : map (λ count. first_fault nothing (defines 0 (so_many count) None)) (0 ∷ 255 ∷ 256 ∷ 300 ∷ [])
+fields_of_a_definition : map (λ count. first_fault nothing (defines 0 20 (so_many count) None)) (0 ∷ 255 ∷ 256 ∷ 300 ∷ [])
     ≡ (None ∷ None ∷ Some (WrongShape 255) ∷ Some (WrongShape 255) ∷ [])
 fields_of_a_definition = refl
 
-dev_fields_of_a_definition : map (λ count. first_fault nothing (defines 0 (so_many 2) (so_many_dev count))) (0 ∷ 255 ∷ 256 ∷ [])
+dev_fields_of_a_definition : map (λ count. first_fault nothing (defines 0 20 (so_many 2) (so_many_dev count))) (0 ∷ 255 ∷ 256 ∷ [])
     ≡ (None ∷ None ∷ Some (WrongShape 257) ∷ [])
 dev_fields_of_a_definition = refl
 
 -- The local message type comes first.
-local_of_a_definition : map (λ local. first_fault nothing (defines local (so_many 256) None)) (15 ∷ 16 ∷ [])
+local_of_a_definition : map (λ local. first_fault nothing (defines local 20 (so_many 256) None)) (15 ∷ 16 ∷ [])
     ≡ (Some (WrongShape 255) ∷ Some BadLocal ∷ [])
 local_of_a_definition = refl

@@ -1,6 +1,11 @@
 -- Whole files whose bytes are known from elsewhere: each value below is proved to be the file of its bytes.
-use Rattle.fit_record.proofs.Common.{ℕ, ◌<◌, ◌^◌, List, [], ◌∷◌, refl, None, Some, lit<, lit≤, Items, checksum, HeaderFits, FieldDef, DevDef, FitFile, Record}
-use Rattle.fit_record.proofs.Common.{Define, IsFile}
+use Rattle.fit_record.proofs.Common.{◌≡◌, ℕ, ◌<◌, ◌^◌, Bool, true, false, ◌&&◌, List, [], ◌∷◌, length, refl, None, Some, arith, lit<, ltb-true, and_parts, Items}
+use Rattle.fit_record.proofs.Common.{checksum, FieldDef, DevDef, FitFile, Record, Define, Environment, empty_environment, learn, AllFit, first_fault, body}
+use Rattle.fit_record.proofs.Common.{IsWellFormed, IsFile}
+use Rattle.std.specs.Prelude.{Option, nat_lt}
+use Rattle.fit_frame.specs.Header.{SizeFits, ZeroIsSum}
+use Rattle.fit_record.specs.Faults.{HasRange}
+use Rattle.fit_record.proofs.NoFaultWhereFits.{faults_are_exact}
 use Rattle.fit_frame.specs.declared.header.Header.{Header}
 use Rattle.fit_frame.specs.declared.header.HeaderSum.{HeaderSum}
 use Rattle.fit_record.specs.declared.message.Record.TheVariants.{Values}
@@ -17,17 +22,58 @@ file_of h rs = record { header = h; records = rs }
 abbrev pub field : ℕ → ℕ → ℕ → FieldDef
 field number size code = record { number = number; size = size; code = code }
 
+abbrev pub dev_field : ℕ → ℕ → ℕ → DevDef
+dev_field number size index = record { number = number; size = size; index = index }
+
 abbrev pub item : ℕ → List ℕ → Items (Unit {0})
 item width bits = record { width = width; bits = bits }
 
-true_header : (n : ℕ) → n < 2 ^ 32 → HeaderFits (header_of 14 sums.True) n
-true_header n below = record {
-  form = record { size = refl; version = lit≤ tt };
-  size_fits = lit< tt;
-  profile_fits = lit< tt;
-  data_fits = below;
-  sum =
-      λ z. let word = z.0 in cc;
+abbrev pub defines : ℕ → ℕ → List FieldDef → Option (List DevDef) → Record (Unit {0})
+defines local global fields dev = Define (record { local = local; reserved = 0; order = orders.Little; global = global; fields = fields; dev = dev })
+
+abbrev pub message : ℕ → Option ℕ → List (Items (Unit {0})) → List (Items (Unit {0})) → Record (Unit {0})
+message local offset fields dev = Values (record { local = local; offset = offset; fields = fields; dev = dev })
+
+-- Records fit where a test finds no fault in them.
+abbrev none : {X : Type 0} → Option X → Bool
+none None = true
+none (Some x) = false
+
+abbrev in_range : Record (Unit {0}) → Bool
+in_range (Define d) = nat_lt d.global (2 ^ 16)
+in_range (Values v) = true
+
+abbrev have_no_fault : Environment (Unit {0}) → List (Record (Unit {0})) → Bool
+have_no_fault e [] = true
+have_no_fault e (r ∷ rs) = (none (first_fault e r) && in_range r) && have_no_fault (learn e r) rs
+
+is_none : {X : Type 0} (o : Option X) → none o ≡ true → o ≡ None
+is_none None h = refl
+is_none (Some x) h = cc
+
+has_range : (r : Record (Unit {0})) → in_range r ≡ true → HasRange r
+has_range (Define d) h = ltb-true d.global (2 ^ 16) h
+has_range (Values v) h = tt
+
+all_fit : (e : Environment (Unit {0})) (rs : List (Record (Unit {0}))) → have_no_fault e rs ≡ true → AllFit e rs
+all_fit e [] h = tt
+all_fit e (r ∷ rs) h =
+    let parts = and_parts (none (first_fault e r) && in_range r) (have_no_fault (learn e r) rs) h in
+    let first = and_parts (none (first_fault e r)) (in_range r) parts.0 in
+    ((faults_are_exact e r).1 (is_none (first_fault e r) first.0, has_range r first.1), all_fit (learn e r) rs parts.1)
+
+-- A header has a form of its own where its size and its sum go together.
+fits : (f : FitFile (Unit {0})) → SizeFits f.header.sum f.header.size f.header.rest.items → f.header.protocol ≡ 32 → f.header.size < 2 ^ 8 → f.header.profile < 2 ^ 16
+    → length (body f) < 2 ^ 32 → (ZeroIsSum f.header (length (body f)) → ⊥) → have_no_fault empty_environment f.records ≡ true → IsWellFormed f
+fits f size protocol one two four sum records = record {
+  header = record {
+    form = record { size = size; version = omega (arith, protocol) };
+    size_fits = one;
+    profile_fits = two;
+    data_fits = four;
+    sum = sum;
+  };
+  records = all_fit empty_environment f.records records;
 }
 
 -- an empty file
@@ -36,7 +82,7 @@ empty_file = file_of (header_of 14 sums.True) []
 
 pub empty_file_bytes : IsFile empty_file (0x0E ∷ 0x20 ∷ 0 ∷ 0 ∷ 0 ∷ 0 ∷ 0 ∷ 0 ∷ 0x2E ∷ 0x46 ∷ 0x49 ∷ 0x54 ∷ 0x9C ∷ 0x85 ∷ 0 ∷ 0 ∷ [])
 unfolding checksum
-empty_file_bytes = (record { header = true_header _ (lit< tt); records = tt }, refl)
+empty_file_bytes = (fits empty_file refl refl (lit< tt) (lit< tt) (lit< tt) (λ z. let word = z.0 in cc) refl, refl)
 
 -- zeros in place of the header's sum
 abbrev pub zeros_for_a_sum : FitFile (Unit {0})
@@ -44,21 +90,7 @@ zeros_for_a_sum = file_of (header_of 14 sums.Zero) []
 
 pub zeros_for_a_sum_bytes : IsFile zeros_for_a_sum (0x0E ∷ 0x20 ∷ 0 ∷ 0 ∷ 0 ∷ 0 ∷ 0 ∷ 0 ∷ 0x2E ∷ 0x46 ∷ 0x49 ∷ 0x54 ∷ 0 ∷ 0 ∷ 0xA8 ∷ 0xA3 ∷ [])
 unfolding checksum
-zeros_for_a_sum_bytes = (
-  record {
-    header =
-        record {
-          form = record { size = refl; version = lit≤ tt };
-          size_fits = lit< tt;
-          profile_fits = lit< tt;
-          data_fits = lit< tt;
-          sum = λ z. let zero_sum = z.1
-              in cc;
-        };
-    records = tt;
-  },
-  refl,
-)
+zeros_for_a_sum_bytes = (fits zeros_for_a_sum refl refl (lit< tt) (lit< tt) (lit< tt) (λ z. let zero_sum = z.1 in cc) refl, refl)
 
 -- a header of twelve bytes
 abbrev pub short_header : FitFile (Unit {0})
@@ -66,48 +98,24 @@ short_header = file_of (header_of 12 sums.Absent) []
 
 pub short_header_bytes : IsFile short_header (0x0C ∷ 0x20 ∷ 0 ∷ 0 ∷ 0 ∷ 0 ∷ 0 ∷ 0 ∷ 0x2E ∷ 0x46 ∷ 0x49 ∷ 0x54 ∷ 0x65 ∷ 0x42 ∷ [])
 unfolding checksum
-short_header_bytes = (
-  record {
-    header = record {
-      form = record { size = (refl, refl); version = lit≤ tt };
-      size_fits = lit< tt;
-      profile_fits =
-          lit< tt;
-      data_fits = lit< tt;
-      sum = λ z. let word = z.0 in cc;
-    };
-    records = tt;
-  },
-  refl,
-)
+short_header_bytes = (fits short_header (refl, refl) refl (lit< tt) (lit< tt) (lit< tt) (λ z. let word = z.0 in cc) refl, refl)
 
 -- a definition without fields, and a message of one byte
 abbrev pub one_byte_message : FitFile (Unit {0})
-one_byte_message = file_of (header_of 14 sums.True)
-    (Define (record { local = 0; reserved = 0; order = orders.Little; global = 20; fields = []; dev = None })
-    ∷ Values (record { local = 0; offset = None; fields = []; dev = [] }) ∷ [])
+one_byte_message = file_of (header_of 14 sums.True) (defines 0 20 [] None ∷ message 0 None [] [] ∷ [])
 
 pub one_byte_message_bytes : IsFile one_byte_message
     (0x0E ∷ 0x20 ∷ 0 ∷ 0 ∷ 7 ∷ 0 ∷ 0 ∷ 0 ∷ 0x2E ∷ 0x46 ∷ 0x49 ∷ 0x54 ∷ 0xDD ∷ 0x63 ∷ 0x40 ∷ 0 ∷ 0 ∷ 0x14 ∷ 0 ∷ 0 ∷ 0 ∷ 0x44 ∷ 0x34 ∷ [])
 unfolding checksum
-one_byte_message_bytes = (
-  record {
-    header = true_header _ (lit< tt);
-    records = (
-      record { local = lit< tt; global = lit< tt; fields = lit< tt; dev_fields = lit< tt },
-      (record { header = lit< tt; fields = tt; dev_fields = tt }, tt),
-    );
-  },
-  refl,
-)
+one_byte_message_bytes = (fits one_byte_message refl refl (lit< tt) (lit< tt) (lit< tt) (λ z. let word = z.0 in cc) refl, refl)
 
 -- both architectures, and a compressed header
 abbrev pub both_architectures : FitFile (Unit {0})
 both_architectures = file_of (header_of 14 sums.True)
-    (Define (record { local = 0; reserved = 0; order = orders.Little; global = 20; fields = field 253 4 0x86 ∷ field 3 1 2 ∷ []; dev = None })
-    ∷ Values (record { local = 0; offset = None; fields = item 4 (1000000031 ∷ []) ∷ item 1 (120 ∷ []) ∷ []; dev = [] })
+    (defines 0 20 (field 253 4 0x86 ∷ field 3 1 2 ∷ []) None
+    ∷ message 0 None (item 4 (1000000031 ∷ []) ∷ item 1 (120 ∷ []) ∷ []) []
     ∷ Define (record { local = 1; reserved = 0; order = orders.Big; global = 20; fields = field 2 2 0x84 ∷ field 8 3 0x0D ∷ []; dev = None })
-    ∷ Values (record { local = 1; offset = Some 2; fields = item 2 (2500 ∷ []) ∷ item 1 (0x64 ∷ 0 ∷ 0x10 ∷ []) ∷ []; dev = [] })
+    ∷ message 1 (Some 2) (item 2 (2500 ∷ []) ∷ item 1 (0x64 ∷ 0 ∷ 0x10 ∷ []) ∷ []) []
     ∷ [])
 
 pub both_architectures_bytes : IsFile both_architectures
@@ -118,74 +126,31 @@ pub both_architectures_bytes : IsFile both_architectures
     ∷ 0xA2 ∷ 9 ∷ 0xC4 ∷ 0x64 ∷ 0 ∷ 0x10
     ∷ 0xF0 ∷ 0x3B ∷ [])
 unfolding checksum
-both_architectures_bytes = (
-  record {
-    header = true_header _ (lit< tt);
-    records = (
-      record { local = lit< tt; global = lit< tt; fields = lit< tt; dev_fields = lit< tt },
-      (
-        record {
-          header = lit< tt;
-          fields = (
-            record { width = refl; whole = refl; fits = (lit< tt, tt) },
-            (record { width = refl; whole = refl; fits = (lit< tt, tt) }, tt),
-          );
-          dev_fields = tt;
-        },
-        (
-          record { local = lit< tt; global = lit< tt; fields = lit< tt; dev_fields = lit< tt },
-          (
-            record {
-              header = (lit< tt, lit< tt);
-              fields = (
-                record { width = refl; whole = refl; fits = (lit< tt, tt) },
-                (record { width = refl; whole = refl; fits = (lit< tt, (lit< tt, (lit< tt, tt))) }, tt),
-              );
-              dev_fields = tt;
-            },
-            tt,
-          ),
-        ),
-      ),
-    );
-  },
-  refl,
-)
+both_architectures_bytes = (fits both_architectures refl refl (lit< tt) (lit< tt) (lit< tt) (λ z. let word = z.0 in cc) refl, refl)
 
-abbrev pub dev_field : ℕ → ℕ → ℕ → DevDef
-dev_field number size index = record { number = number; size = size; index = index }
+-- messages of local type 1 with developer field 5 of index 0, of two bytes
+abbrev pub power : Record (Unit {0})
+power = defines 1 20 [] (Some (dev_field 5 2 0 ∷ []))
 
-abbrev pub dev_definition : Record (Unit {0})
-dev_definition = Define (record { local = 1; reserved = 0; order = orders.Little; global = 20; fields = []; dev = Some (dev_field 5 2 0 ∷ []) })
+-- the developer field as two bytes, and as one number
+abbrev pub two_bytes : Record (Unit {0})
+two_bytes = message 1 None [] (item 1 (0x34 ∷ 0x12 ∷ []) ∷ [])
 
-abbrev pub dev_data : Items (Unit {0}) → Record (Unit {0})
-dev_data items = Values (record { local = 1; offset = None; fields = []; dev = items ∷ [] })
+abbrev pub one_number : Record (Unit {0})
+one_number = message 1 None [] (item 2 (4660 ∷ []) ∷ [])
+
+-- field descriptions with a name of three bytes
+abbrev pub descriptions : Record (Unit {0})
+descriptions = defines 0 206 (field 0 1 2 ∷ field 1 1 2 ∷ field 2 1 2 ∷ field 3 3 7 ∷ []) None
+
+-- Developer field 5 of index 0 is a uint16 with the name `mo`.
+abbrev pub description : Record (Unit {0})
+description = message 0 None (item 1 (0 ∷ []) ∷ item 1 (5 ∷ []) ∷ item 1 (0x84 ∷ []) ∷ item 1 (0x6D ∷ 0x6F ∷ 0 ∷ []) ∷ []) []
 
 -- a developer field before and after its description
 abbrev pub described_field : FitFile (Unit {0})
 described_field = file_of (header_of 14 sums.True)
-    (Define (record {
-      local = 0;
-      reserved = 0;
-      order = orders.Little;
-      global = 206;
-      fields = field 0 1 2 ∷ field 1 1 2 ∷ field 2 1 2 ∷ field 3 3 7 ∷ [];
-      dev =
-          None;
-    })
-    ∷ dev_definition
-    ∷ dev_data (item 1 (0x34 ∷ 0x12 ∷ []))
-    ∷ Values (record {
-      local = 0;
-      offset = None;
-      fields = item 1 (0 ∷ []) ∷ item 1 (5 ∷ []) ∷ item 1 (0x84 ∷ []) ∷ item 1 (0x6D ∷ 0x6F ∷ 0 ∷ []) ∷ [];
-      dev =
-          [];
-    })
-    ∷ dev_data (item 1 (0x34 ∷ 0x12 ∷ []))
-    ∷ dev_definition
-    ∷ dev_data (item 2 (4660 ∷ []))
-    ∷ [])
+    (descriptions ∷ power ∷ two_bytes ∷ description ∷ two_bytes ∷ power ∷ one_number ∷ [])
 
 pub described_field_bytes : IsFile described_field
     (0x0E ∷ 0x20 ∷ 0 ∷ 0 ∷ 0x36 ∷ 0 ∷ 0 ∷ 0 ∷ 0x2E ∷ 0x46 ∷ 0x49 ∷ 0x54 ∷ 0x1F ∷ 0xBB
@@ -198,47 +163,7 @@ pub described_field_bytes : IsFile described_field
     ∷ 1 ∷ 0x34 ∷ 0x12
     ∷ 0x4A ∷ 0x8B ∷ [])
 unfolding checksum
-described_field_bytes = (
-  record {
-    header = true_header _ (lit< tt);
-    records = (
-      record { local = lit< tt; global = lit< tt; fields = lit< tt; dev_fields = lit< tt },
-      (
-        record { local = lit< tt; global = lit< tt; fields = lit< tt; dev_fields = lit< tt },
-        (
-          record { header = lit< tt; fields = tt; dev_fields = (record { width = refl; whole = refl; fits = (lit< tt, (lit< tt, tt)) }, tt) },
-          (
-            record {
-              header = lit< tt;
-              fields = (
-                record { width = refl; whole = refl; fits = (lit< tt, tt) },
-                (
-                  record { width = refl; whole = refl; fits = (lit< tt, tt) },
-                  (
-                    record { width = refl; whole = refl; fits = (lit< tt, tt) },
-                    (record { width = refl; whole = refl; fits = (lit< tt, (lit< tt, (lit< tt, tt))) }, tt),
-                  ),
-                ),
-              );
-              dev_fields = tt;
-            },
-            (
-              record { header = lit< tt; fields = tt; dev_fields = (record { width = refl; whole = refl; fits = (lit< tt, (lit< tt, tt)) }, tt) },
-              (
-                record { local = lit< tt; global = lit< tt; fields = lit< tt; dev_fields = lit< tt },
-                (
-                  record { header = lit< tt; fields = tt; dev_fields = (record { width = refl; whole = refl; fits = (lit< tt, tt) }, tt) },
-                  tt,
-                ),
-              ),
-            ),
-          ),
-        ),
-      ),
-    );
-  },
-  refl,
-)
+described_field_bytes = (fits described_field refl refl (lit< tt) (lit< tt) (lit< tt) (λ z. let word = z.0 in cc) refl, refl)
 
 -- a header of sixteen bytes, with two after its sum
 abbrev pub long_header : FitFile (Unit {0})
@@ -246,20 +171,7 @@ long_header = file_of (record { size = 16; protocol = 32; profile = 0; sum = sum
 
 pub long_header_bytes : IsFile long_header (0x10 ∷ 0x20 ∷ 0 ∷ 0 ∷ 0 ∷ 0 ∷ 0 ∷ 0 ∷ 0x2E ∷ 0x46 ∷ 0x49 ∷ 0x54 ∷ 0xB4 ∷ 0xAD ∷ 0x41 ∷ 0x42 ∷ 0xB0 ∷ 0x61 ∷ [])
 unfolding checksum
-long_header_bytes = (
-  record {
-    header = record {
-      form = record { size = refl; version = lit≤ tt };
-      size_fits = lit< tt;
-      profile_fits = lit< tt;
-      data_fits =
-          lit< tt;
-      sum = λ z. let word = z.0 in cc;
-    };
-    records = tt;
-  },
-  refl,
-)
+long_header_bytes = (fits long_header refl refl (lit< tt) (lit< tt) (lit< tt) (λ z. let word = z.0 in cc) refl, refl)
 
 -- a true sum of 0
 abbrev pub sum_of_zero : FitFile (Unit {0})
@@ -267,17 +179,4 @@ sum_of_zero = file_of (record { size = 14; protocol = 32; profile = 46477; sum =
 
 pub sum_of_zero_bytes : IsFile sum_of_zero (0x0E ∷ 0x20 ∷ 0x8D ∷ 0xB5 ∷ 0 ∷ 0 ∷ 0 ∷ 0 ∷ 0x2E ∷ 0x46 ∷ 0x49 ∷ 0x54 ∷ 0 ∷ 0 ∷ 0 ∷ 0 ∷ [])
 unfolding checksum
-sum_of_zero_bytes = (
-  record {
-    header = record {
-      form = record { size = refl; version = lit≤ tt };
-      size_fits = lit< tt;
-      profile_fits = lit< tt;
-      data_fits =
-          lit< tt;
-      sum = λ z. let word = z.0 in cc;
-    };
-    records = tt;
-  },
-  refl,
-)
+sum_of_zero_bytes = (fits sum_of_zero refl refl (lit< tt) (lit< tt) (lit< tt) (λ z. let word = z.0 in cc) refl, refl)

@@ -45,56 +45,32 @@ rooms_of_twos_and_threes = refl
 carried : (map (can_carry twos 0) (0 ∷ 1 ∷ 3 ∷ 4 ∷ [])) ≡ false ∷ true ∷ true ∷ false ∷ []
 carried = refl
 
-undefined : can_carry twos 1 6 ≡ false
-undefined = refl
-
--- Messages of 4 bytes leave 3 of 7.
-three_left : can_carry fours 0 6 ≡ false
-three_left = refl
+-- Local message type 1 isn't defined, and messages of 4 bytes leave 3 of 7.
+not_carried : (can_carry twos 1 6 ∷ can_carry fours 0 6 ∷ []) ≡ false ∷ false ∷ []
+not_carried = refl
 
 -- ---- definition messages
 
--- One byte would be left, and messages would have three.
-one_left : can_complete nothing 0 1 2 2 ≡ false
-one_left = refl
+-- One byte would be left, and messages would have three; none is left; the entry of a field would overrun.
+at_the_end : (can_complete nothing 0 1 2 2 ∷ can_complete nothing 0 1 0 2 ∷ can_complete nothing 0 3 0 2 ∷ []) ≡ false ∷ true ∷ false ∷ []
+at_the_end = refl
 
-none_left : can_complete nothing 0 1 0 2 ≡ true
-none_left = refl
-
--- The entry of a field would overrun.
-overrun : can_complete nothing 0 3 0 2 ≡ false
-overrun = refl
-
--- Three bytes would be left for messages of four, unless a developer field takes them.
-without_developer_fields : can_complete nothing 0 0 3 3 ≡ false
-without_developer_fields = refl
-
-with_a_developer_field : can_complete nothing 0 3 3 3 ≡ true
-with_a_developer_field = refl
-
-with_two : can_complete nothing 0 6 3 3 ≡ false
-with_two = refl
+-- Three bytes would be left for messages of four, unless a developer field takes them. Two are too many.
+with_developer_fields : map (λ to_come. can_complete nothing 0 to_come 3 3) (0 ∷ 3 ∷ 6 ∷ []) ≡ false ∷ true ∷ false ∷ []
+with_developer_fields = refl
 
 -- Messages of 2 bytes don't fill 5 bytes. While the number of developer fields is to come, one of them may.
 number_open : can_complete_dev nothing 0 1 1 7 ≡ true
 number_open = refl
 
-none_of_them : can_complete nothing 0 0 1 5 ≡ false
-none_of_them = refl
+-- none of them, and one of them
+number_known : map (λ to_come. can_complete nothing 0 to_come 1 5) (0 ∷ 3 ∷ []) ≡ false ∷ true ∷ []
+number_known = refl
 
-one_of_them : can_complete nothing 0 3 1 5 ≡ true
-one_of_them = refl
-
--- The definition message that is replaced doesn't count.
-replaced : can_complete twos 0 1 3 3 ≡ false
+-- The definition message that is replaced doesn't count, and one beside it does.
+replaced : map (λ local. can_complete twos local 1 3 3) (0 ∷ 1 ∷ []) ≡ false ∷ true ∷ []
 replaced = refl
 
-beside : can_complete twos 1 1 3 3 ≡ true
-beside = refl
-
--- a size that is still open, beside another
-open_size : can_complete nothing 0 4 1 6 ≡ true
+-- a size that is still open, beside another of 1 or 3
+open_size : map (λ size. can_complete nothing 0 4 size 6) (1 ∷ 3 ∷ []) ≡ true ∷ false ∷ []
 open_size = refl
-
-too_much : can_complete nothing 0 4 3 6 ≡ false
-too_much = refl
