@@ -13,7 +13,7 @@ use Rattle.fit_record.proofs.MessageBytes.{values_from, message_fits}
 use Rattle.fit_record.proofs.FilledRooms.{can_fill_is, same_places}
 
 -- A data message changes no lengths.
-same_filling : {A : Type 0} (e : Environment A) (v : Values A) (room : ℕ) → can_fill (learn e (Data v)) room ≡ can_fill e room
+pub same_filling : {A : Type 0} (e : Environment A) (v : Values A) (room : ℕ) → can_fill (learn e (Data v)) room ≡ can_fill e room
 same_filling e v room = ap (λ places. fills (has_length places) room) (same_places e v)
 
 pub can_fill_after_data : {A : Type 0} (e : Environment A) (v : Values A) (room : ℕ) → length e.places ≡ 16 → IsTrue (can_fill e room)

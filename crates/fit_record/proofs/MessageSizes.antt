@@ -3,7 +3,7 @@ use Rattle.fit_record.proofs.Common.{◌≡◌, ℕ, List, [], ◌∷◌, length
 use Rattle.fit_record.proofs.Common.{none-some, FieldDef, DevDef, Defined, dev_defs, MayBeKept, body_length, layout, dev_layout, message_size}
 use Rattle.std.specs.Prelude.{Option, map}
 
-sum-fields : (fs : List FieldDef) → sum_by (λ (f : ℕ × ℕ). f.1) (map (λ f. (f.code, f.size)) fs) ≡ sum_by (λ (f : FieldDef). f.size) fs
+pub sum-fields : (fs : List FieldDef) → sum_by (λ (f : ℕ × ℕ). f.1) (map (λ f. (f.code, f.size)) fs) ≡ sum_by (λ (f : FieldDef). f.size) fs
 sum-fields [] = refl
 sum-fields (f ∷ fs) = omega (
   arith,

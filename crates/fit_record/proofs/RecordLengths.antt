@@ -9,13 +9,13 @@ use Rattle.fit_record.proofs.EntryParts.{length-entries}
 
 -- ---- definition messages
 
-length-fields : (fs : List FieldDef) → length (flat_map field_bytes fs) ≡ 3 * length fs
+pub length-fields : (fs : List FieldDef) → length (flat_map field_bytes fs) ≡ 3 * length fs
 length-fields = length-entries (λ f. f.number) (λ f. f.size) (λ f. f.code)
 
-length-dev_fields : (fs : List DevDef) → length (flat_map dev_field_bytes fs) ≡ 3 * length fs
+pub length-dev_fields : (fs : List DevDef) → length (flat_map dev_field_bytes fs) ≡ 3 * length fs
 length-dev_fields = length-entries (λ f. f.number) (λ f. f.size) (λ f. f.index)
 
-length-dev_part : (fs : Option (List DevDef)) → length (dev_part fs) ≡ dev_length fs
+pub length-dev_part : (fs : Option (List DevDef)) → length (dev_part fs) ≡ dev_length fs
 length-dev_part None = refl
 length-dev_part (Some fs) = omega (arith, length-dev_fields fs)
 
@@ -34,7 +34,7 @@ length-definition d =
 
 -- ---- data messages
 
-length-items : {A : Type 0} (o : Order) (fs : List (ℕ × ℕ)) (is : List (Items A)) → HaveShape fs is
+pub length-items : {A : Type 0} (o : Order) (fs : List (ℕ × ℕ)) (is : List (Items A)) → HaveShape fs is
     → length (flat_map (items_bytes o) is) ≡ sum_by (λ f. f.1) fs
 length-items o [] [] h = refl
 length-items o (f ∷ fs) (i ∷ is) h =

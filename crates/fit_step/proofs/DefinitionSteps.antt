@@ -11,7 +11,9 @@ use Rattle.fit_step.proofs.Common.{next_dev, after_fields, dev_count_byte, in_de
 use Rattle.fit_step.proofs.Common.{IsNew, AwaitsFields, AwaitsDev, IsDefinitionPart, IsShut, same_fields}
 use Rattle.std.proofs.Common.{◌≤◌}
 use Rattle.std.specs.Prelude.{◌==◌}
-use Rattle.fit_step.proofs.Lengths.{dev_size_of, length-field_bytes, length-dev_field_bytes, length-dev_part, length-fields_front}
+use Rattle.fit_step.proofs.Lengths.{length-fields_front}
+use Rattle.fit_record.specs.DefinitionLengths.{dev_length}
+use Rattle.fit_record.proofs.RecordLengths.{length-fields, length-dev_fields, length-dev_part}
 use Rattle.fit_step.proofs.HeaderBits.{definition_bits, is_some_dev}
 use Rattle.fit_step.proofs.HeaderSteps.{message_first}
 use Rattle.fit_step.proofs.DefinitionReasons.{at_count, at_size, at_dev_count, at_dev_size, count_at, count_before, count_in_dev}
@@ -118,7 +120,7 @@ same_front c d more f l s =
     let other = definition_bits (definition_header d) d.local d.dev refl l in
     (sym one.with_dev ∙ other.with_dev, rest.1)
 
-counted : (a b : Option (List DevDef)) → is_some_dev a ≡ is_some_dev b → dev_count_byte b ≤ dev_size_of a
+counted : (a b : Option (List DevDef)) → is_some_dev a ≡ is_some_dev b → dev_count_byte b ≤ dev_length a
 counted None (Some _) h = absurd cc
 counted (Some _) None h = omega arith
 counted a b h = omega arith
@@ -136,7 +138,7 @@ field_count_shut e room b d l less (Define c) rest f s =
       count,
       ap length (sym after),
       length-append (flat_map field_bytes c.fields) (dev_part c.dev),
-      length-field_bytes c.fields,
+      length-fields c.fields,
       length-dev_part c.dev,
       counted c.dev d.dev k.0,
     )
@@ -148,7 +150,7 @@ dev_part_first None b rest h = absurd cc
 dev_part_first (Some defs) b rest h =
     let count : length defs ≡ b = cc in
     let after : flat_map dev_field_bytes defs ≡ rest = cc in
-    ap length (sym after) ∙ length-dev_field_bytes defs ∙ ap (λ n. 3 * n) count
+    ap length (sym after) ∙ length-dev_fields defs ∙ ap (λ n. 3 * n) count
 
 dev_count_shut : {A : Type 0} (e : Environment A) (room b : ℕ) (d : MessageDef A) → d.local < 16 → room < 1 + 3 * b
     → IsShut e room (fields_front d (length d.fields)) b Overrun
@@ -298,7 +300,7 @@ module _ {A : Type 0} (e : Environment A) (tests : Tests A) (room : ℕ) (d : Me
               length-append (dev_front d m) (number ∷ []),
               length-append (fields_front d n) entries,
               length-fields_front d n,
-              length-dev_field_bytes (dev_defs d.dev),
+              length-dev_fields (dev_defs d.dev),
             ) in
             stops_at NoFit (rw no_fit refl)
             (rw (is_a_definition d h.local) (at_dev_size (definition_header d) room b n (length (dev_defs d.dev))

@@ -10,7 +10,8 @@ use Rattle.std.proofs.Common.{◌≤◌}
 use Rattle.std.specs.Prelude.{slice_index}
 use Rattle.fit_step.proofs.DefinitionReasons.{count_at, count_before, count_in_dev}
 use Rattle.fit_step.proofs.HeaderBits.{definition_bits}
-use Rattle.fit_step.proofs.Lengths.{length-fields_front, length-dev_field_bytes}
+use Rattle.fit_step.proofs.Lengths.{length-fields_front}
+use Rattle.fit_record.proofs.RecordLengths.{length-dev_fields}
 use Rattle.fit_step.proofs.HeldParts.{front_of, devs_of, no_dev_fields, fields_counted, dev_counted, behind_both, layout_items, dev_fields, whole_items}
 use Rattle.fit_step.proofs.HeldParts.{no_items_yet, taking_items, message_part}
 use Rattle.fit_step.proofs.Limits.{AreLimited, IsLimited}
@@ -75,7 +76,7 @@ module _ {A : Type 0} (e : Environment A) (d : MessageDef A) where
         length-append (front ++ devs_of d left) entry,
         length-append front (devs_of d left),
         length-front (length d.fields),
-        length-dev_field_bytes come,
+        length-dev_fields come,
       ) in (
         omega (arith, definition_so_far more h.local, dev_so_far more (length d.fields) (length come) (length entry) at long few),
         dev_counted e d h.local more h.defs (length come + left) h.dev at

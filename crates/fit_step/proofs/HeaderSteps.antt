@@ -5,7 +5,8 @@ use Rattle.fit_step.proofs.Common.{Defined, Define, Data, Reserved, Environment,
 use Rattle.fit_step.proofs.Common.{definition_header, definition_bytes, DefinitionFits, data_header, data_bytes, DataFits, order_at, layout, least_definition}
 use Rattle.fit_step.proofs.Common.{message_size, Tests, Step, step, header_move, message_move, start, new_definition, new_message, in_definition, IsShut}
 use Rattle.std.proofs.Common.{◌≤◌}
-use Rattle.fit_step.proofs.Lengths.{dev_size_of, length-definition, length-data}
+use Rattle.fit_record.specs.DefinitionLengths.{dev_length}
+use Rattle.fit_record.proofs.RecordLengths.{length-definition, length-data}
 use Rattle.fit_step.proofs.HeaderBits.{definition_spelled, data_spelled, DefinitionBits, definition_bits, DataBits, data_bits, is_some_dev}
 use Rattle.fit_step.proofs.MessageSteps.{fields_begin}
 use Rattle.fit_step.proofs.Outcomes.{Outcome}
@@ -61,7 +62,7 @@ undefined_shut e room b h n (Data v) rest f s =
 least_length : (dev : Bool) (b : ℕ) → has_developer_fields b ≡ dev → least_definition b ≡ cond dev 7 6
 least_length dev b h = ap (λ c. cond c 7 6) h
 
-dev_takes : (dev : Option (List Rattle.fit_record.specs.declared.definition.DevDef.DevDef)) → cond (is_some_dev dev) 7 6 ≤ 6 + dev_size_of dev
+dev_takes : (dev : Option (List Rattle.fit_record.specs.declared.definition.DevDef.DevDef)) → cond (is_some_dev dev) 7 6 ≤ 6 + dev_length dev
 dev_takes None = omega arith
 dev_takes (Some fs) = omega arith
 
@@ -69,8 +70,7 @@ long_definition_shut : {A : Type 0} (e : Environment A) (room b : ℕ) → is_de
 long_definition_shut e room b h less (Define d) rest f s =
     let m = definition_first d b rest f s in
     let least : least_definition b ≡ cond (is_some_dev d.dev) 7 6 = least_length (is_some_dev d.dev) b m.bits.with_dev in
-    let all : length rest ≡ 5 + 3 * length d.fields + dev_size_of d.dev = ap length (sym m.tail) ∙ length-definition d in
-    omega (arith, less, least, all, dev_takes d.dev)
+    omega (arith, less, least, ap length m.tail, length-definition d, dev_takes d.dev)
 long_definition_shut e room b h less (Data v) rest f s = absurd (both_ways (is_definition b) (message_first e v b rest f s).bits.kind h)
 
 long_message_shut : {A : Type 0} (e : Environment A) (room b : ℕ) (p : Defined A) → is_definition b ≡ false → defined_at e (local_type b) ≡ Some p

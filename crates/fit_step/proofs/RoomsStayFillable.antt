@@ -14,6 +14,7 @@ use Rattle.fit_step.proofs.Common.{has_dev, definition_goes_on, goes_on}
 use Rattle.std.proofs.Common.{◌≤◌}
 use Rattle.std.specs.Prelude.{drop, ◌==◌, sum_by}
 use Rattle.fit_record.proofs.DefinitionInPlace.{can_fill_after}
+use Rattle.fit_record.proofs.RoomSums.{fills_by_ones}
 use Rattle.fit_step.proofs.Rest.{behind}
 
 -- what a step leaves can go on, and behind a whole record the room can be filled
@@ -77,20 +78,10 @@ module _ {A : Type 0} (e : Environment A) where
 
 -- ---- entries of a definition message
 
--- messages of one byte fill each room
-fills_one : (has : ℕ → Bool) (room : ℕ) → has 1 ≡ true → fills has room ≡ true
-fills_one has zero h = refl
-fills_one has (suc zero) h = h
-fills_one has (suc (suc zero)) h = or_left (has 1) _ h
-fills_one has (suc (suc (suc zero))) h = or_left (has 1) _ h
-fills_one has (suc (suc (suc (suc zero)))) h = or_left (has 1) _ h
-fills_one has (suc (suc (suc (suc (suc zero))))) h = or_left (has 1) _ h
-fills_one has (suc (suc (suc (suc (suc (suc room)))))) h = refl
-
 module _ {A : Type 0} (e : Environment A) (local : ℕ) where
   -- without fields
   fills_empty : (size room : ℕ) → size ≡ 0 → can_fill_with e local size room ≡ true
-  fills_empty size room none = fills_one (λ n. others_have e local n || (1 + size == n)) room (or_right (others_have e local 1) _ (ap (λ n. 1 + n == 1) none))
+  fills_empty size room none = fills_by_ones (λ n. others_have e local n || (1 + size == n)) (or_right (others_have e local 1) _ (ap (λ n. 1 + n == 1) none)) room
 
   -- with a size that is still to come, where none has come
   fills_open : (size room : ℕ) → size ≡ 0 → can_fill_from e local size room ≡ true

@@ -6,7 +6,8 @@ use Rattle.fit_step.proofs.Common.{HaveShape, order_at, entry_count, no_items, s
 use Rattle.fit_step.proofs.Common.{items_so_far, held_of_record, items_in, values_size}
 use Rattle.std.specs.Prelude.{map, sum_by}
 use Rattle.fit_step.proofs.HeaderBits.{data_bits}
-use Rattle.fit_step.proofs.Lengths.{length-shaped, taken_rest}
+use Rattle.fit_step.proofs.Lengths.{taken_rest}
+use Rattle.fit_record.proofs.RecordLengths.{length-items}
 use Rattle.fit_step.proofs.Takes.{as_many}
 use Rattle.fit_step.proofs.HeldParts.{items_of, whole_items, no_items_yet}
 use Rattle.fit_step.proofs.Preconditions.{as_defined}
@@ -117,7 +118,7 @@ module _ {A : Type 0} (e : Environment A) (local : ℕ) (offset : Option ℕ) (p
   in_dev_held items t shape taking =
       let front : List ℕ = flat_map (items_bytes order) items in
       let back : List ℕ = flat_map (items_bytes order) (taken t) ++ t.partial in
-      let long : length (front ++ back) ≡ sizes (layout p) + length back = omega (arith, length-append front back, length-shaped order (layout p) items shape)
+      let long : length (front ++ back) ≡ sizes (layout p) + length back = omega (arith, length-append front back, length-items order (layout p) items shape)
       in
       let behind = items_behind (layout p) (dev_layout p) (length back) in
       let dev : items_so_far (dev_layout p) (length back) ≡ items_in (all_items t) =

@@ -10,7 +10,8 @@ use Rattle.fit_step.proofs.Common.{in_definition, in_fields, in_dev_fields, take
 use Rattle.fit_step.proofs.Common.{IsDefinitionPart, AwaitsDev, state_of, Fails, tests_of, entries_complete}
 use Rattle.std.proofs.Common.{◌≤◌}
 use Rattle.std.specs.Prelude.{drop}
-use Rattle.fit_step.proofs.Lengths.{length-data, length-shaped, taken_rest, message_sizes}
+use Rattle.fit_step.proofs.Lengths.{taken_rest, message_sizes}
+use Rattle.fit_record.proofs.RecordLengths.{length-data, length-items}
 use Rattle.fit_step.proofs.HeaderSteps.{message_first, definition_first}
 use Rattle.fit_step.proofs.MessageSteps.{fields_to_come, dev_to_come, dev_layout-known}
 use Rattle.fit_step.proofs.OneByte.{outcome}
@@ -41,7 +42,7 @@ parts_are_tested e (in_dev_fields local offset items t) room sixteen (p, known, 
     let here : List ℕ = flat_map (items_bytes o) (taken t) ++ t.partial in
     let rest : ℕ = t.left + dev_rest e (length t.done) local in
     let devs : sizes (drop (suc (length t.done)) (dev_layout_at e local)) ≡ sizes t.to_come = ap sizes (dev_to_come e local p t known s) in
-    let whole : length front ≡ sizes (layout p) = length-shaped o (layout p) items shapes in
+    let whole : length front ≡ sizes (layout p) = length-items o (layout p) items shapes in
     let size : message_size p ≡ length (front ++ here) + rest =
     omega (arith, message_sizes p, taken_rest o (dev_layout p) t s, devs, whole, length-append front here) in
     data_continues e local offset (front ++ here) rest room sixteen header (IsBytes-tail (data_header local offset) (front ++ here) are) p known size within

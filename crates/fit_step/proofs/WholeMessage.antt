@@ -8,26 +8,15 @@ use Rattle.fit_step.proofs.Common.{fills, has_length, can_carry, can_fill_is, sa
 use Rattle.std.proofs.Common.{◌≤◌, drop}
 use Rattle.std.specs.Prelude.{map, sum_by}
 use Rattle.fit_record.proofs.MessageBytes.{message_fits}
+use Rattle.fit_record.proofs.MessageSizes.{sum-fields}
 use Rattle.fit_step.proofs.TakenAndRefusedBytes.{records_end}
 use Rattle.fit_step.proofs.HeaderBits.{data_spelled}
 use Rattle.fit_step.proofs.Lengths.{message_sizes}
 
-pub sized : {A : Type 0} (p : Defined A) → sum_by (λ f. f.size) p.definition.fields ≡ sizes (layout p)
-sized p = go p.definition.fields
-  where
-    go : (fields : List FieldDef) → sum_by (λ f. f.size) fields ≡ sizes (map (λ f. (f.code, f.size)) fields)
-    go [] = refl
-    go (f ∷ fields) = omega (
-      arith,
-      go fields,
-      sum_by-cons (λ (f : FieldDef). f.size) f fields,
-      sum_by-cons (λ (f : ℕ × ℕ). f.1) (f.code, f.size) (map (λ f. (f.code, f.size)) fields),
-    )
-
 -- what is behind the bytes of the fields
 pub behind_fields : {A : Type 0} (p : Defined A) (fields : List FieldDef) (bytes back : List ℕ) → fields ≡ p.definition.fields
     → back ≡ drop (sum_by (λ f. f.size) fields) bytes → back ≡ drop (sizes (layout p)) bytes
-behind_fields p fields bytes back same is = is ∙ ap (λ n. drop n bytes) (ap (sum_by (λ (f : FieldDef). f.size)) same ∙ sized p)
+behind_fields p fields bytes back same is = is ∙ ap (λ n. drop n bytes) (ap (sum_by (λ (f : FieldDef). f.size)) same ∙ sym (sum-fields p.definition.fields))
 
 pub left_for_dev : {A : Type 0} (p : Defined A) (bytes back : List ℕ) → length bytes ≡ message_size p → back ≡ drop (sizes (layout p)) bytes
     → length back ≡ sizes (dev_layout p)
