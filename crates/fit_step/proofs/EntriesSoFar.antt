@@ -1,23 +1,21 @@
 -- What there is of a definition message in progress is what is whole in its bytes.
 use Rattle.fit_step.proofs.Common.{◌≡◌, ℕ, ◌+◌, ◌*◌, ◌<◌, List, [], ◌∷◌, ◌++◌, length, length-append, refl, sym, ap, subst, arith, Some, flat_map, number_bytes}
-use Rattle.fit_step.proofs.Common.{length-number_bytes, MessageDef, Environment, defined_at, dev_defs, architecture, field_bytes, definition_header, layout}
-use Rattle.fit_step.proofs.Common.{dev_layout, dev_field_bytes, DefinitionFits, order_at, entry_count, DefinitionPhase, Reserved, AtArchitecture, GlobalFirst}
+use Rattle.fit_step.proofs.Common.{length-number_bytes, MessageDef, Environment, defined_at, dev_defs, architecture, field_bytes, definition_header}
+use Rattle.fit_step.proofs.Common.{dev_field_bytes, DefinitionFits, entry_count, DefinitionPhase, Reserved, AtArchitecture, GlobalFirst}
 use Rattle.fit_step.proofs.Common.{GlobalSecond, FieldCount, FieldNumber, FieldSize, FieldCode, DevCount, DevNumber, DevSize, DevIndex, RecordPart, nothing}
 use Rattle.fit_step.proofs.Common.{in_definition, in_fields, in_dev_fields, definition_part, part_bytes, IsNew, AwaitsFields, AwaitsDev, IsDefinitionPart}
-use Rattle.fit_step.proofs.Common.{IsPart, state_of, taken, HasNone, fields_front, dev_front, entries_so_far, held_of_record, part_size, in_progress_size}
-use Rattle.fit_step.proofs.Common.{IsCountable, length-map, append-nil, items_bytes, DevDef, Defined, no_items, IsDefining, nat_tests}
+use Rattle.fit_step.proofs.Common.{IsPart, state_of, HasNone, fields_front, dev_front, entries_so_far, held_of_record, part_size, in_progress_size}
+use Rattle.fit_step.proofs.Common.{IsCountable, append-nil, DevDef, Defined, IsDefining, nat_tests}
 use Rattle.std.proofs.Common.{◌≤◌}
 use Rattle.std.specs.Prelude.{slice_index}
 use Rattle.fit_step.proofs.DefinitionReasons.{count_at, count_before, count_in_dev}
 use Rattle.fit_step.proofs.HeaderBits.{definition_bits}
 use Rattle.fit_step.proofs.Lengths.{length-fields_front}
 use Rattle.fit_record.proofs.RecordLengths.{length-dev_fields}
-use Rattle.fit_step.proofs.HeldParts.{front_of, devs_of, no_dev_fields, fields_counted, dev_counted, behind_both, layout_items, dev_fields, whole_items}
-use Rattle.fit_step.proofs.HeldParts.{no_items_yet, taking_items, message_part}
+use Rattle.fit_step.proofs.HeldParts.{front_of, devs_of, no_dev_fields, fields_counted, dev_counted, behind_both}
 use Rattle.fit_step.proofs.Limits.{AreLimited, IsLimited}
-use Rattle.fit_step.proofs.SoFar.{in_fields_held, in_dev_held}
-use Rattle.fit_step.proofs.Preconditions.{is_defining, as_defined}
-use Rattle.fit_step.proofs.Takes.{as_many}
+use Rattle.fit_step.proofs.SoFar.{in_fields_held, in_dev_held, message_within}
+use Rattle.fit_step.proofs.Preconditions.{is_defining}
 
 -- ---- counts of entries, by the bytes
 
@@ -125,38 +123,14 @@ part_is e room (in_dev_fields local offset items t) known (p, at, fits, shape, t
     in_dev_held e local offset p at fits (codes_known e local p known at) items t shape taking
 
 -- what there is of a record is no more than its bytes tell
-pub part_held : {A : Type 0} (e : Environment A) (room : ℕ) (f : RecordPart A) → IsPart e f
+pub part_held : {A : Type 0} (e : Environment A) (room : ℕ) (f : RecordPart A) → AreLimited e → IsPart e f
     → in_progress_size (state_of room f).in_progress ≤ part_size e (part_bytes e f)
-part_held e room nothing h = omega arith
-part_held e room (in_definition k d) h = (definition_is e d k h).1
-part_held {A} e room (in_fields local offset t dev) (p, known, fits, taking, same) =
-    let all = message_part e local offset p known fits (flat_map (items_bytes (order_at e local)) (taken t) ++ t.partial) in
-    omega (
-      arith,
-      all,
-      layout_items p,
-      taking_items (layout p) t taking,
-      as_defined (layout p) t taking,
-      no_items_yet A dev,
-      length-map dev (no_items {A = A}),
-      ap length same,
-      dev_fields p,
-      length-map {B = ℕ × ℕ} p.definition.fields (λ f. (f.code, f.size)),
-    )
-part_held {A} e room (in_dev_fields local offset items t) (p, known, fits, shape, taking) =
-    let all = message_part e local offset p known fits
-    (flat_map (items_bytes (order_at e local)) items ++ (flat_map (items_bytes (order_at e local)) (taken t) ++ t.partial)) in
-    omega (
-      arith,
-      all,
-      layout_items p,
-      taking_items (dev_layout p) t taking,
-      as_defined (dev_layout p) t taking,
-      whole_items (layout p) items shape,
-      as_many (layout p) items shape,
-      dev_fields p,
-      length-map {B = ℕ × ℕ} p.definition.fields (λ f. (f.code, f.size)),
-    )
+part_held e room nothing limited h = omega arith
+part_held e room (in_definition k d) limited h = (definition_is e d k h).1
+part_held e room (in_fields local offset t dev) limited h =
+    message_within e local offset h.0 h.1 h.2 _ _ (part_is e room (in_fields local offset t dev) limited h)
+part_held e room (in_dev_fields local offset items t) limited h =
+    message_within e local offset h.0 h.1 h.2 _ _ (part_is e room (in_dev_fields local offset items t) limited h)
 
 -- ---- how much that can be
 
@@ -170,9 +144,8 @@ fits_of (DevSize left number) d h = h.0
 fits_of (DevIndex left number size) d h = h.0
 fits_of k d h = h
 
-pub part_small : {A : Type 0} (e : Environment A) (room : ℕ) (f : RecordPart A) → IsPart e f → part_size e (part_bytes e f) ≤ 130560
+pub part_small : {A : Type 0} (e : Environment A) (room : ℕ) (f : RecordPart A) → AreLimited e → IsPart e f → part_size e (part_bytes e f) ≤ 130560
     → IsCountable (state_of room f).in_progress
-part_small e room nothing h few = tt
-part_small e room (in_definition k d) h few = let fits = fits_of k d (is_defining k d h) in (fits.fields, fits.dev_fields)
-part_small e room (in_fields local offset t dev) h few = omega (arith, part_held e room (in_fields local offset t dev) h, few)
-part_small e room (in_dev_fields local offset items t) h few = omega (arith, part_held e room (in_dev_fields local offset items t) h, few)
+part_small e room nothing limited h few = tt
+part_small e room (in_definition k d) limited h few = let fits = fits_of k d (is_defining k d h) in (fits.fields, fits.dev_fields)
+part_small e room f limited h few = omega (arith, part_held e room f limited h, few)

@@ -12,10 +12,10 @@ held_is_of_bytes {A} records room bytes p in_progress fit are h =
     let e : Environment A = learn_all empty_environment records in
     let known : AreLimited e = all_limited empty_environment records fit are (nothing_limited A) in
     let few : part_size e (part_bytes e h.part) ≤ 130560 = subst (λ l. part_size e l ≤ 130560) (sym h.spelled) (part_limited e bytes known h.are_bytes) in (
-      subst (λ (s : State A). IsCountable s.in_progress) (sym h.is) (part_small e p.room h.part h.is_part few),
+      subst (λ (s : State A). IsCountable s.in_progress) (sym h.is) (part_small e p.room h.part known h.is_part few),
       ap (λ (s : State A). in_progress_size s.in_progress) h.is ∙ part_is e p.room h.part known h.is_part ∙ ap (held_of_record e) h.spelled,
       subst (λ l. in_progress_size in_progress ≤ part_size e l) h.spelled
-          (subst (λ (s : State A). in_progress_size s.in_progress ≤ part_size e (part_bytes e h.part)) (sym h.is) (part_held e p.room h.part h.is_part)),
+          (subst (λ (s : State A). in_progress_size s.in_progress ≤ part_size e (part_bytes e h.part)) (sym h.is) (part_held e p.room h.part known h.is_part)),
     )
 
 pub held_is_limited : {A : Type 0} → HeldIsLimited A

@@ -1,20 +1,16 @@
 -- How much there is of a record in progress, by its bytes.
 use Rattle.fit_step.proofs.Common.{◌≡◌, ℕ, suc, ◌+◌, ◌-◌, ◌*◌, ◌/◌, ◌<◌, List, [], ◌∷◌, ◌++◌, length, refl, sym, ap, ◌∙◌, arith, append_assoc, Some, None}
-use Rattle.fit_step.proofs.Common.{Option, flat_map, option_map_or, cond_both, length-map, get_or-append_right, sum_by-append, sum_by-cons, div-mul-add, le-div}
+use Rattle.fit_step.proofs.Common.{Option, flat_map, option_map_or, cond_both, get_or-append_right, sum_by-cons, div-mul-add}
 use Rattle.fit_step.proofs.Common.{Items, item_width, IsBytes, number_bytes, HasShape, item_width_positive, DevDef, MessageDef, Defined, Environment}
 use Rattle.fit_step.proofs.Common.{defined_at, dev_defs, is_definition, has_developer_fields, local_type, architecture, field_bytes, dev_field_bytes}
-use Rattle.fit_step.proofs.Common.{definition_header, layout, dev_layout, HaveShape, data_header, DataHeaderFits, entry_count, no_items, TakenFields, width_of}
-use Rattle.fit_step.proofs.Common.{taken, all_items, HasNone, IsTaking, counts_so_far, item_count, part_size, items_in}
+use Rattle.fit_step.proofs.Common.{definition_header, HaveShape, entry_count, no_items}
+use Rattle.fit_step.proofs.Common.{HasNone, counts_so_far, item_count, part_size, items_in}
 use Rattle.std.proofs.Common.{◌≤◌}
 use Rattle.std.specs.Prelude.{map, sum_by, slice_index}
-use Rattle.std.proofs.lemmas.Slice.Zip.{length-zip}
-use Rattle.fit_step.proofs.HeaderBits.{is_some_dev, definition_bits, data_bits}
-use Rattle.fit_step.proofs.Limits.{IsLimited, AreLimited}
+use Rattle.fit_step.proofs.HeaderBits.{is_some_dev, definition_bits}
+use Rattle.fit_step.proofs.Limits.{IsLimited, AreLimited, items_of}
 
 -- ---- the items of a data message
-
-abbrev pub items_of : ℕ × ℕ → ℕ
-items_of f = f.1 / item_width f.0 f.1
 
 items_of_field : {A : Type 0} (code size : ℕ) (i : Items A) → HasShape code size i → length i.bits ≡ size / item_width code size
 items_of_field code size i h =
@@ -32,36 +28,6 @@ whole_items fields items h = absurd h
 pub no_items_yet : (A : Type 0) (fields : List (ℕ × ℕ)) → items_in (map (no_items {A = A}) fields) ≡ 0
 no_items_yet A [] = refl
 no_items_yet A (f ∷ fields) = omega (arith, sum_by-cons (λ (j : Items A). length j.bits) (no_items f) (map no_items fields), no_items_yet A fields)
-
-module _ {A : Type 0} (all : List (ℕ × ℕ)) (t : TakenFields A) (h : IsTaking all t) where
-  abbrev now : Items A
-  now = record { width = width_of t; bits = t.bits }
-
-  begun_items : length t.bits ≤ items_of t.field
-  begun_items = let size = h.size in le-div (length t.bits) t.field.1 (width_of t) (item_width_positive t.field.0 t.field.1) (omega (arith, size))
-
-  pub taking_items : items_in (all_items t) ≤ sum_by items_of all
-  taking_items =
-      let whole = whole_items t.done t.whole h.shapes in
-      let first = sum_by-append (λ (j : Items A). length j.bits) (taken t) (map no_items t.to_come) in
-      let second = sum_by-append (λ (j : Items A). length j.bits) t.whole (now ∷ []) in
-      let third = sum_by-cons (λ (j : Items A). length j.bits) now [] in
-      let fourth = sum_by-append items_of t.done (t.field ∷ t.to_come) in
-      let fifth = sum_by-cons items_of t.field t.to_come in
-      omega (arith, whole, first, second, third, fourth, fifth, begun_items, no_items_yet A t.to_come, ap (sum_by items_of) h.layout)
-
--- ---- by the bytes of a data message
-
-module _ {A : Type 0} (e : Environment A) (local : ℕ) (offset : Option ℕ) (p : Defined A) (known : defined_at e local ≡ Some p)
-    (fits : DataHeaderFits local offset) (more : List ℕ) where
-  pub message_part : part_size e (data_header local offset ∷ more) ≡ entry_count p.definition + item_count p
-  message_part =
-      let bits = data_bits (data_header local offset) local offset refl fits in rw (bits.kind, bits.type, known) refl
-
-pub dev_fields : {A : Type 0} (p : Defined A) → length (dev_layout p) ≤ length (dev_defs p.definition.dev)
-dev_fields p =
-    let fields = dev_defs p.definition.dev in
-    omega (arith, length-zip p.dev_codes (map (λ f. f.size) fields), length-map fields (λ f. f.size))
 
 -- ---- by the bytes of a definition message
 
@@ -104,9 +70,6 @@ abbrev pub devs_of : {A : Type 0} → MessageDef A → ℕ → List ℕ
 devs_of d left = (length (dev_defs d.dev) + left) ∷ flat_map dev_field_bytes (dev_defs d.dev)
 
 -- ---- all of it
-
-pub layout_items : {A : Type 0} (p : Defined A) → item_count p ≡ sum_by items_of (layout p) + sum_by items_of (dev_layout p)
-layout_items p = sum_by-append items_of (layout p) (dev_layout p)
 
 place_items : {A : Type 0} (o : Option (Defined A)) → IsLimited o → option_map_or (λ p. entry_count p.definition + item_count p) o 0 ≤ 130560
 place_items None h = omega arith

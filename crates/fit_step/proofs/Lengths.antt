@@ -1,8 +1,8 @@
 -- How long the bytes of records are.
-use Rattle.fit_step.proofs.Common.{◌≡◌, ℕ, ◌+◌, ◌*◌, List, [], ◌∷◌, ◌++◌, length, refl, sym, ◌∙◌, ap, arith, length-append, Some, None, Option, flat_map}
-use Rattle.fit_step.proofs.Common.{flat_map_more, sum_by-append, sum_by-cons, Items, Order, number_bytes, items_bytes, length-number_bytes, FieldDef, DevDef}
-use Rattle.fit_step.proofs.Common.{MessageDef, Values, Defined, field_bytes, dev_field_bytes, dev_part, definition_bytes, HaveShape, layout, dev_layout}
-use Rattle.fit_step.proofs.Common.{data_bytes, DataFits, message_size, sizes, definition_front, fields_front, TakenFields, taken, width_of, IsTaking}
+use Rattle.fit_step.proofs.Common.{◌≡◌, ℕ, ◌+◌, ◌*◌, List, [], ◌∷◌, ◌++◌, length, sym, ap, arith, length-append, flat_map}
+use Rattle.fit_step.proofs.Common.{flat_map_more, sum_by-append, sum_by-cons, Items, Order, number_bytes, items_bytes, length-number_bytes}
+use Rattle.fit_step.proofs.Common.{MessageDef, Defined, field_bytes, layout, dev_layout}
+use Rattle.fit_step.proofs.Common.{message_size, sizes, definition_front, fields_front, TakenFields, taken, width_of, IsTaking}
 use Rattle.fit_record.proofs.RecordLengths.{length-fields, length-items}
 
 pub length-fields_front : {A : Type 0} (d : MessageDef A) (n : ℕ) → length (fields_front d n) ≡ 6 + 3 * length d.fields

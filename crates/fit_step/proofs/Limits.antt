@@ -69,7 +69,7 @@ ascend_insert low (e ∷ es) k v above below number h =
 
 -- ---- the items of a message
 
-abbrev items_of : ℕ × ℕ → ℕ
+abbrev pub items_of : ℕ × ℕ → ℕ
 items_of f = f.1 / item_width f.0 f.1
 
 no_more_items : (code size : ℕ) → size < 256 → size / item_width code size ≤ 255

@@ -1,14 +1,19 @@
 -- The room inside a record: each byte takes one of it, and what the record still takes is there.
-use Rattle.fit_step.proofs.Common.{◌≡◌, inl, inr, ℕ, zero, suc, ◌+◌, ◌-◌, ◌*◌, ◌<◌, Bool, true, false, List, [], ◌∷◌, ◌++◌, length, refl, sym, ap, ◌∙◌, subst}
-use Rattle.fit_step.proofs.Common.{arith, Some, None, Ok, Err, Option, nat_lt, option_map, unwrap_or, cond_both, eqb-true, eqb-false, ltb-false, sum_by-append}
+use Rattle.fit_step.proofs.Common.{◌≡◌, ℕ, zero, suc, ◌+◌, ◌-◌, ◌*◌, ◌<◌, Bool, true, false, List, [], ◌∷◌, ◌++◌, length, refl, sym, ap, subst}
+use Rattle.fit_step.proofs.Common.{arith, Some, None, Ok, Err, Option, nat_lt, option_map, unwrap_or, cond_both, eqb-true, eqb-false, ltb-false}
 use Rattle.fit_step.proofs.Common.{sum_by-cons, DevDef, MessageDef, Values, Defined, DefinitionPhase, AtArchitecture, FieldCount, FieldSize, FieldCode}
 use Rattle.fit_step.proofs.Common.{DevCount, DevSize, DevIndex, Reserved, Environment, defined_at, is_definition, has_developer_fields, has_reserved_bit}
-use Rattle.fit_step.proofs.Common.{local_type, layout, dev_layout, message_size, sizes, least_definition, Tests, State, Step, NextState, start, step}
+use Rattle.fit_step.proofs.Common.{local_type, layout, dev_layout, message_size, sizes, least_definition, Tests, Step, step}
 use Rattle.fit_step.proofs.Common.{least_rest, begin_dev, begin_fields, layout_at, dev_layout_at, fields_rest, dev_rest, field_move, dev_move, definition_move}
-use Rattle.fit_step.proofs.Common.{next_field, next_dev, after_fields, dev_count_byte, new_definition, new_message, new_dev, header_move, message_move, Ends}
+use Rattle.fit_step.proofs.Common.{next_field, next_dev, after_fields, dev_count_byte, new_message, new_dev, header_move, message_move}
 use Rattle.fit_step.proofs.Common.{RecordPart, nothing, in_definition, in_fields, in_dev_fields, IsDefinitionPart, IsPart, state_of, HasBegun}
 use Rattle.std.proofs.Common.{◌≤◌}
+use Rattle.fit_step.proofs.Common.{with_number, order_at, learn, can_fill, goes_on, next_with_bytes}
 use Rattle.std.specs.Prelude.{drop, ◌==◌}
+use Rattle.fit_record.proofs.CarriedMessages.{same_filling}
+use Rattle.fit_step.proofs.HeaderCode.{begun_message}
+use Rattle.fit_step.proofs.Lengths.{message_sizes}
+use Rattle.fit_step.proofs.TwoLists.{dev_found, field_found, dev_begun, field_begun}
 
 -- what a step leaves of a room
 abbrev pub KeepsRoom : {A : Type 0} → Environment A → ℕ → Step A → Type 0
@@ -23,46 +28,101 @@ behind zero (x ∷ all) rest f h = cc
 behind (suc place) [] rest f h = absurd cc
 behind (suc place) (x ∷ all) rest f h = behind place all rest f h
 
-dev_keeps : {A : Type 0} (e : Environment A) (room left : ℕ) (v : Values A) (place : ℕ) (rest : List (ℕ × ℕ)) → drop place (dev_layout_at e v.local) ≡ rest
-    → left + 1 ≡ room → sizes rest ≤ left → KeepsRoom e room (Ok (begin_dev left v place rest))
-dev_keeps e room left v place [] at h less = omega arith
-dev_keeps e room left v place (f ∷ rest) at h less =
-    let all : sizes (f ∷ rest) ≡ f.1 + sizes rest = sum_by-cons (λ (f : ℕ × ℕ). f.1) f rest in
-    let next : drop (suc place) (dev_layout_at e v.local) ≡ rest = behind place (dev_layout_at e v.local) rest f at in
-    let others : dev_rest e place v.local ≡ sizes rest = ap sizes next in
-    cond_both (f.1 == 0) _ _ (λ n. KeepsRoom e room (Ok n))
-    (λ z. dev_keeps e room left v (suc place) rest next h (omega (arith, all)))
-    (λ z. (h, omega (arith, all, others)))
+-- ---- data messages
 
-fields_keep : {A : Type 0} (e : Environment A) (room left : ℕ) (v : Values A) (place : ℕ) (rest : List (ℕ × ℕ)) → drop place (layout_at e v.local) ≡ rest
-    → left + 1 ≡ room → sizes rest + sizes (dev_layout_at e v.local) ≤ left
-    → KeepsRoom e room (Ok (begin_fields left v place rest (dev_layout_at e v.local)))
-fields_keep e room left v place [] at h less = dev_keeps e room left v 0 (dev_layout_at e v.local) refl h (omega arith)
-fields_keep e room left v place (f ∷ rest) at h less =
-    let all : sizes (f ∷ rest) ≡ f.1 + sizes rest = sum_by-cons (λ (f : ℕ × ℕ). f.1) f rest in
-    let next : drop (suc place) (layout_at e v.local) ≡ rest = behind place (layout_at e v.local) rest f at in
-    let others : sizes (drop (suc place) (layout_at e v.local)) ≡ sizes rest = ap sizes next in
-    cond_both (f.1 == 0) _ _ (λ n. KeepsRoom e room (Ok n))
-    (λ z. fields_keep e room left v (suc place) rest next h (omega (arith, all)))
-    (λ z. (h, omega (arith, all, others)))
+-- where the search for the next field that has bytes ends, so many bytes of the fields are to come
+abbrev Leaves : List (ℕ × ℕ) → ℕ → Option (ℕ × ℕ × ℕ) → Type 0
+Leaves all total None = total ≡ 0
+Leaves all total (Some (place, width, left)) = left + sizes (drop (suc place) all) ≡ total
 
-field_keeps : {A : Type 0} (e : Environment A) (place width left room : ℕ) (v : Values A) (partial : List ℕ) (b : ℕ)
-    → 0 < left → left + fields_rest e place v.local ≤ room → KeepsRoom e room (field_move e place width left room v partial b)
-unfolding field_move
-field_keeps e place width left room v partial b some less =
-    cond_both (left == 1) _ _ (λ n. KeepsRoom e room n)
-    (λ h. let one = eqb-true left 1 h in fields_keep e room (room - 1) _ (suc place) (drop (suc place) (layout_at e v.local)) refl (omega arith)
-    (omega (arith, one)))
-    (λ h. (omega arith, omega arith))
+rest_found : (place : ℕ) (all rest : List (ℕ × ℕ)) → drop place all ≡ rest → Leaves all (sizes rest) (next_with_bytes place rest)
+rest_found place all [] at = omega arith
+rest_found place all (f ∷ rest) at =
+    let sum : sizes (f ∷ rest) ≡ f.1 + sizes rest = sum_by-cons (λ (f : ℕ × ℕ). f.1) f rest in
+    let next : drop (suc place) all ≡ rest = behind place all rest f at in
+    let others : sizes (drop (suc place) all) ≡ sizes rest = ap sizes next in
+    cond_both (f.1 == 0) _ _ (λ n. Leaves all (sizes (f ∷ rest)) n)
+    (λ z.
+    let same : sizes rest ≡ sizes (f ∷ rest) = omega (arith, sum, eqb-true f.1 0 z) in
+    subst (λ n. Leaves all n (next_with_bytes (suc place) rest)) same (rest_found (suc place) all rest next))
+    (λ z. omega (arith, sum, others))
 
-dev_field_keeps : {A : Type 0} (e : Environment A) (place width left room : ℕ) (v : Values A) (partial : List ℕ) (b : ℕ)
-    → 0 < left → left + dev_rest e place v.local ≤ room → KeepsRoom e room (dev_move e place width left room v partial b)
-unfolding dev_move
-dev_field_keeps e place width left room v partial b some less =
-    cond_both (left == 1) _ _ (λ n. KeepsRoom e room n)
-    (λ h. let one = eqb-true left 1 h in dev_keeps e room (room - 1) _ (suc place) (drop (suc place) (dev_layout_at e v.local)) refl (omega arith)
-    (omega (arith, one)))
-    (λ h. (omega arith, omega arith))
+-- in a data message this room is left, and so many bytes of the message are to come
+abbrev pub Begun : {A : Type 0} → Environment A → ℕ → ℕ → Step A → Type 0
+Begun e room total (Ok (t, None)) = (t.room ≡ room) × (least_rest e t ≡ total) × (goes_on e t ≡ can_fill e (room - total))
+Begun e room total (Ok (t, Some r)) = (t.room ≡ room) × (total ≡ 0) × (can_fill (learn e r) room ≡ can_fill e room)
+Begun e room total (Err reason) = ⊥
+
+module _ {A : Type 0} (e : Environment A) where
+  dev_begin : (room : ℕ) (v : Values A) (place : ℕ) (rest : List (ℕ × ℕ)) → drop place (dev_layout_at e v.local) ≡ rest
+      → Begun e room (sizes rest) (Ok (begin_dev room v place rest))
+  dev_begin room v place rest at =
+      subst (λ n. Begun e room (sizes rest) (Ok n)) (sym (dev_found room v place rest))
+      (go (next_with_bytes place rest) (rest_found place (dev_layout_at e v.local) rest at))
+    where
+      go : (n : Option (ℕ × ℕ × ℕ)) → Leaves (dev_layout_at e v.local) (sizes rest) n → Begun e room (sizes rest) (Ok (dev_begun room v n))
+      go None none = (refl, none, same_filling e v room)
+      go (Some (k, width, left)) h = (refl, h, ap (λ n. can_fill e (room - n)) h)
+
+  fields_begin : (room : ℕ) (v : Values A) (place : ℕ) (rest : List (ℕ × ℕ)) → drop place (layout_at e v.local) ≡ rest
+      → Begun e room (sizes rest + sizes (dev_layout_at e v.local)) (Ok (begin_fields room v place rest (dev_layout_at e v.local)))
+  fields_begin room v place rest at =
+      subst (λ n. Begun e room (sizes rest + sizes dev) (Ok n)) (sym (field_found room v place rest dev))
+      (go (next_with_bytes place rest) (rest_found place (layout_at e v.local) rest at))
+    where
+      dev : List (ℕ × ℕ)
+      dev = dev_layout_at e v.local
+
+      go : (n : Option (ℕ × ℕ × ℕ)) → Leaves (layout_at e v.local) (sizes rest) n → Begun e room (sizes rest + sizes dev) (Ok (field_begun room v dev n))
+      go None none =
+          let same : sizes dev ≡ sizes rest + sizes dev = omega (arith, none) in
+          subst (λ n. Begun e room n (Ok (begin_dev room v 0 dev))) same (dev_begin room v 0 dev refl)
+      go (Some (k, width, left)) h =
+          let same : left + fields_rest e k v.local ≡ sizes rest + sizes dev = omega (arith, h) in
+          (refl, same, ap (λ n. can_fill e (room - n)) same)
+
+  -- one byte of a field
+  pub field_begins : (place width left room : ℕ) (v : Values A) (partial : List ℕ) (b : ℕ) → 0 < left
+      → Begun e (room - 1) (left + fields_rest e place v.local - 1) (field_move e place width left room v partial b)
+  unfolding field_move
+  field_begins place width left room v partial b some =
+      let rest : ℕ = fields_rest e place v.local in
+      let w : Values A = record v { fields = with_number (order_at e v.local) width place v.fields (partial ++ b ∷ []) } in
+      cond_both (left == 1) _ _ (λ n. Begun e (room - 1) (left + rest - 1) n)
+      (λ z.
+      let same : rest ≡ left + rest - 1 = omega (arith, eqb-true left 1 z) in
+      subst (λ n. Begun e (room - 1) n (Ok (begin_fields (room - 1) w (suc place) (drop (suc place) (layout_at e v.local)) (dev_layout_at e v.local)))) same
+      (fields_begin (room - 1) w (suc place) (drop (suc place) (layout_at e v.local)) refl))
+      (λ z. let same : left - 1 + rest ≡ left + rest - 1 = omega arith in (refl, same, ap (λ n. can_fill e (room - 1 - n)) same))
+
+  pub dev_begins : (place width left room : ℕ) (v : Values A) (partial : List ℕ) (b : ℕ) → 0 < left
+      → Begun e (room - 1) (left + dev_rest e place v.local - 1) (dev_move e place width left room v partial b)
+  unfolding dev_move
+  dev_begins place width left room v partial b some =
+      let rest : ℕ = dev_rest e place v.local in
+      let w : Values A = record v { dev = with_number (order_at e v.local) width place v.dev (partial ++ b ∷ []) } in
+      cond_both (left == 1) _ _ (λ n. Begun e (room - 1) (left + rest - 1) n)
+      (λ z.
+      let same : rest ≡ left + rest - 1 = omega (arith, eqb-true left 1 z) in
+      subst (λ n. Begun e (room - 1) n (Ok (begin_dev (room - 1) w (suc place) (drop (suc place) (dev_layout_at e v.local))))) same
+      (dev_begin (room - 1) w (suc place) (drop (suc place) (dev_layout_at e v.local)) refl))
+      (λ z. let same : left - 1 + rest ≡ left + rest - 1 = omega arith in (refl, same, ap (λ n. can_fill e (room - 1 - n)) same))
+
+  -- a record header
+  pub message_begins : (room b : ℕ) (p : Defined A) → defined_at e (local_type b) ≡ Some p
+      → Begun e (room - 1) (message_size p) (begun_message room b p)
+  message_begins room b p known =
+      let v : Values A = new_message b (layout p) (dev_layout p) in
+      let fields : layout_at e (local_type b) ≡ layout p = ap (λ q. unwrap_or (option_map layout q) []) known in
+      let dev : dev_layout_at e (local_type b) ≡ dev_layout p = ap (λ q. unwrap_or (option_map dev_layout q) []) known in
+      subst (λ n. Begun e (room - 1) n (begun_message room b p)) (sym (message_sizes p))
+      (subst (λ d. Begun e (room - 1) (sizes (layout p) + sizes d) (Ok (begin_fields (room - 1) v 0 (layout p) d))) dev
+      (fields_begin (room - 1) v 0 (layout p) fields))
+
+  begun_keeps : (room left total : ℕ) (made : Step A) → Begun e left total made → left + 1 ≡ room → total ≤ left → KeepsRoom e room made
+  begun_keeps room left total (Ok (t, None)) h one less = (omega (arith, h.0, one), omega (arith, h.0, h.1, less))
+  begun_keeps room left total (Ok (t, Some r)) h one less = omega arith
+  begun_keeps room left total (Err reason) h one less = absurd h
 
 -- ---- definitions
 
@@ -115,17 +175,12 @@ message_keeps : {A : Type 0} (e : Environment A) (tests : Tests A) (room b : ℕ
     → KeepsRoom e room (message_move tests room b o)
 unfolding message_move
 message_keeps e tests room b None known = tt
-message_keeps {A} e tests room b (Some p) known =
+message_keeps e tests room b (Some p) known =
     cond_both (nat_lt room (1 + message_size p)) _ _ (λ n. KeepsRoom e room n) (λ z. tt)
     (λ z. cond_both (tests.message (room - (1 + message_size p))) _ _ (λ n. KeepsRoom e room n)
     (λ y.
     let within = ltb-false room (1 + message_size p) z in
-    let all : message_size p ≡ sizes (layout p) + sizes (dev_layout p) = sum_by-append (λ (f : ℕ × ℕ). f.1) (layout p) (dev_layout p) in
-    let fields : layout_at e (local_type b) ≡ layout p = ap (λ q. unwrap_or (option_map layout q) []) known in
-    let dev : dev_layout_at e (local_type b) ≡ dev_layout p = ap (λ q. unwrap_or (option_map dev_layout q) []) known in
-    let enough : sizes (layout p) + sizes (dev_layout_at e (local_type b)) ≤ room - 1 = omega (arith, all, within, ap sizes dev) in
-    subst (λ d. KeepsRoom e room (Ok (begin_fields (room - 1) (new_message b (layout p) (dev_layout p)) 0 (layout p) d))) dev
-    (fields_keep e room (room - 1) (new_message b (layout p) (dev_layout p)) 0 (layout p) fields (omega arith) enough))
+    begun_keeps e room (room - 1) (message_size p) (begun_message room b p) (message_begins e room b p known) (omega (arith, within)) (omega (arith, within)))
     (λ y. tt))
 
 counts_one : (c : Bool) → 5 + dev_count_byte (new_dev c) + 1 ≡ Rattle.std.proofs.Common.cond c 7 6
@@ -147,9 +202,12 @@ pub keeps : {A : Type 0} (e : Environment A) (tests : Tests A) (room : ℕ) (f :
 unfolding step
 keeps e tests room nothing b h less = header_keeps e tests room b
 keeps e tests room (in_definition k d) b h less = definition_keeps e tests k room d b h less
-keeps e tests room (in_fields local offset t dev) b (p, known, header, s, same) less = field_keeps e (length t.done) _ t.left room _ t.partial b s.some less
+keeps e tests room (in_fields local offset t dev) b (p, known, header, s, same) less =
+    let some = s.some in
+    begun_keeps e room (room - 1) _ _ (field_begins e (length t.done) _ t.left room _ t.partial b some) (omega (arith, some, less)) (omega (arith, some, less))
 keeps e tests room (in_dev_fields local offset items t) b (p, known, header, shapes, s) less =
-    dev_field_keeps e (length t.done) _ t.left room _ t.partial b s.some less
+    let some = s.some in
+    begun_keeps e room (room - 1) _ _ (dev_begins e (length t.done) _ t.left room _ t.partial b some) (omega (arith, some, less)) (omega (arith, some, less))
 
 -- ---- the least rest
 

@@ -1,21 +1,22 @@
 -- A byte that isn't refused leaves a room that can still be filled.
 use Rattle.fit_step.proofs.Common.{◌≡◌, inl, inr, ◌⊎◌, ℕ, zero, suc, ◌+◌, ◌-◌, ◌*◌, ◌<◌, Bool, true, false, cond, List, [], ◌∷◌, ◌++◌, length, refl, sym, ap}
-use Rattle.fit_step.proofs.Common.{◌∙◌, subst, arith, Some, None, Ok, Err, Option, ◌&&◌, ◌||◌, nat_lt, nat_le, option_map, unwrap_or, cond_both, eqb-true}
+use Rattle.fit_step.proofs.Common.{◌∙◌, subst, arith, Some, None, Ok, Err, Option, ◌&&◌, ◌||◌, nat_lt, nat_le, cond_both, eqb-true}
 use Rattle.fit_step.proofs.Common.{eqb-false, ltb-false, leb-true, le-leb, lt-leb, or_left, or_right, or_cases, and_parts, and_from, cases_lt, sum_by-append}
-use Rattle.fit_step.proofs.Common.{sum_by-cons, DevDef, FieldDef, MessageDef, Defined, Define, Values, Environment, defined_at, dev_defs, learn, is_definition}
-use Rattle.fit_step.proofs.Common.{has_developer_fields, has_reserved_bit, local_type, layout, dev_layout, message_size, body_length, fills, has_length}
-use Rattle.fit_step.proofs.Common.{can_fill, can_fill_with, can_fill_from, others_have, finishes, can_complete, can_complete_dev, same_places, can_fill_is}
+use Rattle.fit_step.proofs.Common.{sum_by-cons, DevDef, FieldDef, MessageDef, Defined, Define, Environment, defined_at, dev_defs, learn, is_definition}
+use Rattle.fit_step.proofs.Common.{has_developer_fields, has_reserved_bit, local_type, message_size, body_length}
+use Rattle.fit_step.proofs.Common.{can_fill, can_fill_with, can_fill_from, others_have, finishes, can_complete, can_complete_dev, can_fill_is}
 use Rattle.fit_step.proofs.Common.{length-set, DefinitionPhase, Reserved, AtArchitecture, GlobalFirst, GlobalSecond, FieldCount, FieldNumber, FieldSize}
-use Rattle.fit_step.proofs.Common.{FieldCode, DevCount, DevNumber, DevSize, DevIndex, least_definition, Step, start, step, least_rest, begin_dev, begin_fields}
-use Rattle.fit_step.proofs.Common.{layout_at, dev_layout_at, fields_rest, dev_rest, field_move, dev_move, definition_move, definition_rest, next_field}
-use Rattle.fit_step.proofs.Common.{next_dev, after_fields, dev_count_byte, new_message, new_dev, header_move, message_move, sizes, RecordPart, nothing}
+use Rattle.fit_step.proofs.Common.{FieldCode, DevCount, DevNumber, DevSize, DevIndex, least_definition, Step, start, step, least_rest}
+use Rattle.fit_step.proofs.Common.{fields_rest, dev_rest, definition_move, definition_rest, next_field}
+use Rattle.fit_step.proofs.Common.{next_dev, after_fields, dev_count_byte, new_dev, header_move, message_move, RecordPart, nothing}
 use Rattle.fit_step.proofs.Common.{in_definition, in_fields, in_dev_fields, IsDefinitionPart, IsNew, HasNone, IsPart, state_of, entries_complete, tests_of}
 use Rattle.fit_step.proofs.Common.{has_dev, definition_goes_on, goes_on}
 use Rattle.std.proofs.Common.{◌≤◌}
-use Rattle.std.specs.Prelude.{drop, ◌==◌, sum_by}
+use Rattle.std.specs.Prelude.{◌==◌, sum_by}
 use Rattle.fit_record.proofs.DefinitionInPlace.{can_fill_after}
 use Rattle.fit_record.proofs.RoomSums.{fills_by_ones}
-use Rattle.fit_step.proofs.Rest.{behind}
+use Rattle.fit_step.proofs.HeaderCode.{begun_message}
+use Rattle.fit_step.proofs.Rest.{Begun, field_begins, dev_begins, message_begins}
 
 -- what a step leaves can go on, and behind a whole record the room can be filled
 abbrev pub GoesOn : {A : Type 0} → Environment A → Step A → Type 0
@@ -25,63 +26,23 @@ GoesOn e (Err reason) = Unit {0}
 
 -- ---- data messages
 
-module _ {A : Type 0} (e : Environment A) where
-  same_room : (m n : ℕ) → m ≡ n → can_fill e m ≡ true → can_fill e n ≡ true
-  same_room m n same h = subst (λ k. can_fill e k ≡ true) same h
+begun_on : {A : Type 0} (e : Environment A) (room total : ℕ) (made : Step A) → Begun e room total made → can_fill e (room - total) ≡ true → GoesOn e made
+begun_on e room total (Ok (t, None)) h fill = h.2 ∙ fill
+begun_on e room total (Ok (t, Some r)) h fill =
+    let same : room ≡ room - total = omega (arith, h.1) in ap (can_fill (learn e r)) h.0 ∙ h.2 ∙ ap (can_fill e) same ∙ fill
+begun_on e room total (Err reason) h fill = absurd h
 
-  dev_on : (left : ℕ) (v : Values A) (place : ℕ) (rest : List (ℕ × ℕ)) → drop place (dev_layout_at e v.local) ≡ rest → can_fill e (left - sizes rest) ≡ true
-      → GoesOn e (Ok (begin_dev left v place rest))
-  dev_on left v place [] at h = ap (λ places. fills (has_length places) left) (same_places e v) ∙ same_room (left - sizes []) left (omega arith) h
-  dev_on left v place (f ∷ rest) at h =
-      let all : sizes (f ∷ rest) ≡ f.1 + sizes rest = sum_by-cons (λ (f : ℕ × ℕ). f.1) f rest in
-      let next : drop (suc place) (dev_layout_at e v.local) ≡ rest = behind place (dev_layout_at e v.local) rest f at in
-      let others : dev_rest e place v.local ≡ sizes rest = ap sizes next in
-      cond_both (f.1 == 0) _ _ (λ n. GoesOn e (Ok n))
-      (λ z. let none = eqb-true f.1 0 z in dev_on left v (suc place) rest next
-      (same_room (left - sizes (f ∷ rest)) (left - sizes rest) (omega (arith, all, none)) h))
-      (λ z. same_room (left - sizes (f ∷ rest)) (left - (f.1 + dev_rest e place v.local)) (omega (arith, all, others)) h)
-
-  fields_on : (left : ℕ) (v : Values A) (place : ℕ) (rest : List (ℕ × ℕ)) → drop place (layout_at e v.local) ≡ rest
-      → can_fill e (left - (sizes rest + sizes (dev_layout_at e v.local))) ≡ true
-      → GoesOn e (Ok (begin_fields left v place rest (dev_layout_at e v.local)))
-  fields_on left v place [] at h = dev_on left v 0 (dev_layout_at e v.local) refl
-      (same_room (left - (sizes [] + sizes (dev_layout_at e v.local))) (left - sizes (dev_layout_at e v.local)) (omega arith) h)
-  fields_on left v place (f ∷ rest) at h =
-      let all : sizes (f ∷ rest) ≡ f.1 + sizes rest = sum_by-cons (λ (f : ℕ × ℕ). f.1) f rest in
-      let next : drop (suc place) (layout_at e v.local) ≡ rest = behind place (layout_at e v.local) rest f at in
-      let others : sizes (drop (suc place) (layout_at e v.local)) ≡ sizes rest = ap sizes next in
-      let dev : ℕ = sizes (dev_layout_at e v.local) in
-      cond_both (f.1 == 0) _ _ (λ n. GoesOn e (Ok n))
-      (λ z. let none = eqb-true f.1 0 z in fields_on left v (suc place) rest next
-      (same_room (left - (sizes (f ∷ rest) + dev)) (left - (sizes rest + dev)) (omega (arith, all, none)) h))
-      (λ z. same_room (left - (sizes (f ∷ rest) + dev)) (left - (f.1 + fields_rest e place v.local)) (omega (arith, all, others)) h)
-
-  field_on : (place width left room : ℕ) (v : Values A) (partial : List ℕ) (b : ℕ) → 0 < left → can_fill e (room - (left + fields_rest e place v.local)) ≡ true
-      → GoesOn e (field_move e place width left room v partial b)
-  unfolding field_move
-  field_on place width left room v partial b some h =
-      let rest : ℕ = fields_rest e place v.local in
-      cond_both (left == 1) _ _ (λ n. GoesOn e n)
-      (λ z. let one = eqb-true left 1 z in fields_on (room - 1) _ (suc place) (drop (suc place) (layout_at e v.local)) refl
-      (same_room (room - (left + rest)) (room - 1 - rest) (omega (arith, one)) h))
-      (λ z. same_room (room - (left + rest)) (room - 1 - (left - 1 + rest)) (omega arith) h)
-
-  dev_field_on : (place width left room : ℕ) (v : Values A) (partial : List ℕ) (b : ℕ) → 0 < left → can_fill e (room - (left + dev_rest e place v.local)) ≡ true
-      → GoesOn e (dev_move e place width left room v partial b)
-  unfolding dev_move
-  dev_field_on place width left room v partial b some h =
-      let rest : ℕ = dev_rest e place v.local in
-      cond_both (left == 1) _ _ (λ n. GoesOn e n)
-      (λ z. let one = eqb-true left 1 z in dev_on (room - 1) _ (suc place) (drop (suc place) (dev_layout_at e v.local)) refl
-      (same_room (room - (left + rest)) (room - 1 - rest) (omega (arith, one)) h))
-      (λ z. same_room (room - (left + rest)) (room - 1 - (left - 1 + rest)) (omega arith) h)
+-- a byte of the room is a byte less to come
+one_less : {A : Type 0} (e : Environment A) (room total : ℕ) → 0 < total → can_fill e (room - total) ≡ true → can_fill e (room - 1 - (total - 1)) ≡ true
+one_less e room total some on = let same : room - 1 - (total - 1) ≡ room - total = omega arith in ap (can_fill e) same ∙ on
 
 -- ---- entries of a definition message
 
 module _ {A : Type 0} (e : Environment A) (local : ℕ) where
   -- without fields
   fills_empty : (size room : ℕ) → size ≡ 0 → can_fill_with e local size room ≡ true
-  fills_empty size room none = fills_by_ones (λ n. others_have e local n || (1 + size == n)) (or_right (others_have e local 1) _ (ap (λ n. 1 + n == 1) none)) room
+  fills_empty size room none =
+      fills_by_ones (λ n. others_have e local n || (1 + size == n)) (or_right (others_have e local 1) _ (ap (λ n. 1 + n == 1) none)) room
 
   -- with a size that is still to come, where none has come
   fills_open : (size room : ℕ) → size ≡ 0 → can_fill_from e local size room ≡ true
@@ -264,12 +225,8 @@ module _ {A : Type 0} (e : Environment A) (sixteen : length e.places ≡ 16) whe
       cond_both (nat_lt room (1 + message_size p)) _ _ (λ n. GoesOn e n) (λ z. tt)
       (λ z. cond_both (can_fill e (room - (1 + message_size p))) _ _ (λ n. GoesOn e n)
       (λ y.
-      let all : message_size p ≡ sizes (layout p) + sizes (dev_layout p) = sum_by-append (λ (f : ℕ × ℕ). f.1) (layout p) (dev_layout p) in
-      let fields : layout_at e (local_type b) ≡ layout p = ap (λ q. unwrap_or (option_map layout q) []) known in
-      let dev : dev_layout_at e (local_type b) ≡ dev_layout p = ap (λ q. unwrap_or (option_map dev_layout q) []) known in
-      let rest : room - (1 + message_size p) ≡ room - 1 - (sizes (layout p) + sizes (dev_layout_at e (local_type b))) = omega (arith, all, ap sizes dev) in
-      subst (λ d. GoesOn e (Ok (begin_fields (room - 1) (new_message b (layout p) (dev_layout p)) 0 (layout p) d))) dev
-      (fields_on e (room - 1) (new_message b (layout p) (dev_layout p)) 0 (layout p) fields (same_room e _ _ rest y)))
+      let same : room - 1 - message_size p ≡ room - (1 + message_size p) = omega arith in
+      begun_on e (room - 1) (message_size p) (begun_message room b p) (message_begins e room b p known) (ap (can_fill e) same ∙ y))
       (λ y. tt))
 
   begins_on : (dev : Bool) (room : ℕ) → cond dev 7 6 ≤ room → nat_le (cond (has_dev (new_dev dev)) 6 5) (0 + (room - 1)) ≡ true
@@ -292,5 +249,11 @@ module _ {A : Type 0} (e : Environment A) (sixteen : length e.places ≡ 16) whe
   unfolding step
   goes room nothing b h less on = header_on room b
   goes room (in_definition k d) b h less on = definition_on k room d b h less on
-  goes room (in_fields local offset t dev) b (p, known, header, s, same) less on = field_on e (length t.done) _ t.left room _ t.partial b s.some on
-  goes room (in_dev_fields local offset items t) b (p, known, header, shapes, s) less on = dev_field_on e (length t.done) _ t.left room _ t.partial b s.some on
+  goes room (in_fields local offset t dev) b (p, known, header, s, same) less on =
+      let some = s.some in
+      begun_on e (room - 1) _ _ (field_begins e (length t.done) _ t.left room _ t.partial b some)
+      (one_less e room (t.left + fields_rest e (length t.done) local) (omega (arith, some)) on)
+  goes room (in_dev_fields local offset items t) b (p, known, header, shapes, s) less on =
+      let some = s.some in
+      begun_on e (room - 1) _ _ (dev_begins e (length t.done) _ t.left room _ t.partial b some)
+      (one_less e room (t.left + dev_rest e (length t.done) local) (omega (arith, some)) on)

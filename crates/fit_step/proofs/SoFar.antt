@@ -3,13 +3,16 @@ use Rattle.fit_step.proofs.Common.{◌≡◌, ℕ, ◌+◌, ◌-◌, ◌*◌, �
 use Rattle.fit_step.proofs.Common.{Option, flat_map, min, div-le_self, append-nil, length-map, sum_by-append, sum_by-cons, div-mul-add, Items, Order}
 use Rattle.fit_step.proofs.Common.{item_width, items_bytes, Defined, Environment, defined_at, dev_defs, layout, dev_layout, data_header, DataHeaderFits}
 use Rattle.fit_step.proofs.Common.{HaveShape, order_at, entry_count, no_items, sizes, TakenFields, width_of, taken, all_items, IsTaking, length-dev_layout}
-use Rattle.fit_step.proofs.Common.{items_so_far, held_of_record, items_in, values_size}
+use Rattle.fit_step.proofs.Common.{items_so_far, held_of_record, items_in, values_size, part_size, item_count, le-div, item_width_positive}
+use Rattle.std.proofs.Common.{◌≤◌}
+use Rattle.std.proofs.Math.Nat.{div-mul-le_self}
 use Rattle.std.specs.Prelude.{map, sum_by}
 use Rattle.fit_step.proofs.HeaderBits.{data_bits}
 use Rattle.fit_step.proofs.Lengths.{taken_rest}
 use Rattle.fit_record.proofs.RecordLengths.{length-items}
 use Rattle.fit_step.proofs.Takes.{as_many}
-use Rattle.fit_step.proofs.HeldParts.{items_of, whole_items, no_items_yet}
+use Rattle.fit_step.proofs.HeldParts.{whole_items, no_items_yet}
+use Rattle.fit_step.proofs.Limits.{items_of}
 use Rattle.fit_step.proofs.Preconditions.{as_defined}
 
 -- ---- items
@@ -23,6 +26,13 @@ items_none (f ∷ fields) =
     ap (λ n. n / item_width f.0 f.1) least ∙ (let below = div-le_self 0 (item_width f.0 f.1) in omega (arith, below)) in
     let rest : items_so_far fields (0 - f.1) ≡ 0 = ap (items_so_far fields) none ∙ items_none fields in
     omega (arith, first, rest)
+
+items_within : (fields : List (ℕ × ℕ)) (count : ℕ) → items_so_far fields count ≤ sum_by items_of fields
+items_within [] count = omega arith
+items_within (f ∷ fields) count =
+    let w : ℕ = item_width f.0 f.1 in
+    let first = le-div (min count f.1 / w) f.1 w (item_width_positive f.0 f.1) (omega (arith, div-mul-le_self (min count f.1) w)) in
+    omega (arith, first, items_within fields (count - f.1), sum_by-cons items_of f fields)
 
 items_behind : (done rest : List (ℕ × ℕ)) (count : ℕ) → items_so_far (done ++ rest) (sizes done + count) ≡ sum_by items_of done + items_so_far rest count
 items_behind [] rest count = ap (items_so_far rest) (let none : sum_by (λ (f : ℕ × ℕ). f.1) [] + count ≡ count = omega arith in none)
@@ -91,6 +101,14 @@ module _ {A : Type 0} (e : Environment A) (local : ℕ) (offset : Option ℕ) (p
   message_held : held_of_record e (data_header local offset ∷ more) ≡ entry_count p.definition + items_so_far (layout p ++ dev_layout p) (length more)
   message_held =
       let bits = data_bits (data_header local offset) local offset refl fits in rw (bits.kind, bits.type, known) refl
+
+  message_part : part_size e (data_header local offset ∷ more) ≡ entry_count p.definition + item_count p
+  message_part =
+      let bits = data_bits (data_header local offset) local offset refl fits in rw (bits.kind, bits.type, known) refl
+
+  -- what is whole is no more than the bytes allow
+  pub message_within : (n : ℕ) → n ≡ held_of_record e (data_header local offset ∷ more) → n ≤ part_size e (data_header local offset ∷ more)
+  message_within n is = omega (arith, is, message_held, message_part, items_within (layout p ++ dev_layout p) (length more))
 
 module _ {A : Type 0} (e : Environment A) (local : ℕ) (offset : Option ℕ) (p : Defined A) (known : defined_at e local ≡ Some p)
     (fits : DataHeaderFits local offset) (codes : length p.dev_codes ≡ length (dev_defs p.definition.dev)) where

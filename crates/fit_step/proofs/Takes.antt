@@ -54,7 +54,7 @@ abbrev pub grown : {A : Type 0} → Order → TakenFields A → ℕ → TakenFie
 grown o t b = grown_at (ends_number t b) o t b
 
 -- the tests of the machine
-abbrev IsEnd : {A : Type 0} → Bool → TakenFields A → ℕ → Type 0
+abbrev pub IsEnd : {A : Type 0} → Bool → TakenFields A → ℕ → Type 0
 IsEnd c t b = ends_number t b ≡ c
 
 is_end : {A : Type 0} (t : TakenFields A) (b : ℕ) → IsEnd true t b → length t.partial + 1 ≡ width_of t
@@ -80,12 +80,12 @@ with_one {A} t n s =
     ∙ add_number-at t.whole rest old n
     ∙ sym (append_assoc t.whole (new ∷ []) rest)
 
-items_at : {A : Type 0} (c : Bool) (o : Order) (t : TakenFields A) (b : ℕ) → IsEnd c t b → HaveShape t.done t.whole
+pub items_at : {A : Type 0} (c : Bool) (o : Order) (t : TakenFields A) (b : ℕ) → IsEnd c t b → HaveShape t.done t.whole
     → with_number o (width_of t) (length t.done) (all_items t) (t.partial ++ b ∷ []) ≡ all_items (grown_at c o t b)
 items_at true o t b h s = cond-true (ends_number t b) _ _ h ∙ with_one t (number o (t.partial ++ b ∷ [])) s
 items_at false o t b h s = cond-false (ends_number t b) _ _ h
 
-rest_at : {A : Type 0} (c : Bool) (o : Order) (t : TakenFields A) (b : ℕ) → IsEnd c t b
+pub rest_at : {A : Type 0} (c : Bool) (o : Order) (t : TakenFields A) (b : ℕ) → IsEnd c t b
     → beyond_number (width_of t) (t.partial ++ b ∷ []) ≡ (grown_at c o t b).partial
 rest_at true o t b h = cond-true (ends_number t b) _ _ h
 rest_at false o t b h = cond-false (ends_number t b) _ _ h
@@ -93,7 +93,7 @@ rest_at false o t b h = cond-false (ends_number t b) _ _ h
 regroup : (w n p z : List ℕ) → (w ++ (n ++ (p ++ z))) ++ [] ≡ ((w ++ n) ++ p) ++ z
 regroup w n p z = simp (append_assoc, append-nil)
 
-bytes_at : {A : Type 0} (c : Bool) (o : Order) (t : TakenFields A) (b : ℕ) → IsEnd c t b → IsBytes t.partial → b < 256
+pub bytes_at : {A : Type 0} (c : Bool) (o : Order) (t : TakenFields A) (b : ℕ) → IsEnd c t b → IsBytes t.partial → b < 256
     → flat_map (items_bytes o) (taken (grown_at c o t b)) ++ (grown_at c o t b).partial ≡ (flat_map (items_bytes o) (taken t) ++ t.partial) ++ b ∷ []
 bytes_at {A} true o t b h g low =
     let w = width_of t in
@@ -123,7 +123,7 @@ new_number o t b h g low =
 one_more : (n w p l size : ℕ) → n * w + p + l ≡ size → p + 1 ≡ w → 0 < l → (n + 1) * w + 0 + (l - 1) ≡ size
 one_more n w p l size e f g = omega arith
 
-stands_at : {A : Type 0} (c : Bool) (o : Order) (all : List (ℕ × ℕ)) (t : TakenFields A) (b : ℕ) → IsEnd c t b → IsTaking all t → b < 256 → 1 < t.left
+pub stands_at : {A : Type 0} (c : Bool) (o : Order) (all : List (ℕ × ℕ)) (t : TakenFields A) (b : ℕ) → IsEnd c t b → IsTaking all t → b < 256 → 1 < t.left
     → IsTaking all (grown_at c o t b)
 stands_at true o all t b h s low more = record {
   layout = s.layout;
@@ -146,7 +146,7 @@ stands_at false o all t b h s low more = record {
 }
 
 -- behind the last byte of a field it is whole
-whole_at : {A : Type 0} (c : Bool) (o : Order) (all : List (ℕ × ℕ)) (t : TakenFields A) (b : ℕ) → IsEnd c t b → IsTaking all t → b < 256 → t.left ≡ 1
+pub whole_at : {A : Type 0} (c : Bool) (o : Order) (all : List (ℕ × ℕ)) (t : TakenFields A) (b : ℕ) → IsEnd c t b → IsTaking all t → b < 256 → t.left ≡ 1
     → ((grown_at c o t b).partial ≡ []) × HaveShape (t.done ++ t.field ∷ []) (taken (grown_at c o t b))
 whole_at true o all t b h s low last = (
   refl,
@@ -163,22 +163,3 @@ whole_at false o all t b h s low last =
     let inside = is_inside t b h s.short in
     absurd (no_rest (length t.bits) (t.field.1 / width_of t) (width_of t) (length t.partial + 1)
     (omega (arith, s.size, last, item_width_divides t.field.0 t.field.1)) (omega arith) inside)
-
-pub grown-items : {A : Type 0} (o : Order) (t : TakenFields A) (b : ℕ) → HaveShape t.done t.whole
-    → with_number o (width_of t) (length t.done) (all_items t) (t.partial ++ b ∷ []) ≡ all_items (grown o t b)
-grown-items o t b s = items_at (ends_number t b) o t b refl s
-
-pub grown-rest : {A : Type 0} (o : Order) (t : TakenFields A) (b : ℕ) → beyond_number (width_of t) (t.partial ++ b ∷ []) ≡ (grown o t b).partial
-grown-rest o t b = rest_at (ends_number t b) o t b refl
-
-pub grown-bytes : {A : Type 0} (o : Order) (all : List (ℕ × ℕ)) (t : TakenFields A) (b : ℕ) → IsTaking all t → b < 256
-    → flat_map (items_bytes o) (taken (grown o t b)) ++ (grown o t b).partial ≡ (flat_map (items_bytes o) (taken t) ++ t.partial) ++ b ∷ []
-grown-bytes o all t b s low = bytes_at (ends_number t b) o t b refl s.bytes low
-
-pub grown-stands : {A : Type 0} (o : Order) (all : List (ℕ × ℕ)) (t : TakenFields A) (b : ℕ) → IsTaking all t → b < 256 → 1 < t.left
-    → IsTaking all (grown o t b)
-grown-stands o all t b s low more = stands_at (ends_number t b) o all t b refl s low more
-
-pub grown-whole : {A : Type 0} (o : Order) (all : List (ℕ × ℕ)) (t : TakenFields A) (b : ℕ) → IsTaking all t → b < 256 → t.left ≡ 1
-    → ((grown o t b).partial ≡ []) × HaveShape (t.done ++ t.field ∷ []) (taken (grown o t b))
-grown-whole o all t b s low last = whole_at (ends_number t b) o all t b refl s low last

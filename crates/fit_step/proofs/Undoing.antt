@@ -9,7 +9,7 @@ use Rattle.fit_step.proofs.Common.{in_definition, in_fields, in_dev_fields, Take
 use Rattle.fit_step.proofs.Common.{PartFitsRoom, Adds, AddsEntry, front_back}
 use Rattle.std.specs.Prelude.{◌==◌, drop, map}
 use Rattle.fit_step.proofs.Preconditions.{as_defined}
-use Rattle.fit_step.proofs.Takes.{ends_number, grown-whole}
+use Rattle.fit_step.proofs.Takes.{ends_number, whole_at}
 use Rattle.fit_step.proofs.EmptyMessages.{dev_whole, fields_whole}
 
 same_front : {X : Type 0} (xs ys : List X) (x y : X) → xs ++ x ∷ [] ≡ ys ++ y ∷ [] → xs ≡ ys
@@ -122,7 +122,7 @@ number_added : {A : Type 0} (o : Order) (all : List (ℕ × ℕ)) (t : TakenFiel
     → t.left ≡ 1
     → with_number o (width_of t) place items (t.partial ++ b ∷ []) ≡ add_number place items (number o (t.partial ++ b ∷ []))
 number_added o all t b items place s low last =
-    cond-true (ends_number t b) _ _ (ends_one (ends_number t b) t.partial b (grown-whole o all t b s low last).0)
+    cond-true (ends_number t b) _ _ (ends_one (ends_number t b) t.partial b (whole_at (ends_number t b) o all t b refl s low last).0)
 
 place_within : {A : Type 0} (all : List (ℕ × ℕ)) (t : TakenFields A) → IsTaking all t → length t.done < length (all_items t)
 place_within all t s =

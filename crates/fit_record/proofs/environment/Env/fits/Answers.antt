@@ -12,9 +12,5 @@ pub returns-in-Values-clause-ok : goal.returns-in-Values-clause-ok
 returns-in-Values-clause-ok g c =
     ok_more c.data_fits.result (λ n h. length_of_data c.args.self.now c.args.r.now c.in-Values.v n c.in-Values.is h) c.data_fits.ensures.ok
 
-pub returns-in-Define-clause-refused : goal.returns-in-Define-clause-refused
-returns-in-Define-clause-refused g c = refused_by c.args.self.now c.args.r.now (Define c.in-Define.d) c.definition_fits.result c.in-Define.is
-    c.definition_fits.ensures.err
-
 pub returns-in-Values-clause-refused : goal.returns-in-Values-clause-refused
 returns-in-Values-clause-refused g c = refused_by c.args.self.now c.args.r.now (Data c.in-Values.v) c.data_fits.result c.in-Values.is c.data_fits.ensures.err
