@@ -3,9 +3,7 @@ use Rattle.fit_record.proofs.Common.{◌≡◌, ℕ, zero, suc, ◌+◌, ◌-◌
 use Rattle.fit_record.proofs.Common.{refl, sym, ap, ◌∙◌, subst, arith, lit<, length-append, None, Some, sum_by, flat_map, ◌==◌, ◌||◌, if◌then◌else◌, unwrap_or}
 use Rattle.fit_record.proofs.Common.{option_map, slice_index, or_right, eq-eqb, leb-true, le-leb, Order, Little, Big, IsBytes, number_bytes, number}
 use Rattle.fit_record.proofs.Common.{IsBytes-append, IsBytes-cons, IsBytes-none, IsBytes-zeros, DevDef, MessageDef, Environment, dev_defs, architecture}
-use Rattle.fit_record.proofs.Common.{field_bytes, dev_part, definition_bytes, others_have, can_complete_front, CanComplete, body_length}
-use Rattle.std.proofs.Common.{replicate}
-use Rattle.std.specs.Prelude.{Option}
+use Rattle.fit_record.proofs.Common.{field_bytes, dev_part, definition_bytes, others_have, can_complete_front, CanComplete, body_length, replicate, Option}
 use Rattle.fit_record.proofs.RoomSums.{fills_by_ones}
 use Rattle.fit_record.proofs.DefinitionInPlace.{can_fill_after}
 

@@ -3,8 +3,7 @@ use Rattle.fit_record.proofs.Common.{◌≡◌, ℕ, zero, suc, ◌+◌, ◌-◌
 use Rattle.fit_record.proofs.Common.{subst, arith, lit<, None, Some, slice_set, ◌==◌, ◌||◌, nat_le, option_map_or, or_cases, or_left, or_right, cases_lt}
 use Rattle.fit_record.proofs.Common.{eqb-true, eq-eqb, leb-true, le-leb, lt-leb, length-set, Defined, MessageDef, Define, Environment, dev_defs, dev_code}
 use Rattle.fit_record.proofs.Common.{defined_by, learn, body_length, length-map, message_size, CanFill, fills, has_length, others_have, can_fill, can_fill_with}
-use Rattle.fit_record.proofs.Common.{can_fill_from, finishes, can_complete, and_from}
-use Rattle.std.specs.Prelude.{Option}
+use Rattle.fit_record.proofs.Common.{can_fill_from, finishes, can_complete, and_from, Option}
 use Rattle.fit_record.proofs.RoomSums.{fills_6, fills_more, of_filled}
 use Rattle.fit_record.proofs.FilledRooms.{can_fill_is}
 use Rattle.fit_record.proofs.MessageSizes.{message_size_is}

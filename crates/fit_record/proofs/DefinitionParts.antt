@@ -5,8 +5,7 @@ use Rattle.fit_record.proofs.Common.{option_map, or_cases, or_left, or_right, an
 use Rattle.fit_record.proofs.Common.{number_bytes, front_back, IsBytes-append, IsBytes-cons, IsBytes-none, FieldDef, DevDef, MessageDef, Environment, dev_defs}
 use Rattle.fit_record.proofs.Common.{architecture, field_bytes, dev_field_bytes, dev_part, definition_header, definition_bytes, others_have, can_fill_with}
 use Rattle.fit_record.proofs.Common.{can_fill_from, finishes, can_complete, can_complete_dev, CanComplete, IsCut, fields_part, dev_fields_part, size_so_far}
-use Rattle.fit_record.proofs.Common.{body_length, CanFill, Define, learn}
-use Rattle.std.specs.Prelude.{Option}
+use Rattle.fit_record.proofs.Common.{body_length, CanFill, Define, learn, Option}
 use Rattle.fit_record.proofs.RoomSums.{fills_6}
 use Rattle.fit_record.proofs.EntryParts.{sizes_known, goes_on, length-entries}
 use Rattle.fit_record.proofs.DefinitionInPlace.{can_fill_after, open_from, open_to, IsOpenSize, finishes_from, finishes_to, completes_from, IsSize}

@@ -3,10 +3,8 @@ use Rattle.fit_record.proofs.Common.{◌≡◌, ℕ, suc, ◌+◌, ◌<◌, ◌�
 use Rattle.fit_record.proofs.Common.{subst, arith, length-append, None, Some, get_or, option_and_then, IsSomeAnd, ◌==◌, option_map_or, true≢false, eqb-true}
 use Rattle.fit_record.proofs.Common.{eq-eqb, or_cases, cases_lt, length-replicate, list_any_at, Record, Define, Data, Defined, Environment, defined_at}
 use Rattle.fit_record.proofs.Common.{describe, description, learn, DataHeaderFits, DataFits, AllFit, order_at, record_bytes, records_bytes, CanFill}
-use Rattle.fit_record.proofs.Common.{message_size, fills, has_length, can_fill, IsBytes-append, IsBytes-cons, IsBytes-none, IsBytes-zeros}
-use Rattle.std.proofs.Common.{replicate}
-use Rattle.std.specs.Prelude.{Option}
-use Rattle.fit_record.specs.declared.message.Values.{Values}
+use Rattle.fit_record.proofs.Common.{message_size, fills, has_length, can_fill, IsBytes-append, IsBytes-cons, IsBytes-none, IsBytes-zeros, replicate, Option}
+use Rattle.fit_record.proofs.Common.{Values}
 use Rattle.fit_record.specs.declared.learn.Description.{Description}
 use Rattle.fit_record.proofs.LargeRooms.{six_and_more}
 use Rattle.fit_record.proofs.RoomSums.{fills_6, fills_more, of_filled}

@@ -1,8 +1,7 @@
 -- How the first field of a number is found by going over the fields.
 use Rattle.fit_record.proofs.Common.{◌≡◌, ℕ, ◌+◌, ◌^◌, ◌<◌, ◌≤◌, true, false, cond, List, [], ◌∷◌, length, drop, get_or, refl, sym, ap, ◌∙◌, subst, arith, Some}
 use Rattle.fit_record.proofs.Common.{None, slice_get, ◌==◌, drop_more, drop-drop, slice_get_within, get_or_from_slice_get, Items, HasShape, AllByRecursion}
-use Rattle.fit_record.proofs.Common.{FieldDef, first_items, HaveShape}
-use Rattle.std.proofs.Common.{map}
+use Rattle.fit_record.proofs.Common.{FieldDef, first_items, HaveShape, map}
 
 no_items : {A : Type 0} (fs : List FieldDef) (n : ℕ) → first_items {A = A} fs [] n ≡ None
 no_items [] n = refl

@@ -1,8 +1,6 @@
 -- What is kept stays so as places are filled.
 use Rattle.fit_record.proofs.Common.{◌≡◌, ℕ, zero, suc, List, [], ◌∷◌, length, set, get_or, arith, Some, None, IfSome, Defined, IsKept, MayBeKept, AreKept}
-use Rattle.fit_record.proofs.Common.{IsSound}
-use Rattle.std.proofs.Common.{replicate}
-use Rattle.std.specs.Prelude.{Option}
+use Rattle.fit_record.proofs.Common.{IsSound, replicate, Option}
 
 pub kept_none : (A : Type 0) (n m local : ℕ) → MayBeKept {A = A} (get_or (replicate n None) local None) m
 kept_none A (suc n) m (suc local) = kept_none A n m local

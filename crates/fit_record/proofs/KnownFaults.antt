@@ -1,8 +1,6 @@
 -- Worked records and the first reasons why they can't stand where they are.
 use Rattle.fit_record.proofs.Common.{◌≡◌, ℕ, List, [], ◌∷◌, refl, None, Some, Items, FieldDef, DevDef, ShapeFault, BadLocal, BadOffset, UndefinedLocal}
-use Rattle.fit_record.proofs.Common.{WrongShape, Environment, empty_environment, learn, first_fault}
-use Rattle.std.proofs.Common.{Option}
-use Rattle.std.specs.Prelude.{map, replicate}
+use Rattle.fit_record.proofs.Common.{WrongShape, Environment, empty_environment, learn, first_fault, Option, map, replicate}
 use Rattle.fit_record.proofs.KnownFiles.{field, dev_field, item, defines, message}
 
 abbrev nothing : Environment (Unit {0})

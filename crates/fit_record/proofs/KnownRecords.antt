@@ -1,8 +1,6 @@
 -- Worked environments: what a reader knows of developer fields after some records, and the lengths of definition messages.
-use Rattle.fit_record.proofs.Common.{◌≡◌, ℕ, List, [], ◌∷◌, refl, None, Some, option_and_then, slice_get, Items, FieldDef, WrongShape, Record}
-use Rattle.fit_record.proofs.Common.{Environment, empty_environment, defined_at, learn_all, first_fault, record_bytes}
-use Rattle.std.proofs.Common.{Option}
-use Rattle.std.specs.Prelude.{map}
+use Rattle.fit_record.proofs.Common.{◌≡◌, ℕ, List, [], ◌∷◌, refl, None, Some, option_and_then, slice_get, Items, FieldDef, WrongShape, Record, Environment}
+use Rattle.fit_record.proofs.Common.{empty_environment, defined_at, learn_all, first_fault, record_bytes, Option, map}
 use Rattle.fit_record.proofs.KnownFiles.{field, item, defines, message, power, two_bytes, one_number, descriptions, description}
 
 abbrev nothing : Environment (Unit {0})

@@ -1,9 +1,8 @@
 -- Rooms of six bytes and more can be filled: by a definition without fields, and messages of one byte.
 use Rattle.fit_record.proofs.Common.{◌≡◌, ℕ, zero, suc, ◌+◌, ◌<◌, [], ◌∷◌, length, refl, sym, ap, ◌∙◌, subst, lit<, arith, None, Some, option_and_then, Little}
 use Rattle.fit_record.proofs.Common.{IsBytes-append, IsBytes-cons, IsBytes-zeros, MessageDef, Define, Data, Defined, Environment, defined_at, describe}
-use Rattle.fit_record.proofs.Common.{description, learn, Fits, AllFit, record_bytes, records_bytes, CanFill, length-replicate}
-use Rattle.std.proofs.Common.{replicate, get_or-set_same}
-use Rattle.fit_record.specs.declared.message.Values.{Values}
+use Rattle.fit_record.proofs.Common.{description, learn, Fits, AllFit, record_bytes, records_bytes, CanFill, length-replicate, replicate, Values}
+use Rattle.std.proofs.Common.{get_or-set_same}
 
 abbrev no_fields : {A : Type 0} → MessageDef A
 no_fields = record { local = 0; reserved = 0; order = Little; global = 0; fields = []; dev = None }

@@ -1,10 +1,7 @@
 -- What a record that fits has for its length.
 use Rattle.fit_record.proofs.Common.{◌≡◌, ℕ, suc, ◌+◌, length, sym, ◌∙◌, subst, arith, Some, None, Result, IfOk, IsSomeAnd, option_map, unwrap_or, Little}
 use Rattle.fit_record.proofs.Common.{MessageDef, Record, Define, Data, Defined, Environment, defined_at, DefinitionFits, DataFits, data_bytes, Fits}
-use Rattle.fit_record.proofs.Common.{record_bytes, definition_length, body_length, IsSound}
-use Rattle.std.proofs.Common.{Ok, Err}
-use Rattle.std.specs.Prelude.{Option}
-use Rattle.fit_record.specs.declared.message.Values.{Values}
+use Rattle.fit_record.proofs.Common.{record_bytes, definition_length, body_length, IsSound, Ok, Err, Option, Values}
 use Rattle.fit_record.proofs.RecordLengths.{length-definition, length-data}
 use Rattle.fit_record.proofs.MessageSizes.{message_size_is}
 

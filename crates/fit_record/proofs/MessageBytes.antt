@@ -2,8 +2,7 @@
 use Rattle.fit_record.proofs.Common.{◌≡◌, ℕ, zero, suc, ◌+◌, ◌*◌, ◌/◌, ◌^◌, ◌<◌, List, [], ◌∷◌, ◌++◌, length, take, drop, refl, sym, ap, ◌∙◌, subst, arith}
 use Rattle.fit_record.proofs.Common.{flat_map, AllByRecursion, take-append-drop, length-take-le, length-drop, sum_by-cons, sum_by-append, Order, HasShape}
 use Rattle.fit_record.proofs.Common.{items_bytes, IsBytes, number, number_bytes, IsBytes-take, IsBytes-drop, Defined, layout, dev_layout, message_size}
-use Rattle.fit_record.proofs.Common.{HaveShape, DataHeaderFits, data_bytes, DataFits}
-use Rattle.std.specs.Prelude.{Option}
+use Rattle.fit_record.proofs.Common.{HaveShape, DataHeaderFits, data_bytes, DataFits, Option}
 use Rattle.std.proofs.Math.Nat.{suc-mul}
 use Rattle.fit_base.specs.BaseTypes.{item_width}
 use Rattle.fit_base.proofs.NumberLaws.{number-below, number_bytes-number}

@@ -1,7 +1,6 @@
 -- The size of a data message, from the sizes of its definition.
 use Rattle.fit_record.proofs.Common.{◌≡◌, ℕ, List, [], ◌∷◌, length, refl, sym, ap, ◌∙◌, arith, None, Some, option_map, zip, sum_by, sum_by-cons, sum_by-append}
-use Rattle.fit_record.proofs.Common.{none-some, FieldDef, DevDef, Defined, dev_defs, MayBeKept, body_length, layout, dev_layout, message_size}
-use Rattle.std.specs.Prelude.{Option, map}
+use Rattle.fit_record.proofs.Common.{none-some, FieldDef, DevDef, Defined, dev_defs, MayBeKept, body_length, layout, dev_layout, message_size, Option, map}
 
 pub sum-fields : (fs : List FieldDef) → sum_by (λ (f : ℕ × ℕ). f.1) (map (λ f. (f.code, f.size)) fs) ≡ sum_by (λ (f : FieldDef). f.size) fs
 sum-fields [] = refl

@@ -2,9 +2,7 @@
 use Rattle.fit_record.proofs.Common.{◌≡◌, ℕ, ◌^◌, ◌<◌, length, refl, sym, ap, subst, ◌∙◌, Some, None, ltb, ltb-true, lt-ltb, Result, IfErr, OnErr, option_map}
 use Rattle.fit_record.proofs.Common.{IsSomeAnd, MessageDef, Record, Define, Data, Defined, ShapeFault, UndefinedLocal, WrongShape, Environment, defined_at}
 use Rattle.fit_record.proofs.Common.{dev_defs, layout, dev_layout, DefinitionFits, DataHeaderFits, DataFits, Fits, or_else, wrong_from, header_fault}
-use Rattle.fit_record.proofs.Common.{body_fault, definition_fault, first_fault, FaultsAreExact}
-use Rattle.std.specs.Prelude.{Option, Ok, Err}
-use Rattle.fit_record.specs.declared.message.Values.{Values}
+use Rattle.fit_record.proofs.Common.{body_fault, definition_fault, first_fault, FaultsAreExact, Option, Ok, Err, Values}
 use Rattle.fit_record.proofs.WrongPlace.{wrong_none, none_wrong, cond_none}
 
 pub header_none : (local : ℕ) (offset : Option ℕ) → DataHeaderFits local offset → header_fault local offset ≡ None

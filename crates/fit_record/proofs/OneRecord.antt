@@ -3,10 +3,9 @@ use Rattle.fit_record.proofs.Common.{◌≡◌, ℕ, ◌+◌, ◌<◌, List, [],
 use Rattle.fit_record.proofs.Common.{flat_map, option_map, unwrap_or, IsSomeAnd, Items, Order, Little, Big, number_bytes, items_bytes, one_number, FieldDef}
 use Rattle.fit_record.proofs.Common.{DevDef, MessageDef, Record, Define, Data, Defined, Environment, defined_at, learn, architecture, field_bytes}
 use Rattle.fit_record.proofs.Common.{dev_field_bytes, dev_part, definition_header, definition_bytes, DefinitionFits, layout, dev_layout, HaveShape, data_header}
-use Rattle.fit_record.proofs.Common.{DataHeaderFits, data_bytes, DataFits, Fits, order_at, record_bytes, AllFit, records_bytes, RecordsHaveOneSpelling}
-use Rattle.std.specs.Prelude.{Option}
+use Rattle.fit_record.proofs.Common.{DataHeaderFits, data_bytes, DataFits, Fits, order_at, record_bytes, AllFit, records_bytes, RecordsHaveOneSpelling, Option}
+use Rattle.fit_record.proofs.Common.{Values}
 use Rattle.fit_base.proofs.SameItems.{same_items}
-use Rattle.fit_record.specs.declared.message.Values.{Values}
 
 regroup : {X : Type 0} → (a b c d : List X) → (a ++ b ++ c) ++ d ≡ a ++ (b ++ (c ++ d))
 regroup a b c d = simp append_assoc

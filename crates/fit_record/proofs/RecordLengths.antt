@@ -2,9 +2,7 @@
 use Rattle.fit_record.proofs.Common.{◌≡◌, ℕ, suc, ◌*◌, List, [], ◌∷◌, ◌++◌, length, refl, arith, length-append, Some, None, flat_map, sum_by, sum_by-cons}
 use Rattle.fit_record.proofs.Common.{sum_by-append, Items, Order, number_bytes, items_bytes, length-number_bytes, length-items_bytes, FieldDef, DevDef}
 use Rattle.fit_record.proofs.Common.{MessageDef, Defined, architecture, field_bytes, dev_field_bytes, dev_part, definition_bytes, layout, dev_layout}
-use Rattle.fit_record.proofs.Common.{message_size, HaveShape, data_bytes, DataFits, dev_length, definition_length}
-use Rattle.std.specs.Prelude.{Option}
-use Rattle.fit_record.specs.declared.message.Values.{Values}
+use Rattle.fit_record.proofs.Common.{message_size, HaveShape, data_bytes, DataFits, dev_length, definition_length, Option, Values}
 use Rattle.fit_record.proofs.EntryParts.{length-entries}
 
 -- ---- definition messages

@@ -1,7 +1,6 @@
 -- Worked rooms, and worked records that aren't whole.
 use Rattle.fit_record.proofs.Common.{◌≡◌, ℕ, true, false, [], ◌∷◌, refl, None, Little, MessageDef, Define, Environment, empty_environment, learn, can_fill}
-use Rattle.fit_record.proofs.Common.{can_complete, can_complete_dev, can_carry}
-use Rattle.std.specs.Prelude.{map}
+use Rattle.fit_record.proofs.Common.{can_complete, can_complete_dev, can_carry, map}
 
 abbrev sized : ℕ → ℕ → MessageDef ℕ
 sized local size = record { local = local; reserved = 0; order = Little; global = 20; fields = record { number = 5; size = size; code = 2 } ∷ []; dev = None }

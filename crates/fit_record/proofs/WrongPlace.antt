@@ -1,9 +1,7 @@
 -- How the first wrong place is found by going over the fields.
 use Rattle.fit_record.proofs.Common.{◌≡◌, ℕ, zero, suc, ◌+◌, ◌<◌, ◌≤◌, Bool, true, false, cond, List, [], ◌∷◌, length, drop, get_or, refl, sym, ap, ◌∙◌, arith}
 use Rattle.fit_record.proofs.Common.{◌↔◌, IsTrue, Some, None, ltb, ltb-true, ltb-false, slice_get, zip, slice_get_read, drop_all, length-drop, Items, HasShape}
-use Rattle.fit_record.proofs.Common.{has_shape, test_of_shape, shape_of_test, is_has_shape, FieldDef, DevDef, HaveShape, wrong_from}
-use Rattle.std.proofs.Common.{map}
-use Rattle.std.specs.Prelude.{Option}
+use Rattle.fit_record.proofs.Common.{has_shape, test_of_shape, shape_of_test, is_has_shape, FieldDef, DevDef, HaveShape, wrong_from, map, Option}
 use Rattle.fit_record.proofs.FirstOfNumber.{dropped}
 
 pub wrong_none : {A : Type 0} (p : ℕ) (fs : List (ℕ × ℕ)) (is : List (Items A)) → HaveShape fs is → wrong_from p fs is ≡ None

@@ -1,8 +1,7 @@
 -- A byte that ends no number only moves on.
 use Rattle.fit_step.proofs.Common.{◌≡◌, cond, false, ℕ, ◌+◌, ◌-◌, ◌<◌, List, [], ◌∷◌, ◌++◌, length, length-append, sym, ap, ◌∙◌, arith, Some, None, Ok, Option}
 use Rattle.fit_step.proofs.Common.{cond-false, ne_eqb, number, Record, Data, Values, Environment, order_at, Phase, FieldItems, DevItems, Position, Tests}
-use Rattle.fit_step.proofs.Common.{add_number, reading, field_move, dev_move, values_of, step, step_at, state_at}
-use Rattle.std.specs.Prelude.{◌==◌}
+use Rattle.fit_step.proofs.Common.{add_number, reading, field_move, dev_move, values_of, step, step_at, state_at, ◌==◌}
 
 module _ {A : Type 0} (e : Environment A) (place width left room : ℕ) (v : Values A) (partial : List ℕ) (b : ℕ) (some : 1 < left)
     (short : length partial + 1 < width) where

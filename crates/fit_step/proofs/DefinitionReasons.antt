@@ -1,7 +1,6 @@
 -- The reason that belongs to a place in a definition.
 use Rattle.fit_step.proofs.Common.{◌≡◌, ℕ, ◌+◌, ◌*◌, ◌<◌, List, ◌∷◌, ◌++◌, length, refl, arith, Some, Order, Little, Big, number_bytes, NoFit, Overrun}
-use Rattle.fit_step.proofs.Common.{definition_reason, overrun_or_no_fit, nat_tests}
-use Rattle.std.specs.Prelude.{slice_index}
+use Rattle.fit_step.proofs.Common.{definition_reason, overrun_or_no_fit, nat_tests, slice_index}
 
 pub at_count : (h room b : ℕ) (bytes : List ℕ) → length bytes ≡ 4 → definition_reason h bytes room b ≡ Some Overrun
 at_count h room b bytes l = rw l refl

@@ -8,12 +8,10 @@ use Rattle.fit_step.proofs.Common.{DefinitionPhase, Reserved, AtArchitecture, Gl
 use Rattle.fit_step.proofs.Common.{DevCount, DevNumber, DevSize, DevIndex, Environment, dev_defs, is_definition, architecture, field_bytes, dev_field_bytes}
 use Rattle.fit_step.proofs.Common.{dev_part, definition_header, definition_bytes, DefinitionFits, Tests, Step, defining, step, definition_move, next_field}
 use Rattle.fit_step.proofs.Common.{next_dev, after_fields, dev_count_byte, in_definition, definition_front, fields_front, dev_front, definition_part, HasNone}
-use Rattle.fit_step.proofs.Common.{IsNew, AwaitsFields, AwaitsDev, IsDefinitionPart, IsShut, same_fields}
-use Rattle.std.proofs.Common.{◌≤◌}
-use Rattle.std.specs.Prelude.{◌==◌}
+use Rattle.fit_step.proofs.Common.{IsNew, AwaitsFields, AwaitsDev, IsDefinitionPart, IsShut, same_fields, ◌≤◌, ◌==◌, dev_length, length-fields}
+use Rattle.fit_step.proofs.Common.{length-dev_fields}
 use Rattle.fit_step.proofs.Lengths.{length-fields_front}
-use Rattle.fit_record.specs.DefinitionLengths.{dev_length}
-use Rattle.fit_record.proofs.RecordLengths.{length-fields, length-dev_fields, length-dev_part}
+use Rattle.fit_record.proofs.RecordLengths.{length-dev_part}
 use Rattle.fit_step.proofs.HeaderBits.{definition_bits, is_some_dev}
 use Rattle.fit_step.proofs.HeaderSteps.{message_first}
 use Rattle.fit_step.proofs.DefinitionReasons.{at_count, at_size, at_dev_count, at_dev_size, count_at, count_before, count_in_dev}

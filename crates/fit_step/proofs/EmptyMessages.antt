@@ -3,8 +3,7 @@ use Rattle.fit_step.proofs.Common.{◌≡◌, inr, ℕ, suc, ◌+◌, ◌-◌, B
 use Rattle.fit_step.proofs.Common.{nat_lt, cond_both, MessageDef, Defined, Record, Data, Values, Environment, defined_at, only_byte, description}
 use Rattle.fit_step.proofs.Common.{DescribesNothing, is_definition, has_reserved_bit, local_type, layout, dev_layout, message_size, HasNoFields}
 use Rattle.fit_step.proofs.Common.{HeadsEmptyMessage, RecordHeader, Position, Stop, Refused, NoMemory, Tests, State, Step, NextState, begin_dev, begin_fields}
-use Rattle.fit_step.proofs.Common.{new_message, message_move, header_move, step, step_at, Steps, TakesNone, WantsNone, RecordByte}
-use Rattle.std.proofs.Common.{◌==◌}
+use Rattle.fit_step.proofs.Common.{new_message, message_move, header_move, step, step_at, Steps, TakesNone, WantsNone, RecordByte, ◌==◌}
 
 undescribed : {A : Type 0} (d : MessageDef A) (v : Values A) → d.fields ≡ [] → description d v ≡ None
 undescribed d v none =

@@ -1,17 +1,14 @@
 -- What there is of a definition message in progress is what is whole in its bytes.
 use Rattle.fit_step.proofs.Common.{◌≡◌, ℕ, ◌+◌, ◌*◌, ◌<◌, List, [], ◌∷◌, ◌++◌, length, length-append, refl, sym, ap, subst, arith, Some, flat_map, number_bytes}
 use Rattle.fit_step.proofs.Common.{length-number_bytes, MessageDef, Environment, defined_at, dev_defs, architecture, field_bytes, definition_header}
-use Rattle.fit_step.proofs.Common.{dev_field_bytes, DefinitionFits, entry_count, DefinitionPhase, Reserved, AtArchitecture, GlobalFirst}
-use Rattle.fit_step.proofs.Common.{GlobalSecond, FieldCount, FieldNumber, FieldSize, FieldCode, DevCount, DevNumber, DevSize, DevIndex, RecordPart, nothing}
-use Rattle.fit_step.proofs.Common.{in_definition, in_fields, in_dev_fields, definition_part, part_bytes, IsNew, AwaitsFields, AwaitsDev, IsDefinitionPart}
-use Rattle.fit_step.proofs.Common.{IsPart, state_of, HasNone, fields_front, dev_front, entries_so_far, held_of_record, part_size, in_progress_size}
-use Rattle.fit_step.proofs.Common.{IsCountable, append-nil, DevDef, Defined, IsDefining, nat_tests}
-use Rattle.std.proofs.Common.{◌≤◌}
-use Rattle.std.specs.Prelude.{slice_index}
+use Rattle.fit_step.proofs.Common.{dev_field_bytes, DefinitionFits, entry_count, DefinitionPhase, Reserved, AtArchitecture, GlobalFirst, GlobalSecond}
+use Rattle.fit_step.proofs.Common.{FieldCount, FieldNumber, FieldSize, FieldCode, DevCount, DevNumber, DevSize, DevIndex, RecordPart, nothing, in_definition}
+use Rattle.fit_step.proofs.Common.{in_fields, in_dev_fields, definition_part, part_bytes, IsNew, AwaitsFields, AwaitsDev, IsDefinitionPart, IsPart, state_of}
+use Rattle.fit_step.proofs.Common.{HasNone, fields_front, dev_front, entries_so_far, held_of_record, part_size, in_progress_size, IsCountable, append-nil}
+use Rattle.fit_step.proofs.Common.{DevDef, Defined, IsDefining, nat_tests, ◌≤◌, slice_index, length-dev_fields}
 use Rattle.fit_step.proofs.DefinitionReasons.{count_at, count_before, count_in_dev}
 use Rattle.fit_step.proofs.HeaderBits.{definition_bits}
 use Rattle.fit_step.proofs.Lengths.{length-fields_front}
-use Rattle.fit_record.proofs.RecordLengths.{length-dev_fields}
 use Rattle.fit_step.proofs.HeldParts.{front_of, devs_of, no_dev_fields, fields_counted, dev_counted, behind_both}
 use Rattle.fit_step.proofs.Limits.{AreLimited, IsLimited}
 use Rattle.fit_step.proofs.SoFar.{in_fields_held, in_dev_held, message_within}

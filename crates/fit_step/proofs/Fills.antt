@@ -2,8 +2,7 @@
 use Rattle.fit_step.proofs.Common.{◌≡◌, ℕ, ◌+◌, ◌-◌, ◌*◌, false, refl, Some, None, Err, Option, nat_lt, cond_both, NoFit, MessageDef, Defined, DefinitionPhase}
 use Rattle.fit_step.proofs.Common.{AtArchitecture, FieldCount, FieldSize, DevCount, DevSize, Environment, defined_at, is_definition, has_reserved_bit}
 use Rattle.fit_step.proofs.Common.{local_type, least_definition, message_size, Tests, Step, step, header_move, message_move, definition_move, field_move}
-use Rattle.fit_step.proofs.Common.{dev_move, dev_count_byte, nothing, in_definition, in_fields, in_dev_fields, Fails, NoFitFails}
-use Rattle.std.specs.Prelude.{◌==◌}
+use Rattle.fit_step.proofs.Common.{dev_move, dev_count_byte, nothing, in_definition, in_fields, in_dev_fields, Fails, NoFitFails, ◌==◌}
 
 -- where a step refuses for want of records, P holds
 abbrev Tells : {A : Type 0} → Type 0 → Step A → Type 0

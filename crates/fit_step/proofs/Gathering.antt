@@ -1,9 +1,7 @@
 -- One number more of a field, and one field more of a data message.
 use Rattle.fit_step.proofs.Common.{◌≡◌, ℕ, suc, ◌+◌, ◌-◌, ◌*◌, ◌/◌, ◌<◌, List, [], ◌∷◌, ◌++◌, length, take, sym, ap, ◌∙◌, arith, append_assoc, refl}
 use Rattle.fit_step.proofs.Common.{length-drop, get_or, zip, suc-mul, append-nil, drop_more, drop-take, take-take, sum_by-cons, Items, Order, Little, Big}
-use Rattle.fit_step.proofs.Common.{number, DevDef, FieldDef, numbers_of, field_from, fields_from, sizes}
-use Rattle.std.proofs.Common.{◌≤◌, drop}
-use Rattle.std.specs.Prelude.{map, sum_by}
+use Rattle.fit_step.proofs.Common.{number, DevDef, FieldDef, numbers_of, field_from, fields_from, sizes, ◌≤◌, drop, map, sum_by}
 
 -- ---- numbers
 

@@ -2,8 +2,7 @@
 use Rattle.fit_step.proofs.Common.{◌≡◌, ◌⊎◌, inl, inr, ℕ, ◌+◌, ◌/◌, ◌%◌, ◌<◌, Bool, true, false, cond, List, refl, arith, Some, None, Option, ◌&&◌, ◌||◌, not}
 use Rattle.fit_step.proofs.Common.{option_map, unwrap_or, eqb-true, eqb-false, eq-eqb, ne_eqb, cases_lt, and_parts, and_cases, or_parts, not-true, not-false}
 use Rattle.fit_step.proofs.Common.{both_ways, DevDef, bit, is_compressed, is_definition, has_developer_fields, has_reserved_bit, local_type, new_dev}
-use Rattle.fit_step.proofs.Common.{data_header, DataHeaderFits}
-use Rattle.std.specs.Prelude.{◌==◌}
+use Rattle.fit_step.proofs.Common.{data_header, DataHeaderFits, ◌==◌}
 
 off_is : (n : ℕ) → (n % 2 == 1) ≡ false → n % 2 ≡ 0
 off_is n h = elim (cases_lt (n % 2) 1) [ inl less ↦ omega arith | inr over ↦ absurd (eqb-false (n % 2) 1 h (omega arith)) ]

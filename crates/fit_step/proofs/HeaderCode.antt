@@ -2,8 +2,7 @@
 use Rattle.fit_step.proofs.Common.{◌≡◌, ℕ, ◌+◌, ◌-◌, ◌<◌, Bool, true, false, refl, sym, ap, ◌∙◌, arith, Some, None, Ok, Err, Option, option_map, nat_lt, nat_le}
 use Rattle.fit_step.proofs.Common.{◌&&◌, option_map_or, cond-true, cond-false, lt-ltb, le-ltb, le-leb, NoFit, UndefinedLocal, Overrun, Defined, Values, Data}
 use Rattle.fit_step.proofs.Common.{Environment, defined_at, local_type, layout, dev_layout, message_size, can_fill, can_carry, Phase, message_begun, entered}
-use Rattle.fit_step.proofs.Common.{Step, begin_fields, message_move, new_message, tests_of}
-use Rattle.std.proofs.Common.{◌≤◌}
+use Rattle.fit_step.proofs.Common.{Step, begin_fields, message_move, new_message, tests_of, ◌≤◌}
 
 -- what a data message of this definition begins
 abbrev pub begun_message : {A : Type 0} → ℕ → ℕ → Defined A → Step A

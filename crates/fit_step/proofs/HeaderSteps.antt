@@ -3,10 +3,9 @@ use Rattle.fit_step.proofs.Common.{◌≡◌, inl, inr, ℕ, ◌+◌, ◌-◌, �
 use Rattle.fit_step.proofs.Common.{Option, IsSomeAnd, nat_lt, cases_Bool, both_ways, ltb-true, NoFit, ReservedBit, UndefinedLocal, Overrun, MessageDef, Values}
 use Rattle.fit_step.proofs.Common.{Defined, Define, Data, Reserved, Environment, defined_at, is_definition, has_developer_fields, has_reserved_bit, local_type}
 use Rattle.fit_step.proofs.Common.{definition_header, definition_bytes, DefinitionFits, data_header, data_bytes, DataFits, order_at, layout, least_definition}
-use Rattle.fit_step.proofs.Common.{message_size, Tests, step, header_move, message_move, start, new_definition, new_message, in_definition, IsShut}
-use Rattle.std.proofs.Common.{◌≤◌}
-use Rattle.fit_record.specs.DefinitionLengths.{dev_length}
-use Rattle.fit_record.proofs.RecordLengths.{length-definition, length-data}
+use Rattle.fit_step.proofs.Common.{message_size, Tests, step, header_move, message_move, start, new_definition, new_message, in_definition, IsShut, ◌≤◌}
+use Rattle.fit_step.proofs.Common.{dev_length, length-data}
+use Rattle.fit_record.proofs.RecordLengths.{length-definition}
 use Rattle.fit_step.proofs.HeaderBits.{definition_spelled, data_spelled, DefinitionBits, definition_bits, DataBits, data_bits, is_some_dev}
 use Rattle.fit_step.proofs.MessageSteps.{fields_begin}
 use Rattle.fit_step.proofs.Outcomes.{Outcome}

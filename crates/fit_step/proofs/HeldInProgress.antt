@@ -1,7 +1,6 @@
 -- How much is kept of a record in progress.
 use Rattle.fit_step.proofs.Common.{sym, ap, ◌∙◌, subst, Environment, empty_environment, learn_all, held_of_record, part_size, in_progress_size, IsCountable}
-use Rattle.fit_step.proofs.Common.{HeldIsOfBytes, HeldIsLimited, State, part_bytes}
-use Rattle.std.proofs.Common.{◌≤◌}
+use Rattle.fit_step.proofs.Common.{HeldIsOfBytes, HeldIsLimited, State, part_bytes, ◌≤◌}
 use Rattle.fit_record.proofs.SixteenPlaces.{sixteen_places}
 use Rattle.fit_step.proofs.EntriesSoFar.{part_is, part_held, part_small}
 use Rattle.fit_step.proofs.HeldParts.{part_limited}

@@ -1,12 +1,9 @@
 -- How much there is of a record in progress, by its bytes.
 use Rattle.fit_step.proofs.Common.{◌≡◌, ℕ, suc, ◌+◌, ◌-◌, ◌*◌, ◌/◌, ◌<◌, List, [], ◌∷◌, ◌++◌, length, refl, sym, ap, ◌∙◌, arith, append_assoc, Some, None}
-use Rattle.fit_step.proofs.Common.{Option, flat_map, option_map_or, cond_both, get_or-append_right, sum_by-cons, div-mul-add}
-use Rattle.fit_step.proofs.Common.{Items, item_width, IsBytes, number_bytes, HasShape, item_width_positive, DevDef, MessageDef, Defined, Environment}
-use Rattle.fit_step.proofs.Common.{defined_at, dev_defs, is_definition, has_developer_fields, local_type, architecture, field_bytes, dev_field_bytes}
-use Rattle.fit_step.proofs.Common.{definition_header, HaveShape, entry_count, no_items}
-use Rattle.fit_step.proofs.Common.{HasNone, counts_so_far, item_count, part_size, items_in}
-use Rattle.std.proofs.Common.{◌≤◌}
-use Rattle.std.specs.Prelude.{map, sum_by, slice_index}
+use Rattle.fit_step.proofs.Common.{Option, flat_map, option_map_or, cond_both, get_or-append_right, sum_by-cons, div-mul-add, Items, item_width, IsBytes}
+use Rattle.fit_step.proofs.Common.{number_bytes, HasShape, item_width_positive, DevDef, MessageDef, Defined, Environment, defined_at, dev_defs, is_definition}
+use Rattle.fit_step.proofs.Common.{has_developer_fields, local_type, architecture, field_bytes, dev_field_bytes, definition_header, HaveShape, entry_count}
+use Rattle.fit_step.proofs.Common.{no_items, HasNone, counts_so_far, item_count, part_size, items_in, ◌≤◌, map, sum_by, slice_index}
 use Rattle.fit_step.proofs.HeaderBits.{is_some_dev, definition_bits}
 use Rattle.fit_step.proofs.Limits.{IsLimited, AreLimited, items_of}
 

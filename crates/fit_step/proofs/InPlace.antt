@@ -4,8 +4,7 @@ use Rattle.fit_step.proofs.Common.{length-append, Some, None, Ok, Err, Option, R
 use Rattle.fit_step.proofs.Common.{byte, item_width, found_passes, FieldDef, MessageDef, Defined, Define, Data, Values, Environment, defined_at, dev_defs}
 use Rattle.fit_step.proofs.Common.{layout, dev_layout, length-dev_layout, Phase, DefinitionPhase, Definition, FieldItems, DevItems, Stop, Refused, NoMemory}
 use Rattle.fit_step.proofs.Common.{Tests, State, Step, definition_in_progress, values_of, step, step_at, RecordPart, in_definition, in_fields, in_dev_fields}
-use Rattle.fit_step.proofs.Common.{TakenFields, IsTaking, IsPart, state_of, width_of, PartFitsRoom, state, Made, Defines, DefinesAt, ReadsAt, IsInField}
-use Rattle.std.specs.Prelude.{◌==◌}
+use Rattle.fit_step.proofs.Common.{TakenFields, IsTaking, IsPart, state_of, width_of, PartFitsRoom, state, Made, Defines, DefinesAt, ReadsAt, IsInField, ◌==◌}
 use Rattle.fit_record.specs.Sound.{IsSound}
 use Rattle.fit_step.proofs.Preconditions.{is_defining, as_defined}
 

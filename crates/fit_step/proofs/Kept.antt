@@ -1,8 +1,7 @@
 -- Where a reader of records stands, a step leaves it standing.
 use Rattle.fit_step.proofs.Common.{◌≡◌, ℕ, ◌+◌, ◌-◌, ◌<◌, Bool, true, false, List, refl, sym, ap, ◌∙◌, subst, arith, Some, None, Ok, Option, IsSomeAnd, Record}
 use Rattle.fit_step.proofs.Common.{Environment, Fits, Position, Tests, State, Step, start, step, least_rest, RecordPart, nothing, HasBegun, state_of}
-use Rattle.fit_step.proofs.Common.{BeginningsStand, state_at, PartFitsRoom, Steps, KeepsPart, state, Made}
-use Rattle.std.proofs.Common.{◌≤◌}
+use Rattle.fit_step.proofs.Common.{BeginningsStand, state_at, PartFitsRoom, Steps, KeepsPart, state, Made, ◌≤◌}
 use Rattle.fit_step.proofs.Rest.{keeps, KeepsRoom, takes_more}
 use Rattle.fit_step.proofs.Runs.{step_goes, step_ends}
 

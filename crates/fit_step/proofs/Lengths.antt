@@ -1,9 +1,8 @@
 -- How long the bytes of records are.
-use Rattle.fit_step.proofs.Common.{◌≡◌, ℕ, ◌+◌, ◌*◌, List, [], ◌∷◌, ◌++◌, length, sym, ap, arith, length-append, flat_map}
-use Rattle.fit_step.proofs.Common.{flat_map_more, sum_by-append, sum_by-cons, Items, Order, number_bytes, items_bytes, length-number_bytes}
-use Rattle.fit_step.proofs.Common.{MessageDef, Defined, field_bytes, layout, dev_layout}
-use Rattle.fit_step.proofs.Common.{message_size, sizes, definition_front, fields_front, TakenFields, taken, width_of, IsTaking}
-use Rattle.fit_record.proofs.RecordLengths.{length-fields, length-items}
+use Rattle.fit_step.proofs.Common.{◌≡◌, ℕ, ◌+◌, ◌*◌, List, [], ◌∷◌, ◌++◌, length, sym, ap, arith, length-append, flat_map, flat_map_more, sum_by-append}
+use Rattle.fit_step.proofs.Common.{sum_by-cons, Items, Order, number_bytes, items_bytes, length-number_bytes, MessageDef, Defined, field_bytes, layout}
+use Rattle.fit_step.proofs.Common.{dev_layout, message_size, sizes, definition_front, fields_front, TakenFields, taken, width_of, IsTaking, length-fields}
+use Rattle.fit_step.proofs.Common.{length-items}
 
 pub length-fields_front : {A : Type 0} (d : MessageDef A) (n : ℕ) → length (fields_front d n) ≡ 6 + 3 * length d.fields
 length-fields_front d n =

@@ -5,9 +5,7 @@ use Rattle.fit_step.proofs.Common.{sum_by-append, sum_by-cons, sum_by-le, Items,
 use Rattle.fit_step.proofs.Common.{DevDef, FieldDef, MessageDef, Defined, Record, Define, Data, Values, Environment, empty_environment, defined_at, defined_by}
 use Rattle.fit_step.proofs.Common.{describe, described_by, description, dev_code, dev_defs, dev_key_cmp, first_items, learn, learn_all, only, only_byte}
 use Rattle.fit_step.proofs.Common.{architecture, layout, dev_layout, field_bytes, dev_field_bytes, dev_part, DefinitionFits, DataFits, HaveShape, Fits}
-use Rattle.fit_step.proofs.Common.{record_bytes, AllFit, records_bytes, entry_count, environment_size, item_count}
-use Rattle.std.proofs.Common.{◌==◌, ◌≤◌, replicate}
-use Rattle.std.specs.Prelude.{map, sum_by}
+use Rattle.fit_step.proofs.Common.{record_bytes, AllFit, records_bytes, entry_count, environment_size, item_count, ◌==◌, ◌≤◌, replicate, map, sum_by}
 use Rattle.std.specs.Ordering.{nat_cmp, ordering_then, match_ordering, MatchOrdering}
 use Rattle.std.specs.BTreeMap.{insert_entry}
 use Rattle.std.specs.declared.cmp.Ordering.{Ordering}

@@ -1,12 +1,11 @@
 -- The bytes of a data message behind its record header: none is refused, and the last one makes it whole.
 use Rattle.fit_step.proofs.Common.{◌≡◌, inl, inr, ℕ, suc, ◌-◌, ◌<◌, true, false, List, [], ◌∷◌, ◌++◌, length, refl, sym, ap, ◌∙◌, subst, arith, append_assoc}
 use Rattle.fit_step.proofs.Common.{length-append, Some, None, Ok, Option, flat_map, option_map, unwrap_or, cond_both, eqb-true, eqb-false, eq-eqb, ne_eqb}
-use Rattle.fit_step.proofs.Common.{cases_eq, append-nil, flat_map_more, Items, Order, HasShape, items_bytes, FieldItems, DevItems}
-use Rattle.fit_step.proofs.Common.{item_width_positive, IsBytes-none, Defined, Data, Environment, defined_at, layout, dev_layout, HaveShape, data_header}
-use Rattle.fit_step.proofs.Common.{DataHeaderFits, order_at, Tests, reading, no_items, begin_dev, begin_fields, layout_at, dev_layout_at, field_move}
-use Rattle.fit_step.proofs.Common.{dev_move, step, TakenFields, in_fields, in_dev_fields, taken, IsTaking, part_bytes, IsPart, state_of, Values}
-use Rattle.fit_step.proofs.Common.{all_items, width_of, next_with_bytes}
-use Rattle.std.specs.Prelude.{map, drop, ◌==◌}
+use Rattle.fit_step.proofs.Common.{cases_eq, append-nil, flat_map_more, Items, Order, HasShape, items_bytes, FieldItems, DevItems, item_width_positive}
+use Rattle.fit_step.proofs.Common.{IsBytes-none, Defined, Data, Environment, defined_at, layout, dev_layout, HaveShape, data_header, DataHeaderFits, order_at}
+use Rattle.fit_step.proofs.Common.{Tests, reading, no_items, begin_dev, begin_fields, layout_at, dev_layout_at, field_move, dev_move, step, TakenFields}
+use Rattle.fit_step.proofs.Common.{in_fields, in_dev_fields, taken, IsTaking, part_bytes, IsPart, state_of, Values, all_items, width_of, next_with_bytes, map}
+use Rattle.fit_step.proofs.Common.{drop, ◌==◌}
 use Rattle.fit_step.proofs.Takes.{HaveShape-last, ends_number, grown, items_at, rest_at, bytes_at, stands_at, whole_at}
 use Rattle.fit_step.proofs.TwoLists.{dev_found, field_found, dev_begun, field_begun}
 use Rattle.fit_step.proofs.Outcomes.{Moves}

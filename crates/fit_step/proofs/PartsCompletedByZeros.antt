@@ -1,7 +1,6 @@
 -- Parts of a record become a whole one by zeros.
 use Rattle.fit_step.proofs.Common.{◌≡◌, inl, inr, ℕ, zero, suc, ◌+◌, List, [], ◌∷◌, ◌++◌, sym, ap, ◌∙◌, subst, arith, append_assoc, ◌-◌, Record, Environment}
-use Rattle.fit_step.proofs.Common.{IsRecord, RecordPart, part_bytes, IsPart, HasBegun, state_of, CutsGoOn, State, least_rest}
-use Rattle.std.proofs.Common.{◌≤◌, replicate}
+use Rattle.fit_step.proofs.Common.{IsRecord, RecordPart, part_bytes, IsPart, HasBegun, state_of, CutsGoOn, State, least_rest, ◌≤◌, replicate}
 use Rattle.fit_step.proofs.OneByte.{zero_goes, no_tests}
 use Rattle.fit_step.proofs.Rest.{keeps, KeepsRoom, rest_same, takes_more}
 

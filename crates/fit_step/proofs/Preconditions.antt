@@ -2,8 +2,7 @@
 use Rattle.fit_step.proofs.Common.{◌≡◌, ℕ, ◌<◌, List, [], ◌∷◌, length, refl, sym, ap, subst, arith, length-append, Some, None, Option, IsSome, length-map}
 use Rattle.fit_step.proofs.Common.{DevDef, MessageDef, dev_defs, DefinitionFits, DefinitionPhase, GlobalSecond, FieldNumber, FieldSize, FieldCode, DevCount}
 use Rattle.fit_step.proofs.Common.{DevNumber, DevSize, DevIndex, no_items, TakenFields, width_of, taken, all_items, IsNew, HasNone, AwaitsFields, AwaitsDev}
-use Rattle.fit_step.proofs.Common.{IsDefinitionPart, IsTaking, IsDefining}
-use Rattle.std.specs.Prelude.{map}
+use Rattle.fit_step.proofs.Common.{IsDefinitionPart, IsTaking, IsDefining, map}
 use Rattle.fit_step.proofs.Takes.{as_many}
 
 no_dev_fields : (dev : Option (List DevDef)) → HasNone dev → length (dev_defs dev) < 256

@@ -2,8 +2,7 @@
 use Rattle.fit_step.proofs.Common.{◌≡◌, ℕ, ◌+◌, ◌-◌, ◌<◌, append_assoc, Bool, true, false, List, [], ◌∷◌, ◌++◌, length, take, refl, sym, ap, ◌∙◌, subst, arith}
 use Rattle.fit_step.proofs.Common.{Some, None, Ok, Err, Option, Result, OnOk, OnErr, take_more, Record, Environment, learn, Fits, Position, Stop, Refused}
 use Rattle.fit_step.proofs.Common.{NoMemory, State, Step, start, step, RecordPart, nothing, state_of, state_at, PartFitsRoom, Steps, KeepsPart, tests_of}
-use Rattle.fit_step.proofs.Common.{StandsBehind, IsInProgress, ReadsRecord, StandsWithRoom, RecordByte}
-use Rattle.std.proofs.Common.{◌≤◌, slice_index}
+use Rattle.fit_step.proofs.Common.{StandsBehind, IsInProgress, ReadsRecord, StandsWithRoom, RecordByte, ◌≤◌, slice_index}
 use Rattle.std.specs.Result.{is_ok}
 use Rattle.fit_step.proofs.Kept.{still_stands, still_room}
 use Rattle.fit_step.proofs.RecordsInProgress.{EndsBehind, starts_behind, sixteen_learned, starts_where_none, goes_behind, ends_behind, wants_behind}

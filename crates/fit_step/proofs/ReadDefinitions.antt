@@ -4,8 +4,7 @@ use Rattle.fit_step.proofs.Common.{Some, None, flat_map, option_map, unwrap_or, 
 use Rattle.fit_step.proofs.Common.{number_bytes, IsBytes-cons, IsBytes-none, IsBytes-tail, IsBytes-take, number-below, number_bytes-number, FieldDef}
 use Rattle.fit_step.proofs.Common.{MessageDef, Define, Environment, defined_by, learn, CanFill, has_developer_fields, has_reserved_bit, is_definition}
 use Rattle.fit_step.proofs.Common.{local_type, architecture, field_bytes, definition_bytes, definition_header, DefinitionFits, IsRecord, six_and_more, new_dev}
-use Rattle.fit_step.proofs.Common.{start, Ends, tests_of}
-use Rattle.std.proofs.Common.{◌≤◌, drop, slice_index}
+use Rattle.fit_step.proofs.Common.{start, Ends, tests_of, ◌≤◌, drop, slice_index}
 use Rattle.fit_step.proofs.TakenAndRefusedBytes.{records_end}
 use Rattle.fit_step.proofs.HeaderBits.{definition_spelled}
 

@@ -5,11 +5,9 @@ use Rattle.fit_step.proofs.Common.{IsBytes-back, IsBytes-none, IsBytes-tail, Rea
 use Rattle.fit_step.proofs.Common.{records_bytes, can_fill_is, same_places, MessageDef, DefinitionPhase, Reserved, Position, goes_on, Continues, NoRecord}
 use Rattle.fit_step.proofs.Common.{FillFrom, StandsBehind, IsInProgress, RecordsInProgress, IdleIsBetweenRecords, RefusedBytesHaveReasons, CanBecomeRecord}
 use Rattle.fit_step.proofs.Common.{State, Step, start, step, least_rest, Ends, RecordPart, nothing, in_definition, definition_part, part_bytes, IsPart}
-use Rattle.fit_step.proofs.Common.{state_of, state_at, Begins, record_reason, tests_of, StandsWithRoom}
-use Rattle.std.proofs.Common.{◌≤◌}
-use Rattle.fit_step.proofs.Rest.{takes_more}
+use Rattle.fit_step.proofs.Common.{state_of, state_at, Begins, record_reason, tests_of, StandsWithRoom, ◌≤◌}
+use Rattle.fit_step.proofs.Rest.{takes_more, keeps, KeepsRoom}
 use Rattle.fit_step.proofs.RecordFronts.{part_of_record}
-use Rattle.fit_step.proofs.Rest.{keeps, KeepsRoom}
 use Rattle.fit_step.proofs.Runs.{one_more}
 use Rattle.fit_step.proofs.Splits.{split}
 use Rattle.fit_step.proofs.TakenAndRefusedBytes.{records_end, parts_are_tested, taken_bytes_go_on, taken_bytes_end, refused_bytes_end_all}

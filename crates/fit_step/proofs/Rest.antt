@@ -1,15 +1,13 @@
 -- The room inside a record: each byte takes one of it, and what the record still takes is there.
-use Rattle.fit_step.proofs.Common.{◌≡◌, ℕ, zero, suc, ◌+◌, ◌-◌, ◌*◌, ◌<◌, Bool, true, false, List, [], ◌∷◌, ◌++◌, length, refl, sym, ap, subst}
-use Rattle.fit_step.proofs.Common.{arith, Some, None, Ok, Err, Option, nat_lt, option_map, unwrap_or, cond_both, eqb-true, eqb-false, ltb-false}
-use Rattle.fit_step.proofs.Common.{sum_by-cons, DevDef, MessageDef, Values, Defined, DefinitionPhase, AtArchitecture, FieldCount, FieldSize, FieldCode}
-use Rattle.fit_step.proofs.Common.{DevCount, DevSize, DevIndex, Reserved, Environment, defined_at, is_definition, has_developer_fields, has_reserved_bit}
-use Rattle.fit_step.proofs.Common.{local_type, layout, dev_layout, message_size, sizes, least_definition, Tests, Step, step}
-use Rattle.fit_step.proofs.Common.{least_rest, begin_dev, begin_fields, layout_at, dev_layout_at, fields_rest, dev_rest, field_move, dev_move, definition_move}
-use Rattle.fit_step.proofs.Common.{next_field, next_dev, after_fields, dev_count_byte, new_message, new_dev, header_move, message_move}
-use Rattle.fit_step.proofs.Common.{RecordPart, nothing, in_definition, in_fields, in_dev_fields, IsDefinitionPart, IsPart, state_of, HasBegun}
-use Rattle.std.proofs.Common.{◌≤◌}
-use Rattle.fit_step.proofs.Common.{with_number, order_at, learn, can_fill, goes_on, next_with_bytes}
-use Rattle.std.specs.Prelude.{drop, ◌==◌}
+use Rattle.fit_step.proofs.Common.{◌≡◌, ℕ, zero, suc, ◌+◌, ◌-◌, ◌*◌, ◌<◌, Bool, true, false, List, [], ◌∷◌, ◌++◌, length, refl, sym, ap, subst, arith, Some}
+use Rattle.fit_step.proofs.Common.{None, Ok, Err, Option, nat_lt, option_map, unwrap_or, cond_both, eqb-true, eqb-false, ltb-false, sum_by-cons, DevDef}
+use Rattle.fit_step.proofs.Common.{MessageDef, Values, Defined, DefinitionPhase, AtArchitecture, FieldCount, FieldSize, FieldCode, DevCount, DevSize, DevIndex}
+use Rattle.fit_step.proofs.Common.{Reserved, Environment, defined_at, is_definition, has_developer_fields, has_reserved_bit, local_type, layout, dev_layout}
+use Rattle.fit_step.proofs.Common.{message_size, sizes, least_definition, Tests, Step, step, least_rest, begin_dev, begin_fields, layout_at, dev_layout_at}
+use Rattle.fit_step.proofs.Common.{fields_rest, dev_rest, field_move, dev_move, definition_move, next_field, next_dev, after_fields, dev_count_byte}
+use Rattle.fit_step.proofs.Common.{new_message, new_dev, header_move, message_move, RecordPart, nothing, in_definition, in_fields, in_dev_fields}
+use Rattle.fit_step.proofs.Common.{IsDefinitionPart, IsPart, state_of, HasBegun, ◌≤◌, with_number, order_at, learn, can_fill, goes_on, next_with_bytes, drop}
+use Rattle.fit_step.proofs.Common.{◌==◌}
 use Rattle.fit_record.proofs.CarriedMessages.{same_filling}
 use Rattle.fit_step.proofs.HeaderCode.{begun_message}
 use Rattle.fit_step.proofs.Lengths.{message_sizes}

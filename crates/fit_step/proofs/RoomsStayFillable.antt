@@ -1,18 +1,15 @@
 -- A byte that isn't refused leaves a room that can still be filled.
 use Rattle.fit_step.proofs.Common.{◌≡◌, inl, inr, ◌⊎◌, ℕ, zero, suc, ◌+◌, ◌-◌, ◌*◌, ◌<◌, Bool, true, false, cond, List, [], ◌∷◌, ◌++◌, length, refl, sym, ap}
-use Rattle.fit_step.proofs.Common.{◌∙◌, subst, arith, Some, None, Ok, Err, Option, ◌&&◌, ◌||◌, nat_lt, nat_le, cond_both, eqb-true}
-use Rattle.fit_step.proofs.Common.{eqb-false, ltb-false, leb-true, le-leb, lt-leb, or_left, or_right, or_cases, and_parts, and_from, cases_lt, sum_by-append}
-use Rattle.fit_step.proofs.Common.{sum_by-cons, DevDef, FieldDef, MessageDef, Defined, Define, Environment, defined_at, dev_defs, learn, is_definition}
-use Rattle.fit_step.proofs.Common.{has_developer_fields, has_reserved_bit, local_type, message_size, body_length}
-use Rattle.fit_step.proofs.Common.{can_fill, can_fill_with, can_fill_from, others_have, finishes, can_complete, can_complete_dev, can_fill_is}
-use Rattle.fit_step.proofs.Common.{length-set, DefinitionPhase, Reserved, AtArchitecture, GlobalFirst, GlobalSecond, FieldCount, FieldNumber, FieldSize}
-use Rattle.fit_step.proofs.Common.{FieldCode, DevCount, DevNumber, DevSize, DevIndex, least_definition, Step, start, step, least_rest}
-use Rattle.fit_step.proofs.Common.{fields_rest, dev_rest, definition_move, definition_rest, next_field}
-use Rattle.fit_step.proofs.Common.{next_dev, after_fields, dev_count_byte, new_dev, header_move, message_move, RecordPart, nothing}
-use Rattle.fit_step.proofs.Common.{in_definition, in_fields, in_dev_fields, IsDefinitionPart, IsNew, HasNone, IsPart, state_of, entries_complete, tests_of}
-use Rattle.fit_step.proofs.Common.{has_dev, definition_goes_on, goes_on}
-use Rattle.std.proofs.Common.{◌≤◌}
-use Rattle.std.specs.Prelude.{◌==◌, sum_by}
+use Rattle.fit_step.proofs.Common.{◌∙◌, subst, arith, Some, None, Ok, Err, Option, ◌&&◌, ◌||◌, nat_lt, nat_le, cond_both, eqb-true, eqb-false, ltb-false}
+use Rattle.fit_step.proofs.Common.{leb-true, le-leb, lt-leb, or_left, or_right, or_cases, and_parts, and_from, cases_lt, sum_by-append, sum_by-cons, DevDef}
+use Rattle.fit_step.proofs.Common.{FieldDef, MessageDef, Defined, Define, Environment, defined_at, dev_defs, learn, is_definition, has_developer_fields}
+use Rattle.fit_step.proofs.Common.{has_reserved_bit, local_type, message_size, body_length, can_fill, can_fill_with, can_fill_from, others_have, finishes}
+use Rattle.fit_step.proofs.Common.{can_complete, can_complete_dev, can_fill_is, length-set, DefinitionPhase, Reserved, AtArchitecture, GlobalFirst}
+use Rattle.fit_step.proofs.Common.{GlobalSecond, FieldCount, FieldNumber, FieldSize, FieldCode, DevCount, DevNumber, DevSize, DevIndex, least_definition, Step}
+use Rattle.fit_step.proofs.Common.{start, step, least_rest, fields_rest, dev_rest, definition_move, definition_rest, next_field, next_dev, after_fields}
+use Rattle.fit_step.proofs.Common.{dev_count_byte, new_dev, header_move, message_move, RecordPart, nothing, in_definition, in_fields, in_dev_fields}
+use Rattle.fit_step.proofs.Common.{IsDefinitionPart, IsNew, HasNone, IsPart, state_of, entries_complete, tests_of, has_dev, definition_goes_on, goes_on, ◌≤◌}
+use Rattle.fit_step.proofs.Common.{◌==◌, sum_by}
 use Rattle.fit_record.proofs.DefinitionInPlace.{can_fill_after}
 use Rattle.fit_record.proofs.RoomSums.{fills_by_ones}
 use Rattle.fit_step.proofs.HeaderCode.{begun_message}

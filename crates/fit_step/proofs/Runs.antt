@@ -2,8 +2,7 @@
 use Rattle.fit_step.proofs.Common.{◌≡◌, inl, inr, ℕ, zero, suc, ◌-◌, ◌<◌, List, [], ◌∷◌, ◌++◌, length, refl, sym, ap, ◌∙◌, subst, arith, append_assoc, Some}
 use Rattle.fit_step.proofs.Common.{None, Ok, Err, append-nil, IsBytes, IsBytes-tail, Reason, NoFit, Overrun, Record, Environment, Fits, record_bytes, Tests}
 use Rattle.fit_step.proofs.Common.{State, NextState, start, step, Ends, RoomsFill, RecordPart, nothing, part_bytes, IsPart, HasBegun, state_of, IsShut}
-use Rattle.fit_step.proofs.Common.{RecordsRunThrough, same_record}
-use Rattle.std.proofs.Common.{◌≤◌}
+use Rattle.fit_step.proofs.Common.{RecordsRunThrough, same_record, ◌≤◌}
 use Rattle.fit_step.proofs.RecordFronts.{part_of_record}
 use Rattle.fit_step.proofs.OneByte.{outcome}
 

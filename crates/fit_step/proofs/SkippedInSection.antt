@@ -1,7 +1,6 @@
 -- Behind records that are skipped the next one can begin.
 use Rattle.fit_step.proofs.Common.{◌≡◌, ℕ, ◌+◌, ◌-◌, List, [], ◌∷◌, length, ap, sym, subst, arith, None, Option, Record, Environment, learn, learn_all, CanFill}
-use Rattle.fit_step.proofs.Common.{six_and_more, Position, IsInProgress, Begins, AreSkipped}
-use Rattle.std.proofs.Common.{◌≤◌}
+use Rattle.fit_step.proofs.Common.{six_and_more, Position, IsInProgress, Begins, AreSkipped, ◌≤◌}
 use Rattle.fit_step.proofs.RecordsInProgress.{begins_record, idle_between_records, sixteen_learned}
 
 pub sixteen_all : {A : Type 0} (e : Environment A) (records : List (Record A)) → length e.places ≡ 16 → length (learn_all e records).places ≡ 16

@@ -4,9 +4,7 @@ use Rattle.fit_step.proofs.Common.{◌∙◌, subst, arith, length-append, Some,
 use Rattle.fit_step.proofs.Common.{length-take-le, get_or-set_other, IsBytes, IsBytes-take, IsBytes-tail, IsBytes-cons, Defined, MessageDef, Define, Data}
 use Rattle.fit_step.proofs.Common.{Values, Environment, defined_at, defined_by, describe, description, learn, bit, has_reserved_bit, is_definition, local_type}
 use Rattle.fit_step.proofs.Common.{message_size, AllFit, record_bytes, records_bytes, IsRecord, size_to_skip, AreSizesToSkip, HeadsMessage, IsSkipped}
-use Rattle.fit_step.proofs.Common.{AreSkipped}
-use Rattle.std.proofs.Common.{◌≤◌, ◌==◌, drop, slice_index}
-use Rattle.std.specs.Prelude.{slice_set}
+use Rattle.fit_step.proofs.Common.{AreSkipped, ◌≤◌, ◌==◌, drop, slice_index, slice_set}
 use Rattle.std.proofs.lemmas.Grind.{get_or-set_at}
 use Rattle.fit_record.proofs.RecordLists.{all_fit-append, records_bytes-append, learn_all-append}
 use Rattle.fit_step.proofs.WholeMessage.{data_read, data_record}

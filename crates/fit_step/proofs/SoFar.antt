@@ -3,13 +3,11 @@ use Rattle.fit_step.proofs.Common.{◌≡◌, ℕ, ◌+◌, ◌-◌, ◌*◌, �
 use Rattle.fit_step.proofs.Common.{Option, flat_map, min, div-le_self, append-nil, length-map, sum_by-append, sum_by-cons, div-mul-add, Items, Order}
 use Rattle.fit_step.proofs.Common.{item_width, items_bytes, Defined, Environment, defined_at, dev_defs, layout, dev_layout, data_header, DataHeaderFits}
 use Rattle.fit_step.proofs.Common.{HaveShape, order_at, entry_count, no_items, sizes, TakenFields, width_of, taken, all_items, IsTaking, length-dev_layout}
-use Rattle.fit_step.proofs.Common.{items_so_far, held_of_record, items_in, values_size, part_size, item_count, le-div, item_width_positive}
-use Rattle.std.proofs.Common.{◌≤◌}
+use Rattle.fit_step.proofs.Common.{items_so_far, held_of_record, items_in, values_size, part_size, item_count, le-div, item_width_positive, ◌≤◌, map, sum_by}
+use Rattle.fit_step.proofs.Common.{length-items}
 use Rattle.std.proofs.Math.Nat.{div-mul-le_self}
-use Rattle.std.specs.Prelude.{map, sum_by}
 use Rattle.fit_step.proofs.HeaderBits.{data_bits}
 use Rattle.fit_step.proofs.Lengths.{taken_rest}
-use Rattle.fit_record.proofs.RecordLengths.{length-items}
 use Rattle.fit_step.proofs.Takes.{as_many}
 use Rattle.fit_step.proofs.HeldParts.{whole_items, no_items_yet}
 use Rattle.fit_step.proofs.Limits.{items_of}

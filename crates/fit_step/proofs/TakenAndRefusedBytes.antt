@@ -7,11 +7,8 @@ use Rattle.fit_step.proofs.Common.{record_bytes, Fits, can_fill, can_complete, c
 use Rattle.fit_step.proofs.Common.{DevCount, DevSize, Continues, PartsAreTested, RecordsEnd, TakenBytesGoOn, TakenBytesEnd, RefusedBytesEndAll, TakenBytesStand}
 use Rattle.fit_step.proofs.Common.{State, start, step, least_rest, layout_at, dev_layout_at, fields_rest, dev_rest, Ends, RoomsFill, sizes, RecordPart, nothing}
 use Rattle.fit_step.proofs.Common.{in_definition, in_fields, in_dev_fields, taken, part_bytes, dev_front, fields_front, definition_part, IsPart}
-use Rattle.fit_step.proofs.Common.{IsDefinitionPart, AwaitsDev, state_of, Fails, tests_of, entries_complete}
-use Rattle.std.proofs.Common.{◌≤◌}
-use Rattle.std.specs.Prelude.{drop}
+use Rattle.fit_step.proofs.Common.{IsDefinitionPart, AwaitsDev, state_of, Fails, tests_of, entries_complete, ◌≤◌, drop, length-data, length-items}
 use Rattle.fit_step.proofs.Lengths.{taken_rest, message_sizes}
-use Rattle.fit_record.proofs.RecordLengths.{length-data, length-items}
 use Rattle.fit_step.proofs.HeaderSteps.{message_first, definition_first}
 use Rattle.fit_step.proofs.MessageSteps.{fields_to_come, dev_to_come, dev_layout-known}
 use Rattle.fit_step.proofs.OneByte.{outcome}

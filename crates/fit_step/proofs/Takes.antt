@@ -3,9 +3,7 @@ use Rattle.fit_step.proofs.Common.{◌≡◌, inl, inr, ℕ, suc, ◌+◌, ◌-�
 use Rattle.fit_step.proofs.Common.{◌∙◌, subst, arith, append_assoc, length-append, flat_map, cond-true, cond-false, eqb-true, eqb-false, cases_lt, append-nil}
 use Rattle.fit_step.proofs.Common.{flat_map_more, mul-le-mul_right, Items, Order, IsBytes, number, number_bytes, HasShape, items_bytes, IsBytes-append}
 use Rattle.fit_step.proofs.Common.{IsBytes-cons, IsBytes-none, number_bytes-number, number-below, item_width_positive, HaveShape, no_items, add_number}
-use Rattle.fit_step.proofs.Common.{with_number, beyond_number, TakenFields, width_of, taken, all_items, IsTaking}
-use Rattle.std.proofs.Common.{◌≤◌}
-use Rattle.std.specs.Prelude.{map, ◌==◌}
+use Rattle.fit_step.proofs.Common.{with_number, beyond_number, TakenFields, width_of, taken, all_items, IsTaking, ◌≤◌, map, ◌==◌}
 use Rattle.std.specs.List.{AllByRecursion}
 use Rattle.fit_base.proofs.Shapes.{item_width_divides}
 

@@ -1,9 +1,8 @@
 -- Developer fields, whose codes and sizes stand in two lists, and the search for the next field that has bytes.
 use Rattle.fit_step.proofs.Common.{◌≡◌, inl, inr, ℕ, zero, suc, ◌+◌, ◌<◌, List, [], ◌∷◌, ◌++◌, length, take, get_or, set, refl, ap, ◌∙◌, subst, arith, Some}
 use Rattle.fit_step.proofs.Common.{None, Ok, Err, Option, Result, OnOk, OnErr, zip, Items, cond-true, eq-eqb, cases_Bool, DevDef, Data, Values, FieldItems}
-use Rattle.fit_step.proofs.Common.{DevItems, NextState, start, reading, no_items, add_number, begin_dev, begin_fields, next_with_bytes, map-append}
-use Rattle.std.proofs.Common.{drop, map}
-use Rattle.std.specs.Prelude.{◌==◌, ◌≤◌}
+use Rattle.fit_step.proofs.Common.{DevItems, NextState, start, reading, no_items, add_number, begin_dev, begin_fields, next_with_bytes, map-append, drop, map}
+use Rattle.fit_step.proofs.Common.{◌==◌, ◌≤◌}
 use Rattle.fit_step.proofs.Gathering.{next_coded}
 
 -- code and size of each developer field

@@ -6,8 +6,7 @@ use Rattle.fit_step.proofs.Common.{DefinitionPhase, AtArchitecture, FieldCount, 
 use Rattle.fit_step.proofs.Common.{DevItems, Tests, State, Step, NextState, start, step, no_items, add_number, with_number, layout_at, dev_layout_at}
 use Rattle.fit_step.proofs.Common.{field_move, dev_move, definition_move, after_fields, next_field, next_dev, dev_count_byte, RecordPart, nothing}
 use Rattle.fit_step.proofs.Common.{in_definition, in_fields, in_dev_fields, TakenFields, IsTaking, IsPart, IsDefinitionPart, state_of, width_of, all_items}
-use Rattle.fit_step.proofs.Common.{PartFitsRoom, Adds, AddsEntry, front_back}
-use Rattle.std.specs.Prelude.{◌==◌, drop, map}
+use Rattle.fit_step.proofs.Common.{PartFitsRoom, Adds, AddsEntry, front_back, ◌==◌, drop, map}
 use Rattle.fit_step.proofs.Preconditions.{as_defined}
 use Rattle.fit_step.proofs.Takes.{ends_number, whole_at}
 use Rattle.fit_step.proofs.EmptyMessages.{dev_whole, fields_whole}

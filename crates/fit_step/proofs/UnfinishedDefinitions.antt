@@ -6,8 +6,7 @@ use Rattle.fit_step.proofs.Common.{is_definition, architecture, dev_field_bytes,
 use Rattle.fit_step.proofs.Common.{CanComplete, fields_part, dev_fields_part, size_so_far, can_complete, can_complete_dev, can_complete_front, DefinitionPhase}
 use Rattle.fit_step.proofs.Common.{Reserved, AtArchitecture, GlobalFirst, GlobalSecond, FieldCount, FieldNumber, FieldSize, FieldCode, DevCount, DevNumber}
 use Rattle.fit_step.proofs.Common.{DevSize, DevIndex, fields_front, dev_front, definition_part, HasNone, AwaitsFields, AwaitsDev, IsDefinitionPart}
-use Rattle.fit_step.proofs.Common.{entries_complete, has_dev, definition_goes_on, Continues}
-use Rattle.std.specs.Prelude.{slice_index}
+use Rattle.fit_step.proofs.Common.{entries_complete, has_dev, definition_goes_on, Continues, slice_index}
 use Rattle.fit_record.proofs.DefinitionFronts.{front_can_complete}
 use Rattle.fit_record.proofs.DefinitionParts.{fields_can_complete, dev_can_complete, dev_fields_can_complete}
 use Rattle.fit_step.proofs.HeaderSteps.{message_first}

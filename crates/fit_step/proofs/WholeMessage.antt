@@ -1,12 +1,10 @@
 -- A data message read at once is the record that its bytes end.
-use Rattle.fit_step.proofs.Common.{◌≡◌, cond, ℕ, zero, suc, ◌+◌, ◌-◌, ◌%◌, ◌<◌, true, false, List, ◌∷◌, length, take, sym, ap, ◌∙◌, subst, arith}
-use Rattle.fit_step.proofs.Common.{Some, None, length-drop, Option, nat_le, ◌&&◌, IsSomeAnd, option_map, unwrap_or, option_map_or, leb-true, length-take-le}
-use Rattle.fit_step.proofs.Common.{Items, Little, IsBytes, both, IsBytes-take, IsBytes-cons, IsBytes-tail, FieldDef, Defined, Data, Values}
-use Rattle.fit_step.proofs.Common.{Environment, defined_at, learn, CanFill, is_compressed, is_definition, has_reserved_bit, local_type, fields_from}
-use Rattle.fit_step.proofs.Common.{values_from, sizes, layout, dev_layout, message_size, data_header, data_bytes, DataFits, Fits, order_at, IsRecord, can_fill}
-use Rattle.fit_step.proofs.Common.{fills, has_length, can_carry, can_fill_is, same_places, start, Ends, tests_of}
-use Rattle.std.proofs.Common.{◌≤◌, drop}
-use Rattle.std.specs.Prelude.{sum_by}
+use Rattle.fit_step.proofs.Common.{◌≡◌, cond, ℕ, zero, suc, ◌+◌, ◌-◌, ◌%◌, ◌<◌, true, false, List, ◌∷◌, length, take, sym, ap, ◌∙◌, subst, arith, Some, None}
+use Rattle.fit_step.proofs.Common.{length-drop, Option, nat_le, ◌&&◌, IsSomeAnd, option_map, unwrap_or, option_map_or, leb-true, length-take-le, Items, Little}
+use Rattle.fit_step.proofs.Common.{IsBytes, both, IsBytes-take, IsBytes-cons, IsBytes-tail, FieldDef, Defined, Data, Values, Environment, defined_at, learn}
+use Rattle.fit_step.proofs.Common.{CanFill, is_compressed, is_definition, has_reserved_bit, local_type, fields_from, values_from, sizes, layout, dev_layout}
+use Rattle.fit_step.proofs.Common.{message_size, data_header, data_bytes, DataFits, Fits, order_at, IsRecord, can_fill, fills, has_length, can_carry}
+use Rattle.fit_step.proofs.Common.{can_fill_is, same_places, start, Ends, tests_of, ◌≤◌, drop, sum_by}
 use Rattle.fit_record.proofs.MessageBytes.{message_fits}
 use Rattle.fit_record.proofs.MessageSizes.{sum-fields}
 use Rattle.fit_step.proofs.TakenAndRefusedBytes.{records_end}

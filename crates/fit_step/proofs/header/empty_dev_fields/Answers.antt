@@ -1,5 +1,4 @@
-use Rattle.fit_step.proofs.Common.{◌∙◌, ◌++◌, ◌∷◌, [], sym, ap, take, no_items}
-use Rattle.std.proofs.Common.{map}
+use Rattle.fit_step.proofs.Common.{◌∙◌, ◌++◌, ◌∷◌, [], sym, ap, take, no_items, map}
 use Rattle.fit_step.proofs.TwoLists.{coded, one_more_field}
 use Rattle.fit_step.proofs.header.empty_dev_fields.Goals as goal
 

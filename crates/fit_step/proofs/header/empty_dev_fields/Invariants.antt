@@ -1,5 +1,4 @@
-use Rattle.fit_step.proofs.Common.{◌≡◌, take, zip, no_items}
-use Rattle.std.proofs.Common.{map}
+use Rattle.fit_step.proofs.Common.{◌≡◌, take, zip, no_items, map}
 use Rattle.fit_step.proofs.header.empty_dev_fields.Given as goal
 
 abbrev pub invariant-loop-i : goal.invariant-loop-i

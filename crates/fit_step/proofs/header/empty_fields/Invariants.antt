@@ -1,5 +1,4 @@
-use Rattle.fit_step.proofs.Common.{◌≡◌, take, no_items}
-use Rattle.std.proofs.Common.{map}
+use Rattle.fit_step.proofs.Common.{◌≡◌, take, no_items, map}
 use Rattle.fit_step.proofs.header.empty_fields.Given as goal
 
 abbrev pub invariant-loop-f : goal.invariant-loop-f

@@ -1,5 +1,4 @@
-use Rattle.fit_step.proofs.Common.{◌∙◌, sym, ap, dev_layout}
-use Rattle.std.proofs.Common.{drop}
+use Rattle.fit_step.proofs.Common.{◌∙◌, sym, ap, dev_layout, drop}
 use Rattle.fit_step.proofs.TwoLists.{dev_begun, dev_found}
 use Rattle.fit_step.proofs.items.begin_dev.Goals as goal
 

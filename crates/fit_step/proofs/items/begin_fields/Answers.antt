@@ -1,5 +1,4 @@
-use Rattle.fit_step.proofs.Common.{drop-map, ◌≡◌, ◌∙◌, ℕ, List, sym, ap, FieldDef, layout, dev_layout, next_with_bytes}
-use Rattle.std.proofs.Common.{drop, map}
+use Rattle.fit_step.proofs.Common.{drop-map, ◌≡◌, ◌∙◌, ℕ, List, sym, ap, FieldDef, layout, dev_layout, next_with_bytes, drop, map}
 use Rattle.fit_step.proofs.TwoLists.{field_begun, field_found}
 use Rattle.fit_step.proofs.items.begin_fields.Goals as goal
 

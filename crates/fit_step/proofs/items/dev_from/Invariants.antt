@@ -1,5 +1,4 @@
-use Rattle.fit_step.proofs.Common.{◌≡◌, zip, next_with_bytes}
-use Rattle.std.proofs.Common.{drop, map}
+use Rattle.fit_step.proofs.Common.{◌≡◌, zip, next_with_bytes, drop, map}
 use Rattle.fit_step.proofs.items.dev_from.Given as goal
 
 abbrev pub invariant-loop-i : goal.invariant-loop-i

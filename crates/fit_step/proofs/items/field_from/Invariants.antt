@@ -1,5 +1,4 @@
-use Rattle.fit_step.proofs.Common.{◌≡◌, next_with_bytes}
-use Rattle.std.proofs.Common.{drop, map}
+use Rattle.fit_step.proofs.Common.{◌≡◌, next_with_bytes, drop, map}
 use Rattle.fit_step.proofs.items.field_from.Given as goal
 
 abbrev pub invariant-loop-i : goal.invariant-loop-i

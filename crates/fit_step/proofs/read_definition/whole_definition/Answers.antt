@@ -1,5 +1,4 @@
-use Rattle.fit_step.proofs.Common.{◌*◌, sym, ap, ◌∙◌, subst, length, take, slice_is_bytes}
-use Rattle.std.proofs.Common.{◌≤◌, slice_index}
+use Rattle.fit_step.proofs.Common.{◌*◌, sym, ap, ◌∙◌, subst, length, take, slice_is_bytes, ◌≤◌, slice_index}
 use Rattle.fit_step.proofs.ReadDefinitions.{read_is_record}
 use Rattle.fit_step.proofs.read_definition.whole_definition.Goals as goal
 

@@ -1,5 +1,4 @@
-use Rattle.fit_step.proofs.Common.{◌+◌, cond, sym, ap, ◌∙◌, option_map_or, ne_eqb, Defined, message_size}
-use Rattle.std.proofs.Common.{◌==◌}
+use Rattle.fit_step.proofs.Common.{◌+◌, cond, sym, ap, ◌∙◌, option_map_or, ne_eqb, Defined, message_size, ◌==◌}
 use Rattle.fit_step.proofs.WholeMessage.{same_size}
 use Rattle.fit_step.proofs.skipping.size_to_skip.Goals as goal
 

@@ -1,5 +1,4 @@
-use Rattle.fit_step.proofs.Common.{◌≡◌, ℕ, ◌<◌, length, size_to_skip}
-use Rattle.std.proofs.Common.{slice_index}
+use Rattle.fit_step.proofs.Common.{◌≡◌, ℕ, ◌<◌, length, size_to_skip, slice_index}
 use Rattle.fit_step.proofs.skipping.sizes_to_skip.Given as goal
 
 abbrev pub invariant-loop-local : goal.invariant-loop-local

@@ -1,5 +1,4 @@
-use Rattle.fit_step.proofs.Common.{sym, ap, ◌∙◌, subst, rules, Define, size_to_skip, AreSizesToSkip}
-use Rattle.std.proofs.Common.{slice_set}
+use Rattle.fit_step.proofs.Common.{sym, ap, ◌∙◌, subst, rules, Define, size_to_skip, AreSizesToSkip, slice_set}
 use Rattle.fit_step.proofs.SkippedRecords.{sizes_after}
 use Rattle.fit_step.proofs.skipping.skip_definition.Goals as goal
 

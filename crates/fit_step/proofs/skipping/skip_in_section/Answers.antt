@@ -1,5 +1,4 @@
-use Rattle.fit_step.proofs.Common.{◌≡◌, ◌+◌, inr, take, ap, ◌∙◌, subst, arith, take-take, AreSkipped}
-use Rattle.std.proofs.Common.{◌≤◌}
+use Rattle.fit_step.proofs.Common.{◌≡◌, ◌+◌, inr, take, ap, ◌∙◌, subst, arith, take-take, AreSkipped, ◌≤◌}
 use Rattle.fit_step.proofs.SkippedInSection.{skipped_behind}
 use Rattle.fit_step.proofs.skipping.skip_in_section.Goals as goal
 

@@ -1,5 +1,4 @@
-use Rattle.fit_step.proofs.Common.{◌+◌, ◌<◌, ap, take, length, length-drop, subst, arith, IsSkipped}
-use Rattle.std.proofs.Common.{◌≤◌}
+use Rattle.fit_step.proofs.Common.{◌+◌, ◌<◌, ap, take, length, length-drop, subst, arith, IsSkipped, ◌≤◌}
 use Rattle.fit_step.proofs.SkippedRecords.{one_more}
 use Rattle.fit_step.proofs.skipping.skip_records.Goals as goal
 

@@ -1,5 +1,4 @@
-use Rattle.fit_step.proofs.Common.{length, take, AreSizesToSkip, AreSkipped}
-use Rattle.std.proofs.Common.{◌≤◌}
+use Rattle.fit_step.proofs.Common.{length, take, AreSizesToSkip, AreSkipped, ◌≤◌}
 use Rattle.fit_step.proofs.skipping.skip_records.Given as goal
 
 abbrev pub invariant-loop-count : goal.invariant-loop-count

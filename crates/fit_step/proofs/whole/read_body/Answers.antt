@@ -1,5 +1,4 @@
-use Rattle.fit_step.proofs.Common.{◌≡◌, ap, ◌∙◌, fields_from, layout, dev_layout}
-use Rattle.std.specs.Prelude.{map}
+use Rattle.fit_step.proofs.Common.{◌≡◌, ap, ◌∙◌, fields_from, layout, dev_layout, map}
 use Rattle.fit_step.proofs.Gathering.{pair, fields_front}
 use Rattle.fit_step.proofs.WholeMessage.{behind_fields, left_for_dev}
 use Rattle.fit_step.proofs.whole.read_body.Goals as goal

@@ -1,5 +1,4 @@
-use Rattle.fit_step.proofs.Common.{◌+◌, ◌∷◌, ℕ, ◌++◌, [], take, length, ap, ◌∙◌, get_or, DevDef, field_from, fields_from}
-use Rattle.std.proofs.Common.{drop}
+use Rattle.fit_step.proofs.Common.{◌+◌, ◌∷◌, ℕ, ◌++◌, [], take, length, ap, ◌∙◌, get_or, DevDef, field_from, fields_from, drop}
 use Rattle.fit_step.proofs.Gathering.{coded, layout_more, layout_left, next_coded}
 use Rattle.fit_step.proofs.whole.read_dev_fields.Goals as goal
 

@@ -1,6 +1,4 @@
-use Rattle.fit_step.proofs.Common.{◌≡◌, ◌++◌, length, zip, fields_from, sizes}
-use Rattle.std.proofs.Common.{drop}
-use Rattle.std.specs.Prelude.{map}
+use Rattle.fit_step.proofs.Common.{◌≡◌, ◌++◌, length, zip, fields_from, sizes, drop, map}
 use Rattle.fit_step.proofs.whole.read_dev_fields.Given as goal
 
 abbrev pub invariant-loop-place : goal.invariant-loop-place

@@ -1,7 +1,5 @@
 use Rattle.fit_step.proofs.Common.{◌+◌, ◌++◌, ◌∷◌, [], length, take, sym, ap, ◌∙◌, arith, get_or, length-drop, drop-drop, drop_more, FieldDef, field_from}
-use Rattle.fit_step.proofs.Common.{fields_from}
-use Rattle.std.proofs.Common.{drop, sum_by}
-use Rattle.std.specs.Prelude.{map}
+use Rattle.fit_step.proofs.Common.{fields_from, drop, sum_by, map}
 use Rattle.fit_step.proofs.Gathering.{layout_more, pair, sizes_more}
 use Rattle.fit_step.proofs.whole.read_fields.Goals as goal
 

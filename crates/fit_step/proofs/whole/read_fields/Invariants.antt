@@ -1,6 +1,4 @@
-use Rattle.fit_step.proofs.Common.{◌≡◌, ◌++◌, length, fields_from}
-use Rattle.std.proofs.Common.{◌≤◌, drop}
-use Rattle.std.specs.Prelude.{map, sum_by}
+use Rattle.fit_step.proofs.Common.{◌≡◌, ◌++◌, length, fields_from, ◌≤◌, drop, map, sum_by}
 use Rattle.fit_step.proofs.whole.read_fields.Given as goal
 
 abbrev pub invariant-loop-field : goal.invariant-loop-field

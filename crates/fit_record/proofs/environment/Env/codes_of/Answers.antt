@@ -1,5 +1,4 @@
-use Rattle.fit_record.proofs.Common.{sym, ap, ◌∙◌, take, ◌++◌, [], ◌∷◌, map_more, dev_code}
-use Rattle.std.proofs.Common.{map}
+use Rattle.fit_record.proofs.Common.{sym, ap, ◌∙◌, take, ◌++◌, [], ◌∷◌, map_more, dev_code, map}
 use Rattle.fit_record.proofs.environment.Env.codes_of.Goals as goal
 
 pub loop-f-preserved : goal.loop-f-preserved

@@ -1,5 +1,4 @@
-use Rattle.fit_record.proofs.Common.{◌≡◌, take, dev_code}
-use Rattle.std.proofs.Common.{map}
+use Rattle.fit_record.proofs.Common.{◌≡◌, take, dev_code, map}
 use Rattle.fit_record.proofs.environment.Env.codes_of.Given as goal
 
 abbrev pub invariant-loop-f : goal.invariant-loop-f

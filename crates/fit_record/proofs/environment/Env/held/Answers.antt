@@ -1,4 +1,4 @@
-use Rattle.fit_record.proofs.Common.{◌≡◌, length, ap, ◌∙◌, arith, None, sum_by, option_map_or, take_all, sum_by_more, entry_count}
+use Rattle.fit_record.proofs.Common.{◌≡◌, length, ap, ◌∙◌, arith, sum_by, option_map_or, take_all, entry_count}
 use Rattle.fit_record.proofs.environment.Env.held.Goals as goal
 
 pub returns-clause-size : goal.returns-clause-size
