@@ -133,7 +133,8 @@ module _ {A : Type 0} (e : Environment A) (d : MessageDef A) (count : ℕ) (entr
         let before = ap dev_sizes none in
         let after = ap dev_sizes h.1 in
         completes_from e d.local t (size_so_far d entry) (body_length c) left room (omega (arith, k.0, before, after))
-        (λ b. omega (arith, k.1 b, before, after)) (omega (arith, k.2, ap (λ o. length (dev_part o)) h.1, total)) (filled e c d.local left sixteen local h.0 fill)
+        (λ b. omega (arith, k.1 b, before, after))
+        (omega (arith, k.2, ap (λ o. length (dev_part o)) h.1, total)) (filled e c d.local left sixteen local h.0 fill)
 
     -- where no developer fields follow, and bytes of the fields' entries alone are to come
     pub fields_can_complete : d.dev ≡ None → IsTrue (can_complete e d.local t (size_so_far d entry) room)

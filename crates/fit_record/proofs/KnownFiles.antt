@@ -1,7 +1,7 @@
 -- Whole files whose bytes are known from elsewhere: each value below is proved to be the file of its bytes.
 use Rattle.fit_record.proofs.Common.{◌≡◌, ℕ, ◌<◌, ◌^◌, Bool, true, false, ◌&&◌, List, [], ◌∷◌, length, refl, None, Some, arith, lit<, ltb-true, and_parts}
-use Rattle.fit_record.proofs.Common.{Items, checksum, FieldDef, DevDef, FitFile, Record, Define, Environment, empty_environment, learn, AllFit, first_fault, body}
-use Rattle.fit_record.proofs.Common.{IsWellFormed, IsFile}
+use Rattle.fit_record.proofs.Common.{Items, checksum, FieldDef, DevDef, FitFile, Record, Define, Environment, empty_environment, learn, AllFit, first_fault}
+use Rattle.fit_record.proofs.Common.{body, IsWellFormed, IsFile}
 use Rattle.std.specs.Prelude.{Option, nat_lt}
 use Rattle.fit_frame.specs.Header.{SizeFits, ZeroIsSum}
 use Rattle.fit_record.specs.Faults.{HasRange}
@@ -64,7 +64,8 @@ all_fit e (r ∷ rs) h =
 
 -- A header has a form of its own where its size and its sum go together.
 fits : (f : FitFile (Unit {0})) → SizeFits f.header.sum f.header.size f.header.rest.items → f.header.protocol ≡ 32 → f.header.size < 2 ^ 8
-    → f.header.profile < 2 ^ 16 → length (body f) < 2 ^ 32 → (ZeroIsSum f.header (length (body f)) → ⊥) → have_no_fault empty_environment f.records ≡ true → IsWellFormed f
+    → f.header.profile < 2 ^ 16 → length (body f) < 2 ^ 32 → (ZeroIsSum f.header (length (body f)) → ⊥)
+    → have_no_fault empty_environment f.records ≡ true → IsWellFormed f
 fits f size protocol one two four sum records = record {
   header = record {
     form = record { size = size; version = omega (arith, protocol) };

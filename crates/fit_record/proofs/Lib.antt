@@ -7,7 +7,6 @@ pub mod ChainOfOne
 pub mod RecordLengths
 pub mod WrongPlace
 pub mod NoFaultWhereFits
-pub mod LengthOfFitting
 pub mod KeptInPlaces
 pub mod FirstOfNumber
 pub mod MessageSizes

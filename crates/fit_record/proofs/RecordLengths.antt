@@ -2,8 +2,11 @@
 use Rattle.fit_record.proofs.Common.{◌≡◌, ℕ, suc, ◌*◌, List, [], ◌∷◌, ◌++◌, length, refl, arith, length-append, Some, None, flat_map, sum_by, sum_by-cons}
 use Rattle.fit_record.proofs.Common.{sum_by-append, Items, Order, number_bytes, items_bytes, length-number_bytes, length-items_bytes, FieldDef, DevDef}
 use Rattle.fit_record.proofs.Common.{MessageDef, Defined, architecture, field_bytes, dev_field_bytes, dev_part, definition_bytes, layout, dev_layout}
-use Rattle.fit_record.proofs.Common.{message_size, HaveShape, data_bytes, DataFits, dev_length, definition_length, Option, Values}
+use Rattle.fit_record.proofs.Common.{message_size, HaveShape, data_bytes, DataFits, dev_length, definition_length, Option, Values, ◌+◌, sym, ◌∙◌, subst, Result}
+use Rattle.fit_record.proofs.Common.{IfOk, IsSomeAnd, option_map, unwrap_or, Little, Record, Define, Data, Environment, defined_at, DefinitionFits, Fits}
+use Rattle.fit_record.proofs.Common.{record_bytes, body_length, IsSound, Ok, Err}
 use Rattle.fit_record.proofs.EntryParts.{length-entries}
+use Rattle.fit_record.proofs.MessageSizes.{message_size_is}
 
 -- ---- definition messages
 
@@ -54,3 +57,25 @@ length-data o v p h =
       length-items o (dev_layout p) v.dev h.dev_fields,
       sum_by-append (λ (f : ℕ × ℕ). f.1) (layout p) (dev_layout p),
     )
+
+-- ---- records that fit
+
+pub ok_more : {T E : Type 0} {P Q : T → Type 0} (r : Result T E) → ((x : T) → P x → Q x) → IfOk r P → IfOk r Q
+ok_more (Ok x) f h = f x h
+ok_more (Err e) f h = tt
+
+pub length_of_definition : {A : Type 0} (e : Environment A) (r : Record A) (d : MessageDef A) (n : ℕ) → r ≡ Define d → DefinitionFits d
+    → n ≡ definition_length d
+    → Fits e r × (n ≡ length (record_bytes e r))
+length_of_definition e r d n is f l = subst (λ s. Fits e s × (n ≡ length (record_bytes e s))) (sym is) (f, l ∙ sym (length-definition d))
+
+data_length : {A : Type 0} (o : Option (Defined A)) (v : Values A) (n : ℕ) → IsSomeAnd o (λ p. DataFits v p × (n ≡ 1 + body_length p.definition) × IsSound p)
+    → IsSomeAnd o (DataFits v) × (n ≡ suc (length (data_bytes (unwrap_or (option_map (λ p. p.definition.order) o) Little) v)))
+data_length None v n h = absurd h
+data_length (Some p) v n h =
+    (h.0, omega (arith, h.1, length-data p.definition.order v p h.0, message_size_is p h.2.codes))
+
+pub length_of_data : {A : Type 0} (e : Environment A) (r : Record A) (v : Values A) (n : ℕ) → r ≡ Data v
+    → IsSomeAnd (defined_at e v.local) (λ p. DataFits v p × (n ≡ 1 + body_length p.definition) × IsSound p)
+    → Fits e r × (n ≡ length (record_bytes e r))
+length_of_data e r v n is h = subst (λ s. Fits e s × (n ≡ length (record_bytes e s))) (sym is) (data_length (defined_at e v.local) v n h)

@@ -9,9 +9,8 @@ use Rattle.fit_step.proofs.Common.{DevDef, Defined, IsDefining, nat_tests, â—Œâ‰
 use Rattle.fit_step.proofs.DefinitionReasons.{count_at, count_before, count_in_dev}
 use Rattle.fit_step.proofs.HeaderBits.{definition_bits}
 use Rattle.fit_step.proofs.Lengths.{length-fields_front}
-use Rattle.fit_step.proofs.HeldParts.{front_of, devs_of, no_dev_fields, fields_counted, dev_counted, behind_both}
+use Rattle.fit_step.proofs.HeldParts.{front_of, devs_of, no_dev_fields, fields_counted, dev_counted, behind_both, in_fields_held, in_dev_held, message_within}
 use Rattle.fit_step.proofs.Limits.{AreLimited, IsLimited}
-use Rattle.fit_step.proofs.SoFar.{in_fields_held, in_dev_held, message_within}
 use Rattle.fit_step.proofs.Preconditions.{is_defining}
 
 -- ---- counts of entries, by the bytes

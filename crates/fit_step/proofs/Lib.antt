@@ -8,7 +8,6 @@ pub mod HeaderSteps
 pub mod DefinitionReasons
 pub mod DefinitionSteps
 pub mod OneByte
-pub mod PartsCompletedByZeros
 pub mod Runs
 pub mod Rest
 pub mod Fills
@@ -36,6 +35,5 @@ pub mod ReadBytes
 pub mod SkippedInSection
 pub mod Limits
 pub mod HeldParts
-pub mod SoFar
 pub mod EntriesSoFar
 pub mod HeldInProgress

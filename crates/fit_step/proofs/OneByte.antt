@@ -2,11 +2,13 @@
 use Rattle.fit_step.proofs.Common.{◌≡◌, inl, inr, ℕ, ◌+◌, ◌*◌, ◌<◌, true, false, [], ◌∷◌, ◌++◌, refl, subst, arith, ◌-◌, IsOk, nat_lt, MessageDef}
 use Rattle.fit_step.proofs.Common.{DefinitionPhase, FieldCount, DevCount, Environment, Tests, defining, step, definition_move, dev_count_byte, definition_rest}
 use Rattle.fit_step.proofs.Common.{least_rest, RecordPart, nothing, in_definition, in_fields, in_dev_fields, part_bytes, IsPart, HasBegun, state_of, le-ltb}
+use Rattle.fit_step.proofs.Common.{zero, suc, List, sym, ap, ◌∙◌, append_assoc, Record, IsRecord, CutsGoOn, State, ◌≤◌, replicate}
 use Rattle.std.proofs.Common.{◌≤◌}
 use Rattle.fit_step.proofs.Outcomes.{Moves, Outcome}
 use Rattle.fit_step.proofs.HeaderSteps.{header_outcome}
 use Rattle.fit_step.proofs.MessageSteps.{field_moves, dev_moves}
 use Rattle.fit_step.proofs.DefinitionSteps.{definition_outcome}
+use Rattle.fit_step.proofs.Rest.{keeps, KeepsRoom, rest_same, takes_more}
 
 pub outcome : {A : Type 0} (e : Environment A) (tests : Tests A) (room : ℕ) (f : RecordPart A) (b : ℕ) → IsPart e f → b < 256
     → Outcome e room (part_bytes e f) b (step e tests (state_of room f) b)
@@ -42,3 +44,25 @@ zero_goes e room (in_definition k d) h begun less =
     ]
 zero_goes e room (in_fields local offset t dev) h begun less = field_moves e no_tests room local offset t dev 0 h (omega arith)
 zero_goes e room (in_dev_fields local offset items t) h begun less = dev_moves e no_tests room local offset items t 0 h (omega arith)
+
+-- ---- zeros complete a record
+
+zeros_after : (xs : List ℕ) (k : ℕ) → (xs ++ 0 ∷ []) ++ 0 ∷ replicate k 0 ≡ xs ++ 0 ∷ replicate (suc k) 0
+zeros_after xs k = append_assoc xs (0 ∷ []) (0 ∷ replicate k 0)
+
+go_on : {A : Type 0} (e : Environment A) (room : ℕ) (f : RecordPart A) → IsPart e f → HasBegun f → least_rest e (state_of room f) ≤ room
+    → (r : Record A) × (k : ℕ) × IsRecord e r (part_bytes e f ++ 0 ∷ replicate k 0)
+go_on e zero f h begun less = absurd (omega (arith, less, takes_more e zero f h begun))
+go_on {A} e (suc room) f h begun less =
+    elim (zero_goes e (suc room) f h begun less) [
+      | inr c ↦ (c.whole, 0, (c.fits, sym c.spelled))
+      | inl g ↦
+          let t : State A = state_of (suc room - 1) g.next in
+          let left : (t.room + 1 ≡ suc room) × (least_rest e t ≤ t.room) = subst (KeepsRoom e (suc room)) g.is (keeps e no_tests (suc room) f 0 h less) in
+          let k = go_on e room g.next g.stands g.begun (omega (arith, left.0, left.1, rest_same e (suc room - 1) room g.next)) in
+          (k.0, suc k.1, (k.2.0, sym (zeros_after (part_bytes e f) k.1) ∙ ap (λ z. z ++ 0 ∷ replicate k.1 0) (sym g.spelled) ∙ k.2.1))
+    ]
+
+pub cuts_go_on : {A : Type 0} → CutsGoOn A
+cuts_go_on e f h begun =
+    let room : ℕ = least_rest e (state_of 0 f) in go_on e room f h begun (omega (arith, rest_same e room 0 f))

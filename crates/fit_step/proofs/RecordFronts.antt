@@ -1,7 +1,7 @@
 -- Bytes that no record begins: a record's bytes less some at the end.
 use Rattle.fit_step.proofs.Common.{◌≡◌, ℕ, ◌<◌, List, [], ◌∷◌, ◌++◌, length, sym, ap, ◌∙◌, arith, append_assoc, append-nil, Record, Environment, Fits}
 use Rattle.fit_step.proofs.Common.{record_bytes, same_record, no_bytes, NoRecord, RecordPart, nothing, part_bytes, IsPart, HasBegun, replicate}
-use Rattle.fit_step.proofs.PartsCompletedByZeros.{cuts_go_on}
+use Rattle.fit_step.proofs.OneByte.{cuts_go_on}
 
 pub empty_back : (a b : List ℕ) → a ++ b ≡ [] → b ≡ []
 empty_back [] b e = e

@@ -1,6 +1,6 @@
 use Rattle.fit_record.proofs.Common.{Data}
 use Rattle.fit_record.proofs.NoFaultWhereFits.{refused_by}
-use Rattle.fit_record.proofs.LengthOfFitting.{ok_more, length_of_definition, length_of_data}
+use Rattle.fit_record.proofs.RecordLengths.{ok_more, length_of_definition, length_of_data}
 use Rattle.fit_record.proofs.environment.Env.fits.Goals as goal
 
 pub returns-in-Define-clause-ok : goal.returns-in-Define-clause-ok
