@@ -4,8 +4,7 @@ use Rattle.fit_step.proofs.Common.{IsBytes, Defined, Record, Define, Data, Envir
 use Rattle.fit_step.proofs.Common.{DataHeaderFits, data_bytes, order_at, record_bytes, Fits, CanFill, can_fill, can_carry, CanCarry, can_carry_is, Continues}
 use Rattle.std.proofs.Common.{◌≤◌}
 use Rattle.fit_step.proofs.HeaderBits.{data_bits}
-use Rattle.fit_step.proofs.HeaderCode.{carry_test}
-use Rattle.fit_step.proofs.HeaderSteps.{definition_first}
+use Rattle.fit_step.proofs.HeaderSteps.{carry_test, definition_first}
 
 module _ {A : Type 0} (e : Environment A) (local : ℕ) (offset : Option ℕ) (part : List ℕ) (rest room : ℕ)
     (sixteen : length e.places ≡ 16) (header : DataHeaderFits local offset) (are : IsBytes part) (p : Defined A) (known : defined_at e local ≡ Some p)

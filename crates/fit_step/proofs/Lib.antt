@@ -17,7 +17,6 @@ pub mod TwoLists
 pub mod Carried
 pub mod UnfinishedDefinitions
 pub mod Preconditions
-pub mod HeaderCode
 pub mod InPlace
 pub mod Kept
 pub mod BytesInsideNumbers
@@ -32,7 +31,6 @@ pub mod RecordFronts
 pub mod RecordsInProgress
 pub mod EmptyMessages
 pub mod ReadBytes
-pub mod SkippedInSection
 pub mod Limits
 pub mod HeldParts
 pub mod EntriesSoFar

@@ -9,7 +9,7 @@ use Rattle.fit_step.proofs.Common.{new_message, new_dev, header_move, message_mo
 use Rattle.fit_step.proofs.Common.{IsDefinitionPart, IsPart, state_of, HasBegun, ◌≤◌, with_number, order_at, learn, can_fill, goes_on, next_with_bytes, drop}
 use Rattle.fit_step.proofs.Common.{◌==◌}
 use Rattle.fit_record.proofs.CarriedMessages.{same_filling}
-use Rattle.fit_step.proofs.HeaderCode.{begun_message}
+use Rattle.fit_step.proofs.HeaderSteps.{begun_message}
 use Rattle.fit_step.proofs.Lengths.{message_sizes}
 use Rattle.fit_step.proofs.TwoLists.{dev_found, field_found, dev_begun, field_begun}
 

@@ -12,7 +12,7 @@ use Rattle.fit_step.proofs.Common.{IsDefinitionPart, IsNew, HasNone, IsPart, sta
 use Rattle.fit_step.proofs.Common.{◌==◌, sum_by}
 use Rattle.fit_record.proofs.DefinitionInPlace.{can_fill_after}
 use Rattle.fit_record.proofs.RoomSums.{fills_by_ones}
-use Rattle.fit_step.proofs.HeaderCode.{begun_message}
+use Rattle.fit_step.proofs.HeaderSteps.{begun_message}
 use Rattle.fit_step.proofs.Rest.{Begun, field_begins, dev_begins, message_begins}
 
 -- what a step leaves can go on, and behind a whole record the room can be filled

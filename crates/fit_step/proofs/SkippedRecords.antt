@@ -4,10 +4,12 @@ use Rattle.fit_step.proofs.Common.{◌∙◌, subst, arith, length-append, Some,
 use Rattle.fit_step.proofs.Common.{length-take-le, get_or-set_other, IsBytes, IsBytes-take, IsBytes-tail, IsBytes-cons, Defined, MessageDef, Define, Data}
 use Rattle.fit_step.proofs.Common.{Values, Environment, defined_at, defined_by, describe, description, learn, bit, has_reserved_bit, is_definition, local_type}
 use Rattle.fit_step.proofs.Common.{message_size, AllFit, record_bytes, records_bytes, IsRecord, size_to_skip, AreSizesToSkip, HeadsMessage, IsSkipped}
-use Rattle.fit_step.proofs.Common.{AreSkipped, ◌≤◌, ◌==◌, drop, slice_index, slice_set}
+use Rattle.fit_step.proofs.Common.{AreSkipped, ◌≤◌, ◌==◌, drop, slice_index, slice_set, ◌-◌, Record, learn_all, CanFill, six_and_more, Position, IsInProgress}
+use Rattle.fit_step.proofs.Common.{Begins}
 use Rattle.std.proofs.lemmas.Grind.{get_or-set_at}
 use Rattle.fit_record.proofs.RecordLists.{all_fit-append, records_bytes-append, learn_all-append}
 use Rattle.fit_step.proofs.WholeMessage.{data_read, data_record}
+use Rattle.fit_step.proofs.RecordsInProgress.{begins_record, idle_between_records, sixteen_learned}
 
 -- ---- one message
 
@@ -94,3 +96,29 @@ sizes_after {A} e d sizes size long low told is k less =
           ∙ sym (ap (λ (o : Option (Defined A)). option_map_or (λ p. cond (p.definition.global == 206) 0 (1 + message_size p)) o 0)
           (get_or-set_other e.places d.local k (Some (defined_by e d)) None other.1))
     ]
+
+-- ---- in a data section
+
+pub sixteen_all : {A : Type 0} (e : Environment A) (records : List (Record A)) → length e.places ≡ 16 → length (learn_all e records).places ≡ 16
+sixteen_all e [] sixteen = sixteen
+sixteen_all e (r ∷ records) sixteen = sixteen_all (learn e r) records (sixteen_learned e r sixteen)
+
+-- six bytes and more can be filled, whatever is known
+large_fill : {A : Type 0} (e : Environment A) (room : ℕ) → length e.places ≡ 16 → 6 ≤ room → CanFill e room
+large_fill e room sixteen large =
+    let same : 6 + (room - 6) ≡ room = omega (arith, large) in
+    subst (CanFill e) same (six_and_more e (room - 6) (omega (arith, sixteen)))
+
+pub skipped_behind : {A : Type 0} (e known : Environment A) (room : ℕ) (bytes y : List ℕ) (p q : Position) (in_progress : Option (Record A)) (used count : ℕ)
+    → in_progress ≡ None → used + 6 ≤ p.room → AreSkipped e known y count → Begins q → q.room ≡ p.room - used → IsInProgress e room bytes p in_progress
+    → (bytes ≡ []) × (used + 6 ≤ room) × IsInProgress known (room - used) [] q in_progress
+skipped_behind e known room bytes y p q in_progress used count idle large skipped begins left h =
+    let none : bytes ≡ [] = (idle_between_records e room bytes p in_progress h).0 idle in
+    let all : p.room ≡ room = omega (arith, h.total, ap length none) in
+    let sixteen : length known.places ≡ 16 = subst (λ k. length k.places ≡ 16) skipped.2 (sixteen_all e skipped.0 h.sixteen) in
+    let here = begins_record known q sixteen begins (large_fill known q.room sixteen (omega (arith, left, large))) in
+    let same : q.room ≡ room - used = omega (arith, left, all) in (
+      none,
+      omega (arith, large, all),
+      subst (λ o. IsInProgress known (room - used) [] q o) (sym idle) (subst (λ n. IsInProgress known n [] q None) same here),
+    )

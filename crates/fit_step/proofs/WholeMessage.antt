@@ -4,7 +4,7 @@ use Rattle.fit_step.proofs.Common.{length-drop, Option, nat_le, ◌&&◌, IsSome
 use Rattle.fit_step.proofs.Common.{IsBytes, both, IsBytes-take, IsBytes-cons, IsBytes-tail, FieldDef, Defined, Data, Values, Environment, defined_at, learn}
 use Rattle.fit_step.proofs.Common.{CanFill, is_compressed, is_definition, has_reserved_bit, local_type, fields_from, values_from, sizes, layout, dev_layout}
 use Rattle.fit_step.proofs.Common.{message_size, data_header, data_bytes, DataFits, Fits, order_at, IsRecord, can_fill, fills, has_length, can_carry}
-use Rattle.fit_step.proofs.Common.{can_fill_is, same_places, start, Ends, tests_of, ◌≤◌, drop, sum_by}
+use Rattle.fit_step.proofs.Common.{can_fill_after_data, start, Ends, tests_of, ◌≤◌, drop, sum_by}
 use Rattle.fit_record.proofs.MessageBytes.{message_fits}
 use Rattle.fit_record.proofs.MessageSizes.{sum-fields}
 use Rattle.fit_step.proofs.TakenAndRefusedBytes.{records_end}
@@ -85,9 +85,7 @@ module _ {A : Type 0} (e : Environment A) (p : Defined A) (b size room local : �
   filled =
       let left : room - 1 - message_size p ≡ room - (1 + size) = omega (arith, long) in
       let fill : can_fill e (room - (1 + size)) ≡ true = ap (can_fill e) (sym left) ∙ parts.1 in
-      let places = same_places e message in
-      (can_fill_is (learn e (Data message)) (room - (1 + size)) (ap length places ∙ sixteen)).0
-      (ap (λ l. fills (has_length l) (room - (1 + size))) places ∙ fill)
+      (can_fill_after_data e message (room - (1 + size)) sixteen).0 fill
 
   message_ends : Ends e (tests_of e) (start room) (take (1 + size) piece) (start (room - (1 + size))) (Data message)
   message_ends =

@@ -1,5 +1,5 @@
 use Rattle.fit_step.proofs.Common.{◌∙◌, ◌-◌, ap, sym, Ok, Data, entered}
-use Rattle.fit_step.proofs.HeaderCode.{begun_entered}
+use Rattle.fit_step.proofs.HeaderSteps.{begun_entered}
 use Rattle.fit_step.proofs.record_header.at_message.Goals as goal
 
 pub returns-clause-made : goal.returns-clause-made

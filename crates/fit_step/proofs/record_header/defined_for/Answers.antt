@@ -1,5 +1,5 @@
 use Rattle.fit_step.proofs.Common.{arith}
-use Rattle.fit_step.proofs.HeaderCode.{undefined_at, overrun_at, no_fit_at, goes_at}
+use Rattle.fit_step.proofs.HeaderSteps.{undefined_at, overrun_at, no_fit_at, goes_at}
 use Rattle.fit_step.proofs.record_header.defined_for.Goals as goal
 
 pub returns-in_default-clause-err : goal.returns-in_default-clause-err

@@ -1,5 +1,5 @@
 use Rattle.fit_step.proofs.Common.{◌≡◌, ◌+◌, inr, take, ap, ◌∙◌, subst, arith, take-take, AreSkipped, ◌≤◌}
-use Rattle.fit_step.proofs.SkippedInSection.{skipped_behind}
+use Rattle.fit_step.proofs.SkippedRecords.{skipped_behind}
 use Rattle.fit_step.proofs.skipping.skip_in_section.Goals as goal
 
 pub returns-clause-skips : goal.returns-clause-skips
