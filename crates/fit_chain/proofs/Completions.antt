@@ -41,7 +41,7 @@ fill_data n (inl none) = ([], [], IsBytes-none, (tt, refl), sym none)
 fill_data {A} n (inr many) = let same : 6 + (n - 6) ≡ n = omega (arith, many) in
     subst (CanFill {A = A} empty_environment) same (six_and_more empty_environment (n - 6) (lit< tt))
 
-regroup : (a b c d : List ℕ) → ((a ++ b) ++ c) ++ d ≡ a ++ (b ++ (c ++ d))
+pub regroup : (a b c d : List ℕ) → ((a ++ b) ++ c) ++ d ≡ a ++ (b ++ (c ++ d))
 regroup a b c d = simp append_assoc
 
 regroup_fill : (a b c d s : List ℕ) → (a ++ (b ++ (c ++ d))) ++ s ≡ ((a ++ b) ++ c) ++ (d ++ s)

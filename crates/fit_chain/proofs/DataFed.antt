@@ -8,7 +8,7 @@ use Rattle.fit_record.specs.Sizes.{HeadsEmptyMessage}
 use Rattle.fit_chain.specs.Events.{item}
 use Rattle.fit_chain.proofs.ViableGoesOn.{next_goes}
 use Rattle.fit_chain.proofs.Completions.{filled_viable}
-use Rattle.fit_chain.proofs.Next.{more_record, whole_record, room_behind, quiet, told, item_told}
+use Rattle.fit_chain.proofs.Next.{more_record, whole_record, room_behind, quiet, all_told, items_told}
 use Rattle.fit_chain.proofs.HeaderFed.{front_of, not_full}
 use Rattle.fit_chain.proofs.Telling.{quiet_of, least_of, quiet_for}
 
@@ -83,8 +83,8 @@ module _ {A : Type 0} (bytes piece : List ℕ) (k : InRecords A bytes) (are : Is
 
       pub item_least : Least A bytes piece m (item r)
       item_least = least_of bytes piece m k.files (at_data k.header k.size k.records k.part) k.come (item r) (λ events are_told. (
-        told k.files k.files (at_data k.header k.size k.records k.part) (at_data k.header k.size (k.records ++ r ∷ []) []) bytes (bytes ++ take m piece)
-            (item r) k.come item_come (item_told k.files k.header k.size k.records k.part [] r) events are_told,
+        all_told k.files k.files (at_data k.header k.size k.records k.part) (at_data k.header k.size (k.records ++ r ∷ []) []) bytes (bytes ++ take m piece)
+            (item r ∷ []) k.come item_come (items_told k.files k.header k.size k.records (r ∷ []) k.part []) events are_told,
         λ j less.
             let left : length (take (m - j) (drop j piece)) ≡ m - j = length-take-le (m - j) (drop j piece) (omega (arith, length-drop j piece, within)) in
             let parts : k.part ++ take m piece ≡ (k.part ++ take j piece) ++ take (m - j) (drop j piece) =

@@ -4,6 +4,7 @@ use Rattle.fit_chain.proofs.Common.{length-append, AllByRecursion, append_cancel
 use Rattle.fit_chain.proofs.Common.{Record, Environment, empty_environment, learn, learn_all, record_bytes, AllFit, records_bytes, body, summed, file_bytes}
 use Rattle.fit_chain.proofs.Common.{chain_bytes, IsWellFormed, IsChain, same_record, no_bytes, same_file, Progress, at_header, at_data, progress_bytes}
 use Rattle.fit_chain.proofs.Common.{IsPartial, IsUnfinished, HasCome, split}
+use Rattle.fit_chain.proofs.Completions.{regroup}
 use Rattle.fit_chain.proofs.OnePlace.{no_header, no_record}
 
 -- ---- whole files
@@ -75,9 +76,6 @@ pub record HeaderFollows {A : Type 0} (front x : List ℕ) (others : List (FitFi
   pub more : List ℕ
   pub header : header_bytes file.header (length (body file)) ≡ front ++ more
   pub behind : x ≡ more ++ (body file ++ (little_bytes 2 (checksum (summed file)) ++ chain_bytes after))
-
-regroup : (a b c d : List ℕ) → ((a ++ b) ++ c) ++ d ≡ a ++ (b ++ (c ++ d))
-regroup a b c d = simp append_assoc
 
 pub header_follows : {A : Type 0} (front x : List ℕ) (others : List (FitFile A)) → IsUnfinished {A = A} (at_header front) → AllByRecursion IsWellFormed others
     → front ++ x ≡ chain_bytes others → ((front ++ x ≡ []) × (others ≡ [])) ⊎ HeaderFollows front x others

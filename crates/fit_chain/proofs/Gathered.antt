@@ -91,33 +91,6 @@ stands_of {A} q es k (fs, g, come, is) gathers =
       records_are = ap (λ (x : Gathered A). x.records) same;
     }
 
-module _ {A : Type 0} (files : List (FitFile A)) (head : Option Header) (records : List (Record A)) (p q : List ℕ) (s : ComesToRecords files head records p)
-  where
-    here : AreEvents p (flat_map file_events files ++ progress_events s.progress)
-    here = (files, s.progress, s.come, refl)
-
-    gathers : gather (gathered [] None []) (flat_map file_events files ++ progress_events s.progress) ≡ Some (gathered files head records)
-    gathers = gather-all files s.progress ∙ (λ i. Some (gathered files (s.head_is i) (s.records_are i)))
-
-    -- no event more
-    pub stands_quiet : ((events : List (Event A)) → AreEvents p events → AreEvents q events) → ComesToRecords files head records q
-    stands_quiet still = stands_of q _ (gathered files head records) (still _ here) gathers
-
-    one_more : (x : Event A) → gather (gathered [] None []) ((flat_map file_events files ++ progress_events s.progress) ++ x ∷ [])
-        ≡ gather (gathered files head records) (x ∷ [])
-    one_more x = gather-append (gathered [] None []) (flat_map file_events files ++ progress_events s.progress) (x ∷ [])
-        ∙ ap (λ o. then_gather o (λ h. gather h (x ∷ []))) gathers
-
-    pub stands_header : (h : Header) (n : ℕ) → ((events : List (Event A)) → AreEvents p events → AreEvents q (events ++ header h n ∷ []))
-        → ComesToRecords files (Some h) records q
-    unfolding gather
-    stands_header h n tells = stands_of q _ (gathered files (Some h) records) (tells _ here) (one_more (header h n))
-
-    pub stands_item : (r : Record A) → ((events : List (Event A)) → AreEvents p events → AreEvents q (events ++ item r ∷ []))
-        → ComesToRecords files head (records ++ r ∷ []) q
-    unfolding gather
-    stands_item r tells = stands_of q _ (gathered files head (records ++ r ∷ [])) (tells _ here) (one_more (item r))
-
 -- the events and the end of a file
 ends_there : {A : Type 0} (files : List (FitFile A)) (head : Option Header) (records : List (Record A)) (q : List ℕ) (es : List (Event A))
     → gather (gathered [] None []) es ≡ Some (gathered files head records) → AreEvents q (es ++ file_end ∷ [])
@@ -142,9 +115,34 @@ module _ {A : Type 0} (files : List (FitFile A)) (head : Option Header) (records
   pub are_here : AreEvents p events_here
   are_here = (files, s.progress, s.come, refl)
 
+  gathers : gather (gathered [] None []) events_here ≡ Some (gathered files head records)
+  gathers = gather-all files s.progress ∙ (λ i. Some (gathered files (s.head_is i) (s.records_are i)))
+
+  one_more : (x : Event A) → gather (gathered [] None []) (events_here ++ x ∷ []) ≡ gather (gathered files head records) (x ∷ [])
+  one_more x = gather-append (gathered [] None []) events_here (x ∷ []) ∙ ap (λ o. then_gather o (λ h. gather h (x ∷ []))) gathers
+
   pub stands_with : (q : List ℕ) → AreEvents q events_here → ComesToRecords files head records q
-  stands_with q are = stands_of q events_here (gathered files head records) are (gathers files head records p p s)
+  stands_with q are = stands_of q events_here (gathered files head records) are gathers
 
   pub ends_with : (q : List ℕ) → AreEvents q (events_here ++ file_end ∷ [])
       → (h : Header) × (head ≡ Some h) × ComesToRecords (files ++ record { header = h; records = records } ∷ []) None [] q
-  ends_with q are = ends_there files head records q events_here (gathers files head records p p s) are
+  ends_with q are = ends_there files head records q events_here gathers are
+
+module _ {A : Type 0} (files : List (FitFile A)) (head : Option Header) (records : List (Record A)) (p q : List ℕ) (s : ComesToRecords files head records p)
+  where
+    here : AreEvents p (events_here files head records p s)
+    here = are_here files head records p s
+
+    -- no event more
+    pub stands_quiet : ((events : List (Event A)) → AreEvents p events → AreEvents q events) → ComesToRecords files head records q
+    stands_quiet still = stands_with files head records p s q (still _ here)
+
+    pub stands_header : (h : Header) (n : ℕ) → ((events : List (Event A)) → AreEvents p events → AreEvents q (events ++ header h n ∷ []))
+        → ComesToRecords files (Some h) records q
+    unfolding gather
+    stands_header h n tells = stands_of q _ (gathered files (Some h) records) (tells _ here) (one_more files head records p s (header h n))
+
+    pub stands_item : (r : Record A) → ((events : List (Event A)) → AreEvents p events → AreEvents q (events ++ item r ∷ []))
+        → ComesToRecords files head (records ++ r ∷ []) q
+    unfolding gather
+    stands_item r tells = stands_of q _ (gathered files head (records ++ r ∷ [])) (tells _ here) (one_more files head records p s (item r))

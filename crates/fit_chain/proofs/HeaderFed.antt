@@ -2,11 +2,11 @@
 use Rattle.fit_chain.proofs.Common.{◌≡◌, cond, ℕ, zero, suc, ◌+◌, ◌-◌, ◌<◌, ◌≤◌, List, [], ◌∷◌, ◌++◌, length, take, drop, slice_index, length-drop, refl, sym}
 use Rattle.fit_chain.proofs.Common.{ap, ◌∙◌, subst, arith, append_assoc, Some, ne_eqb, eq-eqb, length-take-le, IsBytes, Header, Reason, TooManyFiles}
 use Rattle.fit_chain.proofs.Common.{BeginsHeader, IsFileHeader, IsWholeHeader, RefusesByte, FitFile, chain_limit, IsViable, Progress, at_header, at_data}
-use Rattle.fit_chain.proofs.Common.{HasCome, header, files_begun, IsRefused, reason_at, reason_in_file, Quiet, Least}
-use Rattle.fit_chain.proofs.ViableGoesOn.{next_goes}
+use Rattle.fit_chain.proofs.Common.{HasCome, header, IsRefused, reason_at, reason_in_file, Quiet, Least}
+use Rattle.fit_chain.proofs.ViableGoesOn.{begun_of_header, next_goes}
 use Rattle.fit_chain.proofs.Completions.{goes_viable}
 use Rattle.fit_chain.proofs.Whole.{NoHeader, no_header_before, begun_header, before_header}
-use Rattle.fit_chain.proofs.Next.{more_header, whole_header, quiet, told, header_told}
+use Rattle.fit_chain.proofs.Next.{more_header, whole_header, quiet, all_told, header_told}
 use Rattle.fit_chain.proofs.Telling.{quiet_of, least_of, quiet_for}
 
 -- a limit that isn't reached gives no reason
@@ -37,7 +37,7 @@ module _ {A : Type 0} (files : List (FitFile A)) (front bytes piece : List ℕ) 
   -- those with which it is whole tell it, and fewer nothing
   pub header_least : (k : ℕ) (h : Header) (n : ℕ) → k ≤ length piece → IsFileHeader h n (front ++ take k piece) → Least A bytes piece k (header h n)
   header_least k h n within whole = least_of bytes piece k files (at_header front) come (header h n) (λ events are. (
-    told files files (at_header front) (at_data h n [] []) bytes (bytes ++ take k piece) (header h n) come
+    all_told files files (at_header front) (at_data h n [] []) bytes (bytes ++ take k piece) (header h n ∷ []) come
         (whole_header files front bytes (take k piece) h n come whole) (header_told files front h n) events are,
     λ j less.
         let left : length (take (k - j) (drop j piece)) ≡ k - j = length-take-le (k - j) (drop j piece) (omega (arith, length-drop j piece, within)) in
@@ -57,17 +57,13 @@ module _ {A : Type 0} (files : List (FitFile A)) (front bytes piece : List ℕ) 
       let here = header_fronts k (omega (arith, within)) (begun_header now begun.0 begun.1) k (omega arith) in
       record {
         viable = goes_viable chain_limit files (at_header now) (bytes ++ take k piece) here are
-            (omega (arith, few), omega (arith, few, begun_at files now), begun.0);
+            (omega (arith, few), omega (arith, few, begun_of_header files now), begun.0);
         refused = λ more. refuses.ends (next_goes chain_limit files (at_header now) (bytes ++ take k piece) (slice_index piece k) here more).2;
         files = files;
         progress = at_header now;
         come = here;
         because = not_full A chain_limit (length files) (at_header now) (slice_index piece k) few ∙ ap Some (sym refuses.why);
       }
-    where
-      begun_at : (fs : List (FitFile A)) (l : List ℕ) → files_begun fs (at_header l) ≤ length fs + 1
-      begun_at fs [] = omega arith
-      begun_at fs (b ∷ l) = omega arith
 
   -- a byte behind the last file that a chain may have
   pub full_refuses : (b : ℕ) → front ≡ [] → length files ≡ chain_limit → IsViable A chain_limit bytes → IsRefused A chain_limit bytes b TooManyFiles

@@ -116,29 +116,30 @@ quiet fs g k p q come next same events are =
     let one = one_list_of_events p events (events_of fs g) are (are_events fs g p come) in
     (fs, k, next, one ∙ ap (λ es. flat_map file_events fs ++ es) (sym same))
 
--- one event more
-pub told : {A : Type 0} (fs gs : List (FitFile A)) (g k : Progress A) (p q : List ℕ) (x : Event A) → HasCome fs g p → HasCome gs k q
-    → events_of gs k ≡ events_of fs g ++ x ∷ [] → (events : List (Event A)) → AreEvents p events → AreEvents q (events ++ x ∷ [])
+-- some events more
+pub all_told : {A : Type 0} (fs gs : List (FitFile A)) (g k : Progress A) (p q : List ℕ) (xs : List (Event A)) → HasCome fs g p → HasCome gs k q
+    → events_of gs k ≡ events_of fs g ++ xs
+    → (events : List (Event A)) → AreEvents p events → AreEvents q (events ++ xs)
 unfolding events_of
-told fs gs g k p q x come next more events are =
+all_told fs gs g k p q xs come next more events are =
     let one = one_list_of_events p events (events_of fs g) are (are_events fs g p come) in
-    (gs, k, next, ap (λ es. es ++ x ∷ []) one ∙ sym more)
+    (gs, k, next, ap (λ es. es ++ xs) one ∙ sym more)
 
 pub header_told : {A : Type 0} (fs : List (FitFile A)) (front : List ℕ) (h : Header) (n : ℕ)
     → events_of fs (at_data h n [] []) ≡ events_of fs (at_header front) ++ header h n ∷ []
 unfolding events_of
 header_told fs front h n = sym (append_assoc (flat_map file_events fs) [] (header h n ∷ []))
 
-map-append : {A : Type 0} (rs : List (Record A)) (r : Record A) → map item (rs ++ r ∷ []) ≡ map item rs ++ item r ∷ []
-map-append [] r = refl
-map-append (s ∷ rs) r = ap (λ es. item s ∷ es) (map-append rs r)
+map_item-append : {A : Type 0} (rs ss : List (Record A)) → map item (rs ++ ss) ≡ map item rs ++ map item ss
+map_item-append [] ss = refl
+map_item-append (r ∷ rs) ss = ap (λ es. item r ∷ es) (map_item-append rs ss)
 
-pub item_told : {A : Type 0} (fs : List (FitFile A)) (h : Header) (n : ℕ) (records : List (Record A)) (part other : List ℕ) (r : Record A)
-    → events_of fs (at_data h n (records ++ r ∷ []) other) ≡ events_of fs (at_data h n records part) ++ item r ∷ []
+pub items_told : {A : Type 0} (fs : List (FitFile A)) (h : Header) (n : ℕ) (records rs : List (Record A)) (part other : List ℕ)
+    → events_of fs (at_data h n (records ++ rs) other) ≡ events_of fs (at_data h n records part) ++ map item rs
 unfolding events_of
-item_told fs h n records part other r =
-    ap (λ es. flat_map file_events fs ++ header h n ∷ es) (map-append records r)
-    ∙ sym (append_assoc (flat_map file_events fs) (header h n ∷ map item records) (item r ∷ []))
+items_told fs h n records rs part other =
+    ap (λ es. flat_map file_events fs ++ header h n ∷ es) (map_item-append records rs)
+    ∙ sym (append_assoc (flat_map file_events fs) (header h n ∷ map item records) (map item rs))
 
 flat_map-last : {A : Type 0} (fs : List (FitFile A)) (f : FitFile A) → flat_map file_events (fs ++ f ∷ []) ≡ flat_map file_events fs ++ file_events f
 flat_map-last [] f = append-nil (file_events f)
@@ -153,24 +154,3 @@ end_told {A} fs h n records part size =
     append-nil (flat_map file_events (fs ++ f ∷ [])) ∙ flat_map-last fs f
     ∙ ap (λ m. flat_map file_events fs ++ (header h m ∷ map item records ++ file_end ∷ [])) (sym size)
     ∙ sym (append_assoc (flat_map file_events fs) (header h n ∷ map item records) (file_end ∷ []))
-
--- ---- some records more
-
-map_item-append : {A : Type 0} (rs ss : List (Record A)) → map item (rs ++ ss) ≡ map item rs ++ map item ss
-map_item-append [] ss = refl
-map_item-append (r ∷ rs) ss = ap (λ es. item r ∷ es) (map_item-append rs ss)
-
-pub items_told : {A : Type 0} (fs : List (FitFile A)) (h : Header) (n : ℕ) (records rs : List (Record A)) (part other : List ℕ)
-    → events_of fs (at_data h n (records ++ rs) other) ≡ events_of fs (at_data h n records part) ++ map item rs
-unfolding events_of
-items_told fs h n records rs part other =
-    ap (λ es. flat_map file_events fs ++ header h n ∷ es) (map_item-append records rs)
-    ∙ sym (append_assoc (flat_map file_events fs) (header h n ∷ map item records) (map item rs))
-
-pub all_told : {A : Type 0} (fs gs : List (FitFile A)) (g k : Progress A) (p q : List ℕ) (xs : List (Event A)) → HasCome fs g p → HasCome gs k q
-    → events_of gs k ≡ events_of fs g ++ xs
-    → (events : List (Event A)) → AreEvents p events → AreEvents q (events ++ xs)
-unfolding events_of
-all_told fs gs g k p q xs come next more events are =
-    let one = one_list_of_events p events (events_of fs g) are (are_events fs g p come) in
-    (gs, k, next, ap (λ es. es ++ xs) one ∙ sym more)

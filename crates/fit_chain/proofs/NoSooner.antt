@@ -5,7 +5,7 @@ use Rattle.fit_chain.proofs.Common.{SizeFits, HeaderFits, header_bytes, length-h
 use Rattle.fit_chain.proofs.Common.{summed, chain_bytes, chain_limit, IsChain, Progress, at_header, at_data, HasCome, missing, Needs, NoFileEndsBefore}
 use Rattle.std.proofs.Common.{nat_lt}
 use Rattle.fit_frame.specs.declared.header.HeaderSum.{HeaderSum}
-use Rattle.fit_frame.specs.declared.header.HeaderSum.TheVariants.{Absent, Zero, True}
+use Rattle.fit_frame.specs.declared.header.HeaderSum.TheVariants.{Absent}
 use Rattle.fit_chain.proofs.OnePlace.{one_place}
 use Rattle.fit_chain.proofs.Following.{header_follows, data_follows, chain_follows}
 
@@ -13,8 +13,7 @@ use Rattle.fit_chain.proofs.Following.{header_follows, data_follows, chain_follo
 
 least_size : (s : HeaderSum) (size : ℕ) (rest : List ℕ) → SizeFits s size rest → 12 ≤ size
 least_size Absent size rest fits = omega (arith, fits.0)
-least_size Zero size rest fits = omega (arith, fits)
-least_size True size rest fits = omega (arith, fits)
+least_size sum size rest fits = omega (arith, fits)
 
 at_most_14 : (c : Bool) → cond c 14 1 ≤ 14
 at_most_14 true = omega arith
@@ -23,14 +22,7 @@ at_most_14 false = omega arith
 -- the data size stands in a front of eight bytes
 same_size : (front more : List ℕ) → 8 ≤ length front → little (take 4 (drop 4 (front ++ more))) ≡ little (take 4 (drop 4 front))
 same_size (a ∷ b ∷ c ∷ d ∷ e ∷ f ∷ g ∷ h ∷ front) more long = refl
-same_size (a ∷ b ∷ c ∷ d ∷ e ∷ f ∷ g ∷ []) more long = absurd (omega (arith, long))
-same_size (a ∷ b ∷ c ∷ d ∷ e ∷ f ∷ []) more long = absurd (omega (arith, long))
-same_size (a ∷ b ∷ c ∷ d ∷ e ∷ []) more long = absurd (omega (arith, long))
-same_size (a ∷ b ∷ c ∷ d ∷ []) more long = absurd (omega (arith, long))
-same_size (a ∷ b ∷ c ∷ []) more long = absurd (omega (arith, long))
-same_size (a ∷ b ∷ []) more long = absurd (omega (arith, long))
-same_size (a ∷ []) more long = absurd (omega (arith, long))
-same_size [] more long = absurd (omega (arith, long))
+same_size front more long = absurd (omega (arith, long))
 
 size_told : (h : Header) (n : ℕ) (front more : List ℕ) → n < 2 ^ 32 → header_bytes h n ≡ front ++ more → 8 ≤ length front → little (take 4 (drop 4 front)) ≡ n
 size_told h n front more small is long = sym (same_size front more long) ∙ sym (ap (λ l. little (take 4 (drop 4 l))) is) ∙ little-little_bytes 4 n small

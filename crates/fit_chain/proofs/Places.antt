@@ -72,9 +72,6 @@ record Begun (A : Type 0) (bytes : List ℕ) : Type 0 where
   open_ : IsUnfinished progress
   spelled : bytes ≡ progress_bytes progress
 
-regroup : (a b c d : List ℕ) → ((a ++ b) ++ c) ++ d ≡ a ++ (b ++ (c ++ d))
-regroup a b c d = simp append_assoc
-
 in_data : {A : Type 0} (f : FitFile A) (bytes q : List ℕ) (c : ℕ) (m : List ℕ) → IsWellFormed f → bytes ≡ header_bytes f.header (length (body f)) ++ q
     → body f ++ little_bytes 2 (checksum (summed f)) ≡ q ++ c ∷ m → Begun A bytes
 in_data f bytes q c m well is joined =

@@ -1,11 +1,11 @@
 -- What bytes of a closing sum make of the place, of the events and of what can follow.
-use Rattle.fit_chain.proofs.Common.{◌≡◌, cond, ℕ, zero, suc, ◌-◌, ◌<◌, ◌≤◌, List, [], ◌∷◌, ◌++◌, length, take, slice_index, length-append, refl, ap, ◌∙◌, arith}
+use Rattle.fit_chain.proofs.Common.{◌≡◌, cond, ℕ, zero, suc, ◌+◌, ◌-◌, ◌<◌, ◌≤◌, List, [], ◌∷◌, ◌++◌, length, take, slice_index, length-append, refl, ap, ◌∙◌}
 use Rattle.fit_chain.proofs.Common.{Some, eq-eqb, length-take-le, IsBytes, little_bytes, length-little_bytes, IsBytes-append, IsBytes-take, checksum, Header}
 use Rattle.fit_chain.proofs.Common.{FileSum, header_bytes, FitFile, Record, Environment, empty_environment, learn_all, records_bytes, chain_limit, IsViable}
-use Rattle.fit_chain.proofs.Common.{record_reason, at_header, at_data, HasCome, file_end, DataGoesOn, ChainGoesOn, IsRefused, Quiet, Least}
+use Rattle.fit_chain.proofs.Common.{arith, record_reason, at_header, at_data, HasCome, file_end, DataGoesOn, ChainGoesOn, IsRefused, Quiet, Least}
 use Rattle.fit_chain.proofs.ViableGoesOn.{next_goes, begins_nothing, no_room}
 use Rattle.fit_chain.proofs.Completions.{goes_viable}
-use Rattle.fit_chain.proofs.Next.{more_sum, whole_file, quiet, told, end_told}
+use Rattle.fit_chain.proofs.Next.{more_sum, whole_file, quiet, all_told, end_told}
 use Rattle.fit_chain.proofs.HeaderFed.{not_full}
 use Rattle.fit_chain.proofs.Telling.{quiet_of, least_of, quiet_for}
 
@@ -25,19 +25,15 @@ module _ {A : Type 0} (files : List (FitFile A)) (h : Header) (n : ℕ) (records
   abbrev e : Environment A
   e = learn_all empty_environment records
 
+  -- how much longer a longer front of the piece makes it
+  grown : (j k : ℕ) → j ≤ k → k ≤ length piece → length (part ++ take k piece) ≡ length (part ++ take j piece) + (k - j)
+  grown j k less within = simp (length-append, length-take-le k piece within, length-take-le j piece (omega (arith, less, within))) (omega arith)
+
   pub sum_fronts : (k : ℕ) → k ≤ length piece → length (part ++ take k piece) < 2 → (j : ℕ) → j ≤ k
       → HasCome files (at_data h n records (part ++ take j piece)) (bytes ++ take j piece)
   sum_fronts k within short j less =
       more_sum files h n records part bytes (take j piece) here over
-      (omega (
-        arith,
-        short,
-        less,
-        length-append part (take j piece),
-        length-append part (take k piece),
-        length-take-le j piece (omega (arith, less, within)),
-        length-take-le k piece within,
-      ))
+      (omega (arith, short, grown j k less within))
 
   pub sum_quiet : (k : ℕ) → k ≤ length piece → length (part ++ take k piece) < 2 → Quiet A bytes piece k
   sum_quiet k within short = quiet_of bytes piece k files (at_data h n records part) here (λ events are_told j less.
@@ -68,20 +64,11 @@ module _ {A : Type 0} (files : List (FitFile A)) (h : Header) (n : ℕ) (records
 
   pub file_least : (k : ℕ) → k ≤ length piece → part ++ take k piece ≡ sum → Least A bytes piece k file_end
   file_least k within whole = least_of bytes piece k files (at_data h n records part) here file_end (λ events are_told. (
-    told files (files ++ file ∷ []) (at_data h n records part) (at_header []) bytes (bytes ++ take k piece) file_end here (file_come k whole)
+    all_told files (files ++ file ∷ []) (at_data h n records part) (at_header []) bytes (bytes ++ take k piece) (file_end ∷ []) here (file_come k whole)
         (end_told files h n records part (omega (arith, over, here.next.2))) events are_told,
     λ j less.
         let two : length (part ++ take k piece) ≡ 2 = ap length whole ∙ length-little_bytes 2 (checksum summed) in
-        let short : length (part ++ take j piece) < 2 =
-        omega (
-          arith,
-          two,
-          less,
-          length-append part (take j piece),
-          length-append part (take k piece),
-          length-take-le j piece (omega (arith, less, within)),
-          length-take-le k piece within,
-        ) in
+        let short : length (part ++ take j piece) < 2 = omega (arith, two, less, grown j k (omega (arith, less)) within) in
         quiet_for bytes piece j (sum_quiet j (omega (arith, less, within)) short) events are_told j (omega arith),
   ))
 

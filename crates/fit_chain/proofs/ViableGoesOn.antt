@@ -20,21 +20,12 @@ with_bytes (at_data h n records part) y = at_data h n records (part ++ y)
 -- records that fill an empty file's data section have six bytes at least
 filled_size : (n : ℕ) → can_fill {A = Unit {0}} empty_environment n ≡ true → IsDataSize n
 filled_size zero h = inl refl
-filled_size (suc zero) h = absurd cc
-filled_size (suc (suc zero)) h = absurd cc
-filled_size (suc (suc (suc zero))) h = absurd cc
-filled_size (suc (suc (suc (suc zero)))) h = absurd cc
-filled_size (suc (suc (suc (suc (suc zero))))) h = absurd cc
 filled_size (suc (suc (suc (suc (suc (suc n)))))) h = inr (omega arith)
+filled_size n h = absurd cc
 
 same_filled : (A : Type 0) (n : ℕ) → can_fill {A = A} empty_environment n ≡ can_fill {A = Unit {0}} empty_environment n
-same_filled A zero = refl
-same_filled A (suc zero) = refl
-same_filled A (suc (suc zero)) = refl
-same_filled A (suc (suc (suc zero))) = refl
-same_filled A (suc (suc (suc (suc zero)))) = refl
-same_filled A (suc (suc (suc (suc (suc zero))))) = refl
 same_filled A (suc (suc (suc (suc (suc (suc n)))))) = refl
+same_filled A n = refl
 
 data_size : {A : Type 0} (f : FitFile A) → IsWellFormed f → IsBytes (body f) → IsDataSize (length (body f))
 data_size {A} f well are =
@@ -48,7 +39,7 @@ begins_nothing = record {
   whole = record { header = short_header.header; data_size = 0; is = ((short_header_bytes.0.header, refl), inl refl) };
 }
 
-begun_of_header : {A : Type 0} (fs : List (FitFile A)) (front : List ℕ) → files_begun fs (at_header front) ≤ length fs + 1
+pub begun_of_header : {A : Type 0} (fs : List (FitFile A)) (front : List ℕ) → files_begun fs (at_header front) ≤ length fs + 1
 begun_of_header fs [] = omega arith
 begun_of_header fs (b ∷ front) = omega arith
 
