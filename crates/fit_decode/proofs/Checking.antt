@@ -100,15 +100,13 @@ stopped upload old new rest (Read place) short f s = absurd ((s.others place).1 
 
 pub stopped_at : (upload : List ℕ) (old new : Seen) (rest : List ℕ) (fault : Fault) → length upload < 2 ^ 64 → Feeds upload old rest → Stops old rest new fault
     → LacksMemoryAt upload (fault_after (length upload - length rest) fault)
-stopped_at upload old new rest (Refused place reason) short f s = tt
-stopped_at upload old new rest (Truncated place) short f s = tt
 stopped_at upload old new rest (NoMemory used) short f s =
     let w = s.memory used refl in
     let whole : length old.bytes + length rest ≡ length upload = sym (length-append old.bytes rest) ∙ ap length f.joined in
     let place = min (used + (length upload - length rest)) (2 ^ 64 - 1) in
     subst (λ bytes. LacksMemoryAt bytes (NoMemory place)) f.joined
     (wants_in old.bytes rest used place (omega (arith, short, whole, w.within)) w.within w.next w.takes)
-stopped_at upload old new rest (Read place) short f s = tt
+stopped_at upload old new rest fault short f s = tt
 
 -- ---- the end
 

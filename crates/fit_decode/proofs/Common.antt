@@ -50,8 +50,6 @@ pub use Rattle.fit_step.specs.declared.position.Position.{Position}
 pub use Rattle.fit_step.specs.declared.stop.Stop.{Stop}
 pub use Rattle.fit_sum.specs.Checksum.{checksum}
 pub use denote.Param.{layout}
-pub use mir.Syntax.{Ty, ty_int, ty_bool, ty_float, ty_ptr, ty_ref, ty_array, ty_unit, ty_struct, ty_enum, Tys, tnil, tcons, ty_param, ty_const}
-pub use mir.Syntax.{ty_array_p, ty_named}
 pub use Rattle.fit_decode.specs.Answers.{Refuses, Wants, fed, event_of, Seen as Fed}
 pub use Rattle.fit_decode.specs.Reads.{EndsReading, ReadsChain, GivesChain, GivesFile, IsNearlyViable, piece_size, EndsChain, GivesNext, Past}
 pub use Rattle.fit_decode.specs.Reads.{Channel, BeginsWithFile, ReadsOne}

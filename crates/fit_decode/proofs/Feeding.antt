@@ -13,18 +13,14 @@ use Rattle.fit_decode.proofs.Ended.{HasEnded, ended_chain, chain_ended}
 
 used_at_most : {A : Type 0} (bytes piece : List ℕ) (used : ℕ) (answer : Result (Answer A) Stop) → Advanced bytes piece used answer → used ≤ length piece
 used_at_most bytes piece used (Ok answers.More) t = omega (arith, t.0)
-used_at_most bytes piece used (Ok (answers.Header h n)) t = t.1
-used_at_most bytes piece used (Ok (answers.Item r)) t = t.1
-used_at_most bytes piece used (Ok answers.FileEnd) t = t.1
+used_at_most bytes piece used (Ok event) t = t.1
 used_at_most bytes piece used (Err (Refused reason)) t = omega (arith, t.0)
 used_at_most bytes piece used (Err NoMemory) t = omega (arith, t.0)
 
 tells_none : {A : Type 0} (bytes piece : List ℕ) (used : ℕ) (event : Answer A) → Advanced bytes piece used (Ok event) → event_of event ≡ None
     → (used ≡ length piece) × Quiet A bytes piece used
 tells_none bytes piece used answers.More t is = t
-tells_none bytes piece used (answers.Header h n) t is = absurd cc
-tells_none bytes piece used (answers.Item r) t is = absurd cc
-tells_none bytes piece used answers.FileEnd t is = absurd cc
+tells_none bytes piece used event t is = absurd cc
 
 tells_one : {A : Type 0} (bytes piece : List ℕ) (used : ℕ) (event : Answer A) → Advanced bytes piece used (Ok event) → (x : Event A) → event_of event ≡ Some x
     → (0 < used) × Least A bytes piece used x

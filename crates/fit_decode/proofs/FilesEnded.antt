@@ -1,5 +1,5 @@
 -- How many files have ended, by the fields, is the number of those that are whole in the bytes fed.
-use Rattle.fit_decode.proofs.Common.{◌≡◌, ℕ, List, length, None, ap, ◌∙◌, subst, sym, FitFile, Inside, Section, Data, ClosingSum, Progress, HasCome, Fields}
+use Rattle.fit_decode.proofs.Common.{◌≡◌, ℕ, List, length, None, ap, ◌∙◌, subst, sym, FitFile, Inside, Section, Progress, HasCome, Fields}
 use Rattle.fit_decode.proofs.Common.{HoldsAt, IsSoundDecoder, fields_inside, one_place}
 use Rattle.fit_decode.specs.declared.section.Section.TheVariants.{Header}
 use Rattle.fit_decode.specs.Answers.{Seen}
@@ -7,8 +7,7 @@ use Rattle.fit_decode.specs.Answers.{Seen}
 module _ {A : Type 0} (d : Fields A) (bytes : List ℕ) (fs : List (FitFile A)) (g : Progress A) (come : HasCome fs g bytes) where
   ended_at : (s : Section) → HoldsAt s d bytes → d.count ≡ length fs
   ended_at Header k = k.counted ∙ ap length (one_place k.files fs _ g bytes k.come come).0
-  ended_at Data k = k.counted ∙ ap length (one_place k.files fs _ g bytes k.come come).0
-  ended_at ClosingSum k = k.counted ∙ ap length (one_place k.files fs _ g bytes k.come come).0
+  ended_at s k = k.counted ∙ ap length (one_place k.files fs _ g bytes k.come come).0
 
 pub files_ended : {A : Type 0} (d : Inside A) → IsSoundDecoder d → (old : Seen) → record { bytes = d.history.items; refusal = d.refusal } ≡ old
     → old.refusal ≡ None

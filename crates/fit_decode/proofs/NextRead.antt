@@ -98,9 +98,6 @@ module _ {A : Type 0} (files : List (FitFile A)) (before : Seen) (count : ℕ) (
     pub still : IsBehind files new now taken
 
   pub next_end : (fault : Fault) → FileRead files before.bytes old taken had has failed new (Err fault) → IsEnd A new fault true → AtEnd
-  next_end (Refused place reason) r end = absurd cc
-  next_end (NoMemory used) r end = absurd cc
-  next_end (Read place) r end = absurd cc
   next_end (Truncated place) r end =
       let is = told (Err (Truncated place)) r in
       let chain : AreChain A taken = subst (λ (v : Seen). AreChain A v.bytes) is.3 (end.0 refl).1 in
@@ -121,6 +118,7 @@ module _ {A : Type 0} (files : List (FitFile A)) (before : Seen) (count : ℕ) (
           come = subst (HasCome files (at_header [])) (sym same) behind.come;
         };
       }
+  next_end fault r end = absurd cc
 
   -- ---- where a file's bytes begin what is left
 
@@ -144,15 +142,12 @@ pub end_not_given : {A : Type 0} (f : FitFile A) (n : ℕ) (x : List ℕ) (sourc
     → GivesFile f n x source (Err fault) → ⊥
 end_not_given f n x source new (Refused place reason) end never = never
 end_not_given f n x source new (Truncated place) end never = never
-end_not_given f n x source new (NoMemory used) end gives = absurd cc
-end_not_given f n x source new (Read place) end gives = absurd cc
+end_not_given f n x source new fault end gives = absurd cc
 
 pub fault_given : {A : Type 0} (f : FitFile A) (n : ℕ) (x : List ℕ) (source : Channel) (fault : Fault) → GivesFile f n x source (Err fault)
     → GivesNext f n x source (Err fault)
 fault_given f n x source (Refused place reason) never = never
-fault_given f n x source (Truncated place) never = never
-fault_given f n x source (NoMemory used) gives = gives
-fault_given f n x source (Read place) gives = gives
+fault_given f n x source fault gives = gives
 
 pub keeps : (a b : Option (List ℕ)) → Consumes a b [] → Keeps a b
 keeps None b h = tt

@@ -48,8 +48,7 @@ turn_of files bytes piece n has failed new head records (Err (NoMemory used)) le
   },
   good,
 )
-turn_of files bytes piece n has failed new head records (Err (Truncated place)) least short some small good viable come never = absurd never
-turn_of files bytes piece n has failed new head records (Err (Read place)) least short some small good viable come never = absurd never
+turn_of files bytes piece n has failed new head records (Err fault) least short some small good viable come never = absurd never
 
 -- nothing more was taken
 module _ {A : Type 0} (files : List (FitFile A)) (head : Option Header) (records : List (Record A)) (old : Seen) (place : ℕ) (has : Option (List ℕ))

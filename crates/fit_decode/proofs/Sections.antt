@@ -136,9 +136,6 @@ module _ {A : Type 0} (d : Fields A) (bytes piece : List ℕ) (k : InHeader d by
         holds = λ _. subst (λ c. HoldsAt c now (bytes ++ take used piece)) (ap section_of (sym same) ∙ sym at)
             (begins_records k.files now (bytes ++ take used piece) h n [] come less k.counted k.whole fresh all k.known here);
       }
-  header_fed reader sum section position used (Ok (answers.Item r)) fed = absurd fed
-  header_fed reader sum section position used (Ok answers.FileEnd) fed = absurd fed
-  header_fed reader sum section position used (Err NoMemory) fed = absurd fed
   header_fed reader sum section position used (Err (Refused reason)) (inl (full, some, none, is)) =
       let all : length k.files ≡ chain_limit = omega (arith, full, k.counted, at_most (d.sum) k.goes.1) in
       let empty : d.sum ≡ [] = no_front d.sum k.goes.1 all in
@@ -168,6 +165,7 @@ module _ {A : Type 0} (d : Fields A) (bytes piece : List ℕ) (k : InHeader d by
         viable = why.viable;
         holds = λ never. absurd never;
       }
+  header_fed reader sum section position used answer fed = absurd fed
 
 -- ---- data sections
 
@@ -272,8 +270,6 @@ module _ {A : Type 0} (d : Fields A) (bytes piece : List ℕ) (k : InData d byte
               viable = data_viable bytes piece here_in are low used (record_fills known room r (k.part ++ take used piece) is fits goes);
               holds = λ _. behind_record covered r within same is fits here at;
             }
-        told_of (Ok (answers.Header h n)) fed = absurd fed
-        told_of (Ok answers.FileEnd) fed = absurd fed
         told_of (Err (Refused reason)) (reads, covered, at) =
             let (within, same, here, because, ends) = reads room k.part before in
             let upto : used ≤ length piece = omega (arith, within) in
@@ -298,6 +294,7 @@ module _ {A : Type 0} (d : Fields A) (bytes piece : List ℕ) (k : InData d byte
               viable = data_viable bytes piece here_in are low used goes.1;
               holds = λ _. within_record covered upto same here at;
             }
+        told_of answer fed = absurd fed
 
 -- ---- closing sums
 
@@ -376,9 +373,6 @@ module _ {A : Type 0} (d : Fields A) (bytes piece : List ℕ) (k : InSum d bytes
               idle = k.idle;
             });
       }
-  sum_fed half sum now env section used (Ok (answers.Header h n)) fed = absurd fed
-  sum_fed half sum now env section used (Ok (answers.Item r)) fed = absurd fed
-  sum_fed half sum now env section used (Err NoMemory) fed = absurd fed
   sum_fed half sum now env section used (Err (Refused reason)) ((is, within, joined, differs), covered, counted, same, at) =
       let begins = begins_sum half used joined in
       let why = sum_refuses k.files k.header k.size k.records part bytes piece k.come k.few k.over are low used begins.0 within (short half used joined)
@@ -393,3 +387,4 @@ module _ {A : Type 0} (d : Fields A) (bytes piece : List ℕ) (k : InSum d bytes
         viable = why.viable;
         holds = λ never. absurd never;
       }
+  sum_fed half sum now env section used answer fed = absurd fed

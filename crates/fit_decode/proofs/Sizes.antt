@@ -1,6 +1,6 @@
 -- A field of a struct takes no more memory than the struct.
-use Rattle.fit_decode.proofs.Common.{ℕ, zero, ◌+◌, ◌<◌, ◌≤◌, arith, Ty, ty_int, ty_bool, ty_float, ty_ptr, ty_ref, ty_array, ty_unit, ty_struct, ty_enum, Tys}
-use Rattle.fit_decode.proofs.Common.{tnil, tcons, ty_param, ty_const, ty_array_p, ty_named}
+use Rattle.fit_decode.proofs.Common.{ℕ, zero, ◌+◌, ◌<◌, ◌≤◌, arith}
+use mir.Syntax.{Ty, ty_unit, ty_struct, Tys, tnil, tcons}
 use prog.Memory.{align, size, pad, end_of}
 
 ends_behind : (τs : Tys) (e : ℕ) → e ≤ end_of e τs
@@ -20,25 +20,11 @@ fourth_ends : (τs : Tys) → size (fourth τs) ≤ end_of zero τs
 fourth_ends (tcons a (tcons b (tcons c (tcons d rest)))) =
     let e : ℕ = end_of zero (tcons a (tcons b (tcons c tnil))) in
     omega (arith, ends_behind rest (e + pad (align d) e + size d))
-fourth_ends (tcons a (tcons b (tcons c tnil))) = omega arith
-fourth_ends (tcons a (tcons b tnil)) = omega arith
-fourth_ends (tcons a tnil) = omega arith
-fourth_ends tnil = omega arith
+fourth_ends τs = omega arith
 
 pub fourth_is_within : (τ : Ty) (limit : ℕ) → size τ < limit → size (fourth_field τ) < limit
 fourth_is_within (ty_struct name τs) limit small = omega (arith, small, fourth_ends τs)
-fourth_is_within (ty_int w) limit small = omega (arith, small)
-fourth_is_within ty_bool limit small = omega (arith, small)
-fourth_is_within (ty_float f) limit small = omega (arith, small)
-fourth_is_within ty_ptr limit small = omega (arith, small)
-fourth_is_within (ty_ref κ μ υ) limit small = omega (arith, small)
-fourth_is_within (ty_array υ n) limit small = omega (arith, small)
-fourth_is_within ty_unit limit small = omega (arith, small)
-fourth_is_within (ty_enum name τss) limit small = omega (arith, small)
-fourth_is_within (ty_param ι) limit small = omega (arith, small)
-fourth_is_within (ty_const ι) limit small = omega (arith, small)
-fourth_is_within (ty_array_p υ ι) limit small = omega (arith, small)
-fourth_is_within (ty_named name θ) limit small = omega (arith, small)
+fourth_is_within τ limit small = omega (arith, small)
 
 abbrev first : Tys → Ty
 first (tcons a rest) = a
@@ -59,15 +45,4 @@ first_ends tnil = omega arith
 
 pub first_is_within : (τ : Ty) (limit : ℕ) → size τ < limit → size (first_field τ) < limit
 first_is_within (ty_struct name τs) limit small = omega (arith, small, first_ends τs)
-first_is_within (ty_int w) limit small = omega (arith, small)
-first_is_within ty_bool limit small = omega (arith, small)
-first_is_within (ty_float f) limit small = omega (arith, small)
-first_is_within ty_ptr limit small = omega (arith, small)
-first_is_within (ty_ref κ μ υ) limit small = omega (arith, small)
-first_is_within (ty_array υ n) limit small = omega (arith, small)
-first_is_within ty_unit limit small = omega (arith, small)
-first_is_within (ty_enum name τss) limit small = omega (arith, small)
-first_is_within (ty_param ι) limit small = omega (arith, small)
-first_is_within (ty_const ι) limit small = omega (arith, small)
-first_is_within (ty_array_p υ ι) limit small = omega (arith, small)
-first_is_within (ty_named name θ) limit small = omega (arith, small)
+first_is_within τ limit small = omega (arith, small)

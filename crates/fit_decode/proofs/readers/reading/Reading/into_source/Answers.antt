@@ -1,5 +1,6 @@
 -- The places of the environment, which is dropped with the decoder, take no more memory than the reading.
-use Rattle.fit_decode.proofs.Common.{rules, Ty, layout}
+use Rattle.fit_decode.proofs.Common.{rules, layout}
+use mir.Syntax.{Ty}
 use Rattle.fit_decode.specs.contracts.readers.reading.Reading.{the_row}
 use Rattle.fit_decode.specs.contracts.readers.reading.Reading.into_source.{S-row, A-row}
 use Rattle.fit_decode.proofs.Sizes.{first_is_within, fourth_field, fourth_is_within}

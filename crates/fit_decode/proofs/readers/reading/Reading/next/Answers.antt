@@ -3,6 +3,7 @@ use Rattle.fit_decode.proofs.Common.{rules, [], ◌∷◌, ◌++◌, length, Ok,
 use Rattle.fit_decode.specs.contracts.readers.reading.Reading.{the_row}
 use Rattle.fit_decode.specs.contracts.readers.reading.Reading.next.{S-row, A-row}
 use Rattle.fit_decode.specs.Answers.{Seen}
+use Rattle.fit_decode.specs.Reads.{channel}
 use Rattle.fit_decode.proofs.NextRead.{behind_file, comes_behind, end_not_given, fault_given, keeps, next_chain, next_end, next_fault, next_file, next_given}
 use Rattle.fit_decode.proofs.NextRead.{next_good, NextGiven}
 use Rattle.fit_decode.proofs.Sizes.{fourth_is_within}
@@ -13,8 +14,7 @@ returns-in-Some-clause-latched g c = rw (← c.self.view_is) (λ fault is. let b
 
 pub read_file-requires : goal.read_file-requires
 read_file-requires g c =
-    let files = (c.self.invariant c.in_default.is).0 in
-    let behind = (c.self.invariant c.in_default.is).1 in (
+    let (files, behind) = c.self.invariant c.in_default.is in (
       fourth_is_within (layout (the_row (S-row g.row.S g.row.A) (A-row g.row.S g.row.A) g.S.Source g.A.Allocator)) _ (search rules),
       (
         ap (λ (v : Seen). v.refusal) behind.fed,
@@ -32,8 +32,7 @@ is_end-requires g c = fourth_is_within (layout (the_row (S-row g.row.S g.row.A) 
 
 pub invariant_of-self : goal.invariant_of-self
 invariant_of-self g c = λ fresh.
-    let files = (c.self.invariant c.in_default.is).0 in
-    let behind = (c.self.invariant c.in_default.is).1 in
+    let (files, behind) = c.self.invariant c.in_default.is in
     let r = c.in-Ok.ensures.read files (comes_behind files _ _ _ behind) in (
       files ++ c.in-Ok.file ∷ [],
       behind_file files _ _ _ _ _ _ _ c.read_file.new.decoder c.read_file.new.count behind c.in-Ok.ensures.counted
@@ -42,8 +41,7 @@ invariant_of-self g c = λ fresh.
 
 pub returns-in-Ok-clause-exact : goal.returns-in-Ok-clause-exact
 returns-in-Ok-clause-exact g c =
-    let files = (c.self.invariant c.in_default.is).0 in
-    let behind = (c.self.invariant c.in_default.is).1 in
+    let (files, behind) = c.self.invariant c.in_default.is in
     let r = c.in-Ok.ensures.read files (comes_behind files _ _ _ behind) in
     let file = next_file files _ _ _ _ _ _ _ c.read_file.new.decoder c.read_file.new.count behind c.in-Ok.ensures.counted c.in-Ok.ensures.viable c.in-Ok.file r
     in
@@ -55,8 +53,7 @@ returns-in-Ok-clause-exact g c =
 
 pub returns-in-Ok-clause-file : goal.returns-in-Ok-clause-file
 returns-in-Ok-clause-file g c =
-    let files = (c.self.invariant c.in_default.is).0 in
-    let behind = (c.self.invariant c.in_default.is).1 in
+    let (files, behind) = c.self.invariant c.in_default.is in
     let r = c.in-Ok.ensures.read files (comes_behind files _ _ _ behind) in
     rw (← c.self.view_is)
     (λ fresh fs f b x input are file chain.
@@ -67,8 +64,7 @@ returns-in-Ok-clause-file g c =
 
 pub invariant_of-self-then-is_end : goal.invariant_of-self-then-is_end
 invariant_of-self-then-is_end g c = λ fresh.
-    let files = (c.self.invariant c.in_default.is).0 in
-    let behind = (c.self.invariant c.in_default.is).1 in
+    let (files, behind) = c.self.invariant c.in_default.is in
     let r = c.in-Err.ensures.read files (comes_behind files _ _ _ behind) in
     let end = subst (IsEnd g.row.A.Denot c.read_file.new.decoder c.in-Err.fault) c.if-is_end.true c.is_end.ensures in (
       files,
@@ -78,8 +74,7 @@ invariant_of-self-then-is_end g c = λ fresh.
 
 pub returns-then-is_end-clause-exact : goal.returns-then-is_end-clause-exact
 returns-then-is_end-clause-exact g c =
-    let files = (c.self.invariant c.in_default.is).0 in
-    let behind = (c.self.invariant c.in_default.is).1 in
+    let (files, behind) = c.self.invariant c.in_default.is in
     let r = c.in-Err.ensures.read files (comes_behind files _ _ _ behind) in
     let end = subst (IsEnd g.row.A.Denot c.read_file.new.decoder c.in-Err.fault) c.if-is_end.true c.is_end.ensures in
     let e = next_end files _ _ _ _ _ _ _ c.read_file.new.decoder c.read_file.new.count behind c.in-Err.ensures.counted c.in-Err.ensures.viable c.in-Err.fault r
@@ -88,16 +83,10 @@ returns-then-is_end-clause-exact g c =
 
 pub returns-then-is_end-clause-file : goal.returns-then-is_end-clause-file
 returns-then-is_end-clause-file g c =
-    let files = (c.self.invariant c.in_default.is).0 in
-    let behind = (c.self.invariant c.in_default.is).1 in
+    let (files, behind) = c.self.invariant c.in_default.is in
     let r = c.in-Err.ensures.read files (comes_behind files _ _ _ behind) in
     let end = subst (IsEnd g.row.A.Denot c.read_file.new.decoder c.in-Err.fault) c.if-is_end.true c.is_end.ensures in
-    let source : Channel = record {
-      before = g.S.Source.remaining c.self.inside.source;
-      after = g.S.Source.remaining c.read_file.new.source;
-      failed =
-          g.S.Source.has_failed c.read_file.new.source;
-    } in
+    let source : Channel = channel g.S.Source.remaining g.S.Source.has_failed c.self.inside.source c.read_file.new.source in
     rw (← c.self.view_is)
     (λ fresh fs f b x input are file chain.
     end_not_given f _ x source c.read_file.new.decoder c.in-Err.fault end
@@ -108,8 +97,7 @@ returns-then-is_end-clause-file g c =
 
 pub returns-else-is_end-clause-exact : goal.returns-else-is_end-clause-exact
 returns-else-is_end-clause-exact g c =
-    let files = (c.self.invariant c.in_default.is).0 in
-    let behind = (c.self.invariant c.in_default.is).1 in
+    let (files, behind) = c.self.invariant c.in_default.is in
     let r = c.in-Err.ensures.read files (comes_behind files _ _ _ behind) in
     let end = subst (IsEnd g.row.A.Denot c.read_file.new.decoder c.in-Err.fault) c.if-is_end.false c.is_end.ensures in
     let told = next_fault files _ _ _ _ _ _ _ c.read_file.new.decoder c.read_file.new.count behind c.in-Err.ensures.counted c.in-Err.ensures.viable
@@ -118,15 +106,9 @@ returns-else-is_end-clause-exact g c =
 
 pub returns-else-is_end-clause-file : goal.returns-else-is_end-clause-file
 returns-else-is_end-clause-file g c =
-    let files = (c.self.invariant c.in_default.is).0 in
-    let behind = (c.self.invariant c.in_default.is).1 in
+    let (files, behind) = c.self.invariant c.in_default.is in
     let r = c.in-Err.ensures.read files (comes_behind files _ _ _ behind) in
-    let source : Channel = record {
-      before = g.S.Source.remaining c.self.inside.source;
-      after = g.S.Source.remaining c.read_file.new.source;
-      failed =
-          g.S.Source.has_failed c.read_file.new.source;
-    } in
+    let source : Channel = channel g.S.Source.remaining g.S.Source.has_failed c.self.inside.source c.read_file.new.source in
     subst (NextGiven g.S.Source.remaining source.after source.failed (Err c.in-Err.fault)) c.self.view_is
     (λ fresh fs f b x input are file chain.
     fault_given f _ x source c.in-Err.fault
