@@ -2,13 +2,13 @@
 use Rattle.fit_decode.proofs.Common.{◌≡◌, true, false, ℕ, ◌+◌, ◌<◌, suc, List, [], ◌∷◌, ◌++◌, length, take, drop, get_or, Some, None, Ok, Err, sym, ap, ◌∙◌}
 use Rattle.fit_decode.proofs.Common.{subst, append_assoc, arith, length-append, Vec, if◌then◌else◌, is_ok, is_err, Global, Consumes, IsAtEnd, append-nil}
 use Rattle.fit_decode.proofs.Common.{IsBytes, little_bytes, Reason, FitFile, checksum, summed, IsFile, IsChain, IsViable, chain_limit, Fault, Truncated, Read}
-use Rattle.fit_decode.proofs.Common.{AreChain, IsBehind, IsEnd, at_header, EndsReading, ReadsChain, GivesChain, IsRefused, FileRead, at_place, one_place}
+use Rattle.fit_decode.proofs.Common.{AreChain, IsBehind, IsEnd, at_header, EndsReading, ReadsChain, GivesChain, IsRefused, FileRead, at_place, one_place, chain_come}
 use Rattle.std.proofs.Common.{Bool, Option, Result}
 use Rattle.fit_base.proofs.Bytes.{length-little_bytes}
 use Rattle.fit_chain.specs.declared.event.Fault.TheVariants.{Refused, NoMemory}
 use Rattle.fit_decode.specs.Answers.{Seen}
 use Rattle.fit_decode.proofs.Consumed.{Consumes-append}
-use Rattle.fit_decode.proofs.NextRead.{chain_comes, behind_file, next_file, next_fault, next_end}
+use Rattle.fit_decode.proofs.NextRead.{behind_file, next_file, next_fault, next_end}
 
 -- no byte of a chain is refused
 chain_byte : {A : Type 0} (fs : List (FitFile A)) (b taken y : List ℕ) (place : ℕ) (reason : Reason) → IsBytes b → IsChain chain_limit fs b → b ≡ taken ++ y
@@ -33,7 +33,7 @@ given : (fs : List (FitFile Global)) (b : List ℕ) (has : Option (List ℕ)) (f
 given fs b None failed (Ok files) are chain (taken, eats, end, other, good) = absurd eats
 given fs b (Some y) failed (Ok files) are chain (taken, eats, end, other, good) =
     let whole = subst (IsChain chain_limit fs) (all_taken b taken y eats end) chain in
-    (one_place files.items fs (at_header []) (at_header []) taken (chain_comes chain_limit files.items taken other) (chain_comes chain_limit fs taken whole)).0
+    (one_place files.items fs (at_header []) (at_header []) taken (chain_come taken (files.items, other)) (chain_come taken (fs, whole))).0
 given fs b None failed (Err fault) are chain (taken, eats, told) = absurd eats
 given fs b (Some y) failed (Err (Refused place reason)) are chain (taken, eats, (within, near, why, good)) =
     chain_byte fs b taken y place reason are chain eats within why

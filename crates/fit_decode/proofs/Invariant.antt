@@ -1,12 +1,8 @@
 -- The invariant of a decoder holds before the first byte.
 use Rattle.fit_decode.proofs.Common.{◌≡◌, false, [], length, refl, sym, ap, ◌∙◌, subst, arith, None, IsBytes, IsBytes-none, empty_environment, chain_limit}
-use Rattle.fit_decode.proofs.Common.{IsViable, Inside, at_header, HasCome, ChainGoesOn, HoldsAt, IsSoundDecoder, fields_inside, goes_viable, begins_nothing}
-use Rattle.fit_decode.proofs.Common.{unfinished}
+use Rattle.fit_decode.proofs.Common.{IsViable, Inside, at_header, HasCome, ChainGoesOn, HoldsAt, IsSoundDecoder, fields_inside, begins_nothing}
 use Rattle.fit_decode.specs.declared.section.Section.TheVariants.{Header}
-
--- of no bytes, no file and nothing of a next one have come
-nothing_come : (A : Type 0) → HasCome {A = A} [] (at_header []) []
-nothing_come A = record { files = tt; next = unfinished A [] (λ h n rest fits is. cc); spelled = refl }
+use Rattle.fit_decode.proofs.FileRead.{no_file_yet, nothing_viable}
 
 nothing_goes : (A : Type 0) → ChainGoesOn {A = A} chain_limit [] (at_header [])
 nothing_goes A = (omega arith, omega arith, begins_nothing)
@@ -16,11 +12,11 @@ pub begins_kept : {A : Type 0} (d : Inside A) → d.section ≡ Header → d.hal
     → d.files ≡ 0 → d.count ≡ 0 → d.history.items ≡ [] → IsSoundDecoder d
 begins_kept {A} d at whole read none known idle no_files no_bytes nothing =
     let come : HasCome {A = A} [] (at_header d.sum) d.history.items =
-    subst (λ b. HasCome {A = A} [] (at_header d.sum) b) (sym nothing) (subst (λ l. HasCome {A = A} [] (at_header l) []) (sym none) (nothing_come A)) in
+    subst (λ b. HasCome {A = A} [] (at_header d.sum) b) (sym nothing) (subst (λ l. HasCome {A = A} [] (at_header l) []) (sym none) (no_file_yet A)) in
     let goes : ChainGoesOn {A = A} chain_limit [] (at_header d.sum) = subst (λ l. ChainGoesOn {A = A} chain_limit [] (at_header l)) (sym none) (nothing_goes A)
     in
     record {
-      viable = subst (IsViable A chain_limit) (sym nothing) (goes_viable chain_limit [] (at_header []) [] (nothing_come A) IsBytes-none (nothing_goes A));
+      viable = subst (IsViable A chain_limit) (sym nothing) (nothing_viable A);
       are = subst IsBytes (sym nothing) IsBytes-none;
       counted = no_bytes ∙ ap length (sym nothing);
       holds = λ _. subst (λ s. HoldsAt s (fields_inside d) d.history.items) (sym at) (record {

@@ -3,21 +3,13 @@ use Rattle.fit_decode.proofs.Common.{◌≡◌, true, false, ℕ, ◌+◌, List,
 use Rattle.fit_decode.proofs.Common.{Keeps, IsAtEnd, append-nil, append_cancel_left, IsBytes, FitFile, IsFile, IsChain, IsViable, chain_bytes, chain_limit}
 use Rattle.fit_decode.proofs.Common.{Fault, Truncated, Read, AreChain, IsBehind, IsEnd, at_header, HasCome, EndsReading, EndsChain, GivesFile, GivesNext, Past}
 use Rattle.fit_decode.proofs.Common.{Channel, ComesTo, Ended, FaultIn, FileTold, FileRead, unrefused, next_bytes, viable_goes, ended_chain, one_place}
-use Rattle.fit_decode.proofs.Common.{unfinished}
+use Rattle.fit_decode.proofs.Common.{chain_come}
 use Rattle.std.proofs.Common.{Bool, Option, Result}
 use Rattle.fit_chain.specs.declared.event.Fault.TheVariants.{Refused, NoMemory}
 use Rattle.fit_decode.specs.Answers.{Seen}
 use Rattle.fit_decode.proofs.FileGiven.{given}
 use Rattle.fit_decode.proofs.FileRead.{no_file_yet, nothing_viable}
 use Rattle.fit_decode.proofs.Nearly.{nearly}
-
--- a chain is its files, and nothing of a next one
-pub chain_comes : {A : Type 0} (limit : ℕ) (fs : List (FitFile A)) (bytes : List ℕ) → IsChain limit fs bytes → HasCome fs (at_header []) bytes
-chain_comes {A} limit fs bytes chain = record {
-  files = chain.0.each;
-  next = unfinished A [] (λ h n rest fits is. cc);
-  spelled = chain.1 ∙ sym (append-nil (chain_bytes fs));
-}
 
 module _ {A : Type 0} (files : List (FitFile A)) (before : Seen) (count : ℕ) (old taken : List ℕ) (had has : Option (List ℕ)) (failed : Bool) (new : Seen)
     (now : ℕ)
@@ -83,7 +75,7 @@ module _ {A : Type 0} (files : List (FitFile A)) (before : Seen) (count : ℕ) (
 
   nothing_taken : (got : List ℕ) → ComesTo files (old ++ got) → AreChain A (old ++ got) → got ≡ []
   nothing_taken got comes whole =
-      let one = one_place files whole.0 comes.0 (at_header []) (old ++ got) comes.1 (chain_comes chain_limit whole.0 (old ++ got) whole.1) in
+      let one = one_place files whole.0 comes.0 (at_header []) (old ++ got) comes.1 (chain_come (old ++ got) whole) in
       let first : old ≡ chain_bytes files = behind.come.spelled ∙ append-nil (chain_bytes files) in
       let all : old ++ got ≡ chain_bytes files = whole.1.1 ∙ ap chain_bytes (sym one.0) in
       append_cancel_left old got [] (all ∙ sym first ∙ sym (append-nil old))
@@ -104,7 +96,7 @@ module _ {A : Type 0} (files : List (FitFile A)) (before : Seen) (count : ℕ) (
       let none : r.got ≡ [] = nothing_taken r.got (subst (ComesTo files) r.noted is.2) (subst (AreChain A) r.noted chain) in
       let same : taken ≡ old = r.noted ∙ ap (λ t. old ++ t) none ∙ append-nil old in
       let one = one_place files chain.0 (at_header []) (at_header []) taken (subst (HasCome files (at_header [])) (sym same) behind.come)
-      (chain_comes chain_limit chain.0 taken chain.1) in
+      (chain_come taken chain) in
       record {
         end = is.1;
         good = is.4;
