@@ -14,8 +14,7 @@ returns-in-More-clause-fed g c = λ files stands.
 
 pub loop-at-smaller-in-Header : goal.loop-at-smaller-in-Header
 loop-at-smaller-in-Header g c =
-    let some = (c.in-Ok.ensures.event _ (ap event_of c.in-Header.is)).0 in
-    omega (arith, some, c.loop-at-test.true)
+    omega (arith, (c.in-Ok.ensures.event _ (ap event_of c.in-Header.is)).0, c.loop-at-test.true)
 
 pub loop-at-preserved-in-Header : goal.loop-at-preserved-in-Header
 loop-at-preserved-in-Header g c =
@@ -34,8 +33,7 @@ loop-at-preserved-in-Header g c =
 
 pub loop-at-smaller : goal.loop-at-smaller
 loop-at-smaller g c =
-    let some = (c.in-Ok.ensures.event _ (ap event_of c.in-Item.is)).0 in
-    omega (arith, some, c.loop-at-test.true)
+    omega (arith, (c.in-Ok.ensures.event _ (ap event_of c.in-Item.is)).0, c.loop-at-test.true)
 
 pub loop-at-preserved : goal.loop-at-preserved
 loop-at-preserved g c =
