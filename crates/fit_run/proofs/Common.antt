@@ -28,7 +28,7 @@ pub use Rattle.fit_record.specs.declared.file.FitFile.{FitFile}
 pub use Rattle.fit_record.specs.declared.message.Record.{Record}
 pub use Rattle.fit_report.proofs.Records.{heard_are_few, records_behind, reverse-map}
 pub use Rattle.fit_report.specs.Heard.{AreHeard, hear_records, latest_records, text_of, Lines, hear}
-pub use Rattle.fit_report.specs.Reports.{Channel, HasTold, Reports, ReportsChain}
+pub use Rattle.fit_report.specs.Reports.{Channel, channel, HasTold, Reports, ReportsChain}
 pub use Rattle.fit_run.specs.CommandLine.{command_word, fit_app, line_fault, IsFileWord, GivesPlainLines, IsPlainLine, IsRefusedFor, Names}
 pub use Rattle.fit_run.specs.Laws.{ChainsHaveLines, FindingsAreOne, HasFound, HasRun, RunsAreOne}
 pub use Rattle.fit_run.specs.Lines.{Counts, ended_files, latest_size, check_line, file_line, file_lines, ok_line, refused_line, truncated_line}

@@ -10,14 +10,12 @@ use Rattle.fit_frame.specs.declared.header.Header.{Header}
 pub few_files : {A : Type 0} (heard : List (Event A)) → ended_files heard ≤ length heard
 few_files [] = omega arith
 few_files (header h n ∷ heard) = omega (arith, few_files heard)
-few_files (item r ∷ heard) = omega (arith, few_files heard)
-few_files (file_end ∷ heard) = omega (arith, few_files heard)
+few_files (event ∷ heard) = omega (arith, few_files heard)
 
 pub few_records : {A : Type 0} (heard : List (Event A)) → length (latest_records heard) ≤ length heard
 few_records [] = omega arith
 few_records (header h n ∷ heard) = omega arith
-few_records (item r ∷ heard) = omega (arith, few_records heard)
-few_records (file_end ∷ heard) = omega (arith, few_records heard)
+few_records (event ∷ heard) = omega (arith, few_records heard)
 
 pub line_parts : (old k n records : List ℕ)
     → ((old ++ (codes "file " ++ k ++ codes ": ")) ++ (codes "" ++ n ++ codes " data bytes, ")) ++ (codes "" ++ records ++ codes " records\n")
@@ -91,20 +89,10 @@ few_counted files size records heard c are =
 
 -- ---- the lines of a chain
 
-module _ {A : Type 0} (h : Header) (n : ℕ) (before : List (Event A)) where
-  text_since : (rs : List (Record A)) → text_of check_line (map item rs ++ header h n ∷ before) ≡ text_of check_line before
-  text_since [] = append-nil (text_of check_line before)
-  text_since (r ∷ rs) = append-nil (text_of check_line (map item rs ++ header h n ∷ before)) ∙ text_since rs
-
-  ended_since : (rs : List (Record A)) → ended_files (map item rs ++ header h n ∷ before) ≡ ended_files before
-  ended_since [] = refl
-  ended_since (r ∷ rs) = ended_since rs
-
-  size_since : (rs : List (Record A)) → latest_size (map item rs ++ header h n ∷ before) ≡ n
-  size_since [] = refl
-  size_since (r ∷ rs) = size_since rs
-
 module _ {A : Type 0} (f : FitFile A) (before : List (Event A)) where
+  abbrev since : List (Event A)
+  since = header f.header (length (body f)) ∷ before
+
   file_heard : reverse (file_events f) ++ before ≡ file_end ∷ (map item (reverse f.records) ++ header f.header (length (body f)) ∷ before)
   file_heard =
       ap (λ es. es ++ before) (reverse-append (header f.header (length (body f)) ∷ map item f.records) (file_end ∷ [])
@@ -116,14 +104,13 @@ module _ {A : Type 0} (f : FitFile A) (before : List (Event A)) where
       ≡ text_of check_line before ++ file_line (ended_files before + 1) (length (body f)) (length f.records)
   file_text =
       ap (text_of check_line) file_heard
-      ∙ (λ i. text_since f.header (length (body f)) before (reverse f.records) i
-      ++ file_line (ended_since f.header (length (body f)) before (reverse f.records) i + 1)
-      (size_since f.header (length (body f)) before (reverse f.records) i)
+      ∙ (λ i. (text_over since (reverse f.records) ∙ append-nil (text_of check_line before)) i
+      ++ file_line (ended_over since (reverse f.records) i + 1) (size_over since (reverse f.records) i)
       (length (records_behind (reverse f.records) f.header (length (body f)) before i)))
       ∙ ap (λ m. text_of check_line before ++ file_line (ended_files before + 1) (length (body f)) m) (length-reverse f.records)
 
   file_ended : ended_files (reverse (file_events f) ++ before) ≡ ended_files before + 1
-  file_ended = ap ended_files file_heard ∙ ap (λ k. k + 1) (ended_since f.header (length (body f)) before (reverse f.records))
+  file_ended = ap ended_files file_heard ∙ ap (λ k. k + 1) (ended_over since (reverse f.records))
 
 files_text : {A : Type 0} (fs : List (FitFile A)) (before : List (Event A))
     → text_of check_line (reverse (flat_map file_events fs) ++ before) ≡ text_of check_line before ++ file_lines (ended_files before + 1) fs

@@ -77,23 +77,18 @@ module _ (A : Type 0) where
         cc
 
     pub one_finding : (found other : Result (Unit {0}) Fault) → IsFinding input found → IsFinding input other → found ≡ other
+    one_finding (Err (NoMemory used)) other none found = absurd none
+    one_finding (Err (Read p)) other none found = absurd none
     one_finding (Ok x) (Ok y) chain again = refl
     one_finding (Ok x) (Err (Refused q s)) chain (other, second) = absurd (never_refused input q s (chain_viable input are chain) other second)
     one_finding (Ok x) (Err (Truncated q)) chain (end, viable, short) = absurd (short chain)
-    one_finding (Ok x) (Err (NoMemory used)) chain none = absurd none
-    one_finding (Ok x) (Err (Read q)) chain none = absurd none
     one_finding (Err (Refused p r)) (Ok y) (within, first) chain = absurd (never_refused input p r (chain_viable input are chain) within first)
     one_finding (Err (Refused p r)) (Err (Refused q s)) (within, first) (other, second) = one_refusal p q r s within other first second
     one_finding (Err (Refused p r)) (Err (Truncated q)) (within, first) (end, viable, short) = absurd (never_refused input p r viable within first)
-    one_finding (Err (Refused p r)) (Err (NoMemory used)) found none = absurd none
-    one_finding (Err (Refused p r)) (Err (Read q)) found none = absurd none
     one_finding (Err (Truncated p)) (Ok y) (end, viable, short) chain = absurd (short chain)
     one_finding (Err (Truncated p)) (Err (Refused q s)) (end, viable, short) (other, second) = absurd (never_refused input q s viable other second)
     one_finding (Err (Truncated p)) (Err (Truncated q)) (end, viable, short) (last, again, cut) = let same : p ≡ q = end ∙ sym last in cc
-    one_finding (Err (Truncated p)) (Err (NoMemory used)) found none = absurd none
-    one_finding (Err (Truncated p)) (Err (Read q)) found none = absurd none
-    one_finding (Err (NoMemory used)) other none found = absurd none
-    one_finding (Err (Read p)) other none found = absurd none
+    one_finding found other first none = absurd none
 
   -- ---- what a run took
 

@@ -18,35 +18,23 @@ simple = refl
 pub takes-command : (c : Command) (program : Text) → takes fit_app (program ∷ command_word c ∷ []) ≡ true
 unfolding clap_on_literals
 takes-command Check p = refl
-takes-command Show p = refl
-takes-command ToCsv p = refl
-takes-command FromCsv p = refl
-takes-command Table p = refl
+takes-command c p = refl
 
 pub names-command : (c : Command) (program : Text) → Names (program ∷ command_word c ∷ []) c None
 unfolding clap_on_literals
 names-command Check p = (refl, refl)
-names-command Show p = (refl, refl)
-names-command ToCsv p = (refl, refl)
-names-command FromCsv p = (refl, refl)
-names-command Table p = (refl, refl)
+names-command c p = (refl, refl)
 
 pub takes-file : (c : Command) (program : Text) (b : ℕ) (rest : Text) → (b == 45) ≡ false → takes fit_app (program ∷ command_word c ∷ (b ∷ rest) ∷ []) ≡ true
 unfolding clap_on_literals
 takes-file Check p b rest n = simp n refl
-takes-file Show p b rest n = simp n refl
-takes-file ToCsv p b rest n = simp n refl
-takes-file FromCsv p b rest n = simp n refl
-takes-file Table p b rest n = simp n refl
+takes-file c p b rest n = simp n refl
 
 pub names-file : (c : Command) (program : Text) (b : ℕ) (rest : Text) → (b == 45) ≡ false
     → Names (program ∷ command_word c ∷ (b ∷ rest) ∷ []) c (Some (b ∷ rest))
 unfolding clap_on_literals
 names-file Check p b rest n = (simp n refl, simp n refl)
-names-file Show p b rest n = (simp n refl, simp n refl)
-names-file ToCsv p b rest n = (simp n refl, simp n refl)
-names-file FromCsv p b rest n = (simp n refl, simp n refl)
-names-file Table p b rest n = (simp n refl, simp n refl)
+names-file c p b rest n = (simp n refl, simp n refl)
 
 pub plain-takes : (c : Command) (words : List Text) → IsPlainLine c words → takes fit_app words ≡ true
 plain-takes c words (p, inl e) = ap (λ (w : List Text). takes fit_app w) e ∙ takes-command c p
@@ -70,10 +58,7 @@ command_with word = cond (length word == 4) Show (cond (length word == 6) ToCsv 
 command-with : (c : Command) → command_with (command_word c) ≡ c
 unfolding clap_on_literals
 command-with Check = refl
-command-with Show = refl
-command-with ToCsv = refl
-command-with FromCsv = refl
-command-with Table = refl
+command-with c = refl
 
 one-word : (c d : Command) → command_word c ≡ command_word d → c ≡ d
 one-word c d e = sym (command-with c) ∙ ap command_with e ∙ command-with d

@@ -1,5 +1,5 @@
 -- What a command writes is determined by its input.
-use Rattle.fit_run.proofs.Common.{◌≡◌, ◌≢◌, inl, inr, false, ℕ, List, [], ◌++◌, reverse, Option, Some, Result, Ok, Err, refl, sym, ap, ◌∙◌, subst, Global}
+use Rattle.fit_run.proofs.Common.{◌≡◌, ◌≢◌, inl, inr, ℕ, List, [], ◌++◌, reverse, Some, Result, Ok, Err, refl, sym, ap, ◌∙◌, subst, Global}
 use Rattle.fit_run.proofs.Common.{Appends, Consumes, append_cancel_left, reverse-reverse, IsBytes, Fault, Refused, Truncated, Event, AreEvents, EventsAreOne}
 use Rattle.fit_run.proofs.Common.{ReasonsAreOne, Lines, text_of, Channel, CsvFault, rows_of, Converts, RowsOf, csv_text, table_of, Command, Check, Show, ToCsv}
 use Rattle.fit_run.proofs.Common.{FromCsv, Table, TextsHaveOneFinding, HasRun, RunsAreOne, check_line, ok_line, refused_line, truncated_line, Concludes}
@@ -46,58 +46,52 @@ module _ (texts : Texts) (input : List ℕ) where
 
   -- ---- what a run has written
 
-  module _ (source output faults : Channel) (status : ℕ) (before : source.before ≡ Some input) (works : source.failed ≡ false) (good : output.failed ≡ false)
-      (memory : status ≢ 3) where
-    has_written : (taken : List ℕ) (answer : Result (Unit {0}) Fault) (events : List (Event Global)) → Consumes source.before source.after taken
-        → ReportFinds Global taken source answer
-        → AreEvents (good_bytes answer taken) events → status ≡ last_status answer → Appends output.before output.after (texts answer events)
-        → HasWritten output status
+  module _ {command : Command} {status : ℕ} {text : List ℕ} (h : HasRun command input status text) where
+    has_written : (taken : List ℕ) (answer : Result (Unit {0}) Fault) (events : List (Event Global)) → Consumes h.source.before h.source.after taken
+        → ReportFinds Global taken h.source answer
+        → AreEvents (good_bytes answer taken) events → status ≡ last_status answer → Appends h.output.before h.output.after (texts answer events)
+        → HasWritten h.output status
     has_written taken answer events took finds are status_is put =
-        let all = found Global input taken source answer (record { before = before; took = took; works = works; finds = finds }) in
+        let all = found Global input taken h.source answer (record { before = h.read; took = took; works = h.works; finds = finds }) in
         record { answer = answer; events = events; is = all.0; are = subst (λ b. AreEvents b events) all.1 are; status_is = status_is; put = put }
 
     module _ (rows : RowsOf) (texts_is : (answer : Result (Unit {0}) Fault) (events : List (Event Global)) → csv_text (rows events) ≡ texts answer events) where
-      converted : (answer : Result (Unit {0}) CsvFault) → Converts rows source output answer → Concludes answer faults status → HasWritten output status
+      converted : (answer : Result (Unit {0}) CsvFault) → Converts rows h.source h.output answer → Concludes answer h.faults status → HasWritten h.output status
       converted (Ok x) (taken, took, (end, well, chain, (events, are, put))) (keeps, is) =
-          has_written taken (Ok x) events took (end, well, chain) are is (subst (Appends output.before output.after) (texts_is (Ok x) events) put)
+          has_written taken (Ok x) events took (end, well, chain) are is (subst (Appends h.output.before h.output.after) (texts_is (Ok x) events) put)
       converted (Err (csv.Decode (Refused place reason))) (taken, took, (fault, (events, are, put))) (puts, is) =
           has_written taken (Err (Refused place reason)) events took fault are is
-          (subst (Appends output.before output.after) (texts_is (Err (Refused place reason)) events) put)
+          (subst (Appends h.output.before h.output.after) (texts_is (Err (Refused place reason)) events) put)
       converted (Err (csv.Decode (Truncated place))) (taken, took, (fault, (events, are, put))) (puts, is) =
           has_written taken (Err (Truncated place)) events took fault are is
-          (subst (Appends output.before output.after) (texts_is (Err (Truncated place)) events) put)
-      converted (Err (csv.Decode (NoMemory used))) (taken, took, none) said = absurd none
+          (subst (Appends h.output.before h.output.after) (texts_is (Err (Truncated place)) events) put)
       converted (Err (csv.Decode (Read place))) (taken, took, (fault, told)) said = let bad = fault.1 in absurd cc
-      converted (Err (csv.Encode fault)) (taken, took, none) said = absurd none
-      converted (Err csv.Header) (taken, took, none) said = absurd none
-      converted (Err (csv.BadRow row)) (taken, took, none) said = absurd none
-      converted (Err (csv.BadCell row column)) (taken, took, none) said = absurd none
-      converted (Err csv.NoMemory) (taken, took, some) (puts, is) = absurd (memory is)
-      converted (Err csv.Read) (taken, took, none) said = absurd none
+      converted (Err csv.NoMemory) (taken, took, some) (puts, is) = absurd (h.memory is)
       converted (Err (csv.Write written)) (taken, took, ((k, events, are, (bad, n, short, put, counted)), near)) said = absurd cc
+      converted (Err fault) (taken, took, none) said = absurd none
 
     module _ (line : Lines Global) (texts_is :
         (answer : Result (Unit {0}) Fault) (heard : List (Event Global)) → text_of line heard ++ last_line answer ≡ texts answer (reverse heard)) where
-      said : (taken : List ℕ) (answer : Result (Unit {0}) Fault) (heard : List (Event Global)) → Consumes source.before source.after taken
-          → ReportFinds Global taken source answer
-          → AreEvents (good_bytes answer taken) (reverse heard) → Says answer (text_of line heard) output faults status → HasWritten output status
+      said : (taken : List ℕ) (answer : Result (Unit {0}) Fault) (heard : List (Event Global)) → Consumes h.source.before h.source.after taken
+          → ReportFinds Global taken h.source answer
+          → AreEvents (good_bytes answer taken) (reverse heard) → Says answer (text_of line heard) h.output h.faults status → HasWritten h.output status
       said taken (Ok x) heard took finds are (inl (put, keeps, is)) =
-          has_written taken (Ok x) (reverse heard) took finds are is (subst (Appends output.before output.after) (texts_is (Ok x) heard) put)
+          has_written taken (Ok x) (reverse heard) took finds are is (subst (Appends h.output.before h.output.after) (texts_is (Ok x) heard) put)
       said taken (Ok x) heard took finds are (inr (bad, n, short, put, puts, is)) = absurd cc
       said taken (Err (Refused place reason)) heard took finds are (inl (put, keeps, is)) =
           has_written taken (Err (Refused place reason)) (reverse heard) took finds are is
-          (subst (Appends output.before output.after) (texts_is (Err (Refused place reason)) heard) put)
+          (subst (Appends h.output.before h.output.after) (texts_is (Err (Refused place reason)) heard) put)
       said taken (Err (Refused place reason)) heard took finds are (inr (bad, n, short, put, puts, is)) = absurd cc
       said taken (Err (Truncated place)) heard took finds are (inl (put, keeps, is)) =
           has_written taken (Err (Truncated place)) (reverse heard) took finds are is
-          (subst (Appends output.before output.after) (texts_is (Err (Truncated place)) heard) put)
+          (subst (Appends h.output.before h.output.after) (texts_is (Err (Truncated place)) heard) put)
       said taken (Err (Truncated place)) heard took finds are (inr (bad, n, short, put, puts, is)) = absurd cc
       said taken (Err (NoMemory used)) heard took none are says = absurd none
       said taken (Err (Read place)) heard took (is, bad, viable) are says = absurd cc
 
-      ran : Runs line source output faults status → HasWritten output status
+      ran : Runs line h.source h.output h.faults status → HasWritten h.output status
       ran (taken, took, inl (answer, heard, finds, are, says)) = said taken answer heard took finds are says
-      ran (taken, took, inr (k, heard, are, inl (put, puts, is), near)) = absurd (memory is)
+      ran (taken, took, inr (k, heard, are, inl (put, puts, is), near)) = absurd (h.memory is)
       ran (taken, took, inr (k, heard, are, inr (bad, n, short, put, puts, is), near)) = absurd cc
 
 -- ---- by the commands
@@ -119,21 +113,20 @@ lines_text_is line answer heard = ap (λ events. text_of line events ++ last_lin
 run_written : (command : Command) (input : List ℕ) (status : ℕ) (text : List ℕ) → command ≢ FromCsv → (h : HasRun command input status text)
     → HasWritten (command_texts command) input h.output status
 run_written Check input status text other h =
-    ran (lines_text check_line) input h.source h.output h.faults status h.read h.works h.good h.memory check_line (lines_text_is check_line) h.runs
+    ran (lines_text check_line) input h check_line (lines_text_is check_line) h.runs
 run_written Show input status text other h =
-    ran (lines_text show_line) input h.source h.output h.faults status h.read h.works h.good h.memory show_line (lines_text_is show_line) h.runs
+    ran (lines_text show_line) input h show_line (lines_text_is show_line) h.runs
 run_written ToCsv input status text other h =
-    converted (command_texts ToCsv) input h.source h.output h.faults status h.read h.works h.good h.memory rows_of (λ answer events. refl) h.runs.0 h.runs.1
-    h.runs.2
+    converted (command_texts ToCsv) input h rows_of (λ answer events. refl) h.runs.0 h.runs.1 h.runs.2
 run_written FromCsv input status text other h = absurd (other refl)
 run_written Table input status text other h =
-    converted (command_texts Table) input h.source h.output h.faults status h.read h.works h.good h.memory table_of (λ answer events. refl) h.runs.0 h.runs.1
-    h.runs.2
+    converted (command_texts Table) input h table_of (λ answer events. refl) h.runs.0 h.runs.1 h.runs.2
 
 -- what was put is the text
-text_put : (before after : Option (List ℕ)) (old text put : List ℕ) → before ≡ Some old → after ≡ Some (old ++ text) → Appends before after put → text ≡ put
-text_put before after old text put held wrote puts =
-    append_cancel_left old text put (subst (λ b. Appends b (Some (old ++ text)) put) held (subst (λ a. Appends before a put) wrote puts))
+text_put : {command : Command} {input : List ℕ} {status : ℕ} {text : List ℕ} (h : HasRun command input status text) (put : List ℕ)
+    → Appends h.output.before h.output.after put → text ≡ put
+text_put {text = text} h put puts =
+    append_cancel_left h.old text put (subst (λ b. Appends b (Some (h.old ++ text)) put) h.held (subst (λ a. Appends h.output.before a put) h.wrote puts))
 
 -- a command that reads files
 module _ (reasons : ReasonsAreOne Global) (lists : EventsAreOne Global) (command : Command) (reads : command ≢ FromCsv) (input : List ℕ) (are : IsBytes input)
@@ -144,27 +137,20 @@ module _ (reasons : ReasonsAreOne Global) (lists : EventsAreOne Global) (command
         let p : HasWritten (command_texts command) input h.output status = run_written command input status text reads h in
         let q : HasWritten (command_texts command) input k.output again = run_written command input again other reads k in
         let one = one_written (command_texts command) input are reasons lists h.output k.output status again p q in
-        let first : text ≡ command_texts command p.answer p.events =
-        text_put h.output.before h.output.after h.old text (command_texts command p.answer p.events) h.held h.wrote p.put in
-        let second : other ≡ command_texts command q.answer q.events =
-        text_put k.output.before k.output.after k.old other (command_texts command q.answer q.events) k.held k.wrote q.put in
-        (one.0, first ∙ one.1 ∙ sym second)
+        let first = text_put h (command_texts command p.answer p.events) p.put in
+        (one.0, first ∙ one.1 ∙ sym (text_put k (command_texts command q.answer q.events) q.put))
 
 -- `from-csv`
 text_alike : TextsHaveOneFinding → (input : List ℕ) (status again : ℕ) (text other : List ℕ) → HasRun FromCsv input status text
     → HasRun FromCsv input again other
     → (status ≡ again) × (text ≡ other)
 text_alike law input status again text other h k =
-    let p = made input h.source h.output h.faults status h.read h.works h.good h.memory h.runs.0 h.runs.1 h.runs.2 h.runs.3 in
-    let q = made input k.source k.output k.faults again k.read k.works k.good k.memory k.runs.0 k.runs.1 k.runs.2 k.runs.3 in
+    let p = made input h h.runs.0 h.runs.1 h.runs.2 h.runs.3 in
+    let q = made input k k.runs.0 k.runs.1 k.runs.2 k.runs.3 in
     let one = made_alike law input h.output k.output status again p q in
-    let first : text ≡ p.bytes = text_put h.output.before h.output.after h.old text p.bytes h.held h.wrote p.put in
-    let second : other ≡ q.bytes = text_put k.output.before k.output.after k.old other q.bytes k.held k.wrote q.put in
-    (one.0, first ∙ one.1 ∙ sym second)
+    (one.0, text_put h p.bytes p.put ∙ one.1 ∙ sym (text_put k q.bytes q.put))
 
 pub runs_are_one : ReasonsAreOne Global → EventsAreOne Global → TextsHaveOneFinding → RunsAreOne
-runs_are_one reasons lists texts Check input status again text other are h k = read_alike reasons lists Check (λ e. cc e) input are status again text other h k
-runs_are_one reasons lists texts Show input status again text other are h k = read_alike reasons lists Show (λ e. cc e) input are status again text other h k
-runs_are_one reasons lists texts ToCsv input status again text other are h k = read_alike reasons lists ToCsv (λ e. cc e) input are status again text other h k
 runs_are_one reasons lists texts FromCsv input status again text other are h k = text_alike texts input status again text other h k
-runs_are_one reasons lists texts Table input status again text other are h k = read_alike reasons lists Table (λ e. cc e) input are status again text other h k
+runs_are_one reasons lists texts command input status again text other are h k =
+    read_alike reasons lists command (λ e. cc e) input are status again text other h k

@@ -1,7 +1,7 @@
 -- What `from-csv` makes of a text is one.
-use Rattle.fit_run.proofs.Common.{◌≡◌, ◌≢◌, ◌⊎◌, ◌∙◌, inl, inr, ℕ, ◌<◌, ◌≤◌, ◌^◌, false, List, [], ◌++◌, length, Option, Some, None, Result, Ok, Err, refl, sym}
+use Rattle.fit_run.proofs.Common.{◌≡◌, ◌⊎◌, ◌∙◌, inl, inr, ℕ, ◌<◌, ◌≤◌, ◌^◌, List, [], ◌++◌, length, Option, Some, None, Result, Ok, Err, refl, sym}
 use Rattle.fit_run.proofs.Common.{ap, subst, arith, length-append, IfSome, Appends, Consumes, IsAtEnd, Channel, CsvFault, BadCell, BadRow, Decode, Encode}
-use Rattle.fit_run.proofs.Common.{Write, IsTextFinding, IsWrong, ReadsText, UnlessWritten, TextsHaveOneFinding, Concludes}
+use Rattle.fit_run.proofs.Common.{Write, IsTextFinding, IsWrong, ReadsText, UnlessWritten, TextsHaveOneFinding, HasRun, FromCsv, Concludes}
 use Rattle.std.specs.Prelude.{IfErr}
 use Rattle.std.proofs.KnownBytes.{Appends-nil, Consumes-whole}
 use Rattle.fit_csv.specs.declared.fault.CsvFault.TheVariants.{Header, NoMemory, Read}
@@ -34,19 +34,7 @@ short text (Err (BadRow row)) h = h.0
 short text (Err (BadCell row column)) h = h.0
 short text (Err (Encode (encode.TooLong file index))) h = h.0
 short text (Err (Encode (encode.ZeroIsSum file))) h = h.0
-short text (Err (Encode (encode.BadHeader file))) h = absurd h
-short text (Err (Encode (encode.BadLocal file index))) h = absurd h
-short text (Err (Encode (encode.BadOffset file index))) h = absurd h
-short text (Err (Encode (encode.UndefinedLocal file index))) h = absurd h
-short text (Err (Encode (encode.WrongShape file index field))) h = absurd h
-short text (Err (Encode encode.DeclaredLength)) h = absurd h
-short text (Err (Encode encode.ChainLength)) h = absurd h
-short text (Err (Encode encode.NoMemory)) h = absurd h
-short text (Err (Encode (encode.Write written))) h = absurd h
-short text (Err NoMemory) h = absurd h
-short text (Err Read) h = absurd h
-short text (Err (Decode fault)) h = absurd h
-short text (Err (Write written)) h = absurd h
+short text found h = absurd h
 
 -- all that a source had was taken, where it is at its end
 all_taken : (before after : Option (List ℕ)) (input taken : List ℕ) → before ≡ Some input → Consumes before after taken → IsAtEnd after → taken ≡ input
@@ -64,40 +52,36 @@ some_taken before (Some left) input taken has eats =
 none_put : (before after : Option (List ℕ)) → after ≡ before → Appends before after []
 none_put before after same = subst (λ (a : Option (List ℕ)). Appends before a []) (sym same) (Appends-nil before)
 
-module _ (input : List ℕ) (source output faults : Channel) (status : ℕ) (has : source.before ≡ Some input) (works : source.failed ≡ false)
-    (good : output.failed ≡ false) (memory : status ≢ 3) where
-  wrong : (fault : CsvFault) (taken : List ℕ) → Consumes source.before source.after taken → IsAtEnd source.after → IsWrong taken fault
-      → output.after ≡ output.before → status ≡ 1
-      → Made input output status
+module _ (input : List ℕ) {status : ℕ} {text : List ℕ} (h : HasRun FromCsv input status text) where
+  wrong : (fault : CsvFault) (taken : List ℕ) → Consumes h.source.before h.source.after taken → IsAtEnd h.source.after → IsWrong taken fault
+      → h.output.after ≡ h.output.before → status ≡ 1
+      → Made input h.output status
   wrong fault taken eats end is same one = record {
     bytes = [];
-    put = none_put output.before output.after same;
-    tells = inr (Err fault, subst (λ (t : List ℕ). IsWrong t fault) (all_taken source.before source.after input taken has eats end) is, one, refl);
+    put = none_put h.output.before h.output.after same;
+    tells = inr (Err fault, subst (λ (t : List ℕ). IsWrong t fault) (all_taken h.source.before h.source.after input taken h.read eats end) is, one, refl);
   }
 
-  pub made : (answer : Result (Unit {0}) CsvFault) → ReadsText source output answer → IfErr answer (λ fault. UnlessWritten fault (output.after ≡ output.before))
-      → Concludes answer faults status → Made input output status
+  pub made : (answer : Result (Unit {0}) CsvFault) → ReadsText h.source h.output answer → IfErr answer (λ fault. UnlessWritten fault (h.output.after ≡ h.output.before))
+      → Concludes answer h.faults status → Made input h.output status
   made (Ok u) (taken, eats, (out, (files, bytes, is, put, fine))) kept (keeps, zero) = record {
     bytes = bytes;
     put = put;
     tells = inr (
       Ok bytes,
-      subst (λ (t : List ℕ). IsTextFinding t (Ok bytes)) (all_taken source.before source.after input taken has eats out.0) (files, is),
+      subst (λ (t : List ℕ). IsTextFinding t (Ok bytes)) (all_taken h.source.before h.source.after input taken h.read eats out.0) (files, is),
       zero,
       refl,
     );
   }
   made (Err Read) (taken, eats, inl failed) kept said = absurd (cc)
   made (Err Read) (taken, eats, inr long) kept (puts, four) =
-      let some = some_taken source.before source.after input taken has eats in
-      record { bytes = []; put = none_put output.before output.after kept; tells = inl (omega arith, four, refl) }
-  made (Err NoMemory) (taken, eats, answer) kept (puts, three) = absurd (memory three)
+      let some = some_taken h.source.before h.source.after input taken h.read eats in
+      record { bytes = []; put = none_put h.output.before h.output.after kept; tells = inl (omega arith, four, refl) }
+  made (Err NoMemory) (taken, eats, answer) kept (puts, three) = absurd (h.memory three)
   made (Err (Write written)) (taken, eats, (out, (files, bytes, is, stops))) kept said = let stopped = stops.stopped in absurd (cc)
-  made (Err Header) (taken, eats, (out, is)) kept (puts, one) = wrong Header taken eats out.0 is kept one
-  made (Err (BadRow row)) (taken, eats, (out, is)) kept (puts, one) = wrong (BadRow row) taken eats out.0 is kept one
-  made (Err (BadCell row column)) (taken, eats, (out, is)) kept (puts, one) = wrong (BadCell row column) taken eats out.0 is kept one
-  made (Err (Encode fault)) (taken, eats, (out, is)) kept (puts, one) = wrong (Encode fault) taken eats out.0 is kept one
-  made (Err (Decode fault)) (taken, eats, (out, is)) kept said = absurd is
+  made (Err (Decode fault)) (taken, eats, answer) kept said = absurd answer.1
+  made (Err fault) (taken, eats, answer) kept (puts, one) = wrong fault taken eats answer.0.0 answer.1 kept one
 
 told_alike : TextsHaveOneFinding → (input : List ℕ) (status again : ℕ) (bytes others : List ℕ) → Tells input status bytes → Tells input again others
     → (status ≡ again) × (bytes ≡ others)

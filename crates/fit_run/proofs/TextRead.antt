@@ -1,17 +1,10 @@
 -- What `from-csv` leaves of the sink, by the answer of the conversion.
-use Rattle.fit_run.proofs.Common.{◌≡◌, List, ℕ, Option, Result, Ok, Err, ap, CsvFault, BadCell, BadRow, Decode, Encode, Write, UnlessWritten}
+use Rattle.fit_run.proofs.Common.{◌≡◌, List, ℕ, Option, Result, Ok, Err, ap, CsvFault, Write, UnlessWritten}
 use Rattle.std.specs.Prelude.{IfErr}
-use Rattle.fit_csv.specs.declared.fault.CsvFault.TheVariants.{Header, NoMemory, Read}
 
 unless_written : (fault : CsvFault) (P Q : Type 0) → (P → Q) → UnlessWritten fault P → UnlessWritten fault Q
-unless_written (Decode fault) P Q f p = f p
-unless_written (Encode fault) P Q f p = f p
-unless_written Header P Q f p = f p
-unless_written (BadRow row) P Q f p = f p
-unless_written (BadCell row column) P Q f p = f p
-unless_written NoMemory P Q f p = f p
-unless_written Read P Q f p = f p
 unless_written (Write written) P Q f p = p
+unless_written fault P Q f p = f p
 
 -- where the sink is as it was, it holds what it held
 pub text_kept : {K : Type 0} (contents : K → Option (List ℕ)) (old new : K) (answer : Result (Unit {0}) CsvFault)

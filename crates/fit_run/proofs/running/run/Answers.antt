@@ -1,5 +1,5 @@
 -- What is written of a chain, and the text that `from-csv` reads.
-use Rattle.fit_run.proofs.Common.{◌++◌, sym, subst, flat_map, Global, file_events, chain_rows, table_of, ok_line, IsWritten, RunsCommand}
+use Rattle.fit_run.proofs.Common.{◌++◌, sym, subst, flat_map, Global, file_events, channel, chain_rows, table_of, ok_line, IsWritten, RunsCommand}
 use Rattle.fit_run.proofs.Concluded.{concluded, text_concluded}
 use Rattle.fit_run.proofs.Counts.{chains_have_lines}
 use Rattle.fit_run.proofs.TextRead.{text_kept}
@@ -8,80 +8,30 @@ use Rattle.fit_run.proofs.running.run.Goals as goal
 pub returns-in-Check-clause-checks : goal.returns-in-Check-clause-checks
 returns-in-Check-clause-checks g c = λ command fs b input are chain well good.
     subst (λ lines. IsWritten (lines ++ ok_line)
-    (record {
-      before = g.K.Sink.contents c.args.output.now;
-      after = g.K.Sink.contents c.run_report.new.output;
-      failed =
-          g.K.Sink.has_failed c.run_report.new.output;
-    }) c.run_report.result)
+    (channel g.K.Sink.contents g.K.Sink.has_failed c.args.output.now c.run_report.new.output) c.run_report.result)
     (chains_have_lines {A = Global} fs) (c.run_report.ensures.chain fs b input are chain well good)
 
 pub returns-in-ToCsv-clause-converts : goal.returns-in-ToCsv-clause-converts
 returns-in-ToCsv-clause-converts g c = λ command fs b input are chain well good.
-    concluded (chain_rows fs) (record {
-      before = g.S.Source.remaining c.args.source.now;
-      after = g.S.Source.remaining c.to_csv-answer.new.source;
-      failed =
-          g.S.Source.has_failed c.to_csv-answer.new.source;
-    })
-    (record {
-      before = g.K.Sink.contents c.args.output.now;
-      after = g.K.Sink.contents c.to_csv-answer.new.sink;
-      failed =
-          g.K.Sink.has_failed c.to_csv-answer.new.sink;
-    })
-    (record {
-      before = g.E.Sink.contents c.args.faults.now;
-      after = g.E.Sink.contents c.conclude.new.faults;
-      failed =
-          g.E.Sink.has_failed c.conclude.new.faults;
-    })
-    c.conclude.result c.to_csv-answer.result well good (c.to_csv-answer.ensures.chain fs b input are chain) c.conclude.ensures
+    concluded (chain_rows fs) (channel g.S.Source.remaining g.S.Source.has_failed c.args.source.now c.to_csv-answer.new.source)
+    (channel g.K.Sink.contents g.K.Sink.has_failed c.args.output.now c.to_csv-answer.new.sink)
+    (channel g.E.Sink.contents g.E.Sink.has_failed c.args.faults.now c.conclude.new.faults) c.conclude.result
+    c.to_csv-answer.result well good (c.to_csv-answer.ensures.chain fs b input are chain) c.conclude.ensures
 
 pub returns-in-Table-clause-tables : goal.returns-in-Table-clause-tables
 returns-in-Table-clause-tables g c = λ command fs b input are chain well good.
     concluded (table_of (flat_map file_events fs))
-    (record {
-      before = g.S.Source.remaining c.args.source.now;
-      after = g.S.Source.remaining c.table-answer.new.source;
-      failed =
-          g.S.Source.has_failed c.table-answer.new.source;
-    })
-    (record {
-      before = g.K.Sink.contents c.args.output.now;
-      after = g.K.Sink.contents c.table-answer.new.sink;
-      failed =
-          g.K.Sink.has_failed c.table-answer.new.sink;
-    })
-    (record {
-      before = g.E.Sink.contents c.args.faults.now;
-      after = g.E.Sink.contents c.conclude-in-Table.new.faults;
-      failed =
-          g.E.Sink.has_failed c.conclude-in-Table.new.faults;
-    })
+    (channel g.S.Source.remaining g.S.Source.has_failed c.args.source.now c.table-answer.new.source)
+    (channel g.K.Sink.contents g.K.Sink.has_failed c.args.output.now c.table-answer.new.sink)
+    (channel g.E.Sink.contents g.E.Sink.has_failed c.args.faults.now c.conclude-in-Table.new.faults)
     c.conclude-in-Table.result c.table-answer.result well good (c.table-answer.ensures.chain fs b input are chain) c.conclude-in-Table.ensures
 
 pub returns-in-FromCsv-clause-runs : goal.returns-in-FromCsv-clause-runs
 returns-in-FromCsv-clause-runs g c =
     subst (λ command. RunsCommand command
-    (record {
-      before = g.S.Source.remaining c.args.source.now;
-      after = g.S.Source.remaining c.from_csv-answer.new.source;
-      failed =
-          g.S.Source.has_failed c.from_csv-answer.new.source;
-    })
-    (record {
-      before = g.K.Sink.contents c.args.output.now;
-      after = g.K.Sink.contents c.from_csv-answer.new.sink;
-      failed =
-          g.K.Sink.has_failed c.from_csv-answer.new.sink;
-    })
-    (record {
-      before = g.E.Sink.contents c.args.faults.now;
-      after = g.E.Sink.contents c.conclude-in-FromCsv.new.faults;
-      failed =
-          g.E.Sink.has_failed c.conclude-in-FromCsv.new.faults;
-    })
+    (channel g.S.Source.remaining g.S.Source.has_failed c.args.source.now c.from_csv-answer.new.source)
+    (channel g.K.Sink.contents g.K.Sink.has_failed c.args.output.now c.from_csv-answer.new.sink)
+    (channel g.E.Sink.contents g.E.Sink.has_failed c.args.faults.now c.conclude-in-FromCsv.new.faults)
     c.conclude-in-FromCsv.result) (sym c.in-FromCsv.is) (
       c.from_csv-answer.result,
       c.from_csv-answer.ensures.reads,
@@ -91,22 +41,7 @@ returns-in-FromCsv-clause-runs g c =
 
 pub returns-in-FromCsv-clause-from_text : goal.returns-in-FromCsv-clause-from_text
 returns-in-FromCsv-clause-from_text g c = λ command text fs b input is well good.
-    text_concluded b (record {
-      before = g.S.Source.remaining c.args.source.now;
-      after = g.S.Source.remaining c.from_csv-answer.new.source;
-      failed =
-          g.S.Source.has_failed c.from_csv-answer.new.source;
-    })
-    (record {
-      before = g.K.Sink.contents c.args.output.now;
-      after = g.K.Sink.contents c.from_csv-answer.new.sink;
-      failed =
-          g.K.Sink.has_failed c.from_csv-answer.new.sink;
-    })
-    (record {
-      before = g.E.Sink.contents c.args.faults.now;
-      after = g.E.Sink.contents c.conclude-in-FromCsv.new.faults;
-      failed =
-          g.E.Sink.has_failed c.conclude-in-FromCsv.new.faults;
-    })
+    text_concluded b (channel g.S.Source.remaining g.S.Source.has_failed c.args.source.now c.from_csv-answer.new.source)
+    (channel g.K.Sink.contents g.K.Sink.has_failed c.args.output.now c.from_csv-answer.new.sink)
+    (channel g.E.Sink.contents g.E.Sink.has_failed c.args.faults.now c.conclude-in-FromCsv.new.faults)
     c.conclude-in-FromCsv.result c.from_csv-answer.result well good (c.from_csv-answer.ensures.chain text fs b input is) c.conclude-in-FromCsv.ensures

@@ -1,39 +1,18 @@
 -- A report, and what was said of it.
-use Rattle.fit_run.proofs.Common.{Channel}
+use Rattle.fit_run.proofs.Common.{channel}
 use Rattle.fit_run.proofs.Ran.{ran, ran_chain}
 use Rattle.fit_run.proofs.running.run_report.Goals as goal
 
 pub returns-clause-runs : goal.returns-clause-runs
 returns-clause-runs g c =
-    let source : Channel = record {
-      before = g.S.Source.remaining c.args.source.now;
-      after = g.S.Source.remaining c.report-told.new.source;
-      failed =
-          g.S.Source.has_failed c.report-told.new.source;
-    } in
-    let faults : Channel = record {
-      before = g.E.Sink.contents c.args.faults.now;
-      after = g.E.Sink.contents c.finish.new.faults;
-      failed =
-          g.E.Sink.has_failed c.finish.new.faults;
-    } in
-    ran g.K.Sink.contents g.K.Sink.has_failed c.report-told.new.sink c.finish.new.output (g.K.Sink.contents c.args.output.now) source faults c.finish.result
+    ran g.K.Sink.contents g.K.Sink.has_failed c.report-told.new.sink c.finish.new.output (g.K.Sink.contents c.args.output.now)
+    (channel g.S.Source.remaining g.S.Source.has_failed c.args.source.now c.report-told.new.source)
+    (channel g.E.Sink.contents g.E.Sink.has_failed c.args.faults.now c.finish.new.faults) c.finish.result
     g.R.Report.has_heard c.report-told.new.reporter g.R.Report.line c.report-told.result c.report-told.ensures.reports c.finish.ensures
 
 pub returns-clause-chain : goal.returns-clause-chain
 returns-clause-chain g c = λ fs b input are chain well good.
-    let source : Channel = record {
-      before = g.S.Source.remaining c.args.source.now;
-      after = g.S.Source.remaining c.report-told.new.source;
-      failed =
-          g.S.Source.has_failed c.report-told.new.source;
-    } in
-    let faults : Channel = record {
-      before = g.E.Sink.contents c.args.faults.now;
-      after = g.E.Sink.contents c.finish.new.faults;
-      failed =
-          g.E.Sink.has_failed c.finish.new.faults;
-    } in
-    ran_chain g.K.Sink.contents g.K.Sink.has_failed c.report-told.new.sink c.finish.new.output (g.K.Sink.contents c.args.output.now) source faults
-    c.finish.result
+    ran_chain g.K.Sink.contents g.K.Sink.has_failed c.report-told.new.sink c.finish.new.output (g.K.Sink.contents c.args.output.now)
+    (channel g.S.Source.remaining g.S.Source.has_failed c.args.source.now c.report-told.new.source)
+    (channel g.E.Sink.contents g.E.Sink.has_failed c.args.faults.now c.finish.new.faults) c.finish.result
     g.R.Report.line fs well good c.report-told.result (c.report-told.ensures.chain fs b input are chain) c.finish.ensures

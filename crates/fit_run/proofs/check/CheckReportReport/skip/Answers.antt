@@ -1,5 +1,5 @@
 -- The records skipped are counted, and have no text.
-use Rattle.fit_run.proofs.Common.{ℕ, ◌+◌, ◌∙◌, add-zero, ap, map, length, take, reverse, arith, Global, Record, hear_records}
+use Rattle.fit_run.proofs.Common.{ℕ, ◌+◌, ◌∙◌, add-zero, ap, take, reverse, arith, hear_records}
 use Rattle.fit_report.proofs.Skipped.{records_heard, fed_so}
 use Rattle.fit_run.proofs.Counts.{few_counted, records_counted, silent_over}
 use Rattle.fit_run.proofs.check.CheckReportReport.skip.Goals as goal
