@@ -73,32 +73,27 @@ pub record Answers (bytes piece : List ℕ) (used : ℕ) (answer : Answer Global
   pub more : event_of answer ≡ None → Quiet Global bytes piece used
   pub event : (x : Event Global) → event_of answer ≡ Some x → Least Global bytes piece used x
 
+one_on : (bytes piece : List ℕ) (used : ℕ) (x : Event Global) (heard : List (Event Global)) → AreEvents bytes (reverse heard)
+    → Least Global bytes piece used x → AreEvents (bytes ++ take used piece) (reverse (x ∷ heard))
+one_on bytes piece used x heard are least =
+    subst (AreEvents (bytes ++ take used piece)) (sym (reverse-append (x ∷ []) heard)) (least_for bytes piece used x least (reverse heard) are).0
+
 events_on : (bytes piece : List ℕ) (used : ℕ) (answer : Answer Global) (heard : List (Event Global)) → Answers bytes piece used answer
     → AreEvents bytes (reverse heard) → AreEvents (bytes ++ take used piece) (reverse (hear answer heard))
 events_on bytes piece used answers.More heard a are = quiet_for bytes piece used (a.more refl) (reverse heard) are used (omega arith)
-events_on bytes piece used (answers.Header h n) heard a are =
-    subst (AreEvents (bytes ++ take used piece)) (sym (reverse-append (header h n ∷ []) heard))
-    (least_for bytes piece used (header h n) (a.event (header h n) refl) (reverse heard) are).0
-events_on bytes piece used (answers.Item r) heard a are =
-    subst (AreEvents (bytes ++ take used piece)) (sym (reverse-append (item r ∷ []) heard))
-    (least_for bytes piece used (item r) (a.event (item r) refl) (reverse heard) are).0
-events_on bytes piece used answers.FileEnd heard a are =
-    subst (AreEvents (bytes ++ take used piece)) (sym (reverse-append (file_end ∷ []) heard))
-    (least_for bytes piece used file_end (a.event file_end refl) (reverse heard) are).0
+events_on bytes piece used (answers.Header h n) heard a are = one_on bytes piece used (header h n) heard are (a.event (header h n) refl)
+events_on bytes piece used (answers.Item r) heard a are = one_on bytes piece used (item r) heard are (a.event (item r) refl)
+events_on bytes piece used answers.FileEnd heard a are = one_on bytes piece used file_end heard are (a.event file_end refl)
 
 records_on : {A : Type 0} (heard : List (Event A)) (answer : Answer A)
     → records_after_event (latest_records heard) answer ≡ latest_records (hear answer heard)
 records_on heard answers.More = refl
-records_on heard (answers.Header h n) = refl
-records_on heard (answers.Item r) = refl
-records_on heard answers.FileEnd = refl
+records_on heard answer = refl
 
 moments_on : {A : Type 0} (heard : List (Event A)) (answer : Answer A)
     → moments_heard heard ++ event_moments (latest_records heard) answer ≡ moments_heard (hear answer heard)
-moments_on heard answers.More = append-nil (moments_heard heard)
-moments_on heard (answers.Header h n) = append-nil (moments_heard heard)
 moments_on heard (answers.Item r) = refl
-moments_on heard answers.FileEnd = append-nil (moments_heard heard)
+moments_on heard answer = append-nil (moments_heard heard)
 
 -- before the first byte
 pub nothing_noted : Noted [] [] []

@@ -8,8 +8,7 @@ use Rattle.fit_record.specs.declared.fits.ShapeFault.{ShapeFault}
 use Rattle.fit_record.specs.Faults.{first_fault}
 use Rattle.fit_record.proofs.NoFaultWhereFits.{faults_are_exact}
 use Rattle.fit_encode.specs.declared.fault.EncodeFault.{EncodeFault}
-use Rattle.fit_encode.specs.declared.fault.EncodeFault.TheVariants.{BadHeader, ZeroIsSum, BadLocal, BadOffset, UndefinedLocal, WrongShape, TooLong}
-use Rattle.fit_encode.specs.declared.fault.EncodeFault.TheVariants.{DeclaredLength, ChainLength, NoMemory, Write}
+use Rattle.fit_encode.specs.declared.fault.EncodeFault.TheVariants.{BadLocal, BadOffset, UndefinedLocal, WrongShape, DeclaredLength, NoMemory, Write}
 use Rattle.fit_encode.specs.Faults.{UnlessWrite}
 use Rattle.fit_examples.proofs.Holding.{Holds}
 
@@ -34,17 +33,14 @@ no_shape e r f fits is = let none : first_fault e r ≡ None = ((faults_are_exac
 place_fault : (e : Environment Global) (count declared size points : ℕ) (r : Record Global) (fault : EncodeFault) (X Y : Type 0) → Fits e r
     → size + length (record_bytes e r) ≤ declared
     → UnlessWrite fault (IsPlaceFault e count declared size r fault × X × Y) → IsRideFault points fault
-place_fault e count declared size points r (BadHeader file) X Y fits room is = absurd is.0
-place_fault e count declared size points r (ZeroIsSum file) X Y fits room is = absurd is.0
 place_fault e count declared size points r (BadLocal file index) X Y fits room is = absurd (no_shape e r _ fits is.0.2)
 place_fault e count declared size points r (BadOffset file index) X Y fits room is = absurd (no_shape e r _ fits is.0.2)
 place_fault e count declared size points r (UndefinedLocal file index) X Y fits room is = absurd (no_shape e r _ fits is.0.2)
 place_fault e count declared size points r (WrongShape file index field) X Y fits room is = absurd (no_shape e r _ fits is.0.2)
-place_fault e count declared size points r (TooLong file index) X Y fits room is = absurd is.0
 place_fault e count declared size points r DeclaredLength X Y fits room is = absurd (omega (arith, room, is.0.1))
-place_fault e count declared size points r ChainLength X Y fits room is = absurd is.0
 place_fault e count declared size points r NoMemory X Y fits room is = tt
 place_fault e count declared size points r (Write written) X Y fits room is = tt
+place_fault e count declared size points r fault X Y fits room is = absurd is.0
 
 -- the data so far
 data_held : (points : List (ℕ × ℕ)) (head : List ℕ) (declared i : ℕ) (e : Encoding Global) (held : Option (List ℕ)) → i ≤ length points
@@ -57,17 +53,10 @@ data_held points head declared i e held within h =
 
 finish_fault : (e : Encoding Global) (points : ℕ) (fault : EncodeFault) (X Y : Type 0) → e.declared ≤ length (data_so_far e)
     → UnlessWrite fault (IsFinishFault e fault × X × Y) → IsRideFault points fault
-finish_fault e points (BadHeader file) X Y whole is = absurd cc
-finish_fault e points (ZeroIsSum file) X Y whole is = absurd cc
-finish_fault e points (BadLocal file index) X Y whole is = absurd cc
-finish_fault e points (BadOffset file index) X Y whole is = absurd cc
-finish_fault e points (UndefinedLocal file index) X Y whole is = absurd cc
-finish_fault e points (WrongShape file index field) X Y whole is = absurd cc
-finish_fault e points (TooLong file index) X Y whole is = absurd cc
 finish_fault e points DeclaredLength X Y whole is = absurd (omega (arith, whole, is.0.1))
-finish_fault e points ChainLength X Y whole is = absurd cc
 finish_fault e points NoMemory X Y whole is = tt
 finish_fault e points (Write written) X Y whole is = tt
+finish_fault e points fault X Y whole is = absurd cc
 
 -- a message is refused only where memory is lacking
 pub message_fault : (points : List (ℕ × ℕ)) (head : List ℕ) (declared i : ℕ) (p : ℕ × ℕ) (e : Encoding Global) (held : Option (List ℕ)) (r : Record Global)

@@ -1,7 +1,7 @@
 -- Why bytes that a file begins aren't read.
 use Rattle.fit_examples.proofs.Common.{◌≡◌, true, false, ℕ, List, Err, sym, ◌∙◌, Global, FitFile, GivesFile, LacksMemory}
 use Rattle.fit_chain.specs.declared.event.Fault.{Fault}
-use Rattle.fit_chain.specs.declared.event.Fault.TheVariants.{Refused, Truncated, NoMemory, Read}
+use Rattle.fit_chain.specs.declared.event.Fault.TheVariants.{NoMemory, Read}
 use Rattle.fit_decode.specs.Reads.{Channel}
 
 -- where a file begins the bytes of a source that doesn't fail, only memory can be lacking
@@ -9,5 +9,4 @@ pub front_fault : (f : FitFile Global) (n : ℕ) (x : List ℕ) (source : Channe
     → LacksMemory fault
 front_fault f n x source (NoMemory used) good gives = tt
 front_fault f n x source (Read place) good gives = let both : true ≡ false = sym gives.0 ∙ good in absurd cc
-front_fault f n x source (Refused place reason) good gives = absurd gives
-front_fault f n x source (Truncated place) good gives = absurd gives
+front_fault f n x source fault good gives = absurd gives

@@ -15,16 +15,9 @@ use Rattle.fit_csv.specs.declared.fault.CsvFault.TheVariants as csv
 pub wants_memory : (rows : List Row) (source sink : Channel) (fault : CsvFault) → source.failed ≡ false → ConvertsTo rows source sink (Err fault)
     → CsvLacksMemory fault
 wants_memory rows source sink (csv.Decode (faults.Read place)) good failed = let both : true ≡ false = sym failed ∙ good in absurd cc
-wants_memory rows source sink (csv.Decode (faults.Refused place reason)) good none = absurd none
-wants_memory rows source sink (csv.Decode (faults.Truncated place)) good none = absurd none
-wants_memory rows source sink (csv.Decode (faults.NoMemory used)) good none = absurd none
 wants_memory rows source sink csv.NoMemory good some = tt
 wants_memory rows source sink (csv.Write written) good some = tt
-wants_memory rows source sink (csv.Encode fault) good none = absurd none
-wants_memory rows source sink csv.Header good none = absurd none
-wants_memory rows source sink (csv.BadRow row) good none = absurd none
-wants_memory rows source sink (csv.BadCell row column) good none = absurd none
-wants_memory rows source sink csv.Read good none = absurd none
+wants_memory rows source sink fault good none = absurd none
 
 -- ---- faults of bytes
 
@@ -44,11 +37,6 @@ table_fault rows ride left sink (csv.Decode (faults.Refused place reason)) (take
 table_fault rows ride left sink (csv.Decode (faults.Truncated place)) (taken, all, (ends, text)) =
     subst (λ bytes. IsFaultOf bytes (faults.Truncated place)) (sym (all ∙ ap (λ l. taken ++ l) ends.1 ∙ append-nil taken)) (ends.0, ends.2, ends.3)
 table_fault rows ride left sink (csv.Decode (faults.Read place)) (taken, all, (ends, text)) = let both : true ≡ false = sym ends.1 in absurd cc
-table_fault rows ride left sink (csv.Decode (faults.NoMemory used)) (taken, all, none) = none
 table_fault rows ride left sink csv.NoMemory some = tt
 table_fault rows ride left sink (csv.Write written) some = tt
-table_fault rows ride left sink (csv.Encode fault) (taken, all, none) = none
-table_fault rows ride left sink csv.Header (taken, all, none) = none
-table_fault rows ride left sink (csv.BadRow row) (taken, all, none) = none
-table_fault rows ride left sink (csv.BadCell row column) (taken, all, none) = none
-table_fault rows ride left sink csv.Read (taken, all, none) = none
+table_fault rows ride left sink fault (taken, all, none) = none
