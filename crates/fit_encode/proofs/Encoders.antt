@@ -50,9 +50,9 @@ pub in_order_of : {A : Type 0} (e : Environment A) (r : Record A) (v : Values A)
 in_order_of e r v d is defined = rw is (ap (λ o. data_header v.local v.offset ∷ data_bytes o v) (order_at_place (defined_at e v.local) d defined))
 
 -- The sink failed in the middle of the bytes: how many of them went out, and how many bytes in all.
-pub broke : {a b : Written} {s : Sending} {p : List ℕ} {w : ℕ} → s.held ≡ [] → s.count + length p < 2 ^ 64 → Breaks a b s p w → b.failed ≡ true
+pub broke : {a b : Written} {s : Sending} {p : List ℕ} {w : ℕ} → s.held ≡ [] → s.count + length p < 2 ^ 64 → Breaks a b s p w
     → (sent : ℕ) × StopsAt a.held b.held b.failed p sent × (w ≡ s.count + sent)
-broke {a} {b} {s} {p} {w} held fits broken stopped =
+broke {a} {b} {s} {p} {w} held fits broken =
     let all : broken.went ++ broken.rest ≡ p = broken.joined ∙ ap (λ (x : List ℕ). x ++ p) held in
     let parts = length-append broken.went broken.rest in
     let whole = ap length all in
@@ -61,7 +61,7 @@ broke {a} {b} {s} {p} {w} held fits broken stopped =
       record {
         part = omega arith;
         first = subst (Appends a.held b.held) (sym (ap (take (length broken.went)) (sym all) ∙ take-append_seam broken.went broken.rest)) broken.appended;
-        stopped = stopped;
+        stopped = broken.stopped;
       },
       there,
     )
@@ -79,12 +79,11 @@ in_terms {A} P {env} {out} {declared} {size} {count} {head} {records} h here =
 pub breaks_off : {A : Type 0} {a b : Written} {env : Environment A} {out : Sending} {declared size count w : ℕ} {head bytes : List ℕ}
     {records : List (Record A)}
     (failed : Option ℕ) (finished : Bool) → IsOpenFile env out declared size count head records → length bytes < 2 ^ 33 → Breaks a b out bytes w
-    → b.failed ≡ true
     → BreaksOff a.held b.held b.failed (record { head = head; declared = declared; records = records; failed = failed; finished = finished })
     (record { head = head; declared = declared; records = records; failed = Some w; finished = finished }) bytes w
-breaks_off {A} {a} {b} {env} {out} {declared} {size} {count} {w} {head} {bytes} {records} failed finished h less broken stopped =
+breaks_off {A} {a} {b} {env} {out} {declared} {size} {count} {w} {head} {bytes} {records} failed finished h less broken =
     let halves = length-append head (records_bytes {A = A} empty_environment records) in
-    let there = broke h.held (omega arith) broken stopped in
+    let there = broke h.held (omega arith) broken in
     record { sent = there.0; stops = there.1; total = there.2 ∙ ap (λ (n : ℕ). n + there.0) h.total; latched = refl }
 
 -- a record that can be put is small
@@ -95,9 +94,8 @@ small_record h place = omega arith
 
 -- the sink failed in the middle of the first bytes
 pub first_broke : {a b : Written} {s : Sending} {bytes head : List ℕ} {w : ℕ} → s ≡ fresh 0 → bytes ≡ head → length bytes < 2 ^ 64 → Breaks a b s bytes w
-    → b.failed ≡ true
     → StopsAt a.held b.held b.failed head w
-first_broke new same short broken stopped = StopsAt-as same (stops_in _ short (Breaks-from new broken) stopped)
+first_broke new same short broken = StopsAt-as same (stops_in _ short (Breaks-from new broken))
 
 -- nothing is held back, and all bytes so far went out
 pub sent_so_far : {A : Type 0} {env : Environment A} {out : Sending} {declared size count : ℕ} {head : List ℕ} {records : List (Record A)}

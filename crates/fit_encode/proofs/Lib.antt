@@ -5,6 +5,7 @@ pub mod Messages
 pub mod RecordSteps
 pub mod FaultSteps
 pub mod Lengths
+pub mod FilesPut
 pub mod Orders
 pub mod Spellable
 pub mod NoFault

@@ -1,5 +1,5 @@
 -- Files that can be written have no fault.
-use Rattle.fit_encode.proofs.Common.{◌≡◌, ℕ, ◌<◌, ◌≤◌, List, [], ◌∷◌, ◌++◌, length, Some, sym, ap, ◌∙◌, subst, length-append, arith, AllByRecursion, FitFile}
+use Rattle.fit_encode.proofs.Common.{◌≡◌, ℕ, ◌<◌, ◌≤◌, List, [], ◌∷◌, ◌++◌, length, Some, ap, ◌∙◌, subst, length-append, arith, AllByRecursion, FitFile}
 use Rattle.fit_encode.proofs.Common.{Record, ShapeFault, empty_environment, learn, learn_all, Fits, AllFit, record_bytes, records_bytes, first_fault}
 use Rattle.fit_encode.proofs.Common.{IsWellFormed, IsWellFormedChain, chain_limit, FaultsAreExact, EncodeFault, BadHeader, ZeroIsSum, BadLocal, BadOffset}
 use Rattle.fit_encode.proofs.Common.{UndefinedLocal, WrongShape, TooLong, ChainLength, AtRecord, IsRecordFault, IsFileFault, AtFile, GoodChainsHaveNoFault}

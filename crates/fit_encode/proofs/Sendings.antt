@@ -54,6 +54,7 @@ Breaks-on {a} {b} {c} {s} {t} {p} {q} {w} first second = record {
       ∙ sym (append_assoc first.went t.held q) ∙ ap (λ (x : List ℕ). x ++ q) first.joined ∙ append_assoc s.held p q;
   some = second.some;
   total = IsCounted-more _ _ _ first.went second.went first.total second.total;
+  stopped = second.stopped;
 }
 
 pub Breaks-more : {a b : Written} {s : Sending} {p : List ℕ} {w : ℕ} (q : List ℕ) → Breaks a b s p w → Breaks a b s (p ++ q) w
@@ -64,20 +65,22 @@ Breaks-more {a} {b} {s} {p} {w} q h = record {
   joined = sym (append_assoc h.went h.rest q) ∙ ap (λ (x : List ℕ). x ++ q) h.joined ∙ append_assoc s.held p q;
   some = (let more = length-append h.rest q in let some = h.some in omega arith);
   total = h.total;
+  stopped = h.stopped;
 }
 
 -- ---- a put
 
 -- a part of what was held went out
 pub Breaks-flush : (a b : Written) (s : Sending) (held : List ℕ) (k w : ℕ) → held ≡ s.held → Appends a.held b.held (take k held) → k < length held
-    → IsCounted s.count k w → Breaks a b s [] w
-Breaks-flush a b s held k w e went less total = record {
+    → IsCounted s.count k w → b.failed ≡ true → Breaks a b s [] w
+Breaks-flush a b s held k w e went less total stopped = record {
   went = take k held;
   rest = drop k held;
   appended = went;
   joined = take-append-drop k held ∙ e ∙ sym (append-nil s.held);
   some = omega (arith, length-drop k held);
   total = subst (λ (n : ℕ). IsCounted s.count n w) (omega (arith, length-take k held)) total;
+  stopped = stopped;
 }
 
 -- bytes that are held back
@@ -103,20 +106,20 @@ Breaks-as {a} {b} {s} {p} {q} {w} e h = subst (λ (y : List ℕ). Breaks a b s y
 
 -- a call that failed, and whose error the `?` behind it passes on
 pub Sends-err : {T : Type 0} (a b : Written) (s t : Sending) (p : List ℕ) (r : Result T ℕ) {w : ℕ} → IsErrAnd r (λ y. y ≡ w)
-    → Breaks a b s p w × (b.failed ≡ true) → Sends a b s t p r
+    → Breaks a b s p w → Sends a b s t p r
 Sends-err a b s t p (Ok x) h broken = absurd h
-Sends-err a b s t p (Err y) h broken = (subst (λ v. Breaks a b s p v) (sym h) broken.0, broken.1)
+Sends-err a b s t p (Err y) h broken = subst (λ v. Breaks a b s p v) (sym h) broken
 
-pub PutsAll-err : (a b : Written) (count : ℕ) (p : List ℕ) (r : Result ℕ ℕ) {w : ℕ} → IsErrAnd r (λ y. y ≡ w) → Breaks a b (fresh count) p w × (b.failed ≡ true)
+pub PutsAll-err : (a b : Written) (count : ℕ) (p : List ℕ) (r : Result ℕ ℕ) {w : ℕ} → IsErrAnd r (λ y. y ≡ w) → Breaks a b (fresh count) p w
     → PutsAll a b count p r
 PutsAll-err a b count p (Ok x) h broken = absurd h
-PutsAll-err a b count p (Err y) h broken = (subst (λ v. Breaks a b (fresh count) p v) (sym h) broken.0, broken.1)
+PutsAll-err a b count p (Err y) h broken = subst (λ v. Breaks a b (fresh count) p v) (sym h) broken
 
 -- a call behind another, which is the last one
 pub Sends-on : {T : Type 0} (a b c : Written) (s t u : Sending) (p q bytes : List ℕ) (r : Result T ℕ) → p ++ q ≡ bytes → Spells a b s t p
     → Sends b c t u q r → Sends a c s u bytes r
 Sends-on a b c s t u p q bytes (Ok x) e first second = Spells-as e (Spells-on first second)
-Sends-on a b c s t u p q bytes (Err w) e first second = (Breaks-as e (Breaks-on first second.0), second.1)
+Sends-on a b c s t u p q bytes (Err w) e first second = Breaks-as e (Breaks-on first second)
 
 -- ---- from a state to another
 
@@ -158,8 +161,8 @@ StopsAt-as {a} {c} {f} {p} {q} {w} e h = subst (λ (x : List ℕ). StopsAt a c f
 -- The sink failed in the middle of some bytes, behind all that came before and ahead of what was to follow.
 pub stops_at : {a : Option (List ℕ)} {b c : Written} {w : ℕ} (front bytes back : List ℕ) (count : ℕ) → length ((front ++ bytes) ++ back) < 2 ^ 64
     → Appends a b.held front
-    → IsCounted 0 (length front) count → Breaks b c (fresh count) bytes w → c.failed ≡ true → StopsAt a c.held c.failed ((front ++ bytes) ++ back) w
-stops_at {a} {b} {c} {w} front bytes back count short first counted broken failed =
+    → IsCounted 0 (length front) count → Breaks b c (fresh count) bytes w → StopsAt a c.held c.failed ((front ++ bytes) ++ back) w
+stops_at {a} {b} {c} {w} front bytes back count short first counted broken =
     let whole = length-append (front ++ bytes) back in
     let halves = length-append front bytes in
     let joined = ap length broken.joined in
@@ -176,15 +179,14 @@ stops_at {a} {b} {c} {w} front bytes back count short first counted broken faile
       part = omega arith;
       first = subst (Appends a c.held) (sym (ap (λ (x : List ℕ). take w x) (sym all) ∙ ap (λ n. take n ((front ++ broken.went) ++ (broken.rest ++ back))) is
           ∙ take-append_seam (front ++ broken.went) (broken.rest ++ back))) (Appends-trans a b.held c.held front broken.went first broken.appended);
-      stopped = failed;
+      stopped = broken.stopped;
     }
 
 -- The same of bytes that nothing went before.
-pub stops_in : {a b : Written} {w : ℕ} (bytes : List ℕ) → length bytes < 2 ^ 64 → Breaks a b (fresh 0) bytes w → b.failed ≡ true
-    → StopsAt a.held b.held b.failed bytes w
-stops_in {a} {b} {w} bytes short broken failed =
+pub stops_in : {a b : Written} {w : ℕ} (bytes : List ℕ) → length bytes < 2 ^ 64 → Breaks a b (fresh 0) bytes w → StopsAt a.held b.held b.failed bytes w
+stops_in {a} {b} {w} bytes short broken =
     let same : bytes ++ [] ≡ bytes = append-nil bytes in
-    StopsAt-as same (stops_at [] bytes [] 0 (subst (λ (x : List ℕ). length x < 2 ^ 64) (sym same) short) (Appends-nil a.held) (λ _. refl) broken failed)
+    StopsAt-as same (stops_at [] bytes [] 0 (subst (λ (x : List ℕ). length x < 2 ^ 64) (sym same) short) (Appends-nil a.held) (λ _. refl) broken)
 
 -- ---- lists
 

@@ -37,11 +37,12 @@ pub record Breaks (before after : Written) (old : Sending) (bytes : List ℕ) (w
   pub joined : went ++ rest ≡ old.held ++ bytes
   pub some : 0 < length rest
   pub total : IsCounted old.count (length went) written
+  pub stopped : after.failed ≡ true
 
 -- what a call that spells these bytes leaves, by its answer
 abbrev pub Sends : {T : Type 0} → Written → Written → Sending → Sending → List ℕ → Result T ℕ → Type 0
 Sends before after old new bytes (Ok _) = Spells before after old new bytes
-Sends before after old new bytes (Err written) = Breaks before after old bytes written × (after.failed ≡ true)
+Sends before after old new bytes (Err written) = Breaks before after old bytes written
 
 -- nothing of a file is spelled, and so many bytes went out before it
 abbrev pub fresh : ℕ → Sending
@@ -51,4 +52,4 @@ fresh count = record { sent = []; held = []; count = count }
 abbrev pub PutsAll : Written → Written → ℕ → List ℕ → Result ℕ ℕ → Type 0
 PutsAll before after count bytes (Ok total) =
     Appends before.held after.held bytes × IsCounted count (length bytes) total × (0 < length bytes → after.failed ≡ false)
-PutsAll before after count bytes (Err written) = Breaks before after (fresh count) bytes written × (after.failed ≡ true)
+PutsAll before after count bytes (Err written) = Breaks before after (fresh count) bytes written

@@ -4,21 +4,19 @@ use Rattle.fit_encode.proofs.message.spell_values.Goals as goal
 
 pub returns-in_err-bytes : goal.returns-in_err-bytes
 returns-in_err-bytes g c =
-    let broken = c.in_err-bytes.ensures in
     let v = c.args.v.now in
     let f = items_bytes {A = g.row.A.Denot} c.args.order in
-    let head = Breaks-as (ap (λ n. n ∷ []) c.data_header.ensures) broken.0 in
-    Sends-err _ _ _ _ _ c.from_residual.result c.from_residual.ensures.1 (Breaks-more (flat_map f v.dev) (Breaks-more (flat_map f v.fields) head), broken.1)
+    let head = Breaks-as (ap (λ n. n ∷ []) c.data_header.ensures) c.in_err-bytes.ensures in
+    Sends-err _ _ _ _ _ c.from_residual.result c.from_residual.ensures.1 (Breaks-more (flat_map f v.dev) (Breaks-more (flat_map f v.fields) head))
 
 pub returns-in_err-spell_lists : goal.returns-in_err-spell_lists
 returns-in_err-spell_lists g c =
-    let broken = c.in_err-spell_lists.ensures in
     let v = c.args.v.now in
     let f = items_bytes {A = g.row.A.Denot} c.args.order in
     let head = Spells-as (ap (λ n. n ∷ []) c.data_header.ensures) c.in_ok-bytes.ensures in
-    let fields = Breaks-as (ap (flat_map f) c.as_slice.ensures) broken.0 in
+    let fields = Breaks-as (ap (flat_map f) c.as_slice.ensures) c.in_err-spell_lists.ensures in
     Sends-err _ _ _ _ _ c.from_residual-in_err-spell_lists.result c.from_residual-in_err-spell_lists.ensures.1
-    (Breaks-more (flat_map f v.dev) (Breaks-on head fields), broken.1)
+    (Breaks-more (flat_map f v.dev) (Breaks-on head fields))
 
 pub returns : goal.returns
 returns g c =

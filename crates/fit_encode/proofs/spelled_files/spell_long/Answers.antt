@@ -1,6 +1,5 @@
 use Rattle.fit_encode.proofs.Common.{◌≡◌, ◌∙◌, ℕ, List, [], ◌++◌, length, refl, sym, ap, append_assoc, append-nil, eqb-true, nil_from_length}
-use Rattle.fit_encode.proofs.Common.{err_from_is_err_and}
-use Rattle.fit_encode.proofs.Sendings.{Breaks-as, Breaks-more, Breaks-on, Spells-as, Spells-none, Spells-on}
+use Rattle.fit_encode.proofs.Sendings.{Breaks-as, Breaks-more, Breaks-on, Sends-err, Spells-as, Spells-none, Spells-on}
 use Rattle.fit_encode.proofs.spelled_files.spell_long.Goals as goal
 
 pub loop-rest-init : goal.loop-rest-init
@@ -8,16 +7,12 @@ loop-rest-init g c = ([], refl, Spells-none _ _)
 
 pub returns-in_err-bytes : goal.returns-in_err-bytes
 returns-in_err-bytes g c =
-    let p = err_from_is_err_and c.from_residual.result c.from_residual.ensures.1 in
     let (done, joined, spelled) = c.loop-rest.invariant in
-    let broken = c.in_err-bytes.ensures in
     let piece = c.split_at.result.0.now in
     let left = c.split_at.result.1.now in
-    rw (p.1, p.2) (
-      Breaks-as (append_assoc done piece left ∙ ap (λ (x : List ℕ). done ++ x) (sym c.split_at.ensures.by_index.0) ∙ joined)
-          (Breaks-more left (Breaks-on spelled broken.0)),
-      broken.1,
-    )
+    Sends-err _ _ _ _ _ c.from_residual.result c.from_residual.ensures.1
+    (Breaks-as (append_assoc done piece left ∙ ap (λ (x : List ℕ). done ++ x) (sym c.split_at.ensures.by_index.0) ∙ joined)
+    (Breaks-more left (Breaks-on spelled c.in_err-bytes.ensures)))
 
 pub loop-rest-preserved : goal.loop-rest-preserved
 loop-rest-preserved g c =

@@ -17,17 +17,14 @@ spell_record-requires g c =
 
 pub returns-in_err-spell_record : goal.returns-in_err-spell_record
 returns-in_err-spell_record g c =
-    let broken = c.in_err-spell_record.ensures in
     let rs = c.args.records.now in
     let i = c.loop-r.r-index in
     let r = c.r-item.result in
     let e = learn_all {A = g.row.A.Denot} empty_environment (take i rs) in
     let same = ap (λ o. bytes_in_order o r) c.order_in.ensures ∙ in_order e c.loop-r.orders r c.loop-r.invariant.orders in
     Sends-err _ _ _ _ _ c.from_residual.result c.from_residual.ensures.1 (
-      Breaks-as (record_parts empty_environment rs i r (omega arith) c.r-item.is)
-          (Breaks-more (records_bytes (learn e r) (drop (i + 1) rs)) (Breaks-on c.loop-r.invariant.spelled (Breaks-as same broken.0))),
-      broken.1,
-    )
+    Breaks-as (record_parts empty_environment rs i r (omega arith) c.r-item.is)
+    (Breaks-more (records_bytes (learn e r) (drop (i + 1) rs)) (Breaks-on c.loop-r.invariant.spelled (Breaks-as same c.in_err-spell_record.ensures))))
 
 pub loop-r-preserved : goal.loop-r-preserved
 loop-r-preserved g c =

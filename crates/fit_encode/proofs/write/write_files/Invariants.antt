@@ -1,9 +1,6 @@
-use Rattle.fit_encode.proofs.Common.{◌≡◌, ◌<◌, false, take, length, flat_map, Appends, file_bytes, IsCounted}
+use Rattle.fit_encode.proofs.Common.{sink_state}
+use Rattle.fit_encode.proofs.FilesPut.{FirstPut}
 use Rattle.fit_encode.proofs.write.write_files.Given as goal
 
 abbrev pub invariant-loop-file : goal.invariant-loop-file
-invariant-loop-file g l = record {
-  appended : Appends (g.K.Sink.contents l.initial.sink) (g.K.Sink.contents l.sink) (flat_map file_bytes (take l.file-index l.files));
-  total : IsCounted 0 (length (flat_map file_bytes (take l.file-index l.files))) l.count;
-  works : 0 < l.file-index → g.K.Sink.has_failed l.sink ≡ false;
-}
+invariant-loop-file g l = FirstPut (g.K.Sink.contents l.initial.sink) (sink_state g.K.Sink.contents g.K.Sink.has_failed l.sink) l.files l.file-index l.count

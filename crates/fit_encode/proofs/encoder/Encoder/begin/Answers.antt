@@ -14,8 +14,7 @@ returns-in-Err-clause-written_of_good g c = c.in-Ok.ensures.ok.0 refl
 
 pub returns-in-Err-clause-written : goal.returns-in-Err-clause-written
 returns-in-Err-clause-written g c =
-    let broken = c.in-Err.ensures.sends in
-    first_broke c.new-out.ensures (c.as_slice.ensures.value ∙ c.in-Ok.ensures.bytes) c.as_slice.type_inv.0 broken.0 broken.1
+    first_broke c.new-out.ensures (c.as_slice.ensures.value ∙ c.in-Ok.ensures.bytes) c.as_slice.type_inv.0 c.in-Err.ensures.sends
 
 pub new-requires : goal.new-requires
 new-requires g c = omega arith

@@ -16,8 +16,7 @@ returns-in-Err-clause-written g c =
     let inv = while_open c.self.inside.finished c.self.inside.failed c.self.invariant c.closed_fault.ensures c.in_default.is in
     let complete = all_there inv c.if-self.false in
     let bytes = ap (λ (x : List ℕ). little_bytes 2 (checksum x)) (sent_so_far inv) in
-    let broken = c.in-Err.ensures.sends in
-    let off = breaks_off c.self.inside.failed c.self.inside.finished inv (omega arith) (Breaks-as bytes broken.0) broken.1 in
+    let off = breaks_off c.self.inside.failed c.self.inside.finished inv (omega arith) (Breaks-as bytes c.in-Err.ensures.sends) in
     λ _. rw (← c.self.view_is) (complete, off)
 
 pub returns-clause-ok : goal.returns-clause-ok

@@ -55,8 +55,7 @@ returns-in-Err-clause-written g c =
     let r = c.args.r.now in
     let here = in_terms (λ (e : Environment Global) (n m : ℕ). HasPlace e c.self.inside.declared m r) inv c.in_ok-size.ensures.ok.0 in
     let bytes = c.order_of-order.ensures ∙ ap (λ (e : Environment Global). record_bytes e r) inv.known in
-    let broken = c.in-Err.ensures.sends in
-    let off = breaks_off c.self.inside.failed c.self.inside.finished inv (small_record inv here) (Breaks-as bytes broken.0) broken.1 in
+    let off = breaks_off c.self.inside.failed c.self.inside.finished inv (small_record inv here) (Breaks-as bytes c.in-Err.ensures.sends) in
     λ _. rw (← c.self.view_is) (here, off)
 
 pub overflow_add-self-2 : goal.overflow_add-self-2

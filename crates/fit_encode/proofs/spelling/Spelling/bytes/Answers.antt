@@ -4,8 +4,7 @@ use Rattle.fit_encode.proofs.spelling.Spelling.bytes.Goals as goal
 
 pub returns-in_err-make_room : goal.returns-in_err-make_room
 returns-in_err-make_room g c =
-    let broken = c.in_err-make_room.ensures.sends in
-    Sends-err _ _ _ _ _ c.from_residual.result c.from_residual.ensures.1 (Breaks-more c.args.bytes.now broken.0, broken.1)
+    Sends-err _ _ _ _ _ c.from_residual.result c.from_residual.ensures.1 (Breaks-more c.args.bytes.now c.in_err-make_room.ensures.sends)
 
 pub returns : goal.returns
 returns g c =

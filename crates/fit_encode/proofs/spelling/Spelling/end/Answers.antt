@@ -4,16 +4,14 @@ use Rattle.fit_encode.proofs.spelling.Spelling.end.Goals as goal
 
 pub returns-in_err-flush-clause-sends : goal.returns-in_err-flush-clause-sends
 returns-in_err-flush-clause-sends g c =
-    let broken = c.in_err-flush.ensures.sends in
     Sends-err _ _ _ _ _ c.from_residual.result c.from_residual.ensures.1
-    (Breaks-more (little_bytes 2 (checksum (c.args.self.now.sent ++ c.args.self.now.held))) broken.0, broken.1)
+    (Breaks-more (little_bytes 2 (checksum (c.args.self.now.sent ++ c.args.self.now.held))) c.in_err-flush.ensures.sends)
 
 pub returns-in_err-bytes-clause-sends : goal.returns-in_err-bytes-clause-sends
 returns-in_err-bytes-clause-sends g c =
-    let broken = c.in_err-bytes.ensures in
     let flushed = c.in_ok-flush.ensures in
     let sum = c.sum_bytes-sum.ensures ∙ ap (little_bytes 2) (c.checksum.ensures ∙ ap checksum (all_sent flushed.sends flushed.empty)) in
-    Sends-err _ _ _ _ _ c.from_residual-in_err-bytes.result c.from_residual-in_err-bytes.ensures.1 (Breaks-on flushed.sends (Breaks-as sum broken.0), broken.1)
+    Sends-err _ _ _ _ _ c.from_residual-in_err-bytes.result c.from_residual-in_err-bytes.ensures.1 (Breaks-on flushed.sends (Breaks-as sum c.in_err-bytes.ensures))
 
 pub returns-clause-sends : goal.returns-clause-sends
 returns-clause-sends g c =
