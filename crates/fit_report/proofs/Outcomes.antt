@@ -1,7 +1,7 @@
 -- How a report begins and ends.
 use Rattle.fit_report.proofs.Common.{◌≡◌, ℕ, ◌+◌, ◌≤◌, List, [], ◌++◌, length, take, get_or, reverse, Option, None, false, Result, Ok, Err, IsOk, IsErr, ◌↔◌}
 use Rattle.fit_report.proofs.Common.{refl, sym, ap, ◌∙◌, subst, arith, length-append, Consumes, IsAtEnd, append-nil, get_or-append-add, take-append-add}
-use Rattle.fit_report.proofs.Common.{chain_limit, IsViable, Refused, Truncated, Read, NoRoom, Fault, Seen, Event, AreEvents, at_header, IsRefused, no_file_yet}
+use Rattle.fit_report.proofs.Common.{chain_limit, IsViable, Refused, Truncated, Fault, Seen, Event, AreEvents, at_header, IsRefused, no_file_yet}
 use Rattle.fit_report.proofs.Common.{ReportFault, Decode, NoMemory, Write, Lines, HasReported, PieceTold, Channel, Tells, HasTold, report_fault}
 use Rattle.fit_report.proofs.Common.{Consumes-append}
 use Rattle.fit_chain.specs.Checks.{AreChain}
@@ -42,9 +42,7 @@ module _ {A : Type 0} (line : Lines A) (bytes piece : List ℕ) (new : Seen) (he
         ),
         subst (λ t. Tells line t heard sink) there tells,
       )
-  piece_fault (Decode (Truncated place)) none = absurd none
-  piece_fault (Decode (NoRoom used)) none = absurd none
-  piece_fault (Decode (Read place)) none = absurd none
+  piece_fault (Decode fault) none = absurd none
   piece_fault NoMemory (k, told, tells) = (
     (length bytes + k, told, subst (λ t. Tells line t told sink) (front k) tells),
     nearly chain_limit bytes piece (bytes ++ piece) refl short viable,

@@ -1,6 +1,6 @@
 -- A piece is told event by event, but for what the reporter skips.
 use Rattle.fit_report.proofs.Common.{◌+◌, length, drop, Err, ap, ◌∙◌, subst, arith, Global, length-drop, err_from_is_err_and, Seen, fed_on, AreHeard, Skips}
-use Rattle.fit_report.proofs.Common.{hear, Channel}
+use Rattle.fit_report.proofs.Common.{hear, Channel, channel}
 use Rattle.fit_report.proofs.Hearing.{Told}
 use Rattle.fit_report.proofs.Pieces.{Stopped, are_heard, passes, breaks, stops, hears_no_more, heard_in_vain}
 use Rattle.fit_report.proofs.Skipped.{mid_within, mid_fed, mid_told, mid_stands}
@@ -66,12 +66,7 @@ loop-at-preserved g c =
             hear event n.0,
             c.in_ok-pass_on.ensures.heard n.0 n.1 heard,
             passes g.R.Report.line old mid new piece at more event n.0 n.0 start
-                (record {
-                  before = g.K.Sink.contents c.loop-at.sink;
-                  after = g.K.Sink.contents c.pass_on.new.sink;
-                  failed =
-                      g.K.Sink.has_failed c.pass_on.new.sink;
-                })
+                (channel g.K.Sink.contents g.K.Sink.has_failed c.loop-at.sink c.pass_on.new.sink)
                 c.loop-at.written c.pass_on.new.written at_mid after told n.2 (c.in_ok-pass_on.ensures.passed n.0 n.1 heard),
           );
       viable = c.in_ok-fed.ensures.viable;
@@ -140,11 +135,7 @@ returns-in_err-pass_on-clause-piece g c = λ start before has s.
       are_heard new mid (drop at piece) more n.0 event c.in_ok-fed.ensures.viable after n.2.are told,
     ) in
     let p = err_from_is_err_and c.from_residual-in_err-pass_on.result c.from_residual-in_err-pass_on.ensures.1 in
-    let sink : Channel = record {
-      before = g.K.Sink.contents c.loop-at.sink;
-      after = g.K.Sink.contents c.pass_on.new.sink;
-      failed = g.K.Sink.has_failed c.pass_on.new.sink;
-    } in
+    let sink : Channel = channel g.K.Sink.contents g.K.Sink.has_failed c.loop-at.sink c.pass_on.new.sink in
     let passed = c.in_err-pass_on.ensures.passed n.0 n.1 heard in
     let fault = c.in_err-pass_on.field-0.0 in
     rw (p.1, p.2) (

@@ -1,6 +1,6 @@
 -- A report goes on piece by piece.
 use Rattle.fit_report.proofs.Common.{◌++◌, [], length, refl, sym, ap, subst, arith, length-append, Global, Consumes, err_from_is_err_and, chain_limit, IsViable}
-use Rattle.fit_report.proofs.Common.{Seen, short_bytes, HasReported, Channel, Consumes-nothing, Consumes-append, nothing_viable}
+use Rattle.fit_report.proofs.Common.{Seen, short_bytes, HasReported, Channel, channel, Consumes-nothing, Consumes-append, nothing_viable}
 use Rattle.fit_report.proofs.Outcomes.{stands_before, piece_fault, end_fault, ate_nothing}
 use Rattle.fit_report.proofs.Pieces.{hears_no_more}
 use Rattle.fit_report.proofs.reporting.tell_pieces.Goals as goal
@@ -21,18 +21,8 @@ pub returns-in_err-finish : goal.returns-in_err-finish
 returns-in_err-finish g c =
     let p = err_from_is_err_and c.from_residual.result c.from_residual.ensures.1 in
     let i = c.pieces.invariant in
-    let source : Channel = record {
-      before = g.S.Source.remaining c.args.source.now;
-      after = g.S.Source.remaining c.take.new.self;
-      failed =
-          g.S.Source.has_failed c.take.new.self;
-    } in
-    let sink : Channel = record {
-      before = g.K.Sink.contents c.args.sink.now;
-      after = g.K.Sink.contents c.pieces.sink;
-      failed =
-          g.K.Sink.has_failed c.pieces.sink;
-    } in (
+    let source : Channel = channel g.S.Source.remaining g.S.Source.has_failed c.args.source.now c.take.new.self in
+    let sink : Channel = channel g.K.Sink.contents g.K.Sink.has_failed c.args.sink.now c.pieces.sink in (
       c.pieces.decoder.bytes,
       i.stands.0,
       ate_nothing _ _ _ c.pieces.decoder.bytes _ c.in-Ok.got i.eaten c.in-Ok.ensures.bytes.0 c.if-got-eq0.true,
@@ -49,18 +39,8 @@ returns-in_err-tell_piece g c =
     let i = c.pieces.invariant in
     let piece = c.split_at.result.0.now in
     let told = c.in_err-tell_piece.ensures.piece (g.K.Sink.contents c.args.sink.now) i.stands.0 i.stands.1 i.stands.2 in
-    let source : Channel = record {
-      before = g.S.Source.remaining c.args.source.now;
-      after = g.S.Source.remaining c.take.new.self;
-      failed =
-          g.S.Source.has_failed c.take.new.self;
-    } in
-    let sink : Channel = record {
-      before = g.K.Sink.contents c.args.sink.now;
-      after = g.K.Sink.contents c.tell_piece.new.sink;
-      failed =
-          g.K.Sink.has_failed c.tell_piece.new.sink;
-    } in (
+    let source : Channel = channel g.S.Source.remaining g.S.Source.has_failed c.args.source.now c.take.new.self in
+    let sink : Channel = channel g.K.Sink.contents g.K.Sink.has_failed c.args.sink.now c.tell_piece.new.sink in (
       c.pieces.decoder.bytes ++ piece,
       told.0,
       Consumes-append _ _ _ c.pieces.decoder.bytes piece i.eaten (rw (← c.split_at.ensures.front) at c.in-Ok.ensures.bytes.0),
