@@ -1,7 +1,7 @@
 -- A file, and files one after another, that are put in a sink.
-use Rattle.fit_encode.proofs.Common.{◌≡◌, ℕ, ◌<◌, false, List, [], ◌++◌, take, drop, get_or, length, sym, ap, ◌∙◌, subst, refl, flat_map, Appends, Appends-trans}
+use Rattle.fit_encode.proofs.Common.{◌≡◌, ℕ, ◌<◌, false, List, [], ◌++◌, take, drop, get_or, length, sym, ap, ◌∙◌, subst, refl, flat_map, Appends}
 use Rattle.fit_encode.proofs.Common.{header_bytes, little_bytes, checksum, body, summed, file_bytes, chain_bytes, chain_limit, IsWellFormedChain, StopsAt}
-use Rattle.fit_encode.proofs.Common.{FitFile, Written, Sending, Spells, Breaks, PutsAll, IsCounted, fresh}
+use Rattle.fit_encode.proofs.Common.{Appends-trans, FitFile, Written, Sending, Spells, Breaks, PutsAll, IsCounted, fresh}
 use Rattle.std.proofs.Common.{◌+◌, ◌^◌, Option, Ok}
 use Rattle.fit_encode.proofs.Lengths.{chain_short, some_file_byte}
 use Rattle.fit_encode.proofs.Sendings.{Appends-as, Breaks-as, Breaks-from, Breaks-more, Breaks-on, IsCounted-as, IsCounted-more, Spells-as, Spells-from}

@@ -7,7 +7,8 @@ returns-in_err-number g c =
     let f = number_bytes c.args.order c.args.items.now.width in
     let bits = c.as_slice-bits-items in
     Sends-err _ _ _ _ _ c.from_residual.result c.from_residual.ensures.1 (
-    Breaks-as (ap (flat_map f) bits.ensures) (Breaks-next f bits.result.now c.loop-bits.bits-index 0 _ (omega arith) refl c.loop-bits.invariant c.in_err-number.ensures))
+    Breaks-as (ap (flat_map f) bits.ensures) (Breaks-next f bits.result.now c.loop-bits.bits-index 0 _ (omega arith) refl c.loop-bits.invariant
+    c.in_err-number.ensures))
 
 pub loop-bits-preserved : goal.loop-bits-preserved
 loop-bits-preserved g c =

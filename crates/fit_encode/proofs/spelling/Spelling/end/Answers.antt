@@ -11,7 +11,8 @@ pub returns-in_err-bytes-clause-sends : goal.returns-in_err-bytes-clause-sends
 returns-in_err-bytes-clause-sends g c =
     let flushed = c.in_ok-flush.ensures in
     let sum = c.sum_bytes-sum.ensures ∙ ap (little_bytes 2) (c.checksum.ensures ∙ ap checksum (all_sent flushed.sends flushed.empty)) in
-    Sends-err _ _ _ _ _ c.from_residual-in_err-bytes.result c.from_residual-in_err-bytes.ensures.1 (Breaks-on flushed.sends (Breaks-as sum c.in_err-bytes.ensures))
+    Sends-err _ _ _ _ _ c.from_residual-in_err-bytes.result c.from_residual-in_err-bytes.ensures.1
+    (Breaks-on flushed.sends (Breaks-as sum c.in_err-bytes.ensures))
 
 pub returns-clause-sends : goal.returns-clause-sends
 returns-clause-sends g c =
