@@ -3,7 +3,8 @@ use Rattle.fit_cells.proofs.Common.{◌≡◌, ◌∙◌, ℕ, zero, suc, ◌+�
 use Rattle.fit_cells.proofs.Common.{arith, inl, inr, lit<, cond, unsigned_abs, ℤ, pos, negsuc, Some, None, decimal, digits, digits_onto, digit_glyph}
 use Rattle.fit_cells.proofs.Common.{AllByRecursion, cases_Bool, ne_eqb, nat_tests, default_writer, field_text, needs_byte, needs_quotes, Signed, Unsigned}
 use Rattle.fit_cells.proofs.Common.{Items, base_type, twos_complement, Meaning, fixed_text, fraction, last_digits, sign, NumberForm, cell, item_text}
-use Rattle.fit_cells.proofs.Common.{number_text, IsFormOf}
+use Rattle.fit_cells.proofs.Common.{◌*◌, number_text, IsFormOf, Class, Text, Bytes, barred, bytes_text, class_of, flat_map, hex_digit, hex_digits, items_text, map, sym}
+use Rattle.fit_cells.proofs.ClassFacts.{side_by_side}
 use Rattle.std.proofs.Common.{◌==◌, Option}
 use Rattle.std.proofs.lemmas.List.{append-nil}
 
@@ -11,8 +12,8 @@ use Rattle.std.proofs.lemmas.List.{append-nil}
 abbrev pub High : List ℕ → Type 0
 High text = AllByRecursion (λ b. 44 < b) text
 
--- what every digit, the sign and the point have, every byte of a number's text has
-module _ (P : ℕ → Type 0) (of_byte : (b : ℕ) → 44 < b → b < 58 → P b) where
+-- What every byte of a number's text has, and of hexadecimal digits behind `0x`: they are digits, letters, signs and points.
+module _ (P : ℕ → Type 0) (of_byte : (b : ℕ) → 44 < b → b < 124 → P b) where
   pub all-append : (a b : List ℕ) → AllByRecursion P a → AllByRecursion P b → AllByRecursion P (a ++ b)
   all-append [] b p q = q
   all-append (x ∷ a) b p q = (p.0, all-append a b p.1 q)
@@ -56,9 +57,49 @@ module _ (P : ℕ → Type 0) (of_byte : (b : ℕ) → 44 < b → b < 58 → P b
   all-number (Some i) raw = all-fixed _ _
 
   -- that of a number, or nothing where it is the invalid one
-  pub all-valid : (b : Bool) (info : Option Meaning) (raw : ℤ) → AllByRecursion P (cond b [] (number_text info raw))
+  all-valid : (b : Bool) (info : Option Meaning) (raw : ℤ) → AllByRecursion P (cond b [] (number_text info raw))
   all-valid true info raw = tt
   all-valid false info raw = all-number info raw
+
+  hex-digit : (d : ℕ) → d < 16 → P (hex_digit d)
+  hex-digit d h = of_byte (hex_digit d) (grind (arith, nat_tests)) (grind (arith, nat_tests))
+
+  all-hex : (k n : ℕ) → AllByRecursion P (hex_digits k n)
+  unfolding hex_digits
+  all-hex zero n = tt
+  all-hex (suc k) n = (hex-digit (n / 16 ^ k % 16) (omega arith), all-hex k n)
+
+  all-0x : (text : List ℕ) → AllByRecursion P text → AllByRecursion P (48 ∷ 120 ∷ text)
+  all-0x text h = (of_byte 48 (lit< tt) (lit< tt), (of_byte 120 (lit< tt) (lit< tt), h))
+
+  all-pairs : (bytes : List ℕ) → AllByRecursion P (flat_map (λ b. hex_digits 2 b) bytes)
+  all-pairs [] = tt
+  all-pairs (b ∷ bytes) = all-append (hex_digits 2 b) (flat_map (λ b. hex_digits 2 b) bytes) (all-hex 2 b) (all-pairs bytes)
+
+  pub all-bytes : (bytes : List ℕ) → AllByRecursion P (bytes_text bytes)
+  all-bytes bytes = all-0x (flat_map (λ b. hex_digits 2 b) bytes) (all-pairs bytes)
+
+  pub all-item : (class : Class) (code : ℕ) (info : Option Meaning) (width n : ℕ) → AllByRecursion P (item_text class code info width n)
+  all-item Signed code info width n = all-valid (n == (base_type code).invalid) info (twos_complement width n)
+  all-item Unsigned code info width n = all-valid (n == (base_type code).invalid) info (pos n)
+  all-item class code info width n = all-0x _ (all-hex (2 * width) n)
+
+  -- the same of the bar too, and so of items side by side
+  module _ (of_bar : P 124) where
+    all-others : (f : ℕ → List ℕ) → ((n : ℕ) → AllByRecursion P (f n)) → (bits : List ℕ) → AllByRecursion P (flat_map (λ t. 124 ∷ t) (map f bits))
+    all-others f h [] = tt
+    all-others f h (n ∷ bits) = (of_bar, all-append (f n) (flat_map (λ t. 124 ∷ t) (map f bits)) (h n) (all-others f h bits))
+
+    all-barred : (f : ℕ → List ℕ) → ((n : ℕ) → AllByRecursion P (f n)) → (bits : List ℕ) → AllByRecursion P (barred (map f bits))
+    all-barred f h [] = tt
+    all-barred f h (n ∷ bits) = all-append (f n) (flat_map (λ t. 124 ∷ t) (map f bits)) (h n) (all-others f h bits)
+
+    -- the items of any class but text
+    pub all-items : (class : Class) (code : ℕ) (info : Option Meaning) (width : ℕ) (bits : List ℕ) → (class ≡ Text → ⊥)
+        → AllByRecursion P (items_text class code info width bits)
+    all-items Text code info width bits other = absurd (other refl)
+    all-items Bytes code info width bits other = all-bytes bits
+    all-items class code info width bits other = all-barred (item_text class code info width) (all-item class code info width) bits
 
 pub high-append : (a b : List ℕ) → High a → High b → High (a ++ b)
 high-append = all-append (λ b. 44 < b) (λ b h _. h)
@@ -85,20 +126,6 @@ plain (b ∷ text) h = rw (plain-byte b h.0) (plain text h.1)
 pub unquoted : (text : List ℕ) → High text → field_text default_writer text ≡ text
 unquoted text h = rw (plain text h) refl
 
-signed-cell : (code : ℕ) (info : Option Meaning) (width bits : ℕ)
-    → field_text default_writer (item_text Signed code info width bits ++ []) ≡ item_text Signed code info width bits
-signed-cell code info width bits =
-    let text = item_text Signed code info width bits in
-    ap (field_text default_writer) (append-nil text)
-    ∙ unquoted text (all-valid (λ b. 44 < b) (λ b h _. h) (bits == (base_type code).invalid) info (twos_complement width bits))
-
-unsigned-cell : (code : ℕ) (info : Option Meaning) (width bits : ℕ)
-    → field_text default_writer (item_text Unsigned code info width bits ++ []) ≡ item_text Unsigned code info width bits
-unsigned-cell code info width bits =
-    let text = item_text Unsigned code info width bits in
-    ap (field_text default_writer) (append-nil text)
-    ∙ unquoted text (all-valid (λ b. 44 < b) (λ b h _. h) (bits == (base_type code).invalid) info (pos bits))
-
 same-test : (n : ℕ) → (n == n) ≡ true
 same-test n = grind (arith, nat_tests)
 
@@ -108,32 +135,40 @@ only_one [] low high = absurd (omega (arith, low))
 only_one (x ∷ []) low high = refl
 only_one (x ∷ y ∷ xs) low high = absurd (omega (arith, high))
 
--- the cell of one number
-pub lone_cell : {A : Type 0} (f : NumberForm) (code : ℕ) (info : Option Meaning) (items : Items A) (bits : ℕ) → IsFormOf code info f → items.width ≡ f.width
-    → items.bits ≡ bits ∷ []
-    → field_text default_writer (cell code info items) ≡ item_text (base_type code).class code info f.width bits
-lone_cell f code info items bits form same one =
-    let wide : (items.width == (base_type code).width) ≡ true = rw (same, form.width) (same-test (base_type code).width) in
-    elim (cases_Bool f.signed) [
-      | inl signed ↦
-          let class : (base_type code).class ≡ Signed = rw signed at form.class in
-          rw (one, wide, class, same) (signed-cell code info f.width bits)
-      | inr other ↦
-          let class : (base_type code).class ≡ Unsigned = rw other at form.class in
-          rw (one, wide, class) (unsigned-cell code info f.width bits)
-    ]
+-- a cell of any base type but string has no byte that needs quotes
+pub plain_cell : {A : Type 0} (code : ℕ) (info : Option Meaning) (items : Items A) → ((base_type code).class ≡ Text → ⊥)
+    → field_text default_writer (cell code info items) ≡ cell code info items
+plain_cell code info items other = unquoted (cell code info items) (elim (cases_Bool (length items.bits == 0)) [
+  | inl none ↦ rw none tt
+  | inr some ↦ rw some (all-items (λ b. 44 < b) (λ b h _. h) (lit< tt) (class_of code items.width) code info items.width items.bits
+      (elim (cases_Bool (items.width == (base_type code).width)) [
+        | inl own ↦ rw own other
+        | inr bytes ↦ rw bytes (λ e. cc)
+      ]))
+])
 
--- the same without quotes
+-- a form is that of numbers
+formed_class : (f : NumberForm) (code : ℕ) (info : Option Meaning) → IsFormOf code info f
+    → ((base_type code).class ≡ Text → ⊥) × ((base_type code).class ≡ Bytes → ⊥)
+formed_class f code info form = elim (cases_Bool f.signed) [
+  | inl signed ↦
+      let class : (base_type code).class ≡ Signed = rw signed at form.class in (λ e. cc (sym class ∙ e), λ e. cc (sym class ∙ e))
+  | inr other ↦
+      let class : (base_type code).class ≡ Unsigned = rw other at form.class in (λ e. cc (sym class ∙ e), λ e. cc (sym class ∙ e))
+]
+
+-- the cell of one number
 pub formed_cell : {A : Type 0} (f : NumberForm) (code : ℕ) (info : Option Meaning) (items : Items A) (bits : ℕ) → IsFormOf code info f
     → items.width ≡ f.width → items.bits ≡ bits ∷ []
     → cell code info items ≡ item_text (base_type code).class code info f.width bits
 formed_cell f code info items bits form same one =
     let wide : (items.width == (base_type code).width) ≡ true = rw (same, form.width) (same-test (base_type code).width) in
-    elim (cases_Bool f.signed) [
-      | inl signed ↦
-          let class : (base_type code).class ≡ Signed = rw signed at form.class in
-          rw (one, wide, class, same) (append-nil (item_text Signed code info f.width bits))
-      | inr other ↦
-          let class : (base_type code).class ≡ Unsigned = rw other at form.class in
-          rw (one, wide, class) (append-nil (item_text Unsigned code info f.width bits))
-    ]
+    let class = formed_class f code info form in
+    rw (one, wide, same) (side_by_side (base_type code).class code info f.width (bits ∷ []) class.0 class.1
+    ∙ append-nil (item_text (base_type code).class code info f.width bits))
+
+-- the same in a row
+pub lone_cell : {A : Type 0} (f : NumberForm) (code : ℕ) (info : Option Meaning) (items : Items A) (bits : ℕ) → IsFormOf code info f → items.width ≡ f.width
+    → items.bits ≡ bits ∷ []
+    → field_text default_writer (cell code info items) ≡ item_text (base_type code).class code info f.width bits
+lone_cell f code info items bits form same one = plain_cell code info items (formed_class f code info form).0 ∙ formed_cell f code info items bits form same one

@@ -1,9 +1,14 @@
 //! The cells of fields.
-ghost use Rattle.std.specs.Prelude.{◌≡◌, ◌<◌, ◌++◌, ◌∷◌, [], ◌⊎◌, ◌^◌, All, IfOk, IfSome, OnErr, OnOk, option_map};
+ghost use Rattle.std.specs.Prelude.{◌≡◌, ◌<◌, ◌++◌, ◌∷◌, [], ◌⊎◌, ◌^◌, All, IfOk, IfSome, IsTrue, OnErr, OnOk, Option, false, option_map};
+ghost use Rattle.std.specs.Global.{Global};
 ghost use Rattle.std.specs.String.{string_bytes};
+ghost use Rattle.csv.specs.Writing.{default_writer, field_text};
 ghost use Rattle.fit_base.specs.BaseTypes.{base_type};
+ghost use Rattle.fit_base.specs.declared.code.Class.TheVariants.{Text};
+ghost use Rattle.fit_base.specs.declared.items.Items.{Items};
 ghost use Rattle.fit_profile.specs.FixedText.{StillBegins};
 ghost use Rattle.fit_profile.specs.Names.{meaning};
+ghost use Rattle.fit_profile.specs.Profile.{Meaning};
 ghost use Rattle.fit_profile.specs.Scaled.{IsScale};
 ghost use Rattle.fit_cells.specs.Cells.{cell, class_of};
 ghost use Rattle.fit_cells.specs.Forms.{IsFormOf, IsSmallForm};
@@ -24,31 +29,6 @@ pub(crate) fn class_of(code: Code, width: u8) -> Class
         code.class()
     } else {
         Class::Bytes
-    }
-}
-
-/// Puts the cell of a field by the class of its items.
-fn put_by_class(
-    text: &mut Vec<u8>,
-    code: Code,
-    info: Option<Info>,
-    items: &Items,
-) -> Result<(), AllocError>
-    requires scale { IfSome info (λ i. IsScale i.scale) }
-    requires width { (items.now.width ≡ (base_type code.0).width) ⊎ (items.now.width ≡ 1) }
-    requires bits { All (λ n. n < 256 ^ items.now.width) items.now.bits }
-    ensures ok { OnOk result (text.new.items ≡ text.old.items
-        ++ cell code.0 (option_map meaning info) items.now) }
-    ensures kept { OnErr result (StillBegins text.old.items text.new.items) }
-{
-    let bits = items.bits.as_slice();
-    if bits.is_empty() {
-        return Ok(());
-    }
-    match class_of(code, items.width) {
-        Class::Text => put_string(text, bits),
-        Class::Bytes => put_bytes(text, bits),
-        class => put_items(text, class, code, info, items.width, bits),
     }
 }
 
@@ -80,10 +60,27 @@ pub fn put_cell(
         ++ cell code.0 (option_map meaning info) items.now) }
     ensures kept { OnErr result (StillBegins text.old.items text.new.items) }
 {
-    match formed(code, info, items) {
-        Some((form, bits)) => put_formed(text, form, bits),
-        None => put_by_class(text, code, info, items),
+    if let Some((form, bits)) = formed(code, info, items) {
+        return put_formed(text, form, bits);
     }
+    let bits = items.bits.as_slice();
+    if bits.is_empty() {
+        return Ok(());
+    }
+    match class_of(code, items.width) {
+        Class::Text => put_string(text, bits),
+        Class::Bytes => put_bytes(text, bits),
+        class => put_items(text, class, code, info, items.width, bits),
+    }
+}
+
+/// Whether cells of this base type stand in a row as they are. All do but those of strings, which may need quotes.
+pub fn is_never_quoted(code: Code) -> bool
+    ensures yes { IsTrue result → (info : Option Meaning) (items : Items Global)
+        → field_text default_writer (cell code.0 info items) ≡ cell code.0 info items }
+    ensures no { result ≡ false → (base_type code.0).class ≡ Text }
+{
+    code.class() != Class::Text
 }
 
 /// The cell of a field: numbers with a bar between one and the next, an invalid one empty, scaled where

@@ -13,7 +13,9 @@ ghost use Rattle.fit_csv.specs.inner.Frames.{FrameKey, end_of, frames_of, two_ce
 pub(crate) mod likely;
 
 use fit_base::{Code, Items};
-use fit_cells::{NumberForm, RowWriter, lone_number, number_form, put_cell, put_formed};
+use fit_cells::{
+    NumberForm, RowWriter, is_never_quoted, lone_number, number_form, put_cell, put_formed,
+};
 use fit_profile::Info;
 use std::alloc::{AllocError, Global};
 use std::marker::Model;
@@ -165,8 +167,12 @@ impl Frame {
         ensures { OnOk result (text.new.items ≡ text.old.items
             ++ field_text default_writer (cell self.now.code self.now.info items.now)) }
     {
+        let code = Code(self.code);
+        if is_never_quoted(code) {
+            return put_cell(text, code, self.info, items);
+        }
         value.clear();
-        put_cell(value, Code(self.code), self.info, items)?;
+        put_cell(value, code, self.info, items)?;
         put_any_cell(text, writer, value.as_slice())
     }
 

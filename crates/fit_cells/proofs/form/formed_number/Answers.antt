@@ -1,4 +1,4 @@
-use Rattle.fit_cells.proofs.Common.{rules, ◌≡◌, ◌∙◌, ◌/◌, ◌^◌, ◌*ℤ◌, ap, arith, ℤ, pos, ◌-ℤ◌, to_z, of_z, ints, to_z-of_z, w64, w128, fixed_text, decimals}
+use Rattle.fit_cells.proofs.Common.{◌≡◌, ◌∙◌, ◌/◌, ◌^◌, ◌*ℤ◌, ap, arith, ℤ, pos, ◌-ℤ◌, to_z, of_z, ints, w64, w128, fixed_text, decimals}
 use Rattle.fit_cells.proofs.FormFacts.{formed_item}
 use Rattle.fit_cells.proofs.form.formed_number.Goals as goal
 
