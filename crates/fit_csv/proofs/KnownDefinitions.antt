@@ -1,5 +1,5 @@
 -- What is known behind records.
-use Rattle.fit_csv.proofs.Common.{◌≡◌, ◌∙◌, zero, suc, ◌≤◌, inl, inr, [], ◌∷◌, ◌++◌, length, replicate, set, get_or, refl, sym, ap, true, false, subst, arith}
+use Rattle.fit_csv.proofs.Common.{◌≡◌, ◌∙◌, zero, suc, inl, inr, [], ◌∷◌, ◌++◌, length, replicate, set, get_or, refl, sym, ap, true, false, subst, arith}
 use Rattle.fit_csv.proofs.Common.{append_assoc, eqb-true, eq-eqb, cases_Bool, cases_lt, none-some, get_or_past, get_or-set_same, get_or-set_other, length-map}
 use Rattle.fit_csv.proofs.Common.{length-set, reverse-append, MessageDef, Defined, Description, Record, Define, Data, Values, Environment, defined_at}
 use Rattle.fit_csv.proofs.Common.{defined_by, describe, dev_code, dev_defs, empty_environment, learn, learn_all, AllFit, Fits, known}

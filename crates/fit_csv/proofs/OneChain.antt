@@ -1,5 +1,5 @@
 -- The rows of a chain are those of no other, and no record's rows begin another's.
-use Rattle.fit_csv.proofs.Common.{◌≡◌, ◌∙◌, suc, ◌≤◌, [], ◌∷◌, ◌++◌, length, refl, sym, ap, subst, inl, inr, arith, flat_map, Global, cases_Bool, FitFile}
+use Rattle.fit_csv.proofs.Common.{◌≡◌, ◌∙◌, suc, [], ◌∷◌, ◌++◌, length, refl, sym, ap, subst, inl, inr, arith, flat_map, Global, cases_Bool, FitFile}
 use Rattle.fit_csv.proofs.Common.{Record, Define, Data, Fits, TextHasOneNumber, known, chain_rows, file_rows, record_rows, IsChainOfRows, RecordInRange}
 use Rattle.fit_csv.proofs.Common.{FileStep, PartStep, Run, built_definition, is_whole, is_whole_message, nothing_yet, settled, with_record, Row, first_line}
 use Rattle.fit_csv.proofs.Common.{Chain, OpenFile, Part, Nothing, Definition}
@@ -46,16 +46,6 @@ some-part f (Message v) r p (w, step, is) none = cc (sym is ∙ none)
 
 step-advances : (f : OpenFile) (r : Row) (g : OpenFile) → FileStep f r g → Advances f g
 step-advances f r g (p, step, is) = subst (Advances f) (sym is) (settled-advances f p (some-part f f.part r p step))
-
-run-grows : (f : OpenFile) (rows : List Row) (g : OpenFile) → FileRun f rows g → length f.before ≤ length g.before
-unfolding FileRun
-run-grows f [] g run = let e = ap (λ (x : OpenFile). length x.before) run in omega (arith, e)
-run-grows f (r ∷ rows) g (m, step, run) =
-    let more = run-grows m rows g run in
-    elim (step-advances f r m step) [
-      | inl same ↦ omega (arith, more, same.0)
-      | inr next ↦ omega (arith, more, next)
-    ]
 
 run-ends : (f : OpenFile) (r : Row) (rows : List Row) (g : OpenFile) → FileRun f (r ∷ rows) g → g.part ≡ Nothing → length f.before < length g.before
 unfolding FileRun

@@ -4,7 +4,7 @@ use Rattle.fit_csv.proofs.Common.{append_assoc, Global, cases_lt, Reached, defau
 use Rattle.fit_csv.proofs.Common.{GoodChainsHaveNoFault, Row, RowsOfText, first_line, reached-first, reads-one-way, chain_rows, IsTextOf, IsUnwritable, IsWrong}
 use Rattle.fit_csv.proofs.Common.{Agree, CanFollow, FirstRows, HasNoHeader, IsBadCell, IsChainOfRows, IsCutOff, IsRefusedRow, IsRowFault, MayBeOfKind, MayGoOn}
 use Rattle.fit_csv.proofs.Common.{ChainsHaveOwnRows, TextsHaveOneFinding, CsvFault}
-use Rattle.std.proofs.Common.{◌⊎◌, ℕ, ◌<◌, List, Some, Ok, append-nil, length-append}
+use Rattle.std.proofs.Common.{◌⊎◌, ℕ, ◌<◌, List, Ok, append-nil, length-append}
 use Rattle.csv.specs.Machine.{Read}
 use Rattle.csv.specs.declared.parser.Config.{Config}
 use Rattle.csv.specs.declared.parser.State.{State}

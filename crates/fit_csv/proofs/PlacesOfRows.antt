@@ -140,10 +140,6 @@ module _ (before : List (Record Global)) (v : Values Global) (p : Defined Global
   no-dev : length v.fields < length p.definition.fields → length v.dev ≡ 0
   no-dev less = ap length (sound.in_order less)
 
-  -- the row of the field of this place, and that of the developer field of this place
-  IsFieldAt : Row → ℕ → Type 0
-  IsFieldAt r n = IsSomeAnd (slice_get p.definition.fields n) (λ f. IsFieldRow p.definition.global f r)
-
   message-next : (r : Row) → NextInMessage before v p r → CanComeInMessage before v.local p (length v.fields + length v.dev) r
   message-next r (inl h) =
       let (f, next, kind) = some-at (slice_get p.definition.fields (length v.fields)) (λ f. IsFieldRow p.definition.global f r) h in

@@ -3,7 +3,7 @@ use Rattle.fit_csv.proofs.Common.{◌≡◌, ◌∙◌, [], ◌∷◌, ◌++◌,
 use Rattle.fit_csv.proofs.Common.{first_line, text_append, chain_rows, file_row, file_rows, record_rows, records_rows, AreFilesOf, ChainStep, with_record}
 use Rattle.fit_csv.proofs.Common.{BeginsWithMore, IsSoundChain, IsSoundCurrent, IsSoundFile, current_rows, open_file_rows, part_rows, rows_so_far, Chain}
 use Rattle.fit_csv.proofs.Common.{OpenFile, Part, Nothing}
-use Rattle.std.proofs.Common.{ℕ, ◌<◌, List, Some, None}
+use Rattle.std.proofs.Common.{ℕ, ◌<◌, List, None}
 use Rattle.std.proofs.lemmas.List.{append-nil}
 use Rattle.fit_csv.proofs.MoreRows.{chain-more, record-added}
 use Rattle.fit_csv.proofs.SevenRows.{chain-reads-back}
@@ -18,26 +18,6 @@ file-goes-on f r text left sound none is = (
       ∙ ap (λ (rows : List Row). (file_row f.header ∷ rows) ++ record_rows f.before r) (sym (append-nil (records_rows [] f.records)))
       ∙ ap (λ (part : Part). (file_row f.header ∷ (records_rows [] f.records ++ part_rows f.before part)) ++ record_rows f.before r) (sym none),
 )
-
--- the same in its chain
-pub chain-goes-on : (c t : Chain) (f g : OpenFile) (text left : List ℕ) → c.current ≡ Some f → t ≡ record c { current = Some g }
-    → BeginsWithMore text left (open_file_rows f) (open_file_rows g) → BeginsWithMore text left (rows_so_far c) (rows_so_far t)
-chain-goes-on c t f g text left here is (rows, begins, more) = (
-  rows,
-  begins,
-  ap rows_so_far is ∙ ap (λ (l : List Row). flat_map file_rows c.files ++ l) more ∙ sym (append_assoc (flat_map file_rows c.files) (open_file_rows f) rows)
-      ∙ ap (λ m. (flat_map file_rows c.files ++ current_rows m) ++ rows) (sym here),
-)
-
-pub sound-file : (c : Chain) (f : OpenFile) → c.current ≡ Some f → IsSoundChain c → IsSoundFile f
-sound-file c f here sound = (subst (λ m. IsSoundCurrent (length c.files) m) here sound.current).1
-
-pub sound-again : (c t : Chain) (f g : OpenFile) → c.current ≡ Some f → t ≡ record c { current = Some g } → IsSoundChain c → IsSoundFile g → IsSoundChain t
-sound-again c t f g here is sound next =
-    subst IsSoundChain (sym is) (record {
-      files = sound.files;
-      current = ((subst (λ m. IsSoundCurrent (length c.files) m) here sound.current).0, next);
-    })
 
 -- one more row of a chain
 pub row-goes-on : (c : Chain) (r : Row) (t : Chain) (text left : List ℕ) → IsSoundChain c → ChainStep c r t → text ≡ csv_text (r ∷ []) ++ left

@@ -1,6 +1,6 @@
 -- The rows of what a decoder answers, told one after another.
 use Rattle.fit_csv.proofs.Common.{◌≡◌, ◌∙◌, [], ◌∷◌, ◌++◌, refl, sym, ap, subst, reverse-append, reverse-reverse, escaped, fields_text, is_blank, Fits, Answer}
-use Rattle.fit_csv.proofs.Common.{Event, header, item, file_end, LookingBackIsLearning, known, AreHeard, hear, latest_records, line_of, text_of}
+use Rattle.fit_csv.proofs.Common.{Event, header, LookingBackIsLearning, known, AreHeard, hear, latest_records, line_of, text_of}
 use Rattle.fit_csv.proofs.Common.{HeardRecordsFit, Global, csv_text, event_rows, events_rows, records_behind, rows_of, csv_line, AnswerFits, HasText}
 use Rattle.fit_csv.proofs.Common.{answer_rows, text_append}
 use Rattle.std.proofs.Common.{List, codes, reverse}

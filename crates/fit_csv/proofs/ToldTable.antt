@@ -1,6 +1,6 @@
 -- The rows of the table, told one after another.
 use Rattle.fit_csv.proofs.Common.{◌≡◌, ◌∙◌, ◌≤◌, ◌^◌, [], ◌∷◌, ◌++◌, length, refl, sym, ap, ap₂, arith, append_assoc, Global, reverse-append, escaped}
-use Rattle.fit_csv.proofs.Common.{fields_text, is_blank, Record, Answer, Event, header, item, file_end, AreHeard, hear, latest_records, line_of, text_of}
+use Rattle.fit_csv.proofs.Common.{fields_text, is_blank, Record, Answer, Event, header, AreHeard, hear, latest_records, line_of, text_of}
 use Rattle.fit_csv.proofs.Common.{HeardAreFew, csv_text, files_behind, files_heard, records_behind, table_text, HasText, table_event_rows, table_events_rows}
 use Rattle.fit_csv.proofs.Common.{table_of, table_answer_rows, text_append}
 use Rattle.std.proofs.Common.{ℕ, ◌<◌, List, codes, reverse}

@@ -7,8 +7,8 @@ use Rattle.std.proofs.Common.{ℕ, List, Some}
 use Rattle.fit_record.specs.declared.fits.ShapeFault.{ShapeFault}
 use Rattle.fit_record.specs.Faults.{first_fault}
 use Rattle.fit_record.specs.Laws.{FaultsAreExact}
-use Rattle.fit_encode.specs.declared.fault.EncodeFault.TheVariants.{BadHeader, BadLocal, BadOffset, ChainLength, DeclaredLength, NoMemory, TooLong}
-use Rattle.fit_encode.specs.declared.fault.EncodeFault.TheVariants.{UndefinedLocal, WrongShape, Write, ZeroIsSum}
+use Rattle.fit_encode.specs.declared.fault.EncodeFault.TheVariants.{BadHeader, ChainLength, DeclaredLength, NoMemory, TooLong}
+use Rattle.fit_encode.specs.declared.fault.EncodeFault.TheVariants.{Write, ZeroIsSum}
 use Rattle.fit_csv.specs.declared.fault.CsvFault.TheVariants as faults
 use Rattle.fit_csv.proofs.InRange.{chain-bytes}
 
