@@ -2,18 +2,25 @@
 use Rattle.fit_cells.proofs.Common.{◌≡◌, ◌∙◌, ℕ, zero, suc, ◌*◌, ◌/◌, ◌%◌, ◌^◌, ◌<◌, ◌≤◌, Bool, true, false, cond, List, [], ◌∷◌, ◌++◌, ℤ, pos, neg_ℤ, ◌*ℤ◌}
 use Rattle.fit_cells.proofs.Common.{◌-ℤ◌, ◌≤ℤ◌, ◌<ℤ◌, unsigned_abs, ◌⊎◌, inl, inr, Some, None, length, refl, sym, ap, arith, length-append, decimal, nat_lt}
 use Rattle.fit_cells.proofs.Common.{to_z, of_z, FitsSigned, digits, digits_onto, digit_glyph, cases_Bool, ints, to_z-of_z, w128, twos_complement, Meaning}
-use Rattle.fit_cells.proofs.Common.{fixed_text, fraction, sign, IsIn128, IsScale, IsScaled, decimals, number_text, scaled_value}
+use Rattle.fit_cells.proofs.Common.{subst, fixed_text, fraction, sign, IsIn128, IsScale, IsScaled, decimals, number_text, scaled_value}
 use Rattle.std.proofs.Common.{Option, ◌==◌}
+
+-- what holds of each scale
+each-scale : (P : ℕ → Type 0) → P 1 → P 5 → P 10 → P 100 → P 1000 → P 16 → P 256 → (s : ℕ) → IsScale s → P s
+each-scale P a b c d e f g s (inl is) = subst P (sym is) a
+each-scale P a b c d e f g s (inr (inl is)) = subst P (sym is) b
+each-scale P a b c d e f g s (inr (inr (inl is))) = subst P (sym is) c
+each-scale P a b c d e f g s (inr (inr (inr (inl is)))) = subst P (sym is) d
+each-scale P a b c d e f g s (inr (inr (inr (inr (inl is))))) = subst P (sym is) e
+each-scale P a b c d e f g s (inr (inr (inr (inr (inr (inl is)))))) = subst P (sym is) f
+each-scale P a b c d e f g s (inr (inr (inr (inr (inr (inr is)))))) = subst P (sym is) g
 
 -- a value that a raw one stands for is the scaled one
 pub is_scaled : (raw v : ℤ) (scale offset : ℕ) → IsScale scale → IsScaled raw scale offset v → v ≡ scaled_value raw scale offset
-is_scaled raw v s offset (inl one) e = let h = rw one at e in rw one (omega (arith, ints, h))
-is_scaled raw v s offset (inr (inl five)) e = let h = rw five at e in rw five (omega (arith, ints, h))
-is_scaled raw v s offset (inr (inr (inl ten))) e = let h = rw ten at e in rw ten (omega (arith, ints, h))
-is_scaled raw v s offset (inr (inr (inr (inl hundred)))) e = let h = rw hundred at e in rw hundred (omega (arith, ints, h))
-is_scaled raw v s offset (inr (inr (inr (inr (inl thousand))))) e = let h = rw thousand at e in rw thousand (omega (arith, ints, h))
-is_scaled raw v s offset (inr (inr (inr (inr (inr (inl sixteen)))))) e = let h = rw sixteen at e in rw sixteen (omega (arith, ints, h))
-is_scaled raw v s offset (inr (inr (inr (inr (inr (inr most)))))) e = let h = rw most at e in rw most (omega (arith, ints, h))
+is_scaled raw v s offset is =
+    each-scale (λ n. IsScaled raw n offset v → v ≡ scaled_value raw n offset)
+    (λ h. omega (arith, ints, h)) (λ h. omega (arith, ints, h)) (λ h. omega (arith, ints, h)) (λ h. omega (arith, ints, h))
+    (λ h. omega (arith, ints, h)) (λ h. omega (arith, ints, h)) (λ h. omega (arith, ints, h)) s is
 
 -- what is shown of a usual number is in the range of `i128`
 pub scaled-in : (number : ℤ) (s : ℕ) → IsScale s → neg_ℤ (pos (2 ^ 66)) ≤ℤ number → number ≤ℤ pos (2 ^ 66) → IsIn128 (number *ℤ pos (10 ^ decimals s / s))
@@ -94,29 +101,20 @@ same-raw w v bits x y d e (inl h) = inl (e ∙ h)
 same-raw w v bits x y d e (inr h) = inr (e ∙ h ∙ ap (λ k. pos bits -ℤ pos (256 ^ k)) (sym d))
 
 pub scaled-exact : (raw : ℤ) (scale offset : ℕ) → IsScale scale → IsScaled raw scale offset (scaled_value raw scale offset)
-scaled-exact raw s offset (inl one) = rw one (omega (arith, ints))
-scaled-exact raw s offset (inr (inl five)) = rw five (omega (arith, ints))
-scaled-exact raw s offset (inr (inr (inl ten))) = rw ten (omega (arith, ints))
-scaled-exact raw s offset (inr (inr (inr (inl hundred)))) = rw hundred (omega (arith, ints))
-scaled-exact raw s offset (inr (inr (inr (inr (inl thousand))))) = rw thousand (omega (arith, ints))
-scaled-exact raw s offset (inr (inr (inr (inr (inr (inl sixteen)))))) = rw sixteen (omega (arith, ints))
-scaled-exact raw s offset (inr (inr (inr (inr (inr (inr most)))))) = rw most (omega (arith, ints))
+scaled-exact raw s offset is =
+    each-scale (λ n. IsScaled raw n offset (scaled_value raw n offset))
+    (omega (arith, ints)) (omega (arith, ints)) (omega (arith, ints)) (omega (arith, ints))
+    (omega (arith, ints)) (omega (arith, ints)) (omega (arith, ints)) s is
 
 -- what is shown has one raw value
 pub one-raw : (x y : ℤ) (s : ℕ) → IsScale s → x *ℤ pos (10 ^ decimals s / s) ≡ y *ℤ pos (10 ^ decimals s / s) → x ≡ y
-one-raw x y s (inl one) e = let h = rw one at e in omega (arith, ints, h)
-one-raw x y s (inr (inl five)) e = let h = rw five at e in omega (arith, ints, h)
-one-raw x y s (inr (inr (inl ten))) e = let h = rw ten at e in omega (arith, ints, h)
-one-raw x y s (inr (inr (inr (inl hundred)))) e = let h = rw hundred at e in omega (arith, ints, h)
-one-raw x y s (inr (inr (inr (inr (inl thousand))))) e = let h = rw thousand at e in omega (arith, ints, h)
-one-raw x y s (inr (inr (inr (inr (inr (inl sixteen)))))) e = let h = rw sixteen at e in omega (arith, ints, h)
-one-raw x y s (inr (inr (inr (inr (inr (inr most)))))) e = let h = rw most at e in omega (arith, ints, h)
+one-raw x y s is =
+    each-scale (λ n. x *ℤ pos (10 ^ decimals n / n) ≡ y *ℤ pos (10 ^ decimals n / n) → x ≡ y)
+    (λ h. omega (arith, ints, h)) (λ h. omega (arith, ints, h)) (λ h. omega (arith, ints, h)) (λ h. omega (arith, ints, h))
+    (λ h. omega (arith, ints, h)) (λ h. omega (arith, ints, h)) (λ h. omega (arith, ints, h)) s is
 
 pub shift-bound : (offset s : ℕ) → IsScale s → offset < 2 ^ 32 → offset * s ≤ 2 ^ 42
-shift-bound offset s (inl one) h = rw one (omega (arith, h))
-shift-bound offset s (inr (inl five)) h = rw five (omega (arith, h))
-shift-bound offset s (inr (inr (inl ten))) h = rw ten (omega (arith, h))
-shift-bound offset s (inr (inr (inr (inl hundred)))) h = rw hundred (omega (arith, h))
-shift-bound offset s (inr (inr (inr (inr (inl thousand))))) h = rw thousand (omega (arith, h))
-shift-bound offset s (inr (inr (inr (inr (inr (inl sixteen)))))) h = rw sixteen (omega (arith, h))
-shift-bound offset s (inr (inr (inr (inr (inr (inr most)))))) h = rw most (omega (arith, h))
+shift-bound offset s is h =
+    each-scale (λ n. offset * n ≤ 2 ^ 42)
+    (omega (arith, h)) (omega (arith, h)) (omega (arith, h)) (omega (arith, h))
+    (omega (arith, h)) (omega (arith, h)) (omega (arith, h)) s is
