@@ -16,24 +16,20 @@ rest-shown (b ∷ bytes) text count e long small = bytes-shown (b ∷ bytes) tex
 -- sizes and words of a header in its range
 header-size : (s : HeaderSum) (size : ℕ) (rest : List ℕ) → SizeFits s size rest → size < 2 ^ 8 → IsHeaderSize size
 header-size Absent size rest fits small = inl fits.0
-header-size Zero size rest fits small = inr (omega (arith, fits), small)
-header-size True size rest fits small = inr (omega (arith, fits), small)
+header-size sum size rest fits small = inr (omega (arith, fits), small)
 
 has-sum : (s : HeaderSum) (size : ℕ) (rest : List ℕ) → SizeFits s size rest → HasSum size s
 has-sum Absent size rest fits = fits.0
-has-sum Zero size rest fits = omega (arith, fits)
-has-sum True size rest fits = omega (arith, fits)
+has-sum sum size rest fits = omega (arith, fits)
 
 pub rest-long : (s : HeaderSum) (size : ℕ) (rest : List ℕ) → SizeFits s size rest → length rest ≡ size - 14
 rest-long Absent size rest fits = ap length fits.1 ∙ omega (arith, fits.0)
-rest-long Zero size rest fits = omega (arith, fits)
-rest-long True size rest fits = omega (arith, fits)
+rest-long sum size rest fits = omega (arith, fits)
 
 pub sizes-fit : (s : HeaderSum) (size : ℕ) (rest : List ℕ) → HasSum size s → length rest ≡ size - 14 → SizeFits s size rest
 sizes-fit Absent size [] has long = (has, refl)
 sizes-fit Absent size (b ∷ rest) has long = absurd (omega (arith, has, long))
-sizes-fit Zero size rest has long = omega (arith, has, long)
-sizes-fit True size rest has long = omega (arith, has, long)
+sizes-fit sum size rest has long = omega (arith, has, long)
 
 -- The header of a row is the closest one where each of its numbers is that of its cell, as far as that shows one.
 pub header-closest : (ta tb tc td te tf : Cell) (h : Header) → ((n : ℕ) → IsHeaderSize n → decimal n ≡ ta → h.size ≡ n)

@@ -12,9 +12,7 @@ pub returns-then-not-found-clause-ok : goal.returns-then-not-found-clause-ok
 returns-then-not-found-clause-ok c =
     let (rows, count, read, run) = c.loop-number.invariant in
     let text = c.args.text.now in
-    let all = subst (λ (found : Bool). Follows found (fields_of c.next_row.new.row) c.args.text.now (first_line ∷ c.loop-number.invariant.0)
-    c.next_row.new.reader) c.if-not-found.true
-    (c.in-Ok.ensures.read c.args.text.now (first_line ∷ c.loop-number.invariant.0) read) in
+    let all = rw c.if-not-found.true at (c.in-Ok.ensures.read c.args.text.now (first_line ∷ rows) read) in
     MatchResult-weaker c.whole_files.result c.whole_files.ensures.ok
     (λ files h. subst (λ (l : List (FitFile Global)). AreFilesOf c.args.text.now l) (sym h.1)
     (whole-text text rows c.loop-number.chain run all h.0 (subst (λ (l : List (FitFile Global)). 0 < length l) h.1 h.2)))
@@ -24,9 +22,7 @@ pub returns-then-not-found-clause-err : goal.returns-then-not-found-clause-err
 returns-then-not-found-clause-err c =
     let (rows, count, read, run) = c.loop-number.invariant in
     let text = c.args.text.now in
-    let all = subst (λ (found : Bool). Follows found (fields_of c.next_row.new.row) c.args.text.now (first_line ∷ c.loop-number.invariant.0)
-    c.next_row.new.reader) c.if-not-found.true
-    (c.in-Ok.ensures.read c.args.text.now (first_line ∷ c.loop-number.invariant.0) read) in
+    let all = rw c.if-not-found.true at (c.in-Ok.ensures.read c.args.text.now (first_line ∷ rows) read) in
     let counted : length c.loop-number.invariant.0 + 2 ≡ c.loop-number.number + 1 = omega (arith, count) in
     MatchResult-weaker c.whole_files.result c.whole_files.ensures.err
     (λ files p. p)
@@ -42,9 +38,7 @@ pub returns-in_err-judge_row-clause-err : goal.returns-in_err-judge_row-clause-e
 returns-in_err-judge_row-clause-err c =
     let (rows, count, read, run) = c.loop-number.invariant in
     let p = err_from_is_err_and c.from_residual.result c.from_residual.ensures.1 in
-    let more = subst (λ (found : Bool). Follows found (fields_of c.next_row.new.row) c.args.text.now (first_line ∷ c.loop-number.invariant.0)
-    c.next_row.new.reader) c.if-not-found.false
-    (c.in-Ok.ensures.read c.args.text.now (first_line ∷ c.loop-number.invariant.0) read) in
+    let more = rw c.if-not-found.false at (c.in-Ok.ensures.read c.args.text.now (first_line ∷ rows) read) in
     let counted : c.loop-number.number + 1 ≡ length c.loop-number.invariant.0 + 2 = omega (arith, count) in
     rw (p.1, p.2) (refused-row c.text_has_one_number.ensures c.args.text.now rows c.loop-number.chain (fields_of c.next_row.new.row) (c.loop-number.number + 1)
     c.in_err-judge_row.field-0.0 c.next_row.new.reader
@@ -54,9 +48,7 @@ pub loop-number-preserved : goal.loop-number-preserved
 loop-number-preserved c =
     let (rows, count, read, run) = c.loop-number.invariant in
     let this = fields_of c.next_row.new.row in
-    let more = subst (λ (found : Bool). Follows found (fields_of c.next_row.new.row) c.args.text.now (first_line ∷ c.loop-number.invariant.0)
-    c.next_row.new.reader) c.if-not-found.false
-    (c.in-Ok.ensures.read c.args.text.now (first_line ∷ c.loop-number.invariant.0) read) in (
+    let more = rw c.if-not-found.false at (c.in-Ok.ensures.read c.args.text.now (first_line ∷ rows) read) in (
       rows ++ this ∷ [],
       omega (arith, count, length-append rows (this ∷ [])),
       more,
