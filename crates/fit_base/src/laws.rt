@@ -4,6 +4,7 @@ ghost use Rattle.fit_base.specs.Laws.{ItemsAndBytes, NumbersAndBytes, SignedNumb
 use std::alloc::Allocator;
 
 /// As many bytes as a width has, and the numbers of that width, determine each other.
+#[tactic(auto, using(crate::proofs::NumberLaws::numbers_and_bytes))]
 pub fn numbers_and_bytes()
     ensures { NumbersAndBytes }
 {}
@@ -15,6 +16,7 @@ pub fn items_and_bytes<A: Allocator>()
 {}
 
 /// Bits stand for one number of two's complement.
+#[tactic(auto, using(crate::proofs::Signs::signed_numbers))]
 pub fn signed_numbers()
     ensures { SignedNumbers }
 {}

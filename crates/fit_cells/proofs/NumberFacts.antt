@@ -100,8 +100,8 @@ pub same-raw : (w v bits : ℕ) (x y : ℤ) → w ≡ v → x ≡ y → (y ≡ p
 same-raw w v bits x y d e (inl h) = inl (e ∙ h)
 same-raw w v bits x y d e (inr h) = inr (e ∙ h ∙ ap (λ k. pos bits -ℤ pos (256 ^ k)) (sym d))
 
-pub scaled-exact : (raw : ℤ) (scale offset : ℕ) → IsScale scale → IsScaled raw scale offset (scaled_value raw scale offset)
-scaled-exact raw s offset is =
+pub scaled_exact : (raw : ℤ) (scale offset : ℕ) → IsScale scale → IsScaled raw scale offset (scaled_value raw scale offset)
+scaled_exact raw s offset is =
     each-scale (λ n. IsScaled raw n offset (scaled_value raw n offset))
     (omega (arith, ints)) (omega (arith, ints)) (omega (arith, ints)) (omega (arith, ints))
     (omega (arith, ints)) (omega (arith, ints)) (omega (arith, ints)) s is

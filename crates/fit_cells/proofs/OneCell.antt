@@ -18,11 +18,11 @@ abbrev IsKnown : Option Meaning → Type 0
 IsKnown info = IfSome info (λ i. IsScale i.scale × (i.offset < 2 ^ 32))
 
 -- a text is that of one number
-one-number : TextHasOneNumber → (info : Option Meaning) → IsKnown info → (x y : ℤ) → neg_ℤ (pos (2 ^ 64)) ≤ℤ x → x <ℤ pos (2 ^ 64) → neg_ℤ (pos (2 ^ 64)) ≤ℤ y
+one_number : TextHasOneNumber → (info : Option Meaning) → IsKnown info → (x y : ℤ) → neg_ℤ (pos (2 ^ 64)) ≤ℤ x → x <ℤ pos (2 ^ 64) → neg_ℤ (pos (2 ^ 64)) ≤ℤ y
     → y <ℤ pos (2 ^ 64)
     → number_text info x ≡ number_text info y → x ≡ y
-one-number law None k x y xl xm yl ym e = law x y 0 (raw-in x xl xm) (raw-in y yl ym) e
-one-number law (Some i) k x y xl xm yl ym e =
+one_number law None k x y xl xm yl ym e = law x y 0 (raw-in x xl xm) (raw-in y yl ym) e
+one_number law (Some i) k x y xl xm yl ym e =
     let shift = shift-bound i.offset i.scale k.0 k.1 in
     let in_x : IsIn128 (scaled_value x i.scale i.offset) =
     scaled-in (x -ℤ pos (i.offset * i.scale)) i.scale k.0 (omega (arith, ints, xl, shift)) (omega (arith, ints, xm, shift)) in
@@ -49,7 +49,7 @@ one-valid : TextHasOneNumber → (info : Option Meaning) → IsKnown info → (m
 one-valid law info k m n invalid x y true true a b xl xm yl ym same e = eqb-true m invalid a ∙ sym (eqb-true n invalid b)
 one-valid law info k m n invalid x y true false a b xl xm yl ym same e = let l = ap length e in absurd (omega (arith, l, number-some info y))
 one-valid law info k m n invalid x y false true a b xl xm yl ym same e = let l = ap length e in absurd (omega (arith, l, number-some info x))
-one-valid law info k m n invalid x y false false a b xl xm yl ym same e = same (one-number law info k x y xl xm yl ym e)
+one-valid law info k m n invalid x y false false a b xl xm yl ym same e = same (one_number law info k x y xl xm yl ym e)
 
 pos-same : (m n : ℕ) → pos m ≡ pos n → m ≡ n
 pos-same m n e = omega (arith, ints, e)
@@ -120,9 +120,9 @@ shown : {A : Type 0} (code size : ℕ) (info : Option Meaning) (items : Items A)
     → cell code info items ≡ items_text (class_of code (item_width code size)) code info (item_width code size) items.bits
 shown code size info items s some = rw some (ap (λ v. items_text (class_of code v) code info v items.bits) s.width)
 
-pub one-cell : TextHasOneNumber → {A : Type 0} (code size : ℕ) (info : Option Meaning) (a b : Items A) → IsKnown info → HasShape code size a
+pub one_cell : TextHasOneNumber → {A : Type 0} (code size : ℕ) (info : Option Meaning) (a b : Items A) → IsKnown info → HasShape code size a
     → HasShape code size b → cell code info a ≡ cell code info b → a ≡ b
-one-cell law code size info a b k p q e =
+one_cell law code size info a b k p q e =
     let count : length a.bits ≡ length b.bits = shape_count code size a p ∙ sym (shape_count code size b q) in
     let width : a.width ≡ b.width = p.width ∙ sym q.width in
     let bits : a.bits ≡ b.bits = elim (cases_Bool (length a.bits == 0)) [

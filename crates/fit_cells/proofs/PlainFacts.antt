@@ -1,9 +1,10 @@
--- Numbers stand in a row without quotes.
+-- Cells of any base type but string stand in a row without quotes.
 use Rattle.fit_cells.proofs.Common.{◌≡◌, ◌∙◌, ℕ, zero, suc, ◌+◌, ◌/◌, ◌%◌, ◌^◌, ◌<◌, ◌≤◌, Bool, true, false, List, [], ◌∷◌, ◌++◌, length, get_or, refl, ap}
 use Rattle.fit_cells.proofs.Common.{arith, inl, inr, lit<, cond, unsigned_abs, ℤ, pos, negsuc, Some, None, decimal, digits, digits_onto, digit_glyph}
 use Rattle.fit_cells.proofs.Common.{AllByRecursion, cases_Bool, ne_eqb, nat_tests, default_writer, field_text, needs_byte, needs_quotes, Signed, Unsigned}
 use Rattle.fit_cells.proofs.Common.{Items, base_type, twos_complement, Meaning, fixed_text, fraction, last_digits, sign, NumberForm, cell, item_text}
-use Rattle.fit_cells.proofs.Common.{◌*◌, number_text, IsFormOf, Class, Text, Bytes, barred, bytes_text, class_of, flat_map, hex_digit, hex_digits, items_text, map, sym}
+use Rattle.fit_cells.proofs.Common.{◌*◌, number_text, IsFormOf, Class, Text, Bytes, barred, bytes_text, class_of}
+use Rattle.fit_cells.proofs.Common.{flat_map, hex_digit, hex_digits, items_text, map, sym}
 use Rattle.fit_cells.proofs.ClassFacts.{side_by_side}
 use Rattle.std.proofs.Common.{◌==◌, Option}
 use Rattle.std.proofs.lemmas.List.{append-nil}

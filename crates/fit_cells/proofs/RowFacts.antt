@@ -112,8 +112,8 @@ begins-otherwise b cell cells rows less (more, others, rest, e) =
 
 -- ---- there and back
 
-pub reads-back : (rows : List Row) → NoneEmpty rows → (BeginsWithMark rows → ⊥) → RowsOfText (csv_text rows) rows
-reads-back rows n none = rw (no-mark rows n none) (st.StartRecord, [], reached-text rows n, none-left)
+pub reads_back : (rows : List Row) → NoneEmpty rows → (BeginsWithMark rows → ⊥) → RowsOfText (csv_text rows) rows
+reads_back rows n none = rw (no-mark rows n none) (st.StartRecord, [], reached-text rows n, none-left)
 
 one-way : (cfg : Config) (a b : List Row) (s s1 s2 : State) (xs y1 y2 : List ℕ) → Reached cfg s xs a s1 y1 → next_record cfg s1 [] [] y1 ≡ None
     → Reached cfg s xs b s2 y2 → next_record cfg s2 [] [] y2 ≡ None → a ≡ b
@@ -126,8 +126,8 @@ one-way cfg (r ∷ rs) (q ∷ qs) s s1 s2 xs y1 y2 (p, e, same, more) na (p', e'
     let m : Reached cfg p.1 p.2 qs s2 y2 = rw (← pp) at more' in
     rw (same, same', ← pp, one-way cfg rs qs p.1 s1 s2 p.2 y1 y2 more na m nb) refl
 
-pub reads-one-way : (text : List ℕ) (a b : List Row) → RowsOfText text a → RowsOfText text b → a ≡ b
-reads-one-way text a b (s1, y1, ra, na) (s2, y2, rb, nb) = one-way default_config a b st.StartRecord s1 s2 (strip_bom text) y1 y2 ra na rb nb
+pub reads_one_way : (text : List ℕ) (a b : List Row) → RowsOfText text a → RowsOfText text b → a ≡ b
+reads_one_way text a b (s1, y1, ra, na) (s2, y2, rb, nb) = one-way default_config a b st.StartRecord s1 s2 (strip_bom text) y1 y2 ra na rb nb
 
 -- rows read so far are the first rows of the text, and the rest are those of what is left
 pub reached-first : (cfg : Config) (pre rows : List Row) (s s2 : State) (xs y : List ℕ) → Reached cfg s xs pre s2 y → AreRecords cfg s xs rows

@@ -6,6 +6,7 @@ use std::alloc::Allocator;
 
 /// The text of rows reads as those rows, if each has a cell and the first cell doesn't begin with a
 /// byte order mark.
+#[tactic(auto, using(crate::proofs::RowFacts::reads_back))]
 pub fn text_reads_back()
     ensures { ReadsBack }
 {}
@@ -16,11 +17,13 @@ pub fn text_reads_one_way()
 {}
 
 /// A scaled number is exactly what its raw value stands for.
+#[tactic(auto, using(crate::proofs::NumberFacts::scaled_exact))]
 pub fn scaled_is_exact()
     ensures { ScaledIsExact }
 {}
 
 /// Items with the shape that a code and a size give have a cell of their own.
+#[tactic(auto, using(crate::proofs::OneCell::one_cell))]
 pub fn cells_are_one<A: Allocator>()
     ensures { CellsAreOne A }
 {

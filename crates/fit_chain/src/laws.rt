@@ -5,11 +5,13 @@ ghost use Rattle.fit_chain.specs.Laws.{BoundsAreLimited, ChainsGoOn, EventsAreOn
 use std::alloc::Allocator;
 
 /// A file and its bytes determine each other, and no file's bytes begin another's: the law of `fit_record` of the same name.
+#[tactic(auto, using(crate::proofs::Common::one_file))]
 pub fn files_have_one_spelling<A: Allocator>()
     ensures { FilesHaveOneSpelling A }
 {}
 
 /// Bytes have come to one place in a chain: what `held`, `need` and refused memory say of it, they say of the only one.
+#[tactic(auto, using(crate::proofs::OnePlace::one_place))]
 pub fn progress_is_one<A: Allocator>()
     ensures { ProgressIsOne A }
 {}
@@ -31,6 +33,7 @@ pub fn reasons_are_one<A: Allocator>()
 
 /// A byte with which no chain begins, after bytes with which one does, is refused for a reason. With `reasons_are_one`
 /// it has exactly one.
+#[tactic(auto, using(crate::proofs::HasReason::has_reason))]
 pub fn refused_bytes_have_reasons<A: Allocator>()
     ensures { RefusedHaveReasons A }
 {}
@@ -54,6 +57,7 @@ pub fn first_files_are_files<A: Allocator>()
 
 /// What a reader has to hold is limited: 16 definitions of 510 entries, 65,536 descriptions, and one record of 510
 /// entries and 130,050 items.
+#[tactic(auto, using(crate::proofs::HeldLimit::limited_bound))]
 pub fn bounds_are_limited<A: Allocator>()
     ensures { BoundsAreLimited A }
 {}

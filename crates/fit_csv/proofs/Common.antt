@@ -35,7 +35,7 @@ pub use Rattle.fit_base.specs.declared.number.Order.TheVariants.{Little, Big}
 pub use Rattle.fit_cells.proofs.AddedRows.{text_append, fields_append, fields_one, whole_row, rows_both, rows_more, rows_none, rows_all, text_none}
 pub use Rattle.fit_cells.proofs.PlainFacts.{high-decimal, unquoted, High, high-append, plain, high-fixed, lone_cell}
 pub use Rattle.fit_cells.proofs.ReadFacts.{bytes-shown, length-pairs}
-pub use Rattle.fit_cells.proofs.RowFacts.{reached-first, reads-one-way, begins-otherwise, reads-back}
+pub use Rattle.fit_cells.proofs.RowFacts.{reached-first, reads_one_way, begins-otherwise, reads_back}
 pub use Rattle.fit_cells.specs.Cells.{cell, item_text}
 unfoldable pub use Rattle.fit_cells.specs.Cells.{hex_digits}
 pub use Rattle.fit_cells.specs.Forms.{IsFormOf}

@@ -2,7 +2,7 @@
 use Rattle.fit_csv.proofs.Common.{◌≡◌, ◌∙◌, ◌≤◌, [], ◌∷◌, ◌++◌, length, Result, Err, refl, sym, ap, subst, inl, inr, arith, append_assoc, Global, Appends}
 use Rattle.fit_csv.proofs.Common.{Consumes, IsAtEnd, Consumes-whole, default_config, strip_bom, IsBytes, FitFile, chain_bytes, EncodeFault, IsFirstFault}
 use Rattle.fit_csv.proofs.Common.{StopsAt, GoodChainsHaveNoFault, chain_rows, Channel, Answers, FromTextOf, IsTextOf, IsUnwritable, ReadsText, CanFollow}
-use Rattle.fit_csv.proofs.Common.{HasNoHeader, IsChainOfRows, IsCutOff, IsRefusedRow, ChainsHaveOwnRows, RowsOfText, CsvFault, reached-first, reads-one-way}
+use Rattle.fit_csv.proofs.Common.{HasNoHeader, IsChainOfRows, IsCutOff, IsRefusedRow, ChainsHaveOwnRows, RowsOfText, CsvFault, reached-first, reads_one_way}
 use Rattle.std.proofs.Common.{ℕ, ◌<◌, List, Option, Some, None, Ok, length-append}
 use Rattle.std.specs.Prelude.{IfSome}
 use Rattle.csv.specs.declared.parser.State.TheVariants as st
@@ -13,7 +13,7 @@ use Rattle.fit_csv.proofs.SevenRows.{row-seven}
 
 module _ (text : List ℕ) (fs : List (FitFile Global)) (read : RowsOfText text (chain_rows fs)) (good : IsChainOfRows fs) where
   pub headed : HasNoHeader text → ⊥
-  headed (inl none) = let e : [] ≡ chain_rows fs = reads-one-way text [] (chain_rows fs) none read in cc e
+  headed (inl none) = let e : [] ≡ chain_rows fs = reads_one_way text [] (chain_rows fs) none read in cc e
   headed (inr (r, (state, left, reached), other)) =
       let (rest, is, others) = reached-first default_config (r ∷ []) (chain_rows fs) st.StartRecord state (strip_bom text) left reached read in
       other (cc is)
@@ -36,10 +36,10 @@ module _ (text : List ℕ) (fs : List (FitFile Global)) (read : RowsOfText text 
   no-bad-cell row column h = h.wrong.2.bad h.this (stands (faults.BadCell row column) h).0 refl
 
   pub not-cut : (row : ℕ) → 0 < length fs → IsCutOff text row → ⊥
-  not-cut row some h = h.unfinished (fs, good, some, reads-one-way text h.rows (chain_rows fs) h.read read)
+  not-cut row some h = h.unfinished (fs, good, some, reads_one_way text h.rows (chain_rows fs) h.read read)
 
   pub same-files : ChainsHaveOwnRows → (files : List (FitFile Global)) → RowsOfText text (chain_rows files) → IsChainOfRows files → files ≡ fs
-  same-files law files other_read other_good = law files fs other_good good (reads-one-way text (chain_rows files) (chain_rows fs) other_read read)
+  same-files law files other_read other_good = law files fs other_good good (reads_one_way text (chain_rows files) (chain_rows fs) other_read read)
 
 pub good-files : (text : List ℕ) (files : List (FitFile Global)) (bytes : List ℕ) → IsTextOf text files bytes → IsChainOfRows files
 good-files text files bytes h = chain-of-rows files h.chain.0 (subst IsBytes h.chain.1 h.are_bytes)

@@ -1,7 +1,7 @@
 -- A text has one finding at most.
 use Rattle.fit_csv.proofs.Common.{nil_from_length, ◌≡◌, ◌∙◌, ◌≤◌, ◌+◌, ◌-◌, [], ◌∷◌, ◌++◌, length, take, zero, suc, Err, refl, sym, ap, subst, inl, inr, arith}
 use Rattle.fit_csv.proofs.Common.{append_assoc, Global, cases_lt, Reached, default_config, strip_bom, FitFile, EncodeFault, IsFirstFault, FaultsAreOne}
-use Rattle.fit_csv.proofs.Common.{GoodChainsHaveNoFault, Row, RowsOfText, first_line, reached-first, reads-one-way, chain_rows, IsTextOf, IsUnwritable, IsWrong}
+use Rattle.fit_csv.proofs.Common.{GoodChainsHaveNoFault, Row, RowsOfText, first_line, reached-first, reads_one_way, chain_rows, IsTextOf, IsUnwritable, IsWrong}
 use Rattle.fit_csv.proofs.Common.{Agree, CanFollow, FirstRows, HasNoHeader, IsBadCell, IsChainOfRows, IsCutOff, IsRefusedRow, IsRowFault, MayBeOfKind, MayGoOn}
 use Rattle.fit_csv.proofs.Common.{ChainsHaveOwnRows, TextsHaveOneFinding, CsvFault}
 use Rattle.std.proofs.Common.{◌⊎◌, ℕ, ◌<◌, List, Ok, append-nil, length-append}
@@ -82,7 +82,7 @@ headed-front text front this read some go (inr (r, reads, other)) =
 
 headed-cut : (text : List ℕ) (row : ℕ) → IsCutOff text row → HasNoHeader text → ⊥
 headed-cut text row h (inl none) =
-    let same = reads-one-way text h.rows [] h.read none in
+    let same = reads_one_way text h.rows [] h.read none in
     let long = ap length same in
     let some = h.some in
     omega arith
@@ -191,7 +191,7 @@ cut-not-refused text row fault some h k =
     (can-stand k.front k.this rest (subst MayGoOn (is ∙ append_assoc k.front (k.this ∷ []) rest) h.begins)) k.wrong
 
 one-cut : (text : List ℕ) (i j : ℕ) → IsCutOff text i → IsCutOff text j → i ≡ j
-one-cut text i j h k = h.place ∙ ap (λ (rows : List Row). length rows + 1) (reads-one-way text h.rows k.rows h.read k.read) ∙ sym k.place
+one-cut text i j h k = h.place ∙ ap (λ (rows : List Row). length rows + 1) (reads_one_way text h.rows k.rows h.read k.read) ∙ sym k.place
 
 -- ---- all that can be wrong
 

@@ -5,7 +5,7 @@ use Rattle.fit_csv.proofs.Common.{message_index, messages, timestamp, IsScale, d
 use Rattle.std.proofs.Common.{ℕ, ◌<◌, ◌==◌, List, Option, Some, None}
 use Rattle.std.specs.Prelude.{option_map, IfSome, if◌then◌else◌}
 use Rattle.fit_profile.specs.Profile.{Message}
-use Rattle.fit_cells.proofs.OneCell.{one-cell}
+use Rattle.fit_cells.proofs.OneCell.{one_cell}
 use Rattle.fit_csv.proofs.OneStep.{cell_at}
 use Rattle.fit_csv.proofs.ProfileScales.{found, known_scale, some_same}
 
@@ -52,8 +52,8 @@ known-at global number (Some m) is = (known_scale global number m is, known-offs
 pub one-field : TextHasOneNumber → (global : ℕ) (f : FieldDef) (a b : Items Global) → HasShape f.code f.size a → HasShape f.code f.size b
     → field_row global f a ≡ field_row global f b → a ≡ b
 one-field law global f a b p q e =
-    one-cell law f.code f.size (field global f.number) a b (known-at global f.number (field global f.number) refl) p q (ap (cell_at 2) e)
+    one_cell law f.code f.size (field global f.number) a b (known-at global f.number (field global f.number) refl) p q (ap (cell_at 2) e)
 
 pub one-dev-field : TextHasOneNumber → (f : DevDef) (code : ℕ) (n : Naming) (a b : Items Global) → HasShape code f.size a → HasShape code f.size b
     → dev_row f code n a ≡ dev_row f code n b → a ≡ b
-one-dev-field law f code n a b p q e = one-cell law code f.size None a b tt p q (ap (cell_at 2) e)
+one-dev-field law f code n a b p q e = one_cell law code f.size None a b tt p q (ap (cell_at 2) e)

@@ -2,7 +2,7 @@
 use Rattle.fit_csv.proofs.Common.{◌≡◌, arith, [], ◌∷◌, ◌++◌, length, map, refl, subst, flat_map, zip, AllByRecursion, MessageDef, Defined, FitFile, Record}
 use Rattle.fit_csv.proofs.Common.{Define, Data, Values, defined_at, dev_defs, Naming, namings_at, known, header_time, previous_time, chain_rows, data_row}
 use Rattle.fit_csv.proofs.Common.{def_row, definition_rows, dev_def_row, dev_row, dev_rows, end_row, field_def_row, field_row, field_rows, file_row, file_rows}
-use Rattle.fit_csv.proofs.Common.{message_rows, record_rows, records_rows, NoneEmpty, Row, RowsOfText, csv_text, begins-otherwise, reads-back}
+use Rattle.fit_csv.proofs.Common.{message_rows, record_rows, records_rows, NoneEmpty, Row, RowsOfText, csv_text, begins-otherwise, reads_back}
 use Rattle.std.proofs.Common.{List, ℕ, Option, Some, None}
 use Rattle.std.specs.Prelude.{codes, option_map, unwrap_or}
 
@@ -58,7 +58,7 @@ none-empty (r ∷ rows) seven = (λ e. let h = seven.0 in cc, none-empty rows se
 -- the text of the rows of a chain reads as those rows
 pub chain-reads-back : {A : Type 0} (files : List (FitFile A)) → RowsOfText (csv_text (chain_rows files)) (chain_rows files)
 chain-reads-back files =
-    reads-back (chain_rows files) (none-empty (chain_rows files) (refl, files-seven files))
+    reads_back (chain_rows files) (none-empty (chain_rows files) (refl, files-seven files))
     (begins-otherwise 114 (codes "ow") (codes "a" ∷ codes "b" ∷ codes "c" ∷ codes "d" ∷ codes "e" ∷ codes "f" ∷ []) (flat_map file_rows files)
     (omega arith))
 

@@ -1,7 +1,7 @@
 -- The table of a chain: it is that of its events, and its text reads as its rows.
 use Rattle.fit_csv.proofs.Common.{◌≡◌, ◌≢◌, ◌∙◌, ◌+◌, Bool, true, false, [], ◌∷◌, ◌++◌, map, refl, sym, ap, arith, append_assoc, flat_map, AllByRecursion}
 use Rattle.fit_csv.proofs.Common.{Defined, FitFile, Record, Define, Data, Values, defined_at, Event, item, file_end, file_events, known, NoneEmpty, Row}
-use Rattle.fit_csv.proofs.Common.{RowsOfText, csv_text, begins-otherwise, reads-back, table_events_rows, table_files_rows, table_line, table_of}
+use Rattle.fit_csv.proofs.Common.{RowsOfText, csv_text, begins-otherwise, reads_back, table_events_rows, table_files_rows, table_line, table_of}
 use Rattle.fit_csv.proofs.Common.{table_record_rows, table_records_rows, table_row, table_rows}
 use Rattle.std.proofs.Common.{◌==◌, if◌then◌else◌, ℕ, List, Option, Some, None}
 use Rattle.std.specs.Prelude.{codes, option_map, unwrap_or}
@@ -84,5 +84,5 @@ table-reads-back files =
     let others =
     codes "timestamp" ∷ codes "position_lat" ∷ codes "position_long" ∷ codes "altitude" ∷ codes "distance" ∷ codes "speed" ∷ codes "heart_rate"
     ∷ codes "cadence" ∷ codes "power" ∷ codes "temperature" ∷ [] in
-    reads-back (table_rows files) (none-empty (table_rows files) ((λ e. cc e), files-some 1 files))
+    reads_back (table_rows files) (none-empty (table_rows files) ((λ e. cc e), files-some 1 files))
     (begins-otherwise 102 (codes "ile") others (table_files_rows 1 files) (omega arith))

@@ -2,7 +2,8 @@
 use Rattle.fit_decode.proofs.Common.{◌≡◌, true, false, ℕ, ◌+◌, ◌<◌, suc, List, [], ◌∷◌, ◌++◌, length, take, drop, get_or, Some, None, Ok, Err, sym, ap, ◌∙◌}
 use Rattle.fit_decode.proofs.Common.{subst, append_assoc, arith, length-append, Vec, if◌then◌else◌, is_ok, is_err, Global, Consumes, IsAtEnd, append-nil}
 use Rattle.fit_decode.proofs.Common.{IsBytes, little_bytes, Reason, FitFile, checksum, summed, IsFile, IsChain, IsViable, chain_limit, Fault, Truncated, Read}
-use Rattle.fit_decode.proofs.Common.{AreChain, IsBehind, IsEnd, at_header, EndsReading, ReadsChain, GivesChain, IsRefused, FileRead, at_place, one_place, chain_come}
+use Rattle.fit_decode.proofs.Common.{AreChain, IsBehind, IsEnd, at_header, EndsReading, ReadsChain, GivesChain, IsRefused}
+use Rattle.fit_decode.proofs.Common.{FileRead, at_place, one_place, chain_come}
 use Rattle.std.proofs.Common.{Bool, Option, Result}
 use Rattle.fit_base.proofs.Bytes.{length-little_bytes}
 use Rattle.fit_chain.specs.declared.event.Fault.TheVariants.{Refused, NoMemory}

@@ -43,8 +43,8 @@ one-text t a b (y, m, d, small, day, is) (y', m', d', small', day', is') =
     is ∙ rw (years', months, days) (sym is')
 
 -- an instant has one text
-pub one-instant-text : (t : ℕ) (a b : List ℕ) → IsInstantText t a → IsInstantText t b → a ≡ b
-one-instant-text t a b x y = elim (cases_lt t 0x10000000) [
+pub one_instant_text : (t : ℕ) (a b : List ℕ) → IsInstantText t a → IsInstantText t b → a ≡ b
+one_instant_text t a b x y = elim (cases_lt t 0x10000000) [
   | inl early ↦ x.system early ∙ sym (y.system early)
   | inr late ↦ one-text t a b (x.civil late) (y.civil late)
 ]

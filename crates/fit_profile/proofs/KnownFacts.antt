@@ -22,5 +22,5 @@ unfolding known_from
 in-order e [] = refl
 in-order e (r ∷ rs) = ap (known_from e) (reverse-append (r ∷ []) rs) ∙ from-first e (reverse rs) r ∙ in-order (learn e r) rs
 
-pub known-learned : {A : Type 0} (rs : List (Record A)) → known (reverse rs) ≡ learn_all empty_environment rs
-known-learned rs = from-nothing (reverse rs) ∙ in-order empty_environment rs
+pub known_learned : {A : Type 0} (rs : List (Record A)) → known (reverse rs) ≡ learn_all empty_environment rs
+known_learned rs = from-nothing (reverse rs) ∙ in-order empty_environment rs

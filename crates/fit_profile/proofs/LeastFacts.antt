@@ -84,8 +84,8 @@ not-before start rest m k b miss h e = elim (cases_lt b (start + k)) [
   | inr more ↦ more
 ]
 
-pub least-is_least : (start rest m : ℕ) → rest < m → IsSomeAnd (least_from start rest m) (IsLeastFrom start rest m)
-least-is_least start rest m r = elim (cases_lt rest (start % m)) [
+pub least_is_least : (start rest m : ℕ) → rest < m → IsSomeAnd (least_from start rest m) (IsLeastFrom start rest m)
+least_is_least start rest m r = elim (cases_lt rest (start % m)) [
   | inl at ↦
       let below : start % m < m = mod-lt start (omega (arith, r)) in
       let k = m - start % m + rest in

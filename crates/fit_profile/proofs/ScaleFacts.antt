@@ -10,5 +10,5 @@ same-times v w s (inr (inr (inr (inr (inl thousand))))) e = let h = rw thousand 
 same-times v w s (inr (inr (inr (inr (inr (inl sixteen)))))) e = let h = rw sixteen at e in omega (arith, ints, h)
 same-times v w s (inr (inr (inr (inr (inr (inr most)))))) e = let h = rw most at e in omega (arith, ints, h)
 
-pub one-scaled : (raw : ℤ) (scale offset : ℕ) (v w : ℤ) → IsScale scale → IsScaled raw scale offset v → IsScaled raw scale offset w → v ≡ w
-one-scaled raw scale offset v w known a b = same-times v w scale known (a ∙ sym b)
+pub one_scaled : (raw : ℤ) (scale offset : ℕ) (v w : ℤ) → IsScale scale → IsScaled raw scale offset v → IsScaled raw scale offset w → v ≡ w
+one_scaled raw scale offset v w known a b = same-times v w scale known (a ∙ sym b)

@@ -31,5 +31,5 @@ text-value text v d h e =
     ap₂ signed_value (ap starts_with_minus e) (ap (digits_in 0) e ∙ size-of-text v d h) ∙ value-of-text v d h
 
 -- a text is that of one number at most
-pub one-number : (v w : ℤ) (d : ℕ) → IsIn128 v → IsIn128 w → fixed_text v d ≡ fixed_text w d → v ≡ w
-one-number v w d in_v in_w e = sym (text-value (fixed_text v d) v d in_v refl) ∙ text-value (fixed_text v d) w d in_w e
+pub one_number : (v w : ℤ) (d : ℕ) → IsIn128 v → IsIn128 w → fixed_text v d ≡ fixed_text w d → v ≡ w
+one_number v w d in_v in_w e = sym (text-value (fixed_text v d) v d in_v refl) ∙ text-value (fixed_text v d) w d in_w e

@@ -5,32 +5,38 @@ ghost use Rattle.fit_profile.specs.Laws.{InstantHasOneText, TextHasOneNumber, Sc
 use std::alloc::Allocator;
 
 /// An instant has one text.
+#[tactic(auto, using(crate::proofs::DayFacts::one_instant_text))]
 pub fn instant_has_one_text()
     ensures { InstantHasOneText }
 {}
 
 /// A text with a fixed number of decimals is that of one number at most.
+#[tactic(auto, using(crate::proofs::ScanFacts::one_number))]
 pub fn text_has_one_number()
     ensures { TextHasOneNumber }
 {}
 
 /// A raw value stands for one number.
+#[tactic(auto, using(crate::proofs::ScaleFacts::one_scaled))]
 pub fn scaled_value_is_one()
     ensures { ScaledValueIsOne }
 {}
 
 /// A number of semicircles is one number of degrees.
+#[tactic(auto, using(crate::proofs::DegreeFacts::one_degrees))]
 pub fn degrees_are_one()
     ensures { DegreesAreOne }
 {}
 
 /// Header times and accumulated values are the least numbers at or after the previous ones that leave
 /// the given rest.
+#[tactic(auto, using(crate::proofs::LeastFacts::least_is_least))]
 pub fn first_is_least()
     ensures { FirstIsLeast }
 {}
 
 /// Looking back over records, latest first, is learning them in their order.
+#[tactic(auto, using(crate::proofs::KnownFacts::known_learned))]
 pub fn looking_back_is_learning<A: Allocator>()
     ensures { LookingBackIsLearning A }
 {}

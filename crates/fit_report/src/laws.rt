@@ -9,6 +9,7 @@ pub fn heard_records_fit<A: Allocator>()
 {}
 
 /// Fewer than 2^57 events are heard, so that a count of them or of some of them has room in 64 bits.
+#[tactic(auto, using(crate::proofs::Records::heard_are_few))]
 pub fn heard_are_few<A: Allocator>()
     ensures { HeardAreFew A }
 {}

@@ -62,7 +62,8 @@ module _ (input : List ℕ) {status : ℕ} {text : List ℕ} (h : HasRun FromCsv
     tells = inr (Err fault, subst (λ (t : List ℕ). IsWrong t fault) (all_taken h.source.before h.source.after input taken h.read eats end) is, one, refl);
   }
 
-  pub made : (answer : Result (Unit {0}) CsvFault) → ReadsText h.source h.output answer → IfErr answer (λ fault. UnlessWritten fault (h.output.after ≡ h.output.before))
+  pub made : (answer : Result (Unit {0}) CsvFault) → ReadsText h.source h.output answer
+      → IfErr answer (λ fault. UnlessWritten fault (h.output.after ≡ h.output.before))
       → Concludes answer h.faults status → Made input h.output status
   made (Ok u) (taken, eats, (out, (files, bytes, is, put, fine))) kept (keeps, zero) = record {
     bytes = bytes;

@@ -6,11 +6,13 @@ ghost use Rattle.fit_step.specs.Laws.{BeginningsStand, PartsAreTested, RecordsEn
 use std::alloc::Allocator;
 
 /// A record after which records can fill the room ends with its last byte and not before.
+#[tactic(auto, using(crate::proofs::TakenAndRefusedBytes::records_end))]
 pub fn records_end<A: Allocator>()
     ensures { RecordsEnd A }
 {}
 
 /// Which parts of a record can become one so that records fill the room.
+#[tactic(auto, using(crate::proofs::TakenAndRefusedBytes::parts_are_tested))]
 pub fn parts_are_tested<A: Allocator>()
     ensures { PartsAreTested A }
 {}
@@ -40,6 +42,7 @@ pub fn records_are_in_progress<A: Allocator>()
 {}
 
 /// A byte with which no records can fill the room has a reason.
+#[tactic(auto, using(crate::proofs::RecordsInProgress::refused_bytes_have_reasons))]
 pub fn refused_bytes_have_reasons<A: Allocator>()
     ensures { RefusedBytesHaveReasons A }
 {}
