@@ -80,10 +80,10 @@ module _ {A : Type 0} (e : Environment A) where
           (refl, same, ap (λ n. can_fill e (room - n)) same)
 
   -- one byte of a field
-  pub field_begins : (place width left room : ℕ) (v : Values A) (partial : List ℕ) (b : ℕ) → 0 < left
+  pub field_byte : (place width left room : ℕ) (v : Values A) (partial : List ℕ) (b : ℕ) → 0 < left
       → Begun e (room - 1) (left + fields_rest e place v.local - 1) (field_move e place width left room v partial b)
   unfolding field_move
-  field_begins place width left room v partial b some =
+  field_byte place width left room v partial b some =
       let rest : ℕ = fields_rest e place v.local in
       let w : Values A = record v { fields = with_number (order_at e v.local) width place v.fields (partial ++ b ∷ []) } in
       cond_both (left == 1) _ _ (λ n. Begun e (room - 1) (left + rest - 1) n)
@@ -93,10 +93,10 @@ module _ {A : Type 0} (e : Environment A) where
       (fields_begin (room - 1) w (suc place) (drop (suc place) (layout_at e v.local)) refl))
       (λ z. let same : left - 1 + rest ≡ left + rest - 1 = omega arith in (refl, same, ap (λ n. can_fill e (room - 1 - n)) same))
 
-  pub dev_begins : (place width left room : ℕ) (v : Values A) (partial : List ℕ) (b : ℕ) → 0 < left
+  pub dev_byte : (place width left room : ℕ) (v : Values A) (partial : List ℕ) (b : ℕ) → 0 < left
       → Begun e (room - 1) (left + dev_rest e place v.local - 1) (dev_move e place width left room v partial b)
   unfolding dev_move
-  dev_begins place width left room v partial b some =
+  dev_byte place width left room v partial b some =
       let rest : ℕ = dev_rest e place v.local in
       let w : Values A = record v { dev = with_number (order_at e v.local) width place v.dev (partial ++ b ∷ []) } in
       cond_both (left == 1) _ _ (λ n. Begun e (room - 1) (left + rest - 1) n)
@@ -202,10 +202,10 @@ keeps e tests room nothing b h less = header_keeps e tests room b
 keeps e tests room (in_definition k d) b h less = definition_keeps e tests k room d b h less
 keeps e tests room (in_fields local offset t dev) b (p, known, header, s, same) less =
     let some = s.some in
-    begun_keeps e room (room - 1) _ _ (field_begins e (length t.done) _ t.left room _ t.partial b some) (omega (arith, some, less)) (omega (arith, some, less))
+    begun_keeps e room (room - 1) _ _ (field_byte e (length t.done) _ t.left room _ t.partial b some) (omega (arith, some, less)) (omega (arith, some, less))
 keeps e tests room (in_dev_fields local offset items t) b (p, known, header, shapes, s) less =
     let some = s.some in
-    begun_keeps e room (room - 1) _ _ (dev_begins e (length t.done) _ t.left room _ t.partial b some) (omega (arith, some, less)) (omega (arith, some, less))
+    begun_keeps e room (room - 1) _ _ (dev_byte e (length t.done) _ t.left room _ t.partial b some) (omega (arith, some, less)) (omega (arith, some, less))
 
 -- ---- the least rest
 

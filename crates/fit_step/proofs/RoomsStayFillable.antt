@@ -13,7 +13,7 @@ use Rattle.fit_step.proofs.Common.{◌==◌, sum_by}
 use Rattle.fit_record.proofs.DefinitionInPlace.{can_fill_after}
 use Rattle.fit_record.proofs.RoomSums.{fills_by_ones}
 use Rattle.fit_step.proofs.HeaderSteps.{begun_message}
-use Rattle.fit_step.proofs.Rest.{Begun, field_begins, dev_begins, message_begins}
+use Rattle.fit_step.proofs.Rest.{Begun, field_byte, dev_byte, message_begins}
 
 -- what a step leaves can go on, and behind a whole record the room can be filled
 abbrev pub GoesOn : {A : Type 0} → Environment A → Step A → Type 0
@@ -248,9 +248,9 @@ module _ {A : Type 0} (e : Environment A) (sixteen : length e.places ≡ 16) whe
   goes room (in_definition k d) b h less on = definition_on k room d b h less on
   goes room (in_fields local offset t dev) b (p, known, header, s, same) less on =
       let some = s.some in
-      begun_on e (room - 1) _ _ (field_begins e (length t.done) _ t.left room _ t.partial b some)
+      begun_on e (room - 1) _ _ (field_byte e (length t.done) _ t.left room _ t.partial b some)
       (one_less e room (t.left + fields_rest e (length t.done) local) (omega (arith, some)) on)
   goes room (in_dev_fields local offset items t) b (p, known, header, shapes, s) less on =
       let some = s.some in
-      begun_on e (room - 1) _ _ (dev_begins e (length t.done) _ t.left room _ t.partial b some)
+      begun_on e (room - 1) _ _ (dev_byte e (length t.done) _ t.left room _ t.partial b some)
       (one_less e room (t.left + dev_rest e (length t.done) local) (omega (arith, some)) on)
