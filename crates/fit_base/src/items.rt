@@ -1,9 +1,9 @@
 //! The items of a field, and whether they are of the shape that its definition gives.
-ghost use Rattle.std.specs.Prelude.{◌≡◌, ◌⊎◌, ◌^◌, ◌↔◌, ◌+◌, ◌≤◌, [], ◌∷◌, IfOk, IsOk, IsTrue, All, length};
+ghost use Rattle.std.specs.Prelude.{◌≡◌, ◌↔◌, ◌≤◌, [], ◌∷◌, IfOk, IsOk, IsTrue, All, length};
 ghost use Rattle.fit_base.specs.Fields.{HasShape};
 
 use crate::code::items_in;
-use crate::{Bits, Code, width_of};
+use crate::{Bits, Code, greatest, width_of};
 use std::alloc::{AllocError, Allocator, Global};
 
 /// The numbers of one field, each of `width` bytes.
@@ -59,17 +59,4 @@ fn all_at_most(most: u64, bits: &[u64]) -> bool
     ensures { IsTrue result ↔ All (λ n. n ≤ most) bits.now }
 {
     bits.iter().all(|n| *n <= most)
-}
-
-/// The greatest number of this many bytes.
-fn greatest(width: u8) -> u64
-    requires { (width ≡ 1) ⊎ (width ≡ 2) ⊎ (width ≡ 4) ⊎ (width ≡ 8) }
-    ensures { result + 1 ≡ 256 ^ width }
-{
-    match width {
-        1 => 0xFF,
-        2 => 0xFFFF,
-        4 => 0xFFFF_FFFF,
-        _ => u64::MAX,
-    }
 }

@@ -13,4 +13,4 @@ pub use bits::Bits;
 pub use code::{Class, Code, width_of};
 pub use entries::Entries;
 pub use items::{Items, has_shape};
-pub use number::{Order, bits_at, put_bits, signed};
+pub use number::{Order, bits_at, greatest, has_width, put_bits, signed};

@@ -1,5 +1,5 @@
 //! Numbers as bytes, and signed numbers.
-ghost use Rattle.std.specs.Prelude.{◌≡◌, ◌⊎◌, ◌<◌, ◌^◌, length};
+ghost use Rattle.std.specs.Prelude.{◌≡◌, ◌⊎◌, ◌+◌, ◌<◌, ◌^◌, length, nat_lt};
 ghost use Rattle.fit_base.specs.Numbers.{number, number_bytes, twos_complement};
 
 use byteorder::{BigEndian, ByteOrder, LittleEndian};
@@ -11,6 +11,28 @@ pub enum Order {
     Little,
     /// The highest byte comes first.
     Big,
+}
+
+/// The greatest number of `width` bytes.
+pub fn greatest(width: u8) -> u64
+    requires { (width ≡ 1) ⊎ (width ≡ 2) ⊎ (width ≡ 4) ⊎ (width ≡ 8) }
+    ensures { result + 1 ≡ 256 ^ width }
+{
+    match width {
+        1 => 0xFF,
+        2 => 0xFFFF,
+        4 => 0xFFFF_FFFF,
+        _ => u64::MAX,
+    }
+}
+
+/// Whether a number has no more bytes than this.
+#[inline(always)]
+pub fn has_width(bits: u64, width: u8) -> bool
+    requires { (width ≡ 1) ⊎ (width ≡ 2) ⊎ (width ≡ 4) ⊎ (width ≡ 8) }
+    ensures { result ≡ nat_lt bits (256 ^ width) }
+{
+    bits <= greatest(width)
 }
 
 /// The number that `width` bytes spell.

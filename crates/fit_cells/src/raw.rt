@@ -5,7 +5,7 @@ ghost use Rattle.fit_profile.specs.Names.{meaning};
 ghost use Rattle.fit_profile.specs.Scaled.{decimals, IsScale};
 ghost use Rattle.fit_cells.specs.Cells.{number_text};
 
-use fit_base::Code;
+use fit_base::{Code, greatest};
 use fit_profile::{Fixed, Info, fixed};
 
 /// A size in units of the last decimal, over what a whole one has of them.
@@ -90,19 +90,6 @@ fn read_raw(info: Option<Info>, text: &str) -> Option<i128>
     }
 }
 
-/// 256 to the power of a width.
-fn limit(width: u8) -> i128
-    requires { (width ≡ 1) ⊎ (width ≡ 2) ⊎ (width ≡ 4) ⊎ (width ≡ 8) }
-    ensures { result ≡ pos (256 ^ width) }
-{
-    match width {
-        1 => 0x100,
-        2 => 0x1_0000,
-        4 => 0x1_0000_0000,
-        _ => 0x1_0000_0000_0000_0000,
-    }
-}
-
 /// The bits of this width that stand for a number.
 fn bits_of(width: u8, number: i128) -> u64
     requires { (width ≡ 1) ⊎ (width ≡ 2) ⊎ (width ≡ 4) ⊎ (width ≡ 8) }
@@ -110,7 +97,7 @@ fn bits_of(width: u8, number: i128) -> u64
     ensures every { (bits : ℕ) → bits < 256 ^ width
         → (number ≡ pos bits) ⊎ (number ≡ pos bits -ℤ pos (256 ^ width)) → result ≡ bits }
 {
-    let limit = limit(width);
+    let limit = i128::from(greatest(width)) + 1;
     let bits = if number < 0 { number + limit } else { number };
     if bits < 0 || bits >= limit {
         return 0;

@@ -1,5 +1,5 @@
 //! The numbers that fields hold.
-ghost use Rattle.std.specs.Prelude.{◌≡◌, ◌⊎◌, ◌≤◌, ◌<◌, ◌^◌, ◌≤ℤ◌, ◌<ℤ◌, IfSome, nat_lt, pos, neg_ℤ};
+ghost use Rattle.std.specs.Prelude.{◌≡◌, ◌≤◌, ◌<◌, ◌^◌, ◌≤ℤ◌, ◌<ℤ◌, IfSome, pos, neg_ℤ};
 ghost use Rattle.fit_base.specs.BaseTypes.{base_type};
 ghost use Rattle.fit_profile.specs.Scaled.{IsScale};
 ghost use Rattle.fit_profile.specs.Values as values;
@@ -7,7 +7,7 @@ ghost use Rattle.fit_profile.specs.Values.{IsAmount, IsValueOf, known_number};
 
 use crate::look::first_of;
 use crate::{Fixed, Info, field_info, fixed};
-use fit_base::{Class, Code, Items, signed};
+use fit_base::{Class, Code, Items, has_width, signed};
 use fit_record::{FieldDef, MessageDef, Values};
 use std::alloc::Allocator;
 
@@ -26,19 +26,6 @@ pub(crate) fn in_scale(number: Option<u64>, scale: u32) -> Option<Fixed>
     match number {
         Some(number) => Some(fixed(i128::from(number), info)),
         None => None,
-    }
-}
-
-/// Whether a number has no more bytes than this.
-fn has_width(bits: u64, width: u8) -> bool
-    requires { (width ≡ 1) ⊎ (width ≡ 2) ⊎ (width ≡ 4) ⊎ (width ≡ 8) }
-    ensures { result ≡ nat_lt bits (256 ^ width) }
-{
-    match width {
-        1 => bits < 0x100,
-        2 => bits < 0x1_0000,
-        4 => bits < 0x1_0000_0000,
-        _ => true,
     }
 }
 

@@ -1,5 +1,5 @@
 //! Where the numbers of the table stand in messages of a definition, found out once for many messages.
-ghost use Rattle.std.specs.Prelude.{◌≡◌, ◌≢◌, ◌≤◌, ◌⊎◌, ◌^◌, ◌==◌, ◌&&◌, not, nat_lt, IfOk, IfSome, IsTrue, None, Some, if◌then◌else◌, option_map, slice_get};
+ghost use Rattle.std.specs.Prelude.{◌≡◌, ◌≢◌, ◌≤◌, ◌^◌, ◌==◌, ◌&&◌, not, nat_lt, IfOk, IfSome, IsTrue, None, Some, if◌then◌else◌, option_map, slice_get};
 ghost use Rattle.fit_profile.specs.FixedText.{fixed_text};
 ghost use Rattle.fit_profile.specs.Meant.{shown};
 ghost use Rattle.fit_profile.specs.Profile.{Meaning};
@@ -15,7 +15,7 @@ use crate::tables::rows::{
     TableRow, distance, either, in_degrees, position, semicircles, speed, value,
 };
 use crate::words::time_text;
-use fit_base::{Code, Items};
+use fit_base::{Code, Items, has_width};
 use fit_cells::{NumberForm, formed_number, number_form};
 use fit_profile::message_number::RECORD;
 use fit_profile::{Fixed, Message, field_info};
@@ -68,18 +68,6 @@ fn column_of(fields: &[FieldDef], number: u8) -> Column
         }
     }
     Column::Absent
-}
-
-/// Whether a number has no more bytes than this.
-fn has_width(bits: u64, width: u8) -> bool
-    requires { (width ≡ 1) ⊎ (width ≡ 2) ⊎ (width ≡ 4) }
-    ensures { result ≡ nat_lt bits (256 ^ width) }
-{
-    match width {
-        1 => bits < 0x100,
-        2 => bits < 0x1_0000,
-        _ => bits < 0x1_0000_0000,
-    }
 }
 
 /// Whether an item of this width holds a value of a form.
