@@ -21,7 +21,7 @@ pub use Rattle.std.specs.Prelude.{option_and_then, if◌then◌else◌, IsSomeAn
 pub use Rattle.std.specs.Str.{IsUtf8, is_utf8}
 pub use Rattle.std.specs.Str.Parse.{starts_with_minus, AllDigits}
 pub use Rattle.fit_base.specs.declared.items.Items.{Items}
-pub use Rattle.fit_record.specs.Environment.{first_items, only, only_byte, dev_defs, description, Environment, empty_environment, defined_at}
+pub use Rattle.fit_record.specs.Environment.{first_items, only, dev_defs, dev_key_cmp, description, Environment, empty_environment, defined_at}
 pub use Rattle.fit_record.specs.Environment.{describe, learn, learn_all}
 pub use Rattle.fit_record.specs.Records.{Fits, DataFits}
 pub use Rattle.fit_record.specs.declared.definition.FieldDef.{FieldDef}
@@ -41,4 +41,4 @@ pub use Rattle.fit_profile.specs.Scaled.{IsDegrees, IsScale, IsScaled, decimals}
 pub use Rattle.fit_profile.specs.Told.{told, told_at, told_of, tell, last_of, last_after}
 pub use Rattle.fit_profile.specs.inner.Digits.{next_value, signed_value}
 unfoldable pub use Rattle.fit_profile.specs.inner.Digits.{digits_in}
-pub use Rattle.fit_profile.specs.inner.Keeps.{KeepsRecords, described, is_key, naming_in, namings_in, key_cmp}
+pub use Rattle.fit_profile.specs.inner.Keeps.{KeepsRecords, described, is_key, naming_in, namings_in}

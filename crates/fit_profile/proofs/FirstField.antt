@@ -1,7 +1,7 @@
 -- The first field of a number, place by place.
 use Rattle.fit_profile.proofs.Common.{◌≡◌, ℕ, suc, ◌<◌, List, [], ◌∷◌, length, drop, get_or, ◌≤◌, drop_of_length-le, ap, ap₂, refl, sym, eq-eqb, ◌∙◌, add-one}
-use Rattle.fit_profile.proofs.Common.{drop-cons, false, drop-drop, Some, None, inl, inr, ne_eqb, Items, FieldDef, option_and_then, if◌then◌else◌, cases_Bool}
-use Rattle.fit_profile.proofs.Common.{first_items, only, only_byte, first_field}
+use Rattle.fit_profile.proofs.Common.{drop-cons, false, drop-drop, Some, None, inl, inr, ne_eqb, Items, FieldDef, cases_Bool}
+use Rattle.fit_profile.proofs.Common.{first_items, first_field}
 use Rattle.std.proofs.Common.{◌==◌}
 use Rattle.std.specs.Prelude.{option_map}
 
@@ -44,14 +44,4 @@ items_first (f ∷ fields) [] number = refl
 items_first (f ∷ fields) (i ∷ items) number = elim (cases_Bool (f.number == number)) [
   | inl found ↦ rw found refl
   | inr other ↦ rw other (items_first fields items number)
-]
-
--- the only item of the first field, by that field
-pub only_byte_first : {A : Type 0} (fields : List FieldDef) (items : List (Items A)) (number : ℕ)
-    → only_byte fields items number ≡ option_and_then (λ f. if f.1.width == 1 then only f.1.bits else None) (first_field fields items number)
-only_byte_first [] items number = refl
-only_byte_first (f ∷ fields) [] number = refl
-only_byte_first (f ∷ fields) (i ∷ items) number = elim (cases_Bool (f.number == number)) [
-  | inl found ↦ rw found refl
-  | inr other ↦ rw other (only_byte_first fields items number)
 ]

@@ -76,8 +76,7 @@ given (Some x) index number before = cond (is_key x.key index number) x.texts be
 
 described-helper : (A : Type 0) (q : Option Description) (nm : Naming) (index number : ℕ) (before : Naming)
     → unwrap_or (option_and_then (λ s. if s.key.index == index && s.key.number == number then Some nm else None) q) before
-    ≡ given {A = A} (option_map (λ k. record { key = k; texts = nm }) (option_map (λ s. record { index = s.key.index; number = s.key.number }) q)) index number
-    before
+    ≡ given {A = A} (option_map (λ s. record { key = s.key; texts = nm }) q) index number before
 unfolding given
 described-helper A None nm index number before = refl
 described-helper A (Some s) nm index number before = or-kept (s.key.index == index && s.key.number == number) nm before None

@@ -1,10 +1,10 @@
 -- What is kept for a developer field, by its key.
 use Rattle.fit_profile.proofs.Common.{◌≡◌, ◌∙◌, ℕ, Bool, true, false, cond, Option, Some, None, refl, sym, ap, ap₂, inl, inr, arith, lt-ltb, le-ltb, eq-eqb}
 use Rattle.fit_profile.proofs.Common.{Ordering, Less, is_some, unwrap_or, nat_cmp, ordering_then, is_eq, get, is_at, Updates, BTreeMap, cases_lt, cases_eq}
-use Rattle.fit_profile.proofs.Common.{ne_eqb, and_parts, key_cmp, is_key}
+use Rattle.fit_profile.proofs.Common.{ne_eqb, and_parts, dev_key_cmp, is_key}
 use Rattle.std.proofs.Common.{eqb-true}
 use Rattle.std.specs.Prelude.{◌==◌, ◌&&◌}
-use Rattle.fit_profile.specs.declared.names.FieldKey.{FieldKey}
+use Rattle.fit_record.specs.declared.learn.DevKey.{DevKey}
 
 equal-is : (a b : ℕ) → is_eq (nat_cmp a b) ≡ (a == b)
 equal-is a b = elim (cases_lt a b) [
@@ -19,11 +19,11 @@ both-equal : (c o : Ordering) → is_eq (ordering_then c o) ≡ (is_eq c && is_e
 both-equal Less o = refl
 both-equal _ o = refl
 
-at-key : (key : FieldKey) (index number : ℕ) → is_at (key_cmp key) (record { index = index; number = number }) ≡ is_key key index number
+at-key : (key : DevKey) (index number : ℕ) → is_at (dev_key_cmp key) (record { index = index; number = number }) ≡ is_key key index number
 at-key key index number =
     both-equal (nat_cmp key.index index) (nat_cmp key.number number) ∙ ap₂ (λ a b. a && b) (equal-is key.index index) (equal-is key.number number)
 
-key-is : (key : FieldKey) (index number : ℕ) → is_key key index number ≡ true → record { index = index; number = number } ≡ key
+key-is : (key : DevKey) (index number : ℕ) → is_key key index number ≡ true → record { index = index; number = number } ≡ key
 key-is key index number e =
     let same = and_parts (key.index == index) (key.number == number) e in
     let i : key.index ≡ index = eqb-true key.index index same.0 in
@@ -39,11 +39,11 @@ pub map-updated : {K X : Type 0} (cmp : K → K → Ordering) (m n : BTreeMap K 
     → unwrap_or (get cmp n q) none ≡ cond b x (unwrap_or (get cmp m q) none)
 map-updated cmp m n key q x none b at u = ap (λ o. unwrap_or o none) (u.0 q ∙ ap (λ t. cond t (Some x) (get cmp m q)) at) ∙ or-kept b x none (get cmp m q)
 
-pub naming-updated : {X : Type 0} (m n : BTreeMap FieldKey X) (key : FieldKey) (x none : X) → Updates key_cmp m n key (Some x) → (index number : ℕ)
-    → unwrap_or (get key_cmp n (record { index = index; number = number })) none
-    ≡ cond (is_key key index number) x (unwrap_or (get key_cmp m (record { index = index; number = number })) none)
+pub naming-updated : {X : Type 0} (m n : BTreeMap DevKey X) (key : DevKey) (x none : X) → Updates dev_key_cmp m n key (Some x) → (index number : ℕ)
+    → unwrap_or (get dev_key_cmp n (record { index = index; number = number })) none
+    ≡ cond (is_key key index number) x (unwrap_or (get dev_key_cmp m (record { index = index; number = number })) none)
 naming-updated m n key x none u index number =
-    map-updated key_cmp m n key (record { index = index; number = number }) x none (is_key key index number) (at-key key index number) u
+    map-updated dev_key_cmp m n key (record { index = index; number = number }) x none (is_key key index number) (at-key key index number) u
 
 pub place-updated : {X : Type 0} (m n : BTreeMap ℕ X) (local l : ℕ) (x none : X) → Updates nat_cmp m n local (Some x)
     → unwrap_or (get nat_cmp n l) none ≡ cond (local == l) x (unwrap_or (get nat_cmp m l) none)
@@ -60,11 +60,11 @@ pub place-reserved : {X : Type 0} (m n : BTreeMap ℕ X) (local l : ℕ) (none :
     → unwrap_or (get nat_cmp n l) none ≡ unwrap_or (get nat_cmp m l) none
 place-reserved m n local l none = map-reserved nat_cmp m n local l none (local == l) (equal-is local l) (λ e. sym (eqb-true local l e))
 
-pub naming-reserved : {X : Type 0} (m n : BTreeMap FieldKey X) (key : FieldKey) (none : X) → Updates key_cmp m n key (Some none) → get key_cmp m key ≡ None
+pub naming-reserved : {X : Type 0} (m n : BTreeMap DevKey X) (key : DevKey) (none : X) → Updates dev_key_cmp m n key (Some none) → get dev_key_cmp m key ≡ None
     → (index number : ℕ)
-    → unwrap_or (get key_cmp n (record { index = index; number = number })) none ≡ unwrap_or (get key_cmp m (record { index = index; number = number })) none
+    → unwrap_or (get dev_key_cmp n (record { index = index; number = number })) none ≡ unwrap_or (get dev_key_cmp m (record { index = index; number = number })) none
 naming-reserved m n key none u absent index number =
-    map-reserved key_cmp m n key (record { index = index; number = number }) none (is_key key index number) (at-key key index number)
+    map-reserved dev_key_cmp m n key (record { index = index; number = number }) none (is_key key index number) (at-key key index number)
     (key-is key index number) u absent
 
 -- a key that isn't held has nothing

@@ -1,12 +1,12 @@
 //! What a stream takes in of a record: its environment, and the names and units of developer fields.
-ghost use Rattle.std.specs.Prelude.{◌≡◌, ℕ, OnOk, OnErr, IfOk, option_and_then};
+ghost use Rattle.std.specs.Prelude.{◌≡◌, ℕ, OnOk, OnErr, IfOk, IsSomeAnd, option_and_then};
 ghost use Rattle.fit_record.specs.Environment.{defined_at, learn};
-ghost use Rattle.fit_record.specs.Records.{Fits};
+ghost use Rattle.fit_record.specs.Records.{DataFits, Fits};
 ghost use Rattle.fit_record.specs.declared.message.Record.TheVariants.{Define, Values as Data};
 ghost use Rattle.fit_profile.specs.Described.{naming_after, namings_after};
 ghost use Rattle.fit_profile.specs.inner.Keeps.{described, naming_in, namings_in};
 
-use crate::names::{Described, Names, described_by};
+use crate::names::{Described, Names, texts_of};
 use fit_record::{Env, MessageDef, Record, Values};
 use std::alloc::{AllocError, Allocator};
 
@@ -43,13 +43,21 @@ fn described_in<A: Allocator + Copy>(
     alloc: A,
     values: &Values<A>,
 ) -> Result<Option<Described<A>>, AllocError>
+    requires { IsSomeAnd (defined_at env.now values.now.local) (DataFits values.now) }
     ensures { IfOk result (λ o. o ≡ option_and_then (λ p. described p.definition values.now)
         (defined_at env.now values.now.local)) }
 {
-    match env.defined(values.local) {
-        Some(defined) => described_by(alloc, &defined.definition, values),
-        None => Ok(None),
-    }
+    let Some(defined) = env.defined(values.local) else {
+        return Ok(None);
+    };
+    let Some(description) = env.described_by(values) else {
+        return Ok(None);
+    };
+    let texts = texts_of(alloc, &defined.definition, values)?;
+    Ok(Some(Described {
+        key: description.key,
+        texts,
+    }))
 }
 
 /// Takes a data message in: a field description gives a developer field its name and its unit.

@@ -3,25 +3,16 @@ ghost use Rattle.std.specs.Prelude.{◌≡◌, ◌==◌, IfOk, OnOk, IsSome, ℕ
 ghost use Rattle.std.specs.BTreeMap.{get};
 ghost use Rattle.std.specs.Ordering.{nat_cmp};
 ghost use Rattle.std.specs.String.{string_bytes};
-ghost use Rattle.fit_record.specs.Environment.{dev_defs, only_byte};
+ghost use Rattle.fit_record.specs.Environment.{dev_defs, dev_key_cmp};
 ghost use Rattle.fit_profile.specs.Described.{naming, nameless};
-ghost use Rattle.fit_profile.specs.inner.Keeps.{described, described_key, is_key, key_cmp, naming_in, namings_in};
+ghost use Rattle.fit_profile.specs.inner.Keeps.{is_key, naming_in, namings_in};
 
-use crate::look::{first_of, only_item};
-use crate::message_number::FIELD_DESCRIPTION;
 use crate::text::text_field;
 use fit_base::Entries;
-use fit_record::{DevDef, MessageDef, Values};
+use fit_record::{DevDef, DevKey, MessageDef, Values};
 use std::alloc::{AllocError, Allocator, Global};
 use std::collections::BTreeMap;
 use std::marker::Model;
-
-/// A developer field by its developer data index and its number, as the items of a description.
-#[derive(Clone, Copy, PartialEq, Eq, PartialOrd, Ord)]
-pub(crate) struct FieldKey {
-    pub index: u64,
-    pub number: u64,
-}
 
 /// The name and the unit of a developer field. A contract sees them as lists of bytes.
 #[derive(Drop)]
@@ -45,7 +36,7 @@ impl<A: Allocator> Model for Texts<A> {
 /// type.
 #[derive(Drop)]
 pub(crate) struct Names<A: Allocator = Global> {
-    pub described: BTreeMap<FieldKey, Texts<A>, A>,
+    pub described: BTreeMap<DevKey, Texts<A>, A>,
     pub places: BTreeMap<u8, Entries<Texts<A>, A>, A>,
     pub alloc: A,
 }
@@ -53,7 +44,7 @@ pub(crate) struct Names<A: Allocator = Global> {
 /// A developer field that a message describes.
 #[derive(Drop)]
 pub(crate) struct Described<A: Allocator> {
-    pub key: FieldKey,
+    pub key: DevKey,
     pub texts: Texts<A>,
 }
 
@@ -121,41 +112,8 @@ impl<A: Allocator + Copy> Texts<A> {
     }
 }
 
-/// The only item of the first field of this number, where it has width 1.
-#[tactic(auto, using(crate::proofs::FirstField::only_byte_first))]
-fn only_byte<A: Allocator>(
-    definition: &MessageDef<A>,
-    values: &Values<A>,
-    number: u8,
-) -> Option<u64>
-    ensures { result ≡ only_byte definition.now.fields values.now.fields number }
-{
-    let (_, items) = first_of(
-        definition.fields.as_slice(),
-        values.fields.as_slice(),
-        number,
-    )?;
-    if items.width != 1 {
-        return None;
-    }
-    only_item(items.bits.as_slice())
-}
-
-/// The developer field that a message describes.
-fn key_of<A: Allocator>(definition: &MessageDef<A>, values: &Values<A>) -> Option<FieldKey>
-    ensures { result ≡ described_key definition.now values.now }
-{
-    if definition.global != FIELD_DESCRIPTION {
-        return None;
-    }
-    let index = only_byte(definition, values, 0)?;
-    let number = only_byte(definition, values, 1)?;
-    let _code = only_byte(definition, values, 2)?;
-    Some(FieldKey { index, number })
-}
-
 /// The name and the unit that a field description gives.
-fn texts_of<A: Allocator + Copy>(
+pub(crate) fn texts_of<A: Allocator + Copy>(
     alloc: A,
     definition: &MessageDef<A>,
     values: &Values<A>,
@@ -165,23 +123,6 @@ fn texts_of<A: Allocator + Copy>(
     let name = text_field(alloc, definition, values, 3)?;
     let unit = text_field(alloc, definition, values, 8)?;
     Ok(Texts { name, unit })
-}
-
-/// The developer field that a message describes, with its name and its unit.
-pub(crate) fn described_by<A: Allocator + Copy>(
-    alloc: A,
-    definition: &MessageDef<A>,
-    values: &Values<A>,
-) -> Result<Option<Described<A>>, AllocError>
-    ensures { IfOk result (λ o. o ≡ described definition.now values.now) }
-{
-    match key_of(definition, values) {
-        None => Ok(None),
-        Some(key) => {
-            let texts = texts_of(alloc, definition, values)?;
-            Ok(Some(Described { key, texts }))
-        }
-    }
 }
 
 impl<A: Allocator> Names<A> {
@@ -220,9 +161,9 @@ impl<A: Allocator + Copy> Names<A> {
     fn texts_at(&self, field: DevDef) -> Result<Texts<A>, AllocError>
         ensures { IfOk result (λ texts. texts ≡ naming_in self.now field.index field.number) }
     {
-        let key = FieldKey {
-            index: u64::from(field.index),
-            number: u64::from(field.number),
+        let key = DevKey {
+            index: field.index,
+            number: field.number,
         };
         match self.described.get(&key) {
             Some(texts) => texts.copy(self.alloc),
@@ -282,11 +223,11 @@ impl<A: Allocator + Copy> Names<A> {
     }
 
     /// Takes memory for what will be described. No name or unit changes.
-    pub fn reserve(&mut self, key: FieldKey) -> Result<(), AllocError>
+    pub fn reserve(&mut self, key: DevKey) -> Result<(), AllocError>
         ensures naming { (index number : ℕ) → naming_in self.new index number
             ≡ naming_in self.old index number }
         ensures namings { (local : ℕ) → namings_in self.new local ≡ namings_in self.old local }
-        ensures held { OnOk result (IsSome (get key_cmp self.new.described key)) }
+        ensures held { OnOk result (IsSome (get dev_key_cmp self.new.described key)) }
     {
         if !self.described.contains_key(&key) {
             self.described.insert(key, Texts::none())?;
@@ -295,8 +236,8 @@ impl<A: Allocator + Copy> Names<A> {
     }
 
     /// Keeps the name and the unit of a developer field.
-    pub fn set(&mut self, key: FieldKey, texts: Texts<A>)
-        requires { IsSome (get key_cmp self.old.described key) }
+    pub fn set(&mut self, key: DevKey, texts: Texts<A>)
+        requires { IsSome (get dev_key_cmp self.old.described key) }
         ensures naming { (index number : ℕ) → naming_in self.new index number
             ≡ (if is_key key index number then texts else naming_in self.old index number) }
         ensures namings { (local : ℕ) → namings_in self.new local ≡ namings_in self.old local }

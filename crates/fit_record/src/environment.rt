@@ -111,6 +111,16 @@ impl<A: Allocator> Env<A> {
         }
     }
 
+    /// The developer field that a data message describes, and the base type code that it gives it ("Developer Fields"). A message
+    /// that isn't a field description describes none.
+    pub fn described_by(&self, v: &Values<A>) -> Option<Description>
+        requires { IsSomeAnd (defined_at self.now v.now.local) (DataFits v.now) }
+        ensures { result ≡ described_by self.now v.now }
+    {
+        let p = self.defined(v.local)?;
+        description_of(&p.definition, v)
+    }
+
     /// The length of a record's bytes, or the first fault for which it can't be next, in the order of
     /// `ShapeFault`.
     pub fn fits(&self, r: &Record<A>) -> Result<u32, ShapeFault>
@@ -176,15 +186,6 @@ impl<A: Allocator + Copy> Env<A> {
             None => Ok(()),
             Some(s) => self.describe(s),
         }
-    }
-
-    /// What a data message describes.
-    fn described_by(&self, v: &Values<A>) -> Option<Description>
-        requires { IsSomeAnd (defined_at self.now v.now.local) (DataFits v.now) }
-        ensures { result ≡ described_by self.now v.now }
-    {
-        let p = self.defined(v.local)?;
-        description_of(&p.definition, v)
     }
 
     /// Keeps the base type code of a developer field.

@@ -13,14 +13,18 @@ pub const FIELD_DESCRIPTION: u16 = 206;
 /// A developer field by its developer data index and its number.
 #[derive(Clone, Copy, Debug, PartialEq, Eq, PartialOrd, Ord)]
 pub struct DevKey {
+    /// The developer data index.
     pub index: u8,
+    /// The number of the field among those of this index.
     pub number: u8,
 }
 
 /// The base type code that a message describes for a developer field.
 #[derive(Clone, Copy, Debug, PartialEq, Eq)]
 pub struct Description {
+    /// The developer field.
     pub key: DevKey,
+    /// Its base type code.
     pub code: u8,
 }
 

@@ -18,6 +18,6 @@ pub use environment::{Defined, Env};
 pub use file::{CHAIN_LIMIT, FitFile};
 pub use fits::ShapeFault;
 pub use held::entry_count;
-pub use learn::FIELD_DESCRIPTION;
+pub use learn::{Description, DevKey, FIELD_DESCRIPTION};
 pub use message::{Record, Values};
 pub use unfinished::can_complete_front;

@@ -1,13 +1,12 @@
 -- What a stream keeps of the records so far. No public contract names these definitions.
 use Rattle.std.specs.Prelude.{◌≡◌, ℕ, ◌==◌, ◌&&◌, Bool, List, [], Option, option_map, unwrap_or}
-use Rattle.std.specs.Ordering.{nat_cmp, ordering_then}
-use Rattle.std.specs.declared.cmp.Ordering.{Ordering}
+use Rattle.std.specs.Ordering.{nat_cmp}
 use Rattle.std.specs.BTreeMap.{get}
 use Rattle.fit_record.specs.declared.message.Record.{Record}
 use Rattle.fit_record.specs.declared.definition.MessageDef.{MessageDef}
 use Rattle.fit_record.specs.declared.message.Values.{Values}
-use Rattle.fit_record.specs.Environment.{Environment, description}
-use Rattle.fit_profile.specs.declared.names.FieldKey.{FieldKey}
+use Rattle.fit_record.specs.declared.learn.DevKey.{DevKey}
+use Rattle.fit_record.specs.Environment.{Environment, description, dev_key_cmp}
 use Rattle.fit_profile.specs.declared.names.Described.{Described}
 use Rattle.fit_profile.specs.declared.names.Names.{Names}
 use Rattle.fit_profile.specs.declared.told.Last.{Last}
@@ -15,25 +14,17 @@ use Rattle.fit_profile.specs.Looks.{known}
 use Rattle.fit_profile.specs.Told.{last_of}
 use Rattle.fit_profile.specs.Described.{Naming, nameless, naming, naming_of, namings_at}
 
--- the developer field that a message describes
-abbrev pub described_key : {A : Type 0} → MessageDef A → Values A → Option FieldKey
-described_key d v = option_map (λ s. record { index = s.key.index; number = s.key.number }) (description d v)
-
--- the same with its name and its unit
+-- the developer field that a message describes, with its name and its unit
 abbrev pub described : {A : Type 0} → MessageDef A → Values A → Option (Described A)
-described d v = option_map (λ k. record { key = k; texts = naming d v }) (described_key d v)
+described d v = option_map (λ s. record { key = s.key; texts = naming d v }) (description d v)
 
 -- this is the developer field of that index and number
-abbrev pub is_key : FieldKey → ℕ → ℕ → Bool
+abbrev pub is_key : DevKey → ℕ → ℕ → Bool
 is_key key index number = key.index == index && key.number == number
-
--- by developer data index, and then by number
-abbrev pub key_cmp : FieldKey → FieldKey → Ordering
-key_cmp a b = ordering_then (nat_cmp a.index b.index) (nat_cmp a.number b.number)
 
 -- the name and the unit that are kept for a developer field
 abbrev pub naming_in : {A : Type 0} → Names A → ℕ → ℕ → Naming
-naming_in names index number = unwrap_or (get key_cmp names.described (record { index = index; number = number })) nameless
+naming_in names index number = unwrap_or (get dev_key_cmp names.described (record { index = index; number = number })) nameless
 
 -- those that are kept for the developer fields of a local message type
 abbrev pub namings_in : {A : Type 0} → Names A → ℕ → List Naming
