@@ -1,7 +1,7 @@
 -- How the first wrong place is found by going over the fields.
 use Rattle.fit_record.proofs.Common.{◌≡◌, ℕ, zero, suc, ◌+◌, ◌<◌, ◌≤◌, Bool, true, false, cond, List, [], ◌∷◌, length, drop, get_or, refl, sym, ap, ◌∙◌, arith}
 use Rattle.fit_record.proofs.Common.{◌↔◌, IsTrue, Some, None, ltb, ltb-true, ltb-false, slice_get, zip, slice_get_read, drop_all, length-drop, Items, HasShape}
-use Rattle.fit_record.proofs.Common.{has_shape, test_of_shape, shape_of_test, is_has_shape, FieldDef, DevDef, HaveShape, wrong_from, map, Option}
+use Rattle.fit_record.proofs.Common.{has_shape, test_of_shape, shape_of_test, is_has_shape, DevDef, HaveShape, wrong_from, map, Option}
 use Rattle.fit_record.proofs.FirstOfNumber.{dropped}
 
 pub wrong_none : {A : Type 0} (p : ℕ) (fs : List (ℕ × ℕ)) (is : List (Items A)) → HaveShape fs is → wrong_from p fs is ≡ None
@@ -55,21 +55,10 @@ pub surplus : {A : Type 0} (p k : ℕ) (fs : List (ℕ × ℕ)) (is : List (Item
 surplus p k fs is e h =
     ap (λ xs. wrong_from p xs (drop k is)) (drop_all k fs (omega (arith, e))) ∙ too_many p (drop k is) (omega (arith, length-drop k is))
 
--- all fields gone over
-pub passed : {A : Type 0} (p k : ℕ) (fs : List (ℕ × ℕ)) (is : List (Items A)) → k ≡ length fs → k ≡ length is → wrong_from p (drop k fs) (drop k is) ≡ None
-passed p k fs is e h = ap (λ xs. wrong_from p xs (drop k is)) (drop_all k fs (omega (arith, e))) ∙ ap (wrong_from p []) (drop_all k is (omega (arith, h)))
-
 pub not_found : {X : Type 0} (xs : List X) (k : ℕ) → false ≡ ltb k (length xs) → length xs ≤ k
 not_found xs k h = ltb-false k (length xs) (sym h)
 
--- ---- layouts
-
-pub field_at : (fs : List FieldDef) (k : ℕ) → k < length fs
-    → slice_get {X = ℕ × ℕ} (map (λ f. (f.code, f.size)) fs) k
-    ≡ Some ((get_or fs k (record { number = 0; size = 0; code = 0 })).code, (get_or fs k (record { number = 0; size = 0; code = 0 })).size)
-field_at [] k h = absurd (omega arith)
-field_at (f ∷ fs) zero h = refl
-field_at (f ∷ fs) (suc k) h = field_at fs k (omega arith)
+-- ---- developer fields
 
 pub dev_field_at : (codes : List ℕ) (fs : List DevDef) (k : ℕ) → length codes ≡ length fs → k < length fs
     → slice_get {X = ℕ × ℕ} (zip codes (map (λ f. f.size) fs)) k ≡ Some (get_or codes k 0, (get_or fs k (record { number = 0; size = 0; index = 0 })).size)

@@ -1,13 +1,13 @@
 //! Whether a record can be next in an environment, and how long its bytes are.
-ghost use Rattle.std.specs.Prelude.{◌≡◌, ℕ, ◌+◌, ◌<◌, ◌≤◌, IfOk, IfErr, OnOk, IfSome, Some, None, IsSomeAnd, length, map, zip};
+ghost use Rattle.std.specs.Prelude.{◌≡◌, ℕ, ◌+◌, ◌<◌, ◌≤◌, IfOk, IfErr, OnOk, IfSome, Some, None, IsSomeAnd, length};
 ghost use Rattle.fit_record.specs.Records.{DefinitionFits, DataHeaderFits, HaveShape, layout, dev_layout, DataFits, body_length};
-ghost use Rattle.fit_record.specs.Environment.{defined_at, dev_defs};
+ghost use Rattle.fit_record.specs.Environment.{defined_at};
 ghost use Rattle.fit_record.specs.Faults.{wrong_from, wrong_place, header_fault, body_fault, data_fault, definition_fault};
 ghost use Rattle.fit_record.specs.DefinitionLengths.{definition_length};
 ghost use Rattle.fit_record.specs.Sound.{IsSound};
 
 use crate::environment::Defined;
-use crate::{DevDef, Env, FieldDef, MessageDef, Values};
+use crate::{Env, Layout, MessageDef, Values};
 use fit_base::{Code, Items, has_shape};
 use std::alloc::Allocator;
 use thiserror::Error;
@@ -82,61 +82,25 @@ fn header_fits(local: u8, offset: Option<u8>) -> Result<(), ShapeFault>
     }
 }
 
-/// The first field that isn't as defined.
-fn wrong_field<A: Allocator>(fields: &[FieldDef], items: &[Items<A>]) -> Option<u64>
-    ensures { result ≡ wrong_from 0 (map (λ f. (f.code, f.size)) fields.now) items.now }
+/// The first field that isn't as defined, counted from `first`.
+fn wrong_field<A: Allocator>(first: u64, layout: &Layout<'_>, items: &[Items<A>]) -> Option<u64>
+    requires { first + length layout.now < 512 }
+    ensures { result ≡ wrong_from first layout.now items.now }
 {
-    for (place, f) in fields.iter().enumerate() {
-        let Some(i) = items.get(place) else {
-            return Some(place as u64);
-        };
-        if !has_shape(Code(f.code), f.size, i) {
-            return Some(place as u64);
-        }
-    }
-    if fields.len() < items.len() {
-        return Some(fields.len() as u64);
-    }
-    None
-}
-
-/// The first developer field that isn't as defined, counted from `first`.
-fn wrong_dev_field<A: Allocator>(
-    first: u64,
-    codes: &[u8],
-    fields: &[DevDef],
-    items: &[Items<A>],
-) -> Option<u64>
-    requires codes { length codes.now ≡ length fields.now }
-    requires places { first + length fields.now < 512 }
-    ensures { result ≡ wrong_from first (zip codes.now (map (λ f. f.size) fields.now)) items.now }
-{
-    for (n, f) in fields.iter().enumerate() {
+    for n in 0..layout.len() {
         let place = first + n as u64;
+        let (code, size) = layout.slot(n);
         let Some(i) = items.get(n) else {
             return Some(place);
         };
-        if !has_shape(Code(codes[n]), f.size, i) {
+        if !has_shape(Code(code), size, i) {
             return Some(place);
         }
     }
-    if fields.len() < items.len() {
-        return Some(first + fields.len() as u64);
+    if layout.len() < items.len() {
+        return Some(first + layout.len() as u64);
     }
     None
-}
-
-/// The first developer field that isn't as defined, counted on from the number of fields.
-fn wrong_dev<A: Allocator>(p: &Defined<A>, items: &[Items<A>]) -> Option<u64>
-    requires { IsSound p.now }
-    ensures { result ≡ wrong_from (length p.now.definition.fields) (dev_layout p.now) items.now }
-{
-    let first = p.definition.fields.len() as u64;
-    let codes = p.dev_codes.as_slice();
-    match &p.definition.dev {
-        None => wrong_dev_field(first, codes, &[], items),
-        Some(fields) => wrong_dev_field(first, codes, fields.as_slice(), items),
-    }
 }
 
 /// Whether the items of a data message are as defined.
@@ -146,10 +110,11 @@ fn body_fits<A: Allocator>(p: &Defined<A>, v: &Values<A>) -> Result<(), ShapeFau
         × HaveShape (dev_layout p.now) v.now.dev) }
     ensures err { IfErr result (λ fault. body_fault (Some p.now) v.now ≡ Some fault) }
 {
-    if let Some(field) = wrong_field(p.definition.fields.as_slice(), v.fields.as_slice()) {
+    if let Some(field) = wrong_field(0, &p.layout(), v.fields.as_slice()) {
         return Err(ShapeFault::WrongShape { field });
     }
-    if let Some(field) = wrong_dev(p, v.dev.as_slice()) {
+    let fields = p.definition.fields.len() as u64;
+    if let Some(field) = wrong_field(fields, &p.dev_layout(), v.dev.as_slice()) {
         return Err(ShapeFault::WrongShape { field });
     }
     Ok(())
