@@ -9,13 +9,14 @@ pub use Rattle.std.proofs.lemmas.Bool.{cond-false, ne_eqb, both_ways, cases_Bool
 pub use Rattle.std.proofs.lemmas.Bool.{and_parts, and_cases, or_parts, not-true, not-false, cond-true, le-leb, ltb-true, or_cases, ltb-false, leb-true, lt-leb}
 pub use Rattle.std.proofs.lemmas.Bool.{or_left, or_right, and_from}
 pub use Rattle.std.proofs.lemmas.Bool.Decides.{nat_tests, eqb_tells}
-pub use Rattle.std.proofs.lemmas.List.{append-nil, flat_map_more, length-map, drop_more, drop-take, take-take, get_or-append_right, take_more, length-take-le}
-pub use Rattle.std.proofs.lemmas.List.{get_or-set_other, map-append, drop-map, drop-drop}
+pub use Rattle.std.proofs.lemmas.List.{append-nil, flat_map_more, length-map, drop-take, take-take, get_or-append_right, take_more, length-take-le}
+pub use Rattle.std.proofs.lemmas.List.{get_or-set_other, map-append, drop-drop}
 pub use Rattle.std.proofs.lemmas.List.Sums.{sum_by-cons, sum_by-append, sum_by-le}
 pub use Rattle.std.proofs.lemmas.Nat.{div-mul-add, le-div}
+pub use Rattle.std.proofs.lemmas.Option.{slice_get_within, get_or_from_slice_get}
 pub use Rattle.std.specs.Option.{option_map_or}
 pub use Rattle.std.specs.Prelude.{Option, IfSome, flat_map, option_map, unwrap_or, nat_lt, IsSomeAnd, zip, ◌&&◌, ◌||◌, not, nat_le, Result, option_and_then}
-pub use Rattle.std.specs.Prelude.{IsOk, IsSome, OnOk, OnErr, min, option_to_list, if◌then◌else◌, slice_set, map, sum_by, replicate}
+pub use Rattle.std.specs.Prelude.{IsOk, IsSome, OnOk, OnErr, min, option_to_list, if◌then◌else◌, slice_get, slice_set, map, sum_by, replicate}
 pub use Rattle.fit_base.proofs.ByteLists.{IsBytes-none, IsBytes-cons, IsBytes-tail, IsBytes-front, IsBytes-back, IsBytes-take, IsBytes-append, slice_is_bytes}
 pub use Rattle.fit_base.proofs.Bytes.{front_back, length-number_bytes, found_passes, both}
 pub use Rattle.fit_base.proofs.NumberLaws.{number_bytes-number, number-below}

@@ -1,7 +1,8 @@
 -- One number more of a field, and one field more of a data message.
 use Rattle.fit_step.proofs.Common.{◌≡◌, ℕ, suc, ◌+◌, ◌-◌, ◌*◌, ◌/◌, ◌<◌, List, [], ◌∷◌, ◌++◌, length, take, sym, ap, ◌∙◌, arith, append_assoc, refl}
-use Rattle.fit_step.proofs.Common.{length-drop, get_or, zip, suc-mul, append-nil, drop_more, drop-take, take-take, sum_by-cons, Items, Order, Little, Big}
-use Rattle.fit_step.proofs.Common.{number, DevDef, FieldDef, numbers_of, field_from, fields_from, sizes, ◌≤◌, drop, map, sum_by}
+use Rattle.fit_step.proofs.Common.{length-drop, suc-mul, append-nil, drop-take, take-take, sum_by-cons, Items, Order, Little, Big}
+use Rattle.fit_step.proofs.Common.{number, numbers_of, field_from, fields_from, sizes, ◌≤◌, drop, sum_by, Some, slice_get}
+use Rattle.fit_record.proofs.FirstOfNumber.{dropped}
 
 -- ---- numbers
 
@@ -40,21 +41,12 @@ one_wide o w bytes one =
 
 -- ---- fields
 
-abbrev pub pair : FieldDef → ℕ × ℕ
-pair f = (f.code, f.size)
-
 pub layout_more : {A : Type 0} (o : Order) (f : ℕ × ℕ) (here next : List (ℕ × ℕ)) (rest : List ℕ) (items all : List (Items A)) → here ≡ f ∷ next
     → items ++ fields_from o here rest ≡ all
     → (items ++ field_from o f (take f.1 rest) ∷ []) ++ fields_from o next (drop f.1 rest) ≡ all
 layout_more o f here next rest items all more told =
     append_assoc items (field_from o f (take f.1 rest) ∷ []) (fields_from o next (drop f.1 rest))
     ∙ ap (λ l. items ++ fields_from o l rest) (sym more) ∙ told
-
-pub layout_left : (f : ℕ × ℕ) (here next : List (ℕ × ℕ)) (rest : List ℕ) → here ≡ f ∷ next → length rest ≡ sizes here
-    → (f.1 ≤ length rest) × (length (drop f.1 rest) ≡ sizes next)
-layout_left f here next rest more long =
-    let all : length rest ≡ f.1 + sizes next = long ∙ ap sizes more ∙ sum_by-cons (λ (g : ℕ × ℕ). g.1) f next in
-    (omega (arith, all), length-drop f.1 rest ∙ (let left : length rest - f.1 ≡ sizes next = omega (arith, all) in left))
 
 -- only the bytes of the fields count
 pub fields_front : {A : Type 0} (o : Order) (fs : List (ℕ × ℕ)) (bytes : List ℕ) → fields_from {A = A} o fs bytes ≡ fields_from o fs (take (sizes fs) bytes)
@@ -68,17 +60,5 @@ fields_front {A} o (f ∷ fs) bytes =
     ∙ ap (λ n. fields_from o (f ∷ fs) (take n bytes)) (sym all)
 
 -- the bytes of the fields from place k on are those of the field there, and of those behind it
-pub sizes_more : (fields : List FieldDef) (k : ℕ) (none : FieldDef) → k < length fields
-    → sum_by (λ f. f.size) (drop k fields) ≡ (get_or fields k none).size + sum_by (λ f. f.size) (drop (k + 1) fields)
-sizes_more fields k none less =
-    ap (sum_by (λ (f : FieldDef). f.size)) (drop_more fields k none less) ∙ sum_by-cons (λ (f : FieldDef). f.size) (get_or fields k none) (drop (k + 1) fields)
-
--- ---- developer fields
-
--- code and size of each
-abbrev pub coded : List ℕ → List DevDef → List (ℕ × ℕ)
-coded codes fields = zip codes (map (λ (f : DevDef). f.size) fields)
-
-pub next_coded : (codes : List ℕ) (fields : List DevDef) (k : ℕ) (none : DevDef) → length codes ≡ length fields → k < length fields
-    → coded (drop k codes) (drop k fields) ≡ (get_or codes k 0, (get_or fields k none).size) ∷ coded (drop (k + 1) codes) (drop (k + 1) fields)
-next_coded codes fields k none same less = λ i. coded (drop_more codes k 0 (omega (arith, same, less)) i) (drop_more fields k none less i)
+pub sizes_more : (slots : List (ℕ × ℕ)) (k : ℕ) (f : ℕ × ℕ) → slice_get slots k ≡ Some f → sizes (drop k slots) ≡ f.1 + sizes (drop (k + 1) slots)
+sizes_more slots k f at = ap sizes (dropped slots k f at) ∙ sum_by-cons (λ (g : ℕ × ℕ). g.1) f (drop (k + 1) slots)

@@ -1,47 +1,30 @@
--- Developer fields, whose codes and sizes stand in two lists, and the search for the next field that has bytes.
-use Rattle.fit_step.proofs.Common.{◌≡◌, inl, inr, ℕ, zero, suc, ◌+◌, ◌<◌, List, [], ◌∷◌, ◌++◌, length, take, get_or, set, refl, ap, ◌∙◌, subst, arith, Some}
-use Rattle.fit_step.proofs.Common.{None, Ok, Err, Option, Result, OnOk, OnErr, zip, Items, cond-true, eq-eqb, cases_Bool, DevDef, Data, Values, FieldItems}
+-- The search for the next field that has bytes, and a field or a number more.
+use Rattle.fit_step.proofs.Common.{◌≡◌, inl, inr, ℕ, zero, suc, ◌+◌, ◌<◌, List, [], ◌∷◌, ◌++◌, take, get_or, set, refl, ap, ◌∙◌, arith, Some}
+use Rattle.fit_step.proofs.Common.{None, Ok, Err, Option, Result, OnOk, OnErr, Items, cond-true, eq-eqb, cases_Bool, Data, Values, FieldItems}
 use Rattle.fit_step.proofs.Common.{DevItems, NextState, start, reading, no_items, add_number, begin_dev, begin_fields, next_with_bytes, map-append, drop, map}
-use Rattle.fit_step.proofs.Common.{◌==◌, ◌≤◌}
-use Rattle.fit_step.proofs.Gathering.{next_coded}
+use Rattle.fit_step.proofs.Common.{◌==◌, ◌≤◌, cond-false, ne_eqb, item_width, take_more, slice_get, slice_get_within, get_or_from_slice_get}
+use Rattle.fit_record.proofs.FirstOfNumber.{dropped}
 
--- code and size of each developer field
-abbrev pub coded : List ℕ → List DevDef → List (ℕ × ℕ)
-coded codes fields = zip codes (map (λ f. f.size) fields)
+-- a field without bytes is passed by
+pub passed_by : (slots : List (ℕ × ℕ)) (k : ℕ) (f : ℕ × ℕ) → slice_get slots k ≡ Some f → f.1 ≤ 0
+    → next_with_bytes k (drop k slots) ≡ next_with_bytes (k + 1) (drop (k + 1) slots)
+passed_by slots k f at none =
+    let next : suc k ≡ k + 1 = omega arith in
+    ap (next_with_bytes k) (dropped slots k f at) ∙ cond-true (f.1 == 0) _ _ (eq-eqb f.1 0 (omega (arith, none)))
+    ∙ ap (λ n. next_with_bytes n (drop (k + 1) slots)) next
 
--- a developer field without bytes is passed by
-pub passed_by : (codes : List ℕ) (fields : List DevDef) (i : ℕ) (d : DevDef) → length codes ≡ length fields → i < length fields → (get_or fields i d).size ≤ 0
-    → next_with_bytes i (coded (drop i codes) (drop i fields)) ≡ next_with_bytes (i + 1) (coded (drop (i + 1) codes) (drop (i + 1) fields))
-passed_by codes fields i d same below none =
-    let next : suc i ≡ i + 1 = omega arith in
-    ap (next_with_bytes i) (next_coded codes fields i d same below)
-    ∙ cond-true ((get_or fields i d).size == 0) _ _ (eq-eqb (get_or fields i d).size 0 (omega (arith, none)))
-    ∙ ap (λ n. next_with_bytes n (coded (drop (i + 1) codes) (drop (i + 1) fields))) next
+-- one with bytes is the next
+pub next_at : (slots : List (ℕ × ℕ)) (k : ℕ) (f : ℕ × ℕ) → slice_get slots k ≡ Some f → 0 < f.1
+    → next_with_bytes k (drop k slots) ≡ Some (k, item_width f.0 f.1, f.1)
+next_at slots k f at some = ap (next_with_bytes k) (dropped slots k f at) ∙ cond-false (f.1 == 0) _ _ (ne_eqb f.1 0 (λ e. absurd (omega (arith, e, some))))
 
-one_more : (codes : List ℕ) (fields : List DevDef) (i c : ℕ) (d : DevDef) → length codes ≡ length fields → i < length fields
-    → coded (take (suc i) codes) (take (suc i) fields) ≡ coded (take i codes) (take i fields) ++ (get_or codes i c, (get_or fields i d).size) ∷ []
-one_more (b ∷ cs) (g ∷ gs) zero c d same below = refl
-one_more (b ∷ cs) (g ∷ gs) (suc i) c d same below = ap (λ l. (b, g.size) ∷ l) (one_more cs gs i c d (omega arith) (omega arith))
-one_more codes fields i c d same below = absurd (omega arith)
-
--- one developer field more, without items
-pub one_more_field : {A : Type 0} (codes : List ℕ) (fields : List DevDef) (i c : ℕ) (d : DevDef) → length codes ≡ length fields → i < length fields
-    → map (no_items {A = A}) (coded (take (i + 1) codes) (take (i + 1) fields))
-    ≡ map no_items (coded (take i codes) (take i fields)) ++ no_items (get_or codes i c, (get_or fields i d).size) ∷ []
-one_more_field {A} codes fields i c d same below =
-    subst (λ n. map (no_items {A = A}) (coded (take n codes) (take n fields))
-    ≡ map no_items (coded (take i codes) (take i fields)) ++ no_items (get_or codes i c, (get_or fields i d).size) ∷ [])
-    (let next : suc i ≡ i + 1 = omega arith in next)
-    (ap (map no_items) (one_more codes fields i c d same below)
-    ∙ map-append no_items (coded (take i codes) (take i fields)) ((get_or codes i c, (get_or fields i d).size) ∷ []))
-
-pub drop_coded : (codes : List ℕ) (fields : List DevDef) (n : ℕ) → length codes ≡ length fields
-    → drop n (coded codes fields) ≡ coded (drop n codes) (drop n fields)
-drop_coded [] [] zero same = refl
-drop_coded [] [] (suc n) same = refl
-drop_coded (c ∷ cs) (g ∷ gs) zero same = refl
-drop_coded (c ∷ cs) (g ∷ gs) (suc n) same = drop_coded cs gs n (omega arith)
-drop_coded codes fields n same = absurd (omega arith)
+-- one field more, without items
+pub one_more_field : {A : Type 0} (slots : List (ℕ × ℕ)) (k : ℕ) (f : ℕ × ℕ) → slice_get slots k ≡ Some f
+    → map (no_items {A = A}) (take (k + 1) slots) ≡ map no_items (take k slots) ++ no_items f ∷ []
+one_more_field slots k f at =
+    ap (map no_items)
+    (take_more slots k f (slice_get_within slots k f at) ∙ ap (λ x. take k slots ++ x ∷ []) (get_or_from_slice_get slots k f f at))
+    ∙ map-append no_items (take k slots) (f ∷ [])
 
 -- ---- a number more in a field
 

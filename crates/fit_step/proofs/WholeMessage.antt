@@ -1,21 +1,16 @@
 -- A data message read at once is the record that its bytes end.
 use Rattle.fit_step.proofs.Common.{◌≡◌, cond, ℕ, zero, suc, ◌+◌, ◌-◌, ◌%◌, ◌<◌, true, false, List, ◌∷◌, length, take, sym, ap, ◌∙◌, subst, arith, Some, None}
 use Rattle.fit_step.proofs.Common.{length-drop, Option, nat_le, ◌&&◌, IsSomeAnd, option_map, unwrap_or, option_map_or, leb-true, length-take-le, Items, Little}
-use Rattle.fit_step.proofs.Common.{IsBytes, both, IsBytes-take, IsBytes-cons, IsBytes-tail, FieldDef, Defined, Data, Values, Environment, defined_at, learn}
+use Rattle.fit_step.proofs.Common.{IsBytes, both, IsBytes-take, IsBytes-cons, IsBytes-tail, Defined, Data, Values, Environment, defined_at, learn}
 use Rattle.fit_step.proofs.Common.{CanFill, is_compressed, is_definition, has_reserved_bit, local_type, fields_from, values_from, sizes, layout, dev_layout}
 use Rattle.fit_step.proofs.Common.{message_size, data_header, data_bytes, DataFits, Fits, order_at, IsRecord, can_fill, fills, has_length, can_carry}
-use Rattle.fit_step.proofs.Common.{can_fill_after_data, start, Ends, tests_of, ◌≤◌, drop, sum_by}
+use Rattle.fit_step.proofs.Common.{can_fill_after_data, start, Ends, tests_of, ◌≤◌, drop}
 use Rattle.fit_record.proofs.MessageBytes.{message_fits}
-use Rattle.fit_record.proofs.MessageSizes.{sum-fields}
 use Rattle.fit_step.proofs.TakenAndRefusedBytes.{records_end}
 use Rattle.fit_step.proofs.HeaderBits.{data_spelled}
 use Rattle.fit_step.proofs.Lengths.{message_sizes}
 
--- what is behind the bytes of the fields
-pub behind_fields : {A : Type 0} (p : Defined A) (fields : List FieldDef) (bytes back : List ℕ) → fields ≡ p.definition.fields
-    → back ≡ drop (sum_by (λ f. f.size) fields) bytes → back ≡ drop (sizes (layout p)) bytes
-behind_fields p fields bytes back same is = is ∙ ap (λ n. drop n bytes) (ap (sum_by (λ (f : FieldDef). f.size)) same ∙ sym (sum-fields p.definition.fields))
-
+-- behind the bytes of the fields are those of the developer fields
 pub left_for_dev : {A : Type 0} (p : Defined A) (bytes back : List ℕ) → length bytes ≡ message_size p → back ≡ drop (sizes (layout p)) bytes
     → length back ≡ sizes (dev_layout p)
 left_for_dev p bytes back long is = omega (arith, ap length is ∙ length-drop (sizes (layout p)) bytes, long, message_sizes p)

@@ -1,5 +1,5 @@
 //! The record header byte (FIT protocol, "Record Header").
-ghost use Rattle.std.specs.Prelude.{◌≡◌, ◌<◌, IfOk, IsOk, [], length, map, zip};
+ghost use Rattle.std.specs.Prelude.{◌≡◌, ◌<◌, IfOk, IsOk, length, map};
 ghost use Rattle.fit_record.specs.HeaderByte.{bit, is_compressed, is_definition, has_developer_fields, has_reserved_bit, local_type, time_offset};
 ghost use Rattle.fit_record.specs.Sound.{IsSound};
 ghost use Rattle.fit_record.specs.Records.{layout, dev_layout};
@@ -7,7 +7,7 @@ ghost use Rattle.fit_record.specs.Sizes.{HasNoFields};
 ghost use Rattle.fit_step.specs.Machine.{no_items, new_definition, new_message};
 
 use fit_base::{Bits, Code, Entries, Items, Order, width_of};
-use fit_record::{Defined, DevDef, FieldDef, MessageDef, Values};
+use fit_record::{Defined, Layout, MessageDef, Values};
 use std::alloc::{AllocError, Allocator};
 
 /// The bit of a data message with a time offset; a header without it is a normal one. Bits are counted from the lowest, 0.
@@ -122,16 +122,11 @@ pub(crate) fn new_message<A: Allocator + Copy>(
         (dev_layout defined.now)) }
     ensures free { HasNoFields defined.now.definition → IsOk result }
 {
-    let fields = empty_fields(alloc, defined.definition.fields.as_slice())?;
-    let dev = match &defined.definition.dev {
-        Some(dev) => empty_dev_fields(alloc, defined.dev_codes.as_slice(), dev.as_slice())?,
-        None => Entries::new(alloc),
-    };
     Ok(Values {
         local: local_type(byte),
         offset: time_offset(byte),
-        fields,
-        dev,
+        fields: empty_fields(alloc, &defined.layout())?,
+        dev: empty_fields(alloc, &defined.dev_layout())?,
     })
 }
 
@@ -149,39 +144,18 @@ fn empty_items<A: Allocator>(alloc: A, code: u8, size: u8) -> Result<Items<A>, A
 /// Fields without items.
 fn empty_fields<A: Allocator + Copy>(
     alloc: A,
-    fields: &[FieldDef],
+    layout: &Layout<'_>,
 ) -> Result<Entries<Items<A>, A>, AllocError>
-    ensures made { IfOk result (λ items. items
-        ≡ map no_items (map (λ f. (f.code, f.size)) fields.now)) }
-    ensures free { fields.now ≡ [] → IsOk result }
+    ensures made { IfOk result (λ items. items ≡ map no_items layout.now) }
+    ensures free { length layout.now ≡ 0 → IsOk result }
 {
-    if fields.is_empty() {
+    if layout.len() == 0 {
         return Ok(Entries::new(alloc));
     }
-    let mut items = Entries::with_capacity(alloc, fields.len())?;
-    for f in fields {
-        items.push(empty_items(alloc, f.code, f.size)?)?;
-    }
-    Ok(items)
-}
-
-/// Developer fields without items.
-fn empty_dev_fields<A: Allocator + Copy>(
-    alloc: A,
-    codes: &[u8],
-    fields: &[DevDef],
-) -> Result<Entries<Items<A>, A>, AllocError>
-    requires { length codes.now ≡ length fields.now }
-    ensures made { IfOk result (λ items. items
-        ≡ map no_items (zip codes.now (map (λ f. f.size) fields.now))) }
-    ensures free { fields.now ≡ [] → IsOk result }
-{
-    if fields.is_empty() {
-        return Ok(Entries::new(alloc));
-    }
-    let mut items = Entries::with_capacity(alloc, fields.len())?;
-    for i in 0..fields.len() {
-        items.push(empty_items(alloc, codes[i], fields[i].size)?)?;
+    let mut items = Entries::with_capacity(alloc, layout.len())?;
+    for place in 0..layout.len() {
+        let (code, size) = layout.slot(place);
+        items.push(empty_items(alloc, code, size)?)?;
     }
     Ok(items)
 }

@@ -1,5 +1,5 @@
 //! The bytes of a data message behind its record header, one by one (FIT protocol, "Data Message").
-ghost use Rattle.std.specs.Prelude.{◌≡◌, ℕ, ◌+◌, ◌<◌, ◌≤◌, ◌⊎◌, IsOk, OnOk, OnErr, Some, [], ◌∷◌, ◌++◌, length, drop, map, zip};
+ghost use Rattle.std.specs.Prelude.{◌≡◌, ℕ, ◌+◌, ◌<◌, ◌≤◌, ◌⊎◌, IsOk, OnOk, OnErr, Some, [], ◌∷◌, ◌++◌, length, drop};
 ghost use Rattle.fit_record.specs.declared.message.Values.{Values};
 ghost use Rattle.fit_record.specs.declared.message.Record.TheVariants.{Values as Data};
 ghost use Rattle.fit_record.specs.Sound.{IsSound};
@@ -12,7 +12,7 @@ ghost use Rattle.fit_step.specs.inner.Steps.{next_with_bytes, message_begun, IsI
 use crate::partial::Partial;
 use crate::{Phase, Stop};
 use fit_base::{Code, Entries, Items, Order, bits_at, width_of};
-use fit_record::{Defined, DevDef, FieldDef, Values};
+use fit_record::{Defined, Layout, Values};
 use std::alloc::{AllocError, Allocator};
 use std::mem;
 
@@ -64,48 +64,18 @@ fn take_byte<A: Allocator + Copy>(
 }
 
 /// The first field from a place on that has bytes: its place, the width of its items, and its size.
-fn field_from(fields: &[FieldDef], from: usize) -> Option<(u8, u8, u8)>
-    requires few { length fields.now < 256 }
-    requires from { from ≤ length fields.now }
-    ensures { result ≡ next_with_bytes from (map (λ f. (f.code, f.size)) (drop from fields.now)) }
+fn field_from(layout: &Layout<'_>, from: usize) -> Option<(u8, u8, u8)>
+    requires few { length layout.now < 256 }
+    requires from { from ≤ length layout.now }
+    ensures { result ≡ next_with_bytes from (drop from layout.now) }
 {
-    for i in from..fields.len() {
-        let field = fields[i];
-        if field.size > 0 {
-            return Some((i as u8, width_of(Code(field.code), field.size), field.size));
+    for place in from..layout.len() {
+        let (code, size) = layout.slot(place);
+        if size > 0 {
+            return Some((place as u8, width_of(Code(code), size), size));
         }
     }
     None
-}
-
-/// The same of developer fields, which have these base type codes.
-fn dev_from(codes: &[u8], fields: &[DevDef], from: usize) -> Option<(u8, u8, u8)>
-    requires few { length fields.now < 256 }
-    requires codes { length codes.now ≡ length fields.now }
-    requires from { from ≤ length fields.now }
-    ensures { result ≡ next_with_bytes from (zip (drop from codes.now)
-        (map (λ f. f.size) (drop from fields.now))) }
-{
-    for i in from..fields.len() {
-        let field = fields[i];
-        if field.size > 0 {
-            return Some((i as u8, width_of(Code(codes[i]), field.size), field.size));
-        }
-    }
-    None
-}
-
-/// The first developer field of a definition from a place on that has bytes.
-#[tactic(auto, using(crate::proofs::TwoLists::drop_coded))]
-fn first_dev<A: Allocator>(defined: &Defined<A>, from: usize) -> Option<(u8, u8, u8)>
-    requires sound { IsSound defined.now }
-    requires from { from ≤ length (dev_defs defined.now.definition.dev) }
-    ensures { result ≡ next_with_bytes from (drop from (dev_layout defined.now)) }
-{
-    match &defined.definition.dev {
-        Some(dev) => dev_from(defined.dev_codes.as_slice(), dev.as_slice(), from),
-        None => None,
-    }
 }
 
 /// Begins the first developer field from a place on that has bytes. Where there is none, the message is whole.
@@ -115,7 +85,7 @@ pub(crate) fn begin_dev<A: Allocator>(defined: &Defined<A>, from: usize, phase: 
     ensures { (room : ℕ) (v : Values A) → begin_dev room v from (drop from (dev_layout defined.now))
         ≡ message_begun result phase.new room v }
 {
-    match first_dev(defined, from) {
+    match field_from(&defined.dev_layout(), from) {
         Some((place, width, left)) => {
             *phase = Phase::DevItems { place, width, left };
             false
@@ -139,7 +109,7 @@ pub(crate) fn begin_fields<A: Allocator>(
     ensures { (room : ℕ) (v : Values A) → begin_fields room v from (drop from (layout defined.now))
         (dev_layout defined.now) ≡ message_begun result phase.new room v }
 {
-    match field_from(defined.definition.fields.as_slice(), from) {
+    match field_from(&defined.layout(), from) {
         Some((place, width, left)) => {
             *phase = Phase::FieldItems { place, width, left };
             false

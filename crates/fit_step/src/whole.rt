@@ -1,5 +1,5 @@
 //! Records of which all bytes are in one piece.
-ghost use Rattle.std.specs.Prelude.{◌≡◌, ◌⊎◌, ◌-◌, ◌*◌, ◌/◌, ◌%◌, ◌<◌, ◌≤◌, ◌++◌, [], ◌∷◌, if◌then◌else◌, IfOk, IfSome, OnOk, Some, None, length, map, sum_by, take, drop, zip};
+ghost use Rattle.std.specs.Prelude.{◌≡◌, ◌⊎◌, ◌-◌, ◌*◌, ◌/◌, ◌%◌, ◌<◌, ◌≤◌, ◌++◌, [], ◌∷◌, if◌then◌else◌, IfOk, IfSome, OnOk, Some, None, length, take, drop};
 ghost use Rattle.fit_record.specs.declared.message.Record.TheVariants.{Values as Data};
 ghost use Rattle.fit_record.specs.ReadMessages.{field_from, fields_from, numbers_of};
 ghost use Rattle.fit_record.specs.Records.{sizes, layout, dev_layout, message_size, Fits};
@@ -10,7 +10,7 @@ ghost use Rattle.fit_step.specs.Tests.{tests_of};
 use crate::header::{has_reserved_bit, is_definition, local_type, time_offset};
 use crate::read_definition::definition_within;
 use fit_base::{Bits, Code, Entries, Items, Order, bits_at, width_of};
-use fit_record::{Defined, DevDef, Env, FieldDef, Record, Values};
+use fit_record::{Defined, Env, Layout, Record, Values};
 use std::alloc::{AllocError, Allocator};
 
 /// The numbers that bytes are, one of this width behind another.
@@ -83,73 +83,28 @@ fn push_field<A: Allocator + Copy>(
     push_numbers(items, alloc, order, width_of(Code(code), size), bytes)
 }
 
-/// The items that the first bytes are as those of fields, one field behind another, and the bytes behind them.
+/// The items that the first bytes are as those of fields, one field behind another, and the bytes behind them. Each caller has a
+/// walk of its own, which knows where its layout stands.
+#[inline(always)]
 fn read_fields<'a, A: Allocator + Copy>(
     alloc: A,
     order: Order,
-    fields: &[FieldDef],
+    layout: &Layout<'_>,
     bytes: &'a [u8],
 ) -> Result<(Entries<Items<A>, A>, &'a [u8]), AllocError>
-    requires { sum_by (λ f. f.size) fields.now ≤ length bytes.now }
-    ensures { IfOk result (λ r. (r.0 ≡ fields_from order
-        (map (λ f. (f.code, f.size)) fields.now) bytes.now)
-        × (r.1.now ≡ drop (sum_by (λ f. f.size) fields.now) bytes.now)) }
+    requires { sizes layout.now ≤ length bytes.now }
+    ensures { IfOk result (λ r. (r.0 ≡ fields_from order layout.now bytes.now)
+        × (r.1.now ≡ drop (sizes layout.now) bytes.now)) }
 {
-    let mut items = Entries::with_capacity(alloc, fields.len())?;
+    let mut items = Entries::with_capacity(alloc, layout.len())?;
     let mut rest = bytes;
-    for field in fields {
-        let (here, behind) = rest.split_at(field.size as usize);
-        push_field(&mut items, alloc, order, field.code, field.size, here)?;
+    for place in 0..layout.len() {
+        let (code, size) = layout.slot(place);
+        let (here, behind) = rest.split_at(size as usize);
+        push_field(&mut items, alloc, order, code, size, here)?;
         rest = behind;
     }
     Ok((items, rest))
-}
-
-/// The items that the bytes of developer fields with these base type codes are, one field behind another.
-fn read_dev_fields<A: Allocator + Copy>(
-    alloc: A,
-    order: Order,
-    codes: &[u8],
-    fields: &[DevDef],
-    bytes: &[u8],
-) -> Result<Entries<Items<A>, A>, AllocError>
-    requires codes { length codes.now ≡ length fields.now }
-    requires length { length bytes.now ≡ sizes (zip codes.now (map (λ f. f.size) fields.now)) }
-    ensures { IfOk result (λ items. items ≡ fields_from order
-        (zip codes.now (map (λ f. f.size) fields.now)) bytes.now) }
-{
-    let mut items = Entries::with_capacity(alloc, fields.len())?;
-    let mut rest = bytes;
-    for place in 0..fields.len() {
-        let size = fields[place].size;
-        let (here, behind) = rest.split_at(size as usize);
-        push_field(&mut items, alloc, order, codes[place], size, here)?;
-        rest = behind;
-    }
-    Ok(items)
-}
-
-/// The same of a definition's developer fields.
-fn read_dev<A: Allocator + Copy>(
-    alloc: A,
-    defined: &Defined<A>,
-    bytes: &[u8],
-) -> Result<Entries<Items<A>, A>, AllocError>
-    requires sound { IsSound defined.now }
-    requires length { length bytes.now ≡ sizes (dev_layout defined.now) }
-    ensures { IfOk result (λ items. items ≡ fields_from defined.now.definition.order
-        (dev_layout defined.now) bytes.now) }
-{
-    match &defined.definition.dev {
-        None => Ok(Entries::new(alloc)),
-        Some(dev) => read_dev_fields(
-            alloc,
-            defined.definition.order,
-            defined.dev_codes.as_slice(),
-            dev.as_slice(),
-            bytes,
-        ),
-    }
 }
 
 /// The items of the fields and of the developer fields that the bytes behind a record header are.
@@ -165,13 +120,10 @@ fn read_body<A: Allocator + Copy>(
         × (r.1 ≡ fields_from defined.now.definition.order (dev_layout defined.now)
         (drop (sizes (layout defined.now)) bytes.now))) }
 {
-    let (fields, back) = read_fields(
-        alloc,
-        defined.definition.order,
-        defined.definition.fields.as_slice(),
-        bytes,
-    )?;
-    Ok((fields, read_dev(alloc, defined, back)?))
+    let order = defined.definition.order;
+    let (fields, back) = read_fields(alloc, order, &defined.layout(), bytes)?;
+    let (dev, _) = read_fields(alloc, order, &defined.dev_layout(), back)?;
+    Ok((fields, dev))
 }
 
 /// The data message that begins the piece, where all its bytes stand there, and how many they are. There is none where a byte is

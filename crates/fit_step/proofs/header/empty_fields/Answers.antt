@@ -1,0 +1,10 @@
+use Rattle.fit_step.proofs.Common.{◌∙◌, ◌++◌, ◌∷◌, [], sym, ap, take, no_items, map}
+use Rattle.fit_step.proofs.TwoLists.{one_more_field}
+use Rattle.fit_step.proofs.header.empty_fields.Goals as goal
+
+pub loop-place-preserved : goal.loop-place-preserved
+loop-place-preserved g c =
+    let slots = c.args.layout.now in
+    let k = c.loop-place.place in
+    c.in_ok-push.ensures.ok ∙ ap (λ l. l ++ c.in_ok-empty_items.field-0 ∷ []) c.loop-place.invariant
+    ∙ ap (λ n. map no_items (take k slots) ++ n ∷ []) c.in_ok-empty_items.ensures ∙ sym (one_more_field slots k c.slot-code.result c.slot-code.ensures)
