@@ -87,7 +87,8 @@ fn wrong_field<A: Allocator>(first: u64, layout: &Layout<'_>, items: &[Items<A>]
     requires { first + length layout.now < 512 }
     ensures { result ≡ wrong_from first layout.now items.now }
 {
-    for n in 0..layout.len() {
+    let count = layout.len();
+    for n in 0..count {
         let place = first + n as u64;
         let (code, size) = layout.slot(n);
         let Some(i) = items.get(n) else {
@@ -97,8 +98,8 @@ fn wrong_field<A: Allocator>(first: u64, layout: &Layout<'_>, items: &[Items<A>]
             return Some(place);
         }
     }
-    if layout.len() < items.len() {
-        return Some(first + layout.len() as u64);
+    if count < items.len() {
+        return Some(first + count as u64);
     }
     None
 }

@@ -17,5 +17,6 @@ returns g c =
     let bytes = c.args.bytes.now in
     let behind = c.in_ok-fields.ensures.1 ∙ ap (λ l. drop (sizes l) bytes) c.layout.ensures.slots in (
       c.in_ok-fields.ensures.0 ∙ ap (λ l. fields_from o l bytes) c.layout.ensures.slots ∙ fields_front o (layout p) bytes,
-      c.in_ok-dev.ensures.0 ∙ ap (fields_from o c.dev_layout.result) behind ∙ ap (λ l. fields_from o l (drop (sizes (layout p)) bytes)) c.dev_layout.ensures.slots,
+      c.in_ok-dev.ensures.0 ∙ ap (fields_from o c.dev_layout.result) behind
+          ∙ ap (λ l. fields_from o l (drop (sizes (layout p)) bytes)) c.dev_layout.ensures.slots,
     )
