@@ -1,7 +1,7 @@
 -- One number more of a field, and one field more of a data message.
 use Rattle.fit_step.proofs.Common.{◌≡◌, ℕ, suc, ◌+◌, ◌-◌, ◌*◌, ◌/◌, ◌<◌, List, [], ◌∷◌, ◌++◌, length, take, sym, ap, ◌∙◌, arith, append_assoc, refl}
 use Rattle.fit_step.proofs.Common.{length-drop, suc-mul, append-nil, drop-take, take-take, sum_by-cons, Items, Order, Little, Big}
-use Rattle.fit_step.proofs.Common.{number, numbers_of, field_from, fields_from, sizes, ◌≤◌, drop, sum_by, Some, slice_get}
+use Rattle.fit_step.proofs.Common.{number, numbers_of, field_from, fields_from, sizes, ◌≤◌, drop, Some, slice_get}
 use Rattle.fit_record.proofs.FirstOfNumber.{dropped}
 
 -- ---- numbers

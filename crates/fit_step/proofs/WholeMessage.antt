@@ -3,7 +3,7 @@ use Rattle.fit_step.proofs.Common.{◌≡◌, cond, ℕ, zero, suc, ◌+◌, ◌
 use Rattle.fit_step.proofs.Common.{length-drop, Option, nat_le, ◌&&◌, IsSomeAnd, option_map, unwrap_or, option_map_or, leb-true, length-take-le, Items, Little}
 use Rattle.fit_step.proofs.Common.{IsBytes, both, IsBytes-take, IsBytes-cons, IsBytes-tail, Defined, Data, Values, Environment, defined_at, learn}
 use Rattle.fit_step.proofs.Common.{CanFill, is_compressed, is_definition, has_reserved_bit, local_type, fields_from, values_from, sizes, layout, dev_layout}
-use Rattle.fit_step.proofs.Common.{message_size, data_header, data_bytes, DataFits, Fits, order_at, IsRecord, can_fill, fills, has_length, can_carry}
+use Rattle.fit_step.proofs.Common.{message_size, data_header, data_bytes, DataFits, Fits, order_at, IsRecord, can_fill, can_carry}
 use Rattle.fit_step.proofs.Common.{can_fill_after_data, start, Ends, tests_of, ◌≤◌, drop}
 use Rattle.fit_record.proofs.MessageBytes.{message_fits}
 use Rattle.fit_step.proofs.TakenAndRefusedBytes.{records_end}
