@@ -83,7 +83,7 @@ fn push_field<A: Allocator + Copy>(
     push_numbers(items, alloc, order, width_of(Code(code), size), bytes)
 }
 
-/// The items that the first bytes are as those of fields, one field behind another, and the bytes behind them. Each caller has a
+/// The items that the first bytes are as those of fields, one field behind another, and the bytes behind them. Each call is a
 /// walk of its own, which knows where its layout stands.
 #[inline(always)]
 fn read_fields<'a, A: Allocator + Copy>(
