@@ -1,14 +1,14 @@
 -- What a piece makes of the fields, by the section that its first byte belongs to.
-use Rattle.fit_decode.proofs.Common.{◌≡◌, ℕ, ◌-◌, ◌<◌, List, [], length, sym, ap, ◌∙◌, subst, arith, None, append-nil, IsBytes, header_bytes, Record}
-use Rattle.fit_decode.proofs.Common.{Environment, empty_environment, records_bytes, chain_limit, Position, Stop, AwaitsByte, Answer, Section, Data, ClosingSum}
+use Rattle.fit_decode.proofs.Common.{◌≡◌, ℕ, ◌-◌, ◌<◌, List, [], length, sym, ap, ◌∙◌, subst, arith, None, append-nil, IsBytes, header_bytes, Record, Stage, Holds}
+use Rattle.fit_decode.proofs.Common.{Environment, empty_environment, records_bytes, chain_limit, Stop, AwaitsByte, Answer, Section, Data, ClosingSum}
 use Rattle.fit_decode.proofs.Common.{IsHeaderPart, HeaderFed, DataFed, SumFed, Fields, InHeader, InData, InSum, HoldsAt, Stand, Advances, no_header_in}
-use Rattle.std.specs.Prelude.{Bool, Option, Result}
+use Rattle.std.specs.Prelude.{Option, Result}
 use Rattle.fit_frame.specs.Beginning.{Seen}
 use Rattle.fit_decode.specs.declared.section.Section.TheVariants.{Header}
 use Rattle.fit_decode.proofs.Sections.{header_fed, data_fed, sum_fed}
 
-module _ {A : Type 0} {d : Fields A} (s : Stand d) (at : d.section ≡ Header) where
-  in_header : (bytes : List ℕ) → HoldsAt d.section d bytes → InHeader d bytes
+module _ {A : Type 0} {d : Fields A} (s : Stand d) (at : d.stage.section ≡ Header) where
+  in_header : (bytes : List ℕ) → Holds d bytes → InHeader d bytes
   in_header bytes holds = subst (λ c. HoldsAt c d bytes) at holds
 
   pub header_fresh : d.reader.refusal ≡ None
@@ -24,40 +24,37 @@ module _ {A : Type 0} {d : Fields A} (s : Stand d) (at : d.section ≡ Header) w
             (whole.is.0.1 ∙ sym (append-nil (header_bytes whole.header whole.data_size))),
       )
 
-  pub header_advances : (piece : List ℕ) → IsBytes piece
-      → (reader : Seen) (sum : List ℕ) (section : Section) (position : Position) (used : ℕ) (answer : Result (Answer A) Stop)
-      → HeaderFed d.count d.reader.bytes d.sum d.section d.position reader sum section position piece used answer
-      → Advances d (record d { section = section; reader = reader; sum = sum; position = position }) piece used answer
-  header_advances piece low reader sum section position used answer fed = λ bytes are holds.
-      header_fed d bytes piece (in_header bytes holds) are low reader sum section position used answer
-      (subst (λ c. HeaderFed d.count d.reader.bytes d.sum c d.position reader sum section position piece used answer) at fed)
+  pub header_advances : (piece : List ℕ) → IsBytes piece → (stage : Stage) (reader : Seen) (sum : List ℕ) (used : ℕ) (answer : Result (Answer A) Stop)
+      → HeaderFed d.stage d.reader.bytes d.sum stage reader sum piece used answer
+      → Advances d (record d { stage = stage; reader = reader; sum = sum }) piece used answer
+  header_advances piece low stage reader sum used answer fed = λ bytes are holds.
+      header_fed d at bytes piece (in_header bytes holds) are low stage reader sum used answer fed
 
-module _ {A : Type 0} {d : Fields A} (s : Stand d) (at : d.section ≡ Data) where
-  in_data : (bytes : List ℕ) → HoldsAt d.section d bytes → InData d bytes
+module _ {A : Type 0} {d : Fields A} (s : Stand d) (at : d.stage.section ≡ Data) where
+  in_data : (bytes : List ℕ) → Holds d bytes → InData d bytes
   in_data bytes holds = subst (λ c. HoldsAt c d bytes) at holds
 
-  pub data_reading : AwaitsByte d.env d.position d.in_progress
+  pub data_reading : AwaitsByte d.env d.stage.position d.in_progress
   data_reading =
       let k = in_data s.bytes s.holds in (k.size - length (records_bytes empty_environment k.records), k.part, k.some, k.in_record)
 
   pub data_advances : (piece : List ℕ) → IsBytes piece
-      → (sum : List ℕ) (section : Section) (env : Environment A) (position : Position) (in_progress : Option (Record A)) (used : ℕ)
-      (answer : Result (Answer A) Stop)
-      → DataFed d.env d.sum d.position d.in_progress env sum section position in_progress piece used answer
-      → Advances d (record d { env = env; section = section; sum = sum; position = position; in_progress = in_progress }) piece used answer
-  data_advances piece low sum section env position in_progress used answer fed = λ bytes are holds.
-      data_fed d bytes piece (in_data bytes holds) are low sum section env position in_progress used answer fed
+      → (stage : Stage) (env : Environment A) (in_progress : Option (Record A)) (sum : List ℕ) (used : ℕ) (answer : Result (Answer A) Stop)
+      → DataFed d.stage d.env d.in_progress d.sum stage env in_progress sum piece used answer
+      → Advances d (record d { stage = stage; env = env; in_progress = in_progress; sum = sum }) piece used answer
+  data_advances piece low stage env in_progress sum used answer fed = λ bytes are holds.
+      data_fed d at bytes piece (in_data bytes holds) are low stage env in_progress sum used answer fed
 
-module _ {A : Type 0} {d : Fields A} (s : Stand d) (at : d.section ≡ ClosingSum) where
-  in_sum : (bytes : List ℕ) → HoldsAt d.section d bytes → InSum d bytes
+module _ {A : Type 0} {d : Fields A} (s : Stand d) (at : d.stage.section ≡ ClosingSum) where
+  in_sum : (bytes : List ℕ) → Holds d bytes → InSum d bytes
   in_sum bytes holds = subst (λ c. HoldsAt c d bytes) at holds
 
-  pub sum_few : d.count < chain_limit
+  pub sum_few : d.stage.files < chain_limit
   sum_few = let k = in_sum s.bytes s.holds in omega (arith, k.few, k.counted)
 
   pub sum_advances : (piece : List ℕ) → IsBytes piece
-      → (half : Bool) (sum : List ℕ) (now : ℕ) (env : Environment A) (section : Section) (used : ℕ) (answer : Result (Answer A) Stop)
-      → SumFed d.half d.sum d.count d.env half sum now env section piece used answer
-      → Advances d (record d { count = now; env = env; section = section; half = half; sum = sum }) piece used answer
-  sum_advances piece low half sum now env section used answer fed = λ bytes are holds.
-      sum_fed d bytes piece (in_sum bytes holds) are low half sum now env section used answer fed
+      → (stage : Stage) (env : Environment A) (sum : List ℕ) (used : ℕ) (answer : Result (Answer A) Stop)
+      → SumFed d.stage d.env d.sum stage env sum piece used answer
+      → Advances d (record d { stage = stage; env = env; sum = sum }) piece used answer
+  sum_advances piece low stage env sum used answer fed = λ bytes are holds.
+      sum_fed d at bytes piece (in_sum bytes holds) are low stage env sum used answer fed

@@ -55,11 +55,12 @@ pub use Rattle.fit_decode.specs.Reads.{EndsReading, ReadsChain, GivesChain, Give
 pub use Rattle.fit_decode.specs.Reads.{Channel, BeginsWithFile, ReadsOne}
 pub use Rattle.fit_decode.specs.declared.decoder.Decoder.TheInside.{Inside}
 pub use Rattle.fit_decode.specs.declared.section.Section.{Section}
+pub use Rattle.fit_decode.specs.declared.section.Stage.{Stage}
 pub use Rattle.fit_decode.specs.declared.section.Section.TheVariants.{Data, ClosingSum, Data as InSection}
 pub use Rattle.fit_decode.specs.inner.Between.{IsBehind, IsEnd}
 pub use Rattle.fit_decode.specs.inner.Invariant.{IsSoundDecoder, fields_inside}
 pub use Rattle.fit_decode.specs.inner.Kept.{Fields, InHeader, InData, InSum, HoldsAt, Stand, Advances, Holds, Advanced, NotRefused, NextAnswer}
-pub use Rattle.fit_decode.specs.inner.Kept.{to_come}
+pub use Rattle.fit_decode.specs.inner.Kept.{to_come, to_come_in}
 pub use Rattle.fit_decode.specs.inner.Scans.{IsHeaderPart, half_sum, HeaderScanned, SumScanned}
 pub use Rattle.fit_decode.specs.inner.Sections.{HeaderFed, DataFed, SumFed, section_of}
 pub use Rattle.fit_decode.specs.inner.Turns.{FileRead, FileTold, LastPiece, Turned, FaultIn, Eaten, unrefused, PieceFed, TurnTold}

@@ -6,7 +6,7 @@ use Rattle.fit_frame.specs.Beginning.{Seen}
 use Rattle.fit_decode.specs.declared.section.Section.TheVariants.{Header}
 
 abbrev pub HasEnded : {A : Type 0} → Fields A → Type 0
-HasEnded d = (d.section ≡ Header) × (0 < d.count) × (d.reader.bytes ≡ [])
+HasEnded d = (d.stage.section ≡ Header) × (0 < d.stage.files) × (d.reader.bytes ≡ [])
 
 module _ {A : Type 0} (d : Fields A) (bytes : List ℕ) where
   pub ended_chain : Holds d bytes → HasEnded d → AreChain A bytes
@@ -24,7 +24,7 @@ module _ {A : Type 0} (d : Fields A) (bytes : List ℕ) where
   no_data : {P : Type 0} (files : List (FitFile A)) (g : Progress A) → HasCome files g bytes → AreChain A bytes → (g ≡ at_header [] → P) → P
   no_data files g come chain go = go (one_place files chain.0 g (at_header []) bytes come (chain_come bytes chain)).1
 
-  chain_at : (s : Section) → HoldsAt s d bytes → d.section ≡ s → AreChain A bytes → HasEnded d
+  chain_at : (s : Section) → HoldsAt s d bytes → d.stage.section ≡ s → AreChain A bytes → HasEnded d
   chain_at Header k at chain =
       let same = one_place k.files chain.0 (at_header d.sum) (at_header []) bytes k.come (chain_come bytes chain) in
       let empty : d.sum ≡ [] = cc same.1 in
@@ -33,4 +33,4 @@ module _ {A : Type 0} (d : Fields A) (bytes : List ℕ) where
   chain_at ClosingSum k at chain = no_data k.files _ k.come chain (λ e. absurd cc)
 
   pub chain_ended : Holds d bytes → AreChain A bytes → HasEnded d
-  chain_ended holds chain = chain_at d.section holds refl chain
+  chain_ended holds chain = chain_at d.stage.section holds refl chain

@@ -27,9 +27,9 @@ module _ {A : Type 0} (d : Fields A) (bytes : List ℕ) (are : IsBytes bytes) wh
       × (in_progress_size d.in_progress ≤ part_size (learn_all empty_environment k.records) k.part)
   kept_in_data k =
       let room : ℕ = k.size - length (records_bytes empty_environment k.records) in
-      held_is_of_bytes k.records room k.part d.position d.in_progress k.come.next.1
+      held_is_of_bytes k.records room k.part d.stage.position d.in_progress k.come.next.1
       (records_are k.files k.header k.size k.records k.part bytes k.come are)
-      (subst (λ e. IsInProgress e room k.part d.position d.in_progress) k.known k.in_record)
+      (subst (λ e. IsInProgress e room k.part d.stage.position d.in_progress) k.known k.in_record)
 
   held_at : (s : Section) → HoldsAt s d bytes → IsHeld A bytes (environment_size d.env + in_progress_size d.in_progress)
   held_at Header k =
@@ -52,7 +52,7 @@ module _ {A : Type 0} (d : Fields A) (bytes : List ℕ) (are : IsBytes bytes) wh
         within = omega (arith, known, kept.2, counted);
         all = λ idle.
             let none : in_progress_size d.in_progress ≡ 0 =
-            ap in_progress_size ((idle_between_records d.env _ k.part d.position d.in_progress k.in_record).1 idle) in
+            ap in_progress_size ((idle_between_records d.env _ k.part d.stage.position d.in_progress k.in_record).1 idle) in
             let no_part : part_size e k.part ≡ 0 = ap (part_size e) idle in
             omega (arith, known, none, no_part, counted);
       }
@@ -70,12 +70,12 @@ module _ {A : Type 0} (d : Fields A) (bytes : List ℕ) (are : IsBytes bytes) wh
           known,
           none,
           cond-true (length (records_bytes empty_environment k.records) == k.size) 0
-              (held_of_record (learn_all empty_environment k.records) (half_sum (checksum d.sum) d.half)) over,
+              (held_of_record (learn_all empty_environment k.records) (half_sum (checksum d.sum) d.stage.half)) over,
         );
         within = omega (arith, known, none);
         all = λ _.
             let uncounted = cond-true (length (records_bytes empty_environment k.records) == k.size) 0
-            (part_size (learn_all empty_environment k.records) (half_sum (checksum d.sum) d.half)) over in
+            (part_size (learn_all empty_environment k.records) (half_sum (checksum d.sum) d.stage.half)) over in
             omega (arith, known, none, uncounted);
       }
 
@@ -90,7 +90,7 @@ pub small_seen : {A : Type 0} (d : Inside A) → IsSoundDecoder d → IsCountabl
 small_seen {A} d k = go d.refusal refl
   where
     go : (o : Option Reason) → d.refusal ≡ o → IsCountable d.in_progress
-    go None is = small_at (fields_inside d) d.history.items k.are d.section (k.holds is)
+    go None is = small_at (fields_inside d) d.history.items k.are d.stage.section (k.holds is)
     go (Some reason) is = subst IsCountable (sym (k.let_go reason is).1) tt
 
 module _ {A : Type 0} (d : Inside A) (k : IsSoundDecoder d) (n m : ℕ) (env : n ≡ environment_size d.env) (in_progress : m ≡ in_progress_size d.in_progress)
@@ -98,7 +98,7 @@ module _ {A : Type 0} (d : Inside A) (k : IsSoundDecoder d) (n m : ℕ) (env : n
     fresh_held : d.refusal ≡ None → IsHeld A d.history.items (n + m)
     fresh_held none =
         let count : environment_size d.env + in_progress_size d.in_progress ≡ n + m = omega (arith, env, in_progress) in
-        subst (IsHeld A d.history.items) count (held_at (fields_inside d) d.history.items k.are d.section (k.holds none))
+        subst (IsHeld A d.history.items) count (held_at (fields_inside d) d.history.items k.are d.stage.section (k.holds none))
 
     let_go : (reason : Reason) → d.refusal ≡ Some reason → n + m ≡ 0
     let_go reason is = let gone = k.let_go reason is in omega (arith, env, in_progress, nothing_held (fields_inside d) d.history.items k.are gone.0 gone.1)

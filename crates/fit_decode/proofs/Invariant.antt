@@ -7,9 +7,9 @@ use Rattle.fit_decode.proofs.FileRead.{no_file_yet, nothing_viable}
 nothing_goes : (A : Type 0) → ChainGoesOn {A = A} chain_limit [] (at_header [])
 nothing_goes A = (omega arith, omega arith, begins_nothing)
 
-pub begins_kept : {A : Type 0} (d : Inside A) → d.section ≡ Header → d.half ≡ false → d.reader ≡ record { bytes = []; refusal = None } → d.sum ≡ []
+pub begins_kept : {A : Type 0} (d : Inside A) → d.stage.section ≡ Header → d.stage.half ≡ false → d.reader ≡ record { bytes = []; refusal = None } → d.sum ≡ []
     → d.env ≡ empty_environment → d.in_progress ≡ None
-    → d.files ≡ 0 → d.count ≡ 0 → d.history.items ≡ [] → IsSoundDecoder d
+    → d.stage.files ≡ 0 → d.count ≡ 0 → d.history.items ≡ [] → IsSoundDecoder d
 begins_kept {A} d at whole read none known idle no_files no_bytes nothing =
     let come : HasCome {A = A} [] (at_header d.sum) d.history.items =
     subst (λ b. HasCome {A = A} [] (at_header d.sum) b) (sym nothing) (subst (λ l. HasCome {A = A} [] (at_header l) []) (sym none) (no_file_yet A)) in

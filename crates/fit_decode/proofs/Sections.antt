@@ -3,7 +3,7 @@ use Rattle.fit_decode.proofs.Common.{◌≡◌, cond, ◌⊎◌, inl, inr, ℕ, 
 use Rattle.fit_decode.proofs.Common.{sym, ap, ◌∙◌, subst, arith, append_assoc, length-append, None, Ok, Err, append-nil, IsBytes, little_bytes, IsBytes-append}
 use Rattle.fit_decode.proofs.Common.{IsBytes-take, checksum, FileHeader, header_bytes, IsFileHeader, RefusesByte, FitFile, Record, Environment}
 use Rattle.fit_decode.proofs.Common.{empty_environment, learn, learn_all, IsRecord, record_bytes, records_bytes, CanFill, chain_limit, IsViable}
-use Rattle.fit_decode.proofs.Common.{records_bytes-append, learn_all-append, Position, Stop, FillFrom, IsInProgress, begins_record, fill_nothing}
+use Rattle.fit_decode.proofs.Common.{records_bytes-append, learn_all-append, Position, Stop, FillFrom, IsInProgress, begins_record, fill_nothing, Stage}
 use Rattle.fit_decode.proofs.Common.{idle_between_records, record_fills, records_in_progress, Answer, Section, Data, ClosingSum, at_header, at_data, HasCome}
 use Rattle.fit_decode.proofs.Common.{AreEvents, IsRefused, files_begun, ChainGoesOn, IsHeaderPart, half_sum, section_of, HeaderFed, DataFed, SumFed, Fields}
 use Rattle.fit_decode.proofs.Common.{InHeader, InData, InSum, Holds, HoldsAt, NextAnswer, goes_viable, fill_data, whole_header, quiet_of, begun_header}
@@ -24,13 +24,13 @@ use Rattle.fit_chain.specs.declared.event.Event.TheVariants as answers
 
 pub begins_records : {A : Type 0} (files : List (FitFile A)) (d : Fields A) (bytes : List ℕ) (h : FileHeader) (n : ℕ) (records : List (Record A))
     → HasCome files (at_data h n records []) bytes
-    → length files < chain_limit → d.count ≡ length files → d.half ≡ false → d.reader ≡ record { bytes = []; refusal = None }
+    → length files < chain_limit → d.stage.files ≡ length files → d.stage.half ≡ false → d.reader ≡ record { bytes = []; refusal = None }
     → d.sum ≡ header_bytes h n ++ records_bytes empty_environment records
-    → d.env ≡ learn_all empty_environment records → IsInProgress d.env (n - length (records_bytes empty_environment records)) [] d.position d.in_progress
+    → d.env ≡ learn_all empty_environment records → IsInProgress d.env (n - length (records_bytes empty_environment records)) [] d.stage.position d.in_progress
     → HoldsAt (section_of (n - length (records_bytes empty_environment records))) d bytes
 begins_records files d bytes h n records come few counted whole fresh sum known here =
     let room = n - length (records_bytes empty_environment records) in
-    let no_part : half_sum (checksum d.sum) d.half ≡ [] = ap (λ c. half_sum (checksum d.sum) c) whole in
+    let no_part : half_sum (checksum d.sum) d.stage.half ≡ [] = ap (λ c. half_sum (checksum d.sum) c) whole in
     elim (eqb_tells room 0) [
       | inl none ↦ subst (λ c. HoldsAt (cond c ClosingSum Data) d bytes) (sym none.0) (record {
         files = files;
@@ -44,7 +44,7 @@ begins_records files d bytes h n records come few counted whole fresh sum known 
         summed = sum;
         known = known;
         over = none.1;
-        idle = (idle_between_records d.env room [] d.position d.in_progress here).1 refl;
+        idle = (idle_between_records d.env room [] d.stage.position d.in_progress here).1 refl;
       })
       | inr some ↦ subst (λ c. HoldsAt (cond c ClosingSum Data) d bytes) (sym some.0) (record {
         files = files;
@@ -66,15 +66,15 @@ begins_records files d bytes h n records come few counted whole fresh sum known 
 
 -- ---- headers
 
-module _ {A : Type 0} (d : Fields A) (bytes piece : List ℕ) (k : InHeader d bytes) (are : IsBytes bytes) (low : IsBytes piece) where
+module _ {A : Type 0} (d : Fields A) (at : d.stage.section ≡ Header) (bytes piece : List ℕ) (k : InHeader d bytes) (are : IsBytes bytes) (low : IsBytes piece) where
   front_is : d.reader.bytes ≡ d.sum
   front_is = ap (λ (s : Seen). s.bytes) k.read
 
-  begun_within : (front : List ℕ) → d.count < chain_limit → files_begun k.files (at_header front) ≤ chain_limit
+  begun_within : (front : List ℕ) → d.stage.files < chain_limit → files_begun k.files (at_header front) ≤ chain_limit
   begun_within [] few = omega (arith, few, k.counted)
   begun_within (b ∷ front) few = omega (arith, few, k.counted)
 
-  within_limit : (used : ℕ) → (d.count < chain_limit) ⊎ (piece ≡ []) → used ≡ length piece
+  within_limit : (used : ℕ) → (d.stage.files < chain_limit) ⊎ (piece ≡ []) → used ≡ length piece
       → files_begun k.files (at_header (d.sum ++ take used piece)) ≤ chain_limit
   within_limit used (inl few) all = begun_within (d.sum ++ take used piece) few
   within_limit used (inr none) all =
@@ -89,10 +89,10 @@ module _ {A : Type 0} (d : Fields A) (bytes piece : List ℕ) (k : InHeader d by
   no_front [] begun all = refl
   no_front (b ∷ front) begun all = absurd (omega (arith, begun, all))
 
-  pub header_fed : (reader : Seen) (sum : List ℕ) (section : Section) (position : Position) (used : ℕ) (answer : Result (Answer A) Stop)
-      → HeaderFed d.count d.reader.bytes d.sum Header d.position reader sum section position piece used answer
-      → NextAnswer (record d { section = section; reader = reader; sum = sum; position = position }) bytes piece used answer
-  header_fed reader sum section position used (Ok answers.More) (lim, (all, read, begun), covered, same) =
+  pub header_fed : (stage : Stage) (reader : Seen) (sum : List ℕ) (used : ℕ) (answer : Result (Answer A) Stop)
+      → HeaderFed d.stage d.reader.bytes d.sum stage reader sum piece used answer
+      → NextAnswer (record d { stage = stage; reader = reader; sum = sum }) bytes piece used answer
+  header_fed stage reader sum used (Ok answers.More) (lim, (all, read, begun), covered, same) =
       let open_ : IsHeaderPart (d.sum ++ take used piece) = subst (λ l. IsHeaderPart (l ++ take used piece)) front_is begun in
       let within : used ≤ length piece = omega (arith, all) in
       let none = begun_header (d.sum ++ take used piece) open_.0 open_.1 in
@@ -102,8 +102,8 @@ module _ {A : Type 0} (d : Fields A) (bytes piece : List ℕ) (k : InHeader d by
         told = (all, header_quiet k.files d.sum bytes piece k.come used within none);
         viable = goes_viable chain_limit k.files (at_header (d.sum ++ take used piece)) (bytes ++ take used piece) come
             (IsBytes-append bytes (take used piece) are (IsBytes-take used piece low)) goes;
-        holds = λ _. subst (λ c. HoldsAt c (record d { section = section; reader = reader; sum = sum; position = position }) (bytes ++ take used piece))
-            (sym same) (record {
+        holds = λ _. subst (λ s. Holds (record d { stage = s; reader = reader; sum = sum }) (bytes ++ take used piece)) (sym same)
+            (subst (λ c. HoldsAt c (record d { reader = reader; sum = sum }) (bytes ++ take used piece)) (sym at) (record {
               files = k.files;
               come = subst (λ l. HasCome k.files (at_header l) (bytes ++ take used piece)) (sym covered) come;
               goes = subst (λ l. ChainGoesOn chain_limit k.files (at_header l)) (sym covered) goes;
@@ -112,31 +112,32 @@ module _ {A : Type 0} (d : Fields A) (bytes piece : List ℕ) (k : InHeader d by
               read = read ∙ ap (λ l. record { bytes = l; refusal = None }) (ap (λ l. l ++ take used piece) front_is ∙ sym covered);
               known = k.known;
               idle = k.idle;
-            });
+            }));
       }
-  header_fed reader sum section position used (Ok (answers.Header h n)) (few, some, within, whole, fresh, covered, at, begins, room) =
+  header_fed stage reader sum used (Ok (answers.Header h n)) (few, some, within, whole, fresh, covered, goes_on, begins, room) =
       let is : IsFileHeader h n (d.sum ++ take used piece) = subst (λ l. IsFileHeader h n (l ++ take used piece)) front_is whole in
       let less : length k.files < chain_limit = omega (arith, few, k.counted) in
       let come = whole_header k.files d.sum bytes (take used piece) h n k.come is in
       let same : n ≡ n - 0 = omega arith in
       let filled : CanFill {A = A} empty_environment (n - 0) = subst (CanFill {A = A} empty_environment) same (fill_data n is.1) in
-      let fill : CanFill {A = A} empty_environment position.room = subst (CanFill {A = A} empty_environment) (sym room) (fill_data n is.1) in
-      let now : Fields A = record d { section = section; reader = reader; sum = sum; position = position } in
-      let begun : IsInProgress {A = A} empty_environment (n - 0) [] position None =
-      subst (λ m. IsInProgress {A = A} empty_environment m [] position None) (room ∙ same) (begins_record empty_environment position refl begins fill) in
-      let here : IsInProgress d.env (n - 0) [] position d.in_progress =
-      subst (λ e. IsInProgress e (n - 0) [] position d.in_progress) (sym k.known)
-      (subst (λ o. IsInProgress empty_environment (n - 0) [] position o) (sym k.idle) begun) in
+      let fill : CanFill {A = A} empty_environment stage.position.room = subst (CanFill {A = A} empty_environment) (sym room) (fill_data n is.1) in
+      let now : Fields A = record d { stage = record d.stage { section = section_of n; position = stage.position }; reader = reader; sum = sum } in
+      let begun : IsInProgress {A = A} empty_environment (n - 0) [] stage.position None =
+      subst (λ m. IsInProgress {A = A} empty_environment m [] stage.position None) (room ∙ same) (begins_record empty_environment stage.position refl begins fill) in
+      let here : IsInProgress d.env (n - 0) [] stage.position d.in_progress =
+      subst (λ e. IsInProgress e (n - 0) [] stage.position d.in_progress) (sym k.known)
+      (subst (λ o. IsInProgress empty_environment (n - 0) [] stage.position o) (sym k.idle) begun) in
       let all : sum ≡ header_bytes h n ++ [] = covered ∙ is.0.1 ∙ sym (append-nil (header_bytes h n)) in
       record {
         told = (some, within, header_least k.files d.sum bytes piece k.come used h n within is);
         viable = goes_viable chain_limit k.files (at_data h n [] []) (bytes ++ take used piece) come
             (IsBytes-append bytes (take used piece) are (IsBytes-take used piece low))
             (k.goes.0, omega (arith, less), data_starts empty_environment (n - 0) _ (fill_nothing empty_environment (n - 0) filled));
-        holds = λ _. subst (λ c. HoldsAt c now (bytes ++ take used piece)) (ap section_of (sym same) ∙ sym at)
-            (begins_records k.files now (bytes ++ take used piece) h n [] come less k.counted k.whole fresh all k.known here);
+        holds = λ _. subst (λ s. Holds (record d { stage = s; reader = reader; sum = sum }) (bytes ++ take used piece)) (sym goes_on)
+            (subst (λ m. HoldsAt (section_of m) now (bytes ++ take used piece)) (sym same)
+            (begins_records k.files now (bytes ++ take used piece) h n [] come less k.counted k.whole fresh all k.known here));
       }
-  header_fed reader sum section position used (Err (Refused reason)) (inl (full, some, none, is)) =
+  header_fed stage reader sum used (Err (Refused reason)) (inl (full, some, none, is)) =
       let all : length k.files ≡ chain_limit = omega (arith, full, k.counted, at_most (d.sum) k.goes.1) in
       let empty : d.sum ≡ [] = no_front d.sum k.goes.1 all in
       let viable = goes_viable chain_limit k.files (at_header d.sum) bytes k.come are k.goes in
@@ -153,7 +154,7 @@ module _ {A : Type 0} (d : Fields A) (bytes piece : List ℕ) (k : InHeader d by
         viable = subst (IsViable A chain_limit) here viable;
         holds = λ never. absurd never;
       }
-  header_fed reader sum section position used (Err (Refused reason)) (inr (few, within, begun, refuses)) =
+  header_fed stage reader sum used (Err (Refused reason)) (inr (few, within, begun, refuses)) =
       let open_ : IsHeaderPart (d.sum ++ take used piece) = subst (λ l. IsHeaderPart (l ++ take used piece)) front_is begun in
       let less : length k.files < chain_limit = omega (arith, few, k.counted) in
       let none = begun_header (d.sum ++ take used piece) open_.0 open_.1 in
@@ -165,11 +166,11 @@ module _ {A : Type 0} (d : Fields A) (bytes piece : List ℕ) (k : InHeader d by
         viable = why.viable;
         holds = λ never. absurd never;
       }
-  header_fed reader sum section position used answer fed = absurd fed
+  header_fed stage reader sum used answer fed = absurd fed
 
 -- ---- data sections
 
-module _ {A : Type 0} (d : Fields A) (bytes piece : List ℕ) (k : InData d bytes) (are : IsBytes bytes) (low : IsBytes piece) where
+module _ {A : Type 0} (d : Fields A) (at : d.stage.section ≡ Data) (bytes piece : List ℕ) (k : InData d bytes) (are : IsBytes bytes) (low : IsBytes piece) where
   abbrev taken : ℕ
   taken = length (records_bytes empty_environment k.records)
 
@@ -196,16 +197,21 @@ module _ {A : Type 0} (d : Fields A) (bytes piece : List ℕ) (k : InData d byte
   covered_is used = ap (λ l. l ++ take used piece) k.summed
       ∙ append_assoc (header_bytes k.header k.size ++ records_bytes empty_environment k.records) k.part (take used piece)
 
-  module _ (sum : List ℕ) (section : Section) (env : Environment A) (position : Position) (in_progress : Option (Record A)) (used : ℕ) where
-    abbrev now : Fields A
-    now = record d { env = env; section = section; sum = sum; position = position; in_progress = in_progress }
+  module _ (stage : Stage) (env : Environment A) (in_progress : Option (Record A)) (sum : List ℕ) (used : ℕ) where
+    abbrev now : Stage → Fields A
+    now s = record d { stage = s; env = env; in_progress = in_progress; sum = sum }
+
+    abbrev position : Position
+    position = stage.position
 
     -- bytes that end within a record
     within_record : sum ≡ d.sum ++ take used piece → used ≤ length piece → env ≡ known
-        → IsInProgress known room (k.part ++ take used piece) position in_progress → section ≡ Data → Holds now (bytes ++ take used piece)
-    within_record covered within same here at =
+        → IsInProgress known room (k.part ++ take used piece) position in_progress → stage ≡ record d.stage { position = position }
+        → Holds (now stage) (bytes ++ take used piece)
+    within_record covered within same here stays =
         let none = (records_in_progress known room (k.part ++ take used piece) position in_progress here).0 in
-        subst (λ c. HoldsAt c now (bytes ++ take used piece)) (sym at) (record {
+        subst (λ s. Holds (now s) (bytes ++ take used piece)) (sym stays)
+        (subst (λ c. HoldsAt c (now (record d.stage { position = position })) (bytes ++ take used piece)) (sym at) (record {
           files = k.files;
           header = k.header;
           size = k.size;
@@ -220,13 +226,14 @@ module _ {A : Type 0} (d : Fields A) (bytes piece : List ℕ) (k : InData d byte
           known = same;
           some = k.some;
           in_record = subst (λ e. IsInProgress e room (k.part ++ take used piece) position in_progress) (sym same) here;
-        })
+        }))
 
     -- bytes that end with a record
     behind_record : sum ≡ d.sum ++ take used piece → (r : Record A) → used ≤ length piece → env ≡ learn known r → IsRecord known r (k.part ++ take used piece)
         → length (k.part ++ take used piece) ≤ room → IsInProgress env (room - length (k.part ++ take used piece)) [] position in_progress
-        → section ≡ section_of position.room → Holds now (bytes ++ take used piece)
-    behind_record covered r within same is fits here at =
+        → stage ≡ record d.stage { section = section_of position.room; position = position } → Holds (now stage) (bytes ++ take used piece)
+    behind_record covered r within same is fits here goes_on =
+        let next : Stage = record d.stage { section = section_of position.room; position = position } in
         let come = item_come bytes piece here_in are low used r within is fits in
         let left = left_behind bytes piece here_in are low used r within is fits in
         let all : records_bytes empty_environment (k.records ++ r ∷ []) ≡ records_bytes empty_environment k.records ++ (k.part ++ take used piece) =
@@ -237,30 +244,31 @@ module _ {A : Type 0} (d : Fields A) (bytes piece : List ℕ) (k : InData d byte
         ∙ ap (λ l. header_bytes k.header k.size ++ l) (sym all) in
         let room_is : position.room ≡ k.size - length (records_bytes empty_environment (k.records ++ r ∷ [])) =
         (let total = (records_in_progress env (room - length (k.part ++ take used piece)) [] position in_progress here).2 in omega (arith, total, left)) in
-        subst (λ c. HoldsAt c now (bytes ++ take used piece)) (ap section_of (sym room_is) ∙ sym at)
-        (begins_records k.files now (bytes ++ take used piece) k.header k.size (k.records ++ r ∷ []) come k.few k.counted k.whole k.fresh sums
-        (same ∙ sym (learn_all-append empty_environment k.records (r ∷ []))) (subst (λ m. IsInProgress env m [] position in_progress) left here))
+        subst (λ s. Holds (now s) (bytes ++ take used piece)) (sym goes_on)
+        (subst (λ m. HoldsAt (section_of m) (now next) (bytes ++ take used piece)) (sym room_is)
+        (begins_records k.files (now next) (bytes ++ take used piece) k.header k.size (k.records ++ r ∷ []) come k.few k.counted k.whole k.fresh sums
+        (same ∙ sym (learn_all-append empty_environment k.records (r ∷ []))) (subst (λ m. IsInProgress env m [] position in_progress) left here)))
 
-    pub data_fed : (answer : Result (Answer A) Stop) → DataFed d.env d.sum d.position d.in_progress env sum section position in_progress piece used answer
-        → NextAnswer now bytes piece used answer
+    pub data_fed : (answer : Result (Answer A) Stop) → DataFed d.stage d.env d.in_progress d.sum stage env in_progress sum piece used answer
+        → NextAnswer (now stage) bytes piece used answer
     data_fed answer fed =
-        told_of answer (subst (λ e. DataFed e d.sum d.position d.in_progress env sum section position in_progress piece used answer) k.known fed)
+        told_of answer (subst (λ e. DataFed d.stage e d.in_progress d.sum stage env in_progress sum piece used answer) k.known fed)
       where
-        before : IsInProgress known room k.part d.position d.in_progress
-        before = subst (λ e. IsInProgress e room k.part d.position d.in_progress) k.known k.in_record
+        before : IsInProgress known room k.part d.stage.position d.in_progress
+        before = subst (λ e. IsInProgress e room k.part d.stage.position d.in_progress) k.known k.in_record
 
-        told_of : (answer : Result (Answer A) Stop) → DataFed known d.sum d.position d.in_progress env sum section position in_progress piece used answer
-            → NextAnswer now bytes piece used answer
-        told_of (Ok answers.More) (reads, covered, at) =
+        told_of : (answer : Result (Answer A) Stop) → DataFed d.stage known d.in_progress d.sum stage env in_progress sum piece used answer
+            → NextAnswer (now stage) bytes piece used answer
+        told_of (Ok answers.More) (reads, covered, goes_on) =
             let (all, same, here) = reads room k.part before in
             let within : used ≤ length piece = omega (arith, all) in
             let goes = records_in_progress known room (k.part ++ take used piece) position in_progress here in
             record {
               told = (all, data_quiet bytes piece here_in are low used within goes.0);
               viable = data_viable bytes piece here_in are low used goes.1;
-              holds = λ _. within_record covered within same here at;
+              holds = λ _. within_record covered within same here goes_on;
             }
-        told_of (Ok (answers.Item r)) (reads, covered, at) =
+        told_of (Ok (answers.Item r)) (reads, covered, goes_on) =
             let (some, within, same, is, fits, here) = reads room k.part before in
             let left = room - length (k.part ++ take used piece) in
             let goes : FillFrom (learn known r) left [] =
@@ -268,9 +276,9 @@ module _ {A : Type 0} (d : Fields A) (bytes piece : List ℕ) (k : InData d byte
             record {
               told = (some, within, item_least bytes piece here_in are low used r within is fits);
               viable = data_viable bytes piece here_in are low used (record_fills known room r (k.part ++ take used piece) is fits goes);
-              holds = λ _. behind_record covered r within same is fits here at;
+              holds = λ _. behind_record covered r within same is fits here goes_on;
             }
-        told_of (Err (Refused reason)) (reads, covered, at) =
+        told_of (Err (Refused reason)) (reads, covered, goes_on) =
             let (within, same, here, because, ends) = reads room k.part before in
             let upto : used ≤ length piece = omega (arith, within) in
             let goes = records_in_progress known room (k.part ++ take used piece) position in_progress here in
@@ -280,7 +288,7 @@ module _ {A : Type 0} (d : Fields A) (bytes piece : List ℕ) (k : InData d byte
               viable = why.viable;
               holds = λ never. absurd never;
             }
-        told_of (Err NoMemory) (reads, covered, at) =
+        told_of (Err NoMemory) (reads, covered, goes_on) =
             let (within, same, here, fill, heads) = reads room k.part before in
             let upto : used ≤ length piece = omega (arith, within) in
             let goes = records_in_progress known room (k.part ++ take used piece) position in_progress here in
@@ -292,7 +300,7 @@ module _ {A : Type 0} (d : Fields A) (bytes piece : List ℕ) (k : InData d byte
                 data_takes bytes piece here_in are low used upto goes.0 heads,
               );
               viable = data_viable bytes piece here_in are low used goes.1;
-              holds = λ _. within_record covered upto same here at;
+              holds = λ _. within_record covered upto same here goes_on;
             }
         told_of answer fed = absurd fed
 
@@ -306,12 +314,12 @@ part_begins : (n : ℕ) (half : Bool) → (rest : List ℕ) × (little_bytes 2 n
 part_begins n true = (n / 256 % 256 ∷ [], refl)
 part_begins n false = (little_bytes 2 n, refl)
 
-module _ {A : Type 0} (d : Fields A) (bytes piece : List ℕ) (k : InSum d bytes) (are : IsBytes bytes) (low : IsBytes piece) where
+module _ {A : Type 0} (d : Fields A) (at : d.stage.section ≡ ClosingSum) (bytes piece : List ℕ) (k : InSum d bytes) (are : IsBytes bytes) (low : IsBytes piece) where
   abbrev value : ℕ
   value = checksum d.sum
 
   abbrev part : List ℕ
-  part = half_sum (checksum d.sum) d.half
+  part = half_sum (checksum d.sum) d.stage.half
 
   sums : little_bytes 2 (checksum d.sum) ≡ little_bytes 2 (checksum (header_bytes k.header k.size ++ records_bytes empty_environment k.records))
   sums = ap (λ l. little_bytes 2 (checksum l)) k.summed
@@ -324,36 +332,37 @@ module _ {A : Type 0} (d : Fields A) (bytes piece : List ℕ) (k : InSum d bytes
       ≡ (part ++ take used piece) ++ rest)
   begins_sum half used joined = let begins = part_begins value half in (begins.0, sym sums ∙ begins.1 ∙ ap (λ l. l ++ begins.0) (sym joined))
 
-  pub sum_fed : (half : Bool) (sum : List ℕ) (now : ℕ) (env : Environment A) (section : Section) (used : ℕ) (answer : Result (Answer A) Stop)
-      → SumFed d.half d.sum d.count d.env half sum now env section piece used answer
-      → NextAnswer (record d { count = now; env = env; section = section; half = half; sum = sum }) bytes piece used answer
-  sum_fed half sum now env section used (Ok answers.More) ((all, joined), covered, counted, same, at) =
+  pub sum_fed : (stage : Stage) (env : Environment A) (sum : List ℕ) (used : ℕ) (answer : Result (Answer A) Stop)
+      → SumFed d.stage d.env d.sum stage env sum piece used answer
+      → NextAnswer (record d { stage = stage; env = env; sum = sum }) bytes piece used answer
+  sum_fed stage env sum used (Ok answers.More) ((all, joined), covered, same, stays) =
       let within : used ≤ length piece = omega (arith, all) in
-      let begins = begins_sum half used joined in
-      let come = sum_fronts k.files k.header k.size k.records part bytes piece k.come k.few k.over are low used within (short half used joined) used
+      let begins = begins_sum stage.half used joined in
+      let come = sum_fronts k.files k.header k.size k.records part bytes piece k.come k.few k.over are low used within (short stage.half used joined) used
       (omega arith) in
       record {
-        told = (all, sum_quiet k.files k.header k.size k.records part bytes piece k.come k.few k.over are low used within (short half used joined));
-        viable = sum_viable k.files k.header k.size k.records part bytes piece k.come k.few k.over are low used begins.0 within (short half used joined)
+        told = (all, sum_quiet k.files k.header k.size k.records part bytes piece k.come k.few k.over are low used within (short stage.half used joined));
+        viable = sum_viable k.files k.header k.size k.records part bytes piece k.come k.few k.over are low used begins.0 within (short stage.half used joined)
             begins.1;
-        holds = λ _. subst (λ c. HoldsAt c (record d { count = now; env = env; section = section; half = half; sum = sum }) (bytes ++ take used piece)) (sym at)
+        holds = λ _. subst (λ s. Holds (record d { stage = s; env = env; sum = sum }) (bytes ++ take used piece)) (sym stays)
+            (subst (λ c. HoldsAt c (record d { stage = record d.stage { half = stage.half }; env = env; sum = sum }) (bytes ++ take used piece)) (sym at)
             (record {
               files = k.files;
               header = k.header;
               size = k.size;
               records = k.records;
               come = subst (λ p. HasCome k.files (at_data k.header k.size k.records p) (bytes ++ take used piece))
-                  (joined ∙ ap (λ l. half_sum (checksum l) half) (sym covered)) come;
+                  (joined ∙ ap (λ l. half_sum (checksum l) stage.half) (sym covered)) come;
               few = k.few;
-              counted = counted ∙ k.counted;
+              counted = k.counted;
               fresh = k.fresh;
               summed = covered ∙ k.summed;
               known = same ∙ k.known;
               over = k.over;
               idle = k.idle;
-            });
+            }));
       }
-  sum_fed half sum now env section used (Ok answers.FileEnd) ((some, within, whole, joined), none, counted, known, at) =
+  sum_fed stage env sum used (Ok answers.FileEnd) ((some, within, whole, joined), none, known, goes_on) =
       let is = joined ∙ sums in
       let come = file_come k.files k.header k.size k.records part bytes piece k.come k.few k.over are low used is in
       let goes = file_goes k.files k.header k.size k.records part bytes piece k.come k.few k.over are low in
@@ -361,30 +370,30 @@ module _ {A : Type 0} (d : Fields A) (bytes piece : List ℕ) (k : InSum d bytes
       record {
         told = (some, within, file_least k.files k.header k.size k.records part bytes piece k.come k.few k.over are low used within is);
         viable = file_viable k.files k.header k.size k.records part bytes piece k.come k.few k.over are low used is;
-        holds = λ _. subst (λ c. HoldsAt c (record d { count = now; env = env; section = section; half = half; sum = sum }) (bytes ++ take used piece)) (sym at)
+        holds = λ _. subst (λ s. Holds (record d { stage = s; env = env; sum = sum }) (bytes ++ take used piece)) (sym goes_on)
             (record {
               files = k.files ++ file ∷ [];
               come = subst (λ l. HasCome (k.files ++ file ∷ []) (at_header l) (bytes ++ take used piece)) (sym none) come;
               goes = subst (λ l. ChainGoesOn chain_limit (k.files ++ file ∷ []) (at_header l)) (sym none) goes;
-              counted = omega (arith, counted, k.counted, length-append k.files (file ∷ []));
+              counted = omega (arith, k.counted, length-append k.files (file ∷ []));
               whole = whole;
               read = k.fresh ∙ ap (λ l. record { bytes = l; refusal = None }) (sym none);
               known = known;
               idle = k.idle;
             });
       }
-  sum_fed half sum now env section used (Err (Refused reason)) ((is, within, joined, differs), covered, counted, same, at) =
-      let begins = begins_sum half used joined in
-      let why = sum_refuses k.files k.header k.size k.records part bytes piece k.come k.few k.over are low used begins.0 within (short half used joined)
+  sum_fed stage env sum used (Err (Refused reason)) ((is, within, joined, differs), covered, same, stays) =
+      let begins = begins_sum stage.half used joined in
+      let why = sum_refuses k.files k.header k.size k.records part bytes piece k.come k.few k.over are low used begins.0 within (short stage.half used joined)
       begins.1
       (λ more e. differs more (sums ∙ e ∙ ap (λ l. (l ++ slice_index piece used ∷ []) ++ more) joined)) in
       record {
         told = (
           within,
-          sum_quiet k.files k.header k.size k.records part bytes piece k.come k.few k.over are low used (omega (arith, within)) (short half used joined),
+          sum_quiet k.files k.header k.size k.records part bytes piece k.come k.few k.over are low used (omega (arith, within)) (short stage.half used joined),
           subst (λ r. IsRefused A chain_limit (bytes ++ take used piece) (slice_index piece used) r) (sym is) why,
         );
         viable = why.viable;
         holds = λ never. absurd never;
       }
-  sum_fed half sum now env section used answer fed = absurd fed
+  sum_fed stage env sum used answer fed = absurd fed

@@ -9,9 +9,9 @@ use Rattle.fit_decode.proofs.Common.{items_told, all_told, partial_nothing}
 use Rattle.std.proofs.Common.{Bool}
 use Rattle.std.specs.Prelude.{Option}
 use Rattle.fit_frame.specs.declared.header.Header.{Header}
-use Rattle.fit_step.specs.Skipping.{AreSkipped}
+use Rattle.fit_step.specs.Skipping.{AreSkipped, SkipsInSection}
 use Rattle.fit_decode.specs.Answers.{Seen}
-use Rattle.fit_decode.specs.inner.Skips.{DataSkipped, Skipped}
+use Rattle.fit_decode.specs.inner.Skips.{Skipped}
 use Rattle.fit_decode.proofs.Sections.{begins_records}
 
 -- ---- records behind records
@@ -53,12 +53,12 @@ module _ {A : Type 0} (fs : List (FitFile A)) (h : Header) (n : ℕ) (records rs
 module _ {A : Type 0} (d : Fields A) (bytes piece : List ℕ) (after : Environment A) (sum : List ℕ) (position : Position) (used count : ℕ) (are : IsBytes bytes)
     (low : IsBytes piece) where
   abbrev now : Fields A
-  now = record d { env = after; sum = sum; position = position }
+  now = record d { stage = record d.stage { position = position }; env = after; sum = sum }
 
   abbrev y : List ℕ
   y = take used piece
 
-  module _ (k : InData d bytes) (within : used ≤ length piece) (summed : sum ≡ d.sum ++ take used piece) (in_section : d.section ≡ InSection)
+  module _ (k : InData d bytes) (within : used ≤ length piece) (summed : sum ≡ d.sum ++ take used piece) (in_section : d.stage.section ≡ InSection)
       (no_part : k.part ≡ []) (large : used + 6 ≤ k.size - length (records_bytes empty_environment k.records)) (records : AreSkipped d.env after y count)
       (at : IsInProgress after (k.size - length (records_bytes empty_environment k.records) - used) [] position d.in_progress) where
     abbrev room : ℕ
@@ -140,11 +140,11 @@ module _ {A : Type 0} (d : Fields A) (bytes piece : List ℕ) (after : Environme
       holds = holds_behind;
     }
 
-  skips_none : used ≡ 0 → count ≡ 0 → after ≡ d.env → sum ≡ d.sum → position ≡ d.position → IsViable A chain_limit bytes → Holds d bytes
+  skips_none : used ≡ 0 → count ≡ 0 → after ≡ d.env → sum ≡ d.sum → position ≡ d.stage.position → IsViable A chain_limit bytes → Holds d bytes
       → Skipped now bytes piece used count
   skips_none none no_count learnt same there viable holds =
       let stay : bytes ≡ bytes ++ y = sym (append-nil bytes) ∙ ap (λ n. bytes ++ take n piece) (sym none) in
-      let fields : d ≡ now = λ i. record d { env = sym learnt i; sum = sym same i; position = sym there i } in
+      let fields : d ≡ now = λ i. record d { stage = record d.stage { position = sym there i }; env = sym learnt i; sum = sym same i } in
       record {
         within = omega (arith, none);
         told = λ events are_told. ([], sym no_count, subst (λ l. AreEvents l (events ++ [])) stay (subst (AreEvents bytes) (sym (append-nil events)) are_told));
@@ -152,16 +152,13 @@ module _ {A : Type 0} (d : Fields A) (bytes piece : List ℕ) (after : Environme
         holds = subst (λ f. Holds f (bytes ++ y)) fields (subst (Holds d) stay holds);
       }
 
-  pub skips : DataSkipped d.section d.env d.sum d.position d.in_progress after sum position piece used count → IsViable A chain_limit bytes → Holds d bytes
-      → Skipped now bytes piece used count
-  skips (inl (none, no_count, learnt, same, there)) viable holds = skips_none none no_count learnt same there viable holds
-  skips (inr s) viable holds =
-      let k = subst (λ c. HoldsAt c d bytes) s.in_data holds in
-      elim (s.skips (k.size - length (records_bytes empty_environment k.records)) k.part k.in_record) [
-        | inl n ↦
-            let same : sum ≡ d.sum = s.summed ∙ ap (λ m. d.sum ++ take m piece) n.0 ∙ append-nil d.sum in
-            skips_none n.0 n.1 n.2 same n.3 viable holds
-        | inr m ↦ skips_records k s.within s.summed s.in_data m.0 m.1 m.2 m.3
+  pub skips : d.stage.section ≡ InSection → used ≤ length piece → SkipsInSection d.env d.stage.position d.in_progress after position piece used count
+      → sum ≡ d.sum ++ take used piece → IsViable A chain_limit bytes → Holds d bytes → Skipped now bytes piece used count
+  skips at within skip summed viable holds =
+      let k = subst (λ c. HoldsAt c d bytes) at holds in
+      elim (skip (k.size - length (records_bytes empty_environment k.records)) k.part k.in_record) [
+        | inl n ↦ skips_none n.0 n.1 n.2 (summed ∙ ap (λ m. d.sum ++ take m piece) n.0 ∙ append-nil d.sum) n.3 viable holds
+        | inr m ↦ skips_records k within summed at m.0 m.1 m.2 m.3
       ]
 
 -- ---- what a caller of a decoder sees
@@ -170,15 +167,14 @@ pub fresh : (refusal : Option Reason) (some : Bool) → some ≡ is_some refusal
 fresh None some is isnt = refl
 fresh (Some reason) some is isnt = absurd (let both : true ≡ false = sym is ∙ isnt in cc)
 
-module _ {A : Type 0} (d : Inside A) (k : IsSoundDecoder d) (none : d.refusal ≡ None) (piece : List ℕ) (after : Environment A) (sum : List ℕ)
-    (position : Position)
-    (used count : ℕ) (low : IsBytes piece)
-    (s : DataSkipped d.section d.env d.sum d.position d.in_progress after sum position piece used count) where
-  pub skipped : Skipped (record (fields_inside d) { env = after; sum = sum; position = position }) d.history.items piece used count
-  skipped = skips (fields_inside d) d.history.items piece after sum position used count k.are low s k.viable (k.holds none)
+module _ {A : Type 0} (d : Inside A) (k : IsSoundDecoder d) (none : d.refusal ≡ None) (at : d.stage.section ≡ InSection) (piece : List ℕ)
+    (after : Environment A) (sum : List ℕ) (position : Position) (used count : ℕ) (low : IsBytes piece) (within : used ≤ length piece)
+    (skip : SkipsInSection d.env d.stage.position d.in_progress after position piece used count) (summed : sum ≡ d.sum ++ take used piece) where
+  abbrev behind : Fields A
+  behind = record (fields_inside d) { stage = record d.stage { position = position }; env = after; sum = sum }
 
-  pub within_piece : used ≤ length piece
-  within_piece = skipped.within
+  skipped : Skipped behind d.history.items piece used count
+  skipped = skips (fields_inside d) d.history.items piece after sum position used count k.are low at within skip summed k.viable (k.holds none)
 
   more_bytes : length (d.history.items ++ take used piece) ≡ d.count + used
   more_bytes = omega (arith, length-append d.history.items (take used piece), k.counted, length-take-le used piece skipped.within)
@@ -187,14 +183,14 @@ module _ {A : Type 0} (d : Inside A) (k : IsSoundDecoder d) (none : d.refusal �
   few_skipped = omega (arith, more_bytes, short_bytes (d.history.items ++ take used piece) skipped.viable)
 
   pub skipped_kept : (n : Inside A) → n.history.items ≡ d.history.items ++ take used piece
-      → fields_inside n ≡ record (fields_inside d) { env = after; sum = sum; position = position } → n.count ≡ d.count + used → n.refusal ≡ None
+      → fields_inside n ≡ behind → n.count ≡ d.count + used → n.refusal ≡ None
       → IsSoundDecoder n
   skipped_kept n took same counted fresh = record {
     viable = subst (IsViable A chain_limit) (sym took) skipped.viable;
     are = subst IsBytes (sym took) (IsBytes-append d.history.items (take used piece) k.are (IsBytes-take used piece low));
     counted = counted ∙ sym more_bytes ∙ ap length (sym took);
     holds = λ _. subst (λ f. Holds f n.history.items) (sym same)
-        (subst (Holds (record (fields_inside d) { env = after; sum = sum; position = position })) (sym took) skipped.holds);
+        (subst (Holds behind) (sym took) skipped.holds);
     let_go = λ reason is. absurd (let both : Some reason ≡ None = sym is ∙ fresh in cc);
   }
 
@@ -204,7 +200,3 @@ module _ {A : Type 0} (d : Inside A) (k : IsSoundDecoder d) (none : d.refusal �
   records_skipped old seen bytes took events are_told =
       let told = skipped.told events (subst (λ b. AreEvents b events) (sym (ap (λ (o : Seen). o.bytes) seen)) are_told) in
       (told.0, told.1, subst (λ b. AreEvents b (events ++ map item told.0)) (sym took) told.2)
-
--- where nothing was used
-pub none_skipped : {A : Type 0} (bytes : List ℕ) (events : List (Event A)) → AreEvents bytes events → TellsRecords bytes events 0
-none_skipped bytes events are_told = ([], refl, subst (AreEvents bytes) (sym (append-nil events)) are_told)

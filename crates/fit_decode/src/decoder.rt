@@ -16,12 +16,12 @@ ghost use Rattle.fit_chain.specs.Checks.{AreChain};
 mod tests;
 
 use crate::need::bytes_to_come;
-use crate::section::{Section, feed_section, skip_data};
+use crate::section::{Section, Stage, feed_data, feed_header, feed_sum};
 use crate::{Event, Fault, Fed};
 use fit_frame::{HeadReader, Reason};
 use fit_history::History;
 use fit_record::{Env, Record};
-use fit_step::{Position, Stop, in_progress_size};
+use fit_step::{Position, Stop, in_progress_size, skip_in_section};
 use fit_sum::Sum;
 use std::alloc::{Allocator, Global};
 use std::marker::Model;
@@ -36,10 +36,7 @@ pub struct Decoder<A: Allocator + Copy = Global> {
     sum: Sum,
     env: Env<A>,
     in_progress: Option<Record<A>>,
-    position: Position,
-    section: Section,
-    half: bool,
-    files: u32,
+    stage: Stage,
     count: u64,
     refusal: Option<Reason>,
     history: History<u8>,
@@ -57,11 +54,12 @@ impl<A: Allocator + Copy> Model for Decoder<A> {
 }
 
 /// Whether files have ended, and no byte has come of a next one.
-fn has_ended(files: u32, section: Section, reader: &HeadReader) -> bool
-    ensures { IsTrue result ↔ ((section ≡ Section.Header) × (0 < files) × (reader.now.bytes ≡ [])) }
+fn has_ended(stage: &Stage, reader: &HeadReader) -> bool
+    ensures { IsTrue result ↔ ((stage.now.section ≡ Section.Header) × (0 < stage.now.files)
+        × (reader.now.bytes ≡ [])) }
 {
-    match section {
-        Section::Header => files > 0 && reader.bytes().is_empty(),
+    match stage.section {
+        Section::Header => stage.files > 0 && reader.bytes().is_empty(),
         Section::Data | Section::ClosingSum => false,
     }
 }
@@ -77,10 +75,12 @@ impl<A: Allocator + Copy> Decoder<A> {
             sum: Sum::new(),
             env: Env::new(alloc),
             in_progress: None,
-            position: Position::new(0),
-            section: Section::Header,
-            half: false,
-            files: 0,
+            stage: Stage {
+                files: 0,
+                section: Section::Header,
+                position: Position::new(0),
+                half: false,
+            },
             count: 0,
             refusal: None,
             history: History::new(),
@@ -119,23 +119,29 @@ impl<A: Allocator + Copy> Decoder<A> {
         ensures viable { IsViable A chain_limit self.new.bytes }
     {
         if let Some(reason) = self.refusal {
-            return Err(Fault::Refused {
-                place: self.count,
-                reason,
-            });
+            let place = self.count;
+            return Err(Fault::Refused { place, reason });
         }
-        let (used, answer) = feed_section(
-            self.alloc,
-            &mut self.files,
-            &mut self.section,
-            &mut self.half,
-            &mut self.reader,
-            &mut self.sum,
-            &mut self.env,
-            &mut self.position,
-            &mut self.in_progress,
-            piece,
-        );
+        let (used, answer) = match self.stage.section {
+            Section::Header => {
+                feed_header(&mut self.stage, &mut self.reader, &mut self.sum, piece)
+            }
+            Section::Data => feed_data(
+                self.alloc,
+                &mut self.stage,
+                &mut self.env,
+                &mut self.in_progress,
+                &mut self.sum,
+                piece,
+            ),
+            Section::ClosingSum => feed_sum(
+                self.alloc,
+                &mut self.stage,
+                &mut self.env,
+                &mut self.sum,
+                piece,
+            ),
+        };
         let (taken, _) = piece.split_at(used);
         self.history.note(taken);
         self.count += used as u64;
@@ -145,10 +151,8 @@ impl<A: Allocator + Copy> Decoder<A> {
                 Stop::Refused(reason) => {
                     self.refusal = Some(reason);
                     let_go(self.alloc, &mut self.env, &mut self.in_progress);
-                    Err(Fault::Refused {
-                        place: self.count,
-                        reason,
-                    })
+                    let place = self.count;
+                    Err(Fault::Refused { place, reason })
                 }
                 Stop::NoMemory => Err(Fault::NoMemory { used: used as u64 }),
             },
@@ -177,16 +181,18 @@ impl<A: Allocator + Copy> Decoder<A> {
         if self.refusal.is_some() {
             return (0, 0);
         }
-        let (skipped, count) = skip_data(
+        let Section::Data = self.stage.section else {
+            return (0, 0);
+        };
+        let (skipped, count) = skip_in_section(
             self.alloc,
-            self.section,
             &mut self.env,
-            &mut self.sum,
-            &mut self.position,
+            &mut self.stage.position,
             &self.in_progress,
             piece,
         );
         let (taken, _) = piece.split_at(skipped);
+        self.sum.add_all(taken);
         self.history.note(taken);
         self.count += skipped as u64;
         (skipped, count)
@@ -207,7 +213,7 @@ impl<A: Allocator + Copy> Decoder<A> {
                 reason,
             });
         }
-        if has_ended(self.files, self.section, &self.reader) {
+        if has_ended(&self.stage, &self.reader) {
             Ok(())
         } else {
             Err(Fault::Truncated { place: self.count })
@@ -224,7 +230,7 @@ impl<A: Allocator + Copy> Decoder<A> {
         if self.refusal.is_some() {
             return 0;
         }
-        u64::from(self.files)
+        u64::from(self.stage.files)
     }
 
     /// How many bytes are to come at least until a file ends: before a file 14, or 1 where no file may follow, and
@@ -237,13 +243,7 @@ impl<A: Allocator + Copy> Decoder<A> {
         if self.refusal.is_some() {
             return 0;
         }
-        bytes_to_come(
-            self.files,
-            self.section,
-            self.half,
-            self.reader.bytes(),
-            self.position.room,
-        )
+        bytes_to_come(&self.stage, self.reader.bytes())
     }
 
     /// How much is held: the fields and developer fields of all definitions, the described developer fields, and of the

@@ -2,21 +2,15 @@
 ghost use Rattle.std.specs.Prelude.{◌≡◌};
 ghost use Rattle.fit_decode.specs.inner.Kept.{to_come};
 
-use crate::section::Section;
+use crate::section::{Section, Stage};
 use fit_base::{Order, bits_at};
 use fit_record::CHAIN_LIMIT;
 
-/// How many bytes are to come at least. `header` is what there is of a header, and `room` how many bytes of data are to come.
-pub(crate) fn bytes_to_come(
-    files: u32,
-    section: Section,
-    half: bool,
-    header: &[u8],
-    room: u32,
-) -> u64
-    ensures { result ≡ to_come files section half header.now room }
+/// How many bytes are to come at least. `header` is what there is of a header.
+pub(crate) fn bytes_to_come(stage: &Stage, header: &[u8]) -> u64
+    ensures { result ≡ to_come stage.now header.now }
 {
-    match section {
+    match stage.section {
         Section::Header => match header.first() {
             Some(size) => {
                 let rest = u64::from(*size).saturating_sub(header.len() as u64) + 2;
@@ -27,9 +21,9 @@ pub(crate) fn bytes_to_come(
                 let (data_size, _) = numbers.split_at(4);
                 rest + bits_at(Order::Little, 4, data_size)
             }
-            None => if files < CHAIN_LIMIT { 14 } else { 1 },
+            None => if stage.files < CHAIN_LIMIT { 14 } else { 1 },
         },
-        Section::Data => u64::from(room) + 2,
-        Section::ClosingSum => if half { 1 } else { 2 },
+        Section::Data => u64::from(stage.position.room) + 2,
+        Section::ClosingSum => if stage.half { 1 } else { 2 },
     }
 }

@@ -14,9 +14,9 @@ use Rattle.fit_record.specs.Files.{chain_limit, IsViable}
 use Rattle.fit_step.specs.declared.stop.Stop.{Stop}
 use Rattle.fit_step.specs.declared.stop.Stop.TheVariants.{Refused, NoMemory}
 use Rattle.fit_step.specs.InProgress.{IsInProgress}
-use Rattle.fit_step.specs.declared.position.Position.{Position}
 use Rattle.fit_decode.specs.declared.section.Section.{Section}
 use Rattle.fit_decode.specs.declared.section.Section.TheVariants.{Header, Data, ClosingSum}
+use Rattle.fit_decode.specs.declared.section.Stage.{Stage}
 use Rattle.fit_chain.specs.declared.event.Event.{Event as Answer}
 use Rattle.fit_chain.specs.declared.event.Event.TheVariants as answers
 use Rattle.fit_chain.specs.Progress.{at_header, at_data, HasCome}
@@ -28,17 +28,13 @@ use Rattle.fit_chain.specs.Pieces.{Quiet, Least}
 use Rattle.fit_chain.specs.Needs.{missing}
 use Rattle.fit_decode.specs.inner.Scans.{half_sum}
 
--- A decoder's fields, but for the count of the bytes and the refusal: how many files have ended, the section that the next
--- byte belongs to, whether one byte of a closing sum has come, the reader of the header, the bytes that the closing sum
--- covers so far, what is known, where in a record it is, and the record in progress.
+-- A decoder's fields, but for the count of the bytes and the refusal: how far they have come, the reader of the header, the
+-- bytes that the closing sum covers so far, what is known, and the record in progress.
 pub record Fields (A : Type 0) : Type 0 where
-  pub count : ℕ
-  pub section : Section
-  pub half : Bool
+  pub stage : Stage
   pub reader : HeaderSeen
   pub sum : List ℕ
   pub env : Environment A
-  pub position : Position
   pub in_progress : Option (Record A)
 
 -- in a header, or before one
@@ -46,8 +42,8 @@ pub record InHeader {A : Type 0} (d : Fields A) (bytes : List ℕ) : Type 0 wher
   pub files : List (FitFile A)
   pub come : HasCome files (at_header d.sum) bytes
   pub goes : ChainGoesOn chain_limit files (at_header d.sum)
-  pub counted : d.count ≡ length files
-  pub whole : d.half ≡ false
+  pub counted : d.stage.files ≡ length files
+  pub whole : d.stage.half ≡ false
   pub read : d.reader ≡ record { bytes = d.sum; refusal = None }
   pub known : d.env ≡ empty_environment
   pub idle : d.in_progress ≡ None
@@ -61,13 +57,13 @@ pub record InData {A : Type 0} (d : Fields A) (bytes : List ℕ) : Type 0 where
   pub part : List ℕ
   pub come : HasCome files (at_data header size records part) bytes
   pub few : length files < chain_limit
-  pub counted : d.count ≡ length files
-  pub whole : d.half ≡ false
+  pub counted : d.stage.files ≡ length files
+  pub whole : d.stage.half ≡ false
   pub fresh : d.reader ≡ record { bytes = []; refusal = None }
   pub summed : d.sum ≡ (header_bytes header size ++ records_bytes empty_environment records) ++ part
   pub known : d.env ≡ learn_all empty_environment records
   pub some : 0 < size - length (records_bytes empty_environment records)
-  pub in_record : IsInProgress d.env (size - length (records_bytes empty_environment records)) part d.position d.in_progress
+  pub in_record : IsInProgress d.env (size - length (records_bytes empty_environment records)) part d.stage.position d.in_progress
 
 -- behind a data section
 pub record InSum {A : Type 0} (d : Fields A) (bytes : List ℕ) : Type 0 where
@@ -75,9 +71,9 @@ pub record InSum {A : Type 0} (d : Fields A) (bytes : List ℕ) : Type 0 where
   pub header : FileHeader
   pub size : ℕ
   pub records : List (Record A)
-  pub come : HasCome files (at_data header size records (half_sum (checksum d.sum) d.half)) bytes
+  pub come : HasCome files (at_data header size records (half_sum (checksum d.sum) d.stage.half)) bytes
   pub few : length files < chain_limit
-  pub counted : d.count ≡ length files
+  pub counted : d.stage.files ≡ length files
   pub fresh : d.reader ≡ record { bytes = []; refusal = None }
   pub summed : d.sum ≡ header_bytes header size ++ records_bytes empty_environment records
   pub known : d.env ≡ learn_all empty_environment records
@@ -91,7 +87,7 @@ HoldsAt ClosingSum d bytes = InSum d bytes
 
 -- The fields are those behind these bytes.
 abbrev pub Holds : {A : Type 0} → Fields A → List ℕ → Type 0
-Holds d bytes = HoldsAt d.section d bytes
+Holds d bytes = HoldsAt d.stage.section d bytes
 
 -- What the use of so many bytes of a piece told.
 abbrev pub Advanced : {A : Type 0} → List ℕ → List ℕ → ℕ → Result (Answer A) Stop → Type 0
@@ -126,8 +122,11 @@ pub record Stand {A : Type 0} (d : Fields A) : Type 0 where
 abbrev pub Advances : {A : Type 0} → Fields A → Fields A → List ℕ → ℕ → Result (Answer A) Stop → Type 0
 Advances old new piece used answer = (bytes : List ℕ) → IsBytes bytes → Holds old bytes → NextAnswer new bytes piece used answer
 
--- How many bytes are to come, by the fields.
-abbrev pub to_come : ℕ → Section → Bool → List ℕ → ℕ → ℕ
-to_come files Header half front room = missing {A = Unit {0}} files (at_header front)
-to_come files Data half front room = room + 2
-to_come files ClosingSum half front room = if half then 1 else 2
+-- How many bytes are to come, by the fields; front is what there is of a header.
+abbrev pub to_come_in : Section → Stage → List ℕ → ℕ
+to_come_in Header s front = missing {A = Unit {0}} s.files (at_header front)
+to_come_in Data s front = s.position.room + 2
+to_come_in ClosingSum s front = if s.half then 1 else 2
+
+abbrev pub to_come : Stage → List ℕ → ℕ
+to_come s front = to_come_in s.section s front

@@ -12,10 +12,7 @@ fn parts(rt: HostRuntime) {
         sum,
         env,
         in_progress,
-        position,
-        section,
-        half,
-        files,
+        stage,
         count,
         refusal,
         history,
@@ -25,6 +22,12 @@ fn parts(rt: HostRuntime) {
     let _sum: Sum = sum;
     let _env: Env = env;
     let in_progress: Option<Record> = in_progress;
+    let Stage {
+        files,
+        section,
+        position,
+        half,
+    } = stage;
     let Position {
         phase,
         room,
@@ -42,7 +45,7 @@ fn parts(rt: HostRuntime) {
     assert!(rt; in_progress.is_none() && refusal.is_none() && !half);
     assert_eq!(rt; (files, count), (0, 0));
     assert_eq!(rt; (phase, room), (Phase::RecordHeader, 0));
-    assert!(rt; mem::size_of::<Position>() <= 32);
+    assert!(rt; mem::size_of::<Stage>() <= 32);
     // A list would have 24 bytes.
     assert!(rt; mem::size_of::<Partial>() <= 16);
     assert_eq!(rt; mem::size_of::<History<u8>>(), 0);

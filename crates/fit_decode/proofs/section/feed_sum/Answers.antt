@@ -4,10 +4,9 @@ use Rattle.fit_decode.proofs.section.feed_sum.Goals as goal
 
 pub returns-in-Err : goal.returns-in-Err
 returns-in-Err g c = (
-  sum_answered c.value.result (checksum c.args.sum.now) c.args.half.now c.args.piece.now c.scan_sum-used.new.half c.scan_sum-used.result.0
+  sum_answered c.value.result (checksum c.args.sum.now) c.args.stage.now.half c.args.piece.now c.scan_sum-used.new.half c.scan_sum-used.result.0
       c.scan_sum-used.result.1 c.in-Err.reason c.value.ensures c.in-Err.is c.scan_sum-used.ensures,
   refl,
   refl,
   refl,
-  c.requires.here,
 )

@@ -3,40 +3,40 @@ use Rattle.fit_decode.specs.contracts.decoder.Decoder.{the_row}
 use Rattle.fit_decode.specs.contracts.decoder.Decoder.skip_records.{A-row}
 use Rattle.fit_decode.proofs.Sizes.{fourth_is_within}
 use Rattle.fit_decode.proofs.Feeding.{was_viable}
-use Rattle.fit_decode.proofs.Skipping.{fresh, within_piece, few_skipped, skipped_kept, records_skipped}
+use Rattle.fit_decode.proofs.Skipping.{fresh, few_skipped, skipped_kept, records_skipped}
 use Rattle.fit_decode.proofs.decoder.Decoder.skip_records.Goals as goal
 
 pub returns-then-is_some-clause-viable : goal.returns-then-is_some-clause-viable
 returns-then-is_some-clause-viable g c = was_viable c.self.inside c.self.invariant c.args.self.now c.self.view_is
 
-pub skip_data-skipped-requires : goal.skip_data-skipped-requires
-skip_data-skipped-requires g c = fourth_is_within (layout (the_row (A-row g.row.A) g.A.Allocator)) _ (search rules)
+pub returns-in_default-clause-viable : goal.returns-in_default-clause-viable
+returns-in_default-clause-viable g c = was_viable c.self.inside c.self.invariant c.args.self.now c.self.view_is
 
-pub split_at-requires : goal.split_at-requires
-split_at-requires g c =
-    within_piece c.self.inside c.self.invariant (fresh c.self.inside.refusal c.is_some.result c.is_some.ensures c.if-is_some.false) c.args.piece.now
-    c.skip_data-skipped.new.env c.skip_data-skipped.new.sum c.skip_data-skipped.new.position c.skip_data-skipped.result.0 c.skip_data-skipped.result.1
-    (slice_is_bytes c.args.piece.now c.type_inv.piece) c.skip_data-skipped.ensures
+pub skip_in_section-skipped-requires : goal.skip_in_section-skipped-requires
+skip_in_section-skipped-requires g c = fourth_is_within (layout (the_row (A-row g.row.A) g.A.Allocator)) _ (search rules)
 
 pub overflow_add-self : goal.overflow_add-self
 overflow_add-self g c =
-    few_skipped c.self.inside c.self.invariant (fresh c.self.inside.refusal c.is_some.result c.is_some.ensures c.if-is_some.false) c.args.piece.now
-    c.skip_data-skipped.new.env c.skip_data-skipped.new.sum c.skip_data-skipped.new.position c.skip_data-skipped.result.0 c.skip_data-skipped.result.1
-    (slice_is_bytes c.args.piece.now c.type_inv.piece) c.skip_data-skipped.ensures
+    let s = c.skip_in_section-skipped in
+    few_skipped c.self.inside c.self.invariant (fresh c.self.inside.refusal c.is_some.result c.is_some.ensures c.if-is_some.false) c.in-Data.is c.args.piece.now
+    s.new.env c.add_all.new.self s.new.position s.result.0 s.result.1 (slice_is_bytes c.args.piece.now c.type_inv.piece) s.ensures.within s.ensures.skips
+    (c.add_all.ensures ∙ ap (λ l. c.self.inside.sum ++ l) c.split_at.ensures.front)
 
 pub invariant_of-self : goal.invariant_of-self
 invariant_of-self g c =
+    let s = c.skip_in_section-skipped in
     let none = fresh c.self.inside.refusal c.is_some.result c.is_some.ensures c.if-is_some.false in
-    skipped_kept c.self.inside c.self.invariant none c.args.piece.now c.skip_data-skipped.new.env c.skip_data-skipped.new.sum c.skip_data-skipped.new.position
-    c.skip_data-skipped.result.0 c.skip_data-skipped.result.1
-    (slice_is_bytes c.args.piece.now c.type_inv.piece) c.skip_data-skipped.ensures _
+    skipped_kept c.self.inside c.self.invariant none c.in-Data.is c.args.piece.now s.new.env c.add_all.new.self s.new.position s.result.0 s.result.1
+    (slice_is_bytes c.args.piece.now c.type_inv.piece) s.ensures.within s.ensures.skips
+    (c.add_all.ensures ∙ ap (λ l. c.self.inside.sum ++ l) c.split_at.ensures.front) _
     (c.note.ensures ∙ ap (λ b. c.self.inside.history.items ++ b) c.split_at.ensures.front) refl refl none
 
 pub returns-clause-records : goal.returns-clause-records
 returns-clause-records g c =
-    records_skipped c.self.inside c.self.invariant (fresh c.self.inside.refusal c.is_some.result c.is_some.ensures c.if-is_some.false) c.args.piece.now
-    c.skip_data-skipped.new.env c.skip_data-skipped.new.sum c.skip_data-skipped.new.position c.skip_data-skipped.result.0 c.skip_data-skipped.result.1
-    (slice_is_bytes c.args.piece.now c.type_inv.piece) c.skip_data-skipped.ensures c.args.self.now c.self.view_is c.note.new.self.items
+    let s = c.skip_in_section-skipped in
+    records_skipped c.self.inside c.self.invariant (fresh c.self.inside.refusal c.is_some.result c.is_some.ensures c.if-is_some.false) c.in-Data.is
+    c.args.piece.now s.new.env c.add_all.new.self s.new.position s.result.0 s.result.1 (slice_is_bytes c.args.piece.now c.type_inv.piece) s.ensures.within
+    s.ensures.skips (c.add_all.ensures ∙ ap (λ l. c.self.inside.sum ++ l) c.split_at.ensures.front) c.args.self.now c.self.view_is c.note.new.self.items
     (c.note.ensures ∙ ap (λ b. c.self.inside.history.items ++ b) c.split_at.ensures.front)
 
 pub returns-clause-viable : goal.returns-clause-viable
