@@ -59,7 +59,7 @@ pub use Rattle.fit_decode.specs.declared.section.Stage.{Stage}
 pub use Rattle.fit_decode.specs.declared.section.Section.TheVariants.{Data, ClosingSum, Data as InSection}
 pub use Rattle.fit_decode.specs.inner.Between.{IsBehind, IsEnd}
 pub use Rattle.fit_decode.specs.inner.Invariant.{IsSoundDecoder, fields_inside}
-pub use Rattle.fit_decode.specs.inner.Kept.{Fields, InHeader, InData, InSum, HoldsAt, Stand, Advances, Holds, Advanced, NotRefused, NextAnswer}
+pub use Rattle.fit_decode.specs.inner.Kept.{Fields, InHeader, InData, InSum, HoldsAt, Holds, Advanced, NotRefused, NextAnswer}
 pub use Rattle.fit_decode.specs.inner.Kept.{to_come, to_come_in}
 pub use Rattle.fit_decode.specs.inner.Scans.{IsHeaderPart, half_sum, HeaderScanned, SumScanned}
 pub use Rattle.fit_decode.specs.inner.Sections.{HeaderFed, DataFed, SumFed, section_of}

@@ -1,9 +1,9 @@
 -- What a caller of `feed` sees: that the invariant is kept, and what is told of the bytes used.
 use Rattle.fit_decode.proofs.Common.{◌≡◌, ℕ, ◌+◌, ◌<◌, ◌≤◌, List, ◌++◌, length, take, slice_index, sym, ap, ◌∙◌, subst, arith, length-append, Fits, w64, Some}
 use Rattle.fit_decode.proofs.Common.{None, Ok, Err, length-take-le, IsBytes, IsBytes-append, IsBytes-take, Reason, empty_environment, chain_limit, IsViable}
-use Rattle.fit_decode.proofs.Common.{Stop, Inside, Answer, Event, header, item, file_end, event_of, Refuses, Wants, Quiet, Least, AreChain, IsRefused, Fields}
-use Rattle.fit_decode.proofs.Common.{Advanced, Advances, NotRefused, NextAnswer, Stand, Holds, IsSoundDecoder, fields_inside, short_bytes}
-use Rattle.std.specs.Prelude.{Result}
+use Rattle.fit_decode.proofs.Common.{Stop, Inside, Answer, Event, header, item, file_end, event_of, Refuses, Wants, Quiet, Least, AreChain, IsRefused}
+use Rattle.fit_decode.proofs.Common.{Advanced, NotRefused, NextAnswer, Holds, IsSoundDecoder, fields_inside, short_bytes}
+use Rattle.std.specs.Prelude.{Option, Result}
 use Rattle.fit_step.specs.declared.stop.Stop.TheVariants.{Refused, NoMemory}
 use Rattle.fit_decode.specs.Answers.{Seen, fed}
 use Rattle.fit_chain.specs.declared.event.Event.TheVariants as answers
@@ -40,69 +40,61 @@ stopped answer stop other is same = is ∙ ap Err same
 
 -- ---- the invariant
 
-pub stands : {A : Type 0} (d : Inside A) → IsSoundDecoder d → d.refusal ≡ None → Stand (fields_inside d)
-stands d k none = record { bytes = d.history.items; are = k.are; holds = k.holds none }
+module _ {A : Type 0} {d : Inside A} (k : IsSoundDecoder d) (piece : List ℕ) (used : ℕ) (low : IsBytes piece) (within : used ≤ length piece)
+    (viable : IsViable A chain_limit (d.history.items ++ take used piece)) where
+  more_bytes : length (d.history.items ++ take used piece) ≡ d.count + used
+  more_bytes = omega (arith, length-append d.history.items (take used piece), k.counted, length-take-le used piece within)
+
+  pub few_more : Fits w64 (d.count + used)
+  few_more = omega (arith, more_bytes, short_bytes (d.history.items ++ take used piece) viable)
+
+  pub sound_behind : (n : Inside A) → n.history.items ≡ d.history.items ++ take used piece → n.count ≡ d.count + used
+      → (n.refusal ≡ None → Holds (fields_inside n) (d.history.items ++ take used piece))
+      → ((reason : Reason) → n.refusal ≡ Some reason → (n.env ≡ empty_environment) × (n.in_progress ≡ None)) → IsSoundDecoder n
+  sound_behind n took counted holds let_go = record {
+    viable = subst (IsViable A chain_limit) (sym took) viable;
+    are = subst IsBytes (sym took) (IsBytes-append d.history.items (take used piece) k.are (IsBytes-take used piece low));
+    counted = counted ∙ sym more_bytes ∙ ap length (sym took);
+    holds = λ fresh. subst (Holds (fields_inside n)) (sym took) (holds fresh);
+    let_go = let_go;
+  }
+
+pub fresh_holds_all : {P : Type 0} (refusal : Option Reason) → refusal ≡ None → (reason : Reason) → refusal ≡ Some reason → P
+fresh_holds_all refusal fresh reason is = absurd (let both : Some reason ≡ None = sym is ∙ fresh in cc)
 
 -- What a piece makes of a decoder, before its bytes are counted.
 pub record Took {A : Type 0} (d now : Inside A) (piece : List ℕ) (used : ℕ) (answer : Result (Answer A) Stop) : Type 0 where
   pub sound : IsSoundDecoder d
-  pub none : d.refusal ≡ None
   pub low : IsBytes piece
-  pub go : Advances (fields_inside d) (fields_inside now) piece used answer
+  pub next : NextAnswer (fields_inside now) d.history.items piece used answer
   pub counted : now.count ≡ d.count
   pub fresh : now.refusal ≡ None
   pub items : now.history.items ≡ d.history.items
 
 pub takes : {A : Type 0} {d now : Inside A} {piece : List ℕ} {used : ℕ} {answer : Result (Answer A) Stop} → IsSoundDecoder d → d.refusal ≡ None → IsBytes piece
-    → Advances (fields_inside d) (fields_inside now) piece used answer → now.count ≡ d.count → now.refusal ≡ d.refusal → now.history.items ≡ d.history.items
+    → NextAnswer (fields_inside now) d.history.items piece used answer → now.count ≡ d.count → now.refusal ≡ d.refusal → now.history.items ≡ d.history.items
     → Took d now piece used answer
-takes sound none low go counted kept items =
-    record { sound = sound; none = none; low = low; go = go; counted = counted; fresh = kept ∙ none; items = items }
+takes sound none low next counted kept items = record { sound = sound; low = low; next = next; counted = counted; fresh = kept ∙ none; items = items }
 
 module _ {A : Type 0} {d now : Inside A} {piece : List ℕ} {used : ℕ} {answer : Result (Answer A) Stop} (t : Took d now piece used answer) where
-  next : NextAnswer (fields_inside now) d.history.items piece used answer
-  next = t.go d.history.items t.sound.are (t.sound.holds t.none)
-
   pub within : used ≤ length piece
-  within = used_at_most d.history.items piece used answer next.told
-
-  more_bytes : length (d.history.items ++ take used piece) ≡ now.count + used
-  more_bytes = omega (arith, length-append d.history.items (take used piece), t.sound.counted, t.counted, length-take-le used piece within)
+  within = used_at_most d.history.items piece used answer t.next.told
 
   pub few_bytes : Fits w64 (now.count + used)
-  few_bytes = omega (arith, more_bytes, short_bytes (d.history.items ++ take used piece) next.viable)
+  few_bytes = omega (arith, t.counted, few_more t.sound piece used t.low within t.next.viable)
 
   all_items : (bytes : List ℕ) → bytes ≡ now.history.items ++ take used piece → bytes ≡ d.history.items ++ take used piece
   all_items bytes noted = noted ∙ ap (λ b. b ++ take used piece) t.items
 
-  module _ (n : Inside A) (noted : n.history.items ≡ now.history.items ++ take used piece) where
-    took : n.history.items ≡ d.history.items ++ take used piece
-    took = all_items n.history.items noted
+  module _ (n : Inside A) (noted : n.history.items ≡ now.history.items ++ take used piece) (counted : n.count ≡ now.count + used) where
+    pub still_kept : fields_inside n ≡ fields_inside now → NotRefused answer → n.refusal ≡ now.refusal → IsSoundDecoder n
+    still_kept same taken kept = sound_behind t.sound piece used t.low within t.next.viable n (all_items n.history.items noted)
+        (counted ∙ ap (λ m. m + used) t.counted) (λ _. subst (λ f. Holds f (d.history.items ++ take used piece)) (sym same) (t.next.holds taken))
+        (fresh_holds_all n.refusal (kept ∙ t.fresh))
 
-    still_viable : IsViable A chain_limit n.history.items
-    still_viable = subst (IsViable A chain_limit) (sym took) next.viable
-
-    still_bytes : IsBytes n.history.items
-    still_bytes = subst IsBytes (sym took) (IsBytes-append d.history.items (take used piece) t.sound.are (IsBytes-take used piece t.low))
-
-    pub still_kept : fields_inside n ≡ fields_inside now → n.count ≡ now.count + used → NotRefused answer → n.refusal ≡ now.refusal → IsSoundDecoder n
-    still_kept same counted taken kept = record {
-      viable = still_viable;
-      are = still_bytes;
-      counted = counted ∙ sym more_bytes ∙ ap length (sym took);
-      holds = λ _. subst (λ f. Holds f n.history.items) (sym same) (subst (Holds (fields_inside now)) (sym took) (next.holds taken));
-      let_go = λ reason is. absurd (let both : Some reason ≡ None = sym is ∙ kept ∙ t.fresh in cc);
-    }
-
-    pub refused_kept : n.count ≡ now.count + used → (reason : Reason) → n.refusal ≡ Some reason → n.env ≡ empty_environment → n.in_progress ≡ None
-        → IsSoundDecoder n
-    refused_kept counted reason is known idle = record {
-      viable = still_viable;
-      are = still_bytes;
-      counted = counted ∙ sym more_bytes ∙ ap length (sym took);
-      holds = λ fresh. absurd (let both : Some reason ≡ None = sym is ∙ fresh in cc);
-      let_go = λ _ _. (known, idle);
-    }
+    pub refused_kept : (reason : Reason) → n.refusal ≡ Some reason → n.env ≡ empty_environment → n.in_progress ≡ None → IsSoundDecoder n
+    refused_kept reason is known idle = sound_behind t.sound piece used t.low within t.next.viable n (all_items n.history.items noted)
+        (counted ∙ ap (λ m. m + used) t.counted) (λ fresh. fresh_holds_all n.refusal fresh reason is) (λ _ _. (known, idle))
 
 -- ---- the clauses
 
@@ -132,44 +124,48 @@ module _ {A : Type 0} (d : Inside A) (k : IsSoundDecoder d) (old : Seen) (seen :
     pub ends_with_chain : AreChain A old.bytes → HasEnded (fields_inside d)
     ends_with_chain chain = chain_ended (fields_inside d) d.history.items (k.holds none) (subst (AreChain A) (sym bytes_seen) chain)
 
-  module _ {now : Inside A} {piece : List ℕ} {used : ℕ} {answer : Result (Answer A) Stop} (t : Took d now piece used answer) where
-    seen_told : (is : Result (Answer A) Stop) → answer ≡ is → Advanced old.bytes piece used is
-    seen_told is same = subst (Advanced old.bytes piece used) same (subst (λ b. Advanced b piece used answer) bytes_seen (next t).told)
+module _ {A : Type 0} {d now : Inside A} {piece : List ℕ} {used : ℕ} {answer : Result (Answer A) Stop} (t : Took d now piece used answer) {old : Seen}
+    (seen : record { bytes = d.history.items; refusal = d.refusal } ≡ old) where
+  same_bytes : d.history.items ≡ old.bytes
+  same_bytes = ap (λ (s : Seen). s.bytes) seen
 
-    all_seen : (bytes : List ℕ) → bytes ≡ now.history.items ++ take used piece → bytes ≡ old.bytes ++ take used piece
-    all_seen bytes noted = all_items t bytes noted ∙ ap (λ b. b ++ take used piece) bytes_seen
+  seen_told : (is : Result (Answer A) Stop) → answer ≡ is → Advanced old.bytes piece used is
+  seen_told is same = subst (Advanced old.bytes piece used) same (subst (λ b. Advanced b piece used answer) same_bytes t.next.told)
 
-    pub bytes_fed : (bytes : List ℕ) → bytes ≡ now.history.items ++ take used piece
-        → (used ≤ length piece) × (record { bytes = bytes; refusal = now.refusal } ≡ fed old piece used)
-    bytes_fed bytes noted = (within t, λ i. record { bytes = all_seen bytes noted i; refusal = t.fresh i })
+  all_seen : (bytes : List ℕ) → bytes ≡ now.history.items ++ take used piece → bytes ≡ old.bytes ++ take used piece
+  all_seen bytes noted = all_items t bytes noted ∙ ap (λ b. b ++ take used piece) same_bytes
 
-    pub no_event : (event : Answer A) → answer ≡ Ok event → event_of event ≡ None → (used ≡ length piece) × Quiet A old.bytes piece used
-    no_event event is = tells_none old.bytes piece used event (seen_told (Ok event) is)
+  pub bytes_fed : (bytes : List ℕ) → bytes ≡ now.history.items ++ take used piece
+      → (used ≤ length piece) × (record { bytes = bytes; refusal = now.refusal } ≡ fed old piece used)
+  bytes_fed bytes noted = (within t, λ i. record { bytes = all_seen bytes noted i; refusal = t.fresh i })
 
-    pub one_event : (event : Answer A) → answer ≡ Ok event → (x : Event A) → event_of event ≡ Some x → (0 < used) × Least A old.bytes piece used x
-    one_event event is = tells_one old.bytes piece used event (seen_told (Ok event) is)
+  pub no_event : (event : Answer A) → answer ≡ Ok event → event_of event ≡ None → (used ≡ length piece) × Quiet A old.bytes piece used
+  no_event event is = tells_none old.bytes piece used event (seen_told (Ok event) is)
 
-    pub refuses : (reason : Reason) → answer ≡ Err (Refused reason) → (bytes : List ℕ) → bytes ≡ now.history.items ++ take used piece
-        → (place : ℕ) (why : Reason) → now.count + used ≡ place → reason ≡ why → Refuses A old piece (record { bytes = bytes; refusal = Some reason }) place why
-    refuses reason is bytes noted place why at same =
-        let told = seen_told (Err (Refused reason)) is in
-        record {
-          used = used;
-          within = told.0;
-          is_place = omega (arith, at, t.counted, place_seen);
-          after = λ i. record { bytes = all_seen bytes noted i; refusal = Some (same i) };
-          quiet = told.1;
-          why = subst (IsRefused A chain_limit (old.bytes ++ take used piece) (slice_index piece used)) same told.2;
-        }
+  pub one_event : (event : Answer A) → answer ≡ Ok event → (x : Event A) → event_of event ≡ Some x → (0 < used) × Least A old.bytes piece used x
+  one_event event is = tells_one old.bytes piece used event (seen_told (Ok event) is)
 
-    pub wants : answer ≡ Err NoMemory → (bytes : List ℕ) → bytes ≡ now.history.items ++ take used piece → (count : ℕ) → used ≡ count
-        → Wants A old piece (record { bytes = bytes; refusal = now.refusal }) count
-    wants is bytes noted count same =
-        let told = seen_told (Err NoMemory) is in
-        subst (Wants A old piece (record { bytes = bytes; refusal = now.refusal })) same (record {
-          within = told.0;
-          after = (bytes_fed bytes noted).1;
-          quiet = told.1;
-          next = told.2;
-          takes = told.3;
-        })
+  pub refuses : (reason : Reason) → answer ≡ Err (Refused reason) → (bytes : List ℕ) → bytes ≡ now.history.items ++ take used piece
+      → (place : ℕ) (why : Reason) → now.count + used ≡ place → reason ≡ why → Refuses A old piece (record { bytes = bytes; refusal = Some reason }) place why
+  refuses reason is bytes noted place why at same =
+      let told = seen_told (Err (Refused reason)) is in
+      record {
+        used = used;
+        within = told.0;
+        is_place = omega (arith, at, t.counted, t.sound.counted, ap length same_bytes);
+        after = λ i. record { bytes = all_seen bytes noted i; refusal = Some (same i) };
+        quiet = told.1;
+        why = subst (IsRefused A chain_limit (old.bytes ++ take used piece) (slice_index piece used)) same told.2;
+      }
+
+  pub wants : answer ≡ Err NoMemory → (bytes : List ℕ) → bytes ≡ now.history.items ++ take used piece → (count : ℕ) → used ≡ count
+      → Wants A old piece (record { bytes = bytes; refusal = now.refusal }) count
+  wants is bytes noted count same =
+      let told = seen_told (Err NoMemory) is in
+      subst (Wants A old piece (record { bytes = bytes; refusal = now.refusal })) same (record {
+        within = told.0;
+        after = (bytes_fed bytes noted).1;
+        quiet = told.1;
+        next = told.2;
+        takes = told.3;
+      })

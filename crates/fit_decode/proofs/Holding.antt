@@ -27,9 +27,9 @@ module _ {A : Type 0} (d : Fields A) (bytes : List ℕ) (are : IsBytes bytes) wh
       × (in_progress_size d.in_progress ≤ part_size (learn_all empty_environment k.records) k.part)
   kept_in_data k =
       let room : ℕ = k.size - length (records_bytes empty_environment k.records) in
-      held_is_of_bytes k.records room k.part d.stage.position d.in_progress k.come.next.1
+      held_is_of_bytes k.records room k.part d.position d.in_progress k.come.next.1
       (records_are k.files k.header k.size k.records k.part bytes k.come are)
-      (subst (λ e. IsInProgress e room k.part d.stage.position d.in_progress) k.known k.in_record)
+      (subst (λ e. IsInProgress e room k.part d.position d.in_progress) k.known k.in_record)
 
   held_at : (s : Section) → HoldsAt s d bytes → IsHeld A bytes (environment_size d.env + in_progress_size d.in_progress)
   held_at Header k =
@@ -52,7 +52,7 @@ module _ {A : Type 0} (d : Fields A) (bytes : List ℕ) (are : IsBytes bytes) wh
         within = omega (arith, known, kept.2, counted);
         all = λ idle.
             let none : in_progress_size d.in_progress ≡ 0 =
-            ap in_progress_size ((idle_between_records d.env _ k.part d.stage.position d.in_progress k.in_record).1 idle) in
+            ap in_progress_size ((idle_between_records d.env _ k.part d.position d.in_progress k.in_record).1 idle) in
             let no_part : part_size e k.part ≡ 0 = ap (part_size e) idle in
             omega (arith, known, none, no_part, counted);
       }

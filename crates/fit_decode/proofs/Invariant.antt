@@ -1,5 +1,5 @@
 -- The invariant of a decoder holds before the first byte.
-use Rattle.fit_decode.proofs.Common.{◌≡◌, false, [], length, refl, sym, ap, ◌∙◌, subst, arith, None, IsBytes, IsBytes-none, empty_environment, chain_limit}
+use Rattle.fit_decode.proofs.Common.{◌≡◌, false, [], length, sym, ap, ◌∙◌, subst, arith, None, IsBytes, IsBytes-none, empty_environment, chain_limit}
 use Rattle.fit_decode.proofs.Common.{IsViable, Inside, at_header, HasCome, ChainGoesOn, HoldsAt, IsSoundDecoder, fields_inside, begins_nothing}
 use Rattle.fit_decode.specs.declared.section.Section.TheVariants.{Header}
 use Rattle.fit_decode.proofs.FileRead.{no_file_yet, nothing_viable}

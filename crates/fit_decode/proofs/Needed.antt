@@ -1,8 +1,8 @@
 -- How many bytes are to come, by the fields, are those that are missing by the bytes fed.
 use Rattle.fit_decode.proofs.Common.{◌≡◌, ℕ, ◌+◌, ◌-◌, ◌<◌, ◌^◌, true, false, List, [], ◌∷◌, length, take, drop, refl, sym, ap, ◌∙◌, subst, arith, None}
 use Rattle.fit_decode.proofs.Common.{if◌then◌else◌, IsBytes, number, IsBytes-take, IsBytes-drop, checksum, empty_environment, records_bytes}
-use Rattle.fit_decode.proofs.Common.{records_in_progress, Inside, Section, Data, ClosingSum, at_header, at_data, Fed, half_sum, Fields, HoldsAt, Holds, to_come, to_come_in}
-use Rattle.fit_decode.proofs.Common.{IsSoundDecoder, fields_inside}
+use Rattle.fit_decode.proofs.Common.{records_in_progress, Inside, Section, Data, ClosingSum, at_header, at_data, Fed, half_sum, Fields, HoldsAt, Holds}
+use Rattle.fit_decode.proofs.Common.{to_come, to_come_in, IsSoundDecoder, fields_inside}
 use Rattle.std.proofs.Common.{Bool}
 use Rattle.fit_base.specs.declared.number.Order.TheVariants.{Little}
 use Rattle.fit_base.proofs.NumberLaws.{number-below}
@@ -27,7 +27,7 @@ sum_left n true = refl
 sum_left n false = refl
 
 module _ {A : Type 0} (d : Fields A) (bytes : List ℕ) (are : IsBytes bytes) where
-  needed_at : (s : Section) → HoldsAt s d bytes → Needs A bytes (to_come_in s d.stage d.reader.bytes)
+  needed_at : (s : Section) → HoldsAt s d bytes → Needs A bytes (to_come_in s d.stage d.reader.bytes d.position.room)
   needed_at Header k = record {
     files = k.files;
     progress = at_header d.sum;
@@ -36,7 +36,7 @@ module _ {A : Type 0} (d : Fields A) (bytes : List ℕ) (are : IsBytes bytes) wh
   }
   needed_at Data k =
       let taken : ℕ = length (records_bytes empty_environment k.records) in
-      let left = (records_in_progress d.env (k.size - taken) k.part d.stage.position d.in_progress k.in_record).2 in
+      let left = (records_in_progress d.env (k.size - taken) k.part d.position d.in_progress k.in_record).2 in
       record { files = k.files; progress = at_data k.header k.size k.records k.part; come = k.come; is = omega (arith, left, k.come.next.2) }
   needed_at ClosingSum k = record {
     files = k.files;
@@ -45,16 +45,16 @@ module _ {A : Type 0} (d : Fields A) (bytes : List ℕ) (are : IsBytes bytes) wh
     is = omega (arith, sum_left (checksum d.sum) d.stage.half, k.over, k.come.next.2);
   }
 
-  pub needed : Holds d bytes → Needs A bytes (to_come d.stage d.reader.bytes)
+  pub needed : Holds d bytes → Needs A bytes (to_come d.stage d.reader.bytes d.position.room)
   needed holds = needed_at d.stage.section holds
 
 pub needed_seen : {A : Type 0} (d : Inside A) → IsSoundDecoder d → (old : Fed) → record { bytes = d.history.items; refusal = d.refusal } ≡ old
     → (front : List ℕ) (n : ℕ) → front ≡ d.reader.bytes
-    → n ≡ to_come d.stage front → old.refusal ≡ None → Needs A old.bytes n
+    → n ≡ to_come d.stage front d.position.room → old.refusal ≡ None → Needs A old.bytes n
 needed_seen {A} d k old seen front n read is fresh =
     let none : d.refusal ≡ None = ap (λ (s : Fed). s.refusal) seen ∙ fresh in
-    let same : to_come d.stage d.reader.bytes ≡ n =
-    sym (is ∙ ap (λ l. to_come d.stage l) read) in
+    let same : to_come d.stage d.reader.bytes d.position.room ≡ n =
+    sym (is ∙ ap (λ l. to_come d.stage l d.position.room) read) in
     subst (Needs A old.bytes) same
-    (subst (λ b. Needs A b (to_come d.stage d.reader.bytes)) (ap (λ (s : Fed). s.bytes) seen)
+    (subst (λ b. Needs A b (to_come d.stage d.reader.bytes d.position.room)) (ap (λ (s : Fed). s.bytes) seen)
     (needed (fields_inside d) d.history.items k.are (k.holds none)))

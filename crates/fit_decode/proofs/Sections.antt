@@ -4,7 +4,7 @@ use Rattle.fit_decode.proofs.Common.{sym, ap, ◌∙◌, subst, arith, append_as
 use Rattle.fit_decode.proofs.Common.{IsBytes-take, checksum, FileHeader, header_bytes, IsFileHeader, RefusesByte, FitFile, Record, Environment}
 use Rattle.fit_decode.proofs.Common.{empty_environment, learn, learn_all, IsRecord, record_bytes, records_bytes, CanFill, chain_limit, IsViable}
 use Rattle.fit_decode.proofs.Common.{records_bytes-append, learn_all-append, Position, Stop, FillFrom, IsInProgress, begins_record, fill_nothing, Stage}
-use Rattle.fit_decode.proofs.Common.{idle_between_records, record_fills, records_in_progress, Answer, Section, Data, ClosingSum, at_header, at_data, HasCome}
+use Rattle.fit_decode.proofs.Common.{idle_between_records, record_fills, records_in_progress, Answer, Data, ClosingSum, at_header, at_data, HasCome}
 use Rattle.fit_decode.proofs.Common.{AreEvents, IsRefused, files_begun, ChainGoesOn, IsHeaderPart, half_sum, section_of, HeaderFed, DataFed, SumFed, Fields}
 use Rattle.fit_decode.proofs.Common.{InHeader, InData, InSum, Holds, HoldsAt, NextAnswer, goes_viable, fill_data, whole_header, quiet_of, begun_header}
 use Rattle.fit_decode.proofs.Common.{InRecords, data_starts, data_quiet, data_come, data_viable, left_behind, item_come, item_least, data_refuses, data_wants}
@@ -26,7 +26,7 @@ pub begins_records : {A : Type 0} (files : List (FitFile A)) (d : Fields A) (byt
     → HasCome files (at_data h n records []) bytes
     → length files < chain_limit → d.stage.files ≡ length files → d.stage.half ≡ false → d.reader ≡ record { bytes = []; refusal = None }
     → d.sum ≡ header_bytes h n ++ records_bytes empty_environment records
-    → d.env ≡ learn_all empty_environment records → IsInProgress d.env (n - length (records_bytes empty_environment records)) [] d.stage.position d.in_progress
+    → d.env ≡ learn_all empty_environment records → IsInProgress d.env (n - length (records_bytes empty_environment records)) [] d.position d.in_progress
     → HoldsAt (section_of (n - length (records_bytes empty_environment records))) d bytes
 begins_records files d bytes h n records come few counted whole fresh sum known here =
     let room = n - length (records_bytes empty_environment records) in
@@ -44,7 +44,7 @@ begins_records files d bytes h n records come few counted whole fresh sum known 
         summed = sum;
         known = known;
         over = none.1;
-        idle = (idle_between_records d.env room [] d.stage.position d.in_progress here).1 refl;
+        idle = (idle_between_records d.env room [] d.position d.in_progress here).1 refl;
       })
       | inr some ↦ subst (λ c. HoldsAt (cond c ClosingSum Data) d bytes) (sym some.0) (record {
         files = files;
@@ -66,7 +66,8 @@ begins_records files d bytes h n records come few counted whole fresh sum known 
 
 -- ---- headers
 
-module _ {A : Type 0} (d : Fields A) (at : d.stage.section ≡ Header) (bytes piece : List ℕ) (k : InHeader d bytes) (are : IsBytes bytes) (low : IsBytes piece) where
+module _ {A : Type 0} (d : Fields A) (at : d.stage.section ≡ Header) (bytes piece : List ℕ) (k : InHeader d bytes) (are : IsBytes bytes)
+    (low : IsBytes piece) where
   front_is : d.reader.bytes ≡ d.sum
   front_is = ap (λ (s : Seen). s.bytes) k.read
 
@@ -89,10 +90,10 @@ module _ {A : Type 0} (d : Fields A) (at : d.stage.section ≡ Header) (bytes pi
   no_front [] begun all = refl
   no_front (b ∷ front) begun all = absurd (omega (arith, begun, all))
 
-  pub header_fed : (stage : Stage) (reader : Seen) (sum : List ℕ) (used : ℕ) (answer : Result (Answer A) Stop)
-      → HeaderFed d.stage d.reader.bytes d.sum stage reader sum piece used answer
-      → NextAnswer (record d { stage = stage; reader = reader; sum = sum }) bytes piece used answer
-  header_fed stage reader sum used (Ok answers.More) (lim, (all, read, begun), covered, same) =
+  pub header_fed : (stage : Stage) (reader : Seen) (position : Position) (sum : List ℕ) (used : ℕ) (answer : Result (Answer A) Stop)
+      → HeaderFed d.stage d.reader.bytes d.sum stage reader position sum piece used answer
+      → NextAnswer (record d { stage = stage; reader = reader; sum = sum; position = position }) bytes piece used answer
+  header_fed stage reader position sum used (Ok answers.More) (lim, (all, read, begun), covered, same) =
       let open_ : IsHeaderPart (d.sum ++ take used piece) = subst (λ l. IsHeaderPart (l ++ take used piece)) front_is begun in
       let within : used ≤ length piece = omega (arith, all) in
       let none = begun_header (d.sum ++ take used piece) open_.0 open_.1 in
@@ -102,8 +103,8 @@ module _ {A : Type 0} (d : Fields A) (at : d.stage.section ≡ Header) (bytes pi
         told = (all, header_quiet k.files d.sum bytes piece k.come used within none);
         viable = goes_viable chain_limit k.files (at_header (d.sum ++ take used piece)) (bytes ++ take used piece) come
             (IsBytes-append bytes (take used piece) are (IsBytes-take used piece low)) goes;
-        holds = λ _. subst (λ s. Holds (record d { stage = s; reader = reader; sum = sum }) (bytes ++ take used piece)) (sym same)
-            (subst (λ c. HoldsAt c (record d { reader = reader; sum = sum }) (bytes ++ take used piece)) (sym at) (record {
+        holds = λ _. subst (λ s. Holds (record d { stage = s; reader = reader; sum = sum; position = position }) (bytes ++ take used piece)) (sym same)
+            (subst (λ c. HoldsAt c (record d { reader = reader; sum = sum; position = position }) (bytes ++ take used piece)) (sym at) (record {
               files = k.files;
               come = subst (λ l. HasCome k.files (at_header l) (bytes ++ take used piece)) (sym covered) come;
               goes = subst (λ l. ChainGoesOn chain_limit k.files (at_header l)) (sym covered) goes;
@@ -114,30 +115,30 @@ module _ {A : Type 0} (d : Fields A) (at : d.stage.section ≡ Header) (bytes pi
               idle = k.idle;
             }));
       }
-  header_fed stage reader sum used (Ok (answers.Header h n)) (few, some, within, whole, fresh, covered, goes_on, begins, room) =
+  header_fed stage reader position sum used (Ok (answers.Header h n)) (few, some, within, whole, fresh, covered, goes_on, begins, room) =
       let is : IsFileHeader h n (d.sum ++ take used piece) = subst (λ l. IsFileHeader h n (l ++ take used piece)) front_is whole in
       let less : length k.files < chain_limit = omega (arith, few, k.counted) in
       let come = whole_header k.files d.sum bytes (take used piece) h n k.come is in
       let same : n ≡ n - 0 = omega arith in
       let filled : CanFill {A = A} empty_environment (n - 0) = subst (CanFill {A = A} empty_environment) same (fill_data n is.1) in
-      let fill : CanFill {A = A} empty_environment stage.position.room = subst (CanFill {A = A} empty_environment) (sym room) (fill_data n is.1) in
-      let now : Fields A = record d { stage = record d.stage { section = section_of n; position = stage.position }; reader = reader; sum = sum } in
-      let begun : IsInProgress {A = A} empty_environment (n - 0) [] stage.position None =
-      subst (λ m. IsInProgress {A = A} empty_environment m [] stage.position None) (room ∙ same) (begins_record empty_environment stage.position refl begins fill) in
-      let here : IsInProgress d.env (n - 0) [] stage.position d.in_progress =
-      subst (λ e. IsInProgress e (n - 0) [] stage.position d.in_progress) (sym k.known)
-      (subst (λ o. IsInProgress empty_environment (n - 0) [] stage.position o) (sym k.idle) begun) in
+      let fill : CanFill {A = A} empty_environment position.room = subst (CanFill {A = A} empty_environment) (sym room) (fill_data n is.1) in
+      let now : Fields A = record d { stage = record d.stage { section = section_of n }; reader = reader; sum = sum; position = position } in
+      let begun : IsInProgress {A = A} empty_environment (n - 0) [] position None =
+      subst (λ m. IsInProgress {A = A} empty_environment m [] position None) (room ∙ same) (begins_record empty_environment position refl begins fill) in
+      let here : IsInProgress d.env (n - 0) [] position d.in_progress =
+      subst (λ e. IsInProgress e (n - 0) [] position d.in_progress) (sym k.known)
+      (subst (λ o. IsInProgress empty_environment (n - 0) [] position o) (sym k.idle) begun) in
       let all : sum ≡ header_bytes h n ++ [] = covered ∙ is.0.1 ∙ sym (append-nil (header_bytes h n)) in
       record {
         told = (some, within, header_least k.files d.sum bytes piece k.come used h n within is);
         viable = goes_viable chain_limit k.files (at_data h n [] []) (bytes ++ take used piece) come
             (IsBytes-append bytes (take used piece) are (IsBytes-take used piece low))
             (k.goes.0, omega (arith, less), data_starts empty_environment (n - 0) _ (fill_nothing empty_environment (n - 0) filled));
-        holds = λ _. subst (λ s. Holds (record d { stage = s; reader = reader; sum = sum }) (bytes ++ take used piece)) (sym goes_on)
+        holds = λ _. subst (λ s. Holds (record d { stage = s; reader = reader; sum = sum; position = position }) (bytes ++ take used piece)) (sym goes_on)
             (subst (λ m. HoldsAt (section_of m) now (bytes ++ take used piece)) (sym same)
             (begins_records k.files now (bytes ++ take used piece) h n [] come less k.counted k.whole fresh all k.known here));
       }
-  header_fed stage reader sum used (Err (Refused reason)) (inl (full, some, none, is)) =
+  header_fed stage reader position sum used (Err (Refused reason)) (inl (full, some, none, is)) =
       let all : length k.files ≡ chain_limit = omega (arith, full, k.counted, at_most (d.sum) k.goes.1) in
       let empty : d.sum ≡ [] = no_front d.sum k.goes.1 all in
       let viable = goes_viable chain_limit k.files (at_header d.sum) bytes k.come are k.goes in
@@ -154,7 +155,7 @@ module _ {A : Type 0} (d : Fields A) (at : d.stage.section ≡ Header) (bytes pi
         viable = subst (IsViable A chain_limit) here viable;
         holds = λ never. absurd never;
       }
-  header_fed stage reader sum used (Err (Refused reason)) (inr (few, within, begun, refuses)) =
+  header_fed stage reader position sum used (Err (Refused reason)) (inr (few, within, begun, refuses)) =
       let open_ : IsHeaderPart (d.sum ++ take used piece) = subst (λ l. IsHeaderPart (l ++ take used piece)) front_is begun in
       let less : length k.files < chain_limit = omega (arith, few, k.counted) in
       let none = begun_header (d.sum ++ take used piece) open_.0 open_.1 in
@@ -166,11 +167,12 @@ module _ {A : Type 0} (d : Fields A) (at : d.stage.section ≡ Header) (bytes pi
         viable = why.viable;
         holds = λ never. absurd never;
       }
-  header_fed stage reader sum used answer fed = absurd fed
+  header_fed stage reader position sum used answer fed = absurd fed
 
 -- ---- data sections
 
-module _ {A : Type 0} (d : Fields A) (at : d.stage.section ≡ Data) (bytes piece : List ℕ) (k : InData d bytes) (are : IsBytes bytes) (low : IsBytes piece) where
+module _ {A : Type 0} (d : Fields A) (at : d.stage.section ≡ Data) (bytes piece : List ℕ) (k : InData d bytes) (are : IsBytes bytes)
+    (low : IsBytes piece) where
   abbrev taken : ℕ
   taken = length (records_bytes empty_environment k.records)
 
@@ -197,21 +199,18 @@ module _ {A : Type 0} (d : Fields A) (at : d.stage.section ≡ Data) (bytes piec
   covered_is used = ap (λ l. l ++ take used piece) k.summed
       ∙ append_assoc (header_bytes k.header k.size ++ records_bytes empty_environment k.records) k.part (take used piece)
 
-  module _ (stage : Stage) (env : Environment A) (in_progress : Option (Record A)) (sum : List ℕ) (used : ℕ) where
+  module _ (stage : Stage) (env : Environment A) (position : Position) (in_progress : Option (Record A)) (sum : List ℕ) (used : ℕ) where
     abbrev now : Stage → Fields A
-    now s = record d { stage = s; env = env; in_progress = in_progress; sum = sum }
-
-    abbrev position : Position
-    position = stage.position
+    now s = record d { stage = s; env = env; position = position; in_progress = in_progress; sum = sum }
 
     -- bytes that end within a record
     within_record : sum ≡ d.sum ++ take used piece → used ≤ length piece → env ≡ known
-        → IsInProgress known room (k.part ++ take used piece) position in_progress → stage ≡ record d.stage { position = position }
+        → IsInProgress known room (k.part ++ take used piece) position in_progress → stage ≡ d.stage
         → Holds (now stage) (bytes ++ take used piece)
     within_record covered within same here stays =
         let none = (records_in_progress known room (k.part ++ take used piece) position in_progress here).0 in
         subst (λ s. Holds (now s) (bytes ++ take used piece)) (sym stays)
-        (subst (λ c. HoldsAt c (now (record d.stage { position = position })) (bytes ++ take used piece)) (sym at) (record {
+        (subst (λ c. HoldsAt c (now d.stage) (bytes ++ take used piece)) (sym at) (record {
           files = k.files;
           header = k.header;
           size = k.size;
@@ -231,9 +230,9 @@ module _ {A : Type 0} (d : Fields A) (at : d.stage.section ≡ Data) (bytes piec
     -- bytes that end with a record
     behind_record : sum ≡ d.sum ++ take used piece → (r : Record A) → used ≤ length piece → env ≡ learn known r → IsRecord known r (k.part ++ take used piece)
         → length (k.part ++ take used piece) ≤ room → IsInProgress env (room - length (k.part ++ take used piece)) [] position in_progress
-        → stage ≡ record d.stage { section = section_of position.room; position = position } → Holds (now stage) (bytes ++ take used piece)
+        → stage ≡ record d.stage { section = section_of position.room } → Holds (now stage) (bytes ++ take used piece)
     behind_record covered r within same is fits here goes_on =
-        let next : Stage = record d.stage { section = section_of position.room; position = position } in
+        let next : Stage = record d.stage { section = section_of position.room } in
         let come = item_come bytes piece here_in are low used r within is fits in
         let left = left_behind bytes piece here_in are low used r within is fits in
         let all : records_bytes empty_environment (k.records ++ r ∷ []) ≡ records_bytes empty_environment k.records ++ (k.part ++ take used piece) =
@@ -249,15 +248,15 @@ module _ {A : Type 0} (d : Fields A) (at : d.stage.section ≡ Data) (bytes piec
         (begins_records k.files (now next) (bytes ++ take used piece) k.header k.size (k.records ++ r ∷ []) come k.few k.counted k.whole k.fresh sums
         (same ∙ sym (learn_all-append empty_environment k.records (r ∷ []))) (subst (λ m. IsInProgress env m [] position in_progress) left here)))
 
-    pub data_fed : (answer : Result (Answer A) Stop) → DataFed d.stage d.env d.in_progress d.sum stage env in_progress sum piece used answer
+    pub data_fed : (answer : Result (Answer A) Stop) → DataFed d.stage d.env d.position d.in_progress d.sum stage env position in_progress sum piece used answer
         → NextAnswer (now stage) bytes piece used answer
     data_fed answer fed =
-        told_of answer (subst (λ e. DataFed d.stage e d.in_progress d.sum stage env in_progress sum piece used answer) k.known fed)
+        told_of answer (subst (λ e. DataFed d.stage e d.position d.in_progress d.sum stage env position in_progress sum piece used answer) k.known fed)
       where
-        before : IsInProgress known room k.part d.stage.position d.in_progress
-        before = subst (λ e. IsInProgress e room k.part d.stage.position d.in_progress) k.known k.in_record
+        before : IsInProgress known room k.part d.position d.in_progress
+        before = subst (λ e. IsInProgress e room k.part d.position d.in_progress) k.known k.in_record
 
-        told_of : (answer : Result (Answer A) Stop) → DataFed d.stage known d.in_progress d.sum stage env in_progress sum piece used answer
+        told_of : (answer : Result (Answer A) Stop) → DataFed d.stage known d.position d.in_progress d.sum stage env position in_progress sum piece used answer
             → NextAnswer (now stage) bytes piece used answer
         told_of (Ok answers.More) (reads, covered, goes_on) =
             let (all, same, here) = reads room k.part before in
@@ -314,7 +313,8 @@ part_begins : (n : ℕ) (half : Bool) → (rest : List ℕ) × (little_bytes 2 n
 part_begins n true = (n / 256 % 256 ∷ [], refl)
 part_begins n false = (little_bytes 2 n, refl)
 
-module _ {A : Type 0} (d : Fields A) (at : d.stage.section ≡ ClosingSum) (bytes piece : List ℕ) (k : InSum d bytes) (are : IsBytes bytes) (low : IsBytes piece) where
+module _ {A : Type 0} (d : Fields A) (at : d.stage.section ≡ ClosingSum) (bytes piece : List ℕ) (k : InSum d bytes) (are : IsBytes bytes)
+    (low : IsBytes piece) where
   abbrev value : ℕ
   value = checksum d.sum
 

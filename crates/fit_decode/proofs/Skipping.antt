@@ -3,7 +3,7 @@ use Rattle.fit_decode.proofs.Common.{◌≡◌, cond, inl, inr, ℕ, ◌+◌, �
 use Rattle.fit_decode.proofs.Common.{append_assoc, length-append, Fits, w64, Some, None, is_some, map, ne_eqb, append-nil, length-take-le, IsBytes}
 use Rattle.fit_decode.proofs.Common.{IsBytes-append, IsBytes-take, header_bytes, FitFile, Record, Environment, empty_environment, learn_all, chain_limit}
 use Rattle.fit_decode.proofs.Common.{IsViable, AllFit, records_bytes, all_fit-append, records_bytes-append, learn_all-append, Position, FillFrom, IsInProgress}
-use Rattle.fit_decode.proofs.Common.{records_in_progress, Reason, Inside, TellsRecords, IsSoundDecoder, fields_inside, short_bytes, InSection, ClosingSum}
+use Rattle.fit_decode.proofs.Common.{records_in_progress, Reason, Inside, TellsRecords, IsSoundDecoder, fields_inside, InSection, ClosingSum}
 use Rattle.fit_decode.proofs.Common.{at_data, HasCome, Event, item, AreEvents, Fields, InData, Holds, HoldsAt, section_of, goes_viable, data_starts, more_of}
 use Rattle.fit_decode.proofs.Common.{items_told, all_told, partial_nothing}
 use Rattle.std.proofs.Common.{Bool}
@@ -13,6 +13,7 @@ use Rattle.fit_step.specs.Skipping.{AreSkipped, SkipsInSection}
 use Rattle.fit_decode.specs.Answers.{Seen}
 use Rattle.fit_decode.specs.inner.Skips.{Skipped}
 use Rattle.fit_decode.proofs.Sections.{begins_records}
+use Rattle.fit_decode.proofs.Feeding.{few_more, sound_behind, fresh_holds_all}
 
 -- ---- records behind records
 
@@ -53,7 +54,7 @@ module _ {A : Type 0} (fs : List (FitFile A)) (h : Header) (n : ℕ) (records rs
 module _ {A : Type 0} (d : Fields A) (bytes piece : List ℕ) (after : Environment A) (sum : List ℕ) (position : Position) (used count : ℕ) (are : IsBytes bytes)
     (low : IsBytes piece) where
   abbrev now : Fields A
-  now = record d { stage = record d.stage { position = position }; env = after; sum = sum }
+  now = record d { env = after; sum = sum; position = position }
 
   abbrev y : List ℕ
   y = take used piece
@@ -140,11 +141,11 @@ module _ {A : Type 0} (d : Fields A) (bytes piece : List ℕ) (after : Environme
       holds = holds_behind;
     }
 
-  skips_none : used ≡ 0 → count ≡ 0 → after ≡ d.env → sum ≡ d.sum → position ≡ d.stage.position → IsViable A chain_limit bytes → Holds d bytes
+  skips_none : used ≡ 0 → count ≡ 0 → after ≡ d.env → sum ≡ d.sum → position ≡ d.position → IsViable A chain_limit bytes → Holds d bytes
       → Skipped now bytes piece used count
   skips_none none no_count learnt same there viable holds =
       let stay : bytes ≡ bytes ++ y = sym (append-nil bytes) ∙ ap (λ n. bytes ++ take n piece) (sym none) in
-      let fields : d ≡ now = λ i. record d { stage = record d.stage { position = sym there i }; env = sym learnt i; sum = sym same i } in
+      let fields : d ≡ now = λ i. record d { env = sym learnt i; sum = sym same i; position = sym there i } in
       record {
         within = omega (arith, none);
         told = λ events are_told. ([], sym no_count, subst (λ l. AreEvents l (events ++ [])) stay (subst (AreEvents bytes) (sym (append-nil events)) are_told));
@@ -152,7 +153,7 @@ module _ {A : Type 0} (d : Fields A) (bytes piece : List ℕ) (after : Environme
         holds = subst (λ f. Holds f (bytes ++ y)) fields (subst (Holds d) stay holds);
       }
 
-  pub skips : d.stage.section ≡ InSection → used ≤ length piece → SkipsInSection d.env d.stage.position d.in_progress after position piece used count
+  pub skips : d.stage.section ≡ InSection → used ≤ length piece → SkipsInSection d.env d.position d.in_progress after position piece used count
       → sum ≡ d.sum ++ take used piece → IsViable A chain_limit bytes → Holds d bytes → Skipped now bytes piece used count
   skips at within skip summed viable holds =
       let k = subst (λ c. HoldsAt c d bytes) at holds in
@@ -169,30 +170,20 @@ fresh (Some reason) some is isnt = absurd (let both : true ≡ false = sym is �
 
 module _ {A : Type 0} (d : Inside A) (k : IsSoundDecoder d) (none : d.refusal ≡ None) (at : d.stage.section ≡ InSection) (piece : List ℕ)
     (after : Environment A) (sum : List ℕ) (position : Position) (used count : ℕ) (low : IsBytes piece) (within : used ≤ length piece)
-    (skip : SkipsInSection d.env d.stage.position d.in_progress after position piece used count) (summed : sum ≡ d.sum ++ take used piece) where
+    (skip : SkipsInSection d.env d.position d.in_progress after position piece used count) (summed : sum ≡ d.sum ++ take used piece) where
   abbrev behind : Fields A
-  behind = record (fields_inside d) { stage = record d.stage { position = position }; env = after; sum = sum }
+  behind = record (fields_inside d) { env = after; sum = sum; position = position }
 
   skipped : Skipped behind d.history.items piece used count
   skipped = skips (fields_inside d) d.history.items piece after sum position used count k.are low at within skip summed k.viable (k.holds none)
 
-  more_bytes : length (d.history.items ++ take used piece) ≡ d.count + used
-  more_bytes = omega (arith, length-append d.history.items (take used piece), k.counted, length-take-le used piece skipped.within)
-
   pub few_skipped : Fits w64 (d.count + used)
-  few_skipped = omega (arith, more_bytes, short_bytes (d.history.items ++ take used piece) skipped.viable)
+  few_skipped = few_more k piece used low within skipped.viable
 
-  pub skipped_kept : (n : Inside A) → n.history.items ≡ d.history.items ++ take used piece
-      → fields_inside n ≡ behind → n.count ≡ d.count + used → n.refusal ≡ None
-      → IsSoundDecoder n
-  skipped_kept n took same counted fresh = record {
-    viable = subst (IsViable A chain_limit) (sym took) skipped.viable;
-    are = subst IsBytes (sym took) (IsBytes-append d.history.items (take used piece) k.are (IsBytes-take used piece low));
-    counted = counted ∙ sym more_bytes ∙ ap length (sym took);
-    holds = λ _. subst (λ f. Holds f n.history.items) (sym same)
-        (subst (Holds behind) (sym took) skipped.holds);
-    let_go = λ reason is. absurd (let both : Some reason ≡ None = sym is ∙ fresh in cc);
-  }
+  pub skipped_kept : (n : Inside A) → n.history.items ≡ d.history.items ++ take used piece → fields_inside n ≡ behind → n.count ≡ d.count + used
+      → n.refusal ≡ None → IsSoundDecoder n
+  skipped_kept n took same counted fresh = sound_behind k piece used low within skipped.viable n took counted
+      (λ _. subst (λ f. Holds f (d.history.items ++ take used piece)) (sym same) skipped.holds) (fresh_holds_all n.refusal fresh)
 
   pub records_skipped : (old : Seen) → record { bytes = d.history.items; refusal = d.refusal } ≡ old → (bytes : List ℕ)
       → bytes ≡ d.history.items ++ take used piece

@@ -16,7 +16,7 @@ ghost use Rattle.fit_chain.specs.Checks.{AreChain};
 mod tests;
 
 use crate::need::bytes_to_come;
-use crate::section::{Section, Stage, feed_data, feed_header, feed_sum};
+use crate::section::{Section, Stage};
 use crate::{Event, Fault, Fed};
 use fit_frame::{HeadReader, Reason};
 use fit_history::History;
@@ -37,6 +37,7 @@ pub struct Decoder<A: Allocator + Copy = Global> {
     env: Env<A>,
     in_progress: Option<Record<A>>,
     stage: Stage,
+    position: Position,
     count: u64,
     refusal: Option<Reason>,
     history: History<u8>,
@@ -78,9 +79,9 @@ impl<A: Allocator + Copy> Decoder<A> {
             stage: Stage {
                 files: 0,
                 section: Section::Header,
-                position: Position::new(0),
                 half: false,
             },
+            position: Position::new(0),
             count: 0,
             refusal: None,
             history: History::new(),
@@ -124,23 +125,21 @@ impl<A: Allocator + Copy> Decoder<A> {
         }
         let (used, answer) = match self.stage.section {
             Section::Header => {
-                feed_header(&mut self.stage, &mut self.reader, &mut self.sum, piece)
+                self.stage
+                    .feed_header(&mut self.reader, &mut self.position, &mut self.sum, piece)
             }
-            Section::Data => feed_data(
+            Section::Data => self.stage.feed_data(
                 self.alloc,
-                &mut self.stage,
                 &mut self.env,
+                &mut self.position,
                 &mut self.in_progress,
                 &mut self.sum,
                 piece,
             ),
-            Section::ClosingSum => feed_sum(
-                self.alloc,
-                &mut self.stage,
-                &mut self.env,
-                &mut self.sum,
-                piece,
-            ),
+            Section::ClosingSum => {
+                self.stage
+                    .feed_sum(self.alloc, &mut self.env, &mut self.sum, piece)
+            }
         };
         let (taken, _) = piece.split_at(used);
         self.history.note(taken);
@@ -187,7 +186,7 @@ impl<A: Allocator + Copy> Decoder<A> {
         let (skipped, count) = skip_in_section(
             self.alloc,
             &mut self.env,
-            &mut self.stage.position,
+            &mut self.position,
             &self.in_progress,
             piece,
         );
@@ -243,7 +242,7 @@ impl<A: Allocator + Copy> Decoder<A> {
         if self.refusal.is_some() {
             return 0;
         }
-        bytes_to_come(&self.stage, self.reader.bytes())
+        bytes_to_come(&self.stage, self.reader.bytes(), self.position.room)
     }
 
     /// How much is held: the fields and developer fields of all definitions, the described developer fields, and of the

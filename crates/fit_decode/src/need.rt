@@ -6,9 +6,9 @@ use crate::section::{Section, Stage};
 use fit_base::{Order, bits_at};
 use fit_record::CHAIN_LIMIT;
 
-/// How many bytes are to come at least. `header` is what there is of a header.
-pub(crate) fn bytes_to_come(stage: &Stage, header: &[u8]) -> u64
-    ensures { result ≡ to_come stage.now header.now }
+/// How many bytes are to come at least. `header` is what there is of a header, and `room` how many bytes of data are to come.
+pub(crate) fn bytes_to_come(stage: &Stage, header: &[u8], room: u32) -> u64
+    ensures { result ≡ to_come stage.now header.now room }
 {
     match stage.section {
         Section::Header => match header.first() {
@@ -23,7 +23,7 @@ pub(crate) fn bytes_to_come(stage: &Stage, header: &[u8]) -> u64
             }
             None => if stage.files < CHAIN_LIMIT { 14 } else { 1 },
         },
-        Section::Data => u64::from(stage.position.room) + 2,
+        Section::Data => u64::from(room) + 2,
         Section::ClosingSum => if stage.half { 1 } else { 2 },
     }
 }

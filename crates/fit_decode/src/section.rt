@@ -21,15 +21,13 @@ pub(crate) enum Section {
     ClosingSum,
 }
 
-/// How far the bytes have come. It has a fixed size, and no memory of its own.
+/// How far the bytes have come.
 #[derive(Drop)]
 pub(crate) struct Stage {
     /// How many files have ended.
     pub(crate) files: u32,
     /// The section that the next byte belongs to.
     pub(crate) section: Section,
-    /// Where in a record it is, and how many bytes of data are to come.
-    pub(crate) position: Position,
     /// Whether one byte of a closing sum has come.
     pub(crate) half: bool,
 }
@@ -45,84 +43,88 @@ fn section_of(room: u32) -> Section
     }
 }
 
-/// Bytes of a header.
-pub(crate) fn feed_header<A: Allocator>(
-    stage: &mut Stage,
-    reader: &mut HeadReader,
-    sum: &mut Sum,
-    piece: &[u8],
-) -> (usize, Result<Event<A>, Stop>)
-    requires fresh { reader.old.refusal ≡ None }
-    requires begun { IsHeaderPart reader.old.bytes }
-    ensures { HeaderFed stage.old reader.old.bytes sum.old stage.new reader.new sum.new
-        piece.now result.0 result.1 }
-{
-    if stage.files >= CHAIN_LIMIT && !piece.is_empty() {
-        return (0, Err(Stop::Refused(Reason::TooManyFiles)));
-    }
-    let (used, answer) = scan_header(reader, piece);
-    let (taken, _) = piece.split_at(used);
-    sum.add_all(taken);
-    match answer {
-        Ok(None) => (used, Ok(Event::More)),
-        Ok(Some((header, size))) => {
-            *reader = HeadReader::new();
-            stage.section = section_of(size);
-            stage.position = Position::new(size);
-            (used, Ok(Event::Header(header, size)))
+impl Stage {
+    /// Bytes of a header.
+    pub(crate) fn feed_header<A: Allocator>(
+        &mut self,
+        reader: &mut HeadReader,
+        position: &mut Position,
+        sum: &mut Sum,
+        piece: &[u8],
+    ) -> (usize, Result<Event<A>, Stop>)
+        requires fresh { reader.old.refusal ≡ None }
+        requires begun { IsHeaderPart reader.old.bytes }
+        ensures { HeaderFed self.old reader.old.bytes sum.old self.new reader.new position.new
+            sum.new piece.now result.0 result.1 }
+    {
+        if self.files >= CHAIN_LIMIT && !piece.is_empty() {
+            return (0, Err(Stop::Refused(Reason::TooManyFiles)));
         }
-        Err(reason) => (used, Err(Stop::Refused(reason))),
+        let (used, answer) = scan_header(reader, piece);
+        let (taken, _) = piece.split_at(used);
+        sum.add_all(taken);
+        match answer {
+            Ok(None) => (used, Ok(Event::More)),
+            Ok(Some((header, size))) => {
+                *reader = HeadReader::new();
+                self.section = section_of(size);
+                *position = Position::new(size);
+                (used, Ok(Event::Header(header, size)))
+            }
+            Err(reason) => (used, Err(Stop::Refused(reason))),
+        }
     }
-}
 
-/// Bytes of records.
-pub(crate) fn feed_data<A: Allocator + Copy>(
-    alloc: A,
-    stage: &mut Stage,
-    env: &mut Env<A>,
-    in_progress: &mut Option<Record<A>>,
-    sum: &mut Sum,
-    piece: &[u8],
-) -> (usize, Result<Event<A>, Stop>)
-    requires { AwaitsByte env.old stage.old.position in_progress.old }
-    ensures { DataFed stage.old env.old in_progress.old sum.old stage.new env.new in_progress.new
-        sum.new piece.now result.0 result.1 }
-{
-    let (used, answer) = read_record(alloc, env, &mut stage.position, in_progress, piece);
-    let (taken, _) = piece.split_at(used);
-    sum.add_all(taken);
-    match answer {
-        Ok(None) => (used, Ok(Event::More)),
-        Ok(Some(record)) => {
-            stage.section = section_of(stage.position.room);
-            (used, Ok(Event::Item(record)))
+    /// Bytes of records.
+    pub(crate) fn feed_data<A: Allocator + Copy>(
+        &mut self,
+        alloc: A,
+        env: &mut Env<A>,
+        position: &mut Position,
+        in_progress: &mut Option<Record<A>>,
+        sum: &mut Sum,
+        piece: &[u8],
+    ) -> (usize, Result<Event<A>, Stop>)
+        requires { AwaitsByte env.old position.old in_progress.old }
+        ensures { DataFed self.old env.old position.old in_progress.old sum.old self.new env.new
+            position.new in_progress.new sum.new piece.now result.0 result.1 }
+    {
+        let (used, answer) = read_record(alloc, env, position, in_progress, piece);
+        let (taken, _) = piece.split_at(used);
+        sum.add_all(taken);
+        match answer {
+            Ok(None) => (used, Ok(Event::More)),
+            Ok(Some(record)) => {
+                self.section = section_of(position.room);
+                (used, Ok(Event::Item(record)))
+            }
+            Err(stop) => (used, Err(stop)),
         }
-        Err(stop) => (used, Err(stop)),
     }
-}
 
-/// Bytes of a closing sum.
-pub(crate) fn feed_sum<A: Allocator + Copy>(
-    alloc: A,
-    stage: &mut Stage,
-    env: &mut Env<A>,
-    sum: &mut Sum,
-    piece: &[u8],
-) -> (usize, Result<Event<A>, Stop>)
-    requires few { stage.old.files < chain_limit }
-    ensures { SumFed stage.old env.old sum.old stage.new env.new sum.new piece.now result.0
-        result.1 }
-{
-    let (used, answer) = scan_sum(sum.value(), &mut stage.half, piece);
-    match answer {
-        Ok(false) => (used, Ok(Event::More)),
-        Ok(true) => {
-            *sum = Sum::new();
-            *env = Env::new(alloc);
-            stage.files += 1;
-            stage.section = Section::Header;
-            (used, Ok(Event::FileEnd))
+    /// Bytes of a closing sum.
+    pub(crate) fn feed_sum<A: Allocator + Copy>(
+        &mut self,
+        alloc: A,
+        env: &mut Env<A>,
+        sum: &mut Sum,
+        piece: &[u8],
+    ) -> (usize, Result<Event<A>, Stop>)
+        requires few { self.old.files < chain_limit }
+        ensures { SumFed self.old env.old sum.old self.new env.new sum.new piece.now result.0
+            result.1 }
+    {
+        let (used, answer) = scan_sum(sum.value(), &mut self.half, piece);
+        match answer {
+            Ok(false) => (used, Ok(Event::More)),
+            Ok(true) => {
+                *sum = Sum::new();
+                *env = Env::new(alloc);
+                self.files += 1;
+                self.section = Section::Header;
+                (used, Ok(Event::FileEnd))
+            }
+            Err(reason) => (used, Err(Stop::Refused(reason))),
         }
-        Err(reason) => (used, Err(Stop::Refused(reason))),
     }
 }

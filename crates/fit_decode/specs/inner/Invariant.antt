@@ -8,7 +8,7 @@ use Rattle.fit_decode.specs.declared.decoder.Decoder.TheInside.{Inside}
 use Rattle.fit_decode.specs.inner.Kept.{Fields, Holds}
 
 abbrev pub fields_inside : {A : Type 0} → Inside A → Fields A
-fields_inside d = record { stage = d.stage; reader = d.reader; sum = d.sum; env = d.env; in_progress = d.in_progress }
+fields_inside d = record { stage = d.stage; reader = d.reader; sum = d.sum; env = d.env; position = d.position; in_progress = d.in_progress }
 
 pub record IsSoundDecoder {A : Type 0} (d : Inside A) : Type 0 where
   pub viable : IsViable A chain_limit d.history.items

@@ -1,7 +1,6 @@
 -- What holds of a decoder's fields behind the bytes fed. No public contract names these.
-use Rattle.std.specs.Prelude.{◌≡◌, ℕ, ◌-◌, ◌<◌, ◌≤◌, Bool, false, if◌then◌else◌, List, [], ◌++◌, length, take, slice_index, Option, None, Result, Ok, Err}
+use Rattle.std.specs.Prelude.{◌≡◌, ℕ, ◌-◌, ◌<◌, ◌≤◌, false, if◌then◌else◌, List, [], ◌++◌, length, take, slice_index, Option, None, Result, Ok, Err}
 use Rattle.std.specs.Prelude.{◌+◌}
-use Rattle.fit_base.specs.Numbers.{IsBytes}
 use Rattle.fit_sum.specs.Checksum.{checksum}
 use Rattle.fit_frame.specs.declared.header.Header.{Header as FileHeader}
 use Rattle.fit_frame.specs.Header.{header_bytes}
@@ -14,6 +13,7 @@ use Rattle.fit_record.specs.Files.{chain_limit, IsViable}
 use Rattle.fit_step.specs.declared.stop.Stop.{Stop}
 use Rattle.fit_step.specs.declared.stop.Stop.TheVariants.{Refused, NoMemory}
 use Rattle.fit_step.specs.InProgress.{IsInProgress}
+use Rattle.fit_step.specs.declared.position.Position.{Position}
 use Rattle.fit_decode.specs.declared.section.Section.{Section}
 use Rattle.fit_decode.specs.declared.section.Section.TheVariants.{Header, Data, ClosingSum}
 use Rattle.fit_decode.specs.declared.section.Stage.{Stage}
@@ -29,12 +29,13 @@ use Rattle.fit_chain.specs.Needs.{missing}
 use Rattle.fit_decode.specs.inner.Scans.{half_sum}
 
 -- A decoder's fields, but for the count of the bytes and the refusal: how far they have come, the reader of the header, the
--- bytes that the closing sum covers so far, what is known, and the record in progress.
+-- bytes that the closing sum covers so far, what is known, where in a record it is, and the record in progress.
 pub record Fields (A : Type 0) : Type 0 where
   pub stage : Stage
   pub reader : HeaderSeen
   pub sum : List ℕ
   pub env : Environment A
+  pub position : Position
   pub in_progress : Option (Record A)
 
 -- in a header, or before one
@@ -63,7 +64,7 @@ pub record InData {A : Type 0} (d : Fields A) (bytes : List ℕ) : Type 0 where
   pub summed : d.sum ≡ (header_bytes header size ++ records_bytes empty_environment records) ++ part
   pub known : d.env ≡ learn_all empty_environment records
   pub some : 0 < size - length (records_bytes empty_environment records)
-  pub in_record : IsInProgress d.env (size - length (records_bytes empty_environment records)) part d.stage.position d.in_progress
+  pub in_record : IsInProgress d.env (size - length (records_bytes empty_environment records)) part d.position d.in_progress
 
 -- behind a data section
 pub record InSum {A : Type 0} (d : Fields A) (bytes : List ℕ) : Type 0 where
@@ -112,21 +113,11 @@ pub record NextAnswer {A : Type 0} (d : Fields A) (bytes piece : List ℕ) (used
   pub viable : IsViable A chain_limit (bytes ++ take used piece)
   pub holds : NotRefused answer → Holds d (bytes ++ take used piece)
 
--- The fields are those behind some bytes.
-pub record Stand {A : Type 0} (d : Fields A) : Type 0 where
-  pub bytes : List ℕ
-  pub are : IsBytes bytes
-  pub holds : Holds d bytes
-
--- Behind bytes of which the old fields are, the piece makes the new ones.
-abbrev pub Advances : {A : Type 0} → Fields A → Fields A → List ℕ → ℕ → Result (Answer A) Stop → Type 0
-Advances old new piece used answer = (bytes : List ℕ) → IsBytes bytes → Holds old bytes → NextAnswer new bytes piece used answer
-
 -- How many bytes are to come, by the fields; front is what there is of a header.
-abbrev pub to_come_in : Section → Stage → List ℕ → ℕ
-to_come_in Header s front = missing {A = Unit {0}} s.files (at_header front)
-to_come_in Data s front = s.position.room + 2
-to_come_in ClosingSum s front = if s.half then 1 else 2
+abbrev pub to_come_in : Section → Stage → List ℕ → ℕ → ℕ
+to_come_in Header s front room = missing {A = Unit {0}} s.files (at_header front)
+to_come_in Data s front room = room + 2
+to_come_in ClosingSum s front room = if s.half then 1 else 2
 
-abbrev pub to_come : Stage → List ℕ → ℕ
-to_come s front = to_come_in s.section s front
+abbrev pub to_come : Stage → List ℕ → ℕ → ℕ
+to_come s front room = to_come_in s.section s front room

@@ -1,5 +1,5 @@
 -- What the code's walks over a section of a file leave in its fields. No public contract names these.
-use Rattle.std.specs.Prelude.{◌≡◌, ℕ, ◌+◌, ◌==◌, ◌<◌, ◌≤◌, ◌⊎◌, Bool, true, false, if◌then◌else◌, List, [], ◌++◌, take, length, slice_index, Some, None}
+use Rattle.std.specs.Prelude.{◌≡◌, ℕ, ◌+◌, ◌==◌, ◌<◌, ◌≤◌, ◌⊎◌, true, false, if◌then◌else◌, List, [], ◌++◌, take, length, slice_index, Some, None}
 use Rattle.std.specs.Prelude.{Option, Result, Ok, Err}
 use Rattle.fit_sum.specs.Checksum.{checksum}
 use Rattle.fit_frame.specs.declared.reason.Reason.TheVariants.{TooManyFiles}
@@ -7,6 +7,7 @@ use Rattle.fit_frame.specs.Beginning.{Seen, IsFileHeader, RefusesByte}
 use Rattle.fit_record.specs.declared.message.Record.{Record}
 use Rattle.fit_record.specs.Environment.{Environment, empty_environment}
 use Rattle.fit_record.specs.Files.{chain_limit}
+use Rattle.fit_step.specs.declared.position.Position.{Position}
 use Rattle.fit_step.specs.declared.stop.Stop.{Stop}
 use Rattle.fit_step.specs.declared.stop.Stop.TheVariants.{Refused}
 use Rattle.fit_step.specs.InProgress.{Reads}
@@ -22,31 +23,29 @@ use Rattle.fit_decode.specs.inner.Scans.{IsHeaderPart, HeaderScanned, SumScanned
 abbrev pub section_of : ℕ → Section
 section_of room = if room == 0 then ClosingSum else Data
 
-abbrev pub HeaderFed : {A : Type 0} → Stage → List ℕ → List ℕ → Stage → Seen → List ℕ → List ℕ → ℕ → Result (Answer A) Stop → Type 0
-HeaderFed old front covered new reader sum piece used (Ok answers.More) =
+abbrev pub HeaderFed : {A : Type 0} → Stage → List ℕ → List ℕ → Stage → Seen → Position → List ℕ → List ℕ → ℕ → Result (Answer A) Stop → Type 0
+HeaderFed old front covered new reader position sum piece used (Ok answers.More) =
     ((old.files < chain_limit) ⊎ (piece ≡ [])) × HeaderScanned front piece reader used (Ok None) × (sum ≡ covered ++ take used piece) × (new ≡ old)
-HeaderFed old front covered new reader sum piece used (Ok (answers.Header h n)) =
+HeaderFed old front covered new reader position sum piece used (Ok (answers.Header h n)) =
     (old.files < chain_limit) × (0 < used) × (used ≤ length piece) × IsFileHeader h n (front ++ take used piece)
     × (reader ≡ record { bytes = []; refusal = None }) × (sum ≡ covered ++ take used piece)
-    × (new ≡ record old { section = section_of n; position = new.position }) × Begins new.position × (new.position.room ≡ n)
-HeaderFed old front covered new reader sum piece used (Err (Refused reason)) =
+    × (new ≡ record old { section = section_of n }) × Begins position × (position.room ≡ n)
+HeaderFed old front covered new reader position sum piece used (Err (Refused reason)) =
     ((chain_limit ≤ old.files) × (0 < length piece) × (used ≡ 0) × (reason ≡ TooManyFiles))
     ⊎ ((old.files < chain_limit) × (used < length piece) × IsHeaderPart (front ++ take used piece)
     × RefusesByte (front ++ take used piece) (slice_index piece used) reason)
-HeaderFed old front covered new reader sum piece used answer = ⊥
+HeaderFed old front covered new reader position sum piece used answer = ⊥
 
-abbrev pub DataFed : {A : Type 0} → Stage → Environment A → Option (Record A) → List ℕ → Stage → Environment A → Option (Record A) → List ℕ → List ℕ → ℕ
-    → Result (Answer A) Stop → Type 0
-DataFed old known idle covered new env in_progress sum piece used (Ok answers.More) =
-    Reads known old.position idle env new.position in_progress piece used (Ok None) × (sum ≡ covered ++ take used piece)
-    × (new ≡ record old { position = new.position })
-DataFed old known idle covered new env in_progress sum piece used (Ok (answers.Item r)) =
-    Reads known old.position idle env new.position in_progress piece used (Ok (Some r)) × (sum ≡ covered ++ take used piece)
-    × (new ≡ record old { section = section_of new.position.room; position = new.position })
-DataFed old known idle covered new env in_progress sum piece used (Err stop) =
-    Reads known old.position idle env new.position in_progress piece used (Err stop) × (sum ≡ covered ++ take used piece)
-    × (new ≡ record old { position = new.position })
-DataFed old known idle covered new env in_progress sum piece used answer = ⊥
+abbrev pub DataFed : {A : Type 0} → Stage → Environment A → Position → Option (Record A) → List ℕ → Stage → Environment A → Position → Option (Record A)
+    → List ℕ → List ℕ → ℕ → Result (Answer A) Stop → Type 0
+DataFed old known before idle covered new env position in_progress sum piece used (Ok answers.More) =
+    Reads known before idle env position in_progress piece used (Ok None) × (sum ≡ covered ++ take used piece) × (new ≡ old)
+DataFed old known before idle covered new env position in_progress sum piece used (Ok (answers.Item r)) =
+    Reads known before idle env position in_progress piece used (Ok (Some r)) × (sum ≡ covered ++ take used piece)
+    × (new ≡ record old { section = section_of position.room })
+DataFed old known before idle covered new env position in_progress sum piece used (Err stop) =
+    Reads known before idle env position in_progress piece used (Err stop) × (sum ≡ covered ++ take used piece) × (new ≡ old)
+DataFed old known before idle covered new env position in_progress sum piece used answer = ⊥
 
 abbrev pub SumFed : {A : Type 0} → Stage → Environment A → List ℕ → Stage → Environment A → List ℕ → List ℕ → ℕ → Result (Answer A) Stop → Type 0
 SumFed old known covered new env sum piece used (Ok answers.More) =

@@ -13,6 +13,7 @@ fn parts(rt: HostRuntime) {
         env,
         in_progress,
         stage,
+        position,
         count,
         refusal,
         history,
@@ -25,7 +26,6 @@ fn parts(rt: HostRuntime) {
     let Stage {
         files,
         section,
-        position,
         half,
     } = stage;
     let Position {
@@ -45,7 +45,7 @@ fn parts(rt: HostRuntime) {
     assert!(rt; in_progress.is_none() && refusal.is_none() && !half);
     assert_eq!(rt; (files, count), (0, 0));
     assert_eq!(rt; (phase, room), (Phase::RecordHeader, 0));
-    assert!(rt; mem::size_of::<Stage>() <= 32);
+    assert!(rt; mem::size_of::<Stage>() <= 32 && mem::size_of::<Position>() <= 32);
     // A list would have 24 bytes.
     assert!(rt; mem::size_of::<Partial>() <= 16);
     assert_eq!(rt; mem::size_of::<History<u8>>(), 0);

@@ -1,11 +1,12 @@
-use Rattle.fit_decode.proofs.Common.{◌≡◌, ◌+◌, ◌++◌, length, refl, ap, ◌∙◌, Err, rules, layout, slice_is_bytes}
+use Rattle.fit_decode.proofs.Common.{◌≡◌, ◌+◌, ◌++◌, length, refl, ap, ◌∙◌, Err, rules, layout, slice_is_bytes, fields_inside}
 use Rattle.fit_decode.specs.contracts.decoder.Decoder.{the_row}
 use Rattle.fit_decode.specs.contracts.decoder.Decoder.feed.{A-row}
 use Rattle.fit_chain.specs.declared.event.Fault.TheVariants.{Refused}
 use Rattle.fit_step.specs.declared.stop.Stop.TheVariants as stops
 use Rattle.fit_decode.proofs.Sizes.{fourth_is_within}
-use Rattle.fit_decode.proofs.Advancing.{header_fresh, header_open, header_advances, data_reading, data_advances, sum_few, sum_advances}
-use Rattle.fit_decode.proofs.Feeding.{stopped, stands, Took, takes, within, few_bytes, still_kept, refused_kept, not_refused, not_for_memory, was_viable, place_seen}
+use Rattle.fit_decode.proofs.Advancing.{in_header, in_data, in_sum, header_fresh, header_open, data_reading, sum_few}
+use Rattle.fit_decode.proofs.Sections.{header_fed, data_fed, sum_fed}
+use Rattle.fit_decode.proofs.Feeding.{stopped, Took, takes, within, few_bytes, still_kept, refused_kept, not_refused, not_for_memory, was_viable, place_seen}
 use Rattle.fit_decode.proofs.Feeding.{reason_seen, bytes_fed, no_event, one_event, refuses, wants}
 use Rattle.fit_decode.proofs.decoder.Decoder.feed.Given as given
 use Rattle.fit_decode.proofs.decoder.Decoder.feed.Goals as goal
@@ -14,21 +15,26 @@ use Rattle.fit_decode.proofs.decoder.Decoder.feed.Goals.{Joined-self-2, in-Heade
 -- where the sections meet
 took : (g : given.Over) (c : Joined-self-2 g) → Took c.self.inside c.match-self-2.self-inside c.args.piece.now c.match-self-2.used.0 c.match-self-2.used.1
 took g c =
-    let s = stands c.self.inside c.self.invariant c.in_default.is in
+    let k = c.self.invariant in
+    let fresh = c.in_default.is in
     let low = slice_is_bytes c.args.piece.now c.type_inv.piece in
+    let d = fields_inside c.self.inside in
     elim c.match-self-2.branch [
       | in-Header w ↦
           let f = w.feed_header in
-          rw (w.used-is, w.self-inside-is) (takes c.self.invariant c.in_default.is low
-          (header_advances s w.in-Header.is c.args.piece.now low f.new.stage f.new.reader f.new.sum f.result.0 f.result.1 f.ensures) refl refl refl)
+          rw (w.used-is, w.self-inside-is) (takes k fresh low
+          (header_fed d w.in-Header.is c.self.inside.history.items c.args.piece.now (in_header k fresh w.in-Header.is) k.are low
+          f.new.self f.new.reader f.new.position f.new.sum f.result.0 f.result.1 f.ensures) refl refl refl)
       | in-Data w ↦
           let f = w.feed_data in
-          rw (w.used-is, w.self-inside-is) (takes c.self.invariant c.in_default.is low
-          (data_advances s w.in-Data.is c.args.piece.now low f.new.stage f.new.env f.new.in_progress f.new.sum f.result.0 f.result.1 f.ensures) refl refl refl)
+          rw (w.used-is, w.self-inside-is) (takes k fresh low
+          (data_fed d w.in-Data.is c.self.inside.history.items c.args.piece.now (in_data k fresh w.in-Data.is) k.are low
+          f.new.self f.new.env f.new.position f.new.in_progress f.new.sum f.result.0 f.result.1 f.ensures) refl refl refl)
       | in-ClosingSum w ↦
           let f = w.feed_sum in
-          rw (w.used-is, w.self-inside-is) (takes c.self.invariant c.in_default.is low
-          (sum_advances s w.in-ClosingSum.is c.args.piece.now low f.new.stage f.new.env f.new.sum f.result.0 f.result.1 f.ensures) refl refl refl)
+          rw (w.used-is, w.self-inside-is) (takes k fresh low
+          (sum_fed d w.in-ClosingSum.is c.self.inside.history.items c.args.piece.now (in_sum k fresh w.in-ClosingSum.is) k.are low
+          f.new.self f.new.env f.new.sum f.result.0 f.result.1 f.ensures) refl refl refl)
     ]
 
 pub returns-in-Some-clause-latched : goal.returns-in-Some-clause-latched
@@ -41,21 +47,21 @@ pub returns-in-Some-clause-viable : goal.returns-in-Some-clause-viable
 returns-in-Some-clause-viable g c = was_viable c.self.inside c.self.invariant c.args.self.now c.self.view_is
 
 pub feed_header-requires-clause-fresh : goal.feed_header-requires-clause-fresh
-feed_header-requires-clause-fresh g c = header_fresh (stands c.self.inside c.self.invariant c.in_default.is) c.in-Header.is
+feed_header-requires-clause-fresh g c = header_fresh c.self.invariant c.in_default.is c.in-Header.is
 
 pub feed_header-requires-clause-begun : goal.feed_header-requires-clause-begun
-feed_header-requires-clause-begun g c = header_open (stands c.self.inside c.self.invariant c.in_default.is) c.in-Header.is
+feed_header-requires-clause-begun g c = header_open c.self.invariant c.in_default.is c.in-Header.is
 
 pub feed_data-requires : goal.feed_data-requires
 feed_data-requires g c = (
   fourth_is_within (layout (the_row (A-row g.row.A) g.A.Allocator)) _ (search rules),
-  data_reading (stands c.self.inside c.self.invariant c.in_default.is) c.in-Data.is,
+  data_reading c.self.invariant c.in_default.is c.in-Data.is,
 )
 
 pub feed_sum-requires : goal.feed_sum-requires
 feed_sum-requires g c = (
   fourth_is_within (layout (the_row (A-row g.row.A) g.A.Allocator)) _ (search rules),
-  sum_few (stands c.self.inside c.self.invariant c.in_default.is) c.in-ClosingSum.is,
+  sum_few c.self.invariant c.in_default.is c.in-ClosingSum.is,
 )
 
 pub let_go-requires : goal.let_go-requires
@@ -87,17 +93,14 @@ invariant_of-self-in-NoMemory g c =
 
 pub returns-in-Ok-clause-used : goal.returns-in-Ok-clause-used
 returns-in-Ok-clause-used g c =
-    bytes_fed c.self.inside c.self.invariant c.args.self.now c.self.view_is
-    (took g (goal.at.returns-in-Ok-clause-used g c).Joined-self-2) c.note.new.self.items
+    bytes_fed (took g (goal.at.returns-in-Ok-clause-used g c).Joined-self-2) c.self.view_is c.note.new.self.items
     (c.note.ensures ∙ ap (λ b. c.match-self-2.self-inside.history.items ++ b) c.split_at.ensures.front)
 
 pub returns-in-Ok-clause-more : goal.returns-in-Ok-clause-more
-returns-in-Ok-clause-more g c = no_event c.self.inside c.self.invariant c.args.self.now c.self.view_is
-    (took g (goal.at.returns-in-Ok-clause-more g c).Joined-self-2) c.in-Ok.event c.in-Ok.is
+returns-in-Ok-clause-more g c = no_event (took g (goal.at.returns-in-Ok-clause-more g c).Joined-self-2) c.self.view_is c.in-Ok.event c.in-Ok.is
 
 pub returns-in-Ok-clause-event : goal.returns-in-Ok-clause-event
-returns-in-Ok-clause-event g c = one_event c.self.inside c.self.invariant c.args.self.now c.self.view_is
-    (took g (goal.at.returns-in-Ok-clause-event g c).Joined-self-2) c.in-Ok.event c.in-Ok.is
+returns-in-Ok-clause-event g c = one_event (took g (goal.at.returns-in-Ok-clause-event g c).Joined-self-2) c.self.view_is c.in-Ok.event c.in-Ok.is
 
 pub returns-in-Ok-clause-viable : goal.returns-in-Ok-clause-viable
 returns-in-Ok-clause-viable g c = (invariant_of-self g c).viable
@@ -106,8 +109,7 @@ pub returns-in-Refused-clause-refused : goal.returns-in-Refused-clause-refused
 returns-in-Refused-clause-refused g c = λ place why fresh is.
     let at : c.match-self-2.self-inside.count + c.match-self-2.used.0 ≡ place = cc is in
     let same : c.in-Refused.reason ≡ why = cc is in
-    refuses c.self.inside c.self.invariant c.args.self.now c.self.view_is
-    (took g (goal.at.returns-in-Refused-clause-refused g c).Joined-self-2)
+    refuses (took g (goal.at.returns-in-Refused-clause-refused g c).Joined-self-2) c.self.view_is
     c.in-Refused.reason (stopped c.match-self-2.used.1 c.in-Err.stop (stops.Refused c.in-Refused.reason) c.in-Err.is c.in-Refused.is)
     c.note.new.self.items (c.note.ensures ∙ ap (λ b. c.match-self-2.self-inside.history.items ++ b) c.split_at.ensures.front) place why at same
 
@@ -117,8 +119,7 @@ returns-in-Refused-clause-viable g c = (invariant_of-self-in-Refused g c).viable
 pub returns-in-NoMemory-clause-memory : goal.returns-in-NoMemory-clause-memory
 returns-in-NoMemory-clause-memory g c = λ count is.
     let same : c.match-self-2.used.0 ≡ count = cc is in
-    wants c.self.inside c.self.invariant c.args.self.now c.self.view_is
-    (took g (goal.at.returns-in-NoMemory-clause-memory g c).Joined-self-2)
+    wants (took g (goal.at.returns-in-NoMemory-clause-memory g c).Joined-self-2) c.self.view_is
     (stopped c.match-self-2.used.1 c.in-Err.stop stops.NoMemory c.in-Err.is c.in-NoMemory.is) c.note.new.self.items
     (c.note.ensures ∙ ap (λ b. c.match-self-2.self-inside.history.items ++ b) c.split_at.ensures.front) count same
 
