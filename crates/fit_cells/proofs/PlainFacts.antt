@@ -1,5 +1,5 @@
 -- Cells of any base type but string stand in a row without quotes.
-use Rattle.fit_cells.proofs.Common.{◌≡◌, ◌∙◌, ℕ, zero, suc, ◌+◌, ◌/◌, ◌%◌, ◌^◌, ◌<◌, ◌≤◌, Bool, true, false, List, [], ◌∷◌, ◌++◌, length, get_or, refl, ap}
+use Rattle.fit_cells.proofs.Common.{◌≡◌, ◌∙◌, ℕ, zero, suc, ◌+◌, ◌/◌, ◌%◌, ◌^◌, ◌<◌, ◌≤◌, Bool, true, false, List, [], ◌∷◌, ◌++◌, length, get_or, refl}
 use Rattle.fit_cells.proofs.Common.{arith, inl, inr, lit<, cond, unsigned_abs, ℤ, pos, negsuc, Some, None, decimal, digits, digits_onto, digit_glyph}
 use Rattle.fit_cells.proofs.Common.{AllByRecursion, cases_Bool, ne_eqb, nat_tests, default_writer, field_text, needs_byte, needs_quotes, Signed, Unsigned}
 use Rattle.fit_cells.proofs.Common.{Items, base_type, twos_complement, Meaning, fixed_text, fraction, last_digits, sign, NumberForm, cell, item_text}

@@ -1,8 +1,8 @@
 -- A cell is a text, and no item of it has a bar.
-use Rattle.fit_cells.proofs.Common.{◌≡◌, ℕ, zero, suc, ◌*◌, ◌/◌, ◌%◌, ◌^◌, ◌<◌, Bool, true, false, List, [], ◌∷◌, ◌++◌, length, map, flat_map, refl, arith, inl}
-use Rattle.fit_cells.proofs.Common.{inr, lit<, pos, not, AllByRecursion, list_all, IsUtf8, is_utf8, IsAscii, cases_Bool, nat_tests, IsAscii-append}
-use Rattle.fit_cells.proofs.Common.{IsUtf8-from_ascii, IsUtf8-from_is_utf8, Class, Signed, Unsigned, Text, Bytes, Items, base_type, twos_complement}
-use Rattle.fit_cells.proofs.Common.{before_closing_zeros, Meaning, barred, begins_as_bytes, bytes_text, cell, class_of, hex_digit, hex_digits, is_plain}
+use Rattle.fit_cells.proofs.Common.{◌≡◌, ℕ, ◌<◌, Bool, true, false, List, [], ◌∷◌, length, refl, arith, inl}
+use Rattle.fit_cells.proofs.Common.{inr, lit<, not, AllByRecursion, list_all, IsUtf8, is_utf8, IsAscii, cases_Bool}
+use Rattle.fit_cells.proofs.Common.{IsUtf8-from_ascii, IsUtf8-from_is_utf8, Class, Text, Items}
+use Rattle.fit_cells.proofs.Common.{before_closing_zeros, Meaning, begins_as_bytes, bytes_text, cell, class_of, is_plain}
 use Rattle.fit_cells.proofs.Common.{item_text, items_text, string_text}
 use Rattle.std.proofs.Common.{◌==◌, Option}
 use Rattle.std.specs.Prelude.{◌&&◌}

@@ -1,5 +1,5 @@
 -- What begins a chain and has no whole file in it begins a file.
-use Rattle.fit_chain.proofs.Common.{ℕ, ◌<◌, ◌≤◌, List, [], ◌∷◌, arith, IsBytes, IsViable, Progress, at_header, HasCome, files_begun}
+use Rattle.fit_chain.proofs.Common.{ℕ, ◌<◌, ◌≤◌, List, [], arith, IsBytes, IsViable, Progress, at_header, HasCome, files_begun}
 use Rattle.fit_chain.proofs.ViableGoesOn.{viable_goes}
 use Rattle.fit_chain.proofs.Completions.{goes_viable}
 

@@ -1,5 +1,5 @@
 -- The rows in which files begin.
-use Rattle.fit_csv.proofs.Common.{◌≡◌, ◌∙◌, inl, inr, ◌-◌, ◌^◌, [], ◌∷◌, length, drop, All, refl, sym, ap, subst, arith, Header, HeaderSum, Zero, True}
+use Rattle.fit_csv.proofs.Common.{◌≡◌, ◌∙◌, inl, inr, ◌-◌, ◌^◌, [], ◌∷◌, length, drop, All, refl, sym, ap, subst, arith, Header, HeaderSum}
 use Rattle.fit_csv.proofs.Common.{SizeFits, file_row, rest_text, row, sum_word, HasSum, IsHeaderSize, IsFileRow, Row, AsFar, bytes-shown}
 use Rattle.std.proofs.Common.{ℕ, ◌<◌, List, decimal}
 use Rattle.std.specs.Prelude.{codes}

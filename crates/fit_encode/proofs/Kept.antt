@@ -94,10 +94,6 @@ kept-more bytes one count b rs e r h is may spelled less =
 
 -- ---- what is kept of a file
 
-pub short-kept : (bytes : List ℕ) (count : ℕ) (b : Bool) (rs : List (Record Global)) → AreSpelled bytes count b rs → b ≡ false
-    → length (records_bytes empty_environment rs) < 2 ^ 32
-short-kept bytes count b rs h is = let all = h.all is in subst (λ (x : List ℕ). length x < 2 ^ 32) all.bytes_are all.short
-
 pub bytes-kept : (bytes : List ℕ) (count : ℕ) (b : Bool) (rs : List (Record Global)) → AreSpelled bytes count b rs
     → length (records_bytes empty_environment rs) < 2 ^ 32 → bytes ≡ records_bytes empty_environment rs
 bytes-kept bytes count true rs h less = absurd (no_excess rs count less (h.long refl))

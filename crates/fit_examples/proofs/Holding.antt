@@ -1,10 +1,8 @@
 -- What an encoder has written of a ride.
-use Rattle.fit_examples.proofs.Common.{◌≡◌, false, ℕ, ◌+◌, ◌<◌, List, [], ◌∷◌, ◌++◌, length, take, get_or, Option, Some, None, Result, Ok, Err, refl, sym, ap}
-use Rattle.fit_examples.proofs.Common.{◌∙◌, subst, append_assoc, IfOk, map, Global, map-append, take_more, HeaderFits, IsHeader, header_bytes, Record, Define}
+use Rattle.fit_examples.proofs.Common.{◌≡◌, false, ℕ, ◌+◌, ◌<◌, List, [], ◌∷◌, ◌++◌, length, take, get_or, Option, Some, None, refl, sym, ap}
+use Rattle.fit_examples.proofs.Common.{◌∙◌, subst, append_assoc, map, Global, map-append, take_more, HeaderFits, IsHeader, header_bytes, Record, Define}
 use Rattle.fit_examples.proofs.Common.{empty_environment, record_bytes, IsFile, Encoding, IsWhole, bytes_so_far, closing_bytes, data_so_far, learned}
 use Rattle.fit_examples.proofs.Common.{IsRecording, definition, ride_message, ride_records}
-use Rattle.std.specs.Prelude.{OnOk}
-use Rattle.std.specs.Result.{result_ok}
 use Rattle.std.specs.Io.KnownBytes.{Appends}
 use Rattle.fit_frame.specs.declared.header.Header.{Header}
 use Rattle.fit_frame.specs.declared.header.HeaderSum.TheVariants.{True}
@@ -43,14 +41,6 @@ next_message points i d within =
     (sym (map-append ride_message (take i points) (get_or points i d ∷ [])) ∙ ap (map ride_message) (sym (take_more points i d within)))
 
 -- ---- answers
-
-pub on_good : {T E : Type 0} (r : Result T E) (v : T) (P : Type 0) → Some v ≡ result_ok r → OnOk r P → P
-on_good (Ok v) u P is p = p
-on_good (Err e) u P is p = absurd cc
-
-pub of_good : {T E : Type 0} (r : Result T E) (v : T) (P : T → Type 0) → Some v ≡ result_ok r → IfOk r P → P v
-of_good (Ok x) v P is p = let same : x ≡ v = cc in subst P same p
-of_good (Err e) v P is p = absurd cc
 
 -- a good end
 pub is_recording : (points : List (ℕ × ℕ)) (h : Header) (declared : ℕ) (e : Encoding Global) (old : Option (List ℕ)) (bytes : List ℕ) (new : Option (List ℕ))

@@ -15,10 +15,6 @@ pub here : {A : Type 0} (fields : List FieldDef) (items : List (Items A)) (numbe
 here fields items number i d x h e l =
     ap₂ (λ fs xs. first_field fs xs number) (drop-cons fields i d h) (drop-cons items i x l) ∙ rw (eq-eqb (get_or fields i d).number number e) refl
 
-pub no-more : {A : Type 0} (fields : List FieldDef) (items : List (Items A)) (number i : ℕ) → length items ≤ i
-    → first_field (drop i fields) (drop i items) number ≡ None
-no-more fields items number i h = ap (λ xs. first_field (drop i fields) xs number) (drop_of_length-le items h) ∙ no-items (drop i fields) number
-
 behind-other : {A : Type 0} (f : FieldDef) (fields : List FieldDef) (items : List (Items A)) (number : ℕ) → (f.number == number) ≡ false
     → first_field (f ∷ fields) items number ≡ first_field fields (drop 1 items) number
 behind-other f fields [] number e = sym (no-items fields number)

@@ -1,6 +1,6 @@
 -- The walks over the places of an environment, and the tests that are computed from them.
 use Rattle.fit_record.proofs.Common.{refl, ◌≡◌, ℕ, ◌+◌, ◌-◌, ◌<◌, ◌≤◌, ◌≢◌, ◌⊎◌, inl, inr, Bool, true, false, List, length, take, get_or, sym, ap, ◌∙◌, subst}
-use Rattle.fit_record.proofs.Common.{None, slice_set, nat_le, cases_eq, or_from, and_right, and_left, lt-leb, le-leb, list_any_more, list_any_at}
+use Rattle.fit_record.proofs.Common.{None, slice_set, cases_eq, or_from, le-leb, list_any_more, list_any_at}
 use Rattle.fit_record.proofs.Common.{get_or-set_other, length-set, Defined, Environment, has_length_at, has_length, can_fill_from, finishes, can_complete_dev}
 use Rattle.std.specs.Prelude.{Option}
 use Rattle.std.proofs.lemmas.List.{get_or-set_same}
@@ -33,9 +33,6 @@ module _ {A : Type 0} (places : List (Option (Defined A))) (local n other : ℕ)
       (ap (λ o. has_length_at o n) (get_or-set_other places local other None None differs) ∙ has)
 
 module _ {A : Type 0} (e : Environment A) (local t size room : ℕ) (enough : t + 1 ≤ room) (not_without : finishes e local t size (room - (t + 1)) ≡ false) where
-  pub too_short : room - (t + 1) < 3 → false ≡ can_complete_dev e local t size room
-  too_short l = sym (and_right (nat_le (t + 1) room) _
-      (or_from (finishes e local t size (room - (t + 1))) _ not_without (and_left (nat_le 3 (room - (t + 1))) _ (lt-leb 3 (room - (t + 1)) l))))
 
   pub with_one : (r : Bool) → 3 ≤ room - (t + 1) → r ≡ can_fill_from e local size (room - (t + 1) - 3) → r ≡ can_complete_dev e local t size room
   with_one r l h =

@@ -22,10 +22,3 @@ module _ {A : Type 0} (bytes piece : List ℕ) (used : ℕ) (heard : List (Event
   hears (answers.Header h n) t = one (answers.Header h n) (header h n) refl t
   hears (answers.Item r) t = one (answers.Item r) (item r) refl t
   hears answers.FileEnd t = one answers.FileEnd file_end refl t
-
--- some bytes of a piece are used
-pub uses_some : {A : Type 0} (bytes piece : List ℕ) (used : ℕ) (answer : Answer A) → 0 < length piece → Told bytes piece used answer → 0 < used
-uses_some bytes piece used answers.More some t = omega (arith, (t.more refl).0)
-uses_some bytes piece used (answers.Header h n) some t = (t.event (header h n) refl).0
-uses_some bytes piece used (answers.Item r) some t = (t.event (item r) refl).0
-uses_some bytes piece used answers.FileEnd some t = (t.event file_end refl).0

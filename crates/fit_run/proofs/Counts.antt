@@ -5,7 +5,6 @@ use Rattle.fit_run.proofs.Common.{hear_records, latest_records, text_of, heard_a
 use Rattle.fit_run.proofs.Common.{latest_size, check_line, file_line, file_lines}
 use Rattle.std.specs.Prelude.{codes}
 use Rattle.std.proofs.lemmas.List.{append-nil}
-use Rattle.fit_frame.specs.declared.header.Header.{Header}
 
 pub few_files : {A : Type 0} (heard : List (Event A)) → ended_files heard ≤ length heard
 few_files [] = omega arith
@@ -30,22 +29,6 @@ line_put old one two all k n records first second third =
     ∙ line_parts old (decimal k) (decimal n) (decimal records)
 
 -- ---- one event more, and records that were passed over
-
-pub header_counted : {A : Type 0} (h : Header) (n files size records : ℕ) (heard : List (Event A)) → Counts files size records heard
-    → Counts files n 0 (header h n ∷ heard)
-header_counted h n files size records heard c = record { of_files = c.of_files; of_size = refl; of_records = refl }
-
-pub item_counted : {A : Type 0} (r : Record A) (files size records : ℕ) (heard : List (Event A)) → Counts files size records heard
-    → Counts files size (records + 1) (item r ∷ heard)
-item_counted r files size records heard c = record { of_files = c.of_files; of_size = c.of_size; of_records = let of_records = c.of_records in omega arith }
-
-pub end_counted : {A : Type 0} (files size records : ℕ) (heard : List (Event A)) → Counts files size records heard
-    → Counts (files + 1) size records (file_end ∷ heard)
-end_counted files size records heard c = record { of_files = ap (λ k. k + 1) c.of_files; of_size = c.of_size; of_records = c.of_records }
-
-pub end_line : {A : Type 0} (files size records : ℕ) (heard : List (Event A)) → Counts files size records (file_end ∷ heard)
-    → file_line files size records ≡ check_line heard file_end
-end_line files size records heard c = λ i. file_line (c.of_files i) (c.of_size i) (c.of_records i)
 
 module _ {A : Type 0} (heard : List (Event A)) where
   text_over : (rs : List (Record A)) → text_of check_line (map item rs ++ heard) ≡ text_of check_line heard

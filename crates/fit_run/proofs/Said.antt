@@ -1,11 +1,7 @@
 -- What the program says of a finding.
-use Rattle.fit_run.proofs.Common.{◌≡◌, ℕ, ◌<◌, Bool, true, List, Option, Some, None, Ok, Err, Result, take, length, refl, inl, inr, OnOk, OnErr, Appends, Keeps}
+use Rattle.fit_run.proofs.Common.{◌≡◌, ℕ, ◌<◌, Bool, true, List, Option, Ok, Err, Result, take, length, inl, inr, OnOk, OnErr, Appends}
 use Rattle.fit_run.proofs.Common.{PutsOrFails}
 use Rattle.std.proofs.Common.{IfErr}
-
-pub Keeps-same : (a : Option (List ℕ)) → Keeps a a
-Keeps-same None = tt
-Keeps-same (Some x) = refl
 
 -- what `put_all` did, in one word
 pub Puts-all : (r : Result (Unit {0}) ℕ) (a b : Option (List ℕ)) (failed : Bool) (bytes : List ℕ) → OnOk r (Appends a b bytes) → IfErr r (λ n. n < length bytes)

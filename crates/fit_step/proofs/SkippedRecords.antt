@@ -46,9 +46,6 @@ module _ {A : Type 0} (e : Environment A) (b : ℕ) (rest : List ℕ) (are : IsB
 
 -- ---- one record more
 
-pub none_skipped : {A : Type 0} (e : Environment A) (bytes : List ℕ) → AreSkipped e e (take 0 bytes) 0
-none_skipped e bytes = ([], (tt, refl), refl, refl)
-
 pub one_more : {A : Type 0} (e f after : Environment A) (bytes : List ℕ) (used size count : ℕ) → used + size ≤ length bytes
     → AreSkipped e f (take used bytes) count → IsSkipped f after (take size (drop used bytes))
     → AreSkipped e after (take (used + size) bytes) (count + 1)

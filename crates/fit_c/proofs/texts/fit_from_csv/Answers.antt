@@ -1,4 +1,4 @@
-use Rattle.fit_c.proofs.Common.{false, List, ℕ, Some, refl, ap, subst, sym, ◌∙◌, Channel, ReadsText, IsTextUnlessWant, given}
+use Rattle.fit_c.proofs.Common.{refl, ap, subst, sym, ◌∙◌, Channel, ReadsText, IsTextUnlessWant, given}
 use Rattle.fit_c.proofs.Handed.{bytes_back, text_good}
 use Rattle.fit_c.proofs.texts.fit_from_csv.Goals as goal
 

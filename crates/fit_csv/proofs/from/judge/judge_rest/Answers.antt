@@ -1,5 +1,5 @@
-use Rattle.fit_csv.proofs.Common.{◌≡◌, ◌+◌, Bool, [], ◌∷◌, ◌++◌, length, sym, subst, arith, refl, inr, MatchResult-weaker, err_from_is_err_and, Global}
-use Rattle.fit_csv.proofs.Common.{fields_of, FitFile, AreFilesOf, IsCutOff, IsTextFault, Follows, first_line, CsvFault}
+use Rattle.fit_csv.proofs.Common.{◌≡◌, ◌+◌, [], ◌∷◌, ◌++◌, length, sym, subst, arith, refl, inr, MatchResult-weaker, err_from_is_err_and, Global}
+use Rattle.fit_csv.proofs.Common.{fields_of, FitFile, AreFilesOf, IsCutOff, IsTextFault, first_line, CsvFault}
 use Rattle.std.proofs.Common.{◌<◌, ℕ, List, length-append}
 use Rattle.fit_csv.proofs.Judging.{cut-text, judged, one-more, refused-row, too-many, whole-text}
 use Rattle.fit_csv.proofs.OneWay.{run-none}

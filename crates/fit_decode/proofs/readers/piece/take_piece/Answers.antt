@@ -3,7 +3,6 @@ use Rattle.fit_decode.proofs.Common.{length, drop, Some, Err, sym, ap, ◌∙◌
 use Rattle.fit_decode.specs.Answers.{Seen}
 use Rattle.fit_decode.proofs.PieceTold.{fed_on, feeds_header, feeds_item, piece_over, piece_more, piece_end, piece_refused}
 use Rattle.fit_decode.proofs.readers.piece.take_piece.Goals as goal
-use Rattle.fit_decode.proofs.readers.piece.take_piece.Goals.{In-Ok}
 
 pub returns-in-More-clause-fed : goal.returns-in-More-clause-fed
 returns-in-More-clause-fed g c = λ files stands.
