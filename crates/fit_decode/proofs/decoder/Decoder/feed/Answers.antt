@@ -4,7 +4,7 @@ use Rattle.fit_decode.specs.contracts.decoder.Decoder.feed.{A-row}
 use Rattle.fit_chain.specs.declared.event.Fault.TheVariants.{Refused}
 use Rattle.fit_step.specs.declared.stop.Stop.TheVariants as stops
 use Rattle.fit_decode.proofs.Sizes.{fourth_is_within}
-use Rattle.fit_decode.proofs.Advancing.{in_header, in_data, in_sum, header_fresh, header_open, data_reading, sum_few}
+use Rattle.fit_decode.proofs.Advancing.{at_section, header_fresh, header_open, data_reading, sum_few}
 use Rattle.fit_decode.proofs.Sections.{header_fed, data_fed, sum_fed}
 use Rattle.fit_decode.proofs.Feeding.{stopped, Took, takes, within, few_bytes, still_kept, refused_kept, not_refused, not_for_memory, was_viable, place_seen}
 use Rattle.fit_decode.proofs.Feeding.{reason_seen, bytes_fed, no_event, one_event, refuses, wants}
@@ -23,17 +23,17 @@ took g c =
       | in-Header w ↦
           let f = w.feed_header in
           rw (w.used-is, w.self-inside-is) (takes k fresh low
-          (header_fed d w.in-Header.is c.self.inside.history.items c.args.piece.now (in_header k fresh w.in-Header.is) k.are low
+          (header_fed d w.in-Header.is c.self.inside.history.items c.args.piece.now (at_section k fresh w.in-Header.is) k.are low
           f.new.self f.new.reader f.new.position f.new.sum f.result.0 f.result.1 f.ensures) refl refl refl)
       | in-Data w ↦
           let f = w.feed_data in
           rw (w.used-is, w.self-inside-is) (takes k fresh low
-          (data_fed d w.in-Data.is c.self.inside.history.items c.args.piece.now (in_data k fresh w.in-Data.is) k.are low
+          (data_fed d w.in-Data.is c.self.inside.history.items c.args.piece.now (at_section k fresh w.in-Data.is) k.are low
           f.new.self f.new.env f.new.position f.new.in_progress f.new.sum f.result.0 f.result.1 f.ensures) refl refl refl)
       | in-ClosingSum w ↦
           let f = w.feed_sum in
           rw (w.used-is, w.self-inside-is) (takes k fresh low
-          (sum_fed d w.in-ClosingSum.is c.self.inside.history.items c.args.piece.now (in_sum k fresh w.in-ClosingSum.is) k.are low
+          (sum_fed d w.in-ClosingSum.is c.self.inside.history.items c.args.piece.now (at_section k fresh w.in-ClosingSum.is) k.are low
           f.new.self f.new.env f.new.sum f.result.0 f.result.1 f.ensures) refl refl refl)
     ]
 
