@@ -43,7 +43,7 @@ one_test P false false f g h = refl
 pub is_has_shape : {A : Type 0} (code size : ℕ) (items : Items A) (b : Bool) → (IsTrue b ↔ HasShape code size items) → b ≡ has_shape code size items
 is_has_shape code size items b f = one_test (HasShape code size items) b _ f (shape_of_test code size items) (test_of_shape code size items)
 
-length-numbers : (o : Order) (w : ℕ) (ns : List ℕ) → length (flat_map (number_bytes o w) ns) ≡ length ns * w
+pub length-numbers : (o : Order) (w : ℕ) (ns : List ℕ) → length (flat_map (number_bytes o w) ns) ≡ length ns * w
 length-numbers o w [] = omega arith
 length-numbers o w (n ∷ ns) =
     length-append (number_bytes o w n) (flat_map (number_bytes o w) ns)

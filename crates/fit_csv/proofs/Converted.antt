@@ -1,27 +1,24 @@
 -- What a report put behind a first line.
-use Rattle.fit_csv.proofs.Common.{◌≡◌, ◌∙◌, ◌+◌, ◌-◌, ◌^◌, min, true, Bool, [], ◌++◌, length, take, Result, Err, refl, sym, ap, subst, arith, flat_map, Global}
-use Rattle.fit_csv.proofs.Common.{Appends, Consumes, reverse-reverse, take-append-add, FitFile, chain_limit, Event, file_events, Lines, text_of, Channel}
+use Rattle.fit_csv.proofs.Common.{◌≡◌, ◌∙◌, ◌+◌, ◌-◌, ◌^◌, min, true, Bool, [], ◌++◌, length, take, Result, Err, sym, ap, subst, arith, flat_map, Global}
+use Rattle.fit_csv.proofs.Common.{Appends, reverse-reverse, take-append-add, FitFile, chain_limit, Event, file_events, Lines, text_of, Channel}
 use Rattle.fit_csv.proofs.Common.{TextFailsIn, HasTold, Reports, ReportsChain, Tells, CsvFault, csv_text, Converts, ConvertsTo, HasWritten, RowsOf, WritesRows}
 use Rattle.fit_csv.proofs.Common.{HasText, csv_fault}
-use Rattle.std.proofs.Common.{ℕ, ◌<◌, List, reverse, Option, Some, None, Ok, length-append}
+use Rattle.std.proofs.Common.{ℕ, ◌<◌, List, reverse, Option, Ok, length-append}
 use Rattle.std.proofs.lemmas.List.{append-nil}
 use Rattle.fit_decode.proofs.FileRead.{nothing_viable}
 use Rattle.fit_decode.proofs.Nearly.{all_viable}
 use Rattle.fit_report.specs.declared.fault.ReportFault.{ReportFault}
 use Rattle.fit_report.proofs.Outcomes.{nothing_heard}
-use Rattle.fit_report.proofs.Texts.{Appends-append}
+use Rattle.fit_encode.proofs.Written.{Appends-on}
 use Rattle.fit_chain.specs.declared.event.Fault.TheVariants as faults
 use Rattle.fit_report.specs.declared.fault.ReportFault.TheVariants as report
 use Rattle.fit_csv.specs.declared.fault.CsvFault.TheVariants as csv
+use Rattle.fit_decode.proofs.Consumed.{Consumes-nothing}
 
 -- the answer of a conversion by that of its report
 abbrev pub csv_answer : Result (Unit {0}) ReportFault → ℕ → Result (Unit {0}) CsvFault
 csv_answer (Ok u) before = Ok u
 csv_answer (Err fault) before = Err (csv_fault fault before)
-
-consumes_nothing : (a : Option (List ℕ)) → Consumes a a []
-consumes_nothing None = tt
-consumes_nothing (Some left) = refl
 
 abbrev channel : Option (List ℕ) → Option (List ℕ) → Bool → Channel
 channel before after failed = record { before = before; after = after; failed = failed }
@@ -33,7 +30,7 @@ module _ (first : List ℕ) (line : Lines Global) (rows : RowsOf) (text : HasTex
   writes bytes heard put (are, told) = (
     reverse heard,
     are,
-    subst (Appends start end) (sym (text heard)) (Appends-append start mid end first (text_of line heard) put told),
+    subst (Appends start end) (sym (text heard)) (Appends-on start mid end first (text_of line heard) put told),
   )
 
   fails : (heard : List (Event Global)) (written : ℕ) → Appends start mid first → TextFailsIn (text_of line heard) (channel mid end bad) written
@@ -45,7 +42,7 @@ module _ (first : List ℕ) (line : Lines Global) (rows : RowsOf) (text : HasTex
         length first + n,
         omega (arith, short, ap length (text heard), length-append first (text_of line heard)),
         subst (λ t. Appends start end (take (length first + n) t)) (sym (text heard))
-            (subst (Appends start end) (sym front) (Appends-append start mid end first (take n (text_of line heard)) put part)),
+            (subst (Appends start end) (sym front) (Appends-on start mid end first (take n (text_of line heard)) put part)),
         omega (arith, counted),
       )
 
@@ -73,7 +70,7 @@ module _ (first : List ℕ) (line : Lines Global) (rows : RowsOf) (text : HasTex
       let events : List (Event Global) = flat_map file_events fs in
       let all : csv_text (rows events) ≡ first ++ text_of line (reverse events) =
       ap (λ es. csv_text (rows es)) (sym (reverse-reverse events)) ∙ text (reverse events) in
-      subst (Appends start end) (sym all) (Appends-append start mid end first (text_of line (reverse events)) put told)
+      subst (Appends start end) (sym all) (Appends-on start mid end first (text_of line (reverse events)) put told)
   chain_converted source fs (Err (report.Decode (faults.Refused place reason))) put told = told
   chain_converted source fs (Err fault) put told = told
 
@@ -84,7 +81,7 @@ module _ (first : List ℕ) (line : Lines Global) (rows : RowsOf) (text : HasTex
   unbegun has unread written small short failed part =
       let whole : csv_text (rows []) ≡ first = text [] ∙ append-nil first in (
         [],
-        consumes_nothing has,
+        Consumes-nothing has,
         (
           (
             0,

@@ -1,6 +1,6 @@
 -- A row goes on in one way.
 use Rattle.fit_csv.proofs.Common.{◌≡◌, ◌∙◌, ◌≤◌, ◌-◌, ◌^◌, [], length, get_or, All, arith, refl, sym, ap, Global, decimal_injective, decimal_nonempty, Order}
-use Rattle.fit_csv.proofs.Common.{Little, Big, Header, HeaderSum, Zero, True, DevDef, FieldDef, Record, Values, DataHeaderFits, dev_def_row, field_def_row}
+use Rattle.fit_csv.proofs.Common.{Little, Big, Header, HeaderSum, Zero, True, DevDef, FieldDef, Record, Values, dev_def_row, field_def_row}
 use Rattle.fit_csv.proofs.Common.{file_row, optional_number, order_word, rest_text, sum_word, DevDefInRange, FieldDefInRange, HeaderInRange, HeadInRange}
 use Rattle.fit_csv.proofs.Common.{IsMessageStart, head_row, message_row, Row, DefinitionHead}
 use Rattle.std.proofs.Common.{ℕ, ◌<◌, List, decimal, Option, Some, None}
@@ -8,7 +8,7 @@ use Rattle.std.specs.Prelude.{IfSome}
 use Rattle.fit_frame.specs.declared.header.HeaderSum.TheVariants.{Absent}
 use Rattle.fit_cells.specs.Rows.{Cell}
 use Rattle.fit_csv.proofs.HeaderRows.{rest-long, rest-shown}
-use Rattle.fit_csv.proofs.MessageRows.{small-local}
+use Rattle.fit_csv.proofs.MessageRows.{small-local, small-offset}
 
 -- ---- cells
 
@@ -76,10 +76,6 @@ one-dev-def f g p q e =
     let size = one-decimal f.size g.size (2 ^ 8) (omega arith) p.size q.size (ap (cell_at 2) e) in
     let index = one-decimal f.index g.index (2 ^ 8) (omega arith) p.index q.index (ap (cell_at 3) e) in
     λ i. record { number = number i; size = size i; index = index i }
-
-small-offset : (local : ℕ) (offset : Option ℕ) → DataHeaderFits local offset → IfSome offset (λ n. n < 2 ^ 8)
-small-offset local None fits = tt
-small-offset local (Some n) fits = omega (arith, fits.1)
 
 pub one-start : (before : List (Record Global)) (v w : Values Global) → IsMessageStart before v → IsMessageStart before w
     → message_row before v ≡ message_row before w → v ≡ w

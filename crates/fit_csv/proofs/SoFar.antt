@@ -1,6 +1,6 @@
 -- One more row stands behind the rows that a chain was read from.
-use Rattle.fit_csv.proofs.Common.{◌≡◌, ◌∙◌, zero, suc, ◌≤◌, Bool, true, false, [], ◌∷◌, ◌++◌, length, map, refl, sym, ap, ap₂, inl, inr, arith, append_assoc}
-use Rattle.fit_csv.proofs.Common.{eqb-true, ◌&&◌, zip, slice_get, IsSomeAnd, Global, map-append, nil_from_length, reverse-append, length-zip, Items}
+use Rattle.fit_csv.proofs.Common.{◌≡◌, ◌∙◌, zero, suc, ◌≤◌, true, [], ◌∷◌, ◌++◌, length, map, refl, sym, ap, ap₂, inl, inr, arith, append_assoc}
+use Rattle.fit_csv.proofs.Common.{eqb-true, zip, slice_get, IsSomeAnd, Global, map-append, nil_from_length, reverse-append, length-zip, Items}
 use Rattle.fit_csv.proofs.Common.{slice_get_within, slice_get-get_or, HasShape, DevDef, FieldDef, Defined, Record, Values, defined_at, dev_defs, Naming}
 use Rattle.fit_csv.proofs.Common.{namings_at, nameless, known, header_time, previous_time, data_row, data_rows, def_row, definition_rows, dev_count}
 use Rattle.fit_csv.proofs.Common.{dev_def_row, dev_row, dev_rows, field_def_row, field_row, field_rows, message_rows, optional_number, order_word, record_rows}
@@ -10,6 +10,7 @@ use Rattle.std.proofs.Common.{ℕ, ◌<◌, List, Option, Some, None}
 use Rattle.std.specs.Prelude.{codes, decimal, ◌⊎◌, ◌==◌, reverse, option_map, unwrap_or}
 use Rattle.std.proofs.lemmas.List.{append-nil}
 use Rattle.fit_csv.proofs.NamingFacts.{namings_long}
+pub use Rattle.fit_base.proofs.Bytes.{both as both-true}
 
 -- ---- lists
 
@@ -33,16 +34,13 @@ get-zip (a ∷ xs) (b ∷ ys) (suc k) x y e f = get-zip xs ys k x y e f
 pub zip-long : {X Y : Type 0} (xs : List X) (ys : List Y) → length ys ≤ length xs → length (zip xs ys) ≡ length ys
 zip-long xs ys h = omega (arith, length-zip xs ys)
 
-pub reverse-first : {X : Type 0} (x : X) (xs : List X) → reverse (x ∷ xs) ≡ reverse xs ++ x ∷ []
-reverse-first x xs = reverse-append (x ∷ []) xs
-
 pub rows-of-more : (before records : List (Record Global)) (r : Record Global)
     → records_rows before (records ++ r ∷ []) ≡ records_rows before records ++ record_rows (reverse records ++ before) r
 unfolding records_rows
 rows-of-more before [] r = append-nil (record_rows before r)
 rows-of-more before (x ∷ records) r =
     let place : reverse records ++ (x ∷ before) ≡ reverse (x ∷ records) ++ before =
-    sym (append_assoc (reverse records) (x ∷ []) before) ∙ ap (λ b. b ++ before) (sym (reverse-first x records)) in
+    sym (append_assoc (reverse records) (x ∷ []) before) ∙ ap (λ b. b ++ before) (sym (reverse-append (x ∷ []) records)) in
     ap (λ rows. record_rows before x ++ rows) (rows-of-more (x ∷ before) records r)
     ∙ sym (append_assoc (record_rows before x) (records_rows (x ∷ before) records) (record_rows (reverse records ++ (x ∷ before)) r))
     ∙ ap (λ b. (record_rows before x ++ records_rows (x ∷ before) records) ++ record_rows b r) place
@@ -64,11 +62,6 @@ definition-more o r q sound (inr (all, (f, range, e, is))) =
     ∙ ap (λ (rows : List Row). (head_row o.head ∷ map field_def_row o.fields) ++ rows) (map-append dev_def_row o.dev (f ∷ []))
     ∙ sym (append_assoc (head_row o.head ∷ map field_def_row o.fields) (map dev_def_row o.dev) (dev_def_row f ∷ []))
     ∙ ap (λ (x : Row). open_rows o ++ x ∷ []) (sym e)
-
-pub both-true : (a b : Bool) → (a && b) ≡ true → (a ≡ true) × (b ≡ true)
-both-true true true e = (refl, refl)
-both-true true false e = cc e
-both-true false b e = cc e
 
 dev-whole : (m : Option ℕ) (dev : List DevDef) → length dev ≡ unwrap_or m 0
     → (optional_number m ≡ dev_count (option_map (λ _. dev) m)) × (dev ≡ dev_defs (option_map (λ _. dev) m))

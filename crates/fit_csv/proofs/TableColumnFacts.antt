@@ -1,5 +1,5 @@
 -- The numbers of the table by the places of their fields.
-use Rattle.fit_csv.proofs.Common.{◌≡◌, ◌∙◌, ◌≤◌, ◌^◌, zero, suc, Bool, true, false, [], ◌∷◌, length, drop, get_or, refl, sym, ap, subst, arith, eq-eqb}
+use Rattle.fit_csv.proofs.Common.{◌≡◌, ◌∙◌, ◌^◌, zero, suc, Bool, true, false, [], ◌∷◌, length, drop, get_or, refl, sym, ap, subst, arith, eq-eqb}
 use Rattle.fit_csv.proofs.Common.{eqb-true, inl, inr, ◌&&◌, not, nat_lt, option_and_then, slice_get, IsSomeAnd, Global, cases_Bool, ne_eqb, Items, base_type}
 use Rattle.fit_csv.proofs.Common.{twos_complement, FieldDef, MessageDef, Values, first_field, field, Meaning, first_number, valid_number, item_text, IsFormOf}
 use Rattle.fit_csv.proofs.Common.{amount_text, value_text, Column, IsColumn, IsFirst, IsPlaced}
@@ -9,10 +9,7 @@ use Rattle.fit_base.specs.declared.code.Class.TheVariants.{Signed, Unsigned}
 use Rattle.fit_cells.specs.declared.form.NumberForm.{NumberForm}
 use Rattle.fit_csv.specs.declared.tables.columns.Place.{Place}
 use Rattle.fit_csv.specs.declared.tables.columns.Column.TheVariants.{Absent, At, Other}
-
-no_items : {A : Type 0} (fields : List FieldDef) (number : ℕ) → first_field {A = A} fields [] number ≡ None
-no_items [] number = refl
-no_items (f ∷ fields) number = refl
+use Rattle.fit_profile.proofs.FirstField.{no-items}
 
 -- a field that has the number stands at its own index
 pub found_at : {A : Type 0} (fields : List FieldDef) (items : List (Items A)) (number i : ℕ) (d : FieldDef) → i < length fields
@@ -21,26 +18,8 @@ pub found_at : {A : Type 0} (fields : List FieldDef) (items : List (Items A)) (n
 found_at [] items number i d h e = absurd (omega (arith, h))
 found_at (f ∷ fields) [] number zero d h e = refl
 found_at (f ∷ fields) (x ∷ items) number zero d h e = let test = eq-eqb f.number number e in rw test refl
-found_at (f ∷ fields) [] number (suc i) d h e = no_items (drop i fields) number
+found_at (f ∷ fields) [] number (suc i) d h e = no-items (drop i fields) number
 found_at (f ∷ fields) (x ∷ items) number (suc i) d h e = found_at fields items number i d (omega (arith, h)) e
-
--- one that has another number is passed over
-pub passed : {A : Type 0} (fields : List FieldDef) (items : List (Items A)) (number i : ℕ) (d : FieldDef) → i < length fields
-    → ((get_or fields i d).number ≡ number → ⊥)
-    → first_field (drop i fields) (drop i items) number ≡ first_field (drop (suc i) fields) (drop (suc i) items) number
-passed [] items number i d h e = absurd (omega (arith, h))
-passed (f ∷ fields) [] number zero d h e = sym (no_items fields number)
-passed (f ∷ fields) (x ∷ items) number zero d h e = let test = ne_eqb f.number number e in rw test refl
-passed (f ∷ fields) [] number (suc i) d h e = no_items (drop i fields) number ∙ sym (no_items (drop (suc i) fields) number)
-passed (f ∷ fields) (x ∷ items) number (suc i) d h e = passed fields items number i d (omega (arith, h)) e
-
-pub none_left : {A : Type 0} (fields : List FieldDef) (items : List (Items A)) (number i : ℕ) → length fields ≤ i
-    → first_field (drop i fields) (drop i items) number ≡ None
-none_left [] items number zero h = refl
-none_left [] items number (suc i) h = refl
-none_left (f ∷ fields) items number zero h = absurd (omega (arith, h))
-none_left (f ∷ fields) [] number (suc i) h = no_items (drop i fields) number
-none_left (f ∷ fields) (x ∷ items) number (suc i) h = none_left fields items number i (omega (arith, h))
 
 -- ---- the number of an item
 

@@ -1,6 +1,6 @@
 -- Why files that rows gave aren't written.
-use Rattle.fit_csv.proofs.Common.{◌≡◌, ◌≤◌, ◌^◌, false, [], ◌∷◌, ◌++◌, length, Err, refl, subst, Global, AllByRecursion, Appends, FitFile, Record, Environment}
-use Rattle.fit_csv.proofs.Common.{empty_environment, learn, learn_all, IsWellFormedChain, chain_bytes, chain_limit, AllFit, Fits, EncodeFault, AtFile, AtRecord}
+use Rattle.fit_csv.proofs.Common.{◌≡◌, ◌≤◌, ◌^◌, false, [], ◌∷◌, ◌++◌, length, Err, refl, subst, Global, AllByRecursion, Appends, FitFile}
+use Rattle.fit_csv.proofs.Common.{empty_environment, learn_all, IsWellFormedChain, chain_bytes, chain_limit, AllFit, EncodeFault, AtFile, AtRecord}
 use Rattle.fit_csv.proofs.Common.{IfWrite, IsFirstFault, StopsAt, UnlessWrite, Channel, CsvFault, Answers, FromText, IsReadOut, IsTextOf, ReadsText}
 use Rattle.fit_csv.proofs.Common.{written_fault, AreFilesOf, IsFileOfRows, IsReadFault, IsTextFault}
 use Rattle.std.proofs.Common.{ℕ, List, Some}
@@ -11,11 +11,7 @@ use Rattle.fit_encode.specs.declared.fault.EncodeFault.TheVariants.{BadHeader, C
 use Rattle.fit_encode.specs.declared.fault.EncodeFault.TheVariants.{Write, ZeroIsSum}
 use Rattle.fit_csv.specs.declared.fault.CsvFault.TheVariants as faults
 use Rattle.fit_csv.proofs.InRange.{chain-bytes}
-
-fits-between : {A : Type 0} (e : Environment A) (front : List (Record A)) (r : Record A) (back : List (Record A)) → AllFit e (front ++ r ∷ back)
-    → Fits (learn_all e front) r
-fits-between e [] r back h = h.0
-fits-between e (x ∷ front) r back h = fits-between (learn e x) front r back h.1
+use Rattle.fit_encode.proofs.RecordSteps.{fits_between}
 
 good-between : (front : List (FitFile Global)) (f : FitFile Global) (back : List (FitFile Global)) → AllByRecursion IsFileOfRows (front ++ f ∷ back)
     → IsFileOfRows f
@@ -25,7 +21,7 @@ good-between (x ∷ front) f back h = good-between front f back h.1
 no-shape : FaultsAreExact Global → (f : FitFile Global) (index : ℕ) (s : ShapeFault) → IsFileOfRows f
     → AtRecord f.records index (λ e n r. first_fault e r ≡ Some s) → ⊥
 no-shape exact f index s good h =
-    let fits = fits-between empty_environment h.front h.this h.back (subst (AllFit empty_environment) h.joined good.records) in
+    let fits = fits_between empty_environment h.front h.this h.back (subst (AllFit empty_environment) h.joined good.records) in
     let none = ((exact (learn_all empty_environment h.front) h.this).0 fits).0 in
     let some = h.holds in
     cc

@@ -1,7 +1,6 @@
 -- Fronts of a piece, one byte more each.
-use Rattle.fit_decode.proofs.Common.{◌≡◌, ℕ, ◌+◌, ◌<◌, List, [], ◌∷◌, ◌++◌, length, take, get_or, sym, ap, ◌∙◌, subst, arith, append_assoc, Some, None, Ok, Err}
-use Rattle.fit_decode.proofs.Common.{true, false, OnErr, is_ok, take_more, IsFileHeader, HeaderScanned}
-use Rattle.std.specs.Prelude.{Result, OnOk}
+use Rattle.fit_decode.proofs.Common.{◌≡◌, ℕ, ◌+◌, ◌<◌, List, [], ◌∷◌, ◌++◌, length, take, get_or, sym, ap, ◌∙◌, subst, arith, append_assoc, Some, None, Ok}
+use Rattle.fit_decode.proofs.Common.{take_more, IsFileHeader, HeaderScanned}
 use Rattle.fit_frame.specs.declared.header.Header.{Header}
 use Rattle.fit_frame.specs.Beginning.{Seen}
 
@@ -20,12 +19,3 @@ header_scanned front piece i old new whole within before after is =
     after ∙ ap (λ (s : Seen). record { bytes = s.bytes ++ get_or piece i 0 ∷ []; refusal = None }) before
     ∙ ap (λ b. record { bytes = b; refusal = None }) (bytes_more front piece i within) in
     (omega arith, omega (arith, within), seen, subst (IsFileHeader whole.0 whole.1) all is)
-
--- what holds of a good answer, and of a fault
-pub when_ok : {X Y P : Type 0} (r : Result X Y) → OnOk r P → is_ok r ≡ true → P
-when_ok (Ok x) h is = h
-when_ok (Err y) h is = absurd cc
-
-pub when_err : {X Y P : Type 0} (r : Result X Y) → OnErr r P → is_ok r ≡ false → P
-when_err (Ok x) h is = absurd cc
-when_err (Err y) h is = h

@@ -1,19 +1,13 @@
 -- How many bytes records, files and chains have.
 use Rattle.fit_encode.proofs.Common.{◌≡◌, ℕ, ◌*◌, ◌<◌, ◌≤◌, List, [], ◌∷◌, ◌++◌, length, refl, ap, ◌∙◌, length-append, arith, flat_map, sum_by, AllByRecursion}
-use Rattle.fit_encode.proofs.Common.{Items, Order, little_bytes, number_bytes, items_bytes, length-little_bytes, length-number_bytes, checksum, Header}
+use Rattle.fit_encode.proofs.Common.{Items, Order, little_bytes, items_bytes, length-little_bytes, checksum, Header}
 use Rattle.fit_encode.proofs.Common.{HeaderSum, Absent, Zero, True, SizeFits, HeaderFits, fixed_part, sum_part, header_bytes, FitFile, Record, Define, Data}
 use Rattle.fit_encode.proofs.Common.{Environment, record_bytes, order_at, IsWellFormed, body, summed, file_bytes, chain_bytes, chain_limit, items_size}
 use Rattle.fit_encode.proofs.Common.{record_size}
 use Rattle.std.proofs.Common.{◌^◌}
-use Rattle.std.proofs.Math.Nat.{suc-mul}
 use Rattle.std.proofs.lemmas.List.Sums.{sum_by-cons}
 use Rattle.fit_record.proofs.RecordLengths.{length-definition}
-
-length-numbers : (o : Order) (w : ℕ) (ns : List ℕ) → length (flat_map (number_bytes o w) ns) ≡ length ns * w
-length-numbers o w [] = omega arith
-length-numbers o w (n ∷ ns) =
-    length-append (number_bytes o w n) (flat_map (number_bytes o w) ns)
-    ∙ omega (arith, length-number_bytes o w n, length-numbers o w ns, suc-mul (length ns) w)
+use Rattle.fit_base.proofs.ShapeTests.{length-numbers}
 
 length-lists : {A : Type 0} (o : Order) (lists : List (Items A)) → length (flat_map (items_bytes o) lists) ≡ sum_by items_size lists
 length-lists o [] = refl

@@ -1,11 +1,8 @@
 -- A file and its bytes determine each other, and no file's bytes begin those of another.
-use Rattle.fit_record.proofs.Common.{◌≡◌, ℕ, List, ◌++◌, length, sym, ap, ◌∙◌, append_assoc, little_bytes, checksum, header_bytes, FitFile, empty_environment}
+use Rattle.fit_record.proofs.Common.{◌≡◌, ℕ, List, ◌++◌, length, sym, ap, ◌∙◌, little_bytes, checksum, header_bytes, FitFile, empty_environment}
 use Rattle.fit_record.proofs.Common.{body, summed, file_bytes, IsWellFormed, FilesHaveOneSpelling}
 use Rattle.fit_frame.proofs.OneHeader.{one_header}
-use Rattle.fit_record.proofs.OneRecord.{same_records}
-
-regroup : (a b c d : List ℕ) → ((a ++ b) ++ c) ++ d ≡ a ++ (b ++ (c ++ d))
-regroup a b c d = simp append_assoc
+use Rattle.fit_record.proofs.OneRecord.{regroup, same_records}
 
 pub same_file : {A : Type 0} (f g : FitFile A) (x y : List ℕ) → IsWellFormed f → IsWellFormed g → file_bytes f ++ x ≡ file_bytes g ++ y → f ≡ g
 same_file f g x y p q e =

@@ -7,7 +7,7 @@ use Rattle.fit_record.proofs.Common.{DataHeaderFits, data_bytes, DataFits, Fits,
 use Rattle.fit_record.proofs.Common.{Values}
 use Rattle.fit_base.proofs.SameItems.{same_items}
 
-regroup : {X : Type 0} → (a b c d : List X) → (a ++ b ++ c) ++ d ≡ a ++ (b ++ (c ++ d))
+pub regroup : {X : Type 0} → (a b c d : List X) → (a ++ b ++ c) ++ d ≡ a ++ (b ++ (c ++ d))
 regroup a b c d = simp append_assoc
 
 -- ---- definitions

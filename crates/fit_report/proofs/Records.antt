@@ -5,20 +5,16 @@ use Rattle.fit_report.proofs.Common.{Record, body, summed, file_bytes, chain_byt
 use Rattle.fit_report.proofs.Common.{Progress, at_header, at_data, progress_bytes, IsUnfinished, short_bytes, latest_records}
 use Rattle.fit_frame.specs.declared.header.Header.{Header}
 use Rattle.fit_frame.specs.Header.{header_bytes}
-use Rattle.fit_record.specs.declared.message.Record.TheVariants.{Define, Values}
 use Rattle.fit_record.specs.Environment.{Environment, empty_environment, learn, learn_all}
 use Rattle.fit_record.specs.Records.{AllFit, Fits, record_bytes, records_bytes}
 use Rattle.fit_report.specs.Laws.{HeardAreFew, HeardRecordsFit}
+use Rattle.fit_encode.proofs.Encoders.{some_byte}
 
 -- ---- the count
 
-some_bytes : {A : Type 0} (e : Environment A) (r : Record A) → 0 < length (record_bytes e r)
-some_bytes e (Define d) = omega arith
-some_bytes e (Values v) = omega arith
-
 few_records : {A : Type 0} (e : Environment A) (rs : List (Record A)) → length (map item rs) ≤ length (records_bytes e rs)
 few_records e [] = omega arith
-few_records e (r ∷ rs) = omega (arith, some_bytes e r, few_records (learn e r) rs, length-append (record_bytes e r) (records_bytes (learn e r) rs))
+few_records e (r ∷ rs) = omega (arith, some_byte e r, few_records (learn e r) rs, length-append (record_bytes e r) (records_bytes (learn e r) rs))
 
 longer : (xs ys : List ℕ) → length xs ≤ length (xs ++ ys)
 longer xs ys = omega (arith, length-append xs ys)

@@ -1,14 +1,9 @@
 -- The text of what was heard, in a sink.
 use Rattle.fit_report.proofs.Common.{◌≡◌, ℕ, ◌+◌, ◌-◌, ◌^◌, ◌<◌, min, true, List, [], ◌++◌, length, take, reverse, Option, Some, None, refl, sym, ap, ◌∙◌}
-use Rattle.fit_report.proofs.Common.{subst, arith, append_assoc, length-append, Appends, Keeps, append-nil, take-append-add, Answer, Event, AreEvents, Lines}
+use Rattle.fit_report.proofs.Common.{subst, arith, length-append, Appends, Keeps, append-nil, take-append-add, Answer, Event, AreEvents, Lines}
 use Rattle.fit_report.proofs.Common.{hear, line_of, text_of, Tells, TextFailsIn, HasReported}
 use Rattle.fit_chain.specs.declared.event.Event.TheVariants as answers
-
-pub Appends-append : (a b c : Option (List ℕ)) (p q : List ℕ) → Appends a b p → Appends b c q → Appends a c (p ++ q)
-Appends-append None b c p q h k = tt
-Appends-append (Some x) None c p q h k = absurd h
-Appends-append (Some x) (Some y) None p q h k = absurd k
-Appends-append (Some x) (Some y) (Some z) p q h k = k ∙ ap (λ t. t ++ q) h ∙ append_assoc x p q
+use Rattle.fit_encode.proofs.Written.{Appends-on}
 
 pub Appends-keeps : (a b c : Option (List ℕ)) (p : List ℕ) → Appends a b p → Keeps b c → Appends a c p
 Appends-keeps None b c p h k = tt
@@ -39,7 +34,7 @@ module _ {A : Type 0} (line : Lines A) (bytes : List ℕ) (heard : List (Event A
   stands_on answer more now count are put counted = record {
     are = are;
     put = subst (Appends start now) (sym (text-hear line heard answer))
-        (Appends-append start mid now (text_of line heard) (line_of line heard answer) s.put put);
+        (Appends-on start mid now (text_of line heard) (line_of line heard answer) s.put put);
     counted = omega (arith, s.counted, counted, ap length (text-hear line heard answer), length-append (text_of line heard) (line_of line heard answer));
   }
 
@@ -55,7 +50,7 @@ module _ {A : Type 0} (line : Lines A) (bytes : List ℕ) (heard : List (Event A
         length old + n,
         omega (arith, short, ap length (text-hear line heard answer), length-append old new),
         subst (λ t. Appends start now (take (length old + n) t)) (sym (text-hear line heard answer))
-            (subst (Appends start now) (sym front) (Appends-append start mid now old (take n new) s.put put)),
+            (subst (Appends start now) (sym front) (Appends-on start mid now old (take n new) s.put put)),
         omega (arith, s.counted, counted),
       )
 

@@ -5,7 +5,7 @@ use Rattle.fit_run.proofs.Common.{HasTold, Reports, ReportsChain, ok_line, Write
 use Rattle.std.proofs.Math.Seq.{take-append-add}
 use Rattle.fit_chain.specs.declared.event.Fault.TheVariants.{NoMemory, Read}
 use Rattle.fit_report.specs.declared.fault.ReportFault.{ReportFault}
-use Rattle.fit_report.proofs.Texts.{Appends-append}
+use Rattle.fit_encode.proofs.Written.{Appends-on}
 use Rattle.fit_run.specs.inner.Finishing.{Finishes}
 use Rattle.fit_report.specs.declared.fault.ReportFault.TheVariants as report
 
@@ -13,14 +13,14 @@ writes_on : (start mid after : Option (List ℕ)) (failed : Bool) (faults : Chan
     → WritesLines lines wanted (record { before = mid; after = after; failed = failed }) faults status
     → WritesLines (text ++ lines) wanted (record { before = start; after = after; failed = failed }) faults status
 writes_on start mid after failed faults status text lines wanted put (inl (more, keeps, is)) =
-    inl (Appends-append start mid after text lines put more, keeps, is)
+    inl (Appends-on start mid after text lines put more, keeps, is)
 writes_on start mid after failed faults status text lines wanted put (inr (bad, n, short, more, puts, is)) =
     let front : take (length text + n) (text ++ lines) ≡ text ++ take n lines = take-append-add text lines n in
     inr (
       bad,
       length text + n,
       omega (arith, short, length-append text lines),
-      subst (Appends start after) (sym front) (Appends-append start mid after text (take n lines) put more),
+      subst (Appends start after) (sym front) (Appends-on start mid after text (take n lines) put more),
       puts,
       is,
     )
@@ -93,7 +93,7 @@ module _ {K : Type 0} (contents : K → Option (List ℕ)) (has_failed : K → B
 
       pub ran_chain : (answer : Result (Unit {0}) ReportFault) → ReportsChain line fs source told answer → Finishes answer old new said faults status → Good
       ran_chain (Ok x) put (inl (more, keeps, is)) =
-          inr (is, Appends-append start (contents old) (contents new) (text_of line (reverse (flat_map file_events fs))) ok_line put more)
+          inr (is, Appends-on start (contents old) (contents new) (text_of line (reverse (flat_map file_events fs))) ok_line put more)
       ran_chain (Ok x) put (inr (bad, n, short, more, puts, is)) = absurd cc
       ran_chain (Err (report.Decode (Refused place reason))) none writes = absurd none
       ran_chain (Err (report.Decode (Truncated place))) none writes = absurd none

@@ -1,21 +1,13 @@
 -- How long the bytes of records are.
 use Rattle.fit_step.proofs.Common.{◌≡◌, ℕ, ◌+◌, ◌*◌, List, [], ◌∷◌, ◌++◌, length, sym, ap, arith, length-append, flat_map, flat_map_more, sum_by-append}
-use Rattle.fit_step.proofs.Common.{sum_by-cons, Items, Order, number_bytes, items_bytes, length-number_bytes, MessageDef, Defined, field_bytes, layout}
+use Rattle.fit_step.proofs.Common.{sum_by-cons, Items, Order, items_bytes, length-number_bytes, MessageDef, Defined, field_bytes, layout}
 use Rattle.fit_step.proofs.Common.{dev_layout, message_size, sizes, definition_front, fields_front, TakenFields, taken, width_of, IsTaking, length-fields}
 use Rattle.fit_step.proofs.Common.{length-items}
+use Rattle.fit_base.proofs.ShapeTests.{length-numbers}
 
 pub length-fields_front : {A : Type 0} (d : MessageDef A) (n : ℕ) → length (fields_front d n) ≡ 6 + 3 * length d.fields
 length-fields_front d n =
     omega (arith, length-append (definition_front d) (n ∷ flat_map field_bytes d.fields), length-number_bytes d.order 2 d.global, length-fields d.fields)
-
-length-numbers : (o : Order) (w : ℕ) (ns : List ℕ) → length (flat_map (number_bytes o w) ns) ≡ length ns * w
-length-numbers o w [] = omega arith
-length-numbers o w (n ∷ ns) = omega (
-  arith,
-  length-append (number_bytes o w n) (flat_map (number_bytes o w) ns),
-  length-number_bytes o w n,
-  length-numbers o w ns,
-)
 
 length-bits : {A : Type 0} (o : Order) (i : Items A) → length (items_bytes o i) ≡ length i.bits * i.width
 length-bits o i = length-numbers o i.width i.bits

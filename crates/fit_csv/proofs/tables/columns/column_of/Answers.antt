@@ -1,5 +1,6 @@
 use Rattle.fit_csv.proofs.Common.{◌∙◌, sym, ap, drop, get_or, add-one, FieldDef, first_field}
-use Rattle.fit_csv.proofs.TableColumnFacts.{first_column, found_at, none_left, passed}
+use Rattle.fit_csv.proofs.TableColumnFacts.{first_column, found_at}
+use Rattle.fit_profile.proofs.FirstField.{none-left, past}
 use Rattle.fit_csv.proofs.tables.columns.column_of.Goals as goal
 
 abbrev nothing : FieldDef
@@ -7,7 +8,7 @@ nothing = record { number = 0; size = 0; code = 0 }
 
 pub loop-index-preserved : goal.loop-index-preserved
 loop-index-preserved c items =
-    c.loop-index.invariant items ∙ passed c.args.fields.now items c.args.number c.loop-index.index nothing c.loop-index-test.true c.if-field-number.false
+    c.loop-index.invariant items ∙ past c.args.fields.now items c.args.number c.loop-index.index nothing c.loop-index-test.true c.if-field-number.false
     ∙ ap (λ n. first_field (drop n c.args.fields.now) (drop n items) c.args.number) (sym (add-one c.loop-index.index))
 
 pub returns-then-field-number : goal.returns-then-field-number
@@ -20,4 +21,4 @@ returns-then-field-number c =
     c.if-field-number.true c.placed.ensures
 
 pub returns : goal.returns
-returns c items = c.loop-index.invariant items ∙ none_left c.args.fields.now items c.args.number c.loop-index.index c.loop-index-test.false
+returns c items = c.loop-index.invariant items ∙ none-left c.args.fields.now items c.args.number c.loop-index.index c.loop-index-test.false

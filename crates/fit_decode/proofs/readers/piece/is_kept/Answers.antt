@@ -1,5 +1,5 @@
 use Rattle.fit_decode.proofs.Common.{◌∙◌, sym}
-use Rattle.fit_decode.proofs.Pieces.{when_ok}
+use Rattle.fit_step.proofs.ReadBytes.{when_ok}
 use Rattle.fit_decode.proofs.readers.piece.is_kept.Goals as goal
 
 pub returns : goal.returns
