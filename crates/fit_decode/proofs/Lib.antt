@@ -1,6 +1,5 @@
 pub mod Common
 pub mod Pieces
-pub mod Scanned
 pub mod Sections
 pub mod PieceTold
 pub mod Sizes

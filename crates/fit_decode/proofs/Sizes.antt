@@ -1,5 +1,6 @@
 -- A field of a struct takes no more memory than the struct.
 use Rattle.fit_decode.proofs.Common.{ℕ, zero, ◌+◌, ◌<◌, ◌≤◌, arith}
+use Rattle.std.proofs.Common.{suc}
 use mir.Syntax.{Ty, ty_unit, ty_struct, Tys, tnil, tcons}
 use prog.Memory.{align, size, pad, end_of}
 
@@ -7,42 +8,21 @@ ends_behind : (τs : Tys) (e : ℕ) → e ≤ end_of e τs
 ends_behind tnil e = omega arith
 ends_behind (tcons τ τs) e = omega (arith, ends_behind τs (e + pad (align τ) e + size τ))
 
-abbrev fourth : Tys → Ty
-fourth (tcons a (tcons b (tcons c (tcons d rest)))) = d
-fourth τs = ty_unit
+abbrev field_at : ℕ → Tys → Ty
+field_at n tnil = ty_unit
+field_at zero (tcons τ τs) = τ
+field_at (suc n) (tcons τ τs) = field_at n τs
 
--- the fourth field's type
-abbrev pub fourth_field : Ty → Ty
-fourth_field (ty_struct name τs) = fourth τs
-fourth_field τ = ty_unit
+field_ends : (n : ℕ) (τs : Tys) (e : ℕ) → size (field_at n τs) ≤ end_of e τs
+field_ends n tnil e = omega arith
+field_ends zero (tcons τ τs) e = omega (arith, ends_behind τs (e + pad (align τ) e + size τ))
+field_ends (suc n) (tcons τ τs) e = field_ends n τs (e + pad (align τ) e + size τ)
 
-fourth_ends : (τs : Tys) → size (fourth τs) ≤ end_of zero τs
-fourth_ends (tcons a (tcons b (tcons c (tcons d rest)))) =
-    let e : ℕ = end_of zero (tcons a (tcons b (tcons c tnil))) in
-    omega (arith, ends_behind rest (e + pad (align d) e + size d))
-fourth_ends τs = omega arith
+-- the type of the field at a place, counted from 0
+abbrev pub field_of : ℕ → Ty → Ty
+field_of n (ty_struct name τs) = field_at n τs
+field_of n τ = ty_unit
 
-pub fourth_is_within : (τ : Ty) (limit : ℕ) → size τ < limit → size (fourth_field τ) < limit
-fourth_is_within (ty_struct name τs) limit small = omega (arith, small, fourth_ends τs)
-fourth_is_within τ limit small = omega (arith, small)
-
-abbrev first : Tys → Ty
-first (tcons a rest) = a
-first τs = ty_unit
-
--- the first field's type
-abbrev pub first_field : Ty → Ty
-first_field (ty_struct name τs) = first τs
-first_field τ = ty_unit
-
-first_ends : (τs : Tys) → size (first τs) ≤ end_of zero τs
-first_ends (tcons a rest) =
-    let e : ℕ = zero + pad (align a) zero + size a in
-    let ends : e ≤ end_of e rest = ends_behind rest e in
-    let here : size a ≤ end_of e rest = omega (arith, ends) in
-    here
-first_ends tnil = omega arith
-
-pub first_is_within : (τ : Ty) (limit : ℕ) → size τ < limit → size (first_field τ) < limit
-first_is_within (ty_struct name τs) limit small = omega (arith, small, first_ends τs)
-first_is_within τ limit small = omega (arith, small)
+pub field_is_within : (n : ℕ) (τ : Ty) (limit : ℕ) → size τ < limit → size (field_of n τ) < limit
+field_is_within n (ty_struct name τs) limit small = omega (arith, small, field_ends n τs zero)
+field_is_within n τ limit small = omega (arith, small)

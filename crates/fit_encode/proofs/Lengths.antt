@@ -1,13 +1,13 @@
 -- How many bytes records, files and chains have.
-use Rattle.fit_encode.proofs.Common.{◌≡◌, ℕ, ◌*◌, ◌<◌, ◌≤◌, List, [], ◌∷◌, ◌++◌, length, refl, ap, ◌∙◌, length-append, arith, flat_map, sum_by, AllByRecursion}
-use Rattle.fit_encode.proofs.Common.{Items, Order, little_bytes, items_bytes, length-little_bytes, checksum, Header}
-use Rattle.fit_encode.proofs.Common.{HeaderSum, Absent, Zero, True, SizeFits, HeaderFits, fixed_part, sum_part, header_bytes, FitFile, Record, Define, Data}
-use Rattle.fit_encode.proofs.Common.{Environment, record_bytes, order_at, IsWellFormed, body, summed, file_bytes, chain_bytes, chain_limit, items_size}
-use Rattle.fit_encode.proofs.Common.{record_size}
+use Rattle.fit_encode.proofs.Common.{◌≡◌, ℕ, ◌*◌, ◌<◌, ◌≤◌, List, [], ◌∷◌, ◌++◌, length, refl, ◌∙◌, length-append, arith, flat_map, sum_by, AllByRecursion}
+use Rattle.fit_encode.proofs.Common.{Items, Order, little_bytes, items_bytes, length-little_bytes, checksum, Header, HeaderFits, header_bytes, FitFile}
+use Rattle.fit_encode.proofs.Common.{Record, Define, Data, Environment, record_bytes, order_at, IsWellFormed, body, summed, file_bytes, chain_bytes}
+use Rattle.fit_encode.proofs.Common.{chain_limit, items_size, record_size}
 use Rattle.std.proofs.Common.{◌^◌}
 use Rattle.std.proofs.lemmas.List.Sums.{sum_by-cons}
 use Rattle.fit_record.proofs.RecordLengths.{length-definition}
 use Rattle.fit_base.proofs.ShapeTests.{length-numbers}
+use Rattle.fit_frame.proofs.OneHeader.{length-header_bytes}
 
 length-lists : {A : Type 0} (o : Order) (lists : List (Items A)) → length (flat_map (items_bytes o) lists) ≡ sum_by items_size lists
 length-lists o [] = refl
@@ -23,22 +23,8 @@ length-record_bytes e (Data v) =
 
 -- ---- files
 
-word_short : (word : HeaderSum) (fixed rest : List ℕ) (size : ℕ) → length fixed ≡ 12 → SizeFits word size rest → size < 256
-    → length (fixed ++ sum_part word fixed ++ rest) < 256
-word_short Absent fixed rest size twelve fits small =
-    let none : length rest ≡ 0 = ap length fits.1 in
-    omega (arith, length-append (fixed ++ []) rest, length-append fixed [])
-word_short Zero fixed rest size twelve fits small = omega (arith, length-append (fixed ++ 0 ∷ 0 ∷ []) rest, length-append fixed (0 ∷ 0 ∷ []))
-word_short True fixed rest size twelve fits small =
-    omega (
-      arith,
-      length-append (fixed ++ little_bytes 2 (checksum fixed)) rest,
-      length-append fixed (little_bytes 2 (checksum fixed)),
-      length-little_bytes 2 (checksum fixed),
-    )
-
 pub header_short : (h : Header) (n : ℕ) → HeaderFits h n → length (header_bytes h n) < 256
-header_short h n fits = word_short h.sum (fixed_part h n) h.rest.items h.size refl fits.form.size fits.size_fits
+header_short h n fits = omega (arith, length-header_bytes h n fits.form, fits.size_fits)
 
 pub file_short : {A : Type 0} (f : FitFile A) → IsWellFormed f → length (file_bytes f) ≤ 4294967552
 file_short f good =

@@ -62,7 +62,8 @@ place-reserved m n local l none = map-reserved nat_cmp m n local l none (local =
 
 pub naming-reserved : {X : Type 0} (m n : BTreeMap DevKey X) (key : DevKey) (none : X) → Updates dev_key_cmp m n key (Some none) → get dev_key_cmp m key ≡ None
     → (index number : ℕ)
-    → unwrap_or (get dev_key_cmp n (record { index = index; number = number })) none ≡ unwrap_or (get dev_key_cmp m (record { index = index; number = number })) none
+    → unwrap_or (get dev_key_cmp n (record { index = index; number = number })) none
+    ≡ unwrap_or (get dev_key_cmp m (record { index = index; number = number })) none
 naming-reserved m n key none u absent index number =
     map-reserved dev_key_cmp m n key (record { index = index; number = number }) none (is_key key index number) (at-key key index number)
     (key-is key index number) u absent

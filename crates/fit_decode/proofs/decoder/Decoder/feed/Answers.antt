@@ -3,7 +3,7 @@ use Rattle.fit_decode.specs.contracts.decoder.Decoder.{the_row}
 use Rattle.fit_decode.specs.contracts.decoder.Decoder.feed.{A-row}
 use Rattle.fit_chain.specs.declared.event.Fault.TheVariants.{Refused}
 use Rattle.fit_step.specs.declared.stop.Stop.TheVariants as stops
-use Rattle.fit_decode.proofs.Sizes.{fourth_is_within}
+use Rattle.fit_decode.proofs.Sizes.{field_is_within}
 use Rattle.fit_decode.proofs.Advancing.{at_section, header_fresh, header_open, data_reading, sum_few}
 use Rattle.fit_decode.proofs.Sections.{header_fed, data_fed, sum_fed}
 use Rattle.fit_decode.proofs.Feeding.{stopped, Took, takes, within, few_bytes, still_kept, refused_kept, not_refused, not_for_memory, was_viable, place_seen}
@@ -54,18 +54,18 @@ feed_header-requires-clause-begun g c = header_open c.self.invariant c.in_defaul
 
 pub feed_data-requires : goal.feed_data-requires
 feed_data-requires g c = (
-  fourth_is_within (layout (the_row (A-row g.row.A) g.A.Allocator)) _ (search rules),
+  field_is_within 3 (layout (the_row (A-row g.row.A) g.A.Allocator)) _ (search rules),
   data_reading c.self.invariant c.in_default.is c.in-Data.is,
 )
 
 pub feed_sum-requires : goal.feed_sum-requires
 feed_sum-requires g c = (
-  fourth_is_within (layout (the_row (A-row g.row.A) g.A.Allocator)) _ (search rules),
+  field_is_within 3 (layout (the_row (A-row g.row.A) g.A.Allocator)) _ (search rules),
   sum_few c.self.invariant c.in_default.is c.in-ClosingSum.is,
 )
 
 pub let_go-requires : goal.let_go-requires
-let_go-requires g c = fourth_is_within (layout (the_row (A-row g.row.A) g.A.Allocator)) _ (search rules)
+let_go-requires g c = field_is_within 3 (layout (the_row (A-row g.row.A) g.A.Allocator)) _ (search rules)
 
 pub split_at-requires : goal.split_at-requires
 split_at-requires g c = within (took g (goal.at.split_at-requires g c).Joined-self-2)

@@ -1,12 +1,12 @@
 use Rattle.fit_decode.proofs.Common.{rules, layout}
 use Rattle.fit_decode.specs.contracts.decoder.Decoder.{the_row}
 use Rattle.fit_decode.specs.contracts.decoder.Decoder.held.{A-row}
-use Rattle.fit_decode.proofs.Sizes.{fourth_is_within}
+use Rattle.fit_decode.proofs.Sizes.{field_is_within}
 use Rattle.fit_decode.proofs.Holding.{small_seen, held_seen, let_go_seen, ended_seen, limited_seen}
 use Rattle.fit_decode.proofs.decoder.Decoder.held.Goals as goal
 
 pub held-requires : goal.held-requires
-held-requires g c = fourth_is_within (layout (the_row (A-row g.row.A) g.A.Allocator)) _ (search rules)
+held-requires g c = field_is_within 3 (layout (the_row (A-row g.row.A) g.A.Allocator)) _ (search rules)
 
 pub in_progress_size-requires : goal.in_progress_size-requires
 in_progress_size-requires g c = small_seen c.self.inside c.self.invariant

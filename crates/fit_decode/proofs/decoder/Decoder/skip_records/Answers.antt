@@ -1,7 +1,7 @@
 use Rattle.fit_decode.proofs.Common.{◌++◌, refl, ap, ◌∙◌, rules, layout, slice_is_bytes}
 use Rattle.fit_decode.specs.contracts.decoder.Decoder.{the_row}
 use Rattle.fit_decode.specs.contracts.decoder.Decoder.skip_records.{A-row}
-use Rattle.fit_decode.proofs.Sizes.{fourth_is_within}
+use Rattle.fit_decode.proofs.Sizes.{field_is_within}
 use Rattle.fit_decode.proofs.Feeding.{was_viable}
 use Rattle.fit_decode.proofs.Skipping.{fresh, few_skipped, skipped_kept, records_skipped}
 use Rattle.fit_decode.proofs.decoder.Decoder.skip_records.Goals as goal
@@ -13,7 +13,7 @@ pub returns-in_default-clause-viable : goal.returns-in_default-clause-viable
 returns-in_default-clause-viable g c = was_viable c.self.inside c.self.invariant c.args.self.now c.self.view_is
 
 pub skip_in_section-skipped-requires : goal.skip_in_section-skipped-requires
-skip_in_section-skipped-requires g c = fourth_is_within (layout (the_row (A-row g.row.A) g.A.Allocator)) _ (search rules)
+skip_in_section-skipped-requires g c = field_is_within 3 (layout (the_row (A-row g.row.A) g.A.Allocator)) _ (search rules)
 
 pub overflow_add-self : goal.overflow_add-self
 overflow_add-self g c =

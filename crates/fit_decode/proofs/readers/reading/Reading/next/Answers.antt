@@ -6,7 +6,7 @@ use Rattle.fit_decode.specs.Answers.{Seen}
 use Rattle.fit_decode.specs.Reads.{channel}
 use Rattle.fit_decode.proofs.NextRead.{behind_file, comes_behind, end_not_given, fault_given, keeps, next_chain, next_end, next_fault, next_file, next_given}
 use Rattle.fit_decode.proofs.NextRead.{next_good, NextGiven}
-use Rattle.fit_decode.proofs.Sizes.{fourth_is_within}
+use Rattle.fit_decode.proofs.Sizes.{field_is_within}
 use Rattle.fit_decode.proofs.readers.reading.Reading.next.Goals as goal
 
 pub returns-in-Some-clause-latched : goal.returns-in-Some-clause-latched
@@ -15,7 +15,7 @@ returns-in-Some-clause-latched g c = rw (← c.self.view_is) (λ fault is. let b
 pub read_file-requires : goal.read_file-requires
 read_file-requires g c =
     let (files, behind) = c.self.invariant c.in_default.is in (
-      fourth_is_within (layout (the_row (S-row g.row.S g.row.A) (A-row g.row.S g.row.A) g.S.Source g.A.Allocator)) _ (search rules),
+      field_is_within 3 (layout (the_row (S-row g.row.S g.row.A) (A-row g.row.S g.row.A) g.S.Source g.A.Allocator)) _ (search rules),
       (
         ap (λ (v : Seen). v.refusal) behind.fed,
         (
@@ -26,7 +26,7 @@ read_file-requires g c =
     )
 
 pub is_end-requires : goal.is_end-requires
-is_end-requires g c = fourth_is_within (layout (the_row (S-row g.row.S g.row.A) (A-row g.row.S g.row.A) g.S.Source g.A.Allocator)) _ (search rules)
+is_end-requires g c = field_is_within 3 (layout (the_row (S-row g.row.S g.row.A) (A-row g.row.S g.row.A) g.S.Source g.A.Allocator)) _ (search rules)
 
 -- ---- a file
 
