@@ -33,7 +33,6 @@ module _ {A : Type 0} (places : List (Option (Defined A))) (local n other : ℕ)
       (ap (λ o. has_length_at o n) (get_or-set_other places local other None None differs) ∙ has)
 
 module _ {A : Type 0} (e : Environment A) (local t size room : ℕ) (enough : t + 1 ≤ room) (not_without : finishes e local t size (room - (t + 1)) ≡ false) where
-
   pub with_one : (r : Bool) → 3 ≤ room - (t + 1) → r ≡ can_fill_from e local size (room - (t + 1) - 3) → r ≡ can_complete_dev e local t size room
   with_one r l h =
       h ∙ sym (rw (le-leb (t + 1) room enough, not_without, le-leb 3 (room - (t + 1)) l) refl)
