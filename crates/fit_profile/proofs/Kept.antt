@@ -69,6 +69,10 @@ pub through : {X Y Z : Type 0} (g : X → Y) (f : Y → Option Z) (o : Option X)
 through g f None y e = absurd (none-some y (sym e))
 through g f (Some x) y e = ap f (same_Some y (g x) e)
 
+pub through-none : {X Y Z : Type 0} (g : X → Y) (f : Y → Option Z) (o : Option X) → None ≡ option_map g o → None ≡ option_and_then (λ x. f (g x)) o
+through-none g f None e = refl
+through-none g f (Some x) e = absurd (none-some (g x) e)
+
 -- what a described field changes
 pub given : {A : Type 0} → Option (Described A) → ℕ → ℕ → Naming → Naming
 given None index number before = before

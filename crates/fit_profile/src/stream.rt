@@ -17,7 +17,7 @@ use crate::learn::take_in;
 use crate::message::{Message, message_of};
 use crate::names::{Names, Texts};
 use crate::time::header_time;
-use crate::told::{Last, Told, last_after, last_behind, tell};
+use crate::told::{Last, Told, last_after, last_behind, tell, time_of};
 use fit_history::History;
 use fit_record::{Env, Record, Values};
 use std::alloc::{AllocError, Global};
@@ -96,6 +96,13 @@ impl Stream {
         ensures { result ≡ times.header_time (times.previous_time self.now) (Some offset) }
     {
         header_time(self.last.time, Some(offset))
+    }
+
+    /// The time of the next record, where it is a data message with a time: that of its timestamp, and else that of its header.
+    pub fn time(&self, record_: &Record) -> Option<u32>
+        ensures { result ≡ times.time self.now record_.now }
+    {
+        time_of(&self.env, self.last.time, record_)
     }
 
     /// The name and the unit of a developer field of a local message type.

@@ -92,6 +92,35 @@ fn time<A: Allocator>(
     }
 }
 
+/// The time of a data message by the last time before it.
+fn time_of_values<A: Allocator>(
+    env: &Env<A>,
+    previous: Option<u32>,
+    values: &Values<A>,
+) -> Option<u32>
+    ensures { result ≡ or_else (times.own_time env.now values.now)
+        (times.header_time previous values.now.offset) }
+{
+    match env.definition(values.local) {
+        Some(definition) => time(previous, definition, values),
+        None => header_time(previous, values.offset),
+    }
+}
+
+/// The time of a record by the last time before it.
+pub(crate) fn time_of<A: Allocator>(
+    env: &Env<A>,
+    previous: Option<u32>,
+    record_: &Record<A>,
+) -> Option<u32>
+    ensures { result ≡ times.time_of env.now previous record_.now }
+{
+    match record_ {
+        Record::Define(_) => None,
+        Record::Values(values) => time_of_values(env, previous, values),
+    }
+}
+
 /// What is told of a message with counters by the last ones before it.
 fn counted_at<A: Allocator>(last: Last, definition: &MessageDef<A>, values: &Values<A>) -> Told
     ensures { result ≡ telling.told_at last definition.now values.now }
