@@ -1,5 +1,5 @@
 //! The cells of fields.
-ghost use Rattle.std.specs.Prelude.{◌≡◌, ◌<◌, ◌++◌, ◌∷◌, [], ◌⊎◌, ◌^◌, All, IfOk, IfSome, IsTrue, OnErr, OnOk, Option, false, option_map};
+ghost use Rattle.std.specs.Prelude.{◌≡◌, ◌<◌, ◌++◌, ◌⊎◌, ◌^◌, All, IfOk, IfSome, IsTrue, OnErr, OnOk, Option, false, option_map};
 ghost use Rattle.std.specs.Global.{Global};
 ghost use Rattle.std.specs.String.{string_bytes};
 ghost use Rattle.csv.specs.Writing.{default_writer, field_text};
@@ -11,9 +11,8 @@ ghost use Rattle.fit_profile.specs.Names.{meaning};
 ghost use Rattle.fit_profile.specs.Profile.{Meaning};
 ghost use Rattle.fit_profile.specs.Scaled.{IsScale};
 ghost use Rattle.fit_cells.specs.Cells.{cell, class_of};
-ghost use Rattle.fit_cells.specs.Forms.{IsFormOf, IsSmallForm};
 
-use crate::form::{NumberForm, lone_number, number_form, put_formed};
+use crate::form::{formed, number_form, put_formed};
 use crate::hexadecimal::put_bytes;
 use crate::numbers::put_items;
 use crate::strings::put_string;
@@ -32,19 +31,6 @@ pub(crate) fn class_of(code: Code, width: u8) -> Class
     }
 }
 
-/// The form and the bits of a field that is just one number of at most four bytes.
-fn formed(code: Code, info: Option<Info>, items: &Items) -> Option<(NumberForm, u64)>
-    requires { IfSome info (λ i. IsScale i.scale) }
-    ensures small { IfSome result (λ p. IsSmallForm p.0) }
-    ensures form { IfSome result (λ p. IsFormOf code.0 (option_map meaning info) p.0) }
-    ensures lone { IfSome result (λ p. (items.now.width ≡ p.0.width)
-        × (items.now.bits ≡ p.1 ∷ [])) }
-{
-    let form = number_form(code, info)?;
-    let bits = lone_number(form, items)?;
-    Some((form, bits))
-}
-
 /// Puts the cell of a field after a text. If memory runs out, the old text is still the beginning, and part of the cell may have
 /// been written.
 pub fn put_cell(
@@ -60,7 +46,7 @@ pub fn put_cell(
         ++ cell code.0 (option_map meaning info) items.now) }
     ensures kept { OnErr result (StillBegins text.old.items text.new.items) }
 {
-    if let Some((form, bits)) = formed(code, info, items) {
+    if let Some((form, bits)) = formed(number_form(code, info), items) {
         return put_formed(text, form, bits);
     }
     let bits = items.bits.as_slice();

@@ -89,6 +89,23 @@ pub fn lone_number(form: NumberForm, items: &Items) -> Option<u64>
     }
 }
 
+/// The form and the item, where the form is known and the item is the only one and has its width.
+#[inline(always)]
+pub fn formed(form: Option<NumberForm>, items: &Items) -> Option<(NumberForm, u64)>
+    requires { IfSome form IsSmallForm }
+    ensures small { IfSome result (λ p. IsSmallForm p.0) }
+    ensures form { (code : ℕ) (info : Option Meaning) → IfSome form (IsFormOf code info)
+        → IfSome result (λ p. IsFormOf code info p.0) }
+    ensures lone { IfSome result (λ p. (items.now.width ≡ p.0.width)
+        × (items.now.bits ≡ p.1 ∷ [])) }
+    ensures none { IsNone result → IfSome form (λ f. items.now.width ≡ f.width
+        → length items.now.bits ≡ 1 → ⊥) }
+{
+    let form = form?;
+    let bits = lone_number(form, items)?;
+    Some((form, bits))
+}
+
 /// A number of whole units in units of the last decimal, over the scale.
 fn in_decimals(number: i64, scale: u32) -> i64
     requires least { neg_ℤ (pos (2 ^ 43)) ≤ℤ number }

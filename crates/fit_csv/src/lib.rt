@@ -4,6 +4,7 @@
 mod conversion;
 mod fault;
 mod from;
+mod kept;
 pub mod laws;
 mod rows;
 mod show;

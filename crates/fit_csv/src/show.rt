@@ -8,9 +8,12 @@ ghost use Rattle.fit_csv.specs.inner.Reporting.{AnswerFits};
 ghost use Rattle.fit_csv.specs.inner.Showing.{time_told};
 
 mod fields;
+mod frames;
 mod lines;
+mod template;
 
 use crate::show::lines::put_event;
+use crate::show::template::LineMaker;
 use fit_decode::Event;
 use fit_profile::Stream;
 use fit_profile::laws::looking_back_is_learning;
@@ -27,10 +30,9 @@ fn take_in(stream: &mut Stream, record_: &Record) -> Result<Option<u32>, AllocEr
     ensures err { OnErr result (stream.new ≡ stream.old) }
     ensures time { IfOk result (λ at. at ≡ times.time stream.old record_.now) }
 {
-    match stream.push(record_)? {
-        Some(message) => Ok(message.time()),
-        None => Ok(None),
-    }
+    let time = stream.time(record_);
+    stream.take(record_)?;
+    Ok(time)
 }
 
 /// Makes the lines of `show` of the events of a chain of files: of each file its header, and a line for each definition message
@@ -39,6 +41,7 @@ fn take_in(stream: &mut Stream, record_: &Record) -> Result<Option<u32>, AllocEr
 pub struct ShowReport {
     stream: Stream,
     files: u64,
+    maker: LineMaker,
     heard: Heard,
 }
 
@@ -65,6 +68,7 @@ impl ShowReport {
         ShowReport {
             stream: Stream::new(alloc),
             files: 0,
+            maker: LineMaker::new(alloc),
             heard: Heard::new(),
         }
     }
@@ -107,6 +111,6 @@ impl Report for ShowReport {
         heard_records_fit::<Global>();
         looking_back_is_learning::<Global>();
         let time = self.note(event)?;
-        put_event(text, self.files, &self.stream, time, event)
+        put_event(text, &mut self.maker, self.files, &self.stream, time, event)
     }
 }

@@ -8,8 +8,9 @@ ghost use Rattle.fit_csv.specs.ChainRows.{record_rows};
 ghost use Rattle.fit_csv.specs.Judged.{RecordInRange};
 
 use crate::from::plain::behind_front;
+use crate::kept::keep_at;
 use crate::rows::frames::likely::{behind, likely_cell};
-use crate::rows::maker::{RowMaker, keep_at};
+use crate::rows::maker::RowMaker;
 use crate::rows::message::put_record;
 use crate::rows::template::Template;
 use crate::rows::template::likely::likely_byte;

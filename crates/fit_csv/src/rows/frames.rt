@@ -6,7 +6,6 @@ ghost use Rattle.fit_record.specs.Records.{HaveShape};
 ghost use Rattle.fit_profile.specs.Names.{meaning};
 ghost use Rattle.fit_profile.specs.Scaled.{IsScale};
 ghost use Rattle.fit_cells.specs.Cells.{cell};
-ghost use Rattle.fit_cells.specs.Forms.{IsFormOf, IsSmallForm};
 ghost use Rattle.fit_cells.specs.Rows.{HasRows};
 ghost use Rattle.fit_csv.specs.inner.Frames.{FrameKey, end_of, frames_of, two_cells, value_row};
 
@@ -14,7 +13,7 @@ pub(crate) mod likely;
 
 use fit_base::{Code, Items};
 use fit_cells::{
-    NumberForm, RowWriter, is_never_quoted, lone_number, number_form, put_cell, put_formed,
+    NumberForm, RowWriter, formed, is_never_quoted, number_form, put_cell, put_formed,
 };
 use fit_profile::Info;
 use std::alloc::{AllocError, Global};
@@ -142,18 +141,6 @@ impl Frame {
         })
     }
 
-    /// The form and the bits of a value that is just one number.
-    fn number(&self, items: &Items) -> Option<(NumberForm, u64)>
-        ensures small { IfSome result (λ p. IsSmallForm p.0) }
-        ensures form { IfSome result (λ p. IsFormOf self.now.code self.now.info p.0) }
-        ensures lone { IfSome result (λ p. (items.now.width ≡ p.0.width)
-            × (items.now.bits ≡ p.1 ∷ [])) }
-    {
-        let form = self.form?;
-        let bits = lone_number(form, items)?;
-        Some((form, bits))
-    }
-
     /// Puts a value that is no lone number behind a text.
     #[inline(never)]
     fn put_other(
@@ -190,7 +177,7 @@ impl Frame {
             ++ field_text default_writer (cell self.now.code self.now.info items.now)) }
     {
         text.extend_from_slice(self.between.as_slice())?;
-        if let Some((form, bits)) = self.number(items) {
+        if let Some((form, bits)) = formed(self.form, items) {
             put_formed(text, form, bits)?;
             return Ok(());
         }

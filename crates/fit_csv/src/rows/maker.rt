@@ -2,7 +2,7 @@
 use crate::rows::developer::DevFrame;
 use crate::rows::template::Template;
 use fit_cells::RowWriter;
-use std::alloc::{AllocError, Global};
+use std::alloc::Global;
 
 /// What rows are put with, one after another.
 #[derive(Drop)]
@@ -28,21 +28,4 @@ impl RowMaker {
             dev_frames: Vec::new(alloc),
         }
     }
-}
-
-/// Keeps something at a place of a list, which grows up to it.
-pub(crate) fn keep_at<T: Drop>(
-    kept: &mut Vec<Option<T>>,
-    place: usize,
-    item: T,
-) -> Result<(), AllocError> {
-    for _ in kept.len()..place {
-        kept.push(None)?;
-    }
-    if place < kept.len() {
-        kept[place] = Some(item);
-        return Ok(());
-    }
-    kept.push(Some(item))?;
-    Ok(())
 }

@@ -7,9 +7,10 @@ ghost use Rattle.fit_profile.specs.Looks.{known};
 ghost use Rattle.fit_cells.specs.Rows.{HasRows};
 ghost use Rattle.fit_csv.specs.ChainRows as rows;
 
+use crate::kept::keep_at;
 use crate::rows::definition::put_definition;
 use crate::rows::developer::put_dev_fields;
-use crate::rows::maker::{RowMaker, keep_at};
+use crate::rows::maker::RowMaker;
 use crate::rows::template::Template;
 use crate::words::{dev_slice, header_time};
 use fit_profile::Stream;

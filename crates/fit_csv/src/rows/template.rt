@@ -9,6 +9,7 @@ ghost use Rattle.fit_csv.specs.inner.Frames.{end_of, field_key, frame_text, fram
 
 pub(crate) mod likely;
 
+use crate::kept::Kept;
 use crate::rows::frames::{Frame, put_frames, put_tail, put_two};
 use crate::words::{time_text, unit_text};
 use fit_cells::RowWriter;
@@ -115,34 +116,10 @@ fn put_optional(text: &mut Vec<u8>, number: Option<u8>) -> Result<(), AllocError
     }
 }
 
-/// Whether two fields have the same number, size and base type.
-fn is_same(a: &FieldDef, b: &FieldDef) -> bool
-    ensures { IsTrue result → a.now ≡ b.now }
-{
-    a.number == b.number && a.size == b.size && a.code == b.code
-}
-
-/// Whether the fields are the same one by one.
-pub(crate) fn are_same(a: &[FieldDef], b: &[FieldDef]) -> bool
-    ensures { IsTrue result → a.now ≡ b.now }
-{
-    if a.len() != b.len() {
-        return false;
-    }
-    for (place, field) in a.iter().enumerate() {
-        if !is_same(field, &b[place]) {
-            return false;
-        }
-    }
-    true
-}
-
 /// The rows of the messages of a definition without their values.
 #[derive(Drop)]
 pub(crate) struct Template {
-    local: u8,
-    global: u16,
-    fields: Vec<FieldDef>,
+    kept: Kept,
     /// The first row of a message without a time offset.
     line: Vec<u8>,
     /// What stands before the time offset.
@@ -163,14 +140,14 @@ impl Model for Template {
 
     ghost Value = { TemplateKey };
 
-    ghost view = { λ t. record { local = t.local; global = t.global; fields = t.fields.items } };
+    ghost view = { λ t. t.kept };
 
-    ghost invariant = { λ t. (t.line.items ≡ csv_text (row (codes "data") (decimal t.local) []
-        (message_label t.global) [] [] [] ∷ []))
-        × (t.front.items ≡ two_cells (codes "data") (decimal t.local))
-        × (t.label.items ≡ two_cells [] (message_label t.global))
-        × (t.frames.items ≡ frames_of [] (map (field_key t.global) t.fields.items))
-        × (t.end.items ≡ end_of [] (map (field_key t.global) t.fields.items)) };
+    ghost invariant = { λ t. (t.line.items ≡ csv_text (row (codes "data") (decimal t.kept.local) []
+        (message_label t.kept.global) [] [] [] ∷ []))
+        × (t.front.items ≡ two_cells (codes "data") (decimal t.kept.local))
+        × (t.label.items ≡ two_cells [] (message_label t.kept.global))
+        × (t.frames.items ≡ frames_of [] (map (field_key t.kept.global) t.kept.fields))
+        × (t.end.items ≡ end_of [] (map (field_key t.kept.global) t.kept.fields)) };
 }
 
 impl Template {
@@ -188,8 +165,7 @@ impl Template {
         }) }
     {
         let global = definition.global;
-        let mut fields = Vec::new(alloc);
-        fields.extend_from_slice(definition.fields.as_slice())?;
+        let kept = Kept::new(alloc, local, definition)?;
         let mut line = Vec::new(alloc);
         put_line(&mut line, writer, local, global)?;
         let mut front = Vec::new(alloc);
@@ -197,11 +173,10 @@ impl Template {
         let mut label = Vec::new(alloc);
         put_label(&mut label, writer, global)?;
         let mut end = Vec::new(alloc);
-        let frames = field_frames(alloc, writer, &mut end, global, fields.as_slice())?;
+        let fields = definition.fields.as_slice();
+        let frames = field_frames(alloc, writer, &mut end, global, fields)?;
         Ok(Template {
-            local,
-            global,
-            fields,
+            kept,
             line,
             front,
             label,
@@ -218,9 +193,7 @@ impl Template {
           fields = definition.now.fields;
         } }
     {
-        self.local == local
-            && self.global == definition.global
-            && are_same(self.fields.as_slice(), definition.fields.as_slice())
+        self.kept.is(local, definition)
     }
 
     /// Puts the row with which a message begins between its time offset and the time of its header.

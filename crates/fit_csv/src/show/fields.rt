@@ -1,4 +1,4 @@
-//! The fields of a message, as a line shows them.
+//! The cells of fields, and the developer fields of a message, as a line shows them.
 ghost use Rattle.std.specs.Prelude.{◌≡◌, ◌+◌, ◌<◌, ◌==◌, ◌||◌, if◌then◌else◌, ◌++◌, ◌∷◌, [], ◌⊎◌, ◌^◌, All, IfSome, OnOk, None, codes, option_map, length, map, zip};
 ghost use Rattle.std.specs.List.{list_all};
 ghost use Rattle.fit_base.specs.BaseTypes.{base_type};
@@ -7,14 +7,16 @@ ghost use Rattle.fit_record.specs.Records.{HaveShape};
 ghost use Rattle.fit_profile.specs.Described.{is_printable, namings_at};
 ghost use Rattle.fit_profile.specs.Names.{meaning};
 ghost use Rattle.fit_profile.specs.Scaled.{IsScale};
+ghost use Rattle.fit_cells.specs.Cells.{cell};
+ghost use Rattle.fit_cells.specs.Forms.{IsFormOf, IsSmallForm};
 ghost use Rattle.fit_csv.specs.ShowLines as lines;
 
-use crate::words::{dev_name, dev_unit, numbered_label, unit_text};
+use crate::words::{dev_name, dev_unit, numbered_label};
 use fit_base::base_type::BYTE;
 use fit_base::{Code, Items};
-use fit_cells::put_cell;
-use fit_profile::{Info, Stream, field_info, field_label};
-use fit_record::{DevDef, FieldDef};
+use fit_cells::{NumberForm, formed, put_cell, put_formed};
+use fit_profile::{Info, Stream};
+use fit_record::DevDef;
 use std::alloc::AllocError;
 
 /// Puts words behind a text, one after another.
@@ -35,21 +37,48 @@ fn is_shown(cell: &[u8]) -> bool
     cell.iter().all(|byte| *byte >= 0x20 && *byte != 0x7F)
 }
 
-/// Puts the cell of a field, or the bytes of a text with a control character.
-fn put_shown_cell(
+/// Puts the cell of a field, by the form of its numbers where that is known.
+#[inline(always)]
+fn put_by(
     text: &mut Vec<u8>,
+    form: Option<NumberForm>,
     code: Code,
     info: Option<Info>,
     items: &Items,
 ) -> Result<(), AllocError>
     requires scale { IfSome info (λ i. IsScale i.scale) }
+    requires small { IfSome form IsSmallForm }
+    requires form { IfSome form (IsFormOf code.0 (option_map meaning info)) }
+    requires width { (items.now.width ≡ (base_type code.0).width) ⊎ (items.now.width ≡ 1) }
+    requires bits { All (λ n. n < 256 ^ items.now.width) items.now.bits }
+    ensures { OnOk result (text.new.items ≡ text.old.items
+        ++ cell code.0 (option_map meaning info) items.now) }
+{
+    if let Some((form, bits)) = formed(form, items) {
+        return put_formed(text, form, bits);
+    }
+    put_cell(text, code, info, items)
+}
+
+/// Puts the cell of a field, or the bytes of a text with a control character.
+#[inline(always)]
+pub(crate) fn put_shown_cell(
+    text: &mut Vec<u8>,
+    form: Option<NumberForm>,
+    code: Code,
+    info: Option<Info>,
+    items: &Items,
+) -> Result<(), AllocError>
+    requires scale { IfSome info (λ i. IsScale i.scale) }
+    requires small { IfSome form IsSmallForm }
+    requires form { IfSome form (IsFormOf code.0 (option_map meaning info)) }
     requires width { (items.now.width ≡ (base_type code.0).width) ⊎ (items.now.width ≡ 1) }
     requires bits { All (λ n. n < 256 ^ items.now.width) items.now.bits }
     ensures { OnOk result (text.new.items ≡ text.old.items
         ++ lines.shown_cell code.0 (option_map meaning info) items.now) }
 {
     let start = text.len();
-    put_cell(text, code, info, items)?;
+    put_by(text, form, code, info, items)?;
     let (_, cell) = text.as_slice().split_at(start);
     if items.width != 1 || is_shown(cell) {
         return Ok(());
@@ -72,7 +101,7 @@ fn put_unit(text: &mut Vec<u8>, cell: usize, unit: &str) -> Result<(), AllocErro
 }
 
 /// What stands before a field behind so many others.
-fn separator(before: usize) -> &'static str
+pub(crate) fn separator(before: usize) -> &'static str
     ensures { result.now ≡ lines.separator before }
 {
     if before == 0 { ": " } else { ", " }
@@ -85,90 +114,6 @@ fn put_name<'a>(text: &mut Vec<u8>, separator: &'a [u8], name: &'a [u8]) -> Resu
 {
     let words = [separator, name, b"=".as_slice()];
     put_words(text, words.as_slice())
-}
-
-/// Puts a field behind so many others: its name, its cell and its unit.
-fn put_shown<'a>(
-    text: &mut Vec<u8>,
-    before: usize,
-    name: &'a str,
-    code: Code,
-    info: Option<Info>,
-    items: &Items,
-    unit: &'a str,
-) -> Result<(), AllocError>
-    requires scale { IfSome info (λ i. IsScale i.scale) }
-    requires width { (items.now.width ≡ (base_type code.0).width) ⊎ (items.now.width ≡ 1) }
-    requires bits { All (λ n. n < 256 ^ items.now.width) items.now.bits }
-    ensures { OnOk result (text.new.items ≡ text.old.items
-        ++ (lines.separator before ++ lines.shown_part name.now
-        (lines.shown_cell code.0 (option_map meaning info) items.now) unit.now)) }
-{
-    put_name(text, separator(before).as_bytes(), name.as_bytes())?;
-    let start = text.len();
-    put_shown_cell(text, code, info, items)?;
-    let cell = text.len() - start;
-    put_unit(text, cell, unit)?;
-    Ok(())
-}
-
-/// Puts a field of a message behind so many others.
-fn put_field(
-    text: &mut Vec<u8>,
-    before: usize,
-    global: u16,
-    field: &FieldDef,
-    items: &Items,
-) -> Result<(), AllocError>
-    requires { HasShape field.now.code field.now.size items.now }
-    ensures { OnOk result (text.new.items ≡ text.old.items
-        ++ (lines.separator before ++ lines.shown_field global field.now items.now)) }
-{
-    let info = field_info(global, field.number);
-    match info {
-        Some(known) => {
-            let unit = unit_text(info);
-            put_shown(
-                text,
-                before,
-                known.name,
-                Code(field.code),
-                info,
-                items,
-                unit,
-            )
-        }
-        None => {
-            let label = field_label(global, field.number);
-            put_shown(
-                text,
-                before,
-                label.as_str(),
-                Code(field.code),
-                info,
-                items,
-                "",
-            )
-        }
-    }
-}
-
-/// Puts the fields of a message.
-pub(crate) fn put_fields(
-    text: &mut Vec<u8>,
-    global: u16,
-    fields: &[FieldDef],
-    items: &[Items],
-) -> Result<(), AllocError>
-    requires few { length fields.now < 256 }
-    requires shapes { HaveShape (map (λ f. (f.code, f.size)) fields.now) items.now }
-    ensures { OnOk result (text.new.items ≡ text.old.items
-        ++ lines.listed 0 (lines.shown_fields global fields.now items.now)) }
-{
-    for (place, field) in fields.iter().enumerate() {
-        put_field(text, place, global, field, &items[place])?;
-    }
-    Ok(())
 }
 
 /// Puts a developer field by its described code, its label and its unit, behind so many others.
@@ -186,7 +131,12 @@ fn put_dev<'a>(
         ++ (lines.separator before ++ lines.shown_part label.now
         (lines.shown_cell code None items.now) unit.now)) }
 {
-    put_shown(text, before, label, Code(code), None, items, unit)
+    put_name(text, separator(before).as_bytes(), label.as_bytes())?;
+    let start = text.len();
+    put_shown_cell(text, None, Code(code), None, items)?;
+    let cell = text.len() - start;
+    put_unit(text, cell, unit)?;
+    Ok(())
 }
 
 /// Puts the developer fields of a message of this local message type behind so many fields, with the names and units that they

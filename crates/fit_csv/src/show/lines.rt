@@ -1,17 +1,19 @@
 //! The lines of headers, definition messages and data messages.
-ghost use Rattle.std.specs.Prelude.{◌≡◌, ◌++◌, ◌∷◌, [], OnOk, Some, codes, decimal, option_map, unwrap_or};
+ghost use Rattle.std.specs.Prelude.{◌≡◌, ◌++◌, ◌∷◌, [], OnOk, Some, codes, decimal, map};
 ghost use Rattle.fit_record.specs.Environment.{defined_at};
-ghost use Rattle.fit_record.specs.Records.{DataFits, Fits};
+ghost use Rattle.fit_record.specs.Records.{DataFits, Fits, HaveShape};
 ghost use Rattle.fit_record.specs.Sound.{IsSound};
 ghost use Rattle.fit_profile.specs.Described.{namings_at};
 ghost use Rattle.fit_profile.specs.Looks.{known};
-ghost use Rattle.fit_csv.specs.ShowLines.{definition_line, header_line, joined, message_front, message_line, versions_text};
+ghost use Rattle.fit_csv.specs.ShowLines.{definition_line, header_line, joined, listed, message_front, message_line, shown_fields, versions_text};
 ghost use Rattle.fit_csv.specs.ChainRows as rows;
 ghost use Rattle.fit_csv.specs.inner.Reporting.{AnswerFits};
 ghost use Rattle.fit_csv.specs.inner.Showing.{line_with, text_with};
 
-use crate::show::fields::{put_devs, put_fields, put_words};
-use crate::words::{dev_slice, order_word, sum_word, time_text};
+use crate::kept::keep_at;
+use crate::show::fields::{put_devs, put_words};
+use crate::show::template::{LineMaker, LineTemplate};
+use crate::words::{dev_slice, order_word, sum_word};
 use fit_decode::Event;
 use fit_frame::Header;
 use fit_profile::{Stream, message_label};
@@ -94,42 +96,35 @@ fn put_definition(text: &mut Vec<u8>, definition: &MessageDef) -> Result<(), All
     put_words(text, words.as_slice())
 }
 
-/// What stands before an instant, where there is one.
-fn gap(time: Option<u32>) -> &'static str
-    ensures { result.now ≡ unwrap_or (option_map (λ at. codes " ") time) [] }
-{
-    match time {
-        Some(_) => " ",
-        None => "",
-    }
-}
-
-/// Puts the front of the line of a data message.
-fn put_front(
+/// Puts the line of a data message with this time up to its developer fields.
+fn put_own(
     text: &mut Vec<u8>,
-    local: u8,
-    global: u16,
+    maker: &mut LineMaker,
+    definition: &MessageDef,
+    values: &Values,
     time: Option<u32>,
 ) -> Result<(), AllocError>
-    ensures { OnOk result (text.new.items ≡ text.old.items ++ message_front local global time) }
+    requires shapes { HaveShape (map (λ f. (f.code, f.size)) definition.now.fields)
+        values.now.fields }
+    ensures { OnOk result (text.new.items ≡ text.old.items
+        ++ (message_front values.now.local definition.now.global time ++ listed 0
+        (shown_fields definition.now.global definition.now.fields values.now.fields))) }
 {
-    let mut locals = Buffer::new();
-    let label = message_label(global);
-    let instant = time_text(time);
-    let words = [
-        b"  ".as_slice(),
-        locals.format(local).as_bytes(),
-        b" ".as_slice(),
-        label.as_str().as_bytes(),
-        gap(time).as_bytes(),
-        instant.as_str().as_bytes(),
-    ];
-    put_words(text, words.as_slice())
+    let local = values.local;
+    if let Some(Some(template)) = maker.templates.as_slice().get(local as usize) {
+        if template.is_of(local, definition) {
+            return template.put(text, time, values);
+        }
+    }
+    let template = LineTemplate::new(maker.alloc, local, definition)?;
+    template.put(text, time, values)?;
+    keep_at(&mut maker.templates, local as usize, template)
 }
 
 /// Puts the line of a data message of this definition, by its time and the records of a stream.
 fn put_message(
     text: &mut Vec<u8>,
+    maker: &mut LineMaker,
     stream: &Stream,
     time: Option<u32>,
     defined: &Defined,
@@ -142,13 +137,12 @@ fn put_message(
         ++ message_line values.now defined.now time (namings_at stream.now values.now.local)) }
 {
     let definition = &defined.definition;
-    put_front(text, values.local, definition.global, time)?;
-    let fields = definition.fields.as_slice();
-    put_fields(text, definition.global, fields, values.fields.as_slice())?;
+    put_own(text, maker, definition, values, time)?;
+    let before = definition.fields.len();
     let dev = dev_slice(&definition.dev);
     let codes = defined.dev_codes.as_slice();
     let items = values.dev.as_slice();
-    put_devs(text, fields.len(), stream, values.local, dev, codes, items)?;
+    put_devs(text, before, stream, values.local, dev, codes, items)?;
     text.push(b'\n')?;
     Ok(())
 }
@@ -156,6 +150,7 @@ fn put_message(
 /// Puts the line of a record by its time and the records of a stream.
 fn put_record(
     text: &mut Vec<u8>,
+    maker: &mut LineMaker,
     stream: &Stream,
     time: Option<u32>,
     record_: &Record,
@@ -167,7 +162,7 @@ fn put_record(
     match record_ {
         Record::Define(definition) => put_definition(text, definition),
         Record::Values(values) => match stream.env().defined(values.local) {
-            Some(defined) => put_message(text, stream, time, defined, values),
+            Some(defined) => put_message(text, maker, stream, time, defined, values),
             None => unreachable!(),
         },
     }
@@ -176,6 +171,7 @@ fn put_record(
 /// Puts the text of an event, by how many files have begun, the records of a stream, and the time of the message.
 pub(crate) fn put_event(
     text: &mut Vec<u8>,
+    maker: &mut LineMaker,
     files: u64,
     stream: &Stream,
     time: Option<u32>,
@@ -187,7 +183,7 @@ pub(crate) fn put_event(
 {
     match event {
         Event::Header(header, size) => put_header(text, files, header, *size),
-        Event::Item(record_) => put_record(text, stream, time, record_),
+        Event::Item(record_) => put_record(text, maker, stream, time, record_),
         Event::More | Event::FileEnd => Ok(()),
     }
 }

@@ -10,7 +10,7 @@ ghost use Rattle.fit_csv.specs.Table as table;
 ghost use Rattle.fit_csv.specs.inner.TableCells.{IsPlain, cells_of, shown_text};
 ghost use Rattle.fit_csv.specs.inner.TableColumns.{IsColumn, IsPlaced};
 
-use crate::rows::template::are_same;
+use crate::kept::are_same;
 use crate::tables::rows::{
     TableRow, distance, either, in_degrees, position, semicircles, speed, value,
 };

@@ -4,7 +4,7 @@ ghost use Rattle.fit_profile.specs.Meant.{shown};
 ghost use Rattle.fit_cells.specs.Rows.{HasRows};
 ghost use Rattle.fit_csv.specs.Table as table;
 
-use crate::rows::maker::keep_at;
+use crate::kept::keep_at;
 use crate::tables::columns::Columns;
 use crate::tables::rows::put_cells;
 use fit_profile::Message;

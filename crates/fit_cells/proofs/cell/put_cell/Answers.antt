@@ -7,6 +7,7 @@ returns-in-Some-clause-ok c =
     let number = c.in-Some.ensures in
     let code = c.args.code.0 in
     let info = option_map meaning c.args.info in
+    let form = number.form code info c.number_form.ensures.form in
     subst (λ (t : List ℕ). OnOk c.put_formed.result (c.put_formed.new.text.items ≡ c.args.text.now.items ++ t))
-    (sym (formed_cell c.in-Some.form code info c.args.items.now c.in-Some.bits number.form number.lone.0 number.lone.1))
-    (c.put_formed.ensures.ok code info number.form)
+    (sym (formed_cell c.in-Some.form code info c.args.items.now c.in-Some.bits form number.lone.0 number.lone.1))
+    (c.put_formed.ensures.ok code info form)

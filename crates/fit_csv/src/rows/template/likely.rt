@@ -47,7 +47,7 @@ impl Template {
         let (offset, _) = likely_byte(text);
         let (fields, rest) = self.likely_fields(alloc, written, behind(text, b'\n')?)?;
         let values = Values {
-            local: self.local,
+            local: self.kept.local,
             offset,
             fields,
             dev: Entries::new(alloc),

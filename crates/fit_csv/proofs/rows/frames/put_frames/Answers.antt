@@ -1,10 +1,10 @@
-use Rattle.fit_csv.proofs.Common.{◌≡◌, ◌∙◌, ◌≤◌, ◌++◌, [], length, map, get_or, sym, ap, subst, take, arith, zip, get_or-map, length-map, take_all, length-zip}
-use Rattle.fit_csv.proofs.Common.{default_writer, field_text, HasShape, cell, csv_text, text_none, FrameKey, FrameText, end_of, frame_text, value_row}
+use Rattle.fit_csv.proofs.Common.{◌≡◌, ◌∙◌, ◌≤◌, ◌++◌, [], length, map, get_or, sym, ap, subst, take, arith, zip, take_all, length-zip}
+use Rattle.fit_csv.proofs.Common.{default_writer, field_text, cell, csv_text, text_none, FrameKey, FrameText, end_of, frame_text, value_row}
 use Rattle.std.proofs.Common.{◌<◌, ℕ}
 use Rattle.std.specs.Prelude.{None}
 use Rattle.std.proofs.lemmas.List.{append-nil}
 use Rattle.fit_csv.proofs.FramedRows.{frame_at, framed_more, frames-long}
-use Rattle.fit_csv.proofs.Shapes.{as_long, shape_at}
+use Rattle.fit_csv.proofs.Fields.{all_long, shape_of}
 use Rattle.fit_csv.proofs.rows.frames.put_frames.Goals as goal
 
 abbrev nothing : FrameKey
@@ -17,19 +17,12 @@ pub loop-place-init : goal.loop-place-init
 loop-place-init c keys is = append-nil c.args.text.now.items ∙ sym (text_none c.args.text.now.items)
 
 pub bounds-items-place : goal.bounds-items-place
-bounds-items-place c =
-    omega (arith, as_long (map parts c.args.frames.now) c.args.items.now c.requires, length-map c.args.frames.now parts, c.loop-place-test.true)
+bounds-items-place c = omega (arith, all_long parts c.args.frames.now c.args.items.now c.requires, c.loop-place-test.true)
 
 pub put-requires : goal.put-requires
 put-requires c =
-    let k = c.loop-place.place in
-    let frames = c.args.frames.now in
-    let frame = c.index-frames-place.result in
-    let item = c.index-items-place.result in
-    let shape = shape_at (map parts frames) c.args.items.now k (0, 0) item c.requires (omega (arith, length-map frames parts, c.loop-place-test.true)) in
-    subst (λ f. HasShape f.code f.size item) (sym c.index-frames-place.is)
-    (subst (λ i. HasShape (get_or frames k frame).code (get_or frames k frame).size i) (sym c.index-items-place.is)
-    (subst (λ f. HasShape f.0 f.1 (get_or c.args.items.now k item)) (get_or-map parts frames k frame (0, 0) c.loop-place-test.true) shape))
+    shape_of parts c.args.frames.now c.args.items.now c.loop-place.place c.index-frames-place.result c.index-items-place.result c.requires
+    c.loop-place-test.true c.index-frames-place.is c.index-items-place.is
 
 pub loop-place-preserved : goal.loop-place-preserved
 loop-place-preserved c keys is =
@@ -40,8 +33,7 @@ loop-place-preserved c keys is =
     let old = c.loop-place.text.items in
     let new = c.put.new.text.items in
     let within : k < length keys = omega (arith, ap length is, frames-long [] keys, c.loop-place-test.true) in
-    let long = as_long (map parts c.args.frames.now) items c.requires in
-    let items_too : k < length items = omega (arith, long, length-map c.args.frames.now parts, c.loop-place-test.true) in
+    let items_too : k < length items = omega (arith, all_long parts c.args.frames.now items c.requires, c.loop-place-test.true) in
     let same = c.index-frames-place.is ∙ ap (λ fs. get_or fs k frame) is ∙ frame_at [] keys k frame nothing within in
     framed_more keys items k nothing item c.args.text.now.items old new within items_too (c.loop-place.invariant keys is)
     (subst (λ i. new ≡ (old ++ (frame_text (end_of [] (take k keys)) (get_or keys k nothing)).between)

@@ -1,7 +1,9 @@
-use Rattle.fit_csv.proofs.Common.{◌∙◌, ◌++◌, ◌∷◌, [], map, get_or, sym, ap, ap₂, take, FrameKey, end_of, field_key, frame_text, frames_of}
-use Rattle.fit_csv.proofs.Fields.{nothing}
+use Rattle.fit_csv.proofs.Common.{◌∙◌, ◌++◌, ◌∷◌, [], map, get_or, sym, ap, ap₂, take, FieldDef, FrameKey, end_of, field_key, frame_text, frames_of}
 use Rattle.fit_csv.proofs.FramedRows.{end_more, frames_more, keys_more}
 use Rattle.fit_csv.proofs.rows.template.field_frames.Goals as goal
+
+abbrev nothing : FieldDef
+nothing = record { number = 0; size = 0; code = 0 }
 
 pub loop-field-preserved : goal.loop-field-preserved
 loop-field-preserved c =

@@ -1,0 +1,134 @@
+//! The lines of the messages of a definition without their values, found out once for many messages.
+ghost use Rattle.std.specs.Prelude.{◌≡◌, ◌++◌, ◌∷◌, [], IfOk, IsTrue, OnOk, codes, map};
+ghost use Rattle.fit_record.specs.Records.{HaveShape};
+ghost use Rattle.fit_csv.specs.ShowLines as lines;
+ghost use Rattle.fit_csv.specs.inner.Showing.{line_front};
+
+use crate::kept::Kept;
+use crate::show::fields::put_words;
+use crate::show::frames::{ShownField, put_fields, shown_fields};
+use crate::words::time_text;
+use fit_profile::message_label;
+use fit_record::{MessageDef, Values};
+use itoa::Buffer;
+use std::alloc::{AllocError, Global};
+use std::marker::Model;
+
+/// Puts what stands before the time of a message.
+fn put_front(text: &mut Vec<u8>, local: u8, global: u16) -> Result<(), AllocError>
+    ensures { OnOk result (text.new.items ≡ text.old.items ++ line_front local global) }
+{
+    let mut locals = Buffer::new();
+    let label = message_label(global);
+    let words = [
+        b"  ".as_slice(),
+        locals.format(local).as_bytes(),
+        b" ".as_slice(),
+        label.as_str().as_bytes(),
+    ];
+    put_words(text, words.as_slice())
+}
+
+/// Puts the time of a message behind a space, where it has one.
+fn put_time(text: &mut Vec<u8>, time: Option<u32>) -> Result<(), AllocError>
+    ensures { OnOk result (text.new.items ≡ text.old.items ++ lines.time_part time) }
+{
+    if time.is_none() {
+        return Ok(());
+    }
+    text.push(b' ')?;
+    text.extend_from_slice(time_text(time).as_str().as_bytes())
+}
+
+/// The lines of the messages of a definition without their values.
+#[derive(Drop)]
+pub(crate) struct LineTemplate {
+    kept: Kept,
+    /// What stands before the time.
+    front: Vec<u8>,
+    fields: Vec<ShownField>,
+}
+
+impl Model for LineTemplate {
+    ghost use Rattle.std.specs.Prelude.{◌≡◌, map};
+    ghost use Rattle.fit_csv.specs.inner.Frames.{TemplateKey};
+    ghost use Rattle.fit_csv.specs.inner.Showing.{line_front, shown_key};
+
+    ghost Value = { TemplateKey };
+
+    ghost view = { λ t. t.kept };
+
+    ghost invariant = { λ t. (t.front.items ≡ line_front t.kept.local t.kept.global)
+        × (t.fields.items ≡ map (shown_key t.kept.global) t.kept.fields) };
+}
+
+impl LineTemplate {
+    /// That of a definition of this local message type.
+    pub(crate) fn new(
+        alloc: Global,
+        local: u8,
+        definition: &MessageDef,
+    ) -> Result<LineTemplate, AllocError>
+        ensures { IfOk result (λ t. t ≡ record {
+          local = local;
+          global = definition.now.global;
+          fields = definition.now.fields;
+        }) }
+    {
+        let kept = Kept::new(alloc, local, definition)?;
+        let mut front = Vec::new(alloc);
+        put_front(&mut front, local, definition.global)?;
+        let fields = shown_fields(alloc, definition.global, definition.fields.as_slice())?;
+        Ok(LineTemplate {
+            kept,
+            front,
+            fields,
+        })
+    }
+
+    /// Whether it is that of a definition.
+    pub(crate) fn is_of(&self, local: u8, definition: &MessageDef) -> bool
+        ensures { IsTrue result → self.now ≡ record {
+          local = local;
+          global = definition.now.global;
+          fields = definition.now.fields;
+        } }
+    {
+        self.kept.is(local, definition)
+    }
+
+    /// Puts the line of a message with this time up to its developer fields.
+    pub(crate) fn put(
+        &self,
+        text: &mut Vec<u8>,
+        time: Option<u32>,
+        values: &Values,
+    ) -> Result<(), AllocError>
+        requires { HaveShape (map (λ f. (f.code, f.size)) self.now.fields) values.now.fields }
+        ensures { OnOk result (text.new.items ≡ text.old.items
+            ++ (lines.message_front self.now.local self.now.global time ++ lines.listed 0
+            (lines.shown_fields self.now.global self.now.fields values.now.fields))) }
+    {
+        text.extend_from_slice(self.front.as_slice())?;
+        put_time(text, time)?;
+        put_fields(text, self.fields.as_slice(), values.fields.as_slice())
+    }
+}
+
+/// What lines are put with, one after another.
+#[derive(Drop)]
+pub(crate) struct LineMaker {
+    pub alloc: Global,
+    /// That of the last message of each local message type.
+    pub templates: Vec<Option<LineTemplate>>,
+}
+
+impl LineMaker {
+    /// It has put no line.
+    pub(crate) fn new(alloc: Global) -> LineMaker {
+        LineMaker {
+            alloc,
+            templates: Vec::new(alloc),
+        }
+    }
+}
