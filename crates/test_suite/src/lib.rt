@@ -30,7 +30,6 @@ mod reports;
 #[cfg(test)]
 mod rooms;
 #[cfg(test)]
-#[cfg(test)]
 mod skipped;
 #[cfg(test)]
 mod sources;
