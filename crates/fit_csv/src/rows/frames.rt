@@ -1,6 +1,6 @@
 //! What stands around values in their rows, found out once for many messages.
-ghost use Rattle.std.specs.Prelude.{◌≡◌, ◌++◌, ◌∷◌, [], IfOk, IfSome, List, OnOk, codes, map, option_map, zip};
-ghost use Rattle.csv.specs.Writing.{default_writer, field_text, needs_quotes};
+ghost use Rattle.std.specs.Prelude.{◌≡◌, ◌++◌, [], IfOk, IfSome, List, OnOk, codes, map, option_map, zip};
+ghost use Rattle.csv.specs.Writing.{default_writer, field_text};
 ghost use Rattle.fit_base.specs.Fields.{HasShape};
 ghost use Rattle.fit_record.specs.Records.{HaveShape};
 ghost use Rattle.fit_profile.specs.Names.{meaning};

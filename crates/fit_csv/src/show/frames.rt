@@ -1,5 +1,5 @@
 //! What stands around the cells of fields in a line, found out once for many messages.
-ghost use Rattle.std.specs.Prelude.{◌≡◌, ◌++◌, ◌∷◌, [], IfOk, OnOk, map, zip};
+ghost use Rattle.std.specs.Prelude.{◌≡◌, ◌++◌, IfOk, OnOk, map, zip};
 ghost use Rattle.fit_base.specs.Fields.{HasShape};
 ghost use Rattle.fit_record.specs.Records.{HaveShape};
 ghost use Rattle.fit_csv.specs.ShowLines as lines;

@@ -1,5 +1,5 @@
 //! The lines of the messages of a definition without their values, found out once for many messages.
-ghost use Rattle.std.specs.Prelude.{◌≡◌, ◌++◌, ◌∷◌, [], IfOk, IsTrue, OnOk, codes, map};
+ghost use Rattle.std.specs.Prelude.{◌≡◌, ◌++◌, IfOk, IsTrue, OnOk, map};
 ghost use Rattle.fit_record.specs.Records.{HaveShape};
 ghost use Rattle.fit_csv.specs.ShowLines as lines;
 ghost use Rattle.fit_csv.specs.inner.Showing.{line_front};
