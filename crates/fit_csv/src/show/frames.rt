@@ -14,7 +14,7 @@ use fit_record::FieldDef;
 use std::alloc::{AllocError, Global};
 use std::marker::Model;
 
-/// A unit behind a space, where there is one.
+/// Puts a unit after a space, where there is one.
 fn put_spaced(text: &mut Vec<u8>, unit: &str) -> Result<(), AllocError>
     ensures { OnOk result (text.new.items ≡ text.old.items ++ spaced unit.now) }
 {
@@ -85,7 +85,7 @@ impl ShownField {
         })
     }
 
-    /// Puts the field with these items behind that many others.
+    /// Puts the field with these items after that many others.
     #[inline(always)]
     fn put(&self, text: &mut Vec<u8>, before: usize, items: &Items) -> Result<(), AllocError>
         requires { HasShape self.now.code self.now.size items.now }

@@ -29,7 +29,7 @@ fn put_front(text: &mut Vec<u8>, local: u8, global: u16) -> Result<(), AllocErro
     put_words(text, words.as_slice())
 }
 
-/// Puts the time of a message behind a space, where it has one.
+/// Puts the time of a message after a space, where it has one.
 fn put_time(text: &mut Vec<u8>, time: Option<u32>) -> Result<(), AllocError>
     ensures { OnOk result (text.new.items ≡ text.old.items ++ lines.time_part time) }
 {
