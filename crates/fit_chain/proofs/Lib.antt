@@ -7,6 +7,7 @@ pub mod ViableGoesOn
 pub mod Completions
 pub mod Whole
 pub mod Next
+pub mod Learned
 pub mod Telling
 pub mod HeaderFed
 pub mod DataFed

@@ -1,9 +1,9 @@
 -- The events of a stream of files, and how much a reader of it has to hold.
-use Rattle.std.specs.Prelude.{◌≡◌, ℕ, ◌+◌, ◌==◌, if◌then◌else◌, List, [], ◌∷◌, ◌++◌, length, map, flat_map}
+use Rattle.std.specs.Prelude.{◌≡◌, ℕ, ◌+◌, ◌==◌, if◌then◌else◌, List, [], ◌∷◌, ◌++◌, length, map, flat_map, fold}
 use Rattle.fit_frame.specs.declared.header.Header.{Header}
 use Rattle.fit_record.specs.declared.file.FitFile.{FitFile}
 use Rattle.fit_record.specs.declared.message.Record.{Record}
-use Rattle.fit_record.specs.Environment.{empty_environment, learn_all}
+use Rattle.fit_record.specs.Environment.{Environment, empty_environment, learn, learn_all}
 use Rattle.fit_record.specs.Records.{records_bytes}
 use Rattle.fit_record.specs.Sizes.{environment_size}
 use Rattle.fit_record.specs.Files.{body}
@@ -28,6 +28,18 @@ abbrev pub AreEvents : {A : Type 0} → List ℕ → List (Event A) → Type 0
 AreEvents {A} bytes events =
     (fs : List (FitFile A)) × (g : Progress A) × HasCome fs g bytes
     × (events ≡ flat_map file_events fs ++ progress_events g)
+
+-- ---- what is known
+
+-- what is known after an event, where this was known before it
+abbrev pub known_next : {A : Type 0} → Environment A → Event A → Environment A
+known_next e (header h n) = empty_environment
+known_next e (item r) = learn e r
+known_next e file_end = e
+
+-- what is known after events: what the records after the last header define and describe
+abbrev pub known_after : {A : Type 0} → List (Event A) → Environment A
+known_after events = fold known_next empty_environment events
 
 -- ---- what is held
 

@@ -109,7 +109,7 @@ pub use Rattle.fit_csv.specs.declared.from.open_file.Part.{Part}
 pub use Rattle.fit_csv.specs.declared.from.open_file.Part.TheVariants.{Nothing, Definition}
 pub use Rattle.fit_csv.specs.declared.tables.columns.Column.{Column}
 pub use Rattle.fit_csv.specs.inner.Frames.{FrameKey, FrameText, end_of, field_key, frame_text, frames_of, head_text, tail_text, two_cells, value_row}
-pub use Rattle.fit_csv.specs.inner.Frames.{TemplateKey}
+pub use Rattle.fit_csv.specs.inner.Frames.{HasFields, TakesField, TakesFields, TemplateKey, own_rows, values_text}
 pub use Rattle.fit_csv.specs.inner.Misfits.{IsCellFault, IsMisfit, head_row, message_row, IsHeadRow, IsRowOfThree, IsMessageRow, HasSum, IsHeaderSize}
 pub use Rattle.fit_csv.specs.inner.Misfits.{IsMessageOrEnd, global_at, IsMessageStart, HeadInRange, IsValueRow}
 pub use Rattle.fit_csv.specs.inner.Progress.{CanStandNext, ChainStep, OpenStep, PartStep, file_begun, settled, with_file, DefinitionStep, DevStep}
@@ -117,7 +117,7 @@ pub use Rattle.fit_csv.specs.inner.Progress.{FieldStep, built_definition, dev_to
 pub use Rattle.fit_csv.specs.inner.Progress.{with_items, with_record, DevDefStep, FieldDefStep, MessageStep, nothing_yet, opened, FileStep}
 pub use Rattle.fit_csv.specs.inner.Progress.{is_whole_message, FitsOnceWhole, PartHasRoom}
 unfoldable pub use Rattle.fit_csv.specs.inner.Progress.{Run}
-pub use Rattle.fit_csv.specs.inner.Reporting.{HasText, csv_fault, AnswerFits, answer_rows}
+pub use Rattle.fit_csv.specs.inner.Reporting.{HasText, csv_fault, AnswerFits, answer_rows, behind_answer}
 pub use Rattle.fit_csv.specs.inner.Seven.{AsFar, DifferAt, row_of}
 pub use Rattle.fit_csv.specs.inner.Showing.{line_with, text_with, time_told, ShownKey, key_text, line_front, shown_key, spaced}
 pub use Rattle.fit_csv.specs.inner.SoundChain.{IsSoundChain, IsSoundCurrent, IsSoundDefinition, IsSoundFile, IsSoundMessage, IsSoundSoFar}

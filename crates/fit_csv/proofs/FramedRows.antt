@@ -48,24 +48,6 @@ one_of_row a old text e =
 
 -- ---- rows one after another
 
-pub frames-long : (before : List ℕ) (keys : List FrameKey) → length (frames_of before keys) ≡ length keys
-frames-long before [] = refl
-frames-long before (k ∷ keys) = ap suc (frames-long (tail_text k) keys)
-
--- the frame at a place, behind the rows before it
-pub frame_at : (before : List ℕ) (keys : List FrameKey) (n : ℕ) (d : FrameText) (e : FrameKey) → n < length keys
-    → get_or (frames_of before keys) n d ≡ frame_text (end_of before (take n keys)) (get_or keys n e)
-frame_at before [] n d e within = absurd (omega (arith, within))
-frame_at before (k ∷ keys) zero d e within = refl
-frame_at before (k ∷ keys) (suc n) d e within = frame_at (tail_text k) keys n d e (omega (arith, within))
-
--- the end of the rows up to a place
-pub end_at : (before : List ℕ) (keys : List FrameKey) (n : ℕ) (e : FrameKey) → n < length keys
-    → end_of before (take (suc n) keys) ≡ tail_text (get_or keys n e)
-end_at before [] n e within = absurd (omega (arith, within))
-end_at before (k ∷ keys) zero e within = refl
-end_at before (k ∷ keys) (suc n) e within = end_at (tail_text k) keys n e (omega (arith, within))
-
 -- one row more
 pub frames_more : (before : List ℕ) (keys : List FrameKey) (k : FrameKey)
     → frames_of before (keys ++ (k ∷ [])) ≡ frames_of before keys ++ (frame_text (end_of before keys) k ∷ [])
@@ -91,37 +73,6 @@ pub framed : {A : Type 0} (k : FrameKey) (i : Items A) (text before : List ℕ)
 framed k i text before =
     grouped text before (head_text k) (field_text default_writer (cell k.code k.info i)) (tail_text k)
     ∙ ap (λ t. (text ++ before) ++ t) (sym (row_parts k.kind k.name (cell k.code k.info i) k.unit []))
-
--- the rows up to a place, and the next one, of which the end is still to come
-pub framed_more : {A : Type 0} (keys : List FrameKey) (items : List (Items A)) (n : ℕ) (e : FrameKey) (x : Items A) (start old new : List ℕ)
-    → n < length keys → n < length items
-    → old ++ end_of [] (take n keys) ≡ start ++ csv_text (map (λ y. value_row y.0 y.1) (take n (zip keys items)))
-    → new ≡ (old ++ (end_of [] (take n keys) ++ head_text (get_or keys n e)))
-    ++ field_text default_writer (cell (get_or keys n e).code (get_or keys n e).info (get_or items n x))
-    → new ++ end_of [] (take (n + 1) keys) ≡ start ++ csv_text (map (λ y. value_row y.0 y.1) (take (n + 1) (zip keys items)))
-framed_more keys items n e x start old new within items_too before put =
-    let key = get_or keys n e in
-    let item = get_or items n x in
-    let pair : get_or (zip keys items) n (e, x) ≡ (get_or keys n e, get_or items n x) = get_or-zip keys items n (e, x) within items_too in
-    let last : end_of [] (take (n + 1) keys) ≡ tail_text (get_or keys n e) = rw (add-one n) (end_at [] keys n e within) in
-    let longer : csv_text (map (λ y. value_row y.0 y.1) (take (n + 1) (zip keys items)))
-    ≡ csv_text (map (λ y. value_row y.0 y.1) (take n (zip keys items))) ++ csv_text (value_row (get_or keys n e) (get_or items n x) ∷ []) =
-    ap (λ ys. csv_text (map (λ y. value_row y.0 y.1) ys)) (take_more (zip keys items) n (e, x) (omega (arith, length-zip keys items, within, items_too)))
-    ∙ ap csv_text (map-append (λ y. value_row y.0 y.1) (take n (zip keys items)) (get_or (zip keys items) n (e, x) ∷ []))
-    ∙ text_append (map (λ y. value_row y.0 y.1) (take n (zip keys items)))
-    (value_row (get_or (zip keys items) n (e, x)).0 (get_or (zip keys items) n (e, x)).1 ∷ [])
-    ∙ ap (λ y. csv_text (map (λ z. value_row z.0 z.1) (take n (zip keys items))) ++ csv_text (value_row y.0 y.1 ∷ [])) pair in
-    ap₂ (λ a b. a ++ b) put last ∙ framed key item old (end_of [] (take n keys))
-    ∙ ap (λ t. t ++ csv_text (value_row (get_or keys n e) (get_or items n x) ∷ [])) before
-    ∙ append_assoc start (csv_text (map (λ y. value_row y.0 y.1) (take n (zip keys items)))) (csv_text (value_row key item ∷ []))
-    ∙ ap (λ t. start ++ t) (sym longer)
-
--- the rows of fields
-pub field_values : {A : Type 0} (global : ℕ) (fields : List FieldDef) (items : List (Items A))
-    → map {B = Row} (λ x. value_row x.0 x.1) (zip (map (field_key global) fields) items) ≡ field_rows global fields items
-field_values global [] items = refl
-field_values global (f ∷ fields) [] = refl
-field_values global (f ∷ fields) (i ∷ items) = ap (λ rows. field_row global f i ∷ rows) (field_values global fields items)
 
 -- one field more
 pub keys_more : (global : ℕ) (fields : List FieldDef) (n : ℕ) (d : FieldDef) → n < length fields

@@ -10,6 +10,9 @@ mod Shapes
 mod NamingFacts
 mod Fields
 mod DevFields
+mod FieldWalks
+mod ItemFacts
+mod DevWalks
 mod InstantFacts
 mod PlainInstants
 mod DegreeFacts

@@ -17,6 +17,7 @@ pub use Rattle.fit_chain.proofs.Completions.{goes_viable, fill_data}
 pub use Rattle.fit_chain.proofs.DataFed.{InRecords, data_starts, data_quiet, data_come, data_viable, left_behind, item_come, item_least, data_refuses}
 pub use Rattle.fit_chain.proofs.DataFed.{data_wants, data_takes}
 pub use Rattle.fit_chain.proofs.Faults.{chain_come, refused_in, wants_in, chain_end, fault_of_chain}
+pub use Rattle.fit_chain.proofs.Learned.{known_in_data}
 pub use Rattle.fit_chain.proofs.Missing.{ended_chain, needs_some, needs_no_sooner}
 pub use Rattle.fit_chain.proofs.Next.{whole_header, more_of, items_told, all_told}
 pub use Rattle.fit_chain.proofs.NextFile.{at_place, base_is, file_ends, next_bytes, none_whole, refused_byte, shorter, are_of_bytes}

@@ -3,21 +3,26 @@ use Rattle.fit_decode.proofs.Common.{◌≡◌, cond, inl, inr, ℕ, ◌+◌, �
 use Rattle.fit_decode.proofs.Common.{append_assoc, length-append, Fits, w64, Some, None, is_some, map, ne_eqb, append-nil, length-take-le, IsBytes}
 use Rattle.fit_decode.proofs.Common.{IsBytes-append, IsBytes-take, header_bytes, FitFile, Record, Environment, empty_environment, learn_all, chain_limit}
 use Rattle.fit_decode.proofs.Common.{IsViable, AllFit, records_bytes, all_fit-append, records_bytes-append, learn_all-append, Position, FillFrom, IsInProgress}
-use Rattle.fit_decode.proofs.Common.{records_in_progress, Reason, Inside, TellsRecords, IsSoundDecoder, fields_inside, InSection, ClosingSum}
+use Rattle.fit_decode.proofs.Common.{records_in_progress, Reason, Inside, IsSoundDecoder, fields_inside, InSection, ClosingSum}
 use Rattle.fit_decode.proofs.Common.{at_data, HasCome, Event, item, AreEvents, Fields, InData, Holds, HoldsAt, section_of, goes_viable, data_starts, more_of}
-use Rattle.fit_decode.proofs.Common.{items_told, all_told, partial_nothing}
+use Rattle.fit_decode.proofs.Common.{items_told, all_told, partial_nothing, known_in_data, zero, suc, ◌<◌, ◌∷◌}
+use Rattle.fit_decode.proofs.Common.{one_place, idle_between_records, Section, at_header, FileHeader}
 use Rattle.std.proofs.Common.{Bool}
 use Rattle.std.specs.Prelude.{Option}
-use Rattle.fit_frame.specs.declared.header.Header.{Header}
-use Rattle.fit_step.specs.Skipping.{AreSkipped, SkipsInSection}
-use Rattle.fit_decode.specs.Answers.{Seen}
+use Rattle.fit_record.specs.declared.message.Values.{Values}
+use Rattle.fit_record.specs.declared.message.Record.TheVariants.{Values as Message}
+use Rattle.fit_record.specs.Records.{AreRecords}
+use Rattle.fit_chain.specs.Events.{known_after}
+use Rattle.fit_step.specs.Skipping.{HasMessage, Learns, SkipsInSection}
+use Rattle.fit_decode.specs.Answers.{Seen, MessageFollows}
+use Rattle.fit_decode.specs.declared.section.Section.TheVariants.{Header}
 use Rattle.fit_decode.specs.inner.Skips.{Skipped}
 use Rattle.fit_decode.proofs.Sections.{begins_records}
 use Rattle.fit_decode.proofs.Feeding.{few_more, sound_behind, fresh_holds_all}
 
 -- ---- records behind records
 
-module _ {A : Type 0} (fs : List (FitFile A)) (h : Header) (n : ℕ) (records rs : List (Record A)) (bytes y : List ℕ)
+module _ {A : Type 0} (fs : List (FitFile A)) (h : FileHeader) (n : ℕ) (records rs : List (Record A)) (bytes y : List ℕ)
     (here : HasCome fs (at_data h n records []) bytes) where
   abbrev known : Environment A
   known = learn_all empty_environment records
@@ -51,8 +56,8 @@ module _ {A : Type 0} (fs : List (FitFile A)) (h : Header) (n : ℕ) (records rs
 
 -- ---- the fields
 
-module _ {A : Type 0} (d : Fields A) (bytes piece : List ℕ) (after : Environment A) (sum : List ℕ) (position : Position) (used count : ℕ) (are : IsBytes bytes)
-    (low : IsBytes piece) where
+module _ {A : Type 0} (d : Fields A) (bytes piece : List ℕ) (after : Environment A) (sum : List ℕ) (position : Position) (used : ℕ) (rs : List (Record A))
+    (are : IsBytes bytes) (low : IsBytes piece) where
   abbrev now : Fields A
   now = record d { env = after; sum = sum; position = position }
 
@@ -60,13 +65,10 @@ module _ {A : Type 0} (d : Fields A) (bytes piece : List ℕ) (after : Environme
   y = take used piece
 
   module _ (k : InData d bytes) (within : used ≤ length piece) (summed : sum ≡ d.sum ++ take used piece) (in_section : d.stage.section ≡ InSection)
-      (no_part : k.part ≡ []) (large : used + 6 ≤ k.size - length (records_bytes empty_environment k.records)) (records : AreSkipped d.env after y count)
+      (no_part : k.part ≡ []) (large : used + 6 ≤ k.size - length (records_bytes empty_environment k.records)) (learns : Learns d.env after y rs)
       (at : IsInProgress after (k.size - length (records_bytes empty_environment k.records) - used) [] position d.in_progress) where
     abbrev room : ℕ
     room = k.size - length (records_bytes empty_environment k.records)
-
-    abbrev rs : List (Record A)
-    rs = records.0
 
     abbrev all : List (Record A)
     all = k.records ++ rs
@@ -75,10 +77,10 @@ module _ {A : Type 0} (d : Fields A) (bytes piece : List ℕ) (after : Environme
     here = subst (λ p. HasCome k.files (at_data k.header k.size k.records p) bytes) no_part k.come
 
     fits : AllFit (learn_all empty_environment k.records) rs
-    fits = subst (λ e. AllFit e rs) k.known records.1.0
+    fits = subst (λ e. AllFit e rs) k.known learns.0.0
 
     spelled : y ≡ records_bytes (learn_all empty_environment k.records) rs
-    spelled = records.1.1 ∙ ap (λ e. records_bytes e rs) k.known
+    spelled = learns.0.1 ∙ ap (λ e. records_bytes e rs) k.known
 
     long : length y ≡ used
     long = length-take-le used piece within
@@ -90,7 +92,7 @@ module _ {A : Type 0} (d : Fields A) (bytes piece : List ℕ) (after : Environme
     left = omega (arith, total k.files k.header k.size k.records rs bytes y here fits spelled within_room, long)
 
     learnt : after ≡ learn_all empty_environment all
-    learnt = sym records.2 ∙ ap (λ e. learn_all e rs) k.known ∙ sym (learn_all-append empty_environment k.records rs)
+    learnt = sym learns.1 ∙ ap (λ e. learn_all e rs) k.known ∙ sym (learn_all-append empty_environment k.records rs)
 
     fill : FillFrom (learn_all empty_environment all) (k.size - length (records_bytes empty_environment all)) []
     fill =
@@ -129,32 +131,33 @@ module _ {A : Type 0} (d : Fields A) (bytes piece : List ℕ) (after : Environme
           data_starts (learn_all empty_environment all) (k.size - length (records_bytes empty_environment all)) _ fill,
         )
 
-    skips_records : Skipped now bytes piece used count
+    skips_records : Skipped now bytes piece used rs
     skips_records = record {
       within = within;
       told = λ events are_told. (
-        records.0,
-        records.3,
+        subst (λ e. AreRecords e rs y) (k.known ∙ sym (known_in_data k.files k.header k.size k.records [] bytes here events are_told)) learns.0,
         records_told k.files k.header k.size k.records rs bytes y here fits spelled within_room events are_told,
       );
       viable = viable_behind;
       holds = holds_behind;
     }
 
-  skips_none : used ≡ 0 → count ≡ 0 → after ≡ d.env → sum ≡ d.sum → position ≡ d.position → IsViable A chain_limit bytes → Holds d bytes
-      → Skipped now bytes piece used count
-  skips_none none no_count learnt same there viable holds =
-      let stay : bytes ≡ bytes ++ y = sym (append-nil bytes) ∙ ap (λ n. bytes ++ take n piece) (sym none) in
+  skips_none : used ≡ 0 → rs ≡ [] → after ≡ d.env → sum ≡ d.sum → position ≡ d.position → IsViable A chain_limit bytes → Holds d bytes
+      → Skipped now bytes piece used rs
+  skips_none none no_records learnt same there viable holds =
+      let nothing : [] ≡ y = ap (λ n. take n piece) (sym none) in
+      let stay : bytes ≡ bytes ++ y = sym (append-nil bytes) ∙ ap (λ b. bytes ++ b) nothing in
       let fields : d ≡ now = λ i. record d { env = sym learnt i; sum = sym same i; position = sym there i } in
       record {
         within = omega (arith, none);
-        told = λ events are_told. ([], sym no_count, subst (λ l. AreEvents l (events ++ [])) stay (subst (AreEvents bytes) (sym (append-nil events)) are_told));
+        told = λ events are_told. subst (λ ss. AreRecords (known_after events) ss y × AreEvents (bytes ++ y) (events ++ map item ss)) (sym no_records)
+            ((tt, sym nothing), subst (λ l. AreEvents l (events ++ [])) stay (subst (AreEvents bytes) (sym (append-nil events)) are_told));
         viable = subst (IsViable A chain_limit) stay viable;
         holds = subst (λ f. Holds f (bytes ++ y)) fields (subst (Holds d) stay holds);
       }
 
-  pub skips : d.stage.section ≡ InSection → used ≤ length piece → SkipsInSection d.env d.position d.in_progress after position piece used count
-      → sum ≡ d.sum ++ take used piece → IsViable A chain_limit bytes → Holds d bytes → Skipped now bytes piece used count
+  pub skips : d.stage.section ≡ InSection → used ≤ length piece → SkipsInSection d.env d.position d.in_progress after position piece used rs
+      → sum ≡ d.sum ++ take used piece → IsViable A chain_limit bytes → Holds d bytes → Skipped now bytes piece used rs
   skips at within skip summed viable holds =
       let k = subst (λ c. HoldsAt c d bytes) at holds in
       elim (skip (k.size - length (records_bytes empty_environment k.records)) k.part k.in_record) [
@@ -169,25 +172,71 @@ fresh None some is isnt = refl
 fresh (Some reason) some is isnt = absurd (let both : true ≡ false = sym is ∙ isnt in cc)
 
 module _ {A : Type 0} (d : Inside A) (k : IsSoundDecoder d) (none : d.refusal ≡ None) (at : d.stage.section ≡ InSection) (piece : List ℕ)
-    (after : Environment A) (sum : List ℕ) (position : Position) (used count : ℕ) (low : IsBytes piece) (within : used ≤ length piece)
-    (skip : SkipsInSection d.env d.position d.in_progress after position piece used count) (summed : sum ≡ d.sum ++ take used piece) where
+    (after : Environment A) (sum : List ℕ) (position : Position) (used : ℕ) (records : List (Record A)) (low : IsBytes piece) (within : used ≤ length piece)
+    (skip : SkipsInSection d.env d.position d.in_progress after position piece used records) (front : List ℕ) (is : front ≡ take used piece)
+    (summed : sum ≡ d.sum ++ front) where
   abbrev behind : Fields A
   behind = record (fields_inside d) { env = after; sum = sum; position = position }
 
-  skipped : Skipped behind d.history.items piece used count
-  skipped = skips (fields_inside d) d.history.items piece after sum position used count k.are low at within skip summed k.viable (k.holds none)
+  skipped : Skipped behind d.history.items piece used records
+  skipped = skips (fields_inside d) d.history.items piece after sum position used records k.are low at within skip (summed ∙ ap (λ l. d.sum ++ l) is) k.viable
+      (k.holds none)
+
+  taken_is : (bytes : List ℕ) → bytes ≡ d.history.items ++ front → bytes ≡ d.history.items ++ take used piece
+  taken_is bytes took = took ∙ ap (λ l. d.history.items ++ l) is
 
   pub few_skipped : Fits w64 (d.count + used)
   few_skipped = few_more k piece used low within skipped.viable
 
-  pub skipped_kept : (n : Inside A) → n.history.items ≡ d.history.items ++ take used piece → fields_inside n ≡ behind → n.count ≡ d.count + used
+  pub skipped_kept : (n : Inside A) → n.history.items ≡ d.history.items ++ front → fields_inside n ≡ behind → n.count ≡ d.count + used
       → n.refusal ≡ None → IsSoundDecoder n
-  skipped_kept n took same counted fresh = sound_behind k piece used low within skipped.viable n took counted
+  skipped_kept n took same counted fresh = sound_behind k piece used low within skipped.viable n (taken_is _ took) counted
       (λ _. subst (λ f. Holds f (d.history.items ++ take used piece)) (sym same) skipped.holds) (fresh_holds_all n.refusal fresh)
 
   pub records_skipped : (old : Seen) → record { bytes = d.history.items; refusal = d.refusal } ≡ old → (bytes : List ℕ)
-      → bytes ≡ d.history.items ++ take used piece
-      → (events : List (Event A)) → AreEvents old.bytes events → TellsRecords bytes events count
+      → bytes ≡ d.history.items ++ front → (events : List (Event A)) → AreEvents old.bytes events
+      → AreRecords (known_after events) records (take used piece) × AreEvents bytes (events ++ map item records)
   records_skipped old seen bytes took events are_told =
       let told = skipped.told events (subst (λ b. AreEvents b events) (sym (ap (λ (o : Seen). o.bytes) seen)) are_told) in
-      (told.0, told.1, subst (λ b. AreEvents b (events ++ map item told.0)) (sym took) told.2)
+      (told.0, subst (λ b. AreEvents b (events ++ map item records)) (sym (taken_is bytes took)) told.1)
+
+-- one message at most is skipped
+pub message_skipped : {A : Type 0} (e : Environment A) (p q : Position) (idle : Option (Record A)) (piece : List ℕ) (used : ℕ)
+    → (used ≡ 0 → q ≡ p) → (0 < used → (v : Values A) × SkipsInSection e p idle e q piece used (Message v ∷ []))
+    → (records : List (Record A)) × SkipsInSection e p idle e q piece used records
+message_skipped e p q idle piece zero none some = ([], λ room bytes h. inl (refl, refl, refl, none refl))
+message_skipped e p q idle piece (suc k) none some = let m = some (omega arith) in (Message m.0 ∷ [], m.1)
+
+-- ---- one that is all in the piece
+
+module _ {A : Type 0} (d : Fields A) (bytes piece : List ℕ) (size : ℕ) (fs : List (FitFile A)) (h : FileHeader) (n : ℕ) (records : List (Record A))
+    (come : HasCome fs (at_data h n records []) bytes) (has : HasMessage (learn_all empty_environment records) piece size)
+    (large : size + 6 ≤ n - length (records_bytes empty_environment records)) where
+  data_here : (gs : List (FitFile A)) (g : FileHeader) (m : ℕ) (rs : List (Record A)) (part : List ℕ) → HasCome gs (at_data g m rs part) bytes
+      → (rs ≡ records) × (part ≡ []) × (m - length (records_bytes empty_environment rs) ≡ n - length (records_bytes empty_environment records))
+  data_here gs g m rs part there =
+      let same = (one_place gs fs (at_data g m rs part) (at_data h n records []) bytes there come).1 in
+      let whole : rs ≡ records = cc in
+      let sizes : m ≡ n = cc in
+      (whole, cc, λ i. sizes i - length (records_bytes empty_environment (whole i)))
+
+  -- where its bytes come to, the section is a data section
+  follows_at : (s : Section) → HoldsAt s d bytes → (s ≡ InSection) × HasMessage d.env piece size × (d.in_progress ≡ None) × (size + 6 ≤ d.position.room)
+  follows_at InSection k =
+      let (whole, no_part, left) = data_here k.files k.header k.size k.records k.part k.come in
+      let room = k.size - length (records_bytes empty_environment k.records) in (
+        refl,
+        subst (λ e. HasMessage e piece size) (ap (learn_all empty_environment) (sym whole) ∙ sym k.known) has,
+        (idle_between_records d.env room k.part d.position d.in_progress k.in_record).1 no_part,
+        omega (arith, (records_in_progress d.env room k.part d.position d.in_progress k.in_record).2, ap length no_part, large, left),
+      )
+  follows_at ClosingSum k = absurd (omega (arith, k.over, large, (data_here k.files k.header k.size k.records _ k.come).2))
+  follows_at Header k = let same = (one_place k.files fs (at_header d.sum) (at_data h n records []) bytes k.come come).1 in absurd cc
+
+pub message_follows : {A : Type 0} (d : Inside A) → IsSoundDecoder d → (old : Seen) → record { bytes = d.history.items; refusal = d.refusal } ≡ old
+    → old.refusal ≡ None → (piece : List ℕ) (size : ℕ) → MessageFollows A old.bytes piece size
+    → (d.stage.section ≡ InSection) × HasMessage d.env piece size × (d.in_progress ≡ None) × (size + 6 ≤ d.position.room)
+message_follows {A} d k old seen none piece size (fs, h, n, records, come, has, large) =
+    follows_at (fields_inside d) d.history.items piece size fs h n records
+    (subst (HasCome fs (at_data h n records [])) (sym (ap (λ (o : Seen). o.bytes) seen)) come) has large d.stage.section
+    (k.holds (ap (λ (o : Seen). o.refusal) seen ∙ none))

@@ -1,7 +1,14 @@
 -- What a caller of a decoder sees: the bytes fed that weren't refused, and the refusal if there was one.
-use Rattle.std.specs.Prelude.{◌≡◌, ℕ, ◌+◌, ◌<◌, List, ◌++◌, Option, Some, None, take, length, slice_index}
+use Rattle.std.specs.Prelude.{◌≡◌, ℕ, ◌+◌, ◌-◌, ◌<◌, ◌≤◌, List, [], ◌++◌, Option, Some, None, take, length, slice_index}
 use Rattle.fit_frame.specs.declared.reason.Reason.{Reason}
+use Rattle.fit_frame.specs.declared.header.Header.{Header}
+use Rattle.fit_record.specs.declared.file.FitFile.{FitFile}
+use Rattle.fit_record.specs.declared.message.Record.{Record}
+use Rattle.fit_record.specs.Environment.{empty_environment, learn_all}
+use Rattle.fit_record.specs.Records.{records_bytes}
 use Rattle.fit_record.specs.Files.{chain_limit, IsViable}
+use Rattle.fit_step.specs.Skipping.{HasMessage}
+use Rattle.fit_chain.specs.Progress.{at_data, HasCome}
 use Rattle.fit_chain.specs.declared.event.Event.{Event as Answer}
 use Rattle.fit_chain.specs.declared.event.Event.TheVariants as answers
 use Rattle.fit_chain.specs.Events.{Event, header, item, file_end}
@@ -41,3 +48,10 @@ pub record Wants (A : Type 0) (old : Seen) (piece : List ℕ) (new : Seen) (used
   pub quiet : Quiet A old.bytes piece used
   pub next : IsViable A chain_limit (old.bytes ++ take (used + 1) piece)
   pub takes : MayTakeMemory A (old.bytes ++ take used piece) (slice_index piece used)
+
+-- After whole records of a data section the piece begins with a data message of this size that is no field description, and at least
+-- six bytes of the section are to come after it.
+abbrev pub MessageFollows : Type 0 → List ℕ → List ℕ → ℕ → Type 0
+MessageFollows A bytes piece size =
+    (fs : List (FitFile A)) × (h : Header) × (n : ℕ) × (records : List (Record A)) × HasCome fs (at_data h n records []) bytes
+    × HasMessage (learn_all empty_environment records) piece size × (size + 6 ≤ n - length (records_bytes empty_environment records))

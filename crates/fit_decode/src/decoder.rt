@@ -1,14 +1,17 @@
 //! The resumable decoder.
-ghost use Rattle.std.specs.Prelude.{◌≡◌, ◌↔◌, ℕ, ◌<◌, ◌≤◌, List, [], ◌++◌, length, take, Some, None, Ok, Err, IfOk, IsErr, IsOk, IsTrue};
+ghost use Rattle.std.specs.Prelude.{◌≡◌, ◌↔◌, ℕ, ◌<◌, ◌≤◌, List, [], ◌∷◌, ◌++◌, length, take, Some, None, Ok, Err, IfOk, IsErr, IsOk, IsTrue};
 ghost use Rattle.fit_frame.specs.declared.reason.Reason.{Reason};
 ghost use Rattle.fit_record.specs.Files.{chain_limit, IsViable};
 ghost use Rattle.fit_record.specs.Environment.{empty_environment};
+ghost use Rattle.fit_record.specs.Records.{IsRecord};
+ghost use Rattle.fit_record.specs.declared.message.Values.{Values};
+ghost use Rattle.fit_record.specs.declared.message.Record.TheVariants.{Values as Data};
 ghost use Rattle.fit_record.specs.declared.file.FitFile.{FitFile};
-ghost use Rattle.fit_chain.specs.Events.{Event as Told, AreEvents};
+ghost use Rattle.fit_chain.specs.Events.{Event as Told, AreEvents, item, known_after};
 ghost use Rattle.fit_chain.specs.Held.{bound_limit, IsHeld};
 ghost use Rattle.fit_chain.specs.Progress.{HasCome, Progress};
 ghost use Rattle.fit_chain.specs.Needs.{Needs, NoFileEndsBefore};
-ghost use Rattle.fit_decode.specs.Answers.{event_of, fed, Refuses, Wants};
+ghost use Rattle.fit_decode.specs.Answers.{event_of, fed, MessageFollows, Refuses, Wants};
 ghost use Rattle.fit_chain.specs.Pieces.{Quiet, Least, TellsRecords};
 ghost use Rattle.fit_chain.specs.Checks.{AreChain};
 
@@ -21,7 +24,7 @@ use crate::{Event, Fault, Fed};
 use fit_frame::{HeadReader, Reason};
 use fit_history::History;
 use fit_record::{Env, Record};
-use fit_step::{Position, Stop, in_progress_size, skip_in_section};
+use fit_step::{Position, Stop, in_progress_size, skip_in_section, skip_message_in_section};
 use fit_sum::Sum;
 use std::alloc::{Allocator, Global};
 use std::marker::Model;
@@ -195,6 +198,39 @@ impl<A: Allocator + Copy> Decoder<A> {
         self.history.note(taken);
         self.count += skipped as u64;
         (skipped, count)
+    }
+
+    /// Skips the data message at the front of the piece: it counts as fed, and no event is made of it. Returns how many bytes it
+    /// has, or 0 where none is skipped: where `skip_records` would skip none, and before a definition message. It refuses nothing,
+    /// and takes no memory.
+    pub fn skip_message(&mut self, piece: &[u8]) -> usize
+        ensures within { result ≤ length piece.now }
+        ensures used { self.new ≡ record self.old
+            { bytes = self.old.bytes ++ take result piece.now } }
+        // The bytes used are those of a data message, tell it, and tell nothing else.
+        ensures message { 0 < result → (events : List (Told A)) → AreEvents self.old.bytes events
+            → (v : Values A) × IsRecord (known_after events) (Data v) (take result piece.now)
+            × AreEvents self.new.bytes (events ++ item (Data v) ∷ []) }
+        // One that is all in the piece is skipped, unless `skip_records` would leave it.
+        ensures whole { self.old.refusal ≡ None → (size : ℕ)
+            → MessageFollows A self.old.bytes piece.now size → result ≡ size }
+        // After a refusal nothing is used.
+        ensures refused { (reason : Reason) → self.old.refusal ≡ Some reason
+            → (result ≡ 0) × (self.new ≡ self.old) }
+        ensures viable { IsViable A chain_limit self.new.bytes }
+    {
+        if self.refusal.is_some() {
+            return 0;
+        }
+        let Section::Data = self.stage.section else {
+            return 0;
+        };
+        let size = skip_message_in_section(&self.env, &mut self.position, &self.in_progress, piece);
+        let (message, _) = piece.split_at(size);
+        self.sum.add_all(message);
+        self.history.note(message);
+        self.count += size as u64;
+        size
     }
 
     /// Whether the bytes fed are a chain of files. Where they only begin one, `Truncated` has the number of the bytes;

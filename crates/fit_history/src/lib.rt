@@ -28,11 +28,20 @@ impl<T> History<T> {
         History { of: PhantomData }
     }
 
+    /// Puts one value at the end that no code holds: what is made of `_source`, say, but is never made at run time. A proof
+    /// about the caller names it.
+    pub fn add_from<S>(&mut self, _source: &S)
+        ghost value: { T }
+        ensures { self.new.items ≡ self.old.items ++ value ∷ [] }
+    {
+        // Only the ghost field takes the value.
+    }
+
     /// Puts one value at the end.
     pub fn add(&mut self, _value: &T)
         ensures { self.new.items ≡ self.old.items ++ _value.now ∷ [] }
     {
-        // Only the ghost field takes the value.
+        self.add_from(_value);
     }
 
     /// Puts several values at the end, in their order.

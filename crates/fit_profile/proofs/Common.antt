@@ -22,7 +22,7 @@ pub use Rattle.std.specs.Str.{IsUtf8, is_utf8}
 pub use Rattle.std.specs.Str.Parse.{starts_with_minus, AllDigits}
 pub use Rattle.fit_base.specs.declared.items.Items.{Items}
 pub use Rattle.fit_record.specs.Environment.{first_items, only, dev_defs, dev_key_cmp, description, Environment, empty_environment, defined_at}
-pub use Rattle.fit_record.specs.Environment.{describe, learn, learn_all}
+pub use Rattle.fit_record.specs.Environment.{describe, described_by, learn, learn_all}
 pub use Rattle.fit_record.specs.Records.{Fits, DataFits}
 pub use Rattle.fit_record.specs.declared.definition.FieldDef.{FieldDef}
 pub use Rattle.fit_record.specs.declared.definition.MessageDef.{MessageDef}

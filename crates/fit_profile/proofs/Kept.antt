@@ -2,12 +2,14 @@
 use Rattle.fit_profile.proofs.Common.{◌≡◌, ◌∙◌, ℕ, List, [], ◌∷◌, ◌++◌, reverse, map, cond, refl, sym, ap, ap₂, subst, None, Some, Option, IsSomeAnd}
 use Rattle.fit_profile.proofs.Common.{option_and_then, unwrap_or, if◌then◌else◌, reverse-append, MessageDef, dev_defs, description, Naming, nameless, naming}
 use Rattle.fit_profile.proofs.Common.{naming_by, naming_after, namings_after, naming_of, KeepsRecords, described, is_key, naming_in, namings_in, none-some}
-use Rattle.fit_profile.proofs.Common.{same_Some, Defined, Values, Record, Environment, empty_environment, defined_at, describe, learn, Fits, DataFits, known}
+use Rattle.fit_profile.proofs.Common.{same_Some, Defined, Values, Record, Environment, empty_environment, defined_at, describe, described_by, learn, Fits}
+use Rattle.fit_profile.proofs.Common.{DataFits, known}
 use Rattle.fit_profile.proofs.Common.{told, told_at, told_of, tell, last_of, last_after}
 use Rattle.std.proofs.Common.{option_map}
 use Rattle.std.specs.Prelude.{◌==◌, ◌&&◌}
 use Rattle.fit_profile.specs.declared.names.Described.{Described}
 use Rattle.fit_profile.specs.declared.names.Names.{Names}
+use Rattle.fit_record.specs.Records.{IsRecord}
 use Rattle.fit_record.specs.declared.message.Record.TheVariants.{Define, Values as Data}
 use Rattle.fit_record.specs.declared.learn.Description.{Description}
 use Rattle.fit_profile.specs.declared.told.Told.{Told}
@@ -158,6 +160,27 @@ pub keeps-next : {A : Type 0} (e e' : Environment A) (l l' : Last) (n n' : Names
 keeps-next e e' l l' n n' items now r k view env last naming namings =
     subst (KeepsRecords e' l' n') (sym (reverse-append items (r ∷ [])))
     (keeps-after e e' l l' n n' (reverse items) r k env (last ∙ ap (λ ys. last_of (r ∷ ys)) (sym view)) naming namings)
+
+-- bytes are those of the same record by what is known after the records and by what is kept of that
+pub kept-record : {A : Type 0} {e : Environment A} {l : Last} {n : Names A} {xs : List (Record A)} (now : List (Record A)) (r : Record A) (bytes : List ℕ)
+    → KeepsRecords e l n xs → xs ≡ now → IsRecord (known now) r bytes → IsRecord e r bytes
+kept-record now r bytes k view is = subst (λ e. IsRecord e r bytes) (sym (k.env_is ∙ ap known view)) is
+
+no-naming : {A : Type 0} (v : Values A) (o : Option (Defined A)) (index number : ℕ) (before : Naming)
+    → option_and_then (λ p. description p.definition v) o ≡ None
+    → before ≡ unwrap_or (option_and_then (λ p. naming_by p.definition v index number) o) before
+no-naming v None index number before none = refl
+no-naming v (Some p) index number before none = rw none refl
+
+-- after a message that describes nothing only the last values may be others
+pub keeps-last : {A : Type 0} (e : Environment A) (l l' : Last) (n : Names A) (items items' now : List (Record A)) (v : Values A)
+    → KeepsRecords e l n (reverse items) → reverse items ≡ now → Fits (known now) (Data v) → described_by e v ≡ None
+    → l' ≡ last_after l (tell e l (Data v)) → items' ≡ items ++ (Data v ∷ []) → KeepsRecords e l' n (reverse items')
+keeps-last e l l' n items items' now v k view fits none last pushed =
+    subst (λ xs. KeepsRecords e l' n (reverse xs)) (sym pushed)
+    (keeps-next e e l l' n n items now (Data v) k view (ap (describe e) (sym none))
+    (last-now e l l' n (reverse items) now (Data v) (tell e l (Data v)) k view fits refl last)
+    (λ index number. no-naming v (defined_at e v.local) index number (naming_in n index number) none) (λ local. refl))
 
 pub told-now : {A : Type 0} (e : Environment A) (l : Last) (n : Names A) (xs now : List (Record A)) (r : Record A) (t : Option Told) → KeepsRecords e l n xs
     → xs ≡ now

@@ -5,6 +5,7 @@ mod DigitFacts
 mod PairFacts
 mod PutFacts
 pub mod FirstField
+mod InBytes
 mod Kept
 pub mod KeptTexts
 mod KnownFacts

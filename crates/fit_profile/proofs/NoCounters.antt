@@ -1,9 +1,13 @@
 -- A message without a field for a component has no number of it.
 use Rattle.fit_profile.proofs.Common.{◌≡◌, ℕ, List, ◌∷◌, None, true, false, inl, inr, refl, ap, sym, ◌∙◌, list_any, cases_Bool, or_parts, both_ways, Items}
-use Rattle.fit_profile.proofs.Common.{FieldDef, MessageDef, Values, first_field, number_of}
+use Rattle.fit_profile.proofs.Common.{FieldDef, MessageDef, Values, first_field, number_of, Some, told_at, last_after}
 use Rattle.std.proofs.Common.{◌==◌, ◌&&◌}
 use Rattle.std.proofs.lemmas.Bool.{eqb-true}
 use Rattle.fit_profile.specs.declared.component.Component.{Component}
+use Rattle.fit_record.specs.Faults.{or_else}
+use Rattle.fit_profile.specs.Accumulated as sums
+use Rattle.fit_profile.specs.Times.{field_time, header_time}
+use Rattle.fit_profile.specs.declared.told.Last.{Last}
 use Rattle.fit_profile.specs.inner.Counters.{is_counter}
 
 no-field : {A : Type 0} (fields : List FieldDef) (items : List (Items A)) (number : ℕ) → is_counter number ≡ true
@@ -22,3 +26,9 @@ no-number c d v is none = elim (cases_Bool (d.global == 20)) [
   | inl record_message ↦ rw (record_message, no-field d.fields v.fields c.field is (rw record_message at none)) refl
   | inr other ↦ rw other refl
 ]
+
+-- the last ones after such a message are as before, but for the time
+pub only-time : {A : Type 0} (last : Last) (d : MessageDef A) (v : Values A) → (d.global == 20 && list_any (λ f. is_counter f.number) d.fields) ≡ false
+    → record last { time = or_else (or_else (field_time d v) (header_time last.time v.offset)) last.time } ≡ last_after last (Some (told_at last d v))
+only-time last d v none =
+    rw (no-number sums.distance d v refl none, no-number sums.total_cycles d v refl none, no-number sums.accumulated_power d v refl none) refl

@@ -1,5 +1,7 @@
 -- The time of a message (FIT protocol, "Compressed Timestamp Header").
 use Rattle.std.specs.Prelude.{ℕ, ◌-◌, ◌^◌, ◌==◌, ◌&&◌, nat_lt, if◌then◌else◌, List, [], ◌∷◌, Option, Some, None, option_and_then, option_map}
+use Rattle.fit_base.specs.declared.items.Items.{Items}
+use Rattle.fit_record.specs.declared.definition.FieldDef.{FieldDef}
 use Rattle.fit_record.specs.declared.definition.MessageDef.{MessageDef}
 use Rattle.fit_record.specs.declared.message.Values.{Values}
 use Rattle.fit_record.specs.declared.message.Record.{Record}
@@ -13,10 +15,13 @@ use Rattle.fit_profile.specs.Looks.{known, first_field}
 abbrev pub valid_time : ℕ → Option ℕ
 valid_time n = if nat_lt n 0xFFFFFFFF then Some n else None
 
--- the timestamp of a message: its first field 253, where that is one valid uint32
+-- the time that a field holds, where it is one valid uint32
+abbrev pub time_in_field : {A : Type 0} → FieldDef → Items A → Option ℕ
+time_in_field f i = if f.code == 0x86 && f.size == 4 then option_and_then valid_time (only i.bits) else None
+
+-- the timestamp of a message: that of its first field 253
 abbrev pub field_time : {A : Type 0} → MessageDef A → Values A → Option ℕ
-field_time d v =
-    option_and_then (λ f. if f.0.code == 0x86 && f.0.size == 4 then option_and_then valid_time (only f.1.bits) else None) (first_field d.fields v.fields 253)
+field_time d v = option_and_then (λ f. time_in_field f.0 f.1) (first_field d.fields v.fields 253)
 
 -- the same by the definition of its local message type
 abbrev pub own_time : {A : Type 0} → Environment A → Values A → Option ℕ

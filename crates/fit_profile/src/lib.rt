@@ -13,6 +13,7 @@ mod learn;
 mod least;
 mod look;
 mod message;
+mod message_bytes;
 pub mod message_number;
 mod names;
 mod pairs;

@@ -1,9 +1,11 @@
 //! The records of a file, one after another, and what each message means by those before it.
-ghost use Rattle.std.specs.Prelude.{◌≡◌, ◌∷◌, [], OnOk, OnErr, IfOk, ⊤, MatchResult, Some, drop, option_map, option_and_then, slice_get};
+ghost use Rattle.std.specs.Prelude.{◌≡◌, ◌∷◌, [], OnOk, OnErr, IfOk, ⊤, MatchResult, Some, true, false, drop, option_map, option_and_then, slice_get};
 ghost use Rattle.std.specs.Borrow.{sem};
+ghost use Rattle.std.specs.declared.alloc.Global.{Global};
 ghost use mathlib.Core.Option.{none};
 ghost use denote.Follow.{follows_so};
-ghost use Rattle.fit_record.specs.Records.{Fits};
+ghost use Rattle.fit_record.specs.Records.{Fits, IsRecord};
+ghost use Rattle.fit_record.specs.declared.message.Values.{Values};
 ghost use Rattle.fit_record.specs.declared.message.Record.TheVariants.{Values as Data};
 ghost use Rattle.fit_profile.specs.Described.{namings_at};
 ghost use Rattle.fit_profile.specs.Looks.{known};
@@ -15,6 +17,7 @@ ghost use Rattle.fit_profile.specs.contracts.stream.Stream.{the_row};
 
 use crate::learn::take_in;
 use crate::message::{Message, message_of};
+use crate::message_bytes::{record_of, take_time, time_in};
 use crate::names::{Names, Texts};
 use crate::time::header_time;
 use crate::told::{Last, Told, last_after, last_behind, tell, time_of};
@@ -105,6 +108,15 @@ impl Stream {
         time_of(&self.env, self.last.time, record_)
     }
 
+    /// The time of the next record where it is the data message that these bytes are, as `time` gives it.
+    pub fn message_time(&self, bytes: &[u8]) -> Option<u32>
+        requires { (v : Values Global) × IsRecord (known self.now) (Data v) bytes.now }
+        ensures { (v : Values Global) → IsRecord (known self.now) (Data v) bytes.now
+            → result ≡ times.time self.now (Data v) }
+    {
+        time_in(&self.env, self.last.time, bytes)
+    }
+
     /// The name and the unit of a developer field of a local message type.
     fn texts_at(&self, local: u8, place: u8) -> Option<&Texts>
         ensures { option_map (λ t. t.now) result ≡ slice_get (namings_at self.now local) place }
@@ -176,6 +188,31 @@ impl Stream {
     {
         let last = last_behind(&self.env, self.last, record_);
         self.advance(record_, last)
+    }
+
+    /// Takes in the data message that these bytes are, where it tells nothing but a time. Whether it did.
+    fn take_time(&mut self, bytes: &[u8]) -> bool
+        requires { (v : Values Global) × IsRecord (known self.old) (Data v) bytes.now }
+        ensures taken { result ≡ true → (v : Values Global)
+            → IsRecord (known self.old) (Data v) bytes.now → self.new ≡ Data v ∷ self.old }
+        ensures kept { result ≡ false → self.new ≡ self.old }
+    {
+        take_time(&self.env, &mut self.last, &mut self.pushed, bytes)
+    }
+
+    /// Takes the next record in, as `take` does, where it is the data message that these bytes are: no
+    /// record is made of most messages. If memory runs out, the stream stays as it was.
+    pub fn take_message(&mut self, bytes: &[u8]) -> Result<(), AllocError>
+        requires { (v : Values Global) × IsRecord (known self.old) (Data v) bytes.now }
+        ensures ok { OnOk result ((v : Values Global)
+            → IsRecord (known self.old) (Data v) bytes.now → self.new ≡ Data v ∷ self.old) }
+        ensures err { OnErr result (self.new ≡ self.old) }
+    {
+        if self.take_time(bytes) {
+            return Ok(());
+        }
+        let record_ = record_of(&self.env, self.alloc, bytes)?;
+        self.take(&record_)
     }
 
     /// The data message that was just taken in.

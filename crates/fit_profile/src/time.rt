@@ -11,7 +11,7 @@ use fit_record::{MessageDef, Values};
 use std::alloc::Allocator;
 
 /// A time of a field, where it is valid.
-fn valid_time(n: u64) -> Option<u32>
+pub(crate) fn valid_time(n: u64) -> Option<u32>
     ensures { result ≡ times.valid_time n }
 {
     if n < 0xFFFF_FFFF {

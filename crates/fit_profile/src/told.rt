@@ -191,6 +191,16 @@ pub(crate) fn last_after(last: Last, told: Option<Told>) -> Last
     }
 }
 
+/// The last ones after a message that tells nothing but this time.
+pub(crate) fn with_time(last: Last, time: Option<u32>) -> Last
+    ensures { result ≡ record last { time = or_else time last.time } }
+{
+    Last {
+        time: time.or(last.time),
+        ..last
+    }
+}
+
 /// The last ones after a message.
 fn last_at<A: Allocator>(last: Last, definition: &MessageDef<A>, values: &Values<A>) -> Last
     ensures { result ≡ telling.last_after last
@@ -199,12 +209,7 @@ fn last_at<A: Allocator>(last: Last, definition: &MessageDef<A>, values: &Values
     if may_count(definition) {
         return last_after(last, Some(counted_at(last, definition, values)));
     }
-    Last {
-        time: time(last.time, definition, values).or(last.time),
-        distance: last.distance,
-        total_cycles: last.total_cycles,
-        accumulated_power: last.accumulated_power,
-    }
+    with_time(last, time(last.time, definition, values))
 }
 
 /// The last ones after a data message.

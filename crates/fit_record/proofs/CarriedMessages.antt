@@ -3,10 +3,10 @@ use Rattle.fit_record.proofs.Common.{◌≡◌, ℕ, ◌+◌, ◌-◌, List, ◌
 use Rattle.fit_record.proofs.Common.{arith, None, Some, option_map, nat_le, ◌&&◌, IfSome, IsSomeAnd, option_map_or, true≢false, and_parts, and_from, and_left}
 use Rattle.fit_record.proofs.Common.{leb-true, le-leb, lt-leb, IsBytes, IsBytes-append, IsBytes-zeros, Data, Defined, Environment, defined_at, learn}
 use Rattle.fit_record.proofs.Common.{data_header, DataHeaderFits, data_bytes, DataFits, order_at, message_size, CanFill, fills, has_length, can_fill, CanCarry}
-use Rattle.fit_record.proofs.Common.{can_carry, length-replicate, replicate, Option, Values}
+use Rattle.fit_record.proofs.Common.{can_carry, length-replicate, replicate, Option, Values, values_from}
 use Rattle.fit_record.proofs.OneRecord.{same_header, header_fits}
 use Rattle.fit_record.proofs.RecordLengths.{length-data}
-use Rattle.fit_record.proofs.MessageBytes.{values_from, message_fits}
+use Rattle.fit_record.proofs.ReadMessages.{message_fits}
 use Rattle.fit_record.proofs.FilledRooms.{can_fill_is, same_places}
 
 -- A data message changes no lengths.

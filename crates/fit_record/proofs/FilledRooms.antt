@@ -4,12 +4,12 @@ use Rattle.fit_record.proofs.Common.{subst, arith, length-append, None, Some, ge
 use Rattle.fit_record.proofs.Common.{eq-eqb, or_cases, cases_lt, length-replicate, list_any_at, Record, Define, Data, Defined, Environment, defined_at}
 use Rattle.fit_record.proofs.Common.{describe, description, learn, DataHeaderFits, DataFits, AllFit, order_at, record_bytes, records_bytes, CanFill}
 use Rattle.fit_record.proofs.Common.{message_size, fills, has_length, can_fill, IsBytes-append, IsBytes-cons, IsBytes-none, IsBytes-zeros, replicate, Option}
-use Rattle.fit_record.proofs.Common.{Values}
+use Rattle.fit_record.proofs.Common.{Values, values_from}
 use Rattle.fit_record.specs.declared.learn.Description.{Description}
 use Rattle.fit_record.proofs.LargeRooms.{six_and_more}
 use Rattle.fit_record.proofs.RoomSums.{fills_6, fills_more, of_filled}
 use Rattle.fit_record.proofs.RecordLengths.{length-definition, length-data}
-use Rattle.fit_record.proofs.MessageBytes.{values_from, message_fits}
+use Rattle.fit_record.proofs.ReadMessages.{message_fits}
 
 -- ---- messages alone
 

@@ -10,7 +10,7 @@ pub mod NoFaultWhereFits
 pub mod KeptInPlaces
 pub mod FirstOfNumber
 pub mod MessageSizes
-pub mod MessageBytes
+pub mod ReadMessages
 pub mod RoomSums
 pub mod LargeRooms
 pub mod FilledRooms
@@ -25,3 +25,6 @@ pub mod RoomRows
 pub mod KnownRecords
 pub mod KnownFaults
 pub mod RoomTestsAnswer
+pub mod DataHeaders
+pub mod Gathering
+pub mod FoundMessages

@@ -2,6 +2,7 @@ pub mod Environment
 pub mod Sizes
 pub mod Records
 pub mod ReadMessages
+pub mod MessageBytes
 pub mod DefinitionLengths
 pub mod HeaderByte
 pub mod Files

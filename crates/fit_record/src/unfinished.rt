@@ -19,6 +19,7 @@ impl<A: Allocator> Env<A> {
     pub fn can_carry(&self, local: u8, room: u32) -> bool
         ensures test { result ≡ can_carry self.now local room }
         ensures message { AnswersMessage self.now local room result }
+        ensures places { length self.now.places ≡ 16 }
     {
         match self.length(local) {
             Some(size) => size <= room && self.can_fill(room - size),

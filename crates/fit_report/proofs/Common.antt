@@ -2,7 +2,7 @@
 pub use Rattle.std.proofs.Common.{◌≡◌, ℕ, suc, ◌<◌, List, [], ◌∷◌, ◌++◌, length, take, drop, get_or, reverse, Option, Some, None, Result, Ok, Err}
 pub use Rattle.std.proofs.Common.{refl, sym, ap, ◌∙◌, subst, append_assoc, arith, ◌+◌, ◌≤◌, false, IsOk, IsErr, ◌↔◌, length-append, Bool, map, ◌⊎◌}
 pub use Rattle.std.proofs.Common.{inl, inr, ◌-◌, ◌^◌, min, true}
-pub use Rattle.std.proofs.Math.Seq.{drop-cons, take-append-add}
+pub use Rattle.std.proofs.Math.Seq.{drop-cons, take-append-add, take-add, take-length}
 pub use Rattle.std.proofs.lemmas.List.{append-nil, take-append-drop, reverse-reverse, reverse-append, get_or-append-add, length-drop, length-take}
 pub use Rattle.std.proofs.lemmas.List.{get_or-drop, length-reverse, map-append}
 pub use Rattle.std.proofs.lemmas.Result.{err_from_is_err_and}
@@ -28,4 +28,4 @@ pub use Rattle.fit_report.specs.Heard.{Lines, text_of, hear, latest_records, Ski
 pub use Rattle.fit_report.specs.Reports.{Channel, Reports, ReportsChain, HasTold, Tells, report_fault, HasHeard, TextFailsIn, channel}
 pub use Rattle.fit_report.specs.declared.fault.ReportFault.{ReportFault}
 pub use Rattle.fit_report.specs.declared.fault.ReportFault.TheVariants.{Decode, NoMemory, Write}
-pub use Rattle.fit_report.specs.inner.Passing.{HasReported, PieceTold, Passed}
+pub use Rattle.fit_report.specs.inner.Passing.{Stands, Puts, Stops, Passes}

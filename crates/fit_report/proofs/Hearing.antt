@@ -1,6 +1,6 @@
 -- What is heard when a decoder is fed.
 use Rattle.fit_report.proofs.Common.{◌≡◌, ℕ, ◌<◌, List, [], ◌∷◌, ◌++◌, length, take, reverse, Some, None, refl, sym, subst, arith, reverse-append, Answer}
-use Rattle.fit_report.proofs.Common.{event_of, Event, header, item, file_end, AreEvents, least_for, quiet_for, hear}
+use Rattle.fit_report.proofs.Common.{event_of, Event, header, item, file_end, AreEvents, least_for, quiet_for, hear, Seen, fed}
 use Rattle.fit_chain.specs.Pieces.{Quiet, Least}
 use Rattle.fit_chain.specs.declared.event.Event.TheVariants as answers
 
@@ -22,3 +22,16 @@ module _ {A : Type 0} (bytes piece : List ℕ) (used : ℕ) (heard : List (Event
   hears (answers.Header h n) t = one (answers.Header h n) (header h n) refl t
   hears (answers.Item r) t = one (answers.Item r) (item r) refl t
   hears answers.FileEnd t = one answers.FileEnd file_end refl t
+
+-- what is heard then
+pub heard_next : {A : Type 0} (old new : Seen) (piece : List ℕ) (used : ℕ) (heard : List (Event A)) (answer : Answer A) → new ≡ fed old piece used
+    → Told old.bytes piece used answer → AreEvents old.bytes (reverse heard) → AreEvents new.bytes (reverse (hear answer heard))
+heard_next old new piece used heard answer after told are =
+    subst (λ (v : Seen). AreEvents v.bytes (reverse (hear answer heard))) (sym after) (hears old.bytes piece used heard are answer told)
+
+-- Of some bytes some are used.
+pub uses_some : {A : Type 0} (bytes piece : List ℕ) (used : ℕ) (answer : Answer A) → Told bytes piece used answer → 0 < length piece → 0 < used
+uses_some bytes piece used answers.More t some = omega (arith, (t.more refl).0, some)
+uses_some bytes piece used (answers.Header h n) t some = (t.event (header h n) refl).0
+uses_some bytes piece used (answers.Item r) t some = (t.event (item r) refl).0
+uses_some bytes piece used answers.FileEnd t some = (t.event file_end refl).0

@@ -1,56 +1,10 @@
--- What the telling of a piece did.
-use Rattle.fit_report.proofs.Common.{◌≡◌, Bool, ℕ, ◌+◌, ◌≤◌, List, ◌++◌, length, take, drop, get_or, reverse, Option, Ok, Err, refl, sym, ap, ◌∙◌, subst, arith}
-use Rattle.fit_report.proofs.Common.{length-append, length-drop, length-take, get_or-drop, chain_limit, IsViable, Answer, Fault, Seen, fed, Refuses, Event}
-use Rattle.fit_report.proofs.Common.{AreEvents, IsRefused, ReportFault, Decode, NoMemory, Write, Lines, hear, Channel, HasHeard, Tells, report_fault}
-use Rattle.fit_report.proofs.Common.{HasReported, Passed, PieceTold, fed_on, quiet_for}
+-- Where the telling of a piece has stopped.
+use Rattle.fit_report.proofs.Common.{◌≡◌, ℕ, ◌+◌, ◌≤◌, List, ◌++◌, length, take, drop, get_or, reverse, Option, Err, refl, sym, ap, ◌∙◌, subst, arith}
+use Rattle.fit_report.proofs.Common.{length-append}
+use Rattle.fit_report.proofs.Common.{append-nil, length-drop, length-take, get_or-drop, Fault, Seen, fed, Refuses, Event, AreEvents, IsRefused, chain_limit}
+use Rattle.fit_report.proofs.Common.{ReportFault, Decode, NoMemory, Write, Lines, Channel, HasHeard, report_fault, Stands, Stops, fed_on, quiet_for}
 use Rattle.fit_frame.specs.declared.reason.Reason.{Reason}
 use Rattle.fit_chain.specs.declared.event.Fault.TheVariants as faults
-use Rattle.fit_report.proofs.Hearing.{Told, hears}
-use Rattle.fit_report.proofs.Texts.{stands_on, fails_on, tells}
-
-pub are_heard : {A : Type 0} (new mid : Seen) (piece : List ℕ) (used : ℕ) (heard : List (Event A)) (answer : Answer A) → IsViable A chain_limit new.bytes
-    → new ≡ fed mid piece used
-    → AreEvents mid.bytes (reverse heard) → Told mid.bytes piece used answer → AreEvents new.bytes (reverse (hear answer heard))
-are_heard new mid piece used heard answer viable after are told =
-    subst (λ (v : Seen). AreEvents v.bytes (reverse (hear answer heard))) (sym after) (hears mid.bytes piece used heard are answer told)
-
--- the bytes before a piece that isn't over, and those of it that were fed
-pub joined : (old mid : Seen) (piece : List ℕ) (at used : ℕ) → mid ≡ fed old piece at
-    → mid.bytes ++ take used (drop at piece) ≡ old.bytes ++ take (at + used) piece
-joined old mid piece at used is = ap (λ (v : Seen). v.bytes) (fed_on old mid (fed mid (drop at piece) used) piece at used is refl)
-
-module _ {A : Type 0} (line : Lines A) (old mid new : Seen) (piece : List ℕ) (at used : ℕ) (answer : Answer A) (heard next : List (Event A))
-    (start : Option (List ℕ)) (sink : Channel) (written count : ℕ)
-    (is : mid ≡ fed old piece at) (after : new ≡ fed mid (drop at piece) used) (told : Told mid.bytes (drop at piece) used answer)
-    (s : HasReported line mid.bytes heard start sink.before written) where
-  events : AreEvents new.bytes (reverse (hear answer heard))
-  events = subst (λ (v : Seen). AreEvents v.bytes (reverse (hear answer heard))) (sym after) (hears mid.bytes (drop at piece) used heard s.are answer told)
-
-  placed : new.bytes ≡ old.bytes ++ take (at + used) piece
-  placed = ap (λ (v : Seen). v.bytes) after ∙ joined old mid piece at used is
-
-  -- an answer was passed on
-  pub passes : Passed line heard answer sink written count (Ok tt) → HasReported line new.bytes (hear answer heard) start sink.after count
-  passes (put, counted) = stands_on line mid.bytes heard start sink.before written s answer new.bytes sink.after count events put counted
-
-  -- or was not
-  pub breaks : (fault : ReportFault) → Passed line heard answer sink written count (Err fault)
-      → PieceTold line old.bytes piece new next (record { before = start; after = sink.after; failed = sink.failed }) count (Err fault)
-  breaks (Decode fault) none = absurd none
-  breaks NoMemory keeps = (
-    at,
-    heard,
-    subst (λ b. Tells line b heard (record { before = start; after = sink.after; failed = sink.failed })) (ap (λ (v : Seen). v.bytes) is)
-        (tells line mid.bytes heard start sink.before written s sink.after sink.failed keeps),
-  )
-  breaks (Write n) (bad, m, short, put, counted) = (
-    at + used,
-    hear answer heard,
-    subst (λ b. AreEvents b (reverse (hear answer heard))) placed events,
-    fails_on line mid.bytes heard start sink.before written s answer sink.after sink.failed m n bad short put counted,
-  )
-
--- ---- what the reporter heard before a fault
 
 -- It has heard no more where a piece stopped.
 pub hears_no_more : {A R : Type 0} (has_heard : R → List (Event A) → Type 0) (reporter : R) (heard : List (Event A)) (fault : Fault)
@@ -60,40 +14,63 @@ hears_no_more has_heard reporter heard (faults.Truncated place) has = has
 hears_no_more has_heard reporter heard (faults.NoMemory used) has = tt
 hears_no_more has_heard reporter heard (faults.Read place) has = has
 
--- An event that was not passed on is no fault of the input.
-pub heard_in_vain : {A R : Type 0} (has_heard : R → List (Event A) → Type 0) (reporter : R) (heard before : List (Event A)) (line : Lines A) (answer : Answer A)
-    (sink : Channel) (old new : ℕ) (fault : ReportFault) → Passed line before answer sink old new (Err fault)
-    → HasHeard has_heard reporter heard (Err fault)
-heard_in_vain has_heard reporter heard before line answer sink old new (Decode fault) none = absurd none
-heard_in_vain has_heard reporter heard before line answer sink old new NoMemory keeps = tt
-heard_in_vain has_heard reporter heard before line answer sink old new (Write count) fails = tt
-
--- ---- a fault in a piece that isn't over
-pub record Stopped (A : Type 0) (mid : Seen) (piece : List ℕ) (new : Seen) (fault : Fault) : Type 0 where
-  pub refused : (place : ℕ) (reason : Reason) → fault ≡ faults.Refused place reason → Refuses A mid piece new place reason
+-- A decoder stopped in a piece.
+pub record Stopped (A : Type 0) (old : Seen) (piece : List ℕ) (new : Seen) (fault : Fault) : Type 0 where
+  pub refused : (place : ℕ) (reason : Reason) → fault ≡ faults.Refused place reason → Refuses A old piece new place reason
   pub others : (place : ℕ) → (fault ≡ faults.Truncated place → ⊥) × (fault ≡ faults.Read place → ⊥)
 
-module _ {A : Type 0} (line : Lines A) (old mid new : Seen) (piece : List ℕ) (at : ℕ) (heard : List (Event A)) (start now : Option (List ℕ)) (failed : Bool)
-    (written : ℕ)
-    (within : at ≤ length piece) (is : mid ≡ fed old piece at) (s : HasReported line mid.bytes heard start now written) where
-  abbrev pub sink : Channel
-  sink = record { before = start; after = now; failed = failed }
+-- Nothing of the piece was told.
+module _ {A R : Type 0} {has_heard : R → List (Event A) → Type 0} {line : Lines A} {reporter : R} {start : Option (List ℕ)} {written : ℕ}
+    (old : Seen) (piece : List ℕ) (sink : Channel) (s : Stands has_heard line reporter old.bytes start sink.after written) where
+  pub stops_before : (after : R) → Stops has_heard line old.bytes piece after (record sink { before = start }) NoMemory
+  stops_before after = (0, s.heard, (subst (λ b. AreEvents b (reverse s.heard)) (sym (append-nil old.bytes)) s.are, s.put))
 
-  pub stops : (fault : Fault) → Stopped A mid (drop at piece) new fault → PieceTold line old.bytes piece new heard sink written (Err (report_fault fault))
-  stops (faults.Refused place reason) t =
+  pub stops : (new : Seen) (fault : Fault) → Stopped A old piece new fault
+      → Stops has_heard line old.bytes piece reporter (record sink { before = start }) (report_fault fault)
+  stops new (faults.Refused place reason) t =
       let refuses = t.refused place reason refl in
       let u : ℕ = refuses.used in (
-        at + u,
-        omega (arith, refuses.within, length-drop at piece),
-        omega (arith, refuses.is_place, ap (λ (v : Seen). length v.bytes) is, length-append old.bytes (take at piece), length-take at piece, within),
-        subst (λ bytes. IsRefused A chain_limit bytes (get_or piece (at + u) 0) reason) (joined old mid piece at u is)
-            (subst (λ b. IsRefused A chain_limit (mid.bytes ++ take u (drop at piece)) b reason) (get_or-drop at piece u 0) refuses.why),
-        (
-          subst (λ b. AreEvents b (reverse heard)) (joined old mid piece at u is)
-              (quiet_for mid.bytes (drop at piece) u refuses.quiet (reverse heard) s.are u (omega arith)),
-          s.put,
-        ),
+        u,
+        refuses.within,
+        refuses.is_place,
+        refuses.why,
+        s.heard,
+        s.has,
+        (quiet_for old.bytes piece u refuses.quiet (reverse s.heard) s.are u (omega arith), s.put),
       )
-  stops (faults.NoMemory used) t = (at, heard, (subst (λ b. AreEvents b (reverse heard)) (ap (λ (v : Seen). v.bytes) is) s.are, s.put))
-  stops (faults.Truncated place) t = absurd ((t.others place).0 refl)
-  stops (faults.Read place) t = absurd ((t.others place).1 refl)
+  stops new (faults.NoMemory used) t = stops_before reporter
+  stops new (faults.Truncated place) t = absurd ((t.others place).0 refl)
+  stops new (faults.Read place) t = absurd ((t.others place).1 refl)
+
+-- ---- what is left of a piece
+
+pub within_behind : (piece rest : List ℕ) (at used : ℕ) → at ≤ length piece → rest ≡ drop at piece → used ≤ length rest → at + used ≤ length piece
+within_behind piece rest at used within left more = omega (arith, within, ap length left, length-drop at piece, more)
+
+pub fed_behind : (old mid new : Seen) (piece rest : List ℕ) (at used : ℕ) → mid ≡ fed old piece at → rest ≡ drop at piece → new ≡ fed mid rest used
+    → new ≡ fed old piece (at + used)
+fed_behind old mid new piece rest at used is left after = fed_on old mid new piece at used is (after ∙ ap (λ (x : List ℕ). fed mid x used) left)
+
+-- A fault in it is one in the piece.
+module _ {A R : Type 0} (has_heard : R → List (Event A) → Type 0) (line : Lines A) (old mid : Seen) (piece rest : List ℕ) (at : ℕ) (reporter : R)
+    (sink : Channel) (within : at ≤ length piece) (is : mid ≡ fed old piece at) (left : rest ≡ drop at piece) where
+  joined : (k : ℕ) → mid.bytes ++ take k rest ≡ old.bytes ++ take (at + k) piece
+  joined k = ap (λ (v : Seen). v.bytes) (fed_behind old mid (fed mid rest k) piece rest at k is left refl)
+
+  so : (k : ℕ) (heard : List (Event A)) → AreEvents (mid.bytes ++ take k rest) (reverse heard) → AreEvents (old.bytes ++ take (at + k) piece) (reverse heard)
+  so k heard = subst (λ b. AreEvents b (reverse heard)) (joined k)
+
+  pub stops_behind : (fault : ReportFault) → Stops has_heard line mid.bytes rest reporter sink fault → Stops has_heard line old.bytes piece reporter sink fault
+  stops_behind (Decode (faults.Refused place reason)) (k, short, stands, why, heard, has, (are, put)) = (
+    at + k,
+    omega (arith, short, ap length left, length-drop at piece),
+    omega (arith, stands, ap (λ (v : Seen). length v.bytes) is, length-append old.bytes (take at piece), length-take at piece, within),
+    subst (λ b. IsRefused A chain_limit b (get_or piece (at + k) 0) reason) (joined k)
+        (subst (λ x. IsRefused A chain_limit (mid.bytes ++ take k rest) x reason) (ap (λ x. get_or x k 0) left ∙ get_or-drop at piece k 0) why),
+    heard,
+    has,
+    (so k heard are, put),
+  )
+  stops_behind (Decode fault) none = absurd none
+  stops_behind NoMemory (k, heard, (are, put)) = (at + k, heard, (so k heard are, put))
+  stops_behind (Write count) (k, heard, are, fails) = (at + k, heard, so k heard are, fails)

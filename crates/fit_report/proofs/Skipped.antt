@@ -1,45 +1,58 @@
--- What skipping leaves, in a piece that isn't over.
-use Rattle.fit_report.proofs.Common.{◌≡◌, ℕ, ◌+◌, ◌-◌, ◌^◌, ◌≤◌, min, List, [], ◌++◌, length, drop, map, reverse, Option, None, sym, ap, ◌∙◌, subst, arith}
-use Rattle.fit_report.proofs.Common.{Appends, append-nil, length-drop, reverse-append, reverse-reverse, Record, Seen, fed, Event, AreEvents, item, fed_on}
-use Rattle.fit_report.proofs.Common.{Lines, Skips, hear_records, HasReported}
+-- What skipping leaves.
+use Rattle.fit_report.proofs.Common.{◌≡◌, ℕ, ◌+◌, List, [], ◌++◌, length, take, drop, map, reverse, None, refl, sym, ap, ◌∙◌, subst, arith, append_assoc}
+use Rattle.fit_report.proofs.Common.{append-nil, length-drop, reverse-append, reverse-reverse, Record, Seen, fed, Event, AreEvents, item, Lines, text_of, Skips}
+use Rattle.fit_report.proofs.Common.{hear_records, take-add}
 
 pub records_heard : {A : Type 0} (bytes : List ℕ) (records : List (Record A)) (heard : List (Event A)) → AreEvents bytes (reverse heard ++ map item records)
     → AreEvents bytes (reverse (hear_records records heard))
 records_heard bytes records heard are =
     subst (AreEvents bytes) (sym (reverse-append (reverse (map item records)) heard ∙ ap (λ es. reverse heard ++ es) (reverse-reverse (map item records)))) are
 
-pub fed_so : (old new : Seen) (bytes more : List ℕ) → new ≡ record old { bytes = bytes ++ more } → old.refusal ≡ None
-    → new ≡ record { bytes = bytes ++ more; refusal = None }
-fed_so old new bytes more is fresh = is ∙ (λ i. record { bytes = bytes ++ more; refusal = fresh i })
+pub fed_so : (old new : Seen) (piece : List ℕ) (used : ℕ) → new ≡ record old { bytes = old.bytes ++ take used piece } → old.refusal ≡ None
+    → new ≡ fed old piece used
+fed_so old new piece used is fresh = is ∙ (λ i. record { bytes = old.bytes ++ take used piece; refusal = fresh i })
 
-module _ {A R : Type 0} (has_heard : R → List (Event A) → Type 0) (line : Lines A) (old seen mid : Seen) (piece : List ℕ) (at used : ℕ) (before after : R)
-    (p : Skips has_heard line seen mid (drop at piece) before after used)
-    (is : seen ≡ fed old piece at) (within : at ≤ length piece) where
-  pub mid_within : at + used ≤ length piece
-  mid_within = omega (arith, p.within, length-drop at piece, within)
+pub skips_nothing : {A R : Type 0} {has_heard : R → List (Event A) → Type 0} {line : Lines A} {old : Seen} {piece : List ℕ} {reporter : R} {text : List ℕ}
+    → Skips has_heard line old old piece reporter reporter text text 0
+skips_nothing {line = line} {old = old} {text = text} = record {
+  within = omega arith;
+  is_fed = ap (λ (b : List ℕ). record old { bytes = b }) (sym (append-nil old.bytes));
+  refused = λ reason is. (refl, refl, refl, refl);
+  told = λ heard has are. (heard, has, are, [], sym (append-nil text), sym (append-nil (text_of line heard)));
+}
 
-  pub mid_fed : mid ≡ fed old piece (at + used)
-  mid_fed = fed_on old seen mid piece at used is (p.is_fed (ap (λ (v : Seen). v.refusal) is))
+-- Skipped once, and once more in what is left of the piece.
+pub skips_on : {A R : Type 0} {has_heard : R → List (Event A) → Type 0} {line : Lines A} {old mid new : Seen} {piece rest : List ℕ} {at used : ℕ}
+    {before between after : R} {first second third : List ℕ} → Skips has_heard line old mid piece before between first second at → rest ≡ drop at piece
+    → Skips has_heard line mid new rest between after second third used → Skips has_heard line old new piece before after first third (at + used)
+skips_on {line = line} {old = old} {piece = piece} {rest = rest} {at = at} {used = used} {first = first} p left q = record {
+  within = omega (arith, p.within, q.within, ap length left, length-drop at piece);
+  is_fed =
+      q.is_fed ∙ ap (λ (v : Seen). record v { bytes = v.bytes ++ take used rest }) p.is_fed
+      ∙ ap (λ (b : List ℕ). record old { bytes = b })
+      (append_assoc old.bytes (take at piece) (take used rest)
+      ∙ ap (λ (x : List ℕ). old.bytes ++ x) (ap (λ (x : List ℕ). take at piece ++ take used x) left ∙ sym (take-add at used piece)));
+  refused = λ reason is.
+      let a = p.refused reason is in
+      let b = q.refused reason (ap (λ (v : Seen). v.refusal) a.1 ∙ is) in
+      (omega (arith, a.0, b.0), b.1 ∙ a.1, b.2 ∙ a.2, b.3 ∙ a.3);
+  told = λ heard has are.
+      let a = p.told heard has are in
+      let b = q.told a.0 a.1 a.2 in (
+        b.0,
+        b.1,
+        b.2,
+        a.3 ++ b.3,
+        b.4 ∙ ap (λ t. t ++ b.3) a.4 ∙ append_assoc first a.3 b.3,
+        b.5 ∙ ap (λ t. t ++ b.3) a.5 ∙ append_assoc (text_of line heard) a.3 b.3,
+      );
+}
 
-  pub mid_told : (heard : List (Event A)) × has_heard before heard × AreEvents seen.bytes (reverse heard)
-      → (heard : List (Event A)) × has_heard after heard × AreEvents mid.bytes (reverse heard)
-  mid_told (heard, has, are) = let t = p.told heard has are in (t.0, t.1, t.2)
-
-  pub mid_stands : (start now : Option (List ℕ)) (written : ℕ)
-      → (heard : List (Event A)) × has_heard before heard × HasReported line seen.bytes heard start now written
-      → (heard : List (Event A)) × has_heard after heard × HasReported line mid.bytes heard start now written
-  mid_stands start now written (heard, has, s) =
-      let t = p.told heard has s.are in (
-        t.0,
-        t.1,
-        record {
-          are = t.2;
-          put = subst (Appends start now) (sym t.3) s.put;
-          counted =
-              s.counted ∙ ap (λ (text : List ℕ). min (length text) (2 ^ 64 - 1)) (sym t.3);
-        },
-      )
-
--- nothing fed is all that was there
-pub none_fed : (old : Seen) → old.refusal ≡ None → old ≡ record { bytes = old.bytes ++ []; refusal = None }
-none_fed old fresh = λ i. record { bytes = sym (append-nil old.bytes) i; refusal = fresh i }
+-- What was skipped was heard, and `put` is the text of it where no text stood before.
+pub skips_heard : {A R : Type 0} {has_heard : R → List (Event A) → Type 0} {line : Lines A} {old new : Seen} {piece : List ℕ} {used : ℕ} {before after : R}
+    {first text : List ℕ} → Skips has_heard line old new piece before after first text used → first ≡ [] → (put : List ℕ) → put ≡ text
+    → (heard : List (Event A)) → has_heard before heard → AreEvents old.bytes (reverse heard)
+    → (now : List (Event A)) × has_heard after now × AreEvents new.bytes (reverse now) × (text_of line now ≡ text_of line heard ++ put)
+skips_heard {line = line} p none put is heard has are =
+    let t = p.told heard has are in
+    (t.0, t.1, t.2, t.5 ∙ ap (λ x. text_of line heard ++ x) (sym (is ∙ t.4 ∙ ap (λ x. x ++ t.3) none)))

@@ -1,58 +1,59 @@
 -- The text of what was heard, in a sink.
-use Rattle.fit_report.proofs.Common.{◌≡◌, ℕ, ◌+◌, ◌-◌, ◌^◌, ◌<◌, min, true, List, [], ◌++◌, length, take, reverse, Option, Some, None, refl, sym, ap, ◌∙◌}
-use Rattle.fit_report.proofs.Common.{subst, arith, length-append, Appends, Keeps, append-nil, take-append-add, Answer, Event, AreEvents, Lines}
-use Rattle.fit_report.proofs.Common.{hear, line_of, text_of, Tells, TextFailsIn, HasReported}
+use Rattle.fit_report.proofs.Common.{◌≡◌, ℕ, ◌+◌, List, [], ◌++◌, length, take, reverse, Option, Some, None, Ok, Err, sym, ap, subst, arith, length-append}
+use Rattle.fit_report.proofs.Common.{Appends}
+use Rattle.fit_report.proofs.Common.{append-nil, take-append-add, Answer, Event, AreEvents, ReportFault, Decode, NoMemory, Write, Lines, hear, line_of, text_of}
+use Rattle.fit_report.proofs.Common.{refl, ◌∙◌, Channel, Stands, Puts, Stops}
 use Rattle.fit_chain.specs.declared.event.Event.TheVariants as answers
 use Rattle.fit_encode.proofs.Written.{Appends-on}
-
-pub Appends-keeps : (a b c : Option (List ℕ)) (p : List ℕ) → Appends a b p → Keeps b c → Appends a c p
-Appends-keeps None b c p h k = tt
-Appends-keeps (Some x) None c p h k = absurd h
-Appends-keeps (Some x) (Some y) None p h k = absurd k
-Appends-keeps (Some x) (Some y) (Some z) p h k = k ∙ h
 
 pub Appends-nothing : (a : Option (List ℕ)) → Appends a a []
 Appends-nothing None = tt
 Appends-nothing (Some x) = sym (append-nil x)
 
-pub text-hear : {A : Type 0} (line : Lines A) (heard : List (Event A)) (answer : Answer A)
+text-hear : {A : Type 0} (line : Lines A) (heard : List (Event A)) (answer : Answer A)
     → text_of line (hear answer heard) ≡ text_of line heard ++ line_of line heard answer
 text-hear line heard answers.More = sym (append-nil (text_of line heard))
 text-hear line heard (answers.Header h n) = refl
 text-hear line heard (answers.Item r) = refl
 text-hear line heard answers.FileEnd = refl
 
-most : ℕ
-most = 18446744073709551615
+-- `put` is the text of an answer where no text stood before.
+pub text_told : {A : Type 0} (line : Lines A) (heard : List (Event A)) (answer : Answer A) (first text put : List ℕ) → first ≡ []
+    → text ≡ first ++ line_of line heard answer → put ≡ text → text_of line (hear answer heard) ≡ text_of line heard ++ put
+text_told line heard answer first text put none told is =
+    text-hear line heard answer ∙ ap (λ t. text_of line heard ++ t) (sym (is ∙ told ∙ ap (λ t. t ++ line_of line heard answer) none))
 
-module _ {A : Type 0} (line : Lines A) (bytes : List ℕ) (heard : List (Event A)) (start mid : Option (List ℕ)) (written : ℕ)
-    (s : HasReported line bytes heard start mid written) where
-  -- an answer more
-  pub stands_on : (answer : Answer A) (more : List ℕ) (now : Option (List ℕ)) (count : ℕ) → AreEvents more (reverse (hear answer heard))
-      → Appends mid now (line_of line heard answer)
-      → count ≡ min (written + length (line_of line heard answer)) (2 ^ 64 - 1) → HasReported line more (hear answer heard) start now count
-  stands_on answer more now count are put counted = record {
+-- A text was put, or in part, of events behind those that were told.
+module _ {A R : Type 0} {has_heard : R → List (Event A) → Type 0} {line : Lines A} {before : R} {bytes : List ℕ} {start : Option (List ℕ)} {old : ℕ}
+    (sink : Channel) (s : Stands has_heard line before bytes start sink.before old) (now : List (Event A)) (text : List ℕ)
+    (is : text_of line now ≡ text_of line s.heard ++ text) where
+  pub stands_on : (after : R) (more : List ℕ) (new : ℕ) → has_heard after now → AreEvents more (reverse now) → Puts text sink old new (Ok tt)
+      → Stands has_heard line after more start sink.after new
+  stands_on after more new has are (put, counted) = record {
+    heard = now;
+    has = has;
     are = are;
-    put = subst (Appends start now) (sym (text-hear line heard answer))
-        (Appends-on start mid now (text_of line heard) (line_of line heard answer) s.put put);
-    counted = omega (arith, s.counted, counted, ap length (text-hear line heard answer), length-append (text_of line heard) (line_of line heard answer));
+    put = subst (Appends start sink.after) (sym is) (Appends-on start sink.before sink.after (text_of line s.heard) text s.put put);
+    counted = omega (arith, s.counted, counted, ap length is, length-append (text_of line s.heard) text);
   }
 
-  -- the sink has failed in the text of an answer
-  pub fails_on : (answer : Answer A) (now : Option (List ℕ)) (failed : _) (n count : ℕ) → failed ≡ true → n < length (line_of line heard answer)
-      → Appends mid now (take n (line_of line heard answer))
-      → count ≡ min (written + n) (2 ^ 64 - 1) → TextFailsIn (text_of line (hear answer heard)) (record { before = start; after = now; failed = failed }) count
-  fails_on answer now failed n count bad short put counted =
-      let old : List ℕ = text_of line heard in
-      let new : List ℕ = line_of line heard answer in
-      let front : take (length old + n) (old ++ new) ≡ old ++ take n new = take-append-add old new n in (
-        bad,
-        length old + n,
-        omega (arith, short, ap length (text-hear line heard answer), length-append old new),
-        subst (λ t. Appends start now (take (length old + n) t)) (sym (text-hear line heard answer))
-            (subst (Appends start now) (sym front) (Appends-on start mid now old (take n new) s.put put)),
-        omega (arith, s.counted, counted),
+  pub stops_in : (after : R) (piece : List ℕ) (used new : ℕ) (fault : ReportFault) → AreEvents (bytes ++ take used piece) (reverse now)
+      → Puts text sink old new (Err fault)
+      → Stops has_heard line bytes piece after (record sink { before = start }) fault
+  stops_in after piece used new (Decode fault) are none = absurd none
+  stops_in after piece used new NoMemory are none = absurd none
+  stops_in after piece used new (Write count) are (bad, n, short, put, counted) =
+      let told : List ℕ = text_of line s.heard in (
+        used,
+        now,
+        are,
+        (
+          bad,
+          length told + n,
+          omega (arith, short, ap length is, length-append told text),
+          subst (λ t. Appends start sink.after (take (length told + n) t)) (sym is)
+              (subst (Appends start sink.after) (sym (take-append-add told text n))
+              (Appends-on start sink.before sink.after told (take n text) s.put put)),
+          omega (arith, s.counted, counted),
+        ),
       )
-
-  pub tells : (now : Option (List ℕ)) (failed : _) → Keeps mid now → Tells line bytes heard (record { before = start; after = now; failed = failed })
-  tells now failed keeps = (s.are, Appends-keeps start mid now (text_of line heard) s.put keeps)

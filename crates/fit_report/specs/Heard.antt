@@ -1,11 +1,11 @@
 -- What a reporter hears, and the text of it. Events are listed with the latest first.
-use Rattle.std.specs.Prelude.{◌≡◌, ℕ, ◌≤◌, List, [], ◌∷◌, ◌++◌, None, Some, length, map, reverse}
+use Rattle.std.specs.Prelude.{◌≡◌, ℕ, ◌≤◌, List, [], ◌∷◌, ◌++◌, Some, length, map, reverse, take}
 use Rattle.std.specs.Option.{option_map_or}
 use Rattle.fit_frame.specs.declared.reason.Reason.{Reason}
 use Rattle.fit_record.specs.declared.message.Record.{Record}
 use Rattle.fit_record.specs.Files.{chain_limit, IsViable}
 use Rattle.fit_chain.specs.declared.event.Event.{Event as Answer}
-use Rattle.fit_decode.specs.Answers.{Seen, fed, event_of}
+use Rattle.fit_decode.specs.Answers.{Seen, event_of}
 use Rattle.fit_chain.specs.Events.{Event, header, item, file_end, AreEvents}
 
 -- what is heard behind an answer of a decoder
@@ -44,16 +44,16 @@ text_of line (x ∷ heard) = text_of line heard ++ line heard x
 
 -- ---- skipping
 
--- The first bytes of a piece, so many, are fed, and what was heard is now the events of all bytes fed. The new ones have no text.
--- After a refusal nothing is skipped, and nothing changes.
-pub record Skips {A R : Type 0} (has_heard : R → List (Event A) → Type 0) (line : Lines A) (old new : Seen) (piece : List ℕ) (before after : R) (used : ℕ) :
-    Type 0 where
+-- The first bytes of a piece, so many, are fed, and what was heard is now the events of all bytes fed. The text of the new ones
+-- stands after the old text. After a refusal nothing is skipped, and nothing changes.
+pub record Skips {A R : Type 0} (has_heard : R → List (Event A) → Type 0) (line : Lines A) (old new : Seen) (piece : List ℕ) (before after : R)
+    (old_text new_text : List ℕ) (used : ℕ) : Type 0 where
   pub within : used ≤ length piece
-  pub is_fed : old.refusal ≡ None → new ≡ fed old piece used
-  pub refused : (reason : Reason) → old.refusal ≡ Some reason → (used ≡ 0) × (new ≡ old) × (after ≡ before)
-  pub viable : IsViable A chain_limit new.bytes
+  pub is_fed : new ≡ record old { bytes = old.bytes ++ take used piece }
+  pub refused : (reason : Reason) → old.refusal ≡ Some reason → (used ≡ 0) × (new ≡ old) × (after ≡ before) × (new_text ≡ old_text)
   pub told : (heard : List (Event A)) → has_heard before heard → AreEvents old.bytes (reverse heard)
-      → (now : List (Event A)) × has_heard after now × AreEvents new.bytes (reverse now) × (text_of line now ≡ text_of line heard)
+      → (now : List (Event A)) × has_heard after now × AreEvents new.bytes (reverse now)
+      × (put : List ℕ) × (new_text ≡ old_text ++ put) × (text_of line now ≡ text_of line heard ++ put)
 
 -- ---- for a list of answers. No public contract names this.
 

@@ -1,5 +1,5 @@
 //! What makes text of events.
-ghost use Rattle.std.specs.Prelude.{◌≡◌, ◌++◌, [], ℕ, List, OnOk, reverse};
+ghost use Rattle.std.specs.Prelude.{◌≡◌, ◌++◌, [], ℕ, ◌≤◌, List, IfOk, OnOk, OnErr, length, reverse, take};
 ghost use Rattle.std.specs.Global.{Global};
 ghost use Rattle.fit_record.specs.Files.{chain_limit, IsViable};
 ghost use Rattle.fit_chain.specs.Events.{Event as Told, AreEvents};
@@ -30,17 +30,29 @@ pub trait Report {
             → AreHeard (hear event.now heard)
             → text.new.items ≡ text.old.items ++ line_of line heard event.now) };
 
-    /// Skips bytes at the front of the piece whose events it doesn't need one by one, and which have no text. Returns how many
-    /// bytes were used, all of them fed to the decoder. After a refusal nothing is skipped.
+    /// Skips bytes at the front of the piece whose events it doesn't need one by one, and puts the text of these events after the
+    /// old text. Returns how many bytes were used, all of them fed to the decoder. After a refusal nothing is skipped.
+    ///
+    /// Out of memory, some first bytes of the piece were fed, the text is of no use, and the reporter gets no further event.
     ///
     /// A reporter that needs each event leaves this method out, and skips nothing.
-    fn skip(&mut self, decoder: &mut Decoder, piece: &[u8]) -> usize
+    fn skip(
+        &mut self,
+        decoder: &mut Decoder,
+        piece: &[u8],
+        text: &mut Vec<u8>,
+    ) -> Result<usize, AllocError>
         requires told { (heard : List (Told Global)) × has_heard self.old heard
             × AreEvents decoder.old.bytes (reverse heard) }
         requires viable { IsViable Global chain_limit decoder.old.bytes }
-        ensures { Skips has_heard line decoder.old decoder.new piece.now self.old self.new result }
+        ensures skips { IfOk result (λ used. Skips has_heard line decoder.old decoder.new piece.now
+            self.old self.new text.old.items text.new.items used) }
+        ensures memory { OnErr result ((k : ℕ) × (k ≤ length piece.now)
+            × (decoder.new ≡ record decoder.old
+            { bytes = decoder.old.bytes ++ take k piece.now })) }
+        ensures viable { IsViable Global chain_limit decoder.new.bytes }
     {
-        0usize
+        Ok(0)
     }
 }
 

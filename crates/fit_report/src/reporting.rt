@@ -1,41 +1,26 @@
 //! Passes the events of a source's bytes to a reporter, and its text to a sink.
-ghost use Rattle.std.specs.Prelude.{◌≡◌, ℕ, [], List, OnOk, Option, None, Some, flat_map, reverse};
+ghost use Rattle.std.specs.Prelude.{◌≡◌, ◌++◌, ℕ, ◌<◌, ◌≤◌, [], List, IfOk, OnOk, Option, None, Some, flat_map, length, reverse};
 ghost use Rattle.std.specs.Global.{Global};
 ghost use Rattle.fit_base.specs.Numbers.{IsBytes};
 ghost use Rattle.fit_record.specs.declared.file.FitFile.{FitFile};
 ghost use Rattle.fit_record.specs.Files.{chain_limit, IsChain, IsViable};
 ghost use Rattle.fit_chain.specs.Events.{Event as Told, AreEvents, file_events};
-ghost use Rattle.fit_report.specs.Heard.{AreHeard, hear};
-ghost use Rattle.fit_report.specs.Reports.{HasHeard, Reports, ReportsChain, channel};
-ghost use Rattle.fit_report.specs.inner.Passing.{Passed, PieceTold, HasReported};
+ghost use Rattle.fit_decode.specs.Answers.{fed};
+ghost use Rattle.fit_report.specs.Heard.{Skips};
+ghost use Rattle.fit_report.specs.Reports.{Reports, ReportsChain, channel};
+ghost use Rattle.fit_report.specs.inner.Passing.{Passes, Puts, Stands};
 
 use crate::{Report, ReportFault};
-use fit_decode::{Decoder, Event, Fault, PIECE_SIZE, Source};
+use fit_decode::{Decoder, Fault, Fed, PIECE_SIZE, Source};
 use fit_encode::{Sink, put_all};
-use std::alloc::Global;
+use std::alloc::{AllocError, Global};
 
-/// Tells an event to a reporter, and puts its text in the sink, where `written` bytes of text were put before.
-fn pass_on<K: Sink, R: Report>(
-    reporter: &mut R,
-    sink: &mut K,
-    text: &mut Vec<u8>,
-    written: &mut u64,
-    event: Event,
-) -> Result<(), ReportFault>
-    requires { (heard : List (Told Global)) × R.has_heard reporter.old heard
-        × AreHeard (hear event heard) }
-    ensures heard { OnOk result ((heard : List (Told Global)) → R.has_heard reporter.old heard
-        → AreHeard (hear event heard) → R.has_heard reporter.new (hear event heard)) }
-    ensures passed { (heard : List (Told Global)) → R.has_heard reporter.old heard
-        → AreHeard (hear event heard)
-        → Passed R.line heard event (channel K.contents K.has_failed sink.old sink.new)
+/// Puts a text in the sink, where `written` bytes of text were put before.
+fn put_text<K: Sink>(sink: &mut K, text: &[u8], written: &mut u64) -> Result<(), ReportFault>
+    ensures { Puts text.now (channel K.contents K.has_failed sink.old sink.new)
         written.old written.new result }
 {
-    text.clear();
-    if reporter.tell(&event, text).is_err() {
-        return Err(ReportFault::NoMemory);
-    }
-    match put_all(sink, text.as_slice()) {
+    match put_all(sink, text) {
         Ok(()) => {
             *written = written.saturating_add(text.len() as u64);
             Ok(())
@@ -46,7 +31,90 @@ fn pass_on<K: Sink, R: Report>(
     }
 }
 
-/// Feeds a piece, and passes on what it tells.
+/// Skips at the front of a piece, again and again until a skip uses nothing, and puts the text after the old text. Returns how
+/// many bytes were used.
+fn skip_all<R: Report>(
+    decoder: &mut Decoder,
+    reporter: &mut R,
+    text: &mut Vec<u8>,
+    piece: &[u8],
+) -> Result<usize, AllocError>
+    requires told { (heard : List (Told Global)) × R.has_heard reporter.old heard
+        × AreEvents decoder.old.bytes (reverse heard) }
+    requires viable { IsViable Global chain_limit decoder.old.bytes }
+    ensures skips { IfOk result (λ used. Skips R.has_heard R.line decoder.old decoder.new piece.now
+        reporter.old reporter.new text.old.items text.new.items used) }
+    ensures viable { IsViable Global chain_limit decoder.new.bytes }
+{
+    let mut at = 0;
+    'skips: loop {
+        let (_, rest) = piece.split_at(at);
+        let used = reporter.skip(decoder, rest, text)?;
+        at += used;
+        if used == 0 {
+            return Ok(at);
+        }
+    }
+}
+
+/// Skips what the reporter skips at the front of a piece, and puts its text. Returns how many bytes were used.
+fn tell_skipped<K: Sink, R: Report>(
+    decoder: &mut Decoder,
+    reporter: &mut R,
+    sink: &mut K,
+    text: &mut Vec<u8>,
+    written: &mut u64,
+    piece: &[u8],
+) -> Result<usize, ReportFault>
+    requires fresh { decoder.old.refusal ≡ None }
+    requires told { (start : Option (List ℕ)) × Stands R.has_heard R.line reporter.old
+        decoder.old.bytes start (K.contents sink.old) written.old }
+    requires viable { IsViable Global chain_limit decoder.old.bytes }
+    ensures used { IfOk result (λ used. (used ≤ length piece.now)
+        × (decoder.new ≡ fed decoder.old piece.now used)) }
+    ensures passes { Passes R.has_heard R.line reporter.old reporter.new
+        decoder.old.bytes piece.now decoder.new.bytes
+        (channel K.contents K.has_failed sink.old sink.new) written.old written.new result }
+    ensures viable { IsViable Global chain_limit decoder.new.bytes }
+{
+    text.clear();
+    let Ok(used) = skip_all(decoder, reporter, text, piece) else {
+        return Err(ReportFault::NoMemory);
+    };
+    put_text(sink, text.as_slice(), written)?;
+    Ok(used)
+}
+
+/// Feeds a piece up to its first event, and tells that. Returns how many bytes were used.
+fn tell_next<K: Sink, R: Report>(
+    decoder: &mut Decoder,
+    reporter: &mut R,
+    sink: &mut K,
+    text: &mut Vec<u8>,
+    written: &mut u64,
+    piece: &[u8],
+) -> Result<usize, ReportFault>
+    requires fresh { decoder.old.refusal ≡ None }
+    requires told { (start : Option (List ℕ)) × Stands R.has_heard R.line reporter.old
+        decoder.old.bytes start (K.contents sink.old) written.old }
+    ensures used { IfOk result (λ used. (used ≤ length piece.now)
+        × (decoder.new ≡ fed decoder.old piece.now used)) }
+    ensures some { IfOk result (λ used. 0 < length piece.now → 0 < used) }
+    ensures passes { Passes R.has_heard R.line reporter.old reporter.new
+        decoder.old.bytes piece.now decoder.new.bytes
+        (channel K.contents K.has_failed sink.old sink.new) written.old written.new result }
+    ensures viable { IsViable Global chain_limit decoder.new.bytes }
+{
+    let Fed { used, event } = decoder.feed(piece)?;
+    text.clear();
+    let Ok(()) = reporter.tell(&event, text) else {
+        return Err(ReportFault::NoMemory);
+    };
+    put_text(sink, text.as_slice(), written)?;
+    Ok(used)
+}
+
+/// Feeds a piece, and tells what it tells.
 fn tell_piece<K: Sink, R: Report>(
     decoder: &mut Decoder,
     reporter: &mut R,
@@ -56,26 +124,22 @@ fn tell_piece<K: Sink, R: Report>(
     piece: &[u8],
 ) -> Result<(), ReportFault>
     requires fresh { decoder.old.refusal ≡ None }
-    requires told { (heard : List (Told Global)) × R.has_heard reporter.old heard
-        × AreEvents decoder.old.bytes (reverse heard) }
+    requires told { (start : Option (List ℕ)) × Stands R.has_heard R.line reporter.old
+        decoder.old.bytes start (K.contents sink.old) written.old }
     requires viable { IsViable Global chain_limit decoder.old.bytes }
-    ensures piece { (start : Option (List ℕ)) (before : List (Told Global))
-        → R.has_heard reporter.old before → HasReported R.line decoder.old.bytes before start
-        (K.contents sink.old) written.old
-        → (heard : List (Told Global)) × HasHeard R.has_heard reporter.new heard result
-        × PieceTold R.line decoder.old.bytes piece.now decoder.new heard
-        (record { before = start; after = K.contents sink.new; failed = K.has_failed sink.new })
-        written.new result }
+    ensures all { OnOk result (decoder.new ≡ record
+        { bytes = decoder.old.bytes ++ piece.now; refusal = None }) }
+    ensures passes { Passes R.has_heard R.line reporter.old reporter.new
+        decoder.old.bytes piece.now decoder.new.bytes
+        (channel K.contents K.has_failed sink.old sink.new) written.old written.new result }
     ensures viable { IsViable Global chain_limit decoder.new.bytes }
 {
     let mut at = 0;
     while at < piece.len() {
         let (_, rest) = piece.split_at(at);
-        at += reporter.skip(decoder, rest);
+        at += tell_skipped(decoder, reporter, sink, text, written, rest)?;
         let (_, rest) = piece.split_at(at);
-        let fed = decoder.feed(rest)?;
-        at += fed.used;
-        pass_on(reporter, sink, text, written, fed.event)?;
+        at += tell_next(decoder, reporter, sink, text, written, rest)?;
     }
     Ok(())
 }

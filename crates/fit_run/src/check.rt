@@ -78,9 +78,14 @@ impl Report for CheckReport {
         }
     }
 
-    fn skip(&mut self, decoder: &mut Decoder, piece: &[u8]) -> usize {
+    fn skip(
+        &mut self,
+        decoder: &mut Decoder,
+        piece: &[u8],
+        text: &mut Vec<u8>,
+    ) -> Result<usize, AllocError> {
         let (used, count) = decoder.skip_records(piece);
         self.records += count;
-        used
+        Ok(used)
     }
 }

@@ -1,16 +1,16 @@
 -- The names of std, of the crates below and of this crate's specs that several proofs use: each proof takes them from here.
 pub use Rattle.std.proofs.Common.{◌≡◌, cond, false, ℕ, ◌+◌, ◌-◌, ◌<◌, List, [], ◌∷◌, ◌++◌, length, length-append, sym, ap, ◌∙◌, arith, Some, None, Ok, ◌↔◌}
 pub use Rattle.std.proofs.Common.{IsTrue, refl, subst, ◌*◌, inl, inr, suc, ◌^◌, true, append_assoc, Err, Bool, ◌/◌, take, length-drop, get_or, ◌⊎◌, ◌%◌, zero}
-pub use Rattle.std.proofs.Common.{set, lit<, rules, IfOk, ◌≤◌, ◌==◌, drop, slice_index}
+pub use Rattle.std.proofs.Common.{set, lit<, rules, ◌≤◌, ◌==◌, drop, slice_index}
 pub use Rattle.std.proofs.Math.ListN.{length-set}
-pub use Rattle.std.proofs.Math.Nat.{suc-mul, div-le_self, mul-le-mul_right}
+pub use Rattle.std.proofs.Math.Nat.{div-le_self, mul-le-mul_right}
 pub use Rattle.std.proofs.Math.Seq.{take-add}
 pub use Rattle.std.proofs.lemmas.Bool.{cond-false, ne_eqb, both_ways, cases_Bool, cases_eq, cases_lt, cond_both, eq-eqb, eqb-true, eqb-false, lt-ltb, le-ltb}
-pub use Rattle.std.proofs.lemmas.Bool.{and_parts, and_cases, or_parts, not-true, not-false, cond-true, le-leb, ltb-true, or_cases, ltb-false, leb-true, lt-leb}
+pub use Rattle.std.proofs.lemmas.Bool.{and_parts, not-true, cond-true, le-leb, ltb-true, or_cases, ltb-false, leb-true, lt-leb}
 pub use Rattle.std.proofs.lemmas.Bool.{or_left, or_right, and_from}
 pub use Rattle.std.proofs.lemmas.Bool.Decides.{nat_tests, eqb_tells}
-pub use Rattle.std.proofs.lemmas.List.{append-nil, flat_map_more, length-map, drop-take, take-take, get_or-append_right, take_more, length-take-le}
-pub use Rattle.std.proofs.lemmas.List.{get_or-set_other, map-append, drop-drop}
+pub use Rattle.std.proofs.lemmas.List.{append-nil, flat_map_more, length-map, take-take, get_or-append_right, take_more, length-take-le}
+pub use Rattle.std.proofs.lemmas.List.{get_or-set_other, map-append}
 pub use Rattle.std.proofs.lemmas.List.Sums.{sum_by-cons, sum_by-append, sum_by-le}
 pub use Rattle.std.proofs.lemmas.Nat.{div-mul-add, le-div}
 pub use Rattle.std.proofs.lemmas.Option.{slice_get_within, get_or_from_slice_get}
@@ -37,8 +37,7 @@ pub use Rattle.fit_record.proofs.WrongPlace.{length-dev_layout}
 pub use Rattle.fit_record.specs.Environment.{Environment, defined_at, learn, dev_defs, only_byte, description, DescribesNothing, empty_environment, learn_all}
 pub use Rattle.fit_record.specs.Environment.{defined_by, describe, described_by, dev_code, dev_key_cmp, first_items, only}
 pub use Rattle.fit_record.specs.Files.{CanFill}
-pub use Rattle.fit_record.specs.HeaderByte.{is_definition, has_reserved_bit, local_type, bit, is_compressed, has_developer_fields}
-pub use Rattle.fit_record.specs.ReadMessages.{numbers_of, field_from, fields_from, values_from}
+pub use Rattle.fit_record.specs.HeaderByte.{is_definition, has_reserved_bit, local_type, bit, has_developer_fields}
 pub use Rattle.fit_record.specs.Records.{order_at, message_size, data_header, DataHeaderFits, data_bytes, record_bytes, Fits, architecture, field_bytes}
 pub use Rattle.fit_record.specs.Records.{dev_field_bytes, dev_part, definition_header, definition_bytes, DefinitionFits, layout, dev_layout, sizes, DataFits}
 pub use Rattle.fit_record.specs.Records.{HaveShape, AllFit, records_bytes, IsRecord, body_length}
@@ -69,7 +68,7 @@ pub use Rattle.fit_step.specs.Parts.{IsDefinitionPart, IsShut, RecordPart, nothi
 pub use Rattle.fit_step.specs.Parts.{width_of, all_items, IsTaking, HasBegun}
 pub use Rattle.fit_step.specs.Places.{state_at, Steps, TakesNone, WantsNone, PartFitsRoom, KeepsPart, Begins}
 pub use Rattle.fit_step.specs.Reasons.{definition_reason, overrun_or_no_fit, record_reason, least_definition}
-pub use Rattle.fit_step.specs.Skipping.{AreSkipped, size_to_skip, AreSizesToSkip, HeadsMessage, IsSkipped}
+pub use Rattle.fit_step.specs.Skipping.{HasMessage, AreSkipped, size_to_skip, AreSizesToSkip, HeadsMessage, IsSkipped, IsSkippedMessage, Learns, SkipsInSection}
 pub use Rattle.fit_step.specs.Tests.{tests_of, entries_complete}
 pub use Rattle.fit_step.specs.declared.phase.DefinitionPhase.{DefinitionPhase}
 pub use Rattle.fit_step.specs.declared.phase.DefinitionPhase.TheVariants.{Reserved, Architecture as AtArchitecture, GlobalFirst, GlobalSecond, FieldCount}

@@ -1,21 +1,18 @@
 -- A record header.
 use Rattle.fit_step.proofs.Common.{◌≡◌, inl, inr, ℕ, ◌+◌, ◌-◌, ◌<◌, Bool, true, false, cond, List, [], ◌∷◌, length, refl, sym, ap, ◌∙◌, arith, Some, None}
-use Rattle.fit_step.proofs.Common.{Option, IsSomeAnd, nat_lt, cases_Bool, both_ways, ltb-true, NoFit, ReservedBit, UndefinedLocal, Overrun, MessageDef, Values}
+use Rattle.fit_step.proofs.Common.{Option, nat_lt, cases_Bool, both_ways, ltb-true, NoFit, ReservedBit, UndefinedLocal, Overrun, MessageDef, Values}
 use Rattle.fit_step.proofs.Common.{Defined, Define, Data, Reserved, Environment, defined_at, is_definition, has_developer_fields, has_reserved_bit, local_type}
-use Rattle.fit_step.proofs.Common.{definition_header, definition_bytes, DefinitionFits, data_header, data_bytes, DataFits, order_at, layout, least_definition}
+use Rattle.fit_step.proofs.Common.{definition_header, definition_bytes, DefinitionFits, order_at, layout, least_definition}
 use Rattle.fit_step.proofs.Common.{message_size, Tests, step, header_move, message_move, start, new_definition, new_message, in_definition, IsShut, ◌≤◌}
 use Rattle.fit_step.proofs.Common.{dev_length, length-data, Ok, Err, option_map, nat_le, ◌&&◌, option_map_or, cond-true, cond-false, lt-ltb, le-ltb, le-leb}
 use Rattle.fit_step.proofs.Common.{dev_layout, can_fill, can_carry, Phase, message_begun, entered, Step, begin_fields, tests_of}
 use Rattle.fit_record.proofs.RecordLengths.{length-definition}
-use Rattle.fit_step.proofs.HeaderBits.{definition_spelled, data_spelled, DefinitionBits, definition_bits, DataBits, data_bits, is_some_dev}
+use Rattle.fit_step.proofs.HeaderBits.{definition_spelled, data_spelled, DefinitionBits, definition_bits, is_some_dev}
 use Rattle.fit_step.proofs.MessageSteps.{fields_begin}
+pub use Rattle.fit_record.proofs.DataHeaders.{Messages, message_first}
 use Rattle.fit_step.proofs.Outcomes.{Outcome}
 
 -- ---- what a record says of its first byte
-
-pub data_header_fits : {A : Type 0} (o : Option (Defined A)) (v : Values A) → IsSomeAnd o (DataFits v) → (p : Defined A) × (o ≡ Some p) × DataFits v p
-data_header_fits None v h = absurd h
-data_header_fits (Some p) v h = (p, refl, h)
 
 -- a definition begins with this byte
 pub record Definitions {A : Type 0} (b : ℕ) (rest : List ℕ) (d : MessageDef A) : Type 0 where
@@ -29,21 +26,6 @@ definition_first d b rest h e =
     let first : definition_header d ≡ b = cc in
     let others : definition_bytes d ≡ rest = cc in
     record { bits = definition_bits b d.local d.dev (sym first) h.local; header = first; tail = others }
-
-pub record Messages {A : Type 0} (e : Environment A) (b : ℕ) (rest : List ℕ) (v : Values A) : Type 0 where
-  pub bits : DataBits b v.local
-  pub place : Defined A
-  pub known : defined_at e v.local ≡ Some place
-  pub fits : DataFits v place
-  pub tail : data_bytes (order_at e v.local) v ≡ rest
-
-pub message_first : {A : Type 0} (e : Environment A) (v : Values A) (b : ℕ) (rest : List ℕ) → IsSomeAnd (defined_at e v.local) (DataFits v)
-    → data_header v.local v.offset ∷ data_bytes (order_at e v.local) v ≡ b ∷ rest → Messages e b rest v
-message_first e v b rest h s =
-    let first : data_header v.local v.offset ≡ b = cc in
-    let others : data_bytes (order_at e v.local) v ≡ rest = cc in
-    let k = data_header_fits (defined_at e v.local) v h in
-    record { bits = data_bits b v.local v.offset (sym first) k.2.header; place = k.0; known = k.1; fits = k.2; tail = others }
 
 -- ---- where it is refused
 

@@ -22,7 +22,6 @@ pub mod Kept
 pub mod BytesInsideNumbers
 pub mod TakenAndRefusedBytes
 pub mod Undoing
-pub mod Gathering
 pub mod WholeMessage
 pub mod ReadDefinitions
 pub mod SkippedRecords

@@ -1,28 +1,36 @@
 -- Records that are skipped.
-use Rattle.std.specs.Prelude.{◌≡◌, ◌⊎◌, ℕ, ◌+◌, ◌-◌, ◌==◌, if◌then◌else◌, false, List, [], ◌∷◌, ◌<◌, ◌≤◌, take, length, slice_index, Option}
+use Rattle.std.specs.Prelude.{◌≡◌, ◌⊎◌, ℕ, ◌+◌, ◌-◌, ◌==◌, if◌then◌else◌, false, List, [], ◌∷◌, ◌<◌, ◌≤◌, take, length, slice_index, Option, IfSome}
 use Rattle.std.specs.Option.{option_map_or}
+use Rattle.fit_record.specs.declared.message.Values.{Values}
 use Rattle.fit_record.specs.declared.message.Record.{Record}
-use Rattle.fit_record.specs.Environment.{Environment, defined_at, learn, learn_all}
+use Rattle.fit_record.specs.declared.message.Record.TheVariants.{Values as Data}
+use Rattle.fit_record.specs.Environment.{Environment, defined_at, definition_at, learn, learn_all}
 use Rattle.fit_record.specs.HeaderByte.{has_reserved_bit, is_definition, local_type}
 use Rattle.fit_record.specs.Records.{AreRecords, IsRecord, message_size}
 use Rattle.fit_step.specs.declared.position.Position.{Position}
 use Rattle.fit_step.specs.InProgress.{IsInProgress}
 
--- The bytes are those of that many records, and with them what is known becomes `after`.
-abbrev pub AreSkipped : {A : Type 0} → Environment A → Environment A → List ℕ → ℕ → Type 0
-AreSkipped {A} e after bytes count = (records : List (Record A)) × AreRecords e records bytes × (learn_all e records ≡ after) × (length records ≡ count)
+-- The bytes are those of the records, and with them what is known becomes `after`.
+abbrev pub Learns : {A : Type 0} → Environment A → Environment A → List ℕ → List (Record A) → Type 0
+Learns e after bytes records = AreRecords e records bytes × (learn_all e records ≡ after)
 
--- Nothing was skipped; or no byte of a record had come, that many records have the bytes used, and at least six bytes of the room are
+-- Nothing was skipped; or no byte of a record had come, the bytes used are those of the records, and at least six bytes of the room are
 -- to come behind them.
-abbrev pub SkipsRecords : {A : Type 0} → Environment A → Environment A → ℕ → List ℕ → Position → Position → Option (Record A) → List ℕ → ℕ → ℕ → Type 0
-SkipsRecords old new room bytes before after in_progress piece used count =
-    ((used ≡ 0) × (count ≡ 0) × (new ≡ old) × (after ≡ before))
-    ⊎ ((bytes ≡ []) × (used + 6 ≤ room) × AreSkipped old new (take used piece) count × IsInProgress new (room - used) [] after in_progress)
+abbrev pub SkipsRecords : {A : Type 0} → Environment A → Environment A → ℕ → List ℕ → Position → Position → Option (Record A) → List ℕ → ℕ → List (Record A)
+    → Type 0
+SkipsRecords old new room bytes before after in_progress piece used records =
+    ((used ≡ 0) × (records ≡ []) × (new ≡ old) × (after ≡ before))
+    ⊎ ((bytes ≡ []) × (used + 6 ≤ room) × Learns old new (take used piece) records × IsInProgress new (room - used) [] after in_progress)
 
 -- the same, whatever has come
-abbrev pub SkipsInSection : {A : Type 0} → Environment A → Position → Option (Record A) → Environment A → Position → List ℕ → ℕ → ℕ → Type 0
-SkipsInSection old before in_progress new after piece used count =
-    (room : ℕ) (bytes : List ℕ) → IsInProgress old room bytes before in_progress → SkipsRecords old new room bytes before after in_progress piece used count
+abbrev pub SkipsInSection : {A : Type 0} → Environment A → Position → Option (Record A) → Environment A → Position → List ℕ → ℕ → List (Record A) → Type 0
+SkipsInSection old before in_progress new after piece used records =
+    (room : ℕ) (bytes : List ℕ) → IsInProgress old room bytes before in_progress → SkipsRecords old new room bytes before after in_progress piece used records
+
+-- A data message of this size stands at the front of the bytes, and is no field description.
+abbrev pub HasMessage : {A : Type 0} → Environment A → List ℕ → ℕ → Type 0
+HasMessage {A} e bytes size =
+    (v : Values A) × (size ≤ length bytes) × IsRecord e (Data v) (take size bytes) × IfSome (definition_at e v.local) (λ d. d.global ≡ 206 → ⊥)
 
 -- ---- for private functions
 
@@ -38,7 +46,15 @@ AreSizesToSkip e sizes = (local : ℕ) → local < 16 → slice_index sizes loca
 abbrev pub IsSkipped : {A : Type 0} → Environment A → Environment A → List ℕ → Type 0
 IsSkipped {A} e after bytes = (r : Record A) × IsRecord e r bytes × (learn e r ≡ after)
 
--- The first byte heads a data message, of which the size stands here.
-abbrev pub HeadsMessage : List ℕ → List ℕ → ℕ → Type 0
-HeadsMessage sizes bytes size =
-    (b : ℕ) × (rest : List ℕ) × (bytes ≡ b ∷ rest) × (has_reserved_bit b ≡ false) × (is_definition b ≡ false) × (size ≡ slice_index sizes (local_type b))
+-- They are those of one data message, and what is known stays.
+abbrev pub IsSkippedMessage : {A : Type 0} → Environment A → List ℕ → Type 0
+IsSkippedMessage {A} e bytes = (v : Values A) × IsRecord e (Data v) bytes × (learn e (Data v) ≡ e)
+
+-- They are those of that many records.
+abbrev pub AreSkipped : {A : Type 0} → Environment A → Environment A → List ℕ → ℕ → Type 0
+AreSkipped {A} e after bytes count = (records : List (Record A)) × Learns e after bytes records × (length records ≡ count)
+
+-- The first byte heads a data message of this local message type.
+abbrev pub HeadsMessage : List ℕ → ℕ → Type 0
+HeadsMessage bytes local =
+    (b : ℕ) × (rest : List ℕ) × (bytes ≡ b ∷ rest) × (has_reserved_bit b ≡ false) × (is_definition b ≡ false) × (local ≡ local_type b)

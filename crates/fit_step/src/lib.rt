@@ -27,5 +27,5 @@ pub use partial::Partial;
 pub use phase::{DefinitionPhase, Phase};
 pub use position::Position;
 pub use record_reader::read_record;
-pub use skipping::skip_in_section;
+pub use skipping::{skip_in_section, skip_message_in_section};
 pub use stop::Stop;

@@ -1,7 +1,9 @@
 //! Records that a reader skips: it counts them and learns their definitions, and makes no record of data messages.
-ghost use Rattle.std.specs.Prelude.{◌≡◌, ℕ, ◌<◌, ◌≤◌, false, ◌∷◌, List, length, slice_index, take};
-ghost use Rattle.fit_record.specs.HeaderByte.{has_reserved_bit, is_definition, local_type};
-ghost use Rattle.fit_step.specs.Skipping.{size_to_skip, AreSizesToSkip, HeadsMessage, IsSkipped, AreSkipped, SkipsInSection};
+ghost use Rattle.std.specs.Prelude.{◌≡◌, ℕ, ◌<◌, ◌≤◌, ◌+◌, IfSome, None, List, [], ◌∷◌, length, slice_index, take};
+ghost use Rattle.fit_record.specs.declared.message.Values.{Values};
+ghost use Rattle.fit_record.specs.declared.message.Record.{Record};
+ghost use Rattle.fit_record.specs.declared.message.Record.TheVariants.{Values as Data};
+ghost use Rattle.fit_step.specs.Skipping.{size_to_skip, AreSizesToSkip, HeadsMessage, HasMessage, IsSkipped, IsSkippedMessage, AreSkipped, SkipsInSection};
 
 use crate::Position;
 use crate::header::{has_reserved_bit, is_definition, local_type};
@@ -37,18 +39,29 @@ fn sizes_to_skip<A: Allocator>(env: &Env<A>) -> [u32; 16]
     sizes
 }
 
+/// The local message type of the data message that the first byte heads, if it heads one.
+#[inline]
+fn message_type(bytes: &[u8]) -> Option<u8>
+    ensures heads { IfSome result (HeadsMessage bytes.now) }
+    ensures none { result ≡ None → (local : ℕ) → HeadsMessage bytes.now local → ⊥ }
+{
+    let byte = *bytes.first()?;
+    if has_reserved_bit(byte) || is_definition(byte) {
+        return None;
+    }
+    Some(local_type(byte))
+}
+
 /// How many bytes the data message has that begins these bytes, where it may be skipped and all of it stands there, or else 0.
 fn message_to_skip(sizes: &[u32; 16], bytes: &[u8]) -> usize
     ensures within { result ≤ length bytes.now }
-    ensures heads { 0 < result → HeadsMessage sizes.now bytes.now result }
+    ensures heads { 0 < result → (local : ℕ) × HeadsMessage bytes.now local
+        × (result ≡ slice_index sizes.now local) }
 {
-    let Some(byte) = bytes.first() else {
+    let Some(local) = message_type(bytes) else {
         return 0;
     };
-    if has_reserved_bit(*byte) || is_definition(*byte) {
-        return 0;
-    }
-    let size = sizes[local_type(*byte) as usize] as usize;
+    let size = sizes[local as usize] as usize;
     if size > bytes.len() {
         return 0;
     }
@@ -122,6 +135,22 @@ fn skip_records<A: Allocator + Copy>(alloc: A, env: &mut Env<A>, bytes: &[u8]) -
     (used, bytes.len() as u64)
 }
 
+/// How many bytes the data message has that begins these bytes, where it may be skipped and all of it stands there, or else 0.
+fn next_message<A: Allocator>(env: &Env<A>, bytes: &[u8]) -> usize
+    ensures within { result ≤ length bytes.now }
+    ensures message { 0 < result → IsSkippedMessage env.now (take result bytes.now) }
+    ensures whole { (size : ℕ) → HasMessage env.now bytes.now size → result ≡ size }
+{
+    let Some(local) = message_type(bytes) else {
+        return 0;
+    };
+    let size = size_to_skip(env, local) as usize;
+    if size > bytes.len() {
+        return 0;
+    }
+    size
+}
+
 /// Skips complete records at the front of the piece, where a record begins and at least six bytes of the data section are to come
 /// after them: how many bytes they have, and how many they are. What they define is learned.
 ///
@@ -134,8 +163,9 @@ pub fn skip_in_section<A: Allocator + Copy>(
     piece: &[u8],
 ) -> (usize, u64)
     ensures within { result.0 ≤ length piece.now }
-    ensures skips { SkipsInSection env.old position.old in_progress.now env.new position.new
-        piece.now result.0 result.1 }
+    ensures skips { (records : List (Record A)) × (length records ≡ result.1)
+        × SkipsInSection env.old position.old in_progress.now env.new position.new
+        piece.now result.0 records }
 {
     match in_progress {
         Some(_) => return (0, 0),
@@ -149,4 +179,34 @@ pub fn skip_in_section<A: Allocator + Copy>(
     let (used, count) = skip_records(alloc, env, front);
     *position = Position::new(position.room - used as u32);
     (used, count)
+}
+
+/// Skips the data message at the front of the piece, where a record begins and at least six bytes of the data section are to come
+/// after it: how many bytes it has, or 0 where none is skipped. What is known stays.
+///
+/// None is skipped where `skip_records` would skip none, and before a definition message.
+pub fn skip_message_in_section<A: Allocator + Copy>(
+    env: &Env<A>,
+    position: &mut Position,
+    in_progress: &Option<Record<A>>,
+    piece: &[u8],
+) -> usize
+    ensures within { result ≤ length piece.now }
+    ensures none { result ≡ 0 → position.new ≡ position.old }
+    ensures message { 0 < result → (v : Values A) × SkipsInSection env.now position.old
+        in_progress.now env.now position.new piece.now result (Data v ∷ []) }
+    // One that is all in the piece is skipped, unless it is a field description.
+    ensures whole { in_progress.now ≡ None → (size : ℕ) → HasMessage env.now piece.now size
+        → size + 6 ≤ position.old.room → result ≡ size }
+{
+    match in_progress {
+        Some(_) => return 0,
+        None => {}
+    }
+    let size = next_message(env, piece);
+    if size == 0 || size > position.room.saturating_sub(6) as usize {
+        return 0;
+    }
+    *position = Position::new(position.room - size as u32);
+    size
 }

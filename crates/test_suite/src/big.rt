@@ -4,6 +4,7 @@ use fit_base::base_type::BYTE;
 use fit_decode::{Decoder, Event, Reading, read_chain, read_one};
 use fit_encode::{Encoder, WriteSink, write_chain, write_one};
 use fit_record::{Env, FitFile, Record};
+use std::alloc::Global;
 use std::process::Abort;
 use std::test::Fail;
 use test_known::{LONGEST, longest};
@@ -34,37 +35,81 @@ fn is_longest(rt: &impl Abort, file: &FitFile) {
     }
 }
 
-#[test]
-fn read_and_written(rt: HostRuntime) -> Result<(), Fail> {
-    let alloc = rt.alloc();
+/// The longest message in a file, and its bytes.
+fn read_longest(alloc: Global) -> Result<(Vec<u8>, FitFile), Fail> {
     let bytes = longest(alloc)?;
-    assert_eq!(rt; bytes.len(), 131_604);
     let file = read_one(alloc, &mut bytes.as_slice())?;
+    Ok((bytes, file))
+}
+
+#[test]
+fn read_alone(rt: HostRuntime) -> Result<(), Fail> {
+    let (bytes, file) = read_longest(rt.alloc())?;
+    assert_eq!(rt; bytes.len(), 131_604);
     is_longest(&rt, &file);
-    let mut reading = Reading::new(alloc, bytes.as_slice());
-    match reading.next()? {
-        Some(next) => assert!(rt; next == file),
-        None => assert!(rt; false),
-    }
-    let files = read_chain(alloc, &mut bytes.as_slice())?;
+    Ok(())
+}
+
+#[test]
+fn read_next(rt: HostRuntime) -> Result<(), Fail> {
+    let (bytes, file) = read_longest(rt.alloc())?;
+    let mut reading = Reading::new(rt.alloc(), bytes.as_slice());
+    let next = reading.next()?;
+    assert!(rt; next == Some(file));
+    Ok(())
+}
+
+#[test]
+fn read_as_a_chain(rt: HostRuntime) -> Result<(), Fail> {
+    let (bytes, file) = read_longest(rt.alloc())?;
+    let files = read_chain(rt.alloc(), &mut bytes.as_slice())?;
     assert!(rt; files.as_slice() == std::slice::from_ref(&file));
+    Ok(())
+}
+
+#[test]
+fn written_alone(rt: HostRuntime) -> Result<(), Fail> {
+    let alloc = rt.alloc();
+    let (bytes, file) = read_longest(alloc)?;
     let mut sink = WriteSink::new(Vec::new(alloc));
     write_one(alloc, &mut sink, &file)?;
     assert!(rt; sink.into_inner() == bytes);
+    Ok(())
+}
+
+#[test]
+fn written_as_a_chain(rt: HostRuntime) -> Result<(), Fail> {
+    let alloc = rt.alloc();
+    let (bytes, file) = read_longest(alloc)?;
     let mut sink = WriteSink::new(Vec::new(alloc));
-    write_chain(alloc, &mut sink, files.as_slice())?;
+    write_chain(alloc, &mut sink, std::slice::from_ref(&file))?;
     assert!(rt; sink.into_inner() == bytes);
+    Ok(())
+}
+
+#[test]
+fn encoded(rt: HostRuntime) -> Result<(), Fail> {
+    let alloc = rt.alloc();
+    let (bytes, file) = read_longest(alloc)?;
     let mut sink = WriteSink::new(Vec::new(alloc));
     let mut encoder = Encoder::begin(alloc, &mut sink, &file.header, LONGEST)?;
-    let mut env = Env::new(alloc);
     for record_ in file.records.as_slice() {
         encoder.put(&mut sink, record_)?;
+    }
+    encoder.finish(&mut sink)?;
+    assert!(rt; sink.into_inner() == bytes);
+    Ok(())
+}
+
+#[test]
+fn learned(rt: HostRuntime) -> Result<(), Fail> {
+    let (_, file) = read_longest(rt.alloc())?;
+    let mut env = Env::new(rt.alloc());
+    for record_ in file.records.as_slice() {
         if env.fits(record_).is_ok() {
             env.learn(record_)?;
         }
     }
-    encoder.finish(&mut sink)?;
-    assert!(rt; sink.into_inner() == bytes);
     assert_eq!(rt;
         (env.length(0), env.dev_code(0, 254)),
         (Some(130_050), Some(BYTE))

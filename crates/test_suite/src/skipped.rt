@@ -38,9 +38,33 @@ fn are_alike(rt: &impl Abort, one: &Decoder, other: &Decoder) {
     );
 }
 
+/// What a decoder skips at once.
+#[derive(Clone, Copy)]
+enum Skip {
+    Records,
+    Message,
+}
+
+/// Skips data messages one after another: how many bytes they have, and how many they are.
+fn skip_messages(decoder: &mut Decoder, bytes: &[u8]) -> (usize, u64) {
+    let mut count = 0u64;
+    let mut rest = bytes;
+    for _ in 0..bytes.len() {
+        let used = decoder.skip_message(rest);
+        if used == 0 {
+            break;
+        }
+        count = count.saturating_add(1);
+        let (_, left) = rest.split_at(used);
+        rest = left;
+    }
+    (bytes.len().saturating_sub(rest.len()), count)
+}
+
 /// Gives a piece to two decoders, of which the first skips what it can. Both say the same. Returns how many records were skipped.
 fn give(
     rt: &impl Abort,
+    skip: Skip,
     skipping: &mut Decoder,
     feeding: &mut Decoder,
     piece: &[u8],
@@ -48,8 +72,11 @@ fn give(
     let mut skipped = 0u64;
     let mut rest = piece;
     for _ in 0..piece.len() {
-        let (used, count) = skipping.skip_records(rest);
-        let (front, left) = rest.split_at(used);
+        let (used, count) = match skip {
+            Skip::Records => skipping.skip_records(rest),
+            Skip::Message => skip_messages(skipping, rest),
+        };
+        let (front, left) = rest.split_at(used.min(rest.len()));
         assert_eq!(rt; records_of(rt, feeding, front), Ok(count));
         are_alike(rt, skipping, feeding);
         skipped = skipped.saturating_add(count);
@@ -73,12 +100,18 @@ fn give(
 }
 
 /// Gives two decoders some bytes in two pieces. Returns how many records were skipped.
-fn give_cut(rt: &impl Abort, alloc: Global, bytes: &[u8], k: usize) -> Result<u64, Fault> {
+fn give_cut(
+    rt: &impl Abort,
+    alloc: Global,
+    skip: Skip,
+    bytes: &[u8],
+    k: usize,
+) -> Result<u64, Fault> {
     let mut skipping = Decoder::new(alloc);
     let mut feeding = Decoder::new(alloc);
     let (first, second) = bytes.split_at(k.min(bytes.len()));
-    let skipped = give(rt, &mut skipping, &mut feeding, first)?;
-    let more = give(rt, &mut skipping, &mut feeding, second)?;
+    let skipped = give(rt, skip, &mut skipping, &mut feeding, first)?;
+    let more = give(rt, skip, &mut skipping, &mut feeding, second)?;
     Ok(skipped.saturating_add(more))
 }
 
@@ -87,14 +120,27 @@ fn give_cut(rt: &impl Abort, alloc: Global, bytes: &[u8], k: usize) -> Result<u6
 #[test]
 fn known_files_cut_anywhere(rt: HostRuntime) -> Result<(), Fault> {
     for known in files() {
-        let whole = give_cut(&rt, rt.alloc(), known.bytes, 0)?;
+        let whole = give_cut(&rt, rt.alloc(), Skip::Records, known.bytes, 0)?;
         match known.name {
             "orders" | "developer" | "both" => assert!(rt; whole > 0),
             _ => assert_eq!(rt; whole, 0),
         }
         for k in 0..known.bytes.len() {
-            let skipped = give_cut(&rt, rt.alloc(), known.bytes, k)?;
+            let skipped = give_cut(&rt, rt.alloc(), Skip::Records, known.bytes, k)?;
             assert!(rt; skipped <= whole, "{} at {k}", known.name);
+        }
+    }
+    Ok(())
+}
+
+/// Of data messages alone no more are skipped than of all records, wherever the files are cut.
+#[test]
+fn messages_cut_anywhere(rt: HostRuntime) -> Result<(), Fault> {
+    for known in files() {
+        let records = give_cut(&rt, rt.alloc(), Skip::Records, known.bytes, 0)?;
+        for k in 0..known.bytes.len() {
+            let skipped = give_cut(&rt, rt.alloc(), Skip::Message, known.bytes, k)?;
+            assert!(rt; skipped <= records, "{} at {k}", known.name);
         }
     }
     Ok(())
@@ -106,9 +152,11 @@ fn change_each(rt: &impl Abort, alloc: Global, bytes: &mut [u8]) {
         let old = bytes[place];
         for bit in [1, 2, 4, 8, 16, 32, 64, 128] {
             bytes[place] = old ^ bit;
-            match give_cut(rt, alloc, bytes, 0) {
-                Ok(_) | Err(Fault::Refused { .. }) => {}
-                Err(fault) => assert!(rt; false, "{fault:?} with {bit} at {place}"),
+            for skip in [Skip::Records, Skip::Message] {
+                match give_cut(rt, alloc, skip, bytes, 0) {
+                    Ok(_) | Err(Fault::Refused { .. }) => {}
+                    Err(fault) => assert!(rt; false, "{fault:?} with {bit} at {place}"),
+                }
             }
         }
         bytes[place] = old;
@@ -135,8 +183,10 @@ fn many_messages(rt: HostRuntime) -> Result<(), Fail> {
         bytes.push(0)?;
     }
     bytes.extend_from_slice(&[0x0C, 0xDC])?;
-    assert!(rt; give_cut(&rt, alloc, bytes.as_slice(), 0)? >= 8990);
-    assert!(rt; give_cut(&rt, alloc, bytes.as_slice(), 4096)? >= 8990);
+    for skip in [Skip::Records, Skip::Message] {
+        assert!(rt; give_cut(&rt, alloc, skip, bytes.as_slice(), 0)? >= 8990);
+        assert!(rt; give_cut(&rt, alloc, skip, bytes.as_slice(), 4096)? >= 8990);
+    }
     Ok(())
 }
 
@@ -162,6 +212,7 @@ fn skip_starved<A: Allocator + Copy>(
         let skipped = decoder.skip_records(messages.as_slice());
         assert_eq!(rt; skipped, (600, 100), "{hundred}");
     }
+    assert_eq!(rt; decoder.skip_message(messages.as_slice()), 6);
     assert_eq!(rt; decoder.skip_records(again), (0, 0));
     assert_eq!(rt; decoder.held(), 2);
     drop(blocks);

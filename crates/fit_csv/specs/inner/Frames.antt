@@ -1,13 +1,15 @@
 -- What stands around the values in the rows of a message. No public contract names these definitions.
-use Rattle.std.specs.Prelude.{ℕ, List, [], ◌∷◌, ◌++◌, Option, None, codes}
+use Rattle.std.specs.Prelude.{◌≡◌, ◌≤◌, ℕ, List, [], ◌∷◌, ◌++◌, Option, None, codes, decimal, drop, length, option_map, unwrap_or}
+use Rattle.std.specs.Global.{Global}
 use Rattle.csv.specs.Writing.{default_writer, field_text}
 use Rattle.fit_base.specs.declared.items.Items.{Items}
 use Rattle.fit_record.specs.declared.definition.FieldDef.{FieldDef}
-use Rattle.fit_profile.specs.Names.{field, field_label}
+use Rattle.fit_profile.specs.Names.{field, field_label, message_label}
 use Rattle.fit_profile.specs.Profile.{Meaning}
 use Rattle.fit_cells.specs.Cells.{cell}
 use Rattle.fit_cells.specs.Rows.{Cell, Row}
-use Rattle.fit_csv.specs.ChainRows.{row, unit_text}
+use Rattle.fit_csv.specs.ChainRows.{field_rows, optional_number, row, unit_text}
+use Rattle.fit_csv.specs.InstantText.{instant_text}
 
 -- The row of a value: its kind, the name and the unit of the value, and by which base type code, size in bytes and scale the value is read.
 pub record FrameKey : Type 0 where
@@ -68,8 +70,35 @@ abbrev pub end_of : List ℕ → List FrameKey → List ℕ
 end_of before [] = before
 end_of before (k ∷ keys) = end_of (tail_text k) keys
 
+-- the text of values, each behind what stands before it, and this end behind the last
+abbrev pub values_text : {A : Type 0} → List FrameText → List ℕ → List (Items A) → List ℕ
+values_text (f ∷ frames) end (i ∷ items) = f.between ++ (field_text default_writer (cell f.code f.info i) ++ values_text frames end items)
+values_text _ end _ = end
+
 -- a definition, as far as the rows of its fields depend on it
 pub record TemplateKey : Type 0 where
   pub local : ℕ
   pub global : ℕ
   pub fields : List FieldDef
+
+-- the first row of a message of a definition, by its time offset and the time of its header, and those of its fields, by their items
+abbrev pub own_rows : {A : Type 0} → TemplateKey → Option ℕ → Option ℕ → List (Items A) → List Row
+own_rows k offset time items =
+    row (codes "data") (decimal k.local) (optional_number offset) (message_label k.global) (unwrap_or (option_map instant_text time) []) [] []
+    ∷ field_rows k.global k.fields items
+
+-- ---- the items of fields, one field after another, where they are known by a relation with the codes and sizes of the fields
+
+-- The next fields have these codes and sizes.
+abbrev pub HasFields : {S : Type 0} → (S → List (ℕ × ℕ) → List (Items Global) → Type 0) → S → List (ℕ × ℕ) → Type 0
+HasFields has_items s fields = (more : List (ℕ × ℕ)) × (items : List (Items Global)) × has_items s (fields ++ more) items
+
+-- The items of the next field, of this code and size, were taken, and this was done with them.
+abbrev pub TakesField : {S : Type 0} → (S → List (ℕ × ℕ) → List (Items Global) → Type 0) → S → S → ℕ × ℕ → (Items Global → Type 0) → Type 0
+TakesField has_items old new f Done = (more : List (ℕ × ℕ)) (items : List (Items Global)) → has_items old (f ∷ more) items
+    → (i : Items Global) × (rest : List (Items Global)) × (items ≡ i ∷ rest) × has_items new more rest × Done i
+
+-- The items of the next fields were taken, and this was done with them, which are the first of these.
+abbrev pub TakesFields : {S : Type 0} → (S → List (ℕ × ℕ) → List (Items Global) → Type 0) → S → S → List (ℕ × ℕ) → (List (Items Global) → Type 0) → Type 0
+TakesFields has_items old new fields Done = (more : List (ℕ × ℕ)) (items : List (Items Global)) → has_items old (fields ++ more) items
+    → (length fields ≤ length items) × has_items new more (drop (length fields) items) × Done items

@@ -1,18 +1,18 @@
 //! The rows of the developer fields of data messages.
-ghost use Rattle.std.specs.Prelude.{◌≡◌, ◌<◌, ◌++◌, ◌∷◌, [], None, IfOk, IsTrue, OnOk, codes, decimal, length, map, option_and_then, slice_get, unwrap_or, zip};
-ghost use Rattle.fit_base.specs.Fields.{HasShape};
-ghost use Rattle.fit_record.specs.Records.{HaveShape};
+ghost use Rattle.std.specs.Prelude.{◌≡◌, ◌<◌, ◌++◌, ◌∷◌, [], List, None, IfOk, IsTrue, OnOk, codes, decimal, length, map, option_and_then, slice_get, unwrap_or, zip};
+ghost use Rattle.std.specs.Global.{Global};
+ghost use Rattle.fit_base.specs.declared.items.Items.{Items};
 ghost use Rattle.fit_profile.specs.Described.{namings_at};
 ghost use Rattle.fit_cells.specs.Cells.{cell};
 ghost use Rattle.fit_cells.specs.Rows.{HasRows};
 ghost use Rattle.fit_csv.specs.ChainRows as rows;
-ghost use Rattle.fit_csv.specs.inner.Frames.{dev_key, value_row};
+ghost use Rattle.fit_csv.specs.inner.Frames.{HasFields, TakesField, dev_key, value_row};
 
 use crate::kept::keep_at;
 use crate::rows::frames::{Frame, put_tail};
+use crate::rows::items::FieldItems;
 use crate::rows::maker::RowMaker;
 use crate::words::{dev_unit, numbered_label};
-use fit_base::Items;
 use fit_cells::RowWriter;
 use fit_profile::Stream;
 use fit_record::DevDef;
@@ -91,37 +91,39 @@ impl DevFrame {
             && self.unit.as_slice() == unit.as_bytes()
     }
 
-    /// Puts the row of a value.
-    fn put(
+    /// Puts the row of the next field.
+    fn put<S: FieldItems>(
         &self,
         text: &mut Vec<u8>,
         writer: &mut RowWriter,
         value: &mut Vec<u8>,
-        items: &Items,
+        items: &mut S,
     ) -> Result<(), AllocError>
-        requires { HasShape self.now.code self.now.size items.now }
-        ensures { OnOk result (HasRows (value_row self.now items.now ∷ []) text.old text.new) }
+        requires { HasFields S.has_items items.old ((self.now.code, self.now.size) ∷ []) }
+        ensures { OnOk result (TakesField S.has_items items.old items.new
+            (self.now.code, self.now.size)
+            (λ i. HasRows (value_row self.now i ∷ []) text.old text.new)) }
     {
-        self.frame.put(text, writer, value, items)?;
+        items.put_next(text, writer, value, &self.frame)?;
         text.extend_from_slice(self.tail.as_slice())?;
         Ok(())
     }
 }
 
 /// Puts the row of a developer field by its place, its described code, its name and its unit.
-fn put_dev_field(
+fn put_dev_field<S: FieldItems>(
     text: &mut Vec<u8>,
     maker: &mut RowMaker,
     place: usize,
     size: u8,
     code: u8,
-    items: &Items,
+    items: &mut S,
     name: &str,
     unit: &str,
 ) -> Result<(), AllocError>
-    requires { HasShape code size items.now }
-    ensures { OnOk result (HasRows
-        (value_row (dev_key name.now unit.now code size) items.now ∷ []) text.old text.new) }
+    requires { HasFields S.has_items items.old ((code, size) ∷ []) }
+    ensures { OnOk result (TakesField S.has_items items.old items.new (code, size) (λ i. HasRows
+        (value_row (dev_key name.now unit.now code size) i ∷ []) text.old text.new)) }
 {
     if let Some(Some(frame)) = maker.dev_frames.as_slice().get(place) {
         if frame.is_of(name, unit, code, size) {
@@ -130,12 +132,13 @@ fn put_dev_field(
     }
     let frame = DevFrame::new(maker.alloc, &mut maker.writer, name, unit, code, size)?;
     frame.put(text, &mut maker.writer, &mut maker.value, items)?;
-    keep_at(&mut maker.dev_frames, place, frame)
+    keep_at(&mut maker.dev_frames, place, frame)?;
+    Ok(())
 }
 
 /// Puts the row of a developer field of the next message of a local message type by its described code, with the name and the unit
 /// that it has after the records of a stream.
-fn put_named(
+fn put_named<S: FieldItems>(
     text: &mut Vec<u8>,
     maker: &mut RowMaker,
     stream: &Stream,
@@ -143,15 +146,16 @@ fn put_named(
     place: u8,
     field: &DevDef,
     code: u8,
-    items: &Items,
+    items: &mut S,
 ) -> Result<(), AllocError>
-    requires { HasShape code field.now.size items.now }
-    ensures { OnOk result (HasRows (rows.row (codes "dev")
+    requires { HasFields S.has_items items.old ((code, field.now.size) ∷ []) }
+    ensures { OnOk result (TakesField S.has_items items.old items.new (code, field.now.size)
+        (λ i. HasRows (rows.row (codes "dev")
         (unwrap_or (option_and_then (λ t. t.name) (slice_get (namings_at stream.now local) place))
         (codes "dev_" ++ decimal field.now.index ++ codes "_" ++ decimal field.now.number))
-        (cell code None items.now)
+        (cell code None i)
         (unwrap_or (option_and_then (λ t. t.unit) (slice_get (namings_at stream.now local) place))
-        []) [] [] [] ∷ []) text.old text.new) }
+        []) [] [] [] ∷ []) text.old text.new)) }
 {
     let kept = place as usize * 16 + local as usize;
     let unit = dev_unit(stream, local, place);
@@ -167,26 +171,28 @@ fn put_named(
 
 /// Puts the rows of the developer fields of a message of this local message type, with the names and units that they have after
 /// the records of a stream.
-pub(crate) fn put_dev_fields(
+pub(crate) fn put_dev_fields<S: FieldItems>(
     text: &mut Vec<u8>,
     maker: &mut RowMaker,
     stream: &Stream,
     local: u8,
     fields: &[DevDef],
     dev_codes: &[u8],
-    items: &[Items],
+    items: &mut S,
 ) -> Result<(), AllocError>
     requires few { length fields.now < 256 }
     requires codes { length dev_codes.now ≡ length fields.now }
     requires namings { length (namings_at stream.now local) ≡ length fields.now }
-    requires shapes { HaveShape (zip dev_codes.now (map (λ f. f.size) fields.now)) items.now }
-    ensures { OnOk result (HasRows (rows.dev_rows fields.now dev_codes.now
-        (namings_at stream.now local) items.now) text.old text.new) }
+    requires items { (all : List (Items Global))
+        × S.has_items items.old (zip dev_codes.now (map (λ f. f.size) fields.now)) all }
+    ensures { OnOk result ((all : List (Items Global))
+        → S.has_items items.old (zip dev_codes.now (map (λ f. f.size) fields.now)) all
+        → HasRows (rows.dev_rows fields.now dev_codes.now (namings_at stream.now local) all)
+        text.old text.new) }
 {
     for (place, field) in fields.iter().enumerate() {
         let code = dev_codes[place];
-        let item = &items[place];
-        put_named(text, maker, stream, local, place as u8, field, code, item)?;
+        put_named(text, maker, stream, local, place as u8, field, code, items)?;
     }
     Ok(())
 }

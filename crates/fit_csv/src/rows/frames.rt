@@ -1,21 +1,23 @@
 //! What stands around values in their rows, found out once for many messages.
-ghost use Rattle.std.specs.Prelude.{◌≡◌, ◌++◌, [], IfOk, IfSome, List, OnOk, codes, map, option_map, zip};
+ghost use Rattle.std.specs.Prelude.{◌≡◌, ◌++◌, [], IfOk, IfSome, OnOk, codes, length, option_map};
+ghost use Rattle.std.specs.Global.{Global};
 ghost use Rattle.csv.specs.Writing.{default_writer, field_text};
 ghost use Rattle.fit_base.specs.Fields.{HasShape};
-ghost use Rattle.fit_record.specs.Records.{HaveShape};
+ghost use Rattle.fit_record.specs.ReadMessages.{field_from};
 ghost use Rattle.fit_profile.specs.Names.{meaning};
 ghost use Rattle.fit_profile.specs.Scaled.{IsScale};
 ghost use Rattle.fit_cells.specs.Cells.{cell};
-ghost use Rattle.fit_cells.specs.Rows.{HasRows};
-ghost use Rattle.fit_csv.specs.inner.Frames.{FrameKey, end_of, frames_of, two_cells, value_row};
+ghost use Rattle.fit_cells.specs.Forms.{IsFormOf, IsSmallForm};
+ghost use Rattle.fit_csv.specs.inner.Frames.{two_cells};
 
 pub(crate) mod likely;
 
-use fit_base::{Code, Items};
+use fit_base::{Code, Items, Order, bits_at};
 use fit_cells::{
     NumberForm, RowWriter, formed, is_never_quoted, number_form, put_cell, put_formed,
 };
 use fit_profile::Info;
+use fit_record::read_items;
 use std::alloc::{AllocError, Global};
 use std::marker::Model;
 
@@ -141,6 +143,14 @@ impl Frame {
         })
     }
 
+    /// How many bytes the field has.
+    #[inline(always)]
+    pub(crate) fn size(&self) -> u8
+        ensures { result ≡ self.now.size }
+    {
+        self.size
+    }
+
     /// Puts a value that is no lone number behind a text.
     #[inline(never)]
     fn put_other(
@@ -183,25 +193,42 @@ impl Frame {
         }
         self.put_other(text, writer, value, items)
     }
-}
 
-/// Puts the rows of values one after another, the last of them with this end.
-pub(crate) fn put_frames(
-    text: &mut Vec<u8>,
-    writer: &mut RowWriter,
-    value: &mut Vec<u8>,
-    frames: &[Frame],
-    end: &[u8],
-    items: &[Items],
-) -> Result<(), AllocError>
-    requires { HaveShape (map (λ f. (f.code, f.size)) frames.now) items.now }
-    ensures { OnOk result ((keys : List FrameKey) → frames.now ≡ frames_of [] keys
-        → end.now ≡ end_of [] keys → HasRows (map (λ x. value_row x.0 x.1) (zip keys items.now))
-        text.old text.new) }
-{
-    for (place, frame) in frames.iter().enumerate() {
-        frame.put(text, writer, value, &items[place])?;
+    /// The form of a lone number, where its bytes are those of the field.
+    #[inline(always)]
+    fn lone_form(&self) -> Option<NumberForm>
+        ensures small { IfSome result IsSmallForm }
+        ensures width { IfSome result (λ f. f.width ≡ self.now.size) }
+        ensures form { IfSome result (IsFormOf self.now.code self.now.info) }
+    {
+        match self.form {
+            Some(form) if form.width == self.size => Some(form),
+            _ => None,
+        }
     }
-    text.extend_from_slice(end)?;
-    Ok(())
+
+    /// The same by the bytes of the field.
+    #[inline(always)]
+    pub(crate) fn put_bytes(
+        &self,
+        text: &mut Vec<u8>,
+        writer: &mut RowWriter,
+        value: &mut Vec<u8>,
+        alloc: Global,
+        order: Order,
+        bytes: &[u8],
+    ) -> Result<(), AllocError>
+        requires { length bytes.now ≡ self.now.size }
+        ensures { OnOk result (text.new.items ≡ (text.old.items ++ self.now.between)
+            ++ field_text default_writer (cell self.now.code self.now.info
+            (field_from {A = Global} order (self.now.code, self.now.size) bytes.now))) }
+    {
+        text.extend_from_slice(self.between.as_slice())?;
+        if let Some(form) = self.lone_form() {
+            put_formed(text, form, bits_at(order, form.width, bytes))?;
+            return Ok(());
+        }
+        let items = read_items(alloc, order, self.code, self.size, bytes)?;
+        self.put_other(text, writer, value, &items)
+    }
 }

@@ -1,68 +1,85 @@
 //! The rows of data messages.
-ghost use Rattle.std.specs.Prelude.{◌≡◌, ◌∷◌, [], OnOk, Some, map};
+ghost use Rattle.std.specs.Prelude.{◌≡◌, ◌++◌, List, OnOk, Some, length, map};
+ghost use Rattle.std.specs.Global.{Global};
+ghost use Rattle.fit_base.specs.declared.items.Items.{Items};
+ghost use Rattle.fit_record.specs.declared.message.Values.{Values};
 ghost use Rattle.fit_record.specs.Environment.{defined_at};
-ghost use Rattle.fit_record.specs.Records.{DataFits, Fits, HaveShape};
+ghost use Rattle.fit_record.specs.declared.message.Record.TheVariants.{Values as Data};
+ghost use Rattle.fit_record.specs.Records.{Fits, IsRecord, dev_layout, layout};
 ghost use Rattle.fit_record.specs.Sound.{IsSound};
 ghost use Rattle.fit_profile.specs.Looks.{known};
 ghost use Rattle.fit_cells.specs.Rows.{HasRows};
 ghost use Rattle.fit_csv.specs.ChainRows as rows;
+ghost use Rattle.fit_csv.specs.inner.Frames.{HasFields, TakesFields, own_rows};
 
 use crate::kept::keep_at;
 use crate::rows::definition::put_definition;
 use crate::rows::developer::put_dev_fields;
+use crate::rows::items::{FieldItems, ItemBytes, MadeItems};
 use crate::rows::maker::RowMaker;
 use crate::rows::template::Template;
 use crate::words::{dev_slice, header_time};
 use fit_profile::Stream;
-use fit_record::{Defined, MessageDef, Record, Values};
+use fit_record::{Defined, MessageDef, Record};
 use std::alloc::AllocError;
 
 /// Puts the row with which a data message begins, and those of its fields, by the time of its header.
-fn put_own(
+fn put_own<S: FieldItems>(
     text: &mut Vec<u8>,
     maker: &mut RowMaker,
     definition: &MessageDef,
-    values: &Values,
+    local: u8,
+    offset: Option<u8>,
     time: Option<u32>,
+    items: &mut S,
 ) -> Result<(), AllocError>
-    requires shapes { HaveShape (map (λ f. (f.code, f.size)) definition.now.fields)
-        values.now.fields }
-    ensures { OnOk result (HasRows (rows.data_row values.now definition.now.global time
-        ∷ rows.field_rows definition.now.global definition.now.fields values.now.fields)
-        text.old text.new) }
+    requires { HasFields S.has_items items.old (map (λ f. (f.code, f.size))
+        definition.now.fields) }
+    ensures { OnOk result (TakesFields S.has_items items.old items.new
+        (map (λ f. (f.code, f.size)) definition.now.fields)
+        (λ all. HasRows (own_rows (record {
+          local = local;
+          global = definition.now.global;
+          fields = definition.now.fields;
+        }) offset time all) text.old text.new)) }
 {
-    let local = values.local;
+    let writer = &mut maker.writer;
     if let Some(Some(template)) = maker.templates.as_slice().get(local as usize) {
         if template.is_of(local, definition) {
-            return template.put(text, &mut maker.writer, &mut maker.value, values, time);
+            return template.put(text, writer, &mut maker.value, offset, time, items);
         }
     }
-    let template = Template::new(maker.alloc, &mut maker.writer, local, definition)?;
-    template.put(text, &mut maker.writer, &mut maker.value, values, time)?;
-    keep_at(&mut maker.templates, local as usize, template)
+    let template = Template::new(maker.alloc, writer, local, definition)?;
+    template.put(text, writer, &mut maker.value, offset, time, items)?;
+    keep_at(&mut maker.templates, local as usize, template)?;
+    Ok(())
 }
 
 /// Puts the rows of a data message of this definition behind the records of a stream.
-fn put_values(
+fn put_values<S: FieldItems>(
     text: &mut Vec<u8>,
     maker: &mut RowMaker,
     stream: &Stream,
     defined: &Defined,
-    values: &Values,
+    local: u8,
+    offset: Option<u8>,
+    items: &mut S,
 ) -> Result<(), AllocError>
-    requires place { defined_at (known stream.now) values.now.local ≡ Some defined.now }
+    requires place { defined_at (known stream.now) local ≡ Some defined.now }
     requires sound { IsSound defined.now }
-    requires fits { DataFits values.now defined.now }
-    ensures { OnOk result (HasRows (rows.data_rows stream.now values.now) text.old text.new) }
+    requires items { (all : List (Items Global))
+        × S.has_items items.old (layout defined.now ++ dev_layout defined.now) all }
+    ensures { OnOk result ((v : Values Global) → v.local ≡ local → v.offset ≡ offset
+        → length v.fields ≡ length defined.now.definition.fields
+        → S.has_items items.old (layout defined.now ++ dev_layout defined.now) (v.fields ++ v.dev)
+        → HasRows (rows.data_rows stream.now v) text.old text.new) }
 {
     let definition = &defined.definition;
-    let time = header_time(stream, values.offset);
-    put_own(text, maker, definition, values, time)?;
+    let time = header_time(stream, offset);
+    put_own(text, maker, definition, local, offset, time, items)?;
     let fields = dev_slice(&definition.dev);
     let codes = defined.dev_codes.as_slice();
-    let items = values.dev.as_slice();
-    put_dev_fields(text, maker, stream, values.local, fields, codes, items)?;
-    Ok(())
+    put_dev_fields(text, maker, stream, local, fields, codes, items)
 }
 
 /// Puts the rows of a record behind the records of a stream.
@@ -78,8 +95,54 @@ pub(crate) fn put_record(
     match record_ {
         Record::Define(definition) => put_definition(text, &mut maker.writer, definition),
         Record::Values(values) => match stream.env().defined(values.local) {
-            Some(defined) => put_values(text, maker, stream, defined, values),
+            Some(defined) => {
+                let mut items = MadeItems {
+                    fields: values.fields.as_slice(),
+                    dev: values.dev.as_slice(),
+                };
+                let local = values.local;
+                put_values(
+                    text,
+                    maker,
+                    stream,
+                    defined,
+                    local,
+                    values.offset,
+                    &mut items,
+                )
+            }
             None => unreachable!(),
         },
     }
+}
+
+/// Puts the rows of the data message that the bytes are behind the records of a stream.
+pub(crate) fn put_message(
+    text: &mut Vec<u8>,
+    maker: &mut RowMaker,
+    stream: &Stream,
+    bytes: &[u8],
+) -> Result<(), AllocError>
+    requires { (v : Values Global) × IsRecord (known stream.now) (Data v) bytes.now }
+    ensures { OnOk result ((v : Values Global) → IsRecord (known stream.now) (Data v) bytes.now
+        → HasRows (rows.data_rows stream.now v) text.old text.new) }
+{
+    let Some(message) = stream.env().message_bytes(bytes) else {
+        unreachable!()
+    };
+    let mut items = ItemBytes {
+        alloc: maker.alloc,
+        order: message.defined.definition.order,
+        rest: message.body,
+    };
+    let local = message.local;
+    put_values(
+        text,
+        maker,
+        stream,
+        message.defined,
+        local,
+        message.offset,
+        &mut items,
+    )
 }

@@ -5,14 +5,13 @@ ghost use Rattle.fit_csv.specs.inner.Reporting.{AnswerFits, answer_rows, behind_
 
 use crate::rows::file::{put_end_row, put_file_row};
 use crate::rows::maker::RowMaker;
-use crate::rows::message::put_record;
-use fit_decode::Event;
+use crate::rows::message::{put_message, put_record};
+use fit_decode::{Decoder, Event};
 use fit_profile::Stream;
 use fit_profile::laws::looking_back_is_learning;
+use fit_report::Report;
 use fit_report::laws::heard_records_fit;
-use fit_report::{Heard, Report};
 use std::alloc::{AllocError, Global};
-use std::marker::Model;
 
 /// Puts the rows of an event behind the records of a stream.
 #[tactic(auto, using(fit_cells::proofs::AddedRows::rows_none))]
@@ -49,59 +48,53 @@ fn follow(stream: &mut Stream, event: &Event) -> Result<(), AllocError>
     }
 }
 
-/// Makes rows of the events of a chain of files.
+/// Makes rows of the events of a chain of files. It knows the records of the file that was begun last.
 #[derive(Drop)]
 pub(crate) struct CsvReport {
     stream: Stream,
     maker: RowMaker,
-    heard: Heard,
-}
-
-impl Model for CsvReport {
-    ghost use Rattle.std.specs.Prelude.{◌≡◌, List};
-    ghost use Rattle.std.specs.Global.{Global};
-    ghost use Rattle.fit_chain.specs.Events.{Event as Told};
-    ghost use Rattle.fit_report.specs.Heard.{latest_records};
-
-    ghost Value = { List (Told Global) };
-
-    ghost view = { λ r. r.heard };
-
-    ghost invariant = { λ r. r.stream ≡ latest_records r.heard };
 }
 
 impl CsvReport {
     /// No event was told.
     pub(crate) fn new(alloc: Global) -> CsvReport
-        ensures { result ≡ [] }
+        ensures { result.stream ≡ [] }
     {
         CsvReport {
             stream: Stream::new(alloc),
             maker: RowMaker::new(alloc),
-            heard: Heard::new(),
         }
     }
 }
 
 impl Report for CsvReport {
-    ghost use Rattle.fit_report.specs.Heard.{AreHeard, hear, line_of};
+    ghost use Rattle.fit_report.specs.Heard.{latest_records};
     ghost use Rattle.fit_csv.specs.Conversions.{csv_line};
 
-    ghost has_heard = { λ r heard. r ≡ heard };
+    ghost has_heard = { λ r heard. r.stream ≡ latest_records heard };
 
     ghost line = { csv_line };
 
-    fn tell(&mut self, event: &Event, text: &mut Vec<u8>) -> Result<(), AllocError>
-        requires { AreHeard (hear event.now self.old) }
-        ensures heard { OnOk result (self.new ≡ hear event.now self.old) }
-        ensures text { OnOk result (text.new.items
-            ≡ text.old.items ++ line_of csv_line self.old event.now) }
-    {
+    fn tell(&mut self, event: &Event, text: &mut Vec<u8>) -> Result<(), AllocError> {
         heard_records_fit::<Global>();
         looking_back_is_learning::<Global>();
         put_event(text, &mut self.maker, &self.stream, event)?;
-        follow(&mut self.stream, event)?;
-        self.heard.add(event);
-        Ok(())
+        follow(&mut self.stream, event)
+    }
+
+    fn skip(
+        &mut self,
+        decoder: &mut Decoder,
+        piece: &[u8],
+        text: &mut Vec<u8>,
+    ) -> Result<usize, AllocError> {
+        let used = decoder.skip_message(piece);
+        if used == 0 {
+            return Ok(0);
+        }
+        let (message, _) = piece.split_at(used);
+        put_message(text, &mut self.maker, &self.stream, message)?;
+        self.stream.take_message(message)?;
+        Ok(used)
     }
 }

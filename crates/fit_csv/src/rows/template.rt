@@ -1,20 +1,20 @@
 //! The rows of the messages of a definition without their values, found out once for many messages.
 ghost use Rattle.std.specs.Prelude.{◌≡◌, ◌++◌, ◌∷◌, [], IfOk, IsTrue, OnOk, codes, decimal, map, option_map, unwrap_or};
-ghost use Rattle.fit_record.specs.Records.{HaveShape};
 ghost use Rattle.fit_profile.specs.Names.{message_label};
 ghost use Rattle.fit_cells.specs.Rows.{HasRows};
 ghost use Rattle.fit_csv.specs.ChainRows as rows;
 ghost use Rattle.fit_csv.specs.InstantText.{instant_text};
-ghost use Rattle.fit_csv.specs.inner.Frames.{end_of, field_key, frame_text, frames_of, tail_text, two_cells};
+ghost use Rattle.fit_csv.specs.inner.Frames.{HasFields, TakesFields, end_of, field_key, frame_text, frames_of, own_rows, tail_text, two_cells};
 
 pub(crate) mod likely;
 
 use crate::kept::Kept;
-use crate::rows::frames::{Frame, put_frames, put_tail, put_two};
+use crate::rows::frames::{Frame, put_tail, put_two};
+use crate::rows::items::{FieldItems, put_frames};
 use crate::words::{time_text, unit_text};
 use fit_cells::RowWriter;
 use fit_profile::{field_info, field_label, message_label, put_whole};
-use fit_record::{FieldDef, MessageDef, Values};
+use fit_record::{FieldDef, MessageDef};
 use itoa::Buffer;
 use std::alloc::{AllocError, Global};
 use std::marker::Model;
@@ -234,25 +234,22 @@ impl Template {
     }
 
     /// Puts the rows of a message and its fields, by the time of its header.
-    pub(crate) fn put(
+    pub(crate) fn put<S: FieldItems>(
         &self,
         text: &mut Vec<u8>,
         writer: &mut RowWriter,
         value: &mut Vec<u8>,
-        values: &Values,
+        offset: Option<u8>,
         time: Option<u32>,
+        items: &mut S,
     ) -> Result<(), AllocError>
-        requires local { values.now.local ≡ self.now.local }
-        requires shapes { HaveShape (map (λ f. (f.code, f.size)) self.now.fields)
-            values.now.fields }
-        ensures { OnOk result (HasRows (rows.data_row values.now self.now.global time
-            ∷ rows.field_rows self.now.global self.now.fields values.now.fields)
-            text.old text.new) }
+        requires { HasFields S.has_items items.old (map (λ f. (f.code, f.size)) self.now.fields) }
+        ensures { OnOk result (TakesFields S.has_items items.old items.new
+            (map (λ f. (f.code, f.size)) self.now.fields)
+            (λ all. HasRows (own_rows self.now offset time all) text.old text.new)) }
     {
-        self.put_first(text, values.offset, time)?;
+        self.put_first(text, offset, time)?;
         let frames = self.frames.as_slice();
-        let end = self.end.as_slice();
-        put_frames(text, writer, value, frames, end, values.fields.as_slice())?;
-        Ok(())
+        put_frames(text, writer, value, frames, self.end.as_slice(), items)
     }
 }

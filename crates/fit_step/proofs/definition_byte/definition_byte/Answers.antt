@@ -37,3 +37,25 @@ returns-in_ok-at_dev_size-in-DevSize-clause-made g c = rw c.in-DevSize.is (c.in_
 
 pub returns-in-DevIndex-clause-made : goal.returns-in-DevIndex-clause-made
 returns-in-DevIndex-clause-made g c = rw c.in-DevIndex.is (c.at_dev_index.ensures.made (tests_of c.args.env.now))
+
+pub at_field_size-requires : goal.at_field_size-requires
+at_field_size-requires g c =
+    let d = rw c.in-FieldSize.is at c.requires.defining in
+    (assumption, (c.requires.room, (d.1, d.0)))
+
+pub at_field_code-requires-clause-left : goal.at_field_code-requires-clause-left
+at_field_code-requires-clause-left g c = (rw c.in-FieldCode.is at c.requires.defining).1
+
+pub at_dev_count-requires : goal.at_dev_count-requires
+at_dev_count-requires g c = (assumption, (c.requires.room, (rw c.in-DevCount.is at c.requires.defining).0))
+
+pub at_dev_size-requires : goal.at_dev_size-requires
+at_dev_size-requires g c =
+    let d = rw c.in-DevSize.is at c.requires.defining in
+    (assumption, (c.requires.room, (d.1, d.0)))
+
+pub at_dev_index-requires-clause-left : goal.at_dev_index-requires-clause-left
+at_dev_index-requires-clause-left g c = (rw c.in-DevIndex.is at c.requires.defining).1
+
+pub at_dev_index-requires-clause-dev : goal.at_dev_index-requires-clause-dev
+at_dev_index-requires-clause-dev g c = (rw c.in-DevIndex.is at c.requires.defining).2

@@ -21,3 +21,12 @@ returns-clause-goes g c =
     goes_at c.args.env.now c.args.room c.args.byte c.local_type-local.result c.local_type-local.ensures c.in-Some-length.size c.in-Some.defined.now
     c.in-Some.ensures.place c.in-Some-length.ensures.size
     (omega (arith, c.if-room-size.false)) c.if-not-can_carry.ensures.test
+
+pub defined-requires : goal.defined-requires
+defined-requires g c = assumption
+
+pub length-requires : goal.length-requires
+length-requires g c = assumption
+
+pub can_carry-requires : goal.can_carry-requires
+can_carry-requires g c = assumption

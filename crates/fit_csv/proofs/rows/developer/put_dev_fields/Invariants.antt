@@ -1,7 +1,7 @@
-use Rattle.fit_csv.proofs.Common.{map, take, zip, namings_at, HasRows, dev_row}
+use Rattle.fit_csv.proofs.Common.{namings_at}
+use Rattle.fit_csv.proofs.DevWalks.{DevTaken}
 use Rattle.fit_csv.proofs.rows.developer.put_dev_fields.Given as goal
 
 abbrev pub invariant-loop-place : goal.invariant-loop-place
-invariant-loop-place l =
-    HasRows (map (λ x. dev_row x.0.0 x.0.1 x.1.0 x.1.1) (take l.place (zip (zip l.fields l.dev_codes) (zip (namings_at l.stream l.local) l.items))))
-    l.initial.text l.text
+invariant-loop-place g l =
+    DevTaken g.S.FieldItems.has_items l.fields l.dev_codes (namings_at l.stream l.local) l.initial.items l.items l.initial.text l.text l.place

@@ -27,3 +27,9 @@ returns-else-size-room-clause-message g c =
 
 pub returns-in-None-clause-message : goal.returns-in-None-clause-message
 returns-in-None-clause-message g c = message_answered c.args.self.now c.args.local c.args.room _ c.length.ensures.places (returns-in-None-clause-test g c)
+
+pub length-requires : goal.length-requires
+length-requires g c = assumption
+
+pub can_fill-requires : goal.can_fill-requires
+can_fill-requires g c = assumption

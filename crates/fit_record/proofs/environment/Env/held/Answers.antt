@@ -9,3 +9,6 @@ returns-clause-size g c =
     (take_all c.loop-local.local places (omega (arith, sixteen, c.loop-local-test.false))) in
     let described : length c.self.inside.described.entries ≡ length c.args.self.now.described = ap (λ e. length e.described) c.self.view_is in
     omega (arith, c.loop-local.invariant.counted ∙ all, c.len.ensures.len, described)
+
+pub entries_at-entries-requires : goal.entries_at-entries-requires
+entries_at-entries-requires g c = assumption

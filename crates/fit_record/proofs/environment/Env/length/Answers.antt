@@ -22,3 +22,12 @@ returns-in-Some-clause-size g c =
     let at = get_or_from_slice_get c.self.inside.places c.args.local _ None
     (found c.self.inside.places c.args.local _ c.in_ok-place.ensures.lookup.0 c.in_ok-place.ensures.lookup.1) ∙ c.in-Some.is in
     kept_size _ _ _ at (c.self.invariant c.args.local) ∙ ap (λ e. option_map message_size (defined_at e c.args.local)) c.self.view_is
+
+pub returns-in-Some-clause-places : goal.returns-in-Some-clause-places
+returns-in-Some-clause-places g c = rw (← c.self.view_is) assumption
+
+pub returns-in-None-clause-places : goal.returns-in-None-clause-places
+returns-in-None-clause-places g c = rw (← c.self.view_is) assumption
+
+pub returns-in_err-place-clause-places : goal.returns-in_err-place-clause-places
+returns-in_err-place-clause-places g c = rw (← c.self.view_is) assumption

@@ -20,3 +20,6 @@ loop-other-preserved g c =
       ],
       λ _. c.has_length_at.ensures.places,
     )
+
+pub has_length_at-requires : goal.has_length_at-requires
+has_length_at-requires g c = assumption

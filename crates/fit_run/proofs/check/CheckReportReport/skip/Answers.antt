@@ -1,6 +1,7 @@
 -- The records skipped are counted, and have no text.
-use Rattle.fit_run.proofs.Common.{ℕ, ◌+◌, ◌∙◌, add-zero, ap, take, reverse, arith, hear_records}
-use Rattle.fit_report.proofs.Skipped.{records_heard, fed_so}
+use Rattle.fit_run.proofs.Common.{ℕ, [], ◌+◌, ◌∙◌, refl, sym, add-zero, ap, reverse, arith, hear_records, text_of, check_line}
+use Rattle.std.proofs.lemmas.List.{append-nil}
+use Rattle.fit_report.proofs.Skipped.{records_heard}
 use Rattle.fit_run.proofs.Counts.{few_counted, records_counted, silent_over}
 use Rattle.fit_run.proofs.check.CheckReportReport.skip.Goals as goal
 
@@ -17,19 +18,18 @@ overflow_add-self c =
     (new, c.skip_records-used.ensures.viable, records_heard new records heard t.2) in
     omega (arith, few.1)
 
-pub returns : goal.returns
-returns c = record {
+pub returns-clause-skips : goal.returns-clause-skips
+returns-clause-skips c = record {
   within = c.skip_records-used.ensures.within;
-  is_fed = fed_so c.args.decoder.now c.skip_records-used.new.self c.args.decoder.now.bytes (take c.skip_records-used.result.0 c.args.piece.now)
-      c.skip_records-used.ensures.used;
+  is_fed = c.skip_records-used.ensures.used;
   refused = λ reason is.
       let none = c.skip_records-used.ensures.refused reason is in (
         ap (λ (r : ℕ × ℕ). r.0) none.0,
         none.1,
         ap (λ (r : ℕ × ℕ). record c.args.self.now { records = c.args.self.now.records + r.1 }) none.0
             ∙ ap (λ n. record c.args.self.now { records = n }) (add-zero c.args.self.now.records),
+        refl,
       );
-  viable = c.skip_records-used.ensures.viable;
   told = λ heard has are.
       let self = c.args.self.now in
       let t = c.skip_records-used.ensures.records (reverse heard) are in
@@ -37,6 +37,8 @@ returns c = record {
         hear_records records heard,
         records_counted heard records self.files self.data_size self.records c.skip_records-used.result.1 t.1 has,
         records_heard c.skip_records-used.new.self.bytes records heard t.2,
-        silent_over heard records,
+        [],
+        sym (append-nil c.args.text.now.items),
+        silent_over heard records ∙ sym (append-nil (text_of check_line heard)),
       );
 }

@@ -1,30 +1,35 @@
-use Rattle.fit_csv.proofs.Common.{◌∙◌, ◌∷◌, [], map, sym, ap, subst, HaveShape, message_label, HasRows, rows_both, field_rows, optional_number, row}
-use Rattle.fit_csv.proofs.Common.{instant_text, TemplateKey, end_of, field_key, frames_of}
-use Rattle.std.proofs.Common.{option_map, unwrap_or, ℕ, decimal, codes}
-use Rattle.fit_csv.proofs.FramedRows.{field_values, frames_shape}
+use Rattle.fit_csv.proofs.Common.{◌≡◌, ◌≤◌, ◌∙◌, ◌++◌, ◌∷◌, [], length, map, drop, sym, ap, subst, arith, length-map, on_ok_weaker, HasRows, rows_both}
+use Rattle.fit_csv.proofs.Common.{FrameText}
+use Rattle.fit_csv.proofs.Common.{TemplateKey, end_of, field_key, field_rows, frames_of, values_text}
+use Rattle.std.proofs.Common.{ℕ, List}
+use Rattle.fit_csv.proofs.FieldWalks.{field_slot, fields_text, slot}
+use Rattle.fit_csv.proofs.FramedRows.{frames_shape}
 use Rattle.fit_csv.proofs.rows.template.Template.put.Goals as goal
 
 pub put_frames-requires : goal.put_frames-requires
-put_frames-requires c =
+put_frames-requires g c =
     let key : TemplateKey = c.args.self.now in
     let frames = c.as_slice-frames.ensures.value ∙ c.self.invariant.3
     ∙ ap (λ (k : TemplateKey). frames_of [] (map (field_key k.global) k.fields)) c.self.view_is in
-    let same = ap (map {B = ℕ × ℕ} (λ f. (f.code, f.size))) frames ∙ frames_shape [] key.global key.fields in
-    subst (λ layout. HaveShape layout c.as_slice.result.now) (sym same)
-    (subst (λ items. HaveShape (map (λ f. (f.code, f.size)) key.fields) items) (sym c.as_slice.ensures) c.requires.shapes)
+    let same = ap (map slot) frames ∙ frames_shape [] key.global key.fields in
+    (c.requires.0, c.requires.1, subst (λ fs. g.S.FieldItems.has_items c.args.items.now (fs ++ c.requires.0) c.requires.1) (sym same) c.requires.2)
 
 pub returns : goal.returns
-returns c =
+returns g c = on_ok_weaker c.put_frames.result (λ takes more all h.
     let key : TemplateKey = c.args.self.now in
-    let v = c.args.values.now in
     let keys = map (field_key key.global) key.fields in
     let frames = c.as_slice-frames.ensures.value ∙ c.self.invariant.3
     ∙ ap (λ (k : TemplateKey). frames_of [] (map (field_key k.global) k.fields)) c.self.view_is in
-    let end = c.as_slice-end.ensures.value ∙ c.self.invariant.4
+    let end = c.as_slice.ensures.value ∙ c.self.invariant.4
     ∙ ap (λ (k : TemplateKey). end_of [] (map (field_key k.global) k.fields)) c.self.view_is in
-    let first = subst (λ local. HasRows (row (codes "data") (decimal local) (optional_number v.offset) (message_label key.global)
-    (unwrap_or (option_map instant_text c.args.time) []) [] [] ∷ []) c.args.text.now c.put_first.new.text) (sym c.requires.local) c.in_ok-put_first.ensures in
-    let fields = subst (λ rows. HasRows rows c.put_first.new.text c.put_frames.new.text)
-    (field_values key.global key.fields c.as_slice.result.now ∙ ap (field_rows key.global key.fields) c.as_slice.ensures)
-    (c.in_ok-put_frames.ensures keys frames end) in
-    rows_both first fields
+    let same = ap (map slot) frames ∙ frames_shape [] key.global key.fields in
+    let t = takes more all (subst (λ fs. g.S.FieldItems.has_items c.args.items.now (fs ++ more) all) (sym same) h) in
+    let long = subst (λ (fs : List (ℕ × ℕ)). length fs ≤ length all) same t.0 in
+    let text = t.2 ∙ (λ i. c.put_first.new.text.items ++ values_text (frames i) (end i) all)
+    ∙ ap (λ u. c.put_first.new.text.items ++ u) (fields_text key.global key.fields [] all (omega (arith, long, length-map key.fields field_slot)))
+    in
+    let fields : HasRows (field_rows key.global key.fields all) c.put_first.new.text c.put_frames.new.text = record { text = text } in (
+      long,
+      subst (λ (fs : List (ℕ × ℕ)). g.S.FieldItems.has_items c.put_frames.new.items more (drop (length fs) all)) same t.1,
+      rows_both c.in_ok-put_first.ensures fields,
+    )) c.put_frames.ensures

@@ -1,0 +1,124 @@
+-- Fields of a message, taken one after another, and their values put in rows.
+use Rattle.fit_csv.proofs.Common.{◌≡◌, ◌∙◌, ◌≤◌, ◌+◌, ◌++◌, ◌∷◌, [], suc, length, map, drop, get_or, refl, sym, ap, subst, append_assoc, arith, add-one, zip}
+use Rattle.fit_csv.proofs.Common.{Items}
+use Rattle.fit_csv.proofs.Common.{Global, default_writer, field_text, cell, csv_text, text_append, text_none, FieldDef, field_key, field_rows, field_row}
+use Rattle.fit_csv.proofs.Common.{FrameKey, FrameText, end_of, frames_of, head_text, tail_text, HasFields, TakesField, TakesFields, values_text}
+use Rattle.fit_csv.proofs.Common.{Defined, Record, Values, defined_at, dev_defs, known, header_time, previous_time, namings_at, HasRows, rows_both, data_row}
+use Rattle.fit_csv.proofs.Common.{data_rows, dev_rows, message_rows, own_rows}
+use Rattle.std.proofs.Common.{◌<◌, ℕ, List, Option, Some, option_map, unwrap_or}
+use Rattle.std.specs.Prelude.{Vec}
+use Rattle.std.proofs.Math.Seq.{drop-cons}
+use Rattle.std.proofs.lemmas.List.{drop_all}
+use Rattle.fit_csv.proofs.FramedRows.{framed}
+
+-- what is known of a field to take its items
+abbrev pub slot : FrameText → ℕ × ℕ
+slot f = (f.code, f.size)
+
+abbrev pub field_slot : FieldDef → ℕ × ℕ
+field_slot f = (f.code, f.size)
+
+abbrev pub KnowsItems : Type 0 → Type 1
+KnowsItems S = S → List (ℕ × ℕ) → List (Items Global) → Type 0
+
+-- what is left from a place on
+pub cut_or : {X : Type 0} (xs : List X) (k : ℕ) (d : X) → k < length xs → drop k xs ≡ get_or xs k d ∷ drop (k + 1) xs
+cut_or xs k d within = drop-cons xs k d within ∙ ap (λ n. get_or xs k d ∷ drop n xs) (sym (add-one k))
+
+cut_at : {X : Type 0} (xs : List X) (k : ℕ) (x : X) → k < length xs → x ≡ get_or xs k x → drop k xs ≡ x ∷ drop (k + 1) xs
+cut_at xs k x within is = cut_or xs k x within ∙ ap (λ y. y ∷ drop (k + 1) xs) (sym is)
+
+-- The values of the first of these fields, so many, were put behind a text; the others, with this end, will make the text whole.
+abbrev pub Taken : {S : Type 0} → KnowsItems S → List FrameText → List ℕ → S → S → List ℕ → List ℕ → ℕ → Type 0
+Taken has frames end from now start text k = (more : List (ℕ × ℕ)) (all : List (Items Global)) → has from (map slot frames ++ more) all
+    → (rest : List (Items Global)) × has now (map slot (drop k frames) ++ more) rest
+    × (text ++ values_text (drop k frames) end rest ≡ start ++ values_text frames end all)
+    × (drop (length (map slot (drop k frames))) rest ≡ drop (length (map slot frames)) all)
+    × (length (map slot (drop k frames)) ≤ length rest → length (map slot frames) ≤ length all)
+
+pub taken_none : {S : Type 0} (has : KnowsItems S) (frames : List FrameText) (end : List ℕ) (from : S) (start : List ℕ)
+    → Taken has frames end from from start start 0
+taken_none has frames end from start = λ more all h. (all, h, refl, refl, λ le. le)
+
+pub taken_next : {S : Type 0} (has : KnowsItems S) (frames : List FrameText) (end : List ℕ) (from now : S) (start text : List ℕ) (k : ℕ) (f : FrameText)
+    → k < length frames → f ≡ get_or frames k f → Taken has frames end from now start text k → HasFields has from (map slot frames)
+    → HasFields has now (slot f ∷ [])
+taken_next has frames end from now start text k f within is before have =
+    let b = before have.0 have.1 have.2 in
+    (map slot (drop (k + 1) frames) ++ have.0, b.0, subst (λ fs. has now (map slot fs ++ have.0) b.0) (cut_at frames k f within is) b.1)
+
+regroup : (t b v w : List ℕ) → ((t ++ b) ++ v) ++ w ≡ t ++ (b ++ (v ++ w))
+regroup t b v w = simp append_assoc refl
+
+pub taken_more : {S : Type 0} (has : KnowsItems S) (frames : List FrameText) (end : List ℕ) (from now next : S) (start text longer : List ℕ) (k : ℕ)
+    (f : FrameText) → k < length frames → f ≡ get_or frames k f
+    → TakesField has now next (slot f) (λ i. longer ≡ (text ++ f.between) ++ field_text default_writer (cell f.code f.info i))
+    → Taken has frames end from now start text k → Taken has frames end from next start longer (k + 1)
+taken_more has frames end from now next start text longer k f within is takes before = λ more all h.
+    let fs = drop (k + 1) frames in
+    let cut = cut_at frames k f within is in
+    let b = before more all h in
+    let t = takes (map slot fs ++ more) b.0 (subst (λ gs. has now (map slot gs ++ more) b.0) cut b.1) in (
+      t.1,
+      t.3,
+      ap (λ u. u ++ values_text fs end t.1) t.4
+          ∙ regroup text f.between (field_text default_writer (cell f.code f.info t.0)) (values_text fs end t.1)
+          ∙ ap (λ is. text ++ values_text (f ∷ fs) end is) (sym t.2) ∙ ap (λ gs. text ++ values_text gs end b.0) (sym cut) ∙ b.2,
+      ap (λ is. drop (length (map slot (f ∷ fs))) is) (sym t.2) ∙ ap (λ gs. drop (length (map slot gs)) b.0) (sym cut) ∙ b.3,
+      λ le. b.4 (omega (arith, le, ap (λ gs. length (map slot gs)) cut, ap length t.2)),
+    )
+
+pub taken_all : {S : Type 0} (has : KnowsItems S) (frames : List FrameText) (end : List ℕ) (from now : S) (start text : List ℕ) (k : ℕ)
+    → length frames ≤ k → Taken has frames end from now start text k
+    → TakesFields has from now (map slot frames) (λ all. text ++ end ≡ start ++ values_text frames end all)
+taken_all has frames end from now start text k over before = λ more all h.
+    let b = before more all h in
+    let none = drop_all k frames over in (
+      b.4 (omega (arith, ap (λ fs. length (map slot fs)) none)),
+      subst (λ is. has now more is) (ap (λ fs. drop (length (map slot fs)) b.0) (sym none) ∙ b.3) (subst (λ fs. has now (map slot fs ++ more) b.0) none b.1),
+      ap (λ fs. text ++ values_text fs end b.0) (sym none) ∙ b.2,
+    )
+
+-- the values of the fields of a message, behind a row with this end
+pub fields_text : {A : Type 0} (global : ℕ) (fields : List FieldDef) (before : List ℕ) (items : List (Items A)) → length fields ≤ length items
+    → values_text (frames_of before (map (field_key global) fields)) (end_of before (map (field_key global) fields)) items
+    ≡ before ++ csv_text (field_rows global fields items)
+fields_text global [] before items long = sym (text_none before)
+fields_text global (f ∷ fields) before [] long = absurd (omega (arith, long))
+fields_text global (f ∷ fields) before (i ∷ items) long =
+    let key : FrameKey = field_key global f in
+    let value = field_text default_writer (cell key.code key.info i) in
+    let rows = field_rows global fields items in
+    ap (λ t. (before ++ head_text key) ++ (value ++ t)) (fields_text global fields (tail_text key) items (omega (arith, long)))
+    ∙ ap (λ t. (before ++ head_text key) ++ t) (sym (append_assoc value (tail_text key) (csv_text rows)))
+    ∙ sym (append_assoc (before ++ head_text key) (value ++ tail_text key) (csv_text rows))
+    ∙ ap (λ t. t ++ csv_text rows) (sym (append_assoc (before ++ head_text key) value (tail_text key)) ∙ framed key i [] before)
+    ∙ append_assoc before (csv_text (field_row global f i ∷ [])) (csv_text rows)
+    ∙ ap (λ t. before ++ t) (sym (text_append (field_row global f i ∷ []) rows))
+
+-- other items behind those of the fields don't count
+pub rows_front : {A : Type 0} (global : ℕ) (fields : List FieldDef) (items more : List (Items A)) → length items ≡ length fields
+    → field_rows global fields (items ++ more) ≡ field_rows global fields items
+rows_front global [] items more long = refl
+rows_front global (f ∷ fields) [] more long = absurd (omega (arith, long))
+rows_front global (f ∷ fields) (i ∷ items) more long = ap (λ rows. field_row global f i ∷ rows) (rows_front global fields items more (omega (arith, long)))
+
+-- the rows of a message: the first and those of its fields, and then those of its developer fields
+pub message_whole : (before : List (Record Global)) (p : Defined Global) (local : ℕ) (offset time : Option ℕ) (v : Values Global) (u w x : Vec ℕ Global)
+    → defined_at (known before) local ≡ Some p → v.local ≡ local → v.offset ≡ offset → length v.fields ≡ length p.definition.fields
+    → time ≡ header_time (previous_time before) offset
+    → HasRows (own_rows (record { local = local; global = p.definition.global; fields = p.definition.fields }) offset time (v.fields ++ v.dev)) u w
+    → HasRows (dev_rows (dev_defs p.definition.dev) p.dev_codes (namings_at before local) v.dev) w x → HasRows (data_rows before v) u x
+message_whole before p local offset time v u w x place at since long timed own dev =
+    let global = p.definition.global in
+    let fields = p.definition.fields in
+    let behind = header_time (previous_time before) v.offset in
+    let times : time ≡ behind = timed ∙ ap (header_time (previous_time before)) (sym since) in
+    let same : own_rows (record { local = local; global = global; fields = fields }) offset time (v.fields ++ v.dev)
+    ≡ data_row v global behind ∷ field_rows global fields v.fields =
+    (λ i. own_rows (record { local = sym at i; global = global; fields = fields }) (sym since i) (times i) (v.fields ++ v.dev))
+    ∙ ap (λ rows. data_row v global behind ∷ rows) (rows_front global fields v.fields v.dev long) in
+    subst (λ o. HasRows (unwrap_or (option_map (λ q. message_rows v q behind (namings_at before v.local)) o) []) u x)
+    (sym (ap (defined_at (known before)) at ∙ place))
+    (rows_both (subst (λ rows. HasRows rows u w) same own)
+    (subst (λ l. HasRows (dev_rows (dev_defs p.definition.dev) p.dev_codes (namings_at before l) v.dev) w x) (sym at) dev))

@@ -1,0 +1,45 @@
+use Rattle.fit_profile.proofs.Common.{◌≡◌, ◌∙◌, ◌++◌, ◌∷◌, [], sym, ap, refl, subst, false, or_parts, Some, None, list_any}
+use Rattle.fit_profile.proofs.Common.{Defined, Environment, Values, MessageDef, defined_at, described_by, tell, told_at, last_after}
+use Rattle.std.specs.Prelude.{◌==◌, ◌&&◌, ◌||◌}
+use Rattle.fit_record.specs.Faults.{or_else}
+use Rattle.fit_record.specs.MessageBytes.{message_in}
+use Rattle.fit_record.specs.declared.message.Record.TheVariants.{Values as Data}
+use Rattle.fit_profile.specs.declared.told.Last.{Last}
+use Rattle.fit_profile.specs.inner.Counters.{is_counter}
+use Rattle.fit_profile.proofs.NoCounters.{only-time}
+use Rattle.fit_profile.proofs.message_bytes.take_time.Goals as goal
+
+-- neither a field description nor a message with counters
+parts : {A : Type 0} (d : MessageDef A) → (d.global == 206 || (d.global == 20 && list_any (λ f. is_counter f.number) d.fields)) ≡ false
+    → ((d.global == 206) ≡ false) × ((d.global == 20 && list_any (λ f. is_counter f.number) d.fields) ≡ false)
+parts d none = or_parts (d.global == 206) (d.global == 20 && list_any (λ f. is_counter f.number) d.fields) none
+
+tells : {A : Type 0} (e : Environment A) (p : Defined A) (l : Last) (v : Values A) → defined_at e v.local ≡ Some p
+    → tell e l (Data v) ≡ Some (told_at l p.definition v)
+tells e p l v known = rw known refl
+
+describes-nothing : {A : Type 0} (e : Environment A) (p : Defined A) (v : Values A) → defined_at e v.local ≡ Some p → (p.definition.global == 206) ≡ false
+    → described_by e v ≡ None
+describes-nothing e p v known other = rw (known, other) refl
+
+pub returns-clause-last : goal.returns-clause-last
+returns-clause-last c _ v is =
+    let m = c.message_of-message.result in
+    let d = m.defined.now.definition in
+    let e = c.args.env.now in
+    let last = c.args.last.now in
+    subst (λ w. c.with_time.result ≡ last_after last (tell e last (Data w))) (c.message_of-message.ensures.read v is)
+    (c.with_time.ensures ∙ ap (λ t. record last { time = or_else t last.time }) c.time_of_message.ensures
+    ∙ only-time last d (message_in m) (parts d (sym c.tells_more.ensures ∙ c.if-tells_more.false)).1
+    ∙ sym (ap (last_after last) (tells e m.defined.now last (message_in m) c.message_of-message.ensures.defined)))
+
+pub returns-clause-records : goal.returns-clause-records
+returns-clause-records c _ v is =
+    c.add_message.ensures ∙ ap (λ w. c.args.records.now.items ++ Data w ∷ []) (c.message_of-message.ensures.read v is)
+
+pub returns-clause-nothing : goal.returns-clause-nothing
+returns-clause-nothing c _ v is =
+    let m = c.message_of-message.result in
+    subst (λ w. described_by c.args.env.now w ≡ None) (c.message_of-message.ensures.read v is)
+    (describes-nothing c.args.env.now m.defined.now (message_in m) c.message_of-message.ensures.defined
+    (parts m.defined.now.definition (sym c.tells_more.ensures ∙ c.if-tells_more.false)).0)

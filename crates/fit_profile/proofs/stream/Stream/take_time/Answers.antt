@@ -1,0 +1,31 @@
+use Rattle.fit_profile.proofs.Common.{◌∙◌, ◌∷◌, [], sym, ap, subst, reverse, reverse-append, inl, inr, cases_Bool, KeepsRecords}
+use Rattle.fit_record.specs.declared.message.Record.TheVariants.{Values as Data}
+use Rattle.fit_profile.proofs.Kept.{kept-record, keeps-last}
+use Rattle.fit_profile.proofs.stream.Stream.take_time.Goals as goal
+
+pub take_time-requires : goal.take_time-requires
+take_time-requires c =
+    (c.requires.0, kept-record c.args.self.now (Data c.requires.0) c.args.bytes.now c.self.invariant c.self.view_is c.requires.1)
+
+pub invariant_of-self : goal.invariant_of-self
+invariant_of-self c =
+    let s = c.self.inside in
+    let items = s.pushed.items in
+    let last = c.take_time.new.last in
+    let v = c.requires.0 in
+    let is = kept-record c.args.self.now (Data v) c.args.bytes.now c.self.invariant c.self.view_is c.requires.1 in
+    elim (cases_Bool c.take_time.result) [
+      | inl taken ↦ keeps-last s.env s.last last s.names items c.take_time.new.records.items c.args.self.now v c.self.invariant c.self.view_is c.requires.1.0
+          (c.take_time.ensures.nothing taken v is) (c.take_time.ensures.last taken v is) (c.take_time.ensures.records taken v is)
+      | inr left ↦ subst (λ xs. KeepsRecords s.env last s.names (reverse xs)) (sym (c.take_time.ensures.records_kept left))
+          (subst (λ l. KeepsRecords s.env l s.names (reverse items)) (sym (c.take_time.ensures.last_kept left)) c.self.invariant)
+    ]
+
+pub returns-clause-taken : goal.returns-clause-taken
+returns-clause-taken c taken v read =
+    let is = kept-record c.args.self.now (Data v) c.args.bytes.now c.self.invariant c.self.view_is read in
+    ap reverse (c.take_time.ensures.records taken v is) ∙ reverse-append c.self.inside.pushed.items (Data v ∷ [])
+    ∙ ap (λ xs. Data v ∷ xs) c.self.view_is
+
+pub returns-clause-kept : goal.returns-clause-kept
+returns-clause-kept c left = ap reverse (c.take_time.ensures.records_kept left) ∙ c.self.view_is

@@ -1,0 +1,7 @@
+-- Fields in the bytes of a message. Only private contracts name this definition.
+use Rattle.std.specs.Prelude.{ℕ, List, map}
+use Rattle.fit_record.specs.declared.definition.FieldDef.{FieldDef}
+
+-- base type code and size of each field
+abbrev pub slots : List FieldDef → List (ℕ × ℕ)
+slots fields = map (λ f. (f.code, f.size)) fields

@@ -1,0 +1,7 @@
+use Rattle.fit_record.proofs.environment.Env.take_in.Goals as goal
+
+pub described_by-requires : goal.described_by-requires
+described_by-requires g c = assumption
+
+pub describe-requires : goal.describe-requires
+describe-requires g c = assumption

@@ -1,0 +1,69 @@
+-- What is fed is told.
+use Rattle.fit_report.proofs.Common.{channel, reverse, ap, ◌∙◌, subst, Err, hear, AreEvents, AreHeard, Seen, err_from_is_err_and}
+use Rattle.fit_report.proofs.Hearing.{heard_next, uses_some}
+use Rattle.fit_report.proofs.Pieces.{stops, stops_before}
+use Rattle.fit_report.proofs.Texts.{stands_on, stops_in, text_told}
+use Rattle.fit_report.proofs.reporting.tell_next.Goals as goal
+
+pub returns-in_err-used-clause-passes : goal.returns-in_err-used-clause-passes
+returns-in_err-used-clause-passes g c =
+    let p = err_from_is_err_and c.from_residual.result c.from_residual.ensures.1 in
+    rw (p.1, p.2) (λ start s.
+    stops c.args.decoder.now c.args.piece.now (channel g.K.Sink.contents g.K.Sink.has_failed c.args.sink.now c.args.sink.now) s c.feed.new.self
+    c.in_err-used.field-0.0 (record {
+      refused = λ place reason is. c.feed.ensures.refused place reason c.requires.fresh (c.in_err-used.was ∙ ap Err is);
+      others = λ place. (
+        λ is. (c.feed.ensures.others place).0 (c.in_err-used.was ∙ ap Err is),
+        λ is.
+            (c.feed.ensures.others place).1 (c.in_err-used.was ∙ ap Err is),
+      );
+    }))
+
+pub tell-requires : goal.tell-requires
+tell-requires g c =
+    let s = c.requires.told.1 in
+    let fed = c.in_ok-used.ensures in (
+      s.heard,
+      s.has,
+      (
+        c.feed.new.self.bytes,
+        fed.viable,
+        heard_next c.args.decoder.now c.feed.new.self c.args.piece.now c.in_ok-used.field-0.used s.heard c.in_ok-used.field-0.event fed.used.1
+            (record { more = fed.more; event = fed.event }) s.are,
+      ),
+    )
+
+pub returns-clause-some : goal.returns-clause-some
+returns-clause-some g c =
+    uses_some c.args.decoder.now.bytes c.args.piece.now c.in_ok-used.field-0.used c.in_ok-used.field-0.event
+    (record { more = c.in_ok-used.ensures.more; event = c.in_ok-used.ensures.event })
+
+pub returns-clause-passes : goal.returns-clause-passes
+returns-clause-passes g c = λ start s.
+    let fed = c.in_ok-used.ensures in
+    let event = c.in_ok-used.field-0.event in
+    let are = heard_next c.args.decoder.now c.feed.new.self c.args.piece.now c.in_ok-used.field-0.used s.heard event fed.used.1
+    (record { more = fed.more; event = fed.event }) s.are in
+    let heard : AreHeard (hear event s.heard) = (c.feed.new.self.bytes, fed.viable, are) in
+    stands_on (channel g.K.Sink.contents g.K.Sink.has_failed c.args.sink.now c.put_text.new.sink) s (hear event s.heard) c.as_slice.result.now
+    (text_told g.R.Report.line s.heard event c.clear.new.self.items c.tell.new.text.items c.as_slice.result.now c.clear.ensures.items
+    (c.in-Ok.ensures.text s.heard s.has heard) c.as_slice.ensures.value)
+    c.tell.new.self c.feed.new.self.bytes c.put_text.new.written (c.in-Ok.ensures.heard s.heard s.has heard) are c.in_ok-put_text.ensures
+
+pub returns-in_err-put_text-clause-passes : goal.returns-in_err-put_text-clause-passes
+returns-in_err-put_text-clause-passes g c =
+    let p = err_from_is_err_and c.from_residual-in_err-put_text.result c.from_residual-in_err-put_text.ensures.1 in
+    let fed = c.in_ok-used.ensures in
+    let event = c.in_ok-used.field-0.event in
+    rw (p.1, p.2) (λ start s.
+    let are = heard_next c.args.decoder.now c.feed.new.self c.args.piece.now c.in_ok-used.field-0.used s.heard event fed.used.1
+    (record { more = fed.more; event = fed.event }) s.are in
+    stops_in (channel g.K.Sink.contents g.K.Sink.has_failed c.args.sink.now c.put_text.new.sink) s (hear event s.heard) c.as_slice.result.now
+    (text_told g.R.Report.line s.heard event c.clear.new.self.items c.tell.new.text.items c.as_slice.result.now c.clear.ensures.items
+    (c.in-Ok.ensures.text s.heard s.has (c.feed.new.self.bytes, fed.viable, are)) c.as_slice.ensures.value)
+    c.tell.new.self c.args.piece.now c.in_ok-used.field-0.used c.put_text.new.written c.in_err-put_text.field-0.0
+    (subst (λ b. AreEvents b (reverse (hear event s.heard))) (ap (λ (v : Seen). v.bytes) fed.used.1) are) c.in_err-put_text.ensures)
+
+pub returns-in_default-clause-passes : goal.returns-in_default-clause-passes
+returns-in_default-clause-passes g c = λ start s.
+    stops_before c.args.decoder.now c.args.piece.now (channel g.K.Sink.contents g.K.Sink.has_failed c.args.sink.now c.args.sink.now) s c.tell.new.self
