@@ -15,9 +15,6 @@ ghost use Rattle.fit_decode.specs.Answers.{event_of, fed, MessageFollows, Refuse
 ghost use Rattle.fit_chain.specs.Pieces.{Quiet, Least, TellsRecords};
 ghost use Rattle.fit_chain.specs.Checks.{AreChain};
 
-#[cfg(test)]
-mod tests;
-
 use crate::need::bytes_to_come;
 use crate::section::{Section, Stage};
 use crate::{Event, Fault, Fed};
@@ -290,7 +287,28 @@ impl<A: Allocator + Copy> Decoder<A> {
         ensures ended { AreChain A self.now.bytes → result ≡ 0 }
         ensures limit { result ≤ bound_limit }
     {
-        self.env.held() + in_progress_size(&self.in_progress)
+        // Every part is named here. The other ones have a fixed size and no memory of their own.
+        let Decoder {
+            env,
+            in_progress,
+            alloc: _,
+            reader: _,
+            sum: _,
+            stage: Stage {
+                files: _,
+                section: _,
+                half: _,
+            },
+            position: Position {
+                phase: _,
+                room: _,
+                partial: _,
+            },
+            count: _,
+            refusal: _,
+            history: _,
+        } = self;
+        env.held() + in_progress_size(in_progress)
     }
 }
 
