@@ -12,9 +12,10 @@ mod scan;
 mod strings;
 mod writer;
 
-pub use cell::{cell_text, is_never_quoted, put_cell};
+pub use cell::{cell_text, is_never_quoted, needs_quotes, put_cell};
 pub use form::{NumberForm, formed, formed_number, lone_number, number_form, put_formed};
 pub use hexadecimal::{put_digits, read_bytes};
 pub use rows::{next_row, put_row, row_reader, row_text, row_writer, rows_text};
 pub use scan::{cell_items, cell_items_by};
+pub use strings::shown_text;
 pub use writer::RowWriter;

@@ -1,6 +1,7 @@
 //! Strings, as they are in a cell.
-ghost use Rattle.std.specs.Prelude.{◌≡◌, List, ◌<◌, ◌++◌, ℕ, All, IfOk, OnErr, OnOk, slice_index, length, not, ◌==◌};
+ghost use Rattle.std.specs.Prelude.{◌≡◌, List, ◌<◌, ◌++◌, ℕ, All, IfOk, IfSome, OnErr, OnOk, None, false, slice_index, length, not, ◌==◌};
 ghost use Rattle.std.specs.List.{list_all};
+ghost use Rattle.fit_profile.specs.Described.{before_closing_zeros};
 ghost use Rattle.fit_profile.specs.FixedText.{StillBegins};
 ghost use Rattle.fit_cells.specs.Cells.{begins_as_bytes, is_plain, string_text};
 
@@ -35,6 +36,29 @@ fn is_plain(text: &[u8]) -> bool
         Ok(_) => has_no_zero(text) && !begins_as_bytes(text),
         Err(_) => false,
     }
+}
+
+/// The bytes before the closing zeros.
+fn before_zeros(bytes: &[u8]) -> &[u8]
+    ensures { result.now ≡ before_closing_zeros bytes.now }
+{
+    let mut len = 0;
+    for (place, byte) in bytes.iter().enumerate() {
+        if *byte != 0 {
+            len = place + 1;
+        }
+    }
+    &bytes[..len]
+}
+
+/// The text of a string by the bytes of its field, where its cell shows it as text: UTF-8 without a zero before the closing zeros,
+/// which doesn't begin as bytes do in a cell.
+pub fn shown_text(bytes: &[u8]) -> Option<&[u8]>
+    ensures some { IfSome result (λ text. text.now ≡ string_text bytes.now) }
+    ensures none { result ≡ None → is_plain (before_closing_zeros bytes.now) ≡ false }
+{
+    let text = before_zeros(bytes);
+    if is_plain(text) { Some(text) } else { None }
 }
 
 /// Puts bytes behind a text, as they are.

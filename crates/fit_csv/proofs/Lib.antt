@@ -12,6 +12,7 @@ mod Fields
 mod DevFields
 mod FieldWalks
 mod ItemFacts
+mod TextCells
 mod DevWalks
 mod InstantFacts
 mod PlainInstants

@@ -14,7 +14,8 @@ pub(crate) mod likely;
 
 use fit_base::{Code, Items, Order, bits_at};
 use fit_cells::{
-    NumberForm, RowWriter, formed, is_never_quoted, number_form, put_cell, put_formed,
+    NumberForm, RowWriter, formed, is_never_quoted, needs_quotes, number_form, put_cell,
+    put_formed, shown_text,
 };
 use fit_profile::Info;
 use fit_record::read_items;
@@ -207,6 +208,21 @@ impl Frame {
         }
     }
 
+    /// The text of a string by the bytes of the field, where it stands in its row as it is.
+    #[inline(always)]
+    fn bare_text<'a>(&self, bytes: &'a [u8]) -> Option<&'a [u8]>
+        requires { length bytes.now ≡ self.now.size }
+        ensures { IfSome result (λ shown. (order : Order) → shown.now ≡ field_text default_writer
+            (cell self.now.code self.now.info
+            (field_from {A = Global} order (self.now.code, self.now.size) bytes.now))) }
+    {
+        if is_never_quoted(Code(self.code)) {
+            return None;
+        }
+        let text = shown_text(bytes)?;
+        if needs_quotes(text) { None } else { Some(text) }
+    }
+
     /// The same by the bytes of the field.
     #[inline(always)]
     pub(crate) fn put_bytes(
@@ -227,6 +243,9 @@ impl Frame {
         if let Some(form) = self.lone_form() {
             put_formed(text, form, bits_at(order, form.width, bytes))?;
             return Ok(());
+        }
+        if let Some(shown) = self.bare_text(bytes) {
+            return text.extend_from_slice(shown);
         }
         let items = read_items(alloc, order, self.code, self.size, bytes)?;
         self.put_other(text, writer, value, &items)
