@@ -95,7 +95,7 @@ pub use Rattle.fit_csv.specs.Judged.{IsRowFault, MayBeOfKind}
 pub use Rattle.fit_csv.specs.Laws.{ChainsHaveOwnRows, TextsHaveOneFinding}
 pub use Rattle.fit_csv.specs.RowKinds.{IsEndRow, IsFileRow, naming_at, IsDevDefRow, IsFieldDefRow, IsDevRow, IsFieldRow, IsDataRow, IsDefinitionRow}
 pub use Rattle.fit_csv.specs.ShowLines.{header_line, record_line, show_line, show_lines, listed, message_line, separator, shown_part, shown_cell}
-pub use Rattle.fit_csv.specs.ShowLines.{shown_dev, shown_field, joined, message_front, shown_devs, shown_fields, time_part, unit_part}
+pub use Rattle.fit_csv.specs.ShowLines.{KeptEvents, kept_events, shown_dev, shown_field, joined, message_front, shown_devs, shown_fields, time_part, unit_part}
 unfoldable pub use Rattle.fit_csv.specs.ShowLines.{record_lines, show_files}
 pub use Rattle.fit_csv.specs.Table.{table_of, amount_text, value_text, table_line, table_record_rows, table_row, table_rows, table_event_rows}
 unfoldable pub use Rattle.fit_csv.specs.Table.{table_events_rows, table_files_rows, table_records_rows}
@@ -119,10 +119,10 @@ pub use Rattle.fit_csv.specs.inner.Progress.{is_whole_message, FitsOnceWhole, Pa
 unfoldable pub use Rattle.fit_csv.specs.inner.Progress.{Run}
 pub use Rattle.fit_csv.specs.inner.Reporting.{HasText, csv_fault, AnswerFits, answer_rows, behind_answer}
 pub use Rattle.fit_csv.specs.inner.Seven.{AsFar, DifferAt, row_of}
-pub use Rattle.fit_csv.specs.inner.Showing.{line_with, text_with, time_told, ShownKey, key_text, line_front, shown_key, spaced}
+pub use Rattle.fit_csv.specs.inner.Showing.{text_with, CellKey, ShownKey, key_text, keys_text, line_front, shown_key, shown_keys, spaced}
 pub use Rattle.fit_csv.specs.inner.SoundChain.{IsSoundChain, IsSoundCurrent, IsSoundDefinition, IsSoundFile, IsSoundMessage, IsSoundSoFar}
 pub use Rattle.fit_csv.specs.inner.SoundChain.{current_rows, open_file_rows, open_rows, part_rows, rows_so_far, IsSoundPart, HaveShapeSoFar}
 pub use Rattle.fit_csv.specs.inner.SoundChain.{BeginsWithMore}
-pub use Rattle.fit_csv.specs.inner.TableCells.{shown_text, number_cell as cell_of, table_answer_rows, rows_in, number_cell}
+pub use Rattle.fit_csv.specs.inner.TableCells.{shown_text, number_cell as cell_of, table_answer_rows, rows_in, number_cell, files_behind_answer}
 pub use Rattle.fit_csv.specs.inner.TableColumns.{IsColumn, IsFirst, IsPlaced}
 pub use Rattle.fit_csv.specs.inner.TextFaults.{IsTextFault, IsUnjudged, IsReadFault}

@@ -1,4 +1,4 @@
--- Fields of a message, taken one after another, and their values put in rows.
+-- Fields of a message, taken one after another, and their texts.
 use Rattle.fit_csv.proofs.Common.{◌≡◌, ◌∙◌, ◌≤◌, ◌+◌, ◌++◌, ◌∷◌, [], suc, length, map, drop, get_or, refl, sym, ap, subst, append_assoc, arith, add-one, zip}
 use Rattle.fit_csv.proofs.Common.{Items}
 use Rattle.fit_csv.proofs.Common.{Global, default_writer, field_text, cell, csv_text, text_append, text_none, FieldDef, field_key, field_rows, field_row}
@@ -28,56 +28,69 @@ cut_or xs k d within = drop-cons xs k d within ∙ ap (λ n. get_or xs k d ∷ d
 cut_at : {X : Type 0} (xs : List X) (k : ℕ) (x : X) → k < length xs → x ≡ get_or xs k x → drop k xs ≡ x ∷ drop (k + 1) xs
 cut_at xs k x within is = cut_or xs k x within ∙ ap (λ y. y ∷ drop (k + 1) xs) (sym is)
 
--- The values of the first of these fields, so many, were put behind a text; the others, with this end, will make the text whole.
-abbrev pub Taken : {S : Type 0} → KnowsItems S → List FrameText → List ℕ → S → S → List ℕ → List ℕ → ℕ → Type 0
-Taken has frames end from now start text k = (more : List (ℕ × ℕ)) (all : List (Items Global)) → has from (map slot frames ++ more) all
+-- the text of fields one after another, by their items
+abbrev pub TextOf : Type 0 → Type 0
+TextOf F = List F → List (Items Global) → List ℕ
+
+-- The texts of the first of these fields, so many, were put behind a text; those of the others will make the text whole.
+abbrev pub Taken : {F S : Type 0} → (F → ℕ × ℕ) → TextOf F → KnowsItems S → List F → S → S → List ℕ → List ℕ → ℕ → Type 0
+Taken slot texts has frames from now start text k = (more : List (ℕ × ℕ)) (all : List (Items Global)) → has from (map slot frames ++ more) all
     → (rest : List (Items Global)) × has now (map slot (drop k frames) ++ more) rest
-    × (text ++ values_text (drop k frames) end rest ≡ start ++ values_text frames end all)
+    × (text ++ texts (drop k frames) rest ≡ start ++ texts frames all)
     × (drop (length (map slot (drop k frames))) rest ≡ drop (length (map slot frames)) all)
     × (length (map slot (drop k frames)) ≤ length rest → length (map slot frames) ≤ length all)
 
-pub taken_none : {S : Type 0} (has : KnowsItems S) (frames : List FrameText) (end : List ℕ) (from : S) (start : List ℕ)
-    → Taken has frames end from from start start 0
-taken_none has frames end from start = λ more all h. (all, h, refl, refl, λ le. le)
+module _ {F S : Type 0} (slot : F → ℕ × ℕ) (texts : TextOf F) (has : KnowsItems S) (frames : List F) (from : S) (start : List ℕ) where
+  pub taken_none : Taken slot texts has frames from from start start 0
+  taken_none = λ more all h. (all, h, refl, refl, λ le. le)
 
-pub taken_next : {S : Type 0} (has : KnowsItems S) (frames : List FrameText) (end : List ℕ) (from now : S) (start text : List ℕ) (k : ℕ) (f : FrameText)
-    → k < length frames → f ≡ get_or frames k f → Taken has frames end from now start text k → HasFields has from (map slot frames)
-    → HasFields has now (slot f ∷ [])
-taken_next has frames end from now start text k f within is before have =
-    let b = before have.0 have.1 have.2 in
-    (map slot (drop (k + 1) frames) ++ have.0, b.0, subst (λ fs. has now (map slot fs ++ have.0) b.0) (cut_at frames k f within is) b.1)
+  module _ (now : S) (text : List ℕ) (k : ℕ) (before : Taken slot texts has frames from now start text k) where
+    pub taken_next : (f : F) → k < length frames → f ≡ get_or frames k f → HasFields has from (map slot frames) → HasFields has now (slot f ∷ [])
+    taken_next f within is have =
+        let b = before have.0 have.1 have.2 in
+        (map slot (drop (k + 1) frames) ++ have.0, b.0, subst (λ fs. has now (map slot fs ++ have.0) b.0) (cut_at frames k f within is) b.1)
+
+    -- one field more, by what its text makes of the text before it
+    pub taken_more : (after : List ℕ → F → Items Global → List ℕ)
+        → ((t : List ℕ) (f : F) (fs : List F) (i : Items Global) (is : List (Items Global)) → after t f i ++ texts fs is ≡ t ++ texts (f ∷ fs) (i ∷ is))
+        → (next : S) (longer : List ℕ) (f : F) → k < length frames → f ≡ get_or frames k f
+        → TakesField has now next (slot f) (λ i. longer ≡ after text f i) → Taken slot texts has frames from next start longer (k + 1)
+    taken_more after glue next longer f within is takes = λ more all h.
+        let fs = drop (k + 1) frames in
+        let cut = cut_at frames k f within is in
+        let b = before more all h in
+        let t = takes (map slot fs ++ more) b.0 (subst (λ gs. has now (map slot gs ++ more) b.0) cut b.1) in (
+          t.1,
+          t.3,
+          ap (λ u. u ++ texts fs t.1) t.4 ∙ glue text f fs t.0 t.1 ∙ ap (λ is. text ++ texts (f ∷ fs) is) (sym t.2)
+              ∙ ap (λ gs. text ++ texts gs b.0) (sym cut) ∙ b.2,
+          ap (λ is. drop (length (map slot (f ∷ fs))) is) (sym t.2) ∙ ap (λ gs. drop (length (map slot gs)) b.0) (sym cut) ∙ b.3,
+          λ le. b.4 (omega (arith, le, ap (λ gs. length (map slot gs)) cut, ap length t.2)),
+        )
+
+    pub taken_all : (end : List ℕ) → ((is : List (Items Global)) → texts [] is ≡ end) → length frames ≤ k
+        → TakesFields has from now (map slot frames) (λ all. text ++ end ≡ start ++ texts frames all)
+    taken_all end ends over = λ more all h.
+        let b = before more all h in
+        let none = drop_all k frames over in (
+          b.4 (omega (arith, ap (λ fs. length (map slot fs)) none)),
+          subst (λ is. has now more is) (ap (λ fs. drop (length (map slot fs)) b.0) (sym none) ∙ b.3)
+              (subst (λ fs. has now (map slot fs ++ more) b.0) none b.1),
+          ap (λ u. text ++ u) (sym (ends b.0)) ∙ ap (λ fs. text ++ texts fs b.0) (sym none) ∙ b.2,
+        )
+
+-- ---- in rows
 
 regroup : (t b v w : List ℕ) → ((t ++ b) ++ v) ++ w ≡ t ++ (b ++ (v ++ w))
 regroup t b v w = simp append_assoc refl
 
-pub taken_more : {S : Type 0} (has : KnowsItems S) (frames : List FrameText) (end : List ℕ) (from now next : S) (start text longer : List ℕ) (k : ℕ)
-    (f : FrameText) → k < length frames → f ≡ get_or frames k f
-    → TakesField has now next (slot f) (λ i. longer ≡ (text ++ f.between) ++ field_text default_writer (cell f.code f.info i))
-    → Taken has frames end from now start text k → Taken has frames end from next start longer (k + 1)
-taken_more has frames end from now next start text longer k f within is takes before = λ more all h.
-    let fs = drop (k + 1) frames in
-    let cut = cut_at frames k f within is in
-    let b = before more all h in
-    let t = takes (map slot fs ++ more) b.0 (subst (λ gs. has now (map slot gs ++ more) b.0) cut b.1) in (
-      t.1,
-      t.3,
-      ap (λ u. u ++ values_text fs end t.1) t.4
-          ∙ regroup text f.between (field_text default_writer (cell f.code f.info t.0)) (values_text fs end t.1)
-          ∙ ap (λ is. text ++ values_text (f ∷ fs) end is) (sym t.2) ∙ ap (λ gs. text ++ values_text gs end b.0) (sym cut) ∙ b.2,
-      ap (λ is. drop (length (map slot (f ∷ fs))) is) (sym t.2) ∙ ap (λ gs. drop (length (map slot gs)) b.0) (sym cut) ∙ b.3,
-      λ le. b.4 (omega (arith, le, ap (λ gs. length (map slot gs)) cut, ap length t.2)),
-    )
+-- a value behind what stands before it
+abbrev pub value_after : List ℕ → FrameText → Items Global → List ℕ
+value_after t f i = (t ++ f.between) ++ field_text default_writer (cell f.code f.info i)
 
-pub taken_all : {S : Type 0} (has : KnowsItems S) (frames : List FrameText) (end : List ℕ) (from now : S) (start text : List ℕ) (k : ℕ)
-    → length frames ≤ k → Taken has frames end from now start text k
-    → TakesFields has from now (map slot frames) (λ all. text ++ end ≡ start ++ values_text frames end all)
-taken_all has frames end from now start text k over before = λ more all h.
-    let b = before more all h in
-    let none = drop_all k frames over in (
-      b.4 (omega (arith, ap (λ fs. length (map slot fs)) none)),
-      subst (λ is. has now more is) (ap (λ fs. drop (length (map slot fs)) b.0) (sym none) ∙ b.3) (subst (λ fs. has now (map slot fs ++ more) b.0) none b.1),
-      ap (λ fs. text ++ values_text fs end b.0) (sym none) ∙ b.2,
-    )
+pub value_more : (end t : List ℕ) (f : FrameText) (fs : List FrameText) (i : Items Global) (is : List (Items Global))
+    → value_after t f i ++ values_text fs end is ≡ t ++ values_text (f ∷ fs) end (i ∷ is)
+value_more end t f fs i is = regroup t f.between (field_text default_writer (cell f.code f.info i)) (values_text fs end is)
 
 -- the values of the fields of a message, behind a row with this end
 pub fields_text : {A : Type 0} (global : ℕ) (fields : List FieldDef) (before : List ℕ) (items : List (Items A)) → length fields ≤ length items
@@ -97,11 +110,10 @@ fields_text global (f ∷ fields) before (i ∷ items) long =
     ∙ ap (λ t. before ++ t) (sym (text_append (field_row global f i ∷ []) rows))
 
 -- other items behind those of the fields don't count
-pub rows_front : {A : Type 0} (global : ℕ) (fields : List FieldDef) (items more : List (Items A)) → length items ≡ length fields
-    → field_rows global fields (items ++ more) ≡ field_rows global fields items
-rows_front global [] items more long = refl
-rows_front global (f ∷ fields) [] more long = absurd (omega (arith, long))
-rows_front global (f ∷ fields) (i ∷ items) more long = ap (λ rows. field_row global f i ∷ rows) (rows_front global fields items more (omega (arith, long)))
+pub zip_front : {X Y : Type 0} (xs : List X) (ys more : List Y) → length ys ≡ length xs → zip xs (ys ++ more) ≡ zip xs ys
+zip_front [] ys more long = refl
+zip_front (x ∷ xs) [] more long = absurd (omega (arith, long))
+zip_front (x ∷ xs) (y ∷ ys) more long = ap (λ zs. (x, y) ∷ zs) (zip_front xs ys more (omega (arith, long)))
 
 -- the rows of a message: the first and those of its fields, and then those of its developer fields
 pub message_whole : (before : List (Record Global)) (p : Defined Global) (local : ℕ) (offset time : Option ℕ) (v : Values Global) (u w x : Vec ℕ Global)
@@ -117,7 +129,7 @@ message_whole before p local offset time v u w x place at since long timed own d
     let same : own_rows (record { local = local; global = global; fields = fields }) offset time (v.fields ++ v.dev)
     ≡ data_row v global behind ∷ field_rows global fields v.fields =
     (λ i. own_rows (record { local = sym at i; global = global; fields = fields }) (sym since i) (times i) (v.fields ++ v.dev))
-    ∙ ap (λ rows. data_row v global behind ∷ rows) (rows_front global fields v.fields v.dev long) in
+    ∙ ap (λ xs. data_row v global behind ∷ map (λ x. field_row global x.0 x.1) xs) (zip_front fields v.fields v.dev long) in
     subst (λ o. HasRows (unwrap_or (option_map (λ q. message_rows v q behind (namings_at before v.local)) o) []) u x)
     (sym (ap (defined_at (known before)) at ∙ place))
     (rows_both (subst (λ rows. HasRows rows u w) same own)

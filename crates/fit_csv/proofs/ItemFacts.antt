@@ -1,13 +1,14 @@
 -- The items of the next field, made or in their bytes.
-use Rattle.fit_csv.proofs.Common.{◌≡◌, ◌∙◌, ◌≤◌, ◌+◌, ◌/◌, ◌%◌, ◌++◌, ◌∷◌, [], zero, suc, length, map, take, drop, refl, sym, ap, ap₂, subst, arith, take_all}
-use Rattle.fit_csv.proofs.Common.{Bor}
+use Rattle.fit_csv.proofs.Common.{◌≡◌, ◌∙◌, ◌≤◌, ◌+◌, ◌/◌, ◌%◌, ◌^◌, ◌++◌, ◌∷◌, [], zero, suc, length, map, take, drop, refl, sym, ap, ap₂, subst, arith}
+use Rattle.fit_csv.proofs.Common.{Bor, take_all}
 use Rattle.fit_csv.proofs.Common.{Order, Items, HasShape, HaveShape, MessageDef, Defined, DevDef, FieldDef, base_type, item_width, layout, dev_layout}
-use Rattle.std.proofs.Common.{ℕ, List, Option, None, ◌⊎◌, inl, inr, if◌then◌else◌, ◌==◌}
+use Rattle.std.proofs.Common.{◌<◌, ℕ, List, Option, None, ◌⊎◌, inl, inr, if◌then◌else◌, ◌==◌}
 use Rattle.std.proofs.lemmas.List.Sums.{sum_by-cons}
 use Rattle.std.proofs.Math.Seq.{length-take-le, take-take, drop-drop}
 use Rattle.std.proofs.lemmas.List.{drop-take}
 use Rattle.std.proofs.Math.ListN.{length-drop}
 use Rattle.std.specs.Global.{Global}
+use Rattle.fit_base.proofs.NumberLaws.{number-below}
 use Rattle.fit_base.specs.Numbers.{IsBytes, number}
 use Rattle.fit_record.proofs.ReadMessages.{message_fits}
 use Rattle.fit_record.specs.ReadMessages.{field_from, fields_from, numbers_of}
@@ -72,6 +73,10 @@ lone_field A o code size bytes small own long =
       ap (λ w. numbers_of o w (size / w) bytes) wide ∙ ap (λ n. numbers_of o size n bytes) one.1
           ∙ ap (λ b. number o b ∷ []) (take_all size bytes (omega (arith, long))),
     )
+
+-- the number of some bytes has their width
+pub lone_below : (o : Order) (bytes : List ℕ) (width n : ℕ) → IsBytes bytes → length bytes ≡ width → n ≡ number o bytes → n < 256 ^ width
+lone_below o bytes width n are long is = subst (λ m. m < 256 ^ width) (sym is) (subst (λ w. number o bytes < 256 ^ w) long (number-below o bytes are))
 
 -- the items in the bytes of a field have its shape: they are those of a message that has no other field
 pub field_shape : (A : Type 0) (o : Order) (code size : ℕ) (bytes : List ℕ) → IsBytes bytes → length bytes ≡ size

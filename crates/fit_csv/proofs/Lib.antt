@@ -2,13 +2,13 @@ pub mod Common
 mod KnownRows
 pub mod RowsOfEvents
 mod ToldRows
+mod SkippedMessages
 mod ProfileScales
 mod Converted
 mod ToldTable
 pub mod TableRows
 mod Shapes
 mod NamingFacts
-mod Fields
 mod DevFields
 mod FieldWalks
 mod ItemFacts
@@ -25,7 +25,8 @@ mod ZeroItems
 mod HeaderRows
 mod MessageRows
 mod ValueRows
-pub mod ShownLines
+mod ShownCells
+mod ShownLines
 pub mod LinesOfChains
 mod ValueSteps
 mod PartSteps

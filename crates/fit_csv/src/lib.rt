@@ -4,6 +4,7 @@
 mod conversion;
 mod fault;
 mod from;
+mod items;
 mod kept;
 pub mod laws;
 mod rows;

@@ -4,7 +4,6 @@ pub(crate) mod definition;
 pub(crate) mod developer;
 pub(crate) mod file;
 pub(crate) mod frames;
-pub(crate) mod items;
 pub(crate) mod maker;
 pub(crate) mod message;
 pub(crate) mod report;

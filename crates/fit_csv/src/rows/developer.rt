@@ -8,9 +8,9 @@ ghost use Rattle.fit_cells.specs.Rows.{HasRows};
 ghost use Rattle.fit_csv.specs.ChainRows as rows;
 ghost use Rattle.fit_csv.specs.inner.Frames.{HasFields, TakesField, dev_key, value_row};
 
+use crate::items::FieldItems;
 use crate::kept::keep_at;
 use crate::rows::frames::{Frame, put_tail};
-use crate::rows::items::FieldItems;
 use crate::rows::maker::RowMaker;
 use crate::words::{dev_unit, numbered_label};
 use fit_cells::RowWriter;

@@ -12,10 +12,10 @@ ghost use Rattle.fit_cells.specs.Rows.{HasRows};
 ghost use Rattle.fit_csv.specs.ChainRows as rows;
 ghost use Rattle.fit_csv.specs.inner.Frames.{HasFields, TakesFields, own_rows};
 
+use crate::items::{FieldItems, ItemBytes, MadeItems};
 use crate::kept::keep_at;
 use crate::rows::definition::put_definition;
 use crate::rows::developer::put_dev_fields;
-use crate::rows::items::{FieldItems, ItemBytes, MadeItems};
 use crate::rows::maker::RowMaker;
 use crate::rows::template::Template;
 use crate::words::{dev_slice, header_time};

@@ -4,13 +4,13 @@ ghost use Rattle.fit_profile.specs.Names.{message_label};
 ghost use Rattle.fit_cells.specs.Rows.{HasRows};
 ghost use Rattle.fit_csv.specs.ChainRows as rows;
 ghost use Rattle.fit_csv.specs.InstantText.{instant_text};
-ghost use Rattle.fit_csv.specs.inner.Frames.{HasFields, TakesFields, end_of, field_key, frame_text, frames_of, own_rows, tail_text, two_cells};
+ghost use Rattle.fit_csv.specs.inner.Frames.{HasFields, TakesFields, end_of, field_key, frame_text, frames_of, own_rows, tail_text, two_cells, values_text};
 
 pub(crate) mod likely;
 
+use crate::items::FieldItems;
 use crate::kept::Kept;
 use crate::rows::frames::{Frame, put_tail, put_two};
-use crate::rows::items::{FieldItems, put_frames};
 use crate::words::{time_text, unit_text};
 use fit_cells::RowWriter;
 use fit_profile::{field_info, field_label, message_label, put_whole};
@@ -104,6 +104,27 @@ fn put_line(
         b"".as_slice(),
     ];
     writer.put(text, cells.as_slice())
+}
+
+/// Puts the values of fields one after another, each behind what stands before it, and this end.
+fn put_frames<S: FieldItems>(
+    text: &mut Vec<u8>,
+    writer: &mut RowWriter,
+    value: &mut Vec<u8>,
+    frames: &[Frame],
+    end: &[u8],
+    items: &mut S,
+) -> Result<(), AllocError>
+    requires { HasFields S.has_items items.old (map (λ f. (f.code, f.size)) frames.now) }
+    ensures { OnOk result (TakesFields S.has_items items.old items.new
+        (map (λ f. (f.code, f.size)) frames.now) (λ all. text.new.items
+        ≡ text.old.items ++ values_text frames.now end.now all)) }
+{
+    for frame in frames {
+        items.put_next(text, writer, value, frame)?;
+    }
+    text.extend_from_slice(end)?;
+    Ok(())
 }
 
 /// Puts a number behind a text, where there is one.

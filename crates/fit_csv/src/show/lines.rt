@@ -1,15 +1,21 @@
 //! The lines of headers, definition messages and data messages.
-ghost use Rattle.std.specs.Prelude.{◌≡◌, ◌++◌, ◌∷◌, [], OnOk, Some, codes, decimal, map};
+ghost use Rattle.std.specs.Prelude.{◌≡◌, ◌<◌, ◌^◌, ◌++◌, ◌∷◌, [], List, OnOk, Some, codes, decimal, length, map};
+ghost use Rattle.std.specs.Global.{Global};
+ghost use Rattle.fit_base.specs.declared.items.Items.{Items};
+ghost use Rattle.fit_record.specs.declared.message.Record.TheVariants.{Values as Data};
+ghost use Rattle.fit_record.specs.declared.message.Values.{Values};
 ghost use Rattle.fit_record.specs.Environment.{defined_at};
-ghost use Rattle.fit_record.specs.Records.{DataFits, Fits, HaveShape};
+ghost use Rattle.fit_record.specs.Records.{Fits, IsRecord, dev_layout, layout};
 ghost use Rattle.fit_record.specs.Sound.{IsSound};
-ghost use Rattle.fit_profile.specs.Described.{namings_at};
 ghost use Rattle.fit_profile.specs.Looks.{known};
-ghost use Rattle.fit_csv.specs.ShowLines.{definition_line, header_line, joined, listed, message_front, message_line, shown_fields, versions_text};
+ghost use Rattle.fit_profile.specs.Times as times;
+ghost use Rattle.fit_csv.specs.ShowLines.{definition_line, header_line, joined, listed, message_front, record_line, shown_fields, versions_text};
 ghost use Rattle.fit_csv.specs.ChainRows as rows;
+ghost use Rattle.fit_csv.specs.inner.Frames.{HasFields, TakesFields};
 ghost use Rattle.fit_csv.specs.inner.Reporting.{AnswerFits};
-ghost use Rattle.fit_csv.specs.inner.Showing.{line_with, text_with};
+ghost use Rattle.fit_csv.specs.inner.Showing.{text_with};
 
+use crate::items::{FieldItems, ItemBytes, MadeItems};
 use crate::kept::keep_at;
 use crate::show::fields::{put_devs, put_words};
 use crate::show::template::{LineMaker, LineTemplate};
@@ -17,7 +23,7 @@ use crate::words::{dev_slice, order_word, sum_word};
 use fit_decode::Event;
 use fit_frame::Header;
 use fit_profile::{Stream, message_label};
-use fit_record::{Defined, MessageDef, Record, Values};
+use fit_record::{Defined, MessageDef, Record};
 use itoa::Buffer;
 use std::alloc::AllocError;
 
@@ -97,93 +103,137 @@ fn put_definition(text: &mut Vec<u8>, definition: &MessageDef) -> Result<(), All
 }
 
 /// Puts the line of a data message with this time up to its developer fields.
-fn put_own(
+fn put_own<S: FieldItems>(
     text: &mut Vec<u8>,
     maker: &mut LineMaker,
     definition: &MessageDef,
-    values: &Values,
+    local: u8,
     time: Option<u32>,
+    items: &mut S,
 ) -> Result<(), AllocError>
-    requires shapes { HaveShape (map (λ f. (f.code, f.size)) definition.now.fields)
-        values.now.fields }
-    ensures { OnOk result (text.new.items ≡ text.old.items
-        ++ (message_front values.now.local definition.now.global time ++ listed 0
-        (shown_fields definition.now.global definition.now.fields values.now.fields))) }
+    requires { HasFields S.has_items items.old (map (λ f. (f.code, f.size))
+        definition.now.fields) }
+    ensures { OnOk result (TakesFields S.has_items items.old items.new
+        (map (λ f. (f.code, f.size)) definition.now.fields) (λ all. text.new.items
+        ≡ text.old.items ++ (message_front local definition.now.global time ++ listed 0
+        (shown_fields definition.now.global definition.now.fields all)))) }
 {
-    let local = values.local;
     if let Some(Some(template)) = maker.templates.as_slice().get(local as usize) {
         if template.is_of(local, definition) {
-            return template.put(text, time, values);
+            return template.put(text, time, items);
         }
     }
     let template = LineTemplate::new(maker.alloc, local, definition)?;
-    template.put(text, time, values)?;
-    keep_at(&mut maker.templates, local as usize, template)
+    template.put(text, time, items)?;
+    keep_at(&mut maker.templates, local as usize, template)?;
+    Ok(())
 }
 
-/// Puts the line of a data message of this definition, by its time and the records of a stream.
-fn put_message(
+/// Puts the line of a data message of this definition behind the records of a stream, by its time.
+fn put_values<S: FieldItems>(
     text: &mut Vec<u8>,
     maker: &mut LineMaker,
     stream: &Stream,
-    time: Option<u32>,
     defined: &Defined,
-    values: &Values,
+    local: u8,
+    time: Option<u32>,
+    items: &mut S,
 ) -> Result<(), AllocError>
-    requires place { defined_at (known stream.now) values.now.local ≡ Some defined.now }
+    requires place { defined_at (known stream.now) local ≡ Some defined.now }
     requires sound { IsSound defined.now }
-    requires fits { DataFits values.now defined.now }
-    ensures { OnOk result (text.new.items ≡ text.old.items
-        ++ message_line values.now defined.now time (namings_at stream.now values.now.local)) }
+    requires items { (all : List (Items Global))
+        × S.has_items items.old (layout defined.now ++ dev_layout defined.now) all }
+    ensures { OnOk result ((v : Values Global) → v.local ≡ local
+        → length v.fields ≡ length defined.now.definition.fields
+        → time ≡ times.time stream.now (Data v)
+        → S.has_items items.old (layout defined.now ++ dev_layout defined.now) (v.fields ++ v.dev)
+        → text.new.items ≡ text.old.items ++ record_line stream.now (Data v)) }
 {
     let definition = &defined.definition;
-    put_own(text, maker, definition, values, time)?;
+    put_own(text, maker, definition, local, time, items)?;
     let before = definition.fields.len();
-    let dev = dev_slice(&definition.dev);
+    let fields = dev_slice(&definition.dev);
     let codes = defined.dev_codes.as_slice();
-    let items = values.dev.as_slice();
-    put_devs(text, before, stream, values.local, dev, codes, items)?;
+    put_devs(text, before, stream, local, fields, codes, items)?;
     text.push(b'\n')?;
     Ok(())
 }
 
-/// Puts the line of a record by its time and the records of a stream.
+/// Puts the line of a record behind the records of a stream.
 fn put_record(
     text: &mut Vec<u8>,
     maker: &mut LineMaker,
     stream: &Stream,
-    time: Option<u32>,
     record_: &Record,
 ) -> Result<(), AllocError>
     requires { Fits (known stream.now) record_.now }
     ensures { OnOk result
-        (text.new.items ≡ text.old.items ++ line_with stream.now time record_.now) }
+        (text.new.items ≡ text.old.items ++ record_line stream.now record_.now) }
 {
     match record_ {
         Record::Define(definition) => put_definition(text, definition),
         Record::Values(values) => match stream.env().defined(values.local) {
-            Some(defined) => put_message(text, maker, stream, time, defined, values),
+            Some(defined) => {
+                let time = stream.time(record_);
+                let mut items = MadeItems {
+                    fields: values.fields.as_slice(),
+                    dev: values.dev.as_slice(),
+                };
+                put_values(text, maker, stream, defined, values.local, time, &mut items)
+            }
             None => unreachable!(),
         },
     }
 }
 
-/// Puts the text of an event, by how many files have begun, the records of a stream, and the time of the message.
+/// Puts the line of the data message that the bytes are behind the records of a stream.
+pub(crate) fn put_message(
+    text: &mut Vec<u8>,
+    maker: &mut LineMaker,
+    stream: &Stream,
+    bytes: &[u8],
+) -> Result<(), AllocError>
+    requires { (v : Values Global) × IsRecord (known stream.now) (Data v) bytes.now }
+    ensures { OnOk result ((v : Values Global) → IsRecord (known stream.now) (Data v) bytes.now
+        → text.new.items ≡ text.old.items ++ record_line stream.now (Data v)) }
+{
+    let Some(message) = stream.env().message_bytes(bytes) else {
+        unreachable!()
+    };
+    let time = stream.message_time(bytes);
+    let mut items = ItemBytes {
+        alloc: maker.alloc,
+        order: message.defined.definition.order,
+        rest: message.body,
+    };
+    let local = message.local;
+    put_values(
+        text,
+        maker,
+        stream,
+        message.defined,
+        local,
+        time,
+        &mut items,
+    )
+}
+
+/// Puts the text of an event behind the records of a stream, where so many files have begun before it.
 pub(crate) fn put_event(
     text: &mut Vec<u8>,
     maker: &mut LineMaker,
     files: u64,
     stream: &Stream,
-    time: Option<u32>,
     event: &Event,
 ) -> Result<(), AllocError>
-    requires { AnswerFits stream.now event.now }
-    ensures { OnOk result (text.new.items ≡ text.old.items
-        ++ text_with files stream.now time event.now) }
+    requires fits { AnswerFits stream.now event.now }
+    requires few { files < 2 ^ 60 }
+    ensures { OnOk result
+        (text.new.items ≡ text.old.items ++ text_with files stream.now event.now) }
 {
     match event {
-        Event::Header(header, size) => put_header(text, files, header, *size),
-        Event::Item(record_) => put_record(text, maker, stream, time, record_),
+        Event::Header(header, size) => put_header(text, files + 1, header, *size),
+        Event::Item(record_) => put_record(text, maker, stream, record_),
         Event::More | Event::FileEnd => Ok(()),
     }
 }

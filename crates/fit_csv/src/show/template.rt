@@ -1,15 +1,16 @@
 //! The lines of the messages of a definition without their values, found out once for many messages.
 ghost use Rattle.std.specs.Prelude.{◌≡◌, ◌++◌, IfOk, IsTrue, OnOk, map};
-ghost use Rattle.fit_record.specs.Records.{HaveShape};
 ghost use Rattle.fit_csv.specs.ShowLines as lines;
-ghost use Rattle.fit_csv.specs.inner.Showing.{line_front};
+ghost use Rattle.fit_csv.specs.inner.Frames.{HasFields, TakesFields};
+ghost use Rattle.fit_csv.specs.inner.Showing.{keys_text, line_front};
 
+use crate::items::FieldItems;
 use crate::kept::Kept;
 use crate::show::fields::put_words;
-use crate::show::frames::{ShownField, put_fields, shown_fields};
+use crate::show::frames::{ShownField, shown_fields};
 use crate::words::time_text;
 use fit_profile::message_label;
-use fit_record::{MessageDef, Values};
+use fit_record::MessageDef;
 use itoa::Buffer;
 use std::alloc::{AllocError, Global};
 use std::marker::Model;
@@ -40,6 +41,23 @@ fn put_time(text: &mut Vec<u8>, time: Option<u32>) -> Result<(), AllocError>
     text.extend_from_slice(time_text(time).as_str().as_bytes())
 }
 
+/// Puts the next fields, one after another.
+fn put_fields<S: FieldItems>(
+    text: &mut Vec<u8>,
+    fields: &[ShownField],
+    items: &mut S,
+) -> Result<(), AllocError>
+    requires { HasFields S.has_items items.old (map (λ f. (f.code, f.size)) fields.now) }
+    ensures { OnOk result (TakesFields S.has_items items.old items.new
+        (map (λ f. (f.code, f.size)) fields.now)
+        (λ all. text.new.items ≡ text.old.items ++ keys_text fields.now all)) }
+{
+    for field in fields {
+        field.put(text, items)?;
+    }
+    Ok(())
+}
+
 /// The lines of the messages of a definition without their values.
 #[derive(Drop)]
 pub(crate) struct LineTemplate {
@@ -50,16 +68,16 @@ pub(crate) struct LineTemplate {
 }
 
 impl Model for LineTemplate {
-    ghost use Rattle.std.specs.Prelude.{◌≡◌, map};
+    ghost use Rattle.std.specs.Prelude.{◌≡◌};
     ghost use Rattle.fit_csv.specs.inner.Frames.{TemplateKey};
-    ghost use Rattle.fit_csv.specs.inner.Showing.{line_front, shown_key};
+    ghost use Rattle.fit_csv.specs.inner.Showing.{line_front, shown_keys};
 
     ghost Value = { TemplateKey };
 
     ghost view = { λ t. t.kept };
 
     ghost invariant = { λ t. (t.front.items ≡ line_front t.kept.local t.kept.global)
-        × (t.fields.items ≡ map (shown_key t.kept.global) t.kept.fields) };
+        × (t.fields.items ≡ shown_keys 0 t.kept.global t.kept.fields) };
 }
 
 impl LineTemplate {
@@ -98,20 +116,21 @@ impl LineTemplate {
     }
 
     /// Puts the line of a message with this time up to its developer fields.
-    pub(crate) fn put(
+    pub(crate) fn put<S: FieldItems>(
         &self,
         text: &mut Vec<u8>,
         time: Option<u32>,
-        values: &Values,
+        items: &mut S,
     ) -> Result<(), AllocError>
-        requires { HaveShape (map (λ f. (f.code, f.size)) self.now.fields) values.now.fields }
-        ensures { OnOk result (text.new.items ≡ text.old.items
+        requires { HasFields S.has_items items.old (map (λ f. (f.code, f.size)) self.now.fields) }
+        ensures { OnOk result (TakesFields S.has_items items.old items.new
+            (map (λ f. (f.code, f.size)) self.now.fields) (λ all. text.new.items ≡ text.old.items
             ++ (lines.message_front self.now.local self.now.global time ++ lines.listed 0
-            (lines.shown_fields self.now.global self.now.fields values.now.fields))) }
+            (lines.shown_fields self.now.global self.now.fields all)))) }
     {
         text.extend_from_slice(self.front.as_slice())?;
         put_time(text, time)?;
-        put_fields(text, self.fields.as_slice(), values.fields.as_slice())
+        put_fields(text, self.fields.as_slice(), items)
     }
 }
 

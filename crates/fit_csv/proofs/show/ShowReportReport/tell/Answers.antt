@@ -1,29 +1,37 @@
--- The text of an event is its line.
-use Rattle.fit_csv.proofs.Common.{◌≡◌, ◌∙◌, ◌++◌, OnOk, sym, ap, subst, Global, Event, hear, latest_records, AnswerFits, files_heard, text_with, time_told}
-use Rattle.std.proofs.Common.{List}
-use Rattle.fit_csv.proofs.ShownLines.{answer_fits_upto, answer_line}
+use Rattle.fit_csv.proofs.Common.{◌∙◌, ◌++◌, ◌^◌, sym, ap, subst, on_ok_weaker, AnswerFits, KeptEvents, text_with}
+use Rattle.std.proofs.Common.{◌<◌}
+use Rattle.fit_csv.proofs.ShownLines.{answer_line, kept_next}
 use Rattle.fit_csv.proofs.ToldRows.{answer_fits}
+use Rattle.fit_csv.proofs.ToldTable.{few_files}
 use Rattle.fit_csv.proofs.show.ShowReportReport.tell.Goals as goal
 
-pub note-requires-clause-fits : goal.note-requires-clause-fits
-note-requires-clause-fits c = answer_fits c.heard_records_fit.ensures c.looking_back_is_learning.ensures c.args.self.now c.args.event.now c.requires
+pub put_event-requires-clause-fits : goal.put_event-requires-clause-fits
+put_event-requires-clause-fits c =
+    subst (λ before. AnswerFits before c.args.event.now) (sym (ap (λ (k : KeptEvents). k.records) (c.self.view_is ∙ c.requires.1)))
+    (answer_fits c.heard_records_fit.ensures c.looking_back_is_learning.ensures c.requires.0 c.args.event.now c.requires.2)
 
-pub put_event-requires : goal.put_event-requires
-put_event-requires c =
-    let event = c.args.event.now in
-    let old = c.args.self.now in
-    let now : c.self.inside.heard ≡ hear event old = c.self.view_is ∙ c.in_ok-time.ensures.heard in
-    let stream : c.self.inside.stream ≡ latest_records (hear event old) = c.self.invariant.0 ∙ ap latest_records now in
-    subst (λ upto. AnswerFits upto event) (sym stream)
-    (answer_fits_upto old event (answer_fits c.heard_records_fit.ensures c.looking_back_is_learning.ensures old event c.requires))
+pub put_event-requires-clause-few : goal.put_event-requires-clause-few
+put_event-requires-clause-few c =
+    subst (λ files. files < 2 ^ 60) (sym (ap (λ (k : KeptEvents). k.files) (c.self.view_is ∙ c.requires.1)))
+    (few_files c.heard_are_few.ensures c.requires.0 c.args.event.now c.requires.2)
+
+pub follow-requires-clause-fits : goal.follow-requires-clause-fits
+follow-requires-clause-fits c =
+    subst (λ before. AnswerFits before c.args.event.now) (sym (ap (λ (k : KeptEvents). k.records) (c.self.view_is ∙ c.requires.1)))
+    (answer_fits c.heard_records_fit.ensures c.looking_back_is_learning.ensures c.requires.0 c.args.event.now c.requires.2)
+
+pub follow-requires-clause-few : goal.follow-requires-clause-few
+follow-requires-clause-few c =
+    subst (λ files. files < 2 ^ 60) (sym (ap (λ (k : KeptEvents). k.files) (c.self.view_is ∙ c.requires.1)))
+    (few_files c.heard_are_few.ensures c.requires.0 c.args.event.now c.requires.2)
+
+pub returns-clause-heard : goal.returns-clause-heard
+returns-clause-heard c = on_ok_weaker c.follow.result (λ followed heard has are.
+    let kept : KeptEvents = record { records = c.self.inside.stream; files = c.self.inside.files } in
+    followed ∙ kept_next heard c.args.event.now kept (c.self.view_is ∙ has)) c.follow.ensures
 
 pub returns-clause-text : goal.returns-clause-text
-returns-clause-text c =
-    let event = c.args.event.now in
-    let old = c.args.self.now in
-    let now : c.self.inside.heard ≡ hear event old = c.self.view_is ∙ c.in_ok-time.ensures.heard in
-    let stream : c.self.inside.stream ≡ latest_records (hear event old) = c.self.invariant.0 ∙ ap latest_records now in
-    let files : c.self.inside.files ≡ files_heard (hear event old) = c.self.invariant.1 ∙ ap (λ (heard : List (Event Global)). files_heard heard) now in
-    let time : c.in_ok-time.time ≡ time_told (latest_records old) event = c.in_ok-time.ensures.time in
-    let same = (λ i. text_with (files i) (stream i) (time i) event) ∙ answer_line old event in
-    subst (λ t. OnOk c.put_event.result (c.put_event.new.text.items ≡ c.args.text.now.items ++ t)) same c.put_event.ensures
+returns-clause-text c = on_ok_weaker c.follow.result (λ followed heard has are.
+    c.in_ok-put_event.ensures
+    ∙ ap (λ (k : KeptEvents). c.args.text.now.items ++ text_with k.files k.records c.args.event.now) (c.self.view_is ∙ has)
+    ∙ ap (λ text. c.args.text.now.items ++ text) (answer_line heard c.args.event.now)) c.follow.ensures

@@ -1,46 +1,45 @@
--- The developer fields go behind one another.
-use Rattle.fit_csv.proofs.Common.{◌∙◌, ◌+◌, ◌++◌, get_or, ap, ap₂, arith, zip, nameless, namings_at, separator, shown_part, shown_cell, shown_dev}
-use Rattle.std.proofs.Common.{None}
-use Rattle.fit_csv.proofs.DevFields.{dev_end, dev_long, dev_place, dev_shape, dev_texts, nothing}
-use Rattle.fit_csv.proofs.ShownLines.{listed_all, listed_more}
+use Rattle.fit_csv.proofs.Common.{◌≡◌, ◌∙◌, ◌+◌, ◌++◌, ◌∷◌, [], get_or, refl, ap, ap₂, subst, arith, option_and_then, slice_get, Naming, namings_at}
+use Rattle.fit_csv.proofs.Common.{TakesField, listed, separator, shown_cell, shown_devs, shown_part}
+use Rattle.std.proofs.Common.{ℕ, List, None, codes, decimal}
+use Rattle.std.specs.Prelude.{unwrap_or}
+use Rattle.fit_csv.proofs.DevFields.{dev_texts, nothing}
+use Rattle.fit_csv.proofs.DevWalks.{dev_done, dev_more, dev_next, dev_none}
+use Rattle.fit_csv.proofs.ShownLines.{dev_after, dev_line_more, line_texts}
 use Rattle.fit_csv.proofs.show.fields.put_devs.Goals as goal
 
-pub bounds-items-place : goal.bounds-items-place
-bounds-items-place c =
-    let long = dev_long c.args.fields.now c.args.dev_codes.now c.args.items.now c.requires.codes c.requires.shapes in
-    omega (arith, long, c.loop-place-test.true)
+pub loop-place-init : goal.loop-place-init
+loop-place-init g c =
+    dev_none (line_texts c.args.before) g.S.FieldItems.has_items c.args.fields.now c.args.dev_codes.now (namings_at c.args.stream.now c.args.local)
+    c.args.items.now c.args.text.now.items
 
-pub put_dev-requires : goal.put_dev-requires
-put_dev-requires c =
-    dev_shape c.args.fields.now c.args.dev_codes.now c.args.items.now c.loop-place.place c.index-items-place.result c.requires.codes c.requires.shapes
-    c.loop-place-test.true c.index-items-place.is
+pub put_named-requires : goal.put_named-requires
+put_named-requires g c =
+    dev_next (line_texts c.args.before) g.S.FieldItems.has_items c.args.fields.now c.args.dev_codes.now (namings_at c.args.stream.now c.args.local)
+    c.args.items.now c.args.text.now.items c.loop-place.items c.loop-place.text.items c.loop-place.place c.loop-place.invariant c.requires.codes
+    c.loop-place-test.true c.requires.items.0 c.requires.items.1
 
 pub loop-place-preserved : goal.loop-place-preserved
-loop-place-preserved c =
+loop-place-preserved g c =
     let k = c.loop-place.place in
-    let fields = c.args.fields.now in
-    let coded = c.args.dev_codes.now in
+    let code = get_or c.args.dev_codes.now k 0 in
     let namings = namings_at c.args.stream.now c.args.local in
-    let items = c.args.items.now in
-    let item = c.index-items-place.result in
-    let f = get_or fields k nothing in
-    let code = get_or coded k 0 in
-    let texts = dev_texts f namings k c.numbered_label-numbered.result.bytes c.dev_name-label.result.now c.dev_unit-unit.result.now
+    let f = get_or c.args.fields.now k nothing in
+    let naming = slice_get namings k in
+    let numbered = codes "dev_" ++ decimal f.index ++ codes "_" ++ decimal f.number in
+    let texts = dev_texts f namings k numbered (unwrap_or (option_and_then (λ (t : Naming). t.name) naming) numbered)
+    (unwrap_or (option_and_then (λ (t : Naming). t.unit) naming) []) (omega (arith, c.requires.namings, c.loop-place-test.true)) refl refl refl in
+    dev_more (line_texts c.args.before) g.S.FieldItems.has_items c.args.fields.now c.args.dev_codes.now namings c.args.items.now c.args.text.now.items
+    c.loop-place.items c.loop-place.text.items k c.loop-place.invariant c.requires.codes c.loop-place-test.true (dev_after (c.args.before + k))
+    (dev_line_more c.args.before c.loop-place.text.items k f code) c.put_named.new.items c.put_named.new.text.items
     (omega (arith, c.requires.namings, c.loop-place-test.true))
-    c.numbered_label-numbered.ensures c.dev_name-label.ensures c.dev_unit-unit.ensures in
-    let one = c.in_ok-put_dev.ensures
-    ∙ ap₂ (λ l u. c.loop-place.text.items ++ (separator (c.args.before + k) ++ shown_part l (shown_cell code None item) u)) texts.0 texts.1 in
-    let there = dev_place fields coded namings items k item c.requires.codes c.requires.namings c.requires.shapes c.loop-place-test.true
-    c.index-items-place.is in
-    listed_more (λ x. shown_dev x.0.0 x.0.1 x.1.0 x.1.1) c.args.before (zip (zip fields coded) (zip namings items)) k ((nothing, 0), (nameless, item))
-    c.args.text.now.items c.loop-place.text.items c.put_dev.new.text.items there.0 c.loop-place.invariant
-    (one ∙ ap (λ x. c.loop-place.text.items ++ (separator (c.args.before + k) ++ shown_dev x.0.0 x.0.1 x.1.0 x.1.1)) there.1)
+    (subst (λ (u : List ℕ × List ℕ). TakesField g.S.FieldItems.has_items c.loop-place.items c.put_named.new.items (code, f.size)
+    (λ i. c.put_named.new.text.items ≡ c.loop-place.text.items ++ (separator (c.args.before + k) ++ shown_part u.0 (shown_cell code None i) u.1)))
+    (ap₂ (λ l u. (l, u)) texts.0 texts.1) c.in_ok-put_named.ensures)
 
 pub returns : goal.returns
-returns c =
-    let fields = c.args.fields.now in
-    let coded = c.args.dev_codes.now in
-    let namings = namings_at c.args.stream.now c.args.local in
-    let items = c.args.items.now in
-    listed_all (λ x. shown_dev x.0.0 x.0.1 x.1.0 x.1.1) c.args.before (zip (zip fields coded) (zip namings items)) c.loop-place.place c.args.text.now.items
-    c.loop-place.text.items (dev_end fields coded namings items c.loop-place.place c.loop-place-test.false) c.loop-place.invariant
+returns g c = λ all h.
+    dev_done (line_texts c.args.before) g.S.FieldItems.has_items c.args.fields.now c.args.dev_codes.now (namings_at c.args.stream.now c.args.local)
+    c.args.items.now c.args.text.now.items c.loop-place.items c.loop-place.text.items c.loop-place.place c.loop-place.invariant (λ k cs ns is. refl)
+    c.loop-place-test.false all h
+    ∙ ap (λ n. c.args.text.now.items
+    ++ listed n (shown_devs c.args.fields.now c.args.dev_codes.now (namings_at c.args.stream.now c.args.local) all)) (omega arith)

@@ -1,5 +1,5 @@
-use Rattle.fit_csv.proofs.Common.{◌≡◌, map, take, shown_key}
+use Rattle.fit_csv.proofs.Common.{◌≡◌, take, shown_keys}
 use Rattle.fit_csv.proofs.show.frames.shown_fields.Given as goal
 
-abbrev pub invariant-loop-field : goal.invariant-loop-field
-invariant-loop-field l = l.frames.items ≡ map (shown_key l.global) (take l.field-index l.fields)
+abbrev pub invariant-loop-place : goal.invariant-loop-place
+invariant-loop-place l = l.frames.items ≡ shown_keys 0 l.global (take l.place l.fields)

@@ -1,18 +1,14 @@
-use Rattle.std.proofs.Common.{◌<◌, ◌⊎◌}
-use Rattle.fit_csv.proofs.Common.{◌≡◌, ◌∙◌, ◌++◌, ◌∷◌, [], ◌^◌, length, sym, ap, ap₂, subst, FrameText, HasShape, Global, cell, lone_cell, item_text, base_type}
+use Rattle.std.proofs.Common.{◌⊎◌}
+use Rattle.fit_csv.proofs.Common.{◌≡◌, ◌∙◌, ◌++◌, ◌∷◌, [], sym, ap, ap₂, subst, FrameText, HasShape, Global, lone_cell}
 use Rattle.fit_base.proofs.ByteLists.{slice_is_bytes}
-use Rattle.fit_base.proofs.NumberLaws.{number-below}
-use Rattle.fit_base.specs.Numbers.{number}
 use Rattle.fit_record.specs.ReadMessages.{field_from}
-use Rattle.fit_csv.proofs.ItemFacts.{field_shape, lone_field}
+use Rattle.fit_csv.proofs.ItemFacts.{field_shape, lone_below, lone_field}
 use Rattle.fit_csv.proofs.rows.frames.Frame.put_bytes.Goals as goal
 
 pub put_formed-requires-clause-bits : goal.put_formed-requires-clause-bits
 put_formed-requires-clause-bits c =
-    let bytes = c.args.bytes.now in
-    subst (λ n. n < 256 ^ c.in-Some.form.width) (sym c.bits_at.ensures)
-    (subst (λ w. number c.args.order bytes < 256 ^ w) (c.requires ∙ sym c.in-Some.ensures.width)
-    (number-below c.args.order bytes (slice_is_bytes bytes c.type_inv.bytes)))
+    lone_below c.args.order c.args.bytes.now c.in-Some.form.width c.bits_at.result (slice_is_bytes c.args.bytes.now c.type_inv.bytes)
+    (c.requires ∙ sym c.in-Some.ensures.width) c.bits_at.ensures
 
 pub returns-in-Some : goal.returns-in-Some
 returns-in-Some c =

@@ -1,9 +1,6 @@
-use Rattle.fit_csv.proofs.Common.{◌≡◌, ◌∙◌, ◌++◌, ◌∷◌, [], refl, sym, ap, subst, take, arith, reverse-append, Data, csv_text, data_rows, item, csv_line}
-use Rattle.fit_csv.proofs.Common.{latest_records, text_of}
+use Rattle.fit_csv.proofs.Common.{◌≡◌, ◌∙◌, ◌++◌, ◌∷◌, ap, take, arith, Data, csv_text, data_rows, csv_line, latest_records}
 use Rattle.std.proofs.Common.{◌<◌, reverse}
-use Rattle.std.proofs.lemmas.List.{append-nil}
-use Rattle.fit_chain.specs.Events.{AreEvents}
-use Rattle.fit_decode.specs.Answers.{Seen}
+use Rattle.fit_csv.proofs.SkippedMessages.{skips_message, skips_nothing}
 use Rattle.fit_csv.proofs.ToldRows.{told_message}
 use Rattle.fit_csv.proofs.rows.report.CsvReportReport.skip.Goals as goal
 
@@ -27,41 +24,20 @@ take_message-requires c =
 
 pub returns-then-used-eq0-clause-skips : goal.returns-then-used-eq0-clause-skips
 returns-then-used-eq0-clause-skips c =
-    let old = c.args.decoder.now in
-    let text = c.args.text.now.items in
-    let fed = c.skip_message-used.ensures.used
-    ∙ ap (λ n. record old { bytes = old.bytes ++ take n c.args.piece.now }) c.if-used-eq0.true in
-    record {
-      within = omega arith;
-      is_fed = fed;
-      refused = λ reason is. (refl, (c.skip_message-used.ensures.refused reason is).1, refl, refl);
-      told = λ heard has are. (
-        heard,
-        has,
-        subst (λ b. AreEvents b (reverse heard)) (sym (ap (λ (s : Seen). s.bytes) fed ∙ append-nil old.bytes)) are,
-        [],
-        sym (append-nil text),
-        sym (append-nil (text_of csv_line heard)),
-      );
-    }
+    skips_nothing (λ r heard. r.stream ≡ latest_records heard) csv_line c.args.decoder.now c.skip_message-used.new.self c.args.piece.now
+    c.skip_message-used.result c.skip_message-used.ensures.used c.skip_message-used.ensures.refused c.args.self.now c.args.text.now.items
+    c.if-used-eq0.true
 
 pub returns-clause-skips : goal.returns-clause-skips
 returns-clause-skips c =
     let used = c.skip_message-used.result in
     let some : 0 < used = omega (arith, c.if-used-eq0.false) in
-    record {
-      within = c.skip_message-used.ensures.within;
-      is_fed = c.skip_message-used.ensures.used;
-      refused = λ reason is. let none = (c.skip_message-used.ensures.refused reason is).0 in absurd (omega (arith, some, none));
-      told = λ heard has are.
-          let m = c.skip_message-used.ensures.message some (reverse heard) are in
-          let v = m.0 in
-          let here = told_message heard c.args.self.now.stream v (take used c.args.piece.now) c.split_at.result.0.now has c.split_at.ensures.front m.1 in (
-            item (Data v) ∷ heard,
-            c.in_ok-take_message.ensures.ok v here ∙ ap (λ before. Data v ∷ before) has,
-            subst (λ events. AreEvents c.skip_message-used.new.self.bytes events) (sym (reverse-append (item (Data v) ∷ []) heard)) m.2,
-            csv_text (data_rows (latest_records heard) v),
-            (c.in_ok-put_message.ensures v here).text ∙ ap (λ before. c.args.text.now.items ++ csv_text (data_rows before v)) has,
-            refl,
-          );
-    }
+    skips_message (λ r heard. r.stream ≡ latest_records heard) csv_line c.args.decoder.now c.skip_message-used.new.self c.args.piece.now used
+    c.skip_message-used.ensures.used c.skip_message-used.ensures.refused c.args.self.now _ c.args.text.now.items c.put_message.new.text.items some
+    c.skip_message-used.ensures.within
+    (c.skip_message-used.ensures.message some)
+    (λ heard v has is.
+    let here = told_message heard c.args.self.now.stream v (take used c.args.piece.now) c.split_at.result.0.now has c.split_at.ensures.front is in (
+      c.in_ok-take_message.ensures.ok v here ∙ ap (λ before. Data v ∷ before) has,
+      (c.in_ok-put_message.ensures v here).text ∙ ap (λ before. c.args.text.now.items ++ csv_text (data_rows before v)) has,
+    ))

@@ -1,5 +1,4 @@
-use Rattle.fit_csv.proofs.Common.{◌≡◌, ◌≤◌, ◌∙◌, ◌++◌, ◌∷◌, [], length, map, drop, sym, ap, subst, arith, length-map, on_ok_weaker, HasRows, rows_both}
-use Rattle.fit_csv.proofs.Common.{FrameText}
+use Rattle.fit_csv.proofs.Common.{◌≤◌, ◌∙◌, ◌++◌, [], length, map, drop, sym, ap, subst, arith, length-map, on_ok_weaker, HasRows, rows_both}
 use Rattle.fit_csv.proofs.Common.{TemplateKey, end_of, field_key, field_rows, frames_of, values_text}
 use Rattle.std.proofs.Common.{ℕ, List}
 use Rattle.fit_csv.proofs.FieldWalks.{field_slot, fields_text, slot}

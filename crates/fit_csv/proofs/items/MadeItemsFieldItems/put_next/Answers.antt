@@ -1,6 +1,6 @@
 use Rattle.fit_csv.proofs.Common.{◌∙◌, ◌++◌, sym, ap, subst, on_ok_weaker, default_writer, field_text, HasShape, cell}
 use Rattle.fit_csv.proofs.ItemFacts.{first_made}
-use Rattle.fit_csv.proofs.rows.items.MadeItemsFieldItems.put_next.Goals as goal
+use Rattle.fit_csv.proofs.items.MadeItemsFieldItems.put_next.Goals as goal
 
 pub next-requires : goal.next-requires
 next-requires c =

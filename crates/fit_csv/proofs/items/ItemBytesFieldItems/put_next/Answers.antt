@@ -1,9 +1,8 @@
-use Rattle.fit_csv.proofs.Common.{◌≡◌, ◌≤◌, ◌∙◌, ◌++◌, length, drop, take, sym, ap, subst, on_ok_weaker, default_writer, field_text, cell, Global}
+use Rattle.fit_csv.proofs.Common.{◌≤◌, ◌∙◌, ◌++◌, length, drop, take, sym, ap, subst, on_ok_weaker, default_writer, field_text, cell, Global}
 use Rattle.fit_record.specs.ReadMessages.{field_from, fields_from}
-use Rattle.fit_record.specs.Records.{sizes}
 use Rattle.std.proofs.Math.Seq.{length-take-le}
 use Rattle.fit_csv.proofs.ItemFacts.{first_in_bytes}
-use Rattle.fit_csv.proofs.rows.items.ItemBytesFieldItems.put_next.Goals as goal
+use Rattle.fit_csv.proofs.items.ItemBytesFieldItems.put_next.Goals as goal
 
 pub split_at-requires : goal.split_at-requires
 split_at-requires c =

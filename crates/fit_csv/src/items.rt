@@ -1,14 +1,16 @@
-//! The items of the fields of a message, made or in their bytes, and the values in their rows.
-ghost use Rattle.std.specs.Prelude.{◌≡◌, ℕ, ◌++◌, ◌∷◌, [], List, OnOk, length, map};
+//! The items of the fields of a message, made or in their bytes, put in rows and in lines.
+ghost use Rattle.std.specs.Prelude.{◌≡◌, ℕ, ◌++◌, ◌∷◌, [], List, OnOk, length};
 ghost use Rattle.std.specs.Global.{Global};
 ghost use Rattle.csv.specs.Writing.{default_writer, field_text};
 ghost use Rattle.fit_base.specs.declared.items.Items.{Items};
 ghost use Rattle.fit_record.specs.ReadMessages.{fields_from};
 ghost use Rattle.fit_record.specs.Records.{HaveShape, sizes};
 ghost use Rattle.fit_cells.specs.Cells.{cell};
-ghost use Rattle.fit_csv.specs.inner.Frames.{HasFields, TakesField, TakesFields, values_text};
+ghost use Rattle.fit_csv.specs.ShowLines.{shown_cell};
+ghost use Rattle.fit_csv.specs.inner.Frames.{HasFields, TakesField};
 
 use crate::rows::frames::Frame;
+use crate::show::cells::ShownCell;
 use fit_base::{Items, Order};
 use fit_cells::RowWriter;
 use std::alloc::{AllocError, Global};
@@ -18,7 +20,7 @@ pub(crate) trait FieldItems {
     // They are these, of fields of these base type codes and sizes.
     ghost has_items: { Self → List (ℕ × ℕ) → List (Items Global) → Type 0 };
 
-    /// Takes those of the next field, and puts what stands before its value, and the value.
+    /// Takes those of the next field, and puts what stands before its value in a row, and the value.
     fn put_next(
         &mut self,
         text: &mut Vec<u8>,
@@ -31,6 +33,13 @@ pub(crate) trait FieldItems {
             (frame.now.code, frame.now.size) (λ i. text.new.items
             ≡ (text.old.items ++ frame.now.between)
             ++ field_text default_writer (cell frame.now.code frame.now.info i))) };
+
+    /// Takes those of the next field, and puts its cell as a line shows it.
+    fn show_next(&mut self, text: &mut Vec<u8>, shown: &ShownCell) -> Result<(), AllocError>
+        requires { HasFields has_items self.old ((shown.now.code, shown.now.size) ∷ []) }
+        ensures { OnOk result (TakesField has_items self.old self.new
+            (shown.now.code, shown.now.size) (λ i. text.new.items
+            ≡ text.old.items ++ shown_cell shown.now.code shown.now.info i)) };
 }
 
 /// Items that are made.
@@ -80,6 +89,11 @@ impl<'a> FieldItems for MadeItems<'a> {
     ) -> Result<(), AllocError> {
         frame.put(text, writer, value, self.next())
     }
+
+    #[inline(always)]
+    fn show_next(&mut self, text: &mut Vec<u8>, shown: &ShownCell) -> Result<(), AllocError> {
+        shown.put(text, self.next())
+    }
 }
 
 /// Items in their bytes.
@@ -108,25 +122,11 @@ impl<'a> FieldItems for ItemBytes<'a> {
         self.rest = rest;
         frame.put_bytes(text, writer, value, self.alloc, self.order, bytes)
     }
-}
 
-/// Puts the values of fields one after another, each behind what stands before it, and this end.
-pub(crate) fn put_frames<S: FieldItems>(
-    text: &mut Vec<u8>,
-    writer: &mut RowWriter,
-    value: &mut Vec<u8>,
-    frames: &[Frame],
-    end: &[u8],
-    items: &mut S,
-) -> Result<(), AllocError>
-    requires { HasFields S.has_items items.old (map (λ f. (f.code, f.size)) frames.now) }
-    ensures { OnOk result (TakesFields S.has_items items.old items.new
-        (map (λ f. (f.code, f.size)) frames.now) (λ all. text.new.items
-        ≡ text.old.items ++ values_text frames.now end.now all)) }
-{
-    for frame in frames {
-        items.put_next(text, writer, value, frame)?;
+    #[inline(always)]
+    fn show_next(&mut self, text: &mut Vec<u8>, shown: &ShownCell) -> Result<(), AllocError> {
+        let (bytes, rest) = self.rest.split_at(shown.size() as usize);
+        self.rest = rest;
+        shown.put_bytes(text, self.alloc, self.order, bytes)
     }
-    text.extend_from_slice(end)?;
-    Ok(())
 }
