@@ -1,37 +1,54 @@
 //! The longest message: 255 fields and 255 developer fields of 255 bytes each.
 
+use crate::descriptions::take;
+use crate::fed::feed;
+use fit_base::Items;
 use fit_base::base_type::BYTE;
-use fit_decode::{Decoder, Event, Reading, read_chain, read_one};
-use fit_encode::{Encoder, WriteSink, write_chain, write_one};
-use fit_record::{Env, FitFile, Record};
+use fit_decode::{Decoder, Fault, Reading, read_chain, read_one};
+use fit_encode::{EncodeFault, Encoder, WriteSink, write_chain, write_one};
+use fit_record::{Env, FitFile, MessageDef, Record, Values};
 use std::alloc::Global;
 use std::process::Abort;
 use std::test::Fail;
 use test_known::{LONGEST, longest};
 
-/// Asserts that a file has these two records: each list has 255 entries, and the last item is that at the last place.
-fn is_longest(rt: &impl Abort, file: &FitFile) {
+/// Whether these are 255 fields of 255 bytes each.
+fn are_full(fields: &[Items]) -> bool {
+    for items in fields {
+        if (items.width, items.bits.len()) != (1, 255) {
+            return false;
+        }
+    }
+    fields.len() == 255
+}
+
+/// The last item of 255 fields of 255 bytes each.
+fn last_item(fields: &[Items]) -> Option<u64> {
+    fields.get(254)?.bits.as_slice().get(254).copied()
+}
+
+/// Whether a definition has 255 fields and 255 developer fields.
+fn defines_longest(definition: &MessageDef) -> bool {
+    match &definition.dev {
+        Some(dev) => (definition.fields.len(), dev.len()) == (255, 255),
+        None => false,
+    }
+}
+
+/// Whether all fields of a message are full, and the last item is that at the last place.
+fn is_longest(values: &Values) -> bool {
+    are_full(values.fields.as_slice())
+        && are_full(values.dev.as_slice())
+        && last_item(values.dev.as_slice()) == Some(130_049 % 251)
+}
+
+/// Whether a file has these two records.
+fn has_longest(file: &FitFile) -> bool {
     match file.records.as_slice() {
         [Record::Define(definition), Record::Values(values)] => {
-            assert_eq!(rt; definition.fields.len(), 255);
-            assert!(rt; definition.dev.as_ref().is_some_and(|dev| dev.len() == 255));
-            assert_eq!(rt; (values.fields.len(), values.dev.len()), (255, 255));
-            for items in [values.fields.as_slice(), values.dev.as_slice()] {
-                for field in items {
-                    assert_eq!(rt; (field.width, field.bits.len()), (1, 255));
-                }
-            }
-            let last = values
-                .dev
-                .as_slice()
-                .get(254)
-                .map(|items| items.bits.as_slice());
-            assert_eq!(rt;
-                last.and_then(|bits| bits.get(254)).copied(),
-                Some(130_049 % 251)
-            );
+            defines_longest(definition) && is_longest(values)
         }
-        _ => assert!(rt; false),
+        _ => false,
     }
 }
 
@@ -46,7 +63,7 @@ fn read_longest(alloc: Global) -> Result<(Vec<u8>, FitFile), Fail> {
 fn read_alone(rt: HostRuntime) -> Result<(), Fail> {
     let (bytes, file) = read_longest(rt.alloc())?;
     assert_eq!(rt; bytes.len(), 131_604);
-    is_longest(&rt, &file);
+    assert!(rt; has_longest(&file));
     Ok(())
 }
 
@@ -87,16 +104,21 @@ fn written_as_a_chain(rt: HostRuntime) -> Result<(), Fail> {
     Ok(())
 }
 
+/// Writes a file of the longest message record by record.
+fn encode(alloc: Global, sink: &mut WriteSink<Vec<u8>>, file: &FitFile) -> Result<(), EncodeFault> {
+    let mut encoder = Encoder::begin(alloc, sink, &file.header, LONGEST)?;
+    for record_ in file.records.as_slice() {
+        encoder.put(sink, record_)?;
+    }
+    encoder.finish(sink)
+}
+
 #[test]
 fn encoded(rt: HostRuntime) -> Result<(), Fail> {
     let alloc = rt.alloc();
     let (bytes, file) = read_longest(alloc)?;
     let mut sink = WriteSink::new(Vec::new(alloc));
-    let mut encoder = Encoder::begin(alloc, &mut sink, &file.header, LONGEST)?;
-    for record_ in file.records.as_slice() {
-        encoder.put(&mut sink, record_)?;
-    }
-    encoder.finish(&mut sink)?;
+    encode(alloc, &mut sink, &file)?;
     assert!(rt; sink.into_inner() == bytes);
     Ok(())
 }
@@ -106,9 +128,7 @@ fn learned(rt: HostRuntime) -> Result<(), Fail> {
     let (_, file) = read_longest(rt.alloc())?;
     let mut env = Env::new(rt.alloc());
     for record_ in file.records.as_slice() {
-        if env.fits(record_).is_ok() {
-            env.learn(record_)?;
-        }
+        take(&mut env, record_)?;
     }
     assert_eq!(rt;
         (env.length(0), env.dev_code(0, 254)),
@@ -117,15 +137,13 @@ fn learned(rt: HostRuntime) -> Result<(), Fail> {
     Ok(())
 }
 
-/// Of the definition its 510 entries are held, and with the last byte but one of the message these, its 510 fields and its items.
-#[test]
-fn byte_by_byte(rt: HostRuntime) -> Result<(), Fail> {
-    let mut decoder = Decoder::new(rt.alloc());
-    let bytes = longest(rt.alloc())?;
+/// Feeds the file byte by byte. Of the definition its 510 entries are held, and with the last byte but one of the message these, its 510
+/// fields and its items.
+fn feed_longest(rt: &impl Abort, decoder: &mut Decoder, bytes: &[u8]) -> Result<(), Fault> {
     let mut items = 0u32;
-    for (place, byte) in bytes.as_slice().iter().enumerate() {
-        let fed = decoder.feed(&[*byte])?;
-        if let Event::Item(_) = fed.event {
+    for (place, byte) in bytes.iter().enumerate() {
+        let (_, (letter, _)) = feed(decoder, &[*byte])?;
+        if letter == b'd' || letter == b'v' {
             items = items.saturating_add(1);
             assert_eq!(rt; decoder.held(), 510);
         }
@@ -134,6 +152,13 @@ fn byte_by_byte(rt: HostRuntime) -> Result<(), Fail> {
         }
     }
     assert_eq!(rt; items, 2);
-    decoder.finish()?;
+    decoder.finish()
+}
+
+#[test]
+fn byte_by_byte(rt: HostRuntime) -> Result<(), Fail> {
+    let bytes = longest(rt.alloc())?;
+    let mut decoder = Decoder::new(rt.alloc());
+    feed_longest(&rt, &mut decoder, bytes.as_slice())?;
     Ok(())
 }

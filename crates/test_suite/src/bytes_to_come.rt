@@ -1,32 +1,24 @@
 //! A file of a definition message and a data message, both without fields.
-use fit_decode::{Decoder, Event, Fault};
+use crate::fed::{feed, feed_each};
+use fit_decode::{Decoder, Fault};
 use fit_frame::Reason;
-use fit_record::Record;
 use test_known::ONE_BYTE_MESSAGE as FILE;
-
-/// A letter for each event.
-fn letter(event: &Event) -> u8 {
-    match event {
-        Event::More => b'.',
-        Event::Header(_, size) => if *size == 7 { b'h' } else { b'?' },
-        Event::Item(Record::Define(_)) => b'd',
-        Event::Item(Record::Values(_)) => b'v',
-        Event::FileEnd => b'e',
-    }
-}
 
 #[test]
 fn in_one_piece(rt: HostRuntime) -> Result<(), Fault> {
     let mut decoder = Decoder::new(rt.alloc());
     let mut piece = FILE.as_slice();
-    for told in [(14, b'h'), (6, b'd'), (1, b'v'), (2, b'e'), (0, b'.')] {
-        let fed = decoder.feed(piece)?;
-        assert_eq!(rt; (fed.used, letter(&fed.event)), told);
-        let (_, rest) = piece.split_at(fed.used);
-        piece = rest;
+    for (used, event) in [
+        (14, (b'h', 7)),
+        (6, (b'd', 0)),
+        (1, (b'v', 0)),
+        (2, (b'e', 0)),
+        (0, (b'.', 0)),
+    ] {
+        assert_eq!(rt; feed(&mut decoder, piece)?, (used, event));
+        piece = piece.get(used..).unwrap_or_default();
     }
-    assert_eq!(rt; decoder.finish(), Ok(()));
-    Ok(())
+    decoder.finish()
 }
 
 #[test]
@@ -35,11 +27,10 @@ fn byte_by_byte(rt: HostRuntime) -> Result<(), Fault> {
     let told = *b".............h.....dv.e";
     for i in 0..23 {
         assert_eq!(rt; decoder.finish(), Err(Fault::Truncated { place: i as u64 }));
-        let fed = decoder.feed(&FILE[i..i + 1])?;
-        assert_eq!(rt; (fed.used, letter(&fed.event)), (1, told[i]));
+        let size = if i == 13 { 7 } else { 0 };
+        assert_eq!(rt; feed(&mut decoder, &FILE[i..i + 1])?, (1, (told[i], size)));
     }
-    assert_eq!(rt; decoder.finish(), Ok(()));
-    Ok(())
+    decoder.finish()
 }
 
 #[test]
@@ -50,7 +41,7 @@ fn bytes_that_are_missing(rt: HostRuntime) -> Result<(), Fault> {
     ];
     for i in 0..23 {
         assert_eq!(rt; decoder.need(), need[i]);
-        decoder.feed(&FILE[i..i + 1])?;
+        feed(&mut decoder, &FILE[i..i + 1])?;
     }
     assert_eq!(rt; decoder.need(), 14);
     Ok(())
@@ -59,15 +50,14 @@ fn bytes_that_are_missing(rt: HostRuntime) -> Result<(), Fault> {
 #[test]
 fn a_refusal_lasts(rt: HostRuntime) -> Result<(), Fault> {
     let mut decoder = Decoder::new(rt.alloc());
-    for byte in FILE {
-        decoder.feed(&[byte])?;
-    }
+    feed_each(&mut decoder, &FILE)?;
     let refused = Fault::Refused {
         place: 23,
         reason: Reason::HeaderSize,
     };
-    assert_eq!(rt; decoder.feed(b"\x0D\x20").err(), Some(refused));
-    assert_eq!(rt; decoder.feed(b"\x0E").err(), Some(refused));
+    for piece in [b"\x0D\x20".as_slice(), b"\x0E"] {
+        assert_eq!(rt; feed(&mut decoder, piece), Err(refused));
+    }
     assert_eq!(rt; decoder.finish(), Err(refused));
     assert_eq!(rt; decoder.need(), 0);
     Ok(())

@@ -3,10 +3,9 @@
 use crate::reading::has_bytes;
 use fit_decode::{CutSource, Fault, Reading, Source, read_chain, read_one};
 use fit_encode::{CutSink, EncodeFault, Encoder, write_chain, write_one};
-use fit_record::FitFile;
+use fit_record::{FitFile, Record};
 use std::alloc::Global;
 use std::process::Abort;
-use std::test::*;
 use test_known::{Known, files};
 
 /// How many files of an input are whole in so many of its bytes.
@@ -34,6 +33,22 @@ fn are_first(alloc: Global, known: &Known, files: &[FitFile], count: usize) -> b
     files.len() == count
 }
 
+/// Whether the next file of a reading has these bytes.
+pub fn has_next<S: Source + Drop>(alloc: Global, reading: &mut Reading<S>, bytes: &[u8]) -> bool {
+    match reading.next() {
+        Ok(Some(file)) => has_bytes(alloc, &file, bytes),
+        _ => false,
+    }
+}
+
+/// Whether a reading ends so.
+pub fn ends<S: Source + Drop>(reading: &mut Reading<S>, end: Option<Fault>) -> bool {
+    match reading.next() {
+        Ok(file) => file.is_none() && end.is_none(),
+        Err(fault) => end == Some(fault),
+    }
+}
+
 /// Reads file by file what a source gives of an input: that many files, and then this result, each time that it is asked.
 fn read_each<S: Source + Drop>(
     rt: &impl Abort,
@@ -47,40 +62,69 @@ fn read_each<S: Source + Drop>(
     for place in 0..count {
         let size = if place == 0 { known.first } else { rest.len() };
         let (bytes, more) = rest.split_at(size.min(rest.len()));
-        match reading.next() {
-            Ok(Some(file)) => assert!(rt; has_bytes(alloc, &file, bytes), "{}", known.name),
-            _ => assert!(rt; false, "{}", known.name),
-        }
+        assert!(rt; has_next(alloc, reading, bytes), "{}", known.name);
         rest = more;
     }
     for _ in 0..2 {
-        match reading.next() {
-            Ok(file) => assert!(rt; file.is_none() && end.is_none(), "{}", known.name),
-            Err(fault) => assert_eq!(rt; Some(fault), end, "{}", known.name),
+        assert!(rt; ends(reading, end), "{}", known.name);
+    }
+}
+
+/// Whether `read_one` returns the first file of an input, where first bytes of the input have it, or else this fault.
+fn is_first(
+    alloc: Global,
+    known: &Known,
+    cut: &[u8],
+    read: Result<FitFile, Fault>,
+    fault: Fault,
+) -> bool {
+    let whole = whole_files(known, cut.len()) > 0;
+    match read {
+        Ok(file) => whole && has_bytes(alloc, &file, &cut[..known.first.min(cut.len())]),
+        Err(found) => !whole && found == fault,
+    }
+}
+
+/// Whether `read_chain` returns the files of first bytes of an input, or this fault.
+fn is_chain(
+    alloc: Global,
+    known: &Known,
+    cut: &[u8],
+    read: Result<Vec<FitFile>, Fault>,
+    fault: Option<Fault>,
+) -> bool {
+    match read {
+        Ok(files) => {
+            let count = whole_files(known, cut.len());
+            fault.is_none() && are_first(alloc, known, files.as_slice(), count)
         }
+        Err(found) => fault == Some(found),
     }
 }
 
 /// Reads first bytes of an input, which are whole files or end in one.
 fn read_cut(rt: &impl Abort, alloc: Global, known: &Known, cut: &[u8]) {
     let k = cut.len();
-    let count = whole_files(known, k);
     let fault = Fault::Truncated { place: k as u64 };
-    match read_one(alloc, &mut &cut[..]) {
-        Ok(file) => assert!(rt; count > 0 && has_bytes(alloc, &file, &cut[..known.first.min(k)])),
-        Err(found) => assert!(rt; count == 0 && found == fault, "{} at {k}", known.name),
-    }
-    let ends = k == known.first || k == known.bytes.len();
-    match read_chain(alloc, &mut &cut[..]) {
-        Ok(files) => {
-            let same = are_first(alloc, known, files.as_slice(), count);
-            assert!(rt; ends && same, "{} at {k}", known.name);
-        }
-        Err(found) => assert!(rt; !ends && found == fault, "{} at {k}", known.name),
-    }
-    let answer = if ends { None } else { Some(fault) };
+    let one = read_one(alloc, &mut &cut[..]);
+    assert!(rt;
+        is_first(alloc, known, cut, one, fault),
+        "{} at {k}",
+        known.name
+    );
+    let end = if k == known.first || k == known.bytes.len() {
+        None
+    } else {
+        Some(fault)
+    };
+    let chain = read_chain(alloc, &mut &cut[..]);
+    assert!(rt;
+        is_chain(alloc, known, cut, chain, end),
+        "{} at {k}",
+        known.name
+    );
     let mut reading = Reading::new(alloc, cut);
-    read_each(rt, alloc, known, &mut reading, count, answer);
+    read_each(rt, alloc, known, &mut reading, whole_files(known, k), end);
 }
 
 #[test]
@@ -94,35 +138,75 @@ fn inputs_cut_anywhere(rt: HostRuntime) {
     }
 }
 
+/// Reads an input from a source that fails after first bytes. Where the bytes of a file were there, no more were asked for.
+fn read_failing(rt: &impl Abort, alloc: Global, known: &Known, cut: &[u8]) {
+    let k = cut.len();
+    let fault = Fault::Read { place: k as u64 };
+    let mut source = CutSource::new(known.bytes, k);
+    let one = read_one(alloc, &mut source);
+    assert!(rt; source.failed() == one.is_err(), "{} at {k}", known.name);
+    assert!(rt;
+        is_first(alloc, known, cut, one, fault),
+        "{} at {k}",
+        known.name
+    );
+    let mut source = CutSource::new(known.bytes, k);
+    let chain = read_chain(alloc, &mut source);
+    assert!(rt;
+        is_chain(alloc, known, cut, chain, Some(fault)),
+        "{} at {k}",
+        known.name
+    );
+    let mut reading = Reading::new(alloc, CutSource::new(known.bytes, k));
+    read_each(
+        rt,
+        alloc,
+        known,
+        &mut reading,
+        whole_files(known, k),
+        Some(fault),
+    );
+}
+
 #[test]
 fn sources_that_fail_anywhere(rt: HostRuntime) {
     let alloc = rt.alloc();
     for known in files() {
         for k in 0..known.bytes.len() {
-            let fault = Fault::Read { place: k as u64 };
-            let count = whole_files(&known, k);
-            let mut source = CutSource::new(known.bytes, k);
-            match read_one(alloc, &mut source) {
-                // The bytes of a file were there, and no more were asked for.
-                Ok(file) => {
-                    assert!(rt; count == 1 && !source.failed(), "{} at {k}", known.name);
-                    assert!(rt; has_bytes(alloc, &file, &known.bytes[..known.first.min(k)]));
-                }
-                Err(found) => {
-                    assert!(rt; count == 0 && source.failed(), "{} at {k}", known.name);
-                    assert_eq!(rt; found, fault);
-                }
-            }
-            let mut source = CutSource::new(known.bytes, k);
-            let found = read_chain(alloc, &mut source).err();
-            assert_eq!(rt; found, Some(fault), "{} at {k}", known.name);
-            let mut reading = Reading::new(alloc, CutSource::new(known.bytes, k));
-            read_each(&rt, alloc, &known, &mut reading, count, Some(fault));
+            read_failing(&rt, alloc, &known, &known.bytes[..k]);
         }
     }
 }
 
-/// Writes a file of that many bytes record by record. Each later call returns a fault again.
+/// Puts a record. After a fault each later call returns it again.
+fn put(
+    rt: &impl Abort,
+    encoder: &mut Encoder,
+    sink: &mut CutSink<128>,
+    record_: &Record,
+) -> Result<(), EncodeFault> {
+    let answer = encoder.put(sink, record_);
+    if answer.is_err() {
+        assert_eq!(rt; encoder.put(sink, record_), answer);
+        assert_eq!(rt; encoder.finish(sink), answer);
+    }
+    answer
+}
+
+/// Ends a file. After a fault a later call returns it again.
+fn finish(
+    rt: &impl Abort,
+    encoder: &mut Encoder,
+    sink: &mut CutSink<128>,
+) -> Result<(), EncodeFault> {
+    let answer = encoder.finish(sink);
+    if answer.is_err() {
+        assert_eq!(rt; encoder.finish(sink), answer);
+    }
+    answer
+}
+
+/// Writes a file of that many bytes record by record.
 fn encode(
     rt: &impl Abort,
     alloc: Global,
@@ -136,17 +220,51 @@ fn encode(
     let size = u32::try_from(size).unwrap_or(0);
     let mut encoder = Encoder::begin(alloc, sink, &file.header, size)?;
     for record_ in file.records.as_slice() {
-        if let Err(fault) = encoder.put(sink, record_) {
-            assert_eq!(rt; encoder.put(sink, record_), Err(fault));
-            assert_eq!(rt; encoder.finish(sink), Err(fault));
-            return Err(fault);
-        }
+        put(rt, &mut encoder, sink, record_)?;
     }
-    if let Err(fault) = encoder.finish(sink) {
-        assert_eq!(rt; encoder.finish(sink), Err(fault));
-        return Err(fault);
+    finish(rt, &mut encoder, sink)
+}
+
+/// Whether this is what a writer of that many first bytes of an input returns and has put, where the sink takes these bytes alone.
+fn is_cut(answer: Result<(), EncodeFault>, sink: &CutSink<128>, size: usize, cut: &[u8]) -> bool {
+    let k = cut.len();
+    let wanted = if k < size {
+        Err(EncodeFault::Write { written: k as u64 })
+    } else {
+        Ok(())
+    };
+    answer == wanted && sink.bytes() == &cut[..size.min(k)]
+}
+
+/// Writes the first file of an input to a sink that takes these bytes alone.
+fn write_first(rt: &impl Abort, alloc: Global, known: &Known, file: &FitFile, cut: &[u8]) {
+    let k = cut.len();
+    let mut sink = CutSink::<128>::new(k);
+    let answer = write_one(alloc, &mut sink, file);
+    assert!(rt;
+        is_cut(answer, &sink, known.first, cut),
+        "{} at {k}",
+        known.name
+    );
+    let mut sink = CutSink::<128>::new(k);
+    let answer = encode(rt, alloc, &mut sink, file, known.first);
+    assert!(rt;
+        is_cut(answer, &sink, known.first, cut),
+        "{} at {k}",
+        known.name
+    );
+}
+
+/// Writes the files of an input to a sink that takes these bytes alone, and the first of them.
+fn write_cut(rt: &impl Abort, alloc: Global, known: &Known, files: &[FitFile], cut: &[u8]) {
+    let k = cut.len();
+    let mut sink = CutSink::<128>::new(k);
+    let answer = write_chain(alloc, &mut sink, files);
+    let size = known.bytes.len();
+    assert!(rt; is_cut(answer, &sink, size, cut), "{} at {k}", known.name);
+    if let Some(file) = files.first() {
+        write_first(rt, alloc, known, file, cut);
     }
-    Ok(())
 }
 
 #[test]
@@ -155,23 +273,7 @@ fn sinks_that_fail_anywhere(rt: HostRuntime) -> Result<(), Fault> {
     for known in files() {
         let files = read_chain(alloc, &mut &known.bytes[..])?;
         for k in 0..known.bytes.len() {
-            let failed = Err(EncodeFault::Write { written: k as u64 });
-            let mut sink = CutSink::<128>::new(k);
-            let answer = write_chain(alloc, &mut sink, files.as_slice());
-            assert_eq!(rt; answer, failed, "{}", known.name);
-            assert_eq!(rt; sink.bytes(), &known.bytes[..k]);
-            if let Some(file) = files.as_slice().first() {
-                let mut sink = CutSink::<128>::new(k);
-                let answer = write_one(alloc, &mut sink, file);
-                let wanted = if k < known.first { failed } else { Ok(()) };
-                assert_eq!(rt; answer, wanted, "{} at {k}", known.name);
-                let count = k.min(known.first);
-                assert_eq!(rt; sink.bytes(), &known.bytes[..count]);
-                let mut sink = CutSink::<128>::new(k);
-                let answer = encode(&rt, alloc, &mut sink, file, known.first);
-                assert_eq!(rt; answer, wanted, "{} at {k}", known.name);
-                assert_eq!(rt; sink.bytes(), &known.bytes[..count]);
-            }
+            write_cut(&rt, alloc, &known, files.as_slice(), &known.bytes[..k]);
         }
     }
     Ok(())

@@ -54,7 +54,7 @@ fn message(alloc: Global) -> Result<Record, AllocError> {
 }
 
 /// Takes a record in where it fits.
-fn take(env: &mut Env, r: &Record) -> Result<(), AllocError> {
+pub fn take(env: &mut Env, r: &Record) -> Result<(), AllocError> {
     if env.fits(r).is_ok() {
         env.learn(r)?;
     }

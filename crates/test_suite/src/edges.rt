@@ -1,10 +1,14 @@
 //! Sources and sinks at their ends: empty buffers and slices, and what has failed after a good result.
 
-use fit_decode::{CutSource, ReadSource, Source, SourceFailed, read_one};
-use fit_encode::{CutSink, Encoder, Sink, SinkFailed, WriteSink, put_all, write_chain, write_one};
+use fit_decode::{CutSource, Fault, ReadSource, Source, SourceFailed, read_one};
+use fit_encode::{
+    CutSink, EncodeFault, Encoder, Sink, SinkFailed, WriteSink, put_all, write_chain, write_one,
+};
+use fit_record::FitFile;
+use std::alloc::Global;
 use std::io;
 use std::io::{ErrorKind, Read, Write};
-use std::test::Fail;
+use std::process::Abort;
 use test_known::{BOTH_ORDERS, SHORT};
 
 /// Gives nothing but errors, and counts how often it was read.
@@ -19,7 +23,7 @@ impl Read for Broken {
 }
 
 #[test]
-fn sources(rt: HostRuntime) {
+fn a_source_that_fails_at_once(rt: HostRuntime) {
     let mut buffer = [0u8; 4];
     let mut source = CutSource::new(b"ab", 0);
     assert_eq!(rt; source.take(&mut []), Ok(0));
@@ -27,19 +31,30 @@ fn sources(rt: HostRuntime) {
     assert_eq!(rt; source.take(&mut buffer), Err(SourceFailed));
     assert_eq!(rt; source.take(&mut []), Err(SourceFailed));
     assert!(rt; source.failed());
+}
 
-    let mut source = b"ab".as_slice();
-    assert_eq!(rt; Source::take(&mut source, &mut []), Ok(0));
-    assert_eq!(rt; Source::take(&mut source, &mut buffer), Ok(2));
-    assert_eq!(rt; Source::take(&mut source, &mut buffer), Ok(0));
-    assert!(rt; !Source::failed(&source));
-
-    let mut source = ReadSource::new(b"ab".as_slice());
+/// Takes nothing, all of two bytes, and then nothing again.
+fn take_two<S: Source>(rt: &impl Abort, source: &mut S) {
+    let mut buffer = [0u8; 4];
     assert_eq!(rt; source.take(&mut []), Ok(0));
     assert_eq!(rt; source.take(&mut buffer), Ok(2));
     assert_eq!(rt; source.take(&mut buffer), Ok(0));
     assert!(rt; !source.failed());
+}
 
+#[test]
+fn slices_as_sources(rt: HostRuntime) {
+    take_two(&rt, &mut b"ab".as_slice());
+}
+
+#[test]
+fn readers_as_sources(rt: HostRuntime) {
+    take_two(&rt, &mut ReadSource::new(b"ab".as_slice()));
+}
+
+#[test]
+fn a_reader_that_fails(rt: HostRuntime) {
+    let mut buffer = [0u8; 4];
     let mut source = ReadSource::new(Broken(0));
     for _ in 0..3 {
         assert_eq!(rt; source.take(&mut buffer), Err(SourceFailed));
@@ -68,27 +83,32 @@ impl Write for Narrow {
 }
 
 #[test]
-fn sinks(rt: HostRuntime) {
+fn a_sink_that_fails_at_once(rt: HostRuntime) {
     let mut sink = CutSink::<4>::new(0);
     assert_eq!(rt; sink.put(&[]), Ok(0));
     assert!(rt; !sink.failed());
     assert_eq!(rt; sink.put(b"a"), Err(SinkFailed));
     assert_eq!(rt; sink.put(&[]), Err(SinkFailed));
     assert!(rt; sink.failed());
+}
 
+#[test]
+fn a_writer_that_is_full(rt: HostRuntime) {
     let mut room = [0u8; 2];
     let mut sink = WriteSink::new(room.as_mut_slice());
-    assert_eq!(rt; sink.put(&[]), Ok(0));
-    assert!(rt; !sink.failed());
-    assert_eq!(rt; sink.put(b"abc"), Ok(2));
-    assert_eq!(rt; sink.put(&[]), Ok(0));
-    assert!(rt; !sink.failed());
+    for (bytes, count) in [(b"".as_slice(), 0), (b"abc", 2), (b"", 0)] {
+        assert_eq!(rt; sink.put(bytes), Ok(count));
+        assert!(rt; !sink.failed());
+    }
     // No byte of some is taken.
     assert_eq!(rt; sink.put(b"c"), Ok(0));
     assert!(rt; sink.failed());
     assert_eq!(rt; sink.put(b"c"), Err(SinkFailed));
     assert_eq!(rt; put_all(&mut sink, b"c"), Err(0));
+}
 
+#[test]
+fn more_bytes_than_a_writer_takes(rt: HostRuntime) {
     let mut room = [0u8; 2];
     let mut sink = WriteSink::new(room.as_mut_slice());
     assert_eq!(rt; put_all(&mut sink, b"abc"), Err(2));
@@ -96,33 +116,65 @@ fn sinks(rt: HostRuntime) {
     assert_eq!(rt; put_all(&mut sink, &[]), Ok(()));
 }
 
+impl Narrow {
+    /// A sink that puts its bytes into a new one.
+    fn sink() -> WriteSink<Narrow> {
+        WriteSink::new(Narrow(CutSink::new(64)))
+    }
+}
+
 /// After a good result the sink has all bytes and hasn't failed, whatever it makes of an empty slice.
+fn is_good(sink: WriteSink<Narrow>, bytes: &[u8]) -> bool {
+    !sink.failed() && sink.into_inner().0.bytes() == bytes
+}
+
 #[test]
-fn good_results(rt: HostRuntime) -> Result<(), Fail> {
-    let alloc = rt.alloc();
-    let both = read_one(alloc, &mut BOTH_ORDERS.as_slice())?;
-    let short = [read_one(alloc, &mut SHORT.as_slice())?];
-    let mut sink = WriteSink::new(Narrow(CutSink::new(64)));
+fn all_bytes_put(rt: HostRuntime) {
+    let mut sink = Narrow::sink();
     assert_eq!(rt; put_all(&mut sink, b"abc"), Ok(()));
+    assert!(rt; is_good(sink, b"abc"));
+}
+
+#[test]
+fn a_file_written(rt: HostRuntime) -> Result<(), Fault> {
+    let file = read_one(rt.alloc(), &mut BOTH_ORDERS.as_slice())?;
+    let mut sink = Narrow::sink();
+    assert_eq!(rt; write_one(rt.alloc(), &mut sink, &file), Ok(()));
+    assert!(rt; is_good(sink, &BOTH_ORDERS));
+    Ok(())
+}
+
+#[test]
+fn a_chain_written(rt: HostRuntime) -> Result<(), Fault> {
+    let file = read_one(rt.alloc(), &mut SHORT.as_slice())?;
+    let mut sink = Narrow::sink();
+    let answer = write_chain(rt.alloc(), &mut sink, std::slice::from_ref(&file));
+    assert_eq!(rt; answer, Ok(()));
+    assert!(rt; is_good(sink, &SHORT));
+    Ok(())
+}
+
+/// Writes a file of 36 bytes of data record by record. The sink has not failed after any call.
+fn encode(
+    rt: &impl Abort,
+    alloc: Global,
+    sink: &mut WriteSink<Narrow>,
+    file: &FitFile,
+) -> Result<(), EncodeFault> {
+    let mut encoder = Encoder::begin(alloc, sink, &file.header, 36)?;
     assert!(rt; !sink.failed());
-    assert_eq!(rt; sink.into_inner().0.bytes(), b"abc".as_slice());
-    let mut sink = WriteSink::new(Narrow(CutSink::new(64)));
-    assert_eq!(rt; write_one(alloc, &mut sink, &both), Ok(()));
-    assert!(rt; !sink.failed());
-    assert_eq!(rt; sink.into_inner().0.bytes(), BOTH_ORDERS.as_slice());
-    let mut sink = WriteSink::new(Narrow(CutSink::new(64)));
-    assert_eq!(rt; write_chain(alloc, &mut sink, &short), Ok(()));
-    assert!(rt; !sink.failed());
-    assert_eq!(rt; sink.into_inner().0.bytes(), SHORT.as_slice());
-    let mut sink = WriteSink::new(Narrow(CutSink::new(64)));
-    let mut encoder = Encoder::begin(alloc, &mut sink, &both.header, 36)?;
-    assert!(rt; !sink.failed());
-    for record_ in both.records.as_slice() {
-        assert_eq!(rt; encoder.put(&mut sink, record_), Ok(()));
+    for record_ in file.records.as_slice() {
+        encoder.put(sink, record_)?;
         assert!(rt; !sink.failed());
     }
-    assert_eq!(rt; encoder.finish(&mut sink), Ok(()));
-    assert!(rt; !sink.failed());
-    assert_eq!(rt; sink.into_inner().0.bytes(), BOTH_ORDERS.as_slice());
+    encoder.finish(sink)
+}
+
+#[test]
+fn a_file_encoded(rt: HostRuntime) -> Result<(), Fault> {
+    let file = read_one(rt.alloc(), &mut BOTH_ORDERS.as_slice())?;
+    let mut sink = Narrow::sink();
+    assert_eq!(rt; encode(&rt, rt.alloc(), &mut sink, &file), Ok(()));
+    assert!(rt; is_good(sink, &BOTH_ORDERS));
     Ok(())
 }

@@ -7,6 +7,7 @@ use fit_decode::{Decoder, Event, Fault};
 use fit_frame::{HeaderSum, Reason};
 use fit_record::{FieldDef, Record};
 use std::alloc::{Allocator, Global};
+use std::process::Abort;
 use std::test::*;
 use test_known::BOTH_ORDERS;
 use test_known::protocol::{COMPRESSED_SPEED_DISTANCE, RECORD};
@@ -28,7 +29,24 @@ pub fn told<A: Allocator>(event: &Event<A>) -> (u8, u64) {
     }
 }
 
-/// The same of the byte at a place of that file.
+/// Feeds some bytes: how many of them are used, and what the event says.
+pub fn feed<A: Allocator + Copy>(
+    decoder: &mut Decoder<A>,
+    bytes: &[u8],
+) -> Result<(usize, (u8, u64)), Fault> {
+    let fed = decoder.feed(bytes)?;
+    Ok((fed.used, told(&fed.event)))
+}
+
+/// Feeds some bytes one by one.
+pub fn feed_each(decoder: &mut Decoder, bytes: &[u8]) -> Result<(), Fault> {
+    for byte in bytes {
+        decoder.feed(&[*byte])?;
+    }
+    Ok(())
+}
+
+/// What the event of the byte at a place of `orders` says.
 pub fn told_at(place: usize) -> (u8, u64) {
     match place {
         13 => (b'h', 36),
@@ -55,9 +73,8 @@ fn byte_by_byte(rt: HostRuntime) -> Result<(), Fault> {
     let mut decoder = Decoder::new(rt.alloc());
     assert_eq!(rt; decoder.need(), 14);
     for (place, byte) in BOTH_ORDERS.iter().enumerate() {
-        let fed = decoder.feed(&[*byte])?;
         assert_eq!(rt;
-            (fed.used, told(&fed.event)),
+            feed(&mut decoder, &[*byte])?,
             (1, told_at(place)),
             "{place}"
         );
@@ -70,8 +87,7 @@ fn byte_by_byte(rt: HostRuntime) -> Result<(), Fault> {
             assert!(rt; held <= 6);
         }
     }
-    assert_eq!(rt; decoder.finish(), Ok(()));
-    Ok(())
+    decoder.finish()
 }
 
 /// A header that announces that many bytes of data.
@@ -84,11 +100,8 @@ pub fn header(size: u32) -> [u8; 14] {
 fn refused(decoder: &mut Decoder, bytes: &[u8]) -> Option<(u64, Reason)> {
     let mut rest = bytes;
     for _ in 0..bytes.len() {
-        match decoder.feed(rest) {
-            Ok(fed) => {
-                let (_, left) = rest.split_at(fed.used);
-                rest = left;
-            }
+        match feed(decoder, rest) {
+            Ok((used, _)) => rest = rest.get(used..).unwrap_or_default(),
             Err(Fault::Refused { place, reason }) => return Some((place, reason)),
             Err(_) => return None,
         }
@@ -169,29 +182,45 @@ pub fn same<A: Allocator>(one: &Event<A>, other: &Event<A>) -> bool {
     }
 }
 
-/// Messages of 20 bytes are defined, and 10 bytes are left: in one piece the header and the definition come before the refusal.
+/// Whether the next event of a piece is this one, by that many bytes.
+fn begins(decoder: &mut Decoder, piece: &[u8], used: usize, event: &Event) -> Result<bool, Fault> {
+    let fed = decoder.feed(piece)?;
+    Ok(fed.used == used && same(&fed.event, event))
+}
+
+/// Messages of 20 bytes are defined, and 10 bytes are left, of which the first is this one. In one piece the header and the definition
+/// come before the refusal.
+fn refuse_message(
+    rt: &impl Abort,
+    decoder: &mut Decoder,
+    defined: &Event,
+    first: u8,
+    reason: Reason,
+) -> Result<(), Fault> {
+    let begun = Event::Header(written::header(14, 0, HeaderSum::Zero), 19);
+    let mut piece = *b"\x0E\x20\0\0\x13\0\0\0.FIT\0\0\x40\0\0\x14\0\x01\x08\x13\x0D\0";
+    piece[23] = first;
+    assert!(rt; begins(decoder, &piece, 14, &begun)?);
+    assert!(rt; begins(decoder, &piece[14..], 9, defined)?);
+    let refused = Fault::Refused { place: 23, reason };
+    assert_eq!(rt; feed(decoder, &piece[23..]), Err(refused), "{first}");
+    assert_eq!(rt; decoder.held(), 0);
+    Ok(())
+}
+
 #[test]
 fn events_before_a_refusal(rt: HostRuntime) -> Result<(), Fail> {
     let alloc = rt.alloc();
-    let begun = Event::Header(written::header(14, 0, HeaderSum::Zero), 19);
     let field = FieldDef::new(COMPRESSED_SPEED_DISTANCE, 19, BYTE);
     let defined = Event::Item(Record::Define(define(alloc, 0, RECORD, &[field])?));
-    for (last, reason) in [
+    for (first, reason) in [
         (0x00, Reason::Overrun),
         (0x01, Reason::UndefinedLocal),
         (0x50, Reason::ReservedBit),
         (0x20, Reason::ReservedBit),
     ] {
         let mut decoder = Decoder::new(alloc);
-        let mut piece = *b"\x0E\x20\0\0\x13\0\0\0.FIT\0\0\x40\0\0\x14\0\x01\x08\x13\x0D\0";
-        piece[23] = last;
-        let fed = decoder.feed(&piece)?;
-        assert!(rt; fed.used == 14 && same(&fed.event, &begun));
-        let fed = decoder.feed(&piece[14..])?;
-        assert!(rt; fed.used == 9 && same(&fed.event, &defined));
-        let refused = Fault::Refused { place: 23, reason };
-        assert_eq!(rt; decoder.feed(&piece[23..]).err(), Some(refused), "{last}");
-        assert_eq!(rt; decoder.held(), 0);
+        refuse_message(&rt, &mut decoder, &defined, first, reason)?;
     }
     Ok(())
 }

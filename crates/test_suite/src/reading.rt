@@ -1,4 +1,5 @@
 //! Known files, read from sources.
+use crate::cut::{ends, has_next};
 use crate::sources::OneByOne;
 use crate::written::{both_orders, described, header};
 use fit_decode::{
@@ -28,6 +29,14 @@ fn gives<S: Source>(alloc: Global, source: &mut S, bytes: &[u8]) -> Result<bool,
     Ok(has_bytes(alloc, &file, bytes))
 }
 
+/// Whether a file with these bytes is read, with that many records, and none of its bytes are left.
+fn is_read(alloc: Global, bytes: &[u8], records: usize) -> Result<bool, Fault> {
+    let mut source = bytes;
+    let file = read_one(alloc, &mut source)?;
+    let whole = file.records.len() == records && source.is_empty();
+    Ok(whole && has_bytes(alloc, &file, bytes))
+}
+
 #[test]
 fn files_are_read(rt: HostRuntime) -> Result<(), Fault> {
     for (bytes, records) in [
@@ -39,10 +48,7 @@ fn files_are_read(rt: HostRuntime) -> Result<(), Fault> {
         (BOTH_ORDERS.as_slice(), 4),
         (DEVELOPER_FIELD.as_slice(), 7),
     ] {
-        let mut source = bytes;
-        let file = read_one(rt.alloc(), &mut source)?;
-        assert_eq!(rt; (file.records.len(), source.len()), (records, 0));
-        assert!(rt; has_bytes(rt.alloc(), &file, bytes));
+        assert!(rt; is_read(rt.alloc(), bytes, records)?, "{records} records");
     }
     Ok(())
 }
@@ -64,71 +70,107 @@ fn files_are_read_in_pieces(rt: HostRuntime) -> Result<(), Fault> {
     Ok(())
 }
 
-/// Whether an event is the one of this number in a file of these records: the header, which announces that many bytes, each record, and
-/// the end of the file.
-fn is_event(event: &Event, number: usize, size: u32, records: &[Record]) -> bool {
-    match event {
+/// What is known of a file: where its events end, how many bytes of data its header announces, and its records.
+#[derive(Clone, Copy)]
+struct Told<'a> {
+    ends: &'a [End],
+    size: u32,
+    records: &'a [Record],
+}
+
+/// Whether an event is the one of this number in a file, and ends at this place: the header, each record, and the end of the file.
+fn is_event(event: &Event, file: &Told, number: usize, place: usize) -> bool {
+    let Some(end) = file.ends.get(number) else {
+        return false;
+    };
+    let is_next = match event {
         Event::More => false,
-        Event::Header(found, count) => {
-            number == 0 && *count == size && *found == header(14, 0, HeaderSum::True)
+        Event::Header(found, size) => {
+            number == 0 && *size == file.size && *found == header(14, 0, HeaderSum::True)
         }
         Event::Item(found) => match number.checked_sub(1) {
             None => false,
-            Some(place) => records.get(place) == Some(found),
+            Some(index) => file.records.get(index) == Some(found),
         },
-        Event::FileEnd => number == records.len().saturating_add(1),
-    }
+        Event::FileEnd => number == file.records.len().saturating_add(1),
+    };
+    is_next && end.0 == place
 }
 
-/// Feeds some pieces of a file of these records. Events end after that many bytes, and the pieces are a chain.
-fn tell(
+/// Feeds a piece of a file, of which so many bytes and events came before. Returns how many events have come then.
+fn tell_piece(
     rt: &impl Abort,
-    alloc: Global,
-    pieces: &[&[u8]],
-    ends: &[End],
-    size: u32,
-    records: &[Record],
-) -> Result<(), Fault> {
+    decoder: &mut Decoder,
+    file: &Told,
+    piece: &[u8],
+    before: usize,
+    events: usize,
+) -> Result<usize, Fault> {
+    let mut rest = piece;
+    let mut place = before;
+    let mut number = events;
+    for _ in 0..=piece.len() {
+        let fed = decoder.feed(rest)?;
+        rest = rest.get(fed.used..).unwrap_or_default();
+        place = place.saturating_add(fed.used);
+        if let Event::More = fed.event {
+            break;
+        }
+        assert!(rt; is_event(&fed.event, file, number, place), "at {place}");
+        number = number.saturating_add(1);
+    }
+    assert!(rt; rest.is_empty());
+    Ok(number)
+}
+
+/// Feeds a file in some pieces.
+fn tell(rt: &impl Abort, alloc: Global, file: &Told, pieces: &[&[u8]]) -> Result<(), Fault> {
     let mut decoder = Decoder::new(alloc);
     let mut place = 0usize;
-    let mut events = 0usize;
+    let mut events = 0;
     for piece in pieces {
-        let mut rest = *piece;
-        for _ in 0..=piece.len() {
-            let fed = decoder.feed(rest)?;
-            let (_, more) = rest.split_at(fed.used);
-            rest = more;
-            place = place.saturating_add(fed.used);
-            if let Event::More = fed.event {
-                break;
-            }
-            assert_eq!(rt; ends.get(events).map(|end| end.0), Some(place));
-            assert!(rt; is_event(&fed.event, events, size, records), "at {place}");
-            events = events.saturating_add(1);
-        }
-        assert!(rt; rest.is_empty());
+        events = tell_piece(rt, &mut decoder, file, piece, place, events)?;
+        place = place.saturating_add(piece.len());
     }
-    assert_eq!(rt; events, ends.len());
+    assert_eq!(rt; events, file.ends.len());
     decoder.finish()
 }
 
-/// Feeds a file of these records in one piece, in two, and byte by byte.
-fn tell_cut(
+/// Feeds the bytes of a file in one piece, in two, and byte by byte.
+fn tell_cut(rt: &impl Abort, alloc: Global, file: &Told, bytes: &[u8]) -> Result<(), Fail> {
+    for k in 0..bytes.len() {
+        let (first, second) = bytes.split_at(k);
+        tell(rt, alloc, file, &[first, second])?;
+    }
+    let mut single = Vec::new(alloc);
+    for byte in bytes.chunks(1) {
+        single.push(byte)?;
+    }
+    tell(rt, alloc, file, single.as_slice())?;
+    Ok(())
+}
+
+/// Feeds the known file of this name.
+fn tell_known(
     rt: &impl Abort,
     alloc: Global,
-    known: &Known,
+    name: &str,
     size: u32,
     records: &[Record],
 ) -> Result<(), Fail> {
-    for k in 0..known.bytes.len() {
-        let (first, second) = known.bytes.split_at(k);
-        tell(rt, alloc, &[first, second], known.ends, size, records)?;
+    let mut found = false;
+    for known in files() {
+        if known.name == name {
+            let file = Told {
+                ends: known.ends,
+                size,
+                records,
+            };
+            tell_cut(rt, alloc, &file, known.bytes)?;
+            found = true;
+        }
     }
-    let mut single = Vec::new(alloc);
-    for byte in known.bytes.chunks(1) {
-        single.push(byte)?;
-    }
-    tell(rt, alloc, single.as_slice(), known.ends, size, records)?;
+    assert!(rt; found);
     Ok(())
 }
 
@@ -137,20 +179,9 @@ fn tell_cut(
 fn events_end_anywhere(rt: HostRuntime) -> Result<(), Fail> {
     let alloc = rt.alloc();
     let orders = both_orders(alloc, 120)?;
+    tell_known(&rt, alloc, "orders", 36, orders.as_slice())?;
     let developer = described(alloc)?;
-    let mut told = 0u32;
-    for known in files() {
-        if known.name == "orders" {
-            tell_cut(&rt, alloc, &known, 36, orders.as_slice())?;
-            told = told.saturating_add(1);
-        }
-        if known.name == "developer" {
-            tell_cut(&rt, alloc, &known, 54, developer.as_slice())?;
-            told = told.saturating_add(1);
-        }
-    }
-    assert_eq!(rt; told, 2);
-    Ok(())
+    tell_known(&rt, alloc, "developer", 54, developer.as_slice())
 }
 
 #[test]
@@ -169,8 +200,7 @@ fn a_refused_byte_before_a_failure(rt: HostRuntime) {
 fn bytes_after_a_file(rt: HostRuntime) -> Result<(), Fault> {
     let bytes = *b"\x0E\x20\0\0\0\0\0\0.FIT\x9C\x85\0\0\xFF";
     let mut source = bytes.as_slice();
-    let file = read_one(rt.alloc(), &mut source)?;
-    assert!(rt; has_bytes(rt.alloc(), &file, &EMPTY));
+    assert!(rt; gives(rt.alloc(), &mut source, &EMPTY)?);
     assert_eq!(rt; source, b"\xFF".as_slice());
     let fault = read_chain(rt.alloc(), &mut bytes.as_slice()).err();
     assert_eq!(rt; fault, Some(Fault::Truncated { place: 17 }));
@@ -178,44 +208,33 @@ fn bytes_after_a_file(rt: HostRuntime) -> Result<(), Fault> {
 }
 
 #[test]
-fn a_bad_second_file(rt: HostRuntime) -> Result<(), Fault> {
+fn a_bad_second_file(rt: HostRuntime) {
+    let alloc = rt.alloc();
     let bytes =
         *b"\x0E\x20\0\0\x07\0\0\0.FIT\xDD\x63\x40\0\0\x14\0\0\0\x44\x34\x0E\x20\0\0\x07\0\0\0.FIT\xDD\x63\0";
     let refused = Some(Fault::Refused {
         place: 37,
         reason: Reason::UndefinedLocal,
     });
-    assert_eq!(rt;
-        read_chain(rt.alloc(), &mut bytes.as_slice()).err(),
-        refused
-    );
-    let mut reading = Reading::new(rt.alloc(), bytes.as_slice());
-    match reading.next()? {
-        Some(file) => assert!(rt; has_bytes(rt.alloc(), &file, &ONE_BYTE_MESSAGE)),
-        None => assert!(rt; false),
-    }
-    assert_eq!(rt; reading.next().err(), refused);
-    assert_eq!(rt; reading.next().err(), refused);
-    Ok(())
+    assert_eq!(rt; read_chain(alloc, &mut bytes.as_slice()).err(), refused);
+    let mut reading = Reading::new(alloc, bytes.as_slice());
+    assert!(rt; has_next(alloc, &mut reading, &ONE_BYTE_MESSAGE));
+    assert!(rt; ends(&mut reading, refused));
+    assert!(rt; ends(&mut reading, refused));
 }
 
 #[test]
 fn a_chain(rt: HostRuntime) -> Result<(), Fault> {
+    let alloc = rt.alloc();
     let chain = BOTH_ORDERS.as_slice().chain(DEVELOPER_FIELD.as_slice());
-    let mut reading = Reading::new(rt.alloc(), ReadSource::new(chain));
-    for bytes in [BOTH_ORDERS.as_slice(), DEVELOPER_FIELD.as_slice()] {
-        match reading.next()? {
-            Some(file) => assert!(rt; has_bytes(rt.alloc(), &file, bytes)),
-            None => assert!(rt; false),
-        }
-    }
-    assert!(rt; reading.next()?.is_none());
-    assert!(rt; reading.next()?.is_none());
+    let files = read_chain(alloc, &mut ReadSource::new(chain))?;
+    assert_eq!(rt; files.len(), 2);
     let chain = BOTH_ORDERS.as_slice().chain(DEVELOPER_FIELD.as_slice());
-    assert_eq!(rt;
-        read_chain(rt.alloc(), &mut ReadSource::new(chain))?.len(),
-        2
-    );
+    let mut reading = Reading::new(alloc, ReadSource::new(chain));
+    assert!(rt; has_next(alloc, &mut reading, &BOTH_ORDERS));
+    assert!(rt; has_next(alloc, &mut reading, &DEVELOPER_FIELD));
+    assert!(rt; ends(&mut reading, None));
+    assert!(rt; ends(&mut reading, None));
     Ok(())
 }
 
@@ -231,22 +250,23 @@ fn a_long_chain(rt: HostRuntime) -> Result<(), Fault> {
     decoder.finish()
 }
 
+/// Whether the files that these bytes have are that many, and are written as these bytes.
+fn is_written_again(alloc: Global, bytes: &[u8], count: usize) -> Result<bool, Fail> {
+    let files = read_chain(alloc, &mut &bytes[..])?;
+    let mut sink = WriteSink::new(Vec::new(alloc));
+    write_chain(alloc, &mut sink, files.as_slice())?;
+    Ok(files.len() == count && sink.into_inner().as_slice() == bytes)
+}
+
 /// The same files, read and written again.
 #[test]
-fn a_long_chain_again(rt: HostRuntime) -> Result<(), Fault> {
+fn a_long_chain_again(rt: HostRuntime) -> Result<(), Fail> {
     let mut bytes = Vec::new(rt.alloc());
     for _ in 0..65_536 {
-        assert!(rt; bytes.extend_from_slice(&SHORT).is_ok());
+        bytes.extend_from_slice(&SHORT)?;
     }
-    let files = read_chain(rt.alloc(), &mut bytes.as_slice())?;
-    assert_eq!(rt; files.len(), 65_536);
-    let mut sink = WriteSink::new(Vec::new(rt.alloc()));
-    assert_eq!(rt;
-        write_chain(rt.alloc(), &mut sink, files.as_slice()),
-        Ok(())
-    );
     assert_eq!(rt; bytes.len(), 917_504);
-    assert!(rt; sink.into_inner() == bytes);
+    assert!(rt; is_written_again(rt.alloc(), bytes.as_slice(), 65_536)?);
     Ok(())
 }
 

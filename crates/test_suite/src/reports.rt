@@ -1,11 +1,11 @@
 //! Reports of known bytes, by a reporter that puts a dot for each event.
 ghost use Rattle.std.specs.Prelude.{◌≡◌, [], ◌∷◌};
 
-use fit_decode::{CutSource, Event, Fault};
+use fit_decode::{CutSource, Event, Fault, Source};
 use fit_encode::{CutSink, Sink};
 use fit_frame::Reason;
 use fit_report::{Heard, Report, ReportFault, report};
-use std::alloc::AllocError;
+use std::alloc::{AllocError, Global};
 use std::test::Fail;
 
 /// A header, a definition message without fields, a data message of one byte, and the checksum.
@@ -43,14 +43,41 @@ fn dotted(count: usize) -> CutSink<64> {
     sink
 }
 
-#[test]
-fn inputs(rt: HostRuntime) -> Result<(), Fail> {
-    let mut chain = Vec::new(rt.alloc());
+/// Whether a report of a source ends so after that many dots, by a sink that takes that many bytes.
+fn is_reported<S: Source>(
+    alloc: Global,
+    source: &mut S,
+    limit: usize,
+    dots: usize,
+    answer: Result<(), ReportFault>,
+) -> bool {
+    let mut sink = CutSink::<64>::new(limit);
+    let mut reporter = Dots {
+        heard: Heard::new(),
+    };
+    let found = report(alloc, source, &mut sink, &mut reporter);
+    found == answer && sink.bytes() == dotted(dots).bytes()
+}
+
+/// Three files, and a byte that is no header.
+fn chain(alloc: Global) -> Result<Vec<u8>, AllocError> {
+    let mut bytes = Vec::new(alloc);
     for _ in 0..3 {
-        chain.extend_from_slice(&FILE)?;
+        bytes.extend_from_slice(&FILE)?;
     }
-    chain.push(0)?;
-    for (size, count, answer) in [
+    bytes.push(0)?;
+    Ok(bytes)
+}
+
+/// A report of that many bytes of a chain ends so, after that many dots.
+#[test]
+fn inputs(rt: HostRuntime) -> Result<(), AllocError> {
+    let chain = chain(rt.alloc())?;
+    let refused = Fault::Refused {
+        place: 69,
+        reason: Reason::HeaderSize,
+    };
+    for (size, dots, answer) in [
         (0, 0, Err(Fault::Truncated { place: 0 })),
         (13, 0, Err(Fault::Truncated { place: 13 })),
         (14, 1, Err(Fault::Truncated { place: 14 })),
@@ -58,64 +85,60 @@ fn inputs(rt: HostRuntime) -> Result<(), Fail> {
         (23, 4, Ok(())),
         (24, 4, Err(Fault::Truncated { place: 24 })),
         (69, 12, Ok(())),
-        (
-            70,
-            12,
-            Err(Fault::Refused {
-                place: 69,
-                reason: Reason::HeaderSize,
-            }),
-        ),
+        (70, 12, Err(refused)),
     ] {
-        let mut input = chain.as_slice().get(..size).ok_or("too short")?;
-        let mut sink = CutSink::<64>::new(64);
-        let mut reporter = Dots {
-            heard: Heard::new(),
-        };
-        let found = report(rt.alloc(), &mut input, &mut sink, &mut reporter);
-        assert_eq!(rt; found, answer.map_err(ReportFault::Decode), "at {size}");
-        assert_eq!(rt; sink.bytes(), dotted(count).bytes(), "at {size}");
+        let mut input = chain.as_slice().get(..size).unwrap_or_default();
+        assert_eq!(rt; input.len(), size);
+        let answer = answer.map_err(ReportFault::Decode);
+        assert!(rt;
+            is_reported(rt.alloc(), &mut input, 64, dots, answer),
+            "at {size}"
+        );
     }
     Ok(())
 }
 
 #[test]
-fn failing_sources_and_sinks(rt: HostRuntime) {
-    let mut sink = CutSink::<64>::new(64);
-    let mut reporter = Dots {
-        heard: Heard::new(),
-    };
+fn a_failing_source(rt: HostRuntime) {
     let mut source = CutSource::new(&FILE, 21);
-    let found = report(rt.alloc(), &mut source, &mut sink, &mut reporter);
-    assert_eq!(rt; found, Err(ReportFault::Decode(Fault::Read { place: 21 })));
-    assert_eq!(rt; sink.bytes(), dotted(3).bytes());
+    let fault = ReportFault::Decode(Fault::Read { place: 21 });
+    assert!(rt; is_reported(rt.alloc(), &mut source, 64, 3, Err(fault)));
+}
 
+#[test]
+fn failing_sinks(rt: HostRuntime) {
     for limit in 0..4 {
-        let mut sink = CutSink::<64>::new(limit);
-        let mut reporter = Dots {
-            heard: Heard::new(),
+        let fault = ReportFault::Write {
+            written: limit as u64,
         };
-        let found = report(rt.alloc(), &mut FILE.as_slice(), &mut sink, &mut reporter);
-        assert_eq!(rt;
-            found,
-            Err(ReportFault::Write {
-                written: limit as u64
-            })
+        let mut input = FILE.as_slice();
+        assert!(rt;
+            is_reported(rt.alloc(), &mut input, limit, limit, Err(fault)),
+            "{limit}"
         );
-        assert_eq!(rt; sink.bytes(), dotted(limit).bytes());
     }
+}
+
+/// Whether a fault has this text.
+fn has_text(alloc: Global, fault: ReportFault, text: &str) -> Result<bool, AllocError> {
+    let told = format!(in alloc; "{fault}")?;
+    Ok(told.as_str() == text)
+}
+
+/// Whether a fault of a decoder has this text, alone and in a report.
+fn decodes_as(alloc: Global, fault: Fault, text: &str) -> Result<bool, AllocError> {
+    let told = format!(in alloc; "{fault}")?;
+    Ok(told.as_str() == text && has_text(alloc, ReportFault::Decode(fault), text)?)
 }
 
 #[test]
 fn texts_of_faults(rt: HostRuntime) -> Result<(), Fail> {
+    let refused = Fault::Refused {
+        place: 37,
+        reason: Reason::UndefinedLocal,
+    };
     for (fault, text) in [
-        (
-            Fault::Refused {
-                place: 37,
-                reason: Reason::UndefinedLocal,
-            },
-            "refused at byte 37: UndefinedLocal",
-        ),
+        (refused, "refused at byte 37: UndefinedLocal"),
         (Fault::Truncated { place: 0 }, "truncated at byte 0"),
         (
             Fault::NoMemory { used: 4096 },
@@ -123,12 +146,9 @@ fn texts_of_faults(rt: HostRuntime) -> Result<(), Fail> {
         ),
         (Fault::Read { place: 21 }, "read fault at byte 21"),
     ] {
-        let told = format!(in rt.alloc(); "{fault}")?;
-        assert_eq!(rt; told.as_str(), text);
-        let told = format!(in rt.alloc(); "{}", ReportFault::Decode(fault))?;
-        assert_eq!(rt; told.as_str(), text);
+        assert!(rt; decodes_as(rt.alloc(), fault, text)?, "{text}");
     }
-    let told = format!(in rt.alloc(); "{}", ReportFault::Write { written: 5 })?;
-    assert_eq!(rt; told.as_str(), "write fault after 5 bytes");
+    let write = ReportFault::Write { written: 5 };
+    assert!(rt; has_text(rt.alloc(), write, "write fault after 5 bytes")?);
     Ok(())
 }

@@ -1,12 +1,12 @@
 //! Records that are skipped, beside the same bytes fed.
 
-use crate::fed::{header, same};
-use crate::starved::fill;
-use fit_decode::{Decoder, Event, Fault};
+use crate::fed::{feed, header, same};
+use crate::starved::{fill, is_full};
+use fit_decode::{Decoder, Fault, Fed};
 use linked_list_allocator::LocalHeap;
 use std::alloc::{AllocError, Allocator, Global};
 use std::process::Abort;
-use std::test::*;
+use std::test::Fail;
 use test_known::files;
 
 /// How many records a decoder reports of bytes that another has skipped. It reports nothing else.
@@ -17,14 +17,10 @@ fn records_of(rt: &impl Abort, decoder: &mut Decoder, bytes: &[u8]) -> Result<u6
         if rest.is_empty() {
             break;
         }
-        let fed = decoder.feed(rest)?;
-        match fed.event {
-            Event::Item(_) => {}
-            _ => assert!(rt; false),
-        }
+        let (used, (letter, _)) = feed(decoder, rest)?;
+        assert!(rt; letter == b'd' || letter == b'v');
         count = count.saturating_add(1);
-        let (_, left) = rest.split_at(fed.used);
-        rest = left;
+        rest = rest.get(used..).unwrap_or_default();
     }
     Ok(count)
 }
@@ -61,6 +57,47 @@ fn skip_messages(decoder: &mut Decoder, bytes: &[u8]) -> (usize, u64) {
     (bytes.len().saturating_sub(rest.len()), count)
 }
 
+/// Skips what one decoder can, and feeds these bytes to another, which stands at the same place then. Returns how many bytes they are, and
+/// how many records were skipped.
+fn skip_both(
+    rt: &impl Abort,
+    skip: Skip,
+    skipping: &mut Decoder,
+    feeding: &mut Decoder,
+    bytes: &[u8],
+) -> (usize, u64) {
+    let (used, count) = match skip {
+        Skip::Records => skipping.skip_records(bytes),
+        Skip::Message => skip_messages(skipping, bytes),
+    };
+    let (front, _) = bytes.split_at(used.min(bytes.len()));
+    assert_eq!(rt; records_of(rt, feeding, front), Ok(count));
+    are_alike(rt, skipping, feeding);
+    (used, count)
+}
+
+/// Whether two decoders say the same of a piece.
+fn is_same(one: &Result<Fed, Fault>, other: &Result<Fed, Fault>) -> bool {
+    match (one, other) {
+        (Ok(fed), Ok(told)) => fed.used == told.used && same(&fed.event, &told.event),
+        (Err(fault), Err(found)) => fault == found,
+        _ => false,
+    }
+}
+
+/// Feeds a piece to two decoders, which say the same of it. Returns how many of its bytes are used.
+fn feed_both(
+    rt: &impl Abort,
+    one: &mut Decoder,
+    other: &mut Decoder,
+    piece: &[u8],
+) -> Result<usize, Fault> {
+    let answer = one.feed(piece);
+    assert!(rt; is_same(&answer, &other.feed(piece)));
+    are_alike(rt, one, other);
+    Ok(answer?.used)
+}
+
 /// Gives a piece to two decoders, of which the first skips what it can. Both say the same. Returns how many records were skipped.
 fn give(
     rt: &impl Abort,
@@ -72,29 +109,11 @@ fn give(
     let mut skipped = 0u64;
     let mut rest = piece;
     for _ in 0..piece.len() {
-        let (used, count) = match skip {
-            Skip::Records => skipping.skip_records(rest),
-            Skip::Message => skip_messages(skipping, rest),
-        };
-        let (front, left) = rest.split_at(used.min(rest.len()));
-        assert_eq!(rt; records_of(rt, feeding, front), Ok(count));
-        are_alike(rt, skipping, feeding);
+        let (used, count) = skip_both(rt, skip, skipping, feeding, rest);
         skipped = skipped.saturating_add(count);
-        let other = feeding.feed(left);
-        match skipping.feed(left) {
-            Ok(one) => {
-                let alike = other.is_ok_and(|fed| fed.used == one.used
-                    && same(&fed.event, &one.event));
-                assert!(rt; alike);
-                rest = left.get(one.used..).unwrap_or_default();
-            }
-            Err(fault) => {
-                assert_eq!(rt; other.err(), Some(fault));
-                are_alike(rt, skipping, feeding);
-                return Err(fault);
-            }
-        }
-        are_alike(rt, skipping, feeding);
+        rest = rest.get(used..).unwrap_or_default();
+        let used = feed_both(rt, skipping, feeding, rest)?;
+        rest = rest.get(used..).unwrap_or_default();
     }
     Ok(skipped)
 }
@@ -174,19 +193,57 @@ fn changed_files(rt: HostRuntime) -> Result<(), AllocError> {
 }
 
 /// A definition message without fields, and 9000 data messages of one byte. The closing checksum is that of another program.
-#[test]
-fn many_messages(rt: HostRuntime) -> Result<(), Fail> {
-    let alloc = rt.alloc();
+fn file_of_many(alloc: Global) -> Result<Vec<u8>, AllocError> {
     let mut bytes = Vec::from_slice(alloc, &header(9006))?;
     bytes.extend_from_slice(b"\x40\0\0\x14\0\0")?;
     for _ in 0..9000 {
         bytes.push(0)?;
     }
     bytes.extend_from_slice(&[0x0C, 0xDC])?;
+    Ok(bytes)
+}
+
+#[test]
+fn many_messages(rt: HostRuntime) -> Result<(), Fail> {
+    let bytes = file_of_many(rt.alloc())?;
     for skip in [Skip::Records, Skip::Message] {
-        assert!(rt; give_cut(&rt, alloc, skip, bytes.as_slice(), 0)? >= 8990);
-        assert!(rt; give_cut(&rt, alloc, skip, bytes.as_slice(), 4096)? >= 8990);
+        for k in [0, 4096] {
+            assert!(rt; give_cut(&rt, rt.alloc(), skip, bytes.as_slice(), k)? >= 8990);
+        }
     }
+    Ok(())
+}
+
+/// A hundred data messages of local type 0.
+fn hundred_messages(alloc: Global) -> Result<Vec<u8>, AllocError> {
+    let mut messages = Vec::new(alloc);
+    for _ in 0..100 {
+        messages.extend_from_slice(b"\0\x1F\xCA\x9A\x3B\x78")?;
+    }
+    Ok(messages)
+}
+
+/// Two definition messages of six bytes of data: of local type 0 and of local type 1.
+const DEFINITION: [u8; 12] = *b"\x40\0\0\x14\0\x02\xFD\x04\x86\x03\x01\x02";
+
+const ANOTHER: [u8; 12] = *b"\x41\0\0\x14\0\x02\xFD\x04\x86\x03\x01\x02";
+
+/// Skips a hundred data messages a hundred times while no memory is free. The definition message after them is not skipped.
+fn skip_without<A: Allocator + Copy>(
+    rt: &impl Abort,
+    alloc: Global,
+    heap: A,
+    decoder: &mut Decoder<A>,
+    messages: &[u8],
+) -> Result<(), AllocError> {
+    let _blocks = fill(alloc, heap)?;
+    assert!(rt; is_full(heap));
+    for hundred in 0..100 {
+        assert_eq!(rt; decoder.skip_records(messages), (600, 100), "{hundred}");
+    }
+    assert_eq!(rt; decoder.skip_message(messages), 6);
+    assert_eq!(rt; decoder.skip_records(&ANOTHER), (0, 0));
+    assert_eq!(rt; decoder.held(), 2);
     Ok(())
 }
 
@@ -196,33 +253,18 @@ fn skip_starved<A: Allocator + Copy>(
     alloc: Global,
     heap: A,
     decoder: &mut Decoder<A>,
-) -> Result<(), Fail> {
-    let definition = b"\x40\0\0\x14\0\x02\xFD\x04\x86\x03\x01\x02";
-    let again = b"\x41\0\0\x14\0\x02\xFD\x04\x86\x03\x01\x02";
-    let mut messages = Vec::new(alloc);
-    for _ in 0..100 {
-        messages.extend_from_slice(b"\0\x1F\xCA\x9A\x3B\x78")?;
-    }
-    assert!(rt; decoder.feed(&header(100_006)).is_ok());
-    assert_eq!(rt; decoder.skip_records(definition), (12, 1));
-    let blocks = fill(alloc, heap)?;
-    let free: Result<Vec<u8, A>, AllocError> = Vec::with_capacity(heap, 1);
-    assert!(rt; free.is_err());
-    for hundred in 0..100 {
-        let skipped = decoder.skip_records(messages.as_slice());
-        assert_eq!(rt; skipped, (600, 100), "{hundred}");
-    }
-    assert_eq!(rt; decoder.skip_message(messages.as_slice()), 6);
-    assert_eq!(rt; decoder.skip_records(again), (0, 0));
-    assert_eq!(rt; decoder.held(), 2);
-    drop(blocks);
-    assert_eq!(rt; decoder.skip_records(again), (12, 1));
+) -> Result<(), AllocError> {
+    let messages = hundred_messages(alloc)?;
+    assert!(rt; feed(decoder, &header(100_006)).is_ok());
+    assert_eq!(rt; decoder.skip_records(&DEFINITION), (12, 1));
+    skip_without(rt, alloc, heap, decoder, messages.as_slice())?;
+    assert_eq!(rt; decoder.skip_records(&ANOTHER), (12, 1));
     assert_eq!(rt; decoder.held(), 4);
     Ok(())
 }
 
 #[test]
-fn skipping_takes_no_memory(rt: HostRuntime) -> Result<(), Fail> {
+fn skipping_takes_no_memory(rt: HostRuntime) -> Result<(), AllocError> {
     let heap = LocalHeap::new(rt.alloc(), 8192)?;
     let mut decoder = Decoder::new(&heap);
     skip_starved(&rt, rt.alloc(), &heap, &mut decoder)

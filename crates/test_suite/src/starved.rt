@@ -1,11 +1,10 @@
 //! A decoder whose memory is refused.
 
-use crate::fed::{header, same, told, told_at};
-use fit_decode::{Decoder, Event, Fault};
+use crate::fed::{feed, header, same, told, told_at};
+use fit_decode::{Decoder, Fault, Fed};
 use linked_list_allocator::LocalHeap;
 use std::alloc::{AllocError, Allocator, Global};
 use std::process::Abort;
-use std::test::*;
 use test_known::BOTH_ORDERS;
 
 /// Takes all memory that is free, in blocks.
@@ -22,6 +21,25 @@ pub fn fill<A: Allocator + Copy>(alloc: Global, heap: A) -> Result<Vec<Vec<u8, A
     Ok(blocks)
 }
 
+/// Feeds a byte while no memory is free.
+fn feed_without<A: Allocator + Copy>(
+    alloc: Global,
+    heap: A,
+    decoder: &mut Decoder<A>,
+    byte: u8,
+) -> Result<Result<Fed<A>, Fault>, AllocError> {
+    let _blocks = fill(alloc, heap)?;
+    Ok(decoder.feed(&[byte]))
+}
+
+/// What a decoder told of a byte.
+fn told_of<A: Allocator>(answer: Result<Fed<A>, Fault>) -> Result<(u8, u64), Fault> {
+    match answer {
+        Ok(fed) => Ok(told(&fed.event)),
+        Err(fault) => Err(fault),
+    }
+}
+
 /// Feeds a byte while no memory is free, and again with memory where it was wanted. Whether it was.
 fn feed_starved<A: Allocator + Copy>(
     rt: &impl Abort,
@@ -31,23 +49,14 @@ fn feed_starved<A: Allocator + Copy>(
     place: usize,
     byte: u8,
 ) -> Result<bool, AllocError> {
-    let blocks = fill(alloc, heap)?;
-    let first = decoder.feed(&[byte]);
-    drop(blocks);
-    match first {
-        Ok(fed) => {
-            assert_eq!(rt; told(&fed.event), told_at(place), "{place}");
-            Ok(false)
-        }
-        Err(fault) => {
-            assert_eq!(rt; fault, Fault::NoMemory { used: 0 }, "{place}");
-            match decoder.feed(&[byte]) {
-                Ok(fed) => assert_eq!(rt; told(&fed.event), told_at(place), "{place}"),
-                Err(fault) => assert_eq!(rt; fault, Fault::Truncated { place: 0 }, "{place}"),
-            }
-            Ok(true)
-        }
+    let first = told_of(feed_without(alloc, heap, decoder, byte)?);
+    if first == Err(Fault::NoMemory { used: 0 }) {
+        let again = told_of(decoder.feed(&[byte]));
+        assert_eq!(rt; again, Ok(told_at(place)), "{place}");
+        return Ok(true);
     }
+    assert_eq!(rt; first, Ok(told_at(place)), "{place}");
+    Ok(false)
 }
 
 /// Only bytes of records want memory, and those of the last record still do.
@@ -76,6 +85,14 @@ fn each_byte_again(rt: HostRuntime) -> Result<(), AllocError> {
     starve(&rt, rt.alloc(), &heap, &mut decoder)
 }
 
+/// Whether two decoders told the same of a byte.
+fn is_alike<A: Allocator>(one: Result<Fed<A>, Fault>, other: Result<Fed<A>, Fault>) -> bool {
+    match (one, other) {
+        (Ok(fed), Ok(told)) => same(&fed.event, &told.event),
+        _ => false,
+    }
+}
+
 /// Feeds a file to two new decoders, to one of them a byte while no memory is free. Where that wanted memory it is fed again, and the
 /// events are the same. Whether it did.
 fn starve_at<A: Allocator + Copy>(
@@ -88,22 +105,17 @@ fn starve_at<A: Allocator + Copy>(
 ) -> Result<bool, AllocError> {
     let mut wanted = false;
     for (at, byte) in BOTH_ORDERS.iter().enumerate() {
-        let blocks = if at == place {
-            fill(alloc, heap)?
+        let mut answer = if at == place {
+            feed_without(alloc, heap, decoder, *byte)?
         } else {
-            Vec::new(alloc)
+            decoder.feed(&[*byte])
         };
-        let mut answer = decoder.feed(&[*byte]);
-        drop(blocks);
         if let Err(fault) = answer {
             assert_eq!(rt; (at, fault), (place, Fault::NoMemory { used: 0 }));
             wanted = true;
             answer = decoder.feed(&[*byte]);
         }
-        match (answer, ample.feed(&[*byte])) {
-            (Ok(fed), Ok(told)) => assert!(rt; same(&fed.event, &told.event), "{place}, {at}"),
-            _ => assert!(rt; false, "{place}, {at}"),
-        }
+        assert!(rt; is_alike(answer, ample.feed(&[*byte])), "{place}, {at}");
     }
     assert_eq!(rt; decoder.finish(), Ok(()));
     Ok(wanted)
@@ -139,18 +151,21 @@ fn messages<A: Allocator + Copy>(decoder: &mut Decoder<A>, bytes: &[u8]) -> u32 
     let mut count: u32 = 0;
     let mut rest = bytes;
     for _ in 0..bytes.len() {
-        match decoder.feed(rest) {
-            Ok(fed) => {
-                if told(&fed.event) == (b'v', 0) {
-                    count = count.saturating_add(1);
-                }
-                let (_, left) = rest.split_at(fed.used);
-                rest = left;
-            }
-            Err(_) => return count,
+        let Ok((used, event)) = feed(decoder, rest) else {
+            return count;
+        };
+        if event == (b'v', 0) {
+            count = count.saturating_add(1);
         }
+        rest = rest.get(used..).unwrap_or_default();
     }
     count
+}
+
+/// Whether not even a block of one byte can be had.
+pub fn is_full<A: Allocator + Copy>(heap: A) -> bool {
+    let free: Result<Vec<u8, A>, AllocError> = Vec::with_capacity(heap, 1);
+    free.is_err()
 }
 
 /// The data messages of a definition without fields take no memory, however many they are.
@@ -162,15 +177,12 @@ fn empty_messages<A: Allocator + Copy>(
 ) -> Result<(), AllocError> {
     assert_eq!(rt; messages(decoder, &header(100_006)), 0);
     assert_eq!(rt; messages(decoder, b"\x40\0\0\x14\0\0"), 0);
-    let blocks = fill(alloc, heap)?;
-    let free: Result<Vec<u8, A>, AllocError> = Vec::with_capacity(heap, 1);
-    assert!(rt; free.is_err());
+    let _blocks = fill(alloc, heap)?;
+    assert!(rt; is_full(heap));
     for thousand in 0..100 {
         assert_eq!(rt; messages(decoder, &[0; 1000]), 1000, "{thousand}");
     }
-    let end = decoder.feed(b"\x1F\x0E");
-    assert!(rt; end.is_ok_and(|fed| fed.used == 2 && told(&fed.event) == (b'e', 0)));
-    drop(blocks);
+    assert_eq!(rt; feed(decoder, b"\x1F\x0E"), Ok((2, (b'e', 0))));
     Ok(())
 }
 

@@ -5,6 +5,7 @@ use fit_encode::{CutSink, EncodeFault, Encoder, write_chain, write_one};
 use fit_frame::{HeadFault, Header, HeaderSum, PROTOCOL_2_0, head_bytes};
 use fit_record::{DevDef, FieldDef, FitFile, MessageDef, Record, Values};
 use std::alloc::{AllocError, Global};
+use std::process::Abort;
 use std::test::Fail;
 use test_known::protocol::{
     ALTITUDE, COMPRESSED_SPEED_DISTANCE, DEVELOPER_DATA_INDEX, FIELD_DEFINITION_NUMBER,
@@ -34,14 +35,7 @@ pub fn define(
 }
 
 /// A definition message without fields, and its data message of one byte.
-fn one_byte_message(
-    alloc: Global,
-    reserved: u8,
-    dev: Option<Entries<DevDef>>,
-) -> Result<Vec<Record>, AllocError> {
-    let mut definition = define(alloc, 0, RECORD, &[])?;
-    definition.reserved = reserved;
-    definition.dev = dev;
+fn with_message(alloc: Global, definition: MessageDef) -> Result<Vec<Record>, AllocError> {
     let mut records = Vec::new(alloc);
     records.push(Record::Define(definition))?;
     records.push(values(alloc, 0, None, &[])?)?;
@@ -69,17 +63,20 @@ fn values(
     Ok(Record::Values(message))
 }
 
-/// Messages in both architectures, one of them with a compressed timestamp header.
-pub fn both_orders(alloc: Global, heart_rate: u64) -> Result<Vec<Record>, AllocError> {
-    let mut records = Vec::new(alloc);
+/// Adds the definition messages and data messages of `orders`: little endian first, and then big endian with a compressed timestamp
+/// header.
+fn add_both_orders(
+    alloc: Global,
+    records: &mut Vec<Record>,
+    heart_rate: u64,
+) -> Result<(), AllocError> {
     let fields = [
         FieldDef::one(TIMESTAMP, UINT32),
         FieldDef::one(HEART_RATE, UINT8),
     ];
-    let first = define(alloc, 0, RECORD, &fields)?;
-    records.push(Record::Define(first))?;
-    let first = values(alloc, 0, None, &[(4, &[1_000_000_031]), (1, &[heart_rate])])?;
-    records.push(first)?;
+    records.push(Record::Define(define(alloc, 0, RECORD, &fields)?))?;
+    let numbers: [(u8, &[u64]); 2] = [(4, &[1_000_000_031]), (1, &[heart_rate])];
+    records.push(values(alloc, 0, None, &numbers)?)?;
     let fields = [
         FieldDef::one(ALTITUDE, UINT16),
         FieldDef::new(COMPRESSED_SPEED_DISTANCE, 3, BYTE),
@@ -87,8 +84,15 @@ pub fn both_orders(alloc: Global, heart_rate: u64) -> Result<Vec<Record>, AllocE
     let mut second = define(alloc, 1, RECORD, &fields)?;
     second.order = Order::Big;
     records.push(Record::Define(second))?;
-    let second = values(alloc, 1, Some(2), &[(2, &[2500]), (1, &[0x64, 0, 0x10])])?;
-    records.push(second)?;
+    let numbers: [(u8, &[u64]); 2] = [(2, &[2500]), (1, &[0x64, 0, 0x10])];
+    records.push(values(alloc, 1, Some(2), &numbers)?)?;
+    Ok(())
+}
+
+/// Messages in both architectures, one of them with a compressed timestamp header.
+pub fn both_orders(alloc: Global, heart_rate: u64) -> Result<Vec<Record>, AllocError> {
+    let mut records = Vec::new(alloc);
+    add_both_orders(alloc, &mut records, heart_rate)?;
     Ok(records)
 }
 
@@ -106,42 +110,64 @@ fn dev_values(alloc: Global, width: u8, numbers: &[u64]) -> Result<Record, Alloc
     Ok(Record::Values(message.with_dev(dev)))
 }
 
-/// A developer field before and after its description, and defined again.
-pub fn described(alloc: Global) -> Result<Vec<Record>, AllocError> {
-    let mut records = Vec::new(alloc);
+/// The definition message of the description: its index, its number, its base type and its name.
+fn define_description(alloc: Global) -> Result<Record, AllocError> {
     let fields = [
         FieldDef::one(DEVELOPER_DATA_INDEX, UINT8),
         FieldDef::one(FIELD_DEFINITION_NUMBER, UINT8),
         FieldDef::one(FIT_BASE_TYPE_ID, UINT8),
         FieldDef::new(FIELD_NAME, 3, STRING),
     ];
-    let descriptions = define(alloc, 0, FIELD_DESCRIPTION, &fields)?;
-    records.push(Record::Define(descriptions))?;
+    let definition = define(alloc, 0, FIELD_DESCRIPTION, &fields)?;
+    Ok(Record::Define(definition))
+}
+
+/// Developer field 5 of index 0 is a uint16 with a name of two letters.
+fn describe(alloc: Global) -> Result<Record, AllocError> {
+    let code = [u64::from(UINT16)];
+    let name = [0x6D, 0x6F, 0];
+    let numbers: [(u8, &[u64]); 4] = [(1, &[0]), (1, &[5]), (1, &code), (1, &name)];
+    values(alloc, 0, None, &numbers)
+}
+
+/// Adds the records of `developer`.
+fn add_described(alloc: Global, records: &mut Vec<Record>) -> Result<(), AllocError> {
+    records.push(define_description(alloc)?)?;
     records.push(define_dev(alloc)?)?;
     records.push(dev_values(alloc, 1, &[0x34, 0x12])?)?;
-    let name = [0x6D, 0x6F, 0];
-    let code = [u64::from(UINT16)];
-    let description: [(u8, &[u64]); 4] = [(1, &[0]), (1, &[5]), (1, &code), (1, &name)];
-    records.push(values(alloc, 0, None, &description)?)?;
+    records.push(describe(alloc)?)?;
     records.push(dev_values(alloc, 1, &[0x34, 0x12])?)?;
     records.push(define_dev(alloc)?)?;
     records.push(dev_values(alloc, 2, &[4660])?)?;
+    Ok(())
+}
+
+/// A developer field before and after its description, and defined again.
+pub fn described(alloc: Global) -> Result<Vec<Record>, AllocError> {
+    let mut records = Vec::new(alloc);
+    add_described(alloc, &mut records)?;
     Ok(records)
 }
 
-/// What a file of these is written as, by a sink that takes that many bytes.
-fn written(
-    alloc: Global,
-    limit: usize,
-    header: Header,
-    records: Vec<Record>,
-) -> (Result<(), EncodeFault>, CutSink<70>) {
-    let mut sink = CutSink::new(limit);
-    let file = FitFile {
+/// A file of these.
+fn file_of(header: Header, records: Vec<Record>) -> FitFile {
+    FitFile {
         header,
         records: Entries::from_vec(records),
-    };
-    (write_one(alloc, &mut sink, &file), sink)
+    }
+}
+
+/// Asserts what a writer returns for a file of these, and what it has put then, where the sink takes that many bytes.
+fn write_file(
+    rt: &impl Abort,
+    alloc: Global,
+    limit: usize,
+    file: &FitFile,
+    wanted: (Result<(), EncodeFault>, &[u8]),
+) {
+    let mut sink = CutSink::<70>::new(limit);
+    let answer = write_one(alloc, &mut sink, file);
+    assert_eq!(rt; (answer, sink.bytes()), wanted);
 }
 
 #[test]
@@ -156,52 +182,63 @@ fn headers_alone(rt: HostRuntime) {
         (longer, LONG.as_slice()),
     ];
     for (header, bytes) in rows {
-        let (answer, sink) = written(rt.alloc(), 70, header, Vec::new(rt.alloc()));
-        assert_eq!(rt; answer, Ok(()));
-        assert_eq!(rt; sink.bytes(), bytes);
+        let file = file_of(header, Vec::new(rt.alloc()));
+        write_file(&rt, rt.alloc(), 70, &file, (Ok(()), bytes));
     }
 }
 
+/// Asserts what a file of these records is written as.
+fn write_records(rt: &impl Abort, alloc: Global, records: Vec<Record>, bytes: &[u8]) {
+    let file = file_of(header(14, 0, HeaderSum::True), records);
+    write_file(rt, alloc, 70, &file, (Ok(()), bytes));
+}
+
 #[test]
-fn files_with_records(rt: HostRuntime) -> Result<(), Fail> {
+fn files_with_records(rt: HostRuntime) -> Result<(), AllocError> {
     let alloc = rt.alloc();
-    let rows = [
-        (
-            one_byte_message(alloc, 0, None)?,
-            ONE_BYTE_MESSAGE.as_slice(),
-        ),
-        (
-            one_byte_message(alloc, 7, None)?,
-            b"\x0E\x20\0\0\x07\0\0\0.FIT\xDD\x63\x40\x07\0\x14\0\0\0\x45\x83",
-        ),
-        (
-            one_byte_message(alloc, 0, Some(Entries::new(alloc)))?,
-            b"\x0E\x20\0\0\x08\0\0\0.FIT\x9D\x23\x60\0\0\x14\0\0\0\0\x36\x2B",
-        ),
-        (both_orders(alloc, 120)?, BOTH_ORDERS.as_slice()),
-        (described(alloc)?, DEVELOPER_FIELD.as_slice()),
-    ];
-    for (records, bytes) in rows {
-        let (answer, sink) = written(alloc, 70, header(14, 0, HeaderSum::True), records);
-        assert_eq!(rt; answer, Ok(()));
-        assert_eq!(rt; sink.bytes(), bytes);
-    }
+    write_records(&rt, alloc, both_orders(alloc, 120)?, &BOTH_ORDERS);
+    write_records(&rt, alloc, described(alloc)?, &DEVELOPER_FIELD);
+    Ok(())
+}
+
+#[test]
+fn a_message_of_one_byte(rt: HostRuntime) -> Result<(), AllocError> {
+    let alloc = rt.alloc();
+    let records = with_message(alloc, define(alloc, 0, RECORD, &[])?)?;
+    write_records(&rt, alloc, records, &ONE_BYTE_MESSAGE);
+    Ok(())
+}
+
+#[test]
+fn a_reserved_byte(rt: HostRuntime) -> Result<(), AllocError> {
+    let alloc = rt.alloc();
+    let mut definition = define(alloc, 0, RECORD, &[])?;
+    definition.reserved = 7;
+    let bytes = b"\x0E\x20\0\0\x07\0\0\0.FIT\xDD\x63\x40\x07\0\x14\0\0\0\x45\x83";
+    write_records(&rt, alloc, with_message(alloc, definition)?, bytes);
+    Ok(())
+}
+
+#[test]
+fn an_empty_list_of_developer_fields(rt: HostRuntime) -> Result<(), AllocError> {
+    let alloc = rt.alloc();
+    let definition = define(alloc, 0, RECORD, &[])?.with_dev(Entries::new(alloc));
+    let bytes = b"\x0E\x20\0\0\x08\0\0\0.FIT\x9D\x23\x60\0\0\x14\0\0\0\0\x36\x2B";
+    write_records(&rt, alloc, with_message(alloc, definition)?, bytes);
     Ok(())
 }
 
 /// A file without records, and one of two.
 #[test]
-fn a_chain(rt: HostRuntime) -> Result<(), Fail> {
+fn a_chain(rt: HostRuntime) -> Result<(), AllocError> {
     let alloc = rt.alloc();
-    let mut files = Vec::new(alloc);
-    for records in [Vec::new(alloc), one_byte_message(alloc, 0, None)?] {
-        files.push(FitFile {
-            header: header(14, 0, HeaderSum::True),
-            records: Entries::from_vec(records),
-        })?;
-    }
+    let message = with_message(alloc, define(alloc, 0, RECORD, &[])?)?;
+    let files = [
+        file_of(header(14, 0, HeaderSum::True), Vec::new(alloc)),
+        file_of(header(14, 0, HeaderSum::True), message),
+    ];
     let mut sink = CutSink::<39>::new(39);
-    let answer = write_chain(alloc, &mut sink, files.as_slice());
+    let answer = write_chain(alloc, &mut sink, &files);
     assert_eq!(rt; answer, Ok(()));
     let bytes = b"\x0E\x20\0\0\0\0\0\0.FIT\x9C\x85\0\0\
                   \x0E\x20\0\0\x07\0\0\0.FIT\xDD\x63\x40\0\0\x14\0\0\0\x44\x34";
@@ -210,46 +247,50 @@ fn a_chain(rt: HostRuntime) -> Result<(), Fail> {
 }
 
 #[test]
-fn faults(rt: HostRuntime) -> Result<(), Fail> {
-    let alloc = rt.alloc();
-    let mut undefined = Vec::new(alloc);
-    undefined.push(values(alloc, 0, None, &[])?)?;
-    let rows = [
+fn refused_headers(rt: HostRuntime) {
+    for (header, fault) in [
         (
             header(16, 0, HeaderSum::True),
-            Vec::new(alloc),
             EncodeFault::BadHeader { file: 1 },
         ),
         (
             header(14, 46477, HeaderSum::Zero),
-            Vec::new(alloc),
             EncodeFault::ZeroIsSum { file: 1 },
         ),
-        (
-            header(14, 0, HeaderSum::True),
-            undefined,
-            EncodeFault::UndefinedLocal { file: 1, index: 0 },
-        ),
-        (
-            header(14, 0, HeaderSum::True),
-            both_orders(alloc, 256)?,
-            EncodeFault::WrongShape {
-                file: 1,
-                index: 1,
-                field: 1,
-            },
-        ),
-    ];
-    for (header, records, fault) in rows {
-        let (answer, sink) = written(alloc, 70, header, records);
-        assert_eq!(rt; answer, Err(fault));
-        assert!(rt; sink.bytes().is_empty());
+    ] {
+        let file = file_of(header, Vec::new(rt.alloc()));
+        write_file(&rt, rt.alloc(), 70, &file, (Err(fault), &[]));
     }
+}
+
+/// Asserts that a file of these records is refused, and that no byte of it is put.
+fn refuse_records(rt: &impl Abort, alloc: Global, records: Vec<Record>, fault: EncodeFault) {
+    let file = file_of(header(14, 0, HeaderSum::True), records);
+    write_file(rt, alloc, 70, &file, (Err(fault), &[]));
+}
+
+#[test]
+fn refused_records(rt: HostRuntime) -> Result<(), AllocError> {
+    let alloc = rt.alloc();
+    let mut undefined = Vec::new(alloc);
+    undefined.push(values(alloc, 0, None, &[])?)?;
+    let fault = EncodeFault::UndefinedLocal { file: 1, index: 0 };
+    refuse_records(&rt, alloc, undefined, fault);
+    let fault = EncodeFault::WrongShape {
+        file: 1,
+        index: 1,
+        field: 1,
+    };
+    refuse_records(&rt, alloc, both_orders(alloc, 256)?, fault);
+    Ok(())
+}
+
+#[test]
+fn a_chain_of_no_files(rt: HostRuntime) {
     let mut sink = CutSink::<4>::new(4);
-    let none = write_chain(alloc, &mut sink, &[]);
+    let none = write_chain(rt.alloc(), &mut sink, &[]);
     assert_eq!(rt; none, Err(EncodeFault::ChainLength));
     assert!(rt; sink.bytes().is_empty());
-    Ok(())
 }
 
 /// Of all profile versions one alone has a header whose checksum is 0.
@@ -271,10 +312,10 @@ fn the_one_sum_of_zero(rt: HostRuntime) {
 
 #[test]
 fn a_sink_that_fails(rt: HostRuntime) {
-    let alloc = rt.alloc();
-    let (answer, sink) = written(alloc, 5, header(14, 0, HeaderSum::True), Vec::new(alloc));
-    assert_eq!(rt; answer, Err(EncodeFault::Write { written: 5 }));
-    assert_eq!(rt; sink.bytes(), b"\x0E\x20\0\0\0".as_slice());
+    let file = file_of(header(14, 0, HeaderSum::True), Vec::new(rt.alloc()));
+    let failed = Err(EncodeFault::Write { written: 5 });
+    let bytes = b"\x0E\x20\0\0\0".as_slice();
+    write_file(&rt, rt.alloc(), 5, &file, (failed, bytes));
 }
 
 /// What an encoder returns for calls, of which one with a record puts it and one without finishes the
