@@ -39,19 +39,18 @@ fn is_table(text: &[u8], rows: &[u8]) -> bool {
     head == TABLE_HEAD.as_bytes() && rest == rows
 }
 
-/// Asserts what both conversions return for a source that ends or fails after that many bytes.
-fn convert<S: Source>(
+/// Asserts what `to_csv` returns for a source that ends or fails after that many bytes, and the text that is written.
+fn as_text<S: Source>(
     rt: &impl Abort,
     alloc: Global,
     known: &Known,
     k: usize,
-    for_text: &mut S,
-    for_table: &mut S,
+    source: &mut S,
     answer: Result<(), CsvFault>,
 ) {
-    let (rows, records) = rows_of(known, k);
+    let (rows, _) = rows_of(known, k);
     let mut sink = CutSink::<2048>::new(2048);
-    let found = to_csv(alloc, for_text, &mut sink);
+    let found = to_csv(alloc, source, &mut sink);
     assert_eq!(rt; found, answer, "{} at {k}", known.name);
     assert_eq!(rt;
         sink.bytes(),
@@ -60,14 +59,23 @@ fn convert<S: Source>(
         known.name
     );
     assert!(rt; !sink.failed());
+}
+
+/// The same of `table`.
+fn as_table<S: Source>(
+    rt: &impl Abort,
+    alloc: Global,
+    known: &Known,
+    k: usize,
+    source: &mut S,
+    answer: Result<(), CsvFault>,
+) {
+    let (_, records) = rows_of(known, k);
     let mut sink = CutSink::<2048>::new(2048);
-    let found = table(alloc, for_table, &mut sink);
+    let found = table(alloc, source, &mut sink);
     assert_eq!(rt; found, answer, "{} at {k}", known.name);
-    assert!(rt;
-        is_table(sink.bytes(), first_lines(known.table, records)),
-        "{} at {k}",
-        known.name
-    );
+    let written = is_table(sink.bytes(), first_lines(known.table, records));
+    assert!(rt; written, "{} at {k}", known.name);
 }
 
 /// Converts first bytes of an input.
@@ -77,7 +85,8 @@ fn convert_cut(rt: &impl Abort, alloc: Global, known: &Known, cut: &[u8]) {
     let fault = CsvFault::Decode(Fault::Truncated { place: k as u64 });
     let answer = if whole { Ok(()) } else { Err(fault) };
     let (mut text, mut rows) = (cut, cut);
-    convert(rt, alloc, known, k, &mut text, &mut rows, answer);
+    as_text(rt, alloc, known, k, &mut text, answer);
+    as_table(rt, alloc, known, k, &mut rows, answer);
     assert!(rt; text.is_empty() && rows.is_empty());
 }
 
@@ -91,67 +100,103 @@ fn inputs_cut_anywhere(rt: HostRuntime) {
     }
 }
 
+/// Converts an input whose source fails after that many bytes.
+fn convert_failing(rt: &impl Abort, alloc: Global, known: &Known, k: usize) {
+    let answer = Err(CsvFault::Decode(Fault::Read { place: k as u64 }));
+    let mut text = CutSource::new(known.bytes, k);
+    as_text(rt, alloc, known, k, &mut text, answer);
+    let mut rows = CutSource::new(known.bytes, k);
+    as_table(rt, alloc, known, k, &mut rows, answer);
+    assert!(rt; text.failed() && rows.failed());
+}
+
+/// Reads a text whose source fails after that many bytes.
+fn read_failing(rt: &impl Abort, alloc: Global, known: &Known, k: usize) {
+    let mut source = CutSource::new(known.text.as_bytes(), k);
+    let mut sink = CutSink::<128>::new(128);
+    let found = from_csv(alloc, &mut source, &mut sink);
+    assert_eq!(rt; found, Err(CsvFault::Read), "{} at {k}", known.name);
+    assert!(rt; source.failed() && sink.bytes().is_empty());
+}
+
 #[test]
 fn sources_that_fail_anywhere(rt: HostRuntime) {
     for known in files() {
         for k in 0..known.bytes.len() {
-            let answer = Err(CsvFault::Decode(Fault::Read { place: k as u64 }));
-            let mut text = CutSource::new(known.bytes, k);
-            let mut rows = CutSource::new(known.bytes, k);
-            convert(&rt, rt.alloc(), &known, k, &mut text, &mut rows, answer);
-            assert!(rt; text.failed() && rows.failed());
+            convert_failing(&rt, rt.alloc(), &known, k);
         }
         for k in 0..known.text.len() {
-            let mut source = CutSource::new(known.text.as_bytes(), k);
-            let mut sink = CutSink::<128>::new(128);
-            let found = from_csv(rt.alloc(), &mut source, &mut sink);
-            assert_eq!(rt; found, Err(CsvFault::Read), "{} at {k}", known.name);
-            assert!(rt; source.failed() && sink.bytes().is_empty());
+            read_failing(&rt, rt.alloc(), &known, k);
         }
     }
+}
+
+/// The fault of a conversion whose sink has failed after that many bytes.
+fn write_fault(k: usize) -> Result<(), CsvFault> {
+    Err(CsvFault::Write { written: k as u64 })
+}
+
+/// Writes first bytes of the text of an input.
+fn text_that_fails(rt: &impl Abort, alloc: Global, known: &Known, k: usize) {
+    let mut source = known.bytes;
+    let mut sink = CutSink::<2048>::new(k);
+    let found = to_csv(alloc, &mut source, &mut sink);
+    assert_eq!(rt; found, write_fault(k), "{}", known.name);
+    assert_eq!(rt; Some(sink.bytes()), known.text.as_bytes().get(..k));
+}
+
+/// Writes first bytes of the table of an input.
+fn table_that_fails(rt: &impl Abort, alloc: Global, known: &Known, k: usize) {
+    let mut source = known.bytes;
+    let mut sink = CutSink::<2048>::new(k);
+    let found = table(alloc, &mut source, &mut sink);
+    assert_eq!(rt; found, write_fault(k), "{}", known.name);
+    let head = TABLE_HEAD.len().min(k);
+    let (front, rest) = sink.bytes().split_at(head.min(sink.bytes().len()));
+    assert_eq!(rt; front, &TABLE_HEAD.as_bytes()[..head]);
+    assert_eq!(rt;
+        Some(rest),
+        known.table.as_bytes().get(..k.saturating_sub(head))
+    );
+}
+
+/// Writes first bytes of the file of a text.
+fn file_that_fails(rt: &impl Abort, alloc: Global, known: &Known, k: usize) {
+    let mut source = known.text.as_bytes();
+    let mut sink = CutSink::<128>::new(k);
+    let found = from_csv(alloc, &mut source, &mut sink);
+    assert_eq!(rt; found, write_fault(k), "{}", known.name);
+    assert_eq!(rt; Some(sink.bytes()), known.bytes.get(..k));
 }
 
 #[test]
 fn sinks_that_fail_anywhere(rt: HostRuntime) {
     for known in files() {
         for k in 0..known.text.len() {
-            let failed = Err(CsvFault::Write { written: k as u64 });
-            let mut sink = CutSink::<2048>::new(k);
-            let found = to_csv(rt.alloc(), &mut &known.bytes[..], &mut sink);
-            assert_eq!(rt; found, failed, "{}", known.name);
-            assert_eq!(rt; sink.bytes(), &known.text.as_bytes()[..k]);
+            text_that_fails(&rt, rt.alloc(), &known, k);
         }
         for k in 0..TABLE_HEAD.len().saturating_add(known.table.len()) {
-            let failed = Err(CsvFault::Write { written: k as u64 });
-            let mut sink = CutSink::<2048>::new(k);
-            let found = table(rt.alloc(), &mut &known.bytes[..], &mut sink);
-            assert_eq!(rt; found, failed, "{}", known.name);
-            let head = TABLE_HEAD.len().min(k);
-            let (front, rest) = sink.bytes().split_at(head.min(sink.bytes().len()));
-            assert_eq!(rt; front, &TABLE_HEAD.as_bytes()[..head]);
-            assert_eq!(rt;
-                Some(rest),
-                known.table.as_bytes().get(..k.saturating_sub(head))
-            );
+            table_that_fails(&rt, rt.alloc(), &known, k);
         }
         for k in 0..known.bytes.len() {
-            let failed = Err(CsvFault::Write { written: k as u64 });
-            let mut sink = CutSink::<128>::new(k);
-            let found = from_csv(rt.alloc(), &mut known.text.as_bytes(), &mut sink);
-            assert_eq!(rt; found, failed, "{}", known.name);
-            assert_eq!(rt; sink.bytes(), &known.bytes[..k]);
+            file_that_fails(&rt, rt.alloc(), &known, k);
         }
     }
+}
+
+/// Reads the text of an input, and writes its bytes.
+fn text_back(rt: &impl Abort, alloc: Global, known: &Known) {
+    let mut source = known.text.as_bytes();
+    let mut sink = CutSink::<128>::new(128);
+    assert_eq!(rt; from_csv(alloc, &mut source, &mut sink), Ok(()));
+    assert_eq!(rt; sink.bytes(), known.bytes);
+    assert!(rt; source.is_empty() && !sink.failed());
+    assert!(rt; known.text.starts_with(FIRST_ROW));
 }
 
 #[test]
 fn texts_back(rt: HostRuntime) {
     for known in files() {
-        let mut source = known.text.as_bytes();
-        let mut sink = CutSink::<128>::new(128);
-        assert_eq!(rt; from_csv(rt.alloc(), &mut source, &mut sink), Ok(()));
-        assert_eq!(rt; sink.bytes(), known.bytes);
-        assert!(rt; source.is_empty() && !sink.failed());
-        assert!(rt; known.text.starts_with(FIRST_ROW));
+        text_back(&rt, rt.alloc(), &known);
     }
 }
