@@ -30,6 +30,8 @@ mod reports;
 #[cfg(test)]
 mod rooms;
 #[cfg(test)]
+mod sizes;
+#[cfg(test)]
 mod skipped;
 #[cfg(test)]
 mod sources;

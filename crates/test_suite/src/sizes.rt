@@ -1,0 +1,25 @@
+//! What no contract says: how little is kept between the bytes of a file.
+use fit_decode::Decoder;
+use fit_frame::{HeadReader, Reason};
+use fit_record::{Env, Record};
+use fit_step::{Partial, Position};
+use fit_sum::Sum;
+use std::mem;
+
+/// The bytes of a list itself, without its elements.
+const LIST: usize = 24;
+
+#[test]
+fn no_list_in_a_position(rt: HostRuntime) {
+    assert!(rt; mem::size_of::<Partial>() < LIST);
+    assert!(rt; mem::size_of::<Position>() < mem::size_of::<Partial>() + LIST);
+}
+
+/// Beside what is known and the record in progress, a decoder has no room for a list.
+#[test]
+fn no_list_in_a_decoder(rt: HostRuntime) {
+    let held = mem::size_of::<Env>() + mem::size_of::<Option<Record>>();
+    let parts = mem::size_of::<HeadReader>() + mem::size_of::<Sum>() + mem::size_of::<Position>();
+    let numbers = 2 * mem::size_of::<u64>() + mem::size_of::<Option<Reason>>();
+    assert!(rt; mem::size_of::<Decoder>() < held + parts + numbers + LIST);
+}
