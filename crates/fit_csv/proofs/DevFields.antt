@@ -1,5 +1,6 @@
 -- The developer fields of a message, place by place.
-use Rattle.fit_csv.proofs.Common.{◌≡◌, ◌∙◌, ◌++◌, [], length, get_or, ap, ap₂, option_and_then, slice_get, slice_get-get_or, DevDef, Naming, nameless, dev_label}
+use Rattle.fit_csv.proofs.Common.{◌≡◌, ◌∙◌, ◌++◌, [], length, get_or, ap}
+use Rattle.fit_csv.proofs.Common.{ap₂, option_and_then, slice_get, slice_get-get_or, DevDef, Naming, nameless, dev_label}
 use Rattle.std.proofs.Common.{◌<◌, ℕ, List, codes, decimal}
 use Rattle.std.specs.Prelude.{unwrap_or}
 

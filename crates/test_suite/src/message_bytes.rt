@@ -1,0 +1,50 @@
+//! Data messages in their bytes.
+use crate::descriptions::take;
+use fit_base::base_type::{UINT8, UINT16, UINT32};
+use fit_base::{Entries, Items, Order};
+use fit_record::{Env, FieldDef, MessageDef, Record, Values, read_items};
+use std::alloc::{AllocError, Global};
+use test_known::protocol::{HEART_RATE, RECORD, TIMESTAMP};
+
+/// Messages of local type 0 with a time and a heart rate are known.
+fn define(alloc: Global, env: &mut Env) -> Result<(), AllocError> {
+    let fields = [
+        FieldDef::one(TIMESTAMP, UINT32),
+        FieldDef::one(HEART_RATE, UINT8),
+    ];
+    let fields = Entries::from_slice(alloc, &fields)?;
+    let definition = MessageDef::new(0, Order::Little, RECORD, fields);
+    take(env, &Record::Define(definition))
+}
+
+/// The message with this time and heart rate.
+fn message(alloc: Global, time: u64, rate: u64) -> Result<Values, AllocError> {
+    let mut fields = Entries::new(alloc);
+    fields.push(Items::one(alloc, 4, time))?;
+    fields.push(Items::one(alloc, 1, rate))?;
+    Ok(Values::new(alloc, 0, fields))
+}
+
+#[test]
+fn values_of_a_message(rt: HostRuntime) -> Result<(), AllocError> {
+    let mut env = Env::new(rt.alloc());
+    define(rt.alloc(), &mut env)?;
+    // The last byte is that of the record behind it.
+    let bytes = [0x00, 0x1F, 0xCA, 0x9A, 0x3B, 0x78, 0x40];
+    let found = env.message_bytes(&bytes).expect(&rt, "a message");
+    assert_eq!(rt; (found.local, found.offset, found.body.len()), (0, None, 5));
+    let values = found.values(rt.alloc())?;
+    assert_eq!(rt; values, message(rt.alloc(), 1_000_000_031, 120)?);
+    assert!(rt; env.message_bytes(&bytes[..5]).is_none());
+    Ok(())
+}
+
+#[test]
+fn items_of_a_field(rt: HostRuntime) -> Result<(), AllocError> {
+    let bytes = [0x01, 0x02, 0x03, 0x04];
+    let found = read_items(rt.alloc(), Order::Big, UINT16, 4, &bytes)?;
+    assert_eq!(rt; found, Items::from_slice(rt.alloc(), 2, &[0x0102, 0x0304])?);
+    let found = read_items(rt.alloc(), Order::Little, UINT16, 4, &bytes)?;
+    assert_eq!(rt; found, Items::from_slice(rt.alloc(), 2, &[0x0201, 0x0403])?);
+    Ok(())
+}
