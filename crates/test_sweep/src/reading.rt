@@ -42,17 +42,28 @@ fn tell_files(rt: &HostRuntime, files: &[FitFile], left: usize) -> io::Result<()
 pub fn file_by_file(rt: &HostRuntime, input: &[u8]) -> io::Result<()> {
     let mut reading = Reading::new(rt.alloc(), input);
     for _ in 0..=input.len() {
-        match reading.next() {
-            Ok(Some(file)) => println!(rt; "{file:?}")?,
-            Ok(None) => return println!(rt; "end"),
-            Err(Fault::NoMemory { used }) => {
-                let again = reading.next().err() == Some(Fault::NoMemory { used });
-                return println!(rt; "out of memory: {used} used, answered again: {again}");
-            }
-            Err(fault) => return println!(rt; "{fault:?}"),
+        if !next_file(rt, &mut reading)? {
+            break;
         }
     }
     Ok(())
+}
+
+/// Prints the next file, or what is returned in its place, and says whether there was one.
+fn next_file(rt: &HostRuntime, reading: &mut Reading<&[u8]>) -> io::Result<bool> {
+    match reading.next() {
+        Ok(Some(file)) => {
+            println!(rt; "{file:?}")?;
+            return Ok(true);
+        }
+        Ok(None) => println!(rt; "end")?,
+        Err(Fault::NoMemory { used }) => {
+            let again = reading.next().err() == Some(Fault::NoMemory { used });
+            println!(rt; "out of memory: {used} used, answered again: {again}")?;
+        }
+        Err(fault) => println!(rt; "{fault:?}")?,
+    }
+    Ok(false)
 }
 
 /// What each byte completes, and what is needed and held after it. A byte that was refused memory is fed once more.
