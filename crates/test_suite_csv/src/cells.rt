@@ -8,6 +8,7 @@ use fit_csv::{
 };
 use fit_profile::field_info;
 use std::alloc::{AllocError, Global};
+use std::process::Abort;
 use test_known::protocol;
 
 // fields of messages: what the profile says of them
@@ -19,156 +20,130 @@ const HRV_TIME: (u16, u8) = (protocol::HRV, protocol::HRV_TIME);
 
 const UNKNOWN: (u16, u8) = (protocol::RECORD, 200);
 
-/// Whether these numbers, as items of a field of this code and size, have this cell, and the cell
-/// gives them back.
-fn is_cell(
-    alloc: Global,
-    field: (u16, u8),
-    code: u8,
-    size: u8,
-    numbers: &[u64],
-    text: &str,
-) -> Result<bool, AllocError> {
+/// A field of this message and number, its code and size, its items, and their cell.
+type Cell = ((u16, u8), u8, u8, &'static [u64], &'static str);
+
+/// Asserts that the items have this cell, and that it gives them back.
+fn is_cell(rt: &impl Abort, alloc: Global, cell: Cell) {
+    let (field, code, size, numbers, text) = cell;
     let code = Code(code);
     let info = field_info(field.0, field.1);
-    let items = Items::from_slice(alloc, width_of(code, size), numbers)?;
-    if !has_shape(code, size, &items) {
-        return Ok(false);
-    }
-    let cell = cell_text(alloc, code, info, &items)?;
-    let read = cell_items(alloc, code, size, info, text)?;
-    Ok(cell.as_str() == text && read == Some(items))
-}
-
-/// Whether this is the cell of no items of a field of this code and size.
-fn is_nobodys(
-    alloc: Global,
-    field: (u16, u8),
-    code: u8,
-    size: u8,
-    text: &str,
-) -> Result<bool, AllocError> {
-    let info = field_info(field.0, field.1);
-    Ok(cell_items(alloc, Code(code), size, info, text)?.is_none())
+    let items = Items::from_slice(alloc, width_of(code, size), numbers).expect(rt, "memory");
+    assert!(rt; has_shape(code, size, &items), "at {text}");
+    let cell = cell_text(alloc, code, info, &items).expect(rt, "memory");
+    assert_eq!(rt; cell.as_str(), text);
+    let read = cell_items(alloc, code, size, info, text).expect(rt, "memory");
+    assert!(rt; read == Some(items), "at {text}");
 }
 
 #[test]
-fn numbers(rt: HostRuntime) -> Result<(), AllocError> {
-    assert!(rt; is_cell(rt.alloc(), ALTITUDE, UINT16, 2, &[2500], "0.0")?);
-    assert!(rt; is_cell(rt.alloc(), ALTITUDE, UINT16, 2, &[2499], "-0.2")?);
-    assert!(rt; is_cell(rt.alloc(), ALTITUDE, UINT16, 2, &[65535], "")?);
-    assert!(rt;
-        is_cell(
-            rt.alloc(),
-            HRV_TIME,
-            UINT16,
-            6,
-            &[812, 65535, 0],
-            "0.812||0.000"
-        )?
-    );
-    assert!(rt; is_cell(rt.alloc(), BATTERY_VOLTAGE, UINT16, 2, &[956], "3.73437500")?);
-    assert!(rt;
-        is_cell(
-            rt.alloc(),
+fn numbers(rt: HostRuntime) {
+    let cells: [Cell; 6] = [
+        (ALTITUDE, UINT16, 2, &[2500], "0.0"),
+        (ALTITUDE, UINT16, 2, &[2499], "-0.2"),
+        (ALTITUDE, UINT16, 2, &[65535], ""),
+        (HRV_TIME, UINT16, 6, &[812, 65535, 0], "0.812||0.000"),
+        (BATTERY_VOLTAGE, UINT16, 2, &[956], "3.73437500"),
+        (
             UNKNOWN,
             SINT64,
             8,
             &[0x8000_0000_0000_0000],
-            "-9223372036854775808"
-        )?
-    );
-    Ok(())
+            "-9223372036854775808",
+        ),
+    ];
+    for cell in cells {
+        is_cell(&rt, rt.alloc(), cell);
+    }
 }
 
 #[test]
-fn a_cell_after_a_text(rt: HostRuntime) -> Result<(), AllocError> {
+fn bytes_and_texts(rt: HostRuntime) {
+    let cells: [Cell; 7] = [
+        (UNKNOWN, 0x1F, 3, &[0x64, 0, 0x1A], "0x64001A"),
+        (ALTITUDE, UINT16, 3, &[0x64, 0, 0x1A], "0x64001A"),
+        (UNKNOWN, FLOAT32, 4, &[0xFFFF_FFFF], "0xFFFFFFFF"),
+        (UNKNOWN, STRING, 3, &[0x6D, 0x6F, 0], "mo"),
+        (UNKNOWN, STRING, 2, &[0x30, 0x78], "0x3078"),
+        (UNKNOWN, STRING, 3, &[0x41, 0, 0x42], "0x410042"),
+        (UNKNOWN, STRING, 0, &[], ""),
+    ];
+    for cell in cells {
+        is_cell(&rt, rt.alloc(), cell);
+    }
+}
+
+#[test]
+fn a_cell_after_a_text(rt: HostRuntime) {
     let code = Code(UINT16);
+    let info = field_info(ALTITUDE.0, ALTITUDE.1);
     let items = Items::one(rt.alloc(), width_of(code, 2), 2499);
     assert!(rt; has_shape(code, 2, &items));
-    let mut text = Vec::from_slice(rt.alloc(), b"12,")?;
-    put_cell(&mut text, code, field_info(ALTITUDE.0, ALTITUDE.1), &items)?;
+    let mut text = Vec::from_slice(rt.alloc(), b"12,").expect(&rt, "memory");
+    assert!(rt; put_cell(&mut text, code, info, &items).is_ok());
     assert_eq!(rt; text.as_slice(), b"12,-0.2".as_slice());
-    Ok(())
+}
+
+/// Asserts that this is the cell of no items of a field of this code and size.
+fn is_nobodys(rt: &impl Abort, alloc: Global, field: (u16, u8), code: u8, size: u8, text: &str) {
+    let info = field_info(field.0, field.1);
+    let read = cell_items(alloc, Code(code), size, info, text).expect(rt, "memory");
+    assert!(rt; read.is_none(), "at {text}");
 }
 
 #[test]
-fn bytes_and_texts(rt: HostRuntime) -> Result<(), AllocError> {
-    assert!(rt; is_cell(rt.alloc(), UNKNOWN, 0x1F, 3, &[0x64, 0, 0x1A], "0x64001A")?);
-    assert!(rt;
-        is_cell(
-            rt.alloc(),
-            ALTITUDE,
-            UINT16,
-            3,
-            &[0x64, 0, 0x1A],
-            "0x64001A"
-        )?
-    );
-    assert!(rt;
-        is_cell(
-            rt.alloc(),
-            UNKNOWN,
-            FLOAT32,
-            4,
-            &[0xFFFF_FFFF],
-            "0xFFFFFFFF"
-        )?
-    );
-    assert!(rt; is_cell(rt.alloc(), UNKNOWN, STRING, 3, &[0x6D, 0x6F, 0], "mo")?);
-    assert!(rt; is_cell(rt.alloc(), UNKNOWN, STRING, 2, &[0x30, 0x78], "0x3078")?);
-    assert!(rt; is_cell(rt.alloc(), UNKNOWN, STRING, 3, &[0x41, 0, 0x42], "0x410042")?);
-    assert!(rt; is_cell(rt.alloc(), UNKNOWN, STRING, 0, &[], "")?);
-    Ok(())
+fn cells_of_nobody(rt: HostRuntime) {
+    for (field, code, size, text) in [
+        (UNKNOWN, STRING, 1, "0x41"),
+        (UNKNOWN, STRING, 2, "0x4100"),
+        (UNKNOWN, STRING, 3, "A\0"),
+        (UNKNOWN, BYTE, 1, "0x4a"),
+        (UNKNOWN, BYTE, 0, "0x"),
+        (UNKNOWN, UINT8, 1, "256"),
+        (UNKNOWN, UINT8, 1, "007"),
+        (UNKNOWN, SINT8, 1, "127"),
+        (UNKNOWN, UINT64, 8, "18446744073709551616"),
+        (ALTITUDE, UINT16, 2, "-0.0"),
+        (ALTITUDE, UINT16, 2, "0.3"),
+        (ALTITUDE, UINT16, 2, "12607.0"),
+    ] {
+        is_nobodys(&rt, rt.alloc(), field, code, size, text);
+    }
 }
 
-#[test]
-fn cells_of_nobody(rt: HostRuntime) -> Result<(), AllocError> {
-    assert!(rt; is_nobodys(rt.alloc(), UNKNOWN, STRING, 1, "0x41")?);
-    assert!(rt; is_nobodys(rt.alloc(), UNKNOWN, STRING, 2, "0x4100")?);
-    assert!(rt; is_nobodys(rt.alloc(), UNKNOWN, STRING, 3, "A\0")?);
-    assert!(rt; is_nobodys(rt.alloc(), UNKNOWN, BYTE, 1, "0x4a")?);
-    assert!(rt; is_nobodys(rt.alloc(), UNKNOWN, BYTE, 0, "0x")?);
-    assert!(rt; is_nobodys(rt.alloc(), UNKNOWN, UINT8, 1, "256")?);
-    assert!(rt; is_nobodys(rt.alloc(), UNKNOWN, UINT8, 1, "007")?);
-    assert!(rt; is_nobodys(rt.alloc(), UNKNOWN, SINT8, 1, "127")?);
-    assert!(rt; is_nobodys(rt.alloc(), UNKNOWN, UINT64, 8, "18446744073709551616")?);
-    assert!(rt; is_nobodys(rt.alloc(), ALTITUDE, UINT16, 2, "-0.0")?);
-    assert!(rt; is_nobodys(rt.alloc(), ALTITUDE, UINT16, 2, "0.3")?);
-    assert!(rt; is_nobodys(rt.alloc(), ALTITUDE, UINT16, 2, "12607.0")?);
-    Ok(())
-}
-
-#[test]
-fn rows_both_ways(rt: HostRuntime) -> Result<(), AllocError> {
-    let mut writer = row_writer(Vec::new(rt.alloc()));
+/// Two rows as text. The first has cells with a comma and a quote, and with a line feed.
+fn text_of_rows(alloc: Global) -> Result<Vec<u8>, AllocError> {
+    let mut writer = row_writer(Vec::new(alloc));
     put_row(&mut writer, &[b"dev", b"a,\"b", b"", b"x\ny"])?;
     put_row(&mut writer, &[b"end", b"", b"", b""])?;
-    let text = rows_text(writer)?;
+    rows_text(writer)
+}
+
+#[test]
+fn rows_both_ways(rt: HostRuntime) {
+    let text = text_of_rows(rt.alloc()).expect(&rt, "memory");
     assert_eq!(rt;
         text.as_slice(),
         b"dev,\"a,\"\"b\",,\"x\ny\"\nend,,,\n".as_slice()
     );
     let mut reader = row_reader(rt.alloc(), text.as_slice());
     let mut row = ByteRecord::new(rt.alloc());
-    assert!(rt; next_row(&mut reader, &mut row)?);
+    assert!(rt; next_row(&mut reader, &mut row).expect(&rt, "memory"));
     assert_eq!(rt; row.get(1), Some(b"a,\"b".as_slice()));
     assert_eq!(rt; row.get(3), Some(b"x\ny".as_slice()));
-    assert!(rt; next_row(&mut reader, &mut row)?);
+    assert!(rt; next_row(&mut reader, &mut row).expect(&rt, "memory"));
     assert_eq!(rt; row.len(), 4);
-    assert!(rt; !next_row(&mut reader, &mut row)?);
-    Ok(())
+    assert!(rt; !next_row(&mut reader, &mut row).expect(&rt, "memory"));
 }
 
 /// Rows of other lengths than the first one's are read as they are.
 #[test]
-fn rows_of_any_length(rt: HostRuntime) -> Result<(), AllocError> {
+fn rows_of_any_length(rt: HostRuntime) {
     let mut reader = row_reader(rt.alloc(), b"a,b,c\nd\ne,f,g,h,i,j,k,l\n,\n");
     let mut row = ByteRecord::new(rt.alloc());
     for cells in [3, 1, 8, 2] {
-        assert!(rt; next_row(&mut reader, &mut row)?);
+        assert!(rt; next_row(&mut reader, &mut row).expect(&rt, "memory"));
         assert_eq!(rt; row.len(), cells);
     }
-    assert!(rt; !next_row(&mut reader, &mut row)?);
-    Ok(())
+    assert!(rt; !next_row(&mut reader, &mut row).expect(&rt, "memory"));
 }

@@ -6,7 +6,9 @@ use fit_encode::EncodeFault;
 use fit_examples::{Moment, check_upload, heart_rates, ride_file, ride_table, written_and_read};
 use fit_frame::{Header, HeaderSum, PROTOCOL_2_0, Reason};
 use fit_record::FitFile;
-use std::test::Fail;
+use std::alloc::{AllocError, Global};
+use std::process::Abort;
+use test_known::TABLE_HEAD;
 
 /// Messages in both architectures, one of them with a compressed timestamp header.
 const BOTH: [u8; 52] =
@@ -20,16 +22,19 @@ const DESCRIBED: [u8; 70] =
 const RIDE: [u8; 46] =
     *b"\x0E\x20\0\0\x1E\0\0\0.FIT\x1C\x05\x40\0\0\x14\0\x02\xFD\x04\x86\x03\x01\x02\0\x1F\xCA\x9A\x3B\x78\0\x20\xCA\x9A\x3B\xFF\0\x21\xCA\x9A\x3B\x79\x37\xC9";
 
+/// Asserts that the first file of some bytes is written and read again, with two bytes left after it.
+fn comes_back(rt: &impl Abort, alloc: Global, bytes: &[u8]) {
+    let mut source = bytes;
+    let file = read_one(alloc, &mut source).expect(rt, "a file");
+    let read = written_and_read(alloc, &file, b"\xFF\x01");
+    assert!(rt; read == Ok((file, 2)));
+}
+
 #[test]
-fn bytes_after_a_file_are_left(rt: HostRuntime) -> Result<(), Fail> {
-    let alloc = rt.alloc();
+fn bytes_after_a_file_are_left(rt: HostRuntime) {
     for bytes in [BOTH.as_slice(), DESCRIBED.as_slice(), RIDE.as_slice()] {
-        let mut source = bytes;
-        let file = read_one(alloc, &mut source).map_err(|_| "not read")?;
-        let read = written_and_read(alloc, &file, b"\xFF\x01");
-        assert!(rt; read == Ok((file, 2)));
+        comes_back(&rt, rt.alloc(), bytes);
     }
-    Ok(())
 }
 
 #[test]
@@ -46,11 +51,17 @@ fn headers_without_bytes(rt: HostRuntime) {
     assert!(rt; read == Err(EncodeFault::BadHeader { file: 1 }));
 }
 
-#[test]
-fn uploads(rt: HostRuntime) -> Result<(), Fail> {
-    let mut chain = Vec::from_slice(rt.alloc(), &BOTH)?;
+/// The first two, and the first byte of one that is refused.
+fn chain(alloc: Global) -> Result<Vec<u8>, AllocError> {
+    let mut chain = Vec::from_slice(alloc, &BOTH)?;
     chain.extend_from_slice(&DESCRIBED)?;
     chain.push(0x0D)?;
+    Ok(chain)
+}
+
+#[test]
+fn uploads(rt: HostRuntime) {
+    let chain = chain(rt.alloc()).expect(&rt, "memory");
     for (size, answer) in [
         (0, Err(Fault::Truncated { place: 0 })),
         (51, Err(Fault::Truncated { place: 51 })),
@@ -65,9 +76,14 @@ fn uploads(rt: HostRuntime) -> Result<(), Fail> {
             }),
         ),
     ] {
-        let upload = chain.as_slice().get(..size).ok_or("too short")?;
+        assert!(rt; size <= chain.len());
+        let upload = &chain.as_slice()[..size];
         assert_eq!(rt; check_upload(rt.alloc(), upload), answer, "at {size}");
     }
+}
+
+#[test]
+fn a_damaged_upload(rt: HostRuntime) {
     let mut damaged = BOTH;
     damaged[51] = 0x3C;
     assert_eq!(rt;
@@ -77,13 +93,18 @@ fn uploads(rt: HostRuntime) -> Result<(), Fail> {
             reason: Reason::FileSum,
         })
     );
-    Ok(())
+}
+
+/// Asserts that the table of a ride has these rows after its first line.
+fn has_table(rt: &impl Abort, alloc: Global, ride: &[u8], rows: &str) {
+    let table = ride_table(alloc, ride).expect(rt, "a table");
+    let (head, rest) = table.as_slice().split_at(TABLE_HEAD.len().min(table.len()));
+    assert_eq!(rt; head, TABLE_HEAD.as_bytes());
+    assert_eq!(rt; rest, rows.as_bytes());
 }
 
 #[test]
-fn tables_of_rides(rt: HostRuntime) -> Result<(), Fail> {
-    let first =
-        "file,timestamp,position_lat,position_long,altitude,distance,speed,heart_rate,cadence,power,temperature\n";
+fn tables_of_rides(rt: HostRuntime) {
     for (ride, rows) in [
         (
             BOTH.as_slice(),
@@ -98,58 +119,58 @@ fn tables_of_rides(rt: HostRuntime) -> Result<(), Fail> {
             "1,2021-09-08T01:47:11Z,,,,,,120,,,\n1,2021-09-08T01:47:12Z,,,,,,,,,\n1,2021-09-08T01:47:13Z,,,,,,121,,,\n",
         ),
     ] {
-        let mut wanted = Vec::from_slice(rt.alloc(), first.as_bytes())?;
-        wanted.extend_from_slice(rows.as_bytes())?;
-        assert!(rt; ride_table(rt.alloc(), ride) == Ok(wanted));
+        has_table(&rt, rt.alloc(), ride, rows);
     }
-    let fault = Fault::Truncated { place: 51 };
-    let cut = BOTH.as_slice().get(..51).ok_or("too short")?;
-    assert!(rt; ride_table(rt.alloc(), cut) == Err(CsvFault::Decode(fault)));
-    Ok(())
 }
 
 #[test]
-fn rides_as_files(rt: HostRuntime) -> Result<(), Fail> {
+fn a_ride_that_is_cut(rt: HostRuntime) {
+    let fault = Fault::Truncated { place: 51 };
+    let found = ride_table(rt.alloc(), &BOTH[..51]);
+    assert!(rt; found == Err(CsvFault::Decode(fault)));
+    assert!(rt; heart_rates(rt.alloc(), &BOTH[..51]) == Err(fault));
+}
+
+#[test]
+fn rides_as_files(rt: HostRuntime) {
     let points = [
         (1_000_000_031, 120),
         (1_000_000_032, 255),
         (1_000_000_033, 121),
     ];
-    let ride = ride_file(rt.alloc(), &points).map_err(|_| "no memory")?;
+    let ride = ride_file(rt.alloc(), &points).expect(&rt, "a ride");
     assert_eq!(rt; ride.as_slice(), RIDE.as_slice());
-    Ok(())
+}
+
+/// When the rides begin.
+const START: u32 = 1_000_000_031;
+
+/// A moment that many seconds after it.
+fn after(seconds: u32, heart_rate: Option<u8>) -> Moment {
+    let time = START.checked_add(seconds);
+    Moment { time, heart_rate }
+}
+
+/// Asserts the moments of a ride.
+fn has_moments(rt: &impl Abort, alloc: Global, ride: &[u8], moments: &[Moment]) {
+    let found = heart_rates(alloc, ride).expect(rt, "moments");
+    assert_eq!(rt; found.as_slice(), moments);
 }
 
 #[test]
-fn heart_rates_of_rides(rt: HostRuntime) -> Result<(), Fail> {
-    let start = 1_000_000_031;
-    let moment = |time, heart_rate| Moment { time, heart_rate };
-    let both = [
-        moment(Some(start), Some(120)),
-        moment(Some(start + 3), None),
-    ];
-    let none = [moment(None, None); 3];
-    let three = [
-        moment(Some(start), Some(120)),
-        moment(Some(start + 1), None),
-        moment(Some(start + 2), Some(121)),
-    ];
-    for (ride, moments) in [
-        (BOTH.as_slice(), both.as_slice()),
-        (DESCRIBED.as_slice(), none.as_slice()),
-        (RIDE.as_slice(), three.as_slice()),
-    ] {
-        let found = heart_rates(rt.alloc(), ride).map_err(|_| "no moments")?;
-        assert_eq!(rt; found.as_slice(), moments);
-    }
-    let mut chain = Vec::from_slice(rt.alloc(), &RIDE)?;
-    chain.extend_from_slice(&DESCRIBED)?;
-    let found = heart_rates(rt.alloc(), chain.as_slice()).map_err(|_| "no moments")?;
-    let of_ride = found.as_slice().get(..3).ok_or("too few")?;
-    let of_other = found.as_slice().get(3..).ok_or("too few")?;
-    assert_eq!(rt; of_ride, three.as_slice());
-    assert_eq!(rt; of_other, none.as_slice());
-    let cut = BOTH.as_slice().get(..51).ok_or("too short")?;
-    assert!(rt; heart_rates(rt.alloc(), cut) == Err(Fault::Truncated { place: 51 }));
-    Ok(())
+fn heart_rates_of_rides(rt: HostRuntime) {
+    let alloc = rt.alloc();
+    let both = [after(0, Some(120)), after(3, None)];
+    has_moments(&rt, alloc, &BOTH, &both);
+    let none = Moment {
+        time: None,
+        heart_rate: None,
+    };
+    has_moments(&rt, alloc, &DESCRIBED, &[none; 3]);
+    let three = [after(0, Some(120)), after(1, None), after(2, Some(121))];
+    has_moments(&rt, alloc, &RIDE, &three);
+    let mut chain = Vec::from_slice(alloc, &RIDE).expect(&rt, "memory");
+    assert!(rt; chain.extend_from_slice(&DESCRIBED).is_ok());
+    let all = [three[0], three[1], three[2], none, none, none];
+    has_moments(&rt, alloc, chain.as_slice(), &all);
 }

@@ -36,7 +36,11 @@ pub fn bytes(rt: &HostRuntime, input: &[u8]) -> io::Result<()> {
     let mut source = input;
     let mut sink = CutSink::<256>::new(256);
     let answer = from_csv(rt.alloc(), &mut source, &mut sink);
-    let bytes = sink.bytes();
+    tell_bytes(rt, answer, sink.bytes())
+}
+
+/// Prints a result, and the bytes that went out.
+fn tell_bytes(rt: &HostRuntime, answer: Result<(), CsvFault>, bytes: &[u8]) -> io::Result<()> {
     match answer {
         Ok(()) => println!(rt; "{bytes:?}"),
         Err(CsvFault::NoMemory) => println!(rt; "out of memory: {bytes:?}"),

@@ -22,24 +22,28 @@ fn main(rt: HostRuntime) -> io::Result<()> {
     let Ok(call) = last_word(&rt) else {
         return println!(rt; "no input");
     };
-    let input = input.as_slice();
-    match call.as_str() {
-        "read_one" => reading::one(&rt, input),
-        "read_chain" => reading::chain(&rt, input),
-        "next" => reading::file_by_file(&rt, input),
-        "feed" => reading::byte_by_byte(&rt, input),
-        "cut" => reading::cut_anywhere(&rt, input),
-        "write_one" => writing::one(&rt, input),
-        "write_chain" => writing::chain(&rt, input),
-        "put" => writing::record_by_record(&rt, input),
-        "learn" => meaning::learned(&rt, input),
-        "push" => meaning::pushed(&rt, input),
-        "cell_text" => meaning::as_cells(&rt, input),
-        "cell_items" => meaning::from_cells(&rt, input),
-        "to_csv" => converting::rows(&rt, input),
-        "table" => converting::records(&rt, input),
-        "from_csv" => converting::bytes(&rt, input),
-        "recording" => recording::write(&rt),
+    make(&rt, call.as_str(), input.as_slice())
+}
+
+/// Makes a call on an input.
+fn make(rt: &HostRuntime, call: &str, input: &[u8]) -> io::Result<()> {
+    match call {
+        "read_one" => reading::one(rt, input),
+        "read_chain" => reading::chain(rt, input),
+        "next" => reading::file_by_file(rt, input),
+        "feed" => reading::byte_by_byte(rt, input),
+        "cut" => reading::cut_anywhere(rt, input),
+        "write_one" => writing::one(rt, input),
+        "write_chain" => writing::chain(rt, input),
+        "put" => writing::record_by_record(rt, input),
+        "learn" => meaning::learned(rt, input),
+        "push" => meaning::pushed(rt, input),
+        "cell_text" => meaning::as_cells(rt, input),
+        "cell_items" => meaning::from_cells(rt, input),
+        "to_csv" => converting::rows(rt, input),
+        "table" => converting::records(rt, input),
+        "from_csv" => converting::bytes(rt, input),
+        "recording" => recording::write(rt),
         _ => println!(rt; "no such call"),
     }
 }

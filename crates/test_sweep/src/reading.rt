@@ -1,5 +1,6 @@
 //! The decoder and the readers.
 use fit_decode::{Decoder, Event, Fault, Reading, read_chain, read_one};
+use fit_record::FitFile;
 use std::alloc::Global;
 use std::io;
 
@@ -24,49 +25,74 @@ pub fn one(rt: &HostRuntime, input: &[u8]) -> io::Result<()> {
 pub fn chain(rt: &HostRuntime, input: &[u8]) -> io::Result<()> {
     let mut source = input;
     match read_chain(rt.alloc(), &mut source) {
-        Ok(files) => {
-            for file in files.as_slice() {
-                println!(rt; "{file:?}")?;
-            }
-            println!(rt; "{} bytes are left", source.len())
-        }
+        Ok(files) => tell_files(rt, files.as_slice(), source.len()),
         Err(fault) => tell_fault(rt, fault, input.len().saturating_sub(source.len())),
     }
+}
+
+/// Prints files, and how many bytes are left after them.
+fn tell_files(rt: &HostRuntime, files: &[FitFile], left: usize) -> io::Result<()> {
+    for file in files {
+        println!(rt; "{file:?}")?;
+    }
+    println!(rt; "{left} bytes are left")
 }
 
 /// One file after another, and what is returned after the last. A fault is returned again.
 pub fn file_by_file(rt: &HostRuntime, input: &[u8]) -> io::Result<()> {
     let mut reading = Reading::new(rt.alloc(), input);
     for _ in 0..=input.len() {
-        match reading.next() {
-            Ok(Some(file)) => println!(rt; "{file:?}")?,
-            Ok(None) => return println!(rt; "end"),
-            Err(Fault::NoMemory { used }) => {
-                let again = reading.next().err() == Some(Fault::NoMemory { used });
-                return println!(rt; "out of memory: {used} used, answered again: {again}");
-            }
-            Err(fault) => return println!(rt; "{fault:?}"),
+        if !next_file(rt, &mut reading)? {
+            break;
         }
     }
     Ok(())
+}
+
+/// Prints the next file, or what is returned in its place, and says whether there was one.
+fn next_file(rt: &HostRuntime, reading: &mut Reading<&[u8]>) -> io::Result<bool> {
+    match reading.next() {
+        Ok(Some(file)) => {
+            println!(rt; "{file:?}")?;
+            return Ok(true);
+        }
+        Ok(None) => println!(rt; "end")?,
+        Err(Fault::NoMemory { used }) => {
+            let again = reading.next().err() == Some(Fault::NoMemory { used });
+            println!(rt; "out of memory: {used} used, answered again: {again}")?;
+        }
+        Err(fault) => println!(rt; "{fault:?}")?,
+    }
+    Ok(false)
 }
 
 /// What each byte completes, and what is needed and held after it. A byte that was refused memory is fed once more.
 pub fn byte_by_byte(rt: &HostRuntime, input: &[u8]) -> io::Result<()> {
     let mut decoder = Decoder::new(rt.alloc());
     for (place, byte) in input.iter().enumerate() {
-        let mut answer = decoder.feed(&[*byte]);
-        if let Err(Fault::NoMemory { used: 0 }) = answer {
-            println!(rt; "once more")?;
-            answer = decoder.feed(&[*byte]);
+        if !feed(rt, &mut decoder, place, *byte)? {
+            return Ok(());
         }
-        match answer {
-            Ok(fed) => tell(rt, place, fed.used, &fed.event)?,
-            Err(fault) => return println!(rt; "{fault:?}"),
-        }
-        println!(rt; "need {}, held {}", decoder.need(), decoder.held())?;
     }
     println!(rt; "{:?}", decoder.finish())
+}
+
+/// Feeds the byte at a place, or feeds it once more, and says whether it was taken.
+fn feed(rt: &HostRuntime, decoder: &mut Decoder, place: usize, byte: u8) -> io::Result<bool> {
+    let mut answer = decoder.feed(&[byte]);
+    if let Err(Fault::NoMemory { used: 0 }) = answer {
+        println!(rt; "once more")?;
+        answer = decoder.feed(&[byte]);
+    }
+    match answer {
+        Ok(fed) => tell(rt, place, fed.used, &fed.event)?,
+        Err(fault) => {
+            println!(rt; "{fault:?}")?;
+            return Ok(false);
+        }
+    }
+    println!(rt; "need {}, held {}", decoder.need(), decoder.held())?;
+    Ok(true)
 }
 
 /// Prints an event.
@@ -92,18 +118,28 @@ fn cut(alloc: Global, bytes: &[u8]) -> Result<usize, Fault> {
     let mut same = 0usize;
     for k in 0..bytes.len() {
         let (first, second) = bytes.split_at(k);
-        if event_ends(alloc, &[first, second])? == whole {
+        if ends_are(alloc, &[first, second], whole.as_slice())? {
             same = same.saturating_add(1);
         }
     }
+    if byte_ends_are(alloc, bytes, whole.as_slice())? {
+        same = same.saturating_add(1);
+    }
+    Ok(same)
+}
+
+/// Whether the events of these pieces end after so many bytes each.
+fn ends_are(alloc: Global, pieces: &[&[u8]], ends: &[usize]) -> Result<bool, Fault> {
+    Ok(event_ends(alloc, pieces)?.as_slice() == ends)
+}
+
+/// The same of pieces of one byte.
+fn byte_ends_are(alloc: Global, bytes: &[u8], ends: &[usize]) -> Result<bool, Fault> {
     let mut single = Vec::new(alloc);
     for byte in bytes.chunks(1) {
         keep(&mut single, byte)?;
     }
-    if event_ends(alloc, single.as_slice())? == whole {
-        same = same.saturating_add(1);
-    }
-    Ok(same)
+    ends_are(alloc, single.as_slice(), ends)
 }
 
 /// After how many bytes each event ends.
@@ -112,20 +148,32 @@ fn event_ends(alloc: Global, pieces: &[&[u8]]) -> Result<Vec<usize>, Fault> {
     let mut ends = Vec::new(alloc);
     let mut place = 0usize;
     for piece in pieces {
-        let mut rest = *piece;
-        for _ in 0..=piece.len() {
-            let fed = decoder.feed(rest)?;
-            let (_, more) = rest.split_at(fed.used);
-            rest = more;
-            place = place.saturating_add(fed.used);
-            if let Event::More = fed.event {
-                break;
-            }
-            keep(&mut ends, place)?;
-        }
+        keep_ends(&mut decoder, piece, place, &mut ends)?;
+        place = place.saturating_add(piece.len());
     }
     decoder.finish()?;
     Ok(ends)
+}
+
+/// Feeds a piece that has so many bytes before it.
+fn keep_ends(
+    decoder: &mut Decoder,
+    piece: &[u8],
+    before: usize,
+    ends: &mut Vec<usize>,
+) -> Result<(), Fault> {
+    let mut rest = piece;
+    for _ in 0..=piece.len() {
+        let fed = decoder.feed(rest)?;
+        let (_, more) = rest.split_at(fed.used);
+        rest = more;
+        if let Event::More = fed.event {
+            break;
+        }
+        let used = piece.len().saturating_sub(rest.len());
+        keep(ends, before.saturating_add(used))?;
+    }
+    Ok(())
 }
 
 /// Puts a value after the others.

@@ -17,11 +17,16 @@ fn tell(rt: &HostRuntime, answer: Result<(), EncodeFault>, bytes: &[u8]) -> io::
 /// The first file, written again.
 pub fn one(rt: &HostRuntime, input: &[u8]) -> io::Result<()> {
     let mut source = input;
-    let Ok(files) = read_chain(rt.alloc(), &mut source) else {
-        return println!(rt; "no input");
-    };
+    match read_chain(rt.alloc(), &mut source) {
+        Ok(files) => each_of(rt, files.as_slice()),
+        Err(_) => println!(rt; "no input"),
+    }
+}
+
+/// One file after another, until one is not written.
+fn each_of(rt: &HostRuntime, files: &[FitFile]) -> io::Result<()> {
     let mut sink = CutSink::<256>::new(256);
-    for file in files.as_slice() {
+    for file in files {
         let answer = write_one(rt.alloc(), &mut sink, file);
         tell(rt, answer, sink.bytes())?;
         if answer.is_err() {
@@ -34,11 +39,15 @@ pub fn one(rt: &HostRuntime, input: &[u8]) -> io::Result<()> {
 /// All files, written again.
 pub fn chain(rt: &HostRuntime, input: &[u8]) -> io::Result<()> {
     let mut source = input;
-    let Ok(files) = read_chain(rt.alloc(), &mut source) else {
-        return println!(rt; "no input");
-    };
+    match read_chain(rt.alloc(), &mut source) {
+        Ok(files) => chain_of(rt, files.as_slice()),
+        Err(_) => println!(rt; "no input"),
+    }
+}
+
+fn chain_of(rt: &HostRuntime, files: &[FitFile]) -> io::Result<()> {
     let mut sink = CutSink::<256>::new(256);
-    let answer = write_chain(rt.alloc(), &mut sink, files.as_slice());
+    let answer = write_chain(rt.alloc(), &mut sink, files);
     tell(rt, answer, sink.bytes())
 }
 
@@ -61,11 +70,15 @@ fn data_len(alloc: Global, records: &[Record]) -> Option<u32> {
 /// All files, record by record. A record that was refused memory is put once more.
 pub fn record_by_record(rt: &HostRuntime, input: &[u8]) -> io::Result<()> {
     let mut source = input;
-    let Ok(files) = read_chain(rt.alloc(), &mut source) else {
-        return println!(rt; "no input");
-    };
+    match read_chain(rt.alloc(), &mut source) {
+        Ok(files) => records_of(rt, files.as_slice()),
+        Err(_) => println!(rt; "no input"),
+    }
+}
+
+fn records_of(rt: &HostRuntime, files: &[FitFile]) -> io::Result<()> {
     let mut sink = CutSink::<256>::new(256);
-    for file in files.as_slice() {
+    for file in files {
         let Some(size) = data_len(rt.alloc(), file.records.as_slice()) else {
             return println!(rt; "no input");
         };
@@ -89,15 +102,28 @@ fn put_all_of(
     };
     println!(rt; "{} bytes", sink.bytes().len())?;
     for record_ in file.records.as_slice() {
-        let mut answer = encoder.put(sink, record_);
-        if answer == Err(EncodeFault::NoMemory) {
-            println!(rt; "once more\n{} bytes", sink.bytes().len())?;
-            answer = encoder.put(sink, record_);
-        }
+        let answer = put(rt, sink, &mut encoder, record_)?;
         if answer.is_err() {
             return Ok(answer);
         }
-        println!(rt; "{} bytes", sink.bytes().len())?;
     }
     Ok(encoder.finish(sink))
+}
+
+/// Puts a record, or puts it once more, and prints how many bytes have gone out.
+fn put(
+    rt: &HostRuntime,
+    sink: &mut CutSink<256>,
+    encoder: &mut Encoder,
+    record_: &Record,
+) -> io::Result<Result<(), EncodeFault>> {
+    let mut answer = encoder.put(sink, record_);
+    if answer == Err(EncodeFault::NoMemory) {
+        println!(rt; "once more\n{} bytes", sink.bytes().len())?;
+        answer = encoder.put(sink, record_);
+    }
+    if answer.is_ok() {
+        println!(rt; "{} bytes", sink.bytes().len())?;
+    }
+    Ok(answer)
 }
