@@ -4,6 +4,7 @@ use fit_base::{
     width_of,
 };
 use std::alloc::{AllocError, Global};
+use std::process::Abort;
 
 /// Width, invalid value and class, of a code that the protocol names and of two that it doesn't
 const BASE_TYPES: [(u8, u8, u64, Class); 6] = [
@@ -18,14 +19,26 @@ const BASE_TYPES: [(u8, u8, u64, Class); 6] = [
 #[test]
 fn base_types(rt: HostRuntime) {
     for (code, width, invalid, class) in BASE_TYPES {
-        assert_eq!(rt; Code(code).width(), width, "code {code}");
-        assert_eq!(rt; Code(code).invalid(), invalid, "code {code}");
-        assert_eq!(rt; Code(code).class(), class, "code {code}");
+        let code = Code(code);
+        assert_eq!(rt;
+            (code.width(), code.invalid(), code.class()),
+            (width, invalid, class),
+            "code {}",
+            code.0
+        );
     }
-    assert_eq!(rt; width_of(Code(0x84), 6), 2);
-    assert_eq!(rt; width_of(Code(0x84), 3), 1);
-    assert_eq!(rt; width_of(Code(0x84), 0), 2);
-    assert_eq!(rt; width_of(Code(0x1F), 6), 1);
+    assert_eq!(rt; base_type::codes()[9], base_type::UINT32);
+}
+
+#[test]
+fn widths(rt: HostRuntime) {
+    for (code, size, width) in [(0x84, 6, 2), (0x84, 3, 1), (0x84, 0, 2), (0x1F, 6, 1)] {
+        assert_eq!(rt;
+            width_of(Code(code), size),
+            width,
+            "code {code}, size {size}"
+        );
+    }
 }
 
 #[test]
@@ -36,11 +49,19 @@ fn numbers(rt: HostRuntime) {
         bits_at(Order::Little, 4, &[0x1F, 0xCA, 0x9A, 0x3B]),
         1_000_000_031
     );
+}
+
+#[test]
+fn numbers_put(rt: HostRuntime) {
     let mut bytes = [0; 4];
     put_bits(Order::Little, 4, 1_000_000_031, &mut bytes);
     assert_eq!(rt; bytes, [0x1F, 0xCA, 0x9A, 0x3B]);
     put_bits(Order::Big, 2, 2500, &mut bytes[..2]);
     assert_eq!(rt; bytes, [0x09, 0xC4, 0x9A, 0x3B]);
+}
+
+#[test]
+fn signed_numbers(rt: HostRuntime) {
     assert_eq!(rt; signed(1, 0xFF), -1);
     assert_eq!(rt; signed(1, 0x7F), 127);
     assert_eq!(rt; signed(2, 0x8000), -32_768);
@@ -48,33 +69,49 @@ fn numbers(rt: HostRuntime) {
     assert_eq!(rt; signed(8, 0x8000_0000_0000_0000), i64::MIN);
 }
 
-#[test]
-fn lists_of_numbers(rt: HostRuntime) -> Result<(), AllocError> {
-    let mut bits = Bits::new(rt.alloc());
+const NUMBERS: [u64; 3] = [812, 65_535, 0];
+
+/// A list with room for these numbers, to which they are added.
+fn list_of_numbers(alloc: Global) -> Result<Bits, AllocError> {
+    let mut bits = Bits::with_capacity(alloc, 3)?;
+    for number in NUMBERS {
+        bits.push(number)?;
+    }
+    Ok(bits)
+}
+
+/// Adds the numbers to a list without any.
+fn add_numbers(rt: &impl Abort, bits: &mut Bits) -> Result<(), AllocError> {
     assert!(rt; bits.is_empty());
     bits.push(812)?;
     assert!(rt; bits.as_slice() == [812].as_slice());
     bits.push(65_535)?;
     bits.push(0)?;
     assert_eq!(rt; bits.len(), 3);
-    let mut same = Bits::with_capacity(rt.alloc(), 3)?;
-    for number in [812, 65_535, 0] {
-        same.push(number)?;
-    }
+    Ok(())
+}
+
+#[test]
+fn lists_of_numbers(rt: HostRuntime) -> Result<(), AllocError> {
+    let same = list_of_numbers(rt.alloc())?;
+    let mut bits = Bits::new(rt.alloc());
+    add_numbers(&rt, &mut bits)?;
     assert_eq!(rt; bits, same);
-    let numbers = bits.into_vec()?;
-    assert!(rt; numbers.as_slice() == [812, 65_535, 0].as_slice());
+    Ok(())
+}
+
+#[test]
+fn lists_and_vectors_of_numbers(rt: HostRuntime) -> Result<(), AllocError> {
+    let same = list_of_numbers(rt.alloc())?;
+    let numbers = list_of_numbers(rt.alloc())?.into_vec()?;
+    assert!(rt; numbers.as_slice() == NUMBERS.as_slice());
     assert_eq!(rt; Bits::from_vec(numbers), same);
     Ok(())
 }
 
 #[test]
 fn shapes(rt: HostRuntime) -> Result<(), AllocError> {
-    let mut bits = Bits::new(rt.alloc());
-    for number in [0xFE, 0x100] {
-        bits.push(number)?;
-    }
-    let items = Items { width: 2, bits };
+    let items = Items::from_slice(rt.alloc(), 2, &[0xFE, 0x100])?;
     assert!(rt; has_shape(Code(0x84), 4, &items));
     assert!(rt; !has_shape(Code(0x84), 2, &items));
     assert!(rt; !has_shape(Code(0x02), 4, &items));
@@ -86,32 +123,45 @@ fn shapes(rt: HostRuntime) -> Result<(), AllocError> {
     Ok(())
 }
 
-#[test]
-fn lists_of_elements(rt: HostRuntime) -> Result<(), AllocError> {
-    let mut codes = Entries::with_capacity(rt.alloc(), 2)?;
+/// Adds two base types to a list without any.
+fn add_codes(rt: &impl Abort, codes: &mut Entries<u8>) -> Result<(), AllocError> {
     assert!(rt; codes.is_empty());
-    codes.push(0x84_u8)?;
+    codes.push(0x84)?;
     codes.push(0x0D)?;
     assert_eq!(rt; codes.len(), 2);
     assert!(rt; codes.as_slice() == [0x84, 0x0D].as_slice());
-    let vec = codes.into_vec();
-    let mut same: Entries<u8, Global> = Entries::new(rt.alloc());
-    same.push(0x84)?;
-    same.push(0x0D)?;
-    assert_eq!(rt; Entries::from_vec(vec), same);
+    Ok(())
+}
+
+#[test]
+fn lists_of_elements(rt: HostRuntime) -> Result<(), AllocError> {
+    let mut same = Entries::new(rt.alloc());
+    add_codes(&rt, &mut same)?;
+    let mut codes = Entries::with_capacity(rt.alloc(), 2)?;
+    add_codes(&rt, &mut codes)?;
+    assert_eq!(rt; Entries::from_vec(codes.into_vec()), same);
+    Ok(())
+}
+
+#[test]
+fn one_item(rt: HostRuntime) -> Result<(), AllocError> {
+    let one = Items::from_slice(rt.alloc(), 4, &[1_000_000_000])?;
+    assert!(rt; has_shape(Code(base_type::UINT32), 4, &one));
+    assert_eq!(rt; Items::one(rt.alloc(), 4, 1_000_000_000), one);
+    Ok(())
+}
+
+#[test]
+fn no_items(rt: HostRuntime) -> Result<(), AllocError> {
+    let empty = Items::from_slice(rt.alloc(), 2, &[])?;
+    assert!(rt; has_shape(Code(base_type::UINT16), 0, &empty));
     Ok(())
 }
 
 #[test]
 fn made_of_slices(rt: HostRuntime) -> Result<(), AllocError> {
-    assert_eq!(rt; base_type::codes()[9], base_type::UINT32);
-    let one = Items::one(rt.alloc(), 4, 1_000_000_000);
-    assert_eq!(rt; one, Items::from_slice(rt.alloc(), 4, &[1_000_000_000])?);
-    assert!(rt; has_shape(Code(base_type::UINT32), 4, &one));
-    let empty = Items::from_slice(rt.alloc(), 2, &[])?;
-    assert!(rt; has_shape(Code(base_type::UINT16), 0, &empty));
-    let three = Items::from_slice(rt.alloc(), 2, &[812, 65_535, 0])?;
-    assert!(rt; three.bits.as_slice() == [812, 65_535, 0].as_slice());
+    let three = Items::from_slice(rt.alloc(), 2, &NUMBERS)?;
+    assert!(rt; three.bits.as_slice() == NUMBERS.as_slice());
     let codes = Entries::from_slice(rt.alloc(), &[base_type::UINT16, base_type::BYTE])?;
     assert!(rt; codes.as_slice() == [0x84, 0x0D].as_slice());
     Ok(())

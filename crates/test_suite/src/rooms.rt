@@ -3,6 +3,7 @@ use fit_base::base_type::BYTE;
 use fit_base::{Entries, Order};
 use fit_record::{Env, FieldDef, MessageDef, Record, can_complete_front};
 use std::alloc::{AllocError, Global};
+use std::process::Abort;
 use test_known::protocol::RECORD;
 
 /// Defines data messages with that many bytes after the record header.
@@ -16,17 +17,21 @@ fn define(env: &mut Env, alloc: Global, local: u8, size: u8) -> Result<bool, All
     Ok(true)
 }
 
+/// Asserts which rooms can be filled.
+fn fill(rt: &impl Abort, env: &Env, rooms: &[(u32, bool)]) {
+    for (room, filled) in rooms {
+        assert_eq!(rt; env.can_fill(*room), *filled, "room {room}");
+    }
+}
+
 #[test]
 fn rooms(rt: HostRuntime) -> Result<(), AllocError> {
     let mut env = Env::new(rt.alloc());
     assert!(rt; define(&mut env, rt.alloc(), 0, 3)?);
-    for (room, filled) in [(0, true), (1, false), (4, true), (5, false), (6, true)] {
-        assert_eq!(rt; env.can_fill(room), filled, "room {room}");
-    }
+    let one = [(0, true), (1, false), (4, true), (5, false), (6, true)];
+    fill(&rt, &env, &one);
     assert!(rt; define(&mut env, rt.alloc(), 15, 2)?);
-    for (room, filled) in [(1, false), (2, false), (3, true), (5, false)] {
-        assert_eq!(rt; env.can_fill(room), filled, "room {room}");
-    }
+    fill(&rt, &env, &[(1, false), (2, false), (3, true), (5, false)]);
     // A message of four bytes leaves three of seven, which one of three bytes fills.
     assert!(rt; env.can_carry(0, 6));
     assert!(rt; !env.can_carry(0, 5));
