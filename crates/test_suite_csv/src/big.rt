@@ -5,7 +5,7 @@ use fit_base::{Code, Items, has_shape};
 use fit_csv::{cell_items, cell_text, from_csv, table, to_csv};
 use fit_decode::read_one;
 use fit_encode::{CutSink, WriteSink};
-use fit_profile::{Info, Message, Stream, field_info};
+use fit_profile::{Message, Stream, field_info};
 use fit_record::Record;
 use std::alloc::Global;
 use std::process::Abort;
@@ -51,8 +51,12 @@ fn as_a_table(rt: HostRuntime) {
     assert!(rt; head == TABLE_HEAD.as_bytes() && rows == b"1,,,,,,,,,,\n".as_slice());
 }
 
-/// Asserts that the items of a field have a cell that gives them back.
-fn comes_back(rt: &impl Abort, alloc: Global, info: Option<Info>, items: &Items) {
+/// Asserts that the items of a field of this number, or of a developer field, have a cell that gives them back.
+fn comes_back(rt: &impl Abort, alloc: Global, number: Option<u8>, items: &Items) {
+    let info = match number {
+        Some(number) => field_info(RECORD, number),
+        None => None,
+    };
     if !has_shape(Code(BYTE), 255, items) {
         assert!(rt; false);
         return;
@@ -67,7 +71,7 @@ fn comes_back(rt: &impl Abort, alloc: Global, info: Option<Info>, items: &Items)
 fn come_back(rt: &impl Abort, alloc: Global, message: &Message, place: u8) {
     match (message.field(place), message.dev(place)) {
         (Some(field), Some(dev)) => {
-            comes_back(rt, alloc, field_info(RECORD, place), field.items);
+            comes_back(rt, alloc, Some(place), field.items);
             comes_back(rt, alloc, None, dev.items);
         }
         _ => assert!(rt; false),
