@@ -20,6 +20,8 @@ mod headers;
 #[cfg(test)]
 mod history;
 #[cfg(test)]
+mod kept;
+#[cfg(test)]
 mod message_bytes;
 #[cfg(test)]
 mod numbers;

@@ -18,4 +18,6 @@ mod profile;
 #[cfg(test)]
 mod streams;
 #[cfg(test)]
+mod taken;
+#[cfg(test)]
 mod values;

@@ -48,7 +48,7 @@ fn pushed<'a>(rt: &impl Abort, stream: &'a mut Stream, record_: &'a Record) -> O
 }
 
 /// Pushes a definition of these fields, which is no message.
-fn push_definition(
+pub(crate) fn push_definition(
     rt: &impl Abort,
     alloc: Global,
     stream: &mut Stream,
@@ -122,7 +122,7 @@ fn times_of_messages(rt: HostRuntime) {
 }
 
 /// Asserts the accumulated distance, in units of four decimals, and the speed of a message with this compressed speed and distance.
-fn push_distance(
+pub(crate) fn push_distance(
     rt: &impl Abort,
     alloc: Global,
     stream: &mut Stream,
@@ -230,7 +230,7 @@ fn accumulated_cycles_and_power(rt: HostRuntime) {
 }
 
 /// Pushes a definition of field descriptions with a name of three bytes.
-fn push_descriptions(rt: &impl Abort, alloc: Global, stream: &mut Stream) {
+pub(crate) fn push_descriptions(rt: &impl Abort, alloc: Global, stream: &mut Stream) {
     let fields = [
         FieldDef::one(DEVELOPER_DATA_INDEX, UINT8),
         FieldDef::one(FIELD_DEFINITION_NUMBER, UINT8),
@@ -256,7 +256,7 @@ fn define_dev(alloc: Global) -> Result<Record, AllocError> {
 }
 
 /// Pushes it.
-fn push_dev_definition(rt: &impl Abort, alloc: Global, stream: &mut Stream) {
+pub(crate) fn push_dev_definition(rt: &impl Abort, alloc: Global, stream: &mut Stream) {
     let definition = define_dev(alloc).expect(rt, "memory");
     assert!(rt; pushed(rt, stream, &definition).is_none());
 }

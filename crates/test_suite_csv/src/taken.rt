@@ -1,0 +1,74 @@
+//! Data messages that a stream takes in by their bytes.
+ghost use Rattle.std.specs.Prelude.{IsTrue};
+ghost use Rattle.std.specs.Global.{Global};
+ghost use Rattle.fit_record.specs.Records.{IsRecord};
+ghost use Rattle.fit_record.specs.declared.message.Record.TheVariants.{Values as Data};
+ghost use Rattle.fit_record.specs.declared.message.Values.{Values};
+
+use crate::streams::{push_definition, push_descriptions, push_dev_definition, push_distance};
+use fit_base::Order;
+use fit_base::base_type::{BYTE, UINT32};
+use fit_profile::Stream;
+use fit_record::{Env, FieldDef};
+use std::process::Abort;
+use test_known::protocol::{COMPRESSED_SPEED_DISTANCE, RECORD, TIMESTAMP};
+
+/// Whether the bytes are a data message.
+fn is_message(env: &Env, bytes: &[u8]) -> bool
+    ensures { IsTrue result → (v : Values Global) × IsRecord env.now (Data v) bytes.now }
+{
+    match env.message_bytes(bytes) {
+        Some(message) => 1 + message.body.len() == bytes.len(),
+        None => false,
+    }
+}
+
+/// Takes in the data message that the bytes are, and asserts its time.
+fn take(rt: &impl Abort, stream: &mut Stream, bytes: &[u8], time: Option<u32>) {
+    if is_message(stream.env(), bytes) {
+        assert_eq!(rt; stream.message_time(bytes), time);
+        stream.take_message(bytes).expect(rt, "memory");
+        return;
+    }
+    assert!(rt; false);
+}
+
+#[test]
+fn messages_with_a_time(rt: HostRuntime) {
+    let alloc = rt.alloc();
+    let fields = [FieldDef::one(TIMESTAMP, UINT32)];
+    let mut stream = Stream::new(alloc);
+    push_definition(&rt, alloc, &mut stream, 1, Order::Big, RECORD, &fields);
+    push_definition(&rt, alloc, &mut stream, 2, Order::Big, RECORD, &[]);
+    take(&rt, &mut stream, &[0xC2], None);
+    take(
+        &rt,
+        &mut stream,
+        &[0x01, 0x3B, 0x9A, 0xCA, 0x1F],
+        Some(1_000_000_031),
+    );
+    assert_eq!(rt; stream.header_time(2), Some(1_000_000_034));
+    take(&rt, &mut stream, &[0xC2], Some(1_000_000_034));
+    assert_eq!(rt; stream.header_time(1), Some(1_000_000_065));
+}
+
+#[test]
+fn messages_that_count(rt: HostRuntime) {
+    let alloc = rt.alloc();
+    let fields = [FieldDef::new(COMPRESSED_SPEED_DISTANCE, 3, BYTE)];
+    let mut stream = Stream::new(alloc);
+    push_definition(&rt, alloc, &mut stream, 0, Order::Little, RECORD, &fields);
+    take(&rt, &mut stream, &[0x00, 0x64, 0, 0x10], None);
+    // The counter has wrapped.
+    push_distance(&rt, alloc, &mut stream, &[0x64, 0, 0], Some(2_560_000));
+}
+
+#[test]
+fn a_description(rt: HostRuntime) {
+    let alloc = rt.alloc();
+    let mut stream = Stream::new(alloc);
+    push_descriptions(&rt, alloc, &mut stream);
+    take(&rt, &mut stream, &[0x00, 0, 5, 132, 0x6D, 0x6F, 0], None);
+    push_dev_definition(&rt, alloc, &mut stream);
+    assert_eq!(rt; stream.dev_name(1, 0), Some("mo"));
+}
