@@ -36,3 +36,9 @@ more_digits text whole d k n x h is e =
 
 pub all_digits : (text whole : List ℕ) (d k n : ℕ) → d ≤ k → text ++ hex_digits (d - k) n ≡ whole → text ≡ whole
 all_digits text whole d k n h e = sym (append-nil text) ∙ ap (λ ds. text ++ ds) (sym (no_digits d k n h)) ∙ e
+
+pub eight_digits : (n : ℕ) → hex_digits 8 n
+    ≡ hex_digit (n / 16 ^ 7 % 16) ∷ hex_digit (n / 16 ^ 6 % 16) ∷ hex_digit (n / 16 ^ 5 % 16) ∷ hex_digit (n / 16 ^ 4 % 16)
+    ∷ hex_digit (n / 16 ^ 3 % 16) ∷ hex_digit (n / 16 ^ 2 % 16) ∷ hex_digit (n / 16 ^ 1 % 16) ∷ hex_digit (n / 16 ^ 0 % 16) ∷ []
+unfolding hex_digits
+eight_digits n = refl

@@ -1,11 +1,12 @@
 pub mod Common
 mod KnownCells
 pub mod AddedRows
-mod HexFacts
+pub mod HexFacts
 pub mod ReadFacts
 pub mod NumberFacts
 mod StringFacts
-mod ClassFacts
+pub mod BareTexts
+pub mod ClassFacts
 pub mod TextFacts
 mod SplitFacts
 pub mod ItemFacts

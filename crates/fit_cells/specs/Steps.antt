@@ -1,5 +1,5 @@
 -- How cells are put together and taken apart: what `read_bytes` reads; and what stands between items, which only private contracts name.
-use Rattle.std.specs.Prelude.{ℕ, zero, suc, ◌+◌, ◌-◌, ◌*◌, ◌%◌, ◌==◌, nat_lt, if◌then◌else◌, Bool, List, [], ◌∷◌, take, drop}
+use Rattle.std.specs.Prelude.{ℕ, zero, suc, ◌+◌, ◌-◌, ◌*◌, ◌%◌, ◌==◌, nat_lt, ◌&&◌, ◌||◌, if◌then◌else◌, Bool, List, [], ◌∷◌, take, drop}
 
 -- what stands before the item at a place
 abbrev pub bar : ℕ → List ℕ
@@ -22,3 +22,7 @@ read_hex n (b ∷ rest) = read_hex (n * 16 + hex_value b) rest
 unfoldable pub read_pairs : ℕ → List ℕ → List ℕ
 read_pairs zero text = []
 read_pairs (suc count) text = read_hex 0 (take 2 text) ∷ read_pairs count (drop 2 text)
+
+-- a blank, or an ASCII character that comes behind the comma
+abbrev pub is_bare : ℕ → Bool
+is_bare b = b == 32 || (nat_lt 44 b && nat_lt b 128)

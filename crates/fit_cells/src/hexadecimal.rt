@@ -16,12 +16,33 @@ fn digit_at(number: u64, place: u8) -> u8
     if digit < 10 { 48 + digit } else { 55 + digit }
 }
 
+/// Puts the last eight digits of a number behind a text.
+#[tactic(auto, using(crate::proofs::HexFacts::eight_digits))]
+fn put_eight_digits(text: &mut Vec<u8>, number: u64) -> Result<(), AllocError>
+    ensures ok { OnOk result (text.new.items ≡ text.old.items ++ hex_digits 8 number) }
+    ensures err { OnErr result (text.new.items ≡ text.old.items) }
+{
+    text.extend_from_slice(&[
+        digit_at(number, 7),
+        digit_at(number, 6),
+        digit_at(number, 5),
+        digit_at(number, 4),
+        digit_at(number, 3),
+        digit_at(number, 2),
+        digit_at(number, 1),
+        digit_at(number, 0),
+    ])
+}
+
 /// Puts the last digits of a number after a text. Out of memory, the old text is still its beginning.
 pub fn put_digits(text: &mut Vec<u8>, digits: u8, number: u64) -> Result<(), AllocError>
     requires { digits ≤ 16 }
     ensures ok { OnOk result (text.new.items ≡ text.old.items ++ hex_digits digits number) }
     ensures kept { OnErr result (StillBegins text.old.items text.new.items) }
 {
+    if digits == 8 {
+        return put_eight_digits(text, number);
+    }
     for written in 0..digits {
         text.push(digit_at(number, digits - 1 - written))?;
     }

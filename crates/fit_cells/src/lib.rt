@@ -17,5 +17,5 @@ pub use form::{NumberForm, formed, formed_number, lone_number, number_form, put_
 pub use hexadecimal::{put_digits, read_bytes};
 pub use rows::{next_row, put_row, row_reader, row_text, row_writer, rows_text};
 pub use scan::{cell_items, cell_items_by};
-pub use strings::shown_text;
+pub use strings::{bare_text, shown_text};
 pub use writer::RowWriter;

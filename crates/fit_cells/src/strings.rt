@@ -1,9 +1,11 @@
 //! Strings, as they are in a cell.
-ghost use Rattle.std.specs.Prelude.{◌≡◌, List, ◌<◌, ◌++◌, ℕ, All, IfOk, IfSome, OnErr, OnOk, None, false, slice_index, length, not, ◌==◌};
+ghost use Rattle.std.specs.Prelude.{◌≡◌, List, ◌<◌, ◌≤◌, ◌++◌, ℕ, All, IfOk, IfSome, OnErr, OnOk, None, false, true, slice_index, take, length, not, ◌==◌};
 ghost use Rattle.std.specs.List.{list_all};
 ghost use Rattle.fit_profile.specs.Described.{before_closing_zeros};
 ghost use Rattle.fit_profile.specs.FixedText.{StillBegins};
+ghost use Rattle.csv.specs.Writing.{default_writer, needs_quotes};
 ghost use Rattle.fit_cells.specs.Cells.{begins_as_bytes, is_plain, string_text};
+ghost use Rattle.fit_cells.specs.Steps.{is_bare};
 
 use crate::hexadecimal::{put_bytes, read_bytes};
 use fit_base::Bits;
@@ -59,6 +61,48 @@ pub fn shown_text(bytes: &[u8]) -> Option<&[u8]>
 {
     let text = before_zeros(bytes);
     if is_plain(text) { Some(text) } else { None }
+}
+
+/// Whether a byte stands as it is in any cell: a blank, or an ASCII character that comes behind the comma.
+#[inline(always)]
+fn is_bare(byte: u8) -> bool
+    ensures { result ≡ is_bare byte }
+{
+    byte == b' ' || (byte > b',' && byte < 0x80)
+}
+
+/// How many bytes stand as they are in any cell, up to the first that may not.
+#[tactic(auto, using(crate::proofs::BareTexts::bare_more))]
+fn bare_len(bytes: &[u8]) -> usize
+    ensures within { result ≤ length bytes.now }
+    ensures bare { list_all is_bare (take result bytes.now) ≡ true }
+{
+    for (place, byte) in bytes.iter().enumerate() {
+        if !is_bare(*byte) {
+            return place;
+        }
+    }
+    bytes.len()
+}
+
+/// Whether bytes are zeros.
+fn are_zeros(bytes: &[u8]) -> bool
+    ensures { result ≡ list_all (λ b. b == 0) bytes.now }
+{
+    bytes.iter().all(|b| *b == 0)
+}
+
+/// The text of a string by the bytes of its field, where it is seen at once that it stands as it is in its cell and needs no quotes.
+pub fn bare_text(bytes: &[u8]) -> Option<&[u8]>
+    ensures text { IfSome result (λ text. text.now ≡ string_text bytes.now) }
+    ensures bare { IfSome result (λ text. needs_quotes default_writer text.now ≡ false) }
+{
+    let (text, rest) = bytes.split_at(bare_len(bytes));
+    if are_zeros(rest) && !begins_as_bytes(text) {
+        Some(text)
+    } else {
+        None
+    }
 }
 
 /// Puts bytes behind a text, as they are.

@@ -12,7 +12,7 @@ mod NamingFacts
 mod DevFields
 mod FieldWalks
 mod ItemFacts
-mod TextCells
+pub mod TextCells
 mod DevWalks
 mod InstantFacts
 mod PlainInstants
@@ -50,6 +50,8 @@ mod SevenRows
 mod FromChain
 mod Unwritten
 pub mod FramedRows
+pub mod Stamps
+pub mod FloatCells
 mod BeginFacts
 mod TextRows
 pub mod TableColumnFacts

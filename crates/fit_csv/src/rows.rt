@@ -7,4 +7,5 @@ pub(crate) mod frames;
 pub(crate) mod maker;
 pub(crate) mod message;
 pub(crate) mod report;
+pub(crate) mod stamp;
 pub(crate) mod template;

@@ -15,9 +15,16 @@ fn digit(n: u64) -> u8
     b'0' + n as u8
 }
 
+/// Whether a text has room for that many bytes more.
+#[inline(always)]
+fn has_room(text: &Vec<u8>, bytes: usize) -> bool {
+    text.capacity() - text.len() >= bytes
+}
+
 /// Puts a number of at most four digits behind a text.
+#[inline(always)]
 #[tactic(auto, using(crate::proofs::PutFacts::one_digit, crate::proofs::PutFacts::two_digits, crate::proofs::PutFacts::three_digits, crate::proofs::PutFacts::four_digits))]
-fn put_few(text: &mut Vec<u8>, n: u64) -> Result<(), AllocError>
+fn put_few_here(text: &mut Vec<u8>, n: u64) -> Result<(), AllocError>
     requires { n < 10_000 }
     ensures ok { OnOk result (text.new.items ≡ text.old.items ++ decimal n) }
     ensures err { OnErr result (text.new.items ≡ text.old.items) }
@@ -35,9 +42,35 @@ fn put_few(text: &mut Vec<u8>, n: u64) -> Result<(), AllocError>
     }
 }
 
+/// The same where the text has no room.
+#[cold]
+#[inline(never)]
+fn grow_few(text: &mut Vec<u8>, n: u64) -> Result<(), AllocError>
+    requires { n < 10_000 }
+    ensures ok { OnOk result (text.new.items ≡ text.old.items ++ decimal n) }
+    ensures err { OnErr result (text.new.items ≡ text.old.items) }
+{
+    put_few_here(text, n)
+}
+
+/// The same wherever the text has room.
+#[inline(never)]
+fn put_few(text: &mut Vec<u8>, n: u64) -> Result<(), AllocError>
+    requires { n < 10_000 }
+    ensures ok { OnOk result (text.new.items ≡ text.old.items ++ decimal n) }
+    ensures err { OnErr result (text.new.items ≡ text.old.items) }
+{
+    if has_room(text, 4) {
+        put_few_here(text, n)
+    } else {
+        grow_few(text, n)
+    }
+}
+
 /// Puts the last four digits of a number behind a text.
+#[inline(always)]
 #[tactic(auto, using(crate::proofs::PutFacts::last_four))]
-fn put_four(text: &mut Vec<u8>, n: u64) -> Result<(), AllocError>
+fn put_four_here(text: &mut Vec<u8>, n: u64) -> Result<(), AllocError>
     ensures ok { OnOk result (text.new.items ≡ text.old.items ++ last_digits 4 n) }
     ensures err { OnErr result (text.new.items ≡ text.old.items) }
 {
@@ -46,9 +79,33 @@ fn put_four(text: &mut Vec<u8>, n: u64) -> Result<(), AllocError>
     text.extend_from_slice(&[tens(high), ones(high), tens(low), ones(low)])
 }
 
+/// The same where the text has no room.
+#[cold]
+#[inline(never)]
+fn grow_four(text: &mut Vec<u8>, n: u64) -> Result<(), AllocError>
+    ensures ok { OnOk result (text.new.items ≡ text.old.items ++ last_digits 4 n) }
+    ensures err { OnErr result (text.new.items ≡ text.old.items) }
+{
+    put_four_here(text, n)
+}
+
+/// The same wherever the text has room.
+#[inline(always)]
+fn put_four(text: &mut Vec<u8>, n: u64) -> Result<(), AllocError>
+    ensures ok { OnOk result (text.new.items ≡ text.old.items ++ last_digits 4 n) }
+    ensures err { OnErr result (text.new.items ≡ text.old.items) }
+{
+    if has_room(text, 4) {
+        put_four_here(text, n)
+    } else {
+        grow_four(text, n)
+    }
+}
+
 /// Puts the last eight digits of a number behind a text.
+#[inline(always)]
 #[tactic(auto, using(crate::proofs::PutFacts::last_eight))]
-fn put_eight(text: &mut Vec<u8>, n: u64) -> Result<(), AllocError>
+fn put_eight_here(text: &mut Vec<u8>, n: u64) -> Result<(), AllocError>
     ensures ok { OnOk result (text.new.items ≡ text.old.items ++ last_digits 8 n) }
     ensures err { OnErr result (text.new.items ≡ text.old.items) }
 {
@@ -68,6 +125,29 @@ fn put_eight(text: &mut Vec<u8>, n: u64) -> Result<(), AllocError>
     ])
 }
 
+/// The same where the text has no room.
+#[cold]
+#[inline(never)]
+fn grow_eight(text: &mut Vec<u8>, n: u64) -> Result<(), AllocError>
+    ensures ok { OnOk result (text.new.items ≡ text.old.items ++ last_digits 8 n) }
+    ensures err { OnErr result (text.new.items ≡ text.old.items) }
+{
+    put_eight_here(text, n)
+}
+
+/// The same wherever the text has room.
+#[inline(always)]
+fn put_eight(text: &mut Vec<u8>, n: u64) -> Result<(), AllocError>
+    ensures ok { OnOk result (text.new.items ≡ text.old.items ++ last_digits 8 n) }
+    ensures err { OnErr result (text.new.items ≡ text.old.items) }
+{
+    if has_room(text, 8) {
+        put_eight_here(text, n)
+    } else {
+        grow_eight(text, n)
+    }
+}
+
 /// Puts a number of more than twelve digits behind a text.
 #[inline(never)]
 fn put_long(text: &mut Vec<u8>, n: u64) -> Result<(), AllocError>
@@ -78,22 +158,47 @@ fn put_long(text: &mut Vec<u8>, n: u64) -> Result<(), AllocError>
 }
 
 /// Puts a number of more than four digits behind a text.
-#[inline(never)]
+#[inline(always)]
 #[tactic(auto, using(crate::proofs::PutFacts::before_four, crate::proofs::PutFacts::before_eight, crate::proofs::KeptTexts::none_put, crate::proofs::KeptTexts::part_put))]
-fn put_many(text: &mut Vec<u8>, n: u64) -> Result<(), AllocError>
+fn put_many_here(text: &mut Vec<u8>, n: u64) -> Result<(), AllocError>
     requires { 10_000 ≤ n }
     ensures ok { OnOk result (text.new.items ≡ text.old.items ++ decimal n) }
     ensures kept { OnErr result (StillBegins text.old.items text.new.items) }
 {
     if n < 100_000_000 {
-        put_few(text, n / 10_000)?;
+        put_few_here(text, n / 10_000)?;
         return put_four(text, n);
     }
     if n < 1_000_000_000_000 {
-        put_few(text, n / 100_000_000)?;
+        put_few_here(text, n / 100_000_000)?;
         return put_eight(text, n);
     }
     put_long(text, n)
+}
+
+/// The same where the text has no room.
+#[cold]
+#[inline(never)]
+fn grow_many(text: &mut Vec<u8>, n: u64) -> Result<(), AllocError>
+    requires { 10_000 ≤ n }
+    ensures ok { OnOk result (text.new.items ≡ text.old.items ++ decimal n) }
+    ensures kept { OnErr result (StillBegins text.old.items text.new.items) }
+{
+    put_many_here(text, n)
+}
+
+/// The same wherever the text has room.
+#[inline(never)]
+fn put_many(text: &mut Vec<u8>, n: u64) -> Result<(), AllocError>
+    requires { 10_000 ≤ n }
+    ensures ok { OnOk result (text.new.items ≡ text.old.items ++ decimal n) }
+    ensures kept { OnErr result (StillBegins text.old.items text.new.items) }
+{
+    if has_room(text, 4) {
+        put_many_here(text, n)
+    } else {
+        grow_many(text, n)
+    }
 }
 
 /// Puts a number after a text. Out of memory, the old text is still its beginning.

@@ -141,6 +141,19 @@ impl Stream {
         self.texts_at(local, place)?.unit()
     }
 
+    /// The name and the unit of a developer field, as `dev_name` and `dev_unit` give them, by one look.
+    pub fn dev_texts(&self, local: u8, place: u8) -> (Option<&str>, Option<&str>)
+        ensures name { option_map (λ s. s.now) result.0
+            ≡ option_and_then (λ t. t.name) (slice_get (namings_at self.now local) place) }
+        ensures unit { option_map (λ s. s.now) result.1
+            ≡ option_and_then (λ t. t.unit) (slice_get (namings_at self.now local) place) }
+    {
+        match self.texts_at(local, place) {
+            Some(texts) => (texts.name(), texts.unit()),
+            None => (None, None),
+        }
+    }
+
     /// Takes a record in, after which the times and accumulated values are these.
     fn advance(&mut self, record_: &Record, last: Last) -> Result<(), AllocError>
         requires fits { Fits (known self.old) record_.now }

@@ -1,5 +1,5 @@
 //! The rows of the developer fields of data messages.
-ghost use Rattle.std.specs.Prelude.{◌≡◌, ◌<◌, ◌++◌, ◌∷◌, [], List, None, IfOk, IsTrue, OnOk, codes, decimal, length, map, option_and_then, slice_get, unwrap_or, zip};
+ghost use Rattle.std.specs.Prelude.{◌≡◌, ◌<◌, ◌++◌, ◌∷◌, [], List, None, IfOk, IsTrue, OnOk, codes, decimal, length, map, option_and_then, option_map, slice_get, unwrap_or, zip};
 ghost use Rattle.std.specs.Global.{Global};
 ghost use Rattle.fit_base.specs.declared.items.Items.{Items};
 ghost use Rattle.fit_profile.specs.Described.{namings_at};
@@ -12,7 +12,8 @@ use crate::items::FieldItems;
 use crate::kept::keep_at;
 use crate::rows::frames::{Frame, put_tail};
 use crate::rows::maker::RowMaker;
-use crate::words::{dev_unit, numbered_label};
+use crate::rows::stamp::Stamp;
+use crate::words::numbered_label;
 use fit_cells::RowWriter;
 use fit_profile::Stream;
 use fit_record::DevDef;
@@ -27,7 +28,7 @@ pub(crate) struct DevFrame {
     code: u8,
     size: u8,
     frame: Frame,
-    tail: Vec<u8>,
+    tail: Stamp,
 }
 
 impl Model for DevFrame {
@@ -40,7 +41,7 @@ impl Model for DevFrame {
 
     ghost invariant = { λ f.
         (f.frame ≡ frame_text [] (dev_key f.name.items f.unit.items f.code f.size))
-        × (f.tail.items ≡ tail_text (dev_key f.name.items f.unit.items f.code f.size)) };
+        × (f.tail ≡ tail_text (dev_key f.name.items f.unit.items f.code f.size)) };
 }
 
 impl DevFrame {
@@ -77,7 +78,7 @@ impl DevFrame {
             code,
             size,
             frame,
-            tail,
+            tail: Stamp::new(tail)?,
         })
     }
 
@@ -105,9 +106,31 @@ impl DevFrame {
             (λ i. HasRows (value_row self.now i ∷ []) text.old text.new)) }
     {
         items.put_next(text, writer, value, &self.frame)?;
-        text.extend_from_slice(self.tail.as_slice())?;
+        self.tail.put(text)?;
         Ok(())
     }
+}
+
+/// Puts the row of a developer field, and keeps what stands around its value.
+#[inline(never)]
+fn put_new_field<S: FieldItems>(
+    text: &mut Vec<u8>,
+    maker: &mut RowMaker,
+    place: usize,
+    size: u8,
+    code: u8,
+    items: &mut S,
+    name: &str,
+    unit: &str,
+) -> Result<(), AllocError>
+    requires { HasFields S.has_items items.old ((code, size) ∷ []) }
+    ensures { OnOk result (TakesField S.has_items items.old items.new (code, size) (λ i. HasRows
+        (value_row (dev_key name.now unit.now code size) i ∷ []) text.old text.new)) }
+{
+    let frame = DevFrame::new(maker.alloc, &mut maker.writer, name, unit, code, size)?;
+    frame.put(text, &mut maker.writer, &mut maker.value, items)?;
+    keep_at(&mut maker.dev_frames, place, frame)?;
+    Ok(())
 }
 
 /// Puts the row of a developer field by its place, its described code, its name and its unit.
@@ -130,10 +153,17 @@ fn put_dev_field<S: FieldItems>(
             return frame.put(text, &mut maker.writer, &mut maker.value, items);
         }
     }
-    let frame = DevFrame::new(maker.alloc, &mut maker.writer, name, unit, code, size)?;
-    frame.put(text, &mut maker.writer, &mut maker.value, items)?;
-    keep_at(&mut maker.dev_frames, place, frame)?;
-    Ok(())
+    put_new_field(text, maker, place, size, code, items, name, unit)
+}
+
+/// A text, or an empty one where there is none.
+fn or_empty(text: Option<&str>) -> &str
+    ensures { result.now ≡ unwrap_or (option_map (λ s. s.now) text.entry) [] }
+{
+    match text {
+        Some(text) => text,
+        None => "",
+    }
 }
 
 /// Puts the row of a developer field of the next message of a local message type by its described code, with the name and the unit
@@ -158,8 +188,9 @@ fn put_named<S: FieldItems>(
         []) [] [] [] ∷ []) text.old text.new)) }
 {
     let kept = place as usize * 16 + local as usize;
-    let unit = dev_unit(stream, local, place);
-    match stream.dev_name(local, place) {
+    let (name, unit) = stream.dev_texts(local, place);
+    let unit = or_empty(unit);
+    match name {
         Some(name) => put_dev_field(text, maker, kept, field.size, code, items, name, unit),
         None => {
             let label = numbered_label(field);

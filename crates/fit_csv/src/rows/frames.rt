@@ -1,8 +1,10 @@
 //! What stands around values in their rows, found out once for many messages.
-ghost use Rattle.std.specs.Prelude.{◌≡◌, ◌++◌, [], IfOk, IfSome, OnOk, codes, length, option_map};
+ghost use Rattle.std.specs.Prelude.{◌≡◌, ◌++◌, [], IfOk, IfSome, IsTrue, OnOk, codes, length, option_map};
 ghost use Rattle.std.specs.Global.{Global};
 ghost use Rattle.csv.specs.Writing.{default_writer, field_text};
+ghost use Rattle.fit_base.specs.BaseTypes.{base_type};
 ghost use Rattle.fit_base.specs.Fields.{HasShape};
+ghost use Rattle.fit_base.specs.declared.code.Class.TheVariants.{Float};
 ghost use Rattle.fit_record.specs.ReadMessages.{field_from};
 ghost use Rattle.fit_profile.specs.Names.{meaning};
 ghost use Rattle.fit_profile.specs.Scaled.{IsScale};
@@ -12,10 +14,11 @@ ghost use Rattle.fit_csv.specs.inner.Frames.{two_cells};
 
 pub(crate) mod likely;
 
-use fit_base::{Code, Items, Order, bits_at};
+use crate::rows::stamp::Stamp;
+use fit_base::{Class, Code, Items, Order, bits_at};
 use fit_cells::{
-    NumberForm, RowWriter, formed, is_never_quoted, needs_quotes, number_form, put_cell,
-    put_formed, shown_text,
+    NumberForm, RowWriter, bare_text, formed, is_never_quoted, needs_quotes, number_form, put_cell,
+    put_digits, put_formed, shown_text,
 };
 use fit_profile::Info;
 use fit_record::read_items;
@@ -81,18 +84,42 @@ fn put_any_cell(text: &mut Vec<u8>, writer: &mut RowWriter, cell: &[u8]) -> Resu
     Ok(())
 }
 
+/// Puts a cell behind a text, in quotes where it needs them.
+#[tactic(auto, using(crate::proofs::TextCells::unquoted))]
+fn put_text(text: &mut Vec<u8>, writer: &mut RowWriter, cell: &[u8]) -> Result<(), AllocError>
+    ensures { OnOk result (text.new.items
+        ≡ text.old.items ++ field_text default_writer cell.now) }
+{
+    if needs_quotes(cell) {
+        return put_any_cell(text, writer, cell);
+    }
+    text.extend_from_slice(cell)
+}
+
+/// Whether a field of this base type and size is one floating point number.
+fn is_lone_float(code: Code, size: u8) -> bool
+    ensures class { IsTrue result → (base_type code.0).class ≡ Float }
+    ensures width { IsTrue result → (base_type code.0).width ≡ size }
+{
+    code.class() == Class::Float && code.width() == size
+}
+
 /// What stands between the value before and one's own, and how one's own is read.
 #[derive(Drop)]
 pub(crate) struct Frame {
-    between: Vec<u8>,
+    between: Stamp,
     code: u8,
     size: u8,
     info: Option<Info>,
     form: Option<NumberForm>,
+    /// Whether the value is one floating point number.
+    is_float: bool,
 }
 
 impl Model for Frame {
-    ghost use Rattle.std.specs.Prelude.{IfSome, option_map};
+    ghost use Rattle.std.specs.Prelude.{◌≡◌, IfSome, IsTrue, option_map};
+    ghost use Rattle.fit_base.specs.BaseTypes.{base_type};
+    ghost use Rattle.fit_base.specs.declared.code.Class.TheVariants.{Float};
     ghost use Rattle.fit_profile.specs.Names.{meaning};
     ghost use Rattle.fit_profile.specs.Scaled.{IsScale};
     ghost use Rattle.fit_cells.specs.Forms.{IsFormOf, IsSmallForm};
@@ -101,14 +128,16 @@ impl Model for Frame {
     ghost Value = { FrameText };
 
     ghost view = { λ f. record {
-      between = f.between.items;
+      between = f.between;
       code = f.code;
       size = f.size;
       info = option_map meaning f.info;
     } };
 
     ghost invariant = { λ f. IfSome f.info (λ i. IsScale i.scale) × IfSome f.form IsSmallForm
-        × IfSome f.form (IsFormOf f.code (option_map meaning f.info)) };
+        × IfSome f.form (IsFormOf f.code (option_map meaning f.info))
+        × (IsTrue f.is_float → (base_type f.code).class ≡ Float)
+        × (IsTrue f.is_float → (base_type f.code).width ≡ f.size) };
 }
 
 impl Frame {
@@ -136,11 +165,12 @@ impl Frame {
         between.extend_from_slice(before)?;
         put_two(&mut between, writer, kind, name)?;
         Ok(Frame {
-            between,
+            between: Stamp::new(between)?,
             code,
             size,
             info,
             form: number_form(Code(code), info),
+            is_float: is_lone_float(Code(code), size),
         })
     }
 
@@ -187,7 +217,7 @@ impl Frame {
         ensures { OnOk result (text.new.items ≡ (text.old.items ++ self.now.between)
             ++ field_text default_writer (cell self.now.code self.now.info items.now)) }
     {
-        text.extend_from_slice(self.between.as_slice())?;
+        self.between.put(text)?;
         if let Some((form, bits)) = formed(self.form, items) {
             put_formed(text, form, bits)?;
             return Ok(());
@@ -208,9 +238,24 @@ impl Frame {
         }
     }
 
-    /// The text of a string by the bytes of the field, where it stands in its row as it is.
+    /// The text of a string by the bytes of the field, where its cell shows it as text.
     #[inline(always)]
-    fn bare_text<'a>(&self, bytes: &'a [u8]) -> Option<&'a [u8]>
+    fn own_text<'a>(&self, bytes: &'a [u8]) -> Option<&'a [u8]>
+        requires { length bytes.now ≡ self.now.size }
+        ensures { IfSome result (λ shown. (order : Order) → shown.now
+            ≡ cell self.now.code self.now.info
+            (field_from {A = Global} order (self.now.code, self.now.size) bytes.now)) }
+    {
+        if is_never_quoted(Code(self.code)) {
+            return None;
+        }
+        let text = shown_text(bytes)?;
+        Some(text)
+    }
+
+    /// The same where it is seen at once that it needs no quotes in its row.
+    #[inline(always)]
+    fn plain_text<'a>(&self, bytes: &'a [u8]) -> Option<&'a [u8]>
         requires { length bytes.now ≡ self.now.size }
         ensures { IfSome result (λ shown. (order : Order) → shown.now ≡ field_text default_writer
             (cell self.now.code self.now.info
@@ -219,11 +264,52 @@ impl Frame {
         if is_never_quoted(Code(self.code)) {
             return None;
         }
-        let text = shown_text(bytes)?;
-        if needs_quotes(text) { None } else { Some(text) }
+        let text = bare_text(bytes)?;
+        Some(text)
     }
 
-    /// The same by the bytes of the field.
+    /// Puts one floating point number behind a text, by the bytes of its field.
+    #[inline(never)]
+    fn put_float(&self, text: &mut Vec<u8>, order: Order, bytes: &[u8]) -> Result<(), AllocError>
+        requires class { (base_type self.now.code).class ≡ Float }
+        requires width { (base_type self.now.code).width ≡ self.now.size }
+        requires length { length bytes.now ≡ self.now.size }
+        ensures { OnOk result (text.new.items ≡ text.old.items
+            ++ field_text default_writer (cell self.now.code self.now.info
+            (field_from {A = Global} order (self.now.code, self.now.size) bytes.now))) }
+    {
+        text.extend_from_slice(b"0x")?;
+        put_digits(text, 2 * self.size, bits_at(order, self.size, bytes))?;
+        Ok(())
+    }
+
+    /// Puts a value that is no lone number behind a text, by the bytes of its field.
+    #[inline(never)]
+    fn put_rest(
+        &self,
+        text: &mut Vec<u8>,
+        writer: &mut RowWriter,
+        value: &mut Vec<u8>,
+        alloc: Global,
+        order: Order,
+        bytes: &[u8],
+    ) -> Result<(), AllocError>
+        requires { length bytes.now ≡ self.now.size }
+        ensures { OnOk result (text.new.items ≡ text.old.items
+            ++ field_text default_writer (cell self.now.code self.now.info
+            (field_from {A = Global} order (self.now.code, self.now.size) bytes.now))) }
+    {
+        if let Some(shown) = self.plain_text(bytes) {
+            return text.extend_from_slice(shown);
+        }
+        if let Some(shown) = self.own_text(bytes) {
+            return put_text(text, writer, shown);
+        }
+        let items = read_items(alloc, order, self.code, self.size, bytes)?;
+        self.put_other(text, writer, value, &items)
+    }
+
+    /// The same as `put`, by the bytes of the field.
     #[inline(always)]
     pub(crate) fn put_bytes(
         &self,
@@ -239,15 +325,14 @@ impl Frame {
             ++ field_text default_writer (cell self.now.code self.now.info
             (field_from {A = Global} order (self.now.code, self.now.size) bytes.now))) }
     {
-        text.extend_from_slice(self.between.as_slice())?;
+        self.between.put(text)?;
         if let Some(form) = self.lone_form() {
             put_formed(text, form, bits_at(order, form.width, bytes))?;
             return Ok(());
         }
-        if let Some(shown) = self.bare_text(bytes) {
-            return text.extend_from_slice(shown);
+        if self.is_float {
+            return self.put_float(text, order, bytes);
         }
-        let items = read_items(alloc, order, self.code, self.size, bytes)?;
-        self.put_other(text, writer, value, &items)
+        self.put_rest(text, writer, value, alloc, order, bytes)
     }
 }

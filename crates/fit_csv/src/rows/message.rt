@@ -23,6 +23,35 @@ use fit_profile::Stream;
 use fit_record::{Defined, MessageDef, Record};
 use std::alloc::AllocError;
 
+/// Puts the row with which a data message begins, and those of its fields, by the time of its header, and keeps what stands around
+/// their values.
+#[inline(never)]
+fn put_new<S: FieldItems>(
+    text: &mut Vec<u8>,
+    maker: &mut RowMaker,
+    definition: &MessageDef,
+    local: u8,
+    offset: Option<u8>,
+    time: Option<u32>,
+    items: &mut S,
+) -> Result<(), AllocError>
+    requires { HasFields S.has_items items.old (map (λ f. (f.code, f.size))
+        definition.now.fields) }
+    ensures { OnOk result (TakesFields S.has_items items.old items.new
+        (map (λ f. (f.code, f.size)) definition.now.fields)
+        (λ all. HasRows (own_rows (record {
+          local = local;
+          global = definition.now.global;
+          fields = definition.now.fields;
+        }) offset time all) text.old text.new)) }
+{
+    let writer = &mut maker.writer;
+    let template = Template::new(maker.alloc, writer, local, definition)?;
+    template.put(text, writer, &mut maker.value, offset, time, items)?;
+    keep_at(&mut maker.templates, local as usize, template)?;
+    Ok(())
+}
+
 /// Puts the row with which a data message begins, and those of its fields, by the time of its header.
 fn put_own<S: FieldItems>(
     text: &mut Vec<u8>,
@@ -43,16 +72,13 @@ fn put_own<S: FieldItems>(
           fields = definition.now.fields;
         }) offset time all) text.old text.new)) }
 {
-    let writer = &mut maker.writer;
     if let Some(Some(template)) = maker.templates.as_slice().get(local as usize) {
         if template.is_of(local, definition) {
+            let writer = &mut maker.writer;
             return template.put(text, writer, &mut maker.value, offset, time, items);
         }
     }
-    let template = Template::new(maker.alloc, writer, local, definition)?;
-    template.put(text, writer, &mut maker.value, offset, time, items)?;
-    keep_at(&mut maker.templates, local as usize, template)?;
-    Ok(())
+    put_new(text, maker, definition, local, offset, time, items)
 }
 
 /// Puts the rows of a data message of this definition behind the records of a stream.

@@ -11,6 +11,7 @@ pub(crate) mod likely;
 use crate::items::FieldItems;
 use crate::kept::Kept;
 use crate::rows::frames::{Frame, put_tail, put_two};
+use crate::rows::stamp::Stamp;
 use crate::words::{time_text, unit_text};
 use fit_cells::RowWriter;
 use fit_profile::{field_info, field_label, message_label, put_whole};
@@ -112,7 +113,7 @@ fn put_frames<S: FieldItems>(
     writer: &mut RowWriter,
     value: &mut Vec<u8>,
     frames: &[Frame],
-    end: &[u8],
+    end: &Stamp,
     items: &mut S,
 ) -> Result<(), AllocError>
     requires { HasFields S.has_items items.old (map (λ f. (f.code, f.size)) frames.now) }
@@ -123,7 +124,7 @@ fn put_frames<S: FieldItems>(
     for frame in frames {
         items.put_next(text, writer, value, frame)?;
     }
-    text.extend_from_slice(end)?;
+    end.put(text)?;
     Ok(())
 }
 
@@ -142,14 +143,14 @@ fn put_optional(text: &mut Vec<u8>, number: Option<u8>) -> Result<(), AllocError
 pub(crate) struct Template {
     kept: Kept,
     /// The first row of a message without a time offset.
-    line: Vec<u8>,
+    line: Stamp,
     /// What stands before the time offset.
     front: Vec<u8>,
     /// What stands between the time offset and the time.
     label: Vec<u8>,
     frames: Vec<Frame>,
     /// The end of the last field's row.
-    end: Vec<u8>,
+    end: Stamp,
 }
 
 impl Model for Template {
@@ -163,12 +164,12 @@ impl Model for Template {
 
     ghost view = { λ t. t.kept };
 
-    ghost invariant = { λ t. (t.line.items ≡ csv_text (row (codes "data") (decimal t.kept.local) []
+    ghost invariant = { λ t. (t.line ≡ csv_text (row (codes "data") (decimal t.kept.local) []
         (message_label t.kept.global) [] [] [] ∷ []))
         × (t.front.items ≡ two_cells (codes "data") (decimal t.kept.local))
         × (t.label.items ≡ two_cells [] (message_label t.kept.global))
         × (t.frames.items ≡ frames_of [] (map (field_key t.kept.global) t.kept.fields))
-        × (t.end.items ≡ end_of [] (map (field_key t.kept.global) t.kept.fields)) };
+        × (t.end ≡ end_of [] (map (field_key t.kept.global) t.kept.fields)) };
 }
 
 impl Template {
@@ -198,11 +199,11 @@ impl Template {
         let frames = field_frames(alloc, writer, &mut end, global, fields)?;
         Ok(Template {
             kept,
-            line,
+            line: Stamp::new(line)?,
             front,
             label,
             frames,
-            end,
+            end: Stamp::new(end)?,
         })
     }
 
@@ -250,7 +251,7 @@ impl Template {
         if offset.is_some() || time.is_some() {
             return self.put_timed(text, offset, time);
         }
-        text.extend_from_slice(self.line.as_slice())?;
+        self.line.put(text)?;
         Ok(())
     }
 
@@ -271,6 +272,6 @@ impl Template {
     {
         self.put_first(text, offset, time)?;
         let frames = self.frames.as_slice();
-        put_frames(text, writer, value, frames, self.end.as_slice(), items)
+        put_frames(text, writer, value, frames, &self.end, items)
     }
 }

@@ -5,8 +5,3 @@ pub returns-then-is_of : goal.returns-then-is_of
 returns-then-is_of g c =
     subst (λ (k : FrameKey). OnOk c.put.result (TakesField g.S.FieldItems.has_items c.args.items.now c.put.new.items (k.code, k.size)
     (λ i. HasRows (value_row k i ∷ []) c.args.text.now c.put.new.text))) (c.is_of.ensures c.if-is_of.true) c.put.ensures
-
-pub returns : goal.returns
-returns g c =
-    subst (λ (k : FrameKey). TakesField g.S.FieldItems.has_items c.args.items.now c.put-2.new.items (k.code, k.size)
-    (λ i. HasRows (value_row k i ∷ []) c.args.text.now c.put-2.new.text)) c.in_ok-frame.ensures c.in_ok-put.ensures

@@ -6,8 +6,3 @@ pub returns-then-is_of : goal.returns-then-is_of
 returns-then-is_of g c =
     subst (λ (k : TemplateKey). OnOk c.put.result (TakesFields g.S.FieldItems.has_items c.args.items.now c.put.new.items (map field_slot k.fields)
     (λ all. HasRows (own_rows k c.args.offset c.args.time all) c.args.text.now c.put.new.text))) (c.is_of.ensures c.if-is_of.true) c.put.ensures
-
-pub returns : goal.returns
-returns g c =
-    subst (λ (k : TemplateKey). TakesFields g.S.FieldItems.has_items c.args.items.now c.put-2.new.items (map field_slot k.fields)
-    (λ all. HasRows (own_rows k c.args.offset c.args.time all) c.args.text.now c.put-2.new.text)) c.in_ok-template.ensures c.in_ok-put.ensures

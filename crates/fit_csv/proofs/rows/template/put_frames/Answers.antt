@@ -23,4 +23,4 @@ returns g c = λ more all h.
     let t = taken_all slot (λ fs is. values_text fs c.args.end.now is) g.S.FieldItems.has_items c.args.frames.now c.args.items.now c.args.text.now.items
     c.loop-frame.items c.loop-frame.text.items c.loop-frame.frame-index c.loop-frame.invariant c.args.end.now (λ is. refl) c.loop-frame-test.false
     more all h in
-    (t.0, t.1, c.in_ok-extend_from_slice.ensures.items ∙ t.2)
+    (t.0, t.1, c.in_ok-put.ensures ∙ t.2)

@@ -1,8 +1,8 @@
 use Rattle.std.proofs.Common.{◌⊎◌}
-use Rattle.fit_csv.proofs.Common.{◌≡◌, ◌∙◌, ◌++◌, ◌∷◌, [], sym, ap, ap₂, subst, FrameText, HasShape, Global, lone_cell}
+use Rattle.fit_csv.proofs.Common.{◌≡◌, ◌∙◌, ◌++◌, ◌∷◌, [], sym, ap, ap₂, subst, FrameText, Global, lone_cell}
 use Rattle.fit_base.proofs.ByteLists.{slice_is_bytes}
 use Rattle.fit_record.specs.ReadMessages.{field_from}
-use Rattle.fit_csv.proofs.ItemFacts.{field_shape, lone_below, lone_field}
+use Rattle.fit_csv.proofs.ItemFacts.{lone_below, lone_field}
 use Rattle.fit_csv.proofs.rows.frames.Frame.put_bytes.Goals as goal
 
 pub put_formed-requires-clause-bits : goal.put_formed-requires-clause-bits
@@ -15,17 +15,11 @@ returns-in-Some c =
     let kept : FrameText = c.args.self.now in
     let form = c.in-Some.form in
     let known = c.in-Some.ensures.form in
-    let between = c.as_slice.ensures.value ∙ ap (λ (f : FrameText). f.between) c.self.view_is in
+    let between = ap (λ (f : FrameText). f.between) c.self.view_is in
     let lone = lone_field Global c.args.order kept.code kept.size c.args.bytes.now
     (subst (λ w. (w ≡ 1) ⊎ (w ≡ 2) ⊎ (w ≡ 4)) c.in-Some.ensures.width c.in-Some.ensures.small.width) (sym c.in-Some.ensures.width ∙ known.width) c.requires in
     let items = field_from {A = Global} c.args.order (kept.code, kept.size) c.args.bytes.now in
     c.in_ok-put_formed.ensures.ok kept.code kept.info known
-    ∙ ap₂ (λ a b. a ++ b) (c.in_ok-extend_from_slice.ensures.items ∙ ap (λ t. c.args.text.now.items ++ t) between)
+    ∙ ap₂ (λ a b. a ++ b) (c.in_ok-put.ensures ∙ ap (λ t. c.args.text.now.items ++ t) between)
     (sym (lone_cell form kept.code kept.info items c.bits_at.result known (lone.0 ∙ sym c.in-Some.ensures.width)
     (lone.1 ∙ ap (λ n. n ∷ []) (sym c.bits_at.ensures))))
-
-pub put_other-requires : goal.put_other-requires
-put_other-requires c =
-    subst (λ i. HasShape c.args.self.now.code c.args.self.now.size i)
-    (sym (c.in_ok-items.ensures ∙ ap (λ (f : FrameText). field_from c.args.order (f.code, f.size) c.args.bytes.now) c.self.view_is))
-    (field_shape Global c.args.order c.args.self.now.code c.args.self.now.size c.args.bytes.now (slice_is_bytes c.args.bytes.now c.type_inv.bytes) c.requires)

@@ -19,7 +19,7 @@ returns g c = on_ok_weaker c.put_frames.result (λ takes more all h.
     let keys = map (field_key key.global) key.fields in
     let frames = c.as_slice-frames.ensures.value ∙ c.self.invariant.3
     ∙ ap (λ (k : TemplateKey). frames_of [] (map (field_key k.global) k.fields)) c.self.view_is in
-    let end = c.as_slice.ensures.value ∙ c.self.invariant.4
+    let end = c.self.invariant.4
     ∙ ap (λ (k : TemplateKey). end_of [] (map (field_key k.global) k.fields)) c.self.view_is in
     let same = ap (map slot) frames ∙ frames_shape [] key.global key.fields in
     let t = takes more all (subst (λ fs. g.S.FieldItems.has_items c.args.items.now (fs ++ more) all) (sym same) h) in

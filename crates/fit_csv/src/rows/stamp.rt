@@ -1,0 +1,70 @@
+//! A text that is put behind many others.
+ghost use Rattle.std.specs.Prelude.{◌≡◌, ◌++◌, IfOk, OnOk};
+
+use std::alloc::AllocError;
+use std::marker::Model;
+
+/// How many bytes a short text has at most.
+const SHORT: usize = 32;
+
+/// A text that is put behind many others. A short one takes a copy of a fixed number of bytes, of which those behind it are cut off.
+#[derive(Drop)]
+pub(crate) struct Stamp {
+    /// The text and what is cut off.
+    padded: Vec<u8>,
+    /// How many bytes the text has.
+    used: usize,
+}
+
+impl Model for Stamp {
+    ghost use Rattle.std.specs.Prelude.{◌≤◌, ◌+◌, ℕ, List, length, take};
+
+    ghost Value = { List ℕ };
+
+    ghost view = { λ s. take s.used s.padded.items };
+
+    ghost invariant = { λ s. s.used + 32 ≤ length s.padded.items };
+}
+
+impl Stamp {
+    /// That of this text.
+    #[tactic(auto, using(crate::proofs::Stamps::padded))]
+    pub(crate) fn new(text: Vec<u8>) -> Result<Stamp, AllocError>
+        ensures { IfOk result (λ s. s ≡ text.items) }
+    {
+        let used = text.len();
+        let mut padded = text;
+        padded.extend_from_slice(&[0; SHORT])?;
+        Ok(Stamp { padded, used })
+    }
+
+    /// How many bytes the text has.
+    pub(crate) fn len(&self) -> usize {
+        self.used
+    }
+
+    /// Puts a text that isn't short.
+    #[inline(never)]
+    fn put_long(&self, text: &mut Vec<u8>) -> Result<(), AllocError>
+        ensures { OnOk result (text.new.items ≡ text.old.items ++ self.now) }
+    {
+        let (all, _) = self.padded.as_slice().split_at(self.used);
+        text.extend_from_slice(all)
+    }
+
+    /// Puts the text behind another one.
+    #[inline(always)]
+    #[tactic(auto, using(crate::proofs::Stamps::cut))]
+    pub(crate) fn put(&self, text: &mut Vec<u8>) -> Result<(), AllocError>
+        ensures { OnOk result (text.new.items ≡ text.old.items ++ self.now) }
+    {
+        if self.used > SHORT {
+            return self.put_long(text);
+        }
+        let (short, _) = self.padded.as_slice().split_at(SHORT);
+        let end = text.len() + self.used;
+        text.extend_from_slice(short)?;
+        text.truncate(end);
+        Ok(())
+    }
+}
