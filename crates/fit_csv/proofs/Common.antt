@@ -119,7 +119,8 @@ pub use Rattle.fit_csv.specs.inner.Progress.{is_whole_message, FitsOnceWhole, Pa
 unfoldable pub use Rattle.fit_csv.specs.inner.Progress.{Run}
 pub use Rattle.fit_csv.specs.inner.Reporting.{HasText, csv_fault, AnswerFits, answer_rows, behind_answer}
 pub use Rattle.fit_csv.specs.inner.Seven.{AsFar, DifferAt, row_of}
-pub use Rattle.fit_csv.specs.inner.Showing.{text_with, CellKey, ShownKey, key_text, keys_text, line_front, shown_key, shown_keys, spaced}
+pub use Rattle.fit_csv.specs.inner.Showing.{text_with, CellKey, ShownKey, first_head, key_text, keys_text, line_front, shown_key, shown_keys}
+pub use Rattle.fit_csv.specs.inner.Showing.{ShownDevKey, IsMinute, plain_cell, seconds_text, spaced}
 pub use Rattle.fit_csv.specs.inner.SoundChain.{IsSoundChain, IsSoundCurrent, IsSoundDefinition, IsSoundFile, IsSoundMessage, IsSoundSoFar}
 pub use Rattle.fit_csv.specs.inner.SoundChain.{current_rows, open_file_rows, open_rows, part_rows, rows_so_far, IsSoundPart, HaveShapeSoFar}
 pub use Rattle.fit_csv.specs.inner.SoundChain.{BeginsWithMore}

@@ -15,6 +15,7 @@ mod ItemFacts
 pub mod TextCells
 mod DevWalks
 mod InstantFacts
+mod MinuteFacts
 mod PlainInstants
 mod DegreeFacts
 mod SevenCells
@@ -25,6 +26,7 @@ mod ZeroItems
 mod HeaderRows
 mod MessageRows
 mod ValueRows
+pub mod PieceFacts
 mod ShownCells
 mod ShownLines
 pub mod LinesOfChains

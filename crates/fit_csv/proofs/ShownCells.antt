@@ -20,6 +20,12 @@ as-it-is narrow shown bytes cell is = subst (λ s. (if narrow && not s then byte
     plain true = refl
     plain false = refl
 
+-- a cell without control characters
+pub printable_shown : {A : Type 0} (code : ℕ) (info : Option Meaning) (items : Items A) → list_all is_printable (cell code info items) ≡ true
+    → shown_cell code info items ≡ cell code info items
+printable_shown code info items shown =
+    as-it-is (items.width == 1) (list_all is_printable (cell code info items)) (cell 0x0D None items) (cell code info items) shown
+
 pub lone_shown : {A : Type 0} (f : NumberForm) (code : ℕ) (info : Option Meaning) (items : Items A) (bits : ℕ) → IsFormOf code info f → items.width ≡ f.width
     → items.bits ≡ bits ∷ [] → shown_cell code info items ≡ item_text (base_type code).class code info f.width bits
 lone_shown f code info items bits form same one =
@@ -27,4 +33,4 @@ lone_shown f code info items bits form same one =
     let text = item_text (base_type code).class code info f.width bits in
     let shown : list_all is_printable (cell code info items) ≡ true = ap (list_all is_printable) is
     ∙ all-printable text (all-item (λ b. is_printable b ≡ true) printable (base_type code).class code info f.width bits) in
-    as-it-is (items.width == 1) (list_all is_printable (cell code info items)) (cell 0x0D None items) (cell code info items) shown ∙ is
+    printable_shown code info items shown ∙ is

@@ -1,6 +1,6 @@
 -- The lines of `show`, part by part.
-use Rattle.fit_csv.proofs.Common.{◌≡◌, ◌+◌, ◌-◌, [], ◌∷◌, ◌++◌, length, map, refl, sym, ap, ap₂, ◌∙◌, arith, append_assoc, get_or, take}
-use Rattle.fit_csv.proofs.Common.{length-map, length-take, length-zip, take_more, Bool, true, false, ◌||◌, zip, Global, Items, FieldDef, DevDef, Naming}
+use Rattle.fit_csv.proofs.Common.{◌≡◌, ◌+◌, ◌-◌, [], ◌∷◌, ◌++◌, length, map, refl, sym, ap, ap₂, ◌∙◌, arith, append_assoc, get_or, take, drop}
+use Rattle.fit_csv.proofs.Common.{zero, suc, ◌≤◌, eq-eqb, ne_eqb, first_head, length-map, length-zip, take_more, Bool, true, false, ◌||◌, zip, Global, Items, FieldDef, DevDef, Naming}
 use Rattle.fit_csv.proofs.Common.{Defined, Values, Record, Data}
 use Rattle.fit_csv.proofs.Common.{Answer, Event, defined_at, dev_defs, known, namings_at, time, hear, latest_records, line_of, behind_answer, files_heard}
 use Rattle.fit_csv.proofs.Common.{KeptEvents, ShownKey, files_behind_answer, joined, kept_events, key_text, keys_text, line_front, listed, message_front}
@@ -92,31 +92,39 @@ line_whole before p local at v old own dev all n place is long timed count first
     ∙ ap (λ o. old ++ unwrap_or (option_map (λ q. message_line v q (time before (Data v)) (namings_at before v.local)) o) [])
     (sym (ap (defined_at (known before)) is ∙ place))
 
--- ---- what stands around the values of a message
+-- ---- what stands between the cells of a message
 
-either_empty : (a b : Bool) (text : List ℕ) → (if a || b then [] else text) ≡ (if a then [] else (if b then [] else text))
-either_empty true b text = refl
-either_empty false b text = refl
+-- a unit behind its cell, and what stands before the next one
+unit_behind : (a b : Bool) (text head : List ℕ) → (if a then head else (if b then [] else text) ++ head) ≡ (if a || b then [] else text) ++ head
+unit_behind true b text head = refl
+unit_behind false b text head = refl
 
-key_shown : {A : Type 0} (before global : ℕ) (f : FieldDef) (i : Items A)
-    → key_text (shown_key before global f) i ≡ separator before ++ shown_field global f i
-key_shown before global f i =
-    let name = field_label global f.number in
-    let info = field global f.number in
-    let text = shown_cell f.code info i in
-    let unit = unit_text info in
-    let tail = either_empty (length text == 0) (length unit == 0) (joined (codes " " ∷ unit ∷ [])) in
-    let behind = text ++ (if length text == 0 then [] else spaced unit) in
-    append_assoc (separator before) (name ++ codes "=") behind
-    ∙ ap (λ t. separator before ++ t) (append_assoc name (codes "=") behind
-    ∙ ap (λ t. name ++ (codes "=" ++ (text ++ t))) (sym tail ∙ sym (append-nil (unit_part text unit))))
+key_shown : {A : Type 0} (global : ℕ) (f : FieldDef) (head : List ℕ) (i : Items A)
+    → key_text (shown_key global f head) i
+    ≡ shown_cell f.code (field global f.number) i
+    ++ (unit_part (shown_cell f.code (field global f.number) i) (unit_text (field global f.number)) ++ head)
+key_shown global f head i =
+    let text = shown_cell f.code (field global f.number) i in
+    let unit = unit_text (field global f.number) in
+    ap (λ t. text ++ t) (unit_behind (length text == 0) (length unit == 0) (joined (codes " " ∷ unit ∷ [])) head)
+
+line_regroup : (s n c u h r : List ℕ) → (s ++ (n ++ codes "=")) ++ ((c ++ (u ++ h)) ++ r) ≡ (s ++ (n ++ (codes "=" ++ (c ++ (u ++ []))))) ++ (h ++ r)
+line_regroup s n c u h r = simp (append_assoc, append-nil)
 
 -- the fields of a message
-pub keys_shown : {A : Type 0} (before global : ℕ) (fields : List FieldDef) (items : List (Items A))
-    → keys_text (shown_keys before global fields) items ≡ listed before (shown_fields global fields items)
-keys_shown before global [] items = refl
-keys_shown before global (f ∷ fields) [] = refl
-keys_shown before global (f ∷ fields) (i ∷ items) = ap₂ (λ t ts. t ++ ts) (key_shown before global f i) (keys_shown (before + 1) global fields items)
+pub keys_shown : {A : Type 0} (before global : ℕ) (fields : List FieldDef) (items : List (Items A)) → length fields ≤ length items
+    → first_head before global fields ++ keys_text (shown_keys before global fields) items ≡ listed before (shown_fields global fields items)
+keys_shown before global [] items long = refl
+keys_shown before global (f ∷ fields) [] long = absurd (omega (arith, long))
+keys_shown before global (f ∷ fields) (i ∷ items) long =
+    let name = field_label global f.number in
+    let text = shown_cell f.code (field global f.number) i in
+    let unit = unit_part text (unit_text (field global f.number)) in
+    let head = first_head (before + 1) global fields in
+    let others = keys_text (shown_keys (before + 1) global fields) items in
+    ap (λ t. joined (separator before ∷ name ∷ codes "=" ∷ []) ++ (t ++ others)) (key_shown global f head i)
+    ∙ line_regroup (separator before) name text unit head others
+    ∙ ap (λ t. (separator before ++ shown_field global f i) ++ t) (keys_shown (before + 1) global fields items (omega (arith, long)))
 
 -- what is known of a field to take its items
 abbrev pub key_slot : ShownKey → ℕ × ℕ
@@ -126,19 +134,41 @@ pub shown_slots : (before global : ℕ) (fields : List FieldDef) → map key_slo
 shown_slots before global [] = refl
 shown_slots before global (f ∷ fields) = ap (λ xs. field_slot f ∷ xs) (shown_slots (before + 1) global fields)
 
--- one field more
-pub shown_more : (before global : ℕ) (fields : List FieldDef) (f : FieldDef)
-    → shown_keys before global (fields ++ (f ∷ [])) ≡ shown_keys before global fields ++ (shown_key (before + length fields) global f ∷ [])
-shown_more before global [] f = ap (λ n. shown_key n global f ∷ []) (omega arith)
-shown_more before global (g ∷ fields) f =
-    ap (λ ks. shown_key before global g ∷ ks) (shown_more (before + 1) global fields f
-    ∙ ap (λ n. shown_keys (before + 1) global fields ++ (shown_key n global f ∷ [])) (omega arith))
+pub keys_long : (before global : ℕ) (fields : List FieldDef) → length (shown_keys before global fields) ≡ length fields
+keys_long before global [] = refl
+keys_long before global (f ∷ fields) = ap suc (keys_long (before + 1) global fields)
 
+key_at : (before global : ℕ) (fields : List FieldDef) (k : ℕ) (d : FieldDef) (e : ShownKey) → k < length fields
+    → get_or (shown_keys before global fields) k e ≡ shown_key global (get_or fields k d) (first_head (before + suc k) global (drop (suc k) fields))
+key_at before global [] k d e within = absurd (omega (arith, within))
+key_at before global (f ∷ fields) zero d e within = refl
+key_at before global (f ∷ fields) (suc k) d e within =
+    key_at (before + 1) global fields k d e (omega (arith, within))
+    ∙ ap (λ n. shown_key global (get_or fields k d) (first_head n global (drop (suc k) fields))) (omega arith)
+
+-- one field more
 pub shown_taken : (global : ℕ) (fields : List FieldDef) (k : ℕ) (d : FieldDef) → k < length fields
-    → shown_keys 0 global (take (k + 1) fields) ≡ shown_keys 0 global (take k fields) ++ (shown_key k global (get_or fields k d) ∷ [])
+    → take (k + 1) (shown_keys 0 global fields)
+    ≡ take k (shown_keys 0 global fields) ++ (shown_key global (get_or fields k d) (first_head (k + 1) global (drop (k + 1) fields)) ∷ [])
 shown_taken global fields k d within =
-    ap (shown_keys 0 global) (take_more fields k d within) ∙ shown_more 0 global (take k fields) (get_or fields k d)
-    ∙ ap (λ n. shown_keys 0 global (take k fields) ++ (shown_key n global (get_or fields k d) ∷ [])) (omega (arith, length-take k fields, within))
+    let keys = shown_keys 0 global fields in
+    let one : suc k ≡ k + 1 = omega arith in
+    let place : 0 + suc k ≡ k + 1 = omega arith in
+    take_more keys k (shown_key global d []) (omega (arith, within, keys_long 0 global fields))
+    ∙ ap (λ (x : ShownKey). take k keys ++ (x ∷ [])) (key_at 0 global fields k d (shown_key global d []) within
+    ∙ (λ i. shown_key global (get_or fields k d) (first_head (place i) global (drop (one i) fields))))
+
+is_same : (k m n : ℕ) → m ≡ n + k → (m == n) ≡ (k == 0)
+is_same zero m n e = eq-eqb m n (omega (arith, e))
+is_same (suc k) m n e = ne_eqb m n (λ same. omega (arith, e, same)) ∙ sym (ne_eqb (suc k) 0 (λ same. omega (arith, same)))
+
+-- a cell, and what stands behind it
+pub cell_behind : (old cell celled all bare full behind : List ℕ) (m n : ℕ) → celled ≡ old ++ cell → m ≡ length celled → n ≡ length old
+    → behind ≡ (if m == n then bare else full) → all ≡ celled ++ behind → all ≡ old ++ (cell ++ (if length cell == 0 then bare else full))
+cell_behind old cell celled all bare full behind m n first now before is last =
+    let more : m ≡ n + length cell = omega (arith, now, before, ap length first, length-append old cell) in
+    last ∙ ap₂ (λ t u. t ++ u) first (is ∙ ap (λ b. if b then bare else full) (is_same (length cell) m n more))
+    ∙ append_assoc old cell (if length cell == 0 then bare else full)
 
 -- a field behind others
 abbrev pub key_after : {A : Type 0} → List ℕ → ShownKey → Items A → List ℕ
@@ -150,18 +180,21 @@ key_more t k ks i is = append_assoc t (key_text k i) (keys_text ks is)
 
 -- ---- developer fields
 
-dev_regroup : (o s l c u : List ℕ) → ((o ++ (s ++ (l ++ codes "="))) ++ c) ++ u ≡ o ++ (s ++ (l ++ (codes "=" ++ (c ++ (u ++ [])))))
+dev_regroup : (o s l c u : List ℕ) → (o ++ (s ++ (l ++ codes "="))) ++ (c ++ u) ≡ o ++ (s ++ (l ++ (codes "=" ++ (c ++ (u ++ [])))))
 dev_regroup o s l c u = simp (append_assoc, append-nil)
 
+either_empty : (a b : Bool) (text : List ℕ) → (if a then [] else (if b then [] else text)) ≡ (if a || b then [] else text)
+either_empty true b text = refl
+either_empty false b text = refl
+
 -- a developer field in its parts
-pub dev_part : (old sep label cell unit named celled all : List ℕ) (n : ℕ) → named ≡ old ++ joined (sep ∷ label ∷ codes "=" ∷ [])
-    → celled ≡ named ++ cell → n ≡ length celled - length named
-    → all ≡ celled ++ (if (n == 0) || (length unit == 0) then [] else joined (codes " " ∷ unit ∷ []))
+pub dev_cell : (old sep label cell unit named celled all : List ℕ) (m n : ℕ) → named ≡ old ++ joined (sep ∷ label ∷ codes "=" ∷ [])
+    → celled ≡ named ++ cell → m ≡ length celled → n ≡ length named → all ≡ celled ++ (if m == n then [] else spaced unit)
     → all ≡ old ++ (sep ++ shown_part label cell unit)
-dev_part old sep label cell unit named celled all n first second long last =
-    let same : n ≡ length cell = omega (arith, length-append named cell, ap length second, long) in
-    last ∙ ap (λ m. celled ++ (if (m == 0) || (length unit == 0) then [] else joined (codes " " ∷ unit ∷ []))) same
-    ∙ ap (λ t. t ++ unit_part cell unit) (second ∙ ap (λ t. t ++ cell) first) ∙ dev_regroup old sep label cell (unit_part cell unit)
+dev_cell old sep label cell unit named celled all m n first second now before last =
+    cell_behind named cell celled all [] (spaced unit) (if m == n then [] else spaced unit) m n second now before refl last
+    ∙ ap (λ u. named ++ (cell ++ u)) (either_empty (length cell == 0) (length unit == 0) (joined (codes " " ∷ unit ∷ [])))
+    ∙ ap (λ t. t ++ (cell ++ unit_part cell unit)) first ∙ dev_regroup old sep label cell (unit_part cell unit)
 
 -- behind so many fields of the message
 abbrev pub line_texts : ℕ → DevTexts
@@ -188,3 +221,18 @@ front_parts local global at =
     ∙ ap (λ x. decimal local ++ (32 ∷ x))
     (append_assoc (message_label global) [] (time_part at) ∙ ap (λ x. message_label global ++ x) (sym (append-nil (time_part at))))
     )
+
+parts_regroup : (old front time head cells : List ℕ) → (((old ++ front) ++ time) ++ head) ++ cells ≡ old ++ ((front ++ time) ++ (head ++ cells))
+parts_regroup old front time head cells = simp append_assoc
+
+-- the front of a message and its fields, put in four parts
+pub line_parts : {A : Type 0} (local global : ℕ) (at : Option ℕ) (fields : List FieldDef) (items : List (Items A)) (old one two three four : List ℕ)
+    → one ≡ old ++ line_front local global → two ≡ one ++ time_part at → three ≡ two ++ first_head 0 global fields
+    → four ≡ three ++ keys_text (shown_keys 0 global fields) items → length fields ≤ length items
+    → four ≡ old ++ (message_front local global at ++ listed 0 (shown_fields global fields items))
+line_parts local global at fields items old one two three four first second third fourth long =
+    let cells = keys_text (shown_keys 0 global fields) items in
+    let head = first_head 0 global fields in
+    fourth ∙ ap (λ t. t ++ cells) (third ∙ ap (λ t. t ++ head) (second ∙ ap (λ t. t ++ time_part at) first))
+    ∙ parts_regroup old (line_front local global) (time_part at) head cells
+    ∙ ap₂ (λ a b. old ++ (a ++ b)) (front_parts local global at) (keys_shown 0 global fields items long)

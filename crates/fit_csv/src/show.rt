@@ -5,9 +5,12 @@ ghost use Rattle.fit_csv.specs.inner.Reporting.{AnswerFits, behind_answer};
 ghost use Rattle.fit_csv.specs.inner.TableCells.{files_behind_answer};
 
 pub(crate) mod cells;
+mod devs;
 mod fields;
 mod frames;
 mod lines;
+mod minutes;
+mod pieces;
 mod template;
 
 use crate::show::lines::{put_event, put_message};

@@ -1,14 +1,15 @@
 -- What the parts of `show` do. No public contract names these.
-use Rattle.std.specs.Prelude.{ℕ, ◌+◌, ◌==◌, if◌then◌else◌, List, [], ◌∷◌, ◌++◌, length, codes, decimal, Option}
+use Rattle.std.specs.Prelude.{◌≡◌, ℕ, ◌+◌, ◌/◌, ◌%◌, ◌^◌, ◌<◌, ◌==◌, if◌then◌else◌, List, [], ◌∷◌, ◌++◌, length, codes, decimal, Option, None, Some}
 use Rattle.fit_base.specs.declared.items.Items.{Items}
 use Rattle.fit_record.specs.declared.definition.FieldDef.{FieldDef}
 use Rattle.fit_record.specs.declared.message.Record.{Record}
 use Rattle.fit_chain.specs.declared.event.Event.{Event as Answer}
 use Rattle.fit_chain.specs.declared.event.Event.TheVariants as answers
+use Rattle.fit_profile.specs.Instant.{two_digits}
 use Rattle.fit_profile.specs.Profile.{Meaning}
 use Rattle.fit_profile.specs.Names.{field, field_label, message_label}
 use Rattle.fit_csv.specs.ChainRows.{unit_text}
-use Rattle.fit_csv.specs.ShowLines.{header_line, joined, record_line, separator, shown_cell}
+use Rattle.fit_csv.specs.ShowLines.{header_line, joined, record_line, separator, shown_cell, time_part}
 
 -- the text of what a decoder answers, by how many files have begun before it and the records before it in its file
 abbrev pub text_with : {A : Type 0} → ℕ → List (Record A) → Answer A → List ℕ
@@ -24,23 +25,41 @@ pub record CellKey : Type 0 where
   pub size : ℕ
   pub info : Option Meaning
 
--- What stands around the cell of a field, the first part before it and the second behind it, where it isn't empty, and how its items are read.
+-- What stands behind the cell of a field, up to the next one: the first where the cell is empty, the second where it isn't; and how its
+-- items are read.
 pub record ShownKey : Type 0 where
-  pub head : List ℕ
-  pub tail : List ℕ
+  pub bare : List ℕ
+  pub full : List ℕ
   pub code : ℕ
   pub size : ℕ
   pub info : Option Meaning
+
+-- without a meaning
+abbrev pub plain_cell : ℕ → ℕ → CellKey
+plain_cell code size = record { code = code; size = size; info = None }
+
+-- A developer field of this name, unit, base type code and size, behind so many others.
+pub record ShownDevKey : Type 0 where
+  pub before : ℕ
+  pub name : List ℕ
+  pub unit : List ℕ
+  pub code : ℕ
+  pub size : ℕ
 
 -- a unit behind a space, where there is one
 abbrev pub spaced : List ℕ → List ℕ
 spaced unit = if length unit == 0 then [] else joined (codes " " ∷ unit ∷ [])
 
--- a field of a message of a global number, behind so many others
-abbrev pub shown_key : ℕ → ℕ → FieldDef → ShownKey
-shown_key before global f = record {
-  head = joined (separator before ∷ field_label global f.number ∷ codes "=" ∷ []);
-  tail = spaced (unit_text (field global f.number));
+-- what stands before the cell of the first of these fields, which comes after so many others
+abbrev pub first_head : ℕ → ℕ → List FieldDef → List ℕ
+first_head before global [] = []
+first_head before global (f ∷ fields) = joined (separator before ∷ field_label global f.number ∷ codes "=" ∷ [])
+
+-- a field of a message of a global number, by what stands before the next cell
+abbrev pub shown_key : ℕ → FieldDef → List ℕ → ShownKey
+shown_key global f head = record {
+  bare = head;
+  full = spaced (unit_text (field global f.number)) ++ head;
   code = f.code;
   size = f.size;
   info = field global f.number;
@@ -49,10 +68,10 @@ shown_key before global f = record {
 -- fields one after another, behind so many others
 abbrev pub shown_keys : ℕ → ℕ → List FieldDef → List ShownKey
 shown_keys before global [] = []
-shown_keys before global (f ∷ fields) = shown_key before global f ∷ shown_keys (before + 1) global fields
+shown_keys before global (f ∷ fields) = shown_key global f (first_head (before + 1) global fields) ∷ shown_keys (before + 1) global fields
 
 abbrev pub key_text : {A : Type 0} → ShownKey → Items A → List ℕ
-key_text k i = k.head ++ (shown_cell k.code k.info i ++ (if length (shown_cell k.code k.info i) == 0 then [] else k.tail))
+key_text k i = shown_cell k.code k.info i ++ (if length (shown_cell k.code k.info i) == 0 then k.bare else k.full)
 
 -- the text of fields one after another
 abbrev pub keys_text : {A : Type 0} → List ShownKey → List (Items A) → List ℕ
@@ -62,3 +81,13 @@ keys_text _ _ = []
 -- what stands before the time of a message
 abbrev pub line_front : ℕ → ℕ → List ℕ
 line_front local global = joined (codes "  " ∷ decimal local ∷ codes " " ∷ message_label global ∷ [])
+
+-- ---- times
+
+-- the end of the text of a time, from its seconds on
+abbrev pub seconds_text : ℕ → List ℕ
+seconds_text s = two_digits s ++ codes "Z"
+
+-- The times of this minute begin with this text behind a message's label, up to their seconds.
+abbrev pub IsMinute : ℕ → List ℕ → Type 0
+IsMinute minute text = (t : ℕ) → t < 2 ^ 32 → t / 60 ≡ minute → time_part (Some t) ≡ text ++ seconds_text (t % 60)

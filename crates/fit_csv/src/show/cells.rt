@@ -12,7 +12,9 @@ ghost use Rattle.fit_csv.specs.ShowLines.{shown_cell};
 
 use fit_base::base_type::BYTE;
 use fit_base::{Code, Items, Order, bits_at};
-use fit_cells::{NumberForm, formed, number_form, put_cell, put_formed};
+use fit_cells::{
+    NumberForm, formed, is_never_quoted, number_form, put_cell, put_formed, shown_text,
+};
 use fit_profile::Info;
 use fit_record::read_items;
 use std::alloc::{AllocError, Global};
@@ -25,17 +27,31 @@ fn is_shown(cell: &[u8]) -> bool
     cell.iter().all(|byte| *byte >= 0x20 && *byte != 0x7F)
 }
 
+/// The form of a lone number of a field, where the field has as many bytes as it.
+fn lone_form(code: u8, size: u8, info: Option<Info>) -> Option<NumberForm>
+    requires { IfSome info (λ i. IsScale i.scale) }
+    ensures small { IfSome result IsSmallForm }
+    ensures width { IfSome result (λ f. f.width ≡ size) }
+    ensures form { IfSome result (IsFormOf code (option_map meaning info)) }
+{
+    match number_form(Code(code), info) {
+        Some(form) if form.width == size => Some(form),
+        _ => None,
+    }
+}
+
 /// How the cell of a field is made of its items.
 #[derive(Drop)]
 pub(crate) struct ShownCell {
     code: u8,
     size: u8,
     info: Option<Info>,
-    form: Option<NumberForm>,
+    /// The form of a lone number, where its bytes are those of the field.
+    lone: Option<NumberForm>,
 }
 
 impl Model for ShownCell {
-    ghost use Rattle.std.specs.Prelude.{IfSome, option_map};
+    ghost use Rattle.std.specs.Prelude.{◌≡◌, IfSome, option_map};
     ghost use Rattle.fit_profile.specs.Names.{meaning};
     ghost use Rattle.fit_profile.specs.Scaled.{IsScale};
     ghost use Rattle.fit_cells.specs.Forms.{IsFormOf, IsSmallForm};
@@ -49,8 +65,9 @@ impl Model for ShownCell {
       info = option_map meaning c.info;
     } };
 
-    ghost invariant = { λ c. IfSome c.info (λ i. IsScale i.scale) × IfSome c.form IsSmallForm
-        × IfSome c.form (IsFormOf c.code (option_map meaning c.info)) };
+    ghost invariant = { λ c. IfSome c.info (λ i. IsScale i.scale) × IfSome c.lone IsSmallForm
+        × IfSome c.lone (λ f. f.width ≡ c.size)
+        × IfSome c.lone (IsFormOf c.code (option_map meaning c.info)) };
 }
 
 impl ShownCell {
@@ -67,7 +84,7 @@ impl ShownCell {
             code,
             size,
             info,
-            form: number_form(Code(code), info),
+            lone: lone_form(code, size, info),
         }
     }
 
@@ -103,7 +120,7 @@ impl ShownCell {
         ensures { OnOk result (text.new.items ≡ text.old.items
             ++ shown_cell self.now.code self.now.info items.now) }
     {
-        if let Some((form, bits)) = formed(self.form, items) {
+        if let Some((form, bits)) = formed(self.lone, items) {
             return put_formed(text, form, bits);
         }
         self.put_other(text, items)
@@ -111,18 +128,50 @@ impl ShownCell {
 
     /// The form of a lone number, where its bytes are those of the field.
     #[inline(always)]
-    fn lone_form(&self) -> Option<NumberForm>
+    fn lone(&self) -> Option<NumberForm>
         ensures small { IfSome result IsSmallForm }
         ensures width { IfSome result (λ f. f.width ≡ self.now.size) }
         ensures form { IfSome result (IsFormOf self.now.code self.now.info) }
     {
-        match self.form {
-            Some(form) if form.width == self.size => Some(form),
-            _ => None,
-        }
+        self.lone
     }
 
-    /// The same by the bytes of the field.
+    /// The text of a string by the bytes of the field, where it is shown as it is.
+    fn plain_text<'a>(&self, bytes: &'a [u8]) -> Option<&'a [u8]>
+        requires { length bytes.now ≡ self.now.size }
+        ensures { IfSome result (λ shown. (order : Order) → shown.now
+            ≡ shown_cell self.now.code self.now.info
+            (field_from {A = Global} order (self.now.code, self.now.size) bytes.now)) }
+    {
+        if is_never_quoted(Code(self.code)) {
+            return None;
+        }
+        let text = shown_text(bytes)?;
+        if is_shown(text) { Some(text) } else { None }
+    }
+
+    /// Puts the cell of what is no lone number, by the bytes of the field.
+    #[inline(never)]
+    fn put_read(
+        &self,
+        text: &mut Vec<u8>,
+        alloc: Global,
+        order: Order,
+        bytes: &[u8],
+    ) -> Result<(), AllocError>
+        requires { length bytes.now ≡ self.now.size }
+        ensures { OnOk result (text.new.items ≡ text.old.items
+            ++ shown_cell self.now.code self.now.info
+            (field_from {A = Global} order (self.now.code, self.now.size) bytes.now)) }
+    {
+        if let Some(shown) = self.plain_text(bytes) {
+            return text.extend_from_slice(shown);
+        }
+        let items = read_items(alloc, order, self.code, self.size, bytes)?;
+        self.put_other(text, &items)
+    }
+
+    /// Puts the cell by the bytes of the field.
     #[inline(always)]
     pub(crate) fn put_bytes(
         &self,
@@ -136,10 +185,9 @@ impl ShownCell {
             ++ shown_cell self.now.code self.now.info
             (field_from {A = Global} order (self.now.code, self.now.size) bytes.now)) }
     {
-        if let Some(form) = self.lone_form() {
+        if let Some(form) = self.lone() {
             return put_formed(text, form, bits_at(order, form.width, bytes));
         }
-        let items = read_items(alloc, order, self.code, self.size, bytes)?;
-        self.put_other(text, &items)
+        self.put_read(text, alloc, order, bytes)
     }
 }

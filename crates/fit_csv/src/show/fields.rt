@@ -1,5 +1,5 @@
 //! The names and units of fields, and the developer fields of a message, as a line shows them.
-ghost use Rattle.std.specs.Prelude.{◌≡◌, ◌+◌, ◌<◌, ◌==◌, ◌||◌, if◌then◌else◌, ◌++◌, ◌∷◌, [], List, OnOk, None, codes, decimal, length, map, option_and_then, slice_get, unwrap_or, zip};
+ghost use Rattle.std.specs.Prelude.{◌≡◌, ◌+◌, ◌<◌, ◌++◌, ◌∷◌, [], List, OnOk, None, codes, decimal, length, map, option_and_then, slice_get, unwrap_or, zip};
 ghost use Rattle.std.specs.Global.{Global};
 ghost use Rattle.fit_base.specs.declared.items.Items.{Items};
 ghost use Rattle.fit_profile.specs.Described.{namings_at};
@@ -7,7 +7,9 @@ ghost use Rattle.fit_csv.specs.ShowLines as lines;
 ghost use Rattle.fit_csv.specs.inner.Frames.{HasFields, TakesField};
 
 use crate::items::FieldItems;
-use crate::show::cells::ShownCell;
+use crate::kept::keep_at;
+use crate::show::devs::ShownDev;
+use crate::show::template::LineMaker;
 use crate::words::{dev_unit, numbered_label};
 use fit_profile::Stream;
 use fit_record::DevDef;
@@ -44,39 +46,31 @@ pub(crate) fn put_name<'a>(
     put_words(text, words.as_slice())
 }
 
-/// Puts a unit behind a cell, where neither is empty.
-fn put_unit(text: &mut Vec<u8>, cell: usize, unit: &str) -> Result<(), AllocError>
-    ensures { OnOk result (text.new.items ≡ text.old.items
-        ++ (if (cell == 0) || (length unit.now == 0) then []
-        else lines.joined (codes " " ∷ unit.now ∷ []))) }
-{
-    if cell == 0 || unit.is_empty() {
-        return Ok(());
-    }
-    let words = [b" ".as_slice(), unit.as_bytes()];
-    put_words(text, words.as_slice())
-}
-
-/// Puts the next field, a developer field by its described code, its label and its unit, behind so many others.
-fn put_dev<'a, S: FieldItems>(
+/// Puts the next field, a developer field by its described code, its name and its unit, behind so many others.
+fn put_dev<S: FieldItems>(
     text: &mut Vec<u8>,
+    maker: &mut LineMaker,
+    place: usize,
     before: usize,
     size: u8,
     code: u8,
     items: &mut S,
-    label: &'a str,
-    unit: &'a str,
+    name: &str,
+    unit: &str,
 ) -> Result<(), AllocError>
     requires { HasFields S.has_items items.old ((code, size) ∷ []) }
     ensures { OnOk result (TakesField S.has_items items.old items.new (code, size)
         (λ i. text.new.items ≡ text.old.items ++ (lines.separator before
-        ++ lines.shown_part label.now (lines.shown_cell code None i) unit.now))) }
+        ++ lines.shown_part name.now (lines.shown_cell code None i) unit.now))) }
 {
-    put_name(text, separator(before).as_bytes(), label.as_bytes())?;
-    let start = text.len();
-    items.show_next(text, &ShownCell::new(code, size, None))?;
-    let cell = text.len() - start;
-    put_unit(text, cell, unit)?;
+    if let Some(Some(dev)) = maker.devs.as_slice().get(place) {
+        if dev.is_of(before, name, unit, code, size) {
+            return dev.put(text, items);
+        }
+    }
+    let dev = ShownDev::new(maker.alloc, before, name, unit, code, size)?;
+    dev.put(text, items)?;
+    keep_at(&mut maker.devs, place, dev)?;
     Ok(())
 }
 
@@ -84,6 +78,7 @@ fn put_dev<'a, S: FieldItems>(
 /// with the name and the unit that it has after the records of a stream.
 fn put_named<S: FieldItems>(
     text: &mut Vec<u8>,
+    maker: &mut LineMaker,
     before: usize,
     stream: &Stream,
     local: u8,
@@ -101,13 +96,18 @@ fn put_named<S: FieldItems>(
         (unwrap_or (option_and_then (λ t. t.unit) (slice_get (namings_at stream.now local) place))
         [])))) }
 {
+    let kept = place as usize * 16 + local as usize;
     let unit = dev_unit(stream, local, place);
     match stream.dev_name(local, place) {
-        Some(name) => put_dev(text, before, field.size, code, items, name, unit),
+        Some(name) => put_dev(
+            text, maker, kept, before, field.size, code, items, name, unit,
+        ),
         None => {
             let label = numbered_label(field);
             let name = label.as_str();
-            put_dev(text, before, field.size, code, items, name, unit)
+            put_dev(
+                text, maker, kept, before, field.size, code, items, name, unit,
+            )
         }
     }
 }
@@ -116,6 +116,7 @@ fn put_named<S: FieldItems>(
 /// have after the records of a stream.
 pub(crate) fn put_devs<S: FieldItems>(
     text: &mut Vec<u8>,
+    maker: &mut LineMaker,
     before: usize,
     stream: &Stream,
     local: u8,
@@ -138,6 +139,7 @@ pub(crate) fn put_devs<S: FieldItems>(
         let code = dev_codes[place];
         put_named(
             text,
+            maker,
             before + place,
             stream,
             local,

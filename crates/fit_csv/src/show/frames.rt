@@ -1,11 +1,12 @@
-//! What stands around the cells of fields in a line, found out once for many messages.
-ghost use Rattle.std.specs.Prelude.{◌≡◌, ◌++◌, ◌∷◌, [], IfOk, OnOk};
+//! What stands behind the cells of fields in a line, found out once for many messages.
+ghost use Rattle.std.specs.Prelude.{◌≡◌, ◌+◌, ◌++◌, ◌∷◌, [], if◌then◌else◌, IfOk, OnOk};
 ghost use Rattle.fit_csv.specs.inner.Frames.{HasFields, TakesField};
-ghost use Rattle.fit_csv.specs.inner.Showing.{key_text, shown_key, shown_keys, spaced};
+ghost use Rattle.fit_csv.specs.inner.Showing.{first_head, key_text, shown_key, shown_keys, spaced};
 
 use crate::items::FieldItems;
 use crate::show::cells::ShownCell;
 use crate::show::fields::{put_name, put_words, separator};
+use crate::show::pieces::Piece;
 use crate::words::unit_text;
 use fit_profile::{field_info, field_label};
 use fit_record::FieldDef;
@@ -13,7 +14,7 @@ use std::alloc::{AllocError, Global};
 use std::marker::Model;
 
 /// Puts a unit after a space, where there is one.
-fn put_spaced(text: &mut Vec<u8>, unit: &str) -> Result<(), AllocError>
+pub(crate) fn put_spaced(text: &mut Vec<u8>, unit: &str) -> Result<(), AllocError>
     ensures { OnOk result (text.new.items ≡ text.old.items ++ spaced unit.now) }
 {
     if unit.is_empty() {
@@ -23,13 +24,33 @@ fn put_spaced(text: &mut Vec<u8>, unit: &str) -> Result<(), AllocError>
     put_words(text, words.as_slice())
 }
 
-/// What stands around the cell of a field, and how its items are shown.
+/// Puts what stands before the cell of the first of these fields, which comes after so many others.
+pub(crate) fn put_head(
+    text: &mut Vec<u8>,
+    before: usize,
+    global: u16,
+    fields: &[FieldDef],
+) -> Result<(), AllocError>
+    ensures { OnOk result (text.new.items
+        ≡ text.old.items ++ first_head before global fields.now) }
+{
+    match fields.split_first() {
+        Some((field, _)) => {
+            let label = field_label(global, field.number);
+            let name = label.as_str().as_bytes();
+            put_name(text, separator(before).as_bytes(), name)
+        }
+        None => Ok(()),
+    }
+}
+
+/// What stands between the cell of a field and that of the next, and how its items are shown.
 #[derive(Drop)]
 pub(crate) struct ShownField {
-    /// The separator, the name and the equals sign.
-    head: Vec<u8>,
-    /// A space and the unit, where the field has one.
-    tail: Vec<u8>,
+    /// What stands before the next cell.
+    head: Piece,
+    /// The unit, where the field has one, and what stands before the next cell.
+    unit: Piece,
     cell: ShownCell,
 }
 
@@ -39,8 +60,8 @@ impl Model for ShownField {
     ghost Value = { ShownKey };
 
     ghost view = { λ f. record {
-      head = f.head.items;
-      tail = f.tail.items;
+      bare = f.head;
+      full = f.unit;
       code = f.cell.code;
       size = f.cell.size;
       info = f.cell.info;
@@ -48,30 +69,39 @@ impl Model for ShownField {
 }
 
 impl ShownField {
-    /// That of a field of messages of this global number, behind so many others.
+    /// That of a field of messages of this global number, with so many fields up to it, before these others.
     pub(crate) fn new(
         alloc: Global,
-        before: usize,
         global: u16,
         field: &FieldDef,
+        count: usize,
+        others: &[FieldDef],
     ) -> Result<ShownField, AllocError>
-        ensures { IfOk result (λ f. f ≡ shown_key before global field.now) }
+        ensures { IfOk result (λ f.
+            f ≡ shown_key global field.now (first_head count global others.now)) }
     {
         let info = field_info(global, field.number);
-        let label = field_label(global, field.number);
-        let name = label.as_str().as_bytes();
         let mut head = Vec::new(alloc);
-        put_name(&mut head, separator(before).as_bytes(), name)?;
-        let mut tail = Vec::new(alloc);
-        put_spaced(&mut tail, unit_text(info))?;
+        put_head(&mut head, count, global, others)?;
+        let mut unit = Vec::new(alloc);
+        put_spaced(&mut unit, unit_text(info))?;
+        unit.extend_from_slice(head.as_slice())?;
         Ok(ShownField {
-            head,
-            tail,
+            head: Piece::new(head)?,
+            unit: Piece::new(unit)?,
             cell: ShownCell::new(field.code, field.size, info),
         })
     }
 
-    /// Puts the next field.
+    /// What stands between its cell and the next one.
+    #[inline(always)]
+    fn behind(&self, is_empty: bool) -> &Piece
+        ensures { result.now ≡ (if is_empty then self.now.bare else self.now.full) }
+    {
+        if is_empty { &self.head } else { &self.unit }
+    }
+
+    /// Puts the next cell, and what stands between it and the one after it.
     #[inline(always)]
     pub(crate) fn put<S: FieldItems>(
         &self,
@@ -83,18 +113,14 @@ impl ShownField {
             (self.now.code, self.now.size)
             (λ i. text.new.items ≡ text.old.items ++ key_text self.now i)) }
     {
-        text.extend_from_slice(self.head.as_slice())?;
         let start = text.len();
         items.show_next(text, &self.cell)?;
-        if text.len() == start {
-            return Ok(());
-        }
-        text.extend_from_slice(self.tail.as_slice())?;
-        Ok(())
+        let behind = self.behind(text.len() == start);
+        behind.put(text)
     }
 }
 
-/// What stands around the cells of the fields of messages of this global number.
+/// What stands between the cells of the fields of messages of this global number.
 pub(crate) fn shown_fields(
     alloc: Global,
     global: u16,
@@ -104,7 +130,8 @@ pub(crate) fn shown_fields(
 {
     let mut frames = Vec::new(alloc);
     for (place, field) in fields.iter().enumerate() {
-        frames.push(ShownField::new(alloc, place, global, field)?)?;
+        let (_, others) = fields.split_at(place + 1);
+        frames.push(ShownField::new(alloc, global, field, place + 1, others)?)?;
     }
     Ok(frames)
 }

@@ -120,11 +120,11 @@ fn put_own<S: FieldItems>(
 {
     if let Some(Some(template)) = maker.templates.as_slice().get(local as usize) {
         if template.is_of(local, definition) {
-            return template.put(text, time, items);
+            return template.put(text, maker.alloc, &mut maker.minute, time, items);
         }
     }
     let template = LineTemplate::new(maker.alloc, local, definition)?;
-    template.put(text, time, items)?;
+    template.put(text, maker.alloc, &mut maker.minute, time, items)?;
     keep_at(&mut maker.templates, local as usize, template)?;
     Ok(())
 }
@@ -154,7 +154,7 @@ fn put_values<S: FieldItems>(
     let before = definition.fields.len();
     let fields = dev_slice(&definition.dev);
     let codes = defined.dev_codes.as_slice();
-    put_devs(text, before, stream, local, fields, codes, items)?;
+    put_devs(text, maker, before, stream, local, fields, codes, items)?;
     text.push(b'\n')?;
     Ok(())
 }

@@ -6,9 +6,11 @@ ghost use Rattle.fit_csv.specs.inner.Showing.{keys_text, line_front};
 
 use crate::items::FieldItems;
 use crate::kept::Kept;
+use crate::show::devs::ShownDev;
 use crate::show::fields::put_words;
-use crate::show::frames::{ShownField, shown_fields};
-use crate::words::time_text;
+use crate::show::frames::{ShownField, put_head, shown_fields};
+use crate::show::minutes::{Minute, put_time};
+use crate::show::pieces::Piece;
 use fit_profile::message_label;
 use fit_record::MessageDef;
 use itoa::Buffer;
@@ -28,17 +30,6 @@ fn put_front(text: &mut Vec<u8>, local: u8, global: u16) -> Result<(), AllocErro
         label.as_str().as_bytes(),
     ];
     put_words(text, words.as_slice())
-}
-
-/// Puts the time of a message after a space, where it has one.
-fn put_time(text: &mut Vec<u8>, time: Option<u32>) -> Result<(), AllocError>
-    ensures { OnOk result (text.new.items ≡ text.old.items ++ lines.time_part time) }
-{
-    if time.is_none() {
-        return Ok(());
-    }
-    text.push(b' ')?;
-    text.extend_from_slice(time_text(time).as_str().as_bytes())
 }
 
 /// Puts the next fields, one after another.
@@ -63,20 +54,23 @@ fn put_fields<S: FieldItems>(
 pub(crate) struct LineTemplate {
     kept: Kept,
     /// What stands before the time.
-    front: Vec<u8>,
+    front: Piece,
+    /// What stands before the cell of the first field.
+    head: Piece,
     fields: Vec<ShownField>,
 }
 
 impl Model for LineTemplate {
     ghost use Rattle.std.specs.Prelude.{◌≡◌};
     ghost use Rattle.fit_csv.specs.inner.Frames.{TemplateKey};
-    ghost use Rattle.fit_csv.specs.inner.Showing.{line_front, shown_keys};
+    ghost use Rattle.fit_csv.specs.inner.Showing.{first_head, line_front, shown_keys};
 
     ghost Value = { TemplateKey };
 
     ghost view = { λ t. t.kept };
 
-    ghost invariant = { λ t. (t.front.items ≡ line_front t.kept.local t.kept.global)
+    ghost invariant = { λ t. (t.front ≡ line_front t.kept.local t.kept.global)
+        × (t.head ≡ first_head 0 t.kept.global t.kept.fields)
         × (t.fields.items ≡ shown_keys 0 t.kept.global t.kept.fields) };
 }
 
@@ -96,11 +90,14 @@ impl LineTemplate {
         let kept = Kept::new(alloc, local, definition)?;
         let mut front = Vec::new(alloc);
         put_front(&mut front, local, definition.global)?;
-        let fields = shown_fields(alloc, definition.global, definition.fields.as_slice())?;
+        let fields = definition.fields.as_slice();
+        let mut head = Vec::new(alloc);
+        put_head(&mut head, 0, definition.global, fields)?;
         Ok(LineTemplate {
             kept,
-            front,
-            fields,
+            front: Piece::new(front)?,
+            head: Piece::new(head)?,
+            fields: shown_fields(alloc, definition.global, fields)?,
         })
     }
 
@@ -115,10 +112,12 @@ impl LineTemplate {
         self.kept.is(local, definition)
     }
 
-    /// Puts the line of a message with this time up to its developer fields.
+    /// Puts the line of a message with this time up to its developer fields, and keeps the minute of the time.
     pub(crate) fn put<S: FieldItems>(
         &self,
         text: &mut Vec<u8>,
+        alloc: Global,
+        minute: &mut Option<Minute>,
         time: Option<u32>,
         items: &mut S,
     ) -> Result<(), AllocError>
@@ -128,8 +127,9 @@ impl LineTemplate {
             ++ (lines.message_front self.now.local self.now.global time ++ lines.listed 0
             (lines.shown_fields self.now.global self.now.fields all)))) }
     {
-        text.extend_from_slice(self.front.as_slice())?;
-        put_time(text, time)?;
+        self.front.put(text)?;
+        put_time(text, alloc, minute, time)?;
+        self.head.put(text)?;
         put_fields(text, self.fields.as_slice(), items)
     }
 }
@@ -140,6 +140,10 @@ pub(crate) struct LineMaker {
     pub alloc: Global,
     /// That of the last message of each local message type.
     pub templates: Vec<Option<LineTemplate>>,
+    /// What stands around the developer fields of that, by place and local message type.
+    pub devs: Vec<Option<ShownDev>>,
+    /// The minute of the last time.
+    pub minute: Option<Minute>,
 }
 
 impl LineMaker {
@@ -148,6 +152,8 @@ impl LineMaker {
         LineMaker {
             alloc,
             templates: Vec::new(alloc),
+            devs: Vec::new(alloc),
+            minute: None,
         }
     }
 }

@@ -8,7 +8,7 @@ pub returns-in-Some : goal.returns-in-Some
 returns-in-Some c =
     let kept : CellKey = c.args.self.now in
     let number = c.in-Some.ensures in
-    let known = subst (λ (f : CellKey). IfSome c.self.inside.form (IsFormOf f.code f.info)) c.self.view_is c.self.invariant.2 in
+    let known = subst (λ (f : CellKey). IfSome c.self.inside.lone (IsFormOf f.code f.info)) c.self.view_is c.self.invariant.3 in
     let form = number.form kept.code kept.info known in
     subst (λ (t : List ℕ). OnOk c.put_formed.result (c.put_formed.new.text.items ≡ c.args.text.now.items ++ t))
     (sym (lone_shown c.in-Some.form kept.code kept.info c.args.items.now c.in-Some.bits form number.lone.0 number.lone.1))

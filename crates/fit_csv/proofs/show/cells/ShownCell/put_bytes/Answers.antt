@@ -1,8 +1,8 @@
 use Rattle.std.proofs.Common.{◌⊎◌, List, ℕ}
-use Rattle.fit_csv.proofs.Common.{◌≡◌, ◌∙◌, ◌++◌, ◌∷◌, [], OnOk, sym, ap, subst, CellKey, HasShape, Global}
+use Rattle.fit_csv.proofs.Common.{◌≡◌, ◌∙◌, ◌++◌, ◌∷◌, [], OnOk, sym, ap, subst, CellKey, Global}
 use Rattle.fit_base.proofs.ByteLists.{slice_is_bytes}
 use Rattle.fit_record.specs.ReadMessages.{field_from}
-use Rattle.fit_csv.proofs.ItemFacts.{field_shape, lone_below, lone_field}
+use Rattle.fit_csv.proofs.ItemFacts.{lone_below, lone_field}
 use Rattle.fit_csv.proofs.ShownCells.{lone_shown}
 use Rattle.fit_csv.proofs.show.cells.ShownCell.put_bytes.Goals as goal
 
@@ -23,9 +23,3 @@ returns-in-Some c =
     (sym (lone_shown form kept.code kept.info items c.bits_at.result known (lone.0 ∙ sym c.in-Some.ensures.width)
     (lone.1 ∙ ap (λ n. n ∷ []) (sym c.bits_at.ensures))))
     (c.put_formed.ensures.ok kept.code kept.info known)
-
-pub put_other-requires : goal.put_other-requires
-put_other-requires c =
-    subst (λ i. HasShape c.args.self.now.code c.args.self.now.size i)
-    (sym (c.in_ok-items.ensures ∙ ap (λ (f : CellKey). field_from c.args.order (f.code, f.size) c.args.bytes.now) c.self.view_is))
-    (field_shape Global c.args.order c.args.self.now.code c.args.self.now.size c.args.bytes.now (slice_is_bytes c.args.bytes.now c.type_inv.bytes) c.requires)
