@@ -26,7 +26,6 @@ mod ZeroItems
 mod HeaderRows
 mod MessageRows
 mod ValueRows
-pub mod PieceFacts
 mod ShownCells
 mod ShownLines
 pub mod LinesOfChains

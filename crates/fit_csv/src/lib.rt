@@ -9,6 +9,7 @@ mod kept;
 pub mod laws;
 mod rows;
 mod show;
+mod stamp;
 mod tables;
 mod words;
 

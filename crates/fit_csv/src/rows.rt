@@ -7,5 +7,4 @@ pub(crate) mod frames;
 pub(crate) mod maker;
 pub(crate) mod message;
 pub(crate) mod report;
-pub(crate) mod stamp;
 pub(crate) mod template;

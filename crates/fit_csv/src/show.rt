@@ -10,7 +10,6 @@ mod fields;
 mod frames;
 mod lines;
 mod minutes;
-mod pieces;
 mod template;
 
 use crate::show::lines::{put_event, put_message};

@@ -12,7 +12,7 @@ use crate::items::FieldItems;
 use crate::kept::keep_at;
 use crate::rows::frames::{Frame, put_tail};
 use crate::rows::maker::RowMaker;
-use crate::rows::stamp::Stamp;
+use crate::stamp::Stamp;
 use crate::words::numbered_label;
 use fit_cells::RowWriter;
 use fit_profile::Stream;

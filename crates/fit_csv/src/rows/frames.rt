@@ -14,7 +14,7 @@ ghost use Rattle.fit_csv.specs.inner.Frames.{two_cells};
 
 pub(crate) mod likely;
 
-use crate::rows::stamp::Stamp;
+use crate::stamp::Stamp;
 use fit_base::{Class, Code, Items, Order, bits_at};
 use fit_cells::{
     NumberForm, RowWriter, bare_text, formed, is_never_quoted, needs_quotes, number_form, put_cell,

@@ -11,7 +11,7 @@ pub(crate) mod likely;
 use crate::items::FieldItems;
 use crate::kept::Kept;
 use crate::rows::frames::{Frame, put_tail, put_two};
-use crate::rows::stamp::Stamp;
+use crate::stamp::Stamp;
 use crate::words::{time_text, unit_text};
 use fit_cells::RowWriter;
 use fit_profile::{field_info, field_label, message_label, put_whole};

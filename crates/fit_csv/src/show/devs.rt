@@ -8,7 +8,7 @@ use crate::items::FieldItems;
 use crate::show::cells::ShownCell;
 use crate::show::fields::{put_name, separator};
 use crate::show::frames::put_spaced;
-use crate::show::pieces::Piece;
+use crate::stamp::Stamp;
 use std::alloc::{AllocError, Global};
 use std::marker::Model;
 
@@ -21,9 +21,9 @@ pub(crate) struct ShownDev {
     code: u8,
     size: u8,
     /// What stands before the cell.
-    head: Piece,
+    head: Stamp,
     /// What stands behind a cell that isn't empty.
-    tail: Piece,
+    tail: Stamp,
     cell: ShownCell,
 }
 
@@ -78,8 +78,8 @@ impl ShownDev {
             unit: own_unit,
             code,
             size,
-            head: Piece::new(head)?,
-            tail: Piece::new(tail)?,
+            head: Stamp::new(head)?,
+            tail: Stamp::new(tail)?,
             cell: ShownCell::new(code, size, None),
         })
     }

@@ -6,7 +6,7 @@ ghost use Rattle.fit_csv.specs.inner.Showing.{first_head, key_text, shown_key, s
 use crate::items::FieldItems;
 use crate::show::cells::ShownCell;
 use crate::show::fields::{put_name, put_words, separator};
-use crate::show::pieces::Piece;
+use crate::stamp::Stamp;
 use crate::words::unit_text;
 use fit_profile::{field_info, field_label};
 use fit_record::FieldDef;
@@ -48,9 +48,9 @@ pub(crate) fn put_head(
 #[derive(Drop)]
 pub(crate) struct ShownField {
     /// What stands before the next cell.
-    head: Piece,
+    head: Stamp,
     /// The unit, where the field has one, and what stands before the next cell.
-    unit: Piece,
+    unit: Stamp,
     cell: ShownCell,
 }
 
@@ -87,15 +87,15 @@ impl ShownField {
         put_spaced(&mut unit, unit_text(info))?;
         unit.extend_from_slice(head.as_slice())?;
         Ok(ShownField {
-            head: Piece::new(head)?,
-            unit: Piece::new(unit)?,
+            head: Stamp::new(head)?,
+            unit: Stamp::new(unit)?,
             cell: ShownCell::new(field.code, field.size, info),
         })
     }
 
     /// What stands between its cell and the next one.
     #[inline(always)]
-    fn behind(&self, is_empty: bool) -> &Piece
+    fn behind(&self, is_empty: bool) -> &Stamp
         ensures { result.now ≡ (if is_empty then self.now.bare else self.now.full) }
     {
         if is_empty { &self.head } else { &self.unit }

@@ -3,7 +3,7 @@ ghost use Rattle.std.specs.Prelude.{◌≡◌, ◌+◌, ◌++◌, ◌/◌, ◌<�
 ghost use Rattle.fit_csv.specs.ShowLines as lines;
 ghost use Rattle.fit_csv.specs.inner.Showing.{seconds_text};
 
-use crate::show::pieces::Piece;
+use crate::stamp::Stamp;
 use crate::words::time_text;
 use std::alloc::{AllocError, Global};
 use std::marker::Model;
@@ -33,7 +33,7 @@ pub(crate) struct Minute {
     /// How many minutes after 1989-12-31T00:00:00 UTC.
     number: u32,
     /// A space, and what its times begin with, up to their seconds.
-    text: Piece,
+    text: Stamp,
 }
 
 impl Model for Minute {
@@ -59,7 +59,7 @@ impl Minute {
         text.truncate(18);
         Ok(Minute {
             number: time / 60,
-            text: Piece::new(text)?,
+            text: Stamp::new(text)?,
         })
     }
 

@@ -10,7 +10,7 @@ use crate::show::devs::ShownDev;
 use crate::show::fields::put_words;
 use crate::show::frames::{ShownField, put_head, shown_fields};
 use crate::show::minutes::{Minute, put_time};
-use crate::show::pieces::Piece;
+use crate::stamp::Stamp;
 use fit_profile::message_label;
 use fit_record::MessageDef;
 use itoa::Buffer;
@@ -54,9 +54,9 @@ fn put_fields<S: FieldItems>(
 pub(crate) struct LineTemplate {
     kept: Kept,
     /// What stands before the time.
-    front: Piece,
+    front: Stamp,
     /// What stands before the cell of the first field.
-    head: Piece,
+    head: Stamp,
     fields: Vec<ShownField>,
 }
 
@@ -95,8 +95,8 @@ impl LineTemplate {
         put_head(&mut head, 0, definition.global, fields)?;
         Ok(LineTemplate {
             kept,
-            front: Piece::new(front)?,
-            head: Piece::new(head)?,
+            front: Stamp::new(front)?,
+            head: Stamp::new(head)?,
             fields: shown_fields(alloc, definition.global, fields)?,
         })
     }
