@@ -1,9 +1,9 @@
 -- Texts of bytes that stand as they are in any cell.
-use Rattle.fit_cells.proofs.Common.{◌≡◌, ◌∙◌, ◌<◌, ◌≤◌, ◌+◌, ℕ, Bool, true, false, List, [], ◌∷◌, ◌++◌, length, take, drop, get_or, reverse, refl, sym, ap, inl, inr}
-use Rattle.fit_cells.proofs.Common.{arith, append_assoc, eqb-true, not, list_all, cases_Bool, ne_eqb, nat_tests, reverse-append, reverse-reverse, take_more}
+use Rattle.fit_cells.proofs.Common.{◌≡◌, ◌∙◌, ◌<◌, ◌≤◌, ◌+◌, ℕ, zero, suc, Bool, true, false, List, [], ◌∷◌, ◌++◌, length, take, drop, get_or, reverse, refl, sym, ap}
+use Rattle.fit_cells.proofs.Common.{arith, append_assoc, not, list_all, ne_eqb, nat_tests, reverse-append, reverse-reverse, take_more}
 use Rattle.fit_cells.proofs.Common.{is_utf8-from_IsUtf8, IsUtf8-from_ascii, IsAscii, before_closing_zeros, without_zeros, begins_as_bytes, bytes_text, is_plain, string_text}
 use Rattle.fit_cells.proofs.Common.{default_writer, needs_byte, needs_quotes}
-use Rattle.std.specs.Prelude.{◌==◌, ◌&&◌, if◌then◌else◌}
+use Rattle.std.specs.Prelude.{◌==◌, ◌&&◌, if◌then◌else◌, slice_index}
 use Rattle.std.proofs.lemmas.List.{append-nil, take-append-drop}
 use Rattle.std.proofs.lemmas.List.Folds.{list_all-append}
 use Rattle.std.proofs.lemmas.Str.Ascii.{IsAscii-nil, IsAscii-cons}
@@ -82,3 +82,33 @@ pub bare_front : (bytes text zeros : List ℕ) (n : ℕ) → list_all is_bare (t
 bare_front bytes text zeros n bare front back none other =
     bare_string text zeros bytes (ap (list_all is_bare) front ∙ bare) none other
     (sym (take-append-drop n bytes) ∙ ap (λ t. t ++ drop n bytes) (sym front) ∙ ap (λ t. text ++ t) (sym back))
+
+-- ---- where it ends
+
+-- Of such bytes with zeros behind them the first that isn't such a byte is the first zero.
+bare-split : (text zeros : List ℕ) (n : ℕ) → n ≤ length (text ++ zeros) → list_all is_bare (take n (text ++ zeros)) ≡ true
+    → (n < length (text ++ zeros) → is_bare (slice_index (text ++ zeros) n) ≡ false) → list_all is_bare text ≡ true
+    → list_all (λ b. b == 0) zeros ≡ true → (take n (text ++ zeros) ≡ text) × (drop n (text ++ zeros) ≡ zeros)
+bare-split [] zeros zero within front most bare none = (refl, refl)
+bare-split [] [] (suc n) within front most bare none = (refl, refl)
+bare-split [] (z ∷ zeros) (suc n) within front most bare none =
+    let zero-too = both (z == 0) (list_all (λ b. b == 0) zeros) none in
+    let bare-too = both (is_bare z) (list_all is_bare (take n zeros)) front in
+    cc (sym (bare-not z 0 refl bare-too.0) ∙ zero-too.0)
+bare-split (b ∷ text) zeros zero within front most bare none =
+    let parts = both (is_bare b) (list_all is_bare text) bare in cc (sym (most (omega (arith))) ∙ parts.0)
+bare-split (b ∷ text) zeros (suc n) within front most bare none =
+    let parts = both (is_bare b) (list_all is_bare text) bare in
+    let fronts = both (is_bare b) (list_all is_bare (take n (text ++ zeros))) front in
+    let rest = bare-split text zeros n (omega (arith, within)) fronts.1 (λ less. most (omega (arith, less))) parts.1 none in
+    (ap (λ t. b ∷ t) rest.0, rest.1)
+
+pub bare_split : (bytes text zeros : List ℕ) (n : ℕ) → n ≤ length bytes → list_all is_bare (take n bytes) ≡ true
+    → (n < length bytes → is_bare (slice_index bytes n) ≡ false) → bytes ≡ text ++ zeros → list_all is_bare text ≡ true
+    → list_all (λ b. b == 0) zeros ≡ true → (take n bytes ≡ text) × (drop n bytes ≡ zeros)
+bare_split bytes text zeros n within front most is bare none =
+    let long = ap length is in
+    let parts =
+    bare-split text zeros n (omega (arith, within, long)) (sym (ap (λ b. list_all is_bare (take n b)) is) ∙ front)
+    (λ less. sym (ap (λ b. is_bare (slice_index b n)) is) ∙ most (omega (arith, less, long))) bare none in
+    (ap (take n) is ∙ parts.0, ap (drop n) is ∙ parts.1)

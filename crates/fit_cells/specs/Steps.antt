@@ -1,4 +1,5 @@
--- How cells are put together and taken apart: what `read_bytes` reads; and what stands between items, which only private contracts name.
+-- How cells are put together and taken apart: what `read_bytes` reads, the bytes that `bare_text` takes; and what stands between items, which
+-- only private contracts name.
 use Rattle.std.specs.Prelude.{ℕ, zero, suc, ◌+◌, ◌-◌, ◌*◌, ◌%◌, ◌==◌, nat_lt, ◌&&◌, ◌||◌, if◌then◌else◌, Bool, List, [], ◌∷◌, take, drop}
 
 -- what stands before the item at a place

@@ -76,6 +76,7 @@ fn is_bare(byte: u8) -> bool
 fn bare_len(bytes: &[u8]) -> usize
     ensures within { result ≤ length bytes.now }
     ensures bare { list_all is_bare (take result bytes.now) ≡ true }
+    ensures most { result < length bytes.now → is_bare (slice_index bytes.now result) ≡ false }
 {
     for (place, byte) in bytes.iter().enumerate() {
         if !is_bare(*byte) {
@@ -96,6 +97,9 @@ fn are_zeros(bytes: &[u8]) -> bool
 pub fn bare_text(bytes: &[u8]) -> Option<&[u8]>
     ensures text { IfSome result (λ text. text.now ≡ string_text bytes.now) }
     ensures bare { IfSome result (λ text. needs_quotes default_writer text.now ≡ false) }
+    ensures none { result ≡ None → (text zeros : List ℕ) → bytes.now ≡ text ++ zeros
+        → list_all is_bare text ≡ true → list_all (λ b. b == 0) zeros ≡ true
+        → begins_as_bytes text ≡ true }
 {
     let (text, rest) = bytes.split_at(bare_len(bytes));
     if are_zeros(rest) && !begins_as_bytes(text) {
