@@ -54,3 +54,4 @@ mod BeginFacts
 mod TextRows
 pub mod TableColumnFacts
 pub mod TableNumbers
+mod RowsInBytes
