@@ -97,7 +97,8 @@ pub use Rattle.fit_csv.specs.RowKinds.{IsEndRow, IsFileRow, naming_at, IsDevDefR
 pub use Rattle.fit_csv.specs.ShowLines.{header_line, record_line, show_line, show_lines, listed, message_line, separator, shown_part, shown_cell}
 pub use Rattle.fit_csv.specs.ShowLines.{KeptEvents, kept_events, shown_dev, shown_field, joined, message_front, shown_devs, shown_fields, time_part, unit_part}
 unfoldable pub use Rattle.fit_csv.specs.ShowLines.{record_lines, show_files}
-pub use Rattle.fit_csv.specs.Table.{table_of, amount_text, value_text, table_line, table_record_rows, table_row, table_rows, table_event_rows}
+pub use Rattle.fit_csv.specs.Table.{table_of, amount_text, value_text, degrees_text, table_line, table_record_rows, table_message_rows, table_row, table_rows}
+pub use Rattle.fit_csv.specs.Table.{table_event_rows}
 unfoldable pub use Rattle.fit_csv.specs.Table.{table_events_rows, table_files_rows, table_records_rows}
 pub use Rattle.fit_csv.specs.declared.fault.CsvFault.{CsvFault}
 pub use Rattle.fit_csv.specs.declared.from.chain.Chain.{Chain}
@@ -124,6 +125,6 @@ pub use Rattle.fit_csv.specs.inner.Showing.{ShownDevKey, IsMinute, plain_cell, s
 pub use Rattle.fit_csv.specs.inner.SoundChain.{IsSoundChain, IsSoundCurrent, IsSoundDefinition, IsSoundFile, IsSoundMessage, IsSoundSoFar}
 pub use Rattle.fit_csv.specs.inner.SoundChain.{current_rows, open_file_rows, open_rows, part_rows, rows_so_far, IsSoundPart, HaveShapeSoFar}
 pub use Rattle.fit_csv.specs.inner.SoundChain.{BeginsWithMore}
-pub use Rattle.fit_csv.specs.inner.TableCells.{shown_text, number_cell as cell_of, table_answer_rows, rows_in, number_cell, files_behind_answer}
-pub use Rattle.fit_csv.specs.inner.TableColumns.{IsColumn, IsFirst, IsPlaced}
+pub use Rattle.fit_csv.specs.inner.TableCells.{shown_text, table_answer_rows, rows_in, files_behind_answer, PutsCell, AddsCell, AreSome}
+pub use Rattle.fit_csv.specs.inner.TableColumns.{ArePlaces, AreInBytes, IsColumn, IsFirst, IsKnown, IsPlaced, is_tabled, items_at, slots}
 pub use Rattle.fit_csv.specs.inner.TextFaults.{IsTextFault, IsUnjudged, IsReadFault}

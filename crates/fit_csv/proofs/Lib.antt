@@ -57,3 +57,4 @@ mod BeginFacts
 mod TextRows
 pub mod TableColumnFacts
 pub mod TableNumbers
+mod RowsInBytes

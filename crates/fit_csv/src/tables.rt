@@ -2,5 +2,6 @@
 
 pub(crate) mod columns;
 pub(crate) mod maker;
+pub(crate) mod numbers;
 pub(crate) mod report;
 pub(crate) mod rows;

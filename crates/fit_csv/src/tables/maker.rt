@@ -1,19 +1,30 @@
 //! The rows of the table, and what is kept from one to the next.
-ghost use Rattle.std.specs.Prelude.{◌≡◌, ◌∷◌, [], OnOk};
+ghost use Rattle.std.specs.Prelude.{◌≡◌, ◌∷◌, [], IfOk, List, OnOk, Some, false, length, true};
+ghost use Rattle.std.specs.Global.{Global};
+ghost use Rattle.fit_record.specs.declared.message.Record.{Record};
+ghost use Rattle.fit_record.specs.declared.message.Record.TheVariants.{Values as Data};
+ghost use Rattle.fit_record.specs.Environment.{defined_at};
+ghost use Rattle.fit_record.specs.MessageBytes.{message_in};
+ghost use Rattle.fit_record.specs.Records.{message_size};
+ghost use Rattle.fit_record.specs.Sound.{IsSound};
+ghost use Rattle.fit_profile.specs.Looks.{known};
 ghost use Rattle.fit_profile.specs.Meant.{shown};
+ghost use Rattle.fit_profile.specs.Times as times;
 ghost use Rattle.fit_cells.specs.Rows.{HasRows};
 ghost use Rattle.fit_csv.specs.Table as table;
 
 use crate::kept::keep_at;
 use crate::tables::columns::Columns;
-use crate::tables::rows::put_cells;
+use crate::tables::numbers::NumbersInBytes;
+use crate::tables::rows::put_row;
 use fit_profile::Message;
+use fit_record::MessageBytes;
 use std::alloc::{AllocError, Global};
 
 /// What the rows of the table are put with, one after another.
 #[derive(Drop)]
 pub(crate) struct TableMaker {
-    alloc: Global,
+    pub alloc: Global,
     /// Those of the last record message of each local message type.
     columns: Vec<Option<Columns>>,
 }
@@ -28,41 +39,76 @@ impl TableMaker {
     }
 }
 
-/// Puts the row of a record message of a file by its columns.
-fn put_row(
-    text: &mut Vec<u8>,
-    columns: &Columns,
-    message: &Message,
-    file: u64,
-) -> Result<(), AllocError>
-    requires fields { (shown message.now).definition.fields ≡ columns.now }
-    requires global { (shown message.now).definition.global ≡ 20 }
-    ensures { OnOk result (HasRows (table.table_row file (shown message.now).definition
-        (shown message.now).values (shown message.now).told ∷ []) text.old text.new) }
-{
-    let row = columns.row(message, file);
-    put_cells(text, &row)
-}
-
-/// Puts the row of a record message of a file behind a text.
+/// Puts the row of a record message of a file.
 pub(crate) fn put_table_row(
     text: &mut Vec<u8>,
-    maker: &mut TableMaker,
     message: &Message,
     file: u64,
 ) -> Result<(), AllocError>
-    requires { (shown message.now).definition.global ≡ 20 }
     ensures { OnOk result (HasRows (table.table_row file (shown message.now).definition
         (shown message.now).values (shown message.now).told ∷ []) text.old text.new) }
 {
-    let local = message.values().local;
-    let fields = message.definition().fields.as_slice();
-    if let Some(Some(columns)) = maker.columns.as_slice().get(local as usize) {
+    put_row(text, file, message.time(), message)
+}
+
+/// Puts the row of a record message of a file from its bytes, by its columns and its time, where its numbers can be read there.
+/// Whether it did.
+fn put_by(
+    text: &mut Vec<u8>,
+    columns: &Columns,
+    message: &MessageBytes<'_>,
+    time: Option<u32>,
+    file: u64,
+) -> Result<bool, AllocError>
+    requires fields { message.now.defined.now.definition.fields ≡ columns.now }
+    requires global { message.now.defined.now.definition.global ≡ 20 }
+    requires long { length message.now.body.now ≡ message_size message.now.defined.now }
+    ensures row { IfOk result (λ put. put ≡ true → (before : List (Record Global))
+        → defined_at (known before) message.now.local ≡ Some message.now.defined.now
+        → time ≡ times.time before (Data (message_in message.now))
+        → HasRows (table.table_message_rows file before (message_in message.now))
+        text.old text.new) }
+    ensures none { IfOk result (λ put. put ≡ false → text.new.items ≡ text.old.items) }
+{
+    let Some(places) = columns.places() else {
+        return Ok(false);
+    };
+    let numbers = NumbersInBytes {
+        places,
+        order: message.defined.definition.order,
+        bytes: message.body,
+    };
+    put_row(text, file, time, &numbers)?;
+    Ok(true)
+}
+
+/// Puts the row of a record message of a file from its bytes, by its time, where its numbers can be read there. Whether it did.
+pub(crate) fn put_message_row(
+    text: &mut Vec<u8>,
+    maker: &mut TableMaker,
+    message: &MessageBytes<'_>,
+    time: Option<u32>,
+    file: u64,
+) -> Result<bool, AllocError>
+    requires global { message.now.defined.now.definition.global ≡ 20 }
+    requires sound { IsSound message.now.defined.now }
+    requires long { length message.now.body.now ≡ message_size message.now.defined.now }
+    ensures row { IfOk result (λ put. put ≡ true → (before : List (Record Global))
+        → defined_at (known before) message.now.local ≡ Some message.now.defined.now
+        → time ≡ times.time before (Data (message_in message.now))
+        → HasRows (table.table_message_rows file before (message_in message.now))
+        text.old text.new) }
+    ensures none { IfOk result (λ put. put ≡ false → text.new.items ≡ text.old.items) }
+{
+    let local = message.local as usize;
+    let fields = message.defined.definition.fields.as_slice();
+    if let Some(Some(columns)) = maker.columns.as_slice().get(local) {
         if columns.are_of(fields) {
-            return put_row(text, columns, message, file);
+            return put_by(text, columns, message, time, file);
         }
     }
     let columns = Columns::new(maker.alloc, fields)?;
-    put_row(text, &columns, message, file)?;
-    keep_at(&mut maker.columns, local as usize, columns)
+    let put = put_by(text, &columns, message, time, file)?;
+    keep_at(&mut maker.columns, local, columns)?;
+    Ok(put)
 }

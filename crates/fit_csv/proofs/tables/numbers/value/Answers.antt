@@ -1,5 +1,5 @@
 use Rattle.fit_csv.proofs.ProfileScales.{shown_value}
-use Rattle.fit_csv.proofs.tables.rows.value.Goals as goal
+use Rattle.fit_csv.proofs.tables.numbers.value.Goals as goal
 
 pub returns-clause-text : goal.returns-clause-text
 returns-clause-text c =

@@ -1,0 +1,43 @@
+use Rattle.fit_csv.proofs.Common.{◌≡◌, ◌∙◌, ◌++◌, [], ap, subst, sym, true, Global, Record, Data, Values, HasRows, csv_text, defined_at, known, table_message_rows, time}
+use Rattle.std.proofs.Common.{List, Some}
+use Rattle.std.proofs.lemmas.List.{append-nil}
+use Rattle.fit_record.specs.MessageBytes.{message_in}
+use Rattle.fit_record.specs.Records.{IsRecord}
+use Rattle.fit_csv.proofs.RowsInBytes.{row_of_other}
+use Rattle.fit_csv.proofs.TableNumbers.{if_ok}
+use Rattle.fit_csv.proofs.tables.report.put_message.Goals as goal
+
+pub unreachable-requires : goal.unreachable-requires
+unreachable-requires c =
+    let bytes = c.args.bytes.now in
+    c.in_default.ensures.found c.requires.0 bytes [] (sym (append-nil bytes))
+    (subst (λ e. IsRecord e (Data c.requires.0) bytes) (sym c.env.ensures) c.requires.1)
+
+pub returns-then-message-ne-RECORD-clause-row : goal.returns-then-message-ne-RECORD-clause-row
+unfolding csv_text
+returns-then-message-ne-RECORD-clause-row c put v is_record =
+    let bytes = c.args.bytes.now in
+    let before = c.args.stream.now in
+    let m = c.in-Some.message in
+    let text = c.args.text.now.items in
+    let found = c.in-Some.ensures.found v bytes [] (sym (append-nil bytes)) (subst (λ e. IsRecord e (Data v) bytes) (sym c.env.ensures) is_record) in
+    let defined = subst (λ e. defined_at e m.local ≡ Some m.defined.now) c.env.ensures c.in-Some.ensures.defined in
+    let none = row_of_other c.args.file before (message_in m) m.defined.now defined c.if-message-ne-RECORD.true in
+    sym (ap (λ w. text ++ csv_text (table_message_rows c.args.file before w)) (sym found.0) ∙ ap (λ rows. text ++ csv_text rows) none ∙ append-nil text)
+
+pub returns-clause-row : goal.returns-clause-row
+returns-clause-row c =
+    let bytes = c.args.bytes.now in
+    let before = c.args.stream.now in
+    let m = c.in-Some.message in
+    let old = c.args.text.now in
+    let new = c.put_message_row.new.text in
+    if_ok (λ put. put ≡ true → (earlier : List (Record Global)) → defined_at (known earlier) m.local ≡ Some m.defined.now
+    → c.message_time-time.result ≡ time earlier (Data (message_in m)) → HasRows (table_message_rows c.args.file earlier (message_in m)) old new)
+    (λ put. put ≡ true → (v : Values Global) → IsRecord (known before) (Data v) bytes
+    → new.items ≡ old.items ++ csv_text (table_message_rows c.args.file before v)) c.put_message_row.result
+    (λ put row is v is_record.
+    let found = c.in-Some.ensures.found v bytes [] (sym (append-nil bytes)) (subst (λ e. IsRecord e (Data v) bytes) (sym c.env.ensures) is_record) in
+    let defined = subst (λ e. defined_at e m.local ≡ Some m.defined.now) c.env.ensures c.in-Some.ensures.defined in
+    let timed = c.message_time-time.ensures v is_record ∙ ap (λ w. time before (Data w)) (sym found.0) in
+    (row is before defined timed).text ∙ ap (λ w. old.items ++ csv_text (table_message_rows c.args.file before w)) found.0) c.put_message_row.ensures.row
