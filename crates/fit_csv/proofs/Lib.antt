@@ -27,7 +27,7 @@ mod HeaderRows
 mod MessageRows
 mod ValueRows
 pub mod PieceFacts
-mod ShownCells
+pub mod ShownCells
 mod ShownLines
 pub mod LinesOfChains
 mod ValueSteps
