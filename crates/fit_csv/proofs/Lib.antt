@@ -26,7 +26,7 @@ mod ZeroItems
 mod HeaderRows
 mod MessageRows
 mod ValueRows
-mod ShownCells
+pub mod ShownCells
 mod ShownLines
 pub mod LinesOfChains
 mod ValueSteps

@@ -1,7 +1,7 @@
 -- The times of a minute have one text up to their seconds.
 use Rattle.fit_csv.proofs.Common.{◌≡◌, ◌∙◌, ◌+◌, ◌++◌, ◌∷◌, [], ◌/◌, ◌%◌, ◌^◌, ◌≤◌, take, refl, sym, ap, arith, le-ltb, date_digits, two_digits, date_after}
-use Rattle.fit_csv.proofs.Common.{instant_text, time_part, IsMinute, seconds_text}
-use Rattle.std.proofs.Common.{ℕ, ◌<◌, List, Some, codes}
+use Rattle.fit_csv.proofs.Common.{instant_text, IsMinute, seconds_text}
+use Rattle.std.proofs.Common.{ℕ, ◌<◌, List, codes}
 use Rattle.fit_csv.proofs.InstantFacts.{date-of-day}
 
 -- a civil date and time

@@ -1,5 +1,5 @@
 -- The lines of `show`, part by part.
-use Rattle.fit_csv.proofs.Common.{◌≡◌, ◌+◌, ◌-◌, [], ◌∷◌, ◌++◌, length, map, refl, sym, ap, ap₂, ◌∙◌, arith, append_assoc, get_or, take, drop}
+use Rattle.fit_csv.proofs.Common.{◌≡◌, ◌+◌, [], ◌∷◌, ◌++◌, length, map, refl, sym, ap, ap₂, ◌∙◌, arith, append_assoc, get_or, take, drop}
 use Rattle.fit_csv.proofs.Common.{zero, suc, ◌≤◌, eq-eqb, ne_eqb, first_head, length-map, length-zip, take_more, Bool, true, false, ◌||◌, zip, Global, Items, FieldDef, DevDef, Naming}
 use Rattle.fit_csv.proofs.Common.{Defined, Values, Record, Data}
 use Rattle.fit_csv.proofs.Common.{Answer, Event, defined_at, dev_defs, known, namings_at, time, hear, latest_records, line_of, behind_answer, files_heard}

@@ -46,7 +46,32 @@ pub(crate) fn put_name<'a>(
     put_words(text, words.as_slice())
 }
 
-/// Puts the next field, a developer field by its described code, its name and its unit, behind so many others.
+/// Puts the next field, a developer field by its described code, its name and its unit, behind so many others, and keeps at a
+/// place what stands around its cell.
+#[inline(never)]
+fn put_new<S: FieldItems>(
+    text: &mut Vec<u8>,
+    maker: &mut LineMaker,
+    place: usize,
+    before: usize,
+    size: u8,
+    code: u8,
+    items: &mut S,
+    name: &str,
+    unit: &str,
+) -> Result<(), AllocError>
+    requires { HasFields S.has_items items.old ((code, size) ∷ []) }
+    ensures { OnOk result (TakesField S.has_items items.old items.new (code, size)
+        (λ i. text.new.items ≡ text.old.items ++ (lines.separator before
+        ++ lines.shown_part name.now (lines.shown_cell code None i) unit.now))) }
+{
+    let dev = ShownDev::new(maker.alloc, before, name, unit, code, size)?;
+    dev.put(text, items)?;
+    keep_at(&mut maker.devs, place, dev)?;
+    Ok(())
+}
+
+/// Puts the next field in the same way, by what is kept at the place where that is of such a field.
 fn put_dev<S: FieldItems>(
     text: &mut Vec<u8>,
     maker: &mut LineMaker,
@@ -68,10 +93,7 @@ fn put_dev<S: FieldItems>(
             return dev.put(text, items);
         }
     }
-    let dev = ShownDev::new(maker.alloc, before, name, unit, code, size)?;
-    dev.put(text, items)?;
-    keep_at(&mut maker.devs, place, dev)?;
-    Ok(())
+    put_new(text, maker, place, before, size, code, items, name, unit)
 }
 
 /// Puts the next field, a developer field of a message of this local message type by its described code, behind so many others,

@@ -7,9 +7,3 @@ returns-then-is_of g c =
     subst (λ (k : ShownDevKey). OnOk c.put.result (TakesField g.S.FieldItems.has_items c.args.items.now c.put.new.items (k.code, k.size)
     (λ i. c.put.new.text.items ≡ c.args.text.now.items ++ (separator k.before ++ shown_part k.name (shown_cell k.code None i) k.unit))))
     (c.is_of.ensures c.if-is_of.true) c.put.ensures
-
-pub returns : goal.returns
-returns g c =
-    subst (λ (k : ShownDevKey). TakesField g.S.FieldItems.has_items c.args.items.now c.put-2.new.items (k.code, k.size)
-    (λ i. c.put-2.new.text.items ≡ c.args.text.now.items ++ (separator k.before ++ shown_part k.name (shown_cell k.code None i) k.unit)))
-    c.in_ok-dev.ensures c.in_ok-put.ensures

@@ -1,4 +1,4 @@
-use Rattle.fit_csv.proofs.Common.{◌≡◌, ◌∙◌, ◌+◌, ◌++◌, ◌∷◌, [], get_or, refl, ap, ap₂, subst, arith, option_and_then, slice_get, Naming, namings_at}
+use Rattle.fit_csv.proofs.Common.{◌≡◌, ◌∙◌, ◌+◌, ◌++◌, [], get_or, refl, ap, ap₂, subst, arith, option_and_then, slice_get, Naming, namings_at}
 use Rattle.fit_csv.proofs.Common.{TakesField, listed, separator, shown_cell, shown_devs, shown_part}
 use Rattle.std.proofs.Common.{ℕ, List, None, codes, decimal}
 use Rattle.std.specs.Prelude.{unwrap_or}
