@@ -4,6 +4,7 @@
 
 mod component;
 mod decimal;
+mod decimals;
 mod digits;
 pub mod field_number;
 mod instant;
