@@ -1,6 +1,6 @@
 -- The numbers of the table by the places of their fields in the bytes of a message.
-use Rattle.fit_csv.proofs.Common.{◌≡◌, ◌∙◌, ◌+◌, ◌-◌, ◌/◌, ◌^◌, ◌≤◌, ◌≢◌, suc, Bool, true, false, [], ◌∷◌, length, take, drop, get_or, refl, sym, ap, subst}
-use Rattle.fit_csv.proofs.Common.{arith, add-one, eq-eqb, eqb-true, inl, inr, ◌&&◌, not, nat_lt, option_and_then, slice_get, IsSomeAnd, Global, cases_Bool, ne_eqb}
+use Rattle.fit_csv.proofs.Common.{◌≡◌, ◌∙◌, ◌+◌, ◌-◌, ◌/◌, ◌^◌, ◌≤◌, suc, Bool, true, false, length, take, drop, get_or, refl, sym, ap, subst}
+use Rattle.fit_csv.proofs.Common.{arith, add-one, eq-eqb, inl, inr, ◌&&◌, not, nat_lt, option_and_then, slice_get, IsSomeAnd, Global, cases_Bool, ne_eqb}
 use Rattle.fit_csv.proofs.Common.{Items, Order, base_type, item_width, twos_complement, FieldDef, MessageDef, Values, first_field, field, Meaning, first_number}
 use Rattle.fit_csv.proofs.Common.{valid_number, item_text, IsFormOf, amount_text, value_text, Column, IsColumn, IsFirst, IsKnown, IsPlaced, items_at, slots, take-take}
 use Rattle.fit_csv.proofs.Common.{lt-ltb, degrees_text, take-append-drop, length-take, IsBytes}

@@ -1,5 +1,5 @@
 use Rattle.fit_csv.proofs.Common.{◌∙◌, ◌++◌, ◌∷◌, [], ap, default_writer, fields_text, amount_text, degrees_text, value_text, instant_text}
-use Rattle.std.proofs.Common.{decimal, List, ℕ}
+use Rattle.std.proofs.Common.{decimal}
 use Rattle.std.specs.Prelude.{option_map, pos, unwrap_or}
 use Rattle.fit_record.specs.Faults.{or_else}
 use Rattle.fit_csv.proofs.TableNumbers.{first_cells, last_cells, one_more_cell}
