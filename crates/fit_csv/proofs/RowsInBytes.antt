@@ -1,6 +1,7 @@
 -- The row of a record message in its bytes.
 use Rattle.fit_csv.proofs.Common.{◌≡◌, ◌∙◌, ◌∷◌, [], length, Bool, sym, ap, arith, eq-eqb, ne_eqb, option_and_then, Global, Items, Defined, FieldDef}
-use Rattle.fit_csv.proofs.Common.{Record, Data, Values, defined_at, known, first_field, layout, dev_layout, Row, AreInBytes, ArePlaces, slots, table_message_rows}
+use Rattle.fit_csv.proofs.Common.{Record, Data, Values, defined_at, known, first_field, layout, dev_layout, Row, AreInBytes, ArePlaces, slots}
+use Rattle.fit_csv.proofs.Common.{table_message_rows}
 use Rattle.fit_csv.proofs.Common.{table_row}
 use Rattle.std.proofs.Common.{◌%◌, ◌^◌, ◌≤◌, ◌==◌, ℕ, List, Option, Some, None, if◌then◌else◌}
 use Rattle.std.proofs.lemmas.List.Sums.{sum_by-append}

@@ -1,8 +1,10 @@
 -- The numbers of the table by the places of their fields in the bytes of a message.
 use Rattle.fit_csv.proofs.Common.{◌≡◌, ◌∙◌, ◌+◌, ◌-◌, ◌/◌, ◌^◌, ◌≤◌, suc, Bool, true, false, length, take, drop, get_or, refl, sym, ap, subst}
 use Rattle.fit_csv.proofs.Common.{arith, add-one, eq-eqb, inl, inr, ◌&&◌, not, nat_lt, option_and_then, slice_get, IsSomeAnd, Global, cases_Bool, ne_eqb}
-use Rattle.fit_csv.proofs.Common.{Items, Order, base_type, item_width, twos_complement, FieldDef, MessageDef, Values, first_field, field, Meaning, first_number}
-use Rattle.fit_csv.proofs.Common.{valid_number, item_text, IsFormOf, amount_text, value_text, Column, IsColumn, IsFirst, IsKnown, IsPlaced, items_at, slots, take-take}
+use Rattle.fit_csv.proofs.Common.{Items, Order, base_type, item_width, twos_complement, FieldDef, MessageDef, Values, first_field, field, Meaning}
+use Rattle.fit_csv.proofs.Common.{first_number}
+use Rattle.fit_csv.proofs.Common.{valid_number, item_text, IsFormOf, amount_text, value_text, Column, IsColumn, IsFirst, IsKnown, IsPlaced, items_at, slots}
+use Rattle.fit_csv.proofs.Common.{take-take}
 use Rattle.fit_csv.proofs.Common.{lt-ltb, degrees_text, take-append-drop, length-take, IsBytes}
 use Rattle.std.proofs.Common.{◌==◌, ◌<◌, ℕ, List, Option, Some, None, ◌⊎◌}
 use Rattle.std.proofs.Math.Seq.{drop-cons}
@@ -57,7 +59,8 @@ pub first_column : (fields : List FieldDef) (number offset : ℕ) (f : FieldDef)
 first_column fields number offset f Absent finds is within placed = absurd placed
 first_column fields number offset f (At p) finds is within placed = record {
   finds = subst (λ (k : ℕ). (o : Order) (bytes : List ℕ) → first_in o fields bytes number ≡ Some (p.field, items_of o p.field (drop k bytes))) (sym placed.0)
-      (subst (λ (g : FieldDef). (o : Order) (bytes : List ℕ) → first_in o fields bytes number ≡ Some (g, items_of o g (drop offset bytes))) (sym placed.1) finds);
+      (subst (λ (g : FieldDef). (o : Order) (bytes : List ℕ) → first_in o fields bytes number ≡ Some (g, items_of o g (drop offset bytes)))
+      (sym placed.1) finds);
   numbered = ap (λ (g : FieldDef). g.number) placed.1 ∙ is;
   within = omega (arith, within, placed.0, ap (λ (g : FieldDef). g.size) placed.1);
   known = placed.2;

@@ -1,7 +1,9 @@
 -- The cells of numbers in a row of the table.
 use Rattle.fit_csv.proofs.Common.{◌≡◌, ◌∙◌, ◌++◌, ◌∷◌, [], true, false, inl, inr, Bool, refl, sym, ap, append_assoc, arith, cases_Bool, default_writer}
-use Rattle.fit_csv.proofs.Common.{field_text, fields_text, needs_quotes, fixed_text, Row, csv_text, fields_append, fields_one, whole_row, High, high-decimal, high-fixed, unquoted}
-use Rattle.fit_csv.proofs.Common.{AddsCell, PutsCell, MessageDef, Values, FieldDef, Items, Global, first_field, first_number, known_number, amount_text, value_text}
+use Rattle.fit_csv.proofs.Common.{field_text, fields_text, needs_quotes, fixed_text, Row, csv_text, fields_append, fields_one, whole_row, High}
+use Rattle.fit_csv.proofs.Common.{high-decimal, high-fixed, unquoted}
+use Rattle.fit_csv.proofs.Common.{AddsCell, PutsCell, MessageDef, Values, FieldDef, Items, Global, first_field, first_number, known_number, amount_text}
+use Rattle.fit_csv.proofs.Common.{value_text}
 use Rattle.fit_csv.proofs.Common.{degrees_text}
 use Rattle.std.proofs.Common.{ℕ, List, Option, Some, None, decimal, ◌==◌}
 use Rattle.std.proofs.lemmas.List.{append-nil}

@@ -1,4 +1,5 @@
-use Rattle.fit_csv.proofs.Common.{◌≡◌, ◌∙◌, ◌++◌, [], ap, subst, sym, true, Global, Record, Data, Values, HasRows, csv_text, defined_at, known, table_message_rows, time}
+use Rattle.fit_csv.proofs.Common.{◌≡◌, ◌∙◌, ◌++◌, [], ap, subst, sym, true, Global, Record, Data, Values, HasRows, csv_text, defined_at, known}
+use Rattle.fit_csv.proofs.Common.{table_message_rows, time}
 use Rattle.std.proofs.Common.{List, Some}
 use Rattle.std.proofs.lemmas.List.{append-nil}
 use Rattle.fit_record.specs.MessageBytes.{message_in}

@@ -1,4 +1,5 @@
-use Rattle.fit_csv.proofs.Common.{◌∙◌, ap, arith, AreInBytes, first_field, IsColumn, MessageDef, Values, Global, PutsCell, fixed_text, degrees_text, first_number, items_at, subst, sym}
+use Rattle.fit_csv.proofs.Common.{◌∙◌, ap, arith, AreInBytes, first_field, IsColumn, MessageDef, Values, Global, PutsCell, fixed_text, degrees_text}
+use Rattle.fit_csv.proofs.Common.{first_number, items_at, subst, sym}
 use Rattle.fit_csv.proofs.TableColumnFacts.{first_at, no_degrees, placed_degrees}
 use Rattle.fit_csv.proofs.TableNumbers.{if_ok, puts_none}
 use Rattle.std.proofs.Common.{◌==◌, None}

@@ -1,4 +1,5 @@
-use Rattle.fit_csv.proofs.Common.{◌∙◌, ap, arith, AreInBytes, first_field, IsColumn, MessageDef, Values, Global, PutsCell, IsFormOf, Meaning, value_text, first_number, items_at, subst}
+use Rattle.fit_csv.proofs.Common.{◌∙◌, ap, arith, AreInBytes, first_field, IsColumn, MessageDef, Values, Global, PutsCell, IsFormOf, Meaning, value_text}
+use Rattle.fit_csv.proofs.Common.{first_number, items_at, subst}
 use Rattle.fit_csv.proofs.TableColumnFacts.{amount_in, no_value, value_in}
 use Rattle.fit_csv.proofs.TableNumbers.{if_ok, puts_none}
 use Rattle.std.proofs.Common.{Some}
