@@ -1,7 +1,7 @@
 -- Texts of bytes that stand as they are in any cell.
-use Rattle.fit_cells.proofs.Common.{◌≡◌, ◌∙◌, ◌<◌, ◌≤◌, ◌+◌, ℕ, Bool, true, false, List, [], ◌∷◌, ◌++◌, length, take, drop, get_or, reverse, refl, sym, ap, inl, inr}
-use Rattle.fit_cells.proofs.Common.{arith, append_assoc, eqb-true, not, list_all, cases_Bool, ne_eqb, nat_tests, reverse-append, reverse-reverse, take_more}
-use Rattle.fit_cells.proofs.Common.{is_utf8-from_IsUtf8, IsUtf8-from_ascii, IsAscii, before_closing_zeros, without_zeros, begins_as_bytes, bytes_text, is_plain, string_text}
+use Rattle.fit_cells.proofs.Common.{◌≡◌, ◌∙◌, ◌<◌, ◌+◌, ℕ, Bool, true, false, List, [], ◌∷◌, ◌++◌, length, take, drop, get_or, reverse, refl, sym, ap, arith}
+use Rattle.fit_cells.proofs.Common.{append_assoc, not, list_all, ne_eqb, nat_tests, reverse-append, reverse-reverse, take_more, is_utf8-from_IsUtf8}
+use Rattle.fit_cells.proofs.Common.{IsUtf8-from_ascii, IsAscii, before_closing_zeros, without_zeros, begins_as_bytes, bytes_text, is_plain, string_text}
 use Rattle.fit_cells.proofs.Common.{default_writer, needs_byte, needs_quotes}
 use Rattle.std.specs.Prelude.{◌==◌, ◌&&◌, if◌then◌else◌}
 use Rattle.std.proofs.lemmas.List.{append-nil, take-append-drop}
