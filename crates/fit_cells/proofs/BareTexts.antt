@@ -1,7 +1,8 @@
 -- Texts of bytes that stand as they are in any cell.
-use Rattle.fit_cells.proofs.Common.{◌≡◌, ◌∙◌, ◌<◌, ◌≤◌, ◌+◌, ℕ, zero, suc, Bool, true, false, List, [], ◌∷◌, ◌++◌, length, take, drop, get_or, reverse, refl, sym, ap}
-use Rattle.fit_cells.proofs.Common.{arith, append_assoc, not, list_all, ne_eqb, nat_tests, reverse-append, reverse-reverse, take_more}
-use Rattle.fit_cells.proofs.Common.{is_utf8-from_IsUtf8, IsUtf8-from_ascii, IsAscii, before_closing_zeros, without_zeros, begins_as_bytes, bytes_text, is_plain, string_text}
+use Rattle.fit_cells.proofs.Common.{◌≡◌, ◌∙◌, ◌<◌, ◌≤◌, ◌+◌, ℕ, zero, suc, Bool, true, false, List, [], ◌∷◌, ◌++◌, length, take, drop, get_or, reverse}
+use Rattle.fit_cells.proofs.Common.{refl, sym, ap, arith, append_assoc, not, list_all, ne_eqb, nat_tests, reverse-append, reverse-reverse, take_more}
+use Rattle.fit_cells.proofs.Common.{is_utf8-from_IsUtf8, IsUtf8-from_ascii, IsAscii, before_closing_zeros, without_zeros, begins_as_bytes, bytes_text}
+use Rattle.fit_cells.proofs.Common.{is_plain, string_text}
 use Rattle.fit_cells.proofs.Common.{default_writer, needs_byte, needs_quotes}
 use Rattle.std.specs.Prelude.{◌==◌, ◌&&◌, if◌then◌else◌, slice_index}
 use Rattle.std.proofs.lemmas.List.{append-nil, take-append-drop}

@@ -1,6 +1,6 @@
 -- The cells of floating point numbers by the bytes of their fields.
-use Rattle.fit_csv.proofs.Common.{◌≡◌, ◌∙◌, ◌*◌, ◌/◌, ◌%◌, ◌++◌, [], ◌∷◌, length, refl, sym, ap, arith, subst, base_type, item_width, eq-eqb, Order, cell, append_assoc}
-use Rattle.fit_csv.proofs.Common.{take_all, hex_digits, inl, inr, field_text, default_writer}
+use Rattle.fit_csv.proofs.Common.{◌≡◌, ◌∙◌, ◌*◌, ◌/◌, ◌%◌, ◌++◌, [], ◌∷◌, length, refl, sym, ap, arith, subst, base_type, item_width, eq-eqb, Order, cell}
+use Rattle.fit_csv.proofs.Common.{append_assoc, take_all, hex_digits, inl, inr, field_text, default_writer}
 use Rattle.std.proofs.Common.{ℕ, List, Option, if◌then◌else◌, ◌==◌, ◌⊎◌, codes}
 use Rattle.std.proofs.lemmas.List.{append-nil}
 use Rattle.fit_base.specs.Numbers.{number}
