@@ -1,4 +1,4 @@
-//! Short texts that are put behind others again and again.
+//! Short texts that are put after others again and again.
 ghost use Rattle.std.specs.Prelude.{◌≡◌, ◌++◌, IfOk, OnOk};
 
 use std::alloc::AllocError;
@@ -7,7 +7,7 @@ use std::marker::Model;
 /// How many bytes of a text are put at once.
 const STEP: usize = 32;
 
-/// A text that is put behind others. Of a short one a whole step is put and then cut, since a copy of so many bytes each time needs
+/// A text that is put after others. Of a short one a whole step is put and then cut: a copy that always has the same length needs
 /// no call.
 #[derive(Drop)]
 pub(crate) struct Piece {
@@ -37,7 +37,7 @@ impl Piece {
         Ok(Piece { padded, length })
     }
 
-    /// Puts it behind a text.
+    /// Puts it after a text.
     #[inline(always)]
     #[tactic(auto, using(crate::proofs::PieceFacts::step_cut))]
     pub(crate) fn put(&self, text: &mut Vec<u8>) -> Result<(), AllocError>
