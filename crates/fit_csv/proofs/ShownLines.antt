@@ -1,6 +1,7 @@
 -- The lines of `show`, part by part.
 use Rattle.fit_csv.proofs.Common.{◌≡◌, ◌+◌, [], ◌∷◌, ◌++◌, length, map, refl, sym, ap, ap₂, ◌∙◌, arith, append_assoc, get_or, take, drop}
-use Rattle.fit_csv.proofs.Common.{zero, suc, ◌≤◌, eq-eqb, ne_eqb, first_head, length-map, length-zip, take_more, Bool, true, false, ◌||◌, zip, Global, Items, FieldDef, DevDef, Naming}
+use Rattle.fit_csv.proofs.Common.{zero, suc, ◌≤◌, eq-eqb, ne_eqb, first_head, length-map, length-zip, take_more, Bool, true, false, ◌||◌, zip, Global}
+use Rattle.fit_csv.proofs.Common.{Items, FieldDef, DevDef, Naming}
 use Rattle.fit_csv.proofs.Common.{Defined, Values, Record, Data}
 use Rattle.fit_csv.proofs.Common.{Answer, Event, defined_at, dev_defs, known, namings_at, time, hear, latest_records, line_of, behind_answer, files_heard}
 use Rattle.fit_csv.proofs.Common.{KeptEvents, ShownKey, files_behind_answer, joined, kept_events, key_text, keys_text, line_front, listed, message_front}
@@ -94,7 +95,7 @@ line_whole before p local at v old own dev all n place is long timed count first
 
 -- ---- what stands between the cells of a message
 
--- a unit behind its cell, and what stands before the next one
+-- a unit after its cell, and what stands before the next one
 unit_behind : (a b : Bool) (text head : List ℕ) → (if a then head else (if b then [] else text) ++ head) ≡ (if a || b then [] else text) ++ head
 unit_behind true b text head = refl
 unit_behind false b text head = refl
@@ -162,7 +163,7 @@ is_same : (k m n : ℕ) → m ≡ n + k → (m == n) ≡ (k == 0)
 is_same zero m n e = eq-eqb m n (omega (arith, e))
 is_same (suc k) m n e = ne_eqb m n (λ same. omega (arith, e, same)) ∙ sym (ne_eqb (suc k) 0 (λ same. omega (arith, same)))
 
--- a cell, and what stands behind it
+-- a cell, and what comes after it
 pub cell_behind : (old cell celled all bare full behind : List ℕ) (m n : ℕ) → celled ≡ old ++ cell → m ≡ length celled → n ≡ length old
     → behind ≡ (if m == n then bare else full) → all ≡ celled ++ behind → all ≡ old ++ (cell ++ (if length cell == 0 then bare else full))
 cell_behind old cell celled all bare full behind m n first now before is last =

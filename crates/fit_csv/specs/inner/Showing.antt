@@ -25,7 +25,7 @@ pub record CellKey : Type 0 where
   pub size : ℕ
   pub info : Option Meaning
 
--- What stands behind the cell of a field, up to the next one: the first where the cell is empty, the second where it isn't; and how its
+-- What comes after the cell of a field, up to the next one: the first where the cell is empty, the second where it isn't; and how its
 -- items are read.
 pub record ShownKey : Type 0 where
   pub bare : List ℕ
@@ -38,7 +38,7 @@ pub record ShownKey : Type 0 where
 abbrev pub plain_cell : ℕ → ℕ → CellKey
 plain_cell code size = record { code = code; size = size; info = None }
 
--- A developer field of this name, unit, base type code and size, behind so many others.
+-- A developer field of this name, unit, base type code and size, after that many others.
 pub record ShownDevKey : Type 0 where
   pub before : ℕ
   pub name : List ℕ
@@ -50,7 +50,7 @@ pub record ShownDevKey : Type 0 where
 abbrev pub spaced : List ℕ → List ℕ
 spaced unit = if length unit == 0 then [] else joined (codes " " ∷ unit ∷ [])
 
--- what stands before the cell of the first of these fields, which comes after so many others
+-- what stands before the cell of the first of these fields, which comes after that many others
 abbrev pub first_head : ℕ → ℕ → List FieldDef → List ℕ
 first_head before global [] = []
 first_head before global (f ∷ fields) = joined (separator before ∷ field_label global f.number ∷ codes "=" ∷ [])
@@ -88,6 +88,6 @@ line_front local global = joined (codes "  " ∷ decimal local ∷ codes " " ∷
 abbrev pub seconds_text : ℕ → List ℕ
 seconds_text s = two_digits s ++ codes "Z"
 
--- The times of this minute begin with this text behind a message's label, up to their seconds.
+-- The times of this minute begin with this text after a message's label, up to their seconds.
 abbrev pub IsMinute : ℕ → List ℕ → Type 0
 IsMinute minute text = (t : ℕ) → t < 2 ^ 32 → t / 60 ≡ minute → time_part (Some t) ≡ text ++ seconds_text (t % 60)

@@ -59,7 +59,7 @@ fn lone_float(code: u8, size: u8, order: Order, bytes: &[u8]) -> Option<u64>
     }
 }
 
-/// Puts the bits of a float of four bytes behind a text.
+/// Puts the bits of a float of four bytes after a text.
 fn put_float(text: &mut Vec<u8>, bits: u64) -> Result<(), AllocError>
     ensures { OnOk result (text.new.items ≡ text.old.items
         ++ (codes "0x" ++ hex_digits 8 bits)) }

@@ -12,7 +12,7 @@ use crate::stamp::Stamp;
 use std::alloc::{AllocError, Global};
 use std::marker::Model;
 
-/// What stands around the cell of a developer field with this name and unit, behind so many others, and how its items are shown.
+/// What stands around the cell of a developer field with this name and unit, after that many others, and how its items are shown.
 #[derive(Drop)]
 pub(crate) struct ShownDev {
     before: usize,
@@ -22,7 +22,7 @@ pub(crate) struct ShownDev {
     size: u8,
     /// What stands before the cell.
     head: Stamp,
-    /// What stands behind a cell that isn't empty.
+    /// What comes after a cell that isn't empty.
     tail: Stamp,
     cell: ShownCell,
 }
@@ -84,7 +84,7 @@ impl ShownDev {
         })
     }
 
-    /// Whether it is that of a field of this name, unit, code and size, behind so many others.
+    /// Whether it is that of a field of this name, unit, code and size, after that many others.
     pub(crate) fn is_of(&self, before: usize, name: &str, unit: &str, code: u8, size: u8) -> bool
         ensures { IsTrue result → self.now ≡ record {
           before = before;
@@ -101,7 +101,7 @@ impl ShownDev {
             && self.unit.as_slice() == unit.as_bytes()
     }
 
-    /// Puts the unit behind a cell, where neither is empty.
+    /// Puts the unit after a cell, where neither is empty.
     #[inline(always)]
     fn put_unit(&self, text: &mut Vec<u8>, is_empty: bool) -> Result<(), AllocError>
         ensures { OnOk result (text.new.items

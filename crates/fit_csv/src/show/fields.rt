@@ -46,7 +46,7 @@ pub(crate) fn put_name<'a>(
     put_words(text, words.as_slice())
 }
 
-/// Puts the next field, a developer field by its described code, its name and its unit, behind so many others, and keeps at a
+/// Puts the next field, a developer field by its described code, its name and its unit, after that many others, and keeps at a
 /// place what stands around its cell.
 #[inline(never)]
 fn put_new<S: FieldItems>(

@@ -1,4 +1,4 @@
-//! What stands behind the cells of fields in a line, found out once for many messages.
+//! What comes after the cells of fields in a line, found out once for many messages.
 ghost use Rattle.std.specs.Prelude.{◌≡◌, ◌+◌, ◌++◌, ◌∷◌, [], if◌then◌else◌, IfOk, OnOk};
 ghost use Rattle.fit_csv.specs.inner.Frames.{HasFields, TakesField};
 ghost use Rattle.fit_csv.specs.inner.Showing.{first_head, key_text, shown_key, shown_keys, spaced};
@@ -24,7 +24,7 @@ pub(crate) fn put_spaced(text: &mut Vec<u8>, unit: &str) -> Result<(), AllocErro
     put_words(text, words.as_slice())
 }
 
-/// Puts what stands before the cell of the first of these fields, which comes after so many others.
+/// Puts what stands before the cell of the first of these fields, which comes after that many others.
 pub(crate) fn put_head(
     text: &mut Vec<u8>,
     before: usize,
@@ -69,7 +69,7 @@ impl Model for ShownField {
 }
 
 impl ShownField {
-    /// That of a field of messages of this global number, with so many fields up to it, before these others.
+    /// That of a field of messages of this global number, with that many fields up to it, before these others.
     pub(crate) fn new(
         alloc: Global,
         global: u16,

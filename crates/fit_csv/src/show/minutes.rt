@@ -20,7 +20,6 @@ fn digit(n: u32) -> u8
 }
 
 /// Puts the end of a time from its seconds on.
-#[inline(always)]
 fn put_seconds(text: &mut Vec<u8>, seconds: u32) -> Result<(), AllocError>
     requires { seconds < 60 }
     ensures { OnOk result (text.new.items ≡ text.old.items ++ seconds_text seconds) }

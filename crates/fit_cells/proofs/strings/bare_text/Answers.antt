@@ -17,7 +17,8 @@ returns-then-not-begins_as_bytes-clause-bare c =
 
 pub returns-else-are_zeros-clause-none : goal.returns-else-are_zeros-clause-none
 returns-else-are_zeros-clause-none c = λ _ text zeros is bare none.
-    let parts = bare_split c.args.bytes.now text zeros c.bare_len.result c.bare_len.ensures.within c.bare_len.ensures.bare c.bare_len.ensures.most is bare none in
+    let long = c.bare_len.ensures in
+    let parts = bare_split c.args.bytes.now text zeros c.bare_len.result long.within long.bare long.most is bare none in
     elim c.else-are_zeros.branch [
       | else-are_zeros-via-then-are_zeros+else-not-begins_as_bytes w ↦
           ap begins_as_bytes (sym parts.0 ∙ sym c.split_at.ensures.front) ∙ sym w.begins_as_bytes.ensures ∙ w.if-not-begins_as_bytes.false
