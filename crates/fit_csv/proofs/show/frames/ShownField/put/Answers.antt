@@ -10,6 +10,7 @@ pub returns : goal.returns
 returns g c = on_ok_weaker c.put.result (λ put more all h.
     let key : ShownKey = c.args.self.now in
     let old = c.args.text.now.items in
+    let shown = λ i is. is ∙ ap (λ (k : ShownKey). old ++ shown_cell k.code k.info i) c.self.view_is in
     let t = c.in_ok-show_next.ensures more all
     (subst (λ (k : ShownKey). g.S.FieldItems.has_items c.args.items.now ((k.code, k.size) ∷ more) all) (sym c.self.view_is) h) in (
       t.0,
@@ -17,6 +18,6 @@ returns g c = on_ok_weaker c.put.result (λ put more all h.
       t.2,
       t.3,
       cell_behind old (shown_cell key.code key.info t.0) c.show_next.new.text.items c.put.new.text.items key.bare key.full
-          c.behind-behind.result.now c.len.result c.len-start.result (t.4 ∙ ap (λ (k : ShownKey). old ++ shown_cell k.code k.info t.0) c.self.view_is) (omega (arith, c.len.ensures))
+          c.behind-behind.result.now c.len.result c.len-start.result (shown t.0 t.4) (omega (arith, c.len.ensures))
           (omega (arith, c.len-start.ensures)) c.behind-behind.ensures put,
     )) c.put.ensures
