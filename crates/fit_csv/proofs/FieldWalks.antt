@@ -1,5 +1,5 @@
 -- Fields of a message, taken one after another, and their texts.
-use Rattle.fit_csv.proofs.Common.{◌≡◌, ◌∙◌, ◌≤◌, ◌+◌, ◌++◌, ◌∷◌, [], suc, length, map, drop, get_or, refl, sym, ap, subst, append_assoc, arith, add-one, zip}
+use Rattle.fit_csv.proofs.Common.{◌≡◌, ◌∙◌, ◌≤◌, ◌+◌, ◌++◌, ◌∷◌, [], length, map, drop, get_or, refl, sym, ap, subst, append_assoc, arith, add-one, zip}
 use Rattle.fit_csv.proofs.Common.{Items}
 use Rattle.fit_csv.proofs.Common.{Global, default_writer, field_text, cell, csv_text, text_append, text_none, FieldDef, field_key, field_rows, field_row}
 use Rattle.fit_csv.proofs.Common.{FrameKey, FrameText, end_of, frames_of, head_text, tail_text, HasFields, TakesField, TakesFields, values_text}

@@ -1,8 +1,8 @@
 -- Rows of values between what stands around these.
-use Rattle.fit_csv.proofs.Common.{◌≡◌, ◌∙◌, ◌++◌, ◌∷◌, [], ◌-◌, ◌+◌, zero, suc, length, take, get_or, map, refl, sym, ap, ap₂, append_assoc, arith, false}
-use Rattle.fit_csv.proofs.Common.{add-one, zip, get_or-zip, length-zip, map-append, take_more, take-append_seam, default_writer, escaped, field_text}
-use Rattle.fit_csv.proofs.Common.{fields_text, is_blank, needs_quotes, Items, FieldDef, cell, Row, csv_text, text_append, high-decimal, unquoted, field_row}
-use Rattle.fit_csv.proofs.Common.{field_rows, optional_number, row, FrameKey, FrameText, end_of, field_key, frame_text, frames_of, head_text, tail_text}
+use Rattle.fit_csv.proofs.Common.{◌≡◌, ◌∙◌, ◌++◌, ◌∷◌, [], ◌-◌, ◌+◌, length, take, get_or, map, refl, sym, ap, ap₂, append_assoc, arith, false}
+use Rattle.fit_csv.proofs.Common.{map-append, take_more, take-append_seam, default_writer, escaped, field_text}
+use Rattle.fit_csv.proofs.Common.{fields_text, is_blank, needs_quotes, Items, FieldDef, cell, csv_text, high-decimal, unquoted}
+use Rattle.fit_csv.proofs.Common.{optional_number, row, FrameKey, end_of, field_key, frame_text, frames_of, head_text, tail_text}
 use Rattle.fit_csv.proofs.Common.{two_cells, value_row}
 use Rattle.std.proofs.Common.{◌<◌, ℕ, List, codes, decimal, Option, Some, None}
 use Rattle.std.proofs.lemmas.List.{append-nil, length-append}

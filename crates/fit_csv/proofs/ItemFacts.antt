@@ -1,13 +1,12 @@
 -- The items of the next field, made or in their bytes.
-use Rattle.fit_csv.proofs.Common.{◌≡◌, ◌∙◌, ◌≤◌, ◌+◌, ◌/◌, ◌%◌, ◌^◌, ◌++◌, ◌∷◌, [], zero, suc, length, map, take, drop, refl, sym, ap, ap₂, subst, arith}
-use Rattle.fit_csv.proofs.Common.{Bor, take_all}
-use Rattle.fit_csv.proofs.Common.{Order, Items, HasShape, HaveShape, MessageDef, Defined, DevDef, FieldDef, base_type, item_width, layout, dev_layout}
-use Rattle.std.proofs.Common.{◌<◌, ℕ, List, Option, None, ◌⊎◌, inl, inr, if◌then◌else◌, ◌==◌}
+use Rattle.fit_csv.proofs.Common.{◌≡◌, ◌∙◌, ◌≤◌, ◌+◌, ◌/◌, ◌%◌, ◌^◌, ◌++◌, ◌∷◌, [], suc, length, take, drop, refl, sym, ap, subst, arith}
+use Rattle.fit_csv.proofs.Common.{take_all}
+use Rattle.fit_csv.proofs.Common.{Order, Items, HasShape, HaveShape, Defined, base_type, item_width}
+use Rattle.std.proofs.Common.{◌<◌, ℕ, List, None, ◌⊎◌, inl, inr, if◌then◌else◌, ◌==◌}
 use Rattle.std.proofs.lemmas.List.Sums.{sum_by-cons}
-use Rattle.std.proofs.Math.Seq.{length-take-le, take-take, drop-drop}
+use Rattle.std.proofs.Math.Seq.{take-take, drop-drop}
 use Rattle.std.proofs.lemmas.List.{drop-take}
 use Rattle.std.proofs.Math.ListN.{length-drop}
-use Rattle.std.specs.Global.{Global}
 use Rattle.fit_base.proofs.NumberLaws.{number-below}
 use Rattle.fit_base.specs.Numbers.{IsBytes, number}
 use Rattle.fit_record.proofs.ReadMessages.{message_fits}

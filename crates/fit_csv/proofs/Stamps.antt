@@ -1,5 +1,5 @@
 -- Texts that are put behind many others.
-use Rattle.fit_csv.proofs.Common.{◌≡◌, ◌∙◌, ◌≤◌, ◌+◌, ◌++◌, length, take, sym, ap, arith, min, take-append-add, take-append_seam}
+use Rattle.fit_csv.proofs.Common.{◌≡◌, ◌∙◌, ◌≤◌, ◌+◌, ◌++◌, length, take, ap, take-append-add, take-append_seam}
 use Rattle.std.proofs.Common.{ℕ, List}
 use Rattle.std.proofs.Math.Seq.{take-take}
 

@@ -1,4 +1,4 @@
-use Rattle.fit_csv.proofs.Common.{◌++◌, ◌∷◌, [], get_or, refl, ap₂, subst, arith, option_and_then, slice_get, Items, Global, Naming, nameless, namings_at}
+use Rattle.fit_csv.proofs.Common.{◌++◌, ◌∷◌, [], get_or, refl, ap₂, subst, arith, option_and_then, slice_get, Naming, namings_at}
 use Rattle.fit_csv.proofs.Common.{cell, HasRows, TakesField, row}
 use Rattle.std.proofs.Common.{ℕ, List, None, codes, decimal}
 use Rattle.std.specs.Prelude.{unwrap_or}

@@ -1,4 +1,4 @@
-use Rattle.fit_csv.proofs.Common.{◌∙◌, ◌++◌, ◌∷◌, [], sym, ap, subst, arith, on_ok_weaker, ShownKey, HasFields, shown_cell}
+use Rattle.fit_csv.proofs.Common.{◌≡◌, ◌∙◌, ◌++◌, ◌∷◌, [], sym, ap, subst, arith, on_ok_weaker, ShownKey, HasFields, shown_cell}
 use Rattle.fit_csv.proofs.ShownLines.{cell_behind}
 use Rattle.fit_csv.proofs.show.frames.ShownField.put.Goals as goal
 
@@ -10,14 +10,15 @@ pub returns : goal.returns
 returns g c = on_ok_weaker c.put.result (λ put more all h.
     let key : ShownKey = c.args.self.now in
     let old = c.args.text.now.items in
-    let shown = λ i is. is ∙ ap (λ (k : ShownKey). old ++ shown_cell k.code k.info i) c.self.view_is in
     let t = c.in_ok-show_next.ensures more all
-    (subst (λ (k : ShownKey). g.S.FieldItems.has_items c.args.items.now ((k.code, k.size) ∷ more) all) (sym c.self.view_is) h) in (
+    (subst (λ (k : ShownKey). g.S.FieldItems.has_items c.args.items.now ((k.code, k.size) ∷ more) all) (sym c.self.view_is) h) in
+    let shown : c.show_next.new.text.items ≡ old ++ shown_cell key.code key.info t.0 =
+    t.4 ∙ ap (λ (k : ShownKey). old ++ shown_cell k.code k.info t.0) c.self.view_is in (
       t.0,
       t.1,
       t.2,
       t.3,
       cell_behind old (shown_cell key.code key.info t.0) c.show_next.new.text.items c.put.new.text.items key.bare key.full
-          c.behind-behind.result.now c.len.result c.len-start.result (shown t.0 t.4) (omega (arith, c.len.ensures))
+          c.behind-behind.result.now c.len.result c.len-start.result shown (omega (arith, c.len.ensures))
           (omega (arith, c.len-start.ensures)) c.behind-behind.ensures put,
     )) c.put.ensures
