@@ -4,7 +4,6 @@
 
 mod component;
 mod decimal;
-mod decimals;
 mod digits;
 pub mod field_number;
 mod instant;

@@ -1,15 +1,14 @@
 //! Numbers with a fixed number of decimals, put after a text.
-ghost use Rattle.std.specs.Prelude.{◌≡◌, ◌≤◌, ◌<◌, ◌++◌, ◌+◌, ◌/◌, ◌%◌, ◌^◌, IsTrue, OnErr, OnOk, decimal};
+ghost use Rattle.std.specs.Prelude.{◌≡◌, ◌≤◌, ◌<◌, ◌++◌, ◌+◌, ◌/◌, ◌%◌, ◌^◌, OnErr, OnOk, decimal};
 ghost use Rattle.fit_profile.specs.FixedText.{fixed_text, fraction, last_digits, StillBegins};
 
 use crate::Fixed;
-use crate::decimals::{put_fraction, put_ten_millionths};
 use crate::pairs::{ones, tens};
 use itoa::Buffer;
 use std::alloc::AllocError;
 
 /// The digit of a number below ten.
-pub(crate) fn digit(n: u64) -> u8
+fn digit(n: u64) -> u8
     requires { n < 10 }
     ensures { result ≡ 48 + n }
 {
@@ -18,7 +17,7 @@ pub(crate) fn digit(n: u64) -> u8
 
 /// Whether a text has room for that many bytes more.
 #[inline(always)]
-pub(crate) fn has_room(text: &Vec<u8>, bytes: usize) -> bool {
+fn has_room(text: &Vec<u8>, bytes: usize) -> bool {
     text.capacity() - text.len() >= bytes
 }
 
@@ -216,6 +215,60 @@ pub fn put_whole(text: &mut Vec<u8>, n: u64) -> Result<(), AllocError>
     }
 }
 
+/// Puts the point and one decimal behind a text.
+#[tactic(auto, using(crate::proofs::PutFacts::one_decimal))]
+fn put_tenths(text: &mut Vec<u8>, part: u64) -> Result<(), AllocError>
+    requires { part < 10 }
+    ensures ok { OnOk result (text.new.items ≡ text.old.items ++ fraction 1 part) }
+    ensures err { OnErr result (text.new.items ≡ text.old.items) }
+{
+    text.extend_from_slice(&[b'.', digit(part)])
+}
+
+/// Puts the point and two decimals behind a text.
+#[tactic(auto, using(crate::proofs::PutFacts::two_decimals))]
+fn put_hundredths(text: &mut Vec<u8>, part: u64) -> Result<(), AllocError>
+    requires { part < 100 }
+    ensures ok { OnOk result (text.new.items ≡ text.old.items ++ fraction 2 part) }
+    ensures err { OnErr result (text.new.items ≡ text.old.items) }
+{
+    text.extend_from_slice(&[b'.', tens(part), ones(part)])
+}
+
+/// Puts the point and three decimals behind a text.
+#[tactic(auto, using(crate::proofs::PutFacts::three_decimals))]
+fn put_thousandths(text: &mut Vec<u8>, part: u64) -> Result<(), AllocError>
+    requires { part < 1000 }
+    ensures ok { OnOk result (text.new.items ≡ text.old.items ++ fraction 3 part) }
+    ensures err { OnErr result (text.new.items ≡ text.old.items) }
+{
+    let low = part % 100;
+    text.extend_from_slice(&[b'.', digit(part / 100), tens(low), ones(low)])
+}
+
+/// Puts the point and seven decimals behind a text.
+#[tactic(auto, using(crate::proofs::PutFacts::seven_decimals))]
+fn put_ten_millionths(text: &mut Vec<u8>, part: u64) -> Result<(), AllocError>
+    requires { part < 10_000_000 }
+    ensures ok { OnOk result (text.new.items ≡ text.old.items ++ fraction 7 part) }
+    ensures err { OnErr result (text.new.items ≡ text.old.items) }
+{
+    let high = part / 10_000;
+    let low = part % 10_000;
+    let (a, b) = (high / 100, high % 100);
+    let (c, d) = (low / 100, low % 100);
+    text.extend_from_slice(&[
+        b'.',
+        digit(a),
+        tens(b),
+        ones(b),
+        tens(c),
+        ones(c),
+        tens(d),
+        ones(d),
+    ])
+}
+
 /// Puts a size with seven decimals behind a text.
 #[tactic(auto, using(crate::proofs::KeptTexts::more_put))]
 fn put_fine(text: &mut Vec<u8>, size: u64) -> Result<(), AllocError>
@@ -239,56 +292,15 @@ fn put_size(text: &mut Vec<u8>, size: u64, decimals: u8) -> Result<(), AllocErro
         0 => put_whole(text, size),
         1 => {
             put_whole(text, size / 10)?;
-            put_fraction(text, size % 10, 1)
+            put_tenths(text, size % 10)
         }
         2 => {
             put_whole(text, size / 100)?;
-            put_fraction(text, size % 100, 2)
+            put_hundredths(text, size % 100)
         }
         _ => {
             put_whole(text, size / 1000)?;
-            put_fraction(text, size % 1000, 3)
-        }
-    }
-}
-
-/// Whether at most four digits of a size with at most three decimals stand before the point.
-#[inline(always)]
-fn is_short(size: u64, decimals: u8) -> bool
-    requires { decimals ≤ 3 }
-    ensures { IsTrue result → size / 10 ^ decimals < 10_000 }
-{
-    match decimals {
-        0 => size < 10_000,
-        1 => size < 100_000,
-        2 => size < 1_000_000,
-        _ => size < 10_000_000,
-    }
-}
-
-/// Puts such a size behind a text.
-#[inline(always)]
-#[tactic(auto, using(crate::proofs::KeptTexts::none_put, crate::proofs::KeptTexts::part_put, crate::proofs::KeptTexts::more_put))]
-fn put_short(text: &mut Vec<u8>, size: u64, decimals: u8) -> Result<(), AllocError>
-    requires decimals { decimals ≤ 3 }
-    requires short { size / 10 ^ decimals < 10_000 }
-    ensures ok { OnOk result (text.new.items ≡ text.old.items ++ decimal (size / 10 ^ decimals)
-        ++ fraction decimals (size % 10 ^ decimals)) }
-    ensures kept { OnErr result (StillBegins text.old.items text.new.items) }
-{
-    match decimals {
-        0 => put_few_here(text, size),
-        1 => {
-            put_few_here(text, size / 10)?;
-            put_fraction(text, size % 10, 1)
-        }
-        2 => {
-            put_few_here(text, size / 100)?;
-            put_fraction(text, size % 100, 2)
-        }
-        _ => {
-            put_few_here(text, size / 1000)?;
-            put_fraction(text, size % 1000, 3)
+            put_thousandths(text, size % 1000)
         }
     }
 }
@@ -310,7 +322,7 @@ fn put_printed(text: &mut Vec<u8>, value: i64, decimals: u8) -> Result<(), Alloc
 /// Puts a number with decimals or a sign behind a text.
 #[inline(never)]
 #[tactic(auto, using(crate::proofs::KeptTexts::none_put, crate::proofs::KeptTexts::more_put))]
-fn put_any(text: &mut Vec<u8>, value: i64, decimals: u8) -> Result<(), AllocError>
+fn put_scaled(text: &mut Vec<u8>, value: i64, decimals: u8) -> Result<(), AllocError>
     requires { decimals ≤ 8 }
     ensures ok { OnOk result (text.new.items ≡ text.old.items ++ fixed_text value decimals) }
     ensures kept { OnErr result (StillBegins text.old.items text.new.items) }
@@ -325,23 +337,6 @@ fn put_any(text: &mut Vec<u8>, value: i64, decimals: u8) -> Result<(), AllocErro
         return put_fine(text, value.unsigned_abs());
     }
     put_size(text, value.unsigned_abs(), decimals)
-}
-
-/// The same, sooner where the number is short and the text has room.
-#[inline(never)]
-fn put_scaled(text: &mut Vec<u8>, value: i64, decimals: u8) -> Result<(), AllocError>
-    requires { decimals ≤ 8 }
-    ensures ok { OnOk result (text.new.items ≡ text.old.items ++ fixed_text value decimals) }
-    ensures kept { OnErr result (StillBegins text.old.items text.new.items) }
-{
-    if value < 0 || decimals > 3 || !has_room(text, 4) {
-        return put_any(text, value, decimals);
-    }
-    let size = value.unsigned_abs();
-    if !is_short(size, decimals) {
-        return put_any(text, value, decimals);
-    }
-    put_short(text, size, decimals)
 }
 
 /// Puts the number `value / 10^decimals` after a text, as `Fixed::print` shows it. Out of memory, the old text is still its
