@@ -18,11 +18,8 @@ use std::process::ExitCode;
 
 const USAGE: &str = "usage: fit check|show|to-csv|from-csv|table [FILE]";
 
-/// How many bytes are read from a file at once.
-const INPUT: usize = 64 * 1024;
-
-/// Texts of fewer bytes are kept until there are as many to be written at once. A longer one is written without a copy.
-const OUTPUT: usize = 8 * 1024;
+/// How many bytes are read from a file, and written to the output, at once.
+const BUFFER: usize = 64 * 1024;
 
 /// Room for the fault lines of a run: two at most, of 64 bytes each.
 const FAULTS: usize = 128;
@@ -86,10 +83,10 @@ fn run_file(rt: &HostRuntime, command: Command, path: &str) -> u8 {
 /// the status is made. Where the output is a pipe that nobody reads any more, nothing is said of that.
 fn run_reader<R: Read + Drop>(rt: &HostRuntime, command: Command, reader: R) -> u8 {
     let alloc: Global = rt.alloc();
-    let Ok(reader) = BufReader::with_capacity(alloc, INPUT, reader) else {
+    let Ok(reader) = BufReader::with_capacity(alloc, BUFFER, reader) else {
         return out_of_memory(rt);
     };
-    let Ok(mut writer) = BufWriter::with_capacity(alloc, OUTPUT, rt.stdout()) else {
+    let Ok(mut writer) = BufWriter::with_capacity(alloc, BUFFER, rt.stdout()) else {
         return out_of_memory(rt);
     };
     let mut source = ReadSource::new(reader);
