@@ -4,6 +4,7 @@ use Rattle.fit_profile.proofs.Common.{option_and_then}
 use Rattle.fit_profile.proofs.Common.{FieldDef, Items, first_field}
 use Rattle.std.proofs.lemmas.List.{take-take}
 use Rattle.std.proofs.lemmas.List.Sums.{sum_by-cons}
+use Rattle.std.specs.Global.{Global}
 use Rattle.fit_base.specs.declared.number.Order.{Order}
 use Rattle.fit_base.specs.Numbers.{number}
 use Rattle.fit_record.specs.ReadMessages.{field_from, fields_from}
@@ -13,6 +14,7 @@ use Rattle.fit_record.specs.declared.message_bytes.MessageBytes.{MessageBytes}
 use Rattle.fit_record.specs.Records.{sizes, layout}
 use Rattle.fit_profile.specs.Times.{time_in_field, valid_time, field_time}
 use Rattle.fit_profile.specs.inner.InBytes.{slots}
+use Rattle.fit_profile.specs.inner.Plans.{time_of_fields}
 
 -- the items of a field whose bytes begin these
 abbrev pub items_at : {A : Type 0} → Order → FieldDef → List ℕ → Items A
@@ -41,11 +43,8 @@ pub time_here : (A : Type 0) (o : Order) (f : FieldDef) (bytes : List ℕ) → f
 time_here A o f bytes code size = rw (code, size) (ap (λ b. valid_time (number o b)) (take-take 4 4 bytes (omega arith)))
 
 -- the time in the bytes of a message
-pub time_of_bytes : {A : Type 0} (m : MessageBytes A) (fields : List FieldDef) → fields ≡ m.defined.now.definition.fields
-    → option_and_then (λ f. time_in_field f.0 f.1) (first_in {A = A} m.defined.now.definition.order fields m.body.now 253)
-    ≡ field_time m.defined.now.definition (message_in m)
-time_of_bytes {A} m fields same =
-    let o = m.defined.now.definition.order in
-    ap (λ fs. option_and_then (λ f. time_in_field f.0 f.1) (first_in {A = A} o fs m.body.now 253)) same
-    ∙ ap (λ items. option_and_then (λ f. time_in_field f.0 f.1) (first_field m.defined.now.definition.fields items 253))
-    (fields_front {A = A} o (layout m.defined.now) m.body.now)
+pub time_of_bytes : (m : MessageBytes Global)
+    → time_of_fields m.defined.now.definition.order m.defined.now.definition.fields m.body.now ≡ field_time m.defined.now.definition (message_in m)
+time_of_bytes m =
+    ap (λ items. option_and_then (λ f. time_in_field f.0 f.1) (first_field m.defined.now.definition.fields items 253))
+    (fields_front {A = Global} m.defined.now.definition.order (layout m.defined.now) m.body.now)

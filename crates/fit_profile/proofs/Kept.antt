@@ -103,6 +103,13 @@ one-described e r v x index number before held now is some same set =
     set ∙ ap (λ h. cond (is_key x.key index number) x.texts h) same
     ∙ sym (described-placed v (defined_at e v.local) (Some x) index number before some) ∙ sym (ap (λ s. naming_after e s index number before) is)
 
+-- a message that describes nothing gives no name
+pub nothing-described : {A : Type 0} (v : Values A) (o : Option (Defined A)) (x : Described A) → option_and_then (λ p. description p.definition v) o ≡ None
+    → Some x ≡ option_and_then (λ p. described p.definition v) o → ⊥
+nothing-described v None x none some = none-some x (sym some)
+nothing-described v (Some p) x none some =
+    none-some x (sym (some ∙ ap (option_map (λ s. record { key = s.key; texts = naming p.definition v })) none))
+
 pub no-definition : {A : Type 0} (f : ℕ → ℕ → Naming) (r : Record A) (v : Values A) (local : ℕ) (before now : List Naming) → r ≡ Data v → now ≡ before
     → now ≡ namings_after f r local before
 no-definition f r v local before now is same = same ∙ sym (ap (λ s. namings_after f s local before) is)

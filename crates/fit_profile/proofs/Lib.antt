@@ -12,6 +12,7 @@ mod KnownFacts
 mod LeastFacts
 mod NameFacts
 mod NoCounters
+mod Planned
 mod ScaleFacts
 mod ScanFacts
 mod ShownFacts

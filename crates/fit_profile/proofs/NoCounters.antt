@@ -8,7 +8,7 @@ use Rattle.fit_record.specs.Faults.{or_else}
 use Rattle.fit_profile.specs.Accumulated as sums
 use Rattle.fit_profile.specs.Times.{field_time, header_time}
 use Rattle.fit_profile.specs.declared.told.Last.{Last}
-use Rattle.fit_profile.specs.inner.Counters.{is_counter}
+use Rattle.fit_profile.specs.Accumulated.{is_counter}
 
 no-field : {A : Type 0} (fields : List FieldDef) (items : List (Items A)) (number : ℕ) → is_counter number ≡ true
     → list_any (λ f. is_counter f.number) fields ≡ false → first_field fields items number ≡ None

@@ -1,7 +1,8 @@
 -- Accumulated values of record messages, global message number 20: a field holds the low bits of a value that only grows (FIT SDK, Profile,
 -- columns "Components", "Bits" and "Accumulate").
-use Rattle.std.specs.Prelude.{ℕ, ◌/◌, ◌%◌, ◌^◌, ◌==◌, ◌&&◌, if◌then◌else◌, nat_lt, List, [], ◌∷◌, length, Option, Some, None, option_and_then, option_map}
-use Rattle.std.specs.Prelude.{unwrap_or}
+use Rattle.std.specs.Prelude.{ℕ, ◌/◌, ◌%◌, ◌^◌, ◌==◌, ◌&&◌, ◌||◌, if◌then◌else◌, nat_lt, Bool, List, [], ◌∷◌, length, Option, Some, None}
+use Rattle.std.specs.Prelude.{option_and_then, option_map, unwrap_or}
+use Rattle.std.specs.List.{list_any}
 use Rattle.fit_base.specs.declared.items.Items.{Items}
 use Rattle.fit_base.specs.Numbers.{little}
 use Rattle.fit_record.specs.declared.definition.MessageDef.{MessageDef}
@@ -63,3 +64,11 @@ accumulated c earlier r = accumulated_from (known earlier) (previous_value c ear
 -- the low twelve bits of compressed_speed_distance
 abbrev pub speed : {A : Type 0} → List (Record A) → Record A → Option ℕ
 speed earlier r = option_map (λ x. x % 2 ^ 12) (component (known earlier) distance r)
+
+-- compressed_speed_distance, cycles and compressed_accumulated_power
+abbrev pub is_counter : ℕ → Bool
+is_counter number = number == 8 || number == 18 || number == 28
+
+-- Messages of this definition tell more than times: they are field descriptions, or records with a counter.
+abbrev pub tells_more : {A : Type 0} → MessageDef A → Bool
+tells_more d = d.global == 206 || (d.global == 20 && list_any (λ f. is_counter f.number) d.fields)

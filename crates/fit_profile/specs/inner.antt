@@ -1,6 +1,6 @@
 -- Definitions that no public contract cites: what private functions and proofs need.
-pub mod Counters
 pub mod Digits
 pub mod InBytes
 pub mod Keeps
+pub mod Plans
 pub mod Shows

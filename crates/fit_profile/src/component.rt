@@ -3,7 +3,7 @@ ghost use Rattle.std.specs.Prelude.{◌≡◌, ◌≤◌, ◌<◌, ◌^◌, ◌=
 ghost use Rattle.std.specs.List.{list_any};
 ghost use Rattle.fit_base.specs.Numbers as numbers;
 ghost use Rattle.fit_profile.specs.Accumulated.{number_in, number_of};
-ghost use Rattle.fit_profile.specs.inner.Counters.{is_counter};
+ghost use Rattle.fit_profile.specs.Accumulated.{is_counter};
 
 use crate::look::first_of;
 use fit_base::Items;

@@ -84,7 +84,7 @@ impl Fixed {
         }
     }
 
-    /// The number that `print` writes as this text, and some number, or None, where it writes none so.
+    /// Reads a text that `print` writes with this many decimals. For any other text the result may be any number, or None.
     pub fn read(text: &str, decimals: u8) -> Option<Fixed>
         ensures { (v : ℤ) → IsIn128 v → text.now ≡ fixed_text v decimals
             → result ≡ Some (record { value = v; decimals = decimals }) }
@@ -92,7 +92,7 @@ impl Fixed {
         read_back(text, decimals)
     }
 
-    /// The number that `print` writes as this text; None where it writes none so.
+    /// The number that `print` writes as this text with this many decimals; None for any other text.
     pub fn scan(text: &str, decimals: u8) -> Option<Fixed>
         requires { decimals ≤ 8 }
         ensures some { IfSome result (λ f. (f.decimals ≡ decimals)
@@ -109,8 +109,8 @@ impl Fixed {
     }
 }
 
-/// The number with so many decimals that prints as this text, and some such number, or None, where
-/// none does.
+/// The number with this many decimals that `print` writes as this text. For any other text the result may be any such number, or
+/// None.
 fn read_back(text: &str, decimals: u8) -> Option<Fixed>
     ensures every { (v : ℤ) → IsIn128 v → text.now ≡ fixed_text v decimals
         → result ≡ Some (record { value = v; decimals = decimals }) }

@@ -1,6 +1,6 @@
 //! What a stream takes in of a record: its environment, and the names and units of developer fields.
-ghost use Rattle.std.specs.Prelude.{◌≡◌, ℕ, OnOk, OnErr, IfOk, IsSomeAnd, option_and_then};
-ghost use Rattle.fit_record.specs.Environment.{defined_at, learn};
+ghost use Rattle.std.specs.Prelude.{◌≡◌, ℕ, OnOk, OnErr, IfOk, IsOk, IsSomeAnd, None, option_and_then};
+ghost use Rattle.fit_record.specs.Environment.{DescribesNothing, defined_at, described_by, learn};
 ghost use Rattle.fit_record.specs.Records.{DataFits, Fits};
 ghost use Rattle.fit_record.specs.declared.message.Record.TheVariants.{Define, Values as Data};
 ghost use Rattle.fit_profile.specs.Described.{naming_after, namings_after};
@@ -44,8 +44,9 @@ fn described_in<A: Allocator + Copy>(
     values: &Values<A>,
 ) -> Result<Option<Described<A>>, AllocError>
     requires { IsSomeAnd (defined_at env.now values.now.local) (DataFits values.now) }
-    ensures { IfOk result (λ o. o ≡ option_and_then (λ p. described p.definition values.now)
+    ensures ok { IfOk result (λ o. o ≡ option_and_then (λ p. described p.definition values.now)
         (defined_at env.now values.now.local)) }
+    ensures free { described_by env.now values.now ≡ None → IsOk result }
 {
     let Some(defined) = env.defined(values.local) else {
         return Ok(None);
@@ -79,6 +80,8 @@ fn describe<A: Allocator + Copy>(
         → naming_in names.new index number ≡ naming_in names.old index number) }
     ensures namings_kept { OnErr result ((local : ℕ)
         → namings_in names.new local ≡ namings_in names.old local) }
+    // No memory is taken for a message that describes nothing.
+    ensures free { DescribesNothing env.old record_.now → IsOk result }
 {
     let Some(described) = described_in(env, names.alloc, values)? else {
         return env.learn(record_);
@@ -106,6 +109,8 @@ pub(crate) fn take_in<A: Allocator + Copy>(
         → naming_in names.new index number ≡ naming_in names.old index number) }
     ensures namings_kept { OnErr result ((local : ℕ)
         → namings_in names.new local ≡ namings_in names.old local) }
+    // No memory is taken for a message that describes nothing.
+    ensures free { DescribesNothing env.old record_.now → IsOk result }
 {
     match record_ {
         Record::Define(definition) => define(env, names, record_, definition),

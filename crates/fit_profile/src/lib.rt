@@ -17,6 +17,7 @@ mod message_bytes;
 pub mod message_number;
 mod names;
 mod pairs;
+mod plan;
 mod profile;
 mod put;
 mod scaled;

@@ -136,8 +136,8 @@ impl<'a, A: Allocator> Message<'a, A> {
         Some(items)
     }
 
-    /// The name of the developer field at a place: that of the last field description before the
-    /// definition, where it can be shown.
+    /// The name of the developer field at a place: the one in its last field description before the definition message, where that
+    /// isn't empty and is UTF-8 without control characters.
     pub fn dev_name(&self, place: u8) -> Option<&str>
         ensures { option_map (λ s. s.now) result
             ≡ option_and_then (λ t. t.name) (slice_get (shown self.now).namings place) }
@@ -145,7 +145,7 @@ impl<'a, A: Allocator> Message<'a, A> {
         self.texts.get(place as usize)?.name()
     }
 
-    /// The unit of the developer field at a place.
+    /// The unit of the developer field at a place, from the same field description and on the same conditions as its name.
     pub fn dev_unit(&self, place: u8) -> Option<&str>
         ensures { option_map (λ s. s.now) result
             ≡ option_and_then (λ t. t.unit) (slice_get (shown self.now).namings place) }

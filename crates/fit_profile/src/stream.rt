@@ -1,9 +1,12 @@
 //! The records of a file, one after another, and what each message means by those before it.
-ghost use Rattle.std.specs.Prelude.{◌≡◌, ◌∷◌, [], OnOk, OnErr, IfOk, ⊤, MatchResult, Some, true, false, drop, option_map, option_and_then, slice_get};
+ghost use Rattle.std.specs.Prelude.{◌≡◌, ◌∷◌, [], OnOk, OnErr, IfOk, IsOk, IsSomeAnd, ⊤, MatchResult, Some, true, false, drop, option_map, option_and_then, slice_get};
 ghost use Rattle.std.specs.Borrow.{sem};
 ghost use Rattle.std.specs.declared.alloc.Global.{Global};
 ghost use mathlib.Core.Option.{none};
 ghost use denote.Follow.{follows_so};
+ghost use Rattle.fit_record.specs.Environment.{DescribesNothing, defined_at};
+ghost use Rattle.fit_record.specs.declared.environment.Defined.{Defined};
+ghost use Rattle.fit_profile.specs.Accumulated.{tells_more};
 ghost use Rattle.fit_record.specs.Records.{Fits, IsRecord};
 ghost use Rattle.fit_record.specs.declared.message.Values.{Values};
 ghost use Rattle.fit_record.specs.declared.message.Record.TheVariants.{Values as Data};
@@ -19,6 +22,7 @@ use crate::learn::take_in;
 use crate::message::{Message, message_of};
 use crate::message_bytes::{record_of, take_time, time_in};
 use crate::names::{Names, Texts};
+use crate::plan::Plans;
 use crate::time::header_time;
 use crate::told::{Last, Told, last_after, last_behind, tell, time_of};
 use fit_history::History;
@@ -35,6 +39,7 @@ use std::marker::Model;
 #[derive(Drop)]
 pub struct Stream {
     env: Env,
+    plans: Plans,
     last: Last,
     names: Names,
     pushed: History<Record>,
@@ -46,12 +51,14 @@ impl Model for Stream {
     ghost use Rattle.std.specs.declared.alloc.Global.{Global};
     ghost use Rattle.fit_record.specs.declared.message.Record.{Record};
     ghost use Rattle.fit_profile.specs.inner.Keeps.{KeepsRecords};
+    ghost use Rattle.fit_profile.specs.inner.Plans.{ArePlanned};
 
     ghost Value = { List (Record Global) };
 
     ghost view = { λ s. reverse s.pushed.items };
 
-    ghost invariant = { λ s. KeepsRecords s.env s.last s.names (reverse s.pushed.items) };
+    ghost invariant = { λ s. KeepsRecords s.env s.last s.names (reverse s.pushed.items)
+        × ArePlanned s.plans.places s.env.places };
 }
 
 const NOTHING: Last = Last {
@@ -68,6 +75,7 @@ impl Stream {
     {
         Stream {
             env: Env::new(alloc),
+            plans: Plans::new(),
             last: NOTHING,
             names: Names::new(alloc),
             pushed: History::new(),
@@ -80,6 +88,7 @@ impl Stream {
         ensures { self.new ≡ [] }
     {
         self.env = Env::new(self.alloc);
+        self.plans = Plans::new();
         self.last = NOTHING;
         self.names = Names::new(self.alloc);
         self.pushed = History::new();
@@ -114,7 +123,7 @@ impl Stream {
         ensures { (v : Values Global) → IsRecord (known self.now) (Data v) bytes.now
             → result ≡ times.time self.now (Data v) }
     {
-        time_in(&self.env, self.last.time, bytes)
+        time_in(&self.env, &self.plans, self.last.time, bytes)
     }
 
     /// The name and the unit of a developer field of a local message type.
@@ -160,8 +169,10 @@ impl Stream {
         requires last { last ≡ telling.last_of (record_.now ∷ self.old) }
         ensures ok { OnOk result (self.new ≡ record_.now ∷ self.old) }
         ensures err { OnErr result (self.new ≡ self.old) }
+        ensures free { DescribesNothing (known self.old) record_.now → IsOk result }
     {
         take_in(&mut self.env, &mut self.names, record_)?;
+        self.plans.take(record_);
         self.last = last;
         self.pushed.add(record_);
         Ok(())
@@ -173,6 +184,7 @@ impl Stream {
         ensures ok { OnOk result (self.new ≡ record_.now ∷ self.old) }
         ensures err { OnErr result (self.new ≡ self.old) }
         ensures told { IfOk result (λ t. t ≡ told_of self.old record_.now) }
+        ensures free { DescribesNothing (known self.old) record_.now → IsOk result }
     {
         let told = tell(&self.env, self.last, record_);
         let last = last_after(self.last, told);
@@ -188,6 +200,8 @@ impl Stream {
         // With Ok the record is the latest of the stream, else the stream is as it was.
         ensures* after { sem 𝓛 (follows_so the_row the_row self.entry.ghost_name none (λ _ _. ⊤)
             (λ n. MatchResult result (λ _. n ≡ record_.now ∷ self.old) (λ _. n ≡ self.old))) }
+        // No memory is taken for a data message that describes no developer field.
+        ensures free { DescribesNothing (known self.old) record_.now → IsOk result }
     {
         let told = self.note(record_)?;
         Ok(self.message(told, record_))
@@ -198,6 +212,7 @@ impl Stream {
         requires { Fits (known self.old) record_.now }
         ensures ok { OnOk result (self.new ≡ record_.now ∷ self.old) }
         ensures err { OnErr result (self.new ≡ self.old) }
+        ensures free { DescribesNothing (known self.old) record_.now → IsOk result }
     {
         let last = last_behind(&self.env, self.last, record_);
         self.advance(record_, last)
@@ -209,8 +224,17 @@ impl Stream {
         ensures taken { result ≡ true → (v : Values Global)
             → IsRecord (known self.old) (Data v) bytes.now → self.new ≡ Data v ∷ self.old }
         ensures kept { result ≡ false → self.new ≡ self.old }
+        ensures more { result ≡ false → (v : Values Global)
+            → IsRecord (known self.old) (Data v) bytes.now
+            → IsSomeAnd (defined_at (known self.old) v.local) (λ p. tells_more p.definition ≡ true) }
     {
-        take_time(&self.env, &mut self.last, &mut self.pushed, bytes)
+        take_time(
+            &self.env,
+            &self.plans,
+            &mut self.last,
+            &mut self.pushed,
+            bytes,
+        )
     }
 
     /// Takes the next record in, as `take` does, where it is the data message that these bytes are: no
@@ -220,6 +244,11 @@ impl Stream {
         ensures ok { OnOk result ((v : Values Global)
             → IsRecord (known self.old) (Data v) bytes.now → self.new ≡ Data v ∷ self.old) }
         ensures err { OnErr result (self.new ≡ self.old) }
+        // No memory is taken for a message that tells nothing but a time.
+        ensures free { (v : Values Global) (p : Defined Global)
+            → IsRecord (known self.old) (Data v) bytes.now
+            → defined_at (known self.old) v.local ≡ Some p → tells_more p.definition ≡ false
+            → IsOk result }
     {
         if self.take_time(bytes) {
             return Ok(());

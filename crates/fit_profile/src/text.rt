@@ -49,7 +49,7 @@ fn printable_bytes<A: Allocator>(
     Ok(Some(bytes))
 }
 
-/// Numbers as a text, where they are one that can be shown.
+/// Numbers as the bytes of a text, where they aren't empty and are UTF-8 without control characters.
 fn text_of<A: Allocator + Copy>(alloc: A, numbers: &[u64]) -> Result<Option<String<A>>, AllocError>
     ensures { IfOk result (λ text. option_map string_bytes text ≡ printable_text numbers.now) }
 {

@@ -11,6 +11,6 @@ timed e p previous v known = rw known refl
 
 pub returns : goal.returns
 returns c v is =
-    let m = c.message_of.result in
-    subst (λ w. c.time_of_message.result ≡ time_of c.args.env.now c.args.previous (Data w)) (c.message_of.ensures.read v is)
-    (c.time_of_message.ensures ∙ timed c.args.env.now m.defined.now c.args.previous (message_in m) c.message_of.ensures.defined)
+    let m = c.message_of-message.result in
+    subst (λ w. c.time_of_message.result ≡ time_of c.args.env.now c.args.previous (Data w)) (c.message_of-message.ensures.read v is)
+    (c.time_of_message.ensures ∙ timed c.args.env.now m.defined.now c.args.previous (message_in m) c.message_of-message.ensures.defined)

@@ -5,9 +5,12 @@ use Rattle.fit_profile.proofs.Kept.{kept-record}
 use Rattle.fit_profile.proofs.stream.Stream.message_time.Goals as goal
 
 pub time_in-requires : goal.time_in-requires
-time_in-requires c = (c.requires.0, kept-record c.args.self.now (Data c.requires.0) c.args.bytes.now c.self.invariant c.self.view_is c.requires.1)
+time_in-requires c = record {
+  plans = c.self.invariant.1;
+  message = (c.requires.0, kept-record c.args.self.now (Data c.requires.0) c.args.bytes.now c.self.invariant.0 c.self.view_is c.requires.1);
+}
 
 pub returns : goal.returns
 returns c v read =
-    c.time_in.ensures v (kept-record c.args.self.now (Data v) c.args.bytes.now c.self.invariant c.self.view_is read)
-    ∙ ap₂ (λ e l. time_of e l.time (Data v)) c.self.invariant.env_is c.self.invariant.last_is ∙ ap (λ xs. time xs (Data v)) c.self.view_is
+    c.time_in.ensures v (kept-record c.args.self.now (Data v) c.args.bytes.now c.self.invariant.0 c.self.view_is read)
+    ∙ ap₂ (λ e l. time_of e l.time (Data v)) c.self.invariant.0.env_is c.self.invariant.0.last_is ∙ ap (λ xs. time xs (Data v)) c.self.view_is

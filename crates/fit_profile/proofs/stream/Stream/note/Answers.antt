@@ -7,9 +7,9 @@ advance-requires-clause-last c =
     last-now c.self.inside.env c.self.inside.last c.last_after-last.result c.self.inside.names (reverse c.self.inside.pushed.items) c.args.self.now
     c.args.record_.now
     c.tell-told.result
-    c.self.invariant c.self.view_is c.requires c.tell-told.ensures c.last_after-last.ensures
+    c.self.invariant.0 c.self.view_is c.requires c.tell-told.ensures c.last_after-last.ensures
 
 pub returns-clause-told : goal.returns-clause-told
 returns-clause-told c =
     told-now c.self.inside.env c.self.inside.last c.self.inside.names (reverse c.self.inside.pushed.items) c.args.self.now c.args.record_.now c.tell-told.result
-    c.self.invariant c.self.view_is c.requires c.tell-told.ensures
+    c.self.invariant.0 c.self.view_is c.requires c.tell-told.ensures

@@ -6,4 +6,4 @@ pub advance-requires-clause-last : goal.advance-requires-clause-last
 advance-requires-clause-last c =
     let r = c.args.record_.now in
     last-now c.self.inside.env c.self.inside.last c.last_behind-last.result c.self.inside.names (reverse c.self.inside.pushed.items) c.args.self.now r
-    (tell c.self.inside.env c.self.inside.last r) c.self.invariant c.self.view_is c.requires refl c.last_behind-last.ensures
+    (tell c.self.inside.env c.self.inside.last r) c.self.invariant.0 c.self.view_is c.requires refl c.last_behind-last.ensures

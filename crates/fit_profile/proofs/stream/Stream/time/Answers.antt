@@ -4,5 +4,5 @@ use Rattle.fit_profile.proofs.stream.Stream.time.Goals as goal
 
 pub returns : goal.returns
 returns c =
-    c.time_of.ensures ∙ ap₂ (λ e l. time_of e l.time c.args.record_.now) c.self.invariant.env_is c.self.invariant.last_is
+    c.time_of.ensures ∙ ap₂ (λ e l. time_of e l.time c.args.record_.now) c.self.invariant.0.env_is c.self.invariant.0.last_is
     ∙ ap (λ xs. time xs c.args.record_.now) c.self.view_is

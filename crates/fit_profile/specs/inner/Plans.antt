@@ -1,0 +1,40 @@
+-- What is found out once of the messages of a definition. No public contract names these definitions.
+use Rattle.std.specs.Prelude.{◌≡◌, ◌≤◌, ◌+◌, ℕ, List, Option, Some, None, IfSome, drop, option_and_then, slice_index_or, take}
+use Rattle.std.specs.Global.{Global}
+use Rattle.fit_base.specs.Numbers.{number}
+use Rattle.fit_base.specs.declared.number.Order.{Order}
+use Rattle.fit_record.specs.ReadMessages.{fields_from}
+use Rattle.fit_record.specs.Records.{sizes}
+use Rattle.fit_record.specs.declared.definition.FieldDef.{FieldDef}
+use Rattle.fit_record.specs.declared.definition.MessageDef.{MessageDef}
+use Rattle.fit_record.specs.declared.environment.Defined.{Defined}
+use Rattle.fit_profile.specs.Accumulated.{tells_more}
+use Rattle.fit_profile.specs.Looks.{first_field}
+use Rattle.fit_profile.specs.Times.{time_in_field, valid_time}
+use Rattle.fit_profile.specs.declared.plan.Plan.{Plan}
+use Rattle.fit_profile.specs.inner.InBytes.{slots}
+
+-- the time that these fields hold whose bytes begin these
+abbrev pub time_of_fields : Order → List FieldDef → List ℕ → Option ℕ
+time_of_fields order fields bytes =
+    option_and_then (λ f. time_in_field f.0 f.1) (first_field {A = Global} fields (fields_from order (slots fields) bytes) 253)
+
+-- the time in the four bytes at a place
+abbrev pub time_at : Order → Option ℕ → List ℕ → Option ℕ
+time_at order place bytes = option_and_then (λ p. valid_time (number order (take 4 (drop p bytes)))) place
+
+-- This plan is that of the definition: it knows whether a message tells more than a time, and where its time stands.
+pub record IsPlan (plan : Plan) (d : MessageDef Global) : Type 0 where
+  pub more : plan.tells_more ≡ tells_more d
+  pub within : IfSome plan.time_place (λ p. p + 4 ≤ sizes (slots d.fields))
+  pub time : (bytes : List ℕ) → time_of_fields d.order d.fields bytes ≡ time_at d.order plan.time_place bytes
+
+-- the same of a place that may be empty: there is a plan where there is a definition
+abbrev pub IsPlanned : Option Plan → Option (Defined Global) → Type 0
+IsPlanned None None = Unit {0}
+IsPlanned (Some plan) (Some p) = IsPlan plan p.definition
+IsPlanned _ _ = ⊥
+
+-- the same of every place
+abbrev pub ArePlanned : List (Option Plan) → List (Option (Defined Global)) → Type 0
+ArePlanned plans places = (local : ℕ) → IsPlanned (slice_index_or plans local None) (slice_index_or places local None)
