@@ -5,7 +5,8 @@ pub mod HexFacts
 pub mod ReadFacts
 pub mod NumberFacts
 mod StringFacts
-pub mod BareTexts
+pub mod KindFacts
+pub mod LoneCells
 pub mod ClassFacts
 pub mod TextFacts
 mod SplitFacts

@@ -1,22 +1,10 @@
 -- Texts that can stand as they are.
 use Rattle.fit_cells.proofs.Common.{◌≡◌, ◌∙◌, ℕ, zero, suc, ◌<◌, Bool, true, false, List, [], ◌∷◌, ◌++◌, length, drop, get_or, reverse, All, refl, sym, ap, inl}
-use Rattle.fit_cells.proofs.Common.{inr, arith, eqb-true, not, list_all, IsUtf8, is_utf8, cases_Bool, is_utf8-from_IsUtf8, IsUtf8-from_is_utf8, reverse-append}
+use Rattle.fit_cells.proofs.Common.{inr, arith, eqb-true, not, list_all, is_utf8, cases_Bool, reverse-append}
 use Rattle.fit_cells.proofs.Common.{reverse-reverse, ext_get_or, before_closing_zeros, without_zeros, begins_as_bytes, bytes_text, is_plain, string_text}
 use Rattle.fit_cells.proofs.Common.{read_pairs}
 use Rattle.std.specs.Prelude.{◌==◌, ◌&&◌}
 use Rattle.fit_cells.proofs.ReadFacts.{bytes-shown}
-
-pub no_utf8 : (text : List ℕ) → (IsUtf8 text → ⊥) → false ≡ is_plain text
-no_utf8 text h = elim (cases_Bool (is_utf8 text)) [
-  | inl test ↦ absurd (h (IsUtf8-from_is_utf8 text test))
-  | inr test ↦ sym (rw test refl)
-]
-
-pub zero_inside : (text : List ℕ) → IsUtf8 text → list_all (λ b. not (b == 0)) text ≡ false → false ≡ is_plain text
-zero_inside text u z = sym (rw (is_utf8-from_IsUtf8 text u, z) refl)
-
-pub no_zero : (text : List ℕ) → IsUtf8 text → list_all (λ b. not (b == 0)) text ≡ true → not (begins_as_bytes text) ≡ is_plain text
-no_zero text u z = sym (rw (is_utf8-from_IsUtf8 text u, z) refl)
 
 both_parts : (a b : Bool) → (a && b) ≡ true → b ≡ true
 both_parts true b h = h

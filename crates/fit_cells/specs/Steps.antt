@@ -1,6 +1,9 @@
--- How cells are put together and taken apart: what `read_bytes` reads, the bytes that `bare_text` takes; and what stands between items, which
+-- How cells are put together and taken apart: what `read_bytes` reads; and what stands between items and how lone cells are written, which
 -- only private contracts name.
-use Rattle.std.specs.Prelude.{ℕ, zero, suc, ◌+◌, ◌-◌, ◌*◌, ◌%◌, ◌==◌, nat_lt, ◌&&◌, ◌||◌, if◌then◌else◌, Bool, List, [], ◌∷◌, take, drop}
+use Rattle.std.specs.Prelude.{◌≡◌, ℕ, zero, suc, ◌+◌, ◌-◌, ◌*◌, ◌%◌, ◌==◌, nat_lt, if◌then◌else◌, Bool, List, [], ◌∷◌, length, take, drop, Vec}
+use Rattle.std.specs.Global.{Global}
+use Rattle.csv.specs.Writing.{default_writer, fields_written, next_sep, writer_pending, writer_setup}
+use Rattle.csv.specs.declared.writer.Writer.{Writer}
 
 -- what stands before the item at a place
 abbrev pub bar : ℕ → List ℕ
@@ -24,6 +27,8 @@ unfoldable pub read_pairs : ℕ → List ℕ → List ℕ
 read_pairs zero text = []
 read_pairs (suc count) text = read_hex 0 (take 2 text) ∷ read_pairs count (drop 2 text)
 
--- a blank, or an ASCII character that comes behind the comma
-abbrev pub is_bare : ℕ → Bool
-is_bare b = b == 32 || (nat_lt 44 b && nat_lt b 128)
+-- a writer of the crate's usual form within a row, of which nothing is left to be sent, with so many bytes before the next cell
+pub record IsInRow (w : Writer (Vec ℕ Global)) (comma : ℕ) : Type 0 where
+  pub setup : writer_setup w ≡ default_writer
+  pub sent : writer_pending w ≡ []
+  pub before : length (next_sep default_writer (fields_written w)) ≡ comma

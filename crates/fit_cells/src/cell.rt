@@ -2,7 +2,7 @@
 ghost use Rattle.std.specs.Prelude.{◌≡◌, ◌<◌, ◌++◌, ◌⊎◌, ◌^◌, All, IfOk, IfSome, IsTrue, OnErr, OnOk, Option, false, option_map};
 ghost use Rattle.std.specs.Global.{Global};
 ghost use Rattle.std.specs.String.{string_bytes};
-ghost use Rattle.csv.specs.Writing.{default_writer, field_text, needs_quotes};
+ghost use Rattle.csv.specs.Writing.{default_writer, field_text};
 ghost use Rattle.fit_base.specs.BaseTypes.{base_type};
 ghost use Rattle.fit_base.specs.declared.code.Class.TheVariants.{Text};
 ghost use Rattle.fit_base.specs.declared.items.Items.{Items};
@@ -67,14 +67,6 @@ pub fn is_never_quoted(code: Code) -> bool
     ensures no { result ≡ false → (base_type code.0).class ≡ Text }
 {
     code.class() != Class::Text
-}
-
-/// Whether a cell needs quotes in a row: it has a comma, a quote or a byte that ends a line.
-pub fn needs_quotes(cell: &[u8]) -> bool
-    ensures { result ≡ needs_quotes default_writer cell.now }
-{
-    cell.iter()
-        .any(|byte| matches!(*byte, b',' | b'"' | b'\r' | b'\n'))
 }
 
 /// The cell of a field: numbers with a bar between one and the next, an invalid one empty, scaled where

@@ -17,13 +17,17 @@ use std::alloc::AllocError;
 /// How the items of a field are shown, where they are numbers of at most four bytes.
 #[derive(Clone, Copy)]
 pub struct NumberForm {
+    /// Whether the items are signed.
     pub signed: bool,
+    /// How many bytes an item has.
     pub width: u8,
     /// The bits of an item without a value.
     pub invalid: u64,
+    /// The scale of the profile, 1 where there is none.
     pub scale: u32,
     /// The offset in units of the raw value.
     pub shift: u64,
+    /// How many decimals are shown.
     pub decimals: u8,
 }
 

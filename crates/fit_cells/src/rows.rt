@@ -2,7 +2,9 @@
 ghost use Rattle.std.specs.Prelude.{◌≡◌, ◌∷◌, [], ℕ, List, IfOk, OnErr, OnOk, map, true};
 ghost use Rattle.csv.specs.Reading.{has_failed};
 ghost use Rattle.csv.specs.Records.{fields_of};
+ghost use Rattle.csv.specs.Writing.{writer_pending};
 ghost use Rattle.fit_cells.specs.Rows.{Follows, HasAdded, HasRead, IsBetweenRows, Row, csv_text, written};
+ghost use Rattle.fit_cells.specs.Steps.{IsInRow};
 
 use csv::{ByteRecord, Reader, ReaderBuilder, Writer, WriterBuilder};
 use std::alloc::{AllocError, Global};
@@ -11,11 +13,24 @@ use std::alloc::{AllocError, Global};
 pub fn row_writer(text: Vec<u8>) -> Writer<Vec<u8>>
     ensures between { IsBetweenRows result }
     ensures text { written result ≡ text.items }
+    ensures sent { writer_pending result ≡ [] }
 {
     WriterBuilder::new().from_writer(text)
 }
 
-/// Writes a row. The rows of one writer have the same number of cells.
+/// Puts a new writer in the place of one.
+#[cold]
+#[inline(never)]
+pub(crate) fn begin_anew(writer: &mut Writer<Vec<u8>>, alloc: Global)
+    ensures between { IsBetweenRows writer.new }
+    ensures text { written writer.new ≡ [] }
+    ensures row { IsInRow writer.new 0 }
+{
+    *writer = row_writer(Vec::new(alloc));
+}
+
+/// Writes a row. The rows of one writer have the same number of cells: any other row is an error, as out of memory is. `RowWriter::put`
+/// takes rows of any length.
 #[tactic(auto, using(crate::proofs::AddedRows::text_one))]
 pub fn put_row(writer: &mut Writer<Vec<u8>>, cells: &[&[u8]]) -> Result<(), AllocError>
     requires { IsBetweenRows writer.old }

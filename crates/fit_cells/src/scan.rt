@@ -117,7 +117,7 @@ fn read_items(
     }
 }
 
-/// The bits of items that a cell shows, and some bits where it shows none.
+/// The bits of the items whose cell is this text. For the cell of no such items they may be any bits.
 fn read_bits(
     alloc: Global,
     code: Code,
@@ -143,8 +143,8 @@ fn read_bits(
     }
 }
 
-/// The items of a field of this code and size that the cell shows; None where it is the cell of none. The memory of `written` is
-/// used on.
+/// The items of a field of this base type code and size whose cell is this text; None where no such items have it. `written` lends
+/// its memory; its text is lost.
 pub fn cell_items_by(
     alloc: Global,
     written: &mut Vec<u8>,
@@ -171,7 +171,7 @@ pub fn cell_items_by(
     }
 }
 
-/// The items of a field of this code and size that the cell shows; None where it is the cell of none.
+/// The items of a field of this base type code and size whose cell is this text; None where no such items have it.
 pub fn cell_items(
     alloc: Global,
     code: Code,

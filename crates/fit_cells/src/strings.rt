@@ -1,112 +1,22 @@
 //! Strings, as they are in a cell.
-ghost use Rattle.std.specs.Prelude.{◌≡◌, List, ◌<◌, ◌≤◌, ◌++◌, ℕ, All, IfOk, IfSome, OnErr, OnOk, None, false, true, slice_index, take, length, not, ◌==◌};
-ghost use Rattle.std.specs.List.{list_all};
-ghost use Rattle.fit_profile.specs.Described.{before_closing_zeros};
+ghost use Rattle.std.specs.Prelude.{◌≡◌, List, ◌<◌, ◌++◌, ℕ, All, IfOk, OnErr, OnOk, slice_index, length};
 ghost use Rattle.fit_profile.specs.FixedText.{StillBegins};
-ghost use Rattle.csv.specs.Writing.{default_writer, needs_quotes};
-ghost use Rattle.fit_cells.specs.Cells.{begins_as_bytes, is_plain, string_text};
-ghost use Rattle.fit_cells.specs.Steps.{is_bare};
+ghost use Rattle.fit_cells.specs.Cells.{begins_as_bytes, string_text};
 
 use crate::hexadecimal::{put_bytes, read_bytes};
+use crate::shown::is_plain;
 use fit_base::Bits;
 use fit_profile::text_len;
 use std::alloc::{AllocError, Global};
-use std::str;
 
 /// Whether a text begins as bytes do in a cell.
-fn begins_as_bytes(text: &[u8]) -> bool
+pub(crate) fn begins_as_bytes(text: &[u8]) -> bool
     ensures { result ≡ begins_as_bytes text.now }
 {
     if text.len() < 2 {
         return false;
     }
     text[0] == b'0' && text[1] == b'x'
-}
-
-/// Whether a text has no zero.
-fn has_no_zero(text: &[u8]) -> bool
-    ensures { result ≡ list_all (λ b. not (b == 0)) text.now }
-{
-    text.iter().all(|b| *b != 0)
-}
-
-/// Whether a text can stand as it is.
-fn is_plain(text: &[u8]) -> bool
-    ensures { result ≡ is_plain text.now }
-{
-    match str::from_utf8(text) {
-        Ok(_) => has_no_zero(text) && !begins_as_bytes(text),
-        Err(_) => false,
-    }
-}
-
-/// The bytes before the closing zeros.
-fn before_zeros(bytes: &[u8]) -> &[u8]
-    ensures { result.now ≡ before_closing_zeros bytes.now }
-{
-    let mut len = 0;
-    for (place, byte) in bytes.iter().enumerate() {
-        if *byte != 0 {
-            len = place + 1;
-        }
-    }
-    &bytes[..len]
-}
-
-/// The text of a string by the bytes of its field, where its cell shows it as text: UTF-8 without a zero before the closing zeros,
-/// which doesn't begin as bytes do in a cell.
-pub fn shown_text(bytes: &[u8]) -> Option<&[u8]>
-    ensures some { IfSome result (λ text. text.now ≡ string_text bytes.now) }
-    ensures none { result ≡ None → is_plain (before_closing_zeros bytes.now) ≡ false }
-{
-    let text = before_zeros(bytes);
-    if is_plain(text) { Some(text) } else { None }
-}
-
-/// Whether a byte stands as it is in any cell: a blank, or an ASCII character that comes behind the comma.
-#[inline(always)]
-fn is_bare(byte: u8) -> bool
-    ensures { result ≡ is_bare byte }
-{
-    byte == b' ' || (byte > b',' && byte < 0x80)
-}
-
-/// How many bytes stand as they are in any cell, up to the first that may not.
-#[tactic(auto, using(crate::proofs::BareTexts::bare_more))]
-fn bare_len(bytes: &[u8]) -> usize
-    ensures within { result ≤ length bytes.now }
-    ensures bare { list_all is_bare (take result bytes.now) ≡ true }
-    ensures most { result < length bytes.now → is_bare (slice_index bytes.now result) ≡ false }
-{
-    for (place, byte) in bytes.iter().enumerate() {
-        if !is_bare(*byte) {
-            return place;
-        }
-    }
-    bytes.len()
-}
-
-/// Whether bytes are zeros.
-fn are_zeros(bytes: &[u8]) -> bool
-    ensures { result ≡ list_all (λ b. b == 0) bytes.now }
-{
-    bytes.iter().all(|b| *b == 0)
-}
-
-/// The text of a string by the bytes of its field, where it is seen at once that it stands as it is in its cell and needs no quotes.
-pub fn bare_text(bytes: &[u8]) -> Option<&[u8]>
-    ensures text { IfSome result (λ text. text.now ≡ string_text bytes.now) }
-    ensures bare { IfSome result (λ text. needs_quotes default_writer text.now ≡ false) }
-    ensures none { result ≡ None → (text zeros : List ℕ) → bytes.now ≡ text ++ zeros
-        → list_all is_bare text ≡ true → list_all (λ b. b == 0) zeros ≡ true
-        → begins_as_bytes text ≡ true }
-{
-    let (text, rest) = bytes.split_at(bare_len(bytes));
-    if are_zeros(rest) && !begins_as_bytes(text) {
-        Some(text)
-    } else {
-        None
-    }
 }
 
 /// Puts bytes behind a text, as they are.

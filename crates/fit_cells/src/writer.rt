@@ -1,14 +1,13 @@
 //! Rows put after texts, through the crate `csv`.
 ghost use Rattle.std.specs.Prelude.{◌≡◌, ◌≤◌, ◌⊎◌, ◌++◌, ◌∷◌, [], IfOk, OnErr, OnOk, drop, false, length, map};
+ghost use Rattle.csv.specs.Writing.{default_writer, field_text};
 ghost use Rattle.fit_cells.specs.Rows.{HasRows, IsBetweenRows, written};
 
-use crate::rows::{put_row, row_writer};
+use crate::lone::{CellWriter, LONG};
+use crate::rows::{begin_anew, put_row, row_writer};
 use csv::Writer;
 use std::alloc::{AllocError, Global};
 use std::marker::Model;
-
-/// A writer whose text is longer than this is let go.
-const LONG: usize = 64 * 1024;
 
 /// Brings all that was written to the text underneath, and answers how long that is.
 fn flushed_len(writer: &mut Writer<Vec<u8>>) -> Result<usize, AllocError>
@@ -52,7 +51,7 @@ fn renew(alloc: Global, writer: &mut Writer<Vec<u8>>, failed: bool)
     ensures left { (writer.new ≡ writer.old) ⊎ (written writer.new ≡ []) }
 {
     if failed || writer.get_ref().len() > LONG {
-        *writer = row_writer(Vec::new(alloc));
+        begin_anew(writer, alloc);
     }
 }
 
@@ -73,10 +72,11 @@ fn put_behind(
     copy_behind(writer, start, text)
 }
 
-/// Puts rows after texts, through the crate `csv`. All rows of one have the same number of cells.
+/// Puts rows and lone cells after texts, through the crate `csv`. The rows may have different numbers of cells.
 #[derive(Drop)]
 pub struct RowWriter {
     writer: Writer<Vec<u8>>,
+    cells: CellWriter,
     alloc: Global,
 }
 
@@ -95,6 +95,7 @@ impl RowWriter {
     pub fn new(alloc: Global) -> Self {
         RowWriter {
             writer: row_writer(Vec::new(alloc)),
+            cells: CellWriter::new(alloc),
             alloc,
         }
     }
@@ -104,8 +105,23 @@ impl RowWriter {
         ensures ok { OnOk result (HasRows (map (λ f. f.now) cells.now ∷ []) text.old text.new) }
         ensures err { OnErr result (text.new.items ≡ text.old.items) }
     {
-        let put = put_behind(&mut self.writer, text, cells);
-        renew(self.alloc, &mut self.writer, put.is_err());
-        put
+        let first = put_behind(&mut self.writer, text, cells);
+        renew(self.alloc, &mut self.writer, first.is_err());
+        if first.is_ok() {
+            return first;
+        }
+        // where the row before had another number of cells, a new writer takes this one
+        let second = put_behind(&mut self.writer, text, cells);
+        renew(self.alloc, &mut self.writer, second.is_err());
+        second
+    }
+
+    /// Puts a cell after a text, in quotes where it needs them. Out of memory, the text stays as it is.
+    pub fn put_lone(&mut self, text: &mut Vec<u8>, cell: &[u8]) -> Result<(), AllocError>
+        ensures ok { OnOk result (text.new.items
+            ≡ text.old.items ++ field_text default_writer cell.now) }
+        ensures err { OnErr result (text.new.items ≡ text.old.items) }
+    {
+        self.cells.put(text, cell)
     }
 }
