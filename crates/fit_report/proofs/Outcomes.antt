@@ -56,12 +56,12 @@ module _ {A R : Type 0} (has_heard : R → List (Event A) → Type 0) (line : Li
   piece_fault (Decode fault) none = absurd none
   piece_fault NoMemory (k, heard, tells) = (
     heard,
-    ((length bytes + k, heard, subst (λ t. Tells line t heard sink) (front k) tells), nearly_all),
+    ((length bytes + k, heard, subst (λ t. Tells line t heard sink) (front k) tells), nearly_all, good),
     tt,
   )
   piece_fault (Write count) (k, heard, are, fails) = (
     heard,
-    ((length bytes + k, heard, subst (λ t. AreEvents t (reverse heard)) (front k) are, fails), nearly_all),
+    ((length bytes + k, heard, subst (λ t. AreEvents t (reverse heard)) (front k) are, fails), nearly_all, good),
     tt,
   )
 

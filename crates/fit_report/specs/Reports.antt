@@ -48,14 +48,17 @@ TextBreaksOff {A} line bytes sink written = (k : ℕ) × (heard : List (Event A)
     × TextFailsIn (text_of line heard) sink written
 
 -- What a report told that took these bytes: all of the input, which is a chain, was told; or what is before a fault; or, where
--- memory was refused or the sink failed, some of it, and all but at most a piece of the bytes begins a chain.
+-- memory was refused or the sink failed, some of it, and all but at most a piece of the bytes begins a chain. Where the source
+-- has failed, that alone is answered.
 abbrev pub HasTold : {A : Type 0} → Lines A → List ℕ → Channel → Channel → List (Event A) → Result (Unit {0}) ReportFault → Type 0
 HasTold {A} line taken source sink heard (Ok _) = IsAtEnd source.after × (source.failed ≡ false) × AreChain A taken × Tells line taken heard sink
 HasTold line taken source sink heard (Err (report.Decode (NoMemory used))) = ⊥
 HasTold {A} line taken source sink heard (Err (report.Decode fault)) =
     Faults A chain_limit taken source fault × Tells line (before_fault fault taken) heard sink
-HasTold {A} line taken source sink heard (Err report.NoMemory) = TellsSome line taken sink × IsNearlyViable A chain_limit taken
-HasTold {A} line taken source sink heard (Err (report.Write written)) = TextBreaksOff line taken sink written × IsNearlyViable A chain_limit taken
+HasTold {A} line taken source sink heard (Err report.NoMemory) =
+    TellsSome line taken sink × IsNearlyViable A chain_limit taken × (source.failed ≡ false)
+HasTold {A} line taken source sink heard (Err (report.Write written)) =
+    TextBreaksOff line taken sink written × IsNearlyViable A chain_limit taken × (source.failed ≡ false)
 
 -- The reporter has heard these events, unless memory was refused or the sink has failed.
 abbrev pub HasHeard : {A R : Type 0} → (R → List (Event A) → Type 0) → R → List (Event A) → Result (Unit {0}) ReportFault → Type 0
@@ -75,5 +78,5 @@ abbrev pub ReportsChain : {A : Type 0} → Lines A → List (FitFile A) → Chan
 ReportsChain line fs source sink (Ok _) = Appends sink.before sink.after (text_of line (reverse (flat_map file_events fs)))
 ReportsChain line fs source sink (Err (report.Decode (Read place))) = source.failed ≡ true
 ReportsChain line fs source sink (Err (report.Decode fault)) = ⊥
-ReportsChain line fs source sink (Err report.NoMemory) = Unit {0}
+ReportsChain line fs source sink (Err report.NoMemory) = source.failed ≡ false
 ReportsChain line fs source sink (Err (report.Write written)) = sink.failed ≡ true

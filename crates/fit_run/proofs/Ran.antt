@@ -61,9 +61,9 @@ module _ {K : Type 0} (contents : K → Option (List ℕ)) (has_failed : K → B
           (subst (λ k. Appends start (contents k) (text_of line heard)) (sym same) tells.1, puts, is),
         ),
       )
-      ran_so (Err report.NoMemory) (taken, eats, ((k, some, (are, put)), near)) (same, puts, is) =
-          (taken, eats, inr (k, some, are, inl (subst (λ o. Appends start (contents o) (text_of line some)) (sym same) put, puts, is), near))
-      ran_so (Err (report.Write written)) (taken, eats, ((k, some, are, (bad, n, short, put, counted)), near)) (same, puts, is) = (
+      ran_so (Err report.NoMemory) (taken, eats, ((k, some, (are, put)), near, good)) (same, puts, is) =
+          (taken, eats, inr (k, some, are, inl (subst (λ o. Appends start (contents o) (text_of line some)) (sym same) put, puts, is), near, good))
+      ran_so (Err (report.Write written)) (taken, eats, ((k, some, are, (bad, n, short, put, counted)), near, good)) (same, puts, is) = (
         taken,
         eats,
         inr (
@@ -79,6 +79,7 @@ module _ {K : Type 0} (contents : K → Option (List ℕ)) (has_failed : K → B
             is,
           ),
           near,
+          good,
         ),
       )
 

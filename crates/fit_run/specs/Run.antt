@@ -72,14 +72,15 @@ LinesBreakOff lines output faults status =
     (Appends output.before output.after lines × PutsOrFails faults out_of_memory_line × (status ≡ 3)) ⊎ OutputFailsIn lines output faults status
 
 -- What a command did that writes these lines of events: of all that it took from the input it wrote the lines, and said what it
--- found; or it broke off in the lines of some first bytes, and all but at most a piece of what it took begins a chain.
+-- found; or it broke off in the lines of some first bytes, and all but at most a piece of what it took begins a chain. The source has
+-- not failed then.
 abbrev pub Runs : {A : Type 0} → Lines A → Channel → Channel → Channel → ℕ → Type 0
 Runs {A} line source output faults status =
     (taken : List ℕ) × Consumes source.before source.after taken
     × (((found : Result (Unit {0}) Fault) × (heard : List (Event A)) × ReportFinds A taken source found × AreEvents (good_bytes found taken) (reverse heard)
     × Says found (text_of line heard) output faults status)
     ⊎ ((k : ℕ) × (heard : List (Event A)) × AreEvents (take k taken) (reverse heard) × LinesBreakOff (text_of line heard) output faults status
-    × IsNearlyViable A chain_limit taken))
+    × IsNearlyViable A chain_limit taken × (source.failed ≡ false)))
 
 -- ---- a conversion
 
