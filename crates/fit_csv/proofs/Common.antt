@@ -92,10 +92,11 @@ unfoldable pub use Rattle.fit_csv.specs.InstantText.{date_after, date_in_year}
 pub use Rattle.fit_csv.specs.Judged.{Agree, IsBadCell, DevDefInRange, FieldDefInRange, IsFileOfRows, MayGoOn, RecordInRange, CanFollow, HasNoHeader}
 pub use Rattle.fit_csv.specs.Judged.{IsChainOfRows, IsCutOff, IsRefusedRow, DefinitionInRange, HeaderInRange, AreFilesOf, AreWhole, FirstRows}
 pub use Rattle.fit_csv.specs.Judged.{IsRowFault, MayBeOfKind}
+pub use Rattle.fit_csv.specs.KeptEvents.{KeptEvents, kept_events}
 pub use Rattle.fit_csv.specs.Laws.{ChainsHaveOwnRows, TextsHaveOneFinding}
 pub use Rattle.fit_csv.specs.RowKinds.{IsEndRow, IsFileRow, naming_at, IsDevDefRow, IsFieldDefRow, IsDevRow, IsFieldRow, IsDataRow, IsDefinitionRow}
 pub use Rattle.fit_csv.specs.ShowLines.{header_line, record_line, show_line, show_lines, listed, message_line, separator, shown_part, shown_cell}
-pub use Rattle.fit_csv.specs.ShowLines.{KeptEvents, kept_events, shown_dev, shown_field, joined, message_front, shown_devs, shown_fields, time_part, unit_part}
+pub use Rattle.fit_csv.specs.ShowLines.{shown_dev, shown_field, joined, message_front, shown_devs, shown_fields, time_part, unit_part}
 unfoldable pub use Rattle.fit_csv.specs.ShowLines.{record_lines, show_files}
 pub use Rattle.fit_csv.specs.Table.{table_of, amount_text, value_text, degrees_text, table_line, table_record_rows, table_message_rows, table_row, table_rows}
 pub use Rattle.fit_csv.specs.Table.{table_event_rows}
@@ -111,6 +112,7 @@ pub use Rattle.fit_csv.specs.declared.from.open_file.Part.TheVariants.{Nothing, 
 pub use Rattle.fit_csv.specs.declared.tables.columns.Column.{Column}
 pub use Rattle.fit_csv.specs.inner.Frames.{FrameKey, FrameText, end_of, field_key, frame_text, frames_of, head_text, tail_text, two_cells, value_row}
 pub use Rattle.fit_csv.specs.inner.Frames.{HasFields, TakesField, TakesFields, TemplateKey, own_rows, values_text}
+pub use Rattle.fit_csv.specs.inner.Minutes.{IsMinute, seconds_text}
 pub use Rattle.fit_csv.specs.inner.Misfits.{IsCellFault, IsMisfit, head_row, message_row, IsHeadRow, IsRowOfThree, IsMessageRow, HasSum, IsHeaderSize}
 pub use Rattle.fit_csv.specs.inner.Misfits.{IsMessageOrEnd, global_at, IsMessageStart, HeadInRange, IsValueRow}
 pub use Rattle.fit_csv.specs.inner.Progress.{CanStandNext, ChainStep, OpenStep, PartStep, file_begun, settled, with_file, DefinitionStep, DevStep}
@@ -121,10 +123,12 @@ unfoldable pub use Rattle.fit_csv.specs.inner.Progress.{Run}
 pub use Rattle.fit_csv.specs.inner.Reporting.{HasText, csv_fault, AnswerFits, answer_rows, behind_answer}
 pub use Rattle.fit_csv.specs.inner.Seven.{AsFar, DifferAt, row_of}
 pub use Rattle.fit_csv.specs.inner.Showing.{text_with, CellKey, ShownKey, first_head, key_text, keys_text, line_front, shown_key, shown_keys}
-pub use Rattle.fit_csv.specs.inner.Showing.{ShownDevKey, IsMinute, plain_cell, seconds_text, spaced}
+pub use Rattle.fit_csv.specs.inner.Showing.{ShownDevKey, plain_cell, spaced}
 pub use Rattle.fit_csv.specs.inner.SoundChain.{IsSoundChain, IsSoundCurrent, IsSoundDefinition, IsSoundFile, IsSoundMessage, IsSoundSoFar}
 pub use Rattle.fit_csv.specs.inner.SoundChain.{current_rows, open_file_rows, open_rows, part_rows, rows_so_far, IsSoundPart, HaveShapeSoFar}
 pub use Rattle.fit_csv.specs.inner.SoundChain.{BeginsWithMore}
-pub use Rattle.fit_csv.specs.inner.TableCells.{shown_text, table_answer_rows, rows_in, files_behind_answer, PutsCell, AddsCell, AreSome}
-pub use Rattle.fit_csv.specs.inner.TableColumns.{ArePlaces, AreInBytes, IsColumn, IsFirst, IsKnown, IsPlaced, is_tabled, items_at, slots}
+pub use Rattle.fit_csv.specs.inner.TableCells.{shown_text, table_answer_rows, rows_in, files_behind_answer, PutsCell, AddsCell}
+pub use Rattle.fit_csv.specs.inner.TableCells.{effort_cells, place_cells}
+pub use Rattle.fit_csv.specs.inner.CurrentColumns.{AreCurrent, IsCurrent}
+pub use Rattle.fit_csv.specs.inner.TableColumns.{ArePlaces, AreInBytes, IsColumn, IsFirst, IsKnown, IsPlaced, items_at, slots}
 pub use Rattle.fit_csv.specs.inner.TextFaults.{IsTextFault, IsUnjudged, IsReadFault}

@@ -39,13 +39,6 @@ pub two_of_row : (a b : Cell) (old text : List ℕ) → text ≡ old ++ csv_text
     → take (length text - 5) text ≡ old ++ two_cells a b
 two_of_row a b old text e = cut_row old (two_cells a b) (codes ",,,,\n") text (e ∙ ap (λ t. old ++ t) (row_parts a b [] [] []))
 
--- the first cell of a row without others
-pub one_of_row : (a : Cell) (old text : List ℕ) → text ≡ old ++ csv_text (row a [] [] [] [] [] [] ∷ [])
-    → take (length text - 7) text ≡ old ++ field_text default_writer a
-one_of_row a old text e =
-    cut_row old (field_text default_writer a) (codes ",,,,,,\n") text
-    (e ∙ ap (λ t. old ++ t) (row_parts a [] [] [] [] ∙ append_assoc (field_text default_writer a) (44 ∷ 44 ∷ []) (codes ",,,,\n")))
-
 -- ---- rows one after another
 
 -- one row more

@@ -63,7 +63,7 @@ of-answer law whole text files bytes source sink (Ok u) h (out, (others, other_b
     (subst (Appends sink.before sink.after) (same-bytes law text files others bytes other_bytes h is) put, works)
 of-answer law whole text files bytes source sink (Err faults.Read) h (inl unread) = unread
 of-answer law whole text files bytes source sink (Err faults.Read) h (inr long) = let short = h.short in absurd (omega arith)
-of-answer law whole text files bytes source sink (Err faults.NoMemory) h err = tt
+of-answer law whole text files bytes source sink (Err faults.NoMemory) h good = good
 of-answer law whole text files bytes source sink (Err (faults.Write written)) h (out, (others, other_bytes, is, part)) =
     subst (λ b. StopsAt sink.before sink.after sink.failed b written) (same-bytes law text files others bytes other_bytes h is) part
 of-answer law whole text files bytes source sink (Err faults.Header) h (out, (short, wrong)) =
@@ -107,5 +107,5 @@ module _ (law : ChainsHaveOwnRows) (whole : GoodChainsHaveNoFault Global) (text 
   from-text-of (Err faults.Read) (taken, eats, inl failed) = failed
   from-text-of (Err faults.Read) (taken, eats, inr long) =
       let short = h.short in let some = taken-some source.before source.after text taken input eats in absurd (omega arith)
-  from-text-of (Err faults.NoMemory) (taken, eats, answer) = tt
+  from-text-of (Err faults.NoMemory) (taken, eats, good) = good
   from-text-of result (taken, eats, answer) = of-whole result taken eats answer.0.0 answer

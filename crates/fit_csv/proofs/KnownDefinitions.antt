@@ -16,7 +16,7 @@ same-places : {A : Type 0} (e : Environment A) (s : Option Description) → (des
 same-places e None = refl
 same-places e (Some s) = refl
 
-some-same : {X : Type 0} (a b : X) → Some a ≡ Some b → a ≡ b
+pub some-same : {X : Type 0} (a b : X) → Some a ≡ Some b → a ≡ b
 some-same a b e = cc e
 
 -- what a definition has when it comes, and keeps behind other records, it has in its place

@@ -58,3 +58,4 @@ mod TextRows
 pub mod TableColumnFacts
 pub mod TableNumbers
 mod RowsInBytes
+mod CurrentFacts

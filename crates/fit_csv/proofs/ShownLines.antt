@@ -4,6 +4,7 @@ use Rattle.fit_csv.proofs.Common.{zero, suc, ◌≤◌, eq-eqb, ne_eqb, first_he
 use Rattle.fit_csv.proofs.Common.{Items, FieldDef, DevDef, Naming}
 use Rattle.fit_csv.proofs.Common.{Defined, Values, Record, Data}
 use Rattle.fit_csv.proofs.Common.{Answer, Event, defined_at, dev_defs, known, namings_at, time, hear, latest_records, line_of, behind_answer, files_heard}
+use Rattle.fit_csv.proofs.Common.{instant_text}
 use Rattle.fit_csv.proofs.Common.{KeptEvents, ShownKey, files_behind_answer, joined, kept_events, key_text, keys_text, line_front, listed, message_front}
 use Rattle.fit_csv.proofs.Common.{message_label, message_line, record_line, separator, show_line, shown_cell, shown_dev, shown_devs, shown_field}
 use Rattle.fit_csv.proofs.Common.{shown_fields, shown_key, shown_keys, shown_part, spaced, text_with, time_part, unit_part}
@@ -225,6 +226,13 @@ front_parts local global at =
 
 parts_regroup : (old front time head cells : List ℕ) → (((old ++ front) ++ time) ++ head) ++ cells ≡ old ++ ((front ++ time) ++ (head ++ cells))
 parts_regroup old front time head cells = simp append_assoc
+
+-- a time behind what stands before it
+pub time_put : (old front one two : List ℕ) (t : ℕ) → one ≡ old ++ (front ++ codes " ") → two ≡ one ++ instant_text t
+    → two ≡ old ++ (front ++ time_part (Some t))
+time_put old front one two t label time =
+    time ∙ ap (λ u. u ++ instant_text t) label ∙ append_assoc old (front ++ codes " ") (instant_text t)
+    ∙ ap (λ u. old ++ u) (append_assoc front (codes " ") (instant_text t) ∙ ap (λ u. front ++ (32 ∷ u)) (sym (append-nil (instant_text t))))
 
 -- the front of a message and its fields, put in four parts
 pub line_parts : {A : Type 0} (local global : ℕ) (at : Option ℕ) (fields : List FieldDef) (items : List (Items A)) (old one two three four : List ℕ)

@@ -84,13 +84,13 @@ added cell old behind new high comma put =
     ∙ ap (λ (t : List ℕ). old ++ (44 ∷ t)) (sym (unquoted (unwrap_or cell []) high))
     ∙ ap (λ (t : List ℕ). old ++ t) (sym (fields_one (unwrap_or cell [])))
 
--- one more cell
-pub one_more_cell : (u t w : List ℕ) (cells : Row) (cell : Cell) → t ≡ u ++ fields_text default_writer cells → w ≡ t ++ fields_text default_writer (cell ∷ [])
-    → w ≡ u ++ fields_text default_writer (cells ++ (cell ∷ []))
-one_more_cell u t w cells cell before more =
-    more ∙ ap (λ (s : List ℕ). s ++ fields_text default_writer (cell ∷ [])) before
-    ∙ append_assoc u (fields_text default_writer cells) (fields_text default_writer (cell ∷ []))
-    ∙ ap (λ (s : List ℕ). u ++ s) (sym (fields_append cells (cell ∷ [])))
+-- more cells
+pub more_cells : (u t w : List ℕ) (cells more : Row) → t ≡ u ++ fields_text default_writer cells → w ≡ t ++ fields_text default_writer more
+    → w ≡ u ++ fields_text default_writer (cells ++ more)
+more_cells u t w cells more before put =
+    put ∙ ap (λ (s : List ℕ). s ++ fields_text default_writer more) before
+    ∙ append_assoc u (fields_text default_writer cells) (fields_text default_writer more)
+    ∙ ap (λ (s : List ℕ). u ++ s) (sym (fields_append cells more))
 
 pub first_cells : (text t : List ℕ) (n : ℕ) (cell : Cell) → t ≡ text ++ (decimal n ++ fields_text default_writer (cell ∷ []))
     → t ≡ (text ++ decimal n) ++ fields_text default_writer (cell ∷ [])
@@ -107,4 +107,6 @@ last_cells text t w n next rest before end =
 -- a number and a cell that needs no quotes, with which a row begins
 pub first_plain : (text : List ℕ) (n : ℕ) (cell : Cell) → needs_quotes default_writer cell ≡ false
     → ((text ++ decimal n) ++ (44 ∷ [])) ++ cell ≡ text ++ (decimal n ++ fields_text default_writer (cell ∷ []))
-first_plain text n cell plain = plain_cell (text ++ decimal n) cell plain ∙ append_assoc text (decimal n) (fields_text default_writer (cell ∷ []))
+first_plain text n cell plain =
+    plain_cell (text ++ decimal n) cell plain
+    ∙ append_assoc text (decimal n) (fields_text default_writer (cell ∷ []))

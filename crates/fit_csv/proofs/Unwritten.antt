@@ -41,7 +41,7 @@ module _ (exact : FaultsAreExact Global) (text : List ℕ) (files : List (FitFil
 
   pub from-fault : (fault : EncodeFault) → UnlessWrite fault (IsFirstFault files fault) → IfWrite fault (λ written. IsWellFormedChain chain_limit files)
       → IfWrite fault (StopsAt sink.before sink.after sink.failed (chain_bytes files)) → Answers text source sink (Err (written_fault fault))
-  from-fault NoMemory wrong good stops = tt
+  from-fault NoMemory wrong good stops = out.1
   from-fault (Write written) wrong good stops = (out, (files, chain_bytes files, text-of good, stops))
   from-fault (TooLong file index) wrong good stops = (out, (short, (files, are, wrong)))
   from-fault (ZeroIsSum file) wrong good stops = (out, (short, (files, are, wrong)))
@@ -62,5 +62,5 @@ pub from-judged : (text : List ℕ) (source sink : Channel) (fault : CsvFault) �
 from-judged text source sink faults.Header short out h = (out, (short, h))
 from-judged text source sink (faults.BadRow row) short out h = (out, (short, h))
 from-judged text source sink (faults.BadCell row column) short out h = (out, (short, h))
-from-judged text source sink faults.NoMemory short out h = tt
+from-judged text source sink faults.NoMemory short out h = out.1
 from-judged text source sink fault short out h = absurd h

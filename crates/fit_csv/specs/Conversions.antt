@@ -30,13 +30,14 @@ RowsBreakOff rows bytes sink written = (k : ℕ) × (events : List (Event Global
 
 -- What was written of the input after so much of it was taken: all rows of a chain; the rows before a fault; or, where memory was
 -- refused or the sink failed, the rows of some first bytes, or a part of them, and all but at most a piece of what was taken begins
--- a chain.
+-- a chain. A source that has failed is never answered as memory refused.
 abbrev pub HasWritten : RowsOf → List ℕ → Channel → Channel → Result (Unit {0}) CsvFault → Type 0
 HasWritten rows taken source sink (Ok _) = IsAtEnd source.after × (source.failed ≡ false) × AreChain Global taken × WritesRows rows taken sink
 HasWritten rows taken source sink (Err (csv.Decode (faults.NoMemory used))) = ⊥
 HasWritten rows taken source sink (Err (csv.Decode fault)) =
     Faults Global chain_limit taken source fault × WritesRows rows (before_fault fault taken) sink
-HasWritten rows taken source sink (Err csv.NoMemory) = ((k : ℕ) × WritesRows rows (take k taken) sink) × IsNearlyViable Global chain_limit taken
+HasWritten rows taken source sink (Err csv.NoMemory) =
+    ((k : ℕ) × WritesRows rows (take k taken) sink) × IsNearlyViable Global chain_limit taken × (source.failed ≡ false)
 HasWritten rows taken source sink (Err (csv.Write written)) = RowsBreakOff rows taken sink written × IsNearlyViable Global chain_limit taken
 HasWritten rows taken source sink (Err other) = ⊥
 
@@ -48,7 +49,7 @@ Converts rows source sink result = (taken : List ℕ) × Consumes source.before 
 abbrev pub ConvertsTo : List Row → Channel → Channel → Result (Unit {0}) CsvFault → Type 0
 ConvertsTo rows source sink (Ok _) = Appends sink.before sink.after (csv_text rows)
 ConvertsTo rows source sink (Err (csv.Decode (faults.Read place))) = source.failed ≡ true
-ConvertsTo rows source sink (Err csv.NoMemory) = Unit {0}
+ConvertsTo rows source sink (Err csv.NoMemory) = source.failed ≡ false
 ConvertsTo rows source sink (Err (csv.Write written)) = sink.failed ≡ true
 ConvertsTo rows source sink (Err other) = ⊥
 

@@ -68,7 +68,7 @@ IsReadOut source = IsAtEnd source.after × (source.failed ≡ false)
 abbrev pub Answers : List ℕ → Channel → Channel → Result (Unit {0}) CsvFault → Type 0
 Answers text source sink (Ok _) = IsReadOut source × FromText text sink
 Answers text source sink (Err Read) = (source.failed ≡ true) ⊎ (2 ^ 62 < length text)
-Answers text source sink (Err NoMemory) = Unit {0}
+Answers text source sink (Err NoMemory) = source.failed ≡ false
 Answers text source sink (Err fault) = IsReadOut source × FromFault text sink fault
 
 -- Some text was taken from the source, and this was answered.
@@ -80,7 +80,7 @@ ReadsText source sink result = (text : List ℕ) × Consumes source.before sourc
 abbrev pub FromTextOf : List ℕ → Channel → Channel → Result (Unit {0}) CsvFault → Type 0
 FromTextOf bytes source sink (Ok _) = Appends sink.before sink.after bytes × (sink.failed ≡ false)
 FromTextOf bytes source sink (Err Read) = source.failed ≡ true
-FromTextOf bytes source sink (Err NoMemory) = Unit {0}
+FromTextOf bytes source sink (Err NoMemory) = source.failed ≡ false
 FromTextOf bytes source sink (Err (Write written)) = StopsAt sink.before sink.after sink.failed bytes written
 FromTextOf bytes source sink (Err other) = ⊥
 

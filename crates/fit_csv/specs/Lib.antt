@@ -8,5 +8,6 @@ pub mod RowKinds
 pub mod FromText
 pub mod Laws
 pub mod ShowLines
+pub mod KeptEvents
 pub mod Follows
 pub mod inner

@@ -2,7 +2,6 @@
 use Rattle.std.specs.Prelude.{ℕ, ◌+◌, ◌==◌, ◌&&◌, ◌||◌, not, if◌then◌else◌, List, [], ◌∷◌, ◌++◌, length, map, flat_map, zip, option_map, unwrap_or, Option}
 use Rattle.std.specs.Prelude.{Some, None, codes, decimal}
 use Rattle.std.specs.List.{list_all}
-use Rattle.std.specs.Global.{Global}
 use Rattle.fit_base.specs.declared.items.Items.{Items}
 use Rattle.fit_frame.specs.declared.header.Header.{Header}
 use Rattle.fit_record.specs.declared.definition.FieldDef.{FieldDef}
@@ -15,7 +14,7 @@ use Rattle.fit_record.specs.declared.message.Record.TheVariants.{Define, Values 
 use Rattle.fit_record.specs.declared.file.FitFile.{FitFile}
 use Rattle.fit_record.specs.Environment.{defined_at, dev_defs}
 use Rattle.fit_record.specs.Files.{body}
-use Rattle.fit_chain.specs.Events.{Event, header, item, file_end}
+use Rattle.fit_chain.specs.Events.{header, item, file_end}
 use Rattle.fit_profile.specs.Profile.{Meaning}
 use Rattle.fit_profile.specs.Names.{message_label, field_label}
 use Rattle.fit_profile.specs.Names as names
@@ -126,15 +125,6 @@ abbrev pub show_lines : {A : Type 0} → List (FitFile A) → List ℕ
 show_lines files = show_files 1 files
 
 -- ---- events, the latest first
-
--- What is kept of events to make the lines of those behind them: the records of the file that was begun last, the latest first, and how
--- many files have begun.
-pub record KeptEvents : Type 0 where
-  pub records : List (Record Global)
-  pub files : ℕ
-
-abbrev pub kept_events : List (Event Global) → KeptEvents
-kept_events heard = record { records = latest_records heard; files = files_heard heard }
 
 -- What `show` writes of an event behind those before it.
 abbrev pub show_line : {A : Type 0} → Lines A

@@ -3,10 +3,12 @@
 
 mod conversion;
 mod fault;
+mod floats;
 mod from;
 mod items;
 mod kept;
 pub mod laws;
+mod minutes;
 mod rows;
 mod show;
 mod stamp;

@@ -1,6 +1,6 @@
 //! The lines of `show`, told event by event.
 ghost use Rattle.std.specs.Prelude.{◌≡◌, ◌<◌, ◌^◌, [], OnOk};
-ghost use Rattle.fit_csv.specs.ShowLines.{kept_events};
+ghost use Rattle.fit_csv.specs.KeptEvents.{kept_events};
 ghost use Rattle.fit_csv.specs.inner.Reporting.{AnswerFits, behind_answer};
 ghost use Rattle.fit_csv.specs.inner.TableCells.{files_behind_answer};
 
@@ -9,7 +9,6 @@ mod devs;
 mod fields;
 mod frames;
 mod lines;
-mod minutes;
 mod template;
 
 use crate::show::lines::{put_event, put_message};
@@ -33,7 +32,7 @@ pub struct ShowReport {
 }
 
 impl Model for ShowReport {
-    ghost use Rattle.fit_csv.specs.ShowLines.{KeptEvents};
+    ghost use Rattle.fit_csv.specs.KeptEvents.{KeptEvents};
 
     ghost Value = { KeptEvents };
 
@@ -74,7 +73,8 @@ impl ShowReport {
 }
 
 impl Report for ShowReport {
-    ghost use Rattle.fit_csv.specs.ShowLines.{kept_events, show_line};
+    ghost use Rattle.fit_csv.specs.KeptEvents.{kept_events};
+    ghost use Rattle.fit_csv.specs.ShowLines.{show_line};
 
     ghost has_heard = { λ r heard. r ≡ kept_events heard };
 

@@ -1,15 +1,14 @@
 -- What the parts of `show` do. No public contract names these.
-use Rattle.std.specs.Prelude.{◌≡◌, ℕ, ◌+◌, ◌/◌, ◌%◌, ◌^◌, ◌<◌, ◌==◌, if◌then◌else◌, List, [], ◌∷◌, ◌++◌, length, codes, decimal, Option, None, Some}
+use Rattle.std.specs.Prelude.{ℕ, ◌+◌, ◌==◌, if◌then◌else◌, List, [], ◌∷◌, ◌++◌, length, codes, decimal, Option, None}
 use Rattle.fit_base.specs.declared.items.Items.{Items}
 use Rattle.fit_record.specs.declared.definition.FieldDef.{FieldDef}
 use Rattle.fit_record.specs.declared.message.Record.{Record}
 use Rattle.fit_chain.specs.declared.event.Event.{Event as Answer}
 use Rattle.fit_chain.specs.declared.event.Event.TheVariants as answers
-use Rattle.fit_profile.specs.Instant.{two_digits}
 use Rattle.fit_profile.specs.Profile.{Meaning}
 use Rattle.fit_profile.specs.Names.{field, field_label, message_label}
 use Rattle.fit_csv.specs.ChainRows.{unit_text}
-use Rattle.fit_csv.specs.ShowLines.{header_line, joined, record_line, separator, shown_cell, time_part}
+use Rattle.fit_csv.specs.ShowLines.{header_line, joined, record_line, separator, shown_cell}
 
 -- the text of what a decoder answers, by how many files have begun before it and the records before it in its file
 abbrev pub text_with : {A : Type 0} → ℕ → List (Record A) → Answer A → List ℕ
@@ -81,13 +80,3 @@ keys_text _ _ = []
 -- what stands before the time of a message
 abbrev pub line_front : ℕ → ℕ → List ℕ
 line_front local global = joined (codes "  " ∷ decimal local ∷ codes " " ∷ message_label global ∷ [])
-
--- ---- times
-
--- the end of the text of a time, from its seconds on
-abbrev pub seconds_text : ℕ → List ℕ
-seconds_text s = two_digits s ++ codes "Z"
-
--- The times of this minute begin with this text after a message's label, up to their seconds.
-abbrev pub IsMinute : ℕ → List ℕ → Type 0
-IsMinute minute text = (t : ℕ) → t < 2 ^ 32 → t / 60 ≡ minute → time_part (Some t) ≡ text ++ seconds_text (t % 60)

@@ -1,8 +1,9 @@
 -- How the cells of the table are put together. No public contract names these.
-use Rattle.std.specs.Prelude.{◌≡◌, ℕ, Bool, List, [], ◌∷◌, ◌++◌, is_some, option_map, unwrap_or, Option, None, Some}
+use Rattle.std.specs.Prelude.{◌≡◌, ℕ, Bool, List, [], ◌∷◌, ◌++◌, is_some, map, option_map, unwrap_or, Option, None, Some, pos}
 use Rattle.std.specs.Global.{Global}
 use Rattle.std.specs.Option.{option_map_or}
 use Rattle.csv.specs.Writing.{default_writer, fields_text}
+use Rattle.fit_record.specs.Faults.{or_else}
 use Rattle.fit_record.specs.declared.definition.MessageDef.{MessageDef}
 use Rattle.fit_record.specs.declared.message.Record.{Record}
 use Rattle.fit_record.specs.declared.message.Values.{Values}
@@ -15,7 +16,7 @@ use Rattle.fit_profile.specs.FixedText.{fixed_text}
 use Rattle.fit_profile.specs.Meant.{shown}
 use Rattle.fit_cells.specs.Rows.{Cell, Row}
 use Rattle.fit_csv.specs.ChainRows.{files_behind}
-use Rattle.fit_csv.specs.Table.{table_event_rows, table_row}
+use Rattle.fit_csv.specs.Table.{amount_text, degrees_text, table_event_rows, table_row, value_text}
 
 -- the text of a number, where there is one
 abbrev pub shown_text : Option Fixed → Option Cell
@@ -25,9 +26,24 @@ shown_text value = option_map (λ v. fixed_text v.value v.decimals) value
 abbrev pub PutsCell : Option Cell → Bool → List ℕ → List ℕ → Type 0
 PutsCell cell put old new = (put ≡ is_some cell) × (new ≡ old ++ unwrap_or cell [])
 
--- The cell was put behind a text and a comma, which aren't the first of their row.
+-- The cells were put behind a text, each behind a comma: they aren't the first of their row.
+abbrev pub AddsCells : List (Option Cell) → List ℕ → List ℕ → Type 0
+AddsCells cells old new = new ≡ old ++ fields_text default_writer (map (λ cell. unwrap_or cell []) cells)
+
 abbrev pub AddsCell : Option Cell → List ℕ → List ℕ → Type 0
-AddsCell cell old new = new ≡ old ++ fields_text default_writer (unwrap_or cell [] ∷ [])
+AddsCell cell old new = AddsCells (cell ∷ []) old new
+
+-- the cells of a row from the positions to the distance
+abbrev pub place_cells : {A : Type 0} → MessageDef A → Values A → Told → List (Option Cell)
+place_cells d v t =
+    degrees_text d v 0 ∷ degrees_text d v 1 ∷ or_else (value_text d v 78) (value_text d v 2)
+    ∷ or_else (value_text d v 5) (option_map (λ n. amount_text (pos n) 16 0) t.distance) ∷ []
+
+-- the cells of a row from the speed on
+abbrev pub effort_cells : {A : Type 0} → MessageDef A → Values A → Told → List (Option Cell)
+effort_cells d v t =
+    or_else (value_text d v 73) (or_else (value_text d v 6) (option_map (λ n. amount_text (pos n) 100 0) t.speed))
+    ∷ value_text d v 3 ∷ value_text d v 4 ∷ value_text d v 7 ∷ value_text d v 13 ∷ []
 
 -- There is a record message of a definition and with values that tells something, of which this holds.
 abbrev pub AreSome : (MessageDef Global → Values Global → Told → Type 0) → Type 0

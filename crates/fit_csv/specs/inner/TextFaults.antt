@@ -1,6 +1,6 @@
 -- Why a text isn't read, or its rows aren't those of a chain. No public contract names these: `IsWrong` of FromText has the faults of a
 -- text alone, and these come with that memory was refused.
-use Rattle.std.specs.Prelude.{◌≡◌, ◌⊎◌, ◌<◌, ◌^◌, ℕ, Bool, true, List, length, Option}
+use Rattle.std.specs.Prelude.{◌≡◌, ◌⊎◌, ◌<◌, ◌^◌, ℕ, Bool, true, false, List, length, Option}
 use Rattle.std.specs.Io.KnownBytes.{Consumes}
 use Rattle.fit_cells.specs.Rows.{Row}
 use Rattle.fit_csv.specs.Judged.{HasNoHeader, IsCutOff, IsRefusedRow, IsRowFault}
@@ -23,7 +23,7 @@ IsTextFault text _ = ⊥
 -- why these bytes aren't a whole text: the source failed, or they are more than 2^62; or that memory was refused
 abbrev pub IsUnread : List ℕ → Bool → CsvFault → Type 0
 IsUnread taken failed Read = (failed ≡ true) ⊎ (2 ^ 62 < length taken)
-IsUnread taken failed NoMemory = Unit {0}
+IsUnread taken failed NoMemory = failed ≡ false
 IsUnread taken failed _ = ⊥
 
 -- the same of a call

@@ -1,10 +1,10 @@
 //! What stands around values in their rows, found out once for many messages.
-ghost use Rattle.std.specs.Prelude.{◌≡◌, ◌++◌, [], IfOk, IfSome, IsTrue, OnOk, codes, length, option_map};
+ghost use Rattle.std.specs.Prelude.{◌≡◌, ◌++◌, [], IfOk, IfSome, OnOk, codes, length, option_map};
 ghost use Rattle.std.specs.Global.{Global};
-ghost use Rattle.csv.specs.Writing.{default_writer, field_text};
+ghost use Rattle.csv.specs.Writing.{default_writer, field_text, needs_quotes};
 ghost use Rattle.fit_base.specs.BaseTypes.{base_type};
 ghost use Rattle.fit_base.specs.Fields.{HasShape};
-ghost use Rattle.fit_base.specs.declared.code.Class.TheVariants.{Float};
+ghost use Rattle.fit_base.specs.declared.code.Class.TheVariants.{Text};
 ghost use Rattle.fit_record.specs.ReadMessages.{field_from};
 ghost use Rattle.fit_profile.specs.Names.{meaning};
 ghost use Rattle.fit_profile.specs.Scaled.{IsScale};
@@ -14,11 +14,12 @@ ghost use Rattle.fit_csv.specs.inner.Frames.{two_cells};
 
 pub(crate) mod likely;
 
+use crate::floats::{is_lone_float, put_float};
 use crate::stamp::Stamp;
-use fit_base::{Class, Code, Items, Order, bits_at};
+use fit_base::{Code, Items, Order, bits_at};
 use fit_cells::{
-    NumberForm, RowWriter, bare_text, formed, is_never_quoted, needs_quotes, number_form, put_cell,
-    put_digits, put_formed, shown_text,
+    NumberForm, RowWriter, ShownText, formed, is_never_quoted, number_form, put_cell, put_formed,
+    shown_text,
 };
 use fit_profile::Info;
 use fit_record::read_items;
@@ -63,45 +64,22 @@ pub(crate) fn put_tail(
     text.extend_from_slice(b",,\n")
 }
 
-/// Puts a cell behind a text as the crate csv writes it in a row.
-#[tactic(auto, using(crate::proofs::FramedRows::one_of_row))]
-fn put_any_cell(text: &mut Vec<u8>, writer: &mut RowWriter, cell: &[u8]) -> Result<(), AllocError>
-    ensures { OnOk result (text.new.items
-        ≡ text.old.items ++ field_text default_writer cell.now) }
-{
-    let cells = [
-        cell,
-        b"".as_slice(),
-        b"".as_slice(),
-        b"".as_slice(),
-        b"".as_slice(),
-        b"".as_slice(),
-        b"".as_slice(),
-    ];
-    writer.put(text, cells.as_slice())?;
-    // without the commas behind it, and the line feed
-    text.truncate(text.len().saturating_sub(7));
-    Ok(())
-}
-
-/// Puts a cell behind a text, in quotes where it needs them.
+/// Puts the text of a string behind a text, in quotes where it needs them.
+#[inline(always)]
 #[tactic(auto, using(crate::proofs::TextCells::unquoted))]
-fn put_text(text: &mut Vec<u8>, writer: &mut RowWriter, cell: &[u8]) -> Result<(), AllocError>
+fn put_shown(
+    text: &mut Vec<u8>,
+    writer: &mut RowWriter,
+    shown: ShownText<'_>,
+) -> Result<(), AllocError>
+    requires { shown.needs_quotes ≡ needs_quotes default_writer shown.text.now }
     ensures { OnOk result (text.new.items
-        ≡ text.old.items ++ field_text default_writer cell.now) }
+        ≡ text.old.items ++ field_text default_writer shown.entry.text.now) }
 {
-    if needs_quotes(cell) {
-        return put_any_cell(text, writer, cell);
+    if shown.needs_quotes {
+        return writer.put_lone(text, shown.text);
     }
-    text.extend_from_slice(cell)
-}
-
-/// Whether a field of this base type and size is one floating point number.
-fn is_lone_float(code: Code, size: u8) -> bool
-    ensures class { IsTrue result → (base_type code.0).class ≡ Float }
-    ensures width { IsTrue result → (base_type code.0).width ≡ size }
-{
-    code.class() == Class::Float && code.width() == size
+    text.extend_from_slice(shown.text)
 }
 
 /// What stands between the value before and one's own, and how one's own is read.
@@ -112,6 +90,8 @@ pub(crate) struct Frame {
     size: u8,
     info: Option<Info>,
     form: Option<NumberForm>,
+    /// Whether the value is a string.
+    is_text: bool,
     /// Whether the value is one floating point number.
     is_float: bool,
 }
@@ -119,7 +99,7 @@ pub(crate) struct Frame {
 impl Model for Frame {
     ghost use Rattle.std.specs.Prelude.{◌≡◌, IfSome, IsTrue, option_map};
     ghost use Rattle.fit_base.specs.BaseTypes.{base_type};
-    ghost use Rattle.fit_base.specs.declared.code.Class.TheVariants.{Float};
+    ghost use Rattle.fit_base.specs.declared.code.Class.TheVariants.{Float, Text};
     ghost use Rattle.fit_profile.specs.Names.{meaning};
     ghost use Rattle.fit_profile.specs.Scaled.{IsScale};
     ghost use Rattle.fit_cells.specs.Forms.{IsFormOf, IsSmallForm};
@@ -136,6 +116,7 @@ impl Model for Frame {
 
     ghost invariant = { λ f. IfSome f.info (λ i. IsScale i.scale) × IfSome f.form IsSmallForm
         × IfSome f.form (IsFormOf f.code (option_map meaning f.info))
+        × (IsTrue f.is_text → (base_type f.code).class ≡ Text)
         × (IsTrue f.is_float → (base_type f.code).class ≡ Float)
         × (IsTrue f.is_float → (base_type f.code).width ≡ f.size) };
 }
@@ -170,6 +151,7 @@ impl Frame {
             size,
             info,
             form: number_form(Code(code), info),
+            is_text: !is_never_quoted(Code(code)),
             is_float: is_lone_float(Code(code), size),
         })
     }
@@ -201,7 +183,7 @@ impl Frame {
         }
         value.clear();
         put_cell(value, code, self.info, items)?;
-        put_any_cell(text, writer, value.as_slice())
+        writer.put_lone(text, value.as_slice())
     }
 
     /// Puts what stands before the value, and the value.
@@ -238,51 +220,6 @@ impl Frame {
         }
     }
 
-    /// The text of a string by the bytes of the field, where its cell shows it as text.
-    #[inline(always)]
-    fn own_text<'a>(&self, bytes: &'a [u8]) -> Option<&'a [u8]>
-        requires { length bytes.now ≡ self.now.size }
-        ensures { IfSome result (λ shown. (order : Order) → shown.now
-            ≡ cell self.now.code self.now.info
-            (field_from {A = Global} order (self.now.code, self.now.size) bytes.now)) }
-    {
-        if is_never_quoted(Code(self.code)) {
-            return None;
-        }
-        let text = shown_text(bytes)?;
-        Some(text)
-    }
-
-    /// The same where it is seen at once that it needs no quotes in its row.
-    #[inline(always)]
-    fn plain_text<'a>(&self, bytes: &'a [u8]) -> Option<&'a [u8]>
-        requires { length bytes.now ≡ self.now.size }
-        ensures { IfSome result (λ shown. (order : Order) → shown.now ≡ field_text default_writer
-            (cell self.now.code self.now.info
-            (field_from {A = Global} order (self.now.code, self.now.size) bytes.now))) }
-    {
-        if is_never_quoted(Code(self.code)) {
-            return None;
-        }
-        let text = bare_text(bytes)?;
-        Some(text)
-    }
-
-    /// Puts one floating point number behind a text, by the bytes of its field.
-    #[inline(never)]
-    fn put_float(&self, text: &mut Vec<u8>, order: Order, bytes: &[u8]) -> Result<(), AllocError>
-        requires class { (base_type self.now.code).class ≡ Float }
-        requires width { (base_type self.now.code).width ≡ self.now.size }
-        requires length { length bytes.now ≡ self.now.size }
-        ensures { OnOk result (text.new.items ≡ text.old.items
-            ++ field_text default_writer (cell self.now.code self.now.info
-            (field_from {A = Global} order (self.now.code, self.now.size) bytes.now))) }
-    {
-        text.extend_from_slice(b"0x")?;
-        put_digits(text, 2 * self.size, bits_at(order, self.size, bytes))?;
-        Ok(())
-    }
-
     /// Puts a value that is no lone number behind a text, by the bytes of its field.
     #[inline(never)]
     fn put_rest(
@@ -299,14 +236,31 @@ impl Frame {
             ++ field_text default_writer (cell self.now.code self.now.info
             (field_from {A = Global} order (self.now.code, self.now.size) bytes.now))) }
     {
-        if let Some(shown) = self.plain_text(bytes) {
-            return text.extend_from_slice(shown);
-        }
-        if let Some(shown) = self.own_text(bytes) {
-            return put_text(text, writer, shown);
-        }
         let items = read_items(alloc, order, self.code, self.size, bytes)?;
         self.put_other(text, writer, value, &items)
+    }
+
+    /// Puts the value of a string behind a text, by the bytes of its field.
+    #[inline(never)]
+    fn put_string(
+        &self,
+        text: &mut Vec<u8>,
+        writer: &mut RowWriter,
+        value: &mut Vec<u8>,
+        alloc: Global,
+        order: Order,
+        bytes: &[u8],
+    ) -> Result<(), AllocError>
+        requires class { (base_type self.now.code).class ≡ Text }
+        requires length { length bytes.now ≡ self.now.size }
+        ensures { OnOk result (text.new.items ≡ text.old.items
+            ++ field_text default_writer (cell self.now.code self.now.info
+            (field_from {A = Global} order (self.now.code, self.now.size) bytes.now))) }
+    {
+        match shown_text(bytes) {
+            Some(shown) => put_shown(text, writer, shown),
+            None => self.put_rest(text, writer, value, alloc, order, bytes),
+        }
     }
 
     /// The same as `put`, by the bytes of the field.
@@ -330,8 +284,11 @@ impl Frame {
             put_formed(text, form, bits_at(order, form.width, bytes))?;
             return Ok(());
         }
+        if self.is_text {
+            return self.put_string(text, writer, value, alloc, order, bytes);
+        }
         if self.is_float {
-            return self.put_float(text, order, bytes);
+            return put_float(text, self.size, order, bytes);
         }
         self.put_rest(text, writer, value, alloc, order, bytes)
     }

@@ -47,7 +47,9 @@ fn put_new<S: FieldItems>(
 {
     let writer = &mut maker.writer;
     let template = Template::new(maker.alloc, writer, local, definition)?;
-    template.put(text, writer, &mut maker.value, offset, time, items)?;
+    let value = &mut maker.value;
+    let times = &mut maker.times;
+    template.put(text, writer, value, times, offset, time, items)?;
     keep_at(&mut maker.templates, local as usize, template)?;
     Ok(())
 }
@@ -75,7 +77,9 @@ fn put_own<S: FieldItems>(
     if let Some(Some(template)) = maker.templates.as_slice().get(local as usize) {
         if template.is_of(local, definition) {
             let writer = &mut maker.writer;
-            return template.put(text, writer, &mut maker.value, offset, time, items);
+            let value = &mut maker.value;
+            let times = &mut maker.times;
+            return template.put(text, writer, value, times, offset, time, items);
         }
     }
     put_new(text, maker, definition, local, offset, time, items)

@@ -10,9 +10,10 @@ pub(crate) mod likely;
 
 use crate::items::FieldItems;
 use crate::kept::Kept;
+use crate::minutes::Times;
 use crate::rows::frames::{Frame, put_tail, put_two};
 use crate::stamp::Stamp;
-use crate::words::{time_text, unit_text};
+use crate::words::unit_text;
 use fit_cells::RowWriter;
 use fit_profile::{field_info, field_label, message_label, put_whole};
 use fit_record::{FieldDef, MessageDef};
@@ -222,6 +223,7 @@ impl Template {
     fn put_timed(
         &self,
         text: &mut Vec<u8>,
+        times: &mut Times,
         offset: Option<u8>,
         time: Option<u32>,
     ) -> Result<(), AllocError>
@@ -232,7 +234,7 @@ impl Template {
         text.extend_from_slice(self.front.as_slice())?;
         put_optional(text, offset)?;
         text.extend_from_slice(self.label.as_slice())?;
-        text.extend_from_slice(time_text(time).as_str().as_bytes())?;
+        times.put_cell(text, time)?;
         text.extend_from_slice(b",,\n")?;
         Ok(())
     }
@@ -241,6 +243,7 @@ impl Template {
     fn put_first(
         &self,
         text: &mut Vec<u8>,
+        times: &mut Times,
         offset: Option<u8>,
         time: Option<u32>,
     ) -> Result<(), AllocError>
@@ -249,7 +252,7 @@ impl Template {
             (unwrap_or (option_map instant_text time) []) [] [] ∷ []) text.old text.new) }
     {
         if offset.is_some() || time.is_some() {
-            return self.put_timed(text, offset, time);
+            return self.put_timed(text, times, offset, time);
         }
         self.line.put(text)?;
         Ok(())
@@ -261,6 +264,7 @@ impl Template {
         text: &mut Vec<u8>,
         writer: &mut RowWriter,
         value: &mut Vec<u8>,
+        times: &mut Times,
         offset: Option<u8>,
         time: Option<u32>,
         items: &mut S,
@@ -270,7 +274,7 @@ impl Template {
             (map (λ f. (f.code, f.size)) self.now.fields)
             (λ all. HasRows (own_rows self.now offset time all) text.old text.new)) }
     {
-        self.put_first(text, offset, time)?;
+        self.put_first(text, times, offset, time)?;
         let frames = self.frames.as_slice();
         put_frames(text, writer, value, frames, &self.end, items)
     }

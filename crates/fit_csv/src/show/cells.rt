@@ -1,21 +1,20 @@
 //! The cells of fields as a line shows them.
-ghost use Rattle.std.specs.Prelude.{◌≡◌, ◌++◌, IfSome, OnOk, Option, codes, length, option_map};
+ghost use Rattle.std.specs.Prelude.{◌≡◌, ◌++◌, IfSome, OnOk, length, option_map};
 ghost use Rattle.std.specs.Global.{Global};
 ghost use Rattle.std.specs.List.{list_all};
 ghost use Rattle.fit_base.specs.Fields.{HasShape};
 ghost use Rattle.fit_record.specs.ReadMessages.{field_from};
 ghost use Rattle.fit_profile.specs.Described.{is_printable};
 ghost use Rattle.fit_profile.specs.Names.{meaning};
-ghost use Rattle.fit_profile.specs.Profile.{Meaning};
 ghost use Rattle.fit_profile.specs.Scaled.{IsScale};
-ghost use Rattle.fit_cells.specs.Cells.{hex_digits};
 ghost use Rattle.fit_cells.specs.Forms.{IsFormOf, IsSmallForm};
 ghost use Rattle.fit_csv.specs.ShowLines.{shown_cell};
 
+use crate::floats::{is_lone_float, put_float};
 use fit_base::base_type::BYTE;
-use fit_base::{Class, Code, Items, Order, bits_at};
+use fit_base::{Code, Items, Order, bits_at};
 use fit_cells::{
-    NumberForm, formed, is_never_quoted, number_form, put_cell, put_digits, put_formed, shown_text,
+    NumberForm, formed, is_never_quoted, number_form, put_cell, put_formed, shown_text,
 };
 use fit_profile::Info;
 use fit_record::read_items;
@@ -42,32 +41,6 @@ fn lone_form(code: u8, size: u8, info: Option<Info>) -> Option<NumberForm>
     }
 }
 
-/// The bits of a lone float of four bytes, by the bytes of a field of this base type code and size.
-#[tactic(auto, using(crate::proofs::ShownCells::float_shown))]
-fn lone_float(code: u8, size: u8, order: Order, bytes: &[u8]) -> Option<u64>
-    requires { length bytes.now ≡ size }
-    ensures { IfSome result (λ bits. (info : Option Meaning) → shown_cell code info
-        (field_from {A = Global} order (code, size) bytes.now)
-        ≡ codes "0x" ++ hex_digits 8 bits) }
-{
-    if size != 4 || Code(code).width() != 4 {
-        return None;
-    }
-    match Code(code).class() {
-        Class::Float => Some(bits_at(order, 4, bytes)),
-        _ => None,
-    }
-}
-
-/// Puts the bits of a float of four bytes after a text.
-fn put_float(text: &mut Vec<u8>, bits: u64) -> Result<(), AllocError>
-    ensures { OnOk result (text.new.items ≡ text.old.items
-        ++ (codes "0x" ++ hex_digits 8 bits)) }
-{
-    text.extend_from_slice(b"0x")?;
-    put_digits(text, 8, bits)
-}
-
 /// How the cell of a field is made of its items.
 #[derive(Drop)]
 pub(crate) struct ShownCell {
@@ -76,10 +49,14 @@ pub(crate) struct ShownCell {
     info: Option<Info>,
     /// The form of a lone number, where its bytes are those of the field.
     lone: Option<NumberForm>,
+    /// Whether the cell shows one floating point number.
+    is_float: bool,
 }
 
 impl Model for ShownCell {
-    ghost use Rattle.std.specs.Prelude.{◌≡◌, IfSome, option_map};
+    ghost use Rattle.std.specs.Prelude.{◌≡◌, IfSome, IsTrue, option_map};
+    ghost use Rattle.fit_base.specs.BaseTypes.{base_type};
+    ghost use Rattle.fit_base.specs.declared.code.Class.TheVariants.{Float};
     ghost use Rattle.fit_profile.specs.Names.{meaning};
     ghost use Rattle.fit_profile.specs.Scaled.{IsScale};
     ghost use Rattle.fit_cells.specs.Forms.{IsFormOf, IsSmallForm};
@@ -95,7 +72,9 @@ impl Model for ShownCell {
 
     ghost invariant = { λ c. IfSome c.info (λ i. IsScale i.scale) × IfSome c.lone IsSmallForm
         × IfSome c.lone (λ f. f.width ≡ c.size)
-        × IfSome c.lone (IsFormOf c.code (option_map meaning c.info)) };
+        × IfSome c.lone (IsFormOf c.code (option_map meaning c.info))
+        × (IsTrue c.is_float → (base_type c.code).class ≡ Float)
+        × (IsTrue c.is_float → (base_type c.code).width ≡ c.size) };
 }
 
 impl ShownCell {
@@ -113,6 +92,7 @@ impl ShownCell {
             size,
             info,
             lone: lone_form(code, size, info),
+            is_float: is_lone_float(Code(code), size),
         }
     }
 
@@ -174,7 +154,7 @@ impl ShownCell {
         if is_never_quoted(Code(self.code)) {
             return None;
         }
-        let text = shown_text(bytes)?;
+        let text = shown_text(bytes)?.text;
         if is_shown(text) { Some(text) } else { None }
     }
 
@@ -195,8 +175,8 @@ impl ShownCell {
         if let Some(shown) = self.plain_text(bytes) {
             return text.extend_from_slice(shown);
         }
-        if let Some(bits) = lone_float(self.code, self.size, order, bytes) {
-            return put_float(text, bits);
+        if self.is_float {
+            return put_float(text, self.size, order, bytes);
         }
         let items = read_items(alloc, order, self.code, self.size, bytes)?;
         self.put_other(text, &items)

@@ -120,11 +120,11 @@ fn put_own<S: FieldItems>(
 {
     if let Some(Some(template)) = maker.templates.as_slice().get(local as usize) {
         if template.is_of(local, definition) {
-            return template.put(text, maker.alloc, &mut maker.minute, time, items);
+            return template.put(text, &mut maker.times, time, items);
         }
     }
     let template = LineTemplate::new(maker.alloc, local, definition)?;
-    template.put(text, maker.alloc, &mut maker.minute, time, items)?;
+    template.put(text, &mut maker.times, time, items)?;
     keep_at(&mut maker.templates, local as usize, template)?;
     Ok(())
 }

@@ -6,10 +6,10 @@ ghost use Rattle.fit_csv.specs.inner.Showing.{keys_text, line_front};
 
 use crate::items::FieldItems;
 use crate::kept::Kept;
+use crate::minutes::Times;
 use crate::show::devs::ShownDev;
 use crate::show::fields::put_words;
 use crate::show::frames::{ShownField, put_head, shown_fields};
-use crate::show::minutes::{Minute, put_time};
 use crate::stamp::Stamp;
 use fit_profile::message_label;
 use fit_record::MessageDef;
@@ -53,15 +53,17 @@ fn put_fields<S: FieldItems>(
 #[derive(Drop)]
 pub(crate) struct LineTemplate {
     kept: Kept,
-    /// What stands before the time.
+    /// What a message without a time begins with.
     front: Stamp,
+    /// What stands before the time of the others: that and a space.
+    timed: Stamp,
     /// What stands before the cell of the first field.
     head: Stamp,
     fields: Vec<ShownField>,
 }
 
 impl Model for LineTemplate {
-    ghost use Rattle.std.specs.Prelude.{◌≡◌};
+    ghost use Rattle.std.specs.Prelude.{◌≡◌, ◌++◌, codes};
     ghost use Rattle.fit_csv.specs.inner.Frames.{TemplateKey};
     ghost use Rattle.fit_csv.specs.inner.Showing.{first_head, line_front, shown_keys};
 
@@ -71,7 +73,8 @@ impl Model for LineTemplate {
 
     ghost invariant = { λ t. (t.front ≡ line_front t.kept.local t.kept.global)
         × (t.head ≡ first_head 0 t.kept.global t.kept.fields)
-        × (t.fields.items ≡ shown_keys 0 t.kept.global t.kept.fields) };
+        × (t.fields.items ≡ shown_keys 0 t.kept.global t.kept.fields)
+        × (t.timed ≡ line_front t.kept.local t.kept.global ++ codes " ") };
 }
 
 impl LineTemplate {
@@ -90,12 +93,16 @@ impl LineTemplate {
         let kept = Kept::new(alloc, local, definition)?;
         let mut front = Vec::new(alloc);
         put_front(&mut front, local, definition.global)?;
+        let mut timed = Vec::new(alloc);
+        put_front(&mut timed, local, definition.global)?;
+        timed.push(b' ')?;
         let fields = definition.fields.as_slice();
         let mut head = Vec::new(alloc);
         put_head(&mut head, 0, definition.global, fields)?;
         Ok(LineTemplate {
             kept,
             front: Stamp::new(front)?,
+            timed: Stamp::new(timed)?,
             head: Stamp::new(head)?,
             fields: shown_fields(alloc, definition.global, fields)?,
         })
@@ -112,12 +119,31 @@ impl LineTemplate {
         self.kept.is(local, definition)
     }
 
-    /// Puts the line of a message with this time up to its developer fields, and keeps the minute of the time.
+    /// Puts what a message with this time begins with.
+    #[inline(always)]
+    fn put_label(
+        &self,
+        text: &mut Vec<u8>,
+        times: &mut Times,
+        time: Option<u32>,
+    ) -> Result<(), AllocError>
+        ensures { OnOk result (text.new.items ≡ text.old.items
+            ++ (line_front self.now.local self.now.global ++ lines.time_part time)) }
+    {
+        match time {
+            Some(time) => {
+                self.timed.put(text)?;
+                times.put(text, time)
+            }
+            None => self.front.put(text),
+        }
+    }
+
+    /// Puts the line of a message with this time up to its developer fields.
     pub(crate) fn put<S: FieldItems>(
         &self,
         text: &mut Vec<u8>,
-        alloc: Global,
-        minute: &mut Option<Minute>,
+        times: &mut Times,
         time: Option<u32>,
         items: &mut S,
     ) -> Result<(), AllocError>
@@ -127,8 +153,7 @@ impl LineTemplate {
             ++ (lines.message_front self.now.local self.now.global time ++ lines.listed 0
             (lines.shown_fields self.now.global self.now.fields all)))) }
     {
-        self.front.put(text)?;
-        put_time(text, alloc, minute, time)?;
+        self.put_label(text, times, time)?;
         self.head.put(text)?;
         put_fields(text, self.fields.as_slice(), items)
     }
@@ -142,8 +167,7 @@ pub(crate) struct LineMaker {
     pub templates: Vec<Option<LineTemplate>>,
     /// What stands around the developer fields of that, by place and local message type.
     pub devs: Vec<Option<ShownDev>>,
-    /// The minute of the last time.
-    pub minute: Option<Minute>,
+    pub times: Times,
 }
 
 impl LineMaker {
@@ -153,7 +177,7 @@ impl LineMaker {
             alloc,
             templates: Vec::new(alloc),
             devs: Vec::new(alloc),
-            minute: None,
+            times: Times::new(alloc),
         }
     }
 }

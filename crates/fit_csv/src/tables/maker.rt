@@ -1,5 +1,5 @@
 //! The rows of the table, and what is kept from one to the next.
-ghost use Rattle.std.specs.Prelude.{◌≡◌, ◌∷◌, [], IfOk, List, OnOk, Some, false, length, true};
+ghost use Rattle.std.specs.Prelude.{◌≡◌, ◌∷◌, [], ℕ, IfOk, IsTrue, List, None, OnOk, Some, false, length, true};
 ghost use Rattle.std.specs.Global.{Global};
 ghost use Rattle.fit_record.specs.declared.message.Record.{Record};
 ghost use Rattle.fit_record.specs.declared.message.Record.TheVariants.{Values as Data};
@@ -9,11 +9,13 @@ ghost use Rattle.fit_record.specs.Records.{message_size};
 ghost use Rattle.fit_record.specs.Sound.{IsSound};
 ghost use Rattle.fit_profile.specs.Looks.{known};
 ghost use Rattle.fit_profile.specs.Meant.{shown};
-ghost use Rattle.fit_profile.specs.Times as times;
+ghost use Rattle.fit_profile.specs.Times.{time as time_of};
 ghost use Rattle.fit_cells.specs.Rows.{HasRows};
 ghost use Rattle.fit_csv.specs.Table as table;
+ghost use Rattle.fit_csv.specs.inner.CurrentColumns.{IsCurrent};
 
 use crate::kept::keep_at;
+use crate::minutes::Times;
 use crate::tables::columns::Columns;
 use crate::tables::numbers::NumbersInBytes;
 use crate::tables::rows::put_row;
@@ -25,8 +27,11 @@ use std::alloc::{AllocError, Global};
 #[derive(Drop)]
 pub(crate) struct TableMaker {
     pub alloc: Global,
+    pub times: Times,
     /// Those of the last record message of each local message type.
     columns: Vec<Option<Columns>>,
+    /// The local message type whose columns are known to be those of its definition.
+    current: Option<u8>,
 }
 
 impl TableMaker {
@@ -34,7 +39,27 @@ impl TableMaker {
     pub(crate) fn new(alloc: Global) -> TableMaker {
         TableMaker {
             alloc,
+            times: Times::new(alloc),
             columns: Vec::new(alloc),
+            current: None,
+        }
+    }
+
+    /// Forgets which columns are those of a definition.
+    pub(crate) fn forget(&mut self)
+        ensures { self.new.current ≡ None }
+    {
+        self.current = None;
+    }
+
+    /// Whether the columns of a local message type are known to be those of its definition.
+    #[inline(always)]
+    fn is_current(&self, local: u8) -> bool
+        ensures { IsTrue result → self.now.current ≡ Some local }
+    {
+        match self.current {
+            Some(current) => current == local,
+            None => false,
         }
     }
 }
@@ -42,19 +67,21 @@ impl TableMaker {
 /// Puts the row of a record message of a file.
 pub(crate) fn put_table_row(
     text: &mut Vec<u8>,
+    times: &mut Times,
     message: &Message,
     file: u64,
 ) -> Result<(), AllocError>
     ensures { OnOk result (HasRows (table.table_row file (shown message.now).definition
         (shown message.now).values (shown message.now).told ∷ []) text.old text.new) }
 {
-    put_row(text, file, message.time(), message)
+    put_row(text, times, file, message.time(), message)
 }
 
 /// Puts the row of a record message of a file from its bytes, by its columns and its time, where its numbers can be read there.
 /// Whether it did.
 fn put_by(
     text: &mut Vec<u8>,
+    times: &mut Times,
     columns: &Columns,
     message: &MessageBytes<'_>,
     time: Option<u32>,
@@ -65,7 +92,7 @@ fn put_by(
     requires long { length message.now.body.now ≡ message_size message.now.defined.now }
     ensures row { IfOk result (λ put. put ≡ true → (before : List (Record Global))
         → defined_at (known before) message.now.local ≡ Some message.now.defined.now
-        → time ≡ times.time before (Data (message_in message.now))
+        → time ≡ time_of before (Data (message_in message.now))
         → HasRows (table.table_message_rows file before (message_in message.now))
         text.old text.new) }
     ensures none { IfOk result (λ put. put ≡ false → text.new.items ≡ text.old.items) }
@@ -78,8 +105,37 @@ fn put_by(
         order: message.defined.definition.order,
         bytes: message.body,
     };
-    put_row(text, file, time, &numbers)?;
+    put_row(text, times, file, time, &numbers)?;
     Ok(true)
+}
+
+/// Puts the row of a record message of a file from its bytes, by its time and by columns that are found out and kept, where its
+/// numbers can be read there. Whether it did.
+#[cold]
+#[inline(never)]
+fn put_by_new(
+    text: &mut Vec<u8>,
+    maker: &mut TableMaker,
+    message: &MessageBytes<'_>,
+    time: Option<u32>,
+    file: u64,
+) -> Result<bool, AllocError>
+    requires global { message.now.defined.now.definition.global ≡ 20 }
+    requires sound { IsSound message.now.defined.now }
+    requires long { length message.now.body.now ≡ message_size message.now.defined.now }
+    ensures row { IfOk result (λ put. put ≡ true → (before : List (Record Global))
+        → defined_at (known before) message.now.local ≡ Some message.now.defined.now
+        → time ≡ time_of before (Data (message_in message.now))
+        → HasRows (table.table_message_rows file before (message_in message.now))
+        text.old text.new) }
+    ensures none { IfOk result (λ put. put ≡ false → text.new.items ≡ text.old.items) }
+    ensures current { maker.new.current ≡ maker.old.current }
+{
+    let fields = message.defined.definition.fields.as_slice();
+    let columns = Columns::new(maker.alloc, fields)?;
+    let put = put_by(text, &mut maker.times, &columns, message, time, file)?;
+    keep_at(&mut maker.columns, message.local as usize, columns)?;
+    Ok(put)
 }
 
 /// Puts the row of a record message of a file from its bytes, by its time, where its numbers can be read there. Whether it did.
@@ -93,22 +149,26 @@ pub(crate) fn put_message_row(
     requires global { message.now.defined.now.definition.global ≡ 20 }
     requires sound { IsSound message.now.defined.now }
     requires long { length message.now.body.now ≡ message_size message.now.defined.now }
+    requires current { IsCurrent maker.old message.now.local
+        message.now.defined.now.definition.fields }
     ensures row { IfOk result (λ put. put ≡ true → (before : List (Record Global))
         → defined_at (known before) message.now.local ≡ Some message.now.defined.now
-        → time ≡ times.time before (Data (message_in message.now))
+        → time ≡ time_of before (Data (message_in message.now))
         → HasRows (table.table_message_rows file before (message_in message.now))
         text.old text.new) }
     ensures none { IfOk result (λ put. put ≡ false → text.new.items ≡ text.old.items) }
+    ensures current { (local : ℕ) → maker.new.current ≡ Some local → (local ≡ message.now.local)
+        × IsCurrent maker.new local message.now.defined.now.definition.fields }
 {
-    let local = message.local as usize;
+    let local = message.local;
     let fields = message.defined.definition.fields.as_slice();
-    if let Some(Some(columns)) = maker.columns.as_slice().get(local) {
-        if columns.are_of(fields) {
-            return put_by(text, columns, message, time, file);
+    let is_current = maker.is_current(local);
+    if let Some(Some(columns)) = maker.columns.as_slice().get(local as usize) {
+        if is_current || columns.are_of(fields) {
+            maker.current = Some(local);
+            return put_by(text, &mut maker.times, columns, message, time, file);
         }
     }
-    let columns = Columns::new(maker.alloc, fields)?;
-    let put = put_by(text, &columns, message, time, file)?;
-    keep_at(&mut maker.columns, local, columns)?;
-    Ok(put)
+    maker.current = None;
+    put_by_new(text, maker, message, time, file)
 }

@@ -20,7 +20,7 @@ use fit_base::base_type::SINT32;
 use fit_base::{Items, Order};
 use fit_cells::put_formed;
 use fit_profile::laws::degrees_are_one;
-use fit_profile::{Fixed, Message, degrees};
+use fit_profile::{Fixed, Message, degrees, put_fixed};
 use std::alloc::AllocError;
 
 /// The numbers of a record message.
@@ -115,42 +115,45 @@ fn semicircles(width: u8, bits: u64) -> Option<i32>
     }
 }
 
-/// A position in degrees.
-fn in_degrees(semicircles: i32) -> Fixed
-    ensures value { result.value ≡ degrees_of semicircles }
-    ensures decimals { result.decimals ≡ 7 }
+/// A position in degrees, in units of the seventh decimal.
+#[inline(always)]
+fn in_degrees(semicircles: i32) -> i64
+    ensures { result ≡ degrees_of semicircles }
 {
     degrees_are_one();
-    degrees(semicircles)
+    degrees(semicircles).value as i64
 }
 
-/// The position that an item of this width is, where it is valid.
+/// Puts a position in degrees, where there is one. Whether there is.
 #[inline(always)]
-fn item_position(width: u8, bits: u64) -> Option<Fixed>
-    ensures text { shown_text result ≡ option_map (λ s. fixed_text (degrees_of s) 7)
-        (values.valid_number 0x85 width bits) }
-    ensures few { IfSome result (λ v. v.decimals ≤ 8) }
+fn put_degrees(text: &mut Vec<u8>, position: Option<i32>) -> Result<bool, AllocError>
+    ensures { IfOk result (λ put. PutsCell (option_map (λ s. fixed_text (degrees_of s) 7) position)
+        put text.old.items text.new.items) }
 {
-    Some(in_degrees(semicircles(width, bits)?))
+    match position {
+        Some(semicircles) => {
+            put_fixed(text, in_degrees(semicircles), 7)?;
+            Ok(true)
+        }
+        None => Ok(false),
+    }
 }
 
 /// The position in the first item of a field of the base type sint32, where it is valid.
-fn first_position(items: &Items) -> Option<Fixed>
-    ensures text { shown_text result ≡ option_map (λ s. fixed_text (degrees_of s) 7)
-        (option_and_then (values.valid_number 0x85 items.now.width) (slice_get items.now.bits 0)) }
-    ensures few { IfSome result (λ v. v.decimals ≤ 8) }
+fn first_position(items: &Items) -> Option<i32>
+    ensures { result ≡ option_and_then (values.valid_number 0x85 items.now.width)
+        (slice_get items.now.bits 0) }
 {
     match items.bits.as_slice() {
-        [bits, ..] => item_position(items.width, *bits),
+        [bits, ..] => semicircles(items.width, *bits),
         [] => None,
     }
 }
 
 /// The position in the first field of this number, where that is of the base type sint32.
-fn position(message: &Message, number: u8) -> Option<Fixed>
-    ensures text { shown_text result ≡ table.degrees_text (shown message.now).definition
-        (shown message.now).values number }
-    ensures few { IfSome result (λ v. v.decimals ≤ 8) }
+fn position(message: &Message, number: u8) -> Option<i32>
+    ensures { option_map (λ s. fixed_text (degrees_of s) 7) result ≡ table.degrees_text
+        (shown message.now).definition (shown message.now).values number }
 {
     let field = message.first(number)?;
     if field.code != SINT32 {
@@ -168,7 +171,7 @@ impl<'a> RecordNumbers for Message<'a> {
     }
 
     fn put_position(&self, text: &mut Vec<u8>, number: u8) -> Result<bool, AllocError> {
-        put_number(text, position(self, number))
+        put_degrees(text, position(self, number))
     }
 
     fn put_distance(&self, text: &mut Vec<u8>) -> Result<bool, AllocError> {
@@ -223,7 +226,7 @@ fn put_position_at(
         return Ok(false);
     }
     let bits = place.bits(order, bytes);
-    put_number(text, item_position(place.form.width, bits))
+    put_degrees(text, semicircles(place.form.width, bits))
 }
 
 /// The numbers of a record message in its bytes.

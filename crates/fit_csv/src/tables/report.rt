@@ -8,11 +8,13 @@ ghost use Rattle.fit_record.specs.Records.{Fits, IsRecord};
 ghost use Rattle.fit_profile.specs.Looks.{known};
 ghost use Rattle.fit_profile.specs.Meant.{MessageOf, shown};
 ghost use Rattle.fit_cells.specs.Rows.{csv_text};
-ghost use Rattle.fit_csv.specs.ShowLines.{kept_events};
+ghost use Rattle.fit_csv.specs.KeptEvents.{kept_events};
+ghost use Rattle.fit_csv.specs.inner.CurrentColumns.{AreCurrent};
 ghost use Rattle.fit_csv.specs.inner.Reporting.{AnswerFits, behind_answer};
 ghost use Rattle.fit_csv.specs.Table.{table_message_rows, table_record_rows};
 ghost use Rattle.fit_csv.specs.inner.TableCells.{files_behind_answer, rows_in, table_answer_rows};
 
+use crate::minutes::Times;
 use crate::tables::maker::{TableMaker, put_message_row, put_table_row};
 use fit_decode::{Decoder, Event};
 use fit_profile::laws::looking_back_is_learning;
@@ -38,11 +40,16 @@ fn row_of(message: Option<Message>) -> Option<Message>
 }
 
 /// Puts the text of the row of a record message, where there is one.
-fn put_text(text: &mut Vec<u8>, message: &Option<Message>, file: u64) -> Result<(), AllocError>
+fn put_text(
+    text: &mut Vec<u8>,
+    times: &mut Times,
+    message: &Option<Message>,
+    file: u64,
+) -> Result<(), AllocError>
     ensures { OnOk result (text.new.items ≡ text.old.items ++ csv_text (rows_in file message.now)) }
 {
     match message {
-        Some(message) => put_table_row(text, message, file),
+        Some(message) => put_table_row(text, times, message, file),
         None => Ok(()),
     }
 }
@@ -50,6 +57,7 @@ fn put_text(text: &mut Vec<u8>, message: &Option<Message>, file: u64) -> Result<
 /// Takes a record in, and puts the text of its row in the file of this number.
 fn take_record(
     text: &mut Vec<u8>,
+    times: &mut Times,
     stream: &mut Stream,
     file: u64,
     record_: &Record,
@@ -60,7 +68,7 @@ fn take_record(
     ensures stream { OnOk result (stream.new ≡ record_.now ∷ stream.old) }
 {
     let message = row_of(stream.push(record_)?);
-    put_text(text, &message, file)
+    put_text(text, times, &message, file)
 }
 
 /// Puts the text of the row of the data message that the bytes are, where it can be made of these. Whether it did.
@@ -72,11 +80,13 @@ fn put_message(
     file: u64,
     bytes: &[u8],
 ) -> Result<bool, AllocError>
-    requires { (v : Values Global) × IsRecord (known stream.now) (Data v) bytes.now }
+    requires record_ { (v : Values Global) × IsRecord (known stream.now) (Data v) bytes.now }
+    requires current { AreCurrent maker.old stream.now }
     ensures row { IfOk result (λ put. put ≡ true → (v : Values Global)
         → IsRecord (known stream.now) (Data v) bytes.now → text.new.items
         ≡ text.old.items ++ csv_text (table_message_rows file stream.now v)) }
     ensures none { IfOk result (λ put. put ≡ false → text.new.items ≡ text.old.items) }
+    ensures current { AreCurrent maker.new stream.now }
 {
     let Some(message) = stream.env().message_bytes(bytes) else {
         unreachable!()
@@ -108,24 +118,28 @@ fn take_message(
     file: u64,
     bytes: &[u8],
 ) -> Result<(), AllocError>
-    requires { (v : Values Global) × IsRecord (known stream.old) (Data v) bytes.now }
+    requires record_ { (v : Values Global) × IsRecord (known stream.old) (Data v) bytes.now }
+    requires current { AreCurrent maker.old stream.old }
     ensures text { OnOk result ((v : Values Global)
         → IsRecord (known stream.old) (Data v) bytes.now → text.new.items
         ≡ text.old.items ++ csv_text (table_message_rows file stream.old v)) }
     ensures stream { OnOk result ((v : Values Global)
         → IsRecord (known stream.old) (Data v) bytes.now → stream.new ≡ Data v ∷ stream.old) }
+    ensures current { AreCurrent maker.new stream.new }
 {
     if put_message(text, maker, stream, file, bytes)? {
         return stream.take_message(bytes);
     }
+    maker.forget();
     let record_ = record_of(maker.alloc, stream, bytes)?;
-    take_record(text, stream, file, &record_)
+    take_record(text, &mut maker.times, stream, file, &record_)
 }
 
 /// Takes an event in, and puts the text of its row. A header begins a file.
 #[tactic(auto, using(fit_cells::proofs::AddedRows::text_none))]
 fn take_event(
     text: &mut Vec<u8>,
+    times: &mut Times,
     stream: &mut Stream,
     files: &mut u64,
     event: &Event,
@@ -143,7 +157,7 @@ fn take_event(
             *files += 1;
             Ok(())
         }
-        Event::Item(record_) => take_record(text, stream, *files, record_),
+        Event::Item(record_) => take_record(text, times, stream, *files, record_),
         Event::More | Event::FileEnd => Ok(()),
     }
 }
@@ -158,11 +172,15 @@ pub(crate) struct TableReport {
 }
 
 impl Model for TableReport {
-    ghost use Rattle.fit_csv.specs.ShowLines.{KeptEvents};
+    ghost use Rattle.fit_csv.specs.KeptEvents.{KeptEvents};
 
     ghost Value = { KeptEvents };
 
     ghost view = { λ r. record { records = r.stream; files = r.files } };
+
+    ghost use Rattle.fit_csv.specs.inner.CurrentColumns.{AreCurrent};
+
+    ghost invariant = { λ r. AreCurrent r.maker r.stream };
 }
 
 impl TableReport {
@@ -189,7 +207,14 @@ impl Report for TableReport {
         heard_records_fit::<Global>();
         heard_are_few::<Global>();
         looking_back_is_learning::<Global>();
-        take_event(text, &mut self.stream, &mut self.files, event)
+        self.maker.forget();
+        take_event(
+            text,
+            &mut self.maker.times,
+            &mut self.stream,
+            &mut self.files,
+            event,
+        )
     }
 
     fn skip(

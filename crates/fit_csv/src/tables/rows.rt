@@ -9,11 +9,11 @@ ghost use Rattle.fit_profile.specs.declared.told.Told.{Told};
 ghost use Rattle.fit_cells.specs.Rows.{HasRows};
 ghost use Rattle.fit_csv.specs.InstantText.{instant_text};
 ghost use Rattle.fit_csv.specs.Table as table;
-ghost use Rattle.fit_csv.specs.inner.TableCells.{AddsCell, AreSome};
+ghost use Rattle.fit_csv.specs.inner.TableCells.{AddsCell, AddsCells, AreSome, effort_cells, place_cells};
 ghost use Rattle.fit_csv.specs.inner.TableColumns.{is_tabled};
 
+use crate::minutes::Times;
 use crate::tables::numbers::RecordNumbers;
-use crate::words::time_text;
 use fit_profile::put_whole;
 use std::alloc::AllocError;
 
@@ -113,20 +113,55 @@ fn add_speed<N: RecordNumbers>(text: &mut Vec<u8>, numbers: &N) -> Result<(), Al
     Ok(())
 }
 
+/// Puts the cells of the position, the altitude and the distance.
+#[inline(never)]
+fn add_place<N: RecordNumbers>(text: &mut Vec<u8>, numbers: &N) -> Result<(), AllocError>
+    requires { AreSome (N.are_of numbers.now) }
+    ensures { OnOk result ((d : MessageDef Global) (v : Values Global) (t : Told)
+        → N.are_of numbers.now d v t
+        → AddsCells (place_cells d v t) text.old.items text.new.items) }
+{
+    add_position(text, numbers, 0)?;
+    add_position(text, numbers, 1)?;
+    add_altitude(text, numbers)?;
+    add_distance(text, numbers)
+}
+
+/// Puts the cells of the speed, the heart rate, the cadence, the power and the temperature.
+#[inline(never)]
+fn add_effort<N: RecordNumbers>(text: &mut Vec<u8>, numbers: &N) -> Result<(), AllocError>
+    requires { AreSome (N.are_of numbers.now) }
+    ensures { OnOk result ((d : MessageDef Global) (v : Values Global) (t : Told)
+        → N.are_of numbers.now d v t
+        → AddsCells (effort_cells d v t) text.old.items text.new.items) }
+{
+    add_speed(text, numbers)?;
+    add_value(text, numbers, 3)?;
+    add_value(text, numbers, 4)?;
+    add_value(text, numbers, 7)?;
+    add_value(text, numbers, 13)
+}
+
 /// Puts the first two cells of a row behind a text.
-fn put_first(text: &mut Vec<u8>, file: u64, time: Option<u32>) -> Result<(), AllocError>
+#[inline(never)]
+fn put_first(
+    text: &mut Vec<u8>,
+    times: &mut Times,
+    file: u64,
+    time: Option<u32>,
+) -> Result<(), AllocError>
     ensures { OnOk result (text.new.items ≡ text.old.items ++ (decimal file
         ++ fields_text default_writer (unwrap_or (option_map instant_text time) [] ∷ []))) }
 {
     put_whole(text, file)?;
     text.push(b',')?;
-    text.extend_from_slice(time_text(time).as_str().as_bytes())?;
-    Ok(())
+    times.put_cell(text, time)
 }
 
 /// Puts the row of a record message of a file behind a text, by its time and its numbers.
 pub(crate) fn put_row<N: RecordNumbers>(
     text: &mut Vec<u8>,
+    times: &mut Times,
     file: u64,
     time: Option<u32>,
     numbers: &N,
@@ -136,16 +171,9 @@ pub(crate) fn put_row<N: RecordNumbers>(
         → N.are_of numbers.now d v t → time ≡ t.time
         → HasRows (table.table_row file d v t ∷ []) text.old text.new) }
 {
-    put_first(text, file, time)?;
-    add_position(text, numbers, 0)?;
-    add_position(text, numbers, 1)?;
-    add_altitude(text, numbers)?;
-    add_distance(text, numbers)?;
-    add_speed(text, numbers)?;
-    add_value(text, numbers, 3)?;
-    add_value(text, numbers, 4)?;
-    add_value(text, numbers, 7)?;
-    add_value(text, numbers, 13)?;
+    put_first(text, times, file, time)?;
+    add_place(text, numbers)?;
+    add_effort(text, numbers)?;
     text.push(b'\n')?;
     Ok(())
 }

@@ -8,7 +8,7 @@ returns-then-is_err-clause-err g c = (
   Consumes-trans (g.S.Source.remaining c.args.source.now) (g.S.Source.remaining c.loop-count.source) (g.S.Source.remaining c.take.new.self)
       c.loop-count.text.items (take c.in-Ok.got c.take.new.buffer)
       c.loop-count.invariant.taken c.in-Ok.ensures.bytes.0,
-  tt,
+  c.in-Ok.ensures.good,
 )
 
 pub returns-then-len-gt-MOST-clause-err : goal.returns-then-len-gt-MOST-clause-err

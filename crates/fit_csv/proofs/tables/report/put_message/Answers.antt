@@ -4,6 +4,7 @@ use Rattle.std.proofs.Common.{List, Some}
 use Rattle.std.proofs.lemmas.List.{append-nil}
 use Rattle.fit_record.specs.MessageBytes.{message_in}
 use Rattle.fit_record.specs.Records.{IsRecord}
+use Rattle.fit_csv.proofs.CurrentFacts.{one_current}
 use Rattle.fit_csv.proofs.RowsInBytes.{row_of_other}
 use Rattle.fit_csv.proofs.TableNumbers.{if_ok}
 use Rattle.fit_csv.proofs.tables.report.put_message.Goals as goal
@@ -11,8 +12,8 @@ use Rattle.fit_csv.proofs.tables.report.put_message.Goals as goal
 pub unreachable-requires : goal.unreachable-requires
 unreachable-requires c =
     let bytes = c.args.bytes.now in
-    c.in_default.ensures.found c.requires.0 bytes [] (sym (append-nil bytes))
-    (subst (λ e. IsRecord e (Data c.requires.0) bytes) (sym c.env.ensures) c.requires.1)
+    c.in_default.ensures.found c.requires.record_.0 bytes [] (sym (append-nil bytes))
+    (subst (λ e. IsRecord e (Data c.requires.record_.0) bytes) (sym c.env.ensures) c.requires.record_.1)
 
 pub returns-then-message-ne-RECORD-clause-row : goal.returns-then-message-ne-RECORD-clause-row
 unfolding csv_text
@@ -42,3 +43,14 @@ returns-clause-row c =
     let defined = subst (λ e. defined_at e m.local ≡ Some m.defined.now) c.env.ensures c.in-Some.ensures.defined in
     let timed = c.message_time-time.ensures v is_record ∙ ap (λ w. time before (Data w)) (sym found.0) in
     (row is before defined timed).text ∙ ap (λ w. old.items ++ csv_text (table_message_rows c.args.file before w)) found.0) c.put_message_row.ensures.row
+
+pub put_message_row-requires-clause-current : goal.put_message_row-requires-clause-current
+put_message_row-requires-clause-current c =
+    let m = c.in-Some.message in
+    c.requires.current m.local m.defined.now (subst (λ e. defined_at e m.local ≡ Some m.defined.now) c.env.ensures c.in-Some.ensures.defined)
+
+pub returns-clause-current : goal.returns-clause-current
+returns-clause-current c =
+    let m = c.in-Some.message in
+    one_current c.put_message_row.new.maker c.args.stream.now m.local m.defined.now
+    (subst (λ e. defined_at e m.local ≡ Some m.defined.now) c.env.ensures c.in-Some.ensures.defined) c.put_message_row.ensures.current

@@ -1,13 +1,11 @@
-use Rattle.fit_csv.proofs.Common.{◌≡◌, ◌∙◌, ◌++◌, ◌∷◌, [], ap, ap₂, default_writer, fields_text}
-use Rattle.std.proofs.Common.{List, ℕ, decimal}
+use Rattle.fit_csv.proofs.Common.{◌∙◌, ◌++◌, ◌∷◌, [], ap, on_ok_weaker, instant_text}
+use Rattle.std.proofs.Common.{List, ℕ}
+use Rattle.std.specs.Prelude.{option_map, unwrap_or}
 use Rattle.fit_csv.proofs.TableNumbers.{first_plain}
 use Rattle.fit_csv.proofs.tables.rows.put_first.Goals as goal
 
 pub returns : goal.returns
-returns c =
-    let time = c.time_text.result.bytes in
-    let cell : c.as_bytes.result.now ≡ time = c.as_bytes.ensures.value ∙ c.as_str.ensures.value in
+returns c = on_ok_weaker c.put_cell.result (λ put.
+    let time = unwrap_or (option_map instant_text c.args.time) [] in
     let before = c.in_ok-push.ensures.items ∙ ap (λ (t : List ℕ). t ++ (44 ∷ [])) c.in_ok-put_whole.ensures.ok in
-    c.in_ok-extend_from_slice.ensures.items ∙ ap₂ (λ (a b : List ℕ). a ++ b) before cell
-    ∙ first_plain c.args.text.now.items c.args.file time c.time_text.ensures.plain
-    ∙ ap (λ (t : List ℕ). c.args.text.now.items ++ (decimal c.args.file ++ fields_text default_writer (t ∷ []))) c.time_text.ensures.text
+    put ∙ ap (λ (t : List ℕ). t ++ time) before ∙ first_plain c.args.text.now.items c.args.file time c.put_cell.ensures.plain) c.put_cell.ensures.text

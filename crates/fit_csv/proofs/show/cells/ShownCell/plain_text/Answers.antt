@@ -10,7 +10,7 @@ use Rattle.fit_csv.proofs.show.cells.ShownCell.plain_text.Goals as goal
 pub returns-then-is_shown : goal.returns-then-is_shown
 returns-then-is_shown c order =
     let kept : CellKey = c.args.self.now in
-    let shown = c.in_ok-text.ensures.some in
+    let shown = c.in_ok-text.ensures.text in
     let text = subst (λ (f : CellKey). (base_type f.code).class ≡ Text) c.self.view_is (c.is_never_quoted.ensures.no c.if-is_never_quoted.false) in
     let is = text_cell Global order kept.code kept.size kept.info c.args.bytes.now text c.requires in
     let plain = ap (list_all is_printable) (is ∙ sym shown) ∙ sym c.is_shown.ensures ∙ c.if-is_shown.true in

@@ -1,5 +1,5 @@
-use Rattle.fit_csv.proofs.Common.{◌≤◌, ◌∙◌, ◌++◌, length, length-map, map, drop, sym, ap, subst, arith, on_ok_weaker}
-use Rattle.fit_csv.proofs.Common.{TemplateKey, first_head, keys_text, line_front, shown_keys}
+use Rattle.fit_csv.proofs.Common.{◌≤◌, ◌∙◌, ◌++◌, length, length-map, map, drop, refl, sym, ap, subst, append_assoc, arith, on_ok_weaker}
+use Rattle.fit_csv.proofs.Common.{TemplateKey, first_head, keys_text, line_front, shown_keys, time_part}
 use Rattle.std.proofs.Common.{ℕ, List}
 use Rattle.fit_csv.proofs.FieldWalks.{field_slot}
 use Rattle.fit_csv.proofs.ShownLines.{key_slot, line_parts, shown_slots}
@@ -16,7 +16,7 @@ pub returns : goal.returns
 returns g c = on_ok_weaker c.put_fields.result (λ takes more all h.
     let key : TemplateKey = c.args.self.now in
     let old = c.args.text.now.items in
-    let front = c.self.invariant.0 ∙ ap (λ (k : TemplateKey). line_front k.local k.global) c.self.view_is in
+    let front = line_front key.local key.global in
     let head = c.self.invariant.1 ∙ ap (λ (k : TemplateKey). first_head 0 k.global k.fields) c.self.view_is in
     let fields = c.as_slice.ensures.value ∙ c.self.invariant.2 ∙ ap (λ (k : TemplateKey). shown_keys 0 k.global k.fields) c.self.view_is in
     let same = ap (map key_slot) fields ∙ shown_slots 0 key.global key.fields in
@@ -24,8 +24,8 @@ returns g c = on_ok_weaker c.put_fields.result (λ takes more all h.
     let long = subst (λ (fs : List (ℕ × ℕ)). length fs ≤ length all) same t.0 in (
       long,
       subst (λ (fs : List (ℕ × ℕ)). g.S.FieldItems.has_items c.put_fields.new.items more (drop (length fs) all)) same t.1,
-      line_parts key.local key.global c.args.time key.fields all old c.put.new.text.items c.put_time.new.text.items c.put-2.new.text.items
-          c.put_fields.new.text.items (c.in_ok-put.ensures ∙ ap (λ u. old ++ u) front) c.in_ok-put_time.ensures
-          (c.in_ok-put-2.ensures ∙ ap (λ u. c.put_time.new.text.items ++ u) head)
-          (t.2 ∙ ap (λ fs. c.put-2.new.text.items ++ keys_text fs all) fields) (omega (arith, long, length-map key.fields field_slot)),
+      line_parts key.local key.global c.args.time key.fields all old (old ++ front) c.put_label.new.text.items c.put.new.text.items
+          c.put_fields.new.text.items refl (c.in_ok-put_label.ensures ∙ sym (append_assoc old front (time_part c.args.time)))
+          (c.in_ok-put.ensures ∙ ap (λ u. c.put_label.new.text.items ++ u) head)
+          (t.2 ∙ ap (λ fs. c.put.new.text.items ++ keys_text fs all) fields) (omega (arith, long, length-map key.fields field_slot)),
     )) c.put_fields.ensures

@@ -4,8 +4,8 @@ use Rattle.fit_csv.proofs.SkippedMessages.{skips_message, skips_nothing}
 use Rattle.fit_csv.proofs.ToldRows.{told_message}
 use Rattle.fit_csv.proofs.tables.report.TableReportReport.skip.Goals as goal
 
-pub take_message-requires : goal.take_message-requires
-take_message-requires c =
+pub take_message-requires-clause-record_ : goal.take_message-requires-clause-record_
+take_message-requires-clause-record_ c =
     let heard = c.requires.told.0 in
     let m = c.skip_message-used.ensures.message (omega (arith, c.if-used-eq0.false)) (reverse heard) c.requires.told.2 in (
       m.0,
