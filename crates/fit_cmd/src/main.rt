@@ -1,9 +1,11 @@
 //! The program `fit`, which checks files of the FIT protocol.
 #![tactic(auto)]
 
+mod output;
 #[cfg(test)]
 mod tests;
 
+use crate::output::Output;
 use fit_decode::ReadSource;
 use fit_encode::{CutSink, WriteSink};
 use fit_run::{
@@ -18,8 +20,11 @@ use std::process::ExitCode;
 
 const USAGE: &str = "usage: fit check|show|to-csv|from-csv|table [FILE]";
 
-/// How many bytes are read from a file, and written to the output, at once.
-const BUFFER: usize = 64 * 1024;
+/// How many bytes are read from a file at once.
+const INPUT: usize = 64 * 1024;
+
+/// Texts of fewer bytes are kept until there are as many to be written at once. A longer one is written without a copy.
+const OUTPUT: usize = 8 * 1024;
 
 /// Room for the fault lines of a run: two at most, of 64 bytes each.
 const FAULTS: usize = 128;
@@ -83,18 +88,19 @@ fn run_file(rt: &HostRuntime, command: Command, path: &str) -> u8 {
 /// the status is made. Where the output is a pipe that nobody reads any more, nothing is said of that.
 fn run_reader<R: Read + Drop>(rt: &HostRuntime, command: Command, reader: R) -> u8 {
     let alloc: Global = rt.alloc();
-    let Ok(reader) = BufReader::with_capacity(alloc, BUFFER, reader) else {
+    let Ok(reader) = BufReader::with_capacity(alloc, INPUT, reader) else {
         return out_of_memory(rt);
     };
-    let Ok(mut writer) = BufWriter::with_capacity(alloc, BUFFER, rt.stdout()) else {
+    let output = Output::new(rt.stdout());
+    let Ok(mut writer) = BufWriter::with_capacity(alloc, OUTPUT, output) else {
         return out_of_memory(rt);
     };
     let mut source = ReadSource::new(reader);
-    let mut output = WriteSink::new(&mut writer);
+    let mut sink = WriteSink::new(&mut writer);
     let mut faults = CutSink::<FAULTS>::new(FAULTS);
-    let status = run(alloc, command, &mut source, &mut output, &mut faults);
+    let status = run(alloc, command, &mut source, &mut sink, &mut faults);
     let flushed = writer.flush();
-    let closed = flushed.is_err_and(|error| error.kind() == ErrorKind::BrokenPipe);
+    let closed = writer.get_ref().is_closed();
     if !closed || faults.bytes() != WRITE_FAULT.as_bytes() {
         let _ = rt.stderr().write_all(faults.bytes());
     }

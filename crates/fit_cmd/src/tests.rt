@@ -6,6 +6,7 @@ mod check;
 mod conversions;
 mod failing;
 mod lines;
+mod output;
 mod refused_texts;
 mod show;
 mod streams;
