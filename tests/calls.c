@@ -112,7 +112,7 @@ static void fronts(size_t step)
     }
 }
 
-/* With one byte changed the bytes aren't good, since the closing sum sees each such change; the bytes before it still begin a file.
+/* With one byte changed the bytes aren't good, since the closing checksum sees each such change; the bytes before it still begin a file.
  * The calls agree on what is wrong. */
 static void changed(size_t step)
 {

@@ -1,6 +1,7 @@
 //! Known files and what they are as text. The suites and the programs of the tests take their inputs from here.
 #![tactic(auto)]
 
+pub mod fields;
 pub mod protocol;
 
 use std::alloc::{AllocError, Global};

@@ -41,3 +41,5 @@ pub const FIELD_DEFINITION_NUMBER: u8 = 1;
 pub const FIT_BASE_TYPE_ID: u8 = 2;
 
 pub const FIELD_NAME: u8 = 3;
+
+pub const UNITS: u8 = 8;

@@ -16,6 +16,8 @@ mod edges;
 #[cfg(test)]
 mod fed;
 #[cfg(test)]
+mod fields;
+#[cfg(test)]
 mod headers;
 #[cfg(test)]
 mod history;

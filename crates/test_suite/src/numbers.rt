@@ -106,6 +106,9 @@ fn lists_and_vectors_of_numbers(rt: HostRuntime) -> Result<(), AllocError> {
     let numbers = list_of_numbers(rt.alloc())?.into_vec()?;
     assert!(rt; numbers.as_slice() == NUMBERS.as_slice());
     assert_eq!(rt; Bits::from_vec(numbers), same);
+    let one = Bits::one(rt.alloc(), 812).into_vec()?;
+    assert!(rt; one.as_slice() == [812].as_slice());
+    assert!(rt; Bits::new(rt.alloc()).into_vec()?.is_empty());
     Ok(())
 }
 

@@ -72,10 +72,10 @@ fn files_are_read_in_pieces(rt: HostRuntime) -> Result<(), Fault> {
 
 /// What is known of a file: where its events end, how many bytes of data its header announces, and its records.
 #[derive(Clone, Copy)]
-struct Told<'a> {
-    ends: &'a [End],
-    size: u32,
-    records: &'a [Record],
+pub struct Told<'a> {
+    pub ends: &'a [End],
+    pub size: u32,
+    pub records: &'a [Record],
 }
 
 /// Whether an event is the one of this number in a file, and ends at this place: the header, each record, and the end of the file.
@@ -137,7 +137,7 @@ fn tell(rt: &impl Abort, alloc: Global, file: &Told, pieces: &[&[u8]]) -> Result
 }
 
 /// Feeds the bytes of a file in one piece, in two, and byte by byte.
-fn tell_cut(rt: &impl Abort, alloc: Global, file: &Told, bytes: &[u8]) -> Result<(), Fail> {
+pub fn tell_cut(rt: &impl Abort, alloc: Global, file: &Told, bytes: &[u8]) -> Result<(), Fail> {
     for k in 0..bytes.len() {
         let (first, second) = bytes.split_at(k);
         tell(rt, alloc, file, &[first, second])?;

@@ -1,13 +1,17 @@
 //! What no contract says: how little is kept between the bytes of a file.
 use fit_decode::Decoder;
 use fit_frame::{HeadReader, Reason};
-use fit_record::{Env, Record};
+use fit_record::{Defined, DevKey, Env, Record};
 use fit_step::{Partial, Position};
 use fit_sum::Sum;
+use std::collections::BTreeMap;
 use std::mem;
 
 /// The bytes of a list itself, without its elements.
 const LIST: usize = 24;
+
+/// The bytes of the address of one.
+const ADDRESS: usize = 8;
 
 #[test]
 fn no_list_in_a_position(rt: HostRuntime) {
@@ -15,11 +19,21 @@ fn no_list_in_a_position(rt: HostRuntime) {
     assert!(rt; mem::size_of::<Position>() < mem::size_of::<Partial>() + LIST);
 }
 
-/// Beside what is known and the record in progress, a decoder has no room for a list.
+/// Beside what is known and the record in progress, a decoder has no room for the address of a list. Two of its parts are shorter than
+/// an address, and lie in as many bytes.
 #[test]
 fn no_list_in_a_decoder(rt: HostRuntime) {
     let held = mem::size_of::<Env>() + mem::size_of::<Option<Record>>();
     let parts = mem::size_of::<HeadReader>() + mem::size_of::<Sum>() + mem::size_of::<Position>();
     let numbers = 2 * mem::size_of::<u64>() + mem::size_of::<Option<Reason>>();
-    assert!(rt; mem::size_of::<Decoder>() < held + parts + numbers + LIST);
+    assert!(rt; mem::size_of::<Decoder>() < held + parts + numbers + 2 * ADDRESS);
+}
+
+/// What is known are definitions, lengths of messages and codes of developer fields, and no room is left.
+#[test]
+fn no_list_beside_what_is_known(rt: HostRuntime) {
+    let definitions = mem::size_of::<[Option<Defined>; 16]>();
+    let lengths = mem::size_of::<[u32; 16]>();
+    let codes = mem::size_of::<BTreeMap<DevKey, u8>>();
+    assert!(rt; mem::size_of::<Env>() < definitions + lengths + codes + ADDRESS);
 }

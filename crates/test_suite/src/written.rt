@@ -43,7 +43,7 @@ fn with_message(alloc: Global, definition: MessageDef) -> Result<Vec<Record>, Al
 }
 
 /// The items of fields, by their width.
-fn fields_of(alloc: Global, fields: &[(u8, &[u64])]) -> Result<Entries<Items>, AllocError> {
+pub fn fields_of(alloc: Global, fields: &[(u8, &[u64])]) -> Result<Entries<Items>, AllocError> {
     let mut list = Entries::new(alloc);
     for (width, numbers) in fields {
         list.push(Items::from_slice(alloc, *width, numbers)?)?;

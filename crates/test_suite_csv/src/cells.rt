@@ -1,8 +1,11 @@
 //! Cells and rows that are known from outside.
 
 use csv::ByteRecord;
-use fit_base::base_type::{BYTE, FLOAT32, SINT8, SINT64, STRING, UINT8, UINT16, UINT64};
+use fit_base::base_type::{
+    BYTE, FLOAT32, FLOAT64, SINT8, SINT16, SINT64, STRING, UINT8, UINT16, UINT32, UINT64,
+};
 use fit_base::{Code, Items, has_shape, width_of};
+use fit_cells::row_text;
 use fit_csv::{
     cell_items, cell_text, next_row, put_cell, put_row, row_reader, row_writer, rows_text,
 };
@@ -73,6 +76,51 @@ fn bytes_and_texts(rt: HostRuntime) {
     }
 }
 
+/// Lone numbers of eight bytes, two numbers each, floats, and texts of other characters.
+#[test]
+fn kinds_of_items(rt: HostRuntime) {
+    let cells: [Cell; 11] = [
+        (
+            UNKNOWN,
+            UINT64,
+            8,
+            &[0x8000_0000_0000_0001],
+            "9223372036854775809",
+        ),
+        (UNKNOWN, SINT64, 8, &[0xFFFF_FFFF_FFFF_FFFE], "-2"),
+        (UNKNOWN, UINT32, 8, &[4_294_967_294, 7], "4294967294|7"),
+        (
+            UNKNOWN,
+            UINT64,
+            16,
+            &[18_446_744_073_709_551_614, 1],
+            "18446744073709551614|1",
+        ),
+        (UNKNOWN, SINT16, 4, &[0x8000, 300], "-32768|300"),
+        (UNKNOWN, FLOAT32, 4, &[0x3FC0_0000], "0x3FC00000"),
+        (
+            UNKNOWN,
+            FLOAT32,
+            8,
+            &[0x3F80_0000, 0xBF00_0000],
+            "0x3F800000|0xBF000000",
+        ),
+        (
+            UNKNOWN,
+            FLOAT64,
+            8,
+            &[0xC004_0000_0000_0000],
+            "0xC004000000000000",
+        ),
+        (UNKNOWN, STRING, 4, &[0xC3, 0xA4, 0x62, 0], "\u{E4}b"),
+        (UNKNOWN, STRING, 4, &[0x61, 0x2C, 0x62, 0], "a,b"),
+        (UNKNOWN, STRING, 4, &[0x22, 0x78, 0x22, 0], "\"x\""),
+    ];
+    for cell in cells {
+        is_cell(&rt, rt.alloc(), cell);
+    }
+}
+
 #[test]
 fn a_cell_after_a_text(rt: HostRuntime) {
     let code = Code(UINT16);
@@ -117,6 +165,13 @@ fn text_of_rows(alloc: Global) -> Result<Vec<u8>, AllocError> {
     put_row(&mut writer, &[b"dev", b"a,\"b", b"", b"x\ny"])?;
     put_row(&mut writer, &[b"end", b"", b"", b""])?;
     rows_text(writer)
+}
+
+#[test]
+fn a_row_alone(rt: HostRuntime) {
+    let cells: [&[u8]; 4] = [b"dev", b"a,\"b", b"", b"x\ny"];
+    let text = row_text(rt.alloc(), &cells).expect(&rt, "memory");
+    assert_eq!(rt; text.as_slice(), b"dev,\"a,\"\"b\",,\"x\ny\"\n".as_slice());
 }
 
 /// Asserts the bytes of the cell at a place of a row.

@@ -79,7 +79,7 @@ fn as_table<S: Source>(
 }
 
 /// Converts first bytes of an input.
-fn convert_cut(rt: &impl Abort, alloc: Global, known: &Known, cut: &[u8]) {
+pub(crate) fn convert_cut(rt: &impl Abort, alloc: Global, known: &Known, cut: &[u8]) {
     let k = cut.len();
     let whole = k == known.first || k == known.bytes.len();
     let fault = CsvFault::Decode(Fault::Truncated { place: k as u64 });
@@ -185,9 +185,9 @@ fn sinks_that_fail_anywhere(rt: HostRuntime) {
 }
 
 /// Reads the text of an input, and writes its bytes.
-fn text_back(rt: &impl Abort, alloc: Global, known: &Known) {
+pub(crate) fn text_back(rt: &impl Abort, alloc: Global, known: &Known) {
     let mut source = known.text.as_bytes();
-    let mut sink = CutSink::<128>::new(128);
+    let mut sink = CutSink::<512>::new(512);
     assert_eq!(rt; from_csv(alloc, &mut source, &mut sink), Ok(()));
     assert_eq!(rt; sink.bytes(), known.bytes);
     assert!(rt; source.is_empty() && !sink.failed());

@@ -12,6 +12,8 @@ mod cut;
 #[cfg(test)]
 mod examples;
 #[cfg(test)]
+mod fields;
+#[cfg(test)]
 mod from_text;
 #[cfg(test)]
 mod profile;

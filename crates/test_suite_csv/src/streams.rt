@@ -40,7 +40,11 @@ fn data(
 }
 
 /// The message of a record that fits.
-fn pushed<'a>(rt: &impl Abort, stream: &'a mut Stream, record_: &'a Record) -> Option<Message<'a>> {
+pub(crate) fn pushed<'a>(
+    rt: &impl Abort,
+    stream: &'a mut Stream,
+    record_: &'a Record,
+) -> Option<Message<'a>> {
     match stream.env().fits(record_) {
         Ok(_) => stream.push(record_).expect(rt, "memory"),
         Err(_) => None,
@@ -219,14 +223,8 @@ fn accumulated_cycles_and_power(rt: HostRuntime) {
     push_totals(&rt, alloc, &mut stream, 2, &fields, [whole(7), None, far]);
     stream.begin_file();
     push_definition(&rt, alloc, &mut stream, 0, Order::Little, RECORD, &cycles);
-    push_totals(
-        &rt,
-        alloc,
-        &mut stream,
-        0,
-        &[(1, &[5])],
-        [whole(5), None, None],
-    );
+    let five = [whole(5), None, None];
+    push_totals(&rt, alloc, &mut stream, 0, &[(1, &[5])], five);
 }
 
 /// Pushes a definition of field descriptions with a name of three bytes.

@@ -24,7 +24,7 @@ fn is_message(env: &Env, bytes: &[u8]) -> bool
 }
 
 /// Takes in the data message that the bytes are, and asserts its time.
-fn take(rt: &impl Abort, stream: &mut Stream, bytes: &[u8], time: Option<u32>) {
+pub(crate) fn take(rt: &impl Abort, stream: &mut Stream, bytes: &[u8], time: Option<u32>) {
     if is_message(stream.env(), bytes) {
         assert_eq!(rt; stream.message_time(bytes), time);
         stream.take_message(bytes).expect(rt, "memory");

@@ -1,8 +1,10 @@
 //! Values, times and developer fields, as rows that come back, shown, and in a table.
 
+use crate::tests::failing::{READING, text_of};
 use crate::tests::{TABLE_HEAD, answer_of, both_ways, bytes_of, expect};
 use fit_run::Command;
 use std::test::Fail;
+use test_known::fields::{kinds, two_fields};
 
 /// Three altitudes, times of hrv, a battery's voltage, and two product names, one without bytes and one that begins as hexadecimal digits do.
 const VALUES: &str =
@@ -55,6 +57,21 @@ fn rows(rt: HostRuntime) -> Result<(), Fail> {
     ] {
         let bytes = bytes_of(rt.alloc(), input)?;
         both_ways(&rt, rt.alloc(), bytes.as_slice(), text);
+    }
+    Ok(())
+}
+
+/// Two described developer fields, and values of many kinds.
+#[test]
+fn kinds_of_fields(rt: HostRuntime) -> Result<(), Fail> {
+    for known in [two_fields(), kinds()] {
+        both_ways(&rt, rt.alloc(), known.bytes, known.text);
+        for command in READING {
+            let output = text_of(rt.alloc(), &known, command)?;
+            let mut source = known.bytes;
+            let answer = answer_of(rt.alloc(), command, &mut source, 2048);
+            expect(&rt, &answer, known.name, output.as_str().as_bytes(), "", 0);
+        }
     }
     Ok(())
 }

@@ -10,7 +10,7 @@ use std::test::Fail;
 use test_known::{Known, files};
 
 /// The commands that read files.
-const READING: [Command; 4] = [
+pub const READING: [Command; 4] = [
     Command::Check,
     Command::Show,
     Command::ToCsv,
@@ -30,7 +30,7 @@ fn first_lines(alloc: Global, text: &str, count: usize) -> Result<String, AllocE
 }
 
 /// All that a command writes of an input.
-fn text_of(alloc: Global, known: &Known, command: Command) -> Result<String, AllocError> {
+pub fn text_of(alloc: Global, known: &Known, command: Command) -> Result<String, AllocError> {
     let mut text = String::new(alloc);
     match command {
         Command::Check => text.push_str(known.checked)?,

@@ -1,0 +1,213 @@
+//! Files with described developer fields and with fields of many kinds, whose records are known value by value.
+
+use crate::descriptions::take;
+use crate::reading::{Told, tell_cut};
+use crate::written::fields_of;
+use fit_base::base_type::{
+    BYTE, FLOAT32, FLOAT64, SINT16, SINT64, STRING, UINT8, UINT16, UINT32, UINT64,
+};
+use fit_base::{Entries, Order};
+use fit_record::{DevDef, Env, FieldDef, MessageDef, Record, Values};
+use std::alloc::{AllocError, Global};
+use std::process::Abort;
+use std::test::Fail;
+use test_known::Known;
+use test_known::fields::{kinds, two_fields};
+use test_known::protocol::{
+    COMPRESSED_SPEED_DISTANCE, DEVELOPER_DATA_INDEX, FIELD_DEFINITION_NUMBER, FIELD_DESCRIPTION,
+    FIELD_NAME, FIT_BASE_TYPE_ID, RECORD, TIMESTAMP, UNITS,
+};
+
+/// Fields, each of a width and its items.
+type Fields<'a> = &'a [(u8, &'a [u64])];
+
+/// A data message of these fields and developer fields.
+fn message(alloc: Global, local: u8, fields: Fields, dev: Fields) -> Result<Record, AllocError> {
+    let values = Values::new(alloc, local, fields_of(alloc, fields)?);
+    Ok(Record::Values(values.with_dev(fields_of(alloc, dev)?)))
+}
+
+/// A definition of record messages with these fields and developer fields.
+fn define(
+    alloc: Global,
+    local: u8,
+    order: Order,
+    fields: &[FieldDef],
+    dev: &[DevDef],
+) -> Result<Record, AllocError> {
+    let fields = Entries::from_slice(alloc, fields)?;
+    let definition = MessageDef::new(local, order, RECORD, fields);
+    let dev = Entries::from_slice(alloc, dev)?;
+    Ok(Record::Define(definition.with_dev(dev)))
+}
+
+/// The descriptions of developer fields 0 and 1 of index 0, and their definition.
+fn descriptions(alloc: Global) -> Result<Vec<Record>, AllocError> {
+    let fields = [
+        FieldDef::one(DEVELOPER_DATA_INDEX, UINT8),
+        FieldDef::one(FIELD_DEFINITION_NUMBER, UINT8),
+        FieldDef::one(FIT_BASE_TYPE_ID, UINT8),
+        FieldDef::new(FIELD_NAME, 5, STRING),
+        FieldDef::new(UNITS, 2, STRING),
+    ];
+    let fields = Entries::from_slice(alloc, &fields)?;
+    let definition = MessageDef::new(0, Order::Little, FIELD_DESCRIPTION, fields);
+    let mut records = Vec::new(alloc);
+    records.push(Record::Define(definition))?;
+    for (number, code, name, unit) in [
+        (0, UINT16, [0x6C, 0x65, 0x66, 0x74, 0], [0x57, 0]),
+        (1, FLOAT32, [0x6C, 0x65, 0x61, 0x6E, 0], [0x67, 0]),
+    ] {
+        let code = [u64::from(code)];
+        let number = [number];
+        let fields: [(u8, &[u64]); 5] = [
+            (1, &[0]),
+            (1, &number),
+            (1, &code),
+            (1, &name),
+            (1, &unit),
+        ];
+        records.push(message(alloc, 0, &fields, &[])?)?;
+    }
+    Ok(records)
+}
+
+/// The records of `two_fields`.
+fn records_of_two_fields(alloc: Global) -> Result<Vec<Record>, AllocError> {
+    let fields = [
+        FieldDef::one(TIMESTAMP, UINT32),
+        FieldDef::new(COMPRESSED_SPEED_DISTANCE, 3, BYTE),
+    ];
+    let left = DevDef::new(0, 2, 0);
+    let lean = DevDef::new(1, 4, 0);
+    let mut records = descriptions(alloc)?;
+    records.push(define(alloc, 1, Order::Big, &fields, &[left, lean])?)?;
+    for (time, distance, left, lean) in [
+        (1_000_000_031, 0x10, 300, 0x3FC0_0000),
+        (1_000_000_032, 0, 65_535, 0xC000_0000),
+    ] {
+        let fields: [(u8, &[u64]); 2] = [(4, &[time]), (1, &[0x64, 0, distance])];
+        let dev: [(u8, &[u64]); 2] = [(2, &[left]), (4, &[lean])];
+        records.push(message(alloc, 1, &fields, &dev)?)?;
+    }
+    records.push(define(alloc, 2, Order::Little, &[], &[lean, left])?)?;
+    let dev: [(u8, &[u64]); 2] = [(4, &[0x3F00_0000]), (2, &[301])];
+    records.push(message(alloc, 2, &[], &dev)?)?;
+    Ok(records)
+}
+
+/// A definition of the fields of `kinds`, which are numbered from 1.
+fn define_kinds(alloc: Global, local: u8, order: Order) -> Result<Record, AllocError> {
+    let mut fields = Entries::new(alloc);
+    let mut number = 1u8;
+    for (size, code) in [
+        (4, FLOAT32),
+        (8, FLOAT64),
+        (8, FLOAT32),
+        (8, UINT64),
+        (8, SINT64),
+        (8, UINT32),
+        (16, UINT64),
+        (4, SINT16),
+        (4, STRING),
+        (4, STRING),
+        (4, STRING),
+        (8, STRING),
+        (2, STRING),
+        (3, BYTE),
+    ] {
+        fields.push(FieldDef::new(number, size, code))?;
+        number = number.saturating_add(1);
+    }
+    Ok(Record::Define(MessageDef::new(local, order, 999, fields)))
+}
+
+/// A message of these fields.
+fn message_of_kinds(alloc: Global, local: u8) -> Result<Record, AllocError> {
+    let fields: [(u8, &[u64]); 14] = [
+        (4, &[0x3FC0_0000]),
+        (8, &[0xC004_0000_0000_0000]),
+        (4, &[0x3F80_0000, 0xBF00_0000]),
+        (8, &[9_223_372_036_854_775_809]),
+        (8, &[0xFFFF_FFFF_FFFF_FFFE]),
+        (4, &[4_294_967_294, 7]),
+        (8, &[18_446_744_073_709_551_614, 1]),
+        (2, &[0x8000, 300]),
+        (1, &[0xC3, 0xA4, 0x62, 0]),
+        (1, &[0x61, 0x21, 0x62, 0]),
+        (1, &[0x61, 0x2C, 0x62, 0]),
+        (1, &[0x73, 0x61, 0x79, 0x20, 0x22, 0x78, 0x22, 0]),
+        (1, &[0, 0]),
+        (1, &[0x00, 0xFF, 0x1A]),
+    ];
+    message(alloc, local, &fields, &[])
+}
+
+/// The records of `kinds`.
+fn records_of_kinds(alloc: Global) -> Result<Vec<Record>, AllocError> {
+    let mut records = Vec::new(alloc);
+    for (local, order) in [(0, Order::Little), (1, Order::Big)] {
+        records.push(define_kinds(alloc, local, order)?)?;
+        records.push(message_of_kinds(alloc, local)?)?;
+    }
+    Ok(records)
+}
+
+#[test]
+fn fed_in_pieces(rt: HostRuntime) -> Result<(), Fail> {
+    let alloc = rt.alloc();
+    for (known, size, records) in [
+        (two_fields(), 110, records_of_two_fields(alloc)?),
+        (kinds(), 276, records_of_kinds(alloc)?),
+    ] {
+        let file = Told {
+            ends: known.ends,
+            size,
+            records: records.as_slice(),
+        };
+        tell_cut(&rt, alloc, &file, known.bytes)?;
+    }
+    Ok(())
+}
+
+/// Takes in the records of a file. Each data message has its values by its bytes.
+fn learn_each(
+    rt: &impl Abort,
+    alloc: Global,
+    known: &Known,
+    records: &[Record],
+) -> Result<Env, Fail> {
+    let mut env = Env::new(alloc);
+    let mut start = 14;
+    for (end, record_) in known.ends.iter().skip(1).zip(records) {
+        let bytes = known.bytes.get(start..end.0).unwrap_or_default();
+        if let Record::Values(values) = record_ {
+            let found = env.message_bytes(bytes).expect(rt, "a message");
+            assert!(rt; found.values(alloc)? == *values, "at {start}");
+        }
+        take(&mut env, record_)?;
+        start = end.0;
+    }
+    Ok(env)
+}
+
+#[test]
+fn learned_one_by_one(rt: HostRuntime) -> Result<(), Fail> {
+    let alloc = rt.alloc();
+    let records = records_of_two_fields(alloc)?;
+    let env = learn_each(&rt, alloc, &two_fields(), records.as_slice())?;
+    for (local, place, code) in [
+        (0, 0, None),
+        (1, 0, Some(UINT16)),
+        (1, 1, Some(FLOAT32)),
+        (1, 2, None),
+        (2, 0, Some(FLOAT32)),
+        (2, 1, Some(UINT16)),
+    ] {
+        assert_eq!(rt; env.dev_code(local, place), code, "{local} {place}");
+    }
+    let records = records_of_kinds(alloc)?;
+    let env = learn_each(&rt, alloc, &kinds(), records.as_slice())?;
+    assert_eq!(rt; env.length(1), Some(89));
+    Ok(())
+}
