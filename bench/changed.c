@@ -72,7 +72,7 @@ static void put_entry(unsigned first, unsigned size, unsigned last, unsigned loc
 
 static void put_fields(unsigned local, unsigned global, int small)
 {
-    static const uint8_t numbers[] = {253, 254, 0, 1, 2, 3, 5, 6, 7, 13};
+    static const uint8_t numbers[] = {253, 254, 0, 1, 2, 3, 5, 6, 7, 8, 13, 73, 78};
     unsigned fields = any(small ? 4 : 9);
     if (global == 206) {
         put(5);
@@ -85,8 +85,9 @@ static void put_fields(unsigned local, unsigned global, int small)
     put(fields);
     for (unsigned k = 0; k < fields; k++) {
         int time = in_hundred(15);
-        put_entry(time ? 253 : numbers[any(sizeof numbers)], time ? 4 : any_size(small),
-                  time ? 0x86 : any_code(), local);
+        unsigned number = time ? 253 : numbers[any(sizeof numbers)];
+        unsigned size = time ? 4 : number == 8 && in_hundred(60) ? 3 : any_size(small);
+        put_entry(number, size, time ? 0x86 : any_code(), local);
     }
 }
 

@@ -1,4 +1,4 @@
-//! What `csv.rs` knows of messages, fields and base types.
+//! What `csv.rs`, `show.rs` and `table.rs` know of messages, fields and base types.
 
 /// Number, name, unit, scale and offset of a field.
 pub type Row = (u8, &'static str, &'static str, u32, u32);
