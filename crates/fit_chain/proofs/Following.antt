@@ -102,7 +102,7 @@ pub record RecordFollows {A : Type 0} (e : Environment A) (room : ℕ) (part x t
   pub total : length part + (length more + length (records_bytes (learn e whole) after)) ≡ room
   pub behind : x ≡ more ++ (records_bytes (learn e whole) after ++ tail)
 
--- The data section is over, and what comes is the closing sum.
+-- The data section is over, and what comes is the closing checksum.
 pub record SumFollows {A : Type 0} (room : ℕ) (part x tail : List ℕ) (others : List (Record A)) : Type 0 where
   pub over : room ≡ 0
   pub none : others ≡ []

@@ -14,13 +14,13 @@ of_two n = at_data both_architectures.header 36 (take n both_architectures.recor
 held_between : (map (λ n. held_behind (of_two n)) (0 ∷ 1 ∷ 2 ∷ 3 ∷ 4 ∷ [])) ≡ 0 ∷ 2 ∷ 2 ∷ 4 ∷ 4 ∷ []
 held_between = refl
 
--- Of the file's 36 bytes of data the records have 12, 6, 12 and 6; two bytes of the closing sum follow.
+-- Of the file's 36 bytes of data the records have 12, 6, 12 and 6; two bytes of the closing checksum follow.
 missing_between : (map (λ n. missing 0 (of_two n)) (0 ∷ 1 ∷ 2 ∷ 3 ∷ 4 ∷ [])) ≡ 38 ∷ 26 ∷ 20 ∷ 8 ∷ 2 ∷ []
 missing_between = refl
 
 -- ---- a header
 
--- Before the data size has come a header of 14 bytes and the closing sum are missing; then its 36 bytes too.
+-- Before the data size has come a header of 14 bytes and the closing checksum are missing; then its 36 bytes too.
 missing_of_header : (map (λ n. missing {A = Unit {0}} 0 (at_header (take n (14 ∷ 32 ∷ 0 ∷ 0 ∷ 36 ∷ 0 ∷ 0 ∷ 0 ∷ 0x2E ∷ []))))
     (0 ∷ 1 ∷ 2 ∷ 7 ∷ 8 ∷ 9 ∷ [])) ≡ 14 ∷ 15 ∷ 14 ∷ 9 ∷ 44 ∷ 43 ∷ []
 missing_of_header = refl
@@ -67,7 +67,7 @@ held_in_definition = refl
 bound_in_definition : (map (λ k. bound (in_definition k)) cuts) ≡ 0 ∷ 0 ∷ 0 ∷ 0 ∷ 0 ∷ 2 ∷ 2 ∷ 2 ∷ 2 ∷ 2 ∷ 2 ∷ 2 ∷ 3 ∷ 3 ∷ 3 ∷ []
 bound_in_definition = refl
 
--- Of the data 15 bytes are missing behind the record header, and the two of the closing sum.
+-- Of the data 15 bytes are missing behind the record header, and the two of the closing checksum.
 missing_in_definition : (map (λ k. missing 0 (in_definition k)) cuts) ≡ 17 ∷ 16 ∷ 15 ∷ 14 ∷ 13 ∷ 12 ∷ 11 ∷ 10 ∷ 9 ∷ 8 ∷ 7 ∷ 6 ∷ 5 ∷ 4 ∷ 3 ∷ []
 missing_in_definition = refl
 
@@ -88,7 +88,7 @@ one_byte = Values (record { local = 3; offset = None; fields = item 1 (3 ∷ [])
 abbrev of_one : List (Record (Unit {0})) → List ℕ → Progress (Unit {0})
 of_one records part = at_data (header_of 14 sums.Zero) 11 records part
 
--- behind the definition; behind the message's record header; behind the message; and behind one byte of the closing sum, which looks like
+-- behind the definition; behind the message's record header; behind the message; and behind one byte of the closing checksum, which looks like
 -- a record header of the same local message type and is none
 abbrev known_file : List (Progress (Unit {0}))
 known_file = of_one (one_field ∷ []) [] ∷ of_one (one_field ∷ []) (3 ∷ []) ∷ of_one (one_field ∷ one_byte ∷ []) []

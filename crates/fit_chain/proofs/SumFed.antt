@@ -1,4 +1,4 @@
--- What bytes of a closing sum make of the place, of the events and of what can follow.
+-- What bytes of a closing checksum make of the place, of the events and of what can follow.
 use Rattle.fit_chain.proofs.Common.{◌≡◌, cond, ℕ, zero, suc, ◌+◌, ◌-◌, ◌<◌, ◌≤◌, List, [], ◌∷◌, ◌++◌, length, take, slice_index, length-append, refl, ap, ◌∙◌}
 use Rattle.fit_chain.proofs.Common.{Some, eq-eqb, length-take-le, IsBytes, little_bytes, length-little_bytes, IsBytes-append, IsBytes-take, checksum, Header}
 use Rattle.fit_chain.proofs.Common.{FileSum, header_bytes, FitFile, Record, Environment, empty_environment, learn_all, records_bytes, chain_limit, IsViable}

@@ -11,7 +11,7 @@ use Rattle.fit_step.specs.InProgress.{FillFrom}
 use Rattle.fit_chain.specs.Progress.{Progress, at_header, at_data}
 
 -- Behind the header and the records that are whole: while data is to come, records go on with the part and fill the room; behind
--- the data the part begins the closing sum.
+-- the data the part begins the closing checksum.
 abbrev pub DataGoesOn : {A : Type 0} → Environment A → ℕ → List ℕ → List ℕ → Type 0
 DataGoesOn e zero sum part = (rest : List ℕ) × (sum ≡ part ++ rest)
 DataGoesOn e (suc room) sum part = FillFrom e (suc room) part

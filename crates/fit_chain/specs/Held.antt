@@ -8,12 +8,12 @@ use Rattle.fit_step.specs.Held.{held_of_record}
 use Rattle.fit_chain.specs.Progress.{Progress, at_header, at_data, HasCome}
 use Rattle.fit_chain.specs.Events.{bound}
 
--- No record is in progress, and the closing sum hasn't begun.
+-- No record is in progress, and the closing checksum hasn't begun.
 abbrev pub IsIdle : {A : Type 0} → Progress A → Type 0
 IsIdle (at_header front) = Unit {0}
 IsIdle (at_data h n records part) = part ≡ []
 
--- What the records have defined and described, and the record in progress; behind the data the bytes are those of the closing sum.
+-- What the records have defined and described, and the record in progress; behind the data the bytes are those of the closing checksum.
 -- `proofs/HeldRows` computes it for known bytes.
 abbrev pub held_behind : {A : Type 0} → Progress A → ℕ
 held_behind (at_header front) = 0

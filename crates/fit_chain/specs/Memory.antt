@@ -6,7 +6,7 @@ use Rattle.fit_record.specs.Records.{records_bytes}
 use Rattle.fit_record.specs.Sizes.{HeadsEmptyMessage}
 use Rattle.fit_chain.specs.Progress.{Progress, at_header, at_data, HasCome}
 
--- A byte of a header, of a closing sum, or of a data message without fields and developer fields.
+-- A byte of a header, of a closing checksum, or of a data message without fields and developer fields.
 abbrev pub TakesNoMemory : {A : Type 0} → Progress A → ℕ → Type 0
 TakesNoMemory (at_header front) b = Unit {0}
 TakesNoMemory (at_data h n records part) b =

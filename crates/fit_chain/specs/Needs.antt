@@ -7,8 +7,8 @@ use Rattle.fit_record.specs.Records.{records_bytes}
 use Rattle.fit_record.specs.Files.{chain_limit, IsChain}
 use Rattle.fit_chain.specs.Progress.{Progress, at_header, at_data, HasCome}
 
--- Before a file: a header of 12 bytes and a closing sum, or one byte where no file may follow. In a header: the rest of its size
--- and the closing sum, and from 8 bytes on the data too. Behind it: the rest of the data, and of the closing sum.
+-- Before a file: a header of 12 bytes and a closing checksum, or one byte where no file may follow. In a header: the rest of its size
+-- and the closing checksum, and from 8 bytes on the data too. Behind it: the rest of the data, and of the closing checksum.
 -- `proofs/HeldRows` computes it for known bytes.
 abbrev pub missing : {A : Type 0} → ℕ → Progress A → ℕ
 missing files (at_header []) = if nat_lt files chain_limit then 14 else 1

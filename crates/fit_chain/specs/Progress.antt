@@ -13,14 +13,14 @@ use Rattle.fit_record.specs.Files.{IsWellFormed, chain_bytes}
 pub data Progress (A : Type 0) : Type 0 where
   -- some bytes of a header, and not all
   at_header : List ℕ → Progress A
-  -- a header, the size of the data section, the whole records, and some bytes of the next record or of the closing sum
+  -- a header, the size of the data section, the whole records, and some bytes of the next record or of the closing checksum
   at_data : Header → ℕ → List (Record A) → List ℕ → Progress A
 
 abbrev pub progress_bytes : {A : Type 0} → Progress A → List ℕ
 progress_bytes (at_header front) = front
 progress_bytes (at_data h n records part) = header_bytes h n ++ records_bytes empty_environment records ++ part
 
--- No record begins the bytes, or after the last record the closing sum isn't whole.
+-- No record begins the bytes, or after the last record the closing checksum isn't whole.
 abbrev pub IsPartial : {A : Type 0} → Environment A → ℕ → List ℕ → Type 0
 IsPartial e zero part = length part < 2
 IsPartial {A} e (suc room) part = (r : Record A) (k : ℕ) → IsRecord e r (take k part) → ⊥

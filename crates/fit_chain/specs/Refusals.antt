@@ -10,7 +10,7 @@ use Rattle.fit_record.specs.Files.{IsViable}
 use Rattle.fit_step.specs.Reasons.{record_reason}
 use Rattle.fit_chain.specs.Progress.{Progress, at_header, at_data, HasCome}
 
--- By the place of the byte: in the file header, in a record, or in the closing sum.
+-- By the place of the byte: in the file header, in a record, or in the closing checksum.
 abbrev pub reason_in_file : {A : Type 0} → Progress A → ℕ → Option Reason
 reason_in_file (at_header front) b = Some (header_reason (length front))
 reason_in_file (at_data h n records part) b =

@@ -16,7 +16,7 @@ pub enum Event<A: Allocator = Global> {
     Header(Header, u32),
     /// A definition message or a data message.
     Item(Record<A>),
-    /// A file, with its closing sum.
+    /// A file, with its closing checksum.
     FileEnd,
 }
 
@@ -25,6 +25,7 @@ pub enum Event<A: Allocator = Global> {
 pub struct Fed<A: Allocator = Global> {
     /// How many bytes of the piece were used.
     pub used: usize,
+    /// What the bytes used completed.
     pub event: Event<A>,
 }
 

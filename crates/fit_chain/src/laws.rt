@@ -40,7 +40,7 @@ pub fn refused_bytes_have_reasons<A: Allocator>()
 
 /// Some chain of at most that many files begins with the bytes that have come exactly where what there is of it can go on:
 /// a header of a file begins with those of the header, records fill the data section after those that are whole, or the
-/// closing sum begins so.
+/// closing checksum begins so.
 pub fn chains_go_on<A: Allocator>()
     ensures { ChainsGoOn A }
 {}

@@ -303,7 +303,7 @@ module _ {A : Type 0} (d : Fields A) (at : d.stage.section ≡ Data) (bytes piec
             }
         told_of answer fed = absurd fed
 
--- ---- closing sums
+-- ---- closing checksums
 
 part_short : (n : ℕ) (half : Bool) → length (half_sum n half) < 2
 part_short n true = omega arith

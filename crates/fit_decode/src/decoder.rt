@@ -93,7 +93,7 @@ impl<A: Allocator + Copy> Decoder<A> {
     ///
     /// `Refused` has the first byte with which the bytes fed begin no chain of files, and the reason; after it each call
     /// returns it again, and nothing is held any more. With `NoMemory` the first `used` bytes of the piece count as fed, and the rest may be fed again.
-    /// No memory is taken by a byte of a header, of a closing sum, or of a data message without fields and developer
+    /// No memory is taken by a byte of a header, of a closing checksum, or of a data message without fields and developer
     /// fields.
     pub fn feed(&mut self, piece: &[u8]) -> Result<Fed<A>, Fault>
         // After a refusal each call answers it again.

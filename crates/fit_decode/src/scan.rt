@@ -1,4 +1,4 @@
-//! Walks over the bytes of a piece that belong to a header, or to a closing sum.
+//! Walks over the bytes of a piece that belong to a header, or to a closing checksum.
 ghost use Rattle.std.specs.Prelude.{◌≡◌, None};
 ghost use Rattle.fit_decode.specs.inner.Scans.{HeaderScanned, IsHeaderPart, SumScanned};
 
@@ -23,7 +23,7 @@ pub(crate) fn scan_header(
     (piece.len(), Ok(None))
 }
 
-/// The bytes of a closing sum, of which one may have come: how many were used, and whether the sum is whole.
+/// The bytes of a closing checksum, of which one may have come: how many were used, and whether the sum is whole.
 pub(crate) fn scan_sum(sum: u16, half: &mut bool, piece: &[u8]) -> (usize, Result<bool, Reason>)
     ensures { SumScanned sum half.old piece.now half.new result.0 result.1 }
 {

@@ -1,4 +1,4 @@
-//! The bytes of a piece that belong to one section of a file: its header, its data section, or its closing sum.
+//! The bytes of a piece that belong to one section of a file: its header, its data section, or its closing checksum.
 ghost use Rattle.std.specs.Prelude.{◌≡◌, ◌<◌, None};
 ghost use Rattle.fit_record.specs.Files.{chain_limit};
 ghost use Rattle.fit_step.specs.InProgress.{AwaitsByte};
@@ -28,7 +28,7 @@ pub(crate) struct Stage {
     pub(crate) files: u32,
     /// The section that the next byte belongs to.
     pub(crate) section: Section,
-    /// Whether one byte of a closing sum has come.
+    /// Whether one byte of a closing checksum has come.
     pub(crate) half: bool,
 }
 
@@ -102,7 +102,7 @@ impl Stage {
         }
     }
 
-    /// Bytes of a closing sum.
+    /// Bytes of a closing checksum.
     pub(crate) fn feed_sum<A: Allocator + Copy>(
         &mut self,
         alloc: A,

@@ -58,7 +58,8 @@ impl Encoder {
     /// Writes a header that declares `data_len` bytes of data.
     ///
     /// It returns `BadHeader` and then `ZeroIsSum` before a byte goes out, both with file 1. It takes
-    /// no memory, and says nothing of whether records can have that many bytes.
+    /// no memory, and says nothing of whether records can have that many bytes. `Write` comes where the
+    /// sink failed, and says how many bytes of the header have gone out.
     pub fn begin<K: Sink>(
         alloc: Global,
         sink: &mut K,
@@ -108,7 +109,8 @@ impl Encoder {
     ///
     /// It returns the faults of the record's shape, with file 1 and the number of records put so far
     /// as `index`, and then `DeclaredLength` where the data would pass the declared length. With these
-    /// and with `NoMemory` nothing changes.
+    /// and with `NoMemory` nothing changes. `Write` comes where the sink failed, and says how many bytes
+    /// of the file have gone out since `begin`.
     pub fn put<K: Sink>(&mut self, sink: &mut K, r: &Record) -> Result<(), EncodeFault>
         ensures ok { OnOk result (CanPut self.old r.now) }
         ensures spelled { OnOk result (Appends (K.contents sink.old) (K.contents sink.new)
@@ -152,7 +154,8 @@ impl Encoder {
     /// Writes the checksum at the end of the file.
     ///
     /// It returns `DeclaredLength` where data is missing, and changes nothing then. It takes no
-    /// memory.
+    /// memory. `Write` comes where the sink failed, and says how many bytes of the file have gone out
+    /// since `begin`.
     pub fn finish<K: Sink>(&mut self, sink: &mut K) -> Result<(), EncodeFault>
         ensures ok { OnOk result (IsComplete self.old) }
         ensures spelled { OnOk result (Appends (K.contents sink.old) (K.contents sink.new)

@@ -7,10 +7,10 @@ use thiserror::Error;
 /// and the places of the developer fields continue from the number of fields that are defined.
 #[derive(Clone, Copy, Debug, PartialEq, Eq, Error)]
 pub enum EncodeFault {
-    /// The size, the protocol version, the sum word or the further bytes of a header aren't allowed.
+    /// The size, the protocol version, the header checksum or the further bytes of a header aren't allowed.
     #[error("file {file}: bad header")]
     BadHeader { file: u64 },
-    /// A header has zeros for a sum that is 0 itself.
+    /// A header has zeros in place of a checksum that is 0 itself.
     #[error("file {file}: the header checksum is zero")]
     ZeroIsSum { file: u64 },
     /// The local message type is 16 or more, or with a time offset 4 or more.
@@ -37,7 +37,7 @@ pub enum EncodeFault {
     /// Memory was refused.
     #[error("out of memory")]
     NoMemory,
-    /// The sink failed. It has taken the first `written` bytes of the spelling.
+    /// The sink failed. It has taken the first `written` bytes of the file or the chain.
     #[error("write fault after {written} bytes")]
     Write { written: u64 },
 }

@@ -12,7 +12,8 @@ use crate::{EncodeFault, Sink, SpelledFile};
 use fit_frame::{HeadFault, head_bytes};
 use fit_record::CHAIN_LIMIT;
 
-/// Writes a chain of files whose records are kept as their bytes, as `write_chain` writes files. It takes no memory.
+/// Writes a chain of files whose records are kept as their bytes, as `write_chain` writes files. It takes no memory. `Write` comes
+/// where the sink failed: it has taken the first `written` bytes of the chain.
 pub fn write_spelled<K: Sink>(sink: &mut K, files: &[SpelledFile]) -> Result<(), EncodeFault>
     ensures ok { OnOk result (IsWellFormedChain chain_limit files.now) }
     ensures spelled { OnOk result (Appends (K.contents sink.old) (K.contents sink.new)

@@ -23,7 +23,7 @@ use std::alloc::{Allocator, Global};
 ///
 /// Before a byte goes out it returns the first fault: `BadHeader`, then the faults of the records in
 /// their order, and last `ZeroIsSum`. `NoMemory` may come in place of these. The writing itself takes
-/// no memory.
+/// no memory. `Write` comes where the sink failed: it has taken the first `written` bytes of the file.
 pub fn write_one<K: Sink>(alloc: Global, sink: &mut K, file: &FitFile) -> Result<(), EncodeFault>
     ensures ok { OnOk result (IsWellFormed file.now) }
     ensures spelled { OnOk result (Appends (K.contents sink.old) (K.contents sink.new)
@@ -54,7 +54,8 @@ pub fn write_one<K: Sink>(alloc: Global, sink: &mut K, file: &FitFile) -> Result
 
 /// Writes a chain of files, one after another.
 ///
-/// `ChainLength` comes before all other faults. Then each file is checked as by `write_one`.
+/// `ChainLength` comes before all other faults. Then each file is checked as by `write_one`. `Write` comes where the sink failed: it
+/// has taken the first `written` bytes of the chain.
 pub fn write_chain<K: Sink>(
     alloc: Global,
     sink: &mut K,

@@ -6,22 +6,22 @@ use arrayvec::ArrayVec;
 /// Protocol version 2.0, the first with developer fields and with numbers of eight bytes.
 pub const PROTOCOL_2_0: u8 = 0x20;
 
-/// What the two bytes after the fixed part of a header hold, the header's own CRC (section "File
-/// Header").
+/// What the two bytes after the fixed part of a header hold: the header checksum, or zeros (FIT protocol, "File Header", where it
+/// is called CRC).
 #[derive(Clone, Copy, Debug, PartialEq, Eq)]
 pub enum HeaderSum {
     /// There are no such bytes: the header has 12 bytes.
     Absent,
     /// Zeros, where the checksum of the fixed part isn't 0.
     Zero,
-    /// The checksum of the fixed part. Where that is 0 too, the word is this one.
+    /// The checksum of the fixed part. Where that is 0, the header counts as this one.
     True,
 }
 
 /// The header of a file, all but its data size (section "File Header").
 ///
-/// A header of 12 bytes has the word `Absent` and an empty `rest`. One of `size` 14 to 255 has the
-/// word `Zero` or `True`, and `rest` has `size - 14` bytes.
+/// In a header of 12 bytes `sum` is `Absent` and `rest` is empty. In one of `size` 14 to 255 `sum` is
+/// `Zero` or `True`, and `rest` has `size - 14` bytes.
 #[derive(Debug, Drop, PartialEq)]
 pub struct Header {
     /// The number of its bytes.
@@ -31,7 +31,7 @@ pub struct Header {
     pub protocol: u8,
     /// The profile version.
     pub profile: u16,
-    /// The two bytes after the first twelve, where there are any.
+    /// The header checksum: the two bytes after the first twelve, where there are any.
     pub sum: HeaderSum,
     /// The bytes from place 14 on. They may be any, and no header checksum covers them.
     pub rest: ArrayVec<u8, 241>,

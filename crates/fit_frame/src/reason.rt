@@ -66,11 +66,11 @@ impl Reason {
 /// Why a header can't be written before a given number of data bytes.
 #[derive(Clone, Copy, Debug, PartialEq, Eq, Error)]
 pub enum HeadFault {
-    /// The size, the major protocol version or the sum word isn't allowed, or `rest` has another
+    /// The size, the major protocol version or the header checksum isn't allowed, or `rest` has another
     /// length than the size says.
     #[error("the size, the protocol version or the checksum word of the header isn't allowed")]
     BadHeader,
-    /// The word is `Zero`, and the checksum of the fixed part is 0.
+    /// `sum` is `Zero`, and the checksum of the fixed part is 0.
     #[error("the header checksum is 0 itself, so zeros don't stand for it")]
     ZeroIsSum,
 }

@@ -37,7 +37,7 @@ fn has_form(header: &Header) -> bool
     header.protocol / 16 <= 2 && has_size(header.sum, header.size, header.rest.as_slice())
 }
 
-/// Whether a header with this word and these further bytes has this size.
+/// Whether a header with this header checksum and these further bytes has this size.
 fn has_size(sum: HeaderSum, size: u8, rest: &[u8]) -> bool
     ensures { IsTrue result ↔ SizeFits sum size rest.now }
 {
@@ -48,7 +48,7 @@ fn has_size(sum: HeaderSum, size: u8, rest: &[u8]) -> bool
     }
 }
 
-/// Whether the word stands for zeros in place of a sum that is 0 itself.
+/// Whether a header has zeros in place of a checksum that is 0 itself.
 fn is_zero(word: HeaderSum, sum: u16) -> bool
     ensures { IsTrue result ↔ ((word ≡ HeaderSum.Zero) × (sum ≡ 0)) }
 {

@@ -28,28 +28,28 @@ fn has_bit(byte: u8, place: u8) -> bool
     (byte >> place) & 1 == 1
 }
 
-/// Whether it heads a data message with a time offset.
+/// Whether this record header byte is that of a data message with a time offset.
 fn is_compressed(byte: u8) -> bool
     ensures { result ≡ is_compressed byte }
 {
     has_bit(byte, COMPRESSED)
 }
 
-/// Whether it heads a definition message.
+/// Whether this record header byte is that of a definition message.
 pub fn is_definition(byte: u8) -> bool
     ensures { result ≡ is_definition byte }
 {
     !is_compressed(byte) && has_bit(byte, DEFINITION)
 }
 
-/// Whether the definition message that it heads has developer fields.
+/// Whether the definition message of this record header has developer fields.
 pub fn has_developer_fields(byte: u8) -> bool
     ensures { result ≡ has_developer_fields byte }
 {
     has_bit(byte, DEVELOPER_FIELDS)
 }
 
-/// Whether a bit is set that the protocol reserves.
+/// Whether a reserved bit of this record header is set.
 pub fn has_reserved_bit(byte: u8) -> bool
     ensures { result ≡ has_reserved_bit byte }
 {
@@ -62,7 +62,7 @@ pub fn has_reserved_bit(byte: u8) -> bool
     has_bit(byte, DEVELOPER_FIELDS) && !has_bit(byte, DEFINITION)
 }
 
-/// The local message type.
+/// The local message type in this record header.
 pub fn local_type(byte: u8) -> u8
     ensures { result ≡ local_type byte }
 {
@@ -73,7 +73,7 @@ pub fn local_type(byte: u8) -> u8
     }
 }
 
-/// The time offset of a data message with a compressed header, in seconds.
+/// The time offset in this record header, in seconds; None where it isn't a compressed timestamp header.
 pub fn time_offset(byte: u8) -> Option<u8>
     ensures { result ≡ time_offset byte }
 {

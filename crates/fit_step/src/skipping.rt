@@ -154,7 +154,7 @@ fn next_message<A: Allocator>(env: &Env<A>, bytes: &[u8]) -> usize
 /// Skips complete records at the front of the piece, where a record begins and at least six bytes of the data section are to come
 /// after them: how many bytes they have, and how many they are. What they define is learned.
 ///
-/// It ends where `skip_records` does.
+/// It ends where `Decoder::skip_records` of `fit_decode` does.
 pub fn skip_in_section<A: Allocator + Copy>(
     alloc: A,
     env: &mut Env<A>,
@@ -184,7 +184,7 @@ pub fn skip_in_section<A: Allocator + Copy>(
 /// Skips the data message at the front of the piece, where a record begins and at least six bytes of the data section are to come
 /// after it: how many bytes it has, or 0 where none is skipped. What is known stays.
 ///
-/// None is skipped where `skip_records` would skip none, and before a definition message.
+/// None is skipped where `Decoder::skip_records` of `fit_decode` would skip none, and before a definition message.
 pub fn skip_message_in_section<A: Allocator + Copy>(
     env: &Env<A>,
     position: &mut Position,

@@ -29,7 +29,7 @@ use Rattle.fit_chain.specs.Needs.{missing}
 use Rattle.fit_decode.specs.inner.Scans.{half_sum}
 
 -- A decoder's fields, but for the count of the bytes and the refusal: how far they have come, the reader of the header, the
--- bytes that the closing sum covers so far, what is known, where in a record it is, and the record in progress.
+-- bytes that the closing checksum covers so far, what is known, where in a record it is, and the record in progress.
 pub record Fields (A : Type 0) : Type 0 where
   pub stage : Stage
   pub reader : HeaderSeen

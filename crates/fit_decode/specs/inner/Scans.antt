@@ -1,4 +1,4 @@
--- What the code's walks over the bytes of a header, or of a closing sum, say. No public contract names these.
+-- What the code's walks over the bytes of a header, or of a closing checksum, say. No public contract names these.
 use Rattle.std.specs.Prelude.{◌≡◌, ℕ, ◌<◌, ◌≤◌, if◌then◌else◌, Bool, true, false, List, [], ◌∷◌, ◌++◌, take, length, slice_index, Option, Some, None, Result}
 use Rattle.std.specs.Prelude.{Ok, Err, ◌%◌}
 use Rattle.fit_base.specs.Numbers.{little_bytes}
@@ -22,11 +22,11 @@ HeaderScanned front piece new used (Err reason) =
     (used < length piece) × (new ≡ record { bytes = front ++ take used piece; refusal = Some reason })
     × IsHeaderPart (front ++ take used piece) × RefusesByte (front ++ take used piece) (slice_index piece used) reason
 
--- the bytes of a closing sum that have come
+-- the bytes of a closing checksum that have come
 abbrev pub half_sum : ℕ → Bool → List ℕ
 half_sum sum half = if half then sum % 256 ∷ [] else []
 
--- Behind the bytes of a closing sum that had come, so many of the piece were used.
+-- Behind the bytes of a closing checksum that had come, so many of the piece were used.
 abbrev pub SumScanned : ℕ → Bool → List ℕ → Bool → ℕ → Result Bool Reason → Type 0
 SumScanned sum before piece after used (Ok false) = (used ≡ length piece) × (half_sum sum before ++ take used piece ≡ half_sum sum after)
 SumScanned sum before piece after used (Ok true) =

@@ -62,8 +62,10 @@ impl<S: Source, A: Allocator + Copy> Reading<S, A> {
 
     /// The next file, or `None` where the source ends after at least one. After a fault each call returns it again.
     ///
-    /// Places count from the start of the chain. With `NoMemory`, `used` is the number of bytes taken since `new`: none after a
-    /// whole file that is there, and at most a piece after bytes with which a chain begins.
+    /// Places count from the start of the chain. `Refused` has the place of the first byte with which no chain of files begins, and
+    /// the reason; `Truncated` the place where the source ends, which is inside a file or before the first one; `Read` the place where
+    /// the source failed. With `NoMemory`, `used` is the number of bytes taken since `new`: none after a whole file that is there, and
+    /// at most a piece after bytes with which a chain begins.
     pub fn next(&mut self) -> Result<Option<FitFile<A>>, Fault>
         // After a fault each call returns it again.
         ensures latched { (fault : Fault) → self.old.fault ≡ Some fault
