@@ -36,7 +36,7 @@ enum fit_status {
     FIT_TRUNCATED = 2, /* The bytes begin such a file, and end too soon, at `place`. */
     FIT_NO_MEMORY = 3, /* Memory was refused. This says nothing of the bytes or of the text. */
     FIT_TEXT = 4,      /* Row `row` of the text isn't allowed where it is; where `column` isn't 0, because of that cell. */
-    FIT_UNWRITABLE = 5 /* The rows of the text are those of files that have no bytes: too long, or with a sum that can't be. */
+    FIT_UNWRITABLE = 5 /* The rows of the text are those of files that have no bytes: too long, or with zeros for a checksum of 0. */
 };
 
 /* Why a byte is refused. docs/USE.md, "Is an upload a FIT file?", says what each means. */
