@@ -2,6 +2,7 @@
 ghost use Rattle.std.specs.Prelude.{◌≡◌, ◌+◌, ◌≤◌, [], ◌∷◌, ◌++◌, OnOk, IfOk, IfErr, IfSome, length, Some, None, Err, true, false};
 ghost use Rattle.std.specs.Io.KnownBytes.{Appends};
 ghost use Rattle.fit_frame.specs.Header.{HeaderFits, header_bytes};
+ghost use Rattle.fit_record.specs.Environment.{DescribesNothing};
 ghost use Rattle.fit_record.specs.Records.{Fits, record_bytes};
 ghost use Rattle.fit_encode.specs.Encoding.{learned, CanPut, IsComplete, IsPutFault, IsFinishFault, IsHeaderFault, BreaksOff, header_sent, closed_fault, closing_bytes, IsWhole, IsPlaceFault, HasPlace, fault_when};
 ghost use Rattle.fit_encode.specs.Faults.{StopsAt, IfWrite, UnlessWrite};
@@ -118,6 +119,10 @@ impl Encoder {
         ensures works { OnOk result (K.has_failed sink.new ≡ false) }
         ensures kept { OnOk result (self.new ≡ record self.old
             { records = self.old.records ++ r.now ∷ [] }) }
+
+        // A data message that describes nothing takes no memory.
+        ensures free { DescribesNothing (learned self.old) r.now
+            → IfErr result (λ fault. fault ≡ EncodeFault.NoMemory → ⊥) }
 
         // The file is finished, or a sink failed before.
         ensures closed { IfSome (closed_fault self.old)
