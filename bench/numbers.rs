@@ -61,7 +61,7 @@ impl Numbers {
     }
 
     #[inline]
-    /// Puts the number that so many bits are; the invalid one has no text. Returns whether there is one.
+    /// Puts the number that these bits are; the invalid one has no text. Returns whether there is one.
     pub fn put(&self, out: &mut Vec<u8>, bits: u64) -> bool {
         if self.class == Class::Float {
             put_hex(out, &bits.to_be_bytes()[8 - self.width..]);

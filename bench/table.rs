@@ -83,7 +83,7 @@ fn put_cell<'a>(
     places.into_iter().any(|place| place.put(out, big, body))
 }
 
-/// A comma and the degrees that so many semicircles are, with seven decimals.
+/// A comma and the degrees in that many semicircles, with seven decimals.
 fn put_degrees(out: &mut Vec<u8>, place: Option<usize>, big: bool, body: &[u8]) {
     out.push(b',');
     let Some(at) = place else { return };

@@ -21,12 +21,12 @@ pub text_none : (text : List ℕ) → text ++ csv_text [] ≡ text
 unfolding csv_text
 text_none text = append-nil text
 
--- no row behind a text
+-- no row after a text
 pub rows_none : (v : Vec ℕ Global) → HasRows [] v v
 unfolding csv_text
 rows_none v = record { text = sym (append-nil v.items) }
 
--- some rows behind a text, and then others
+-- some rows after a text, and then others
 pub rows_both : {a b : List Row} {u v w : Vec ℕ Global} → HasRows a u v → HasRows b v w → HasRows (a ++ b) u w
 rows_both {a = a} {b = b} {u = u} first second = record {
   text = second.text ∙ ap (λ text. text ++ csv_text b) first.text ∙ append_assoc u.items (csv_text a) (csv_text b)
@@ -67,7 +67,7 @@ whole_row text first (next ∷ rest) some =
     ∙ append_assoc text (field_text default_writer first) (fields_text default_writer (next ∷ rest) ++ (10 ∷ []))
     ∙ ap (λ ds. text ++ ds) (sym (append_assoc (field_text default_writer first) (fields_text default_writer (next ∷ rest)) (10 ∷ [])) ∙ sym (append-nil _))
 
--- what was written behind a beginning is put behind another text
+-- what was written after a beginning is put after another text
 pub rows_copied : {rows : List Row} {u v : Writer (Vec ℕ Global)} (old new : Vec ℕ Global) → HasAdded rows u v
     → new.items ≡ old.items ++ drop (length (written u)) (written v) → HasRows rows old new
 rows_copied {rows = rows} {u = u} {v = v} old new added copied = record {

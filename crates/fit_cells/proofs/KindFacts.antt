@@ -5,7 +5,7 @@ use Rattle.std.specs.Prelude.{not, ◌||◌, ◌&&◌, nat_lt, bit_or, bit_and}
 use Rattle.std.specs.List.{list_any, list_all}
 use Rattle.std.specs.Int.{bit_at}
 use Rattle.std.proofs.Math.Bool.{not-not}
-use Rattle.std.proofs.lemmas.Bool.{agree_below_at, cases_Bool, eq-eqb, ne_eqb}
+use Rattle.std.proofs.lemmas.Bool.{agree_below_at, and_parts, cases_Bool, eq-eqb, ne_eqb}
 use Rattle.std.proofs.lemmas.Bool.Decides.{nat_tests}
 use Rattle.std.proofs.lemmas.Nat.Bits.{bit_at-zero, bit_at-lt, bit_at_or, and_pow}
 use Rattle.std.proofs.lemmas.List.{take_all}
@@ -92,14 +92,10 @@ zero_seen bytes kinds are seen =
 
 -- ---- texts that can stand as they are
 
-both : (a b : Bool) → (a && b) ≡ true → (a ≡ true) × (b ≡ true)
-both true b h = (refl, h)
-both false b h = cc
-
 ascii : (text : List ℕ) → list_all (λ b. nat_lt b 128) text ≡ true → IsAscii text
 ascii [] h = IsAscii-nil
 ascii (b ∷ text) h =
-    let parts = both (nat_lt b 128) (list_all (λ b. nat_lt b 128) text) h in IsAscii-cons b text (grind (arith, nat_tests, parts.0)) (ascii text parts.1)
+    let parts = and_parts (nat_lt b 128) (list_all (λ b. nat_lt b 128) text) h in IsAscii-cons b text (grind (arith, nat_tests, parts.0)) (ascii text parts.1)
 
 pub plain_ascii : (text : List ℕ) → list_all (λ b. nat_lt b 128) text ≡ true → list_all (λ b. not (b == 0)) text ≡ true → begins_as_bytes text ≡ false
     → is_plain text ≡ true

@@ -26,7 +26,7 @@ put_ok (Err y) old own more new put is = tt
 drop_front : (xs ys text : List ℕ) (n : ℕ) → text ≡ xs ++ ys → n ≡ length xs → drop n text ≡ ys
 drop_front xs ys text n is e = ap (drop n) is ∙ ap (λ k. drop k (xs ++ ys)) e ∙ drop-append_seam xs ys
 
--- the text of a cell behind what was written before it
+-- the text of a cell after what was written before it
 pub cell_sent : (u v w : W) (cell : List ℕ) (start before : ℕ) → IsInRow u before → start ≡ length (writer_under u).items
     → ((writer_setup u).style ≢ style.NonNumeric
     → Appends (known u) (known v) (next_sep (writer_setup u) (fields_written u) ++ field_text (writer_setup u) cell))

@@ -9,11 +9,11 @@ use Rattle.fit_cells.proofs.ClassFacts.{side_by_side}
 use Rattle.std.proofs.Common.{◌==◌, Option}
 use Rattle.std.proofs.lemmas.List.{append-nil}
 
--- each byte comes behind the comma
+-- each byte comes after the comma
 abbrev pub High : List ℕ → Type 0
 High text = AllByRecursion (λ b. 44 < b) text
 
--- What every byte of a number's text has, and of hexadecimal digits behind `0x`: they are digits, letters, signs and points.
+-- What every byte of a number's text has, and of hexadecimal digits after `0x`: they are digits, letters, signs and points.
 module _ (P : ℕ → Type 0) (of_byte : (b : ℕ) → 44 < b → b < 124 → P b) where
   pub all-append : (a b : List ℕ) → AllByRecursion P a → AllByRecursion P b → AllByRecursion P (a ++ b)
   all-append [] b p q = q

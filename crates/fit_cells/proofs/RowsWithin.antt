@@ -3,14 +3,12 @@ use Rattle.fit_cells.proofs.Common.{◌≡◌, ◌∙◌, ◌<◌, ◌≤◌, �
 use Rattle.fit_cells.proofs.Common.{next_record, ends_at_end, is_end, step, after_end, in_field, start_field, start_record, ends_with, is_byte, fields_after}
 use Rattle.fit_cells.proofs.Common.{field_after, cases_Bool, Reached, default_config, strip_bom, is_bom, Config, State, Row}
 use Rattle.std.proofs.Common.{◌==◌, ◌&&◌, if◌then◌else◌}
+use Rattle.std.proofs.lemmas.Option.{same_Some}
 use Rattle.csv.specs.declared.parser.Action.{Action}
 use Rattle.csv.specs.declared.parser.Terminator.{Terminator}
 use Rattle.csv.specs.declared.parser.Action.TheVariants as act
 use Rattle.csv.specs.declared.parser.Terminator.TheVariants as term
 use Rattle.csv.specs.declared.parser.State.TheVariants as st
-
-some-same : {A : Type 0} (a b : A) → Some a ≡ Some b → a ≡ b
-some-same a b e = cc e
 
 -- the states in which the end of the text ends no record
 abbrev pub Between : State → Type 0
@@ -84,13 +82,13 @@ read-takes : (cfg : Config) (s : State) (fields : List (List ℕ)) (field : List
 unfolding next_record Takes
 read-takes cfg s fields field [] p e = elim (cases_Bool (ends_at_end s)) [
   | inl ends ↦
-      let is = some-same _ p (rw ends at e) in
+      let is = same_Some _ p (rw ends at e) in
       (inr (refl, ap (λ (q : Read). length q.2) (sym is)), ap (λ (q : Read). ends_at_end q.1) (sym is))
   | inr between ↦ cc (rw between at e)
 ]
 read-takes cfg s fields field (c ∷ rest) p e = elim (cases_Bool (is_end (step cfg s c).1)) [
   | inl end ↦
-      let is = some-same _ p (rw end at e) in
+      let is = same_Some _ p (rw end at e) in
       let left : length p.2 ≡ length rest = ap (λ (q : Read). length q.2) (sym is) in
       (inl (omega (arith, left)), ap (λ (q : Read). ends_at_end q.1) (sym is) ∙ between-after cfg s c end)
   | inr goes ↦ further c rest p (read-takes cfg (step cfg s c).0 (fields_after (step cfg s c).1 fields field) (field_after (step cfg s c).1 c field) rest p

@@ -42,7 +42,7 @@ same-reversed (b ∷ ys) k = elim (cases_Bool (b == 0)) [
   | inr some ↦ rw some refl
 ]
 
--- behind the bytes before the closing zeros there are zeros
+-- after the bytes before the closing zeros there are zeros
 before-same : (bytes : List ℕ) (k : ℕ) → get_or (before_closing_zeros bytes) k 0 ≡ get_or bytes k 0
 before-same bytes k = same-reversed (reverse bytes) k ∙ ap (λ xs. get_or xs k 0) (reverse-reverse bytes)
 

@@ -20,7 +20,7 @@ unfoldable pub csv_text : List Row → List ℕ
 csv_text [] = []
 csv_text (row ∷ rows) = row_text default_writer row ++ csv_text rows
 
--- these rows were put behind a text
+-- these rows were put after a text
 pub record HasRows (rows : List Row) (old new : Vec ℕ Global) : Type 0 where
   pub text : new.items ≡ old.items ++ csv_text rows
 
@@ -52,7 +52,7 @@ pub record IsBetweenRows (w : Writer (Vec ℕ Global)) : Type 0 where
   pub clean : has_written w ≡ false
   pub setup : writer_setup w ≡ default_writer
 
--- Behind what a writer had written it has written these rows, and stands between two rows again.
+-- After what a writer had written it has written these rows, and stands between two rows again.
 pub record HasAdded (rows : List Row) (old new : Writer (Vec ℕ Global)) : Type 0 where
   pub between : IsBetweenRows new
   pub text : written new ≡ written old ++ csv_text rows

@@ -22,13 +22,13 @@ unfoldable pub read_hex : ℕ → List ℕ → ℕ
 read_hex n [] = n
 read_hex n (b ∷ rest) = read_hex (n * 16 + hex_value b) rest
 
--- so many numbers of two hexadecimal digits each
+-- that many numbers of two hexadecimal digits each
 unfoldable pub read_pairs : ℕ → List ℕ → List ℕ
 read_pairs zero text = []
 read_pairs (suc count) text = read_hex 0 (take 2 text) ∷ read_pairs count (drop 2 text)
 
--- a writer of the crate's usual form within a row, of which nothing is left to be sent, with so many bytes before the next cell
-pub record IsInRow (w : Writer (Vec ℕ Global)) (comma : ℕ) : Type 0 where
+-- A writer of the crate's usual form is within a row. Nothing is left to be sent, and it puts that many bytes before the next cell.
+pub record IsInRow (w : Writer (Vec ℕ Global)) (count : ℕ) : Type 0 where
   pub setup : writer_setup w ≡ default_writer
   pub sent : writer_pending w ≡ []
-  pub before : length (next_sep default_writer (fields_written w)) ≡ comma
+  pub before : length (next_sep default_writer (fields_written w)) ≡ count

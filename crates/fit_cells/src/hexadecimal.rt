@@ -16,7 +16,7 @@ fn digit_at(number: u64, place: u8) -> u8
     if digit < 10 { 48 + digit } else { 55 + digit }
 }
 
-/// Puts the last eight digits of a number behind a text.
+/// Puts the last eight digits of a number after a text.
 #[tactic(auto, using(crate::proofs::HexFacts::eight_digits))]
 fn put_eight_digits(text: &mut Vec<u8>, number: u64) -> Result<(), AllocError>
     ensures ok { OnOk result (text.new.items ≡ text.old.items ++ hex_digits 8 number) }
@@ -49,7 +49,7 @@ pub fn put_digits(text: &mut Vec<u8>, digits: u8, number: u64) -> Result<(), All
     Ok(())
 }
 
-/// Puts bytes behind a text, `0x` and two digits each.
+/// Puts bytes after a text, `0x` and two digits each.
 #[tactic(auto, using(fit_profile::proofs::KeptTexts::none_put, fit_profile::proofs::KeptTexts::more_put))]
 pub(crate) fn put_bytes(text: &mut Vec<u8>, bytes: &[u64]) -> Result<(), AllocError>
     ensures ok { OnOk result (text.new.items ≡ text.old.items ++ bytes_text bytes.now) }
@@ -113,7 +113,7 @@ pub fn read_bytes(alloc: Global, count: u8, text: &[u8]) -> Result<Bits, AllocEr
     Ok(bits)
 }
 
-/// What stands behind the first bytes of a text.
+/// What stands after the first bytes of a text.
 fn behind(text: &[u8], bytes: usize) -> &[u8]
     ensures { result.now ≡ drop bytes text.now }
 {

@@ -11,7 +11,7 @@ use std::marker::Model;
 /// A writer whose text is longer than this is let go.
 pub(crate) const LONG: usize = 64 * 1024;
 
-/// Writes a cell, and puts its text behind another one, without as many bytes as stand before the cell.
+/// Writes a cell, and puts its text after another one, without as many bytes as stand before the cell.
 fn put_behind(
     writer: &mut Writer<Vec<u8>>,
     before: usize,

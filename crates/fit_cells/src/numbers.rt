@@ -24,7 +24,7 @@ fn scaled(raw: i128, info: Info) -> Fixed
     fixed(raw, info)
 }
 
-/// Puts the text of a number behind another one.
+/// Puts the text of a number after another one.
 fn put_text(text: &mut Vec<u8>, info: Option<Info>, raw: i128) -> Result<(), AllocError>
     requires least { neg_ℤ (pos (2 ^ 63)) ≤ℤ raw }
     requires most { raw <ℤ pos (2 ^ 64) }
@@ -43,7 +43,7 @@ fn put_text(text: &mut Vec<u8>, info: Option<Info>, raw: i128) -> Result<(), All
     }
 }
 
-/// Puts a number behind a text, but nothing where its bits are the invalid ones.
+/// Puts a number after a text, but nothing where its bits are the invalid ones.
 fn put_number(
     text: &mut Vec<u8>,
     code: Code,
@@ -65,7 +65,7 @@ fn put_number(
     put_text(text, info, raw)
 }
 
-/// Puts an item behind a text.
+/// Puts an item after a text.
 #[tactic(auto, using(fit_profile::proofs::KeptTexts::none_put, fit_profile::proofs::KeptTexts::more_put))]
 fn put_item(
     text: &mut Vec<u8>,
@@ -103,7 +103,7 @@ fn put_bar(text: &mut Vec<u8>, place: usize) -> Result<(), AllocError>
     text.extend_from_slice(b"|")
 }
 
-/// Puts items behind a text, with a bar between one and the next.
+/// Puts items after a text, with a bar between one and the next.
 pub(crate) fn put_items(
     text: &mut Vec<u8>,
     class: Class,

@@ -18,7 +18,7 @@ use fit_base::{Bits, Class, Code, Items, width_of};
 use fit_profile::Info;
 use std::alloc::{AllocError, Global};
 
-/// What stands before the first bar of a text, or all of it, and what stands behind that bar.
+/// What stands before the first bar of a text, or all of it, and what stands after that bar.
 fn split_at_bar(text: &str) -> (&str, &str)
     ensures before { result.0.now ≡ before_first is_bar text.now }
     ensures behind { result.1.now ≡ after_first is_bar text.now }

@@ -19,7 +19,7 @@ pub(crate) fn begins_as_bytes(text: &[u8]) -> bool
     text[0] == b'0' && text[1] == b'x'
 }
 
-/// Puts bytes behind a text, as they are.
+/// Puts bytes after a text, as they are.
 #[tactic(auto, using(fit_profile::proofs::KeptTexts::part_put))]
 fn put_text(text: &mut Vec<u8>, bytes: &[u64]) -> Result<(), AllocError>
     requires { All (λ b. b < 256) bytes.now }
@@ -32,7 +32,7 @@ fn put_text(text: &mut Vec<u8>, bytes: &[u64]) -> Result<(), AllocError>
     Ok(())
 }
 
-/// Puts the text of a string behind a text, or its bytes where that can't stand as it is.
+/// Puts the text of a string after a text, or its bytes where that can't stand as it is.
 #[tactic(auto, using(fit_profile::proofs::KeptTexts::none_put, fit_profile::proofs::KeptTexts::more_put))]
 pub(crate) fn put_string(text: &mut Vec<u8>, bytes: &[u64]) -> Result<(), AllocError>
     requires { All (λ b. b < 256) bytes.now }
@@ -62,7 +62,7 @@ pub(crate) fn read_string(alloc: Global, count: u8, text: &[u8]) -> Result<Bits,
     }
 }
 
-/// The bytes of a text, and zeros behind them.
+/// The bytes of a text, and zeros after them.
 fn read_text(alloc: Global, count: u8, text: &[u8]) -> Result<Bits, AllocError>
     ensures count { IfOk result (λ bits. length bits ≡ count) }
     ensures value { IfOk result (λ bits. (k : ℕ) → k < count
@@ -76,7 +76,7 @@ fn read_text(alloc: Global, count: u8, text: &[u8]) -> Result<Bits, AllocError>
     Ok(bits)
 }
 
-/// The byte of a text at a place, and zero behind its end.
+/// The byte of a text at a place, and zero after its end.
 fn byte_at(text: &[u8], place: usize) -> u64
     ensures value { result ≡ slice_index text.now place }
     ensures below { result < 256 }

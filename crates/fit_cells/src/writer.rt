@@ -22,7 +22,7 @@ fn flushed_len(writer: &mut Writer<Vec<u8>>) -> Result<usize, AllocError>
     }
 }
 
-/// Puts what was written after that many bytes behind a text.
+/// Puts after a text what was written from that many bytes on.
 fn copy_behind(
     writer: &mut Writer<Vec<u8>>,
     start: usize,
@@ -55,7 +55,7 @@ fn renew(alloc: Global, writer: &mut Writer<Vec<u8>>, failed: bool)
     }
 }
 
-/// Writes a row, and puts its text behind another one.
+/// Writes a row, and puts its text after another one.
 #[tactic(auto, using(crate::proofs::AddedRows::rows_copied))]
 fn put_behind(
     writer: &mut Writer<Vec<u8>>,

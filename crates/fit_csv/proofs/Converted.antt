@@ -1,4 +1,4 @@
--- What a report put behind a first line.
+-- What a report put after a first line.
 use Rattle.fit_csv.proofs.Common.{◌≡◌, ◌∙◌, ◌+◌, ◌-◌, ◌^◌, min, true, Bool, [], ◌++◌, length, take, Result, Err, sym, ap, subst, arith, flat_map, Global}
 use Rattle.fit_csv.proofs.Common.{Appends, reverse-reverse, take-append-add, FitFile, chain_limit, Event, file_events, Lines, text_of, Channel}
 use Rattle.fit_csv.proofs.Common.{TextFailsIn, HasTold, Reports, ReportsChain, Tells, CsvFault, csv_text, Converts, ConvertsTo, HasWritten, RowsOf, WritesRows}

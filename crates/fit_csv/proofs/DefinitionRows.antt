@@ -19,7 +19,7 @@ dev_def-misfit row misfit =
     (λ other (a, b, c, ha, hb, hc, e). (record { number = a; size = b; index = c }, record { number = ha; size = hb; index = hc }, e))
     (λ other (f, h, e) k. (f.number, f.size, f.index, h.number, h.size, h.index, e))
 
--- the row of a field can stand behind those before it
+-- the row of a field can stand after those before it
 pub field_def-step : (o : OpenDefinition) (row : Row) (misfit : Misfit) → length o.fields < o.head.fields → IsCellFault IsFieldDefRow row misfit
     → IsMisfit (λ r. (p : OpenDefinition) × FieldDefStep o r p) row misfit
 field_def-step o row misfit room h =

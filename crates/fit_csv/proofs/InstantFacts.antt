@@ -7,7 +7,7 @@ use Rattle.jiff_core.proofs.CalendarLemmas.{day_count-day, day_count-last_of_yea
 use Rattle.jiff_core.proofs.CalendarLemmas.{days_from_civil-day_count, days_in_year_bounds}
 use Rattle.jiff_core.proofs.SignedLemmas.{signed_arith}
 
--- the text of the date before which so many days are counted
+-- the text of the date before which that many days are counted
 IsDate : ℕ → List ℕ → Type 0
 IsDate count text = (y : ℕ) × (m : ℕ) × (d : ℕ) × (y < 10000) × IsCivilDate (pos y) m d × (day_count (pos y) m d ≡ count) × (text ≡ date_digits y m d)
 
@@ -60,7 +60,7 @@ in-years (suc later) y n early within = elim (cases_Bool (nat_lt n (days_in_year
 first-of-1989 : day_count (pos 1989) 1 1 + 364 ≡ day_count (pos 1989) 12 31
 first-of-1989 = omega (arith, day_count-last_of_year (pos 1989))
 
--- so many days after 31 December 1989
+-- that many days after 31 December 1989
 pub date-of-day : (n : ℕ) → n < 50000 → (y : ℕ) × (m : ℕ) × (d : ℕ) × (y < 10000) × IsDayAfterEpoch n y m d
     × (date_after 137 1989 (364 + n) ≡ date_digits y m d)
 unfolding IsDate

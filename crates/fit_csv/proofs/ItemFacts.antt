@@ -21,7 +21,7 @@ pub first_made : {A : Type 0} (f : ℕ × ℕ) (fields : List (ℕ × ℕ)) (ite
 first_made f fields [] have = absurd have
 first_made f fields (i ∷ rest) have = (i, rest, refl, have.0, have.1)
 
--- the shapes of two lists of fields, one behind the other
+-- the shapes of two lists of fields, one after the other
 pub shapes_both : {A : Type 0} (a b : List (ℕ × ℕ)) (xs ys : List (Items A)) → HaveShape a xs → HaveShape b ys → HaveShape (a ++ b) (xs ++ ys)
 shapes_both [] b [] ys first second = second
 shapes_both [] b (x ∷ xs) ys first second = absurd first
@@ -30,14 +30,14 @@ shapes_both (f ∷ a) b (x ∷ xs) ys first second = (first.0, shapes_both a b x
 
 -- ---- in bytes
 
--- the bytes of the first field, and those behind it
+-- the bytes of the first field, and those after it
 pub first_in_bytes : (f : ℕ × ℕ) (fields : List (ℕ × ℕ)) (bytes : List ℕ) → length bytes ≡ sizes (f ∷ fields)
     → (f.1 ≤ length bytes) × (length (drop f.1 bytes) ≡ sizes fields)
 first_in_bytes f fields bytes long =
     let all : length bytes ≡ f.1 + sizes fields = long ∙ sum_by-cons (λ (g : ℕ × ℕ). g.1) f fields in
     (omega (arith, all), length-drop f.1 bytes ∙ omega (arith, all))
 
--- the items of two lists of fields, one behind the other
+-- the items of two lists of fields, one after the other
 pub fields_both : {A : Type 0} (o : Order) (a b : List (ℕ × ℕ)) (bytes : List ℕ)
     → fields_from {A = A} o (a ++ b) bytes ≡ fields_from o a (take (sizes a) bytes) ++ fields_from o b (drop (sizes a) bytes)
 fields_both o [] b bytes = refl

@@ -24,7 +24,7 @@ sound-run c (r ∷ rows) t sound (m, step, run) =
 pub nothing-sound : IsSoundChain nothing_yet
 nothing-sound = record { files = tt; current = omega arith }
 
--- what holds of what has been read of a chain behind the first line
+-- what holds of what has been read of a chain after the first line
 pub judged : (rows : List Row) (c : Chain) → Run nothing_yet rows c → IsSoundChain c × (rows_so_far c ≡ rows)
 judged rows c run = sound-run nothing_yet rows c nothing-sound run
 
@@ -98,7 +98,7 @@ text-fault CanStand r number text fault refused h = absurd h
 pub first-rows : (text : List ℕ) (rows : List Row) (r : Reader (Bor (List ℕ))) → HasRead text rows r → FirstRows text rows
 first-rows text rows r read = (reader_state r, read.place.0, read.place.2)
 
--- the next row can't stand behind those of a chain
+-- the next row can't stand after those of a chain
 pub refused-row : TextHasOneNumber → (text : List ℕ) (rows : List Row) (c : Chain) (this : Row) (number : ℕ) (fault : CsvFault) (r : Reader (Bor (List ℕ)))
     → Run nothing_yet rows c
     → HasRead text ((first_line ∷ rows) ++ this ∷ []) r → number ≡ length rows + 2 → IsUnjudged (CanStep c) this number fault → IsTextFault text fault

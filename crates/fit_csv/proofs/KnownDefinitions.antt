@@ -1,4 +1,4 @@
--- What is known behind records.
+-- What is known after records.
 use Rattle.fit_csv.proofs.Common.{◌≡◌, ◌∙◌, zero, suc, inl, inr, [], ◌∷◌, ◌++◌, length, replicate, set, get_or, refl, sym, ap, true, false, subst, arith}
 use Rattle.fit_csv.proofs.Common.{append_assoc, eqb-true, eq-eqb, cases_Bool, cases_lt, none-some, get_or_past, get_or-set_same, get_or-set_other, length-map}
 use Rattle.fit_csv.proofs.Common.{length-set, reverse-append, MessageDef, Defined, Description, Record, Define, Data, Values, Environment, defined_at}
@@ -6,6 +6,7 @@ use Rattle.fit_csv.proofs.Common.{defined_by, describe, dev_code, dev_defs, empt
 use Rattle.std.proofs.Common.{ℕ, List, Option, Some, None, ◌==◌}
 use Rattle.std.specs.Prelude.{reverse}
 use Rattle.std.proofs.lemmas.List.{append-nil}
+use Rattle.std.proofs.lemmas.Option.{same_Some}
 
 nothing-defined : {X : Type 0} (none : X) (n k : ℕ) → get_or (replicate n none) k none ≡ none
 nothing-defined none zero k = refl
@@ -16,10 +17,7 @@ same-places : {A : Type 0} (e : Environment A) (s : Option Description) → (des
 same-places e None = refl
 same-places e (Some s) = refl
 
-pub some-same : {X : Type 0} (a b : X) → Some a ≡ Some b → a ≡ b
-some-same a b e = cc e
-
--- what a definition has when it comes, and keeps behind other records, it has in its place
+-- what a definition has when it comes, and keeps after other records, it has in its place
 pub known-has : {A : Type 0} (P : List (Record A) → Defined A → Type 0) (local : ℕ)
     → ((before : List (Record A)) (d : MessageDef A) → (d.local == local) ≡ true → P (Define d ∷ before) (defined_by (known before) d))
     → ((before : List (Record A)) (d : MessageDef A) (p : Defined A) → (d.local == local) ≡ false → P before p → P (Define d ∷ before) p)
@@ -40,7 +38,7 @@ known-has P local holds keeps stays (Define d ∷ before) p is =
                 subst (λ k. get_or (set (known before).places k (Some (defined_by (known before) d))) local None ≡ Some (defined_by (known before) d))
                 (sym same)
                 (get_or-set_same (known before).places local (Some (defined_by (known before) d)) None within) in
-                subst (P (Define d ∷ before)) (some-same (defined_by (known before) d) p (sym here ∙ is)) (holds before d test)
+                subst (P (Define d ∷ before)) (same_Some (defined_by (known before) d) p (sym here ∙ is)) (holds before d test)
             | inr past ↦
                 let absent : get_or (set (known before).places d.local (Some (defined_by (known before) d))) local None ≡ None =
                 get_or_past (set (known before).places d.local (Some (defined_by (known before) d))) local None

@@ -56,6 +56,7 @@ pub mod FloatCells
 mod BeginFacts
 mod TextRows
 pub mod TableColumnFacts
+pub mod AddedCells
 pub mod TableNumbers
 mod RowsInBytes
 mod CurrentFacts

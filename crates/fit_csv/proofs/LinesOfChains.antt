@@ -5,7 +5,7 @@ use Rattle.fit_csv.proofs.Common.{record_lines, show_files, show_line, show_line
 use Rattle.std.proofs.Common.{ℕ, List, reverse}
 use Rattle.std.proofs.lemmas.List.{append-nil}
 
--- the text of events behind others
+-- the text of events after others
 abbrev text_after : {A : Type 0} → Lines A → List (Event A) → List (Event A) → List ℕ
 text_after line heard [] = []
 text_after line heard (x ∷ events) = line heard x ++ text_after line (x ∷ heard) events

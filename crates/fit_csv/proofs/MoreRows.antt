@@ -1,4 +1,4 @@
--- One more row stands behind the rows of a file and of a chain.
+-- One more row stands after the rows of a file and of a chain.
 use Rattle.fit_csv.proofs.Common.{◌≡◌, ◌∙◌, [], ◌∷◌, ◌++◌, length, refl, sym, ap, subst, inl, inr, arith, append_assoc, flat_map, IsSomeAnd, Global}
 use Rattle.fit_csv.proofs.Common.{AllByRecursion, cases_Bool, Items, Header, FieldDef, Defined, FitFile, Record, Define, Data, Values, defined_at, dev_defs}
 use Rattle.fit_csv.proofs.Common.{namings_at, known, header_time, previous_time, data_row, data_rows, end_row, field_rows, file_row, file_rows, record_rows}

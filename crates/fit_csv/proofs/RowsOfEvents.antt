@@ -37,12 +37,12 @@ rows-of-chain files = ap (λ rows. first_line ∷ rows) (all_files files [])
 
 -- ---- one more event
 
--- the records of the file that was begun last, behind events one after another
+-- the records of the file that was begun last, after events one after another
 abbrev pub records_after : {A : Type 0} → List (Record A) → List (Event A) → List (Record A)
 records_after before [] = before
 records_after before (x ∷ events) = records_after (records_behind before x) events
 
--- one more event has its rows behind those of the others
+-- one more event has its rows after those of the others
 pub rows-more : {A : Type 0} (before : List (Record A)) (events : List (Event A)) (x : Event A)
     → events_rows before (events ++ (x ∷ [])) ≡ events_rows before events ++ event_rows (records_after before events) x
 unfolding events_rows
@@ -51,7 +51,7 @@ rows-more before (y ∷ events) x =
     ap (λ rows. event_rows before y ++ rows) (rows-more (records_behind before y) events x)
     ∙ sym (append_assoc (event_rows before y) (events_rows (records_behind before y) events) (event_rows (records_after (records_behind before y) events) x))
 
--- the records behind one more event
+-- the records after one more event
 pub records-more : {A : Type 0} (before : List (Record A)) (events : List (Event A)) (x : Event A)
     → records_after before (events ++ (x ∷ [])) ≡ records_behind (records_after before events) x
 records-more before [] x = refl

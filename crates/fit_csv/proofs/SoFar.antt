@@ -1,4 +1,4 @@
--- One more row stands behind the rows that a chain was read from.
+-- One more row stands after the rows that a chain was read from.
 use Rattle.fit_csv.proofs.Common.{◌≡◌, ◌∙◌, zero, suc, ◌≤◌, true, [], ◌∷◌, ◌++◌, length, map, refl, sym, ap, ap₂, inl, inr, arith, append_assoc}
 use Rattle.fit_csv.proofs.Common.{eqb-true, zip, slice_get, IsSomeAnd, Global, map-append, nil_from_length, reverse-append, length-zip, Items}
 use Rattle.fit_csv.proofs.Common.{slice_get_within, slice_get-get_or, HasShape, DevDef, FieldDef, Defined, Record, Values, defined_at, dev_defs, Naming}

@@ -1,13 +1,13 @@
--- Texts that are put behind many others.
+-- Texts that are put after many others.
 use Rattle.fit_csv.proofs.Common.{◌≡◌, ◌∙◌, ◌≤◌, ◌+◌, ◌++◌, length, take, ap, take-append-add, take-append_seam}
 use Rattle.std.proofs.Common.{ℕ, List}
 use Rattle.std.proofs.Math.Seq.{take-take}
 
--- what stands behind a text isn't of it
+-- what stands after a text isn't of it
 pub padded : (text more all : List ℕ) → all ≡ text ++ more → take (length text) all ≡ text
 padded text more all e = ap (take (length text)) e ∙ take-append_seam text more
 
--- a text of which what is behind its end was cut off
+-- a text of which what is after its end was cut off
 pub cut : (old padded short text : List ℕ) (used fixed : ℕ) → used ≤ fixed → short ≡ take fixed padded → text ≡ old ++ short
     → take (length old + used) text ≡ old ++ take used padded
 cut old padded short text used fixed within e all =

@@ -1,7 +1,6 @@
 -- The cells of numbers in a row of the table.
 use Rattle.fit_csv.proofs.Common.{◌≡◌, ◌∙◌, ◌++◌, ◌∷◌, [], true, false, inl, inr, Bool, refl, sym, ap, append_assoc, arith, cases_Bool, default_writer}
-use Rattle.fit_csv.proofs.Common.{field_text, fields_text, needs_quotes, fixed_text, Row, csv_text, fields_append, fields_one, whole_row, High}
-use Rattle.fit_csv.proofs.Common.{high-decimal, high-fixed, unquoted}
+use Rattle.fit_csv.proofs.Common.{fields_text, fixed_text, fields_one, High, high-fixed, unquoted}
 use Rattle.fit_csv.proofs.Common.{AddsCell, PutsCell, MessageDef, Values, FieldDef, Items, Global, first_field, first_number, known_number, amount_text}
 use Rattle.fit_csv.proofs.Common.{value_text}
 use Rattle.fit_csv.proofs.Common.{degrees_text}
@@ -71,42 +70,9 @@ high_else (Some cell) b p q = p
 
 -- ---- cells of a row
 
--- a cell that needs no quotes
-pub plain_cell : (text cell : List ℕ) → needs_quotes default_writer cell ≡ false → (text ++ (44 ∷ [])) ++ cell ≡ text ++ fields_text default_writer (cell ∷ [])
-plain_cell text cell plain =
-    let same : field_text default_writer cell ≡ cell = rw plain refl in
-    append_assoc text (44 ∷ []) cell ∙ ap (λ (t : List ℕ). text ++ (44 ∷ t)) (sym same) ∙ ap (λ (t : List ℕ). text ++ t) (sym (fields_one cell))
-
--- the cell of a number, put behind a comma
+-- the cell of a number, put after a comma
 pub added : (cell : Option Cell) (old behind new : List ℕ) → IsHigh cell → behind ≡ old ++ (44 ∷ []) → new ≡ behind ++ unwrap_or cell [] → AddsCell cell old new
 added cell old behind new high comma put =
     put ∙ ap (λ (t : List ℕ). t ++ unwrap_or cell []) comma ∙ append_assoc old (44 ∷ []) (unwrap_or cell [])
     ∙ ap (λ (t : List ℕ). old ++ (44 ∷ t)) (sym (unquoted (unwrap_or cell []) high))
     ∙ ap (λ (t : List ℕ). old ++ t) (sym (fields_one (unwrap_or cell [])))
-
--- more cells
-pub more_cells : (u t w : List ℕ) (cells more : Row) → t ≡ u ++ fields_text default_writer cells → w ≡ t ++ fields_text default_writer more
-    → w ≡ u ++ fields_text default_writer (cells ++ more)
-more_cells u t w cells more before put =
-    put ∙ ap (λ (s : List ℕ). s ++ fields_text default_writer more) before
-    ∙ append_assoc u (fields_text default_writer cells) (fields_text default_writer more)
-    ∙ ap (λ (s : List ℕ). u ++ s) (sym (fields_append cells more))
-
-pub first_cells : (text t : List ℕ) (n : ℕ) (cell : Cell) → t ≡ text ++ (decimal n ++ fields_text default_writer (cell ∷ []))
-    → t ≡ (text ++ decimal n) ++ fields_text default_writer (cell ∷ [])
-first_cells text t n cell e = e ∙ sym (append_assoc text (decimal n) (fields_text default_writer (cell ∷ [])))
-
-pub last_cells : (text t w : List ℕ) (n : ℕ) (next : Cell) (rest : Row) → t ≡ (text ++ decimal n) ++ fields_text default_writer (next ∷ rest)
-    → w ≡ t ++ (10 ∷ [])
-    → w ≡ text ++ csv_text ((decimal n ∷ next ∷ rest) ∷ [])
-last_cells text t w n next rest before end =
-    end ∙ ap (λ (s : List ℕ). s ++ (10 ∷ []))
-    (before ∙ ap (λ (s : List ℕ). (text ++ s) ++ fields_text default_writer (next ∷ rest)) (sym (unquoted (decimal n) (high-decimal n))))
-    ∙ whole_row text (decimal n) (next ∷ rest) (omega arith)
-
--- a number and a cell that needs no quotes, with which a row begins
-pub first_plain : (text : List ℕ) (n : ℕ) (cell : Cell) → needs_quotes default_writer cell ≡ false
-    → ((text ++ decimal n) ++ (44 ∷ [])) ++ cell ≡ text ++ (decimal n ++ fields_text default_writer (cell ∷ []))
-first_plain text n cell plain =
-    plain_cell (text ++ decimal n) cell plain
-    ∙ append_assoc text (decimal n) (fields_text default_writer (cell ∷ []))

@@ -5,7 +5,7 @@ use Rattle.std.proofs.Common.{ℕ, Option}
 use Rattle.fit_cells.specs.Rows.{Cell}
 use Rattle.fit_csv.proofs.ZeroItems.{zero-items}
 
--- a cell that shows no items, behind the label
+-- a cell that shows no items, after the label
 pub no-items : (kind label ta tb tc td te tf : Cell) (code size : ℕ) (info : Option Meaning) (unit : Cell) → label ≡ ta
     → ((items : Items Global) → HasShape code size items → cell code info items ≡ tb → ⊥)
     → IsBadCell (IsValueRow kind label code size info unit) (row kind ta tb tc td te tf) 3

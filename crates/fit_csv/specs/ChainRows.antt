@@ -151,13 +151,13 @@ event_rows before (header h n) = file_row h ∷ []
 event_rows before (item r) = record_rows before r
 event_rows before file_end = end_row ∷ []
 
--- the records of the file that was begun last, behind an event
+-- the records of the file that was begun last, after an event
 abbrev pub records_behind : {A : Type 0} → List (Record A) → Event A → List (Record A)
 records_behind before (header h n) = []
 records_behind before (item r) = r ∷ before
 records_behind before file_end = before
 
--- how many files have begun behind an event
+-- how many files have begun after an event
 abbrev pub files_behind : {A : Type 0} → ℕ → Event A → ℕ
 files_behind files (header h n) = files + 1
 files_behind files other = files

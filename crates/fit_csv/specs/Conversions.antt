@@ -23,7 +23,7 @@ RowsOf = List (Event Global) → List Row
 abbrev pub WritesRows : RowsOf → List ℕ → Channel → Type 0
 WritesRows rows bytes sink = (events : List (Event Global)) × AreEvents bytes events × Appends sink.before sink.after (csv_text (rows events))
 
--- The sink has failed in the text of the rows of the events of some first bytes, behind so many bytes.
+-- The sink has failed in the text of the rows of the events of some first bytes, after that many bytes.
 abbrev pub RowsBreakOff : RowsOf → List ℕ → Channel → ℕ → Type 0
 RowsBreakOff rows bytes sink written = (k : ℕ) × (events : List (Event Global)) × AreEvents (take k bytes) events
     × TextFailsIn (csv_text (rows events)) sink written
@@ -55,7 +55,7 @@ ConvertsTo rows source sink (Err other) = ⊥
 
 -- ---- text by events
 
--- the rows of an event behind others, the latest first
+-- the rows of an event after others, the latest first
 abbrev pub csv_line : Lines Global
 csv_line heard x = csv_text (event_rows (latest_records heard) x)
 

@@ -3,13 +3,13 @@ use Rattle.std.specs.Prelude.{ℕ, zero, suc, ◌+◌, ◌-◌, ◌/◌, ◌%◌
 use Rattle.jiff_core.specs.Calendar.{days_in_month, days_in_year}
 use Rattle.fit_profile.specs.Instant.{date_digits, clock_digits}
 
--- The date n days after the first of a month, which lies at most so many months later in the year, as YYYY-MM-DD.
+-- The date n days after the first of a month, which lies at most that many months later in the year, as YYYY-MM-DD.
 unfoldable pub date_in_year : ℕ → ℕ → ℕ → ℕ → List ℕ
 date_in_year zero y m n = date_digits y m (n + 1)
 date_in_year (suc later) y m n = if nat_lt n (days_in_month (pos y) m) then date_digits y m (n + 1) else date_in_year later y (m + 1)
     (n - days_in_month (pos y) m)
 
--- The date n days after 1 January of a year, which lies at most so many years later.
+-- The date n days after 1 January of a year, which lies at most that many years later.
 unfoldable pub date_after : ℕ → ℕ → ℕ → List ℕ
 date_after zero y n = date_in_year 11 y 1 n
 date_after (suc later) y n = if nat_lt n (days_in_year (pos y)) then date_in_year 11 y 1 n else date_after later (y + 1) (n - days_in_year (pos y))

@@ -22,7 +22,7 @@ use Rattle.fit_cells.specs.Rows.{Row, RowsOfText, first_line}
 use Rattle.fit_csv.specs.declared.fault.CsvFault.{CsvFault}
 use Rattle.fit_csv.specs.declared.fault.CsvFault.TheVariants.{BadCell, BadRow}
 
--- Two rows are the same in so many first cells.
+-- Two rows are the same in that many first cells.
 abbrev pub Agree : ℕ → Row → Row → Type 0
 Agree count a b = take count a ≡ take count b
 
@@ -77,15 +77,15 @@ pub record IsFileOfRows {A : Type 0} (f : FitFile A) : Type 0 where
   pub records : AllFit empty_environment f.records
   pub numbers : AllByRecursion RecordInRange f.records
 
--- So many files that rows can give may follow one another.
+-- That many files that rows can give may follow one another.
 abbrev pub IsChainOfRows : {A : Type 0} → List (FitFile A) → Type 0
 IsChainOfRows files = (length files ≤ chain_limit) × AllByRecursion IsFileOfRows files
 
--- Some rows behind these make them the rows of such a chain.
+-- Some rows after these make them the rows of such a chain.
 abbrev pub MayGoOn : List Row → Type 0
 MayGoOn rows = (files : List (FitFile Global)) × (more : List Row) × IsChainOfRows files × (chain_rows files ≡ rows ++ more)
 
--- The row can stand behind these.
+-- The row can stand after these.
 abbrev pub CanFollow : List Row → Row → Type 0
 CanFollow rows r = MayGoOn (rows ++ r ∷ [])
 

@@ -54,7 +54,7 @@ definition_line d = joined (
 abbrev pub shown_cell : {A : Type 0} → ℕ → Option Meaning → Items A → List ℕ
 shown_cell code info items = if (items.width == 1) && not (list_all is_printable (cell code info items)) then cell 0x0D None items else cell code info items
 
--- a unit behind a cell, where neither is empty
+-- a unit after a cell, where neither is empty
 abbrev pub unit_part : List ℕ → List ℕ → List ℕ
 unit_part cell unit = if (length cell == 0) || (length unit == 0) then [] else joined (codes " " ∷ unit ∷ [])
 
@@ -76,11 +76,11 @@ shown_dev f code n i = shown_part (dev_label f n) (shown_cell code None i) (unwr
 abbrev pub shown_devs : {A : Type 0} → List DevDef → List ℕ → List Naming → List (Items A) → List (List ℕ)
 shown_devs fields dev_codes namings items = map (λ x. shown_dev x.0.0 x.0.1 x.1.0 x.1.1) (zip (zip fields dev_codes) (zip namings items))
 
--- what stands before a field behind so many others
+-- what stands before a field after that many others
 abbrev pub separator : ℕ → List ℕ
 separator n = if n == 0 then codes ": " else codes ", "
 
--- fields behind so many others
+-- fields after that many others
 abbrev pub listed : ℕ → List (List ℕ) → List ℕ
 listed n [] = []
 listed n (text ∷ texts) = separator n ++ text ++ listed (n + 1) texts
@@ -126,7 +126,7 @@ show_lines files = show_files 1 files
 
 -- ---- events, the latest first
 
--- What `show` writes of an event behind those before it.
+-- What `show` writes of an event after those before it.
 abbrev pub show_line : {A : Type 0} → Lines A
 show_line heard (header h n) = header_line (files_heard heard + 1) h n
 show_line heard (item r) = record_line (latest_records heard) r

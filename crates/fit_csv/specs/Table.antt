@@ -85,7 +85,7 @@ table_event_rows file before (header h n) = []
 table_event_rows file before (item r) = table_record_rows file before r
 table_event_rows file before file_end = []
 
--- events one after another, after so many headers
+-- events one after another, after that many headers
 unfoldable pub table_events_rows : {A : Type 0} → ℕ → List (Record A) → List (Event A) → List Row
 table_events_rows files before [] = []
 table_events_rows files before (x ∷ events) = table_event_rows files before x ++ table_events_rows (files_behind files x) (records_behind before x) events

@@ -23,7 +23,7 @@ use std::alloc::Global;
 const TABLE_LINE: &[u8] =
     b"file,timestamp,position_lat,position_long,altitude,distance,speed,heart_rate,cadence,power,temperature\n";
 
-/// The fault of a conversion by that of its report, where so many bytes were written before it.
+/// The fault of a conversion by that of its report, where that many bytes were written before it.
 fn csv_fault(fault: ReportFault, before: u64) -> CsvFault
     ensures { result ≡ csv_fault fault before }
 {

@@ -17,7 +17,7 @@ pub(crate) fn is_lone_float(code: Code, size: u8) -> bool
     code.class() == Class::Float && code.width() == size
 }
 
-/// Puts a floating point number behind a text, by its bytes.
+/// Puts a floating point number after a text, by its bytes.
 #[inline(never)]
 pub(crate) fn put_float(
     text: &mut Vec<u8>,

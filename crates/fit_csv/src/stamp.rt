@@ -1,4 +1,4 @@
-//! A text that is put behind many others.
+//! A text that is put after many others.
 ghost use Rattle.std.specs.Prelude.{◌≡◌, ◌++◌, IfOk, OnOk};
 
 use std::alloc::AllocError;
@@ -7,7 +7,7 @@ use std::marker::Model;
 /// How many bytes a short text has at most.
 const SHORT: usize = 32;
 
-/// A text that is put behind many others. A short one takes a copy of a fixed number of bytes, of which those behind it are cut off.
+/// A text that is put after many others. A short one takes a copy of a fixed number of bytes, of which those after it are cut off.
 #[derive(Drop)]
 pub(crate) struct Stamp {
     /// The text and what is cut off.
@@ -52,7 +52,7 @@ impl Stamp {
         text.extend_from_slice(all)
     }
 
-    /// Puts the text behind another one.
+    /// Puts the text after another one.
     #[inline(always)]
     #[tactic(auto, using(crate::proofs::Stamps::cut))]
     pub(crate) fn put(&self, text: &mut Vec<u8>) -> Result<(), AllocError>

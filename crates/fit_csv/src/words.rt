@@ -27,7 +27,7 @@ pub(crate) fn optional_number<'a>(digits: &'a mut Buffer, number: Option<u8>) ->
     }
 }
 
-/// The word for what the two bytes behind the fixed part of a header hold.
+/// The word for what the two bytes after the fixed part of a header hold.
 pub(crate) fn sum_word(sum: HeaderSum) -> &'static str
     ensures { result.now ≡ rows.sum_word sum }
 {

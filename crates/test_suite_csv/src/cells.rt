@@ -5,7 +5,7 @@ use fit_base::base_type::{
     BYTE, FLOAT32, FLOAT64, SINT8, SINT16, SINT64, STRING, UINT8, UINT16, UINT32, UINT64,
 };
 use fit_base::{Code, Items, has_shape, width_of};
-use fit_cells::row_text;
+use fit_cells::{RowWriter, row_text};
 use fit_csv::{
     cell_items, cell_text, next_row, put_cell, put_row, row_reader, row_writer, rows_text,
 };
@@ -209,4 +209,28 @@ fn rows_of_any_length(rt: HostRuntime) {
         assert_eq!(rt; row.len(), cells);
     }
     assert!(rt; !next_row(&mut reader, &mut row).expect(&rt, "memory"));
+}
+
+/// Rows of 2, 1 and 3 cells, a cell alone, and a row of 2.
+fn rows_and_a_cell(alloc: Global) -> Result<Vec<u8>, AllocError> {
+    let mut writer = RowWriter::new(alloc);
+    let mut text = Vec::new(alloc);
+    writer.put(&mut text, &[b"a".as_slice(), b"b,c".as_slice()])?;
+    writer.put(&mut text, &[b"d".as_slice()])?;
+    writer.put_lone(&mut text, b"e\"f")?;
+    writer.put_lone(&mut text, b"")?;
+    writer.put_lone(&mut text, b"g")?;
+    text.push(b',')?;
+    writer.put(
+        &mut text,
+        &[b"h\n".as_slice(), b"i".as_slice(), b"".as_slice()],
+    )?;
+    Ok(text)
+}
+
+#[test]
+fn rows_and_lone_cells(rt: HostRuntime) {
+    let text = rows_and_a_cell(rt.alloc()).expect(&rt, "memory");
+    let wanted = b"a,\"b,c\"\nd\n\"e\"\"f\"g,\"h\n\",i,\n";
+    assert!(rt; text.as_slice() == wanted.as_slice());
 }

@@ -32,7 +32,7 @@ IsCellFault CanStand r Kind = ⊥
 IsCellFault CanStand r (BadCell column) = IsBadCell CanStand r column
 IsCellFault CanStand r NoMemory = Unit {0}
 
--- three numbers of a byte each behind the kind, and nothing behind them
+-- three numbers of a byte each after the kind, and nothing after them
 abbrev pub IsRowOfThree : Cell → Row → Type 0
 IsRowOfThree kind r = (a : ℕ) × (b : ℕ) × (c : ℕ) × (a < 2 ^ 8) × (b < 2 ^ 8) × (c < 2 ^ 8) × (r ≡ row kind (decimal a) (decimal b) (decimal c) [] [] [])
 
@@ -51,7 +51,7 @@ head_row h = row (codes "def") (decimal h.local) (decimal h.reserved) (order_wor
 abbrev pub IsHeadRow : Row → Type 0
 IsHeadRow r = (h : DefinitionHead) × HeadInRange h × (r ≡ head_row h)
 
--- ---- data messages behind records, latest first
+-- ---- data messages after records, latest first
 
 -- the global message number of a local message type
 abbrev pub global_at : List (Record Global) → ℕ → ℕ

@@ -69,7 +69,7 @@ DevDefStep o r p = (length o.fields ≡ o.head.fields) × ((f : DevDef) × DevDe
 abbrev pub DefinitionStep : OpenDefinition → Row → OpenDefinition → Type 0
 DefinitionStep o r p = FieldDefStep o r p ⊎ DevDefStep o r p
 
--- ---- data messages behind records, latest first
+-- ---- data messages after records, latest first
 
 abbrev pub with_items : Values Global → Items Global → Values Global
 with_items v i = record v { fields = v.fields ++ i ∷ [] }
@@ -172,6 +172,6 @@ unfoldable pub Run : Chain → List Row → Chain → Type 0
 Run c [] t = c ≡ t
 Run c (r ∷ rows) t = (m : Chain) × ChainStep c r m × Run m rows t
 
--- behind the first line
+-- after the first line
 abbrev pub nothing_yet : Chain
 nothing_yet = record { files = []; current = None }

@@ -18,7 +18,7 @@ use Rattle.fit_cells.specs.Rows.{Row, csv_text}
 use Rattle.fit_csv.specs.ChainRows.{event_rows, records_behind}
 use Rattle.fit_csv.specs.Conversions.{RowsOf}
 
--- the record of an answer fits behind these records
+-- the record of an answer fits after these records
 abbrev pub AnswerFits : {A : Type 0} → List (Record A) → Answer A → Type 0
 AnswerFits before (answers.Item r) = Fits (known before) r
 AnswerFits before other = Unit {0}
@@ -27,7 +27,7 @@ AnswerFits before other = Unit {0}
 abbrev pub answer_rows : {A : Type 0} → List (Record A) → Answer A → List Row
 answer_rows before answer = option_map_or (event_rows before) (event_of answer) []
 
--- the records of the file that was begun last, behind what a decoder answers
+-- the records of the file that was begun last, after what a decoder answers
 abbrev pub behind_answer : {A : Type 0} → List (Record A) → Answer A → List (Record A)
 behind_answer before answer = option_map_or (records_behind before) (event_of answer) before
 
@@ -35,7 +35,7 @@ behind_answer before answer = option_map_or (records_behind before) (event_of an
 abbrev pub HasText : List ℕ → Lines Global → RowsOf → Type 0
 HasText first line rows = (heard : List (Event Global)) → csv_text (rows (reverse heard)) ≡ first ++ text_of line heard
 
--- the fault of a conversion by that of a report behind so many bytes
+-- the fault of a conversion by that of a report after that many bytes
 abbrev pub csv_fault : ReportFault → ℕ → CsvFault
 csv_fault (report.Decode fault) before = csv.Decode fault
 csv_fault report.NoMemory before = csv.NoMemory

@@ -92,10 +92,10 @@ abbrev pub current_rows : Option OpenFile → List Row
 current_rows None = []
 current_rows (Some f) = open_file_rows f
 
--- the rows behind the first line
+-- the rows after the first line
 abbrev pub rows_so_far : Chain → List Row
 rows_so_far c = flat_map file_rows c.files ++ current_rows c.current
 
--- The text begins with the rows that stand behind the ones before, and this is left of it.
+-- The text begins with the rows that stand after the ones before, and this is left of it.
 abbrev pub BeginsWithMore : List ℕ → List ℕ → List Row → List Row → Type 0
 BeginsWithMore text left before after = (rows : List Row) × (text ≡ csv_text rows ++ left) × (after ≡ before ++ rows)

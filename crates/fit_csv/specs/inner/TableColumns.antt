@@ -34,7 +34,7 @@ pub record IsKnown (p : Place) : Type 0 where
   pub width : item_width p.field.code p.field.size ≡ p.form.width
   pub room : p.form.width ≤ p.field.size
 
--- the column of a field behind so many bytes
+-- the column of a field after that many bytes
 abbrev pub IsPlaced : ℕ → FieldDef → Column → Type 0
 IsPlaced offset f Absent = ⊥
 IsPlaced offset f (At p) = (p.offset ≡ offset) × (p.field ≡ f) × IsKnown p

@@ -72,7 +72,7 @@ fn judge_row(
     }
 }
 
-/// The files of a chain of which so many rows have come, where the text may end behind them.
+/// The files of a chain of which that many rows have come, where the text may end after them.
 fn whole_files(chain: Chain, rows: u64) -> Result<Entries<SpelledFile>, CsvFault>
     requires { rows < 2 ^ 63 }
     ensures ok { IfOk result (λ files. (chain.current ≡ None) × (files ≡ chain.files)
@@ -100,7 +100,7 @@ fn files_of(chain: Chain) -> Option<Entries<SpelledFile>>
     }
 }
 
-/// Judges the rows behind the first line.
+/// Judges the rows after the first line.
 fn judge_rest(
     alloc: Global,
     text: &[u8],

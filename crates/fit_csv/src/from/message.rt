@@ -115,7 +115,7 @@ fn rest_of_message(
     }
 }
 
-/// The first row of a data message behind these records.
+/// The first row of a data message after these records.
 pub(crate) fn message_head(alloc: Global, cells: &Cells, before: &Stream) -> Result<Values, Misfit>
     requires { cells.now.kind.now ≡ codes "data" }
     ensures start { IfOk result (IsMessageStart before.now) }

@@ -4,7 +4,7 @@ ghost use Rattle.fit_csv.specs.declared.from.misfit.Misfit.TheVariants as misfit
 
 use std::alloc::AllocError;
 
-/// Why a row can't stand behind the rows before it.
+/// Why a row can't stand after the rows before it.
 #[derive(Clone, Copy, Debug, PartialEq, Eq, Drop)]
 pub(crate) enum Misfit {
     /// No row of its kind stands there.

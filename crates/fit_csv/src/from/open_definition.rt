@@ -1,4 +1,4 @@
-//! The rows of a definition message behind the first one.
+//! The rows of a definition message after the first one.
 ghost use Rattle.std.specs.Prelude.{◌≡◌, ◌<◌, ◌≤◌, IfErr, OnOk, length};
 ghost use Rattle.fit_csv.specs.declared.from.definition.OpenDefinition.{OpenDefinition};
 ghost use Rattle.fit_csv.specs.inner.Misfits.{IsMisfit};

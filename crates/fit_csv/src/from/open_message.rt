@@ -1,4 +1,4 @@
-//! The rows of a data message behind the first one.
+//! The rows of a data message after the first one.
 ghost use Rattle.std.specs.Prelude.{◌≡◌, ◌≤◌, ◌⊎◌, ◌++◌, ◌∷◌, [], IfErr, OnOk, Some, length, slice_get};
 ghost use Rattle.std.specs.Global.{Global};
 ghost use Rattle.fit_record.specs.declared.message.Values.{Values};
@@ -109,7 +109,7 @@ fn take_by(
     }
 }
 
-/// Takes the next row of a data message behind the records of a stream.
+/// Takes the next row of a data message after the records of a stream.
 pub(crate) fn take_message(
     alloc: Global,
     written: &mut Vec<u8>,

@@ -123,7 +123,7 @@ pub(crate) fn put_record(
     ensures { OnOk result (HasRows (rows.record_rows stream.now record_.now) text.old text.new) }
 {
     match record_ {
-        Record::Define(definition) => put_definition(text, &mut maker.writer, definition),
+        Record::Define(definition) => put_definition(text, definition),
         Record::Values(values) => match stream.env().defined(values.local) {
             Some(defined) => {
                 let mut items = MadeItems {

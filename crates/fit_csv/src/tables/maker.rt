@@ -1,18 +1,12 @@
 //! The rows of the table, and what is kept from one to the next.
-ghost use Rattle.std.specs.Prelude.{◌≡◌, ◌∷◌, [], ℕ, IfOk, IsTrue, List, None, OnOk, Some, false, length, true};
-ghost use Rattle.std.specs.Global.{Global};
-ghost use Rattle.fit_record.specs.declared.message.Record.{Record};
-ghost use Rattle.fit_record.specs.declared.message.Record.TheVariants.{Values as Data};
-ghost use Rattle.fit_record.specs.Environment.{defined_at};
-ghost use Rattle.fit_record.specs.MessageBytes.{message_in};
+ghost use Rattle.std.specs.Prelude.{◌≡◌, ◌∷◌, [], ℕ, IfOk, IsTrue, None, OnOk, Some, false, length};
 ghost use Rattle.fit_record.specs.Records.{message_size};
 ghost use Rattle.fit_record.specs.Sound.{IsSound};
-ghost use Rattle.fit_profile.specs.Looks.{known};
 ghost use Rattle.fit_profile.specs.Meant.{shown};
-ghost use Rattle.fit_profile.specs.Times.{time as time_of};
 ghost use Rattle.fit_cells.specs.Rows.{HasRows};
 ghost use Rattle.fit_csv.specs.Table as table;
 ghost use Rattle.fit_csv.specs.inner.CurrentColumns.{IsCurrent};
+ghost use Rattle.fit_csv.specs.inner.TableCells.{MayPutRow};
 
 use crate::kept::keep_at;
 use crate::minutes::Times;
@@ -90,11 +84,7 @@ fn put_by(
     requires fields { message.now.defined.now.definition.fields ≡ columns.now }
     requires global { message.now.defined.now.definition.global ≡ 20 }
     requires long { length message.now.body.now ≡ message_size message.now.defined.now }
-    ensures row { IfOk result (λ put. put ≡ true → (before : List (Record Global))
-        → defined_at (known before) message.now.local ≡ Some message.now.defined.now
-        → time ≡ time_of before (Data (message_in message.now))
-        → HasRows (table.table_message_rows file before (message_in message.now))
-        text.old text.new) }
+    ensures row { IfOk result (λ put. MayPutRow file message.now time put text.old text.new) }
     ensures none { IfOk result (λ put. put ≡ false → text.new.items ≡ text.old.items) }
 {
     let Some(places) = columns.places() else {
@@ -123,11 +113,7 @@ fn put_by_new(
     requires global { message.now.defined.now.definition.global ≡ 20 }
     requires sound { IsSound message.now.defined.now }
     requires long { length message.now.body.now ≡ message_size message.now.defined.now }
-    ensures row { IfOk result (λ put. put ≡ true → (before : List (Record Global))
-        → defined_at (known before) message.now.local ≡ Some message.now.defined.now
-        → time ≡ time_of before (Data (message_in message.now))
-        → HasRows (table.table_message_rows file before (message_in message.now))
-        text.old text.new) }
+    ensures row { IfOk result (λ put. MayPutRow file message.now time put text.old text.new) }
     ensures none { IfOk result (λ put. put ≡ false → text.new.items ≡ text.old.items) }
     ensures current { maker.new.current ≡ maker.old.current }
 {
@@ -151,11 +137,7 @@ pub(crate) fn put_message_row(
     requires long { length message.now.body.now ≡ message_size message.now.defined.now }
     requires current { IsCurrent maker.old message.now.local
         message.now.defined.now.definition.fields }
-    ensures row { IfOk result (λ put. put ≡ true → (before : List (Record Global))
-        → defined_at (known before) message.now.local ≡ Some message.now.defined.now
-        → time ≡ time_of before (Data (message_in message.now))
-        → HasRows (table.table_message_rows file before (message_in message.now))
-        text.old text.new) }
+    ensures row { IfOk result (λ put. MayPutRow file message.now time put text.old text.new) }
     ensures none { IfOk result (λ put. put ≡ false → text.new.items ≡ text.old.items) }
     ensures current { (local : ℕ) → maker.new.current ≡ Some local → (local ≡ message.now.local)
         × IsCurrent maker.new local message.now.defined.now.definition.fields }

@@ -1,9 +1,10 @@
-use Rattle.fit_csv.proofs.Common.{◌≡◌, ◌∙◌, ◌++◌, [], ap, subst, sym, true, Global, Record, Data, Values, HasRows, csv_text, defined_at, known}
+use Rattle.fit_csv.proofs.Common.{◌≡◌, ◌∙◌, ◌++◌, [], ap, subst, sym, true, Data, Values, Global, csv_text, defined_at, known}
 use Rattle.fit_csv.proofs.Common.{table_message_rows, time}
-use Rattle.std.proofs.Common.{List, Some}
+use Rattle.std.proofs.Common.{Some}
 use Rattle.std.proofs.lemmas.List.{append-nil}
 use Rattle.fit_record.specs.MessageBytes.{message_in}
 use Rattle.fit_record.specs.Records.{IsRecord}
+use Rattle.fit_csv.specs.inner.TableCells.{MayPutRow}
 use Rattle.fit_csv.proofs.CurrentFacts.{one_current}
 use Rattle.fit_csv.proofs.RowsInBytes.{row_of_other}
 use Rattle.fit_csv.proofs.TableNumbers.{if_ok}
@@ -34,8 +35,7 @@ returns-clause-row c =
     let m = c.in-Some.message in
     let old = c.args.text.now in
     let new = c.put_message_row.new.text in
-    if_ok (λ put. put ≡ true → (earlier : List (Record Global)) → defined_at (known earlier) m.local ≡ Some m.defined.now
-    → c.message_time-time.result ≡ time earlier (Data (message_in m)) → HasRows (table_message_rows c.args.file earlier (message_in m)) old new)
+    if_ok (λ put. MayPutRow c.args.file m c.message_time-time.result put old new)
     (λ put. put ≡ true → (v : Values Global) → IsRecord (known before) (Data v) bytes
     → new.items ≡ old.items ++ csv_text (table_message_rows c.args.file before v)) c.put_message_row.result
     (λ put row is v is_record.

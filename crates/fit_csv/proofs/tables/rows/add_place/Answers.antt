@@ -1,7 +1,7 @@
 use Rattle.fit_csv.proofs.Common.{◌∷◌, [], amount_text, degrees_text, on_ok_weaker, value_text}
 use Rattle.std.specs.Prelude.{option_map, pos, unwrap_or}
 use Rattle.fit_record.specs.Faults.{or_else}
-use Rattle.fit_csv.proofs.TableNumbers.{more_cells}
+use Rattle.fit_csv.proofs.AddedCells.{more_cells}
 use Rattle.fit_csv.proofs.tables.rows.add_place.Goals as goal
 
 pub returns : goal.returns

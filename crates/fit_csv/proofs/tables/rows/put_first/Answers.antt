@@ -1,7 +1,7 @@
 use Rattle.fit_csv.proofs.Common.{◌∙◌, ◌++◌, ◌∷◌, [], ap, on_ok_weaker, instant_text}
 use Rattle.std.proofs.Common.{List, ℕ}
 use Rattle.std.specs.Prelude.{option_map, unwrap_or}
-use Rattle.fit_csv.proofs.TableNumbers.{first_plain}
+use Rattle.fit_csv.proofs.AddedCells.{first_plain}
 use Rattle.fit_csv.proofs.tables.rows.put_first.Goals as goal
 
 pub returns : goal.returns

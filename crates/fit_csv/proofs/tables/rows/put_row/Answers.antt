@@ -1,8 +1,8 @@
-use Rattle.fit_csv.proofs.Common.{◌∙◌, ◌++◌, ◌∷◌, [], ap, default_writer, fields_text, instant_text, map, effort_cells, place_cells}
+use Rattle.fit_csv.proofs.Common.{◌∙◌, ◌++◌, ◌∷◌, [], ap, default_writer, fields_text, high-decimal, instant_text, map, unquoted, effort_cells, place_cells}
 use Rattle.std.proofs.Common.{decimal}
 use Rattle.std.specs.Prelude.{option_map, unwrap_or, Option}
 use Rattle.fit_cells.specs.Rows.{Cell}
-use Rattle.fit_csv.proofs.TableNumbers.{first_cells, last_cells, more_cells}
+use Rattle.fit_csv.proofs.AddedCells.{first_cells, last_cells, more_cells}
 use Rattle.fit_csv.proofs.tables.rows.put_row.Goals as goal
 
 pub returns : goal.returns
@@ -17,5 +17,6 @@ returns g c d v t are timed =
     let n1 = more_cells u c.put_first.new.text.items c.add_place.new.text.items (time ∷ []) place n0 (c.in_ok-add_place.ensures d v t are) in
     let n2 = more_cells u c.add_place.new.text.items c.add_effort.new.text.items (time ∷ place) effort n1 (c.in_ok-add_effort.ensures d v t are) in
     record {
-      text = last_cells text c.add_effort.new.text.items c.push.new.self.items c.args.file time (place ++ effort) n2 c.in_ok-push.ensures.items;
+      text = last_cells text c.add_effort.new.text.items c.push.new.self.items (decimal c.args.file) time (place ++ effort)
+          (unquoted (decimal c.args.file) (high-decimal c.args.file)) n2 c.in_ok-push.ensures.items;
     }
