@@ -83,7 +83,7 @@ given bytes left = record { before = Some bytes; after = Some left; failed = fal
 abbrev pub kept : List ℕ → Bool → Channel
 kept text failed = record { before = Some []; after = Some text; failed = failed }
 
--- The text is what a conversion of the bytes to these rows has written, and the answer is that conversion's: behind a fault, the
+-- The text is what a conversion of the bytes to these rows has written, and the answer is that conversion's: after a fault, the
 -- rows of all events before it.
 abbrev pub IsConverted : RowsOf → List ℕ → FitAnswer → List ℕ → Type 0
 IsConverted rows bytes a text =

@@ -74,7 +74,7 @@ module _ {A : Type 0} (bytes piece : List ℕ) (k : InRecords A bytes) (are : Is
       record_fits_room : length (record_bytes e r) ≤ room
       record_fits_room = omega (arith, fits_room, ap length is.1)
 
-      -- behind it the next record begins, or the data section is over
+      -- after it the next record begins, or the data section is over
       pub left_behind : room - length (k.part ++ take m piece) ≡ k.size - length (records_bytes empty_environment (k.records ++ r ∷ []))
       left_behind = ap (λ l. room - length l) is.1 ∙ sym (room_behind k.files k.header k.size k.records k.part bytes (take m piece) k.come r record_fits_room)
 

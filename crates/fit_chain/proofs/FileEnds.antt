@@ -1,4 +1,4 @@
--- The end of a file is behind its last byte.
+-- The end of a file is after its last byte.
 use Rattle.fit_chain.proofs.Common.{◌≡◌, inl, inr, ℕ, ◌<◌, List, [], ◌∷◌, ◌++◌, length, take, drop, Option, Some, None, refl, sym, ap, ◌∙◌, subst, arith}
 use Rattle.fit_chain.proofs.Common.{append_assoc, length-append, append-nil, take-append-drop, length-take, take-append_seam, Header, FitFile, Record}
 use Rattle.fit_chain.proofs.Common.{chain_bytes, Progress, at_header, at_data, HasCome, file_end, Least, ComesToRecords, ComesTo, Ended, progress_header, split}
@@ -7,7 +7,7 @@ use Rattle.fit_chain.proofs.Whole.{NoHeader, unfinished, no_header_in, no_header
 use Rattle.fit_chain.proofs.Gathered.{events_here, are_here, stands_with, ends_with}
 use Rattle.fit_chain.proofs.Telling.{least_for}
 
--- so many bytes of the front of a list are the front
+-- that many bytes of the front of a list are the front
 front_of : (k : ℕ) (piece more rest : List ℕ) → take k piece ≡ more ++ rest → take (length more) piece ≡ more
 front_of k piece more rest e =
     ap (take (length more)) (sym (take-append-drop k piece) ∙ ap (λ t. t ++ drop k piece) e ∙ append_assoc more rest (drop k piece))

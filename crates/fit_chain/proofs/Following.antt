@@ -9,7 +9,7 @@ use Rattle.fit_chain.proofs.OnePlace.{no_header, no_record}
 
 -- ---- whole files
 
--- the files of a chain behind the first ones
+-- the files of a chain after the first ones
 pub record Follow {A : Type 0} (fs gs : List (FitFile A)) (y : List ℕ) : Type 0 where
   pub others : List (FitFile A)
   pub each : AllByRecursion IsWellFormed others
@@ -31,7 +31,7 @@ follow (f ∷ fs) (d ∷ gs) y p q e =
 
 -- ---- whole records
 
--- the records of a data section behind the first ones, and what follows the data section
+-- the records of a data section after the first ones, and what follows the data section
 pub record Remain {A : Type 0} (e : Environment A) (rs ss : List (Record A)) (y tail : List ℕ) : Type 0 where
   pub others : List (Record A)
   pub fit : AllFit (learn_all e rs) others
@@ -171,7 +171,7 @@ data_follows h n records part x (f ∷ after) u p e =
 
 -- ---- all of it
 
--- The chain's files behind the whole ones begin with the bytes of g.
+-- The chain's files after the whole ones begin with the bytes of g.
 pub chain_follows : {A : Type 0} (limit : ℕ) (fs : List (FitFile A)) (g : Progress A) (bytes x : List ℕ) (gs : List (FitFile A))
     → HasCome fs g bytes → IsChain limit gs (bytes ++ x) → Follow fs gs (progress_bytes g ++ x)
 chain_follows limit fs g bytes x gs come chain =

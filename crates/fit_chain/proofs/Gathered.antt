@@ -107,7 +107,7 @@ ends_there {A} files (Some h) records q es gathers tells =
     gather-append (gathered [] None []) es (file_end ∷ []) ∙ ap (λ o. then_gather o (λ k. gather k (file_end ∷ []))) gathers in
     (h, refl, stands_of q (es ++ file_end ∷ []) (gathered (files ++ f ∷ []) None []) tells all)
 
--- A reader's place, by the events behind some bytes.
+-- A reader's place, by the events after some bytes.
 module _ {A : Type 0} (files : List (FitFile A)) (head : Option Header) (records : List (Record A)) (p : List ℕ) (s : ComesToRecords files head records p) where
   abbrev pub events_here : List (Event A)
   events_here = flat_map file_events files ++ progress_events s.progress

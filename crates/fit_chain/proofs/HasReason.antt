@@ -74,7 +74,7 @@ module _ {A : Type 0} (limit : ℕ) (files : List (FitFile A)) (bytes : List ℕ
           (fill_of (learn_all empty_environment records) (n - length (records_bytes empty_environment records))
           (sum h n records part at (omega (arith, begun))) part some goes)
 
--- a byte with which no chain begins, behind bytes with which one does, has a reason
+-- a byte with which no chain begins, after bytes with which one does, has a reason
 pub has_reason : {A : Type 0} → RefusedHaveReasons A
 has_reason limit bytes b most are low viable ends =
     let (files, g, at) = viable_somewhere limit bytes viable in

@@ -65,7 +65,7 @@ module _ {A : Type 0} (files : List (FitFile A)) (front bytes piece : List ℕ) 
         because = not_full A chain_limit (length files) (at_header now) (slice_index piece k) few ∙ ap Some (sym refuses.why);
       }
 
-  -- a byte behind the last file that a chain may have
+  -- a byte after the last file that a chain may have
   pub full_refuses : (b : ℕ) → front ≡ [] → length files ≡ chain_limit → IsViable A chain_limit bytes → IsRefused A chain_limit bytes b TooManyFiles
   full_refuses b none full viable =
       let here : HasCome files (at_header []) bytes = subst (λ l. HasCome files (at_header l) bytes) none come in

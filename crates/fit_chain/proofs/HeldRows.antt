@@ -1,4 +1,4 @@
--- What is held, and what is missing, behind the bytes of a known file, counted by hand.
+-- What is held, and what is missing, after the bytes of a known file, counted by hand.
 use Rattle.fit_chain.proofs.Common.{◌≡◌, ℕ, List, [], ◌∷◌, take, refl, None, map, Record, Define, Values, counts_so_far, entries_so_far, items_so_far, bound}
 use Rattle.fit_chain.proofs.Common.{held_behind, missing, Progress, at_header, at_data, header_of, field, both_architectures}
 use Rattle.fit_record.proofs.KnownFiles.{item}
@@ -67,7 +67,7 @@ held_in_definition = refl
 bound_in_definition : (map (λ k. bound (in_definition k)) cuts) ≡ 0 ∷ 0 ∷ 0 ∷ 0 ∷ 0 ∷ 2 ∷ 2 ∷ 2 ∷ 2 ∷ 2 ∷ 2 ∷ 2 ∷ 3 ∷ 3 ∷ 3 ∷ []
 bound_in_definition = refl
 
--- Of the data 15 bytes are missing behind the record header, and the two of the closing checksum.
+-- Of the data 15 bytes are missing after the record header, and the two of the closing checksum.
 missing_in_definition : (map (λ k. missing 0 (in_definition k)) cuts) ≡ 17 ∷ 16 ∷ 15 ∷ 14 ∷ 13 ∷ 12 ∷ 11 ∷ 10 ∷ 9 ∷ 8 ∷ 7 ∷ 6 ∷ 5 ∷ 4 ∷ 3 ∷ []
 missing_in_definition = refl
 
@@ -88,7 +88,7 @@ one_byte = Values (record { local = 3; offset = None; fields = item 1 (3 ∷ [])
 abbrev of_one : List (Record (Unit {0})) → List ℕ → Progress (Unit {0})
 of_one records part = at_data (header_of 14 sums.Zero) 11 records part
 
--- behind the definition; behind the message's record header; behind the message; and behind one byte of the closing checksum, which looks like
+-- after the definition; after the message's record header; after the message; and after one byte of the closing checksum, which looks like
 -- a record header of the same local message type and is none
 abbrev known_file : List (Progress (Unit {0}))
 known_file = of_one (one_field ∷ []) [] ∷ of_one (one_field ∷ []) (3 ∷ []) ∷ of_one (one_field ∷ one_byte ∷ []) []

@@ -1,4 +1,4 @@
--- What bytes that go on with a file tell of the places before its end, behind whole files.
+-- What bytes that go on with a file tell of the places before its end, after whole files.
 use Rattle.fit_chain.proofs.Common.{◌≡◌, inl, inr, ℕ, suc, ◌<◌, List, [], ◌∷◌, ◌++◌, length, take, drop, get_or, sym, ap, ◌∙◌, subst, arith, append_assoc}
 use Rattle.fit_chain.proofs.Common.{length-append, AllByRecursion, append-nil, append_cancel_left, take-append-drop, drop-cons, IsBytes, IsBytes-append}
 use Rattle.fit_chain.proofs.Common.{IsBytes-front, Reason, FitFile, file_bytes, chain_bytes, IsWellFormed, IsFile, IsChain, IsViable, chain_limit, Progress}
@@ -22,7 +22,7 @@ module _ {A : Type 0} (files : List (FitFile A)) (base : List ℕ) (come : HasCo
   pub base_is : base ≡ chain_bytes files
   base_is = come.spelled ∙ append-nil (chain_bytes files)
 
-  -- the bytes of the file that ended behind them
+  -- the bytes of the file that ended after them
   pub next_bytes : (f : FitFile A) (got : List ℕ) → Ended files f (base ++ got) → IsFile f got
   next_bytes f got ended = (
     last_well files f ended.files,
@@ -46,7 +46,7 @@ module _ {A : Type 0} (files : List (FitFile A)) (base : List ℕ) (come : HasCo
           | inr s ↦ omega (arith, ap length s.first, length-append got (s.next ∷ s.more))
         ]
 
-    -- no byte of the file is refused, nor one behind it
+    -- no byte of the file is refused, nor one after it
     never_refused : (p y : List ℕ) (c : ℕ) (reason : Reason) → ComesTo files (base ++ p) → IsRefused A chain_limit (base ++ p) c reason → b ++ x ≡ p ++ c ∷ y
         → ⊥
     never_refused p y c reason comes why e =

@@ -17,7 +17,7 @@ abbrev pub AreFiles : List ℕ → ℕ → Type 0
 AreFiles bytes count = (files : List (FitFile Global)) × IsChain chain_limit files bytes × (length files ≡ count)
 
 -- Why these bytes aren't known to be a chain of files: the byte at the place is the first one with which none begins; or they begin
--- one, and are none; or memory was refused after so many first bytes, which begin one.
+-- one, and are none; or memory was refused after that many first bytes, which begin one.
 abbrev pub IsFaultOf : List ℕ → Fault → Type 0
 IsFaultOf bytes (Refused place reason) = (place < length bytes) × IsRefused Global chain_limit (take place bytes) (slice_index bytes place) reason
 IsFaultOf bytes (Truncated place) = (place ≡ length bytes) × IsViable Global chain_limit bytes × (AreChain Global bytes → ⊥)
@@ -35,7 +35,7 @@ abbrev pub LacksMemory : Fault → Type 0
 LacksMemory (NoMemory used) = Unit {0}
 LacksMemory _ = ⊥
 
--- the fault of a piece that comes after so many bytes: the bytes taken before memory was refused are counted from the first of all,
+-- the fault of a piece that comes after that many bytes: the bytes taken before memory was refused are counted from the first of all,
 -- up to 2^64 - 1
 abbrev pub fault_after : ℕ → Fault → Fault
 fault_after before (NoMemory used) = NoMemory (min (used + before) (2 ^ 64 - 1))

@@ -1,4 +1,4 @@
--- What there is of a next file, behind whole files.
+-- What there is of a next file, after whole files.
 use Rattle.std.specs.Prelude.{◌≡◌, ℕ, ◌≤◌, List, [], ◌∷◌, ◌++◌, Option, Some, None, length}
 use Rattle.fit_frame.specs.declared.header.Header.{Header}
 use Rattle.fit_record.specs.declared.file.FitFile.{FitFile}
@@ -28,6 +28,6 @@ ComesTo {A} files bytes = (g : Progress A) × HasCome files g bytes
 abbrev pub Ended : {A : Type 0} → List (FitFile A) → FitFile A → List ℕ → Type 0
 Ended files f bytes = HasCome (files ++ f ∷ []) (at_header []) bytes
 
--- No file ends with fewer bytes behind these.
+-- No file ends with fewer bytes after these.
 abbrev pub NoSooner : {A : Type 0} → List (FitFile A) → List ℕ → ℕ → Type 0
 NoSooner {A} files bytes n = (f : FitFile A) (more : List ℕ) → Ended files f (bytes ++ more) → n ≤ length more

@@ -43,7 +43,7 @@ known_after events = fold known_next empty_environment events
 
 -- ---- what is held
 
--- The most entries, described developer fields and items that a reader holds. Behind the data the bytes are those of the closing
+-- The most entries, described developer fields and items that a reader holds. After the data the bytes are those of the closing
 -- sum, and no part of a record. `proofs/HeldRows` computes it for known bytes.
 abbrev pub bound : {A : Type 0} → Progress A → ℕ
 bound (at_header front) = 0

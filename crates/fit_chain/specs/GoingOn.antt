@@ -10,7 +10,7 @@ use Rattle.fit_record.specs.Records.{records_bytes}
 use Rattle.fit_step.specs.InProgress.{FillFrom}
 use Rattle.fit_chain.specs.Progress.{Progress, at_header, at_data}
 
--- Behind the header and the records that are whole: while data is to come, records go on with the part and fill the room; behind
+-- After the header and the records that are whole: while data is to come, records go on with the part and fill the room; after
 -- the data the part begins the closing checksum.
 abbrev pub DataGoesOn : {A : Type 0} → Environment A → ℕ → List ℕ → List ℕ → Type 0
 DataGoesOn e zero sum part = (rest : List ℕ) × (sum ≡ part ++ rest)
@@ -29,6 +29,6 @@ files_begun files (at_header []) = length files
 files_begun files (at_header (b ∷ front)) = length files + 1
 files_begun files (at_data h n records part) = length files + 1
 
--- A chain of at most so many files can begin with these files and this much of the next one.
+-- A chain of at most that many files can begin with these files and this much of the next one.
 abbrev pub ChainGoesOn : {A : Type 0} → ℕ → List (FitFile A) → Progress A → Type 0
 ChainGoesOn limit files g = (0 < limit) × (files_begun files g ≤ limit) × GoesOn g

@@ -13,7 +13,7 @@ abbrev pub IsIdle : {A : Type 0} → Progress A → Type 0
 IsIdle (at_header front) = Unit {0}
 IsIdle (at_data h n records part) = part ≡ []
 
--- What the records have defined and described, and the record in progress; behind the data the bytes are those of the closing checksum.
+-- What the records have defined and described, and the record in progress; after the data the bytes are those of the closing checksum.
 -- `proofs/HeldRows` computes it for known bytes.
 abbrev pub held_behind : {A : Type 0} → Progress A → ℕ
 held_behind (at_header front) = 0
@@ -21,8 +21,8 @@ held_behind (at_data h n records part) =
     let e = learn_all empty_environment records in
     environment_size e + (if length (records_bytes empty_environment records) == n then 0 else held_of_record e part)
 
--- So many entries, described developer fields and items are kept behind these bytes: no more than the bound, and where no
--- record is in progress just so many.
+-- That many entries, described developer fields and items are kept after these bytes: no more than the bound, and where no
+-- record is in progress just that many.
 pub record IsHeld (A : Type 0) (bytes : List ℕ) (count : ℕ) : Type 0 where
   pub files : List (FitFile A)
   pub progress : Progress A

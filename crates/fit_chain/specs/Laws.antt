@@ -29,27 +29,27 @@ abbrev pub ReasonsAreOne : Type 0 → Type 0
 ReasonsAreOne A = (limit : ℕ) (bytes : List ℕ) (b : ℕ) (reason other : Reason) → IsRefused A limit bytes b reason → IsRefused A limit bytes b other
     → reason ≡ other
 
--- A byte with which no chain of at most so many files begins, behind bytes with which one does, has a reason.
+-- A byte with which no chain of at most that many files begins, after bytes with which one does, has a reason.
 abbrev pub RefusedHaveReasons : Type 0 → Type 0
 RefusedHaveReasons A = (limit : ℕ) (bytes : List ℕ) (b : ℕ) → limit ≤ chain_limit → IsBytes bytes → b < 256
     → IsViable A limit bytes → (IsViable A limit (bytes ++ b ∷ []) → ⊥) → (reason : Reason) × IsRefused A limit bytes b reason
 
--- Some chain of at most so many files begins with the bytes exactly where what there is of it can go on.
+-- Some chain of at most that many files begins with the bytes exactly where what there is of it can go on.
 abbrev pub ChainsGoOn : Type 0 → Type 0
 ChainsGoOn A = (limit : ℕ) (files : List (FitFile A)) (progress : Progress A) (bytes : List ℕ) → HasCome files progress bytes → IsBytes bytes
     → IsViable A limit bytes ↔ ChainGoesOn limit files progress
 
--- No file ends before so many bytes more have come as are missing.
+-- No file ends before as many bytes more have come as are missing.
 abbrev pub FilesEndNoSooner : Type 0 → Type 0
 FilesEndNoSooner A = (limit : ℕ) (files others : List (FitFile A)) (progress : Progress A) (bytes more : List ℕ)
     → HasCome files progress bytes → IsChain limit others (bytes ++ more) → length files < length others → missing (length files) progress ≤ length more
 
--- What begins a chain of at most so many files, and has no whole file in it, begins a file.
+-- What begins a chain of at most that many files, and has no whole file in it, begins a file.
 abbrev pub FirstFilesAreFiles : Type 0 → Type 0
 FirstFilesAreFiles A = (limit : ℕ) (progress : Progress A) (bytes : List ℕ) → HasCome [] progress bytes → IsBytes bytes → 0 < limit
     → IsViable A limit bytes ↔ IsViable A 1 bytes
 
--- What a reader holds behind some bytes is limited.
+-- What a reader holds after some bytes is limited.
 abbrev pub BoundsAreLimited : Type 0 → Type 0
 BoundsAreLimited A = (files : List (FitFile A)) (progress : Progress A) (bytes : List ℕ) → HasCome files progress bytes → IsBytes bytes
     → bound progress ≤ bound_limit

@@ -13,7 +13,7 @@ TakesNoMemory (at_data h n records part) b =
     (length (records_bytes empty_environment records) ≡ n)
     ⊎ ((part ≡ []) × HeadsEmptyMessage (learn_all empty_environment records) b)
 
--- The byte behind these isn't one that takes no memory.
+-- The byte after these isn't one that takes no memory.
 pub record MayTakeMemory (A : Type 0) (bytes : List ℕ) (b : ℕ) : Type 0 where
   pub files : List (FitFile A)
   pub progress : Progress A

@@ -8,7 +8,7 @@ use Rattle.fit_record.specs.Files.{chain_limit, IsChain}
 use Rattle.fit_chain.specs.Progress.{Progress, at_header, at_data, HasCome}
 
 -- Before a file: a header of 12 bytes and a closing checksum, or one byte where no file may follow. In a header: the rest of its size
--- and the closing checksum, and from 8 bytes on the data too. Behind it: the rest of the data, and of the closing checksum.
+-- and the closing checksum, and from 8 bytes on the data too. After it: the rest of the data, and of the closing checksum.
 -- `proofs/HeldRows` computes it for known bytes.
 abbrev pub missing : {A : Type 0} → ℕ → Progress A → ℕ
 missing files (at_header []) = if nat_lt files chain_limit then 14 else 1
@@ -16,14 +16,14 @@ missing files (at_header (size ∷ front)) =
     (size - length (size ∷ front) + 2) + (if nat_le 8 (length (size ∷ front)) then little (take 4 (drop 4 (size ∷ front))) else 0)
 missing files (at_data h n records part) = (n + 2) - (length (records_bytes empty_environment records) + length part)
 
--- So many bytes are missing behind these.
+-- That many bytes are missing after these.
 pub record Needs (A : Type 0) (bytes : List ℕ) (n : ℕ) : Type 0 where
   pub files : List (FitFile A)
   pub progress : Progress A
   pub come : HasCome files progress bytes
   pub is : n ≡ missing (length files) progress
 
--- A chain that begins with these bytes, and has one more file at least than have ended in them, goes on for so many bytes.
+-- A chain that begins with these bytes, and has one more file at least than have ended in them, goes on for that many bytes.
 -- That this is so of what is needed is the law `files_end_no_sooner`.
 abbrev pub NoFileEndsBefore : Type 0 → List ℕ → ℕ → Type 0
 NoFileEndsBefore A bytes n = (files others : List (FitFile A)) (progress : Progress A) (more : List ℕ)

@@ -1,4 +1,4 @@
--- What the first bytes of a piece tell, behind bytes that have come.
+-- What the first bytes of a piece tell, after bytes that have come.
 use Rattle.std.specs.Prelude.{◌≡◌, ℕ, ◌<◌, ◌≤◌, List, [], ◌∷◌, ◌++◌, take, length, map}
 use Rattle.fit_record.specs.declared.message.Record.{Record}
 use Rattle.fit_chain.specs.Events.{Event, item, AreEvents}

@@ -18,12 +18,12 @@ reason_in_file (at_data h n records part) b =
     if n == taken then Some FileSum
     else record_reason (learn_all empty_environment records) part (n - taken - length part) b
 
--- After so many whole files, where there may be at most `limit`. `proofs/KnownRefusals` computes it for known bytes, each kind of byte of a
+-- After that many whole files, where there may be at most `limit`. `proofs/KnownRefusals` computes it for known bytes, each kind of byte of a
 -- definition message among them. With the laws `reasons_are_one` and `refused_bytes_have_reasons` each refused byte has just one.
 abbrev pub reason_at : {A : Type 0} → ℕ → ℕ → Progress A → ℕ → Option Reason
 reason_at limit files g b = if files == limit then Some TooManyFiles else reason_in_file g b
 
--- A chain of at most so many files begins with the bytes, none with the byte after them, and this is the reason.
+-- A chain of at most that many files begins with the bytes, none with the byte after them, and this is the reason.
 pub record IsRefused (A : Type 0) (limit : ℕ) (bytes : List ℕ) (b : ℕ) (reason : Reason) : Type 0 where
   pub viable : IsViable A limit bytes
   pub refused : IsViable A limit (bytes ++ b ∷ []) → ⊥

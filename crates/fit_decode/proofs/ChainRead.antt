@@ -73,7 +73,7 @@ module _ (files : List (FitFile Global)) (before : Seen) (count : ℕ) (old take
   eats_all : (result : Result (FitFile Global) Fault) → FileRead files before.bytes old taken had has failed new result → Consumes first has taken
   eats_all result r = subst (Consumes first has) (sym r.noted) (Consumes-append first had has old r.got eats r.eats)
 
-  -- what holds behind one file more
+  -- what holds after one file more
   pub one_more : (f : FitFile Global) → FileRead files before.bytes old taken had has failed new (Ok f)
       → IsBehind (files ++ f ∷ []) new now taken × Consumes first has taken
   one_more f r = (behind_file files before count old taken had has failed new now behind counted viable f r, eats_all (Ok f) r)

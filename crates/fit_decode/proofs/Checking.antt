@@ -61,7 +61,7 @@ stops old new rest result fault is fresh refused memory others viable = record {
   viable = viable;
 }
 
--- so many bytes of the upload were taken, and they begin a chain
+-- that many bytes of the upload were taken, and they begin a chain
 pub taken_begins : (upload : List ℕ) (seen : Seen) (rest : List ℕ) (count : ℕ) → Feeds upload seen rest → count ≡ length seen.bytes
     → IsFaultOf upload (NoMemory count)
 taken_begins upload seen rest count f is = (

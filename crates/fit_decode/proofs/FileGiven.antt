@@ -1,4 +1,4 @@
--- What the reading of a file tells of an input that a file's bytes begin, behind the files that were read.
+-- What the reading of a file tells of an input that a file's bytes begin, after the files that were read.
 use Rattle.fit_decode.proofs.Common.{◌≡◌, inl, inr, ℕ, ◌≤◌, List, [], ◌∷◌, ◌++◌, length, Some, None, Ok, Err, sym, ap, ◌∙◌, subst, arith, append_assoc}
 use Rattle.fit_decode.proofs.Common.{length-append, Consumes, append_cancel_left, IsBytes, FitFile, IsFile, IsChain, chain_limit, Fault, Truncated, Read}
 use Rattle.fit_decode.proofs.Common.{at_header, progress_bytes, HasCome, GivesFile, ComesTo, Ended, FileTold, LastPiece, base_is, file_ends, next_bytes}

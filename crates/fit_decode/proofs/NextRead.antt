@@ -71,7 +71,7 @@ module _ {A : Type 0} (files : List (FitFile A)) (before : Seen) (count : ℕ) (
       → EndsReading A chain_limit (AreChain A) taken (record { before = first; after = has; failed = failed }) fault
   next_fault first fault r open_ = fault_told first fault (told (Err fault) r) open_
 
-  -- ---- the end of the input, behind a whole chain
+  -- ---- the end of the input, after a whole chain
 
   nothing_taken : (got : List ℕ) → ComesTo files (old ++ got) → AreChain A (old ++ got) → got ≡ []
   nothing_taken got comes whole =
@@ -129,7 +129,7 @@ NextGiven {A} remaining has failed result old =
     → IsChain chain_limit (fs ++ f ∷ []) (old.taken ++ b)
     → GivesNext f (length (old.taken ++ b)) x (record { before = remaining old.source; after = has; failed = failed }) result
 
--- where the reading ended behind a whole chain, no file is given
+-- where the reading ended after a whole chain, no file is given
 pub end_not_given : {A : Type 0} (f : FitFile A) (n : ℕ) (x : List ℕ) (source : Channel) (new : Seen) (fault : Fault) → IsEnd A new fault true
     → GivesFile f n x source (Err fault) → ⊥
 end_not_given f n x source new (Refused place reason) end never = never
@@ -146,7 +146,7 @@ keeps None b h = tt
 keeps (Some x) None h = absurd h
 keeps (Some x) (Some y) h = sym h
 
--- the decoder has come behind the files
+-- the decoder has come after the files
 pub comes_behind : {A : Type 0} (files : List (FitFile A)) (decoder : Seen) (count : ℕ) (taken : List ℕ) → IsBehind files decoder count taken
     → HasCome files (at_header []) decoder.bytes
 comes_behind files decoder count taken behind = subst (λ (v : Seen). HasCome files (at_header []) v.bytes) (sym behind.fed) behind.come

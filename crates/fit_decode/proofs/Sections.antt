@@ -1,4 +1,4 @@
--- What the bytes used of a piece leave in the fields: they are those behind the bytes fed, and what was told is what these tell.
+-- What the bytes used of a piece leave in the fields: they are those after the bytes fed, and what was told is what these tell.
 use Rattle.fit_decode.proofs.Common.{◌≡◌, cond, ◌⊎◌, inl, inr, ℕ, ◌-◌, ◌/◌, ◌%◌, ◌<◌, ◌≤◌, true, false, List, [], ◌∷◌, ◌++◌, length, take, slice_index, refl}
 use Rattle.fit_decode.proofs.Common.{sym, ap, ◌∙◌, subst, arith, append_assoc, length-append, None, Ok, Err, append-nil, IsBytes, little_bytes, IsBytes-append}
 use Rattle.fit_decode.proofs.Common.{IsBytes-take, checksum, FileHeader, header_bytes, IsFileHeader, RefusesByte, FitFile, Record, Environment}

@@ -20,7 +20,7 @@ use Rattle.fit_decode.specs.inner.Skips.{Skipped}
 use Rattle.fit_decode.proofs.Sections.{begins_records}
 use Rattle.fit_decode.proofs.Feeding.{few_more, sound_behind, fresh_holds_all}
 
--- ---- records behind records
+-- ---- records after records
 
 module _ {A : Type 0} (fs : List (FitFile A)) (h : FileHeader) (n : ℕ) (records rs : List (Record A)) (bytes y : List ℕ)
     (here : HasCome fs (at_data h n records []) bytes) where

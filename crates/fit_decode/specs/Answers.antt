@@ -40,7 +40,7 @@ pub record Refuses (A : Type 0) (old : Seen) (piece : List ℕ) (new : Seen) (pl
   pub quiet : Quiet A old.bytes piece used
   pub why : IsRefused A chain_limit (old.bytes ++ take used piece) (slice_index piece used) reason
 
--- Memory was refused at the byte behind the first used ones, which isn't one to be refused, nor one that takes no memory.
+-- Memory was refused at the byte after the first used ones, which isn't one to be refused, nor one that takes no memory.
 -- No event stands before it.
 pub record Wants (A : Type 0) (old : Seen) (piece : List ℕ) (new : Seen) (used : ℕ) : Type 0 where
   pub within : used < length piece

@@ -55,7 +55,7 @@ ReadsOne {A} source (Err fault) =
     (taken : List ℕ) × Consumes source.before source.after taken × EndsReading A 1 (BeginsWithFile A) taken source fault
 
 -- The answer where the input begins with the bytes of this file, and x follows them. The file ends with the n-th byte; no byte
--- behind it is taken.
+-- after it is taken.
 abbrev pub GivesFile : {A : Type 0} → FitFile A → ℕ → List ℕ → Channel → Result (FitFile A) Fault → Type 0
 GivesFile f n x source (Ok g) = (g ≡ f) × (source.after ≡ Some x)
 GivesFile f n x source (Err (NoMemory used)) = used ≤ n
@@ -92,8 +92,8 @@ pub record Past (S : Type 0) : Type 0 where
 abbrev pub EndsChain : {A : Type 0} → FitFile A → List ℕ → Type 0
 EndsChain {A} f bytes = (fs : List (FitFile A)) × IsChain chain_limit (fs ++ f ∷ []) bytes
 
--- Bytes were taken behind the old ones: the next file's, and with the old ones they are a chain; or none, since the input has ended
--- behind a chain; or the reading ended with a fault, for good.
+-- Bytes were taken after the old ones: the next file's, and with the old ones they are a chain; or none, since the input has ended
+-- after a chain; or the reading ended with a fault, for good.
 abbrev pub ReadsNext : {A S : Type 0} → Past S → Past S → Channel → Result (Option (FitFile A)) Fault → Type 0
 ReadsNext old new source (Ok (Some f)) =
     (bytes : List ℕ) × Consumes source.before source.after bytes × (new.taken ≡ old.taken ++ bytes) × IsFile f bytes × EndsChain f new.taken
@@ -105,7 +105,7 @@ ReadsNext {A} old new source (Err fault) =
     × EndsReading A chain_limit (AreChain A) new.taken source fault × (new.fault ≡ Some fault)
 
 -- The answer where the bytes of this file begin what is left, and x follows them. The file ends with the n-th byte since the reading
--- was made; no byte behind it is taken.
+-- was made; no byte after it is taken.
 abbrev pub GivesNext : {A : Type 0} → FitFile A → ℕ → List ℕ → Channel → Result (Option (FitFile A)) Fault → Type 0
 GivesNext f n x source (Ok (Some g)) = (g ≡ f) × (source.after ≡ Some x)
 GivesNext f n x source (Ok None) = ⊥

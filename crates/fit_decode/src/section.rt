@@ -32,7 +32,7 @@ pub(crate) struct Stage {
     pub(crate) half: bool,
 }
 
-/// The section behind which so many bytes of data are to come.
+/// The section after which that many bytes of data are to come.
 fn section_of(room: u32) -> Section
     ensures { result ≡ section_of room }
 {

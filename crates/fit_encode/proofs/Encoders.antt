@@ -140,7 +140,7 @@ next_open {A} {env} {out} {declared} {size} {count} {head} {records} after sent 
       short = h.short;
     }
 
--- behind the header
+-- after the header
 pub open_begun : {A : Type 0} (out : Sending) (declared : ℕ) (head : List ℕ) → out.sent ≡ [] ++ head → out.held ≡ [] → IsCounted 0 (length head) out.count
     → declared < 2 ^ 32
     → length head < 256 → IsOpenFile {A = A} empty_environment out declared 0 0 head []

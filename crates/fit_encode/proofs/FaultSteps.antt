@@ -24,7 +24,7 @@ pub of_file : {A : Type 0} (fs : List (FitFile A)) (fault : EncodeFault) → IsC
 of_file fs ChainLength allowed h = absurd h.holds.1
 of_file fs _ allowed h = (allowed, h)
 
--- the file at a place, behind those before it
+-- the file at a place, after those before it
 pub at_file : {A : Type 0} (P : ℕ → FitFile A → Type 0) (fs : List (FitFile A)) (i : ℕ) (f : FitFile A) → i < length fs → f ≡ get_or fs i f
     → AllByRecursion IsWellFormed (take i fs) → P (i + 1) f → AtFile fs P
 at_file P fs i f less is good here = record {

@@ -28,7 +28,7 @@ all-fit : (rs : List (Record Global)) (e : Environment Global) (r : Record Globa
     → AllFit empty_environment (rs ++ r ∷ [])
 all-fit rs e r fit may = all_fit-append empty_environment rs (r ∷ []) fit (known-fits rs e r may, tt)
 
--- behind those that are too many
+-- after those that are too many
 pub long-on : (bytes : List ℕ) (count : ℕ) (b : Bool) (rs : List (Record Global)) (e : Environment Global) (r : Record Global)
     → AreSpelled bytes count b rs → b ≡ true → MayFollow rs e r → AreSpelled bytes count b (rs ++ r ∷ [])
 long-on bytes count b rs e r h is may =

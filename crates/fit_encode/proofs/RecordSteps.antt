@@ -23,7 +23,7 @@ pub next_bytes : {A : Type 0} (e : Environment A) (rs : List (Record A)) (i : �
     → records_bytes e (take (i + 1) rs) ≡ records_bytes e (take i rs) ++ record_bytes (learn_all e (take i rs)) r
 next_bytes e rs i r less is = ap (records_bytes e) (one_more rs i r r less is) ∙ records_bytes-last e (take i rs) r
 
--- the record at a place, behind those before it
+-- the record at a place, after those before it
 pub at_record : {A : Type 0} (P : Environment A → ℕ → Record A → Type 0) (rs : List (Record A)) (i : ℕ) (r : Record A) → i < length rs → r ≡ get_or rs i r
     → AllFit empty_environment (take i rs) → length (records_bytes empty_environment (take i rs)) < 2 ^ 32
     → P (learn_all empty_environment (take i rs)) (length (records_bytes empty_environment (take i rs))) r → AtRecord rs i P

@@ -104,7 +104,7 @@ Spells-as {a} {b} {s} {t} e h = subst (Spells a b s t) e h
 pub Breaks-as : {a b : Written} {s : Sending} {p q : List ℕ} {w : ℕ} → p ≡ q → Breaks a b s p w → Breaks a b s q w
 Breaks-as {a} {b} {s} {p} {q} {w} e h = subst (λ (y : List ℕ). Breaks a b s y w) e h
 
--- a call that failed, and whose error the `?` behind it passes on
+-- a call that failed, and whose error the `?` after it passes on
 pub Sends-err : {T : Type 0} (a b : Written) (s t : Sending) (p : List ℕ) (r : Result T ℕ) {w : ℕ} → IsErrAnd r (λ y. y ≡ w)
     → Breaks a b s p w → Sends a b s t p r
 Sends-err a b s t p (Ok x) h broken = absurd h
@@ -115,7 +115,7 @@ pub PutsAll-err : (a b : Written) (count : ℕ) (p : List ℕ) (r : Result ℕ �
 PutsAll-err a b count p (Ok x) h broken = absurd h
 PutsAll-err a b count p (Err y) h broken = subst (λ v. Breaks a b (fresh count) p v) (sym h) broken
 
--- a call behind another, which is the last one
+-- a call after another, which is the last one
 pub Sends-on : {T : Type 0} (a b c : Written) (s t u : Sending) (p q bytes : List ℕ) (r : Result T ℕ) → p ++ q ≡ bytes → Spells a b s t p
     → Sends b c t u q r → Sends a c s u bytes r
 Sends-on a b c s t u p q bytes (Ok x) e first second = Spells-as e (Spells-on first second)
@@ -158,7 +158,7 @@ IsCounted-as n m e h = subst (λ (x : List ℕ). IsCounted n (length x) m) e h
 pub StopsAt-as : {a c : Option (List ℕ)} {f : Bool} {p q : List ℕ} {w : ℕ} → p ≡ q → StopsAt a c f p w → StopsAt a c f q w
 StopsAt-as {a} {c} {f} {p} {q} {w} e h = subst (λ (x : List ℕ). StopsAt a c f x w) e h
 
--- The sink failed in the middle of some bytes, behind all that came before and ahead of what was to follow.
+-- The sink failed in the middle of some bytes, after all that came before and ahead of what was to follow.
 pub stops_at : {a : Option (List ℕ)} {b c : Written} {w : ℕ} (front bytes back : List ℕ) (count : ℕ) → length ((front ++ bytes) ++ back) < 2 ^ 64
     → Appends a b.held front
     → IsCounted 0 (length front) count → Breaks b c (fresh count) bytes w → StopsAt a c.held c.failed ((front ++ bytes) ++ back) w

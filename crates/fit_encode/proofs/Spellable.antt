@@ -50,7 +50,7 @@ pub fits_at : {A : Type 0} (e : Environment A) (rs : List (Record A)) (i : ℕ) 
     → Fits (learn_all e (take i rs)) r
 fits_at e rs i r less is all = fits_between e (take i rs) r (drop (i + 1) rs) (subst (AllFit e) (split_here rs i r r less is) all)
 
--- the bytes before a record, those of the record, and those behind it
+-- the bytes before a record, those of the record, and those after it
 pub record_parts : {A : Type 0} (e : Environment A) (rs : List (Record A)) (i : ℕ) (r : Record A) → i < length rs → r ≡ get_or rs i r
     → (records_bytes e (take i rs) ++ record_bytes (learn_all e (take i rs)) r) ++ records_bytes (learn (learn_all e (take i rs)) r) (drop (i + 1) rs)
     ≡ records_bytes e rs

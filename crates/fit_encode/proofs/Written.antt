@@ -1,4 +1,4 @@
--- One write behind another.
+-- One write after another.
 use Rattle.fit_encode.proofs.Common.{ℕ, List, ◌++◌, take, drop, Some, None, ap, ◌∙◌, append_assoc, Appends}
 use Rattle.std.proofs.Common.{◌+◌, Option}
 use Rattle.std.proofs.Math.Seq.{take-add}

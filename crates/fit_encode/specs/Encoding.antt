@@ -25,7 +25,7 @@ pub record Encoding (A : Type 0) : Type 0 where
   pub failed : Option ℕ
   pub finished : Bool
 
--- behind the header
+-- after the header
 abbrev pub header_sent : {A : Type 0} → Header → ℕ → Encoding A
 header_sent h n = record { head = header_bytes h n; declared = n; records = []; failed = None; finished = false }
 
@@ -65,12 +65,12 @@ fault_when finished failed = if finished then Some DeclaredLength else option_ma
 abbrev pub closed_fault : {A : Type 0} → Encoding A → Option EncodeFault
 closed_fault e = fault_when e.finished e.failed
 
--- Where this is known, the record can stand behind so many bytes, and keeps within the declared length.
+-- Where this is known, the record can stand after that many bytes, and keeps within the declared length.
 pub record HasPlace {A : Type 0} (e : Environment A) (declared size : ℕ) (r : Record A) : Type 0 where
   pub fits : Fits e r
   pub within : size + length (record_bytes e r) ≤ declared
 
--- Why it can't be put there, behind so many records: its shape, or the declared length, or else want of memory.
+-- Why it can't be put there, after that many records: its shape, or the declared length, or else want of memory.
 abbrev pub IsPlaceFault : {A : Type 0} → Environment A → ℕ → ℕ → ℕ → Record A → EncodeFault → Type 0
 IsPlaceFault e count declared size r (BadLocal file index) = (file ≡ 1) × (index ≡ count) × (first_fault e r ≡ Some NoLocal)
 IsPlaceFault e count declared size r (BadOffset file index) = (file ≡ 1) × (index ≡ count) × (first_fault e r ≡ Some NoOffset)
@@ -97,7 +97,7 @@ IsComplete e = length (data_so_far e) ≡ e.declared
 abbrev pub IsFinishFault : {A : Type 0} → Encoding A → EncodeFault → Type 0
 IsFinishFault e fault = (fault ≡ DeclaredLength) × (length (data_so_far e) < e.declared)
 
--- The sink failed behind some of these bytes, from the front, and behind so many of the file. That number is kept.
+-- The sink failed after some of these bytes, from the front, and after that many of the file. That number is kept.
 pub record BreaksOff {A : Type 0} (before after : Option (List ℕ)) (failed : Bool) (old new : Encoding A) (bytes : List ℕ) (written : ℕ) : Type 0 where
   pub sent : ℕ
   pub stops : StopsAt before after failed bytes sent

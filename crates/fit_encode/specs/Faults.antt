@@ -57,7 +57,7 @@ IsFileFault number f (ZeroIsSum file) =
     (file ≡ number) × FormFits f.header × AllFit empty_environment f.records × (length (body f) < 2 ^ 32) × SumIsZero f.header (length (body f))
 IsFileFault number f fault = FormFits f.header × IsRecordFault number f.records fault
 
--- so many files may follow one another
+-- that many files may follow one another
 abbrev pub IsChainLength : ℕ → Type 0
 IsChainLength n = (0 < n) × (n ≤ chain_limit)
 
@@ -76,7 +76,7 @@ abbrev pub IsFirstFault : {A : Type 0} → List (FitFile A) → EncodeFault → 
 IsFirstFault fs ChainLength = IsChainLength (length fs) → ⊥
 IsFirstFault fs fault = IsChainLength (length fs) × AtFile fs (λ number f. IsFileFault number f fault)
 
--- The sink failed when it had taken just the first bytes, so many of them, and not all.
+-- The sink failed when it had taken just the first bytes, that many of them, and not all.
 pub record StopsAt (before after : Option (List ℕ)) (failed : Bool) (bytes : List ℕ) (written : ℕ) : Type 0 where
   pub part : written < length bytes
   pub first : Appends before after (take written bytes)

@@ -55,7 +55,7 @@ impl SpelledRecords {
         }
     }
 
-    /// Puts a record at the end, which fits behind the others. The environment is what these make known. Where memory is
+    /// Puts a record at the end, which fits after the others. The environment is what these make known. Where memory is
     /// refused, nothing changes.
     pub fn push(&mut self, env: &Env, r: &Record) -> Result<(), AllocError>
         requires known { env.now ≡ learn_all empty_environment self.old }

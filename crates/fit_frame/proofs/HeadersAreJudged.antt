@@ -1,4 +1,4 @@
--- The bytes of a header of a file are judged well, each behind those before it.
+-- The bytes of a header of a file are judged well, each after those before it.
 use Rattle.fit_frame.proofs.Common.{◌≡◌, ℕ, zero, suc, ◌/◌, ◌%◌, ◌^◌, ◌<◌, ◌≤◌, ◌⊎◌, inl, inr, List, [], ◌∷◌, ◌++◌, length, take, slice_index, length-append}
 use Rattle.fit_frame.proofs.Common.{refl, sym, ap, ◌∙◌, subst, arith, append_assoc, length-take-le, take-append-le, get_or_append_left, checksum}
 use Rattle.fit_frame.proofs.Common.{checksum-below, Header, HeaderSum, Absent, Zero, True, fixed_part, sum_part, header_bytes, SizeFits, HeaderFits, IsDataSize}
@@ -23,7 +23,7 @@ module _ (h : Header) (n : ℕ) where
   abbrev bytes_of : HeaderSum → List ℕ
   bytes_of w = fixed_part h n ++ sum_part w (fixed_part h n) ++ h.rest.items
 
-  -- what is said of the two bytes behind the fixed part
+  -- what is said of the two bytes after the fixed part
   low_said : (w : HeaderSum) → SizeFits w h.size h.rest.items → 12 < length (bytes_of w)
       → (slice_index (bytes_of w) 12 ≡ 0) ⊎ (slice_index (bytes_of w) 12 ≡ checksum (take 12 (bytes_of w)) % 256)
   low_said Absent fits more = absurd (omega (arith, ap length fits.1))
@@ -41,7 +41,7 @@ module _ (h : Header) (n : ℕ) where
 abbrev pub seven : ℕ → ℕ
 seven n = suc (suc (suc (suc (suc (suc (suc n))))))
 
--- what is asked of a byte behind seven more than n others, and behind n others
+-- what is asked of a byte after seven more than n others, and after n others
 abbrev pub AskedLate : ℕ → List ℕ → ℕ → Type 0
 AskedLate zero bytes b = IsDataSize (four_bytes (slice_index bytes 4) (slice_index bytes 5) (slice_index bytes 6) b)
 AskedLate (suc zero) bytes b = b ≡ 0x2E
@@ -104,7 +104,7 @@ has_its_size bytes whole =
     let size = length-header_bytes h n whole.is.0.0.form in
     subst HasItsSize (sym whole.is.0.1) (omega arith, size)
 
--- a byte behind which a header goes on may follow
+-- a byte after which a header goes on may follow
 pub may_follow : (bytes : List ℕ) (b : ℕ) → BeginsHeader (bytes ++ b ∷ []) → MayFollow bytes b
 may_follow bytes b begins =
     let all : List ℕ = bytes ++ b ∷ begins.more in

@@ -18,7 +18,7 @@ front h n s v p0 p1 n0 n1 n2 n3 c0 c1 c2 c3 hs hv hp hn l0 l1 k0 k1 k2 k3 e0 e1 
     let m3 : n / 256 / 256 / 256 % 256 ≡ n3 = omega arith in
     cc
 
--- what the two bytes behind the fixed part say
+-- what the two bytes after the fixed part say
 word : (w : HeaderSum) (fixed : List ℕ) (a b : ℕ) → a < 256 → b < 256
     → ((w ≡ True) × (two_bytes a b ≡ checksum fixed)) ⊎ ((w ≡ Zero) × (a ≡ 0) × (b ≡ 0) × (checksum fixed ≢ 0))
     → (sum_part w fixed ≡ a ∷ b ∷ []) × ((w ≡ Zero) × (checksum fixed ≡ 0) → ⊥)
@@ -40,7 +40,7 @@ word_read w fixed a b judged (inl read) = inl read
 word_read w fixed a b (inr sum) (inr read) = absurd (read.1 sum)
 word_read w fixed a b (inl zeros) (inr read) = inr (read.0, zeros.0, zeros.1, λ e. read.1 (omega (arith, zeros.0, zeros.1, e)))
 
--- a word that is read behind fourteen bytes is none of twelve
+-- a word that is read after fourteen bytes is none of twelve
 word_of : (w : HeaderSum) (bytes rest : List ℕ) → 14 ≤ length bytes → ReadsWord w bytes rest
     → (SizeFits w (length bytes) (drop 14 bytes)) × (rest ≡ drop 14 bytes)
     × (((w ≡ True) × (two_bytes (slice_index bytes 12) (slice_index bytes 13) ≡ checksum (take 12 bytes)))
@@ -59,7 +59,7 @@ module _ (h : Header) (n s v p0 p1 n0 n1 n2 n3 c0 c1 c2 c3 : ℕ) where
   abbrev twelve : List ℕ
   twelve = s ∷ v ∷ p0 ∷ p1 ∷ n0 ∷ n1 ∷ n2 ∷ n3 ∷ c0 ∷ c1 ∷ c2 ∷ c3 ∷ []
 
-  -- a header with what stands behind twelve bytes
+  -- a header with what stands after twelve bytes
   with_tail : (tail : List ℕ) → AreJudged (twelve ++ tail) → IsBytes (twelve ++ tail) → ReadsAs h n (twelve ++ tail)
       → SizeFits h.sum h.size h.rest.items → sum_part h.sum twelve ++ h.rest.items ≡ tail → ((h.sum ≡ Zero) × (checksum twelve ≡ 0) → ⊥)
       → IsFileHeader h n (twelve ++ tail)

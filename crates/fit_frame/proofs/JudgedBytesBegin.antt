@@ -46,7 +46,7 @@ AreBytes-cons b bytes small are (suc i) = are i
 no_bytes : IsBytes []
 no_bytes i = lit< tt
 
--- a header that goes on behind one byte more begins before it
+-- a header that goes on after one byte more begins before it
 begins_before : (bytes : List ℕ) (b : ℕ) → b < 256 → BeginsHeader (bytes ++ b ∷ []) → BeginsHeader bytes
 begins_before bytes b small begins = record {
   more = b ∷ begins.more;
@@ -57,7 +57,7 @@ begins_before bytes b small begins = record {
 first_stays : (bytes : List ℕ) (b : ℕ) → 0 < length bytes → slice_index (bytes ++ b ∷ []) 0 ≡ slice_index bytes 0
 first_stays bytes b some = get_or_append_left bytes (b ∷ []) 0 0 some
 
--- with so many bytes more there are as many as the first one says
+-- with that many bytes more there are as many as the first one says
 completed : (missing : ℕ) (bytes : List ℕ) → AreJudged bytes → IsBytes bytes → 0 < length bytes → length bytes + missing ≡ slice_index bytes 0
     → BeginsHeader bytes
 completed zero bytes judged are some size = record {

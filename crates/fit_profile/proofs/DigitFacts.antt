@@ -35,7 +35,7 @@ decimal-one : decimal 1 ≡ 49 ∷ []
 unfolding digits
 decimal-one = refl
 
--- the digits of a number below 10 ^ d stand behind the one of 10 ^ d
+-- the digits of a number below 10 ^ d stand after the one of 10 ^ d
 pub digits-behind_one : (d n : ℕ) → n < 10 ^ d → 10 ^ d + n < 10 ^ 64 → decimal (10 ^ d + n) ≡ 49 ∷ last_digits d n
 digits-behind_one zero n h small = let none : n ≡ 0 = omega (arith, h) in rw (none, last_digits-none 0) decimal-one
 digits-behind_one (suc d) n h small =

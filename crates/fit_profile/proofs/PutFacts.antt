@@ -74,7 +74,7 @@ split_digits (suc k) n low high =
     ∙ append_assoc (decimal (n / 10 / 10 ^ k)) (last_digits k (n / 10)) ((48 + n % 10) ∷ [])
     ∙ ap₂ (λ q ds. decimal q ++ ds) (sym parts) (sym (last_digits-end k n))
 
--- behind a text, in two parts
+-- after a text, in two parts
 put_parts : (k n : ℕ) (text : List ℕ) → 10 ^ k ≤ n → n < 2 ^ 64 → (text ++ decimal (n / 10 ^ k)) ++ last_digits k n ≡ text ++ decimal n
 put_parts k n text low high = append_assoc text (decimal (n / 10 ^ k)) (last_digits k n)
     ∙ ap (λ ds. text ++ ds) (sym (split_digits k n low (omega (arith, high))))

@@ -15,7 +15,7 @@ use Rattle.fit_profile.specs.Least.{least_from}
 use Rattle.fit_profile.specs.Looks.{known, first_field}
 
 -- The field of each component, how many items of which width it needs, the number that counts nothing, and the counter: the number divided by
--- the divisor, of so many values.
+-- the divisor, of that many values.
 abbrev pub distance : Component
 distance = record { field = 8; items = 3; width = 1; skipped = 0xFFFFFF; divisor = 2 ^ 12; modulus = 2 ^ 12 }
 

@@ -28,6 +28,6 @@ pub record IsNearest (v n : ℤ) (m : ℕ) : Type 0 where
   pub near : 2 * apart (v *ℤ pos m) n ≤ m
   pub away : 2 * apart (v *ℤ pos m) n ≡ m → unsigned_abs n ≤ unsigned_abs (v *ℤ pos m)
 
--- v, in units of the seventh decimal, is the number of degrees that so many semicircles are; 2 ^ 31 semicircles are 180 degrees
+-- v, in units of the seventh decimal, is the number of degrees in that many semicircles; 2 ^ 31 semicircles are 180 degrees
 abbrev pub IsDegrees : ℤ → ℤ → Type 0
 IsDegrees semicircles v = IsNearest v (semicircles *ℤ pos (180 * 10 ^ 7)) (2 ^ 31)

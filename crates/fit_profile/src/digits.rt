@@ -1,4 +1,4 @@
-//! Digits of numbers with decimals: written behind a point, and read back.
+//! Digits of numbers with decimals: written after a point, and read back.
 ghost use Rattle.std.specs.Prelude.{◌≡◌, ◌≤◌, ◌<◌, ◌++◌, ◌+◌, ◌^◌, IfSome, IsNone};
 ghost use Rattle.std.specs.Str.Parse.{starts_with_minus};
 ghost use Rattle.arrayvec.specs.ArrayString.{array_string_len};
@@ -31,7 +31,7 @@ pub(crate) fn power(decimals: u8) -> u64
     POWERS[decimals as usize]
 }
 
-/// The point and the digits behind it of a part below one, where there are decimals.
+/// The point and the digits after it of a part below one, where there are decimals.
 pub(crate) fn push_fraction(text: &mut ArrayString<48>, part: u64, decimals: u8)
     requires few { decimals ≤ 8 }
     requires below { part < 10 ^ decimals }
@@ -66,7 +66,7 @@ fn with_byte(size: u128, byte: u8) -> Option<u128>
     }
 }
 
-/// The number that a text's digits write behind those of another number, other bytes passed over, where it fits.
+/// The number that a text's digits write after those of another number, other bytes passed over, where it fits.
 fn size_behind(before: u128, text: &[u8]) -> Option<u128>
     ensures some { IfSome result (λ n. n ≡ digits_in before text.now) }
     ensures none { IsNone result → 2 ^ 128 ≤ digits_in before text.now }

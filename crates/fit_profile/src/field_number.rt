@@ -27,7 +27,7 @@ pub const POWER: u8 = 7;
 pub const COMPRESSED_SPEED_DISTANCE: u8 = 8;
 /// Of record messages: the slope in percent.
 pub const GRADE: u8 = 9;
-/// Of record messages: the time behind or ahead of a course.
+/// Of record messages: the time after or ahead of a course.
 pub const TIME_FROM_COURSE: u8 = 11;
 /// Of record messages: the temperature in degrees Celsius.
 pub const TEMPERATURE: u8 = 13;

@@ -19,7 +19,7 @@ fn label_of(name: &str) -> Label
     label
 }
 
-/// A word with a number behind it.
+/// A word with a number after it.
 fn numbered(word: &str, number: u16) -> Label
     requires { length word.now ≤ 8 }
     ensures { result.bytes ≡ word.now ++ decimal number }

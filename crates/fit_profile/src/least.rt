@@ -3,7 +3,7 @@ ghost use Rattle.std.specs.Prelude.{◌≡◌, ◌≤◌, ◌<◌, ◌+◌, ◌^
 ghost use Rattle.fit_profile.specs.Accumulated.{in_64_bits};
 ghost use Rattle.fit_profile.specs.Least as least;
 
-/// How far behind the start the least number with this rest stands.
+/// How far after the start the least number with this rest stands.
 pub(crate) fn steps_to(start: u64, rest: u64, modulus: u64) -> Option<u64>
     requires above { 0 < modulus }
     requires small { modulus ≤ 2 ^ 16 }

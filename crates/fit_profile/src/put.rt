@@ -21,7 +21,7 @@ fn has_room(text: &Vec<u8>, bytes: usize) -> bool {
     text.capacity() - text.len() >= bytes
 }
 
-/// Puts a number of at most four digits behind a text.
+/// Puts a number of at most four digits after a text.
 #[inline(always)]
 #[tactic(auto, using(crate::proofs::PutFacts::one_digit, crate::proofs::PutFacts::two_digits, crate::proofs::PutFacts::three_digits, crate::proofs::PutFacts::four_digits))]
 fn put_few_here(text: &mut Vec<u8>, n: u64) -> Result<(), AllocError>
@@ -67,7 +67,7 @@ fn put_few(text: &mut Vec<u8>, n: u64) -> Result<(), AllocError>
     }
 }
 
-/// Puts the last four digits of a number behind a text.
+/// Puts the last four digits of a number after a text.
 #[inline(always)]
 #[tactic(auto, using(crate::proofs::PutFacts::last_four))]
 fn put_four_here(text: &mut Vec<u8>, n: u64) -> Result<(), AllocError>
@@ -102,7 +102,7 @@ fn put_four(text: &mut Vec<u8>, n: u64) -> Result<(), AllocError>
     }
 }
 
-/// Puts the last eight digits of a number behind a text.
+/// Puts the last eight digits of a number after a text.
 #[inline(always)]
 #[tactic(auto, using(crate::proofs::PutFacts::last_eight))]
 fn put_eight_here(text: &mut Vec<u8>, n: u64) -> Result<(), AllocError>
@@ -148,7 +148,7 @@ fn put_eight(text: &mut Vec<u8>, n: u64) -> Result<(), AllocError>
     }
 }
 
-/// Puts a number of more than twelve digits behind a text.
+/// Puts a number of more than twelve digits after a text.
 #[inline(never)]
 fn put_long(text: &mut Vec<u8>, n: u64) -> Result<(), AllocError>
     ensures ok { OnOk result (text.new.items ≡ text.old.items ++ decimal n) }
@@ -157,7 +157,7 @@ fn put_long(text: &mut Vec<u8>, n: u64) -> Result<(), AllocError>
     text.extend_from_slice(Buffer::new().format(n).as_bytes())
 }
 
-/// Puts a number of more than four digits behind a text.
+/// Puts a number of more than four digits after a text.
 #[inline(always)]
 #[tactic(auto, using(crate::proofs::PutFacts::before_four, crate::proofs::PutFacts::before_eight, crate::proofs::KeptTexts::none_put, crate::proofs::KeptTexts::part_put))]
 fn put_many_here(text: &mut Vec<u8>, n: u64) -> Result<(), AllocError>
@@ -215,7 +215,7 @@ pub fn put_whole(text: &mut Vec<u8>, n: u64) -> Result<(), AllocError>
     }
 }
 
-/// Puts the point and one decimal behind a text.
+/// Puts the point and one decimal after a text.
 #[tactic(auto, using(crate::proofs::PutFacts::one_decimal))]
 fn put_tenths(text: &mut Vec<u8>, part: u64) -> Result<(), AllocError>
     requires { part < 10 }
@@ -225,7 +225,7 @@ fn put_tenths(text: &mut Vec<u8>, part: u64) -> Result<(), AllocError>
     text.extend_from_slice(&[b'.', digit(part)])
 }
 
-/// Puts the point and two decimals behind a text.
+/// Puts the point and two decimals after a text.
 #[tactic(auto, using(crate::proofs::PutFacts::two_decimals))]
 fn put_hundredths(text: &mut Vec<u8>, part: u64) -> Result<(), AllocError>
     requires { part < 100 }
@@ -235,7 +235,7 @@ fn put_hundredths(text: &mut Vec<u8>, part: u64) -> Result<(), AllocError>
     text.extend_from_slice(&[b'.', tens(part), ones(part)])
 }
 
-/// Puts the point and three decimals behind a text.
+/// Puts the point and three decimals after a text.
 #[tactic(auto, using(crate::proofs::PutFacts::three_decimals))]
 fn put_thousandths(text: &mut Vec<u8>, part: u64) -> Result<(), AllocError>
     requires { part < 1000 }
@@ -246,7 +246,7 @@ fn put_thousandths(text: &mut Vec<u8>, part: u64) -> Result<(), AllocError>
     text.extend_from_slice(&[b'.', digit(part / 100), tens(low), ones(low)])
 }
 
-/// Puts the point and seven decimals behind a text.
+/// Puts the point and seven decimals after a text.
 #[tactic(auto, using(crate::proofs::PutFacts::seven_decimals))]
 fn put_ten_millionths(text: &mut Vec<u8>, part: u64) -> Result<(), AllocError>
     requires { part < 10_000_000 }
@@ -269,7 +269,7 @@ fn put_ten_millionths(text: &mut Vec<u8>, part: u64) -> Result<(), AllocError>
     ])
 }
 
-/// Puts a size with seven decimals behind a text.
+/// Puts a size with seven decimals after a text.
 #[tactic(auto, using(crate::proofs::KeptTexts::more_put))]
 fn put_fine(text: &mut Vec<u8>, size: u64) -> Result<(), AllocError>
     ensures ok { OnOk result (text.new.items ≡ text.old.items ++ decimal (size / 10 ^ 7)
@@ -280,7 +280,7 @@ fn put_fine(text: &mut Vec<u8>, size: u64) -> Result<(), AllocError>
     put_ten_millionths(text, size % 10_000_000)
 }
 
-/// Puts a size with at most three decimals behind a text.
+/// Puts a size with at most three decimals after a text.
 #[tactic(auto, using(crate::proofs::KeptTexts::more_put))]
 fn put_size(text: &mut Vec<u8>, size: u64, decimals: u8) -> Result<(), AllocError>
     requires { decimals ≤ 3 }
@@ -305,7 +305,7 @@ fn put_size(text: &mut Vec<u8>, size: u64, decimals: u8) -> Result<(), AllocErro
     }
 }
 
-/// Puts a number with any decimals behind a text.
+/// Puts a number with any decimals after a text.
 #[inline(never)]
 fn put_printed(text: &mut Vec<u8>, value: i64, decimals: u8) -> Result<(), AllocError>
     requires { decimals ≤ 8 }
@@ -319,7 +319,7 @@ fn put_printed(text: &mut Vec<u8>, value: i64, decimals: u8) -> Result<(), Alloc
     text.extend_from_slice(fixed.print().as_str().as_bytes())
 }
 
-/// Puts a number with decimals or a sign behind a text.
+/// Puts a number with decimals or a sign after a text.
 #[inline(never)]
 #[tactic(auto, using(crate::proofs::KeptTexts::none_put, crate::proofs::KeptTexts::more_put))]
 fn put_scaled(text: &mut Vec<u8>, value: i64, decimals: u8) -> Result<(), AllocError>

@@ -28,7 +28,7 @@ placed (o ∷ places) (suc local) n p l =
     let test = option_map_or (λ q. 1 + message_size q == n) o false in
     ap (λ b. test || b) (placed places local n p (omega arith)) ∙ or_regroup test (has_length (slice_set places local None) n) (1 + message_size p == n)
 
--- ---- the records behind it
+-- ---- the records after it
 
 learned_size : {A : Type 0} (e : Environment A) (d : MessageDef A) → message_size (defined_by e d) ≡ body_length d
 learned_size e d = message_size_is (defined_by e d) (length-map (dev_defs d.dev) (dev_code e))

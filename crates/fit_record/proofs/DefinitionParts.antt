@@ -63,7 +63,7 @@ dev_sizes dev = sum_by (λ f. f.size) (dev_defs dev)
 length-devs : (devs : List DevDef) → length (flat_map dev_field_bytes devs) ≡ 3 * length devs
 length-devs devs = length-entries (λ (f : DevDef). f.number) (λ f. f.size) (λ f. f.index) devs
 
--- what can be filled behind a definition of the same local message type
+-- what can be filled after a definition of the same local message type
 filled : {A : Type 0} (e : Environment A) (c : MessageDef A) (local left : ℕ) → length e.places ≡ 16 → local < 16 → c.local ≡ local
     → CanFill (learn e (Define c)) left → can_fill_with e local (body_length c) left ≡ true
 filled e c local left sixteen low same fill =

@@ -57,7 +57,7 @@ pub record Goes {X : Type 0} (first size last : X → ℕ) (before : List ℕ) (
 
 module _ {X : Type 0} (first size last : X → ℕ) (make : ℕ → ℕ → ℕ → X)
     (made : (a b c : ℕ) → spell first size last (make a b c) ≡ a ∷ b ∷ c ∷ []) where
-  -- an entry of which these last bytes are to come, and the entries behind it
+  -- an entry of which these last bytes are to come, and the entries after it
   one_more : (a b c : ℕ) (before more : List ℕ) (known k u t part extra : ℕ) → before ++ more ≡ a ∷ b ∷ c ∷ [] → IsBytes more
       → Goes first size last [] 0 k u part → b + part ≡ known + extra → length more + u ≡ t → Goes first size last before known (suc k) t extra
   one_more a b c before more known k u t part extra is are r total long =

@@ -1,4 +1,4 @@
--- Records behind records: they all fit, their bytes stand in a row, and what is known is what all of them teach.
+-- Records after records: they all fit, their bytes stand in a row, and what is known is what all of them teach.
 use Rattle.fit_record.proofs.Common.{◌≡◌, List, [], ◌∷◌, ◌++◌, refl, sym, ap, ◌∙◌, append_assoc, Record, Environment, learn, learn_all, record_bytes, AllFit}
 use Rattle.fit_record.proofs.Common.{records_bytes}
 

@@ -40,7 +40,7 @@ rooms_of_twos_and_threes = refl
 
 -- ---- data messages
 
--- A message of 2 bytes leaves 3 of the 4 bytes behind its record header, and no message fills them.
+-- A message of 2 bytes leaves 3 of the 4 bytes after its record header, and no message fills them.
 carried : (map (can_carry twos 0) (0 ∷ 1 ∷ 3 ∷ 4 ∷ [])) ≡ false ∷ true ∷ true ∷ false ∷ []
 carried = refl
 

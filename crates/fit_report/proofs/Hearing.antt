@@ -7,7 +7,7 @@ use Rattle.fit_chain.specs.declared.event.Event.TheVariants as answers
 reverse-cons : {X : Type 0} (x : X) (xs : List X) → reverse (x ∷ xs) ≡ reverse xs ++ x ∷ []
 reverse-cons x xs = reverse-append (x ∷ []) xs
 
--- What the use of so many bytes of a piece told, where nothing is told without an event, and an event by no fewer bytes.
+-- What the use of that many bytes of a piece told, where nothing is told without an event, and an event by no fewer bytes.
 pub record Told {A : Type 0} (bytes piece : List ℕ) (used : ℕ) (answer : Answer A) : Type 0 where
   pub more : event_of answer ≡ None → (used ≡ length piece) × Quiet A bytes piece used
   pub event : (x : Event A) → event_of answer ≡ Some x → (0 < used) × Least A bytes piece used x

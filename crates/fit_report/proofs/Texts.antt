@@ -23,7 +23,7 @@ pub text_told : {A : Type 0} (line : Lines A) (heard : List (Event A)) (answer :
 text_told line heard answer first text put none told is =
     text-hear line heard answer ∙ ap (λ t. text_of line heard ++ t) (sym (is ∙ told ∙ ap (λ t. t ++ line_of line heard answer) none))
 
--- A text was put, or in part, of events behind those that were told.
+-- A text was put, or in part, of events after those that were told.
 module _ {A R : Type 0} {has_heard : R → List (Event A) → Type 0} {line : Lines A} {before : R} {bytes : List ℕ} {start : Option (List ℕ)} {old : ℕ}
     (sink : Channel) (s : Stands has_heard line before bytes start sink.before old) (now : List (Event A)) (text : List ℕ)
     (is : text_of line now ≡ text_of line s.heard ++ text) where

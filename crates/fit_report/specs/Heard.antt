@@ -8,11 +8,11 @@ use Rattle.fit_chain.specs.declared.event.Event.{Event as Answer}
 use Rattle.fit_decode.specs.Answers.{Seen, event_of}
 use Rattle.fit_chain.specs.Events.{Event, header, item, file_end, AreEvents}
 
--- what is heard behind an answer of a decoder
+-- what is heard after an answer of a decoder
 abbrev pub hear : {A : Type 0} → Answer A → List (Event A) → List (Event A)
 hear answer heard = option_map_or (λ x. x ∷ heard) (event_of answer) heard
 
--- what is heard behind records
+-- what is heard after records
 abbrev pub hear_records : {A : Type 0} → List (Record A) → List (Event A) → List (Event A)
 hear_records records heard = reverse (map item records) ++ heard
 
@@ -29,7 +29,7 @@ latest_records (file_end ∷ heard) = latest_records heard
 
 -- ---- text
 
--- the text of an event, behind the events before it
+-- the text of an event, after the events before it
 abbrev pub Lines : Type 0 → Type 0
 Lines A = List (Event A) → Event A → List ℕ
 
@@ -37,14 +37,14 @@ Lines A = List (Event A) → Event A → List ℕ
 abbrev pub line_of : {A : Type 0} → Lines A → List (Event A) → Answer A → List ℕ
 line_of line heard answer = option_map_or (line heard) (event_of answer) []
 
--- the text of the events, each behind that of the events before it
+-- the text of the events, each after that of the events before it
 abbrev pub text_of : {A : Type 0} → Lines A → List (Event A) → List ℕ
 text_of line [] = []
 text_of line (x ∷ heard) = text_of line heard ++ line heard x
 
 -- ---- skipping
 
--- The first bytes of a piece, so many, are fed, and what was heard is now the events of all bytes fed. The text of the new ones
+-- The first bytes of a piece, that many, are fed, and what was heard is now the events of all bytes fed. The text of the new ones
 -- stands after the old text. After a refusal nothing is skipped, and nothing changes.
 pub record Skips {A R : Type 0} (has_heard : R → List (Event A) → Type 0) (line : Lines A) (old new : Seen) (piece : List ℕ) (before after : R)
     (old_text new_text : List ℕ) (used : ℕ) : Type 0 where

@@ -6,7 +6,7 @@ use Rattle.fit_record.specs.Records.{Fits}
 use Rattle.fit_chain.specs.Events.{Event, item}
 use Rattle.fit_report.specs.Heard.{AreHeard, latest_records}
 
--- A record can stand behind the records of its file.
+-- A record can stand after the records of its file.
 abbrev pub HeardRecordsFit : Type 0 → Type 0
 HeardRecordsFit A = (heard : List (Event A)) (r : Record A) → AreHeard (item r ∷ heard) → Fits (learn_all empty_environment (reverse (latest_records heard))) r
 

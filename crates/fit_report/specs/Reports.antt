@@ -13,7 +13,7 @@ use Rattle.fit_report.specs.declared.fault.ReportFault.{ReportFault}
 use Rattle.fit_report.specs.declared.fault.ReportFault.TheVariants as report
 use Rattle.fit_report.specs.Heard.{Lines, text_of}
 
--- The fault that ended the reading of a chain of at most so many files, after these bytes were taken.
+-- The fault that ended the reading of a chain of at most that many files, after these bytes were taken.
 abbrev pub Faults : Type 0 → ℕ → List ℕ → Channel → Fault → Type 0
 Faults A limit taken source fault = EndsReading A limit (AreChain A) taken source fault
 
@@ -37,7 +37,7 @@ Tells line bytes heard sink = AreEvents bytes (reverse heard) × Appends sink.be
 abbrev pub TellsSome : {A : Type 0} → Lines A → List ℕ → Channel → Type 0
 TellsSome {A} line bytes sink = (k : ℕ) × (heard : List (Event A)) × Tells line (take k bytes) heard sink
 
--- The sink has failed behind some first bytes of a text, so many; the count stops at 2^64 - 1.
+-- The sink has failed after some first bytes of a text, that many; the count stops at 2^64 - 1.
 abbrev pub TextFailsIn : List ℕ → Channel → ℕ → Type 0
 TextFailsIn text sink written =
     (sink.failed ≡ true) × (n : ℕ) × (n < length text) × Appends sink.before sink.after (take n text) × (written ≡ min n (2 ^ 64 - 1))

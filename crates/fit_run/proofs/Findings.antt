@@ -12,7 +12,7 @@ abbrev pub refusal : ℕ → Reason → Result (Unit {0}) Fault
 refusal place reason = Err (Refused place reason)
 
 module _ (A : Type 0) where
-  -- The byte at this place is refused behind those before it.
+  -- The byte at this place is refused after those before it.
   abbrev pub IsRefusedAt : List ℕ → ℕ → Reason → Type 0
   IsRefusedAt bytes place reason = IsRefused A chain_limit (take place bytes) (get_or bytes place 0) reason
 

@@ -9,7 +9,7 @@ use Rattle.fit_encode.specs.declared.fault.EncodeFault.{EncodeFault}
 use Rattle.fit_encode.specs.declared.fault.EncodeFault.TheVariants as encode
 use Rattle.fit_report.specs.Heard.{Lines, latest_records}
 
--- file k of the input has n bytes of data, in so many records
+-- file k of the input has n bytes of data, in that many records
 abbrev pub file_line : ℕ → ℕ → ℕ → List ℕ
 file_line k n records = codes "file " ++ decimal k ++ codes ": " ++ decimal n ++ codes " data bytes, " ++ decimal records ++ codes " records\n"
 
@@ -71,13 +71,13 @@ latest_size (header h n ∷ heard) = n
 latest_size (item r ∷ heard) = latest_size heard
 latest_size (file_end ∷ heard) = latest_size heard
 
--- These are the files that have ended, the bytes of data that the last header states, and the records behind it.
+-- These are the files that have ended, the bytes of data that the last header states, and the records after it.
 pub record Counts {A : Type 0} (files size records : ℕ) (heard : List (Event A)) : Type 0 where
   pub of_files : files ≡ ended_files heard
   pub of_size : size ≡ latest_size heard
   pub of_records : records ≡ length (latest_records heard)
 
--- What `check` writes of an event behind those before it: at the end of a file its line.
+-- What `check` writes of an event after those before it: at the end of a file its line.
 abbrev pub check_line : {A : Type 0} → Lines A
 check_line heard (header h n) = []
 check_line heard (item r) = []

@@ -26,12 +26,12 @@ use Rattle.fit_run.specs.Lines.{text_fault_line, encode_line, out_of_memory_line
 
 -- ---- lines in a sink
 
--- All of the bytes were put, or the sink has failed behind some first ones.
+-- All of the bytes were put, or the sink has failed after some first ones.
 abbrev pub PutsOrFails : Channel → List ℕ → Type 0
 PutsOrFails sink bytes = Appends sink.before sink.after bytes
     ⊎ ((sink.failed ≡ true) × (n : ℕ) × (n < length bytes) × Appends sink.before sink.after (take n bytes))
 
--- The output has failed behind some first bytes of the lines; the fault sink is told so, and the status is 4.
+-- The output has failed after some first bytes of the lines; the fault sink is told so, and the status is 4.
 abbrev pub OutputFailsIn : List ℕ → Channel → Channel → ℕ → Type 0
 OutputFailsIn lines output faults status =
     (output.failed ≡ true) × (n : ℕ) × (n < length lines) × Appends output.before output.after (take n lines) × PutsOrFails faults write_fault_line
@@ -56,7 +56,7 @@ abbrev pub good_bytes : {X : Type 0} → Result X Fault → List ℕ → List �
 good_bytes (Ok _) taken = taken
 good_bytes (Err fault) taken = before_fault fault taken
 
--- What is said of it behind the lines of the good bytes: a last line with status 0 for a chain, and 1 for none; or that the
+-- What is said of it after the lines of the good bytes: a last line with status 0 for a chain, and 1 for none; or that the
 -- source failed.
 abbrev pub Says : {X : Type 0} → Result X Fault → List ℕ → Channel → Channel → ℕ → Type 0
 Says (Ok _) lines output faults status = WritesLines (lines ++ ok_line) 0 output faults status
@@ -66,7 +66,7 @@ Says (Err (Read place)) lines output faults status =
     Appends output.before output.after lines × PutsOrFails faults (read_fault_line place) × (status ≡ 4)
 Says (Err (NoMemory used)) lines output faults status = ⊥
 
--- Memory was refused behind the lines, or the output has failed in them.
+-- Memory was refused after the lines, or the output has failed in them.
 abbrev pub LinesBreakOff : List ℕ → Channel → Channel → ℕ → Type 0
 LinesBreakOff lines output faults status =
     (Appends output.before output.after lines × PutsOrFails faults out_of_memory_line × (status ≡ 3)) ⊎ OutputFailsIn lines output faults status

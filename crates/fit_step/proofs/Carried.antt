@@ -1,4 +1,4 @@
--- What there is of a data message can go on just where the room behind it can be filled.
+-- What there is of a data message can go on just where the room after it can be filled.
 use Rattle.fit_step.proofs.Common.{◌≡◌, ◌↔◌, IsTrue, ℕ, ◌+◌, ◌-◌, List, ◌∷◌, ◌++◌, length, refl, sym, ap, ◌∙◌, subst, arith, Some, Option, IfSome, both_ways}
 use Rattle.fit_step.proofs.Common.{IsBytes, Defined, Record, Define, Data, Environment, defined_at, learn, is_definition, message_size, data_header}
 use Rattle.fit_step.proofs.Common.{DataHeaderFits, data_bytes, order_at, record_bytes, Fits, CanFill, can_fill, can_carry, CanCarry, can_carry_is, Continues}

@@ -5,7 +5,7 @@ use Rattle.fit_step.proofs.Common.{definition_reason, overrun_or_no_fit, nat_tes
 pub at_count : (h room b : ℕ) (bytes : List ℕ) → length bytes ≡ 4 → definition_reason h bytes room b ≡ Some Overrun
 at_count h room b bytes l = rw l refl
 
--- the size of the field behind k whole ones
+-- the size of the field after k whole ones
 pub at_size : (h room b n k : ℕ) (bytes : List ℕ) → slice_index bytes 4 ≡ n → length bytes ≡ 6 + 3 * k → k < n → definition_reason h bytes room b ≡ Some NoFit
 at_size h room b n k bytes i l less = grind (arith, nat_tests)
 
@@ -13,7 +13,7 @@ pub at_dev_count : (h room b n : ℕ) (bytes : List ℕ) → slice_index bytes 4
     → definition_reason h bytes room b ≡ Some (overrun_or_no_fit (1 + 3 * b) room)
 at_dev_count h room b n bytes i l = grind (arith, nat_tests)
 
--- the size of the developer field behind k whole ones
+-- the size of the developer field after k whole ones
 pub at_dev_size : (h room b n k : ℕ) (bytes : List ℕ) → slice_index bytes 4 ≡ n → length bytes ≡ 7 + 3 * n + 3 * k
     → definition_reason h bytes room b ≡ Some NoFit
 at_dev_size h room b n k bytes i l = grind (arith, nat_tests)

@@ -1,4 +1,4 @@
--- The bytes of a definition message behind its record header.
+-- The bytes of a definition message after its record header.
 use Rattle.fit_step.proofs.Common.{◌≡◌, inl, inr, ℕ, suc, ◌+◌, ◌-◌, ◌*◌, ◌^◌, ◌<◌, true, false, List, [], ◌∷◌, ◌++◌, length, refl, sym, ap, ◌∙◌, arith}
 use Rattle.fit_step.proofs.Common.{append_assoc, length-append, Some, None, Ok, Err, Option, flat_map, option_map, unwrap_or, nat_lt, cases_Bool, cases_eq}
 use Rattle.fit_step.proofs.Common.{cases_lt, both_ways, cond_both, eq-eqb, ne_eqb, eqb-true, eqb-false, lt-ltb, le-ltb, append-nil, flat_map_more, Order}
@@ -102,7 +102,7 @@ architecture_shut e room b d l zero_ one (Data v) rest f s =
     absurd (both_ways (is_definition (definition_header d)) (message_first e v (definition_header d) (d.reserved ∷ b ∷ rest) f s).bits.kind
     (is_a_definition d l))
 
--- behind the global number two definitions with the same front go on in the same way
+-- after the global number two definitions with the same front go on in the same way
 same_front : {A : Type 0} (c d : MessageDef A) (more : List ℕ) → DefinitionFits c → d.local < 16
     → definition_header c ∷ definition_bytes c ≡ definition_front d ++ more
     → (is_some_dev c.dev ≡ is_some_dev d.dev) × ((length c.fields ∷ flat_map field_bytes c.fields) ++ dev_part c.dev ≡ more)

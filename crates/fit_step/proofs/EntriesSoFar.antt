@@ -43,7 +43,7 @@ module _ {A : Type 0} (e : Environment A) (d : MessageDef A) where
     fields_counted e d h.local more h.dev (omega (arith, ap length h.fields)),
   )
 
-  -- some bytes of the next entry behind those that have come
+  -- some bytes of the next entry after those that have come
   among_fields : (left : ℕ) (entry : List ℕ) → AwaitsFields d left → length entry < 3
       → Counts (definition_header d ∷ (front_of d (length d.fields + left) ++ entry))
   among_fields left entry h few =

@@ -125,7 +125,7 @@ header_outcome {A} e tests room b low =
     none true = refl
     none false = tt
 
--- ---- by the length of the message and the test of what is left behind it
+-- ---- by the length of the message and the test of what is left after it
 
 -- what a data message of this definition begins
 abbrev pub begun_message : {A : Type 0} → ℕ → ℕ → Defined A → Step A

@@ -57,7 +57,7 @@ module _ {A : Type 0} (e : Environment A) (d : MessageDef A) (local : d.local < 
       let both : counts_so_far (definition_header d) more ≡ length d.fields + count = rw (some, at_fields, at_count) refl in
       omega (arith, definition_size, both, within)
 
--- the number behind so many bytes
+-- the number after that many bytes
 behind : (front : List ℕ) (n count : ℕ) (more : List ℕ) → length front ≡ n → slice_index (front ++ count ∷ more) n ≡ count
 behind front n count more long = get_or-append_right front (count ∷ more) n n 0 long (omega arith)
     ∙ ap (slice_index (count ∷ more)) (let none : n - n ≡ 0 = omega arith in none)
@@ -65,7 +65,7 @@ behind front n count more long = get_or-append_right front (count ∷ more) n n 
 pub behind_both : (front : List ℕ) (n count : ℕ) (more last : List ℕ) → length front ≡ n → slice_index ((front ++ count ∷ more) ++ last) n ≡ count
 behind_both front n count more last long = ap (λ l. slice_index l n) (append_assoc front (count ∷ more) last) ∙ behind front n count (more ++ last) long
 
--- the bytes of the fields behind the record header
+-- the bytes of the fields after the record header
 abbrev pub front_of : {A : Type 0} → MessageDef A → ℕ → List ℕ
 front_of d count = d.reserved ∷ architecture d.order ∷ number_bytes d.order 2 d.global ++ count ∷ flat_map field_bytes d.fields
 

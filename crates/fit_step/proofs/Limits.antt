@@ -99,7 +99,8 @@ abbrev pub IsLimited : {A : Type 0} → Option (Defined A) → Type 0
 IsLimited None = Unit {0}
 IsLimited (Some p) = (entry_count p.definition ≤ 510) × (item_count p ≤ 130050) × (length p.dev_codes ≡ length (dev_defs p.definition.dev))
 
--- Each definition has so many entries at most, messages of so many items, and a code for each developer field; and the described developer fields are in order.
+-- Each definition has that many entries at most, messages of that many items, and a code for each developer field; and the described
+-- developer fields are in order.
 pub record AreLimited {A : Type 0} (e : Environment A) : Type 0 where
   pub places : (local : ℕ) → IsLimited (defined_at e local)
   pub described : Ascend 0 e.described

@@ -1,4 +1,4 @@
--- The bytes of a data message behind its record header: none is refused, and the last one makes it whole.
+-- The bytes of a data message after its record header: none is refused, and the last one makes it whole.
 use Rattle.fit_step.proofs.Common.{◌≡◌, inl, inr, ℕ, suc, ◌-◌, ◌<◌, true, false, List, [], ◌∷◌, ◌++◌, length, refl, sym, ap, ◌∙◌, subst, arith, append_assoc}
 use Rattle.fit_step.proofs.Common.{length-append, Some, None, Ok, Option, flat_map, option_map, unwrap_or, cond_both, eqb-true, eqb-false, eq-eqb, ne_eqb}
 use Rattle.fit_step.proofs.Common.{cases_eq, append-nil, flat_map_more, Items, Order, HasShape, items_bytes, FieldItems, DevItems, item_width_positive}
@@ -138,7 +138,7 @@ drop_past : {X : Type 0} (done rest : List X) (f : X) → drop (suc (length done
 drop_past [] rest f = refl
 drop_past (d ∷ done) rest f = drop_past done rest f
 
--- the fields behind the one that is read
+-- the fields after the one that is read
 pub still_to_come : {A : Type 0} (all : List (ℕ × ℕ)) (t : TakenFields A) → IsTaking all t → drop (suc (length t.done)) all ≡ t.to_come
 still_to_come all t s = ap (drop (suc (length t.done))) s.layout ∙ drop_past t.done t.to_come t.field
 

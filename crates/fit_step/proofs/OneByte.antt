@@ -1,4 +1,4 @@
--- One byte behind any parts of a record.
+-- One byte after any parts of a record.
 use Rattle.fit_step.proofs.Common.{◌≡◌, inl, inr, ℕ, ◌+◌, ◌*◌, ◌<◌, true, false, [], ◌∷◌, ◌++◌, refl, subst, arith, ◌-◌, IsOk, nat_lt, MessageDef}
 use Rattle.fit_step.proofs.Common.{DefinitionPhase, FieldCount, DevCount, Environment, Tests, defining, step, definition_move, dev_count_byte, definition_rest}
 use Rattle.fit_step.proofs.Common.{least_rest, RecordPart, nothing, in_definition, in_fields, in_dev_fields, part_bytes, IsPart, HasBegun, state_of, le-ltb}

@@ -20,7 +20,7 @@ pub record Completes {A : Type 0} (e : Environment A) (room : ℕ) (bytes : List
 abbrev pub Moves : {A : Type 0} → Environment A → ℕ → List ℕ → Step A → Type 0
 Moves e room bytes made = Goes e room bytes made ⊎ Completes e room bytes made
 
--- b is refused behind the bytes, where room counts it, with the reason of its place
+-- b is refused after the bytes, where room counts it, with the reason of its place
 pub record Stops {A : Type 0} (e : Environment A) (room : ℕ) (bytes : List ℕ) (b : ℕ) (made : Step A) : Type 0 where
   pub reason : Reason
   pub is : made ≡ Err reason

@@ -54,7 +54,7 @@ whole_read e env room bytes piece used p in_progress r some within sixteen learn
       (starts_behind (learn e r) (room - length (bytes ++ take used piece)) (sixteen_learned e r sixteen) k.filled)),
 )
 
--- a byte of the piece, behind those of which this is the state
+-- a byte of the piece, after those of which this is the state
 module _ {A : Type 0} (e now env : Environment A) (room : ℕ) (bytes piece : List ℕ) (i : ℕ) (p q : Position) (before after : Option (Record A))
     (within : i < length piece) (low : slice_index piece i < 256) (known : now ≡ e)
     (come : IsInProgress now room (bytes ++ take i piece) p before) where

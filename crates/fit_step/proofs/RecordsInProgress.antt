@@ -24,7 +24,7 @@ sixteen_learned e (Data v) sixteen = ap length (same_places e v) ∙ sixteen
 pub fill_nothing : {A : Type 0} (e : Environment A) (room : ℕ) → CanFill e room → FillFrom e room []
 fill_nothing e room (rs, bytes, are, fit, size) = (rs, bytes, are, fit.0, sym fit.1, omega (arith, size))
 
--- one record, and others behind it
+-- one record, and others after it
 pub record_fills : {A : Type 0} (e : Environment A) (room : ℕ) (r : Record A) (bytes : List ℕ) → IsRecord e r bytes → length bytes ≤ room
     → FillFrom (learn e r) (room - length bytes) [] → FillFrom e room bytes
 record_fills e room r bytes is within (rs, rest, are, fit, spelled, size) =
@@ -41,7 +41,7 @@ continues_fill e left part c =
       omega (arith, c.total, size, length-append c.rest after),
     )
 
--- the first of the records goes on behind the bytes, where these are no whole record
+-- the first of the records goes on after the bytes, where these are no whole record
 pub fill_continues : {A : Type 0} (e : Environment A) (room : ℕ) (front : List ℕ) (b : ℕ) → NoRecord e front → FillFrom e room (front ++ b ∷ [])
     → Continues e (front ++ b ∷ []) (room - length (front ++ b ∷ []))
 fill_continues {A} e room front b none ([], rest, are, fit, spelled, total) = absurd (impossible front spelled)

@@ -19,7 +19,7 @@ KeepsRoom e room (Ok (t, None)) = (t.room + 1 ≡ room) × (least_rest e t ≤ t
 KeepsRoom e room (Ok (t, Some r)) = 0 < room
 KeepsRoom e room (Err reason) = Unit {0}
 
--- what is behind the first of the fields from a place on
+-- what is after the first of the fields from a place on
 pub behind : {X : Type 0} (place : ℕ) (all rest : List X) (f : X) → drop place all ≡ f ∷ rest → drop (suc place) all ≡ rest
 behind zero [] rest f h = absurd cc
 behind zero (x ∷ all) rest f h = cc
@@ -28,7 +28,7 @@ behind (suc place) (x ∷ all) rest f h = behind place all rest f h
 
 -- ---- data messages
 
--- where the search for the next field that has bytes ends, so many bytes of the fields are to come
+-- where the search for the next field that has bytes ends, that many bytes of the fields are to come
 abbrev Leaves : List (ℕ × ℕ) → ℕ → Option (ℕ × ℕ × ℕ) → Type 0
 Leaves all total None = total ≡ 0
 Leaves all total (Some (place, width, left)) = left + sizes (drop (suc place) all) ≡ total
@@ -45,7 +45,7 @@ rest_found place all (f ∷ rest) at =
     subst (λ n. Leaves all n (next_with_bytes (suc place) rest)) same (rest_found (suc place) all rest next))
     (λ z. omega (arith, sum, others))
 
--- in a data message this room is left, and so many bytes of the message are to come
+-- in a data message this room is left, and that many bytes of the message are to come
 abbrev pub Begun : {A : Type 0} → Environment A → ℕ → ℕ → Step A → Type 0
 Begun e room total (Ok (t, None)) = (t.room ≡ room) × (least_rest e t ≡ total) × (goes_on e t ≡ can_fill e (room - total))
 Begun e room total (Ok (t, Some r)) = (t.room ≡ room) × (total ≡ 0) × (can_fill (learn e r) room ≡ can_fill e room)

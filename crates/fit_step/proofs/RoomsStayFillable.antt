@@ -15,7 +15,7 @@ use Rattle.fit_record.proofs.RoomSums.{fills_by_ones}
 use Rattle.fit_step.proofs.HeaderSteps.{begun_message}
 use Rattle.fit_step.proofs.Rest.{Begun, field_byte, dev_byte, message_begins}
 
--- what a step leaves can go on, and behind a whole record the room can be filled
+-- what a step leaves can go on, and after a whole record the room can be filled
 abbrev pub GoesOn : {A : Type 0} → Environment A → Step A → Type 0
 GoesOn e (Ok (t, None)) = goes_on e t ≡ true
 GoesOn e (Ok (t, Some r)) = can_fill (learn e r) t.room ≡ true

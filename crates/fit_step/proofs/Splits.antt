@@ -1,13 +1,13 @@
 -- Two ways to begin one list.
 use Rattle.fit_step.proofs.Common.{◌≡◌, ◌⊎◌, inl, inr, ℕ, List, [], ◌∷◌, ◌++◌, refl}
 
--- the second goes on behind the first
+-- the second goes on after the first
 pub record GoesPast (a b x y : List ℕ) : Type 0 where
   pub more : List ℕ
   pub second : b ≡ a ++ more
   pub behind : x ≡ more ++ y
 
--- the first goes on behind the second, by one byte at least
+-- the first goes on after the second, by one byte at least
 pub record EndsAfter (a b x y : List ℕ) : Type 0 where
   pub next : ℕ
   pub more : List ℕ

@@ -68,7 +68,7 @@ taken_bytes_stand e s t b low h made = still_stands e (tests_of e) b low s t h m
 
 -- ---- a byte that is refused
 
--- a data message with this record header, behind which the room can be filled
+-- a data message with this record header, after which the room can be filled
 carried : {A : Type 0} (e : Environment A) (room b : ℕ) (p : Defined A) → length e.places ≡ 16 → 0 < room → is_definition b ≡ false
     → defined_at e (local_type b) ≡ Some p
     → (r : Record A) (rest : List ℕ) (left : ℕ) → Fits e r → record_bytes e r ≡ b ∷ rest → CanFill (learn e r) left → length rest + left ≡ room - 1
@@ -112,7 +112,7 @@ module _ {A : Type 0} (e : Environment A) (room : ℕ) (d : MessageDef A) (b : �
       (law.1 (subst (λ bytes. Continues e bytes (room - 1)) (sym counted) c))
   definition_ends k h bad c = bad
 
--- behind parts of which a test of rooms refuses the byte, no record fills the room
+-- after parts of which a test of rooms refuses the byte, no record fills the room
 no_fit_ends : {A : Type 0} (e : Environment A) (room : ℕ) (f : RecordPart A) (b : ℕ) → length e.places ≡ 16 → IsPart e f → 0 < room → b < 256
     → step e (tests_of e) (state_of room f) b ≡ Err NoFit → Continues e (part_bytes e f ++ b ∷ []) (room - 1) → ⊥
 no_fit_ends e room nothing b sixteen h some low refused c =

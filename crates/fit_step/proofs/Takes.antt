@@ -37,7 +37,7 @@ no_rest n k w r e p q =
       | inr over ↦ let more : k * w ≤ n * w = mul-le-mul_right w over in omega (arith, more)
     ]
 
--- what the field in progress is behind one byte more, where that byte ends a number or doesn't
+-- what the field in progress is after one byte more, where that byte ends a number or doesn't
 abbrev pub grown_at : {A : Type 0} → Bool → Order → TakenFields A → ℕ → TakenFields A
 grown_at c o t b = record t {
   bits = cond c (t.bits ++ number o (t.partial ++ b ∷ []) ∷ []) t.bits;
@@ -143,7 +143,7 @@ stands_at false o all t b h s low more = record {
   bytes = IsBytes-append t.partial (b ∷ []) s.bytes (IsBytes-cons b [] low IsBytes-none);
 }
 
--- behind the last byte of a field it is whole
+-- after the last byte of a field it is whole
 pub whole_at : {A : Type 0} (c : Bool) (o : Order) (all : List (ℕ × ℕ)) (t : TakenFields A) (b : ℕ) → IsEnd c t b → IsTaking all t → b < 256 → t.left ≡ 1
     → ((grown_at c o t b).partial ≡ []) × HaveShape (t.done ++ t.field ∷ []) (taken (grown_at c o t b))
 whole_at true o all t b h s low last = (

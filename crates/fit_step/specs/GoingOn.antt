@@ -1,4 +1,4 @@
--- Whether what there is of a record can still become a record with others behind it that fill the room.
+-- Whether what there is of a record can still become a record with others after it that fill the room.
 -- No contract of another crate names these definitions.
 use Rattle.std.specs.Prelude.{◌≡◌, ℕ, ◌+◌, ◌-◌, ◌*◌, Bool, true, false, List, ◌++◌, length, Option, Some, None}
 use Rattle.fit_base.specs.Numbers.{IsBytes}
@@ -22,7 +22,7 @@ abbrev pub has_dev : Option (List DevDef) → Bool
 has_dev None = false
 has_dev (Some _) = true
 
--- the room is what is left behind the bytes that have come
+-- the room is what is left after the bytes that have come
 abbrev pub definition_goes_on : {A : Type 0} → Environment A → DefinitionPhase → MessageDef A → ℕ → Bool
 definition_goes_on e Reserved d room = can_complete_front (has_dev d.dev) 0 room
 definition_goes_on e Architecture d room = can_complete_front (has_dev d.dev) 1 room
@@ -46,7 +46,7 @@ goes_on_at e (DevItems place width left) s = can_fill e (s.room - least_rest e s
 abbrev pub goes_on : {A : Type 0} → Environment A → State A → Bool
 goes_on e s = goes_on_at e s.phase s
 
--- Some record begins with the bytes, and records behind it fill what it leaves of the room.
+-- Some record begins with the bytes, and records after it fill what it leaves of the room.
 pub record Continues {A : Type 0} (e : Environment A) (bytes : List ℕ) (room : ℕ) : Type 0 where
   pub whole : Record A
   pub rest : List ℕ

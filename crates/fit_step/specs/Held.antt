@@ -24,7 +24,7 @@ part_size e (b ∷ bytes) =
     if is_definition b then counts_so_far b bytes
     else option_map_or (λ p. entry_count p.definition + item_count p) (defined_at e (local_type b)) 0
 
--- The entries that are whole in some bytes of a definition message after its record header: the fields begin behind five bytes, an
+-- The entries that are whole in some bytes of a definition message after its record header: the fields begin after five bytes, an
 -- entry has three, and one byte stands between the fields and the developer fields. `proofs/HeldRows` of `fit_chain` computes it after each byte of
 -- a definition message.
 abbrev pub entries_so_far : List ℕ → ℕ

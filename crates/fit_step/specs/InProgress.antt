@@ -32,7 +32,7 @@ FillFrom {A} e room bytes =
     (records : List (Record A)) × (rest : List ℕ) × IsBytes rest × AllFit e records
     × (records_bytes e records ≡ bytes ++ rest) × (length bytes + length rest ≡ room)
 
--- The bytes are parts of a record, or none; this is the state behind them, and it can go on.
+-- The bytes are parts of a record, or none; this is the state after them, and it can go on.
 pub record StandsBehind {A : Type 0} (e : Environment A) (room : ℕ) (bytes : List ℕ) (s : State A) : Type 0 where
   pub sixteen : length e.places ≡ 16
   pub are_bytes : IsBytes bytes
@@ -116,13 +116,13 @@ abbrev pub IdleIsBetweenRecords : Type 0 → Type 0
 IdleIsBetweenRecords A = (e : Environment A) (room : ℕ) (bytes : List ℕ) (p : Position) (in_progress : Option (Record A))
     → IsInProgress e room bytes p in_progress → (in_progress ≡ None) ↔ (bytes ≡ [])
 
--- A byte with which no records fill the room, behind bytes with which some do and which are no whole record, has a reason.
+-- A byte with which no records fill the room, after bytes with which some do and which are no whole record, has a reason.
 abbrev pub RefusedBytesHaveReasons : Type 0 → Type 0
 RefusedBytesHaveReasons A = (e : Environment A) (room : ℕ) (bytes : List ℕ) (b : ℕ) → length e.places ≡ 16 → 0 < room → IsBytes bytes → b < 256
     → NoRecord e bytes → FillFrom e room bytes → (FillFrom e room (bytes ++ b ∷ []) → ⊥)
     → (reason : Reason) × (record_reason e bytes (room - length bytes) b ≡ Some reason)
 
--- What is kept of a record in progress, behind records, is what is whole in its bytes, and no more than its bytes allow.
+-- What is kept of a record in progress, after records, is what is whole in its bytes, and no more than its bytes allow.
 abbrev pub HeldIsOfBytes : Type 0 → Type 0
 HeldIsOfBytes A = (records : List (Record A)) (room : ℕ) (bytes : List ℕ) (p : Position) (in_progress : Option (Record A))
     → AllFit empty_environment records → IsBytes (records_bytes empty_environment records)

@@ -1,5 +1,5 @@
 -- What one byte after another makes of records and of the room that is left for them, where an environment is known.
--- The room is the number of bytes of the data section that are to come behind the bytes that have come.
+-- The room is the number of bytes of the data section that are to come after the bytes that have come.
 use Rattle.std.specs.Prelude.{◌≡◌, ◌↔◌, IsTrue, true, ℕ, ◌+◌, ◌-◌, ◌<◌, ◌≤◌, List, [], ◌∷◌, ◌++◌, length, Some, None, Ok, Err}
 use Rattle.fit_base.specs.Numbers.{IsBytes}
 use Rattle.fit_frame.specs.declared.reason.Reason.{Reason}
@@ -26,7 +26,7 @@ PartsAreTested A = (e : Environment A) (part : RecordPart A) (room : ℕ) → le
     → IsPart e part → IsBytes (part_bytes e part) → least_rest e (state_of room part) ≤ room
     → IsTrue (goes_on e (state_of room part)) ↔ CanBecomeRecord e part room
 
--- A record within the room, behind which records can fill what is left, ends with its last byte and not before.
+-- A record within the room, after which records can fill what is left, ends with its last byte and not before.
 abbrev pub RecordsEnd : Type 0 → Type 0
 RecordsEnd A = (e : Environment A) (r : Record A) (bytes : List ℕ) (left : ℕ) → length e.places ≡ 16
     → IsRecord e r bytes → IsBytes bytes → CanFill (learn e r) left
@@ -40,7 +40,7 @@ TakenBytesGoOn A = (e : Environment A) (part : RecordPart A) (room b : ℕ) (t :
     → (next : RecordPart A) × IsPart e next × (part_bytes e next ≡ part_bytes e part ++ b ∷ [])
     × (t ≡ state_of (room - 1) next) × (least_rest e t ≤ room - 1) × (goes_on e t ≡ true)
 
--- or a whole record, behind which records can fill the room that is left.
+-- or a whole record, after which records can fill the room that is left.
 abbrev pub TakenBytesEnd : Type 0 → Type 0
 TakenBytesEnd A = (e : Environment A) (part : RecordPart A) (room b : ℕ) (t : State A) (r : Record A) → length e.places ≡ 16
     → IsPart e part → b < 256 → least_rest e (state_of room part) ≤ room → goes_on e (state_of room part) ≡ true

@@ -89,7 +89,7 @@ add_number place [] n = []
 add_number zero (i ∷ items) n = record i { bits = i.bits ++ n ∷ [] } ∷ items
 add_number (suc place) (i ∷ items) n = i ∷ add_number place items n
 
--- the fields behind these bytes of a number, and the bytes that make no whole number
+-- the fields after these bytes of a number, and the bytes that make no whole number
 abbrev pub with_number : {A : Type 0} → Order → ℕ → ℕ → List (Items A) → List ℕ → List (Items A)
 with_number order width place items bytes = if length bytes == width then add_number place items (number order bytes) else items
 
@@ -119,7 +119,7 @@ dev_move e place width left room v partial b =
 
 -- ---- definition messages
 
--- behind the fields
+-- after the fields
 abbrev pub after_fields : {A : Type 0} → ℕ → MessageDef A → Option (List DevDef) → NextState A
 after_fields room d None = (start room, Some (Define d))
 after_fields room d (Some _) = (defining DevCount room d, None)
@@ -255,6 +255,6 @@ rest_at e (Definition k) s = definition_rest k (definition_in_progress s.in_prog
 rest_at e (FieldItems place width left) s = left + fields_rest e place (values_of s.in_progress).local
 rest_at e (DevItems place width left) s = left + dev_rest e place (values_of s.in_progress).local
 
--- For a definition whose counts are still to come, as if they were 0; for a data message just so many.
+-- For a definition whose counts are still to come, as if they were 0; for a data message just that many.
 abbrev pub least_rest : {A : Type 0} → Environment A → State A → ℕ
 least_rest e s = rest_at e s.phase s

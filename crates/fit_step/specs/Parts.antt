@@ -58,7 +58,7 @@ all_items t = taken t ++ map no_items t.to_come
 abbrev pub definition_front : {A : Type 0} → MessageDef A → List ℕ
 definition_front d = definition_header d ∷ d.reserved ∷ architecture d.order ∷ number_bytes d.order 2 d.global
 
--- up to the fields that have come, where so many are counted
+-- up to the fields that have come, where that many are counted
 abbrev pub fields_front : {A : Type 0} → MessageDef A → ℕ → List ℕ
 fields_front d count = definition_front d ++ count ∷ flat_map field_bytes d.fields
 
@@ -101,7 +101,7 @@ pub record IsNew {A : Type 0} (d : MessageDef A) : Type 0 where
   pub fields : d.fields ≡ []
   pub dev : HasNone d.dev
 
--- so many entries of fields are to come
+-- that many entries of fields are to come
 pub record AwaitsFields {A : Type 0} (d : MessageDef A) (left : ℕ) : Type 0 where
   pub local : d.local < 16
   pub global : d.global < 2 ^ 16
@@ -109,7 +109,7 @@ pub record AwaitsFields {A : Type 0} (d : MessageDef A) (left : ℕ) : Type 0 wh
   pub few : length d.fields + left < 256
   pub dev : HasNone d.dev
 
--- so many entries of developer fields are to come
+-- that many entries of developer fields are to come
 pub record AwaitsDev {A : Type 0} (d : MessageDef A) (left : ℕ) : Type 0 where
   pub local : d.local < 16
   pub global : d.global < 2 ^ 16
@@ -155,7 +155,7 @@ abbrev pub HasBegun : {A : Type 0} → RecordPart A → Type 0
 HasBegun nothing = ⊥
 HasBegun part = Unit {0}
 
--- ---- the state behind them
+-- ---- the state after them
 
 abbrev pub state_of : {A : Type 0} → ℕ → RecordPart A → State A
 state_of room nothing = start room

@@ -30,7 +30,7 @@ pub record PartFitsRoom {A : Type 0} (e : Environment A) (s : State A) : Type 0 
   pub is : s ≡ state_of s.room part
   pub within : least_rest e s ≤ s.room
 
--- The answer of a step, where `after` is the record in progress behind it, is what the byte makes. With true that record is
+-- The answer of a step, where `after` is the record in progress after it, is what the byte makes. With true that record is
 -- whole. Where memory was refused the byte isn't one to be refused.
 abbrev pub Steps : {A : Type 0} → Option (Record A) → Result (Position × Bool) Stop → Step A → Type 0
 Steps after (Ok (p, true)) made = made ≡ Ok (state_at p None, after)
@@ -39,7 +39,7 @@ Steps after (Err (Refused reason)) made = made ≡ Err reason
 Steps after (Err NoMemory) made = IsOk made
 
 -- For these bytes no memory is wanted: the record header of a definition message, or of a data message without fields and
--- developer fields, the bytes of a definition message that end no entry, and those of a data message, behind its record
+-- developer fields, the bytes of a definition message that end no entry, and those of a data message, after its record
 -- header, that end no number.
 abbrev pub TakesNone : {A : Type 0} → Environment A → Phase → List ℕ → ℕ → Type 0
 TakesNone e RecordHeader partial b = IsTrue (is_definition b) ⊎ HeadsEmptyMessage e b

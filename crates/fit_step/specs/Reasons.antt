@@ -35,7 +35,7 @@ definition_reason header_byte bytes room b =
     else if (place - 1 - fields_end) % 3 == 1 then Some NoFit
     else None
 
--- a byte behind some bytes of a record
+-- a byte after some bytes of a record
 abbrev pub record_reason : {A : Type 0} → Environment A → List ℕ → ℕ → ℕ → Option Reason
 record_reason e [] room b = Some (record_header_reason e room b)
 record_reason e (h ∷ bytes) room b = if is_definition h then definition_reason h bytes room b else None

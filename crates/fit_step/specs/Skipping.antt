@@ -15,7 +15,7 @@ abbrev pub Learns : {A : Type 0} → Environment A → Environment A → List �
 Learns e after bytes records = AreRecords e records bytes × (learn_all e records ≡ after)
 
 -- Nothing was skipped; or no byte of a record had come, the bytes used are those of the records, and at least six bytes of the room are
--- to come behind them.
+-- to come after them.
 abbrev pub SkipsRecords : {A : Type 0} → Environment A → Environment A → ℕ → List ℕ → Position → Position → Option (Record A) → List ℕ → ℕ → List (Record A)
     → Type 0
 SkipsRecords old new room bytes before after in_progress piece used records =

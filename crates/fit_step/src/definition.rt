@@ -1,4 +1,4 @@
-//! The bytes of a definition message behind its record header, one by one (FIT protocol, "Definition Message").
+//! The bytes of a definition message after its record header, one by one (FIT protocol, "Definition Message").
 ghost use Rattle.std.specs.Prelude.{◌≡◌, ◌<◌, OnErr, IsSome, Some, None, Ok, []};
 ghost use Rattle.fit_record.specs.declared.message.Record.TheVariants.{Define};
 ghost use Rattle.fit_record.specs.Records.{DefinitionFits};

@@ -1,4 +1,4 @@
-//! One byte of a definition message behind its record header.
+//! One byte of a definition message after its record header.
 ghost use Rattle.std.specs.Prelude.{◌≡◌, ◌<◌, OnErr, []};
 ghost use Rattle.fit_step.specs.declared.phase.Phase.TheVariants.{Definition};
 ghost use Rattle.fit_step.specs.Machine.{definition_move};
@@ -15,7 +15,7 @@ use crate::{DefinitionPhase, Phase, Stop};
 use fit_record::{Env, MessageDef};
 use std::alloc::Allocator;
 
-/// One byte of a definition message behind its record header. Whether the definition message is whole.
+/// One byte of a definition message after its record header. Whether the definition message is whole.
 pub(crate) fn definition_byte<A: Allocator>(
     env: &Env<A>,
     part: DefinitionPhase,

@@ -61,7 +61,7 @@ fn is_message<A: Allocator>(in_progress: &Option<Record<A>>) -> bool
     }
 }
 
-/// Whether a byte behind so many of a number of this width leaves some of the number to come.
+/// Whether a byte after that many of a number of this width leaves some of the number to come.
 fn ends_no_number(count: usize, width: u8, left: u8) -> bool
     ensures { result ≡ true → (count < 7) × (count + 1 < width) × (1 < left) }
 {

@@ -1,4 +1,4 @@
-//! The bytes of a data message behind its record header, one by one (FIT protocol, "Data Message").
+//! The bytes of a data message after its record header, one by one (FIT protocol, "Data Message").
 ghost use Rattle.std.specs.Prelude.{◌≡◌, ℕ, ◌+◌, ◌<◌, ◌≤◌, ◌⊎◌, IsOk, OnOk, OnErr, Some, [], ◌∷◌, ◌++◌, length, drop};
 ghost use Rattle.fit_record.specs.declared.message.Values.{Values};
 ghost use Rattle.fit_record.specs.declared.message.Record.TheVariants.{Values as Data};

@@ -34,7 +34,7 @@ pub fn refused_bytes_end_all<A: Allocator>()
     ensures { RefusedBytesEndAll A }
 {}
 
-/// What the position and the record in progress are where a record begins, and what they are good for behind some bytes.
+/// What the position and the record in progress are where a record begins, and what they are good for after some bytes.
 pub fn records_are_in_progress<A: Allocator>()
     ensures begin { RecordsBegin A }
     ensures go_on { RecordsInProgress A }

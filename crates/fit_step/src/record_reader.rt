@@ -136,7 +136,7 @@ fn take_whole<A: Allocator + Copy>(
 }
 
 /// Reads the bytes of a record, of which some may have come: how many of the piece were used, and the record where it is complete.
-/// A complete record is learned, and the next one begins behind it.
+/// A complete record is learned, and the next one begins after it.
 ///
 /// It refuses the first byte with which no records can fill the data section. Where memory is refused, the byte can come again.
 pub fn read_record<A: Allocator + Copy>(

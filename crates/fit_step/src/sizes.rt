@@ -12,7 +12,7 @@ use fit_frame::Reason;
 use fit_record::{Env, MessageDef, body_length};
 use std::alloc::Allocator;
 
-/// Whether a definition message can be completed where so many bytes of entries of fields are to come, and behind them the
+/// Whether a definition message can be completed where that many bytes of entries of fields are to come, and after them the
 /// number of developer fields, if there are any.
 fn entries_complete<A: Allocator>(
     env: &Env<A>,

@@ -8,7 +8,7 @@ use Rattle.fit_sum.proofs.TurnsAreShifts.{IsWords, joined, IsWords-turns, length
 use Rattle.fit_sum.proofs.BytesOfWords.{number-apart, IsWords-words_from, length-words_from, joined-block, joined-mix, IsWords-mix, length-mix}
 use Rattle.fit_sum.proofs.SpelledWords.{IsBytes-spelled, length-spelled, number-spelled}
 
--- The number r carries what the bytes of front leave: with any 128 bytes or more behind them, it goes into those.
+-- The number r carries what the bytes of front leave: with any 128 bytes or more after them, it goes into those.
 pub Carries : ℕ → List ℕ → ℕ → Type 0
 Carries register front r = (t : List ℕ) → AllBytes t → 128 ≤ length t → run register (front ++ t) ≡ shifts (8 * length t) (bit_xor r (bytes_number t))
 

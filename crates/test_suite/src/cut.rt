@@ -8,7 +8,7 @@ use std::alloc::Global;
 use std::process::Abort;
 use test_known::{Known, files};
 
-/// How many files of an input are whole in so many of its bytes.
+/// How many files of an input are whole in that many of its bytes.
 fn whole_files(known: &Known, count: usize) -> usize {
     if count < known.first {
         0
@@ -19,7 +19,7 @@ fn whole_files(known: &Known, count: usize) -> usize {
     }
 }
 
-/// Whether these are the first files of an input, so many and no more.
+/// Whether these are the first files of an input, that many and no more.
 fn are_first(alloc: Global, known: &Known, files: &[FitFile], count: usize) -> bool {
     let mut rest = known.bytes;
     for (place, file) in files.iter().enumerate() {

@@ -29,7 +29,7 @@ fn message(alloc: Global, time: u64, rate: u64) -> Result<Values, AllocError> {
 fn values_of_a_message(rt: HostRuntime) -> Result<(), AllocError> {
     let mut env = Env::new(rt.alloc());
     define(rt.alloc(), &mut env)?;
-    // The last byte is that of the record behind it.
+    // The last byte is that of the record after it.
     let bytes = [0x00, 0x1F, 0xCA, 0x9A, 0x3B, 0x78, 0x40];
     let found = env.message_bytes(&bytes).expect(&rt, "a message");
     assert_eq!(rt; (found.local, found.offset, found.body.len()), (0, None, 5));

@@ -97,7 +97,7 @@ fn is_event(event: &Event, file: &Told, number: usize, place: usize) -> bool {
     is_next && end.0 == place
 }
 
-/// Feeds a piece of a file, of which so many bytes and events came before. Returns how many events have come then.
+/// Feeds a piece of a file, of which that many bytes and events came before. Returns how many events have come then.
 fn tell_piece(
     rt: &impl Abort,
     decoder: &mut Decoder,

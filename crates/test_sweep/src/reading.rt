@@ -128,7 +128,7 @@ fn cut(alloc: Global, bytes: &[u8]) -> Result<usize, Fault> {
     Ok(same)
 }
 
-/// Whether the events of these pieces end after so many bytes each.
+/// Whether the events of these pieces end after that many bytes each.
 fn ends_are(alloc: Global, pieces: &[&[u8]], ends: &[usize]) -> Result<bool, Fault> {
     Ok(event_ends(alloc, pieces)?.as_slice() == ends)
 }
@@ -155,7 +155,7 @@ fn event_ends(alloc: Global, pieces: &[&[u8]]) -> Result<Vec<usize>, Fault> {
     Ok(ends)
 }
 
-/// Feeds a piece that has so many bytes before it.
+/// Feeds a piece that has that many bytes before it.
 fn keep_ends(
     decoder: &mut Decoder,
     piece: &[u8],

@@ -16,11 +16,11 @@ pub record IsBehind {A : Type 0} (files : List (FitFile A)) (decoder : Seen) (co
   pub viable : IsViable A chain_limit taken
   pub come : HasCome files (at_header []) taken
 
--- Until a fault the reading is behind some files.
+-- Until a fault the reading is after some files.
 abbrev pub ReadsOn : Type 0 → Option Fault → Seen → ℕ → List ℕ → Type 0
 ReadsOn A fault decoder count taken = fault ≡ None → (files : List (FitFile A)) × IsBehind files decoder count taken
 
--- Whether the fault is the input's end behind a whole chain.
+-- Whether the fault is the input's end after a whole chain.
 abbrev pub IsEnd : Type 0 → Seen → Fault → Bool → Type 0
 IsEnd A decoder (Truncated place) end = (end ≡ true) ↔ ((decoder.refusal ≡ None) × AreChain A decoder.bytes)
 IsEnd A decoder fault end = end ≡ false

@@ -1,4 +1,4 @@
--- What holds of a decoder's fields behind the bytes fed. No public contract names these.
+-- What holds of a decoder's fields after the bytes fed. No public contract names these.
 use Rattle.std.specs.Prelude.{◌≡◌, ℕ, ◌-◌, ◌<◌, ◌≤◌, false, if◌then◌else◌, List, [], ◌++◌, length, take, slice_index, Option, None, Result, Ok, Err}
 use Rattle.std.specs.Prelude.{◌+◌}
 use Rattle.fit_sum.specs.Checksum.{checksum}
@@ -66,7 +66,7 @@ pub record InData {A : Type 0} (d : Fields A) (bytes : List ℕ) : Type 0 where
   pub some : 0 < size - length (records_bytes empty_environment records)
   pub in_record : IsInProgress d.env (size - length (records_bytes empty_environment records)) part d.position d.in_progress
 
--- behind a data section
+-- after a data section
 pub record InSum {A : Type 0} (d : Fields A) (bytes : List ℕ) : Type 0 where
   pub files : List (FitFile A)
   pub header : FileHeader
@@ -86,11 +86,11 @@ HoldsAt Header d bytes = InHeader d bytes
 HoldsAt Data d bytes = InData d bytes
 HoldsAt ClosingSum d bytes = InSum d bytes
 
--- The fields are those behind these bytes.
+-- The fields are those after these bytes.
 abbrev pub Holds : {A : Type 0} → Fields A → List ℕ → Type 0
 Holds d bytes = HoldsAt d.stage.section d bytes
 
--- What the use of so many bytes of a piece told.
+-- What the use of that many bytes of a piece told.
 abbrev pub Advanced : {A : Type 0} → List ℕ → List ℕ → ℕ → Result (Answer A) Stop → Type 0
 Advanced {A} bytes piece used (Ok answers.More) = (used ≡ length piece) × Quiet A bytes piece used
 Advanced {A} bytes piece used (Ok (answers.Header h n)) = (0 < used) × (used ≤ length piece) × Least A bytes piece used (header h n)
@@ -107,7 +107,7 @@ abbrev pub NotRefused : {A : Type 0} → Result (Answer A) Stop → Type 0
 NotRefused (Err (Refused reason)) = ⊥
 NotRefused answer = Unit {0}
 
--- What the bytes used tell, and that a chain begins with them; and unless a byte was refused, the fields are those behind them.
+-- What the bytes used tell, and that a chain begins with them; and unless a byte was refused, the fields are those after them.
 pub record NextAnswer {A : Type 0} (d : Fields A) (bytes piece : List ℕ) (used : ℕ) (answer : Result (Answer A) Stop) : Type 0 where
   pub told : Advanced bytes piece used answer
   pub viable : IsViable A chain_limit (bytes ++ take used piece)

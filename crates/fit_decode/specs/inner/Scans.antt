@@ -11,7 +11,7 @@ use Rattle.fit_frame.specs.Beginning.{Seen, IsFileHeader, IsWholeHeader, BeginsH
 abbrev pub IsHeaderPart : List ℕ → Type 0
 IsHeaderPart bytes = BeginsHeader bytes × (IsWholeHeader bytes → ⊥)
 
--- Behind the bytes of a header that had come, so many of the piece were used.
+-- After the bytes of a header that had come, that many of the piece were used.
 abbrev pub HeaderScanned : List ℕ → List ℕ → Seen → ℕ → Result (Option (Header × ℕ)) Reason → Type 0
 HeaderScanned front piece new used (Ok None) =
     (used ≡ length piece) × (new ≡ record { bytes = front ++ take used piece; refusal = None }) × IsHeaderPart (front ++ take used piece)
@@ -26,7 +26,7 @@ HeaderScanned front piece new used (Err reason) =
 abbrev pub half_sum : ℕ → Bool → List ℕ
 half_sum sum half = if half then sum % 256 ∷ [] else []
 
--- Behind the bytes of a closing checksum that had come, so many of the piece were used.
+-- After the bytes of a closing checksum that had come, that many of the piece were used.
 abbrev pub SumScanned : ℕ → Bool → List ℕ → Bool → ℕ → Result Bool Reason → Type 0
 SumScanned sum before piece after used (Ok false) = (used ≡ length piece) × (half_sum sum before ++ take used piece ≡ half_sum sum after)
 SumScanned sum before piece after used (Ok true) =

@@ -19,7 +19,7 @@ use Rattle.fit_decode.specs.declared.section.Section.TheVariants.{Header, Data, 
 use Rattle.fit_decode.specs.declared.section.Stage.{Stage}
 use Rattle.fit_decode.specs.inner.Scans.{IsHeaderPart, HeaderScanned, SumScanned}
 
--- behind a header or a record, by the bytes of data that are to come
+-- after a header or a record, by the bytes of data that are to come
 abbrev pub section_of : ℕ → Section
 section_of room = if room == 0 then ClosingSum else Data
 

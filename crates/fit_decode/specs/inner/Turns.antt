@@ -16,7 +16,7 @@ use Rattle.fit_chain.specs.Refusals.{IsRefused}
 abbrev pub unrefused : List ℕ → Seen
 unrefused bytes = record { bytes = bytes; refusal = None }
 
--- What a piece fed behind the bytes told: no end of a file; or the end of one, with so many of its bytes; or a fault.
+-- What a piece fed after the bytes told: no end of a file; or the end of one, with that many of its bytes; or a fault.
 abbrev pub PieceFed : {A : Type 0} → List (FitFile A) → List ℕ → List ℕ → Seen → Option Header → List (Record A) → Result Bool Fault → Type 0
 PieceFed files bytes piece new head records (Ok false) = (new ≡ unrefused (bytes ++ piece)) × ComesToRecords files head records (bytes ++ piece)
 PieceFed files bytes piece new head records (Ok true) =
@@ -38,7 +38,7 @@ pub record LastPiece {A : Type 0} (files : List (FitFile A)) (taken : List ℕ) 
   pub come : ComesTo files before
   pub within : NoSooner files before (length piece)
 
--- The fault that ended the reading of the file behind these files, after all these bytes.
+-- The fault that ended the reading of the file after these files, after all these bytes.
 abbrev pub FaultIn : {A : Type 0} → List (FitFile A) → List ℕ → Option (List ℕ) → Bool → Seen → Fault → Type 0
 FaultIn {A} files taken has failed new (Refused place reason) =
     (place < length taken) × (length taken ≤ place + piece_size) × ComesTo files (take place taken)

@@ -14,7 +14,7 @@ pub record Sending : Type 0 where
 abbrev pub sink_state : {S : Type 0} → (S → Option (List ℕ)) → (S → Bool) → S → Written
 sink_state contents has_failed sink = record { held = contents sink; failed = has_failed sink }
 
--- the count after so many bytes more, where it has room for it
+-- the count after that many bytes more, where it has room for it
 abbrev pub IsCounted : ℕ → ℕ → ℕ → Type 0
 IsCounted old more new = old + more < 2 ^ 64 → new ≡ old + more
 
@@ -44,11 +44,11 @@ abbrev pub Sends : {T : Type 0} → Written → Written → Sending → Sending 
 Sends before after old new bytes (Ok _) = Spells before after old new bytes
 Sends before after old new bytes (Err written) = Breaks before after old bytes written
 
--- nothing of a file is spelled, and so many bytes went out before it
+-- nothing of a file is spelled, and that many bytes went out before it
 abbrev pub fresh : ℕ → Sending
 fresh count = record { sent = []; held = []; count = count }
 
--- What a call that puts all these bytes leaves, by its answer. So many bytes went out before, and it counts on.
+-- What a call that puts all these bytes leaves, by its answer. That many bytes went out before, and it counts on.
 abbrev pub PutsAll : Written → Written → ℕ → List ℕ → Result ℕ ℕ → Type 0
 PutsAll before after count bytes (Ok total) =
     Appends before.held after.held bytes × IsCounted count (length bytes) total × (0 < length bytes → after.failed ≡ false)

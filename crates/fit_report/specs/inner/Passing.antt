@@ -10,7 +10,7 @@ use Rattle.fit_report.specs.declared.fault.ReportFault.TheVariants.{Decode, NoMe
 use Rattle.fit_report.specs.Heard.{Lines, text_of}
 use Rattle.fit_report.specs.Reports.{Channel, Tells, TextFailsIn}
 
--- A reporter has heard the events of the bytes, a sink that held `start` has their text behind it, and so long is that text; the
+-- A reporter has heard the events of the bytes, a sink that held `start` has their text after it, and so long is that text; the
 -- count stops at 2^64 - 1.
 pub record Stands {A R : Type 0} (has_heard : R → List (Event A) → Type 0) (line : Lines A) (reporter : R) (bytes : List ℕ) (start now : Option (List ℕ))
     (written : ℕ) : Type 0 where
@@ -20,15 +20,15 @@ pub record Stands {A R : Type 0} (has_heard : R → List (Event A) → Type 0) (
   pub put : Appends start now (text_of line heard)
   pub counted : written ≡ min (length (text_of line heard)) (2 ^ 64 - 1)
 
--- What the putting of a text did, behind so many bytes of text.
+-- What the putting of a text did, after that many bytes of text.
 abbrev pub Puts : List ℕ → Channel → ℕ → ℕ → Result (Unit {0}) ReportFault → Type 0
 Puts text sink old new (Ok _) = Appends sink.before sink.after text × (new ≡ min (old + length text) (2 ^ 64 - 1))
 Puts text sink old new (Err (Write written)) =
     (sink.failed ≡ true) × (n : ℕ) × (n < length text) × Appends sink.before sink.after (take n text) × (written ≡ min (old + n) (2 ^ 64 - 1))
 Puts text sink old new (Err fault) = ⊥
 
--- Where the telling of a piece behind these bytes has stopped: at a byte that is refused, and what is before it was told and heard; or,
--- where memory was refused or the sink failed, behind some first bytes.
+-- Where the telling of a piece after these bytes has stopped: at a byte that is refused, and what is before it was told and heard; or,
+-- where memory was refused or the sink failed, after some first bytes.
 abbrev pub Stops : {A R : Type 0} → (R → List (Event A) → Type 0) → Lines A → List ℕ → List ℕ → R → Channel → ReportFault → Type 0
 Stops {A} has_heard line bytes piece reporter sink (Decode (Refused place reason)) =
     (k : ℕ) × (k < length piece) × (place ≡ length bytes + k) × IsRefused A chain_limit (bytes ++ take k piece) (slice_index piece k) reason
@@ -38,7 +38,7 @@ Stops {A} has_heard line bytes piece reporter sink NoMemory = (k : ℕ) × (hear
 Stops {A} has_heard line bytes piece reporter sink (Write count) =
     (k : ℕ) × (heard : List (Event A)) × AreEvents (bytes ++ take k piece) (reverse heard) × TextFailsIn (text_of line heard) sink count
 
--- What a call told that feeds some of a piece behind these bytes, so that more bytes are fed then: wherever it began, it has told
+-- What a call told that feeds some of a piece after these bytes, so that more bytes are fed then: wherever it began, it has told
 -- the events up to there, or has stopped.
 abbrev pub Passes : {A R X : Type 0} → (R → List (Event A) → Type 0) → Lines A → R → R → List ℕ → List ℕ → List ℕ → Channel → ℕ → ℕ
     → Result X ReportFault → Type 0

@@ -23,7 +23,7 @@ abbrev pub CutsGoOn : Type 0 → Type 0
 CutsGoOn A = (e : Environment A) (part : RecordPart A) → IsPart e part → HasBegun part
     → (r : Record A) × (k : ℕ) × IsRecord e r (part_bytes e part ++ 0 ∷ replicate k 0)
 
--- The test of rooms that is asked about b behind these parts is false.
+-- The test of rooms that is asked about b after these parts is false.
 abbrev pub Fails : {A : Type 0} → Environment A → Tests A → ℕ → RecordPart A → ℕ → Type 0
 Fails {A} e tests room nothing b =
     (is_definition b ≡ false) × (p : Defined A) × (defined_at e (local_type b) ≡ Some p) × (tests.message (room - (1 + message_size p)) ≡ false)

@@ -17,7 +17,7 @@ StandsWithRoom e s = (0 < s.room) × PartFitsRoom e s
 abbrev pub HeadsNoEmptyMessage : {A : Type 0} → Environment A → State A → ℕ → Type 0
 HeadsNoEmptyMessage e s b = s.phase ≡ RecordHeader → HeadsEmptyMessage e b → ⊥
 
--- What a byte made: the state behind it, or behind a whole record, which is learned. Where memory was refused the byte isn't
+-- What a byte made: the state after it, or after a whole record, which is learned. Where memory was refused the byte isn't
 -- one to be refused, nor the record header of an empty message.
 abbrev pub RecordByte : {A : Type 0} → Environment A → Environment A → State A → ℕ → Result (Option (Record A)) Stop → Step A → Type 0
 RecordByte old new after b (Ok None) made = (new ≡ old) × (made ≡ Ok (after, None))

@@ -70,12 +70,12 @@ abbrev pub next_with_bytes : ℕ → List (ℕ × ℕ) → Option (ℕ × ℕ ×
 next_with_bytes place [] = None
 next_with_bytes place (f ∷ rest) = if f.1 == 0 then next_with_bytes (suc place) rest else Some (place, item_width f.0 f.1, f.1)
 
--- behind a field: the message is whole, or the next field begins
+-- after a field: the message is whole, or the next field begins
 abbrev pub message_begun : {A : Type 0} → Bool → Phase → ℕ → Values A → NextState A
 message_begun true phase room v = (state phase room None [], Some (Data v))
 message_begun false phase room v = (state phase room (Some (Data v)) [], None)
 
--- A field of so many is read, some bytes of a number have come, and some of the field are to come.
+-- A field of that many is read, some bytes of a number have come, and some of the field are to come.
 pub record IsInField (count at each rest : ℕ) (partial : List ℕ) : Type 0 where
   pub place : at < count
   pub width : (each ≡ 1) ⊎ ((each ≡ 2) ⊎ ((each ≡ 4) ⊎ (each ≡ 8)))

@@ -3,7 +3,7 @@ use Rattle.fit_profile.proofs.Common.{last_digits}
 use Rattle.fit_profile.proofs.DigitFacts.{behind-one, length-last_digits}
 use Rattle.fit_profile.proofs.digits.push_fraction.Goals as goal
 
--- the text of a number behind a one has one byte more than the number has decimals
+-- the text of a number after a one has one byte more than the number has decimals
 length-behind : (text : List ℕ) (d n : ℕ) → text ≡ 49 ∷ last_digits d n → length text ≡ d + 1
 length-behind text d n e = rw (e, length-last_digits d n) (omega arith)
 

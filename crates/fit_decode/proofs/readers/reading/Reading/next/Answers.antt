@@ -1,4 +1,4 @@
--- Until a fault a reading is behind some files, and takes the next one.
+-- Until a fault a reading is after some files, and takes the next one.
 use Rattle.fit_decode.proofs.Common.{rules, [], ◌∷◌, ◌++◌, length, Ok, Err, refl, sym, ap, ◌∙◌, subst, layout, chain_limit, IsViable, IsEnd, Channel}
 use Rattle.fit_decode.specs.contracts.readers.reading.Reading.{the_row}
 use Rattle.fit_decode.specs.contracts.readers.reading.Reading.next.{S-row, A-row}
