@@ -111,7 +111,9 @@ pub use Rattle.fit_csv.specs.declared.from.open_file.Part.{Part}
 pub use Rattle.fit_csv.specs.declared.from.open_file.Part.TheVariants.{Nothing, Definition}
 pub use Rattle.fit_csv.specs.declared.tables.columns.Column.{Column}
 pub use Rattle.fit_csv.specs.inner.Frames.{FrameKey, FrameText, end_of, field_key, frame_text, frames_of, head_text, tail_text, two_cells, value_row}
-pub use Rattle.fit_csv.specs.inner.Frames.{HasFields, TakesField, TakesFields, TemplateKey, own_rows, values_text}
+pub use Rattle.fit_csv.specs.inner.Frames.{HasFields, TakesField, TakesFields, values_text, dev_frame_key}
+pub use Rattle.fit_csv.specs.inner.Frames.{frame_keys, frame_slots, key_rows, value_rows}
+pub use Rattle.fit_csv.specs.inner.MessageKeys.{DevKey, MessageKey, TemplateKey, dev_key, dev_keys, message_key}
 pub use Rattle.fit_csv.specs.inner.Minutes.{IsMinute, seconds_text}
 pub use Rattle.fit_csv.specs.inner.Misfits.{IsCellFault, IsMisfit, head_row, message_row, IsHeadRow, IsRowOfThree, IsMessageRow, HasSum, IsHeaderSize}
 pub use Rattle.fit_csv.specs.inner.Misfits.{IsMessageOrEnd, global_at, IsMessageStart, HeadInRange, IsValueRow}
@@ -123,12 +125,13 @@ unfoldable pub use Rattle.fit_csv.specs.inner.Progress.{Run}
 pub use Rattle.fit_csv.specs.inner.Reporting.{HasText, csv_fault, AnswerFits, answer_rows, behind_answer}
 pub use Rattle.fit_csv.specs.inner.Seven.{AsFar, DifferAt, row_of}
 pub use Rattle.fit_csv.specs.inner.Showing.{text_with, CellKey, ShownKey, first_head, key_text, keys_text, line_front, shown_key, shown_keys}
-pub use Rattle.fit_csv.specs.inner.Showing.{ShownDevKey, plain_cell, spaced}
+pub use Rattle.fit_csv.specs.inner.Showing.{PartKey, dev_field_part, field_part, line_head, line_keys, line_slots, line_text}
+pub use Rattle.fit_csv.specs.inner.Showing.{own_end, own_parts, part_texts, spaced}
 pub use Rattle.fit_csv.specs.inner.SoundChain.{IsSoundChain, IsSoundCurrent, IsSoundDefinition, IsSoundFile, IsSoundMessage, IsSoundSoFar}
 pub use Rattle.fit_csv.specs.inner.SoundChain.{current_rows, open_file_rows, open_rows, part_rows, rows_so_far, IsSoundPart, HaveShapeSoFar}
 pub use Rattle.fit_csv.specs.inner.SoundChain.{BeginsWithMore}
 pub use Rattle.fit_csv.specs.inner.TableCells.{shown_text, table_answer_rows, rows_in, files_behind_answer, PutsCell, AddsCell}
 pub use Rattle.fit_csv.specs.inner.TableCells.{effort_cells, place_cells}
-pub use Rattle.fit_csv.specs.inner.CurrentColumns.{AreCurrent, IsCurrent}
+pub use Rattle.fit_csv.specs.inner.Current.{AreCurrent, IsCurrent, column_fields}
 pub use Rattle.fit_csv.specs.inner.TableColumns.{ArePlaces, AreInBytes, IsColumn, IsFirst, IsKnown, IsPlaced, items_at, slots}
 pub use Rattle.fit_csv.specs.inner.TextFaults.{IsTextFault, IsUnjudged, IsReadFault}

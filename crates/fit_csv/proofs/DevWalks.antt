@@ -1,6 +1,6 @@
 -- Developer fields of a message, taken one after another, and their texts.
-use Rattle.fit_csv.proofs.Common.{◌≡◌, ◌∙◌, ◌≤◌, ◌+◌, ◌++◌, ◌∷◌, [], length, map, drop, get_or, refl, sym, ap, ap₂, subst, append_assoc, arith, zip, Items}
-use Rattle.fit_csv.proofs.Common.{Global, DevDef, Naming, nameless, dev_row, dev_rows, csv_text, text_append, text_none, HasFields, TakesField}
+use Rattle.fit_csv.proofs.Common.{◌≡◌, ◌∙◌, ◌≤◌, ◌+◌, ◌++◌, ◌∷◌, [], length, map, drop, get_or, refl, sym, ap, ap₂, subst, arith, zip, Items}
+use Rattle.fit_csv.proofs.Common.{Global, DevDef, Naming, nameless, HasFields, TakesField}
 use Rattle.std.proofs.Common.{◌<◌, ℕ, List}
 use Rattle.std.proofs.lemmas.List.{append-nil, drop_all}
 use Rattle.fit_csv.proofs.DevFields.{nothing}
@@ -10,11 +10,11 @@ use Rattle.fit_csv.proofs.FieldWalks.{KnowsItems, cut_or}
 abbrev pub dev_slots : List DevDef → List ℕ → List (ℕ × ℕ)
 dev_slots fields coded = zip coded (map (λ f. f.size) fields)
 
--- the text of developer fields one after another, the first behind so many others, by their codes, namings and items
+-- the text of developer fields one after another, the first after that many others, by their codes, namings and items
 abbrev pub DevTexts : Type 0
 DevTexts = ℕ → List DevDef → List ℕ → List Naming → List (Items Global) → List ℕ
 
--- The texts of the first of these fields, so many, were put behind a text; those of the others will make it whole.
+-- The texts of the first of these fields, that many, were put after a text; those of the others will make it whole.
 abbrev pub DevTaken : {S : Type 0} → DevTexts → KnowsItems S → List DevDef → List ℕ → List Naming → S → S → List ℕ → List ℕ → ℕ → Type 0
 DevTaken texts has fields coded namings from now start text k = (all : List (Items Global)) → has from (dev_slots fields coded) all
     → (rest : List (Items Global)) × has now (dev_slots (drop k fields) (drop k coded)) rest
@@ -72,21 +72,3 @@ module _ {S : Type 0} (texts : DevTexts) (has : KnowsItems S) (fields : List Dev
                 ∙ ap (λ is. text ++ texts k (f ∷ fs) (code ∷ cs) (n ∷ ns) is) (sym t.2)
                 ∙ (λ i. text ++ texts k (sym cut_fields i) (sym cut_codes i) (sym cut_namings i) b.0) ∙ b.2,
           )
-
--- ---- in rows
-
-abbrev pub row_texts : DevTexts
-row_texts k fields coded namings items = csv_text (dev_rows fields coded namings items)
-
-pub row_texts_none : (k : ℕ) (coded : List ℕ) (namings : List Naming) (items : List (Items Global)) → row_texts k [] coded namings items ≡ []
-row_texts_none k coded namings items = text_none []
-
-abbrev pub row_after : List ℕ → DevDef → ℕ → Naming → Items Global → List ℕ
-row_after t f code n i = t ++ csv_text (dev_row f code n i ∷ [])
-
-pub row_more : (t : List ℕ) (k : ℕ) (f : DevDef) (code : ℕ) (fs : List DevDef) (cs : List ℕ) (ns : List Naming) (is : List (Items Global)) (n : Naming)
-    (i : Items Global)
-    → row_after t f code n i ++ row_texts (k + 1) fs cs ns is ≡ t ++ row_texts k (f ∷ fs) (code ∷ cs) (n ∷ ns) (i ∷ is)
-row_more t k f code fs cs ns is n i =
-    append_assoc t (csv_text (dev_row f code n i ∷ [])) (csv_text (dev_rows fs cs ns is))
-    ∙ ap (λ u. t ++ u) (sym (text_append (dev_row f code n i ∷ []) (dev_rows fs cs ns is)))

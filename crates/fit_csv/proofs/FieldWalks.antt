@@ -1,12 +1,10 @@
 -- Fields of a message, taken one after another, and their texts.
 use Rattle.fit_csv.proofs.Common.{◌≡◌, ◌∙◌, ◌≤◌, ◌+◌, ◌++◌, ◌∷◌, [], length, map, drop, get_or, refl, sym, ap, subst, append_assoc, arith, add-one, zip}
 use Rattle.fit_csv.proofs.Common.{Items}
-use Rattle.fit_csv.proofs.Common.{Global, default_writer, field_text, cell, csv_text, text_append, text_none, FieldDef, field_key, field_rows, field_row}
-use Rattle.fit_csv.proofs.Common.{FrameKey, FrameText, end_of, frames_of, head_text, tail_text, HasFields, TakesField, TakesFields, values_text}
-use Rattle.fit_csv.proofs.Common.{Defined, Record, Values, defined_at, dev_defs, known, header_time, previous_time, namings_at, HasRows, rows_both, data_row}
-use Rattle.fit_csv.proofs.Common.{data_rows, dev_rows, message_rows, own_rows}
-use Rattle.std.proofs.Common.{◌<◌, ℕ, List, Option, Some, option_map, unwrap_or}
-use Rattle.std.specs.Prelude.{Vec}
+use Rattle.fit_csv.proofs.Common.{Global, default_writer, field_text, cell, csv_text, text_append, text_none, FieldDef}
+use Rattle.fit_csv.proofs.Common.{FrameKey, FrameText, end_of, frames_of, head_text, tail_text, HasFields, TakesField, TakesFields, value_row, value_rows}
+use Rattle.fit_csv.proofs.Common.{values_text}
+use Rattle.std.proofs.Common.{◌<◌, ℕ, List}
 use Rattle.std.proofs.Math.Seq.{drop-cons}
 use Rattle.std.proofs.lemmas.List.{drop_all}
 use Rattle.fit_csv.proofs.FramedRows.{framed}
@@ -32,7 +30,7 @@ cut_at xs k x within is = cut_or xs k x within ∙ ap (λ y. y ∷ drop (k + 1) 
 abbrev pub TextOf : Type 0 → Type 0
 TextOf F = List F → List (Items Global) → List ℕ
 
--- The texts of the first of these fields, so many, were put behind a text; those of the others will make the text whole.
+-- The texts of the first of these fields, that many, were put after a text; those of the others will make the text whole.
 abbrev pub Taken : {F S : Type 0} → (F → ℕ × ℕ) → TextOf F → KnowsItems S → List F → S → S → List ℕ → List ℕ → ℕ → Type 0
 Taken slot texts has frames from now start text k = (more : List (ℕ × ℕ)) (all : List (Items Global)) → has from (map slot frames ++ more) all
     → (rest : List (Items Global)) × has now (map slot (drop k frames) ++ more) rest
@@ -84,7 +82,7 @@ module _ {F S : Type 0} (slot : F → ℕ × ℕ) (texts : TextOf F) (has : Know
 regroup : (t b v w : List ℕ) → ((t ++ b) ++ v) ++ w ≡ t ++ (b ++ (v ++ w))
 regroup t b v w = simp append_assoc refl
 
--- a value behind what stands before it
+-- a value after what stands before it
 abbrev pub value_after : List ℕ → FrameText → Items Global → List ℕ
 value_after t f i = (t ++ f.between) ++ field_text default_writer (cell f.code f.info i)
 
@@ -92,45 +90,23 @@ pub value_more : (end t : List ℕ) (f : FrameText) (fs : List FrameText) (i : I
     → value_after t f i ++ values_text fs end is ≡ t ++ values_text (f ∷ fs) end (i ∷ is)
 value_more end t f fs i is = regroup t f.between (field_text default_writer (cell f.code f.info i)) (values_text fs end is)
 
--- the values of the fields of a message, behind a row with this end
-pub fields_text : {A : Type 0} (global : ℕ) (fields : List FieldDef) (before : List ℕ) (items : List (Items A)) → length fields ≤ length items
-    → values_text (frames_of before (map (field_key global) fields)) (end_of before (map (field_key global) fields)) items
-    ≡ before ++ csv_text (field_rows global fields items)
-fields_text global [] before items long = sym (text_none before)
-fields_text global (f ∷ fields) before [] long = absurd (omega (arith, long))
-fields_text global (f ∷ fields) before (i ∷ items) long =
-    let key : FrameKey = field_key global f in
-    let value = field_text default_writer (cell key.code key.info i) in
-    let rows = field_rows global fields items in
-    ap (λ t. (before ++ head_text key) ++ (value ++ t)) (fields_text global fields (tail_text key) items (omega (arith, long)))
-    ∙ ap (λ t. (before ++ head_text key) ++ t) (sym (append_assoc value (tail_text key) (csv_text rows)))
-    ∙ sym (append_assoc (before ++ head_text key) (value ++ tail_text key) (csv_text rows))
-    ∙ ap (λ t. t ++ csv_text rows) (sym (append_assoc (before ++ head_text key) value (tail_text key)) ∙ framed key i [] before)
-    ∙ append_assoc before (csv_text (field_row global f i ∷ [])) (csv_text rows)
-    ∙ ap (λ t. before ++ t) (sym (text_append (field_row global f i ∷ []) rows))
+-- values one after another, after a row with this end
+pub values_rows : {A : Type 0} (keys : List FrameKey) (before : List ℕ) (items : List (Items A)) → length keys ≤ length items
+    → values_text (frames_of before keys) (end_of before keys) items ≡ before ++ csv_text (value_rows keys items)
+values_rows [] before items long = sym (text_none before)
+values_rows (k ∷ keys) before [] long = absurd (omega (arith, long))
+values_rows (k ∷ keys) before (i ∷ items) long =
+    let value = field_text default_writer (cell k.code k.info i) in
+    let rows = value_rows keys items in
+    ap (λ t. (before ++ head_text k) ++ (value ++ t)) (values_rows keys (tail_text k) items (omega (arith, long)))
+    ∙ ap (λ t. (before ++ head_text k) ++ t) (sym (append_assoc value (tail_text k) (csv_text rows)))
+    ∙ sym (append_assoc (before ++ head_text k) (value ++ tail_text k) (csv_text rows))
+    ∙ ap (λ t. t ++ csv_text rows) (sym (append_assoc (before ++ head_text k) value (tail_text k)) ∙ framed k i [] before)
+    ∙ append_assoc before (csv_text (value_row k i ∷ [])) (csv_text rows)
+    ∙ ap (λ t. before ++ t) (sym (text_append (value_row k i ∷ []) rows))
 
--- other items behind those of the fields don't count
+-- other items after those of the fields don't count
 pub zip_front : {X Y : Type 0} (xs : List X) (ys more : List Y) → length ys ≡ length xs → zip xs (ys ++ more) ≡ zip xs ys
 zip_front [] ys more long = refl
 zip_front (x ∷ xs) [] more long = absurd (omega (arith, long))
 zip_front (x ∷ xs) (y ∷ ys) more long = ap (λ zs. (x, y) ∷ zs) (zip_front xs ys more (omega (arith, long)))
-
--- the rows of a message: the first and those of its fields, and then those of its developer fields
-pub message_whole : (before : List (Record Global)) (p : Defined Global) (local : ℕ) (offset time : Option ℕ) (v : Values Global) (u w x : Vec ℕ Global)
-    → defined_at (known before) local ≡ Some p → v.local ≡ local → v.offset ≡ offset → length v.fields ≡ length p.definition.fields
-    → time ≡ header_time (previous_time before) offset
-    → HasRows (own_rows (record { local = local; global = p.definition.global; fields = p.definition.fields }) offset time (v.fields ++ v.dev)) u w
-    → HasRows (dev_rows (dev_defs p.definition.dev) p.dev_codes (namings_at before local) v.dev) w x → HasRows (data_rows before v) u x
-message_whole before p local offset time v u w x place at since long timed own dev =
-    let global = p.definition.global in
-    let fields = p.definition.fields in
-    let behind = header_time (previous_time before) v.offset in
-    let times : time ≡ behind = timed ∙ ap (header_time (previous_time before)) (sym since) in
-    let same : own_rows (record { local = local; global = global; fields = fields }) offset time (v.fields ++ v.dev)
-    ≡ data_row v global behind ∷ field_rows global fields v.fields =
-    (λ i. own_rows (record { local = sym at i; global = global; fields = fields }) (sym since i) (times i) (v.fields ++ v.dev))
-    ∙ ap (λ xs. data_row v global behind ∷ map (λ x. field_row global x.0 x.1) xs) (zip_front fields v.fields v.dev long) in
-    subst (λ o. HasRows (unwrap_or (option_map (λ q. message_rows v q behind (namings_at before v.local)) o) []) u x)
-    (sym (ap (defined_at (known before)) at ∙ place))
-    (rows_both (subst (λ rows. HasRows rows u w) same own)
-    (subst (λ l. HasRows (dev_rows (dev_defs p.definition.dev) p.dev_codes (namings_at before l) v.dev) w x) (sym at) dev))

@@ -51,16 +51,26 @@ pub end_more : (before : List ℕ) (keys : List FrameKey) (k : FrameKey) → end
 end_more before [] k = refl
 end_more before (j ∷ keys) k = end_more (tail_text j) keys k
 
--- the codes and sizes are those of the fields
-pub frames_shape : (before : List ℕ) (global : ℕ) (fields : List FieldDef)
-    → map {B = ℕ × ℕ} (λ f. (f.code, f.size)) (frames_of before (map (field_key global) fields)) ≡ map (λ f. (f.code, f.size)) fields
-frames_shape before global [] = refl
-frames_shape before global (f ∷ fields) = ap (λ xs. (f.code, f.size) ∷ xs) (frames_shape (tail_text (field_key global f)) global fields)
+-- more rows
+pub frames_append : (before : List ℕ) (keys more : List FrameKey)
+    → frames_of before (keys ++ more) ≡ frames_of before keys ++ frames_of (end_of before keys) more
+frames_append before [] more = refl
+frames_append before (k ∷ keys) more = ap (λ fs. frame_text before k ∷ fs) (frames_append (tail_text k) keys more)
+
+pub end_append : (before : List ℕ) (keys more : List FrameKey) → end_of before (keys ++ more) ≡ end_of (end_of before keys) more
+end_append before [] more = refl
+end_append before (k ∷ keys) more = end_append (tail_text k) keys more
+
+-- the codes and sizes are those of the keys
+pub frames_shape : (before : List ℕ) (keys : List FrameKey)
+    → map {B = ℕ × ℕ} (λ f. (f.code, f.size)) (frames_of before keys) ≡ map (λ f. (f.code, f.size)) keys
+frames_shape before [] = refl
+frames_shape before (k ∷ keys) = ap (λ xs. (k.code, k.size) ∷ xs) (frames_shape (tail_text k) keys)
 
 grouped : (t b h v w : List ℕ) → ((t ++ (b ++ h)) ++ v) ++ w ≡ (t ++ b) ++ (h ++ (v ++ w))
 grouped t b h v w = simp append_assoc refl
 
--- a row without its end behind a text that lacks its end too
+-- a row without its end after a text that lacks its end too
 pub framed : {A : Type 0} (k : FrameKey) (i : Items A) (text before : List ℕ)
     → ((text ++ (before ++ head_text k)) ++ field_text default_writer (cell k.code k.info i)) ++ tail_text k ≡ (text ++ before) ++ csv_text (value_row k i ∷ [])
 framed k i text before =

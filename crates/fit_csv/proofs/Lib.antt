@@ -10,7 +10,9 @@ pub mod TableRows
 mod Shapes
 mod NamingFacts
 mod DevFields
+mod DevKeyFacts
 mod FieldWalks
+mod KeyRows
 mod ItemFacts
 pub mod TextCells
 mod DevWalks

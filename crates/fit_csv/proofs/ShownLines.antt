@@ -1,21 +1,23 @@
 -- The lines of `show`, part by part.
-use Rattle.fit_csv.proofs.Common.{◌≡◌, ◌+◌, [], ◌∷◌, ◌++◌, length, map, refl, sym, ap, ap₂, ◌∙◌, arith, append_assoc, get_or, take, drop}
-use Rattle.fit_csv.proofs.Common.{zero, suc, ◌≤◌, eq-eqb, ne_eqb, first_head, length-map, length-zip, take_more, Bool, true, false, ◌||◌, zip, Global}
+use Rattle.fit_csv.proofs.Common.{◌≡◌, ◌+◌, [], ◌∷◌, ◌++◌, length, map, refl, sym, ap, ap₂, ◌∙◌, arith, append_assoc, subst, get_or, take, drop}
+use Rattle.fit_csv.proofs.Common.{zero, suc, ◌≤◌, eq-eqb, ne_eqb, length-map, map-append, take_more, Bool, true, false, ◌||◌, zip, Global}
 use Rattle.fit_csv.proofs.Common.{Items, FieldDef, DevDef, Naming}
-use Rattle.fit_csv.proofs.Common.{Defined, Values, Record, Data}
+use Rattle.fit_csv.proofs.Common.{Defined, Values, Record, Data, dev_layout, layout}
 use Rattle.fit_csv.proofs.Common.{Answer, Event, defined_at, dev_defs, known, namings_at, time, hear, latest_records, line_of, behind_answer, files_heard}
 use Rattle.fit_csv.proofs.Common.{instant_text}
-use Rattle.fit_csv.proofs.Common.{KeptEvents, ShownKey, files_behind_answer, joined, kept_events, key_text, keys_text, line_front, listed, message_front}
+use Rattle.fit_csv.proofs.Common.{KeptEvents, files_behind_answer, joined, kept_events, listed, message_front}
 use Rattle.fit_csv.proofs.Common.{message_label, message_line, record_line, separator, show_line, shown_cell, shown_dev, shown_devs, shown_field}
-use Rattle.fit_csv.proofs.Common.{shown_fields, shown_key, shown_keys, shown_part, spaced, text_with, time_part, unit_part}
+use Rattle.fit_csv.proofs.Common.{shown_fields, shown_part, text_with, time_part, unit_part}
+use Rattle.fit_csv.proofs.Common.{DevKey, MessageKey, PartKey, ShownKey, dev_field_part, dev_keys, field_part, first_head, key_text, keys_text, line_front}
+use Rattle.fit_csv.proofs.Common.{line_head, message_key, line_keys, line_slots, line_text, own_end, own_parts, part_texts, shown_key, shown_keys}
+use Rattle.fit_csv.proofs.Common.{HasFields, TakesFields}
 use Rattle.std.proofs.Common.{◌<◌, ℕ, List}
+use Rattle.std.proofs.Math.Seq.{drop-append_seam}
 use Rattle.std.specs.Prelude.{codes, decimal, option_map, unwrap_or, Option, Some, ◌==◌, if◌then◌else◌}
-use Rattle.std.proofs.lemmas.List.{append-nil, length-append}
-use Rattle.fit_profile.specs.Names.{field, field_label}
+use Rattle.std.proofs.lemmas.List.{append-nil, length-append, length-drop}
 use Rattle.fit_chain.specs.declared.event.Event.TheVariants as answers
-use Rattle.fit_csv.specs.ChainRows.{unit_text}
-use Rattle.fit_csv.proofs.DevWalks.{DevTexts}
-use Rattle.fit_csv.proofs.FieldWalks.{field_slot, zip_front}
+use Rattle.fit_csv.proofs.FieldWalks.{KnowsItems}
+use Rattle.fit_csv.proofs.NamingFacts.{namings_long}
 
 -- ---- fields one after another
 
@@ -33,7 +35,7 @@ pub answer_line : {A : Type 0} (heard : List (Event A)) (answer : Answer A)
 answer_line heard answers.More = refl
 answer_line heard answer = refl
 
--- what is kept behind an answer
+-- what is kept after an answer
 pub kept_next : (heard : List (Event Global)) (answer : Answer Global) (kept : KeptEvents) → kept ≡ kept_events heard
     → record { records = behind_answer kept.records answer; files = files_behind_answer kept.files answer } ≡ kept_events (hear answer heard)
 kept_next heard answer kept is =
@@ -49,49 +51,50 @@ kept_next heard answer kept is =
 
 -- ---- the parts of a message
 
-regroup : (a b c d e : List ℕ) → ((a ++ (b ++ c)) ++ d) ++ e ≡ a ++ (b ++ (c ++ d) ++ e)
-regroup a b c d e = simp append_assoc
+-- the fields of a message, without other items after theirs
+own_shown : (global : ℕ) (fields : List FieldDef) (items more : List (Items Global)) → length items ≡ length fields
+    → part_texts (map (field_part global) fields) (items ++ more) ≡ shown_fields global fields items
+own_shown global [] items more long = refl
+own_shown global (f ∷ fields) [] more long = absurd (omega (arith, long))
+own_shown global (f ∷ fields) (i ∷ items) more long = ap (λ ts. shown_field global f i ∷ ts) (own_shown global fields items more (omega (arith, long)))
 
-pub message_parts : (old two three all front : List ℕ) (n : ℕ) (fields dev : List (List ℕ)) → two ≡ old ++ (front ++ listed 0 fields)
-    → three ≡ two ++ listed n dev → all ≡ three ++ codes "\n"
-    → n ≡ length fields → all ≡ old ++ (front ++ listed 0 (fields ++ dev) ++ codes "\n")
-message_parts old two three all front n fields dev second third last long =
-    let both : listed 0 fields ++ listed n dev ≡ listed 0 (fields ++ dev) =
-    ap (λ k. listed 0 fields ++ listed k dev) (omega (arith, long)) ∙ sym (listed-append 0 fields dev) in
-    last ∙ ap (λ t. t ++ codes "\n") (third ∙ ap (λ t. t ++ listed n dev) second)
-    ∙ regroup old front (listed 0 fields) (listed n dev) (codes "\n") ∙ ap (λ t. old ++ (front ++ t ++ codes "\n")) both
+devs_shown : (fields : List DevDef) (coded : List ℕ) (namings : List Naming) (items : List (Items Global))
+    → part_texts (map dev_field_part (dev_keys fields coded namings)) items ≡ shown_devs fields coded namings items
+devs_shown [] coded namings items = refl
+devs_shown (f ∷ fields) [] namings items = refl
+devs_shown (f ∷ fields) (code ∷ coded) [] items = refl
+devs_shown (f ∷ fields) (code ∷ coded) (n ∷ namings) [] = refl
+devs_shown (f ∷ fields) (code ∷ coded) (n ∷ namings) (i ∷ items) = ap (λ ts. shown_dev f code n i ∷ ts) (devs_shown fields coded namings items)
 
--- other items behind those of the fields don't count
-fields_front : (global : ℕ) (fields : List FieldDef) (items more : List (Items Global)) → length items ≡ length fields
-    → shown_fields global fields (items ++ more) ≡ shown_fields global fields items
-fields_front global fields items more long = ap (map (λ x. shown_field global x.0 x.1)) (zip_front fields items more long)
+-- what is known of the developer fields to take their items
+dev_key_slots : (fields : List DevDef) (coded : List ℕ) (namings : List Naming) → length namings ≡ length fields
+    → map (λ (d : DevKey). (d.code, d.size)) (dev_keys fields coded namings) ≡ zip coded (map (λ f. f.size) fields)
+dev_key_slots [] [] namings long = refl
+dev_key_slots [] (code ∷ coded) namings long = refl
+dev_key_slots (f ∷ fields) [] namings long = refl
+dev_key_slots (f ∷ fields) (code ∷ coded) [] long = absurd (omega (arith, long))
+dev_key_slots (f ∷ fields) (code ∷ coded) (n ∷ namings) long = ap (λ ts. (code, f.size) ∷ ts) (dev_key_slots fields coded namings (omega (arith, long)))
 
--- the line of a message: its front, its fields and its developer fields
-pub line_whole : (before : List (Record Global)) (p : Defined Global) (local : ℕ) (at : Option ℕ) (v : Values Global) (old own dev all : List ℕ) (n : ℕ)
+pub slots_known : (before : List (Record Global)) (local : ℕ) (p : Defined Global) → defined_at (known before) local ≡ Some p
+    → line_slots (message_key before local p) ≡ layout p ++ dev_layout p
+slots_known before local p place =
+    ap (λ ts. layout p ++ ts) (dev_key_slots (dev_defs p.definition.dev) p.dev_codes (namings_at before local) (namings_long before local p place))
+
+-- the line of a message
+pub line_known : (before : List (Record Global)) (p : Defined Global) (local : ℕ) (at : Option ℕ) (v : Values Global)
     → defined_at (known before) local ≡ Some p → v.local ≡ local → length v.fields ≡ length p.definition.fields → at ≡ time before (Data v)
-    → n ≡ length p.definition.fields
-    → own ≡ old ++ (message_front local p.definition.global at
-    ++ listed 0 (shown_fields p.definition.global p.definition.fields (v.fields ++ v.dev)))
-    → dev ≡ own ++ listed n (shown_devs (dev_defs p.definition.dev) p.dev_codes (namings_at before local) v.dev)
-    → all ≡ dev ++ codes "\n" → all ≡ old ++ record_line before (Data v)
-line_whole before p local at v old own dev all n place is long timed count first second last =
+    → line_text (message_key before local p) at (v.fields ++ v.dev) ≡ record_line before (Data v)
+line_known before p local at v place is long timed =
     let global = p.definition.global in
     let fields = p.definition.fields in
-    let shown = shown_fields global fields v.fields in
-    let devs = shown_devs (dev_defs p.definition.dev) p.dev_codes (namings_at before local) v.dev in
-    let many : n ≡ length shown = omega (
-      arith,
-      count,
-      long,
-      length-map (zip fields v.fields) (λ x. shown_field global x.0 x.1),
-      length-zip fields v.fields,
-    ) in
-    message_parts old own dev all (message_front local global at) n shown devs
-    (first ∙ ap (λ ts. old ++ (message_front local global at ++ listed 0 ts)) (fields_front global fields v.fields v.dev long)) second last many
-    ∙ (λ i. old ++ (message_front (sym is i) global (timed i)
+    let behind : drop (length fields) (v.fields ++ v.dev) ≡ v.dev = ap (λ n. drop n (v.fields ++ v.dev)) (sym long) ∙ drop-append_seam v.fields v.dev in
+    let devs = ap (part_texts (map dev_field_part (dev_keys (dev_defs p.definition.dev) p.dev_codes (namings_at before local)))) behind
+    ∙ devs_shown (dev_defs p.definition.dev) p.dev_codes (namings_at before local) v.dev in
+    ap₂ (λ own dev. message_front local global at ++ listed 0 (own ++ dev) ++ codes "\n") (own_shown global fields v.fields v.dev long) devs
+    ∙ (λ i. message_front (sym is i) global (timed i)
     ++ listed 0 (shown_fields global fields v.fields ++ shown_devs (dev_defs p.definition.dev) p.dev_codes (namings_at before (sym is i)) v.dev)
-    ++ codes "\n"))
-    ∙ ap (λ o. old ++ unwrap_or (option_map (λ q. message_line v q (time before (Data v)) (namings_at before v.local)) o) [])
+    ++ codes "\n")
+    ∙ ap (λ o. unwrap_or (option_map (λ q. message_line v q (time before (Data v)) (namings_at before v.local)) o) [])
     (sym (ap (defined_at (known before)) is ∙ place))
 
 -- ---- what stands between the cells of a message
@@ -101,64 +104,108 @@ unit_behind : (a b : Bool) (text head : List ℕ) → (if a then head else (if b
 unit_behind true b text head = refl
 unit_behind false b text head = refl
 
-key_shown : {A : Type 0} (global : ℕ) (f : FieldDef) (head : List ℕ) (i : Items A)
-    → key_text (shown_key global f head) i
-    ≡ shown_cell f.code (field global f.number) i
-    ++ (unit_part (shown_cell f.code (field global f.number) i) (unit_text (field global f.number)) ++ head)
-key_shown global f head i =
-    let text = shown_cell f.code (field global f.number) i in
-    let unit = unit_text (field global f.number) in
-    ap (λ t. text ++ t) (unit_behind (length text == 0) (length unit == 0) (joined (codes " " ∷ unit ∷ [])) head)
+key_shown : {A : Type 0} (p : PartKey) (head : List ℕ) (i : Items A)
+    → key_text (shown_key p head) i ≡ shown_cell p.code p.info i ++ (unit_part (shown_cell p.code p.info i) p.unit ++ head)
+key_shown p head i =
+    let text = shown_cell p.code p.info i in
+    ap (λ t. text ++ t) (unit_behind (length text == 0) (length p.unit == 0) (joined (codes " " ∷ p.unit ∷ [])) head)
 
 line_regroup : (s n c u h r : List ℕ) → (s ++ (n ++ codes "=")) ++ ((c ++ (u ++ h)) ++ r) ≡ (s ++ (n ++ (codes "=" ++ (c ++ (u ++ []))))) ++ (h ++ r)
 line_regroup s n c u h r = simp (append_assoc, append-nil)
 
--- the fields of a message
-pub keys_shown : {A : Type 0} (before global : ℕ) (fields : List FieldDef) (items : List (Items A)) → length fields ≤ length items
-    → first_head before global fields ++ keys_text (shown_keys before global fields) items ≡ listed before (shown_fields global fields items)
-keys_shown before global [] items long = refl
-keys_shown before global (f ∷ fields) [] long = absurd (omega (arith, long))
-keys_shown before global (f ∷ fields) (i ∷ items) long =
-    let name = field_label global f.number in
-    let text = shown_cell f.code (field global f.number) i in
-    let unit = unit_part text (unit_text (field global f.number)) in
-    let head = first_head (before + 1) global fields in
-    let others = keys_text (shown_keys (before + 1) global fields) items in
-    ap (λ t. joined (separator before ∷ name ∷ codes "=" ∷ []) ++ (t ++ others)) (key_shown global f head i)
-    ∙ line_regroup (separator before) name text unit head others
-    ∙ ap (λ t. (separator before ++ shown_field global f i) ++ t) (keys_shown (before + 1) global fields items (omega (arith, long)))
+-- fields one after another, before others
+keys_shown : {A : Type 0} (before : ℕ) (parts : List PartKey) (end : List ℕ) (more : List ShownKey) (items : List (Items A)) → length parts ≤ length items
+    → first_head before parts end ++ keys_text (shown_keys before parts end ++ more) items
+    ≡ listed before (part_texts parts items) ++ (end ++ keys_text more (drop (length parts) items))
+keys_shown before [] end more items long = refl
+keys_shown before (p ∷ parts) end more [] long = absurd (omega (arith, long))
+keys_shown before (p ∷ parts) end more (i ∷ items) long =
+    let text = shown_cell p.code p.info i in
+    let unit = unit_part text p.unit in
+    let head = first_head (before + 1) parts end in
+    let others = keys_text (shown_keys (before + 1) parts end ++ more) items in
+    let behind = end ++ keys_text more (drop (length parts) items) in
+    ap (λ t. joined (separator before ∷ p.name ∷ codes "=" ∷ []) ++ (t ++ others)) (key_shown p head i)
+    ∙ line_regroup (separator before) p.name text unit head others
+    ∙ ap (λ t. (separator before ++ shown_part p.name text p.unit) ++ t) (keys_shown (before + 1) parts end more items (omega (arith, long)))
+    ∙ sym (append_assoc (separator before ++ shown_part p.name text p.unit) (listed (before + 1) (part_texts parts items)) behind)
+
+length-part_texts : {A : Type 0} (parts : List PartKey) (items : List (Items A)) → length parts ≤ length items
+    → length (part_texts parts items) ≡ length parts
+length-part_texts [] items long = refl
+length-part_texts (p ∷ parts) [] long = absurd (omega (arith, long))
+length-part_texts (p ∷ parts) (i ∷ items) long = ap suc (length-part_texts parts items (omega (arith, long)))
+
+-- the fields and developer fields of a message, and the end of its line
+line_cells : {A : Type 0} (k : MessageKey) (items : List (Items A)) → length k.own.fields + length k.devs ≤ length items
+    → line_head k ++ keys_text (line_keys k) items
+    ≡ listed 0 (part_texts (own_parts k.own) items ++ part_texts (map dev_field_part k.devs) (drop (length k.own.fields) items)) ++ codes "\n"
+line_cells k items long =
+    let own = own_parts k.own in
+    let devs = map dev_field_part k.devs in
+    let many : length own ≡ length k.own.fields = length-map k.own.fields (field_part k.own.global) in
+    let more : length devs ≡ length k.devs = length-map k.devs dev_field_part in
+    let n = length k.own.fields in
+    let fits : length own ≤ length items = omega (arith, long, many) in
+    let left : length devs ≤ length (drop n items) = omega (arith, long, more, length-drop n items) in
+    let own_texts = part_texts own items in
+    let dev_texts = part_texts devs (drop n items) in
+    let both : listed 0 own_texts ++ listed n dev_texts ≡ listed 0 (own_texts ++ dev_texts) =
+    ap (λ m. listed 0 own_texts ++ listed m dev_texts) (omega (arith, many, length-part_texts own items fits))
+    ∙ sym (listed-append 0 own_texts dev_texts) in
+    keys_shown 0 own (own_end k) (shown_keys n devs (codes "\n")) items fits
+    ∙ ap (λ m. listed 0 own_texts ++ (own_end k ++ keys_text (shown_keys n devs (codes "\n")) (drop m items))) many
+    ∙ ap (λ ks. listed 0 own_texts ++ (own_end k ++ keys_text ks (drop n items))) (sym (append-nil (shown_keys n devs (codes "\n"))))
+    ∙ ap (λ t. listed 0 own_texts ++ t) (keys_shown n devs (codes "\n") [] (drop n items) left)
+    ∙ sym (append_assoc (listed 0 own_texts) (listed n dev_texts) (codes "\n"))
+    ∙ ap (λ t. t ++ codes "\n") both
 
 -- what is known of a field to take its items
 abbrev pub key_slot : ShownKey → ℕ × ℕ
 key_slot k = (k.code, k.size)
 
-pub shown_slots : (before global : ℕ) (fields : List FieldDef) → map key_slot (shown_keys before global fields) ≡ map field_slot fields
-shown_slots before global [] = refl
-shown_slots before global (f ∷ fields) = ap (λ xs. field_slot f ∷ xs) (shown_slots (before + 1) global fields)
+abbrev pub dev_slot : DevKey → ℕ × ℕ
+dev_slot d = (d.code, d.size)
 
-pub keys_long : (before global : ℕ) (fields : List FieldDef) → length (shown_keys before global fields) ≡ length fields
-keys_long before global [] = refl
-keys_long before global (f ∷ fields) = ap suc (keys_long (before + 1) global fields)
+own_slots : (before global : ℕ) (fields : List FieldDef) (end : List ℕ)
+    → map key_slot (shown_keys before (map (field_part global) fields) end) ≡ map (λ f. (f.code, f.size)) fields
+own_slots before global [] end = refl
+own_slots before global (f ∷ fields) end = ap (λ xs. (f.code, f.size) ∷ xs) (own_slots (before + 1) global fields end)
 
-key_at : (before global : ℕ) (fields : List FieldDef) (k : ℕ) (d : FieldDef) (e : ShownKey) → k < length fields
-    → get_or (shown_keys before global fields) k e ≡ shown_key global (get_or fields k d) (first_head (before + suc k) global (drop (suc k) fields))
-key_at before global [] k d e within = absurd (omega (arith, within))
-key_at before global (f ∷ fields) zero d e within = refl
-key_at before global (f ∷ fields) (suc k) d e within =
-    key_at (before + 1) global fields k d e (omega (arith, within))
-    ∙ ap (λ n. shown_key global (get_or fields k d) (first_head n global (drop (suc k) fields))) (omega arith)
+dev_slots : (before : ℕ) (devs : List DevKey) (end : List ℕ)
+    → map key_slot (shown_keys before (map dev_field_part devs) end) ≡ map dev_slot devs
+dev_slots before [] end = refl
+dev_slots before (d ∷ devs) end = ap (λ xs. (d.code, d.size) ∷ xs) (dev_slots (before + 1) devs end)
+
+pub shown_slots : (k : MessageKey) → map key_slot (line_keys k) ≡ line_slots k
+shown_slots k =
+    map-append key_slot (shown_keys 0 (own_parts k.own) (own_end k)) (shown_keys (length k.own.fields) (map dev_field_part k.devs) (codes "\n"))
+    ∙ ap₂ (λ a b. a ++ b) (own_slots 0 k.own.global k.own.fields (own_end k)) (dev_slots (length k.own.fields) k.devs (codes "\n"))
+
+pub keys_long : {X : Type 0} (part : X → PartKey) (before : ℕ) (xs : List X) (end : List ℕ) → length (shown_keys before (map part xs) end) ≡ length xs
+keys_long part before [] end = refl
+keys_long part before (x ∷ xs) end = ap suc (keys_long part (before + 1) xs end)
+
+key_at : {X : Type 0} (part : X → PartKey) (before : ℕ) (xs : List X) (end : List ℕ) (k : ℕ) (d : X) (e : ShownKey) → k < length xs
+    → get_or (shown_keys before (map part xs) end) k e
+    ≡ shown_key (part (get_or xs k d)) (first_head (before + suc k) (map part (drop (suc k) xs)) end)
+key_at part before [] end k d e within = absurd (omega (arith, within))
+key_at part before (x ∷ xs) end zero d e within = refl
+key_at part before (x ∷ xs) end (suc k) d e within =
+    key_at part (before + 1) xs end k d e (omega (arith, within))
+    ∙ ap (λ n. shown_key (part (get_or xs k d)) (first_head n (map part (drop (suc k) xs)) end)) (omega arith)
 
 -- one field more
-pub shown_taken : (global : ℕ) (fields : List FieldDef) (k : ℕ) (d : FieldDef) → k < length fields
-    → take (k + 1) (shown_keys 0 global fields)
-    ≡ take k (shown_keys 0 global fields) ++ (shown_key global (get_or fields k d) (first_head (k + 1) global (drop (k + 1) fields)) ∷ [])
-shown_taken global fields k d within =
-    let keys = shown_keys 0 global fields in
+pub shown_taken : {X : Type 0} (part : X → PartKey) (before : ℕ) (xs : List X) (end : List ℕ) (k : ℕ) (d : X) → k < length xs
+    → take (k + 1) (shown_keys before (map part xs) end)
+    ≡ take k (shown_keys before (map part xs) end)
+    ++ (shown_key (part (get_or xs k d)) (first_head (before + (k + 1)) (map part (drop (k + 1) xs)) end) ∷ [])
+shown_taken part before xs end k d within =
+    let keys = shown_keys before (map part xs) end in
     let one : suc k ≡ k + 1 = omega arith in
-    let place : 0 + suc k ≡ k + 1 = omega arith in
-    take_more keys k (shown_key global d []) (omega (arith, within, keys_long 0 global fields))
-    ∙ ap (λ (x : ShownKey). take k keys ++ (x ∷ [])) (key_at 0 global fields k d (shown_key global d []) within
-    ∙ (λ i. shown_key global (get_or fields k d) (first_head (place i) global (drop (one i) fields))))
+    take_more keys k (shown_key (part d) []) (omega (arith, within, keys_long part before xs end))
+    ∙ ap (λ (x : ShownKey). take k keys ++ (x ∷ [])) (key_at part before xs end k d (shown_key (part d) []) within
+    ∙ (λ i. shown_key (part (get_or xs k d)) (first_head (before + one i) (map part (drop (one i) xs)) end)))
 
 is_same : (k m n : ℕ) → m ≡ n + k → (m == n) ≡ (k == 0)
 is_same zero m n e = eq-eqb m n (omega (arith, e))
@@ -172,46 +219,13 @@ cell_behind old cell celled all bare full behind m n first now before is last =
     last ∙ ap₂ (λ t u. t ++ u) first (is ∙ ap (λ b. if b then bare else full) (is_same (length cell) m n more))
     ∙ append_assoc old cell (if length cell == 0 then bare else full)
 
--- a field behind others
+-- a field after others
 abbrev pub key_after : {A : Type 0} → List ℕ → ShownKey → Items A → List ℕ
 key_after t k i = t ++ key_text k i
 
 pub key_more : {A : Type 0} (t : List ℕ) (k : ShownKey) (ks : List ShownKey) (i : Items A) (is : List (Items A))
     → key_after t k i ++ keys_text ks is ≡ t ++ keys_text (k ∷ ks) (i ∷ is)
 key_more t k ks i is = append_assoc t (key_text k i) (keys_text ks is)
-
--- ---- developer fields
-
-dev_regroup : (o s l c u : List ℕ) → (o ++ (s ++ (l ++ codes "="))) ++ (c ++ u) ≡ o ++ (s ++ (l ++ (codes "=" ++ (c ++ (u ++ [])))))
-dev_regroup o s l c u = simp (append_assoc, append-nil)
-
-either_empty : (a b : Bool) (text : List ℕ) → (if a then [] else (if b then [] else text)) ≡ (if a || b then [] else text)
-either_empty true b text = refl
-either_empty false b text = refl
-
--- a developer field in its parts
-pub dev_cell : (old sep label cell unit named celled all : List ℕ) (m n : ℕ) → named ≡ old ++ joined (sep ∷ label ∷ codes "=" ∷ [])
-    → celled ≡ named ++ cell → m ≡ length celled → n ≡ length named → all ≡ celled ++ (if m == n then [] else spaced unit)
-    → all ≡ old ++ (sep ++ shown_part label cell unit)
-dev_cell old sep label cell unit named celled all m n first second now before last =
-    cell_behind named cell celled all [] (spaced unit) (if m == n then [] else spaced unit) m n second now before refl last
-    ∙ ap (λ u. named ++ (cell ++ u)) (either_empty (length cell == 0) (length unit == 0) (joined (codes " " ∷ unit ∷ [])))
-    ∙ ap (λ t. t ++ (cell ++ unit_part cell unit)) first ∙ dev_regroup old sep label cell (unit_part cell unit)
-
--- behind so many fields of the message
-abbrev pub line_texts : ℕ → DevTexts
-line_texts before k fields coded namings items = listed (before + k) (shown_devs fields coded namings items)
-
-abbrev pub dev_after : ℕ → List ℕ → DevDef → ℕ → Naming → Items Global → List ℕ
-dev_after before t f code n i = t ++ (separator before ++ shown_dev f code n i)
-
-pub dev_line_more : (before : ℕ) (t : List ℕ) (k : ℕ) (f : DevDef) (code : ℕ) (fs : List DevDef) (cs : List ℕ) (ns : List Naming)
-    (is : List (Items Global)) (n : Naming) (i : Items Global)
-    → dev_after (before + k) t f code n i ++ line_texts before (k + 1) fs cs ns is
-    ≡ t ++ line_texts before k (f ∷ fs) (code ∷ cs) (n ∷ ns) (i ∷ is)
-dev_line_more before t k f code fs cs ns is n i =
-    append_assoc t (separator (before + k) ++ shown_dev f code n i) (listed (before + (k + 1)) (shown_devs fs cs ns is))
-    ∙ ap (λ m. t ++ (separator (before + k) ++ shown_dev f code n i ++ listed m (shown_devs fs cs ns is))) (omega arith)
 
 -- ---- the front of a message
 
@@ -227,21 +241,40 @@ front_parts local global at =
 parts_regroup : (old front time head cells : List ℕ) → (((old ++ front) ++ time) ++ head) ++ cells ≡ old ++ ((front ++ time) ++ (head ++ cells))
 parts_regroup old front time head cells = simp append_assoc
 
--- a time behind what stands before it
+-- a time after what stands before it
 pub time_put : (old front one two : List ℕ) (t : ℕ) → one ≡ old ++ (front ++ codes " ") → two ≡ one ++ instant_text t
     → two ≡ old ++ (front ++ time_part (Some t))
 time_put old front one two t label time =
     time ∙ ap (λ u. u ++ instant_text t) label ∙ append_assoc old (front ++ codes " ") (instant_text t)
     ∙ ap (λ u. old ++ u) (append_assoc front (codes " ") (instant_text t) ∙ ap (λ u. front ++ (32 ∷ u)) (sym (append-nil (instant_text t))))
 
--- the front of a message and its fields, put in four parts
-pub line_parts : {A : Type 0} (local global : ℕ) (at : Option ℕ) (fields : List FieldDef) (items : List (Items A)) (old one two three four : List ℕ)
-    → one ≡ old ++ line_front local global → two ≡ one ++ time_part at → three ≡ two ++ first_head 0 global fields
-    → four ≡ three ++ keys_text (shown_keys 0 global fields) items → length fields ≤ length items
-    → four ≡ old ++ (message_front local global at ++ listed 0 (shown_fields global fields items))
-line_parts local global at fields items old one two three four first second third fourth long =
-    let cells = keys_text (shown_keys 0 global fields) items in
-    let head = first_head 0 global fields in
+-- the line of a message, put in four parts
+pub line_parts : {A : Type 0} (k : MessageKey) (at : Option ℕ) (items : List (Items A)) (old one two three four : List ℕ)
+    → one ≡ old ++ line_front k.own.local k.own.global → two ≡ one ++ time_part at → three ≡ two ++ line_head k
+    → four ≡ three ++ keys_text (line_keys k) items → length k.own.fields + length k.devs ≤ length items → four ≡ old ++ line_text k at items
+line_parts k at items old one two three four first second third fourth long =
+    let cells = keys_text (line_keys k) items in
+    let head = line_head k in
     fourth ∙ ap (λ t. t ++ cells) (third ∙ ap (λ t. t ++ head) (second ∙ ap (λ t. t ++ time_part at) first))
-    ∙ parts_regroup old (line_front local global) (time_part at) head cells
-    ∙ ap₂ (λ a b. old ++ (a ++ b)) (front_parts local global at) (keys_shown 0 global fields items long)
+    ∙ parts_regroup old (line_front k.own.local k.own.global) (time_part at) head cells
+    ∙ ap₂ (λ a b. old ++ (a ++ b)) (front_parts k.own.local k.own.global at) (line_cells k items long)
+    ∙ ap (λ t. old ++ t) (sym (append_assoc (message_front k.own.local k.own.global at)
+    (listed 0 (part_texts (own_parts k.own) items ++ part_texts (map dev_field_part k.devs) (drop (length k.own.fields) items))) (codes "\n")))
+
+-- ---- a message by what is kept for its definition
+
+module _ {S : Type 0} (has : KnowsItems S) (from : S) (key : MessageKey) (before : List (Record Global)) (p : Defined Global) (local : ℕ) where
+  module _ (same : key ≡ message_key before local p) (place : defined_at (known before) local ≡ Some p) where
+    slots : line_slots key ++ [] ≡ layout p ++ dev_layout p
+    slots = append-nil (line_slots key) ∙ ap line_slots same ∙ slots_known before local p place
+
+    pub line_items : (all : List (Items Global)) → has from (layout p ++ dev_layout p) all → HasFields has from (line_slots key)
+    line_items all h = ([], all, subst (λ fs. has from fs all) (sym slots) h)
+
+    pub line_put : (now : S) (at : Option ℕ) (old new : List ℕ) → TakesFields has from now (line_slots key) (λ all. new ≡ old ++ line_text key at all)
+        → (v : Values Global) → v.local ≡ local → length v.fields ≡ length p.definition.fields → at ≡ time before (Data v)
+        → has from (layout p ++ dev_layout p) (v.fields ++ v.dev) → new ≡ old ++ record_line before (Data v)
+    line_put now at old new takes v is long timed h =
+        let all = v.fields ++ v.dev in
+        let t = takes [] all (subst (λ fs. has from fs all) (sym slots) h) in
+        t.2 ∙ ap (λ k. old ++ line_text k at all) same ∙ ap (λ u. old ++ u) (line_known before p local at v place is long timed)

@@ -10,7 +10,7 @@ use Rattle.fit_chain.specs.Events.{known_after, known_next}
 use Rattle.fit_chain.specs.declared.event.Event.TheVariants as answers
 use Rattle.fit_csv.proofs.RowsOfEvents.{records-more, records_after, rows-more}
 
--- a record that is heard fits behind the latest records
+-- a record that is heard fits after the latest records
 pub answer_fits : {A : Type 0} → HeardRecordsFit A → LookingBackIsLearning A → (heard : List (Event A)) (answer : Answer A) → AreHeard (hear answer heard)
     → AnswerFits (latest_records heard) answer
 answer_fits fit back heard (answers.Item r) are =
@@ -18,7 +18,7 @@ answer_fits fit back heard (answers.Item r) are =
     subst (λ e. Fits e r) (sym (back (reverse before)) ∙ ap known (reverse-reverse before)) (fit heard r are)
 answer_fits fit back heard answer are = tt
 
--- the latest records behind an answer
+-- the latest records after an answer
 pub latest_next : {A : Type 0} (heard : List (Event A)) (answer : Answer A) → behind_answer (latest_records heard) answer ≡ latest_records (hear answer heard)
 latest_next heard answers.More = refl
 latest_next heard (answers.Header h n) = refl
@@ -37,7 +37,7 @@ known_latest {A} (x ∷ heard) =
     next (item r) = refl
     next file_end = refl
 
--- the message of some bytes behind what is heard is their message behind its latest records
+-- the message of some bytes after what is heard is their message after its latest records
 pub told_message : {A : Type 0} (heard : List (Event A)) (stream : List (Record A)) (v : Values A) (bytes same : List ℕ) → stream ≡ latest_records heard
     → same ≡ bytes → IsRecord (known_after (reverse heard)) (Data v) bytes → IsRecord (known stream) (Data v) same
 told_message heard stream v bytes same has is =
@@ -49,7 +49,7 @@ unfolding csv_text
 answer_text heard answers.More = refl
 answer_text heard answer = refl
 
--- the latest records are those behind the events in their order
+-- the latest records are those after the events in their order
 pub latest : {A : Type 0} (heard : List (Event A)) → records_after [] (reverse heard) ≡ latest_records heard
 latest [] = refl
 latest (x ∷ heard) =

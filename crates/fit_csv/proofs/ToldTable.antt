@@ -9,12 +9,12 @@ use Rattle.fit_chain.specs.declared.event.Event.TheVariants as answers
 use Rattle.fit_csv.proofs.RowsOfEvents.{records_after}
 use Rattle.fit_csv.proofs.ToldRows.{latest}
 
--- how many files have begun behind events one after another
+-- how many files have begun after events one after another
 abbrev files_after : {A : Type 0} → ℕ → List (Event A) → ℕ
 files_after files [] = files
 files_after files (x ∷ events) = files_after (files_behind files x) events
 
--- one more event has its rows behind those of the others
+-- one more event has its rows after those of the others
 table-more : {A : Type 0} (files : ℕ) (before : List (Record A)) (events : List (Event A)) (x : Event A)
     → table_events_rows files before (events ++ (x ∷ []))
     ≡ table_events_rows files before events ++ table_event_rows (files_after files events) (records_after before events) x

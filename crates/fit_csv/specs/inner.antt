@@ -1,7 +1,7 @@
 -- Definitions that no public contract cites: what private functions and proofs need.
 pub mod TableCells
 pub mod TableColumns
-pub mod CurrentColumns
+pub mod Current
 pub mod Reporting
 pub mod TextFaults
 pub mod Seven
@@ -11,3 +11,4 @@ pub mod SoundChain
 pub mod Showing
 pub mod Minutes
 pub mod Frames
+pub mod MessageKeys

@@ -1,5 +1,8 @@
 //! What is kept of a definition, so that what is made of it serves its later messages too.
-ghost use Rattle.std.specs.Prelude.{◌≡◌, IfOk, IsTrue};
+ghost use Rattle.std.specs.Prelude.{◌≡◌, IfOk, IsTrue, None, OnOk, Some, option_and_then, option_map, slice_get};
+
+pub(crate) mod developer;
+pub(crate) mod message;
 
 use fit_record::{FieldDef, MessageDef};
 use std::alloc::{AllocError, Global};
@@ -36,7 +39,7 @@ pub(crate) struct Kept {
 }
 
 impl Model for Kept {
-    ghost use Rattle.fit_csv.specs.inner.Frames.{TemplateKey};
+    ghost use Rattle.fit_csv.specs.inner.MessageKeys.{TemplateKey};
 
     ghost Value = { TemplateKey };
 
@@ -75,12 +78,61 @@ impl Kept {
     }
 }
 
+/// What is kept for local message types, each at its place.
+#[derive(Drop)]
+pub(crate) struct ByLocal<T: Drop> {
+    pub items: Vec<Option<T>>,
+    /// The local message type for which what is kept is known to be that of its definition.
+    pub current: Option<u8>,
+}
+
+impl<T: Drop> ByLocal<T> {
+    /// Nothing is kept.
+    pub(crate) fn new(alloc: Global) -> ByLocal<T>
+        ensures { result.current ≡ None }
+    {
+        ByLocal {
+            items: Vec::new(alloc),
+            current: None,
+        }
+    }
+
+    /// What is kept for a local message type.
+    #[inline(always)]
+    pub(crate) fn get(&self, local: u8) -> Option<&T>
+        ensures { option_map (λ t. t.now) result
+            ≡ option_and_then (λ t. t) (slice_get self.now.items.items local) }
+    {
+        self.items.as_slice().get(local as usize)?.as_ref()
+    }
+
+    /// Forgets what is known to be that of a definition.
+    pub(crate) fn forget(&mut self)
+        ensures { self.new.current ≡ None }
+    {
+        self.current = None;
+    }
+
+    /// Whether what is kept for a local message type is known to be that of its definition.
+    #[inline(always)]
+    pub(crate) fn is_current(&self, local: u8) -> bool
+        ensures { IsTrue result → self.now.current ≡ Some local }
+    {
+        match self.current {
+            Some(current) => current == local,
+            None => false,
+        }
+    }
+}
+
 /// Keeps something at a place of a list, which grows up to it.
 pub(crate) fn keep_at<T: Drop>(
     kept: &mut Vec<Option<T>>,
     place: usize,
     item: T,
-) -> Result<(), AllocError> {
+) -> Result<(), AllocError>
+    ensures { OnOk result (slice_get kept.new.items place ≡ Some (Some item)) }
+{
     for _ in kept.len()..place {
         kept.push(None)?;
     }

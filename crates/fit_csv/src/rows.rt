@@ -1,7 +1,6 @@
 //! The rows of a chain of files, event by event.
 
 pub(crate) mod definition;
-pub(crate) mod developer;
 pub(crate) mod file;
 pub(crate) mod frames;
 pub(crate) mod maker;

@@ -1,5 +1,5 @@
 -- What stands around the values in the rows of a message. No public contract names these definitions.
-use Rattle.std.specs.Prelude.{◌≡◌, ◌≤◌, ℕ, List, [], ◌∷◌, ◌++◌, Option, None, codes, decimal, drop, length, option_map, unwrap_or}
+use Rattle.std.specs.Prelude.{◌≡◌, ◌≤◌, ℕ, List, [], ◌∷◌, ◌++◌, Option, None, codes, decimal, drop, length, map, option_map, unwrap_or, zip}
 use Rattle.std.specs.Global.{Global}
 use Rattle.csv.specs.Writing.{default_writer, field_text}
 use Rattle.fit_base.specs.declared.items.Items.{Items}
@@ -8,8 +8,9 @@ use Rattle.fit_profile.specs.Names.{field, field_label, message_label}
 use Rattle.fit_profile.specs.Profile.{Meaning}
 use Rattle.fit_cells.specs.Cells.{cell}
 use Rattle.fit_cells.specs.Rows.{Cell, Row}
-use Rattle.fit_csv.specs.ChainRows.{field_rows, optional_number, row, unit_text}
+use Rattle.fit_csv.specs.ChainRows.{optional_number, row, unit_text}
 use Rattle.fit_csv.specs.InstantText.{instant_text}
+use Rattle.fit_csv.specs.inner.MessageKeys.{DevKey, MessageKey}
 
 -- The row of a value: its kind, the name and the unit of the value, and by which base type code, size in bytes and scale the value is read.
 pub record FrameKey : Type 0 where
@@ -34,11 +35,11 @@ field_key global f = record {
   info = field global f.number;
 }
 
--- a developer field of this name, unit, base type code and size
-abbrev pub dev_key : Cell → Cell → ℕ → ℕ → FrameKey
-dev_key name unit code size = record { kind = codes "dev"; name = name; unit = unit; code = code; size = size; info = None }
+-- the row of a developer field
+abbrev pub dev_frame_key : DevKey → FrameKey
+dev_frame_key d = record { kind = codes "dev"; name = d.name; unit = d.unit; code = d.code; size = d.size; info = None }
 
--- two cells, each with a comma behind it
+-- two cells, each with a comma after it
 abbrev pub two_cells : Cell → Cell → List ℕ
 two_cells a b = field_text default_writer a ++ 44 ∷ (field_text default_writer b ++ 44 ∷ [])
 
@@ -46,7 +47,7 @@ two_cells a b = field_text default_writer a ++ 44 ∷ (field_text default_writer
 abbrev pub head_text : FrameKey → List ℕ
 head_text k = two_cells k.kind k.name
 
--- what stands behind it
+-- what stands after it
 abbrev pub tail_text : FrameKey → List ℕ
 tail_text k = two_cells [] k.unit ++ codes ",,\n"
 
@@ -60,7 +61,7 @@ pub record FrameText : Type 0 where
 abbrev pub frame_text : List ℕ → FrameKey → FrameText
 frame_text before k = record { between = before ++ head_text k; code = k.code; size = k.size; info = k.info }
 
--- the same of rows one after another, the first of them behind a row with this end
+-- the same of rows one after another, the first of them after a row with this end
 abbrev pub frames_of : List ℕ → List FrameKey → List FrameText
 frames_of before [] = []
 frames_of before (k ∷ keys) = frame_text before k ∷ frames_of (tail_text k) keys
@@ -70,22 +71,28 @@ abbrev pub end_of : List ℕ → List FrameKey → List ℕ
 end_of before [] = before
 end_of before (k ∷ keys) = end_of (tail_text k) keys
 
--- the text of values, each behind what stands before it, and this end behind the last
+-- the text of values, each after what stands before it, and this end after the last
 abbrev pub values_text : {A : Type 0} → List FrameText → List ℕ → List (Items A) → List ℕ
 values_text (f ∷ frames) end (i ∷ items) = f.between ++ (field_text default_writer (cell f.code f.info i) ++ values_text frames end items)
 values_text _ end _ = end
 
--- a definition, as far as the rows of its fields depend on it
-pub record TemplateKey : Type 0 where
-  pub local : ℕ
-  pub global : ℕ
-  pub fields : List FieldDef
+-- the rows of the fields and of the developer fields
+abbrev pub frame_keys : MessageKey → List FrameKey
+frame_keys k = map (field_key k.own.global) k.own.fields ++ map dev_frame_key k.devs
 
--- the first row of a message of a definition, by its time offset and the time of its header, and those of its fields, by their items
-abbrev pub own_rows : {A : Type 0} → TemplateKey → Option ℕ → Option ℕ → List (Items A) → List Row
-own_rows k offset time items =
-    row (codes "data") (decimal k.local) (optional_number offset) (message_label k.global) (unwrap_or (option_map instant_text time) []) [] []
-    ∷ field_rows k.global k.fields items
+-- their base type codes and sizes
+abbrev pub frame_slots : MessageKey → List (ℕ × ℕ)
+frame_slots k = map (λ f. (f.code, f.size)) (frame_keys k)
+
+-- rows by the items of their values
+abbrev pub value_rows : {A : Type 0} → List FrameKey → List (Items A) → List Row
+value_rows keys items = map (λ x. value_row x.0 x.1) (zip keys items)
+
+-- all rows of a message by its time offset, the time of its header, and the items of its fields and its developer fields
+abbrev pub key_rows : {A : Type 0} → MessageKey → Option ℕ → Option ℕ → List (Items A) → List Row
+key_rows k offset time items =
+    row (codes "data") (decimal k.own.local) (optional_number offset) (message_label k.own.global) (unwrap_or (option_map instant_text time) []) [] []
+    ∷ value_rows (frame_keys k) items
 
 -- ---- the items of fields, one field after another, where they are known by a relation with the codes and sizes of the fields
 

@@ -6,56 +6,15 @@ ghost use Rattle.fit_profile.specs.Looks.{known};
 ghost use Rattle.fit_cells.specs.Rows.{csv_text};
 ghost use Rattle.fit_csv.specs.ChainRows.{record_rows};
 ghost use Rattle.fit_csv.specs.Judged.{RecordInRange};
+ghost use Rattle.fit_csv.specs.inner.Current.{AreCurrent};
+ghost use Rattle.fit_csv.specs.inner.MessageKeys.{message_key};
 
 use crate::from::plain::behind_front;
-use crate::kept::keep_at;
-use crate::rows::frames::likely::{behind, likely_cell};
 use crate::rows::maker::RowMaker;
 use crate::rows::message::put_record;
-use crate::rows::template::Template;
 use crate::rows::template::likely::likely_byte;
-use crate::words::dev_slice;
-use fit_base::{Code, Entries, Items};
 use fit_profile::Stream;
-use fit_record::{DevDef, MessageDef, Record};
-use std::alloc::Global;
-
-/// The items of developer fields of these codes whose rows a text may show.
-fn likely_dev(
-    alloc: Global,
-    written: &mut Vec<u8>,
-    codes: &[u8],
-    fields: &[DevDef],
-    text: &[u8],
-) -> Option<Entries<Items>> {
-    let mut dev = Entries::with_capacity(alloc, fields.len()).ok()?;
-    let mut rest = text;
-    for (place, field) in fields.iter().enumerate() {
-        let code = Code(*codes.get(place)?);
-        let value = behind(behind(rest, b',')?, b',')?;
-        let (items, left) = likely_cell(alloc, written, code, field.size, None, value)?;
-        dev.push(items).ok()?;
-        rest = behind(left, b'\n')?;
-    }
-    Some(dev)
-}
-
-/// What is kept of the rows of a definition's messages.
-fn template_of<'a>(
-    maker: &'a mut RowMaker,
-    local: u8,
-    definition: &MessageDef,
-) -> Option<&'a Template> {
-    let is_kept = match maker.templates.as_slice().get(local as usize) {
-        Some(Some(template)) => template.is_of(local, definition),
-        _ => false,
-    };
-    if !is_kept {
-        let template = Template::new(maker.alloc, &mut maker.writer, local, definition).ok()?;
-        keep_at(&mut maker.templates, local as usize, template).ok()?;
-    }
-    maker.templates.as_slice().get(local as usize)?.as_ref()
-}
+use fit_record::Record;
 
 /// The data message whose rows a text may show. Nothing is claimed of it but that it is one.
 fn likely_message(
@@ -64,21 +23,20 @@ fn likely_message(
     before: &Stream,
     text: &[u8],
 ) -> Option<Record>
-    ensures { IfSome result RecordInRange }
+    requires { AreCurrent message_key maker.old.templates before.now }
+    ensures range { IfSome result RecordInRange }
+    ensures current { AreCurrent message_key maker.new.templates before.now }
 {
-    let alloc = maker.alloc;
     let (local, _) = likely_byte(text.strip_prefix(b"data,")?);
     let local = local?;
     let defined = before.env().defined(local)?;
-    let definition = &defined.definition;
-    let template = template_of(maker, local, definition)?;
-    let (values, rest) = template.likely(alloc, written, text)?;
-    let codes = defined.dev_codes.as_slice();
-    let dev = likely_dev(alloc, written, codes, dev_slice(&definition.dev), rest)?;
-    Some(Record::Values(values.with_dev(dev)))
+    maker.know(before, local, defined).ok()?;
+    let template = maker.templates.get(local)?;
+    let values = template.likely(maker.alloc, written, text)?;
+    Some(Record::Values(values))
 }
 
-/// The data message behind these records with whose rows a text begins, as `to_csv` writes them, and what is left.
+/// The data message after these records with whose rows a text begins, as `to_csv` writes them, and what is left.
 pub(crate) fn whole_message<'a>(
     maker: &mut RowMaker,
     written: &mut Vec<u8>,
@@ -90,6 +48,7 @@ pub(crate) fn whole_message<'a>(
     ensures text { IfSome result (λ p.
         text.now ≡ csv_text (record_rows before.now p.0) ++ p.1.now) }
 {
+    maker.templates.forget();
     let message = likely_message(maker, written, before, text)?;
     if before.env().fits(&message).is_err() {
         return None;

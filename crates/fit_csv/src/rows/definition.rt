@@ -69,7 +69,7 @@ fn put_def_row(text: &mut Vec<u8>, definition: &MessageDef) -> Result<(), AllocE
     Ok(())
 }
 
-/// Puts the row of three numbers behind a word that needs no quotes.
+/// Puts the row of three numbers after a word that needs no quotes.
 fn put_numbers(
     text: &mut Vec<u8>,
     kind: &[u8],

@@ -3,7 +3,6 @@ ghost use Rattle.std.specs.Prelude.{◌≡◌, ◌∷◌, [], OnOk};
 ghost use Rattle.fit_cells.specs.Rows.{HasRows};
 ghost use Rattle.fit_csv.specs.ChainRows as rows;
 
-use crate::rows::maker::RowMaker;
 use crate::words::{put_rest, sum_word};
 use fit_cells::RowWriter;
 use fit_frame::Header;
@@ -37,18 +36,18 @@ fn put_header_cells<'a>(
     writer.put(text, cells.as_slice())
 }
 
-/// Puts the row of a header.
+/// Puts the row of a header, by the memory of a cell.
 pub(crate) fn put_file_row(
     text: &mut Vec<u8>,
-    maker: &mut RowMaker,
+    writer: &mut RowWriter,
+    value: &mut Vec<u8>,
     header: &Header,
 ) -> Result<(), AllocError>
     ensures { OnOk result (HasRows (rows.file_row header.now ∷ []) text.old text.new) }
 {
-    put_rest(&mut maker.value, header.rest.as_slice())?;
+    put_rest(value, header.rest.as_slice())?;
     let word = sum_word(header.sum).as_bytes();
-    let rest = maker.value.as_slice();
-    put_header_cells(text, &mut maker.writer, header, word, rest)
+    put_header_cells(text, writer, header, word, value.as_slice())
 }
 
 /// Puts the row that ends a file.

@@ -26,7 +26,7 @@ use fit_record::read_items;
 use std::alloc::{AllocError, Global};
 use std::marker::Model;
 
-/// Puts two cells behind a text, each with a comma behind it.
+/// Puts two cells after a text, each with a comma after it.
 #[tactic(auto, using(crate::proofs::FramedRows::two_of_row))]
 pub(crate) fn put_two<'a>(
     text: &mut Vec<u8>,
@@ -46,12 +46,12 @@ pub(crate) fn put_two<'a>(
         b"".as_slice(),
     ];
     writer.put(text, cells.as_slice())?;
-    // without the commas behind the other cells, and the line feed
+    // without the commas after the other cells, and the line feed
     text.truncate(text.len().saturating_sub(5));
     Ok(())
 }
 
-/// Puts what stands behind a value with this unit in its row.
+/// Puts what stands after a value with this unit in its row.
 pub(crate) fn put_tail(
     text: &mut Vec<u8>,
     writer: &mut RowWriter,
@@ -64,7 +64,7 @@ pub(crate) fn put_tail(
     text.extend_from_slice(b",,\n")
 }
 
-/// Puts the text of a string behind a text, in quotes where it needs them.
+/// Puts the text of a string after a text, in quotes where it needs them.
 #[inline(always)]
 #[tactic(auto, using(crate::proofs::TextCells::unquoted))]
 fn put_shown(
@@ -122,7 +122,7 @@ impl Model for Frame {
 }
 
 impl Frame {
-    /// What stands around a value of this code, size and meaning behind a row with this end.
+    /// What stands around a value of this code, size and meaning after a row with this end.
     pub(crate) fn new<'a>(
         alloc: Global,
         writer: &mut RowWriter,
@@ -164,7 +164,7 @@ impl Frame {
         self.size
     }
 
-    /// Puts a value that is no lone number behind a text.
+    /// Puts a value that is no lone number after a text.
     #[inline(never)]
     fn put_other(
         &self,
@@ -220,7 +220,7 @@ impl Frame {
         }
     }
 
-    /// Puts a value that is no lone number behind a text, by the bytes of its field.
+    /// Puts a value that is no lone number after a text, by the bytes of its field.
     #[inline(never)]
     fn put_rest(
         &self,
@@ -240,7 +240,7 @@ impl Frame {
         self.put_other(text, writer, value, &items)
     }
 
-    /// Puts the value of a string behind a text, by the bytes of its field.
+    /// Puts the value of a string after a text, by the bytes of its field.
     #[inline(never)]
     fn put_string(
         &self,

@@ -1,6 +1,14 @@
 //! The rows of events, told one after another.
-ghost use Rattle.std.specs.Prelude.{◌≡◌, ◌++◌, [], OnOk, OnErr};
+ghost use Rattle.std.specs.Prelude.{◌≡◌, ◌∷◌, [], OnOk, OnErr};
+ghost use Rattle.std.specs.Global.{Global};
+ghost use Rattle.fit_record.specs.declared.message.Record.TheVariants.{Values as Data};
+ghost use Rattle.fit_record.specs.declared.message.Values.{Values};
+ghost use Rattle.fit_record.specs.Records.{IsRecord};
+ghost use Rattle.fit_profile.specs.Looks.{known};
 ghost use Rattle.fit_cells.specs.Rows.{HasRows};
+ghost use Rattle.fit_csv.specs.ChainRows.{data_rows};
+ghost use Rattle.fit_csv.specs.inner.Current.{AreCurrent};
+ghost use Rattle.fit_csv.specs.inner.MessageKeys.{message_key};
 ghost use Rattle.fit_csv.specs.inner.Reporting.{AnswerFits, answer_rows, behind_answer};
 
 use crate::rows::file::{put_end_row, put_file_row};
@@ -12,8 +20,9 @@ use fit_profile::laws::looking_back_is_learning;
 use fit_report::Report;
 use fit_report::laws::heard_records_fit;
 use std::alloc::{AllocError, Global};
+use std::marker::Model;
 
-/// Puts the rows of an event behind the records of a stream.
+/// Puts the rows of an event after the records of a stream.
 #[tactic(auto, using(fit_cells::proofs::AddedRows::rows_none))]
 fn put_event(
     text: &mut Vec<u8>,
@@ -21,12 +30,16 @@ fn put_event(
     stream: &Stream,
     event: &Event,
 ) -> Result<(), AllocError>
-    requires { AnswerFits stream.now event.now }
-    ensures { OnOk result (HasRows (answer_rows stream.now event.now) text.old text.new) }
+    requires fits { AnswerFits stream.now event.now }
+    requires current { AreCurrent message_key maker.old.templates stream.now }
+    ensures rows { OnOk result (HasRows (answer_rows stream.now event.now) text.old text.new) }
+    ensures current { AreCurrent message_key maker.new.templates stream.now }
 {
     match event {
         Event::More => Ok(()),
-        Event::Header(header, _) => put_file_row(text, maker, header),
+        Event::Header(header, _) => {
+            put_file_row(text, &mut maker.writer, &mut maker.value, header)
+        }
         Event::Item(record_) => put_record(text, maker, stream, record_),
         Event::FileEnd => put_end_row(text, &mut maker.writer),
     }
@@ -48,17 +61,50 @@ fn follow(stream: &mut Stream, event: &Event) -> Result<(), AllocError>
     }
 }
 
-/// Makes rows of the events of a chain of files. It knows the records of the file that was begun last.
+/// Takes in the data message that the bytes are, and puts its rows.
+fn take_message(
+    text: &mut Vec<u8>,
+    maker: &mut RowMaker,
+    stream: &mut Stream,
+    bytes: &[u8],
+) -> Result<(), AllocError>
+    requires record_ { (v : Values Global) × IsRecord (known stream.old) (Data v) bytes.now }
+    requires current { AreCurrent message_key maker.old.templates stream.old }
+    ensures rows { OnOk result ((v : Values Global) → IsRecord (known stream.old) (Data v) bytes.now
+        → HasRows (data_rows stream.old v) text.old text.new) }
+    ensures stream { OnOk result ((v : Values Global)
+        → IsRecord (known stream.old) (Data v) bytes.now → stream.new ≡ Data v ∷ stream.old) }
+    ensures current { AreCurrent message_key maker.new.templates stream.new }
+{
+    put_message(text, maker, stream, bytes)?;
+    stream.take_message(bytes)
+}
+
+/// Makes rows of the events of a chain of files. Clauses see the records of the file that was begun last, the latest first.
 #[derive(Drop)]
 pub(crate) struct CsvReport {
     stream: Stream,
     maker: RowMaker,
 }
 
+impl Model for CsvReport {
+    ghost use Rattle.std.specs.Prelude.{List};
+    ghost use Rattle.std.specs.Global.{Global};
+    ghost use Rattle.fit_record.specs.declared.message.Record.{Record};
+    ghost use Rattle.fit_csv.specs.inner.Current.{AreCurrent};
+    ghost use Rattle.fit_csv.specs.inner.MessageKeys.{message_key};
+
+    ghost Value = { List (Record Global) };
+
+    ghost view = { λ r. r.stream };
+
+    ghost invariant = { λ r. AreCurrent message_key r.maker.templates r.stream };
+}
+
 impl CsvReport {
     /// No event was told.
     pub(crate) fn new(alloc: Global) -> CsvReport
-        ensures { result.stream ≡ [] }
+        ensures { result ≡ [] }
     {
         CsvReport {
             stream: Stream::new(alloc),
@@ -71,7 +117,7 @@ impl Report for CsvReport {
     ghost use Rattle.fit_report.specs.Heard.{latest_records};
     ghost use Rattle.fit_csv.specs.Conversions.{csv_line};
 
-    ghost has_heard = { λ r heard. r.stream ≡ latest_records heard };
+    ghost has_heard = { λ r heard. r ≡ latest_records heard };
 
     ghost line = { csv_line };
 
@@ -79,6 +125,7 @@ impl Report for CsvReport {
         heard_records_fit::<Global>();
         looking_back_is_learning::<Global>();
         put_event(text, &mut self.maker, &self.stream, event)?;
+        self.maker.templates.forget();
         follow(&mut self.stream, event)
     }
 
@@ -93,8 +140,7 @@ impl Report for CsvReport {
             return Ok(0);
         }
         let (message, _) = piece.split_at(used);
-        put_message(text, &mut self.maker, &self.stream, message)?;
-        self.stream.take_message(message)?;
+        take_message(text, &mut self.maker, &mut self.stream, message)?;
         Ok(used)
     }
 }

@@ -1,38 +1,43 @@
 //! What comes after the cells of fields in a line, found out once for many messages.
-ghost use Rattle.std.specs.Prelude.{◌≡◌, ◌+◌, ◌++◌, ◌∷◌, [], if◌then◌else◌, IfOk, OnOk};
+ghost use Rattle.std.specs.Prelude.{◌≡◌, ◌<◌, ◌+◌, ◌++◌, ◌∷◌, [], if◌then◌else◌, IfOk, IfSome, OnOk, codes, length, map, option_map};
+ghost use Rattle.fit_profile.specs.Names.{meaning};
+ghost use Rattle.fit_profile.specs.Scaled.{IsScale};
 ghost use Rattle.fit_csv.specs.inner.Frames.{HasFields, TakesField};
-ghost use Rattle.fit_csv.specs.inner.Showing.{first_head, key_text, shown_key, shown_keys, spaced};
+ghost use Rattle.fit_csv.specs.inner.Showing.{dev_field_part, field_part, first_head, key_text, shown_keys, spaced};
 
 use crate::items::FieldItems;
+use crate::kept::developer::KeptDev;
 use crate::show::cells::ShownCell;
 use crate::show::fields::{put_name, put_words, separator};
 use crate::stamp::Stamp;
 use crate::words::unit_text;
-use fit_profile::{field_info, field_label};
+use fit_profile::{Info, field_info, field_label};
 use fit_record::FieldDef;
 use std::alloc::{AllocError, Global};
 use std::marker::Model;
 
 /// Puts a unit after a space, where there is one.
-pub(crate) fn put_spaced(text: &mut Vec<u8>, unit: &str) -> Result<(), AllocError>
+fn put_spaced(text: &mut Vec<u8>, unit: &[u8]) -> Result<(), AllocError>
     ensures { OnOk result (text.new.items ≡ text.old.items ++ spaced unit.now) }
 {
     if unit.is_empty() {
         return Ok(());
     }
-    let words = [b" ".as_slice(), unit.as_bytes()];
+    let words = [b" ".as_slice(), unit];
     put_words(text, words.as_slice())
 }
 
-/// Puts what stands before the cell of the first of these fields, which comes after that many others.
+/// Puts what stands before the cell of the first of these fields, which comes after that many others, or this end where there is
+/// none.
 pub(crate) fn put_head(
     text: &mut Vec<u8>,
     before: usize,
     global: u16,
     fields: &[FieldDef],
+    end: &[u8],
 ) -> Result<(), AllocError>
-    ensures { OnOk result (text.new.items
-        ≡ text.old.items ++ first_head before global fields.now) }
+    ensures { OnOk result (text.new.items ≡ text.old.items
+        ++ first_head before (map (field_part global) fields.now) end.now) }
 {
     match fields.split_first() {
         Some((field, _)) => {
@@ -40,11 +45,27 @@ pub(crate) fn put_head(
             let name = label.as_str().as_bytes();
             put_name(text, separator(before).as_bytes(), name)
         }
-        None => Ok(()),
+        None => text.extend_from_slice(end),
     }
 }
 
-/// What stands between the cell of a field and that of the next, and how its items are shown.
+/// Puts what stands before the cell of the first of these developer fields, which comes after that many fields, or the end of the
+/// line where there is none.
+pub(crate) fn put_dev_head(
+    text: &mut Vec<u8>,
+    before: usize,
+    devs: &[KeptDev],
+) -> Result<(), AllocError>
+    ensures { OnOk result (text.new.items ≡ text.old.items
+        ++ first_head before (map dev_field_part devs.now) (codes "\n")) }
+{
+    match devs.split_first() {
+        Some((dev, _)) => put_name(text, separator(before).as_bytes(), dev.name.as_slice()),
+        None => text.extend_from_slice(b"\n"),
+    }
+}
+
+/// What stands between the cell of a field and that of the next, or the end of the line, and how its items are shown.
 #[derive(Drop)]
 pub(crate) struct ShownField {
     /// What stands before the next cell.
@@ -69,27 +90,31 @@ impl Model for ShownField {
 }
 
 impl ShownField {
-    /// That of a field of messages of this global number, with that many fields up to it, before these others.
-    pub(crate) fn new(
+    /// That of a field of this unit, base type code, size and meaning, before this head of the next one.
+    fn new(
         alloc: Global,
-        global: u16,
-        field: &FieldDef,
-        count: usize,
-        others: &[FieldDef],
+        unit: &[u8],
+        code: u8,
+        size: u8,
+        info: Option<Info>,
+        head: Vec<u8>,
     ) -> Result<ShownField, AllocError>
-        ensures { IfOk result (λ f.
-            f ≡ shown_key global field.now (first_head count global others.now)) }
+        requires { IfSome info (λ i. IsScale i.scale) }
+        ensures { IfOk result (λ f. f ≡ record {
+          bare = head.items;
+          full = spaced unit.now ++ head.items;
+          code = code;
+          size = size;
+          info = option_map meaning info;
+        }) }
     {
-        let info = field_info(global, field.number);
-        let mut head = Vec::new(alloc);
-        put_head(&mut head, count, global, others)?;
-        let mut unit = Vec::new(alloc);
-        put_spaced(&mut unit, unit_text(info))?;
-        unit.extend_from_slice(head.as_slice())?;
+        let mut full = Vec::new(alloc);
+        put_spaced(&mut full, unit)?;
+        full.extend_from_slice(head.as_slice())?;
         Ok(ShownField {
             head: Stamp::new(head)?,
-            unit: Stamp::new(unit)?,
-            cell: ShownCell::new(field.code, field.size, info),
+            unit: Stamp::new(full)?,
+            cell: ShownCell::new(code, size, info),
         })
     }
 
@@ -120,18 +145,46 @@ impl ShownField {
     }
 }
 
-/// What stands between the cells of the fields of messages of this global number.
+/// What comes after the cells of the fields of messages of this global number, before this end.
 pub(crate) fn shown_fields(
     alloc: Global,
     global: u16,
     fields: &[FieldDef],
+    end: &[u8],
 ) -> Result<Vec<ShownField>, AllocError>
-    ensures { IfOk result (λ frames. frames.items ≡ shown_keys 0 global fields.now) }
+    ensures { IfOk result (λ shown. shown.items
+        ≡ shown_keys 0 (map (field_part global) fields.now) end.now) }
 {
-    let mut frames = Vec::new(alloc);
+    let mut shown = Vec::new(alloc);
     for (place, field) in fields.iter().enumerate() {
         let (_, others) = fields.split_at(place + 1);
-        frames.push(ShownField::new(alloc, global, field, place + 1, others)?)?;
+        let mut head = Vec::new(alloc);
+        put_head(&mut head, place + 1, global, others, end)?;
+        let info = field_info(global, field.number);
+        let unit = unit_text(info).as_bytes();
+        shown.push(ShownField::new(alloc, unit, field.code, field.size, info, head)?)?;
     }
-    Ok(frames)
+    Ok(shown)
+}
+
+/// Adds what comes after the cells of developer fields, after that many fields.
+pub(crate) fn push_devs(
+    alloc: Global,
+    shown: &mut Vec<ShownField>,
+    before: usize,
+    devs: &[KeptDev],
+) -> Result<(), AllocError>
+    requires before { before < 256 }
+    requires few { length devs.now < 256 }
+    ensures { OnOk result (shown.new.items ≡ shown.old.items
+        ++ shown_keys before (map dev_field_part devs.now) (codes "\n")) }
+{
+    for (place, dev) in devs.iter().enumerate() {
+        let (_, others) = devs.split_at(place + 1);
+        let mut head = Vec::new(alloc);
+        put_dev_head(&mut head, before + (place + 1), others)?;
+        let unit = dev.unit.as_slice();
+        shown.push(ShownField::new(alloc, unit, dev.code, dev.size, None, head)?)?;
+    }
+    Ok(())
 }

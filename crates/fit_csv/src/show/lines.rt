@@ -1,5 +1,5 @@
 //! The lines of headers, definition messages and data messages.
-ghost use Rattle.std.specs.Prelude.{◌≡◌, ◌<◌, ◌^◌, ◌++◌, ◌∷◌, [], List, OnOk, Some, codes, decimal, length, map};
+ghost use Rattle.std.specs.Prelude.{◌≡◌, ◌<◌, ◌^◌, ◌++◌, ◌∷◌, [], List, OnOk, Some, codes, decimal, length};
 ghost use Rattle.std.specs.Global.{Global};
 ghost use Rattle.fit_base.specs.declared.items.Items.{Items};
 ghost use Rattle.fit_record.specs.declared.message.Record.TheVariants.{Values as Data};
@@ -9,16 +9,16 @@ ghost use Rattle.fit_record.specs.Records.{Fits, IsRecord, dev_layout, layout};
 ghost use Rattle.fit_record.specs.Sound.{IsSound};
 ghost use Rattle.fit_profile.specs.Looks.{known};
 ghost use Rattle.fit_profile.specs.Times as times;
-ghost use Rattle.fit_csv.specs.ShowLines.{definition_line, header_line, joined, listed, message_front, record_line, shown_fields, versions_text};
+ghost use Rattle.fit_csv.specs.ShowLines.{definition_line, header_line, joined, record_line, versions_text};
 ghost use Rattle.fit_csv.specs.ChainRows as rows;
-ghost use Rattle.fit_csv.specs.inner.Frames.{HasFields, TakesFields};
+ghost use Rattle.fit_csv.specs.inner.Current.{AreCurrent};
 ghost use Rattle.fit_csv.specs.inner.Reporting.{AnswerFits};
 ghost use Rattle.fit_csv.specs.inner.Showing.{text_with};
+ghost use Rattle.fit_csv.specs.inner.MessageKeys.{message_key};
 
 use crate::items::{FieldItems, ItemBytes, MadeItems};
-use crate::kept::keep_at;
-use crate::show::fields::{put_devs, put_words};
-use crate::show::template::{LineMaker, LineTemplate};
+use crate::show::fields::put_words;
+use crate::show::template::LineMaker;
 use crate::words::{dev_slice, order_word, sum_word};
 use fit_decode::Event;
 use fit_frame::Header;
@@ -62,7 +62,7 @@ fn put_data_size(text: &mut Vec<u8>, header: &Header, size: u32) -> Result<(), A
     put_words(text, words.as_slice())
 }
 
-/// Puts the line of the header of a file, which is this one of the input and has so many bytes of data.
+/// Puts the line of the header of a file, which is this one of the input and has that many bytes of data.
 fn put_header(text: &mut Vec<u8>, file: u64, header: &Header, size: u32) -> Result<(), AllocError>
     ensures { OnOk result (text.new.items ≡ text.old.items ++ header_line file header.now size) }
 {
@@ -102,34 +102,7 @@ fn put_definition(text: &mut Vec<u8>, definition: &MessageDef) -> Result<(), All
     put_words(text, words.as_slice())
 }
 
-/// Puts the line of a data message with this time up to its developer fields.
-fn put_own<S: FieldItems>(
-    text: &mut Vec<u8>,
-    maker: &mut LineMaker,
-    definition: &MessageDef,
-    local: u8,
-    time: Option<u32>,
-    items: &mut S,
-) -> Result<(), AllocError>
-    requires { HasFields S.has_items items.old (map (λ f. (f.code, f.size))
-        definition.now.fields) }
-    ensures { OnOk result (TakesFields S.has_items items.old items.new
-        (map (λ f. (f.code, f.size)) definition.now.fields) (λ all. text.new.items
-        ≡ text.old.items ++ (message_front local definition.now.global time ++ listed 0
-        (shown_fields definition.now.global definition.now.fields all)))) }
-{
-    if let Some(Some(template)) = maker.templates.as_slice().get(local as usize) {
-        if template.is_of(local, definition) {
-            return template.put(text, &mut maker.times, time, items);
-        }
-    }
-    let template = LineTemplate::new(maker.alloc, local, definition)?;
-    template.put(text, &mut maker.times, time, items)?;
-    keep_at(&mut maker.templates, local as usize, template)?;
-    Ok(())
-}
-
-/// Puts the line of a data message of this definition behind the records of a stream, by its time.
+/// Puts the line of a data message of this definition after the records of a stream, by its time.
 fn put_values<S: FieldItems>(
     text: &mut Vec<u8>,
     maker: &mut LineMaker,
@@ -143,32 +116,33 @@ fn put_values<S: FieldItems>(
     requires sound { IsSound defined.now }
     requires items { (all : List (Items Global))
         × S.has_items items.old (layout defined.now ++ dev_layout defined.now) all }
-    ensures { OnOk result ((v : Values Global) → v.local ≡ local
+    requires current { AreCurrent message_key maker.old.templates stream.now }
+    ensures line { OnOk result ((v : Values Global) → v.local ≡ local
         → length v.fields ≡ length defined.now.definition.fields
         → time ≡ times.time stream.now (Data v)
         → S.has_items items.old (layout defined.now ++ dev_layout defined.now) (v.fields ++ v.dev)
         → text.new.items ≡ text.old.items ++ record_line stream.now (Data v)) }
+    ensures current { AreCurrent message_key maker.new.templates stream.now }
 {
-    let definition = &defined.definition;
-    put_own(text, maker, definition, local, time, items)?;
-    let before = definition.fields.len();
-    let fields = dev_slice(&definition.dev);
-    let codes = defined.dev_codes.as_slice();
-    put_devs(text, maker, before, stream, local, fields, codes, items)?;
-    text.push(b'\n')?;
-    Ok(())
+    maker.know(stream, local, defined)?;
+    let Some(template) = maker.templates.get(local) else {
+        unreachable!()
+    };
+    template.put(text, &mut maker.times, time, items)
 }
 
-/// Puts the line of a record behind the records of a stream.
+/// Puts the line of a record after the records of a stream.
 fn put_record(
     text: &mut Vec<u8>,
     maker: &mut LineMaker,
     stream: &Stream,
     record_: &Record,
 ) -> Result<(), AllocError>
-    requires { Fits (known stream.now) record_.now }
-    ensures { OnOk result
+    requires fits { Fits (known stream.now) record_.now }
+    requires current { AreCurrent message_key maker.old.templates stream.now }
+    ensures line { OnOk result
         (text.new.items ≡ text.old.items ++ record_line stream.now record_.now) }
+    ensures current { AreCurrent message_key maker.new.templates stream.now }
 {
     match record_ {
         Record::Define(definition) => put_definition(text, definition),
@@ -186,16 +160,18 @@ fn put_record(
     }
 }
 
-/// Puts the line of the data message that the bytes are behind the records of a stream.
+/// Puts the line of the data message that the bytes are after the records of a stream.
 pub(crate) fn put_message(
     text: &mut Vec<u8>,
     maker: &mut LineMaker,
     stream: &Stream,
     bytes: &[u8],
 ) -> Result<(), AllocError>
-    requires { (v : Values Global) × IsRecord (known stream.now) (Data v) bytes.now }
-    ensures { OnOk result ((v : Values Global) → IsRecord (known stream.now) (Data v) bytes.now
+    requires record_ { (v : Values Global) × IsRecord (known stream.now) (Data v) bytes.now }
+    requires current { AreCurrent message_key maker.old.templates stream.now }
+    ensures line { OnOk result ((v : Values Global) → IsRecord (known stream.now) (Data v) bytes.now
         → text.new.items ≡ text.old.items ++ record_line stream.now (Data v)) }
+    ensures current { AreCurrent message_key maker.new.templates stream.now }
 {
     let Some(message) = stream.env().message_bytes(bytes) else {
         unreachable!()
@@ -218,7 +194,7 @@ pub(crate) fn put_message(
     )
 }
 
-/// Puts the text of an event behind the records of a stream, where so many files have begun before it.
+/// Puts the text of an event after the records of a stream, where that many files have begun before it.
 pub(crate) fn put_event(
     text: &mut Vec<u8>,
     maker: &mut LineMaker,
@@ -228,8 +204,10 @@ pub(crate) fn put_event(
 ) -> Result<(), AllocError>
     requires fits { AnswerFits stream.now event.now }
     requires few { files < 2 ^ 60 }
-    ensures { OnOk result
+    requires current { AreCurrent message_key maker.old.templates stream.now }
+    ensures text { OnOk result
         (text.new.items ≡ text.old.items ++ text_with files stream.now event.now) }
+    ensures current { AreCurrent message_key maker.new.templates stream.now }
 {
     match event {
         Event::Header(header, size) => put_header(text, files + 1, header, *size),

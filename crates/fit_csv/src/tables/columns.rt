@@ -47,7 +47,7 @@ pub(crate) enum Column {
     At(Place),
 }
 
-/// The column of a field of record messages behind so many bytes, where it has an item and the form of its items is known.
+/// The column of a field of record messages after that many bytes, where it has an item and the form of its items is known.
 fn placed(offset: usize, field: &FieldDef) -> Option<Column>
     ensures { IfSome result (IsPlaced offset field.now) }
 {

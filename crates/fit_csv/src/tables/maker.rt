@@ -1,14 +1,14 @@
 //! The rows of the table, and what is kept from one to the next.
-ghost use Rattle.std.specs.Prelude.{◌≡◌, ◌∷◌, [], ℕ, IfOk, IsTrue, None, OnOk, Some, false, length};
+ghost use Rattle.std.specs.Prelude.{◌≡◌, ◌∷◌, [], ℕ, IfOk, OnOk, Some, false, length};
 ghost use Rattle.fit_record.specs.Records.{message_size};
 ghost use Rattle.fit_record.specs.Sound.{IsSound};
 ghost use Rattle.fit_profile.specs.Meant.{shown};
 ghost use Rattle.fit_cells.specs.Rows.{HasRows};
 ghost use Rattle.fit_csv.specs.Table as table;
-ghost use Rattle.fit_csv.specs.inner.CurrentColumns.{IsCurrent};
+ghost use Rattle.fit_csv.specs.inner.Current.{IsCurrent};
 ghost use Rattle.fit_csv.specs.inner.TableCells.{MayPutRow};
 
-use crate::kept::keep_at;
+use crate::kept::{ByLocal, keep_at};
 use crate::minutes::Times;
 use crate::tables::columns::Columns;
 use crate::tables::numbers::NumbersInBytes;
@@ -23,9 +23,7 @@ pub(crate) struct TableMaker {
     pub alloc: Global,
     pub times: Times,
     /// Those of the last record message of each local message type.
-    columns: Vec<Option<Columns>>,
-    /// The local message type whose columns are known to be those of its definition.
-    current: Option<u8>,
+    pub columns: ByLocal<Columns>,
 }
 
 impl TableMaker {
@@ -34,26 +32,7 @@ impl TableMaker {
         TableMaker {
             alloc,
             times: Times::new(alloc),
-            columns: Vec::new(alloc),
-            current: None,
-        }
-    }
-
-    /// Forgets which columns are those of a definition.
-    pub(crate) fn forget(&mut self)
-        ensures { self.new.current ≡ None }
-    {
-        self.current = None;
-    }
-
-    /// Whether the columns of a local message type are known to be those of its definition.
-    #[inline(always)]
-    fn is_current(&self, local: u8) -> bool
-        ensures { IsTrue result → self.now.current ≡ Some local }
-    {
-        match self.current {
-            Some(current) => current == local,
-            None => false,
+            columns: ByLocal::new(alloc),
         }
     }
 }
@@ -115,12 +94,12 @@ fn put_by_new(
     requires long { length message.now.body.now ≡ message_size message.now.defined.now }
     ensures row { IfOk result (λ put. MayPutRow file message.now time put text.old text.new) }
     ensures none { IfOk result (λ put. put ≡ false → text.new.items ≡ text.old.items) }
-    ensures current { maker.new.current ≡ maker.old.current }
+    ensures current { maker.new.columns.current ≡ maker.old.columns.current }
 {
     let fields = message.defined.definition.fields.as_slice();
     let columns = Columns::new(maker.alloc, fields)?;
     let put = put_by(text, &mut maker.times, &columns, message, time, file)?;
-    keep_at(&mut maker.columns, message.local as usize, columns)?;
+    keep_at(&mut maker.columns.items, message.local as usize, columns)?;
     Ok(put)
 }
 
@@ -135,22 +114,23 @@ pub(crate) fn put_message_row(
     requires global { message.now.defined.now.definition.global ≡ 20 }
     requires sound { IsSound message.now.defined.now }
     requires long { length message.now.body.now ≡ message_size message.now.defined.now }
-    requires current { IsCurrent maker.old message.now.local
+    requires current { IsCurrent maker.old.columns message.now.local
         message.now.defined.now.definition.fields }
     ensures row { IfOk result (λ put. MayPutRow file message.now time put text.old text.new) }
     ensures none { IfOk result (λ put. put ≡ false → text.new.items ≡ text.old.items) }
-    ensures current { (local : ℕ) → maker.new.current ≡ Some local → (local ≡ message.now.local)
-        × IsCurrent maker.new local message.now.defined.now.definition.fields }
+    ensures current { (local : ℕ) → maker.new.columns.current ≡ Some local
+        → (local ≡ message.now.local)
+        × IsCurrent maker.new.columns local message.now.defined.now.definition.fields }
 {
     let local = message.local;
     let fields = message.defined.definition.fields.as_slice();
-    let is_current = maker.is_current(local);
-    if let Some(Some(columns)) = maker.columns.as_slice().get(local as usize) {
+    let is_current = maker.columns.is_current(local);
+    if let Some(Some(columns)) = maker.columns.items.as_slice().get(local as usize) {
         if is_current || columns.are_of(fields) {
-            maker.current = Some(local);
+            maker.columns.current = Some(local);
             return put_by(text, &mut maker.times, columns, message, time, file);
         }
     }
-    maker.current = None;
+    maker.columns.forget();
     put_by_new(text, maker, message, time, file)
 }

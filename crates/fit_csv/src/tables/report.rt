@@ -9,7 +9,7 @@ ghost use Rattle.fit_profile.specs.Looks.{known};
 ghost use Rattle.fit_profile.specs.Meant.{MessageOf, shown};
 ghost use Rattle.fit_cells.specs.Rows.{csv_text};
 ghost use Rattle.fit_csv.specs.KeptEvents.{kept_events};
-ghost use Rattle.fit_csv.specs.inner.CurrentColumns.{AreCurrent};
+ghost use Rattle.fit_csv.specs.inner.Current.{AreCurrent, column_fields};
 ghost use Rattle.fit_csv.specs.inner.Reporting.{AnswerFits, behind_answer};
 ghost use Rattle.fit_csv.specs.Table.{table_message_rows, table_record_rows};
 ghost use Rattle.fit_csv.specs.inner.TableCells.{files_behind_answer, rows_in, table_answer_rows};
@@ -81,12 +81,12 @@ fn put_message(
     bytes: &[u8],
 ) -> Result<bool, AllocError>
     requires record_ { (v : Values Global) × IsRecord (known stream.now) (Data v) bytes.now }
-    requires current { AreCurrent maker.old stream.now }
+    requires current { AreCurrent column_fields maker.old.columns stream.now }
     ensures row { IfOk result (λ put. put ≡ true → (v : Values Global)
         → IsRecord (known stream.now) (Data v) bytes.now → text.new.items
         ≡ text.old.items ++ csv_text (table_message_rows file stream.now v)) }
     ensures none { IfOk result (λ put. put ≡ false → text.new.items ≡ text.old.items) }
-    ensures current { AreCurrent maker.new stream.now }
+    ensures current { AreCurrent column_fields maker.new.columns stream.now }
 {
     let Some(message) = stream.env().message_bytes(bytes) else {
         unreachable!()
@@ -119,18 +119,18 @@ fn take_message(
     bytes: &[u8],
 ) -> Result<(), AllocError>
     requires record_ { (v : Values Global) × IsRecord (known stream.old) (Data v) bytes.now }
-    requires current { AreCurrent maker.old stream.old }
+    requires current { AreCurrent column_fields maker.old.columns stream.old }
     ensures text { OnOk result ((v : Values Global)
         → IsRecord (known stream.old) (Data v) bytes.now → text.new.items
         ≡ text.old.items ++ csv_text (table_message_rows file stream.old v)) }
     ensures stream { OnOk result ((v : Values Global)
         → IsRecord (known stream.old) (Data v) bytes.now → stream.new ≡ Data v ∷ stream.old) }
-    ensures current { AreCurrent maker.new stream.new }
+    ensures current { AreCurrent column_fields maker.new.columns stream.new }
 {
     if put_message(text, maker, stream, file, bytes)? {
         return stream.take_message(bytes);
     }
-    maker.forget();
+    maker.columns.forget();
     let record_ = record_of(maker.alloc, stream, bytes)?;
     take_record(text, &mut maker.times, stream, file, &record_)
 }
@@ -178,9 +178,9 @@ impl Model for TableReport {
 
     ghost view = { λ r. record { records = r.stream; files = r.files } };
 
-    ghost use Rattle.fit_csv.specs.inner.CurrentColumns.{AreCurrent};
+    ghost use Rattle.fit_csv.specs.inner.Current.{AreCurrent, column_fields};
 
-    ghost invariant = { λ r. AreCurrent r.maker r.stream };
+    ghost invariant = { λ r. AreCurrent column_fields r.maker.columns r.stream };
 }
 
 impl TableReport {
@@ -207,7 +207,7 @@ impl Report for TableReport {
         heard_records_fit::<Global>();
         heard_are_few::<Global>();
         looking_back_is_learning::<Global>();
-        self.maker.forget();
+        self.maker.columns.forget();
         take_event(
             text,
             &mut self.maker.times,

@@ -142,7 +142,7 @@ fn add_effort<N: RecordNumbers>(text: &mut Vec<u8>, numbers: &N) -> Result<(), A
     add_value(text, numbers, 13)
 }
 
-/// Puts the first two cells of a row behind a text.
+/// Puts the first two cells of a row after a text.
 #[inline(never)]
 fn put_first(
     text: &mut Vec<u8>,
@@ -158,7 +158,7 @@ fn put_first(
     times.put_cell(text, time)
 }
 
-/// Puts the row of a record message of a file behind a text, by its time and its numbers.
+/// Puts the row of a record message of a file after a text, by its time and its numbers.
 pub(crate) fn put_row<N: RecordNumbers>(
     text: &mut Vec<u8>,
     times: &mut Times,

@@ -61,7 +61,7 @@ pub(crate) fn behind(text: &[u8], byte: u8) -> Option<&[u8]> {
 }
 
 /// The items of this base type and size that the cell may show with which a text begins, and what comes after the cell.
-pub(crate) fn likely_cell<'a>(
+fn likely_cell<'a>(
     alloc: Global,
     written: &mut Vec<u8>,
     code: Code,
@@ -82,7 +82,7 @@ pub(crate) fn likely_cell<'a>(
 }
 
 impl Frame {
-    /// The items that a text may show behind what stands before them, and what comes after their cell.
+    /// The items that a text may show after what stands before them, and what comes after their cell.
     pub(crate) fn likely<'a>(
         &self,
         alloc: Global,

@@ -1,4 +1,5 @@
 //! Guesses the data message whose rows a text shows.
+use crate::rows::frames::Frame;
 use crate::rows::frames::likely::behind;
 use crate::rows::template::Template;
 use fit_base::{Entries, Items};
@@ -18,40 +19,43 @@ pub(crate) fn likely_byte(text: &[u8]) -> (Option<u8>, usize) {
     (number, 0)
 }
 
-impl Template {
-    /// The items of the fields whose rows a text may show, and what comes after these rows.
-    fn likely_fields<'a>(
-        &self,
-        alloc: Global,
-        written: &mut Vec<u8>,
-        text: &'a [u8],
-    ) -> Option<(Entries<Items>, &'a [u8])> {
-        let mut fields = Entries::with_capacity(alloc, self.frames.len()).ok()?;
-        let mut rest = text;
-        for frame in self.frames.as_slice() {
-            let (items, left) = frame.likely(alloc, written, rest)?;
-            fields.push(items).ok()?;
-            rest = left;
-        }
-        Some((fields, rest.get(self.end.len()..)?))
+/// The items of the values whose rows a text may show after these frames, and what comes after the last value.
+fn likely_items<'a>(
+    alloc: Global,
+    written: &mut Vec<u8>,
+    frames: &[Frame],
+    text: &'a [u8],
+) -> Option<(Entries<Items>, &'a [u8])> {
+    let mut all = Entries::with_capacity(alloc, frames.len()).ok()?;
+    let mut rest = text;
+    for frame in frames {
+        let (items, left) = frame.likely(alloc, written, rest)?;
+        all.push(items).ok()?;
+        rest = left;
     }
+    Some((all, rest))
+}
 
-    /// The message, but for its developer fields, whose rows a text may show, and what comes after these rows.
-    pub(crate) fn likely<'a>(
+impl Template {
+    /// The message whose rows a text may show.
+    pub(crate) fn likely(
         &self,
         alloc: Global,
         written: &mut Vec<u8>,
-        text: &'a [u8],
-    ) -> Option<(Values, &'a [u8])> {
+        text: &[u8],
+    ) -> Option<Values> {
         let text = text.get(self.front.len()..)?;
         let (offset, _) = likely_byte(text);
-        let (fields, rest) = self.likely_fields(alloc, written, behind(text, b'\n')?)?;
-        let values = Values {
-            local: self.kept.local,
+        let count = self.kept.own.fields.len();
+        let frames = self.frames.as_slice();
+        let rest = behind(text, b'\n')?;
+        let (fields, rest) = likely_items(alloc, written, frames.get(..count)?, rest)?;
+        let (dev, _) = likely_items(alloc, written, frames.get(count..)?, rest)?;
+        Some(Values {
+            local: self.kept.own.local,
             offset,
             fields,
-            dev: Entries::new(alloc),
-        };
-        Some((values, rest))
+            dev,
+        })
     }
 }

@@ -19,8 +19,8 @@ put_values-requires-clause-items c =
       ),
     )
 
-pub returns-in-Some : goal.returns-in-Some
-returns-in-Some c = on_ok_weaker c.put_values.result (λ put.
+pub returns-in-Some-clause-rows : goal.returns-in-Some-clause-rows
+returns-in-Some-clause-rows c = on_ok_weaker c.put_values.result (λ put.
     let v = c.in-Values.values in
     let p = c.in-Some.defined.now in
     let place = ap (λ e. defined_at e v.local) (sym c.env.ensures) ∙ sym c.in-Some.ensures.place in
@@ -29,4 +29,4 @@ returns-in-Some c = on_ok_weaker c.put_values.result (λ put.
     (put v refl refl (as_long (layout p) v.fields fits.fields ∙ length-map p.definition.fields field_slot) (
       λ i. c.as_slice.ensures i ++ c.as_slice-in-Some.ensures i,
       shapes_both (layout p) (dev_layout p) v.fields v.dev fits.fields fits.dev_fields,
-    ))) c.put_values.ensures
+    ))) c.put_values.ensures.rows

@@ -1,6 +1,7 @@
-use Rattle.fit_csv.proofs.Common.{◌∙◌, ◌++◌, ◌^◌, sym, ap, subst, on_ok_weaker, AnswerFits, KeptEvents, text_with}
+use Rattle.fit_csv.proofs.Common.{◌∙◌, ◌++◌, ◌^◌, sym, ap, ap₂, subst, on_ok_weaker, AnswerFits, KeptEvents, text_with}
 use Rattle.std.proofs.Common.{◌<◌}
 use Rattle.fit_csv.proofs.ShownLines.{answer_line, kept_next}
+use Rattle.fit_csv.proofs.TableNumbers.{both_ok}
 use Rattle.fit_csv.proofs.ToldRows.{answer_fits}
 use Rattle.fit_csv.proofs.ToldTable.{few_files}
 use Rattle.fit_csv.proofs.show.ShowReportReport.tell.Goals as goal
@@ -26,12 +27,13 @@ follow-requires-clause-few c =
     (few_files c.heard_are_few.ensures c.requires.0 c.args.event.now c.requires.2)
 
 pub returns-clause-heard : goal.returns-clause-heard
-returns-clause-heard c = on_ok_weaker c.follow.result (λ followed heard has are.
+returns-clause-heard c = both_ok c.follow.result (λ records files heard has are.
     let kept : KeptEvents = record { records = c.self.inside.stream; files = c.self.inside.files } in
-    followed ∙ kept_next heard c.args.event.now kept (c.self.view_is ∙ has)) c.follow.ensures
+    ap₂ (λ r f. record { records = r; files = f }) records files ∙ kept_next heard c.args.event.now kept (c.self.view_is ∙ has))
+    c.follow.ensures.ok c.follow.ensures.files
 
 pub returns-clause-text : goal.returns-clause-text
 returns-clause-text c = on_ok_weaker c.follow.result (λ followed heard has are.
-    c.in_ok-put_event.ensures
+    c.in_ok-put_event.ensures.text
     ∙ ap (λ (k : KeptEvents). c.args.text.now.items ++ text_with k.files k.records c.args.event.now) (c.self.view_is ∙ has)
-    ∙ ap (λ text. c.args.text.now.items ++ text) (answer_line heard c.args.event.now)) c.follow.ensures
+    ∙ ap (λ text. c.args.text.now.items ++ text) (answer_line heard c.args.event.now)) c.follow.ensures.ok

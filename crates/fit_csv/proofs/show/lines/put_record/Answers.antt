@@ -10,7 +10,7 @@ put_values-requires-clause-items c =
     let v = c.in-Values.values in
     let p = c.in-Some.defined.now in
     let place = ap (λ e. defined_at e v.local) (sym c.env.ensures) ∙ sym c.in-Some.ensures.place in
-    let fits = subst (λ o. IsSomeAnd o (DataFits v)) place (subst (Fits (known c.args.stream.now)) c.in-Values.is c.requires) in (
+    let fits = subst (λ o. IsSomeAnd o (DataFits v)) place (subst (Fits (known c.args.stream.now)) c.in-Values.is c.requires.fits) in (
       c.as_slice.result.now ++ c.as_slice-in-Some.result.now,
       (
         refl,
@@ -19,15 +19,15 @@ put_values-requires-clause-items c =
       ),
     )
 
-pub returns-in-Some : goal.returns-in-Some
-returns-in-Some c = on_ok_weaker c.put_values.result (λ put.
+pub returns-in-Some-clause-line : goal.returns-in-Some-clause-line
+returns-in-Some-clause-line c = on_ok_weaker c.put_values.result (λ put.
     let v = c.in-Values.values in
     let p = c.in-Some.defined.now in
     let place = ap (λ e. defined_at e v.local) (sym c.env.ensures) ∙ sym c.in-Some.ensures.place in
-    let fits = subst (λ o. IsSomeAnd o (DataFits v)) place (subst (Fits (known c.args.stream.now)) c.in-Values.is c.requires) in
+    let fits = subst (λ o. IsSomeAnd o (DataFits v)) place (subst (Fits (known c.args.stream.now)) c.in-Values.is c.requires.fits) in
     subst (λ r. c.put_values.new.text.items ≡ c.args.text.now.items ++ record_line c.args.stream.now r) (sym c.in-Values.is)
     (put v refl (as_long (layout p) v.fields fits.fields ∙ length-map p.definition.fields field_slot)
     (c.time-time.ensures ∙ ap (time c.args.stream.now) c.in-Values.is) (
       λ i. c.as_slice.ensures i ++ c.as_slice-in-Some.ensures i,
       shapes_both (layout p) (dev_layout p) v.fields v.dev fits.fields fits.dev_fields,
-    ))) c.put_values.ensures
+    ))) c.put_values.ensures.line

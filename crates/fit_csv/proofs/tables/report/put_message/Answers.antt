@@ -1,4 +1,4 @@
-use Rattle.fit_csv.proofs.Common.{◌≡◌, ◌∙◌, ◌++◌, [], ap, subst, sym, true, Data, Values, Global, csv_text, defined_at, known}
+use Rattle.fit_csv.proofs.Common.{column_fields, ◌≡◌, ◌∙◌, ◌++◌, [], ap, subst, sym, true, Data, Values, Global, csv_text, defined_at, known}
 use Rattle.fit_csv.proofs.Common.{table_message_rows, time}
 use Rattle.std.proofs.Common.{Some}
 use Rattle.std.proofs.lemmas.List.{append-nil}
@@ -52,5 +52,5 @@ put_message_row-requires-clause-current c =
 pub returns-clause-current : goal.returns-clause-current
 returns-clause-current c =
     let m = c.in-Some.message in
-    one_current c.put_message_row.new.maker c.args.stream.now m.local m.defined.now
+    one_current column_fields c.put_message_row.new.maker.columns c.args.stream.now m.local m.defined.now
     (subst (λ e. defined_at e m.local ≡ Some m.defined.now) c.env.ensures c.in-Some.ensures.defined) c.put_message_row.ensures.current

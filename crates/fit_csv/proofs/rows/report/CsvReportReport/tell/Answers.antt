@@ -2,22 +2,22 @@ use Rattle.fit_csv.proofs.Common.{◌∙◌, ◌++◌, sym, ap, subst, on_ok_wea
 use Rattle.fit_csv.proofs.ToldRows.{answer_fits, answer_text, latest_next}
 use Rattle.fit_csv.proofs.rows.report.CsvReportReport.tell.Goals as goal
 
-pub put_event-requires : goal.put_event-requires
-put_event-requires c =
-    subst (λ before. AnswerFits before c.args.event.now) (sym c.requires.1)
+pub put_event-requires-clause-fits : goal.put_event-requires-clause-fits
+put_event-requires-clause-fits c =
+    subst (λ before. AnswerFits before c.args.event.now) (sym (c.self.view_is ∙ c.requires.1))
     (answer_fits c.heard_records_fit.ensures c.looking_back_is_learning.ensures c.requires.0 c.args.event.now c.requires.2)
 
 pub follow-requires : goal.follow-requires
 follow-requires c =
-    subst (λ before. AnswerFits before c.args.event.now) (sym c.requires.1)
+    subst (λ before. AnswerFits before c.args.event.now) (sym (c.self.view_is ∙ c.requires.1))
     (answer_fits c.heard_records_fit.ensures c.looking_back_is_learning.ensures c.requires.0 c.args.event.now c.requires.2)
 
 pub returns-clause-heard : goal.returns-clause-heard
 returns-clause-heard c = on_ok_weaker c.follow.result (λ followed heard has are.
-    followed ∙ ap (λ before. behind_answer before c.args.event.now) has ∙ latest_next heard c.args.event.now) c.follow.ensures.ok
+    followed ∙ ap (λ before. behind_answer before c.args.event.now) (c.self.view_is ∙ has) ∙ latest_next heard c.args.event.now) c.follow.ensures.ok
 
 pub returns-clause-text : goal.returns-clause-text
 returns-clause-text c = on_ok_weaker c.follow.result (λ followed heard has are.
-    c.in_ok-put_event.ensures.text
-    ∙ ap (λ before. c.args.text.now.items ++ csv_text (answer_rows before c.args.event.now)) has
+    c.in_ok-put_event.ensures.rows.text
+    ∙ ap (λ before. c.args.text.now.items ++ csv_text (answer_rows before c.args.event.now)) (c.self.view_is ∙ has)
     ∙ ap (λ text. c.args.text.now.items ++ text) (answer_text heard c.args.event.now)) c.follow.ensures.ok
