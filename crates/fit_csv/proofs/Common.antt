@@ -122,7 +122,7 @@ pub use Rattle.fit_csv.specs.inner.Progress.{FieldStep, built_definition, dev_to
 pub use Rattle.fit_csv.specs.inner.Progress.{with_items, with_record, DevDefStep, FieldDefStep, MessageStep, nothing_yet, opened, FileStep}
 pub use Rattle.fit_csv.specs.inner.Progress.{is_whole_message, FitsOnceWhole, PartHasRoom}
 unfoldable pub use Rattle.fit_csv.specs.inner.Progress.{Run}
-pub use Rattle.fit_csv.specs.inner.Reporting.{HasText, csv_fault, AnswerFits, answer_rows, behind_answer}
+pub use Rattle.fit_csv.specs.inner.Reporting.{HasText, csv_fault, AnswerFits, answer_rows, records_after_answer}
 pub use Rattle.fit_csv.specs.inner.Seven.{AsFar, DifferAt, row_of}
 pub use Rattle.fit_csv.specs.inner.Showing.{text_with, CellKey, ShownKey, first_head, key_text, keys_text, line_front, shown_key, shown_keys}
 pub use Rattle.fit_csv.specs.inner.Showing.{PartKey, dev_field_part, field_part, line_head, line_keys, line_slots, line_text}
@@ -130,7 +130,7 @@ pub use Rattle.fit_csv.specs.inner.Showing.{own_end, own_parts, part_texts, spac
 pub use Rattle.fit_csv.specs.inner.SoundChain.{IsSoundChain, IsSoundCurrent, IsSoundDefinition, IsSoundFile, IsSoundMessage, IsSoundSoFar}
 pub use Rattle.fit_csv.specs.inner.SoundChain.{current_rows, open_file_rows, open_rows, part_rows, rows_so_far, IsSoundPart, HaveShapeSoFar}
 pub use Rattle.fit_csv.specs.inner.SoundChain.{BeginsWithMore}
-pub use Rattle.fit_csv.specs.inner.TableCells.{shown_text, table_answer_rows, rows_in, files_behind_answer, PutsCell, AddsCell}
+pub use Rattle.fit_csv.specs.inner.TableCells.{shown_text, table_answer_rows, rows_in, files_after_answer, PutsCell, AddsCell}
 pub use Rattle.fit_csv.specs.inner.TableCells.{effort_cells, place_cells}
 pub use Rattle.fit_csv.specs.inner.Current.{AreCurrent, IsCurrent, column_fields}
 pub use Rattle.fit_csv.specs.inner.TableColumns.{ArePlaces, AreInBytes, IsColumn, IsFirst, IsKnown, IsPlaced, items_at, slots}

@@ -3,9 +3,10 @@ use Rattle.fit_csv.proofs.Common.{◌≡◌, ◌+◌, [], ◌∷◌, ◌++◌, l
 use Rattle.fit_csv.proofs.Common.{zero, suc, ◌≤◌, eq-eqb, ne_eqb, length-map, map-append, take_more, Bool, true, false, ◌||◌, zip, Global}
 use Rattle.fit_csv.proofs.Common.{Items, FieldDef, DevDef, Naming}
 use Rattle.fit_csv.proofs.Common.{Defined, Values, Record, Data, dev_layout, layout}
-use Rattle.fit_csv.proofs.Common.{Answer, Event, defined_at, dev_defs, known, namings_at, time, hear, latest_records, line_of, behind_answer, files_heard}
+use Rattle.fit_csv.proofs.Common.{Answer, Event, defined_at, dev_defs, known, namings_at, time, hear, latest_records, line_of, files_heard}
+use Rattle.fit_csv.proofs.Common.{records_after_answer}
 use Rattle.fit_csv.proofs.Common.{instant_text}
-use Rattle.fit_csv.proofs.Common.{KeptEvents, files_behind_answer, joined, kept_events, listed, message_front}
+use Rattle.fit_csv.proofs.Common.{KeptEvents, files_after_answer, joined, kept_events, listed, message_front}
 use Rattle.fit_csv.proofs.Common.{message_label, message_line, record_line, separator, show_line, shown_cell, shown_dev, shown_devs, shown_field}
 use Rattle.fit_csv.proofs.Common.{shown_fields, shown_part, text_with, time_part, unit_part}
 use Rattle.fit_csv.proofs.Common.{DevKey, MessageKey, PartKey, ShownKey, dev_field_part, dev_keys, field_part, first_head, key_text, keys_text, line_front}
@@ -37,12 +38,12 @@ answer_line heard answer = refl
 
 -- what is kept after an answer
 pub kept_next : (heard : List (Event Global)) (answer : Answer Global) (kept : KeptEvents) → kept ≡ kept_events heard
-    → record { records = behind_answer kept.records answer; files = files_behind_answer kept.files answer } ≡ kept_events (hear answer heard)
+    → record { records = records_after_answer kept.records answer; files = files_after_answer kept.files answer } ≡ kept_events (hear answer heard)
 kept_next heard answer kept is =
-    ap (λ (k : KeptEvents). record { records = behind_answer k.records answer; files = files_behind_answer k.files answer }) is ∙ behind answer
+    ap (λ (k : KeptEvents). record { records = records_after_answer k.records answer; files = files_after_answer k.files answer }) is ∙ behind answer
   where
     behind : (answer : Answer Global)
-        → record { records = behind_answer (latest_records heard) answer; files = files_behind_answer (files_heard heard) answer }
+        → record { records = records_after_answer (latest_records heard) answer; files = files_after_answer (files_heard heard) answer }
         ≡ kept_events (hear answer heard)
     behind answers.More = refl
     behind (answers.Header h n) = refl

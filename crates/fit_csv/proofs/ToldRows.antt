@@ -2,7 +2,7 @@
 use Rattle.fit_csv.proofs.Common.{◌≡◌, ◌∙◌, [], ◌∷◌, ◌++◌, refl, sym, ap, subst, reverse-append, reverse-reverse, escaped, fields_text, is_blank, Fits, Answer}
 use Rattle.fit_csv.proofs.Common.{Event, header, LookingBackIsLearning, known, AreHeard, hear, latest_records, line_of, text_of}
 use Rattle.fit_csv.proofs.Common.{HeardRecordsFit, Global, csv_text, event_rows, events_rows, records_behind, rows_of, csv_line, AnswerFits, HasText}
-use Rattle.fit_csv.proofs.Common.{answer_rows, behind_answer, text_append, item, file_end, empty_environment, Data, Record, Values}
+use Rattle.fit_csv.proofs.Common.{answer_rows, records_after_answer, text_append, item, file_end, empty_environment, Data, Record, Values}
 use Rattle.std.proofs.Common.{ℕ, List, codes, reverse}
 use Rattle.std.proofs.lemmas.List.Sums.{fold_push}
 use Rattle.fit_record.specs.Records.{IsRecord}
@@ -19,7 +19,8 @@ answer_fits fit back heard (answers.Item r) are =
 answer_fits fit back heard answer are = tt
 
 -- the latest records after an answer
-pub latest_next : {A : Type 0} (heard : List (Event A)) (answer : Answer A) → behind_answer (latest_records heard) answer ≡ latest_records (hear answer heard)
+pub latest_next : {A : Type 0} (heard : List (Event A)) (answer : Answer A)
+    → records_after_answer (latest_records heard) answer ≡ latest_records (hear answer heard)
 latest_next heard answers.More = refl
 latest_next heard (answers.Header h n) = refl
 latest_next heard (answers.Item r) = refl

@@ -8,9 +8,9 @@ ghost use Rattle.fit_profile.specs.Looks.{known};
 ghost use Rattle.fit_csv.specs.KeptEvents.{kept_events};
 ghost use Rattle.fit_csv.specs.ShowLines.{record_line};
 ghost use Rattle.fit_csv.specs.inner.Current.{AreCurrent};
-ghost use Rattle.fit_csv.specs.inner.Reporting.{AnswerFits, behind_answer};
+ghost use Rattle.fit_csv.specs.inner.Reporting.{AnswerFits, records_after_answer};
 ghost use Rattle.fit_csv.specs.inner.MessageKeys.{message_key};
-ghost use Rattle.fit_csv.specs.inner.TableCells.{files_behind_answer};
+ghost use Rattle.fit_csv.specs.inner.TableCells.{files_after_answer};
 
 pub(crate) mod cells;
 mod fields;
@@ -32,9 +32,9 @@ use std::marker::Model;
 fn follow(stream: &mut Stream, files: &mut u64, event: &Event) -> Result<(), AllocError>
     requires fits { AnswerFits stream.old event.now }
     requires few { files.old < 2 ^ 60 }
-    ensures ok { OnOk result (stream.new ≡ behind_answer stream.old event.now) }
+    ensures ok { OnOk result (stream.new ≡ records_after_answer stream.old event.now) }
     ensures err { OnErr result (stream.new ≡ stream.old) }
-    ensures files { OnOk result (files.new ≡ files_behind_answer files.old event.now) }
+    ensures files { OnOk result (files.new ≡ files_after_answer files.old event.now) }
 {
     match event {
         Event::Header(..) => {

@@ -28,8 +28,8 @@ abbrev pub answer_rows : {A : Type 0} → List (Record A) → Answer A → List 
 answer_rows before answer = option_map_or (event_rows before) (event_of answer) []
 
 -- the records of the file that was begun last, after what a decoder answers
-abbrev pub behind_answer : {A : Type 0} → List (Record A) → Answer A → List (Record A)
-behind_answer before answer = option_map_or (records_behind before) (event_of answer) before
+abbrev pub records_after_answer : {A : Type 0} → List (Record A) → Answer A → List (Record A)
+records_after_answer before answer = option_map_or (records_behind before) (event_of answer) before
 
 -- the text of the rows of events is this first line and the lines of the events, of which a reporter tells the latest first
 abbrev pub HasText : List ℕ → Lines Global → RowsOf → Type 0

@@ -71,5 +71,5 @@ abbrev pub table_answer_rows : {A : Type 0} → ℕ → List (Record A) → Answ
 table_answer_rows files before answer = option_map_or (table_event_rows files before) (event_of answer) []
 
 -- how many files have begun after what a decoder answers
-abbrev pub files_behind_answer : {A : Type 0} → ℕ → Answer A → ℕ
-files_behind_answer files answer = option_map_or (files_behind files) (event_of answer) files
+abbrev pub files_after_answer : {A : Type 0} → ℕ → Answer A → ℕ
+files_after_answer files answer = option_map_or (files_behind files) (event_of answer) files

@@ -127,7 +127,7 @@ fn judge_rest(
 }
 
 /// What comes after the first line of a text, where that stands as `to_csv` writes it.
-fn behind_first_line(text: &[u8]) -> Option<&[u8]>
+fn after_first_line(text: &[u8]) -> Option<&[u8]>
     ensures { IfSome result (λ rest. text.now ≡ csv_text (first_line ∷ []) ++ rest.now) }
 {
     text.strip_prefix(b"row,a,b,c,d,e,f\n")
@@ -177,7 +177,7 @@ fn take_next<'a>(
 fn judge_plain(alloc: Global, text: &[u8]) -> Option<Entries<SpelledFile>>
     ensures { IfSome result (AreFilesOf text.now) }
 {
-    let mut rest = behind_first_line(text)?;
+    let mut rest = after_first_line(text)?;
     let mut chain = Chain::new(alloc);
     let mut maker = RowMaker::new(alloc);
     let mut written = Vec::new(alloc);

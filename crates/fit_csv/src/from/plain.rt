@@ -35,7 +35,7 @@ fn likely_cells(text: &[u8]) -> Option<Cells<'_>> {
 
 /// What comes after a beginning of a text, where it begins so.
 #[tactic(auto, using(crate::proofs::BeginFacts::stripped))]
-pub(crate) fn behind_front<'a>(text: &'a [u8], front: &[u8]) -> Option<&'a [u8]>
+pub(crate) fn after_front<'a>(text: &'a [u8], front: &[u8]) -> Option<&'a [u8]>
     ensures { IfSome result (λ left. text.now ≡ front.now ++ left.now) }
 {
     text.strip_prefix(front)
@@ -57,6 +57,6 @@ pub(crate) fn plain_row<'a>(
     if writer.put(written, row.as_slice()).is_err() {
         return None;
     }
-    let left = behind_front(text, written.as_slice())?;
+    let left = after_front(text, written.as_slice())?;
     Some((cells, left))
 }

@@ -9,7 +9,7 @@ ghost use Rattle.fit_csv.specs.Judged.{RecordInRange};
 ghost use Rattle.fit_csv.specs.inner.Current.{AreCurrent};
 ghost use Rattle.fit_csv.specs.inner.MessageKeys.{message_key};
 
-use crate::from::plain::behind_front;
+use crate::from::plain::after_front;
 use crate::rows::maker::RowMaker;
 use crate::rows::message::put_record;
 use crate::rows::template::likely::likely_byte;
@@ -30,7 +30,7 @@ fn likely_message(
     let (local, _) = likely_byte(text.strip_prefix(b"data,")?);
     let local = local?;
     let defined = before.env().defined(local)?;
-    maker.know(before, local, defined).ok()?;
+    maker.keep_template(before, local, defined).ok()?;
     let template = maker.templates.get(local)?;
     let values = template.likely(maker.alloc, written, text)?;
     Some(Record::Values(values))
@@ -57,6 +57,6 @@ pub(crate) fn whole_message<'a>(
     if put_record(written, maker, before, &message).is_err() {
         return None;
     }
-    let left = behind_front(text, written.as_slice())?;
+    let left = after_front(text, written.as_slice())?;
     Some((message, left))
 }

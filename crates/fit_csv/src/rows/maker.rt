@@ -66,7 +66,7 @@ impl RowMaker {
     /// Keeps the rows of the definition of this local message type after the records of a stream, where it isn't known that they
     /// are kept.
     #[inline(always)]
-    pub(crate) fn know(
+    pub(crate) fn keep_template(
         &mut self,
         stream: &Stream,
         local: u8,

@@ -44,7 +44,7 @@ fn put_by<S: FieldItems>(
         text.old text.new)) }
     ensures current { AreCurrent message_key maker.new.templates stream.now }
 {
-    maker.know(stream, local, defined)?;
+    maker.keep_template(stream, local, defined)?;
     let Some(template) = maker.templates.get(local) else {
         unreachable!()
     };

@@ -9,7 +9,7 @@ ghost use Rattle.fit_cells.specs.Rows.{HasRows};
 ghost use Rattle.fit_csv.specs.ChainRows.{data_rows};
 ghost use Rattle.fit_csv.specs.inner.Current.{AreCurrent};
 ghost use Rattle.fit_csv.specs.inner.MessageKeys.{message_key};
-ghost use Rattle.fit_csv.specs.inner.Reporting.{AnswerFits, answer_rows, behind_answer};
+ghost use Rattle.fit_csv.specs.inner.Reporting.{AnswerFits, answer_rows, records_after_answer};
 
 use crate::rows::file::{put_end_row, put_file_row};
 use crate::rows::maker::RowMaker;
@@ -48,7 +48,7 @@ fn put_event(
 /// Takes an event in. A header begins a file. Where memory is refused, the stream stays as it was.
 fn follow(stream: &mut Stream, event: &Event) -> Result<(), AllocError>
     requires { AnswerFits stream.old event.now }
-    ensures ok { OnOk result (stream.new ≡ behind_answer stream.old event.now) }
+    ensures ok { OnOk result (stream.new ≡ records_after_answer stream.old event.now) }
     ensures err { OnErr result (stream.new ≡ stream.old) }
 {
     match event {

@@ -120,7 +120,7 @@ impl ShownField {
 
     /// What stands between its cell and the next one.
     #[inline(always)]
-    fn behind(&self, is_empty: bool) -> &Stamp
+    fn after(&self, is_empty: bool) -> &Stamp
         ensures { result.now ≡ (if is_empty then self.now.bare else self.now.full) }
     {
         if is_empty { &self.head } else { &self.unit }
@@ -140,8 +140,8 @@ impl ShownField {
     {
         let start = text.len();
         items.show_next(text, &self.cell)?;
-        let behind = self.behind(text.len() == start);
-        behind.put(text)
+        let after = self.after(text.len() == start);
+        after.put(text)
     }
 }
 

@@ -124,7 +124,7 @@ fn put_values<S: FieldItems>(
         → text.new.items ≡ text.old.items ++ record_line stream.now (Data v)) }
     ensures current { AreCurrent message_key maker.new.templates stream.now }
 {
-    maker.know(stream, local, defined)?;
+    maker.keep_template(stream, local, defined)?;
     let Some(template) = maker.templates.get(local) else {
         unreachable!()
     };

@@ -226,7 +226,7 @@ impl LineMaker {
     /// Keeps the line of the definition of this local message type after the records of a stream, where it isn't known that it is
     /// kept.
     #[inline(always)]
-    pub(crate) fn know(
+    pub(crate) fn keep_template(
         &mut self,
         stream: &Stream,
         local: u8,

@@ -10,9 +10,9 @@ ghost use Rattle.fit_profile.specs.Meant.{MessageOf, shown};
 ghost use Rattle.fit_cells.specs.Rows.{csv_text};
 ghost use Rattle.fit_csv.specs.KeptEvents.{kept_events};
 ghost use Rattle.fit_csv.specs.inner.Current.{AreCurrent, column_fields};
-ghost use Rattle.fit_csv.specs.inner.Reporting.{AnswerFits, behind_answer};
+ghost use Rattle.fit_csv.specs.inner.Reporting.{AnswerFits, records_after_answer};
 ghost use Rattle.fit_csv.specs.Table.{table_message_rows, table_record_rows};
-ghost use Rattle.fit_csv.specs.inner.TableCells.{files_behind_answer, rows_in, table_answer_rows};
+ghost use Rattle.fit_csv.specs.inner.TableCells.{files_after_answer, rows_in, table_answer_rows};
 
 use crate::minutes::Times;
 use crate::tables::maker::{TableMaker, put_message_row, put_table_row};
@@ -148,8 +148,8 @@ fn take_event(
     requires few { files.old < 2 ^ 60 }
     ensures text { OnOk result (text.new.items
         ≡ text.old.items ++ csv_text (table_answer_rows files.old stream.old event.now)) }
-    ensures stream { OnOk result (stream.new ≡ behind_answer stream.old event.now) }
-    ensures files { OnOk result (files.new ≡ files_behind_answer files.old event.now) }
+    ensures stream { OnOk result (stream.new ≡ records_after_answer stream.old event.now) }
+    ensures files { OnOk result (files.new ≡ files_after_answer files.old event.now) }
 {
     match event {
         Event::Header(..) => {

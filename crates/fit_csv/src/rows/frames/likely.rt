@@ -55,7 +55,7 @@ fn likely_number(form: NumberForm, text: &[u8]) -> (u64, usize) {
 }
 
 /// What comes after the first byte of this kind in a text.
-pub(crate) fn behind(text: &[u8], byte: u8) -> Option<&[u8]> {
+pub(crate) fn after(text: &[u8], byte: u8) -> Option<&[u8]> {
     let place = text.iter().position(|b| *b == byte)?;
     text.get(place + 1..)
 }

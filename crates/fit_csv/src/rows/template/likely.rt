@@ -1,6 +1,6 @@
 //! Guesses the data message whose rows a text shows.
 use crate::rows::frames::Frame;
-use crate::rows::frames::likely::behind;
+use crate::rows::frames::likely::after;
 use crate::rows::template::Template;
 use fit_base::{Entries, Items};
 use fit_record::Values;
@@ -48,7 +48,7 @@ impl Template {
         let (offset, _) = likely_byte(text);
         let count = self.kept.own.fields.len();
         let frames = self.frames.as_slice();
-        let rest = behind(text, b'\n')?;
+        let rest = after(text, b'\n')?;
         let (fields, rest) = likely_items(alloc, written, frames.get(..count)?, rest)?;
         let (dev, _) = likely_items(alloc, written, frames.get(count..)?, rest)?;
         Some(Values {

@@ -1,4 +1,4 @@
-use Rattle.fit_csv.proofs.Common.{◌∙◌, ◌++◌, sym, ap, subst, on_ok_weaker, csv_text, AnswerFits, answer_rows, behind_answer}
+use Rattle.fit_csv.proofs.Common.{◌∙◌, ◌++◌, sym, ap, subst, on_ok_weaker, csv_text, AnswerFits, answer_rows, records_after_answer}
 use Rattle.fit_csv.proofs.ToldRows.{answer_fits, answer_text, latest_next}
 use Rattle.fit_csv.proofs.rows.report.CsvReportReport.tell.Goals as goal
 
@@ -14,7 +14,7 @@ follow-requires c =
 
 pub returns-clause-heard : goal.returns-clause-heard
 returns-clause-heard c = on_ok_weaker c.follow.result (λ followed heard has are.
-    followed ∙ ap (λ before. behind_answer before c.args.event.now) (c.self.view_is ∙ has) ∙ latest_next heard c.args.event.now) c.follow.ensures.ok
+    followed ∙ ap (λ before. records_after_answer before c.args.event.now) (c.self.view_is ∙ has) ∙ latest_next heard c.args.event.now) c.follow.ensures.ok
 
 pub returns-clause-text : goal.returns-clause-text
 returns-clause-text c = on_ok_weaker c.follow.result (λ followed heard has are.

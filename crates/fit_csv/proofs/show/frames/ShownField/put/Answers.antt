@@ -19,6 +19,6 @@ returns g c = on_ok_weaker c.put.result (λ put more all h.
       t.2,
       t.3,
       cell_behind old (shown_cell key.code key.info t.0) c.show_next.new.text.items c.put.new.text.items key.bare key.full
-          c.behind-behind.result.now c.len.result c.len-start.result shown (omega (arith, c.len.ensures))
-          (omega (arith, c.len-start.ensures)) c.behind-behind.ensures put,
+          c.after-after.result.now c.len.result c.len-start.result shown (omega (arith, c.len.ensures))
+          (omega (arith, c.len-start.ensures)) c.after-after.ensures put,
     )) c.put.ensures
