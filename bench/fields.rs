@@ -21,11 +21,11 @@ pub struct Label<'a> {
 
 /// How a program writes the fields of a message.
 pub trait Style {
-    /// Whether what stands behind a value is written where the value is empty.
+    /// Whether what stands after a value is written where the value is empty.
     const TAIL_ALWAYS: bool;
     /// What stands before the value.
     fn put_head(out: &mut Vec<u8>, label: &Label);
-    /// What stands behind the value.
+    /// What stands after the value.
     fn put_tail(out: &mut Vec<u8>, label: &Label);
     /// The value of a string.
     fn put_text(out: &mut Vec<u8>, bytes: &[u8]);
@@ -37,7 +37,7 @@ pub struct Fields {
     list: Vec<Field>,
 }
 
-/// A field: how long what stands before and behind its value is, and how its value is written.
+/// A field: how long what stands before and after its value is, and how its value is written.
 pub struct Field {
     head: usize,
     tail: usize,

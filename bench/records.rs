@@ -32,7 +32,7 @@ impl<'a> Definition<'a> {
         6 + self.fields.len() + self.developer.map_or(0, |entries| 1 + entries.len())
     }
 
-    /// How many bytes its messages have behind the first.
+    /// How many bytes its messages have after the first.
     fn length(&self) -> usize {
         let entries = self.fields.chunks_exact(3);
         entries
@@ -81,7 +81,7 @@ pub struct Message<'a> {
     pub body: &'a [u8],
 }
 
-/// What is known behind the records of a file.
+/// What is known after the records of a file.
 pub struct Known<T> {
     kept: [Option<Kept<T>>; 16],
     previous: Option<u32>,

@@ -56,9 +56,9 @@ pub piece : (f : ℕ → List ℕ) (bits rest : List ℕ) (k : ℕ) → ((n : �
 piece f bits rest k low h e = ap (before_first is_bar) (e ∙ from-here f bits k h)
     ∙ first-text (f (get_or bits k 0)) (map f (drop (k + 1) bits)) (low (get_or bits k 0))
 
-pub behind-piece : (f : ℕ → List ℕ) (bits rest : List ℕ) (k : ℕ) → ((n : ℕ) → Low (f n)) → k < length bits → rest ≡ barred (map f (drop k bits))
+pub after-piece : (f : ℕ → List ℕ) (bits rest : List ℕ) (k : ℕ) → ((n : ℕ) → Low (f n)) → k < length bits → rest ≡ barred (map f (drop k bits))
     → after_first is_bar rest ≡ barred (map f (drop (k + 1) bits))
-behind-piece f bits rest k low h e = ap (after_first is_bar) (e ∙ from-here f bits k h)
+after-piece f bits rest k low h e = ap (after_first is_bar) (e ∙ from-here f bits k h)
     ∙ other-texts (f (get_or bits k 0)) (map f (drop (k + 1) bits)) (low (get_or bits k 0))
 
 -- an item that stands alone

@@ -105,16 +105,16 @@ pub fn read_bytes(alloc: Global, count: u8, text: &[u8]) -> Result<Bits, AllocEr
     ensures below { IfOk result (λ bits. All (λ b. b < 256) bits) }
 {
     let mut bits = Bits::with_capacity(alloc, count as usize)?;
-    let mut rest = behind(text, 2);
+    let mut rest = after(text, 2);
     for place in 0..count {
         bits.push(first_pair(rest))?;
-        rest = behind(rest, 2);
+        rest = after(rest, 2);
     }
     Ok(bits)
 }
 
 /// What stands after the first bytes of a text.
-fn behind(text: &[u8], bytes: usize) -> &[u8]
+fn after(text: &[u8], bytes: usize) -> &[u8]
     ensures { result.now ≡ drop bytes text.now }
 {
     if text.len() < bytes {

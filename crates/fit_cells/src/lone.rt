@@ -12,7 +12,7 @@ use std::marker::Model;
 pub(crate) const LONG: usize = 64 * 1024;
 
 /// Writes a cell, and puts its text after another one, without as many bytes as stand before the cell.
-fn put_behind(
+fn put_after(
     writer: &mut Writer<Vec<u8>>,
     before: usize,
     text: &mut Vec<u8>,
@@ -67,7 +67,7 @@ impl CellWriter {
             ≡ text.old.items ++ field_text default_writer cell.now) }
         ensures err { OnErr result (text.new.items ≡ text.old.items) }
     {
-        let put = put_behind(&mut self.writer, self.before, text, cell);
+        let put = put_after(&mut self.writer, self.before, text, cell);
         self.before = 1;
         if put.is_err() || self.writer.get_ref().len() > LONG {
             begin_anew(&mut self.writer, self.alloc);

@@ -21,7 +21,7 @@ use std::alloc::{AllocError, Global};
 /// What stands before the first bar of a text, or all of it, and what stands after that bar.
 fn split_at_bar(text: &str) -> (&str, &str)
     ensures before { result.0.now ≡ before_first is_bar text.now }
-    ensures behind { result.1.now ≡ after_first is_bar text.now }
+    ensures after { result.1.now ≡ after_first is_bar text.now }
 {
     match text.split_once('|') {
         Some(parts) => parts,
@@ -65,9 +65,9 @@ fn read_several(
     let mut bits = Bits::with_capacity(alloc, count as usize)?;
     let mut rest = text;
     for place in 0..count {
-        let (item, behind) = split_at_bar(rest);
+        let (item, after) = split_at_bar(rest);
         bits.push(read_item(class, code, info, item))?;
-        rest = behind;
+        rest = after;
     }
     Ok(bits)
 }

@@ -23,7 +23,7 @@ fn flushed_len(writer: &mut Writer<Vec<u8>>) -> Result<usize, AllocError>
 }
 
 /// Puts after a text what was written from that many bytes on.
-fn copy_behind(
+fn copy_after(
     writer: &mut Writer<Vec<u8>>,
     start: usize,
     text: &mut Vec<u8>,
@@ -57,7 +57,7 @@ fn renew(alloc: Global, writer: &mut Writer<Vec<u8>>, failed: bool)
 
 /// Writes a row, and puts its text after another one.
 #[tactic(auto, using(crate::proofs::AddedRows::rows_copied))]
-fn put_behind(
+fn put_after(
     writer: &mut Writer<Vec<u8>>,
     text: &mut Vec<u8>,
     cells: &[&[u8]],
@@ -69,7 +69,7 @@ fn put_behind(
 {
     let start = flushed_len(writer)?;
     put_row(writer, cells)?;
-    copy_behind(writer, start, text)
+    copy_after(writer, start, text)
 }
 
 /// Puts rows and lone cells after texts, through the crate `csv`. The rows may have different numbers of cells.
@@ -105,13 +105,13 @@ impl RowWriter {
         ensures ok { OnOk result (HasRows (map (λ f. f.now) cells.now ∷ []) text.old text.new) }
         ensures err { OnErr result (text.new.items ≡ text.old.items) }
     {
-        let first = put_behind(&mut self.writer, text, cells);
+        let first = put_after(&mut self.writer, text, cells);
         renew(self.alloc, &mut self.writer, first.is_err());
         if first.is_ok() {
             return first;
         }
         // where the row before had another number of cells, a new writer takes this one
-        let second = put_behind(&mut self.writer, text, cells);
+        let second = put_after(&mut self.writer, text, cells);
         renew(self.alloc, &mut self.writer, second.is_err());
         second
     }

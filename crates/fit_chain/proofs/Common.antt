@@ -35,7 +35,7 @@ pub use Rattle.fit_sum.specs.Checksum.{checksum}
 pub use Rattle.fit_chain.specs.Comes.{ComesToRecords, ComesTo, Ended, progress_header, progress_records, NoSooner}
 pub use Rattle.fit_chain.specs.Events.{file_end, Event, header, file_events, progress_events, AreEvents, bound}
 pub use Rattle.fit_chain.specs.GoingOn.{DataGoesOn, GoesOn, ChainGoesOn, files_begun}
-pub use Rattle.fit_chain.specs.Held.{bound_limit, held_behind}
+pub use Rattle.fit_chain.specs.Held.{bound_limit, held_after}
 pub use Rattle.fit_chain.specs.Laws.{RefusedHaveReasons, BoundsAreLimited}
 pub use Rattle.fit_chain.specs.Memory.{MayTakeMemory}
 pub use Rattle.fit_chain.specs.Needs.{missing, Needs, NoFileEndsBefore}

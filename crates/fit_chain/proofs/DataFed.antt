@@ -8,7 +8,7 @@ use Rattle.fit_record.specs.Sizes.{HeadsEmptyMessage}
 use Rattle.fit_chain.specs.Events.{item}
 use Rattle.fit_chain.proofs.ViableGoesOn.{next_goes}
 use Rattle.fit_chain.proofs.Completions.{filled_viable}
-use Rattle.fit_chain.proofs.Next.{more_record, whole_record, room_behind, quiet, all_told, items_told}
+use Rattle.fit_chain.proofs.Next.{more_record, whole_record, room_after, quiet, all_told, items_told}
 use Rattle.fit_chain.proofs.HeaderFed.{front_of, not_full}
 use Rattle.fit_chain.proofs.Telling.{quiet_of, least_of, quiet_for}
 
@@ -75,8 +75,8 @@ module _ {A : Type 0} (bytes piece : List ℕ) (k : InRecords A bytes) (are : Is
       record_fits_room = omega (arith, fits_room, ap length is.1)
 
       -- after it the next record begins, or the data section is over
-      pub left_behind : room - length (k.part ++ take m piece) ≡ k.size - length (records_bytes empty_environment (k.records ++ r ∷ []))
-      left_behind = ap (λ l. room - length l) is.1 ∙ sym (room_behind k.files k.header k.size k.records k.part bytes (take m piece) k.come r record_fits_room)
+      pub left_after : room - length (k.part ++ take m piece) ≡ k.size - length (records_bytes empty_environment (k.records ++ r ∷ []))
+      left_after = ap (λ l. room - length l) is.1 ∙ sym (room_after k.files k.header k.size k.records k.part bytes (take m piece) k.come r record_fits_room)
 
       pub item_come : HasCome k.files (at_data k.header k.size (k.records ++ r ∷ []) []) (bytes ++ take m piece)
       item_come = whole_record k.files k.header k.size k.records k.part bytes (take m piece) k.come r is.0 (sym is.1) record_fits_room

@@ -17,27 +17,27 @@ fewer : (k : ℕ) (piece more : List ℕ) (c : ℕ) (rest : List ℕ) → take k
 fewer k piece more c rest e = omega (arith, ap length e, length-append more (c ∷ rest), length-take k piece)
 
 -- where fewer bytes of the piece don't have the files whole, they are whole with its last byte
-nothing_behind : {A : Type 0} (files gs : List (FitFile A)) (p piece : List ℕ) (k : ℕ) (front : List ℕ)
+nothing_after : {A : Type 0} (files gs : List (FitFile A)) (p piece : List ℕ) (k : ℕ) (front : List ℕ)
     → ComesTo files p → ((j : ℕ) → j < k → ComesTo files (p ++ take j piece)) → length files < length gs
     → HasCome gs (at_header front) (p ++ take k piece) → front ≡ []
-nothing_behind files gs p piece k [] here still more come = refl
-nothing_behind {A} files gs p piece k (c ∷ front) here still more come =
+nothing_after files gs p piece k [] here still more come = refl
+nothing_after {A} files gs p piece k (c ∷ front) here still more come =
     elim (split p (chain_bytes gs) (take k piece) (c ∷ front) come.spelled) [
       | inl s ↦
           let j : ℕ = length s.more in
           let there : HasCome gs (at_header []) (p ++ take j piece) = record {
             files = come.files;
             next = unfinished A [] (λ h n rest fits is. cc);
-            spelled = ap (λ t. p ++ t) (front_of k piece s.more (c ∷ front) s.behind) ∙ sym s.second ∙ sym (append-nil (chain_bytes gs));
+            spelled = ap (λ t. p ++ t) (front_of k piece s.more (c ∷ front) s.beyond) ∙ sym s.second ∙ sym (append-nil (chain_bytes gs));
           } in
-          let other = still j (fewer k piece s.more c front s.behind) in
+          let other = still j (fewer k piece s.more c front s.beyond) in
           let same = one_place files gs other.0 (at_header []) (p ++ take j piece) other.1 there in
           absurd (omega (arith, more, ap length same.0))
       | inr s ↦
           let before : HasCome gs (at_header (s.next ∷ s.more)) p = record {
             files = come.files;
             next = unfinished A (s.next ∷ s.more) (no_header_before (s.next ∷ s.more) (take k piece)
-                (subst NoHeader s.behind (no_header_in A (c ∷ front) come.next)));
+                (subst NoHeader s.beyond (no_header_in A (c ∷ front) come.next)));
             spelled = s.first;
           } in
           let same = one_place files gs here.0 (at_header (s.next ∷ s.more)) p here.1 before in
@@ -61,5 +61,5 @@ ends_file {A} files head records p piece k s least =
     subst (λ g. HasCome (files ++ f ∷ []) g (p ++ take k piece)) alone.1 there.2.come in
     let still : (j : ℕ) → j < k → ComesTo files (p ++ take j piece) = λ j below. let t = stands_with files head records p s (p ++ take j piece) (told.1 j below)
     in (t.progress, t.come) in
-    let none = nothing_behind files (files ++ f ∷ []) p piece k alone.0 (s.progress, s.come) still (omega (arith, length-append files (f ∷ []))) come in
+    let none = nothing_after files (files ++ f ∷ []) p piece k alone.0 (s.progress, s.come) still (omega (arith, length-append files (f ∷ []))) come in
     (there.0, there.1, subst (λ front. HasCome (files ++ f ∷ []) (at_header front) (p ++ take k piece)) none come)

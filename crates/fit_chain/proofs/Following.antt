@@ -75,7 +75,7 @@ pub record HeaderFollows {A : Type 0} (front x : List ℕ) (others : List (FitFi
   pub well : IsWellFormed file
   pub more : List ℕ
   pub header : header_bytes file.header (length (body file)) ≡ front ++ more
-  pub behind : x ≡ more ++ (body file ++ (little_bytes 2 (checksum (summed file)) ++ chain_bytes after))
+  pub beyond : x ≡ more ++ (body file ++ (little_bytes 2 (checksum (summed file)) ++ chain_bytes after))
 
 pub header_follows : {A : Type 0} (front x : List ℕ) (others : List (FitFile A)) → IsUnfinished {A = A} (at_header front) → AllByRecursion IsWellFormed others
     → front ++ x ≡ chain_bytes others → ((front ++ x ≡ []) × (others ≡ [])) ⊎ HeaderFollows front x others
@@ -85,7 +85,7 @@ header_follows {A} front x (f ∷ after) u p e =
     let parts : front ++ x ≡ header_bytes f.header (length (body f)) ++ tail =
     e ∙ regroup (header_bytes f.header (length (body f))) (body f) (little_bytes 2 (checksum (summed f))) (chain_bytes after) in
     elim (split front (header_bytes f.header (length (body f))) x tail parts) [
-      | inl s ↦ inr (record { file = f; after = after; are = refl; well = p.0; more = s.more; header = s.second; behind = s.behind })
+      | inl s ↦ inr (record { file = f; after = after; are = refl; well = p.0; more = s.more; header = s.second; beyond = s.beyond })
       | inr s ↦ absurd (no_header A front f.header (length (body f)) (s.next ∷ s.more) u p.0.header s.first)
     ]
 
@@ -100,7 +100,7 @@ pub record RecordFollows {A : Type 0} (e : Environment A) (room : ℕ) (part x t
   pub some : 0 < room
   pub begins : record_bytes e whole ≡ part ++ more
   pub total : length part + (length more + length (records_bytes (learn e whole) after)) ≡ room
-  pub behind : x ≡ more ++ (records_bytes (learn e whole) after ++ tail)
+  pub beyond : x ≡ more ++ (records_bytes (learn e whole) after ++ tail)
 
 -- The data section is over, and what comes is the closing checksum.
 pub record SumFollows {A : Type 0} (room : ℕ) (part x tail : List ℕ) (others : List (Record A)) : Type 0 where
@@ -125,7 +125,7 @@ part_follows e room (r ∷ after) part x tail u p l h =
         some = omega (arith, l, no_bytes e r (records_bytes (learn e r) after));
         begins = s.second;
         total = omega (arith, both, l, ap length s.second, length-append part s.more);
-        behind = s.behind;
+        beyond = s.beyond;
       })
       | inr s ↦ absurd (no_bytes e r (records_bytes (learn e r) after) (sym l ∙ no_record e room part (s.next ∷ s.more) r u p.0 s.first))
     ]

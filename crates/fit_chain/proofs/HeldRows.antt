@@ -1,6 +1,6 @@
 -- What is held, and what is missing, after the bytes of a known file, counted by hand.
 use Rattle.fit_chain.proofs.Common.{◌≡◌, ℕ, List, [], ◌∷◌, take, refl, None, map, Record, Define, Values, counts_so_far, entries_so_far, items_so_far, bound}
-use Rattle.fit_chain.proofs.Common.{held_behind, missing, Progress, at_header, at_data, header_of, field, both_architectures}
+use Rattle.fit_chain.proofs.Common.{held_after, missing, Progress, at_header, at_data, header_of, field, both_architectures}
 use Rattle.fit_record.proofs.KnownFiles.{item}
 use Rattle.fit_base.specs.declared.number.Order.TheVariants as orders
 use Rattle.fit_frame.specs.declared.header.HeaderSum.TheVariants as sums
@@ -11,7 +11,7 @@ use Rattle.fit_frame.specs.declared.header.HeaderSum.TheVariants as sums
 abbrev of_two : ℕ → Progress (Unit {0})
 of_two n = at_data both_architectures.header 36 (take n both_architectures.records) []
 
-held_between : (map (λ n. held_behind (of_two n)) (0 ∷ 1 ∷ 2 ∷ 3 ∷ 4 ∷ [])) ≡ 0 ∷ 2 ∷ 2 ∷ 4 ∷ 4 ∷ []
+held_between : (map (λ n. held_after (of_two n)) (0 ∷ 1 ∷ 2 ∷ 3 ∷ 4 ∷ [])) ≡ 0 ∷ 2 ∷ 2 ∷ 4 ∷ 4 ∷ []
 held_between = refl
 
 -- Of the file's 36 bytes of data the records have 12, 6, 12 and 6; two bytes of the closing checksum follow.
@@ -29,7 +29,7 @@ missing_of_header = refl
 missing_past_the_limit : missing {A = Unit {0}} 16777215 (at_header []) ≡ 1
 missing_past_the_limit = refl
 
-held_of_header : (held_behind {A = Unit {0}} (at_header (14 ∷ 32 ∷ [])) ≡ 0) × (bound {A = Unit {0}} (at_header (14 ∷ 32 ∷ [])) ≡ 0)
+held_of_header : (held_after {A = Unit {0}} (at_header (14 ∷ 32 ∷ [])) ≡ 0) × (bound {A = Unit {0}} (at_header (14 ∷ 32 ∷ [])) ≡ 0)
 held_of_header = (refl, refl)
 
 -- ---- a definition with developer fields, byte by byte
@@ -60,7 +60,7 @@ abbrev cuts : List ℕ
 cuts = 0 ∷ 1 ∷ 2 ∷ 3 ∷ 4 ∷ 5 ∷ 6 ∷ 7 ∷ 8 ∷ 9 ∷ 10 ∷ 11 ∷ 12 ∷ 13 ∷ 14 ∷ []
 
 -- A field counts with its third byte.
-held_in_definition : (map (λ k. held_behind (in_definition k)) cuts) ≡ 0 ∷ 0 ∷ 0 ∷ 0 ∷ 0 ∷ 0 ∷ 0 ∷ 0 ∷ 1 ∷ 1 ∷ 1 ∷ 2 ∷ 2 ∷ 2 ∷ 2 ∷ []
+held_in_definition : (map (λ k. held_after (in_definition k)) cuts) ≡ 0 ∷ 0 ∷ 0 ∷ 0 ∷ 0 ∷ 0 ∷ 0 ∷ 0 ∷ 1 ∷ 1 ∷ 1 ∷ 2 ∷ 2 ∷ 2 ∷ 2 ∷ []
 held_in_definition = refl
 
 -- The two fields are bounded from the byte on that counts them, and so is the developer field.
@@ -94,7 +94,7 @@ abbrev known_file : List (Progress (Unit {0}))
 known_file = of_one (one_field ∷ []) [] ∷ of_one (one_field ∷ []) (3 ∷ []) ∷ of_one (one_field ∷ one_byte ∷ []) []
     ∷ of_one (one_field ∷ one_byte ∷ []) (0x13 ∷ []) ∷ []
 
-held : (map held_behind known_file) ≡ 1 ∷ 2 ∷ 1 ∷ 1 ∷ []
+held : (map held_after known_file) ≡ 1 ∷ 2 ∷ 1 ∷ 1 ∷ []
 held = refl
 
 bounds : (map bound known_file) ≡ 1 ∷ 3 ∷ 1 ∷ 1 ∷ []

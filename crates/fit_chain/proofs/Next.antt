@@ -74,9 +74,9 @@ module _ {A : Type 0} (fs : List (FitFile A)) (h : Header) (n : ℕ) (records : 
       ∙ sym (append_assoc (header_bytes h n) (records_bytes empty_environment records) (part ++ y)) ∙ regrouped)
 
   -- what a whole record leaves of the room
-  pub room_behind : (r : Record A) → length (record_bytes known r) ≤ n - taken
+  pub room_after : (r : Record A) → length (record_bytes known r) ≤ n - taken
       → n - length (records_bytes empty_environment (records ++ r ∷ [])) ≡ n - taken - length (record_bytes known r)
-  room_behind r within =
+  room_after r within =
       let size : length (records_bytes empty_environment (records ++ r ∷ [])) ≡ taken + length (record_bytes known r) =
       ap length (one_record_more r) ∙ length-append (records_bytes empty_environment records) (record_bytes known r) in
       omega (arith, size, within)

@@ -31,13 +31,13 @@ module _ {A : Type 0} (files : List (FitFile A)) (base : List ℕ) (come : HasCo
   )
 
   -- the bytes of a file that isn't whole
-  behind : (p : List ℕ) (g : Progress A) → HasCome files g (base ++ p) → p ≡ progress_bytes g
-  behind p g there = append_cancel_left (chain_bytes files) p (progress_bytes g) (ap (λ t. t ++ p) (sym base_is) ∙ there.spelled)
+  beyond : (p : List ℕ) (g : Progress A) → HasCome files g (base ++ p) → p ≡ progress_bytes g
+  beyond p g there = append_cancel_left (chain_bytes files) p (progress_bytes g) (ap (λ t. t ++ p) (sym base_is) ∙ there.spelled)
 
   module _ (f : FitFile A) (b x : List ℕ) (are : IsBytes b) (file : IsFile f b) (chain : (gs : List (FitFile A)) × IsChain chain_limit gs (base ++ b)) where
     -- the file isn't whole where no file is
     pub none_whole : (p rest : List ℕ) → ComesTo files (base ++ p) → p ≡ b ++ rest → ⊥
-    none_whole p rest comes e = no_file comes.0 f rest comes.1.next file.0 (sym (behind p comes.0 comes.1) ∙ e ∙ ap (λ t. t ++ rest) file.1)
+    none_whole p rest comes e = no_file comes.0 f rest comes.1.next file.0 (sym (beyond p comes.0 comes.1) ∙ e ∙ ap (λ t. t ++ rest) file.1)
 
     pub shorter : (got y : List ℕ) → ComesTo files (base ++ got) → b ++ x ≡ got ++ y → length got < length b
     shorter got y comes e =
@@ -53,7 +53,7 @@ module _ {A : Type 0} (files : List (FitFile A)) (base : List ℕ) (come : HasCo
         elim (split b p x (c ∷ y) e) [
           | inl s ↦ none_whole p s.more comes s.second
           | inr s ↦
-              let same : c ≡ s.next = let h = s.behind in cc in
+              let same : c ≡ s.next = let h = s.beyond in cc in
               let front : b ≡ p ++ c ∷ s.more = s.first ∙ ap (λ n. p ++ n ∷ s.more) (sym same) in
               let all : base ++ b ≡ ((base ++ p) ++ c ∷ []) ++ s.more =
               ap (λ t. base ++ t) front ∙ sym (append_assoc base p (c ∷ s.more)) ∙ sym (append_assoc (base ++ p) (c ∷ []) s.more) in

@@ -48,8 +48,8 @@ header_missing A files h n (size ∷ front) more fits is =
 
 -- ---- all of it
 
-behind_header : (x a b s c : List ℕ) → x ≡ a ++ (b ++ (s ++ c)) → length a + length b + length s ≤ length x
-behind_header x a b s c is = omega (arith, ap length is, length-append a (b ++ (s ++ c)), length-append b (s ++ c), length-append s c)
+after_head : (x a b s c : List ℕ) → x ≡ a ++ (b ++ (s ++ c)) → length a + length b + length s ≤ length x
+after_head x a b s c is = omega (arith, ap length is, length-append a (b ++ (s ++ c)), length-append b (s ++ c), length-append s c)
 
 pub no_sooner : {A : Type 0} (limit : ℕ) (fs gs : List (FitFile A)) (g : Progress A) (bytes x : List ℕ) → HasCome fs g bytes → IsChain limit gs (bytes ++ x)
     → length fs < length gs
@@ -61,7 +61,7 @@ no_sooner {A} limit fs gs (at_header front) bytes x come chain fewer =
       | inr s ↦
           let sum = little_bytes 2 (checksum (summed s.file)) in
           let least = header_missing A (length fs) s.file.header (length (body s.file)) front s.more s.well.header s.header in
-          omega (arith, least, behind_header x s.more (body s.file) sum (chain_bytes s.after) s.behind, length-little_bytes 2 (checksum (summed s.file)))
+          omega (arith, least, after_head x s.more (body s.file) sum (chain_bytes s.after) s.beyond, length-little_bytes 2 (checksum (summed s.file)))
     ]
 no_sooner {A} limit fs gs (at_data h n records part) bytes x come chain fewer =
     let next = chain_follows limit fs (at_data h n records part) bytes x gs come chain in
@@ -72,7 +72,7 @@ no_sooner {A} limit fs gs (at_data h n records part) bytes x come chain fewer =
       | inl s ↦ omega (
         arith,
         s.total,
-        behind_header x s.more (records_bytes (learn e s.whole) s.after) sum (chain_bytes d.after) s.behind,
+        after_head x s.more (records_bytes (learn e s.whole) s.after) sum (chain_bytes d.after) s.beyond,
         length-little_bytes 2 (checksum (summed d.file)),
       )
       | inr s ↦ omega (

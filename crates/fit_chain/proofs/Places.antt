@@ -31,17 +31,17 @@ placed {A} e (r ∷ rs) q sum c m fit two joined =
     let after : List ℕ = records_bytes (learn e r) rs in
     let parts : q ++ c ∷ m ≡ record_bytes e r ++ (after ++ sum) = sym joined ∙ append_assoc (record_bytes e r) after sum in
     let again : (front : List ℕ) → records_bytes (learn e r) rs ++ sum ≡ front ++ c ∷ m → Placed (learn e r) (length (records_bytes (learn e r) rs)) front =
-    λ front behind. placed (learn e r) rs front sum c m fit.1 two behind in
+    λ front beyond. placed (learn e r) rs front sum c m fit.1 two beyond in
     elim (split q (record_bytes e r) (c ∷ m) (after ++ sum) parts) [
-      | inl s ↦ go again s.more s.second s.behind
-      | inr s ↦ onward again (s.next ∷ s.more) s.first s.behind
+      | inl s ↦ go again s.more s.second s.beyond
+      | inr s ↦ onward again (s.next ∷ s.more) s.first s.beyond
     ]
   where
     onward : ((front : List ℕ) → records_bytes (learn e r) rs ++ sum ≡ front ++ c ∷ m → Placed (learn e r) (length (records_bytes (learn e r) rs)) front)
         → (front : List ℕ) → q ≡ record_bytes e r ++ front → records_bytes (learn e r) rs ++ sum ≡ front ++ c ∷ m
         → Placed e (length (records_bytes e (r ∷ rs))) q
-    onward again front first behind =
-        let k = again front behind in
+    onward again front first beyond =
+        let k = again front beyond in
         let all = length-append (record_bytes e r) (records_bytes (learn e r) rs) in
         let both = length-append (record_bytes e r) (records_bytes (learn e r) k.done) in
         let within = k.within in
@@ -57,8 +57,8 @@ placed {A} e (r ∷ rs) q sum c m fit two joined =
     go : ((front : List ℕ) → records_bytes (learn e r) rs ++ sum ≡ front ++ c ∷ m → Placed (learn e r) (length (records_bytes (learn e r) rs)) front)
         → (more : List ℕ) → record_bytes e r ≡ q ++ more → c ∷ m ≡ more ++ (records_bytes (learn e r) rs ++ sum)
         → Placed e (length (records_bytes e (r ∷ rs))) q
-    go again [] second behind = onward again [] (sym (append-nil q) ∙ sym second ∙ sym (append-nil (record_bytes e r))) (sym behind)
-    go again (d ∷ more) second behind =
+    go again [] second beyond = onward again [] (sym (append-nil q) ∙ sym second ∙ sym (append-nil (record_bytes e r))) (sym beyond)
+    go again (d ∷ more) second beyond =
         let all = length-append (record_bytes e r) (records_bytes (learn e r) rs) in
         let some : 0 < length (records_bytes e (r ∷ rs)) = omega (arith, all, ap length second, length-append q (d ∷ more)) in
         none_done e (length (records_bytes e (r ∷ rs))) q
@@ -89,15 +89,15 @@ in_file {A} f bytes c m well joined =
     let rest : List ℕ = body f ++ little_bytes 2 (checksum (summed f)) in
     let parts : bytes ++ c ∷ m ≡ head ++ rest = sym joined ∙ append_assoc head (body f) (little_bytes 2 (checksum (summed f))) in
     elim (split bytes head (c ∷ m) rest parts) [
-      | inl s ↦ go s.more s.second s.behind
-      | inr s ↦ in_data f bytes (s.next ∷ s.more) c m well s.first s.behind
+      | inl s ↦ go s.more s.second s.beyond
+      | inr s ↦ in_data f bytes (s.next ∷ s.more) c m well s.first s.beyond
     ]
   where
     go : (more : List ℕ) → header_bytes f.header (length (body f)) ≡ bytes ++ more → c ∷ m ≡ more ++ (body f ++ little_bytes 2 (checksum (summed f)))
         → Begun A bytes
-    go [] second behind = in_data f bytes [] c m well (sym (append-nil bytes) ∙ sym second ∙ sym (append-nil (header_bytes f.header (length (body f)))))
-        (sym behind)
-    go (d ∷ more) second behind = record {
+    go [] second beyond = in_data f bytes [] c m well (sym (append-nil bytes) ∙ sym second ∙ sym (append-nil (header_bytes f.header (length (body f)))))
+        (sym beyond)
+    go (d ∷ more) second beyond = record {
       progress = at_header bytes;
       open_ = unfinished A bytes (λ h n over fits is.
           let whole : header_bytes h n ++ (over ++ d ∷ more) ≡ header_bytes f.header (length (body f)) ++ [] =
@@ -116,8 +116,8 @@ Somewhere A bytes = (files : List (FitFile A)) × (progress : Progress A) × Has
 nowhere : {A : Type 0} (bytes : List ℕ) → bytes ≡ [] → Somewhere A bytes
 nowhere {A} bytes none = ([], at_header [], record { files = tt; next = unfinished A [] (λ h n rest fits is. cc); spelled = none })
 
-behind_file : {A : Type 0} (f : FitFile A) (bytes front : List ℕ) → IsWellFormed f → bytes ≡ file_bytes f ++ front → Somewhere A front → Somewhere A bytes
-behind_file f bytes front well is (files, progress, come) = (
+after_file : {A : Type 0} (f : FitFile A) (bytes front : List ℕ) → IsWellFormed f → bytes ≡ file_bytes f ++ front → Somewhere A front → Somewhere A bytes
+after_file f bytes front well is (files, progress, come) = (
   f ∷ files,
   progress,
   record {
@@ -136,11 +136,11 @@ somewhere [] bytes more each joined = nowhere bytes (front_of bytes joined)
 somewhere {A} (f ∷ gs) bytes more each joined =
     elim (split bytes (file_bytes f) more (chain_bytes gs) joined) [
       | inl s ↦ go s.more s.second
-      | inr s ↦ behind_file f bytes (s.next ∷ s.more) each.0 s.first (somewhere gs (s.next ∷ s.more) more each.1 (sym s.behind))
+      | inr s ↦ after_file f bytes (s.next ∷ s.more) each.0 s.first (somewhere gs (s.next ∷ s.more) more each.1 (sym s.beyond))
     ]
   where
     go : (rest : List ℕ) → file_bytes f ≡ bytes ++ rest → Somewhere A bytes
-    go [] second = behind_file f bytes [] each.0 (sym (append-nil bytes) ∙ sym second ∙ sym (append-nil (file_bytes f))) (nowhere [] refl)
+    go [] second = after_file f bytes [] each.0 (sym (append-nil bytes) ∙ sym second ∙ sym (append-nil (file_bytes f))) (nowhere [] refl)
     go (d ∷ rest) second =
         let k = in_file f bytes d rest each.0 second in
         ([], k.progress, record { files = tt; next = k.open_; spelled = k.spelled })

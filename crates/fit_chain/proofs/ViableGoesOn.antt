@@ -57,9 +57,9 @@ begins {A} front x y z others u are is short s =
     let f = s.file in
     let n = length (body f) in
     let tail : List ℕ = body f ++ (little_bytes 2 (checksum (summed f)) ++ chain_bytes s.after) in
-    let all : IsBytes (s.more ++ tail) = subst IsBytes s.behind are in
+    let all : IsBytes (s.more ++ tail) = subst IsBytes s.beyond are in
     let fills = data_size f s.well (IsBytes-front (body f) _ (IsBytes-back s.more tail all)) in
-    elim (split y s.more z tail (sym is ∙ s.behind)) [
+    elim (split y s.more z tail (sym is ∙ s.beyond)) [
       | inl k ↦ record {
         more = k.more;
         are_bytes = IsBytes-back y k.more (subst IsBytes k.second (IsBytes-front s.more tail all));
@@ -115,9 +115,9 @@ record_goes : {A : Type 0} (e : Environment A) (room : ℕ) (sum part x y z tail
     → RecordFollows e room part x tail → DataGoesOn e room sum (part ++ y)
 record_goes {A} e room sum part x y z tail u are is short s =
     let after : List ℕ = records_bytes (learn e s.whole) s.after in
-    let all : IsBytes (s.more ++ (after ++ tail)) = subst IsBytes s.behind are in
+    let all : IsBytes (s.more ++ (after ++ tail)) = subst IsBytes s.beyond are in
     let whole : record_bytes e s.whole ++ after ≡ part ++ (s.more ++ after) = ap (λ m. m ++ after) s.begins ∙ append_assoc part s.more after in
-    elim (split y s.more z (after ++ tail) (sym is ∙ s.behind)) [
+    elim (split y s.more z (after ++ tail) (sym is ∙ s.beyond)) [
       | inl k ↦
           let rest_bytes : IsBytes (k.more ++ after) =
           IsBytes-back y (k.more ++ after) (subst IsBytes (ap (λ m. m ++ after) k.second ∙ append_assoc y k.more after)

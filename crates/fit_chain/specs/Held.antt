@@ -15,9 +15,9 @@ IsIdle (at_data h n records part) = part ≡ []
 
 -- What the records have defined and described, and the record in progress; after the data the bytes are those of the closing checksum.
 -- `proofs/HeldRows` computes it for known bytes.
-abbrev pub held_behind : {A : Type 0} → Progress A → ℕ
-held_behind (at_header front) = 0
-held_behind (at_data h n records part) =
+abbrev pub held_after : {A : Type 0} → Progress A → ℕ
+held_after (at_header front) = 0
+held_after (at_data h n records part) =
     let e = learn_all empty_environment records in
     environment_size e + (if length (records_bytes empty_environment records) == n then 0 else held_of_record e part)
 
@@ -27,7 +27,7 @@ pub record IsHeld (A : Type 0) (bytes : List ℕ) (count : ℕ) : Type 0 where
   pub files : List (FitFile A)
   pub progress : Progress A
   pub come : HasCome files progress bytes
-  pub is : count ≡ held_behind progress
+  pub is : count ≡ held_after progress
   pub within : count ≤ bound progress
   pub all : IsIdle progress → count ≡ bound progress
 

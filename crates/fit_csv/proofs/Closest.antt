@@ -17,7 +17,7 @@ as_far count xs ys ts h e = absurd h
 pub closest : (CanStand : Row → Type 0) (row candidate : Row) (column : ℕ) → CanStand candidate → ((other : Row) → CanStand other → AsFar other candidate row)
     → DifferAt column candidate row → IsBadCell CanStand row column
 closest CanStand row candidate column can far differs = record {
-  behind_kind = differs.behind_kind;
+  after_kind = differs.after_kind;
   bad = λ other stands e. differs.there (as_far column other candidate row (far other stands) e);
   before = (candidate, can, inl differs.before);
 }
@@ -29,8 +29,8 @@ kind-agrees column a b h e = sym (take-take 1 column a (omega (arith, h))) ∙ a
 bad-of-kind : (P Q : Row → Type 0) (row : Row) (column : ℕ) → ((other : Row) → P other → Q other) → ((other : Row) → Q other → Agree 1 other row → P other)
     → IsBadCell P row column → IsBadCell Q row column
 bad-of-kind P Q row column up down h = record {
-  behind_kind = h.behind_kind;
-  bad = λ other stands e. h.bad other (down other stands (kind-agrees column other row h.behind_kind e)) e;
+  after_kind = h.after_kind;
+  bad = λ other stands e. h.bad other (down other stands (kind-agrees column other row h.after_kind e)) e;
   before = (h.before.0, up h.before.0 h.before.1, h.before.2);
 }
 

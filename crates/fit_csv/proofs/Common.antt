@@ -82,8 +82,8 @@ pub use Rattle.fit_report.specs.Laws.{HeardRecordsFit, HeardAreFew}
 pub use Rattle.fit_report.specs.Reports.{Channel, TextFailsIn, HasTold, Reports, ReportsChain, Tells, channel}
 pub use Rattle.fit_csv.specs.ChainRows.{optional_number, order_word, row, chain_rows, data_rows, dev_def_row, dev_row, end_row, field_def_row}
 pub use Rattle.fit_csv.specs.ChainRows.{field_row, file_row, file_rows, record_rows, dev_label, field_rows, rest_text, sum_word, files_heard}
-pub use Rattle.fit_csv.specs.ChainRows.{data_row, definition_rows, dev_rows, event_rows, records_behind, rows_of, def_row, message_rows, dev_count}
-pub use Rattle.fit_csv.specs.ChainRows.{files_behind}
+pub use Rattle.fit_csv.specs.ChainRows.{data_row, definition_rows, dev_rows, event_rows, next_records, rows_of, def_row, message_rows, dev_count}
+pub use Rattle.fit_csv.specs.ChainRows.{next_files}
 unfoldable pub use Rattle.fit_csv.specs.ChainRows.{records_rows, events_rows}
 pub use Rattle.fit_csv.specs.Conversions.{Converts, ConvertsTo, HasWritten, RowsOf, WritesRows, csv_line, table_text}
 pub use Rattle.fit_csv.specs.FromText.{Answers, FromTextOf, IsTextOf, IsUnwritable, ReadsText, IsWrong, FromText, IsReadOut, written_fault}

@@ -41,12 +41,12 @@ record-small : {A : Type 0} (e : Environment A) (r : Record A) → IsBytes (reco
 record-small e (Define d) are =
     let front : List ℕ = d.reserved ∷ architecture d.order ∷ number_bytes d.order 2 d.global in
     let fields : List ℕ = length d.fields ∷ flat_map field_bytes d.fields in
-    let behind : IsBytes ((front ++ fields) ++ dev_part d.dev) = IsBytes-tail (definition_header d) (definition_bytes d) are in
+    let beyond : IsBytes ((front ++ fields) ++ dev_part d.dev) = IsBytes-tail (definition_header d) (definition_bytes d) are in
     record {
       reserved = are 1;
       fields = fields-small d.fields (IsBytes-tail (length d.fields) (flat_map field_bytes d.fields)
-          (IsBytes-back front fields (IsBytes-front (front ++ fields) (dev_part d.dev) behind)));
-      dev_fields = dev-part-small d.dev (IsBytes-back (front ++ fields) (dev_part d.dev) behind);
+          (IsBytes-back front fields (IsBytes-front (front ++ fields) (dev_part d.dev) beyond)));
+      dev_fields = dev-part-small d.dev (IsBytes-back (front ++ fields) (dev_part d.dev) beyond);
     }
 record-small e (Data v) are = tt
 

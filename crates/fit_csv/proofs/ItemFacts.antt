@@ -45,9 +45,9 @@ fields_both {A} o (f ∷ a) b bytes =
     let n = sizes a in
     let all : sizes (f ∷ a) ≡ f.1 + n = sum_by-cons (λ (g : ℕ × ℕ). g.1) f a in
     let here : take f.1 (take (f.1 + n) bytes) ≡ take f.1 bytes = take-take f.1 (f.1 + n) bytes (omega arith) in
-    let behind : drop f.1 (take (f.1 + n) bytes) ≡ take n (drop f.1 bytes) = drop-take f.1 n bytes in
+    let beyond : drop f.1 (take (f.1 + n) bytes) ≡ take n (drop f.1 bytes) = drop-take f.1 n bytes in
     ap (λ is. field_from {A = A} o f (take f.1 bytes) ∷ is) (fields_both {A = A} o a b (drop f.1 bytes))
-    ∙ (λ i. (field_from {A = A} o f (sym here i) ∷ fields_from o a (sym behind i)) ++ fields_from o b (drop-drop n f.1 bytes i))
+    ∙ (λ i. (field_from {A = A} o f (sym here i) ∷ fields_from o a (sym beyond i)) ++ fields_from o b (drop-drop n f.1 bytes i))
     ∙ ap (λ m. fields_from {A = A} o (f ∷ a) (take m bytes) ++ fields_from o b (drop m bytes)) (sym all)
 
 pub fields_long : (A : Type 0) (o : Order) (fields : List (ℕ × ℕ)) (bytes : List ℕ) → length (fields_from {A = A} o fields bytes) ≡ length fields

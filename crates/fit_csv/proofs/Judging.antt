@@ -50,7 +50,7 @@ can-step law rows c r run (files, more, good, e) =
 bad-cell : (P Q : Row → Type 0) (r : Row) (column : ℕ) → ((other : Row) → P other → Q other) → ((other : Row) → Q other → P other) → IsBadCell P r column
     → IsBadCell Q r column
 bad-cell P Q r column up down h = record {
-  behind_kind = h.behind_kind;
+  after_kind = h.after_kind;
   bad = λ other stands. h.bad other (down other stands);
   before = (h.before.0, up h.before.0 h.before.1, h.before.2);
 }

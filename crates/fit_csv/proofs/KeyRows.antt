@@ -67,16 +67,16 @@ message_whole before p local offset time v u w place at since long timed put =
     let global = p.definition.global in
     let fields = p.definition.fields in
     let devs = dev_keys (dev_defs p.definition.dev) p.dev_codes (namings_at before local) in
-    let behind = header_time (previous_time before) v.offset in
-    let times : time ≡ behind = timed ∙ ap (header_time (previous_time before)) (sym since) in
+    let beyond = header_time (previous_time before) v.offset in
+    let times : time ≡ beyond = timed ∙ ap (header_time (previous_time before)) (sym since) in
     let values : value_rows (frame_keys (message_key before local p)) (v.fields ++ v.dev)
     ≡ field_rows global fields v.fields ++ dev_rows (dev_defs p.definition.dev) p.dev_codes (namings_at before v.local) v.dev =
     rows_of_both (map (field_key global) fields) (map dev_frame_key devs) v.fields v.dev (long ∙ sym (length-map fields (field_key global)))
     ∙ (λ i. rows_of_fields global fields v.fields i ++ rows_of_devs (dev_defs p.definition.dev) p.dev_codes (namings_at before local) v.dev i)
     ∙ ap (λ l. field_rows global fields v.fields ++ dev_rows (dev_defs p.definition.dev) p.dev_codes (namings_at before l) v.dev) (sym at) in
-    let same : key_rows (message_key before local p) offset time (v.fields ++ v.dev) ≡ message_rows v p behind (namings_at before v.local) =
+    let same : key_rows (message_key before local p) offset time (v.fields ++ v.dev) ≡ message_rows v p beyond (namings_at before v.local) =
     (λ i. key_rows (record (message_key before local p) { own = record { local = sym at i; global = global; fields = fields } }) (sym since i) (times i)
     (v.fields ++ v.dev))
-    ∙ ap (λ rows. data_row v global behind ∷ rows) values in
-    subst (λ o. HasRows (unwrap_or (option_map (λ q. message_rows v q behind (namings_at before v.local)) o) []) u w)
+    ∙ ap (λ rows. data_row v global beyond ∷ rows) values in
+    subst (λ o. HasRows (unwrap_or (option_map (λ q. message_rows v q beyond (namings_at before v.local)) o) []) u w)
     (sym (ap (defined_at (known before)) at ∙ place)) (subst (λ rows. HasRows rows u w) same put)

@@ -62,7 +62,7 @@ message-or-end before row misfit kind =
 pub no-message : (before : List (Record Global)) (ta tb tc td te tf : Cell) → ((n : ℕ) → n < 16 → decimal n ≡ ta → IsSome (defined_at (known before) n) → ⊥)
     → IsBadCell (IsMessageOrEnd before) (row (codes "data") ta tb tc td te tf) 2
 no-message before ta tb tc td te tf none = record {
-  behind_kind = omega arith;
+  after_kind = omega arith;
   bad = λ other stands agree. elim stands [
     | inl message ↦
         let v = message.0 in

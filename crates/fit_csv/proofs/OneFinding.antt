@@ -138,7 +138,7 @@ not-both : (CanStand : Row → Type 0) (r : Row) (column : ℕ) → length r ≡
     → (length r ≡ 7 → ⊥) ⊎ ((other : Row) → CanStand other → MayBeOfKind other r → ⊥) → ⊥
 not-both CanStand r column seven bad (inl short) = short seven
 not-both CanStand r column seven bad (inr none) = elim bad.before.2 [
-  | inl same ↦ none bad.before.0 bad.before.1 (inl (fewer 1 (column - 1) bad.before.0 r (let behind = bad.behind_kind in omega arith) same))
+  | inl same ↦ none bad.before.0 bad.before.1 (inl (fewer 1 (column - 1) bad.before.0 r (let beyond = bad.after_kind in omega arith) same))
   | inr kind ↦ none bad.before.0 bad.before.1 kind.1
 ]
 
@@ -146,7 +146,7 @@ not-both CanStand r column seven bad (inr none) = elim bad.before.2 [
 not-before : (CanStand : Row → Type 0) (r : Row) (first later : ℕ) → IsBadCell CanStand r first → IsBadCell CanStand r later → first < later → ⊥
 not-before CanStand r first later h k less = elim k.before.2 [
   | inl same ↦ h.bad k.before.0 k.before.1 (fewer first (later - 1) k.before.0 r (omega arith) same)
-  | inr kind ↦ (let behind = h.behind_kind in let two = kind.0 in omega arith)
+  | inr kind ↦ (let beyond = h.after_kind in let two = kind.0 in omega arith)
 ]
 
 one-column : (CanStand : Row → Type 0) (r : Row) (a b : ℕ) → IsBadCell CanStand r a → IsBadCell CanStand r b → (a < b) ⊎ (b ≤ a) → (b < a) ⊎ (a ≤ b) → a ≡ b

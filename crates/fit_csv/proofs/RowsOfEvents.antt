@@ -1,6 +1,6 @@
 -- The rows of events, one after another, and those of whole files.
 use Rattle.fit_csv.proofs.Common.{◌≡◌, ◌∙◌, [], ◌∷◌, ◌++◌, map, refl, sym, ap, append_assoc, flat_map, FitFile, Record, Event, item, file_end, file_events, Row}
-use Rattle.fit_csv.proofs.Common.{first_line, chain_rows, end_row, event_rows, events_rows, file_row, file_rows, record_rows, records_behind, records_rows}
+use Rattle.fit_csv.proofs.Common.{first_line, chain_rows, end_row, event_rows, events_rows, file_row, file_rows, record_rows, next_records, records_rows}
 use Rattle.fit_csv.proofs.Common.{rows_of}
 use Rattle.std.proofs.Common.{List}
 use Rattle.std.proofs.lemmas.List.{append-nil}
@@ -8,7 +8,7 @@ use Rattle.std.proofs.lemmas.List.{append-nil}
 -- ---- the records of a file
 
 data_events : {A : Type 0} (before records : List (Record A)) (rest : List (Event A)) (rows : List Row)
-    → ((behind : List (Record A)) → events_rows behind rest ≡ rows)
+    → ((beyond : List (Record A)) → events_rows beyond rest ≡ rows)
     → events_rows before (map item records ++ (file_end ∷ rest)) ≡ records_rows before records ++ (end_row ∷ rows)
 unfolding events_rows records_rows
 data_events before [] rest rows others = ap (λ more. end_row ∷ more) (others before)
@@ -18,7 +18,7 @@ data_events before (r ∷ records) rest rows others =
 
 -- a file's events, and then others
 one_file : {A : Type 0} (before : List (Record A)) (f : FitFile A) (rest : List (Event A)) (rows : List Row)
-    → ((behind : List (Record A)) → events_rows behind rest ≡ rows)
+    → ((beyond : List (Record A)) → events_rows beyond rest ≡ rows)
     → events_rows before (file_events f ++ rest) ≡ file_rows f ++ rows
 unfolding events_rows
 one_file before f rest rows others =
@@ -40,7 +40,7 @@ rows-of-chain files = ap (λ rows. first_line ∷ rows) (all_files files [])
 -- the records of the file that was begun last, after events one after another
 abbrev pub records_after : {A : Type 0} → List (Record A) → List (Event A) → List (Record A)
 records_after before [] = before
-records_after before (x ∷ events) = records_after (records_behind before x) events
+records_after before (x ∷ events) = records_after (next_records before x) events
 
 -- one more event has its rows after those of the others
 pub rows-more : {A : Type 0} (before : List (Record A)) (events : List (Event A)) (x : Event A)
@@ -48,11 +48,11 @@ pub rows-more : {A : Type 0} (before : List (Record A)) (events : List (Event A)
 unfolding events_rows
 rows-more before [] x = append-nil (event_rows before x)
 rows-more before (y ∷ events) x =
-    ap (λ rows. event_rows before y ++ rows) (rows-more (records_behind before y) events x)
-    ∙ sym (append_assoc (event_rows before y) (events_rows (records_behind before y) events) (event_rows (records_after (records_behind before y) events) x))
+    ap (λ rows. event_rows before y ++ rows) (rows-more (next_records before y) events x)
+    ∙ sym (append_assoc (event_rows before y) (events_rows (next_records before y) events) (event_rows (records_after (next_records before y) events) x))
 
 -- the records after one more event
 pub records-more : {A : Type 0} (before : List (Record A)) (events : List (Event A)) (x : Event A)
-    → records_after before (events ++ (x ∷ [])) ≡ records_behind (records_after before events) x
+    → records_after before (events ++ (x ∷ [])) ≡ next_records (records_after before events) x
 records-more before [] x = refl
-records-more before (y ∷ events) x = records-more (records_behind before y) events x
+records-more before (y ∷ events) x = records-more (next_records before y) events x

@@ -40,15 +40,15 @@ answer_line heard answer = refl
 pub kept_next : (heard : List (Event Global)) (answer : Answer Global) (kept : KeptEvents) → kept ≡ kept_events heard
     → record { records = records_after_answer kept.records answer; files = files_after_answer kept.files answer } ≡ kept_events (hear answer heard)
 kept_next heard answer kept is =
-    ap (λ (k : KeptEvents). record { records = records_after_answer k.records answer; files = files_after_answer k.files answer }) is ∙ behind answer
+    ap (λ (k : KeptEvents). record { records = records_after_answer k.records answer; files = files_after_answer k.files answer }) is ∙ beyond answer
   where
-    behind : (answer : Answer Global)
+    beyond : (answer : Answer Global)
         → record { records = records_after_answer (latest_records heard) answer; files = files_after_answer (files_heard heard) answer }
         ≡ kept_events (hear answer heard)
-    behind answers.More = refl
-    behind (answers.Header h n) = refl
-    behind (answers.Item r) = refl
-    behind answers.FileEnd = refl
+    beyond answers.More = refl
+    beyond (answers.Header h n) = refl
+    beyond (answers.Item r) = refl
+    beyond answers.FileEnd = refl
 
 -- ---- the parts of a message
 
@@ -88,8 +88,8 @@ pub line_known : (before : List (Record Global)) (p : Defined Global) (local : �
 line_known before p local at v place is long timed =
     let global = p.definition.global in
     let fields = p.definition.fields in
-    let behind : drop (length fields) (v.fields ++ v.dev) ≡ v.dev = ap (λ n. drop n (v.fields ++ v.dev)) (sym long) ∙ drop-append_seam v.fields v.dev in
-    let devs = ap (part_texts (map dev_field_part (dev_keys (dev_defs p.definition.dev) p.dev_codes (namings_at before local)))) behind
+    let beyond : drop (length fields) (v.fields ++ v.dev) ≡ v.dev = ap (λ n. drop n (v.fields ++ v.dev)) (sym long) ∙ drop-append_seam v.fields v.dev in
+    let devs = ap (part_texts (map dev_field_part (dev_keys (dev_defs p.definition.dev) p.dev_codes (namings_at before local)))) beyond
     ∙ devs_shown (dev_defs p.definition.dev) p.dev_codes (namings_at before local) v.dev in
     ap₂ (λ own dev. message_front local global at ++ listed 0 (own ++ dev) ++ codes "\n") (own_shown global fields v.fields v.dev long) devs
     ∙ (λ i. message_front (sym is i) global (timed i)
@@ -101,15 +101,15 @@ line_known before p local at v place is long timed =
 -- ---- what stands between the cells of a message
 
 -- a unit after its cell, and what stands before the next one
-unit_behind : (a b : Bool) (text head : List ℕ) → (if a then head else (if b then [] else text) ++ head) ≡ (if a || b then [] else text) ++ head
-unit_behind true b text head = refl
-unit_behind false b text head = refl
+unit_after : (a b : Bool) (text head : List ℕ) → (if a then head else (if b then [] else text) ++ head) ≡ (if a || b then [] else text) ++ head
+unit_after true b text head = refl
+unit_after false b text head = refl
 
 key_shown : {A : Type 0} (p : PartKey) (head : List ℕ) (i : Items A)
     → key_text (shown_key p head) i ≡ shown_cell p.code p.info i ++ (unit_part (shown_cell p.code p.info i) p.unit ++ head)
 key_shown p head i =
     let text = shown_cell p.code p.info i in
-    ap (λ t. text ++ t) (unit_behind (length text == 0) (length p.unit == 0) (joined (codes " " ∷ p.unit ∷ [])) head)
+    ap (λ t. text ++ t) (unit_after (length text == 0) (length p.unit == 0) (joined (codes " " ∷ p.unit ∷ [])) head)
 
 line_regroup : (s n c u h r : List ℕ) → (s ++ (n ++ codes "=")) ++ ((c ++ (u ++ h)) ++ r) ≡ (s ++ (n ++ (codes "=" ++ (c ++ (u ++ []))))) ++ (h ++ r)
 line_regroup s n c u h r = simp (append_assoc, append-nil)
@@ -125,11 +125,11 @@ keys_shown before (p ∷ parts) end more (i ∷ items) long =
     let unit = unit_part text p.unit in
     let head = first_head (before + 1) parts end in
     let others = keys_text (shown_keys (before + 1) parts end ++ more) items in
-    let behind = end ++ keys_text more (drop (length parts) items) in
+    let beyond = end ++ keys_text more (drop (length parts) items) in
     ap (λ t. joined (separator before ∷ p.name ∷ codes "=" ∷ []) ++ (t ++ others)) (key_shown p head i)
     ∙ line_regroup (separator before) p.name text unit head others
     ∙ ap (λ t. (separator before ++ shown_part p.name text p.unit) ++ t) (keys_shown (before + 1) parts end more items (omega (arith, long)))
-    ∙ sym (append_assoc (separator before ++ shown_part p.name text p.unit) (listed (before + 1) (part_texts parts items)) behind)
+    ∙ sym (append_assoc (separator before ++ shown_part p.name text p.unit) (listed (before + 1) (part_texts parts items)) beyond)
 
 length-part_texts : {A : Type 0} (parts : List PartKey) (items : List (Items A)) → length parts ≤ length items
     → length (part_texts parts items) ≡ length parts
@@ -213,9 +213,9 @@ is_same zero m n e = eq-eqb m n (omega (arith, e))
 is_same (suc k) m n e = ne_eqb m n (λ same. omega (arith, e, same)) ∙ sym (ne_eqb (suc k) 0 (λ same. omega (arith, same)))
 
 -- a cell, and what comes after it
-pub cell_behind : (old cell celled all bare full behind : List ℕ) (m n : ℕ) → celled ≡ old ++ cell → m ≡ length celled → n ≡ length old
-    → behind ≡ (if m == n then bare else full) → all ≡ celled ++ behind → all ≡ old ++ (cell ++ (if length cell == 0 then bare else full))
-cell_behind old cell celled all bare full behind m n first now before is last =
+pub cell_after : (old cell celled all bare full beyond : List ℕ) (m n : ℕ) → celled ≡ old ++ cell → m ≡ length celled → n ≡ length old
+    → beyond ≡ (if m == n then bare else full) → all ≡ celled ++ beyond → all ≡ old ++ (cell ++ (if length cell == 0 then bare else full))
+cell_after old cell celled all bare full beyond m n first now before is last =
     let more : m ≡ n + length cell = omega (arith, now, before, ap length first, length-append old cell) in
     last ∙ ap₂ (λ t u. t ++ u) first (is ∙ ap (λ b. if b then bare else full) (is_same (length cell) m n more))
     ∙ append_assoc old cell (if length cell == 0 then bare else full)

@@ -71,8 +71,8 @@ high_else (Some cell) b p q = p
 -- ---- cells of a row
 
 -- the cell of a number, put after a comma
-pub added : (cell : Option Cell) (old behind new : List ℕ) → IsHigh cell → behind ≡ old ++ (44 ∷ []) → new ≡ behind ++ unwrap_or cell [] → AddsCell cell old new
-added cell old behind new high comma put =
+pub added : (cell : Option Cell) (old beyond new : List ℕ) → IsHigh cell → beyond ≡ old ++ (44 ∷ []) → new ≡ beyond ++ unwrap_or cell [] → AddsCell cell old new
+added cell old beyond new high comma put =
     put ∙ ap (λ (t : List ℕ). t ++ unwrap_or cell []) comma ∙ append_assoc old (44 ∷ []) (unwrap_or cell [])
     ∙ ap (λ (t : List ℕ). old ++ (44 ∷ t)) (sym (unquoted (unwrap_or cell []) high))
     ∙ ap (λ (t : List ℕ). old ++ t) (sym (fields_one (unwrap_or cell [])))

@@ -10,7 +10,7 @@ use Rattle.fit_profile.specs.Told.{told}
 -- ---- the rows of events
 
 table_data : {A : Type 0} (file : ℕ) (before records : List (Record A)) (rest : List (Event A)) (rows : List Row)
-    → ((behind : List (Record A)) → table_events_rows file behind rest ≡ rows)
+    → ((beyond : List (Record A)) → table_events_rows file beyond rest ≡ rows)
     → table_events_rows file before (map item records ++ (file_end ∷ rest)) ≡ table_records_rows file before records ++ rows
 unfolding table_events_rows table_records_rows
 table_data file before [] rest rows others = others before
@@ -20,7 +20,7 @@ table_data file before (r ∷ records) rest rows others =
 
 -- a file's events, and then others
 table_file : {A : Type 0} (file : ℕ) (before : List (Record A)) (f : FitFile A) (rest : List (Event A)) (rows : List Row)
-    → ((behind : List (Record A)) → table_events_rows (file + 1) behind rest ≡ rows)
+    → ((beyond : List (Record A)) → table_events_rows (file + 1) beyond rest ≡ rows)
     → table_events_rows file before (file_events f ++ rest) ≡ table_records_rows (file + 1) [] f.records ++ rows
 unfolding table_events_rows
 table_file file before f rest rows others =

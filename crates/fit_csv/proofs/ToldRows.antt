@@ -1,7 +1,7 @@
 -- The rows of what a decoder answers, told one after another.
 use Rattle.fit_csv.proofs.Common.{◌≡◌, ◌∙◌, [], ◌∷◌, ◌++◌, refl, sym, ap, subst, reverse-append, reverse-reverse, escaped, fields_text, is_blank, Fits, Answer}
 use Rattle.fit_csv.proofs.Common.{Event, header, LookingBackIsLearning, known, AreHeard, hear, latest_records, line_of, text_of}
-use Rattle.fit_csv.proofs.Common.{HeardRecordsFit, Global, csv_text, event_rows, events_rows, records_behind, rows_of, csv_line, AnswerFits, HasText}
+use Rattle.fit_csv.proofs.Common.{HeardRecordsFit, Global, csv_text, event_rows, events_rows, next_records, rows_of, csv_line, AnswerFits, HasText}
 use Rattle.fit_csv.proofs.Common.{answer_rows, records_after_answer, text_append, item, file_end, empty_environment, Data, Record, Values}
 use Rattle.std.proofs.Common.{ℕ, List, codes, reverse}
 use Rattle.std.proofs.lemmas.List.Sums.{fold_push}
@@ -54,11 +54,11 @@ answer_text heard answer = refl
 pub latest : {A : Type 0} (heard : List (Event A)) → records_after [] (reverse heard) ≡ latest_records heard
 latest [] = refl
 latest (x ∷ heard) =
-    ap (records_after []) (reverse-append (x ∷ []) heard) ∙ records-more [] (reverse heard) x ∙ ap (λ before. records_behind before x) (latest heard) ∙ behind x
+    ap (records_after []) (reverse-append (x ∷ []) heard) ∙ records-more [] (reverse heard) x ∙ ap (λ before. next_records before x) (latest heard) ∙ beyond x
   where
-    behind : (x : Event _) → records_behind (latest_records heard) x ≡ latest_records (x ∷ heard)
-    behind (header h n) = refl
-    behind event = refl
+    beyond : (x : Event _) → next_records (latest_records heard) x ≡ latest_records (x ∷ heard)
+    beyond (header h n) = refl
+    beyond event = refl
 
 -- the text of events is that of their rows
 pub events_text : (heard : List (Event Global)) → csv_text (events_rows [] (reverse heard)) ≡ text_of csv_line heard

@@ -1,7 +1,7 @@
 -- The rows of the table, told one after another.
 use Rattle.fit_csv.proofs.Common.{◌≡◌, ◌∙◌, ◌≤◌, ◌^◌, [], ◌∷◌, ◌++◌, length, refl, sym, ap, ap₂, arith, append_assoc, Global, reverse-append, escaped}
 use Rattle.fit_csv.proofs.Common.{fields_text, is_blank, Record, Answer, Event, header, AreHeard, hear, latest_records, line_of, text_of}
-use Rattle.fit_csv.proofs.Common.{HeardAreFew, csv_text, files_behind, files_heard, records_behind, table_text, HasText, table_event_rows, table_events_rows}
+use Rattle.fit_csv.proofs.Common.{HeardAreFew, csv_text, next_files, files_heard, next_records, table_text, HasText, table_event_rows, table_events_rows}
 use Rattle.fit_csv.proofs.Common.{table_of, table_answer_rows, text_append}
 use Rattle.std.proofs.Common.{ℕ, ◌<◌, List, codes, reverse}
 use Rattle.std.proofs.lemmas.List.{append-nil}
@@ -12,7 +12,7 @@ use Rattle.fit_csv.proofs.ToldRows.{latest}
 -- how many files have begun after events one after another
 abbrev files_after : {A : Type 0} → ℕ → List (Event A) → ℕ
 files_after files [] = files
-files_after files (x ∷ events) = files_after (files_behind files x) events
+files_after files (x ∷ events) = files_after (next_files files x) events
 
 -- one more event has its rows after those of the others
 table-more : {A : Type 0} (files : ℕ) (before : List (Record A)) (events : List (Event A)) (x : Event A)
@@ -21,18 +21,18 @@ table-more : {A : Type 0} (files : ℕ) (before : List (Record A)) (events : Lis
 unfolding table_events_rows
 table-more files before [] x = append-nil (table_event_rows files before x)
 table-more files before (y ∷ events) x =
-    ap (λ rows. table_event_rows files before y ++ rows) (table-more (files_behind files y) (records_behind before y) events x)
-    ∙ sym (append_assoc (table_event_rows files before y) (table_events_rows (files_behind files y) (records_behind before y) events)
-    (table_event_rows (files_after (files_behind files y) events) (records_after (records_behind before y) events) x))
+    ap (λ rows. table_event_rows files before y ++ rows) (table-more (next_files files y) (next_records before y) events x)
+    ∙ sym (append_assoc (table_event_rows files before y) (table_events_rows (next_files files y) (next_records before y) events)
+    (table_event_rows (files_after (next_files files y) events) (records_after (next_records before y) events) x))
 
 files-more : {A : Type 0} (files : ℕ) (events : List (Event A)) (x : Event A)
-    → files_after files (events ++ (x ∷ [])) ≡ files_behind (files_after files events) x
+    → files_after files (events ++ (x ∷ [])) ≡ next_files (files_after files events) x
 files-more files [] x = refl
-files-more files (y ∷ events) x = files-more (files_behind files y) events x
+files-more files (y ∷ events) x = files-more (next_files files y) events x
 
 begun : {A : Type 0} (heard : List (Event A)) → files_after 0 (reverse heard) ≡ files_heard heard
 begun [] = refl
-begun (x ∷ heard) = ap (files_after 0) (reverse-append (x ∷ []) heard) ∙ files-more 0 (reverse heard) x ∙ ap (λ files. files_behind files x) (begun heard)
+begun (x ∷ heard) = ap (files_after 0) (reverse-append (x ∷ []) heard) ∙ files-more 0 (reverse heard) x ∙ ap (λ files. next_files files x) (begun heard)
 
 -- the text of events is that of their rows
 table_events_text : (heard : List (Event Global)) → csv_text (table_events_rows 0 [] (reverse heard)) ≡ text_of table_text heard

@@ -12,7 +12,7 @@ pub no-items : (kind label ta tb tc td te tf : Cell) (code size : ℕ) (info : O
 no-items kind label ta tb tc td te tf code size info unit same none =
     let (zero, shape) = zero-items code size in
     record {
-      behind_kind = omega arith;
+      after_kind = omega arith;
       bad = λ other (i, fits, e) agree.
           let three : take 3 (row kind label (cell code info i) unit [] [] []) ≡ take 3 (row kind ta tb tc td te tf) =
           ap (λ (r : Row). take 3 r) (sym e) ∙ agree in
@@ -34,7 +34,7 @@ pub no-label : (kind label ta tb tc td te tf : Cell) (code size : ℕ) (info : O
 no-label kind label ta tb tc td te tf code size info unit differs =
     let (zero, shape) = zero-items code size in
     record {
-      behind_kind = omega arith;
+      after_kind = omega arith;
       bad = λ other (i, fits, e) agree.
           let two : take 2 (row kind label (cell code info i) unit [] [] []) ≡ take 2 (row kind ta tb tc td te tf) = ap (λ (r : Row). take 2 r) (sym e) ∙ agree
           in

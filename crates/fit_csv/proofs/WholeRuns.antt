@@ -275,11 +275,11 @@ record-run f (Data v) none fits range =
     let (p, is, data_fits) = some-at (defined_at (known f.before) v.local) (DataFits v) fits in
     data-run f v p none is data_fits
 
-abbrev IsBehind : OpenFile → List (Record Global) → OpenFile → Type 0
-IsBehind f records g = (g.part ≡ Nothing) × (g.header ≡ f.header) × (g.records ≡ f.records ++ records)
+abbrev IsAfter : OpenFile → List (Record Global) → OpenFile → Type 0
+IsAfter f records g = (g.part ≡ Nothing) × (g.header ≡ f.header) × (g.records ≡ f.records ++ records)
 
 records-run : (f : OpenFile) (records : List (Record Global)) → f.part ≡ Nothing → AllFit (known f.before) records → AllByRecursion RecordInRange records
-    → (g : OpenFile) × FileRun f (records_rows f.before records) g × IsBehind f records g
+    → (g : OpenFile) × FileRun f (records_rows f.before records) g × IsAfter f records g
 unfolding records_rows
 records-run f [] none fit range = (f, none-run f f refl, (none, refl, sym (append-nil f.records)))
 records-run f (r ∷ records) none fit range =

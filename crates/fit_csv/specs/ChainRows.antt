@@ -152,25 +152,25 @@ event_rows before (item r) = record_rows before r
 event_rows before file_end = end_row ∷ []
 
 -- the records of the file that was begun last, after an event
-abbrev pub records_behind : {A : Type 0} → List (Record A) → Event A → List (Record A)
-records_behind before (header h n) = []
-records_behind before (item r) = r ∷ before
-records_behind before file_end = before
+abbrev pub next_records : {A : Type 0} → List (Record A) → Event A → List (Record A)
+next_records before (header h n) = []
+next_records before (item r) = r ∷ before
+next_records before file_end = before
 
 -- how many files have begun after an event
-abbrev pub files_behind : {A : Type 0} → ℕ → Event A → ℕ
-files_behind files (header h n) = files + 1
-files_behind files other = files
+abbrev pub next_files : {A : Type 0} → ℕ → Event A → ℕ
+next_files files (header h n) = files + 1
+next_files files other = files
 
 -- the same of events, the latest first
 abbrev pub files_heard : {A : Type 0} → List (Event A) → ℕ
 files_heard [] = 0
-files_heard (x ∷ heard) = files_behind (files_heard heard) x
+files_heard (x ∷ heard) = next_files (files_heard heard) x
 
 -- events one after another
 unfoldable pub events_rows : {A : Type 0} → List (Record A) → List (Event A) → List Row
 events_rows before [] = []
-events_rows before (x ∷ events) = event_rows before x ++ events_rows (records_behind before x) events
+events_rows before (x ∷ events) = event_rows before x ++ events_rows (next_records before x) events
 
 -- the first line, and all that a reader has told
 abbrev pub rows_of : {A : Type 0} → List (Event A) → List Row

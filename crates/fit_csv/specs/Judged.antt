@@ -34,7 +34,7 @@ MayBeOfKind other r = Agree 1 other r ⊎ (Agree 1 other (codes "end" ∷ []) ×
 
 -- No row that can stand there has the same cells up to this column, counted from 1; but some row has in the columns before it.
 pub record IsBadCell (CanStand : Row → Type 0) (r : Row) (column : ℕ) : Type 0 where
-  pub behind_kind : 2 ≤ column
+  pub after_kind : 2 ≤ column
   pub bad : (other : Row) → CanStand other → Agree column other r → ⊥
   pub before : (other : Row) × CanStand other × (Agree (column - 1) other r ⊎ ((column ≡ 2) × MayBeOfKind other r))
 

@@ -19,7 +19,7 @@ use Rattle.fit_cells.specs.Cells.{scaled_value}
 use Rattle.fit_csv.specs.Degrees.{degrees_of}
 use Rattle.fit_csv.specs.InstantText.{instant_text}
 use Rattle.fit_cells.specs.Rows.{Cell, Row}
-use Rattle.fit_csv.specs.ChainRows.{files_behind, records_behind}
+use Rattle.fit_csv.specs.ChainRows.{next_files, next_records}
 
 abbrev pub table_line : Row
 table_line =
@@ -88,7 +88,7 @@ table_event_rows file before file_end = []
 -- events one after another, after that many headers
 unfoldable pub table_events_rows : {A : Type 0} → ℕ → List (Record A) → List (Event A) → List Row
 table_events_rows files before [] = []
-table_events_rows files before (x ∷ events) = table_event_rows files before x ++ table_events_rows (files_behind files x) (records_behind before x) events
+table_events_rows files before (x ∷ events) = table_event_rows files before x ++ table_events_rows (next_files files x) (next_records before x) events
 
 -- the first line, and a row for each record message that a reader has told
 abbrev pub table_of : {A : Type 0} → List (Event A) → List Row

@@ -2,14 +2,14 @@
 use Rattle.fit_decode.proofs.Common.{◌≡◌, true, false, ℕ, ◌+◌, ◌<◌, suc, List, [], ◌∷◌, ◌++◌, length, take, drop, get_or, Some, None, Ok, Err, sym, ap, ◌∙◌}
 use Rattle.fit_decode.proofs.Common.{subst, append_assoc, arith, length-append, Vec, if◌then◌else◌, is_ok, is_err, Global, Consumes, IsAtEnd, append-nil}
 use Rattle.fit_decode.proofs.Common.{IsBytes, little_bytes, Reason, FitFile, checksum, summed, IsFile, IsChain, IsViable, chain_limit, Fault, Truncated, Read}
-use Rattle.fit_decode.proofs.Common.{AreChain, IsBehind, IsEnd, at_header, EndsReading, ReadsChain, GivesChain, IsRefused}
+use Rattle.fit_decode.proofs.Common.{AreChain, IsAfter, IsEnd, at_header, EndsReading, ReadsChain, GivesChain, IsRefused}
 use Rattle.fit_decode.proofs.Common.{FileRead, at_place, one_place, chain_come}
 use Rattle.std.proofs.Common.{Bool, Option, Result}
 use Rattle.fit_base.proofs.Bytes.{length-little_bytes}
 use Rattle.fit_chain.specs.declared.event.Fault.TheVariants.{Refused, NoMemory}
 use Rattle.fit_decode.specs.Answers.{Seen}
 use Rattle.fit_decode.proofs.Consumed.{Consumes-append}
-use Rattle.fit_decode.proofs.NextRead.{behind_file, next_file, next_fault, next_end}
+use Rattle.fit_decode.proofs.NextRead.{after_file, next_file, next_fault, next_end}
 
 -- no byte of a chain is refused
 chain_byte : {A : Type 0} (fs : List (FitFile A)) (b taken y : List ℕ) (place : ℕ) (reason : Reason) → IsBytes b → IsChain chain_limit fs b → b ≡ taken ++ y
@@ -68,29 +68,29 @@ pushed (Err e) refused was now x is good same = absurd cc
 
 module _ (files : List (FitFile Global)) (before : Seen) (count : ℕ) (old taken : List ℕ) (first had has : Option (List ℕ)) (failed : Bool) (new : Seen)
     (now : ℕ)
-    (behind : IsBehind files before count old) (eats : Consumes first had old) (counted : now + length old ≡ count + length taken)
+    (beyond : IsAfter files before count old) (eats : Consumes first had old) (counted : now + length old ≡ count + length taken)
     (viable : IsViable Global chain_limit new.bytes) where
   eats_all : (result : Result (FitFile Global) Fault) → FileRead files before.bytes old taken had has failed new result → Consumes first has taken
   eats_all result r = subst (Consumes first has) (sym r.noted) (Consumes-append first had has old r.got eats r.eats)
 
   -- what holds after one file more
   pub one_more : (f : FitFile Global) → FileRead files before.bytes old taken had has failed new (Ok f)
-      → IsBehind (files ++ f ∷ []) new now taken × Consumes first has taken
-  one_more f r = (behind_file files before count old taken had has failed new now behind counted viable f r, eats_all (Ok f) r)
+      → IsAfter (files ++ f ∷ []) new now taken × Consumes first has taken
+  one_more f r = (after_file files before count old taken had has failed new now beyond counted viable f r, eats_all (Ok f) r)
 
   pub one_longer : (f : FitFile Global) → FileRead files before.bytes old taken had has failed new (Ok f) → length old < length taken
   one_longer f r =
-      let file = next_file files before count old taken had has failed new now behind counted viable f r in
+      let file = next_file files before count old taken had has failed new now beyond counted viable f r in
       omega (arith, some_bytes f r.got file, ap length r.noted, length-append old r.got)
 
   pub chain_ended : (fault : Fault) → FileRead files before.bytes old taken had has failed new (Err fault) → IsEnd Global new fault true
       → (all : List ℕ) × Consumes first has all × IsAtEnd has × IsChain chain_limit files all × (failed ≡ false)
   chain_ended fault r end =
-      let e = next_end files before count old taken had has failed new now behind counted viable fault r end in
+      let e = next_end files before count old taken had has failed new now beyond counted viable fault r end in
       (taken, eats_all (Err fault) r, e.end, subst (IsChain chain_limit files) (sym e.same) e.whole, e.good)
 
   pub chain_stopped : (fault : Fault) → FileRead files before.bytes old taken had has failed new (Err fault) → IsEnd Global new fault false
       → (all : List ℕ) × Consumes first has all
       × EndsReading Global chain_limit (AreChain Global) all (record { before = first; after = has; failed = failed }) fault
   chain_stopped fault r end =
-      (taken, eats_all (Err fault) r, next_fault files before count old taken had has failed new now behind counted viable first fault r end)
+      (taken, eats_all (Err fault) r, next_fault files before count old taken had has failed new now beyond counted viable first fault r end)

@@ -14,7 +14,7 @@ pub use Rattle.fit_base.proofs.ByteLists.{IsBytes-append, IsBytes-take, IsBytes-
 pub use Rattle.fit_base.specs.Numbers.{IsBytes, little_bytes, number}
 pub use Rattle.fit_chain.proofs.Bounds.{short_bytes}
 pub use Rattle.fit_chain.proofs.Completions.{goes_viable, fill_data}
-pub use Rattle.fit_chain.proofs.DataFed.{InRecords, data_starts, data_quiet, data_come, data_viable, left_behind, item_come, item_least, data_refuses}
+pub use Rattle.fit_chain.proofs.DataFed.{InRecords, data_starts, data_quiet, data_come, data_viable, left_after, item_come, item_least, data_refuses}
 pub use Rattle.fit_chain.proofs.DataFed.{data_wants, data_takes}
 pub use Rattle.fit_chain.proofs.Faults.{chain_come, refused_in, wants_in, chain_end, fault_of_chain}
 pub use Rattle.fit_chain.proofs.Learned.{known_in_data}
@@ -58,7 +58,7 @@ pub use Rattle.fit_decode.specs.declared.decoder.Decoder.TheInside.{Inside}
 pub use Rattle.fit_decode.specs.declared.section.Section.{Section}
 pub use Rattle.fit_decode.specs.declared.section.Stage.{Stage}
 pub use Rattle.fit_decode.specs.declared.section.Section.TheVariants.{Data, ClosingSum, Data as InSection}
-pub use Rattle.fit_decode.specs.inner.Between.{IsBehind, IsEnd}
+pub use Rattle.fit_decode.specs.inner.Between.{IsAfter, IsEnd}
 pub use Rattle.fit_decode.specs.inner.Invariant.{IsSoundDecoder, fields_inside}
 pub use Rattle.fit_decode.specs.inner.Kept.{Fields, InHeader, InData, InSum, HoldsAt, Holds, Advanced, NotRefused, NextAnswer}
 pub use Rattle.fit_decode.specs.inner.Kept.{to_come, to_come_in}

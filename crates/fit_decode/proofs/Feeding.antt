@@ -48,10 +48,10 @@ module _ {A : Type 0} {d : Inside A} (k : IsSoundDecoder d) (piece : List ℕ) (
   pub few_more : Fits w64 (d.count + used)
   few_more = omega (arith, more_bytes, short_bytes (d.history.items ++ take used piece) viable)
 
-  pub sound_behind : (n : Inside A) → n.history.items ≡ d.history.items ++ take used piece → n.count ≡ d.count + used
+  pub sound_after : (n : Inside A) → n.history.items ≡ d.history.items ++ take used piece → n.count ≡ d.count + used
       → (n.refusal ≡ None → Holds (fields_inside n) (d.history.items ++ take used piece))
       → ((reason : Reason) → n.refusal ≡ Some reason → (n.env ≡ empty_environment) × (n.in_progress ≡ None)) → IsSoundDecoder n
-  sound_behind n took counted holds let_go = record {
+  sound_after n took counted holds let_go = record {
     viable = subst (IsViable A chain_limit) (sym took) viable;
     are = subst IsBytes (sym took) (IsBytes-append d.history.items (take used piece) k.are (IsBytes-take used piece low));
     counted = counted ∙ sym more_bytes ∙ ap length (sym took);
@@ -88,12 +88,12 @@ module _ {A : Type 0} {d now : Inside A} {piece : List ℕ} {used : ℕ} {answer
 
   module _ (n : Inside A) (noted : n.history.items ≡ now.history.items ++ take used piece) (counted : n.count ≡ now.count + used) where
     pub still_kept : fields_inside n ≡ fields_inside now → NotRefused answer → n.refusal ≡ now.refusal → IsSoundDecoder n
-    still_kept same taken kept = sound_behind t.sound piece used t.low within t.next.viable n (all_items n.history.items noted)
+    still_kept same taken kept = sound_after t.sound piece used t.low within t.next.viable n (all_items n.history.items noted)
         (counted ∙ ap (λ m. m + used) t.counted) (λ _. subst (λ f. Holds f (d.history.items ++ take used piece)) (sym same) (t.next.holds taken))
         (fresh_holds_all n.refusal (kept ∙ t.fresh))
 
     pub refused_kept : (reason : Reason) → n.refusal ≡ Some reason → n.env ≡ empty_environment → n.in_progress ≡ None → IsSoundDecoder n
-    refused_kept reason is known idle = sound_behind t.sound piece used t.low within t.next.viable n (all_items n.history.items noted)
+    refused_kept reason is known idle = sound_after t.sound piece used t.low within t.next.viable n (all_items n.history.items noted)
         (counted ∙ ap (λ m. m + used) t.counted) (λ fresh. fresh_holds_all n.refusal fresh reason is) (λ _ _. (known, idle))
 
 -- ---- the clauses

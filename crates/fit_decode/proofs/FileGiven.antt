@@ -12,8 +12,8 @@ use Rattle.fit_step.proofs.Splits.{split}
 module _ {A : Type 0} (files : List (FitFile A)) (base : List ℕ) (come : HasCome files (at_header []) base)
     (f : FitFile A) (b x : List ℕ) (are : IsBytes b) (file : IsFile f b) (chain : (gs : List (FitFile A)) × IsChain chain_limit gs (base ++ b)) where
   -- the last piece goes no further than the file
-  none_behind : (got y : List ℕ) → LastPiece files (base ++ got) → b ++ x ≡ got ++ y → length (base ++ got) ≤ length (base ++ b)
-  none_behind got y last e =
+  none_after : (got y : List ℕ) → LastPiece files (base ++ got) → b ++ x ≡ got ++ y → length (base ++ got) ≤ length (base ++ b)
+  none_after got y last e =
       let p : List ℕ = progress_bytes last.come.0 in
       let front : last.before ≡ base ++ p = last.come.1.spelled ∙ ap (λ t. t ++ p) (sym (base_is files base come)) in
       let parted : got ≡ p ++ last.piece = append_cancel_left base got (p ++ last.piece)
@@ -39,6 +39,6 @@ module _ {A : Type 0} (files : List (FitFile A)) (base : List ℕ) (come : HasCo
       refused_byte files base come f b x are file chain got y place reason within comes why eats
   given got (Some y) failed new (Err (Truncated place)) eats (is, end, comes, after, good) =
       omega (arith, shorter files base come f b x are file chain got y comes eats, ap length eats, length-append b x, length-append got y, ap length end)
-  given got (Some y) failed new (Err (NoMemory used)) eats (is, last, good) = omega (arith, is, none_behind got y last eats)
+  given got (Some y) failed new (Err (NoMemory used)) eats (is, last, good) = omega (arith, is, none_after got y last eats)
   given got (Some y) failed new (Err (Read place)) eats (is, bad, comes, after) =
       (bad, omega (arith, is, shorter files base come f b x are file chain got y comes eats, length-append base got, length-append base b))

@@ -13,8 +13,8 @@ use Rattle.fit_chain.specs.Needs.{missing, Needs}
 -- the number in four bytes
 pub four_bytes_below : (all some bytes : List ℕ) (n : ℕ) → IsBytes all → some ≡ drop 4 all → bytes ≡ take 4 some → length bytes ≡ 4 → n ≡ number Little bytes
     → n < 4294967296
-four_bytes_below all some bytes n are behind is four same =
-    let low : IsBytes bytes = subst IsBytes (sym is) (IsBytes-take 4 some (subst IsBytes (sym behind) (IsBytes-drop 4 all are))) in
+four_bytes_below all some bytes n are beyond is four same =
+    let low : IsBytes bytes = subst IsBytes (sym is) (IsBytes-take 4 some (subst IsBytes (sym beyond) (IsBytes-drop 4 all are))) in
     let below : number Little bytes < 4294967296 = subst (λ k. number Little bytes < 256 ^ k) four (number-below Little bytes low) in
     omega (arith, below, same)
 

@@ -1,7 +1,7 @@
 -- What the reading of the next file of a chain tells.
 use Rattle.fit_decode.proofs.Common.{◌≡◌, true, false, ℕ, ◌+◌, List, [], ◌∷◌, ◌++◌, length, Some, None, Ok, Err, refl, sym, ap, ◌∙◌, subst, arith, Consumes}
 use Rattle.fit_decode.proofs.Common.{Keeps, IsAtEnd, append-nil, append_cancel_left, IsBytes, FitFile, IsFile, IsChain, IsViable, chain_bytes, chain_limit}
-use Rattle.fit_decode.proofs.Common.{Fault, Truncated, Read, AreChain, IsBehind, IsEnd, at_header, HasCome, EndsReading, EndsChain, GivesFile, GivesNext, Past}
+use Rattle.fit_decode.proofs.Common.{Fault, Truncated, Read, AreChain, IsAfter, IsEnd, at_header, HasCome, EndsReading, EndsChain, GivesFile, GivesNext, Past}
 use Rattle.fit_decode.proofs.Common.{Channel, ComesTo, Ended, FaultIn, FileTold, FileRead, unrefused, next_bytes, viable_goes, ended_chain, one_place}
 use Rattle.fit_decode.proofs.Common.{chain_come}
 use Rattle.std.proofs.Common.{Bool, Option, Result}
@@ -13,14 +13,14 @@ use Rattle.fit_decode.proofs.Nearly.{nearly}
 
 module _ {A : Type 0} (files : List (FitFile A)) (before : Seen) (count : ℕ) (old taken : List ℕ) (had has : Option (List ℕ)) (failed : Bool) (new : Seen)
     (now : ℕ)
-    (behind : IsBehind files before count old) (counted : now + length old ≡ count + length taken) (viable : IsViable A chain_limit new.bytes) where
+    (beyond : IsAfter files before count old) (counted : now + length old ≡ count + length taken) (viable : IsViable A chain_limit new.bytes) where
   module _ (result : Result (FitFile A) Fault) (r : FileRead files before.bytes old taken had has failed new result) where
     -- the bytes fed before are those taken before
     joined : before.bytes ++ r.got ≡ taken
-    joined = ap (λ (v : Seen). v.bytes ++ r.got) behind.fed ∙ sym r.noted
+    joined = ap (λ (v : Seen). v.bytes ++ r.got) beyond.fed ∙ sym r.noted
 
     counts : now ≡ length taken
-    counts = omega (arith, counted, behind.counted)
+    counts = omega (arith, counted, beyond.counted)
 
     told : FileTold files taken has failed new result
     told = subst (λ t. FileTold files t has failed new result) joined r.told
@@ -28,10 +28,10 @@ module _ {A : Type 0} (files : List (FitFile A)) (before : Seen) (count : ℕ) (
   -- ---- the next file
 
   pub next_file : (f : FitFile A) (r : FileRead files before.bytes old taken had has failed new (Ok f)) → IsFile f r.got
-  next_file f r = next_bytes files old behind.come f r.got (subst (Ended files f) r.noted (told (Ok f) r).1)
+  next_file f r = next_bytes files old beyond.come f r.got (subst (Ended files f) r.noted (told (Ok f) r).1)
 
-  pub behind_file : (f : FitFile A) → FileRead files before.bytes old taken had has failed new (Ok f) → IsBehind (files ++ f ∷ []) new now taken
-  behind_file f r =
+  pub after_file : (f : FitFile A) → FileRead files before.bytes old taken had has failed new (Ok f) → IsAfter (files ++ f ∷ []) new now taken
+  after_file f r =
       let is = told (Ok f) r in
       record {
         fed = is.0;
@@ -42,9 +42,9 @@ module _ {A : Type 0} (files : List (FitFile A)) (before : Seen) (count : ℕ) (
 
   pub next_chain : (f : FitFile A) → FileRead files before.bytes old taken had has failed new (Ok f) → EndsChain f taken
   next_chain f r =
-      let behind = behind_file f r in
-      let chain = ended_chain files f taken behind.come in
-      let goes = viable_goes chain_limit (files ++ f ∷ []) (at_header []) taken behind.come behind.viable in
+      let beyond = after_file f r in
+      let chain = ended_chain files f taken beyond.come in
+      let goes = viable_goes chain_limit (files ++ f ∷ []) (at_header []) taken beyond.come beyond.viable in
       (files, (record { some = chain.0.some; within = goes.1; each = chain.0.each }, chain.1))
 
   pub next_good : (f : FitFile A) → FileRead files before.bytes old taken had has failed new (Ok f) → failed ≡ false
@@ -76,7 +76,7 @@ module _ {A : Type 0} (files : List (FitFile A)) (before : Seen) (count : ℕ) (
   nothing_taken : (got : List ℕ) → ComesTo files (old ++ got) → AreChain A (old ++ got) → got ≡ []
   nothing_taken got comes whole =
       let one = one_place files whole.0 comes.0 (at_header []) (old ++ got) comes.1 (chain_come (old ++ got) whole) in
-      let first : old ≡ chain_bytes files = behind.come.spelled ∙ append-nil (chain_bytes files) in
+      let first : old ≡ chain_bytes files = beyond.come.spelled ∙ append-nil (chain_bytes files) in
       let all : old ++ got ≡ chain_bytes files = whole.1.1 ∙ ap chain_bytes (sym one.0) in
       append_cancel_left old got [] (all ∙ sym first ∙ sym (append-nil old))
 
@@ -87,7 +87,7 @@ module _ {A : Type 0} (files : List (FitFile A)) (before : Seen) (count : ℕ) (
     pub same : taken ≡ old
     pub kept : Consumes had has []
     pub whole : IsChain chain_limit files old
-    pub still : IsBehind files new now taken
+    pub still : IsAfter files new now taken
 
   pub next_end : (fault : Fault) → FileRead files before.bytes old taken had has failed new (Err fault) → IsEnd A new fault true → AtEnd
   next_end (Truncated place) r end =
@@ -95,7 +95,7 @@ module _ {A : Type 0} (files : List (FitFile A)) (before : Seen) (count : ℕ) (
       let chain : AreChain A taken = subst (λ (v : Seen). AreChain A v.bytes) is.3 (end.0 refl).1 in
       let none : r.got ≡ [] = nothing_taken r.got (subst (ComesTo files) r.noted is.2) (subst (AreChain A) r.noted chain) in
       let same : taken ≡ old = r.noted ∙ ap (λ t. old ++ t) none ∙ append-nil old in
-      let one = one_place files chain.0 (at_header []) (at_header []) taken (subst (HasCome files (at_header [])) (sym same) behind.come)
+      let one = one_place files chain.0 (at_header []) (at_header []) taken (subst (HasCome files (at_header [])) (sym same) beyond.come)
       (chain_come taken chain) in
       record {
         end = is.1;
@@ -107,7 +107,7 @@ module _ {A : Type 0} (files : List (FitFile A)) (before : Seen) (count : ℕ) (
           fed = is.3;
           counted = counts (Err (Truncated place)) r;
           viable = subst (λ (v : Seen). IsViable A chain_limit v.bytes) is.3 viable;
-          come = subst (HasCome files (at_header [])) (sym same) behind.come;
+          come = subst (HasCome files (at_header [])) (sym same) beyond.come;
         };
       }
   next_end fault r end = absurd cc
@@ -119,7 +119,7 @@ module _ {A : Type 0} (files : List (FitFile A)) (before : Seen) (count : ℕ) (
       → FileRead files before.bytes old taken had has failed new result
       → GivesFile f (length (old ++ b)) x (record { before = had; after = has; failed = failed }) result
   next_given f b x gs result input are file chain r =
-      given files old behind.come f b x are file (gs, chain) r.got has failed new result (subst (λ h. Consumes h has r.got) input r.eats)
+      given files old beyond.come f b x are file (gs, chain) r.got has failed new result (subst (λ h. Consumes h has r.got) input r.eats)
       (subst (λ t. FileTold files t has failed new result) r.noted (told result r))
 
 -- What `next` gives where a file's bytes begin what is left.
@@ -147,13 +147,13 @@ keeps (Some x) None h = absurd h
 keeps (Some x) (Some y) h = sym h
 
 -- the decoder has come after the files
-pub comes_behind : {A : Type 0} (files : List (FitFile A)) (decoder : Seen) (count : ℕ) (taken : List ℕ) → IsBehind files decoder count taken
+pub comes_after : {A : Type 0} (files : List (FitFile A)) (decoder : Seen) (count : ℕ) (taken : List ℕ) → IsAfter files decoder count taken
     → HasCome files (at_header []) decoder.bytes
-comes_behind files decoder count taken behind = subst (λ (v : Seen). HasCome files (at_header []) v.bytes) (sym behind.fed) behind.come
+comes_after files decoder count taken beyond = subst (λ (v : Seen). HasCome files (at_header []) v.bytes) (sym beyond.fed) beyond.come
 
 -- no file yet
-pub behind_none : (A : Type 0) (decoder : Seen) (taken : List ℕ) → decoder ≡ unrefused [] → taken ≡ [] → IsBehind {A = A} [] decoder 0 taken
-behind_none A decoder taken fed none = record {
+pub after_none : (A : Type 0) (decoder : Seen) (taken : List ℕ) → decoder ≡ unrefused [] → taken ≡ [] → IsAfter {A = A} [] decoder 0 taken
+after_none A decoder taken fed none = record {
   fed = fed ∙ ap unrefused (sym none);
   counted = ap length (sym none);
   viable = subst (IsViable A chain_limit) (sym none) (nothing_viable A);

@@ -7,7 +7,7 @@ use Rattle.fit_decode.proofs.Common.{records_bytes-append, learn_all-append, Pos
 use Rattle.fit_decode.proofs.Common.{idle_between_records, record_fills, records_in_progress, Answer, Data, ClosingSum, at_header, at_data, HasCome}
 use Rattle.fit_decode.proofs.Common.{AreEvents, IsRefused, files_begun, ChainGoesOn, IsHeaderPart, half_sum, section_of, HeaderFed, DataFed, SumFed, Fields}
 use Rattle.fit_decode.proofs.Common.{InHeader, InData, InSum, Holds, HoldsAt, NextAnswer, goes_viable, fill_data, whole_header, quiet_of, begun_header}
-use Rattle.fit_decode.proofs.Common.{InRecords, data_starts, data_quiet, data_come, data_viable, left_behind, item_come, item_least, data_refuses, data_wants}
+use Rattle.fit_decode.proofs.Common.{InRecords, data_starts, data_quiet, data_come, data_viable, left_after, item_come, item_least, data_refuses, data_wants}
 use Rattle.fit_decode.proofs.Common.{data_takes}
 use Rattle.std.proofs.Common.{Bool}
 use Rattle.std.specs.Prelude.{Option, Result}
@@ -228,13 +228,13 @@ module _ {A : Type 0} (d : Fields A) (at : d.stage.section ≡ Data) (bytes piec
         }))
 
     -- bytes that end with a record
-    behind_record : sum ≡ d.sum ++ take used piece → (r : Record A) → used ≤ length piece → env ≡ learn known r → IsRecord known r (k.part ++ take used piece)
+    after_record : sum ≡ d.sum ++ take used piece → (r : Record A) → used ≤ length piece → env ≡ learn known r → IsRecord known r (k.part ++ take used piece)
         → length (k.part ++ take used piece) ≤ room → IsInProgress env (room - length (k.part ++ take used piece)) [] position in_progress
         → stage ≡ record d.stage { section = section_of position.room } → Holds (now stage) (bytes ++ take used piece)
-    behind_record covered r within same is fits here goes_on =
+    after_record covered r within same is fits here goes_on =
         let next : Stage = record d.stage { section = section_of position.room } in
         let come = item_come bytes piece here_in are low used r within is fits in
-        let left = left_behind bytes piece here_in are low used r within is fits in
+        let left = left_after bytes piece here_in are low used r within is fits in
         let all : records_bytes empty_environment (k.records ++ r ∷ []) ≡ records_bytes empty_environment k.records ++ (k.part ++ take used piece) =
         records_bytes-append empty_environment k.records (r ∷ [])
         ∙ ap (λ l. records_bytes empty_environment k.records ++ l) (append-nil (record_bytes known r) ∙ sym is.1) in
@@ -275,7 +275,7 @@ module _ {A : Type 0} (d : Fields A) (at : d.stage.section ≡ Data) (bytes piec
             record {
               told = (some, within, item_least bytes piece here_in are low used r within is fits);
               viable = data_viable bytes piece here_in are low used (record_fills known room r (k.part ++ take used piece) is fits goes);
-              holds = λ _. behind_record covered r within same is fits here goes_on;
+              holds = λ _. after_record covered r within same is fits here goes_on;
             }
         told_of (Err (Refused reason)) (reads, covered, goes_on) =
             let (within, same, here, because, ends) = reads room k.part before in

@@ -4,9 +4,9 @@ use Rattle.std.proofs.Common.{suc}
 use mir.Syntax.{Ty, ty_unit, ty_struct, Tys, tnil, tcons}
 use prog.Memory.{align, size, pad, end_of}
 
-ends_behind : (τs : Tys) (e : ℕ) → e ≤ end_of e τs
-ends_behind tnil e = omega arith
-ends_behind (tcons τ τs) e = omega (arith, ends_behind τs (e + pad (align τ) e + size τ))
+ends_after : (τs : Tys) (e : ℕ) → e ≤ end_of e τs
+ends_after tnil e = omega arith
+ends_after (tcons τ τs) e = omega (arith, ends_after τs (e + pad (align τ) e + size τ))
 
 abbrev field_at : ℕ → Tys → Ty
 field_at n tnil = ty_unit
@@ -15,7 +15,7 @@ field_at (suc n) (tcons τ τs) = field_at n τs
 
 field_ends : (n : ℕ) (τs : Tys) (e : ℕ) → size (field_at n τs) ≤ end_of e τs
 field_ends n tnil e = omega arith
-field_ends zero (tcons τ τs) e = omega (arith, ends_behind τs (e + pad (align τ) e + size τ))
+field_ends zero (tcons τ τs) e = omega (arith, ends_after τs (e + pad (align τ) e + size τ))
 field_ends (suc n) (tcons τ τs) e = field_ends n τs (e + pad (align τ) e + size τ)
 
 -- the type of the field at a place, counted from 0

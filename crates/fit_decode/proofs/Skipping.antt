@@ -18,7 +18,7 @@ use Rattle.fit_decode.specs.Answers.{Seen, MessageFollows}
 use Rattle.fit_decode.specs.declared.section.Section.TheVariants.{Header}
 use Rattle.fit_decode.specs.inner.Skips.{Skipped}
 use Rattle.fit_decode.proofs.Sections.{begins_records}
-use Rattle.fit_decode.proofs.Feeding.{few_more, sound_behind, fresh_holds_all}
+use Rattle.fit_decode.proofs.Feeding.{few_more, sound_after, fresh_holds_all}
 
 -- ---- records after records
 
@@ -110,20 +110,20 @@ module _ {A : Type 0} (d : Fields A) (bytes piece : List ℕ) (after : Environme
         ∙ ap (λ b. header_bytes k.header k.size ++ b)
         (ap (λ b. records_bytes empty_environment k.records ++ b) spelled ∙ sym (records_bytes-append empty_environment k.records rs))
 
-    here_behind : IsInProgress after (k.size - length (records_bytes empty_environment all)) [] position d.in_progress
-    here_behind = subst (λ m. IsInProgress after m [] position d.in_progress) (sym left) at
+    here_after : IsInProgress after (k.size - length (records_bytes empty_environment all)) [] position d.in_progress
+    here_after = subst (λ m. IsInProgress after m [] position d.in_progress) (sym left) at
 
     in_data : section_of (k.size - length (records_bytes empty_environment all)) ≡ InSection
     in_data = ap (λ c. cond c ClosingSum InSection)
         (ne_eqb (k.size - length (records_bytes empty_environment all)) 0 (λ none. omega (arith, none, left, large)))
 
-    holds_behind : Holds now (bytes ++ y)
-    holds_behind =
+    holds_after : Holds now (bytes ++ y)
+    holds_after =
         subst (λ c. HoldsAt c now (bytes ++ y)) (in_data ∙ sym in_section)
-        (begins_records k.files now (bytes ++ y) k.header k.size all all_come k.few k.counted k.whole k.fresh all_summed learnt here_behind)
+        (begins_records k.files now (bytes ++ y) k.header k.size all all_come k.few k.counted k.whole k.fresh all_summed learnt here_after)
 
-    viable_behind : IsViable A chain_limit (bytes ++ y)
-    viable_behind =
+    viable_after : IsViable A chain_limit (bytes ++ y)
+    viable_after =
         goes_viable chain_limit k.files (at_data k.header k.size all []) (bytes ++ y) all_come (IsBytes-append bytes y are (IsBytes-take used piece low)) (
           let few = k.few in omega (arith, few),
           let few = k.few in
@@ -138,8 +138,8 @@ module _ {A : Type 0} (d : Fields A) (bytes piece : List ℕ) (after : Environme
         subst (λ e. AreRecords e rs y) (k.known ∙ sym (known_in_data k.files k.header k.size k.records [] bytes here events are_told)) learns.0,
         records_told k.files k.header k.size k.records rs bytes y here fits spelled within_room events are_told,
       );
-      viable = viable_behind;
-      holds = holds_behind;
+      viable = viable_after;
+      holds = holds_after;
     }
 
   skips_none : used ≡ 0 → rs ≡ [] → after ≡ d.env → sum ≡ d.sum → position ≡ d.position → IsViable A chain_limit bytes → Holds d bytes
@@ -175,10 +175,10 @@ module _ {A : Type 0} (d : Inside A) (k : IsSoundDecoder d) (none : d.refusal �
     (after : Environment A) (sum : List ℕ) (position : Position) (used : ℕ) (records : List (Record A)) (low : IsBytes piece) (within : used ≤ length piece)
     (skip : SkipsInSection d.env d.position d.in_progress after position piece used records) (front : List ℕ) (is : front ≡ take used piece)
     (summed : sum ≡ d.sum ++ front) where
-  abbrev behind : Fields A
-  behind = record (fields_inside d) { env = after; sum = sum; position = position }
+  abbrev beyond : Fields A
+  beyond = record (fields_inside d) { env = after; sum = sum; position = position }
 
-  skipped : Skipped behind d.history.items piece used records
+  skipped : Skipped beyond d.history.items piece used records
   skipped = skips (fields_inside d) d.history.items piece after sum position used records k.are low at within skip (summed ∙ ap (λ l. d.sum ++ l) is) k.viable
       (k.holds none)
 
@@ -188,9 +188,9 @@ module _ {A : Type 0} (d : Inside A) (k : IsSoundDecoder d) (none : d.refusal �
   pub few_skipped : Fits w64 (d.count + used)
   few_skipped = few_more k piece used low within skipped.viable
 
-  pub skipped_kept : (n : Inside A) → n.history.items ≡ d.history.items ++ front → fields_inside n ≡ behind → n.count ≡ d.count + used
+  pub skipped_kept : (n : Inside A) → n.history.items ≡ d.history.items ++ front → fields_inside n ≡ beyond → n.count ≡ d.count + used
       → n.refusal ≡ None → IsSoundDecoder n
-  skipped_kept n took same counted fresh = sound_behind k piece used low within skipped.viable n (taken_is _ took) counted
+  skipped_kept n took same counted fresh = sound_after k piece used low within skipped.viable n (taken_is _ took) counted
       (λ _. subst (λ f. Holds f (d.history.items ++ take used piece)) (sym same) skipped.holds) (fresh_holds_all n.refusal fresh)
 
   pub records_skipped : (old : Seen) → record { bytes = d.history.items; refusal = d.refusal } ≡ old → (bytes : List ℕ)

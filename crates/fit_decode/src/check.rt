@@ -27,8 +27,8 @@ pub fn check_bytes(alloc: Global, bytes: &[u8]) -> Result<u64, Fault>
         let before = bytes.len() - left.len();
         match decoder.feed(left) {
             Ok(fed) => {
-                let (_, behind) = left.split_at(fed.used);
-                rest = behind;
+                let (_, after) = left.split_at(fed.used);
+                rest = after;
             }
             Err(fault) => return Err(fault.after(before as u64)),
         }

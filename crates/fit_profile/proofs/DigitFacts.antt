@@ -36,9 +36,9 @@ unfolding digits
 decimal-one = refl
 
 -- the digits of a number below 10 ^ d stand after the one of 10 ^ d
-pub digits-behind_one : (d n : ℕ) → n < 10 ^ d → 10 ^ d + n < 10 ^ 64 → decimal (10 ^ d + n) ≡ 49 ∷ last_digits d n
-digits-behind_one zero n h small = let none : n ≡ 0 = omega (arith, h) in rw (none, last_digits-none 0) decimal-one
-digits-behind_one (suc d) n h small =
+pub digits-after_one : (d n : ℕ) → n < 10 ^ d → 10 ^ d + n < 10 ^ 64 → decimal (10 ^ d + n) ≡ 49 ∷ last_digits d n
+digits-after_one zero n h small = let none : n ≡ 0 = omega (arith, h) in rw (none, last_digits-none 0) decimal-one
+digits-after_one (suc d) n h small =
     let p = 10 ^ d in
     let above = power_above d in
     let tens : 10 ^ suc d ≡ 10 * 10 ^ d = pow-succ' 10 d in
@@ -47,12 +47,12 @@ digits-behind_one (suc d) n h small =
     let parts = ten-more (10 ^ d) n in
     ap (λ q. decimal (q + n)) tens ∙ decimal_step_wide (10 * 10 ^ d + n) (omega (arith, above)) few
     ∙ ap₂ (λ q x. decimal q ++ ((48 + x) ∷ [])) parts.0 parts.1
-    ∙ ap (λ ds. ds ++ ((48 + n % 10) ∷ [])) (digits-behind_one d (n / 10) (omega (arith, below)) (omega (arith, few, above)))
+    ∙ ap (λ ds. ds ++ ((48 + n % 10) ∷ [])) (digits-after_one d (n / 10) (omega (arith, below)) (omega (arith, few, above)))
     ∙ ap (λ ds. 49 ∷ ds) (sym (last_digits-end d n))
 
-pub behind-one : (text : List ℕ) (d n p : ℕ) → p ≡ 10 ^ d → p ≤ 100_000_000 → n < 10 ^ d → text ≡ decimal (p + n) → text ≡ 49 ∷ last_digits d n
-behind-one text d n p power small below is =
-    is ∙ ap (λ q. decimal (q + n)) power ∙ digits-behind_one d n below (let bound : 10 ^ d ≤ 100_000_000 = rw power at small in omega (arith, bound, below))
+pub after-one : (text : List ℕ) (d n p : ℕ) → p ≡ 10 ^ d → p ≤ 100_000_000 → n < 10 ^ d → text ≡ decimal (p + n) → text ≡ 49 ∷ last_digits d n
+after-one text d n p power small below is =
+    is ∙ ap (λ q. decimal (q + n)) power ∙ digits-after_one d n below (let bound : 10 ^ d ≤ 100_000_000 = rw power at small in omega (arith, bound, below))
 
 -- the part before the point, where there is a point
 pub short-whole : (n u : ℕ) → n < 2 ^ 128 → 10 ≤ u → n / u < 10 ^ 38

@@ -15,17 +15,17 @@ pub here : {A : Type 0} (fields : List FieldDef) (items : List (Items A)) (numbe
 here fields items number i d x h e l =
     ap₂ (λ fs xs. first_field fs xs number) (drop-cons fields i d h) (drop-cons items i x l) ∙ rw (eq-eqb (get_or fields i d).number number e) refl
 
-behind-other : {A : Type 0} (f : FieldDef) (fields : List FieldDef) (items : List (Items A)) (number : ℕ) → (f.number == number) ≡ false
+after-other : {A : Type 0} (f : FieldDef) (fields : List FieldDef) (items : List (Items A)) (number : ℕ) → (f.number == number) ≡ false
     → first_field (f ∷ fields) items number ≡ first_field fields (drop 1 items) number
-behind-other f fields [] number e = sym (no-items fields number)
-behind-other f fields (x ∷ items) number e = rw e refl
+after-other f fields [] number e = sym (no-items fields number)
+after-other f fields (x ∷ items) number e = rw e refl
 
 pub past : {A : Type 0} (fields : List FieldDef) (items : List (Items A)) (number i : ℕ) (d : FieldDef) → i < length fields
     → ((get_or fields i d).number ≡ number → ⊥)
     → first_field (drop i fields) (drop i items) number ≡ first_field (drop (suc i) fields) (drop (suc i) items) number
 past fields items number i d h e =
     ap (λ fs. first_field fs (drop i items) number) (drop-cons fields i d h)
-    ∙ behind-other (get_or fields i d) (drop (suc i) fields) (drop i items) number (ne_eqb (get_or fields i d).number number e)
+    ∙ after-other (get_or fields i d) (drop (suc i) fields) (drop i items) number (ne_eqb (get_or fields i d).number number e)
     ∙ ap (λ xs. first_field (drop (suc i) fields) xs number) (drop-drop 1 i items ∙ ap (λ k. drop k items) (add-one i))
 
 pub none-left : {A : Type 0} (fields : List FieldDef) (items : List (Items A)) (number i : ℕ) → length fields ≤ i

@@ -67,7 +67,7 @@ fn with_byte(size: u128, byte: u8) -> Option<u128>
 }
 
 /// The number that a text's digits write after those of another number, other bytes passed over, where it fits.
-fn size_behind(before: u128, text: &[u8]) -> Option<u128>
+fn size_after(before: u128, text: &[u8]) -> Option<u128>
     ensures some { IfSome result (λ n. n ≡ digits_in before text.now) }
     ensures none { IsNone result → 2 ^ 128 ≤ digits_in before text.now }
 {
@@ -98,7 +98,7 @@ pub(crate) fn size_of(text: &[u8]) -> Option<u128>
     let mut size = 0u64;
     for (place, byte) in text.iter().enumerate() {
         if size > 1_000_000_000_000_000_000 {
-            return size_behind(size as u128, &text[place..]);
+            return size_after(size as u128, &text[place..]);
         }
         size = next_small(size, *byte);
     }

@@ -70,8 +70,8 @@ impl Plan {
         ensures { result ≡ plans.time_at order self.time_place bytes.now }
     {
         let place = self.time_place?;
-        let (_, behind) = bytes.split_at(place);
-        let (number, _) = behind.split_at(4);
+        let (_, after) = bytes.split_at(place);
+        let (number, _) = after.split_at(4);
         valid_time(bits_at(order, 4, number))
     }
 }

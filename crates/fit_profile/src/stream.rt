@@ -24,7 +24,7 @@ use crate::message_bytes::{record_of, take_time, time_in};
 use crate::names::{Names, Texts};
 use crate::plan::Plans;
 use crate::time::header_time;
-use crate::told::{Last, Told, last_after, last_behind, tell, time_of};
+use crate::told::{Last, Told, last_after, last_after_record, tell, time_of};
 use fit_history::History;
 use fit_record::{Env, Record, Values};
 use std::alloc::{AllocError, Global};
@@ -214,7 +214,7 @@ impl Stream {
         ensures err { OnErr result (self.new ≡ self.old) }
         ensures free { DescribesNothing (known self.old) record_.now → IsOk result }
     {
-        let last = last_behind(&self.env, self.last, record_);
+        let last = last_after_record(&self.env, self.last, record_);
         self.advance(record_, last)
     }
 

@@ -213,7 +213,7 @@ fn last_at<A: Allocator>(last: Last, definition: &MessageDef<A>, values: &Values
 }
 
 /// The last ones after a data message.
-fn last_behind_values<A: Allocator>(env: &Env<A>, last: Last, values: &Values<A>) -> Last
+fn last_after_values<A: Allocator>(env: &Env<A>, last: Last, values: &Values<A>) -> Last
     ensures { result ≡ telling.last_after last (option_map
         (λ p. telling.told_at last p.definition values.now) (defined_at env.now values.now.local)) }
 {
@@ -224,11 +224,11 @@ fn last_behind_values<A: Allocator>(env: &Env<A>, last: Last, values: &Values<A>
 }
 
 /// The last ones after a record, where nothing more of it is told.
-pub(crate) fn last_behind<A: Allocator>(env: &Env<A>, last: Last, record_: &Record<A>) -> Last
+pub(crate) fn last_after_record<A: Allocator>(env: &Env<A>, last: Last, record_: &Record<A>) -> Last
     ensures { result ≡ telling.last_after last (telling.tell env.now last record_.now) }
 {
     match record_ {
         Record::Define(_) => last,
-        Record::Values(values) => last_behind_values(env, last, values),
+        Record::Values(values) => last_after_values(env, last, values),
     }
 }

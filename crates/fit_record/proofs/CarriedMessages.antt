@@ -85,9 +85,9 @@ same_test true b p q = sym (q.1 (p.0 refl))
 same_test false true p q = absurd (true≢false (sym (p.1 (q.0 refl))))
 same_test false false p q = refl
 
-pub behind_it : {A : Type 0} (e : Environment A) (room n : ℕ) (filled : Bool) → length e.places ≡ 16 → n ≤ room → IsTrue filled ↔ CanFill e (room - n)
+pub after_it : {A : Type 0} (e : Environment A) (room n : ℕ) (filled : Bool) → length e.places ≡ 16 → n ≤ room → IsTrue filled ↔ CanFill e (room - n)
     → filled ≡ can_carry_size e room (Some n)
-behind_it e room n filled sixteen enough h =
+after_it e room n filled sixteen enough h =
     same_test filled (can_fill e (room - n)) h (can_fill_is e (room - n) sixteen) ∙ sym (ap (λ b. b && can_fill e (room - n)) (le-leb n room enough))
 
 pub too_long : {A : Type 0} (e : Environment A) (room n : ℕ) → room < n → nat_le n room ≡ can_carry_size e room (Some n)

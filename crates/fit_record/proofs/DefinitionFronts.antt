@@ -34,8 +34,8 @@ module _ (dev : Bool) where
   unfolding no_devs
   dev_bytes = elim dev as (λ b. IsBytes (dev_part (no_devs b))) [ true ↦ IsBytes-cons 0 [] (lit< tt) IsBytes-none | false ↦ IsBytes-none ]
 
-  behind_zeros : (n : ℕ) → IsBytes (replicate n 0 ++ dev_part (no_devs dev))
-  behind_zeros n = IsBytes-append (replicate n 0) (dev_part (no_devs dev)) (IsBytes-zeros n) dev_bytes
+  after_zeros : (n : ℕ) → IsBytes (replicate n 0 ++ dev_part (no_devs dev))
+  after_zeros n = IsBytes-append (replicate n 0) (dev_part (no_devs dev)) (IsBytes-zeros n) dev_bytes
 
   dev_least : (if dev then 6 else 5) ≡ 5 + length (dev_part (no_devs dev))
   unfolding no_devs
@@ -73,23 +73,23 @@ module _ {A : Type 0} (e : Environment A) (local : ℕ) (dev : Bool) (room : ℕ
         → CanComplete e (0x40 + local + (if dev then 0x20 else 0)) (r ∷ architecture o ∷ gs) room
     after_order [] l are least =
         goes_on_least o r 0 0 (r ∷ architecture o ∷ []) (0 ∷ 0 ∷ 0 ∷ dev_part (no_devs dev)) (lit< tt) (lit< tt) refl
-        (behind_zeros dev 3) (omega (arith, least, dev_least dev))
+        (after_zeros dev 3) (omega (arith, least, dev_least dev))
     after_order (a ∷ []) l are least =
         goes_on_least o r a 0 (r ∷ architecture o ∷ a ∷ []) (0 ∷ 0 ∷ dev_part (no_devs dev)) (are 0) (lit< tt) refl
-        (behind_zeros dev 2) (omega (arith, least, dev_least dev))
+        (after_zeros dev 2) (omega (arith, least, dev_least dev))
     after_order (a ∷ b ∷ []) l are least =
         goes_on_least o r a b (r ∷ architecture o ∷ a ∷ b ∷ []) (0 ∷ dev_part (no_devs dev)) (are 0) (are 1) refl
-        (behind_zeros dev 1) (omega (arith, least, dev_least dev))
+        (after_zeros dev 1) (omega (arith, least, dev_least dev))
     after_order (a ∷ b ∷ c ∷ gs) l are least = absurd (omega arith)
 
   begins : (part : List ℕ) → length part < 5 → slice_index part 1 < 2 → IsBytes part → (if dev then 6 else 5) ≤ length part + room
       → CanComplete e (0x40 + local + (if dev then 0x20 else 0)) part room
   begins [] l arch are least =
       goes_on_least Little 0 0 0 [] (0 ∷ 0 ∷ 0 ∷ 0 ∷ 0 ∷ dev_part (no_devs dev)) (lit< tt) (lit< tt) refl
-      (behind_zeros dev 5) (omega (arith, least, dev_least dev))
+      (after_zeros dev 5) (omega (arith, least, dev_least dev))
   begins (r ∷ []) l arch are least =
       goes_on_least Little r 0 0 (r ∷ []) (0 ∷ 0 ∷ 0 ∷ 0 ∷ dev_part (no_devs dev)) (lit< tt) (lit< tt) refl
-      (behind_zeros dev 4) (omega (arith, least, dev_least dev))
+      (after_zeros dev 4) (omega (arith, least, dev_least dev))
   begins (r ∷ zero ∷ gs) l arch are least = after_order Little r gs (omega arith) (λ i. are (suc (suc i))) (omega (arith, least))
   begins (r ∷ suc zero ∷ gs) l arch are least = after_order Big r gs (omega arith) (λ i. are (suc (suc i))) (omega (arith, least))
   begins (r ∷ suc (suc a) ∷ gs) l arch are least = absurd (omega arith)

@@ -144,35 +144,35 @@ module _ {A : Type 0} (e : Environment A) (d : MessageDef A) (count : ℕ) (entr
     -- ---- fields, where the number of developer fields is to come after them
 
     -- what is left once that number has come
-    abbrev behind : ℕ
-    behind = room - (t + 1)
+    abbrev beyond : ℕ
+    beyond = room - (t + 1)
 
     abbrev Finishes : Type 0
-    Finishes = (finishes e d.local t (size_so_far d entry) behind || (nat_le 3 behind && can_fill_from e d.local (size_so_far d entry) (behind - 3))) ≡ true
+    Finishes = (finishes e d.local t (size_so_far d entry) beyond || (nat_le 3 beyond && can_fill_from e d.local (size_so_far d entry) (beyond - 3))) ≡ true
 
     completes_dev : d.dev ≡ Some [] → IsTrue (can_complete_dev e d.local t (size_so_far d entry) room) → Completes
-    completes_dev some h = go (or_cases (finishes e d.local t (size_so_far d entry) behind) _ (and_parts (nat_le (t + 1) room) _ h).1) where
+    completes_dev some h = go (or_cases (finishes e d.local t (size_so_far d entry) beyond) _ (and_parts (nat_le (t + 1) room) _ h).1) where
       enough : t + 1 ≤ room
       enough = leb-true (t + 1) room (and_parts (nat_le (t + 1) room) _ h).0
 
-      with_one : 3 ≤ behind → IsOpenSize e d.local (size_so_far d entry) (behind - 3) → Completes
+      with_one : 3 ≤ beyond → IsOpenSize e d.local (size_so_far d entry) (beyond - 3) → Completes
       with_one three (extra, small, fill) =
           let size : size_so_far d entry + extra ≡ size_so_far d entry + 0 + (0 + extra) = omega arith in
-          completes_with (Some (record { number = 0; size = extra; index = 0 } ∷ [])) 0 (behind - 3) (ap (header_with d.local) (sym some)) (ap dev_sizes some)
+          completes_with (Some (record { number = 0; size = extra; index = 0 } ∷ [])) 0 (beyond - 3) (ap (header_with d.local) (sym some)) (ap dev_sizes some)
           (lit< tt)
           (IsBytes-cons 1 (0 ∷ extra ∷ 0 ∷ []) (lit< tt)
           (IsBytes-cons 0 (extra ∷ 0 ∷ []) (lit< tt) (IsBytes-cons extra (0 ∷ []) small (IsBytes-cons 0 [] (lit< tt) IsBytes-none))))
           (omega (arith, enough, three)) (λ _. refl) (lit< tt)
-          (subst (λ s. can_fill_with e d.local s (behind - 3) ≡ true) size fill)
+          (subst (λ s. can_fill_with e d.local s (beyond - 3) ≡ true) size fill)
 
-      go : (finishes e d.local t (size_so_far d entry) behind ≡ true)
-          ⊎ ((nat_le 3 behind && can_fill_from e d.local (size_so_far d entry) (behind - 3)) ≡ true) → Completes
+      go : (finishes e d.local t (size_so_far d entry) beyond ≡ true)
+          ⊎ ((nat_le 3 beyond && can_fill_from e d.local (size_so_far d entry) (beyond - 3)) ≡ true) → Completes
       go (inl k) =
-          completes_without (ap dev_defs some) (subst (λ o. IsBytes (dev_part o)) (sym some) (IsBytes-cons 0 [] (lit< tt) IsBytes-none)) behind
-          (omega (arith, enough, ap (λ o. length (dev_part o)) some)) (finishes_to e d.local t (size_so_far d entry) behind k)
+          completes_without (ap dev_defs some) (subst (λ o. IsBytes (dev_part o)) (sym some) (IsBytes-cons 0 [] (lit< tt) IsBytes-none)) beyond
+          (omega (arith, enough, ap (λ o. length (dev_part o)) some)) (finishes_to e d.local t (size_so_far d entry) beyond k)
       go (inr k) =
-          let p = and_parts (nat_le 3 behind) (can_fill_from e d.local (size_so_far d entry) (behind - 3)) k in
-          with_one (leb-true 3 behind p.0) (open_to e d.local (size_so_far d entry) (behind - 3) p.1)
+          let p = and_parts (nat_le 3 beyond) (can_fill_from e d.local (size_so_far d entry) (beyond - 3)) k in
+          with_one (leb-true 3 beyond p.0) (open_to e d.local (size_so_far d entry) (beyond - 3) p.1)
 
     completed_dev : d.dev ≡ Some [] → Completes → IsTrue (can_complete_dev e d.local t (size_so_far d entry) room)
     completed_dev some (c, rest, left, fits, header, spelled, are, fill, total) =
@@ -183,22 +183,22 @@ module _ {A : Type 0} (e : Environment A) (d : MessageDef A) (count : ℕ) (entr
           before : dev_sizes d.dev ≡ 0
           before = ap dev_sizes some
 
-          by_count : (ds : List DevDef) → c.dev ≡ Some ds → left + 3 * length ds ≡ behind → can_fill_with e d.local (body_length c) left ≡ true → Finishes
+          by_count : (ds : List DevDef) → c.dev ≡ Some ds → left + 3 * length ds ≡ beyond → can_fill_with e d.local (body_length c) left ≡ true → Finishes
           by_count [] h remains f =
               let after = ap dev_sizes h in
-              or_left (finishes e d.local t (size_so_far d entry) behind) _
-              (finishes_from e d.local t (size_so_far d entry) (body_length c) behind (omega (arith, k.0, before, after))
+              or_left (finishes e d.local t (size_so_far d entry) beyond) _
+              (finishes_from e d.local t (size_so_far d entry) (body_length c) beyond (omega (arith, k.0, before, after))
               (λ b. omega (arith, k.1 b, before, after))
-              (subst (λ n. can_fill_with e d.local (body_length c) n ≡ true) (let l : left ≡ behind = omega (arith, remains) in l) f))
+              (subst (λ n. can_fill_with e d.local (body_length c) n ≡ true) (let l : left ≡ beyond = omega (arith, remains) in l) f))
           by_count (_ ∷ []) h remains f =
-              or_right (finishes e d.local t (size_so_far d entry) behind) _
-              (and_from (nat_le 3 behind) _ (le-leb 3 behind (omega (arith, remains)))
-              (open_from e d.local (size_so_far d entry) (body_length c) (behind - 3) (omega (arith, k.0, before))
-              (subst (λ n. can_fill_with e d.local (body_length c) n ≡ true) (let l : left ≡ behind - 3 = omega (arith, remains) in l) f)))
+              or_right (finishes e d.local t (size_so_far d entry) beyond) _
+              (and_from (nat_le 3 beyond) _ (le-leb 3 beyond (omega (arith, remains)))
+              (open_from e d.local (size_so_far d entry) (body_length c) (beyond - 3) (omega (arith, k.0, before))
+              (subst (λ n. can_fill_with e d.local (body_length c) n ≡ true) (let l : left ≡ beyond - 3 = omega (arith, remains) in l) f)))
           by_count (_ ∷ _ ∷ ds) h remains f =
-              or_left (finishes e d.local t (size_so_far d entry) behind) _
-              (finishes_from e d.local t (size_so_far d entry) (size_so_far d entry) behind (omega arith) (λ b. refl)
-              (fills_6 (λ n. others_have e d.local n || (1 + size_so_far d entry == n)) behind (omega (arith, remains))))
+              or_left (finishes e d.local t (size_so_far d entry) beyond) _
+              (finishes_from e d.local t (size_so_far d entry) (size_so_far d entry) beyond (omega arith) (λ b. refl)
+              (fills_6 (λ n. others_have e d.local n || (1 + size_so_far d entry == n)) beyond (omega (arith, remains))))
 
           go : (c.local ≡ d.local) × (ds : List DevDef) × (c.dev ≡ Some ds) → IsTrue (can_complete_dev e d.local t (size_so_far d entry) room)
           go (same, ds, h) =

@@ -11,15 +11,15 @@ no_items (f ∷ fs) n = refl
 pub dropped : {X : Type 0} (xs : List X) (k : ℕ) (x : X) → slice_get xs k ≡ Some x → drop k xs ≡ x ∷ drop (k + 1) xs
 dropped xs k x h = drop_more xs k x (slice_get_within xs k x h) ∙ ap (λ y. y ∷ drop (k + 1) xs) (get_or_from_slice_get xs k x x h)
 
-behind_other : {A : Type 0} (f : FieldDef) (fs : List FieldDef) (is : List (Items A)) (n : ℕ) → (f.number == n) ≡ false
+past_other : {A : Type 0} (f : FieldDef) (fs : List FieldDef) (is : List (Items A)) (n : ℕ) → (f.number == n) ≡ false
     → first_items (f ∷ fs) is n ≡ first_items fs (drop 1 is) n
-behind_other f fs [] n h = sym (no_items fs n)
-behind_other f fs (i ∷ is) n h = ap (λ b. cond b (Some i) (first_items fs is n)) h
+past_other f fs [] n h = sym (no_items fs n)
+past_other f fs (i ∷ is) n h = ap (λ b. cond b (Some i) (first_items fs is n)) h
 
 pub after_other : {A : Type 0} (k : ℕ) (fs : List FieldDef) (is : List (Items A)) (n : ℕ) (f : FieldDef) → slice_get fs k ≡ Some f → (f.number == n) ≡ false
     → first_items (drop k fs) (drop k is) n ≡ first_items (drop (k + 1) fs) (drop (k + 1) is) n
 after_other k fs is n f e h =
-    ap (λ xs. first_items xs (drop k is) n) (dropped fs k f e) ∙ behind_other f (drop (k + 1) fs) (drop k is) n h
+    ap (λ xs. first_items xs (drop k is) n) (dropped fs k f e) ∙ past_other f (drop (k + 1) fs) (drop k is) n h
     ∙ ap (λ ys. first_items (drop (k + 1) fs) ys n) (drop-drop 1 k is)
 
 one_below : {A : Type 0} (i : Items A) (n : ℕ) (w size code : ℕ) → w ≡ 1 → w ≡ i.width → i.bits ≡ n ∷ [] → HasShape code size i → n < 256

@@ -55,8 +55,8 @@ fields_front {A} o (f ∷ fs) bytes =
     let all : sizes (f ∷ fs) ≡ f.1 + sizes fs = sum_by-cons (λ (g : ℕ × ℕ). g.1) f fs in
     let less : f.1 ≤ f.1 + sizes fs = omega arith in
     let here : take f.1 (take (f.1 + sizes fs) bytes) ≡ take f.1 bytes = take-take f.1 (f.1 + sizes fs) bytes less in
-    let behind : drop f.1 (take (f.1 + sizes fs) bytes) ≡ take (sizes fs) (drop f.1 bytes) = drop-take f.1 (sizes fs) bytes in
-    (λ i. field_from {A = A} o f (sym here i) ∷ (fields_front {A = A} o fs (drop f.1 bytes) ∙ ap (fields_from o fs) (sym behind)) i)
+    let beyond : drop f.1 (take (f.1 + sizes fs) bytes) ≡ take (sizes fs) (drop f.1 bytes) = drop-take f.1 (sizes fs) bytes in
+    (λ i. field_from {A = A} o f (sym here i) ∷ (fields_front {A = A} o fs (drop f.1 bytes) ∙ ap (fields_from o fs) (sym beyond)) i)
     ∙ ap (λ n. fields_from o (f ∷ fs) (take n bytes)) (sym all)
 
 -- the bytes of the fields from place k on are those of the field there, and of those after it

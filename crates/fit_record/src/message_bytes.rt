@@ -98,9 +98,9 @@ fn read_fields<'a, A: Allocator + Copy>(
     let mut rest = bytes;
     for place in 0..layout.len() {
         let (code, size) = layout.slot(place);
-        let (here, behind) = rest.split_at(size as usize);
+        let (here, after) = rest.split_at(size as usize);
         push_field(&mut items, alloc, order, code, size, here)?;
-        rest = behind;
+        rest = after;
     }
     Ok((items, rest))
 }
@@ -179,9 +179,9 @@ fn read_numbers<A: Allocator + Copy>(
     let mut bits = Bits::with_capacity(alloc, count)?;
     let mut rest = bytes;
     for _ in 0..count {
-        let (number, behind) = rest.split_at(width as usize);
+        let (number, after) = rest.split_at(width as usize);
         bits.push(bits_at(order, width, number))?;
-        rest = behind;
+        rest = after;
     }
     Ok(bits)
 }

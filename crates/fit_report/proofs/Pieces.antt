@@ -44,24 +44,24 @@ module _ {A R : Type 0} {has_heard : R → List (Event A) → Type 0} {line : Li
 
 -- ---- what is left of a piece
 
-pub within_behind : (piece rest : List ℕ) (at used : ℕ) → at ≤ length piece → rest ≡ drop at piece → used ≤ length rest → at + used ≤ length piece
-within_behind piece rest at used within left more = omega (arith, within, ap length left, length-drop at piece, more)
+pub within_after : (piece rest : List ℕ) (at used : ℕ) → at ≤ length piece → rest ≡ drop at piece → used ≤ length rest → at + used ≤ length piece
+within_after piece rest at used within left more = omega (arith, within, ap length left, length-drop at piece, more)
 
-pub fed_behind : (old mid new : Seen) (piece rest : List ℕ) (at used : ℕ) → mid ≡ fed old piece at → rest ≡ drop at piece → new ≡ fed mid rest used
+pub fed_after : (old mid new : Seen) (piece rest : List ℕ) (at used : ℕ) → mid ≡ fed old piece at → rest ≡ drop at piece → new ≡ fed mid rest used
     → new ≡ fed old piece (at + used)
-fed_behind old mid new piece rest at used is left after = fed_on old mid new piece at used is (after ∙ ap (λ (x : List ℕ). fed mid x used) left)
+fed_after old mid new piece rest at used is left after = fed_on old mid new piece at used is (after ∙ ap (λ (x : List ℕ). fed mid x used) left)
 
 -- A fault in it is one in the piece.
 module _ {A R : Type 0} (has_heard : R → List (Event A) → Type 0) (line : Lines A) (old mid : Seen) (piece rest : List ℕ) (at : ℕ) (reporter : R)
     (sink : Channel) (within : at ≤ length piece) (is : mid ≡ fed old piece at) (left : rest ≡ drop at piece) where
   joined : (k : ℕ) → mid.bytes ++ take k rest ≡ old.bytes ++ take (at + k) piece
-  joined k = ap (λ (v : Seen). v.bytes) (fed_behind old mid (fed mid rest k) piece rest at k is left refl)
+  joined k = ap (λ (v : Seen). v.bytes) (fed_after old mid (fed mid rest k) piece rest at k is left refl)
 
   so : (k : ℕ) (heard : List (Event A)) → AreEvents (mid.bytes ++ take k rest) (reverse heard) → AreEvents (old.bytes ++ take (at + k) piece) (reverse heard)
   so k heard = subst (λ b. AreEvents b (reverse heard)) (joined k)
 
-  pub stops_behind : (fault : ReportFault) → Stops has_heard line mid.bytes rest reporter sink fault → Stops has_heard line old.bytes piece reporter sink fault
-  stops_behind (Decode (faults.Refused place reason)) (k, short, stands, why, heard, has, (are, put)) = (
+  pub stops_after : (fault : ReportFault) → Stops has_heard line mid.bytes rest reporter sink fault → Stops has_heard line old.bytes piece reporter sink fault
+  stops_after (Decode (faults.Refused place reason)) (k, short, stands, why, heard, has, (are, put)) = (
     at + k,
     omega (arith, short, ap length left, length-drop at piece),
     omega (arith, stands, ap (λ (v : Seen). length v.bytes) is, length-append old.bytes (take at piece), length-take at piece, within),
@@ -71,6 +71,6 @@ module _ {A R : Type 0} (has_heard : R → List (Event A) → Type 0) (line : Li
     has,
     (so k heard are, put),
   )
-  stops_behind (Decode fault) none = absurd none
-  stops_behind NoMemory (k, heard, (are, put)) = (at + k, heard, (so k heard are, put))
-  stops_behind (Write count) (k, heard, are, fails) = (at + k, heard, so k heard are, fails)
+  stops_after (Decode fault) none = absurd none
+  stops_after NoMemory (k, heard, (are, put)) = (at + k, heard, (so k heard are, put))
+  stops_after (Write count) (k, heard, are, fails) = (at + k, heard, so k heard are, fails)

@@ -88,21 +88,21 @@ last_fits : {A : Type 0} (e : Environment A) (rs : List (Record A)) (r : Record 
 last_fits e [] r all = all.0
 last_fits e (s ∷ rs) r all = last_fits (learn e s) rs r all.1
 
-pub records_behind : {A : Type 0} (rs : List (Record A)) (h : Header) (n : ℕ) (before : List (Event A))
+pub next_records : {A : Type 0} (rs : List (Record A)) (h : Header) (n : ℕ) (before : List (Event A))
     → latest_records (map item rs ++ header h n ∷ before) ≡ rs
-records_behind [] h n before = refl
-records_behind (r ∷ rs) h n before = ap (λ ss. r ∷ ss) (records_behind rs h n before)
+next_records [] h n before = refl
+next_records (r ∷ rs) h n before = ap (λ ss. r ∷ ss) (next_records rs h n before)
 
 item_is : {A : Type 0} (r s : Record A) (xs ys : List (Event A)) → item r ∷ xs ≡ item s ∷ ys → (r ≡ s) × (xs ≡ ys)
 item_is r s xs ys e = (cc, cc)
 
-fits_behind : {A : Type 0} (rs : List (Record A)) (h : Header) (n : ℕ) (before heard : List (Event A)) (r : Record A) → AllFit empty_environment (reverse rs)
+fits_after : {A : Type 0} (rs : List (Record A)) (h : Header) (n : ℕ) (before heard : List (Event A)) (r : Record A) → AllFit empty_environment (reverse rs)
     → item r ∷ heard ≡ map item rs ++ header h n ∷ before
     → Fits (learn_all empty_environment (reverse (latest_records heard))) r
-fits_behind [] h n before heard r all is = absurd cc
-fits_behind {A} (s ∷ rs) h n before heard r all is =
+fits_after [] h n before heard r all is = absurd cc
+fits_after {A} (s ∷ rs) h n before heard r all is =
     let same = item_is r s heard (map item rs ++ header h n ∷ before) is in
-    let records : latest_records heard ≡ rs = ap latest_records same.1 ∙ records_behind rs h n before in
+    let records : latest_records heard ≡ rs = ap latest_records same.1 ∙ next_records rs h n before in
     let last : Fits (learn_all empty_environment (reverse rs)) s =
     last_fits empty_environment (reverse rs) s (subst (AllFit empty_environment) (reverse-append (s ∷ []) rs) all) in
     subst (λ ss. Fits (learn_all empty_environment (reverse ss)) r) (sym records) (subst (Fits (learn_all empty_environment (reverse rs))) (sym same.0) last)
@@ -123,7 +123,7 @@ heard_fits {A} fs (at_data h n records part) heard r open_ is =
     let all : item r ∷ heard ≡ map item (reverse records) ++ header h n ∷ before =
     is ∙ reverse-append (flat_map file_events fs) (progress_events (at_data h n records part)) ∙ ap (λ es. es ++ before) own
     ∙ append_assoc (map item (reverse records)) (header h n ∷ []) before in
-    fits_behind (reverse records) h n before heard r (subst (AllFit empty_environment) (sym (reverse-reverse records)) open_.1) all
+    fits_after (reverse records) h n before heard r (subst (AllFit empty_environment) (sym (reverse-reverse records)) open_.1) all
 
 pub heard_records_fit : {A : Type 0} → HeardRecordsFit A
 heard_records_fit heard r (bytes, viable, (fs, g, come, is)) = heard_fits fs g heard r come.next (sym (reverse-reverse (item r ∷ heard)) ∙ ap reverse is)

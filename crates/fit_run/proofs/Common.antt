@@ -26,7 +26,7 @@ pub use Rattle.fit_frame.specs.declared.reason.Reason.{Reason}
 pub use Rattle.fit_record.specs.Files.{body, IsChain, IsViable, chain_limit}
 pub use Rattle.fit_record.specs.declared.file.FitFile.{FitFile}
 pub use Rattle.fit_record.specs.declared.message.Record.{Record}
-pub use Rattle.fit_report.proofs.Records.{heard_are_few, records_behind, reverse-map}
+pub use Rattle.fit_report.proofs.Records.{heard_are_few, next_records, reverse-map}
 pub use Rattle.fit_report.specs.Heard.{AreHeard, hear_records, latest_records, text_of, Lines, hear}
 pub use Rattle.fit_report.specs.Reports.{Channel, channel, HasTold, Reports, ReportsChain}
 pub use Rattle.fit_run.specs.CommandLine.{command_word, fit_app, line_fault, IsFileWord, GivesPlainLines, IsPlainLine, IsRefusedFor, Names}

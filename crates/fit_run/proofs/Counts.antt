@@ -1,7 +1,7 @@
 -- The counts of what was heard, and the lines of it.
 use Rattle.fit_run.proofs.Common.{◌≡◌, ℕ, ◌+◌, ◌<◌, ◌≤◌, List, [], ◌∷◌, ◌++◌, length, map, reverse, refl, sym, ap, ◌∙◌, subst, arith, append_assoc, decimal}
 use Rattle.fit_run.proofs.Common.{flat_map, length-reverse, reverse-append, FitFile, Record, body, Event, header, item, file_end, file_events, AreHeard}
-use Rattle.fit_run.proofs.Common.{hear_records, latest_records, text_of, heard_are_few, records_behind, reverse-map, ChainsHaveLines, Counts, ended_files}
+use Rattle.fit_run.proofs.Common.{hear_records, latest_records, text_of, heard_are_few, next_records, reverse-map, ChainsHaveLines, Counts, ended_files}
 use Rattle.fit_run.proofs.Common.{latest_size, check_line, file_line, file_lines}
 use Rattle.std.specs.Prelude.{codes}
 use Rattle.std.proofs.lemmas.List.{append-nil}
@@ -89,7 +89,7 @@ module _ {A : Type 0} (f : FitFile A) (before : List (Event A)) where
       ap (text_of check_line) file_heard
       ∙ (λ i. (text_over since (reverse f.records) ∙ append-nil (text_of check_line before)) i
       ++ file_line (ended_over since (reverse f.records) i + 1) (size_over since (reverse f.records) i)
-      (length (records_behind (reverse f.records) f.header (length (body f)) before i)))
+      (length (next_records (reverse f.records) f.header (length (body f)) before i)))
       ∙ ap (λ m. text_of check_line before ++ file_line (ended_files before + 1) (length (body f)) m) (length-reverse f.records)
 
   file_ended : ended_files (reverse (file_events f) ++ before) ≡ ended_files before + 1

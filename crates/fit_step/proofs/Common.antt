@@ -54,7 +54,7 @@ pub use Rattle.fit_record.specs.declared.message.Record.TheVariants.{Values as D
 pub use Rattle.fit_record.specs.declared.message.Values.{Values}
 pub use Rattle.fit_step.specs.GoingOn.{Continues, goes_on, has_dev, definition_goes_on}
 pub use Rattle.fit_step.specs.Held.{entries_so_far, held_of_record, part_size, counts_so_far, item_count, items_so_far}
-pub use Rattle.fit_step.specs.InProgress.{in_progress_size, IsCountable, HeldIsOfBytes, HeldIsLimited, items_in, StandsBehind, IsInProgress, ReadsRecord}
+pub use Rattle.fit_step.specs.InProgress.{in_progress_size, IsCountable, HeldIsOfBytes, HeldIsLimited, items_in, StandsAfter, IsInProgress, ReadsRecord}
 pub use Rattle.fit_step.specs.InProgress.{NoRecord, FillFrom, RecordsInProgress, IdleIsBetweenRecords, RefusedBytesHaveReasons, values_size}
 pub use Rattle.fit_step.specs.Laws.{BeginningsStand, CanBecomeRecord, PartsAreTested, RecordsEnd, TakenBytesGoOn, TakenBytesEnd, RefusedBytesEndAll}
 pub use Rattle.fit_step.specs.Laws.{TakenBytesStand}

@@ -9,7 +9,7 @@ use Rattle.fit_step.proofs.Common.{DevDef, Defined, IsDefining, nat_tests, â—Œâ‰
 use Rattle.fit_step.proofs.DefinitionReasons.{count_at, count_before, count_in_dev}
 use Rattle.fit_step.proofs.HeaderBits.{definition_bits}
 use Rattle.fit_step.proofs.Lengths.{length-fields_front}
-use Rattle.fit_step.proofs.HeldParts.{front_of, devs_of, no_dev_fields, fields_counted, dev_counted, behind_both, in_fields_held, in_dev_held, message_within}
+use Rattle.fit_step.proofs.HeldParts.{front_of, devs_of, no_dev_fields, fields_counted, dev_counted, after_both, in_fields_held, in_dev_held, message_within}
 use Rattle.fit_step.proofs.Limits.{AreLimited, IsLimited}
 use Rattle.fit_step.proofs.Preconditions.{is_defining}
 
@@ -74,7 +74,7 @@ module _ {A : Type 0} (e : Environment A) (d : MessageDef A) where
       ) in (
         omega (arith, definition_so_far more h.local, dev_so_far more (length d.fields) (length come) (length entry) at long few),
         dev_counted e d h.local more h.defs (length come + left) h.dev at
-            (behind_both front (5 + 3 * length d.fields) (length come + left) (flat_map dev_field_bytes come) entry (length-front (length d.fields)))
+            (after_both front (5 + 3 * length d.fields) (length come + left) (flat_map dev_field_bytes come) entry (length-front (length d.fields)))
             (omega arith),
       )
 

@@ -58,12 +58,12 @@ module _ {A : Type 0} (e : Environment A) (d : MessageDef A) (local : d.local < 
       omega (arith, definition_size, both, within)
 
 -- the number after that many bytes
-behind : (front : List ℕ) (n count : ℕ) (more : List ℕ) → length front ≡ n → slice_index (front ++ count ∷ more) n ≡ count
-behind front n count more long = get_or-append_right front (count ∷ more) n n 0 long (omega arith)
+beyond : (front : List ℕ) (n count : ℕ) (more : List ℕ) → length front ≡ n → slice_index (front ++ count ∷ more) n ≡ count
+beyond front n count more long = get_or-append_right front (count ∷ more) n n 0 long (omega arith)
     ∙ ap (slice_index (count ∷ more)) (let none : n - n ≡ 0 = omega arith in none)
 
-pub behind_both : (front : List ℕ) (n count : ℕ) (more last : List ℕ) → length front ≡ n → slice_index ((front ++ count ∷ more) ++ last) n ≡ count
-behind_both front n count more last long = ap (λ l. slice_index l n) (append_assoc front (count ∷ more) last) ∙ behind front n count (more ++ last) long
+pub after_both : (front : List ℕ) (n count : ℕ) (more last : List ℕ) → length front ≡ n → slice_index ((front ++ count ∷ more) ++ last) n ≡ count
+after_both front n count more last long = ap (λ l. slice_index l n) (append_assoc front (count ∷ more) last) ∙ beyond front n count (more ++ last) long
 
 -- the bytes of the fields after the record header
 abbrev pub front_of : {A : Type 0} → MessageDef A → ℕ → List ℕ
@@ -107,19 +107,19 @@ items_within (f ∷ fields) count =
     let first = le-div (min count f.1 / w) f.1 w (item_width_positive f.0 f.1) (omega (arith, div-mul-le_self (min count f.1) w)) in
     omega (arith, first, items_within fields (count - f.1), sum_by-cons items_of f fields)
 
-items_behind : (done rest : List (ℕ × ℕ)) (count : ℕ) → items_so_far (done ++ rest) (sizes done + count) ≡ sum_by items_of done + items_so_far rest count
-items_behind [] rest count = ap (items_so_far rest) (let none : sum_by (λ (f : ℕ × ℕ). f.1) [] + count ≡ count = omega arith in none)
+items_after : (done rest : List (ℕ × ℕ)) (count : ℕ) → items_so_far (done ++ rest) (sizes done + count) ≡ sum_by items_of done + items_so_far rest count
+items_after [] rest count = ap (items_so_far rest) (let none : sum_by (λ (f : ℕ × ℕ). f.1) [] + count ≡ count = omega arith in none)
     ∙ (let none : items_so_far rest count ≡ sum_by items_of [] + items_so_far rest count = omega arith in none)
-items_behind (f ∷ done) rest count =
+items_after (f ∷ done) rest count =
     let all = sum_by-cons (λ (g : ℕ × ℕ). g.1) f done in
     let items = sum_by-cons items_of f done in
     let n : ℕ = sum_by (λ (g : ℕ × ℕ). g.1) (f ∷ done) + count in
     let least : min n f.1 ≡ f.1 = omega (arith, all) in
     let left : n - f.1 ≡ sum_by (λ (g : ℕ × ℕ). g.1) done + count = omega (arith, all) in
     let first : min n f.1 / item_width f.0 f.1 ≡ items_of f = ap (λ k. k / item_width f.0 f.1) least in
-    let behind : items_so_far (done ++ rest) (n - f.1) ≡ sum_by items_of done + items_so_far rest count =
-    ap (items_so_far (done ++ rest)) left ∙ items_behind done rest count in
-    omega (arith, first, behind, items)
+    let beyond : items_so_far (done ++ rest) (n - f.1) ≡ sum_by items_of done + items_so_far rest count =
+    ap (items_so_far (done ++ rest)) left ∙ items_after done rest count in
+    omega (arith, first, beyond, items)
 
 module _ {A : Type 0} (o : Order) (all : List (ℕ × ℕ)) (t : TakenFields A) (h : IsTaking all t) where
   abbrev now : Items A
@@ -160,11 +160,11 @@ module _ {A : Type 0} (o : Order) (all : List (ℕ × ℕ)) (t : TakenFields A) 
       let size = h.size in
       let left : here - t.field.1 ≡ 0 = omega (arith, size) in
       let none : items_so_far (t.to_come ++ more) (here - t.field.1) ≡ 0 = ap (items_so_far (t.to_come ++ more)) left ∙ items_none (t.to_come ++ more) in
-      let behind = items_behind t.done (t.field ∷ (t.to_come ++ more)) here in
+      let beyond = items_after t.done (t.field ∷ (t.to_come ++ more)) here in
       let fields : all ++ more ≡ t.done ++ (t.field ∷ (t.to_come ++ more)) = ap (λ l. l ++ more) h.layout ∙ append_assoc t.done (t.field ∷ t.to_come) more in
       let start : items_so_far (all ++ more) (length (flat_map (items_bytes o) (taken t) ++ t.partial))
       ≡ sum_by items_of t.done + items_so_far (t.field ∷ (t.to_come ++ more)) here =
-      ap (λ n. items_so_far (all ++ more) n) bytes_so_far ∙ ap (λ l. items_so_far l (sizes t.done + here)) fields ∙ behind in
+      ap (λ n. items_so_far (all ++ more) n) bytes_so_far ∙ ap (λ l. items_so_far l (sizes t.done + here)) fields ∙ beyond in
       omega (arith, start, field_so_far, none, items_taken)
 
 -- ---- data messages
@@ -211,11 +211,11 @@ module _ {A : Type 0} (e : Environment A) (local : ℕ) (offset : Option ℕ) (p
       let back : List ℕ = flat_map (items_bytes order) (taken t) ++ t.partial in
       let long : length (front ++ back) ≡ sizes (layout p) + length back = omega (arith, length-append front back, length-items order (layout p) items shape)
       in
-      let behind = items_behind (layout p) (dev_layout p) (length back) in
+      let beyond = items_after (layout p) (dev_layout p) (length back) in
       let dev : items_so_far (dev_layout p) (length back) ≡ items_in (all_items t) =
       ap (λ l. items_so_far l (length back)) (sym (append-nil (dev_layout p))) ∙ taking_so_far order (dev_layout p) t taking [] in
       let all : items_so_far (layout p ++ dev_layout p) (length (front ++ back)) ≡ sum_by items_of (layout p) + items_in (all_items t) =
-      ap (items_so_far (layout p ++ dev_layout p)) long ∙ behind ∙ ap (λ n. sum_by items_of (layout p) + n) dev in
+      ap (items_so_far (layout p ++ dev_layout p)) long ∙ beyond ∙ ap (λ n. sum_by items_of (layout p) + n) dev in
       omega (
         arith,
         message_held e local offset p known fits (front ++ back),

@@ -110,10 +110,10 @@ limited_definition : {A : Type 0} (e f : Environment A) (d : MessageDef A) → D
 limited_definition e f d fits are =
     let front : List ℕ = d.reserved ∷ architecture d.order ∷ number_bytes d.order 2 d.global in
     let fields : List ℕ = length d.fields ∷ flat_map field_bytes d.fields in
-    let behind : IsBytes ((front ++ fields) ++ dev_part d.dev) = λ i. are (suc i) in
+    let beyond : IsBytes ((front ++ fields) ++ dev_part d.dev) = λ i. are (suc i) in
     let field_items = few_items d.fields (IsBytes-tail (length d.fields) (flat_map field_bytes d.fields)
-    (IsBytes-back front fields (IsBytes-front (front ++ fields) (dev_part d.dev) behind))) in
-    let dev_items = few_dev_items (defined_by f d).dev_codes (dev_defs d.dev) (dev_bytes d.dev (IsBytes-back (front ++ fields) (dev_part d.dev) behind)) in
+    (IsBytes-back front fields (IsBytes-front (front ++ fields) (dev_part d.dev) beyond))) in
+    let dev_items = few_dev_items (defined_by f d).dev_codes (dev_defs d.dev) (dev_bytes d.dev (IsBytes-back (front ++ fields) (dev_part d.dev) beyond)) in
     let both = sum_by-append items_of (layout (defined_by f d)) (dev_layout (defined_by f d)) in (
       omega (arith, fits.fields, fits.dev_fields),
       omega (arith, fits.fields, fits.dev_fields, field_items, dev_items, both),

@@ -2,11 +2,11 @@
 use Rattle.fit_step.proofs.Common.{◌≡◌, ℕ, ◌+◌, ◌-◌, ◌<◌, append_assoc, Bool, true, false, List, [], ◌∷◌, ◌++◌, length, take, refl, sym, ap, ◌∙◌, subst, arith}
 use Rattle.fit_step.proofs.Common.{Some, None, Ok, Err, Option, Result, OnOk, OnErr, take_more, Record, Environment, learn, Fits, Position, Stop, Refused}
 use Rattle.fit_step.proofs.Common.{NoMemory, State, Step, start, step, RecordPart, nothing, state_of, state_at, PartFitsRoom, Steps, KeepsPart, tests_of}
-use Rattle.fit_step.proofs.Common.{StandsBehind, IsInProgress, ReadsRecord, StandsWithRoom, RecordByte, ◌≤◌, slice_index}
+use Rattle.fit_step.proofs.Common.{StandsAfter, IsInProgress, ReadsRecord, StandsWithRoom, RecordByte, ◌≤◌, slice_index}
 use Rattle.std.specs.Result.{is_ok}
 use Rattle.fit_step.proofs.Kept.{still_stands, still_room}
-use Rattle.fit_step.proofs.RecordsInProgress.{EndsBehind, starts_behind, sixteen_learned, starts_where_none, goes_behind, ends_behind, wants_behind}
-use Rattle.fit_step.proofs.RecordsInProgress.{refused_behind}
+use Rattle.fit_step.proofs.RecordsInProgress.{EndsWithRecord, starts_after, sixteen_learned, starts_where_none, goes_after, ends_after, wants_after}
+use Rattle.fit_step.proofs.RecordsInProgress.{refused_after}
 
 -- what holds of a good answer, and of a fault
 pub when_ok : {X Y P : Type 0} (r : Result X Y) → OnOk r P → is_ok r ≡ true → P
@@ -42,16 +42,16 @@ step_whole e (Some r) p true made is steps keeps = (r, refl, keeps.0, steps)
 -- the last byte used ended a record
 pub whole_read : {A : Type 0} (e env : Environment A) (room : ℕ) (bytes piece : List ℕ) (used : ℕ) (p : Position) (in_progress : Option (Record A))
     (r : Record A) → 0 < used → used ≤ length piece → length e.places ≡ 16 → env ≡ learn e r
-    → EndsBehind e room (bytes ++ take used piece) r (state_at p in_progress) → ReadsRecord e env room bytes p in_progress piece used (Ok (Some r))
+    → EndsWithRecord e room (bytes ++ take used piece) r (state_at p in_progress) → ReadsRecord e env room bytes p in_progress piece used (Ok (Some r))
 whole_read e env room bytes piece used p in_progress r some within sixteen learned k = (
   some,
   within,
   learned,
   k.is_record,
   k.within,
-  subst (λ f. StandsBehind f (room - length (bytes ++ take used piece)) [] (state_at p in_progress)) (sym learned)
-      (subst (StandsBehind (learn e r) (room - length (bytes ++ take used piece)) []) (sym k.starts)
-      (starts_behind (learn e r) (room - length (bytes ++ take used piece)) (sixteen_learned e r sixteen) k.filled)),
+  subst (λ f. StandsAfter f (room - length (bytes ++ take used piece)) [] (state_at p in_progress)) (sym learned)
+      (subst (StandsAfter (learn e r) (room - length (bytes ++ take used piece)) []) (sym k.starts)
+      (starts_after (learn e r) (room - length (bytes ++ take used piece)) (sixteen_learned e r sixteen) k.filled)),
 )
 
 -- a byte of the piece, after those of which this is the state
@@ -67,31 +67,31 @@ module _ {A : Type 0} (e now env : Environment A) (room : ℕ) (bytes piece : Li
   pub record_ends : (r : Record A) → RecordByte now env (state_at q after) b (Ok (Some r)) (step now (tests_of now) (state_at p before) b)
       → ReadsRecord e env room bytes q after piece (i + 1) (Ok (Some r))
   record_ends r made =
-      let k = ends_behind now room (bytes ++ take i piece) (state_at p before) come b low (state_at q after) r made.1 in
+      let k = ends_after now room (bytes ++ take i piece) (state_at p before) come b low (state_at q after) r made.1 in
       subst (λ x. ReadsRecord x env room bytes q after piece (i + 1) (Ok (Some r))) known
       (whole_read now env room bytes piece (i + 1) q after r (omega arith) (omega (arith, within)) come.sixteen made.0
-      (subst (λ z. EndsBehind now room z r (state_at q after)) one k))
+      (subst (λ z. EndsWithRecord now room z r (state_at q after)) one k))
 
   pub record_stops : (stop : Stop) → state_at q after ≡ state_at p before → 0 < p.room
       → RecordByte now env (state_at q after) b (Err stop) (step now (tests_of now) (state_at p before) b)
       → ReadsRecord e env room bytes q after piece i (Err stop)
   record_stops (Refused reason) same some made =
-      let law = refused_behind now room (bytes ++ take i piece) (state_at p before) come b low some reason made.1 in
+      let law = refused_after now room (bytes ++ take i piece) (state_at p before) come b low some reason made.1 in
       subst (λ x. ReadsRecord x env room bytes q after piece i (Err (Refused reason))) known
-      (within, made.0, subst (StandsBehind now room (bytes ++ take i piece)) (sym same) come, law.0, law.1)
+      (within, made.0, subst (StandsAfter now room (bytes ++ take i piece)) (sym same) come, law.0, law.1)
   record_stops NoMemory same some made =
-      let there = subst (StandsBehind now room (bytes ++ take i piece)) (sym same) come in
+      let there = subst (StandsAfter now room (bytes ++ take i piece)) (sym same) come in
       subst (λ x. ReadsRecord x env room bytes q after piece i (Err NoMemory)) known (
         within,
         made.0,
         there,
-        wants_behind now room (bytes ++ take i piece) (state_at p before) come b low made.1,
+        wants_after now room (bytes ++ take i piece) (state_at p before) come b low made.1,
         λ none. made.2 (ap (λ (s : State A). s.phase) (starts_where_none now room (bytes ++ take i piece) (state_at q after) there none)),
       )
 
   pub record_goes : RecordByte now env (state_at q after) b (Ok None) (step now (tests_of now) (state_at p before) b)
       → IsInProgress env room (bytes ++ take (i + 1) piece) q after
   record_goes made =
-      subst (λ x. StandsBehind x room (bytes ++ take (i + 1) piece) (state_at q after)) (sym made.0)
-      (subst (λ z. StandsBehind now room z (state_at q after)) one
-      (goes_behind now room (bytes ++ take i piece) (state_at p before) come b low (state_at q after) made.1))
+      subst (λ x. StandsAfter x room (bytes ++ take (i + 1) piece) (state_at q after)) (sym made.0)
+      (subst (λ z. StandsAfter now room z (state_at q after)) one
+      (goes_after now room (bytes ++ take i piece) (state_at p before) come b low (state_at q after) made.1))

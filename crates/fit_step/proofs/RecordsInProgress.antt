@@ -3,7 +3,7 @@ use Rattle.fit_step.proofs.Common.{◌≡◌, inl, inr, ℕ, zero, ◌+◌, ◌-
 use Rattle.fit_step.proofs.Common.{length-append, Some, None, Ok, Err, IsOk, append-nil, length-set, IsBytes, IsBytes-append, IsBytes-cons, IsBytes-front}
 use Rattle.fit_step.proofs.Common.{IsBytes-back, IsBytes-none, IsBytes-tail, Reason, Record, Define, Data, Environment, learn, CanFill, IsRecord, record_bytes}
 use Rattle.fit_step.proofs.Common.{records_bytes, can_fill_is, same_places, MessageDef, DefinitionPhase, Reserved, Position, goes_on, Continues, NoRecord}
-use Rattle.fit_step.proofs.Common.{FillFrom, StandsBehind, IsInProgress, RecordsInProgress, IdleIsBetweenRecords, RefusedBytesHaveReasons, CanBecomeRecord}
+use Rattle.fit_step.proofs.Common.{FillFrom, StandsAfter, IsInProgress, RecordsInProgress, IdleIsBetweenRecords, RefusedBytesHaveReasons, CanBecomeRecord}
 use Rattle.fit_step.proofs.Common.{State, Step, start, step, least_rest, Ends, RecordPart, nothing, in_definition, definition_part, part_bytes, IsPart}
 use Rattle.fit_step.proofs.Common.{state_of, state_at, Begins, record_reason, tests_of, StandsWithRoom, ◌≤◌}
 use Rattle.fit_step.proofs.Rest.{takes_more, keeps, KeepsRoom}
@@ -53,14 +53,14 @@ fill_continues {A} e room front b none (r ∷ rs, rest, are, fit, spelled, total
     let after : List ℕ = records_bytes (learn e r) rs in
     let parts : front ++ (b ∷ rest) ≡ record_bytes e r ++ after = sym (append_assoc front (b ∷ []) rest) ∙ sym spelled in
     elim (split front (record_bytes e r) (b ∷ rest) after parts) [
-      | inl s ↦ go s.more s.second s.behind
+      | inl s ↦ go s.more s.second s.beyond
       | inr s ↦ absurd (none r (s.next ∷ s.more) fit.0 s.first)
     ]
   where
     go : (more : List ℕ) → record_bytes e r ≡ front ++ more → b ∷ rest ≡ more ++ records_bytes (learn e r) rs
         → Continues e (front ++ b ∷ []) (room - length (front ++ b ∷ []))
-    go [] second behind = absurd (none r [] fit.0 (sym (append-nil front) ∙ sym second ∙ sym (append-nil (record_bytes e r))))
-    go (c ∷ more) second behind =
+    go [] second beyond = absurd (none r [] fit.0 (sym (append-nil front) ∙ sym second ∙ sym (append-nil (record_bytes e r))))
+    go (c ∷ more) second beyond =
         let same : c ≡ b = cc in
         let tail : rest ≡ more ++ records_bytes (learn e r) rs = cc in
         let all : IsBytes (more ++ records_bytes (learn e r) rs) = subst IsBytes tail are in
@@ -77,8 +77,8 @@ fill_continues {A} e room front b none (r ∷ rs, rest, are, fit, spelled, total
 
 -- ---- where a record begins
 
-pub starts_behind : {A : Type 0} (e : Environment A) (room : ℕ) → length e.places ≡ 16 → CanFill e room → StandsBehind e room [] (start room)
-starts_behind e room sixteen fill = record {
+pub starts_after : {A : Type 0} (e : Environment A) (room : ℕ) → length e.places ≡ 16 → CanFill e room → StandsAfter e room [] (start room)
+starts_after e room sixteen fill = record {
   sixteen = sixteen;
   are_bytes = IsBytes-none;
   total = omega arith;
@@ -93,32 +93,32 @@ starts_behind e room sixteen fill = record {
 pub begins_record : {A : Type 0} (e : Environment A) (p : Position) → length e.places ≡ 16 → Begins p → CanFill e p.room → IsInProgress e p.room [] p None
 begins_record {A} e p sixteen h fill =
     let is : start p.room ≡ state_at p None = λ i. record { phase = sym h.phase i; room = p.room; in_progress = None; partial = sym h.partial i } in
-    subst (StandsBehind e p.room []) is (starts_behind e p.room sixteen fill)
+    subst (StandsAfter e p.room []) is (starts_after e p.room sixteen fill)
 
 -- ---- a byte more
 
 -- The bytes are those of this record, and the next one can begin.
-pub record EndsBehind {A : Type 0} (e : Environment A) (room : ℕ) (bytes : List ℕ) (r : Record A) (t : State A) : Type 0 where
+pub record EndsWithRecord {A : Type 0} (e : Environment A) (room : ℕ) (bytes : List ℕ) (r : Record A) (t : State A) : Type 0 where
   pub is_record : IsRecord e r bytes
   pub within : length bytes ≤ room
   pub filled : CanFill (learn e r) (room - length bytes)
   pub starts : t ≡ start (room - length bytes)
 
-module _ {A : Type 0} (e : Environment A) (room : ℕ) (bytes : List ℕ) (s : State A) (h : StandsBehind e room bytes s) where
+module _ {A : Type 0} (e : Environment A) (room : ℕ) (bytes : List ℕ) (s : State A) (h : StandsAfter e room bytes s) where
   rest_of_part : least_rest e (state_of s.room h.part) ≤ s.room
   rest_of_part = subst (λ t. least_rest e t ≤ s.room) h.is h.rest
 
   part_goes : goes_on e (state_of s.room h.part) ≡ true
   part_goes = subst (λ t. goes_on e t ≡ true) h.is h.goes
 
-  pub left_behind : room - length bytes ≡ s.room
-  left_behind = omega (arith, h.total)
+  pub left_after : room - length bytes ≡ s.room
+  left_after = omega (arith, h.total)
 
-  pub none_behind : NoRecord e bytes
-  none_behind = subst (NoRecord e) h.spelled (part_of_record e h.part h.is_part)
+  pub none_after : NoRecord e bytes
+  none_after = subst (NoRecord e) h.spelled (part_of_record e h.part h.is_part)
 
-  pub fills_behind : FillFrom e room bytes
-  fills_behind = go h.part h.spelled
+  pub fills_after : FillFrom e room bytes
+  fills_after = go h.part h.spelled
       ((parts_are_tested e h.part s.room h.sixteen h.is_part (subst IsBytes (sym h.spelled) h.are_bytes) rest_of_part).0 part_goes)
     where
       begun : (f : RecordPart A) → part_bytes e f ≡ bytes → Continues e (part_bytes e f) s.room → FillFrom e room bytes
@@ -132,8 +132,8 @@ module _ {A : Type 0} (e : Environment A) (room : ℕ) (bytes : List ℕ) (s : S
       go f spelled c = begun f spelled c
 
   -- there is room for the next byte, unless all of the room has been filled
-  pub room_behind : 0 < room → StandsWithRoom e s
-  room_behind some = (go h.part h.spelled h.is_part rest_of_part, record { part = h.part; is_part = h.is_part; is = h.is; within = h.rest })
+  pub room_after : 0 < room → StandsWithRoom e s
+  room_after some = (go h.part h.spelled h.is_part rest_of_part, record { part = h.part; is_part = h.is_part; is = h.is; within = h.rest })
     where
       go : (f : RecordPart A) → part_bytes e f ≡ bytes → IsPart e f → least_rest e (state_of s.room f) ≤ s.room → 0 < s.room
       go nothing spelled is less = let none : length bytes ≡ 0 = ap length (sym spelled) in omega (arith, none, h.total, some)
@@ -143,8 +143,8 @@ module _ {A : Type 0} (e : Environment A) (room : ℕ) (bytes : List ℕ) (s : S
     at_part : (made : Step A) → step e (tests_of e) s b ≡ made → step e (tests_of e) (state_of s.room h.part) b ≡ made
     at_part made is = subst (λ t. step e (tests_of e) t b ≡ made) h.is is
 
-    pub goes_behind : (t : State A) → step e (tests_of e) s b ≡ Ok (t, None) → StandsBehind e room (bytes ++ b ∷ []) t
-    goes_behind t made =
+    pub goes_after : (t : State A) → step e (tests_of e) s b ≡ Ok (t, None) → StandsAfter e room (bytes ++ b ∷ []) t
+    goes_after t made =
         let here = at_part (Ok (t, None)) made in
         let g = taken_bytes_go_on e h.part s.room b t h.sixteen h.is_part low rest_of_part part_goes here in
         let k : (t.room + 1 ≡ s.room) × (least_rest e t ≤ t.room) =
@@ -162,8 +162,8 @@ module _ {A : Type 0} (e : Environment A) (room : ℕ) (bytes : List ℕ) (s : S
           goes = g.5;
         }
 
-    pub ends_behind : (t : State A) (r : Record A) → step e (tests_of e) s b ≡ Ok (t, Some r) → EndsBehind e room (bytes ++ b ∷ []) r t
-    ends_behind t r made =
+    pub ends_after : (t : State A) (r : Record A) → step e (tests_of e) s b ≡ Ok (t, Some r) → EndsWithRecord e room (bytes ++ b ∷ []) r t
+    ends_after t r made =
         let here = at_part (Ok (t, Some r)) made in
         let g = taken_bytes_end e h.part s.room b t r h.sixteen h.is_part low rest_of_part part_goes here in
         let some : 0 < s.room = subst (KeepsRoom e s.room) here (keeps e (tests_of e) s.room h.part b h.is_part rest_of_part) in
@@ -176,38 +176,38 @@ module _ {A : Type 0} (e : Environment A) (room : ℕ) (bytes : List ℕ) (s : S
         }
 
     -- a byte that is refused has the reason of its place, and no records fill the room with it
-    pub refused_behind : 0 < s.room → (reason : Reason) → step e (tests_of e) s b ≡ Err reason
+    pub refused_after : 0 < s.room → (reason : Reason) → step e (tests_of e) s b ≡ Err reason
         → (record_reason e bytes (room - length bytes) b ≡ Some reason) × (FillFrom e room (bytes ++ b ∷ []) → ⊥)
-    refused_behind some reason made =
+    refused_after some reason made =
         let law = refused_bytes_end_all e h.part s.room b reason h.sixteen h.is_part some low (at_part (Err reason) made) in
         let left : room - length (bytes ++ b ∷ []) ≡ s.room - 1 = omega (arith, h.total, length-append bytes (b ∷ [])) in (
           subst (λ z. record_reason e z (room - length bytes) b ≡ Some reason) h.spelled
-              (subst (λ n. record_reason e (part_bytes e h.part) n b ≡ Some reason) (sym left_behind) law.0),
+              (subst (λ n. record_reason e (part_bytes e h.part) n b ≡ Some reason) (sym left_after) law.0),
           λ fill. law.1 (subst (λ z. Continues {A = A} e (z ++ b ∷ []) (s.room - 1)) (sym h.spelled)
-              (subst (Continues {A = A} e (bytes ++ b ∷ [])) left (fill_continues e room bytes b none_behind fill))),
+              (subst (Continues {A = A} e (bytes ++ b ∷ [])) left (fill_continues e room bytes b none_after fill))),
         )
 
 -- a byte that isn't refused has records that fill the room
-pub wants_behind : {A : Type 0} (e : Environment A) (room : ℕ) (bytes : List ℕ) (s : State A) → StandsBehind e room bytes s → (b : ℕ) → b < 256
+pub wants_after : {A : Type 0} (e : Environment A) (room : ℕ) (bytes : List ℕ) (s : State A) → StandsAfter e room bytes s → (b : ℕ) → b < 256
     → IsOk (step e (tests_of e) s b) → FillFrom e room (bytes ++ b ∷ [])
-wants_behind {A} e room bytes s h b low ok = go (step e (tests_of e) s b) refl ok
+wants_after {A} e room bytes s h b low ok = go (step e (tests_of e) s b) refl ok
   where
     go : (made : Step A) → step e (tests_of e) s b ≡ made → IsOk made → FillFrom e room (bytes ++ b ∷ [])
-    go (Ok (t, None)) made ok = fills_behind e room (bytes ++ b ∷ []) t (goes_behind e room bytes s h b low t made)
+    go (Ok (t, None)) made ok = fills_after e room (bytes ++ b ∷ []) t (goes_after e room bytes s h b low t made)
     go (Ok (t, Some r)) made ok =
-        let k = ends_behind e room bytes s h b low t r made in
+        let k = ends_after e room bytes s h b low t r made in
         record_fills e room r (bytes ++ b ∷ []) k.is_record k.within (fill_nothing (learn e r) (room - length (bytes ++ b ∷ [])) k.filled)
     go (Err reason) made ok = absurd cc
 
 -- a record's end, some bytes further on
-pub ends_further : {A : Type 0} (e : Environment A) (room : ℕ) (bytes more : List ℕ) (s t : State A) (r : Record A) → StandsBehind e room bytes s
-    → IsBytes more → Ends e (tests_of e) s more t r → EndsBehind e room (bytes ++ more) r t
+pub ends_further : {A : Type 0} (e : Environment A) (room : ℕ) (bytes more : List ℕ) (s t : State A) (r : Record A) → StandsAfter e room bytes s
+    → IsBytes more → Ends e (tests_of e) s more t r → EndsWithRecord e room (bytes ++ more) r t
 ends_further e room bytes [] s t r h low ends = absurd ends
 ends_further e room bytes (b ∷ more) s t r h low (inl (none, made)) =
-    subst (λ z. EndsBehind e room (bytes ++ b ∷ z) r t) (sym none) (ends_behind e room bytes s h b (low zero) t r made)
+    subst (λ z. EndsWithRecord e room (bytes ++ b ∷ z) r t) (sym none) (ends_after e room bytes s h b (low zero) t r made)
 ends_further e room bytes (b ∷ more) s t r h low (inr (u, made, ends)) =
-    subst (λ z. EndsBehind e room z r t) (one_more bytes b more)
-    (ends_further e room (bytes ++ b ∷ []) more u t r (goes_behind e room bytes s h b (low zero) u made) (IsBytes-tail b more low) ends)
+    subst (λ z. EndsWithRecord e room z r t) (one_more bytes b more)
+    (ends_further e room (bytes ++ b ∷ []) more u t r (goes_after e room bytes s h b (low zero) u made) (IsBytes-tail b more low) ends)
 
 -- ---- where nothing has come
 
@@ -215,7 +215,7 @@ some_bytes : {A : Type 0} (k : DefinitionPhase) (d : MessageDef A) → definitio
 some_bytes Reserved d is = cc
 some_bytes k d is = cc
 
-pub starts_where_none : {A : Type 0} (e : Environment A) (room : ℕ) (bytes : List ℕ) (s : State A) → StandsBehind e room bytes s → bytes ≡ []
+pub starts_where_none : {A : Type 0} (e : Environment A) (room : ℕ) (bytes : List ℕ) (s : State A) → StandsAfter e room bytes s → bytes ≡ []
     → s ≡ start s.room
 starts_where_none {A} e room bytes s h none = go h.part h.is (h.spelled ∙ none)
   where
@@ -237,23 +237,23 @@ idle_between_records {A} e room bytes p in_progress h = (
 
 pub records_in_progress : {A : Type 0} → RecordsInProgress A
 records_in_progress e room bytes p in_progress h =
-    let s = state_at p in_progress in (none_behind e room bytes s h, fills_behind e room bytes s h, h.total)
+    let s = state_at p in_progress in (none_after e room bytes s h, fills_after e room bytes s h, h.total)
 
 -- ---- a byte that can't follow
 
 module _ {A : Type 0} (e : Environment A) (room : ℕ) where
   -- on the way to a record's end
-  stands_before : (front bytes : List ℕ) (m : ℕ) (more : List ℕ) (s t : State A) (r : Record A) → StandsBehind e room front s → IsBytes bytes
-      → Ends e (tests_of e) s (bytes ++ m ∷ more) t r → (u : State A) × StandsBehind e room (front ++ bytes) u
-  stands_before front [] m more s t r h low ends = (s, subst (λ z. StandsBehind e room z s) (sym (append-nil front)) h)
+  stands_before : (front bytes : List ℕ) (m : ℕ) (more : List ℕ) (s t : State A) (r : Record A) → StandsAfter e room front s → IsBytes bytes
+      → Ends e (tests_of e) s (bytes ++ m ∷ more) t r → (u : State A) × StandsAfter e room (front ++ bytes) u
+  stands_before front [] m more s t r h low ends = (s, subst (λ z. StandsAfter e room z s) (sym (append-nil front)) h)
   stands_before front (b ∷ bytes) m more s t r h low (inl (none, made)) = absurd (no_end bytes none)
     where
       no_end : (bytes : List ℕ) → bytes ++ m ∷ more ≡ [] → ⊥
       no_end [] is = cc
       no_end (x ∷ bytes) is = cc
   stands_before front (b ∷ bytes) m more s t r h low (inr (u, made, ends)) =
-      let (v, k) = stands_before (front ++ b ∷ []) bytes m more u t r (goes_behind e room front s h b (low zero) u made) (IsBytes-tail b bytes low) ends in
-      (v, subst (λ z. StandsBehind e room z v) (one_more front b bytes) k)
+      let (v, k) = stands_before (front ++ b ∷ []) bytes m more u t r (goes_after e room front s h b (low zero) u made) (IsBytes-tail b bytes low) ends in
+      (v, subst (λ z. StandsAfter e room z v) (one_more front b bytes) k)
 
   room_filled : (bytes : List ℕ) → IsBytes bytes → FillFrom e room bytes → CanFill e room
   room_filled bytes are (rs, rest, rest_are, fit, spelled, total) =
@@ -261,36 +261,36 @@ module _ {A : Type 0} (e : Environment A) (room : ℕ) where
 
   -- bytes that begin records that fill the room, and are no whole record, have come to a state
   stands_somewhere : (bytes : List ℕ) → length e.places ≡ 16 → IsBytes bytes → NoRecord e bytes → FillFrom e room bytes
-      → (u : State A) × StandsBehind e room bytes u
-  stands_somewhere [] sixteen are none fill = (start room, starts_behind e room sixteen (room_filled [] are fill))
+      → (u : State A) × StandsAfter e room bytes u
+  stands_somewhere [] sixteen are none fill = (start room, starts_after e room sixteen (room_filled [] are fill))
   stands_somewhere (b ∷ bytes) sixteen are none ([], rest, rest_are, fit, spelled, total) = absurd cc
   stands_somewhere (b ∷ bytes) sixteen are none (r ∷ rs, rest, rest_are, fit, spelled, total) =
       let after : List ℕ = records_bytes (learn e r) rs in
       elim (split (b ∷ bytes) (record_bytes e r) rest after (sym spelled)) [
-        | inl s ↦ go s.more s.second s.behind
+        | inl s ↦ go s.more s.second s.beyond
         | inr s ↦ absurd (none r (s.next ∷ s.more) fit.0 s.first)
       ]
     where
       go : (more : List ℕ) → record_bytes e r ≡ (b ∷ bytes) ++ more → rest ≡ more ++ records_bytes (learn e r) rs
-          → (u : State A) × StandsBehind e room (b ∷ bytes) u
-      go [] second behind = absurd (none r [] fit.0 (sym (append-nil (b ∷ bytes)) ∙ sym second ∙ sym (append-nil (record_bytes e r))))
-      go (m ∷ more) second behind =
+          → (u : State A) × StandsAfter e room (b ∷ bytes) u
+      go [] second beyond = absurd (none r [] fit.0 (sym (append-nil (b ∷ bytes)) ∙ sym second ∙ sym (append-nil (record_bytes e r))))
+      go (m ∷ more) second beyond =
           let after : List ℕ = records_bytes (learn e r) rs in
-          let all : IsBytes ((m ∷ more) ++ after) = subst IsBytes behind rest_are in
+          let all : IsBytes ((m ∷ more) ++ after) = subst IsBytes beyond rest_are in
           let whole : IsBytes ((b ∷ bytes) ++ m ∷ more) = IsBytes-append (b ∷ bytes) (m ∷ more) are (IsBytes-front (m ∷ more) after all) in
           let size : length ((b ∷ bytes) ++ m ∷ more) + length after ≡ room =
-          omega (arith, total, ap length behind, length-append (m ∷ more) after, length-append (b ∷ bytes) (m ∷ more)) in
+          omega (arith, total, ap length beyond, length-append (m ∷ more) after, length-append (b ∷ bytes) (m ∷ more)) in
           let ends = records_end e r ((b ∷ bytes) ++ m ∷ more) (length after) sixteen (fit.0, sym second) whole
           (rs, after, IsBytes-back (m ∷ more) after all, (fit.1, refl), refl) in
           stands_before [] (b ∷ bytes) m more (start room) (start (length after)) r
-          (starts_behind e room sixteen (room_filled (b ∷ bytes) are (r ∷ rs, rest, rest_are, fit, spelled, total))) are
+          (starts_after e room sixteen (room_filled (b ∷ bytes) are (r ∷ rs, rest, rest_are, fit, spelled, total))) are
           (subst (λ n. Ends e (tests_of e) (start n) ((b ∷ bytes) ++ m ∷ more) (start (length after)) r) size ends)
 
 pub refused_bytes_have_reasons : {A : Type 0} → RefusedBytesHaveReasons A
 refused_bytes_have_reasons {A} e room bytes b sixteen some are low none fill ends =
     let (u, h) = stands_somewhere e room bytes sixteen are none fill in go u h (step e (tests_of e) u b) refl
   where
-    go : (u : State A) → StandsBehind e room bytes u → (made : Step A) → step e (tests_of e) u b ≡ made
+    go : (u : State A) → StandsAfter e room bytes u → (made : Step A) → step e (tests_of e) u b ≡ made
         → (reason : Reason) × (record_reason e bytes (room - length bytes) b ≡ Some reason)
-    go u h (Ok next) is = absurd (ends (wants_behind e room bytes u h b low (subst IsOk (sym is) refl)))
-    go u h (Err reason) is = (reason, (refused_behind e room bytes u h b low (room_behind e room bytes u h some).0 reason is).0)
+    go u h (Ok next) is = absurd (ends (wants_after e room bytes u h b low (subst IsOk (sym is) refl)))
+    go u h (Err reason) is = (reason, (refused_after e room bytes u h b low (room_after e room bytes u h some).0 reason is).0)

@@ -20,11 +20,11 @@ KeepsRoom e room (Ok (t, Some r)) = 0 < room
 KeepsRoom e room (Err reason) = Unit {0}
 
 -- what is after the first of the fields from a place on
-pub behind : {X : Type 0} (place : ℕ) (all rest : List X) (f : X) → drop place all ≡ f ∷ rest → drop (suc place) all ≡ rest
-behind zero [] rest f h = absurd cc
-behind zero (x ∷ all) rest f h = cc
-behind (suc place) [] rest f h = absurd cc
-behind (suc place) (x ∷ all) rest f h = behind place all rest f h
+pub beyond : {X : Type 0} (place : ℕ) (all rest : List X) (f : X) → drop place all ≡ f ∷ rest → drop (suc place) all ≡ rest
+beyond zero [] rest f h = absurd cc
+beyond zero (x ∷ all) rest f h = cc
+beyond (suc place) [] rest f h = absurd cc
+beyond (suc place) (x ∷ all) rest f h = beyond place all rest f h
 
 -- ---- data messages
 
@@ -37,7 +37,7 @@ rest_found : (place : ℕ) (all rest : List (ℕ × ℕ)) → drop place all ≡
 rest_found place all [] at = omega arith
 rest_found place all (f ∷ rest) at =
     let sum : sizes (f ∷ rest) ≡ f.1 + sizes rest = sum_by-cons (λ (f : ℕ × ℕ). f.1) f rest in
-    let next : drop (suc place) all ≡ rest = behind place all rest f at in
+    let next : drop (suc place) all ≡ rest = beyond place all rest f at in
     let others : sizes (drop (suc place) all) ≡ sizes rest = ap sizes next in
     cond_both (f.1 == 0) _ _ (λ n. Leaves all (sizes (f ∷ rest)) n)
     (λ z.

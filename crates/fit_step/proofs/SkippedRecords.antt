@@ -153,10 +153,10 @@ large_fill e room sixteen large =
     let same : 6 + (room - 6) ≡ room = omega (arith, large) in
     subst (CanFill e) same (six_and_more e (room - 6) (omega (arith, sixteen)))
 
-pub skipped_behind : {A : Type 0} (e known : Environment A) (p q : Position) (in_progress : Option (Record A)) (piece : List ℕ) (used : ℕ)
+pub skipped_after : {A : Type 0} (e known : Environment A) (p q : Position) (in_progress : Option (Record A)) (piece : List ℕ) (used : ℕ)
     (records : List (Record A)) → in_progress ≡ None → used + 6 ≤ p.room → Learns e known (take used piece) records → Begins q → q.room ≡ p.room - used
     → SkipsInSection e p in_progress known q piece used records
-skipped_behind e known p q in_progress piece used records idle large learns begins left room bytes h =
+skipped_after e known p q in_progress piece used records idle large learns begins left room bytes h =
     let none : bytes ≡ [] = (idle_between_records e room bytes p in_progress h).0 idle in
     let all : p.room ≡ room = omega (arith, h.total, ap length none) in
     let sixteen : length known.places ≡ 16 = subst (λ k. length k.places ≡ 16) learns.1 (sixteen_all e records h.sixteen) in

@@ -80,8 +80,8 @@ carried {A} e room b p sixteen some kind known (Data v) rest left fits spelled f
     let found : Some m.place ≡ Some p = sym m.known ∙ ap (defined_at e) (sym m.bits.type) ∙ known in
     let same : m.place ≡ p = cc in
     let size : length rest ≡ message_size p = ap length (sym m.tail) ∙ length-data (order_at e v.local) v m.place m.fits ∙ ap message_size same in
-    let behind : left ≡ room - (1 + message_size p) = omega (arith, size, total, some) in
-    subst (λ n. can_fill e n ≡ true) behind ((can_fill_after_data e v left sixteen).1 fill)
+    let beyond : left ≡ room - (1 + message_size p) = omega (arith, size, total, some) in
+    subst (λ n. can_fill e n ≡ true) beyond ((can_fill_after_data e v left sixteen).1 fill)
 
 -- a size or a number of developer fields of a definition message that no record goes on with
 module _ {A : Type 0} (e : Environment A) (room : ℕ) (d : MessageDef A) (b : ℕ) (sixteen : length e.places ≡ 16) (low : b < 256) where

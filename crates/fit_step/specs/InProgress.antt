@@ -33,7 +33,7 @@ FillFrom {A} e room bytes =
     × (records_bytes e records ≡ bytes ++ rest) × (length bytes + length rest ≡ room)
 
 -- The bytes are parts of a record, or none; this is the state after them, and it can go on.
-pub record StandsBehind {A : Type 0} (e : Environment A) (room : ℕ) (bytes : List ℕ) (s : State A) : Type 0 where
+pub record StandsAfter {A : Type 0} (e : Environment A) (room : ℕ) (bytes : List ℕ) (s : State A) : Type 0 where
   pub sixteen : length e.places ≡ 16
   pub are_bytes : IsBytes bytes
   pub total : s.room + length bytes ≡ room
@@ -47,7 +47,7 @@ pub record StandsBehind {A : Type 0} (e : Environment A) (room : ℕ) (bytes : L
 -- These bytes have come of a record that isn't whole, or none have, and records that begin with them can fill the room. A caller hands
 -- the position and the record in progress back as it got them; what follows for it is in the laws.
 abbrev pub IsInProgress : {A : Type 0} → Environment A → ℕ → List ℕ → Position → Option (Record A) → Type 0
-IsInProgress e room bytes p in_progress = StandsBehind e room bytes (state_at p in_progress)
+IsInProgress e room bytes p in_progress = StandsAfter e room bytes (state_at p in_progress)
 
 -- Some bytes of a record have come, or none, and the data section isn't over.
 abbrev pub AwaitsByte : {A : Type 0} → Environment A → Position → Option (Record A) → Type 0

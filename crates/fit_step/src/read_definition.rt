@@ -46,13 +46,13 @@ fn read_entries<A: Allocator>(
     let mut fields = Entries::with_capacity(alloc, count as usize)?;
     let mut rest = bytes;
     for _ in 0..count {
-        let (entry, behind) = rest.split_at(3);
+        let (entry, after) = rest.split_at(3);
         fields.push(FieldDef {
             number: entry[0],
             size: entry[1],
             code: entry[2],
         })?;
-        rest = behind;
+        rest = after;
     }
     Ok(fields)
 }
@@ -75,14 +75,14 @@ pub(crate) fn whole_definition<A: Allocator + Copy>(
     if rest.len() < 5 {
         return None;
     }
-    let (front, behind) = rest.split_at(5);
+    let (front, after) = rest.split_at(5);
     let order = order_of(front[1])?;
     let count = front[4];
     let size = count as usize * 3;
-    if behind.len() < size {
+    if after.len() < size {
         return None;
     }
-    let (entries, _) = behind.split_at(size);
+    let (entries, _) = after.split_at(size);
     let Ok(fields) = read_entries(alloc, count, entries) else {
         return None;
     };

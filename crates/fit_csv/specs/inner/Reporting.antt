@@ -15,7 +15,7 @@ use Rattle.fit_report.specs.Heard.{Lines, text_of}
 use Rattle.fit_csv.specs.declared.fault.CsvFault.{CsvFault}
 use Rattle.fit_csv.specs.declared.fault.CsvFault.TheVariants as csv
 use Rattle.fit_cells.specs.Rows.{Row, csv_text}
-use Rattle.fit_csv.specs.ChainRows.{event_rows, records_behind}
+use Rattle.fit_csv.specs.ChainRows.{event_rows, next_records}
 use Rattle.fit_csv.specs.Conversions.{RowsOf}
 
 -- the record of an answer fits after these records
@@ -29,7 +29,7 @@ answer_rows before answer = option_map_or (event_rows before) (event_of answer) 
 
 -- the records of the file that was begun last, after what a decoder answers
 abbrev pub records_after_answer : {A : Type 0} → List (Record A) → Answer A → List (Record A)
-records_after_answer before answer = option_map_or (records_behind before) (event_of answer) before
+records_after_answer before answer = option_map_or (next_records before) (event_of answer) before
 
 -- the text of the rows of events is this first line and the lines of the events, of which a reporter tells the latest first
 abbrev pub HasText : List ℕ → Lines Global → RowsOf → Type 0

@@ -10,7 +10,7 @@ row_of cells = cells.kind.now ∷ cells.a.now ∷ cells.b.now ∷ cells.c.now �
 
 -- Two rows are the same before this column, and not in it. It isn't the first one.
 pub record DifferAt (column : ℕ) (a b : Row) : Type 0 where
-  pub behind_kind : 2 ≤ column
+  pub after_kind : 2 ≤ column
   pub before : Agree (column - 1) a b
   pub there : Agree column a b → ⊥
 

@@ -21,7 +21,7 @@ use Rattle.fit_profile.specs.Looks.{known}
 use Rattle.fit_profile.specs.Meant.{shown}
 use Rattle.fit_profile.specs.Times.{time as time_of}
 use Rattle.fit_cells.specs.Rows.{Cell, HasRows, Row}
-use Rattle.fit_csv.specs.ChainRows.{files_behind}
+use Rattle.fit_csv.specs.ChainRows.{next_files}
 use Rattle.fit_csv.specs.Table.{amount_text, degrees_text, table_event_rows, table_message_rows, table_row, value_text}
 
 -- the text of a number, where there is one
@@ -72,4 +72,4 @@ table_answer_rows files before answer = option_map_or (table_event_rows files be
 
 -- how many files have begun after what a decoder answers
 abbrev pub files_after_answer : {A : Type 0} → ℕ → Answer A → ℕ
-files_after_answer files answer = option_map_or (files_behind files) (event_of answer) files
+files_after_answer files answer = option_map_or (next_files files) (event_of answer) files

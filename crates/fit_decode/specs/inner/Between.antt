@@ -10,7 +10,7 @@ use Rattle.fit_chain.specs.Progress.{at_header, HasCome}
 use Rattle.fit_decode.specs.inner.Turns.{unrefused}
 
 -- The decoder was fed the bytes taken, which are those of these files.
-pub record IsBehind {A : Type 0} (files : List (FitFile A)) (decoder : Seen) (count : ℕ) (taken : List ℕ) : Type 0 where
+pub record IsAfter {A : Type 0} (files : List (FitFile A)) (decoder : Seen) (count : ℕ) (taken : List ℕ) : Type 0 where
   pub fed : decoder ≡ unrefused taken
   pub counted : count ≡ length taken
   pub viable : IsViable A chain_limit taken
@@ -18,7 +18,7 @@ pub record IsBehind {A : Type 0} (files : List (FitFile A)) (decoder : Seen) (co
 
 -- Until a fault the reading is after some files.
 abbrev pub ReadsOn : Type 0 → Option Fault → Seen → ℕ → List ℕ → Type 0
-ReadsOn A fault decoder count taken = fault ≡ None → (files : List (FitFile A)) × IsBehind files decoder count taken
+ReadsOn A fault decoder count taken = fault ≡ None → (files : List (FitFile A)) × IsAfter files decoder count taken
 
 -- Whether the fault is the input's end after a whole chain.
 abbrev pub IsEnd : Type 0 → Seen → Fault → Bool → Type 0

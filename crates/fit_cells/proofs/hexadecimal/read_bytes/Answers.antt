@@ -6,7 +6,7 @@ pub loop-place-preserved : goal.loop-place-preserved
 loop-place-preserved c =
     let pushed = c.in_ok-push.ensures.ok in
     record {
-      value = ap₂ (λ bits rest. bits ++ read_pairs (c.args.count - (c.loop-place.place + 1)) rest) pushed c.behind-rest-in-loop-place.ensures
+      value = ap₂ (λ bits rest. bits ++ read_pairs (c.args.count - (c.loop-place.place + 1)) rest) pushed c.after-rest-in-loop-place.ensures
           ∙ pairs-more c.loop-place.bits _ c.loop-place.rest.now c.args.count c.loop-place.place c.first_pair.result c.loop-place-test.true
           c.first_pair.ensures.value c.loop-place.invariant.value;
       below = subst (λ bits. All (λ b. b < 256) bits) (sym pushed)

@@ -1,7 +1,7 @@
 use Rattle.fit_cells.proofs.Common.{◌≡◌, ◌∙◌, ◌<◌, ◌^◌, ◌++◌, ◌∷◌, [], All, rules, arith, sym, ap, ap₂, subst, length, get_or, length-append, option_map}
 use Rattle.fit_cells.proofs.Common.{take_more, All-push, base_type, meaning, item_text}
 use Rattle.fit_cells.proofs.TextFacts.{low-item}
-use Rattle.fit_cells.proofs.SplitFacts.{piece, behind-piece}
+use Rattle.fit_cells.proofs.SplitFacts.{piece, after-piece}
 use Rattle.fit_cells.proofs.scan.read_several.Goals as goal
 
 pub loop-place-preserved : goal.loop-place-preserved
@@ -24,7 +24,7 @@ loop-place-preserved c =
           let item : c.read_item.result ≡ get_or numbers c.loop-place.place 0 =
           c.read_item.ensures.every (get_or numbers c.loop-place.place 0) (small c.loop-place.place 0 within) shown in (
             pushed ∙ ap₂ (λ bits x. bits ++ (x ∷ [])) so_far.0 item ∙ sym (take_more numbers c.loop-place.place 0 within),
-            c.split_at_bar.ensures.behind ∙ behind-piece (item_text c.args.class c.args.code.0 (option_map meaning c.args.info) (base_type c.args.code.0).width)
+            c.split_at_bar.ensures.after ∙ after-piece (item_text c.args.class c.args.code.0 (option_map meaning c.args.info) (base_type c.args.code.0).width)
                 numbers c.loop-place.rest.now c.loop-place.place low within so_far.1,
           );
     }

@@ -21,6 +21,6 @@ loop-place-preserved g c =
           ∙ ap (λ r. (c.loop-place.items ++ field_from o f (take f.1 rest) ∷ []) ++ fields_from o next r) c.split_at.ensures.back
           ∙ layout_more o f _ next rest c.loop-place.items _ (dropped c.args.layout.now k f c.slot-code.ensures) c.loop-place.invariant.told;
       enough = omega (arith, more, c.loop-place.invariant.enough, ap length c.split_at.ensures.back ∙ length-drop f.1 rest);
-      behind = ap (drop (sizes next)) c.split_at.ensures.back ∙ drop-drop (sizes next) f.1 rest ∙ ap (λ n. drop n rest) (sym more)
-          ∙ c.loop-place.invariant.behind;
+      after = ap (drop (sizes next)) c.split_at.ensures.back ∙ drop-drop (sizes next) f.1 rest ∙ ap (λ n. drop n rest) (sym more)
+          ∙ c.loop-place.invariant.after;
     }

@@ -5,5 +5,5 @@ abbrev pub invariant-loop-place : goal.invariant-loop-place
 invariant-loop-place g l = record {
   told : l.items ++ fields_from l.order (drop l.place l.layout) l.rest ≡ fields_from l.order l.layout l.bytes;
   enough : sizes (drop l.place l.layout) ≤ length l.rest;
-  behind : drop (sizes (drop l.place l.layout)) l.rest ≡ drop (sizes l.layout) l.bytes;
+  after : drop (sizes (drop l.place l.layout)) l.rest ≡ drop (sizes l.layout) l.bytes;
 }

@@ -13,4 +13,4 @@ returns-clause-record g c = λ e.
     (slice_is_bytes c.args.piece.now c.type_inv.piece) c.in_ok-header.ensures.cases.0 (sym c.has_reserved_bit.ensures ∙ c.if-has_reserved_bit.false)
     (sym c.is_definition.ensures ∙ c.if-not-is_definition.false) (sym c.has_developer_fields.ensures ∙ c.if-has_developer_fields.false) c.local_type.ensures
     c.if-rest-lt5.false c.split_at.ensures.front c.in_ok-order.ensures c.global_of.ensures
-    (subst (λ l. size ≤ length l) back c.if-behind-size.false) c.in-Ok.ensures.count (c.in-Ok.ensures.bytes ∙ c.split_at-2.ensures.front ∙ ap (take size) back)
+    (subst (λ l. size ≤ length l) back c.if-after-size.false) c.in-Ok.ensures.count (c.in-Ok.ensures.bytes ∙ c.split_at-2.ensures.front ∙ ap (take size) back)

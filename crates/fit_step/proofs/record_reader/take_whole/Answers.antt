@@ -14,7 +14,7 @@ returns-clause-told g c = λ room bytes h.
     let r = c.in_ok-record.record in
     let taken = take used c.args.piece.now in
     let begins = begins_where_none e (state_at p c.args.in_progress.now) c.requires.1 c.in-None.is in
-    let behind : start (p.room - used) ≡ state_at c.new.result c.args.in_progress.now =
+    let beyond : start (p.room - used) ≡ state_at c.new.result c.args.in_progress.now =
     λ i. record {
       phase = sym c.new.ensures.begins.phase i;
       room = sym c.new.ensures.room i;
@@ -23,7 +23,7 @@ returns-clause-told g c = λ room bytes h.
     } in
     let ends : Ends e (tests_of e) (state_at p c.args.in_progress.now) taken (state_at c.new.result c.args.in_progress.now) r =
     subst (λ s. Ends e (tests_of e) s taken (state_at c.new.result c.args.in_progress.now) r) (sym begins)
-    (subst (λ t. Ends e (tests_of e) (start p.room) taken t r) behind c.in_ok-record.ensures.ends) in
+    (subst (λ t. Ends e (tests_of e) (start p.room) taken t r) beyond c.in_ok-record.ensures.ends) in
     whole_read e c.learn.new.self room bytes c.args.piece.now used c.new.result c.args.in_progress.now r c.in_ok-record.ensures.within.0
     c.in_ok-record.ensures.within.1 h.sixteen c.in-Ok.ensures.ok
     (ends_further e room bytes taken (state_at p c.args.in_progress.now) (state_at c.new.result c.args.in_progress.now) r h

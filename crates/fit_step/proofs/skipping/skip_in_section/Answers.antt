@@ -1,5 +1,5 @@
 use Rattle.fit_step.proofs.Common.{◌≡◌, ◌+◌, [], take, refl, ap, ◌∙◌, subst, arith, take-take, Learns, ◌≤◌}
-use Rattle.fit_step.proofs.SkippedRecords.{skipped_behind, none_skipped}
+use Rattle.fit_step.proofs.SkippedRecords.{skipped_after, none_skipped}
 use Rattle.fit_step.proofs.skipping.skip_in_section.Goals as goal
 
 pub returns-in-Some-clause-skips : goal.returns-in-Some-clause-skips
@@ -20,6 +20,6 @@ returns-clause-skips g c =
     let all = subst (λ y. Learns c.args.env.now s.new.env y records) same learns in (
       records,
       count,
-      skipped_behind c.args.env.now s.new.env c.args.position.now c.new.result c.args.in_progress.now piece used records c.in-None.is large all
+      skipped_after c.args.env.now s.new.env c.args.position.now c.new.result c.args.in_progress.now piece used records c.in-None.is large all
           c.new.ensures.begins c.new.ensures.room,
     )

@@ -1,5 +1,5 @@
 use Rattle.fit_step.proofs.Common.{◌+◌, ◌≤◌, [], ◌∷◌, Data, arith}
-use Rattle.fit_step.proofs.SkippedRecords.{skipped_behind, one_learned}
+use Rattle.fit_step.proofs.SkippedRecords.{skipped_after, one_learned}
 use Rattle.fit_step.proofs.skipping.skip_message_in_section.Goals as goal
 use Rattle.fit_step.proofs.skipping.skip_message_in_section.Goals.{then-size-eq0-via-then-size-eq0}
 use Rattle.fit_step.proofs.skipping.skip_message_in_section.Goals.{then-size-eq0-via-else-size-eq0+then-size-saturating_sub}
@@ -19,7 +19,7 @@ returns-clause-message g c = λ some.
     let (v, is, stays) = s.ensures.message some in
     let large : s.result + 6 ≤ c.args.position.now.room = omega (arith, some) in (
       v,
-      skipped_behind e e c.args.position.now c.new.result c.args.in_progress.now c.args.piece.now s.result (Data v ∷ []) c.in-None.is large
+      skipped_after e e c.args.position.now c.new.result c.args.in_progress.now c.args.piece.now s.result (Data v ∷ []) c.in-None.is large
           (one_learned e v _ is stays) c.new.ensures.begins c.new.ensures.room,
     )
 

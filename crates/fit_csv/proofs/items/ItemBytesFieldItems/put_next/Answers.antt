@@ -22,11 +22,11 @@ returns c = on_ok_weaker c.put_bytes.result (λ put more items have.
     let order = c.args.self.now.order in
     let code = c.args.frame.now.code in
     let size = c.args.frame.now.size in
-    let behind = c.split_at.ensures.back ∙ ap (λ n. drop n bytes) c.size.ensures in (
+    let beyond = c.split_at.ensures.back ∙ ap (λ n. drop n bytes) c.size.ensures in (
       field_from order (code, size) (take size bytes),
       fields_from order more (drop size bytes),
       have.1,
-      (ap length behind ∙ (first_in_bytes (code, size) more bytes have.0).1, sym (ap (fields_from order more) behind)),
+      (ap length beyond ∙ (first_in_bytes (code, size) more bytes have.0).1, sym (ap (fields_from order more) beyond)),
       put ∙ ap (λ b. (c.args.text.now.items ++ c.args.frame.now.between)
           ++ field_text default_writer (cell code c.args.frame.now.info (field_from {A = Global} order (code, size) b)))
           (c.split_at.ensures.front ∙ ap (λ n. take n bytes) c.size.ensures),

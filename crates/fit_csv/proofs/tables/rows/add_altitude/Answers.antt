@@ -7,17 +7,17 @@ pub returns-then-is_enhanced : goal.returns-then-is_enhanced
 returns-then-is_enhanced g c d v t are =
     let a = value_text d v 78 in
     let b = value_text d v 2 in
-    let behind = c.push.new.self.items in
-    added (or_else a b) c.args.text.now.items behind c.put_value.new.text.items (high_else a b (high_value d v 78) (high_value d v 2))
+    let beyond = c.push.new.self.items in
+    added (or_else a b) c.args.text.now.items beyond c.put_value.new.text.items (high_else a b (high_value d v 78) (high_value d v 2))
     c.in_ok-push.ensures.items
-    (first_put a b c.in_ok-is_enhanced.is_enhanced behind c.put_value.new.text.items (c.in_ok-is_enhanced.ensures d v t are) c.if-is_enhanced.true)
+    (first_put a b c.in_ok-is_enhanced.is_enhanced beyond c.put_value.new.text.items (c.in_ok-is_enhanced.ensures d v t are) c.if-is_enhanced.true)
 
 pub returns : goal.returns
 returns g c d v t are =
     let a = value_text d v 78 in
     let b = value_text d v 2 in
-    let behind = c.push.new.self.items in
-    added (or_else a b) c.args.text.now.items behind c.put_value-2.new.text.items (high_else a b (high_value d v 78) (high_value d v 2))
+    let beyond = c.push.new.self.items in
+    added (or_else a b) c.args.text.now.items beyond c.put_value-2.new.text.items (high_else a b (high_value d v 78) (high_value d v 2))
     c.in_ok-push.ensures.items
-    (other_put a b c.in_ok-is_enhanced.is_enhanced behind c.put_value.new.text.items c.put_value-2.new.text.items (c.in_ok-is_enhanced.ensures d v t are)
+    (other_put a b c.in_ok-is_enhanced.is_enhanced beyond c.put_value.new.text.items c.put_value-2.new.text.items (c.in_ok-is_enhanced.ensures d v t are)
     c.if-is_enhanced.false (c.in_ok-put_value.ensures d v t are).1)

@@ -8,16 +8,16 @@ pub returns-then-is_own : goal.returns-then-is_own
 returns-then-is_own g c d v t are =
     let a = value_text d v 5 in
     let b = option_map (λ n. amount_text (pos n) 16 0) t.distance in
-    let behind = c.push.new.self.items in
-    added (or_else a b) c.args.text.now.items behind c.put_value.new.text.items (high_else a b (high_value d v 5) (high_told 16 t.distance))
-    c.in_ok-push.ensures.items (first_put a b c.in_ok-is_own.is_own behind c.put_value.new.text.items (c.in_ok-is_own.ensures d v t are) c.if-is_own.true)
+    let beyond = c.push.new.self.items in
+    added (or_else a b) c.args.text.now.items beyond c.put_value.new.text.items (high_else a b (high_value d v 5) (high_told 16 t.distance))
+    c.in_ok-push.ensures.items (first_put a b c.in_ok-is_own.is_own beyond c.put_value.new.text.items (c.in_ok-is_own.ensures d v t are) c.if-is_own.true)
 
 pub returns : goal.returns
 returns g c d v t are =
     let a = value_text d v 5 in
     let b = option_map (λ n. amount_text (pos n) 16 0) t.distance in
-    let behind = c.push.new.self.items in
-    added (or_else a b) c.args.text.now.items behind c.put_distance.new.text.items (high_else a b (high_value d v 5) (high_told 16 t.distance))
+    let beyond = c.push.new.self.items in
+    added (or_else a b) c.args.text.now.items beyond c.put_distance.new.text.items (high_else a b (high_value d v 5) (high_told 16 t.distance))
     c.in_ok-push.ensures.items
-    (other_put a b c.in_ok-is_own.is_own behind c.put_value.new.text.items c.put_distance.new.text.items (c.in_ok-is_own.ensures d v t are) c.if-is_own.false
+    (other_put a b c.in_ok-is_own.is_own beyond c.put_value.new.text.items c.put_distance.new.text.items (c.in_ok-is_own.ensures d v t are) c.if-is_own.false
     (c.in_ok-put_distance.ensures d v t are).1)

@@ -9,10 +9,10 @@ returns-then-is_enhanced g c d v t are =
     let a = value_text d v 73 in
     let b = value_text d v 6 in
     let e = option_map (λ n. amount_text (pos n) 100 0) t.speed in
-    let behind = c.push.new.self.items in
-    added (or_else a (or_else b e)) c.args.text.now.items behind c.put_value.new.text.items
+    let beyond = c.push.new.self.items in
+    added (or_else a (or_else b e)) c.args.text.now.items beyond c.put_value.new.text.items
     (high_else a (or_else b e) (high_value d v 73) (high_else b e (high_value d v 6) (high_told 100 t.speed))) c.in_ok-push.ensures.items
-    (first_put a (or_else b e) c.in_ok-is_enhanced.is_enhanced behind c.put_value.new.text.items (c.in_ok-is_enhanced.ensures d v t are)
+    (first_put a (or_else b e) c.in_ok-is_enhanced.is_enhanced beyond c.put_value.new.text.items (c.in_ok-is_enhanced.ensures d v t are)
     c.if-is_enhanced.true)
 
 pub returns-then-is_own : goal.returns-then-is_own
@@ -20,10 +20,10 @@ returns-then-is_own g c d v t are =
     let a = value_text d v 73 in
     let b = value_text d v 6 in
     let e = option_map (λ n. amount_text (pos n) 100 0) t.speed in
-    let behind = c.push.new.self.items in
-    added (or_else a (or_else b e)) c.args.text.now.items behind c.put_value-2.new.text.items
+    let beyond = c.push.new.self.items in
+    added (or_else a (or_else b e)) c.args.text.now.items beyond c.put_value-2.new.text.items
     (high_else a (or_else b e) (high_value d v 73) (high_else b e (high_value d v 6) (high_told 100 t.speed))) c.in_ok-push.ensures.items
-    (other_put a (or_else b e) c.in_ok-is_enhanced.is_enhanced behind c.put_value.new.text.items c.put_value-2.new.text.items
+    (other_put a (or_else b e) c.in_ok-is_enhanced.is_enhanced beyond c.put_value.new.text.items c.put_value-2.new.text.items
     (c.in_ok-is_enhanced.ensures d v t are) c.if-is_enhanced.false
     (first_put b e c.in_ok-is_own.is_own c.put_value.new.text.items c.put_value-2.new.text.items (c.in_ok-is_own.ensures d v t are) c.if-is_own.true))
 
@@ -32,10 +32,10 @@ returns g c d v t are =
     let a = value_text d v 73 in
     let b = value_text d v 6 in
     let e = option_map (λ n. amount_text (pos n) 100 0) t.speed in
-    let behind = c.push.new.self.items in
-    added (or_else a (or_else b e)) c.args.text.now.items behind c.put_speed.new.text.items
+    let beyond = c.push.new.self.items in
+    added (or_else a (or_else b e)) c.args.text.now.items beyond c.put_speed.new.text.items
     (high_else a (or_else b e) (high_value d v 73) (high_else b e (high_value d v 6) (high_told 100 t.speed))) c.in_ok-push.ensures.items
-    (other_put a (or_else b e) c.in_ok-is_enhanced.is_enhanced behind c.put_value.new.text.items c.put_speed.new.text.items
+    (other_put a (or_else b e) c.in_ok-is_enhanced.is_enhanced beyond c.put_value.new.text.items c.put_speed.new.text.items
     (c.in_ok-is_enhanced.ensures d v t are) c.if-is_enhanced.false
     (other_put b e c.in_ok-is_own.is_own c.put_value.new.text.items c.put_value-2.new.text.items c.put_speed.new.text.items
     (c.in_ok-is_own.ensures d v t are) c.if-is_own.false (c.in_ok-put_speed.ensures d v t are).1))

@@ -1,50 +1,50 @@
 -- Each turn takes one file, or ends the reading.
-use Rattle.fit_decode.proofs.Common.{Ok, Err, sym, subst, arith, Global, IsBehind, IsEnd, short_bytes, chain_limit}
+use Rattle.fit_decode.proofs.Common.{Ok, Err, sym, subst, arith, Global, IsAfter, IsEnd, short_bytes, chain_limit}
 use Rattle.fit_decode.proofs.ChainRead.{chain_ended, chain_stopped, gives_chain, one_longer, one_more, pushed}
 use Rattle.fit_decode.proofs.Nearly.{all_viable}
-use Rattle.fit_decode.proofs.NextRead.{comes_behind, next_good}
+use Rattle.fit_decode.proofs.NextRead.{comes_after, next_good}
 use Rattle.fit_decode.proofs.readers.chain.read_chain.Goals as goal
 
 pub returns-then-is_err-clause-exact : goal.returns-then-is_err-clause-exact
 returns-then-is_err-clause-exact g c =
-    let behind = c.files.invariant.behind in
-    let r = c.in-Ok.ensures.read c.files.files.items (comes_behind c.files.files.items _ _ _ behind) in
-    let more = one_more c.files.files.items _ _ _ c.read_file.new.taken.items _ _ _ _ c.read_file.new.decoder c.read_file.new.count behind
+    let beyond = c.files.invariant.beyond in
+    let r = c.in-Ok.ensures.read c.files.files.items (comes_after c.files.files.items _ _ _ beyond) in
+    let more = one_more c.files.files.items _ _ _ c.read_file.new.taken.items _ _ _ _ c.read_file.new.decoder c.read_file.new.count beyond
     c.files.invariant.eats c.in-Ok.ensures.counted
     c.in-Ok.ensures.viable c.in-Ok.file r in
-    let good = next_good c.files.files.items _ _ _ c.read_file.new.taken.items _ _ _ c.read_file.new.decoder c.read_file.new.count behind
+    let good = next_good c.files.files.items _ _ _ c.read_file.new.taken.items _ _ _ c.read_file.new.decoder c.read_file.new.count beyond
     c.in-Ok.ensures.counted c.in-Ok.ensures.viable c.in-Ok.file r in
     (c.read_file.new.taken.items, more.1, (more.0.counted, all_viable chain_limit c.read_file.new.taken.items more.0.viable, good))
 
 pub files-smaller : goal.files-smaller
 files-smaller g c =
-    let behind = c.files.invariant.behind in
-    let r = c.in-Ok.ensures.read c.files.files.items (comes_behind c.files.files.items _ _ _ behind) in
-    let longer = one_longer c.files.files.items _ _ _ c.read_file.new.taken.items _ _ _ _ c.read_file.new.decoder c.read_file.new.count behind
+    let beyond = c.files.invariant.beyond in
+    let r = c.in-Ok.ensures.read c.files.files.items (comes_after c.files.files.items _ _ _ beyond) in
+    let longer = one_longer c.files.files.items _ _ _ c.read_file.new.taken.items _ _ _ _ c.read_file.new.decoder c.read_file.new.count beyond
     c.files.invariant.eats c.in-Ok.ensures.counted
     c.in-Ok.ensures.viable c.in-Ok.file r in
-    omega (arith, longer, short_bytes c.files.taken.items behind.viable)
+    omega (arith, longer, short_bytes c.files.taken.items beyond.viable)
 
 pub files-preserved : goal.files-preserved
 files-preserved g c =
-    let behind = c.files.invariant.behind in
-    let r = c.in-Ok.ensures.read c.files.files.items (comes_behind c.files.files.items _ _ _ behind) in
-    let more = one_more c.files.files.items _ _ _ c.read_file.new.taken.items _ _ _ _ c.read_file.new.decoder c.read_file.new.count behind
+    let beyond = c.files.invariant.beyond in
+    let r = c.in-Ok.ensures.read c.files.files.items (comes_after c.files.files.items _ _ _ beyond) in
+    let more = one_more c.files.files.items _ _ _ c.read_file.new.taken.items _ _ _ _ c.read_file.new.decoder c.read_file.new.count beyond
     c.files.invariant.eats c.in-Ok.ensures.counted
     c.in-Ok.ensures.viable c.in-Ok.file r in
     let items = pushed c.push.result c.is_err.result c.files.files.items c.push.new.self.items c.in-Ok.file c.is_err.ensures.value c.if-is_err.false
     c.push.ensures.items in
     record {
-      behind = subst (λ fs. IsBehind fs c.read_file.new.decoder c.read_file.new.count c.read_file.new.taken.items) (sym items) more.0;
+      beyond = subst (λ fs. IsAfter fs c.read_file.new.decoder c.read_file.new.count c.read_file.new.taken.items) (sym items) more.0;
       eats = more.1;
     }
 
 pub returns-then-is_end-clause-exact : goal.returns-then-is_end-clause-exact
 returns-then-is_end-clause-exact g c =
-    let behind = c.files.invariant.behind in
-    let r = c.in-Err.ensures.read c.files.files.items (comes_behind c.files.files.items _ _ _ behind) in
+    let beyond = c.files.invariant.beyond in
+    let r = c.in-Err.ensures.read c.files.files.items (comes_after c.files.files.items _ _ _ beyond) in
     let end = subst (IsEnd Global c.read_file.new.decoder c.in-Err.fault) c.if-is_end.true c.is_end.ensures in
-    chain_ended c.files.files.items _ _ _ c.read_file.new.taken.items _ _ _ _ c.read_file.new.decoder c.read_file.new.count behind c.files.invariant.eats
+    chain_ended c.files.files.items _ _ _ c.read_file.new.taken.items _ _ _ _ c.read_file.new.decoder c.read_file.new.count beyond c.files.invariant.eats
     c.in-Err.ensures.counted c.in-Err.ensures.viable
     c.in-Err.fault r end
 
@@ -54,10 +54,10 @@ returns-then-is_end-clause-chain g c = λ fs b input are chain.
 
 pub returns-in-Err-clause-exact : goal.returns-in-Err-clause-exact
 returns-in-Err-clause-exact g c =
-    let behind = c.files.invariant.behind in
-    let r = c.in-Err.ensures.read c.files.files.items (comes_behind c.files.files.items _ _ _ behind) in
+    let beyond = c.files.invariant.beyond in
+    let r = c.in-Err.ensures.read c.files.files.items (comes_after c.files.files.items _ _ _ beyond) in
     let end = subst (IsEnd Global c.read_file.new.decoder c.in-Err.fault) c.if-is_end.false c.is_end.ensures in
-    chain_stopped c.files.files.items _ _ _ c.read_file.new.taken.items _ _ _ _ c.read_file.new.decoder c.read_file.new.count behind c.files.invariant.eats
+    chain_stopped c.files.files.items _ _ _ c.read_file.new.taken.items _ _ _ _ c.read_file.new.decoder c.read_file.new.count beyond c.files.invariant.eats
     c.in-Err.ensures.counted c.in-Err.ensures.viable
     c.in-Err.fault r end
 

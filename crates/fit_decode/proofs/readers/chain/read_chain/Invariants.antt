@@ -1,10 +1,10 @@
-use Rattle.fit_decode.proofs.Common.{◌-◌, length, Consumes, IsBehind}
+use Rattle.fit_decode.proofs.Common.{◌-◌, length, Consumes, IsAfter}
 use Rattle.fit_decode.proofs.readers.chain.read_chain.Given as goal
 
 -- the files so far, and the bytes taken for them
 abbrev pub invariant-files : goal.invariant-files
 invariant-files g l = record {
-  behind : IsBehind l.files.items l.decoder l.count l.taken.items;
+  beyond : IsAfter l.files.items l.decoder l.count l.taken.items;
   eats : Consumes (g.S.Source.remaining l.initial.source) (g.S.Source.remaining l.source) l.taken.items;
 }
 

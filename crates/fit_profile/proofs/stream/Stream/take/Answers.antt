@@ -5,5 +5,5 @@ use Rattle.fit_profile.proofs.stream.Stream.take.Goals as goal
 pub advance-requires-clause-last : goal.advance-requires-clause-last
 advance-requires-clause-last c =
     let r = c.args.record_.now in
-    last-now c.self.inside.env c.self.inside.last c.last_behind-last.result c.self.inside.names (reverse c.self.inside.pushed.items) c.args.self.now r
-    (tell c.self.inside.env c.self.inside.last r) c.self.invariant.0 c.self.view_is c.requires refl c.last_behind-last.ensures
+    last-now c.self.inside.env c.self.inside.last c.last_after_record-last.result c.self.inside.names (reverse c.self.inside.pushed.items) c.args.self.now r
+    (tell c.self.inside.env c.self.inside.last r) c.self.invariant.0 c.self.view_is c.requires refl c.last_after_record-last.ensures

@@ -1,12 +1,12 @@
 use Rattle.fit_record.proofs.Common.{◌∙◌, arith, None, Some}
-use Rattle.fit_record.proofs.CarriedMessages.{carried_by_size, behind_it, too_long}
+use Rattle.fit_record.proofs.CarriedMessages.{carried_by_size, after_it, too_long}
 use Rattle.fit_record.proofs.RoomTestsAnswer.{message_answered}
 use Rattle.fit_record.proofs.environment.Env.can_carry.Goals as goal
 
 pub returns-then-size-room-clause-test : goal.returns-then-size-room-clause-test
 returns-then-size-room-clause-test g c =
     let e = c.args.self.now in
-    behind_it e c.args.room c.in-Some.size c.can_fill.result c.length.ensures.places (omega arith) c.can_fill.ensures
+    after_it e c.args.room c.in-Some.size c.can_fill.result c.length.ensures.places (omega arith) c.can_fill.ensures
     ∙ carried_by_size e c.args.local c.args.room (Some c.in-Some.size) c.in-Some.ensures.size
 
 pub returns-else-size-room-clause-test : goal.returns-else-size-room-clause-test

@@ -1,5 +1,5 @@
 use Rattle.fit_csv.proofs.Common.{◌≡◌, ◌∙◌, ◌++◌, ◌∷◌, [], sym, ap, subst, arith, on_ok_weaker, ShownKey, HasFields, shown_cell}
-use Rattle.fit_csv.proofs.ShownLines.{cell_behind}
+use Rattle.fit_csv.proofs.ShownLines.{cell_after}
 use Rattle.fit_csv.proofs.show.frames.ShownField.put.Goals as goal
 
 pub show_next-requires : goal.show_next-requires
@@ -18,7 +18,7 @@ returns g c = on_ok_weaker c.put.result (λ put more all h.
       t.1,
       t.2,
       t.3,
-      cell_behind old (shown_cell key.code key.info t.0) c.show_next.new.text.items c.put.new.text.items key.bare key.full
+      cell_after old (shown_cell key.code key.info t.0) c.show_next.new.text.items c.put.new.text.items key.bare key.full
           c.after-after.result.now c.len.result c.len-start.result shown (omega (arith, c.len.ensures))
           (omega (arith, c.len-start.ensures)) c.after-after.ensures put,
     )) c.put.ensures

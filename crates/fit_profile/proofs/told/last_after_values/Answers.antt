@@ -1,7 +1,7 @@
 use Rattle.fit_profile.proofs.Common.{◌∙◌, ap, Defined, MessageDef, defined_at}
 use Rattle.fit_profile.specs.Told as telling
 use Rattle.fit_profile.proofs.Kept.{map-some, map-none}
-use Rattle.fit_profile.proofs.told.last_behind_values.Goals as goal
+use Rattle.fit_profile.proofs.told.last_after_values.Goals as goal
 
 pub returns-in-Some : goal.returns-in-Some
 returns-in-Some g c =

@@ -2,7 +2,7 @@ use Rattle.std.proofs.Common.{◌∙◌, ◌+◌, ap, sym, drop, length}
 use Rattle.std.proofs.lemmas.List.{take_rest}
 use Rattle.csv.proofs.ReadFacts.{on-ok}
 use Rattle.fit_cells.proofs.LoneCells.{cell_sent, put_ok}
-use Rattle.fit_cells.proofs.lone.put_behind.Goals as goal
+use Rattle.fit_cells.proofs.lone.put_after.Goals as goal
 
 pub returns-clause-text : goal.returns-clause-text
 returns-clause-text c =

@@ -1,6 +1,6 @@
 use Rattle.fit_profile.proofs.Common.{◌∙◌, ◌+◌, drop, drop_of_length-le, arith, sym, ap, refl, get_or, digits_in, next_value}
 use Rattle.fit_profile.proofs.DigitFacts.{digits_in-grows, digits_in-end, digits_in-at}
-use Rattle.fit_profile.proofs.digits.size_behind.Goals as goal
+use Rattle.fit_profile.proofs.digits.size_after.Goals as goal
 
 pub returns-in_err-size-clause-none : goal.returns-in_err-size-clause-none
 returns-in_err-size-clause-none c none =
