@@ -7,10 +7,10 @@ ghost use Rattle.fit_chain.specs.Checks.{AreChain};
 ghost use Rattle.fit_chain.specs.Events.{file_events};
 ghost use Rattle.fit_report.specs.Heard.{text_of};
 ghost use Rattle.fit_cells.specs.Rows.{csv_text};
-ghost use Rattle.fit_csv.specs.ChainRows.{chain_rows, rows_of};
+ghost use Rattle.fit_rows.specs.ChainRows.{chain_rows, rows_of};
 ghost use Rattle.fit_csv.specs.FromText.{IsTextOf};
-ghost use Rattle.fit_csv.specs.ShowLines.{show_line};
-ghost use Rattle.fit_csv.specs.Table.{table_of};
+ghost use Rattle.fit_rows.specs.ShowLines.{show_line};
+ghost use Rattle.fit_rows.specs.Table.{table_of};
 ghost use Rattle.fit_c.specs.Answers.{IsConverted, IsReported, IsTextRead, IsTextUnlessWant};
 
 use crate::FitAnswer;

@@ -1,25 +1,5 @@
 pub mod Common
-mod KnownRows
-pub mod RowsOfEvents
-mod ToldRows
-mod SkippedMessages
-mod ProfileScales
 mod Converted
-mod ToldTable
-pub mod TableRows
-mod Shapes
-mod NamingFacts
-mod DevFields
-mod DevKeyFacts
-mod FieldWalks
-mod KeyRows
-mod ItemFacts
-pub mod TextCells
-mod DevWalks
-mod InstantFacts
-mod MinuteFacts
-mod PlainInstants
-mod DegreeFacts
 mod SevenCells
 mod Closest
 mod ClosestRows
@@ -28,12 +8,8 @@ mod ZeroItems
 mod HeaderRows
 mod MessageRows
 mod ValueRows
-pub mod ShownCells
-mod ShownLines
-pub mod LinesOfChains
 mod ValueSteps
 mod PartSteps
-mod KnownDefinitions
 mod SoFar
 mod SoundSteps
 mod MoreRows
@@ -52,13 +28,5 @@ mod InRange
 mod SevenRows
 mod FromChain
 mod Unwritten
-pub mod FramedRows
-pub mod Stamps
-pub mod FloatCells
-mod BeginFacts
 mod TextRows
-pub mod TableColumnFacts
-pub mod AddedCells
-pub mod TableNumbers
-mod RowsInBytes
-mod CurrentFacts
+mod ReportTexts

@@ -7,13 +7,10 @@ use Rattle.fit_chain.specs.declared.event.Fault.TheVariants as faults
 use Rattle.fit_chain.specs.Checks.{AreChain}
 use Rattle.fit_chain.specs.Events.{Event, AreEvents}
 use Rattle.fit_decode.specs.Reads.{IsNearlyViable}
-use Rattle.fit_report.specs.Heard.{Lines, latest_records}
 use Rattle.fit_report.specs.Reports.{Channel, TextFailsIn, Faults, before_fault}
 use Rattle.fit_csv.specs.declared.fault.CsvFault.{CsvFault}
 use Rattle.fit_csv.specs.declared.fault.CsvFault.TheVariants as csv
 use Rattle.fit_cells.specs.Rows.{Row, csv_text}
-use Rattle.fit_csv.specs.ChainRows.{event_rows, files_heard}
-use Rattle.fit_csv.specs.Table.{table_event_rows}
 
 -- the rows of events
 abbrev pub RowsOf : Type 0
@@ -52,13 +49,3 @@ ConvertsTo rows source sink (Err (csv.Decode (faults.Read place))) = source.fail
 ConvertsTo rows source sink (Err csv.NoMemory) = source.failed ≡ false
 ConvertsTo rows source sink (Err (csv.Write written)) = sink.failed ≡ true
 ConvertsTo rows source sink (Err other) = ⊥
-
--- ---- text by events
-
--- the rows of an event after others, the latest first
-abbrev pub csv_line : Lines Global
-csv_line heard x = csv_text (event_rows (latest_records heard) x)
-
--- the same in the table
-abbrev pub table_text : Lines Global
-table_text heard x = csv_text (table_event_rows (files_heard heard) (latest_records heard) x)

@@ -12,7 +12,7 @@ use Rattle.fit_record.specs.Files.{chain_limit}
 use Rattle.fit_record.specs.Records.{Fits}
 use Rattle.fit_profile.specs.Looks.{known}
 use Rattle.fit_cells.specs.Rows.{Row, first_line}
-use Rattle.fit_csv.specs.ChainRows.{chain_rows, file_row, record_rows, records_rows}
+use Rattle.fit_rows.specs.ChainRows.{chain_rows, file_row, record_rows, records_rows}
 use Rattle.fit_csv.specs.Judged.{CanFollow, IsChainOfRows, MayGoOn, RecordInRange}
 use Rattle.fit_csv.specs.RowKinds.{IsDataRow, IsDefinitionRow, IsDevDefRow, IsDevRow, IsEndRow, IsFieldDefRow, IsFieldRow, IsFileRow, naming_at}
 

@@ -8,7 +8,7 @@ use Rattle.fit_record.specs.Files.{IsChain, chain_limit}
 use Rattle.fit_encode.specs.declared.fault.EncodeFault.{EncodeFault}
 use Rattle.fit_encode.specs.declared.fault.EncodeFault.TheVariants as encode
 use Rattle.fit_encode.specs.Faults.{IsFirstFault, StopsAt}
-use Rattle.fit_csv.specs.ChainRows.{chain_rows}
+use Rattle.fit_rows.specs.ChainRows.{chain_rows}
 use Rattle.fit_csv.specs.Judged.{AreFilesOf, HasNoHeader, IsCutOff, IsRefusedRow}
 use Rattle.fit_cells.specs.Rows.{RowsOfText}
 use Rattle.fit_report.specs.Reports.{Channel}

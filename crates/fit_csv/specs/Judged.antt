@@ -14,7 +14,7 @@ use Rattle.fit_record.specs.declared.message.Record.TheVariants.{Define, Values 
 use Rattle.fit_record.specs.Environment.{dev_defs, empty_environment}
 use Rattle.fit_record.specs.Files.{chain_limit}
 use Rattle.fit_record.specs.Records.{AllFit}
-use Rattle.fit_csv.specs.ChainRows.{chain_rows}
+use Rattle.fit_rows.specs.ChainRows.{chain_rows}
 use Rattle.csv.specs.Reading.{Reached, default_config, strip_bom}
 use Rattle.csv.specs.declared.parser.State.{State}
 use Rattle.csv.specs.declared.parser.State.TheVariants as st

@@ -1,5 +1,5 @@
--- What holds of the rows of records and chains, and of the computed texts of instants and positions.
-use Rattle.std.specs.Prelude.{◌≡◌, ◌++◌, ◌<◌, ◌≤◌, ◌^◌, ℕ, ℤ, List, Result, flat_map, length, reverse}
+-- What holds of the rows of records and chains, and of texts.
+use Rattle.std.specs.Prelude.{◌≡◌, ◌++◌, ◌≤◌, ◌^◌, ℕ, List, Result, length}
 use Rattle.fit_base.specs.Numbers.{IsBytes}
 use Rattle.std.specs.Global.{Global}
 use Rattle.fit_record.specs.declared.file.FitFile.{FitFile}
@@ -7,43 +7,11 @@ use Rattle.fit_record.specs.declared.message.Record.{Record}
 use Rattle.fit_record.specs.Files.{IsChain, chain_limit}
 use Rattle.fit_record.specs.Records.{Fits}
 use Rattle.fit_profile.specs.Looks.{known}
-use Rattle.fit_chain.specs.Events.{file_events}
-use Rattle.fit_profile.specs.Instant.{IsInstantText}
-use Rattle.fit_profile.specs.Scaled.{IsDegrees}
-use Rattle.fit_cells.specs.Rows.{Row, RowsOfText, csv_text}
-use Rattle.fit_report.specs.Heard.{text_of}
-use Rattle.fit_csv.specs.ShowLines.{show_line, show_lines}
-use Rattle.fit_csv.specs.Table.{table_of, table_rows}
-use Rattle.fit_csv.specs.InstantText.{instant_text}
-use Rattle.fit_csv.specs.Degrees.{degrees_of}
+use Rattle.fit_cells.specs.Rows.{Row, csv_text}
 use Rattle.fit_csv.specs.declared.fault.CsvFault.{CsvFault}
-use Rattle.fit_csv.specs.ChainRows.{chain_rows, record_rows, rows_of}
+use Rattle.fit_rows.specs.ChainRows.{chain_rows, record_rows}
 use Rattle.fit_csv.specs.FromText.{IsTextFinding, IsTextOf}
 use Rattle.fit_csv.specs.Judged.{IsChainOfRows, RecordInRange}
-
--- the rows of the events of a chain are the rows of the chain
-abbrev pub EventsHaveTheRows : Type 0 → Type 0
-EventsHaveTheRows A = (files : List (FitFile A)) → rows_of (flat_map file_events files) ≡ chain_rows files
-
--- the table of the events of a chain is the table of the chain
-abbrev pub ChainsHaveTables : Type 0 → Type 0
-ChainsHaveTables A = (files : List (FitFile A)) → table_of (flat_map file_events files) ≡ table_rows files
-
--- the text of a chain's events, as `show` writes it, is that of the chain
-abbrev pub ChainsHaveShowLines : Type 0 → Type 0
-ChainsHaveShowLines A = (files : List (FitFile A)) → text_of show_line (reverse (flat_map file_events files)) ≡ show_lines files
-
--- the text of a chain's table reads as its rows
-abbrev pub TablesReadBack : Type 0 → Type 0
-TablesReadBack A = (files : List (FitFile A)) → RowsOfText (csv_text (table_rows files)) (table_rows files)
-
--- the computed text of an instant is its text
-abbrev pub InstantTextIs : Type 0
-InstantTextIs = (t : ℕ) → t < 2 ^ 32 → IsInstantText t (instant_text t)
-
--- the computed number of degrees is the nearest one
-abbrev pub DegreesAreNearest : Type 0
-DegreesAreNearest = (semicircles : ℤ) → IsDegrees semicircles (degrees_of semicircles)
 
 -- After the same records, a record that fits and its rows determine each other, and no record's rows begin another's.
 abbrev pub RecordsHaveOwnRows : Type 0

@@ -1,13 +1,7 @@
-pub mod InstantText
-pub mod Degrees
-pub mod ChainRows
-pub mod Table
 pub mod Conversions
 pub mod Judged
 pub mod RowKinds
 pub mod FromText
 pub mod Laws
-pub mod ShowLines
-pub mod KeptEvents
 pub mod Follows
 pub mod inner

@@ -6,17 +6,16 @@ ghost use Rattle.fit_record.specs.declared.file.FitFile.{FitFile};
 ghost use Rattle.fit_record.specs.Files.{chain_limit, IsChain};
 ghost use Rattle.fit_chain.specs.Events.{file_events};
 ghost use Rattle.fit_report.specs.Reports.{channel};
-ghost use Rattle.fit_csv.specs.ChainRows.{chain_rows, rows_of};
+ghost use Rattle.fit_rows.specs.ChainRows.{chain_rows, rows_of};
 ghost use Rattle.fit_csv.specs.Conversions.{Converts, ConvertsTo, RowsOf};
 ghost use Rattle.fit_csv.specs.inner.Reporting.{HasText, csv_fault};
-ghost use Rattle.fit_csv.specs.Table.{table_of};
+ghost use Rattle.fit_rows.specs.Table.{table_of};
 
 use crate::CsvFault;
-use crate::rows::report::CsvReport;
-use crate::tables::report::TableReport;
 use fit_decode::Source;
 use fit_encode::{Sink, put_all};
 use fit_report::{Report, ReportFault, report};
+use fit_rows::{CsvReport, TableReport};
 use std::alloc::Global;
 
 /// The first line of the table.

@@ -19,7 +19,6 @@ mod open_file;
 mod open_message;
 mod plain;
 mod text;
-mod whole;
 
 use crate::CsvFault;
 use crate::from::judge::judge;

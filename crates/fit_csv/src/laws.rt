@@ -1,40 +1,14 @@
-//! What holds of the rows, tables and lines of records and chains, and of the computed texts of instants and positions.
+//! What holds of the rows of records and chains, and of texts. The laws of `fit_rows` are among them.
 ghost use Rattle.fit_csv.specs.Follows.{RowsThatFollow};
-ghost use Rattle.fit_csv.specs.Laws.{ChainsAreOfRows, ChainsHaveOwnRows, ChainsHaveShowLines, ChainsHaveTables, DegreesAreNearest, EventsHaveTheRows, InstantTextIs, RecordsHaveOwnRows, TablesReadBack, TextsComeBack, TextsHaveOneFinding};
+ghost use Rattle.fit_csv.specs.Laws.{ChainsAreOfRows, ChainsHaveOwnRows, RecordsHaveOwnRows, TextsComeBack, TextsHaveOneFinding};
 
 use fit_encode::laws::{faults_are_one, good_chains_have_no_fault};
 use fit_profile::laws::text_has_one_number;
-use std::alloc::{Allocator, Global};
-
-/// The rows of the events of a chain are the rows of the chain.
-pub fn events_have_the_rows<A: Allocator>()
-    ensures { EventsHaveTheRows A }
-{}
-
-/// The table of the events of a chain is the table of the chain.
-pub fn chains_have_tables<A: Allocator>()
-    ensures { ChainsHaveTables A }
-{}
-
-/// What `show` writes of the events of a chain are the lines of the chain.
-pub fn chains_have_show_lines<A: Allocator>()
-    ensures { ChainsHaveShowLines A }
-{}
-
-/// The text of the table of a chain reads as its rows.
-pub fn tables_read_back<A: Allocator>()
-    ensures { TablesReadBack A }
-{}
-
-/// The text of an instant that is computed by years and months is its text.
-pub fn instant_text_is()
-    ensures { InstantTextIs }
-{}
-
-/// The computed number of degrees of a position is the nearest one.
-pub fn degrees_are_nearest()
-    ensures { DegreesAreNearest }
-{}
+pub use fit_rows::laws::{
+    chains_have_show_lines, chains_have_tables, degrees_are_nearest, events_have_the_rows,
+    instant_text_is, tables_read_back,
+};
+use std::alloc::Global;
 
 /// After the same records, a record and its rows determine each other, and no record's rows begin
 /// another's.

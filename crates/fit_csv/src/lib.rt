@@ -3,22 +3,13 @@
 
 mod conversion;
 mod fault;
-mod floats;
 mod from;
-mod items;
-mod kept;
 pub mod laws;
-mod minutes;
-mod rows;
-mod show;
-mod stamp;
-mod tables;
-mod words;
 
 pub use conversion::{table, to_csv};
 pub use fault::CsvFault;
 pub use fit_cells::{
     cell_items, cell_text, next_row, put_cell, put_row, row_reader, row_writer, rows_text,
 };
+pub use fit_rows::ShowReport;
 pub use from::from_csv;
-pub use show::ShowReport;

@@ -15,11 +15,11 @@ pub use Rattle.fit_chain.specs.Events.{Event, header, item, file_end, file_event
 pub use Rattle.fit_chain.specs.Laws.{ReasonsAreOne, EventsAreOne}
 pub use Rattle.fit_chain.specs.declared.event.Fault.{Fault}
 pub use Rattle.fit_chain.specs.declared.event.Fault.TheVariants.{Refused, Truncated}
-pub use Rattle.fit_csv.specs.ChainRows.{rows_of, chain_rows}
+pub use Rattle.fit_rows.specs.ChainRows.{rows_of, chain_rows}
 pub use Rattle.fit_csv.specs.Conversions.{ConvertsTo, Converts, RowsOf}
 pub use Rattle.fit_csv.specs.FromText.{FromTextOf, IsTextFinding, IsWrong, ReadsText, UnlessWritten}
 pub use Rattle.fit_csv.specs.Laws.{TextsHaveOneFinding}
-pub use Rattle.fit_csv.specs.Table.{table_of}
+pub use Rattle.fit_rows.specs.Table.{table_of}
 pub use Rattle.fit_csv.specs.declared.fault.CsvFault.{CsvFault}
 pub use Rattle.fit_csv.specs.declared.fault.CsvFault.TheVariants.{BadCell, BadRow, Decode, Encode, Write}
 pub use Rattle.fit_frame.specs.declared.reason.Reason.{Reason}

@@ -17,7 +17,7 @@ use Rattle.fit_record.specs.Environment.{defined_at, dev_defs}
 use Rattle.fit_record.specs.Files.{chain_limit}
 use Rattle.fit_record.specs.Records.{DataFits, DefinitionFits}
 use Rattle.fit_profile.specs.Looks.{known}
-use Rattle.fit_csv.specs.ChainRows.{dev_def_row, dev_row, end_row, field_def_row, field_row, file_row}
+use Rattle.fit_rows.specs.ChainRows.{dev_def_row, dev_row, end_row, field_def_row, field_row, file_row}
 use Rattle.fit_csv.specs.Judged.{DevDefInRange, FieldDefInRange, HeaderInRange}
 use Rattle.fit_csv.specs.inner.Misfits.{HeadInRange, IsMessageStart, head_row, message_row}
 use Rattle.fit_csv.specs.RowKinds.{naming_at}

@@ -11,7 +11,7 @@ use Rattle.fit_record.specs.Environment.{defined_at, empty_environment}
 use Rattle.fit_record.specs.Files.{chain_limit}
 use Rattle.fit_record.specs.Records.{AllFit, DataHeaderFits, dev_layout, layout}
 use Rattle.fit_profile.specs.Looks.{known}
-use Rattle.fit_csv.specs.ChainRows.{data_rows, dev_def_row, field_def_row, file_row, file_rows, records_rows}
+use Rattle.fit_rows.specs.ChainRows.{data_rows, dev_def_row, field_def_row, file_row, file_rows, records_rows}
 use Rattle.fit_csv.specs.Judged.{DevDefInRange, FieldDefInRange, HeaderInRange, IsFileOfRows, RecordInRange}
 use Rattle.fit_csv.specs.inner.Misfits.{HeadInRange, head_row}
 use Rattle.fit_csv.specs.inner.Progress.{dev_total, is_whole, is_whole_message}

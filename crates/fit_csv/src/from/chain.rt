@@ -11,11 +11,11 @@ use crate::from::cells::{Cells, same};
 use crate::from::header::{file_end, file_header};
 use crate::from::misfit::Misfit;
 use crate::from::open_file::{OpenFile, Part};
-use crate::rows::maker::RowMaker;
 use fit_base::Entries;
 use fit_encode::{SpelledFile, SpelledRecords};
 use fit_profile::Stream;
 use fit_record::CHAIN_LIMIT;
+use fit_rows::MessageReader;
 use std::alloc::Global;
 use std::mem;
 
@@ -93,8 +93,7 @@ impl Chain {
     /// nothing changes.
     pub(crate) fn take_message<'a>(
         &mut self,
-        maker: &mut RowMaker,
-        written: &mut Vec<u8>,
+        reader: &mut MessageReader,
         text: &'a [u8],
     ) -> Result<Option<&'a [u8]>, Misfit>
         requires { IsSoundChain self.old }
@@ -104,7 +103,7 @@ impl Chain {
         ensures same { IfOk result (λ found. IsNone found → self.new ≡ self.old) }
     {
         match &mut self.current {
-            Some(file) => file.take_message(maker, written, text),
+            Some(file) => file.take_message(reader, text),
             None => Ok(None),
         }
     }

@@ -1,6 +1,6 @@
 //! Rows of definition messages.
 ghost use Rattle.std.specs.Prelude.{◌≡◌, ◌<◌, ◌^◌, [], ℕ, Option, codes, decimal, IfErr, IfOk, IfSome};
-ghost use Rattle.fit_csv.specs.ChainRows.{dev_def_row, field_def_row, optional_number, order_word, row};
+ghost use Rattle.fit_rows.specs.ChainRows.{dev_def_row, field_def_row, optional_number, order_word, row};
 ghost use Rattle.fit_base.specs.declared.number.Order.{Order};
 ghost use Rattle.fit_csv.specs.inner.Misfits.{HeadInRange, IsHeadRow, IsCellFault, IsRowOfThree, head_row};
 ghost use Rattle.fit_csv.specs.Judged.{DevDefInRange, FieldDefInRange};
@@ -11,9 +11,9 @@ ghost use Rattle.fit_csv.specs.inner.Seven.{AsFar, row_of};
 use crate::from::cells::{Cells, first_difference, same};
 use crate::from::misfit::Misfit;
 use crate::from::number::{byte_in, number_in};
-use crate::words::{optional_number, order_word};
 use fit_base::{Entries, Order};
 use fit_record::{DevDef, FieldDef};
+use fit_rows::words::{optional_number, order_word};
 use itoa::Buffer;
 
 /// The first row of a definition message.

@@ -1,23 +1,24 @@
 //! The rows of the fields of a data message.
-ghost use Rattle.std.specs.Prelude.{◌≡◌, [], Some, IfErr, IfOk, IfSome, option_map};
+ghost use Rattle.std.specs.Prelude.{◌≡◌, [], Some, IfErr, IfOk, IfSome, option_and_then, option_map, slice_get, unwrap_or};
 ghost use Rattle.std.specs.Global.{Global};
 ghost use Rattle.fit_base.specs.declared.items.Items.{Items};
 ghost use Rattle.fit_base.specs.Fields.{HasShape};
+ghost use Rattle.fit_profile.specs.Described.{namings_at};
 ghost use Rattle.fit_profile.specs.Names.{meaning};
 ghost use Rattle.fit_profile.specs.Scaled.{IsScale};
 ghost use Rattle.fit_cells.specs.Cells.{cell};
-ghost use Rattle.fit_csv.specs.ChainRows.{dev_row, field_row, row};
+ghost use Rattle.fit_rows.specs.ChainRows.{dev_row, field_row, row};
 ghost use Rattle.fit_csv.specs.RowKinds.{IsDevRow, IsFieldRow, naming_at};
 ghost use Rattle.fit_csv.specs.inner.Misfits.{IsCellFault, IsMisfit, IsValueRow};
 ghost use Rattle.fit_csv.specs.inner.Seven.{row_of};
 
 use crate::from::cells::{Cells, first_difference, same};
 use crate::from::misfit::Misfit;
-use crate::words::{dev_name, dev_unit, numbered_label, unit_text};
 use fit_base::{Code, Items};
 use fit_cells::cell_items_by;
-use fit_profile::{Info, Stream, field_info, field_label};
+use fit_profile::{Info, Label, Stream, field_info, field_label};
 use fit_record::{DevDef, FieldDef};
+use fit_rows::words::{numbered_label, unit_text};
 use std::alloc::Global;
 use std::str;
 
@@ -127,6 +128,28 @@ pub(crate) fn field_items(
                 unit,
             )
         }
+    }
+}
+
+/// The name of a developer field of the next message of a local message type, or else this label.
+fn dev_name<'a>(stream: &'a Stream, local: u8, place: u8, label: &'a Label) -> &'a str
+    ensures { result.now ≡ unwrap_or (option_and_then (λ t. t.name)
+        (slice_get (namings_at stream.now local) place)) label.now.bytes }
+{
+    match stream.dev_name(local, place) {
+        Some(name) => name,
+        None => label.as_str(),
+    }
+}
+
+/// The unit of a developer field of the next message of a local message type, or an empty text.
+fn dev_unit(stream: &Stream, local: u8, place: u8) -> &str
+    ensures { result.now ≡ unwrap_or (option_and_then (λ t. t.unit)
+        (slice_get (namings_at stream.now local) place)) [] }
+{
+    match stream.dev_unit(local, place) {
+        Some(unit) => unit,
+        None => "",
     }
 }
 

@@ -1,8 +1,8 @@
 //! The rows in which files begin and end.
 ghost use Rattle.std.specs.Prelude.{◌≡◌, ◌≤◌, ◌<◌, ◌-◌, ◌^◌, ℕ, List, All, codes, decimal, IfErr, IfOk, IfSome, IsNone, OnOk, length};
 ghost use Rattle.fit_frame.specs.declared.header.HeaderSum.{HeaderSum};
-ghost use Rattle.fit_csv.specs.ChainRows.{end_row, file_row};
-ghost use Rattle.fit_csv.specs.ChainRows as rows;
+ghost use Rattle.fit_rows.specs.ChainRows.{end_row, file_row};
+ghost use Rattle.fit_rows.specs.ChainRows as rows;
 ghost use Rattle.fit_csv.specs.Judged.{HeaderInRange};
 ghost use Rattle.fit_csv.specs.inner.Misfits.{HasSum, IsHeaderSize, IsCellFault};
 ghost use Rattle.fit_csv.specs.RowKinds.{IsEndRow, IsFileRow};
@@ -12,10 +12,10 @@ ghost use Rattle.fit_csv.specs.inner.Seven.{AsFar, DifferAt, row_of};
 use crate::from::cells::{Cells, first_difference, same};
 use crate::from::misfit::Misfit;
 use crate::from::number::{byte_in, number_in};
-use crate::words::{put_rest, sum_word};
 use arrayvec::ArrayVec;
 use fit_cells::read_bytes;
 use fit_frame::{Header, HeaderSum};
+use fit_rows::words::{put_rest, sum_word};
 use itoa::Buffer;
 use std::alloc::{AllocError, Global};
 

@@ -14,12 +14,12 @@ use crate::from::cells::{Cells, cells_of, same};
 use crate::from::chain::Chain;
 use crate::from::misfit::Misfit;
 use crate::from::plain::plain_row;
-use crate::rows::maker::RowMaker;
 use csv::{ByteRecord, Reader};
 use fit_base::Entries;
 use fit_cells::{RowWriter, next_row, row_reader};
 use fit_encode::SpelledFile;
 use fit_profile::laws::text_has_one_number;
+use fit_rows::MessageReader;
 use std::alloc::Global;
 
 /// Whether cells are those of the first line.
@@ -156,7 +156,8 @@ fn take_plain<'a>(
 /// Takes the data message with whose rows a text begins, or else its first row, and answers what is left.
 fn take_next<'a>(
     alloc: Global,
-    maker: &mut RowMaker,
+    reader: &mut MessageReader,
+    writer: &mut RowWriter,
     written: &mut Vec<u8>,
     chain: &mut Chain,
     text: &'a [u8],
@@ -166,9 +167,9 @@ fn take_next<'a>(
     ensures rows { IfSome result (λ left.
         BeginsWithMore text.now left.now (rows_so_far chain.old) (rows_so_far chain.new)) }
 {
-    match chain.take_message(maker, written, text) {
+    match chain.take_message(reader, text) {
         Ok(Some(left)) => Some(left),
-        Ok(None) => take_plain(alloc, &mut maker.writer, written, chain, text),
+        Ok(None) => take_plain(alloc, writer, written, chain, text),
         Err(_) => None,
     }
 }
@@ -179,13 +180,21 @@ fn judge_plain(alloc: Global, text: &[u8]) -> Option<Entries<SpelledFile>>
 {
     let mut rest = after_first_line(text)?;
     let mut chain = Chain::new(alloc);
-    let mut maker = RowMaker::new(alloc);
+    let mut reader = MessageReader::new(alloc);
+    let mut writer = RowWriter::new(alloc);
     let mut written = Vec::new(alloc);
     for _ in 0..text.len() {
         if rest.is_empty() {
             return files_of(chain);
         }
-        rest = take_next(alloc, &mut maker, &mut written, &mut chain, rest)?;
+        rest = take_next(
+            alloc,
+            &mut reader,
+            &mut writer,
+            &mut written,
+            &mut chain,
+            rest,
+        )?;
     }
     None
 }

@@ -3,17 +3,17 @@ ghost use Rattle.std.specs.Prelude.{◌≡◌, ◌<◌, ℕ, Option, Some, codes
 ghost use Rattle.fit_profile.specs.Looks.{known};
 ghost use Rattle.fit_record.specs.Environment.{defined_at};
 ghost use Rattle.fit_record.specs.Records.{DataHeaderFits};
-ghost use Rattle.fit_csv.specs.ChainRows.{optional_number};
+ghost use Rattle.fit_rows.specs.ChainRows.{optional_number};
 ghost use Rattle.fit_csv.specs.inner.Misfits.{IsMessageOrEnd, IsMessageRow, IsMessageStart, IsCellFault, global_at, message_row};
 ghost use Rattle.fit_csv.specs.inner.Seven.{row_of};
 
 use crate::from::cells::{Cells, first_difference, same};
 use crate::from::misfit::Misfit;
 use crate::from::number::byte_in;
-use crate::words::{header_time, optional_number, time_text};
 use fit_base::Entries;
 use fit_profile::{Stream, message_label};
 use fit_record::Values;
+use fit_rows::words::{header_time_text, optional_number};
 use itoa::Buffer;
 use std::alloc::Global;
 
@@ -93,7 +93,7 @@ fn rest_of_message(
 {
     let offset = offset_in(cells.b, local);
     let label = message_label(global_at(before, local));
-    let time = time_text(header_time(before, offset));
+    let time = header_time_text(before, offset);
     let mut offset_text = Buffer::new();
     let shown = Cells {
         kind: cells.kind,

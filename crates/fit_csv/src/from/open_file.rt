@@ -14,13 +14,12 @@ use crate::from::message::message_head;
 use crate::from::misfit::Misfit;
 use crate::from::open_definition::{definition_of, is_whole, take_definition};
 use crate::from::open_message::{is_whole_message, take_message};
-use crate::from::whole::whole_message;
-use crate::rows::maker::RowMaker;
 use fit_base::Entries;
 use fit_encode::SpelledRecords;
 use fit_frame::Header;
 use fit_profile::Stream;
 use fit_record::{Record, Values};
+use fit_rows::MessageReader;
 use std::alloc::Global;
 use std::mem;
 
@@ -116,8 +115,7 @@ impl OpenFile {
     /// nothing changes.
     pub(crate) fn take_message<'a>(
         &mut self,
-        maker: &mut RowMaker,
-        written: &mut Vec<u8>,
+        reader: &mut MessageReader,
         text: &'a [u8],
     ) -> Result<Option<&'a [u8]>, Misfit>
         requires { IsSoundFile self.old }
@@ -129,10 +127,10 @@ impl OpenFile {
         if !self.is_between_records() {
             return Ok(None);
         }
-        let Some((message, left)) = whole_message(maker, written, &self.before, text) else {
+        let Some((values, left)) = reader.whole_message(&self.before, text) else {
             return Ok(None);
         };
-        self.add_record(message)?;
+        self.add_record(Record::Values(values))?;
         Ok(Some(left))
     }
 

@@ -10,10 +10,10 @@ ghost use Rattle.fit_csv.specs.inner.Seven.{row_of};
 use crate::from::cells::Cells;
 use crate::from::fields::{dev_items, field_items};
 use crate::from::misfit::Misfit;
-use crate::words::dev_slice;
 use fit_base::{Entries, Items};
 use fit_profile::Stream;
 use fit_record::{Defined, FieldDef, Values};
+use fit_rows::words::dev_slice;
 use std::alloc::Global;
 
 /// Takes the items of one more field.

@@ -34,8 +34,8 @@ fn likely_cells(text: &[u8]) -> Option<Cells<'_>> {
 }
 
 /// What comes after a beginning of a text, where it begins so.
-#[tactic(auto, using(crate::proofs::BeginFacts::stripped))]
-pub(crate) fn after_front<'a>(text: &'a [u8], front: &[u8]) -> Option<&'a [u8]>
+#[tactic(auto, using(fit_rows::proofs::BeginFacts::stripped))]
+fn after_front<'a>(text: &'a [u8], front: &[u8]) -> Option<&'a [u8]>
     ensures { IfSome result (λ left. text.now ≡ front.now ++ left.now) }
 {
     text.strip_prefix(front)

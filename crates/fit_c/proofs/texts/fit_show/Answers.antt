@@ -1,6 +1,6 @@
 use Rattle.fit_c.proofs.Common.{false, Some, refl, subst, sym, flat_map, reverse, file_events, text_of, Channel, HasTold, IsTextUnlessWant, given}
 use Rattle.fit_base.proofs.ByteLists.{slice_is_bytes}
-use Rattle.fit_csv.specs.ShowLines.{show_line}
+use Rattle.fit_rows.specs.ShowLines.{show_line}
 use Rattle.fit_c.proofs.Handed.{shown_chain}
 use Rattle.fit_c.proofs.texts.fit_show.Goals as goal
 

@@ -1,5 +1,5 @@
 use Rattle.fit_csv.proofs.Common.{table_of}
-use Rattle.fit_csv.proofs.ToldTable.{table_has_text}
+use Rattle.fit_csv.proofs.ReportTexts.{table_has_text}
 use Rattle.fit_csv.proofs.conversion.table.Goals as goal
 
 pub returns-clause-converts : goal.returns-clause-converts

@@ -1,6 +1,6 @@
 use Rattle.fit_csv.proofs.Common.{subst, channel, rows_of, ConvertsTo}
-use Rattle.fit_csv.proofs.RowsOfEvents.{rows-of-chain}
-use Rattle.fit_csv.proofs.ToldRows.{rows_text}
+use Rattle.fit_rows.proofs.RowsOfEvents.{rows-of-chain}
+use Rattle.fit_csv.proofs.ReportTexts.{rows_text}
 use Rattle.fit_csv.proofs.conversion.to_csv.Goals as goal
 
 pub returns-clause-converts : goal.returns-clause-converts

@@ -1,7 +1,7 @@
-use Rattle.fit_csv.proofs.Common.{◌≡◌, ◌∙◌, [], refl, sym, ap, subst, instant_text, message_label, optional_number, row, IsMessageRow, global_at, Row, DifferAt}
+use Rattle.fit_csv.proofs.Common.{◌≡◌, ◌∙◌, [], refl, sym, ap, subst, message_label, optional_number, row, IsMessageRow, global_at, Row, DifferAt}
 use Rattle.fit_csv.proofs.Common.{row_of}
 use Rattle.std.proofs.Common.{decimal}
-use Rattle.std.specs.Prelude.{codes, option_map, unwrap_or}
+use Rattle.std.specs.Prelude.{codes}
 use Rattle.fit_csv.proofs.Closest.{closest}
 use Rattle.fit_csv.proofs.SevenCells.{same-cells}
 use Rattle.fit_csv.proofs.MessageRows.{message-closest, time_cell}
@@ -19,8 +19,7 @@ returns-in-Some-clause-err c =
     let ec : c.as_bytes.result.now ≡ message_label (global_at c.args.before.now c.args.local) =
     c.as_bytes.ensures.value ∙ c.as_str.ensures.value ∙ c.message_label-label.ensures ∙ ap message_label c.global_at.ensures in
     let ed : c.as_bytes-2.result.now ≡ time_cell c.args.before.now c.offset_in-offset.result =
-    c.as_bytes-2.ensures.value ∙ c.as_str-2.ensures.value ∙ c.time_text-time.ensures.text
-    ∙ ap (λ t. unwrap_or (option_map instant_text t) []) c.header_time.ensures in
+    c.as_bytes-2.ensures.value ∙ c.as_str-2.ensures.value ∙ c.header_time_text-time.ensures in
     let differs : DifferAt c.in-Some.column shown (row_of c.args.cells.now) =
     subst (λ (r : Row). DifferAt c.in-Some.column r (row_of c.args.cells.now))
     (same-cells c.requires.kind (sym c.requires.shown) c.optional_number.ensures ec ed refl refl) c.in-Some.ensures.some in

@@ -1,0 +1,33 @@
+pub mod Common
+mod KnownRows
+pub mod RowsOfEvents
+pub mod ToldRows
+mod SkippedMessages
+pub mod ProfileScales
+pub mod ToldTable
+pub mod TableRows
+pub mod Shapes
+pub mod NamingFacts
+mod DevFields
+mod DevKeyFacts
+mod FieldWalks
+mod KeyRows
+mod ItemFacts
+pub mod TextCells
+mod InstantFacts
+mod MinuteFacts
+mod PlainInstants
+mod DegreeFacts
+pub mod ShownCells
+mod ShownLines
+pub mod LinesOfChains
+pub mod KnownDefinitions
+pub mod FramedRows
+pub mod Stamps
+pub mod FloatCells
+pub mod BeginFacts
+pub mod TableColumnFacts
+pub mod AddedCells
+pub mod TableNumbers
+mod RowsInBytes
+mod CurrentFacts

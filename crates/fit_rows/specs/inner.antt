@@ -1,0 +1,9 @@
+-- Definitions that no public contract cites: what private functions and proofs need.
+pub mod TableCells
+pub mod TableColumns
+pub mod Current
+pub mod Reporting
+pub mod Showing
+pub mod Minutes
+pub mod Frames
+pub mod MessageKeys

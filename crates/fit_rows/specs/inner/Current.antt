@@ -1,0 +1,21 @@
+-- What is kept for local message types, and of which it is known that it is that of the definition. No public contract names these.
+use Rattle.std.specs.Prelude.{◌≡◌, ℕ, List, Some, slice_get}
+use Rattle.std.specs.Global.{Global}
+use Rattle.fit_record.specs.Environment.{defined_at}
+use Rattle.fit_record.specs.declared.definition.FieldDef.{FieldDef}
+use Rattle.fit_record.specs.declared.environment.Defined.{Defined}
+use Rattle.fit_record.specs.declared.message.Record.{Record}
+use Rattle.fit_profile.specs.Looks.{known}
+use Rattle.fit_rows.specs.declared.kept.ByLocal.{ByLocal}
+
+-- If what is kept for this local message type is known, it is this.
+abbrev pub IsCurrent : {T : Type 0} → ByLocal T → ℕ → T → Type 0
+IsCurrent kept local item = kept.current ≡ Some local → slice_get kept.items.items local ≡ Some (Some item)
+
+-- What is known is that of the definition of its local message type after these records.
+abbrev pub AreCurrent : {T : Type 0} → (List (Record Global) → ℕ → Defined Global → T) → ByLocal T → List (Record Global) → Type 0
+AreCurrent item_of kept before = (local : ℕ) (p : Defined Global) → defined_at (known before) local ≡ Some p → IsCurrent kept local (item_of before local p)
+
+-- what the columns of the table are kept of
+abbrev pub column_fields : List (Record Global) → ℕ → Defined Global → List FieldDef
+column_fields before local p = p.definition.fields

@@ -1,0 +1,18 @@
+//! The rows of a chain of files, its table and the lines of its events, as text.
+#![tactic(auto)]
+
+mod floats;
+mod items;
+mod kept;
+pub mod laws;
+mod minutes;
+mod rows;
+mod show;
+mod stamp;
+mod tables;
+pub mod words;
+
+pub use rows::report::CsvReport;
+pub use rows::whole::MessageReader;
+pub use show::ShowReport;
+pub use tables::report::TableReport;

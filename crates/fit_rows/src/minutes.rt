@@ -1,0 +1,144 @@
+//! The texts of times, by what the times of a minute have in common.
+ghost use Rattle.std.specs.Prelude.{◌≡◌, ◌+◌, ◌++◌, ◌/◌, ◌<◌, [], IfOk, IsTrue, OnOk, false, option_map, unwrap_or};
+ghost use Rattle.csv.specs.Writing.{default_writer, needs_quotes};
+ghost use Rattle.fit_rows.specs.InstantText.{instant_text};
+ghost use Rattle.fit_rows.specs.inner.Minutes.{seconds_text};
+
+use crate::stamp::Stamp;
+use crate::words::time_text;
+use std::alloc::{AllocError, Global};
+use std::marker::Model;
+
+/// The last minute with a time below 0x10000000, which is no civil time.
+const LAST_SYSTEM_MINUTE: u32 = 4_473_924;
+
+/// The digit of a number below ten.
+fn digit(n: u32) -> u8
+    requires { n < 10 }
+    ensures { result ≡ 48 + n }
+{
+    b'0' + n as u8
+}
+
+/// Puts the end of a time from its seconds on.
+fn put_seconds(text: &mut Vec<u8>, seconds: u32) -> Result<(), AllocError>
+    requires { seconds < 60 }
+    ensures { OnOk result (text.new.items ≡ text.old.items ++ seconds_text seconds) }
+{
+    text.extend_from_slice(&[digit(seconds / 10), digit(seconds % 10), b'Z'])
+}
+
+/// A minute of civil time.
+#[derive(Drop)]
+pub(crate) struct Minute {
+    /// How many minutes after 1989-12-31T00:00:00 UTC.
+    number: u32,
+    /// What its times begin with, up to their seconds.
+    text: Stamp,
+}
+
+impl Model for Minute {
+    ghost use Rattle.std.specs.Prelude.{ℕ};
+    ghost use Rattle.fit_rows.specs.inner.Minutes.{IsMinute};
+
+    ghost Value = { ℕ };
+
+    ghost view = { λ m. m.number };
+
+    ghost invariant = { λ m. IsMinute m.number m.text };
+}
+
+impl Minute {
+    /// That of a time.
+    fn of(alloc: Global, time: u32) -> Result<Minute, AllocError>
+        requires { 4_473_924 < time / 60 }
+        ensures { IfOk result (λ m. m ≡ time / 60) }
+    {
+        let mut text = Vec::new(alloc);
+        text.extend_from_slice(time_text(Some(time)).as_str().as_bytes())?;
+        text.truncate(17);
+        Ok(Minute {
+            number: time / 60,
+            text: Stamp::new(text)?,
+        })
+    }
+
+    /// Whether a time lies in it.
+    #[inline(always)]
+    fn has(&self, time: u32) -> bool
+        ensures { IsTrue result → time / 60 ≡ self.now }
+    {
+        time / 60 == self.number
+    }
+
+    /// Puts one of its times.
+    #[inline(always)]
+    fn put(&self, text: &mut Vec<u8>, time: u32) -> Result<(), AllocError>
+        requires { time / 60 ≡ self.now }
+        ensures { OnOk result (text.new.items ≡ text.old.items ++ instant_text time) }
+    {
+        self.text.put(text)?;
+        put_seconds(text, time % 60)
+    }
+}
+
+/// Puts times one after another.
+#[derive(Drop)]
+pub(crate) struct Times {
+    alloc: Global,
+    /// The minute of the last one.
+    minute: Option<Minute>,
+}
+
+impl Times {
+    /// It has put no time.
+    pub(crate) fn new(alloc: Global) -> Times {
+        Times {
+            alloc,
+            minute: None,
+        }
+    }
+
+    /// Puts a time, and keeps its minute, where it is civil.
+    #[inline(never)]
+    fn put_new(&mut self, text: &mut Vec<u8>, time: u32) -> Result<(), AllocError>
+        ensures { OnOk result (text.new.items ≡ text.old.items ++ instant_text time) }
+    {
+        text.extend_from_slice(time_text(Some(time)).as_str().as_bytes())?;
+        if time / 60 > LAST_SYSTEM_MINUTE {
+            self.minute = Some(Minute::of(self.alloc, time)?);
+        }
+        Ok(())
+    }
+
+    /// Puts a time.
+    #[inline(always)]
+    pub(crate) fn put(&mut self, text: &mut Vec<u8>, time: u32) -> Result<(), AllocError>
+        ensures { OnOk result (text.new.items ≡ text.old.items ++ instant_text time) }
+    {
+        if let Some(minute) = &self.minute {
+            if minute.has(time) {
+                return minute.put(text, time);
+            }
+        }
+        self.put_new(text, time)
+    }
+
+    /// Puts a time as a cell, which is empty where there is none.
+    #[inline(always)]
+    pub(crate) fn put_cell(
+        &mut self,
+        text: &mut Vec<u8>,
+        time: Option<u32>,
+    ) -> Result<(), AllocError>
+        ensures text { OnOk result (text.new.items
+            ≡ text.old.items ++ unwrap_or (option_map instant_text time) []) }
+        ensures plain { needs_quotes default_writer (unwrap_or (option_map instant_text time) [])
+            ≡ false }
+    {
+        match time {
+            Some(time) => self.put(text, time),
+            None => Ok(()),
+        }
+    }
+}

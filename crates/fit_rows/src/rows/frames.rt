@@ -1,0 +1,295 @@
+//! What stands around values in their rows, found out once for many messages.
+ghost use Rattle.std.specs.Prelude.{◌≡◌, ◌++◌, [], IfOk, IfSome, OnOk, codes, length, option_map};
+ghost use Rattle.std.specs.Global.{Global};
+ghost use Rattle.csv.specs.Writing.{default_writer, field_text, needs_quotes};
+ghost use Rattle.fit_base.specs.BaseTypes.{base_type};
+ghost use Rattle.fit_base.specs.Fields.{HasShape};
+ghost use Rattle.fit_base.specs.declared.code.Class.TheVariants.{Text};
+ghost use Rattle.fit_record.specs.ReadMessages.{field_from};
+ghost use Rattle.fit_profile.specs.Names.{meaning};
+ghost use Rattle.fit_profile.specs.Scaled.{IsScale};
+ghost use Rattle.fit_cells.specs.Cells.{cell};
+ghost use Rattle.fit_cells.specs.Forms.{IsFormOf, IsSmallForm};
+ghost use Rattle.fit_rows.specs.inner.Frames.{two_cells};
+
+pub(crate) mod likely;
+
+use crate::floats::{is_lone_float, put_float};
+use crate::stamp::Stamp;
+use fit_base::{Code, Items, Order, bits_at};
+use fit_cells::{
+    NumberForm, RowWriter, ShownText, formed, is_never_quoted, number_form, put_cell, put_formed,
+    shown_text,
+};
+use fit_profile::Info;
+use fit_record::read_items;
+use std::alloc::{AllocError, Global};
+use std::marker::Model;
+
+/// Puts two cells after a text, each with a comma after it.
+#[tactic(auto, using(crate::proofs::FramedRows::two_of_row))]
+pub(crate) fn put_two<'a>(
+    text: &mut Vec<u8>,
+    writer: &mut RowWriter,
+    first: &'a [u8],
+    second: &'a [u8],
+) -> Result<(), AllocError>
+    ensures { OnOk result (text.new.items ≡ text.old.items ++ two_cells first.now second.now) }
+{
+    let cells = [
+        first,
+        second,
+        b"".as_slice(),
+        b"".as_slice(),
+        b"".as_slice(),
+        b"".as_slice(),
+        b"".as_slice(),
+    ];
+    writer.put(text, cells.as_slice())?;
+    // without the commas after the other cells, and the line feed
+    text.truncate(text.len().saturating_sub(5));
+    Ok(())
+}
+
+/// Puts what stands after a value with this unit in its row.
+pub(crate) fn put_tail(
+    text: &mut Vec<u8>,
+    writer: &mut RowWriter,
+    unit: &[u8],
+) -> Result<(), AllocError>
+    ensures { OnOk result (text.new.items ≡ text.old.items ++ two_cells [] unit.now
+        ++ codes ",,\n") }
+{
+    put_two(text, writer, b"", unit)?;
+    text.extend_from_slice(b",,\n")
+}
+
+/// Puts the text of a string after a text, in quotes where it needs them.
+#[inline(always)]
+#[tactic(auto, using(crate::proofs::TextCells::unquoted))]
+fn put_shown(
+    text: &mut Vec<u8>,
+    writer: &mut RowWriter,
+    shown: ShownText<'_>,
+) -> Result<(), AllocError>
+    requires { shown.needs_quotes ≡ needs_quotes default_writer shown.text.now }
+    ensures { OnOk result (text.new.items
+        ≡ text.old.items ++ field_text default_writer shown.entry.text.now) }
+{
+    if shown.needs_quotes {
+        return writer.put_lone(text, shown.text);
+    }
+    text.extend_from_slice(shown.text)
+}
+
+/// What stands between the value before and one's own, and how one's own is read.
+#[derive(Drop)]
+pub(crate) struct Frame {
+    between: Stamp,
+    code: u8,
+    size: u8,
+    info: Option<Info>,
+    form: Option<NumberForm>,
+    /// Whether the value is a string.
+    is_text: bool,
+    /// Whether the value is one floating point number.
+    is_float: bool,
+}
+
+impl Model for Frame {
+    ghost use Rattle.std.specs.Prelude.{◌≡◌, IfSome, IsTrue, option_map};
+    ghost use Rattle.fit_base.specs.BaseTypes.{base_type};
+    ghost use Rattle.fit_base.specs.declared.code.Class.TheVariants.{Float, Text};
+    ghost use Rattle.fit_profile.specs.Names.{meaning};
+    ghost use Rattle.fit_profile.specs.Scaled.{IsScale};
+    ghost use Rattle.fit_cells.specs.Forms.{IsFormOf, IsSmallForm};
+    ghost use Rattle.fit_rows.specs.inner.Frames.{FrameText};
+
+    ghost Value = { FrameText };
+
+    ghost view = { λ f. record {
+      between = f.between;
+      code = f.code;
+      size = f.size;
+      info = option_map meaning f.info;
+    } };
+
+    ghost invariant = { λ f. IfSome f.info (λ i. IsScale i.scale) × IfSome f.form IsSmallForm
+        × IfSome f.form (IsFormOf f.code (option_map meaning f.info))
+        × (IsTrue f.is_text → (base_type f.code).class ≡ Text)
+        × (IsTrue f.is_float → (base_type f.code).class ≡ Float)
+        × (IsTrue f.is_float → (base_type f.code).width ≡ f.size) };
+}
+
+impl Frame {
+    /// What stands around a value of this code, size and meaning after a row with this end.
+    pub(crate) fn new<'a>(
+        alloc: Global,
+        writer: &mut RowWriter,
+        before: &[u8],
+        kind: &'a [u8],
+        name: &'a [u8],
+        code: u8,
+        size: u8,
+        info: Option<Info>,
+    ) -> Result<Frame, AllocError>
+        requires { IfSome info (λ i. IsScale i.scale) }
+        ensures { IfOk result (λ f. f ≡ record {
+          between = before.now
+              ++ two_cells kind.now name.now;
+          code = code;
+          size = size;
+          info = option_map meaning info;
+        }) }
+    {
+        let mut between = Vec::new(alloc);
+        between.extend_from_slice(before)?;
+        put_two(&mut between, writer, kind, name)?;
+        Ok(Frame {
+            between: Stamp::new(between)?,
+            code,
+            size,
+            info,
+            form: number_form(Code(code), info),
+            is_text: !is_never_quoted(Code(code)),
+            is_float: is_lone_float(Code(code), size),
+        })
+    }
+
+    /// How many bytes the field has.
+    #[inline(always)]
+    pub(crate) fn size(&self) -> u8
+        ensures { result ≡ self.now.size }
+    {
+        self.size
+    }
+
+    /// Puts a value that is no lone number after a text.
+    #[inline(never)]
+    fn put_other(
+        &self,
+        text: &mut Vec<u8>,
+        writer: &mut RowWriter,
+        value: &mut Vec<u8>,
+        items: &Items,
+    ) -> Result<(), AllocError>
+        requires { HasShape self.now.code self.now.size items.now }
+        ensures { OnOk result (text.new.items ≡ text.old.items
+            ++ field_text default_writer (cell self.now.code self.now.info items.now)) }
+    {
+        let code = Code(self.code);
+        if is_never_quoted(code) {
+            return put_cell(text, code, self.info, items);
+        }
+        value.clear();
+        put_cell(value, code, self.info, items)?;
+        writer.put_lone(text, value.as_slice())
+    }
+
+    /// Puts what stands before the value, and the value.
+    #[inline(always)]
+    pub(crate) fn put(
+        &self,
+        text: &mut Vec<u8>,
+        writer: &mut RowWriter,
+        value: &mut Vec<u8>,
+        items: &Items,
+    ) -> Result<(), AllocError>
+        requires { HasShape self.now.code self.now.size items.now }
+        ensures { OnOk result (text.new.items ≡ (text.old.items ++ self.now.between)
+            ++ field_text default_writer (cell self.now.code self.now.info items.now)) }
+    {
+        self.between.put(text)?;
+        if let Some((form, bits)) = formed(self.form, items) {
+            put_formed(text, form, bits)?;
+            return Ok(());
+        }
+        self.put_other(text, writer, value, items)
+    }
+
+    /// The form of a lone number, where its bytes are those of the field.
+    #[inline(always)]
+    fn lone_form(&self) -> Option<NumberForm>
+        ensures small { IfSome result IsSmallForm }
+        ensures width { IfSome result (λ f. f.width ≡ self.now.size) }
+        ensures form { IfSome result (IsFormOf self.now.code self.now.info) }
+    {
+        match self.form {
+            Some(form) if form.width == self.size => Some(form),
+            _ => None,
+        }
+    }
+
+    /// Puts a value that is no lone number after a text, by the bytes of its field.
+    #[inline(never)]
+    fn put_rest(
+        &self,
+        text: &mut Vec<u8>,
+        writer: &mut RowWriter,
+        value: &mut Vec<u8>,
+        alloc: Global,
+        order: Order,
+        bytes: &[u8],
+    ) -> Result<(), AllocError>
+        requires { length bytes.now ≡ self.now.size }
+        ensures { OnOk result (text.new.items ≡ text.old.items
+            ++ field_text default_writer (cell self.now.code self.now.info
+            (field_from {A = Global} order (self.now.code, self.now.size) bytes.now))) }
+    {
+        let items = read_items(alloc, order, self.code, self.size, bytes)?;
+        self.put_other(text, writer, value, &items)
+    }
+
+    /// Puts the value of a string after a text, by the bytes of its field.
+    #[inline(never)]
+    fn put_string(
+        &self,
+        text: &mut Vec<u8>,
+        writer: &mut RowWriter,
+        value: &mut Vec<u8>,
+        alloc: Global,
+        order: Order,
+        bytes: &[u8],
+    ) -> Result<(), AllocError>
+        requires class { (base_type self.now.code).class ≡ Text }
+        requires length { length bytes.now ≡ self.now.size }
+        ensures { OnOk result (text.new.items ≡ text.old.items
+            ++ field_text default_writer (cell self.now.code self.now.info
+            (field_from {A = Global} order (self.now.code, self.now.size) bytes.now))) }
+    {
+        match shown_text(bytes) {
+            Some(shown) => put_shown(text, writer, shown),
+            None => self.put_rest(text, writer, value, alloc, order, bytes),
+        }
+    }
+
+    /// The same as `put`, by the bytes of the field.
+    #[inline(always)]
+    pub(crate) fn put_bytes(
+        &self,
+        text: &mut Vec<u8>,
+        writer: &mut RowWriter,
+        value: &mut Vec<u8>,
+        alloc: Global,
+        order: Order,
+        bytes: &[u8],
+    ) -> Result<(), AllocError>
+        requires { length bytes.now ≡ self.now.size }
+        ensures { OnOk result (text.new.items ≡ (text.old.items ++ self.now.between)
+            ++ field_text default_writer (cell self.now.code self.now.info
+            (field_from {A = Global} order (self.now.code, self.now.size) bytes.now))) }
+    {
+        self.between.put(text)?;
+        if let Some(form) = self.lone_form() {
+            put_formed(text, form, bits_at(order, form.width, bytes))?;
+            return Ok(());
+        }
+        if self.is_text {
+            return self.put_string(text, writer, value, alloc, order, bytes);
+        }
+        if self.is_float {
+            return put_float(text, self.size, order, bytes);
+        }
+        self.put_rest(text, writer, value, alloc, order, bytes)
+    }
+}

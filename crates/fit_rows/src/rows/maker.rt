@@ -1,0 +1,87 @@
+//! What is kept from one row to the next.
+ghost use Rattle.std.specs.Prelude.{◌≡◌, None, OnOk, Some, slice_get};
+ghost use Rattle.fit_record.specs.Environment.{defined_at};
+ghost use Rattle.fit_record.specs.Sound.{IsSound};
+ghost use Rattle.fit_profile.specs.Looks.{known};
+ghost use Rattle.fit_rows.specs.inner.Current.{AreCurrent};
+ghost use Rattle.fit_rows.specs.inner.MessageKeys.{message_key};
+
+use crate::kept::{ByLocal, keep_at};
+use crate::minutes::Times;
+use crate::rows::template::Template;
+use fit_cells::RowWriter;
+use fit_profile::Stream;
+use fit_record::Defined;
+use std::alloc::{AllocError, Global};
+
+/// What rows are put with, one after another.
+#[derive(Drop)]
+pub(crate) struct RowMaker {
+    pub alloc: Global,
+    pub writer: RowWriter,
+    /// The memory of a cell.
+    pub value: Vec<u8>,
+    pub times: Times,
+    /// That of the last message of each local message type.
+    pub templates: ByLocal<Template>,
+}
+
+impl RowMaker {
+    /// It has put no row.
+    pub(crate) fn new(alloc: Global) -> RowMaker
+        ensures { result.templates.current ≡ None }
+    {
+        RowMaker {
+            alloc,
+            writer: RowWriter::new(alloc),
+            value: Vec::new(alloc),
+            times: Times::new(alloc),
+            templates: ByLocal::new(alloc),
+        }
+    }
+
+    /// Keeps the rows of the definition of this local message type after the records of a stream, where they aren't kept.
+    #[inline(never)]
+    fn renew(&mut self, stream: &Stream, local: u8, defined: &Defined) -> Result<(), AllocError>
+        requires place { defined_at (known stream.now) local ≡ Some defined.now }
+        requires sound { IsSound defined.now }
+        ensures kept { OnOk result (slice_get self.new.templates.items.items local
+            ≡ Some (Some (message_key stream.now local defined.now))) }
+        ensures current { AreCurrent message_key self.new.templates stream.now }
+    {
+        self.templates.forget();
+        if let Some(Some(template)) = self.templates.items.as_slice().get(local as usize) {
+            if template.is_of(stream, local, defined) {
+                self.templates.current = Some(local);
+                return Ok(());
+            }
+        }
+        let writer = &mut self.writer;
+        let template = Template::new(self.alloc, writer, stream, local, defined)?;
+        keep_at(&mut self.templates.items, local as usize, template)?;
+        self.templates.current = Some(local);
+        Ok(())
+    }
+
+    /// Keeps the rows of the definition of this local message type after the records of a stream, where it isn't known that they
+    /// are kept.
+    #[inline(always)]
+    pub(crate) fn keep_template(
+        &mut self,
+        stream: &Stream,
+        local: u8,
+        defined: &Defined,
+    ) -> Result<(), AllocError>
+        requires place { defined_at (known stream.now) local ≡ Some defined.now }
+        requires sound { IsSound defined.now }
+        requires current { AreCurrent message_key self.old.templates stream.now }
+        ensures kept { OnOk result (slice_get self.new.templates.items.items local
+            ≡ Some (Some (message_key stream.now local defined.now))) }
+        ensures current { AreCurrent message_key self.new.templates stream.now }
+    {
+        if self.templates.is_current(local) {
+            return Ok(());
+        }
+        self.renew(stream, local, defined)
+    }
+}

@@ -1,0 +1,136 @@
+//! The lines of `show`, told event by event.
+ghost use Rattle.std.specs.Prelude.{◌≡◌, ◌<◌, ◌^◌, ◌++◌, ◌∷◌, [], OnErr, OnOk};
+ghost use Rattle.std.specs.Global.{Global};
+ghost use Rattle.fit_record.specs.declared.message.Record.TheVariants.{Values as Data};
+ghost use Rattle.fit_record.specs.declared.message.Values.{Values};
+ghost use Rattle.fit_record.specs.Records.{IsRecord};
+ghost use Rattle.fit_profile.specs.Looks.{known};
+ghost use Rattle.fit_rows.specs.KeptEvents.{kept_events};
+ghost use Rattle.fit_rows.specs.ShowLines.{record_line};
+ghost use Rattle.fit_rows.specs.inner.Current.{AreCurrent};
+ghost use Rattle.fit_rows.specs.inner.Reporting.{AnswerFits, records_after_answer};
+ghost use Rattle.fit_rows.specs.inner.MessageKeys.{message_key};
+ghost use Rattle.fit_rows.specs.inner.TableCells.{files_after_answer};
+
+pub(crate) mod cells;
+mod fields;
+mod frames;
+mod lines;
+mod template;
+
+use crate::show::lines::{put_event, put_message};
+use crate::show::template::LineMaker;
+use fit_decode::{Decoder, Event};
+use fit_profile::Stream;
+use fit_profile::laws::looking_back_is_learning;
+use fit_report::Report;
+use fit_report::laws::{heard_are_few, heard_records_fit};
+use std::alloc::{AllocError, Global};
+use std::marker::Model;
+
+/// Takes an event in, and counts files. Where memory is refused, the stream stays as it was.
+fn follow(stream: &mut Stream, files: &mut u64, event: &Event) -> Result<(), AllocError>
+    requires fits { AnswerFits stream.old event.now }
+    requires few { files.old < 2 ^ 60 }
+    ensures ok { OnOk result (stream.new ≡ records_after_answer stream.old event.now) }
+    ensures err { OnErr result (stream.new ≡ stream.old) }
+    ensures files { OnOk result (files.new ≡ files_after_answer files.old event.now) }
+{
+    match event {
+        Event::Header(..) => {
+            *files += 1;
+            stream.begin_file();
+            Ok(())
+        }
+        Event::Item(record_) => stream.take(record_),
+        Event::More | Event::FileEnd => Ok(()),
+    }
+}
+
+/// Takes in the data message that the bytes are, and puts its line.
+fn take_message(
+    text: &mut Vec<u8>,
+    maker: &mut LineMaker,
+    stream: &mut Stream,
+    bytes: &[u8],
+) -> Result<(), AllocError>
+    requires record_ { (v : Values Global) × IsRecord (known stream.old) (Data v) bytes.now }
+    requires current { AreCurrent message_key maker.old.templates stream.old }
+    ensures line { OnOk result ((v : Values Global) → IsRecord (known stream.old) (Data v) bytes.now
+        → text.new.items ≡ text.old.items ++ record_line stream.old (Data v)) }
+    ensures stream { OnOk result ((v : Values Global)
+        → IsRecord (known stream.old) (Data v) bytes.now → stream.new ≡ Data v ∷ stream.old) }
+    ensures current { AreCurrent message_key maker.new.templates stream.new }
+{
+    put_message(text, maker, stream, bytes)?;
+    stream.take_message(bytes)
+}
+
+/// Makes the lines of `show` of the events of a chain of files: of each file its header, and a line for each definition message
+/// and each data message. Clauses see what it keeps of the events that it has heard: the records of the file that was begun last,
+/// the latest first, and how many files have begun.
+#[derive(Drop)]
+pub struct ShowReport {
+    stream: Stream,
+    files: u64,
+    maker: LineMaker,
+}
+
+impl Model for ShowReport {
+    ghost use Rattle.fit_rows.specs.KeptEvents.{KeptEvents};
+
+    ghost Value = { KeptEvents };
+
+    ghost view = { λ r. record { records = r.stream; files = r.files } };
+
+    ghost use Rattle.fit_rows.specs.inner.Current.{AreCurrent};
+    ghost use Rattle.fit_rows.specs.inner.MessageKeys.{message_key};
+
+    ghost invariant = { λ r. AreCurrent message_key r.maker.templates r.stream };
+}
+
+impl ShowReport {
+    /// It has heard nothing.
+    pub fn new(alloc: Global) -> Self
+        ensures { result ≡ kept_events [] }
+    {
+        ShowReport {
+            stream: Stream::new(alloc),
+            files: 0,
+            maker: LineMaker::new(alloc),
+        }
+    }
+}
+
+impl Report for ShowReport {
+    ghost use Rattle.fit_rows.specs.KeptEvents.{kept_events};
+    ghost use Rattle.fit_rows.specs.ShowLines.{show_line};
+
+    ghost has_heard = { λ r heard. r ≡ kept_events heard };
+
+    ghost line = { show_line };
+
+    fn tell(&mut self, event: &Event, text: &mut Vec<u8>) -> Result<(), AllocError> {
+        heard_records_fit::<Global>();
+        heard_are_few::<Global>();
+        looking_back_is_learning::<Global>();
+        put_event(text, &mut self.maker, self.files, &self.stream, event)?;
+        self.maker.templates.forget();
+        follow(&mut self.stream, &mut self.files, event)
+    }
+
+    fn skip(
+        &mut self,
+        decoder: &mut Decoder,
+        piece: &[u8],
+        text: &mut Vec<u8>,
+    ) -> Result<usize, AllocError> {
+        let used = decoder.skip_message(piece);
+        if used == 0 {
+            return Ok(0);
+        }
+        let (message, _) = piece.split_at(used);
+        take_message(text, &mut self.maker, &mut self.stream, message)?;
+        Ok(used)
+    }
+}

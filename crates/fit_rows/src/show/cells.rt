@@ -1,0 +1,204 @@
+//! The cells of fields as a line shows them.
+ghost use Rattle.std.specs.Prelude.{◌≡◌, ◌++◌, IfSome, OnOk, length, option_map};
+ghost use Rattle.std.specs.Global.{Global};
+ghost use Rattle.std.specs.List.{list_all};
+ghost use Rattle.fit_base.specs.Fields.{HasShape};
+ghost use Rattle.fit_record.specs.ReadMessages.{field_from};
+ghost use Rattle.fit_profile.specs.Described.{is_printable};
+ghost use Rattle.fit_profile.specs.Names.{meaning};
+ghost use Rattle.fit_profile.specs.Scaled.{IsScale};
+ghost use Rattle.fit_cells.specs.Forms.{IsFormOf, IsSmallForm};
+ghost use Rattle.fit_rows.specs.ShowLines.{shown_cell};
+
+use crate::floats::{is_lone_float, put_float};
+use fit_base::base_type::BYTE;
+use fit_base::{Code, Items, Order, bits_at};
+use fit_cells::{
+    NumberForm, formed, is_never_quoted, number_form, put_cell, put_formed, shown_text,
+};
+use fit_profile::Info;
+use fit_record::read_items;
+use std::alloc::{AllocError, Global};
+use std::marker::Model;
+
+/// Whether a cell has no control character.
+fn is_shown(cell: &[u8]) -> bool
+    ensures { result ≡ list_all is_printable cell.now }
+{
+    cell.iter().all(|byte| *byte >= 0x20 && *byte != 0x7F)
+}
+
+/// The form of a lone number of a field, where the field has as many bytes as it.
+fn lone_form(code: u8, size: u8, info: Option<Info>) -> Option<NumberForm>
+    requires { IfSome info (λ i. IsScale i.scale) }
+    ensures small { IfSome result IsSmallForm }
+    ensures width { IfSome result (λ f. f.width ≡ size) }
+    ensures form { IfSome result (IsFormOf code (option_map meaning info)) }
+{
+    match number_form(Code(code), info) {
+        Some(form) if form.width == size => Some(form),
+        _ => None,
+    }
+}
+
+/// How the cell of a field is made of its items.
+#[derive(Drop)]
+pub(crate) struct ShownCell {
+    code: u8,
+    size: u8,
+    info: Option<Info>,
+    /// The form of a lone number, where its bytes are those of the field.
+    lone: Option<NumberForm>,
+    /// Whether the cell shows one floating point number.
+    is_float: bool,
+}
+
+impl Model for ShownCell {
+    ghost use Rattle.std.specs.Prelude.{◌≡◌, IfSome, IsTrue, option_map};
+    ghost use Rattle.fit_base.specs.BaseTypes.{base_type};
+    ghost use Rattle.fit_base.specs.declared.code.Class.TheVariants.{Float};
+    ghost use Rattle.fit_profile.specs.Names.{meaning};
+    ghost use Rattle.fit_profile.specs.Scaled.{IsScale};
+    ghost use Rattle.fit_cells.specs.Forms.{IsFormOf, IsSmallForm};
+    ghost use Rattle.fit_rows.specs.inner.Showing.{CellKey};
+
+    ghost Value = { CellKey };
+
+    ghost view = { λ c. record {
+      code = c.code;
+      size = c.size;
+      info = option_map meaning c.info;
+    } };
+
+    ghost invariant = { λ c. IfSome c.info (λ i. IsScale i.scale) × IfSome c.lone IsSmallForm
+        × IfSome c.lone (λ f. f.width ≡ c.size)
+        × IfSome c.lone (IsFormOf c.code (option_map meaning c.info))
+        × (IsTrue c.is_float → (base_type c.code).class ≡ Float)
+        × (IsTrue c.is_float → (base_type c.code).width ≡ c.size) };
+}
+
+impl ShownCell {
+    /// That of a field of this base type code, size and meaning.
+    pub(crate) fn new(code: u8, size: u8, info: Option<Info>) -> ShownCell
+        requires { IfSome info (λ i. IsScale i.scale) }
+        ensures { result ≡ record {
+          code = code;
+          size = size;
+          info = option_map meaning info;
+        } }
+    {
+        ShownCell {
+            code,
+            size,
+            info,
+            lone: lone_form(code, size, info),
+            is_float: is_lone_float(Code(code), size),
+        }
+    }
+
+    /// How many bytes the field has.
+    #[inline(always)]
+    pub(crate) fn size(&self) -> u8
+        ensures { result ≡ self.now.size }
+    {
+        self.size
+    }
+
+    /// Puts the cell, or the bytes of a text with a control character.
+    #[inline(never)]
+    fn put_other(&self, text: &mut Vec<u8>, items: &Items) -> Result<(), AllocError>
+        requires { HasShape self.now.code self.now.size items.now }
+        ensures { OnOk result (text.new.items ≡ text.old.items
+            ++ shown_cell self.now.code self.now.info items.now) }
+    {
+        let start = text.len();
+        put_cell(text, Code(self.code), self.info, items)?;
+        let (_, cell) = text.as_slice().split_at(start);
+        if items.width != 1 || is_shown(cell) {
+            return Ok(());
+        }
+        text.truncate(start);
+        put_cell(text, Code(BYTE), None, items)
+    }
+
+    /// Puts the cell: a lone number by its form, which has no control character.
+    #[inline(always)]
+    pub(crate) fn put(&self, text: &mut Vec<u8>, items: &Items) -> Result<(), AllocError>
+        requires { HasShape self.now.code self.now.size items.now }
+        ensures { OnOk result (text.new.items ≡ text.old.items
+            ++ shown_cell self.now.code self.now.info items.now) }
+    {
+        if let Some((form, bits)) = formed(self.lone, items) {
+            return put_formed(text, form, bits);
+        }
+        self.put_other(text, items)
+    }
+
+    /// The form of a lone number, where its bytes are those of the field.
+    #[inline(always)]
+    fn lone(&self) -> Option<NumberForm>
+        ensures small { IfSome result IsSmallForm }
+        ensures width { IfSome result (λ f. f.width ≡ self.now.size) }
+        ensures form { IfSome result (IsFormOf self.now.code self.now.info) }
+    {
+        self.lone
+    }
+
+    /// The text of a string by the bytes of the field, where it is shown as it is.
+    fn plain_text<'a>(&self, bytes: &'a [u8]) -> Option<&'a [u8]>
+        requires { length bytes.now ≡ self.now.size }
+        ensures { IfSome result (λ shown. (order : Order) → shown.now
+            ≡ shown_cell self.now.code self.now.info
+            (field_from {A = Global} order (self.now.code, self.now.size) bytes.now)) }
+    {
+        if is_never_quoted(Code(self.code)) {
+            return None;
+        }
+        let text = shown_text(bytes)?.text;
+        if is_shown(text) { Some(text) } else { None }
+    }
+
+    /// Puts the cell of what is no lone number, by the bytes of the field.
+    #[inline(never)]
+    fn put_read(
+        &self,
+        text: &mut Vec<u8>,
+        alloc: Global,
+        order: Order,
+        bytes: &[u8],
+    ) -> Result<(), AllocError>
+        requires { length bytes.now ≡ self.now.size }
+        ensures { OnOk result (text.new.items ≡ text.old.items
+            ++ shown_cell self.now.code self.now.info
+            (field_from {A = Global} order (self.now.code, self.now.size) bytes.now)) }
+    {
+        if let Some(shown) = self.plain_text(bytes) {
+            return text.extend_from_slice(shown);
+        }
+        if self.is_float {
+            return put_float(text, self.size, order, bytes);
+        }
+        let items = read_items(alloc, order, self.code, self.size, bytes)?;
+        self.put_other(text, &items)
+    }
+
+    /// Puts the cell by the bytes of the field.
+    #[inline(always)]
+    pub(crate) fn put_bytes(
+        &self,
+        text: &mut Vec<u8>,
+        alloc: Global,
+        order: Order,
+        bytes: &[u8],
+    ) -> Result<(), AllocError>
+        requires { length bytes.now ≡ self.now.size }
+        ensures { OnOk result (text.new.items ≡ text.old.items
+            ++ shown_cell self.now.code self.now.info
+            (field_from {A = Global} order (self.now.code, self.now.size) bytes.now)) }
+    {
+        if let Some(form) = self.lone() {
+            return put_formed(text, form, bits_at(order, form.width, bytes));
+        }
+        self.put_read(text, alloc, order, bytes)
+    }
+}

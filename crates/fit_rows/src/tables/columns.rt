@@ -1,0 +1,194 @@
+//! Where the numbers of the table stand in the bytes of messages of a definition, found out once for many messages.
+ghost use Rattle.std.specs.Prelude.{◌≡◌, ◌+◌, ◌≤◌, ◌<◌, ◌^◌, drop, length, take, true, IfOk, IfSome, IsTrue, List};
+ghost use Rattle.fit_base.specs.Numbers.{number};
+ghost use Rattle.fit_record.specs.declared.definition.FieldDef.{FieldDef};
+ghost use Rattle.fit_rows.specs.inner.TableColumns.{ArePlaces, IsColumn, IsKnown, IsPlaced, is_tabled};
+
+use crate::kept::are_same;
+use fit_base::{Code, Order, bits_at, width_of};
+use fit_cells::{NumberForm, number_form};
+use fit_profile::field_info;
+use fit_profile::field_number::COMPRESSED_SPEED_DISTANCE;
+use fit_profile::message_number::RECORD;
+use fit_record::FieldDef;
+use std::alloc::{AllocError, Global};
+use std::marker::Model;
+
+/// Where the first item of a field stands among the bytes of a message, and how it is shown.
+#[derive(Clone, Copy)]
+pub(crate) struct Place {
+    /// How many bytes come before it.
+    pub offset: usize,
+    pub field: FieldDef,
+    pub form: NumberForm,
+}
+
+impl Place {
+    /// The bits of the item in the bytes of a message.
+    #[inline(always)]
+    pub(crate) fn bits(&self, order: Order, bytes: &[u8]) -> u64
+        requires known { IsKnown self.now }
+        requires within { self.now.offset + self.now.field.size ≤ length bytes.now }
+        ensures bits { result ≡ number order
+            (take self.now.form.width (drop self.now.offset bytes.now)) }
+        ensures small { result < 256 ^ self.now.form.width }
+    {
+        let (_, from) = bytes.split_at(self.offset);
+        let (item, _) = from.split_at(self.form.width as usize);
+        bits_at(order, self.form.width, item)
+    }
+}
+
+/// Where the first field of a number stands.
+#[derive(Clone, Copy)]
+pub(crate) enum Column {
+    /// No field has the number.
+    Absent,
+    At(Place),
+}
+
+/// The column of a field of record messages after that many bytes, where it has an item and the form of its items is known.
+fn placed(offset: usize, field: &FieldDef) -> Option<Column>
+    ensures { IfSome result (IsPlaced offset field.now) }
+{
+    let info = field_info(RECORD, field.number)?;
+    let code = Code(field.code);
+    let form = number_form(code, Some(info))?;
+    if field.size < form.width || width_of(code, field.size) != form.width {
+        return None;
+    }
+    Some(Column::At(Place {
+        offset,
+        field: *field,
+        form,
+    }))
+}
+
+/// The column of the first field of this number, where it can be read.
+fn column_of(fields: &[FieldDef], number: u8) -> Option<Column>
+    requires { length fields.now < 256 }
+    ensures { IfSome result (IsColumn fields.now number) }
+{
+    let mut offset = 0;
+    for field in fields {
+        if field.number == number {
+            return placed(offset, field);
+        }
+        offset += field.size as usize;
+    }
+    Some(Column::Absent)
+}
+
+/// Where the numbers of the table stand in record messages that accumulate nothing.
+#[derive(Clone, Copy)]
+pub(crate) struct Places {
+    pub position_lat: Column,
+    pub position_long: Column,
+    pub enhanced_altitude: Column,
+    pub altitude: Column,
+    pub distance: Column,
+    pub enhanced_speed: Column,
+    pub speed: Column,
+    pub heart_rate: Column,
+    pub cadence: Column,
+    pub power: Column,
+    pub temperature: Column,
+}
+
+impl Places {
+    /// Those of record messages with these fields, where each can be read and none has a distance to accumulate.
+    fn new(fields: &[FieldDef]) -> Option<Places>
+        requires { length fields.now < 256 }
+        ensures { IfSome result (ArePlaces fields.now) }
+    {
+        match column_of(fields, COMPRESSED_SPEED_DISTANCE) {
+            Some(Column::Absent) => (),
+            _ => return None,
+        }
+        Some(Places {
+            position_lat: column_of(fields, 0)?,
+            position_long: column_of(fields, 1)?,
+            enhanced_altitude: column_of(fields, 78)?,
+            altitude: column_of(fields, 2)?,
+            distance: column_of(fields, 5)?,
+            enhanced_speed: column_of(fields, 73)?,
+            speed: column_of(fields, 6)?,
+            heart_rate: column_of(fields, 3)?,
+            cadence: column_of(fields, 4)?,
+            power: column_of(fields, 7)?,
+            temperature: column_of(fields, 13)?,
+        })
+    }
+
+    /// The column of the first field of a number of the table.
+    #[inline(always)]
+    pub(crate) fn column(&self, number: u8) -> &Column
+        requires { is_tabled number ≡ true }
+        ensures { (fields : List FieldDef) → ArePlaces fields self.now
+            → IsColumn fields number result.now }
+    {
+        match number {
+            0 => &self.position_lat,
+            1 => &self.position_long,
+            2 => &self.altitude,
+            3 => &self.heart_rate,
+            4 => &self.cadence,
+            5 => &self.distance,
+            6 => &self.speed,
+            7 => &self.power,
+            13 => &self.temperature,
+            73 => &self.enhanced_speed,
+            78 => &self.enhanced_altitude,
+            _ => unreachable!(),
+        }
+    }
+}
+
+/// The fields of record messages, and where the numbers of the table stand in their bytes, where they can be read there.
+#[derive(Drop)]
+pub(crate) struct Columns {
+    fields: Vec<FieldDef>,
+    places: Option<Places>,
+}
+
+impl Model for Columns {
+    ghost use Rattle.std.specs.Prelude.{IfSome, List};
+    ghost use Rattle.fit_record.specs.declared.definition.FieldDef.{FieldDef};
+    ghost use Rattle.fit_rows.specs.inner.TableColumns.{ArePlaces};
+
+    ghost Value = { List FieldDef };
+
+    ghost view = { λ c. c.fields.items };
+
+    ghost invariant = { λ c. IfSome c.places (ArePlaces c.fields.items) };
+}
+
+impl Columns {
+    /// Those of record messages with these fields.
+    pub(crate) fn new(alloc: Global, fields: &[FieldDef]) -> Result<Columns, AllocError>
+        requires { length fields.now < 256 }
+        ensures { IfOk result (λ c. c ≡ fields.now) }
+    {
+        let mut own = Vec::new(alloc);
+        own.extend_from_slice(fields)?;
+        Ok(Columns {
+            fields: own,
+            places: Places::new(fields),
+        })
+    }
+
+    /// Whether they are those of these fields.
+    pub(crate) fn are_of(&self, fields: &[FieldDef]) -> bool
+        ensures { IsTrue result → self.now ≡ fields.now }
+    {
+        are_same(self.fields.as_slice(), fields)
+    }
+
+    /// The places, where the numbers can be read.
+    #[inline(always)]
+    pub(crate) fn places(&self) -> Option<&Places>
+        ensures { IfSome result (λ p. ArePlaces self.now p.now) }
+    {
+        self.places.as_ref()
+    }
+}
