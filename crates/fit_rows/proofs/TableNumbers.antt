@@ -1,10 +1,10 @@
 -- The cells of numbers in a row of the table.
-use Rattle.fit_rows.proofs.Common.{◌≡◌, ◌∙◌, ◌++◌, ◌∷◌, [], true, false, inl, inr, Bool, refl, sym, ap, append_assoc, arith, cases_Bool, default_writer}
-use Rattle.fit_rows.proofs.Common.{fields_text, fixed_text, fields_one, High, high-fixed, unquoted}
+use Rattle.fit_rows.proofs.Common.{◌≡◌, ◌∙◌, ◌++◌, ◌∷◌, [], true, false, inl, inr, Bool, refl, sym, ap, append_assoc, cases_Bool}
+use Rattle.fit_rows.proofs.Common.{fixed_text, fields_one, High, high-fixed, unquoted}
 use Rattle.fit_rows.proofs.Common.{AddsCell, PutsCell, MessageDef, Values, FieldDef, Items, Global, first_field, first_number, known_number, amount_text}
 use Rattle.fit_rows.proofs.Common.{value_text}
 use Rattle.fit_rows.proofs.Common.{degrees_text}
-use Rattle.std.proofs.Common.{ℕ, List, Option, Some, None, decimal, ◌==◌}
+use Rattle.std.proofs.Common.{ℕ, List, Option, Some, None, ◌==◌}
 use Rattle.std.proofs.lemmas.List.{append-nil}
 use Rattle.std.specs.Prelude.{option_map, unwrap_or, pos, ℤ, IfOk, OnOk, Result, Ok, Err}
 use Rattle.fit_record.specs.Faults.{or_else}

@@ -2,6 +2,7 @@
 #![tactic(auto)]
 
 mod floats;
+mod follow;
 mod items;
 mod kept;
 pub mod laws;

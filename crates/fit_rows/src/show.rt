@@ -1,5 +1,5 @@
 //! The lines of `show`, told event by event.
-ghost use Rattle.std.specs.Prelude.{◌≡◌, ◌<◌, ◌^◌, ◌++◌, ◌∷◌, [], OnErr, OnOk};
+ghost use Rattle.std.specs.Prelude.{◌≡◌, ◌++◌, ◌∷◌, [], OnOk};
 ghost use Rattle.std.specs.Global.{Global};
 ghost use Rattle.fit_record.specs.declared.message.Record.TheVariants.{Values as Data};
 ghost use Rattle.fit_record.specs.declared.message.Values.{Values};
@@ -8,9 +8,7 @@ ghost use Rattle.fit_profile.specs.Looks.{known};
 ghost use Rattle.fit_rows.specs.KeptEvents.{kept_events};
 ghost use Rattle.fit_rows.specs.ShowLines.{record_line};
 ghost use Rattle.fit_rows.specs.inner.Current.{AreCurrent};
-ghost use Rattle.fit_rows.specs.inner.Reporting.{AnswerFits, records_after_answer};
 ghost use Rattle.fit_rows.specs.inner.MessageKeys.{message_key};
-ghost use Rattle.fit_rows.specs.inner.TableCells.{files_after_answer};
 
 pub(crate) mod cells;
 mod fields;
@@ -18,6 +16,7 @@ mod frames;
 mod lines;
 mod template;
 
+use crate::follow::follow_files;
 use crate::show::lines::{put_event, put_message};
 use crate::show::template::LineMaker;
 use fit_decode::{Decoder, Event};
@@ -27,25 +26,6 @@ use fit_report::Report;
 use fit_report::laws::{heard_are_few, heard_records_fit};
 use std::alloc::{AllocError, Global};
 use std::marker::Model;
-
-/// Takes an event in, and counts files. Where memory is refused, the stream stays as it was.
-fn follow(stream: &mut Stream, files: &mut u64, event: &Event) -> Result<(), AllocError>
-    requires fits { AnswerFits stream.old event.now }
-    requires few { files.old < 2 ^ 60 }
-    ensures ok { OnOk result (stream.new ≡ records_after_answer stream.old event.now) }
-    ensures err { OnErr result (stream.new ≡ stream.old) }
-    ensures files { OnOk result (files.new ≡ files_after_answer files.old event.now) }
-{
-    match event {
-        Event::Header(..) => {
-            *files += 1;
-            stream.begin_file();
-            Ok(())
-        }
-        Event::Item(record_) => stream.take(record_),
-        Event::More | Event::FileEnd => Ok(()),
-    }
-}
 
 /// Takes in the data message that the bytes are, and puts its line.
 fn take_message(
@@ -116,7 +96,7 @@ impl Report for ShowReport {
         looking_back_is_learning::<Global>();
         put_event(text, &mut self.maker, self.files, &self.stream, event)?;
         self.maker.templates.forget();
-        follow(&mut self.stream, &mut self.files, event)
+        follow_files(&mut self.stream, &mut self.files, event)
     }
 
     fn skip(

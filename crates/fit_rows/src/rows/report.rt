@@ -1,5 +1,5 @@
 //! The rows of events, told one after another.
-ghost use Rattle.std.specs.Prelude.{◌≡◌, ◌∷◌, [], OnOk, OnErr};
+ghost use Rattle.std.specs.Prelude.{◌≡◌, ◌∷◌, [], OnOk};
 ghost use Rattle.std.specs.Global.{Global};
 ghost use Rattle.fit_record.specs.declared.message.Record.TheVariants.{Values as Data};
 ghost use Rattle.fit_record.specs.declared.message.Values.{Values};
@@ -9,8 +9,9 @@ ghost use Rattle.fit_cells.specs.Rows.{HasRows};
 ghost use Rattle.fit_rows.specs.ChainRows.{data_rows};
 ghost use Rattle.fit_rows.specs.inner.Current.{AreCurrent};
 ghost use Rattle.fit_rows.specs.inner.MessageKeys.{message_key};
-ghost use Rattle.fit_rows.specs.inner.Reporting.{AnswerFits, answer_rows, records_after_answer};
+ghost use Rattle.fit_rows.specs.inner.Reporting.{AnswerFits, answer_rows};
 
+use crate::follow::follow;
 use crate::rows::file::{put_end_row, put_file_row};
 use crate::rows::maker::RowMaker;
 use crate::rows::message::{put_message, put_record};
@@ -42,22 +43,6 @@ fn put_event(
         }
         Event::Item(record_) => put_record(text, maker, stream, record_),
         Event::FileEnd => put_end_row(text, &mut maker.writer),
-    }
-}
-
-/// Takes an event in. A header begins a file. Where memory is refused, the stream stays as it was.
-fn follow(stream: &mut Stream, event: &Event) -> Result<(), AllocError>
-    requires { AnswerFits stream.old event.now }
-    ensures ok { OnOk result (stream.new ≡ records_after_answer stream.old event.now) }
-    ensures err { OnErr result (stream.new ≡ stream.old) }
-{
-    match event {
-        Event::Header(..) => {
-            stream.begin_file();
-            Ok(())
-        }
-        Event::Item(record_) => stream.take(record_),
-        Event::More | Event::FileEnd => Ok(()),
     }
 }
 

@@ -97,13 +97,7 @@ impl MessageReader {
         self.maker.templates.forget();
         let values = likely_message(&mut self.maker, &mut self.written, before, text)?;
         let message = Record::Values(values);
-        let left = after_rows(
-            &mut self.maker,
-            &mut self.written,
-            before,
-            &message,
-            text,
-        )?;
+        let left = after_rows(&mut self.maker, &mut self.written, before, &message, text)?;
         match message {
             Record::Values(values) => Some((values, left)),
             Record::Define(_definition) => None,

@@ -1,5 +1,5 @@
-use Rattle.fit_rows.proofs.Common.{◌∙◌, ◌++◌, [], ap, high-decimal, on_ok_weaker, unquoted}
-use Rattle.std.proofs.Common.{ℕ, List, decimal, ◌∷◌}
+use Rattle.fit_rows.proofs.Common.{◌∙◌, ◌++◌, ap, high-decimal, on_ok_weaker, unquoted}
+use Rattle.std.proofs.Common.{ℕ, List, decimal}
 use Rattle.fit_rows.proofs.AddedCells.{next_cell}
 use Rattle.fit_rows.proofs.rows.definition.add_number.Goals as goal
 

@@ -16,24 +16,24 @@ put_event-requires-clause-few c =
     subst (λ files. files < 2 ^ 60) (sym (ap (λ (k : KeptEvents). k.files) (c.self.view_is ∙ c.requires.1)))
     (few_files c.heard_are_few.ensures c.requires.0 c.args.event.now c.requires.2)
 
-pub follow-requires-clause-fits : goal.follow-requires-clause-fits
-follow-requires-clause-fits c =
+pub follow_files-requires-clause-fits : goal.follow_files-requires-clause-fits
+follow_files-requires-clause-fits c =
     subst (λ before. AnswerFits before c.args.event.now) (sym (ap (λ (k : KeptEvents). k.records) (c.self.view_is ∙ c.requires.1)))
     (answer_fits c.heard_records_fit.ensures c.looking_back_is_learning.ensures c.requires.0 c.args.event.now c.requires.2)
 
-pub follow-requires-clause-few : goal.follow-requires-clause-few
-follow-requires-clause-few c =
+pub follow_files-requires-clause-few : goal.follow_files-requires-clause-few
+follow_files-requires-clause-few c =
     subst (λ files. files < 2 ^ 60) (sym (ap (λ (k : KeptEvents). k.files) (c.self.view_is ∙ c.requires.1)))
     (few_files c.heard_are_few.ensures c.requires.0 c.args.event.now c.requires.2)
 
 pub returns-clause-heard : goal.returns-clause-heard
-returns-clause-heard c = both_ok c.follow.result (λ records files heard has are.
+returns-clause-heard c = both_ok c.follow_files.result (λ records files heard has are.
     let kept : KeptEvents = record { records = c.self.inside.stream; files = c.self.inside.files } in
     ap₂ (λ r f. record { records = r; files = f }) records files ∙ kept_next heard c.args.event.now kept (c.self.view_is ∙ has))
-    c.follow.ensures.ok c.follow.ensures.files
+    c.follow_files.ensures.ok c.follow_files.ensures.files
 
 pub returns-clause-text : goal.returns-clause-text
-returns-clause-text c = on_ok_weaker c.follow.result (λ followed heard has are.
+returns-clause-text c = on_ok_weaker c.follow_files.result (λ followed heard has are.
     c.in_ok-put_event.ensures.text
     ∙ ap (λ (k : KeptEvents). c.args.text.now.items ++ text_with k.files k.records c.args.event.now) (c.self.view_is ∙ has)
-    ∙ ap (λ text. c.args.text.now.items ++ text) (answer_line heard c.args.event.now)) c.follow.ensures.ok
+    ∙ ap (λ text. c.args.text.now.items ++ text) (answer_line heard c.args.event.now)) c.follow_files.ensures.ok

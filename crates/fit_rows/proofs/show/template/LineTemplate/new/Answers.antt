@@ -1,4 +1,4 @@
-use Rattle.fit_rows.proofs.Common.{◌≡◌, length, ap, arith, namings_at, dev_defs, MessageKey}
+use Rattle.fit_rows.proofs.Common.{length, ap, arith, namings_at, dev_defs, MessageKey}
 use Rattle.fit_rows.proofs.NamingFacts.{namings_long}
 use Rattle.fit_rows.proofs.DevKeyFacts.{length-dev_keys}
 use Rattle.fit_rows.proofs.show.template.LineTemplate.new.Goals as goal
