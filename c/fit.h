@@ -54,7 +54,7 @@ enum fit_reason {
     FIT_TOO_MANY_FILES = 11
 };
 
-/* What a call answers. A number that the status doesn't speak of is 0. */
+/* What a call returns. A number that has no meaning for the status is 0. */
 typedef struct fit_answer {
     uint32_t status; /* an enum fit_status */
     uint32_t reason; /* with FIT_REFUSED, an enum fit_reason */

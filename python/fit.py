@@ -142,7 +142,7 @@ def _judge(answer):
 
 
 def check(source):
-    """Answers whether `source` is a FIT file or several, one after another. `source` is a path, or bytes."""
+    """Returns whether `source` is a FIT file or several, one after another. `source` is a path, or bytes."""
     data = _bytes_of(source)
     answer = _library.fit_check(data, len(data))
     if answer._status == _NO_MEMORY:
