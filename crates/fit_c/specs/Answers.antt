@@ -7,7 +7,7 @@ use Rattle.fit_frame.specs.declared.reason.Reason.TheVariants.{HeaderSize, Proto
 use Rattle.fit_frame.specs.declared.reason.Reason.TheVariants.{Architecture, FileSum, TooManyFiles}
 use Rattle.fit_chain.specs.declared.event.Fault.{Fault}
 use Rattle.fit_chain.specs.declared.event.Fault.TheVariants as faults
-use Rattle.fit_chain.specs.Checks.{AreFiles, IsFaultOf}
+use Rattle.fit_chain.specs.Checks.{AreFiles, IsFaultOf, LacksMemoryAt}
 use Rattle.fit_chain.specs.Events.{Event}
 use Rattle.fit_report.specs.declared.fault.ReportFault.{ReportFault}
 use Rattle.fit_report.specs.declared.fault.ReportFault.TheVariants as reports
@@ -68,9 +68,10 @@ report_answer (Err (reports.Decode fault)) = fault_answer fault
 report_answer (Err reports.NoMemory) = status_alone 3
 report_answer (Err (reports.Write written)) = status_alone 3
 
--- The bytes are that many files, one after another; or this is why they aren't known to be a chain of files.
+-- The bytes are that many files, one after another; or this is why they aren't known to be a chain of files, and memory was refused
+-- only at a byte that may take some.
 abbrev pub IsFinding : List ℕ → FitAnswer → Type 0
-IsFinding bytes a = (r : Result ℕ Fault) × (a ≡ check_answer r) × IfOk r (AreFiles bytes) × IfErr r (IsFaultOf bytes)
+IsFinding bytes a = (r : Result ℕ Fault) × (a ≡ check_answer r) × IfOk r (AreFiles bytes) × IfErr r (IsFaultOf bytes) × IfErr r (LacksMemoryAt bytes)
 
 -- This is the text, unless memory was refused.
 abbrev pub IsTextUnlessWant : List ℕ → FitAnswer → List ℕ → Type 0

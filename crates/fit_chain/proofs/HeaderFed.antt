@@ -1,5 +1,5 @@
 -- What bytes of a header make of the place, of the events and of what can follow.
-use Rattle.fit_chain.proofs.Common.{◌≡◌, cond, ℕ, zero, suc, ◌+◌, ◌-◌, ◌<◌, ◌≤◌, List, [], ◌∷◌, ◌++◌, length, take, drop, slice_index, length-drop, refl, sym}
+use Rattle.fit_chain.proofs.Common.{◌≡◌, cond, ℕ, zero, suc, ◌-◌, ◌<◌, ◌≤◌, List, [], ◌∷◌, ◌++◌, length, take, drop, slice_index, length-drop, refl, sym}
 use Rattle.fit_chain.proofs.Common.{ap, ◌∙◌, subst, arith, append_assoc, Some, ne_eqb, eq-eqb, length-take-le, IsBytes, Header, Reason, TooManyFiles}
 use Rattle.fit_chain.proofs.Common.{BeginsHeader, IsFileHeader, IsWholeHeader, RefusesByte, FitFile, chain_limit, IsViable, Progress, at_header, at_data}
 use Rattle.fit_chain.proofs.Common.{HasCome, header, IsRefused, reason_at, reason_in_file, Quiet, Least}

@@ -22,5 +22,6 @@ pub mod HeldRows
 pub mod HeldLimit
 pub mod Faults
 pub mod Gathered
+pub mod Lacking
 pub mod FileEnds
 pub mod NextFile

@@ -54,7 +54,7 @@ module _ (first : List ℕ) (line : Lines Global) (rows : RowsOf) (text : HasTex
   written_as taken heard source (Err (report.Decode (faults.Truncated place))) put (why, tells) = (why, writes taken heard put tells)
   written_as taken heard source (Err (report.Decode (faults.NoMemory used))) put never = absurd never
   written_as taken heard source (Err (report.Decode (faults.Read place))) put (why, tells) = (why, writes taken heard put tells)
-  written_as taken heard source (Err report.NoMemory) put ((k, told, tells), near, good) = ((k, writes (take k taken) told put tells), near, good)
+  written_as taken heard source (Err report.NoMemory) put ((k, told, tells, wants), good) = ((k, writes (take k taken) told put tells, wants), good)
   written_as taken heard source (Err (report.Write written)) put ((k, told, are, part), near, good) =
       ((k, reverse told, are, fails told written put part), near)
 

@@ -6,7 +6,8 @@ use Rattle.fit_record.specs.Files.{chain_limit}
 use Rattle.fit_chain.specs.declared.event.Fault.TheVariants as faults
 use Rattle.fit_chain.specs.Checks.{AreChain}
 use Rattle.fit_chain.specs.Events.{Event, AreEvents}
-use Rattle.fit_decode.specs.Reads.{IsNearlyViable}
+use Rattle.fit_chain.specs.Memory.{IsAny}
+use Rattle.fit_decode.specs.Reads.{IsInPiece, IsNearlyViable, WantsMemory}
 use Rattle.fit_report.specs.Reports.{Channel, TextFailsIn, Faults, before_fault}
 use Rattle.fit_csv.specs.declared.fault.CsvFault.{CsvFault}
 use Rattle.fit_csv.specs.declared.fault.CsvFault.TheVariants as csv
@@ -20,21 +21,24 @@ RowsOf = List (Event Global) → List Row
 abbrev pub WritesRows : RowsOf → List ℕ → Channel → Type 0
 WritesRows rows bytes sink = (events : List (Event Global)) × AreEvents bytes events × Appends sink.before sink.after (csv_text (rows events))
 
+-- The rows of some first bytes were put, and memory was refused at a later byte of the last piece.
+abbrev pub WritesSome : RowsOf → List ℕ → Channel → Type 0
+WritesSome rows bytes sink = (k : ℕ) × WritesRows rows (take k bytes) sink × WantsMemory Global IsAny chain_limit IsInPiece k bytes
+
 -- The sink has failed in the text of the rows of the events of some first bytes, after that many bytes.
 abbrev pub RowsBreakOff : RowsOf → List ℕ → Channel → ℕ → Type 0
 RowsBreakOff rows bytes sink written = (k : ℕ) × (events : List (Event Global)) × AreEvents (take k bytes) events
     × TextFailsIn (csv_text (rows events)) sink written
 
--- What was written of the input after so much of it was taken: all rows of a chain; the rows before a fault; or, where memory was
--- refused or the sink failed, the rows of some first bytes, or a part of them, and all but at most a piece of what was taken begins
--- a chain. A source that has failed is never answered as memory refused.
+-- What was written of the input after so much of it was taken: all rows of a chain; the rows before a fault; the rows of some first
+-- bytes, where memory was refused at a later byte of the last piece; or a part of such rows, where the sink failed, and then all but at
+-- most a piece of what was taken begins a chain. A source that has failed is never answered as memory refused.
 abbrev pub HasWritten : RowsOf → List ℕ → Channel → Channel → Result (Unit {0}) CsvFault → Type 0
 HasWritten rows taken source sink (Ok _) = IsAtEnd source.after × (source.failed ≡ false) × AreChain Global taken × WritesRows rows taken sink
 HasWritten rows taken source sink (Err (csv.Decode (faults.NoMemory used))) = ⊥
 HasWritten rows taken source sink (Err (csv.Decode fault)) =
     Faults Global chain_limit taken source fault × WritesRows rows (before_fault fault taken) sink
-HasWritten rows taken source sink (Err csv.NoMemory) =
-    ((k : ℕ) × WritesRows rows (take k taken) sink) × IsNearlyViable Global chain_limit taken × (source.failed ≡ false)
+HasWritten rows taken source sink (Err csv.NoMemory) = WritesSome rows taken sink × (source.failed ≡ false)
 HasWritten rows taken source sink (Err (csv.Write written)) = RowsBreakOff rows taken sink written × IsNearlyViable Global chain_limit taken
 HasWritten rows taken source sink (Err other) = ⊥
 

@@ -7,7 +7,7 @@ use Rattle.fit_record.specs.declared.message.Record.{Record}
 use Rattle.fit_record.specs.Files.{IsChain, chain_limit}
 use Rattle.fit_record.specs.Records.{Fits}
 use Rattle.fit_profile.specs.Looks.{known}
-use Rattle.fit_cells.specs.Rows.{Row, csv_text}
+use Rattle.fit_cells.specs.Rows.{Row, RowsOfText, csv_text}
 use Rattle.fit_csv.specs.declared.fault.CsvFault.{CsvFault}
 use Rattle.fit_rows.specs.ChainRows.{chain_rows, record_rows}
 use Rattle.fit_csv.specs.FromText.{IsTextFinding, IsTextOf}
@@ -30,6 +30,10 @@ ChainsAreOfRows = (files : List (FitFile Global)) (bytes : List ℕ) → IsBytes
 -- A text has one finding at most: the bytes of one chain, or one fault with one row and column.
 abbrev pub TextsHaveOneFinding : Type 0
 TextsHaveOneFinding = (text : List ℕ) (a b : Result (List ℕ) CsvFault) → IsTextFinding text a → IsTextFinding text b → a ≡ b
+
+-- the text of the rows of a chain, of any length, reads as these rows
+abbrev pub ChainsReadBack : Type 0 → Type 0
+ChainsReadBack A = (files : List (FitFile A)) → RowsOfText (csv_text (chain_rows files)) (chain_rows files)
 
 -- the text of the rows of a chain is one of that chain, if it isn't too long
 abbrev pub TextsComeBack : Type 0

@@ -1,5 +1,5 @@
 //! Chains of files as text.
-ghost use Rattle.std.specs.Prelude.{◌≡◌, ◌<◌, [], ℕ, List, Some, flat_map, length};
+ghost use Rattle.std.specs.Prelude.{◌≡◌, ◌<◌, [], ℕ, false, List, OnOk, Some, flat_map, length};
 ghost use Rattle.std.specs.Global.{Global};
 ghost use Rattle.fit_base.specs.Numbers.{IsBytes};
 ghost use Rattle.fit_record.specs.declared.file.FitFile.{FitFile};
@@ -54,6 +54,7 @@ pub(crate) fn convert<S: Source, K: Sink, R: Report>(
         → ConvertsTo (rows (flat_map file_events fs))
         (channel S.remaining S.has_failed source.old source.new)
         (channel K.contents K.has_failed sink.old sink.new) result }
+    ensures works { 0 < length first.now → OnOk result (K.has_failed sink.new ≡ false) }
 {
     if let Err(written) = put_all(sink, first) {
         return Err(CsvFault::Write { written });
@@ -68,8 +69,8 @@ pub(crate) fn convert<S: Source, K: Sink, R: Report>(
 /// from the source, to the end of the input or the first fault, and writes the rows of an event as soon as it is whole.
 ///
 /// `Decode` where the input is no chain of files or the source failed: the first line and the rows of all events before the fault
-/// were written. `NoMemory` where an allocation failed, and then the rows of some first bytes were written. `Write` where the sink
-/// failed after that many bytes of the text.
+/// were written. `NoMemory` where an allocation failed, and then the rows of some first bytes were written, and memory was refused
+/// where `report` of `fit_report` says. `Write` where the sink failed after that many bytes of the text.
 pub fn to_csv<S: Source, K: Sink>(
     alloc: Global,
     source: &mut S,
@@ -84,6 +85,8 @@ pub fn to_csv<S: Source, K: Sink>(
         → ConvertsTo (chain_rows fs)
         (channel S.remaining S.has_failed source.old source.new)
         (channel K.contents K.has_failed sink.old sink.new) result }
+    // After a conversion that succeeds the sink has not failed.
+    ensures works { OnOk result (K.has_failed sink.new ≡ false) }
 {
     let mut reporter = CsvReport::new(alloc);
     convert(alloc, source, sink, b"row,a,b,c,d,e,f\n", &mut reporter)
@@ -106,6 +109,8 @@ pub fn table<S: Source, K: Sink>(
         → ConvertsTo (table_of (flat_map file_events fs))
         (channel S.remaining S.has_failed source.old source.new)
         (channel K.contents K.has_failed sink.old sink.new) result }
+    // After a conversion that succeeds the sink has not failed.
+    ensures works { OnOk result (K.has_failed sink.new ≡ false) }
 {
     let mut reporter = TableReport::new(alloc);
     convert(alloc, source, sink, TABLE_LINE, &mut reporter)

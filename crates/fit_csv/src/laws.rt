@@ -1,6 +1,6 @@
 //! What holds of the rows of records and chains, and of texts. The laws of `fit_rows` are among them.
 ghost use Rattle.fit_csv.specs.Follows.{RowsThatFollow};
-ghost use Rattle.fit_csv.specs.Laws.{ChainsAreOfRows, ChainsHaveOwnRows, RecordsHaveOwnRows, TextsComeBack, TextsHaveOneFinding};
+ghost use Rattle.fit_csv.specs.Laws.{ChainsAreOfRows, ChainsHaveOwnRows, ChainsReadBack, RecordsHaveOwnRows, TextsComeBack, TextsHaveOneFinding};
 
 use fit_encode::laws::{faults_are_one, good_chains_have_no_fault};
 use fit_profile::laws::text_has_one_number;
@@ -8,7 +8,7 @@ pub use fit_rows::laws::{
     chains_have_show_lines, chains_have_tables, degrees_are_nearest, events_have_the_rows,
     instant_text_is, tables_read_back,
 };
-use std::alloc::Global;
+use std::alloc::{Allocator, Global};
 
 /// After the same records, a record and its rows determine each other, and no record's rows begin
 /// another's.
@@ -45,6 +45,11 @@ pub fn texts_have_one_finding()
     good_chains_have_no_fault::<Global>();
     faults_are_one::<Global>();
 }
+
+/// The text of the rows of a chain, of any length, reads as these rows.
+pub fn chains_read_back<A: Allocator>()
+    ensures { ChainsReadBack A }
+{}
 
 /// What `to_csv` writes of a chain is a text of that chain, from which `from_csv` makes the same bytes,
 /// if it has at most 2^62 bytes.

@@ -3,7 +3,8 @@ use Rattle.fit_decode.proofs.Common.{◌≡◌, true, false, ℕ, ◌+◌, ◌<�
 use Rattle.fit_decode.proofs.Common.{subst, append_assoc, arith, length-append, Vec, if◌then◌else◌, is_ok, is_err, Global, Consumes, IsAtEnd, append-nil}
 use Rattle.fit_decode.proofs.Common.{IsBytes, little_bytes, Reason, FitFile, checksum, summed, IsFile, IsChain, IsViable, chain_limit, Fault, Truncated, Read}
 use Rattle.fit_decode.proofs.Common.{AreChain, IsAfter, IsEnd, at_header, EndsReading, ReadsChain, GivesChain, IsRefused}
-use Rattle.fit_decode.proofs.Common.{FileRead, at_place, one_place, chain_come}
+use Rattle.fit_decode.proofs.Common.{FileRead, at_place, one_place, chain_come, Channel, Event, header, item, file_end, IsItem, IsItemOrEnd}
+use Rattle.fit_decode.proofs.Common.{IsInNeededPiece, WantsMemory, lacks_for_more}
 use Rattle.std.proofs.Common.{Bool, Option, Result}
 use Rattle.fit_base.proofs.Bytes.{length-little_bytes}
 use Rattle.fit_chain.specs.declared.event.Fault.TheVariants.{Refused, NoMemory}
@@ -52,6 +53,11 @@ gives_chain fs b had has failed result input are chain reads =
 
 -- ---- file by file
 
+item_or_end : (x : Event Global) → IsItem x → IsItemOrEnd x
+item_or_end (header h n) never = never
+item_or_end (item r) kept = tt
+item_or_end file_end kept = tt
+
 -- a file has bytes
 some_bytes : {A : Type 0} (f : FitFile A) (b : List ℕ) → IsFile f b → 0 < length b
 some_bytes f b file = omega (
@@ -89,8 +95,30 @@ module _ (files : List (FitFile Global)) (before : Seen) (count : ℕ) (old take
       let e = next_end files before count old taken had has failed new now beyond counted viable fault r end in
       (taken, eats_all (Err fault) r, e.end, subst (IsChain chain_limit files) (sym e.same) e.whole, e.good)
 
+  -- a chain's reader may take memory for files too
+  wants_for_more : WantsMemory Global IsItem chain_limit (IsInNeededPiece Global) (length old) taken
+      → WantsMemory Global IsItemOrEnd chain_limit (IsInNeededPiece Global) 0 taken
+  wants_for_more (place, after, near, lacks) =
+      (place, omega arith, near, lacks_for_more IsItem IsItemOrEnd chain_limit taken place item_or_end lacks)
+
+  ends_for_more : (source : Channel) (fault : Fault)
+      → EndsReading Global chain_limit (AreChain Global) (IsInNeededPiece Global)
+      (WantsMemory Global IsItem chain_limit (IsInNeededPiece Global) (length old)) taken source fault
+      → EndsReading Global chain_limit (AreChain Global) (IsInNeededPiece Global)
+      (WantsMemory Global IsItemOrEnd chain_limit (IsInNeededPiece Global) 0) taken source fault
+  ends_for_more source (Refused place reason) ends = ends
+  ends_for_more source (Truncated place) ends = ends
+  ends_for_more source (NoMemory used) (is, wants, good) = (is, wants_for_more wants, good)
+  ends_for_more source (Read place) ends = ends
+
   pub chain_stopped : (fault : Fault) → FileRead files before.bytes old taken had has failed new (Err fault) → IsEnd Global new fault false
       → (all : List ℕ) × Consumes first has all
-      × EndsReading Global chain_limit (AreChain Global) all (record { before = first; after = has; failed = failed }) fault
-  chain_stopped fault r end =
-      (taken, eats_all (Err fault) r, next_fault files before count old taken had has failed new now beyond counted viable first fault r end)
+      × EndsReading Global chain_limit (AreChain Global) (IsInNeededPiece Global)
+      (WantsMemory Global IsItemOrEnd chain_limit (IsInNeededPiece Global) 0) all
+      (record { before = first; after = has; failed = failed }) fault
+  chain_stopped fault r end = (
+    taken,
+    eats_all (Err fault) r,
+    ends_for_more (record { before = first; after = has; failed = failed }) fault
+        (next_fault files before count old taken had has failed new now beyond counted viable first fault r end),
+  )

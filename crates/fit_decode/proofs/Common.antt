@@ -17,6 +17,7 @@ pub use Rattle.fit_chain.proofs.Completions.{goes_viable, fill_data}
 pub use Rattle.fit_chain.proofs.DataFed.{InRecords, data_starts, data_quiet, data_come, data_viable, left_after, item_come, item_least, data_refuses}
 pub use Rattle.fit_chain.proofs.DataFed.{data_wants, data_takes}
 pub use Rattle.fit_chain.proofs.Faults.{chain_come, refused_in, wants_in, chain_end, fault_of_chain}
+pub use Rattle.fit_chain.proofs.Lacking.{lacks_for_byte, lacks_for_event, lacks_for_more, lacks_in_rest, lacks_at_end, needs_at_end}
 pub use Rattle.fit_chain.proofs.Learned.{known_in_data}
 pub use Rattle.fit_chain.proofs.Missing.{ended_chain, needs_some, needs_no_sooner}
 pub use Rattle.fit_chain.proofs.Next.{whole_header, more_of, items_told, all_told}
@@ -29,6 +30,8 @@ pub use Rattle.fit_chain.specs.Checks.{AreChain, AreFiles, IsFaultOf, LacksMemor
 pub use Rattle.fit_chain.specs.Comes.{ComesTo, Ended, ComesToRecords, NoSooner}
 pub use Rattle.fit_chain.specs.Events.{Event, header, item, file_end, AreEvents}
 pub use Rattle.fit_chain.specs.GoingOn.{files_begun, ChainGoesOn}
+pub use Rattle.fit_chain.specs.Memory.{IsAny, IsItem, IsItemOrEnd, MayLackMemory, MayLackMemoryIn}
+pub use Rattle.fit_chain.specs.Needs.{Needs}
 pub use Rattle.fit_chain.specs.Pieces.{Quiet, Least, TellsRecords}
 pub use Rattle.fit_chain.specs.Progress.{at_header, Progress, HasCome, at_data, progress_bytes}
 pub use Rattle.fit_chain.specs.Refusals.{IsRefused, reason_at}
@@ -53,7 +56,7 @@ pub use Rattle.fit_sum.specs.Checksum.{checksum}
 pub use denote.Param.{layout}
 pub use Rattle.fit_decode.specs.Answers.{Refuses, Wants, fed, event_of, Seen as Fed}
 pub use Rattle.fit_decode.specs.Reads.{EndsReading, ReadsChain, GivesChain, GivesFile, IsNearlyViable, piece_size, EndsChain, GivesNext, Past}
-pub use Rattle.fit_decode.specs.Reads.{Channel, BeginsWithFile, ReadsOne}
+pub use Rattle.fit_decode.specs.Reads.{Channel, BeginsWithFile, ReadsOne, IsInNeededPiece, WantsMemory}
 pub use Rattle.fit_decode.specs.declared.decoder.Decoder.TheInside.{Inside}
 pub use Rattle.fit_decode.specs.declared.section.Section.{Section}
 pub use Rattle.fit_decode.specs.declared.section.Stage.{Stage}

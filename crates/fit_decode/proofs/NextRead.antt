@@ -3,13 +3,14 @@ use Rattle.fit_decode.proofs.Common.{◌≡◌, true, false, ℕ, ◌+◌, List,
 use Rattle.fit_decode.proofs.Common.{Keeps, IsAtEnd, append-nil, append_cancel_left, IsBytes, FitFile, IsFile, IsChain, IsViable, chain_bytes, chain_limit}
 use Rattle.fit_decode.proofs.Common.{Fault, Truncated, Read, AreChain, IsAfter, IsEnd, at_header, HasCome, EndsReading, EndsChain, GivesFile, GivesNext, Past}
 use Rattle.fit_decode.proofs.Common.{Channel, ComesTo, Ended, FaultIn, FileTold, FileRead, unrefused, next_bytes, viable_goes, ended_chain, one_place}
-use Rattle.fit_decode.proofs.Common.{chain_come}
+use Rattle.fit_decode.proofs.Common.{chain_come, length-append, ◌-◌, LastPiece, progress_bytes, IsItem, IsItemOrEnd, IsInNeededPiece, WantsMemory}
+use Rattle.fit_decode.proofs.Common.{take, MayLackMemory, Needs, lacks_at_end, needs_at_end}
 use Rattle.std.proofs.Common.{Bool, Option, Result}
 use Rattle.fit_chain.specs.declared.event.Fault.TheVariants.{Refused, NoMemory}
 use Rattle.fit_decode.specs.Answers.{Seen}
 use Rattle.fit_decode.proofs.FileGiven.{given}
 use Rattle.fit_decode.proofs.FileRead.{no_file_yet, nothing_viable}
-use Rattle.fit_decode.proofs.Nearly.{nearly}
+use Rattle.fit_decode.proofs.Nearly.{needed, wants_in_piece, wants_later}
 
 module _ {A : Type 0} (files : List (FitFile A)) (before : Seen) (count : ℕ) (old taken : List ℕ) (had has : Option (List ℕ)) (failed : Bool) (new : Seen)
     (now : ℕ)
@@ -47,13 +48,37 @@ module _ {A : Type 0} (files : List (FitFile A)) (before : Seen) (count : ℕ) (
       let goes = viable_goes chain_limit (files ++ f ∷ []) (at_header []) taken beyond.come beyond.viable in
       (files, (record { some = chain.0.some; within = goes.1; each = chain.0.each }, chain.1))
 
+  -- memory was refused for the file
+  pub file_not_kept : (f : FitFile A) → FileRead files before.bytes old taken had has failed new (Ok f)
+      → WantsMemory A IsItemOrEnd chain_limit (IsInNeededPiece A) 0 taken
+  file_not_kept f r =
+      let more = after_file f r in
+      let ended = subst (HasCome (files ++ f ∷ []) (at_header [])) r.noted more.come in
+      let at_end : MayLackMemory A IsItemOrEnd chain_limit taken (length taken - 1) =
+      subst (λ t. MayLackMemory A IsItemOrEnd chain_limit t (length t - 1)) (sym r.noted)
+      (lacks_at_end files old r.got beyond.come f (next_file f r) ended (subst (IsViable A chain_limit) r.noted more.viable)) in
+      let one : Needs A (take (length taken - 1) taken) 1 =
+      subst (λ t. Needs A (take (length t - 1) t) 1) (sym r.noted) (needs_at_end files old r.got beyond.come f (next_file f r) ended) in
+      (length taken - 1, omega arith, (length taken - 1, omega arith, 1, one, omega arith), at_end)
+
   pub next_good : (f : FitFile A) → FileRead files before.bytes old taken had has failed new (Ok f) → failed ≡ false
   next_good f r = (told (Ok f) r).2
 
   -- ---- a fault
 
+  -- memory was refused at no byte taken before
+  file_wants : LastPiece files taken → WantsMemory A IsItem chain_limit (IsInNeededPiece A) (length old) taken
+  file_wants last =
+      let ended : old ≡ chain_bytes files = beyond.come.spelled ∙ append-nil (chain_bytes files) in
+      let before : last.before ≡ chain_bytes files ++ progress_bytes last.come.0 = last.come.1.spelled in
+      wants_later IsItem chain_limit (IsInNeededPiece A) (length last.before) (length old) taken
+      (omega (arith, ap length ended, ap length before, length-append (chain_bytes files) (progress_bytes last.come.0)))
+      (wants_in_piece IsItem (IsInNeededPiece A) last.before last.piece taken last.parts
+      (needed last.before last.piece taken last.n last.parts last.needs last.short) last.lacks)
+
   fault_told : (first : Option (List ℕ)) (fault : Fault) → FaultIn files taken has failed new fault → IsEnd A new fault false
-      → EndsReading A chain_limit (AreChain A) taken (record { before = first; after = has; failed = failed }) fault
+      → EndsReading A chain_limit (AreChain A) (IsInNeededPiece A) (WantsMemory A IsItem chain_limit (IsInNeededPiece A) (length old)) taken
+      (record { before = first; after = has; failed = failed }) fault
   fault_told first (Refused place reason) (within, near, comes, why, good) open_ = (within, near, why, good)
   fault_told first (Truncated place) (is, end, comes, after, good) open_ = (
     is,
@@ -62,13 +87,13 @@ module _ {A : Type 0} (files : List (FitFile A)) (before : Seen) (count : ℕ) (
     λ whole. let no : false ≡ true = open_.1 (ap (λ (v : Seen). v.refusal) after, subst (AreChain A) (sym (ap (λ (v : Seen). v.bytes) after)) whole) in cc,
     good,
   )
-  fault_told first (NoMemory used) (is, last, good) open_ =
-      (is, nearly chain_limit last.before last.piece taken last.parts last.short last.viable, good)
+  fault_told first (NoMemory used) (is, last, good) open_ = (is, file_wants last, good)
   fault_told first (Read place) (is, bad, comes, after) open_ = (is, bad, subst (λ (v : Seen). IsViable A chain_limit v.bytes) after viable)
 
   -- of a source that had these bytes at first
   pub next_fault : (first : Option (List ℕ)) (fault : Fault) → FileRead files before.bytes old taken had has failed new (Err fault) → IsEnd A new fault false
-      → EndsReading A chain_limit (AreChain A) taken (record { before = first; after = has; failed = failed }) fault
+      → EndsReading A chain_limit (AreChain A) (IsInNeededPiece A) (WantsMemory A IsItem chain_limit (IsInNeededPiece A) (length old)) taken
+      (record { before = first; after = has; failed = failed }) fault
   next_fault first fault r open_ = fault_told first fault (told (Err fault) r) open_
 
   -- ---- the end of the input, after a whole chain

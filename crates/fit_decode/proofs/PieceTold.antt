@@ -2,10 +2,11 @@
 use Rattle.fit_decode.proofs.Common.{◌≡◌, true, false, ℕ, ◌+◌, ◌≤◌, List, [], ◌∷◌, ◌++◌, length, take, drop, get_or, Some, None, Ok, Err, refl, sym, ap, ◌∙◌}
 use Rattle.fit_decode.proofs.Common.{subst, arith, append_assoc, length-append, length-drop, length-take, get_or-drop, take-add, take-length, Reason, FitFile}
 use Rattle.fit_decode.proofs.Common.{Record, chain_limit, Event, AreEvents, header, item, file_end, fed, Refuses, Quiet, Least, IsRefused, ComesToRecords}
-use Rattle.fit_decode.proofs.Common.{ComesTo, Ended, PieceFed, unrefused, least_for, quiet_for}
+use Rattle.fit_decode.proofs.Common.{ComesTo, Ended, PieceFed, unrefused, least_for, quiet_for, take-append-drop, IsViable, Wants, IsItem, MayLackMemoryIn, ◌<◌}
+use Rattle.fit_decode.proofs.Common.{lacks_for_byte, lacks_for_event, lacks_in_rest}
 use Rattle.std.proofs.Common.{Option}
 use Rattle.fit_frame.specs.declared.header.Header.{Header}
-use Rattle.fit_chain.specs.declared.event.Fault.TheVariants.{Refused}
+use Rattle.fit_chain.specs.declared.event.Fault.TheVariants.{Refused, NoMemory}
 use Rattle.fit_decode.specs.Answers.{Seen}
 use Rattle.fit_chain.proofs.Gathered.{stands_quiet, stands_header, stands_item}
 use Rattle.fit_chain.proofs.FileEnds.{ends_file}
@@ -77,3 +78,27 @@ module _ {A : Type 0} (files : List (FitFile A)) (head : Option Header) (records
         subst (λ bytes. IsRefused A chain_limit bytes (get_or piece (at + u) 0) reason) (joined u)
             (subst (λ b. IsRefused A chain_limit (mid.bytes ++ take u (drop at piece)) b reason) (get_or-drop at piece u 0) refuses.why),
       )
+
+  -- memory was refused in what is left of the piece
+  lacks_in_piece : MayLackMemoryIn A IsItem mid.bytes (drop at piece) → MayLackMemoryIn A IsItem old.bytes piece
+  lacks_in_piece =
+      let front : mid.bytes ≡ old.bytes ++ take at piece = ap (λ (v : Seen). v.bytes) is in
+      lacks_in_rest IsItem old.bytes piece mid.bytes (drop at piece)
+      (ap (λ b. b ++ drop at piece) front ∙ append_assoc old.bytes (take at piece) (drop at piece) ∙ ap (λ b. old.bytes ++ b) (take-append-drop at piece))
+      (omega (arith, ap length front, length-append old.bytes (take at piece)))
+
+  pub piece_wants : (taken used : ℕ) → taken ≡ length old.bytes + length piece → Wants A mid (drop at piece) new used
+      → PieceFed files old.bytes piece new head records (Err (NoMemory taken))
+  piece_wants taken used counted wants =
+      (counted, lacks_in_piece (lacks_for_byte IsItem mid.bytes (drop at piece) used wants.within wants.next wants.takes))
+
+  -- there was no memory for a record
+  pub piece_not_kept : (taken used : ℕ) (r : Record A) → taken ≡ length old.bytes + length piece → new ≡ fed mid (drop at piece) used
+      → used ≤ length (drop at piece) → 0 < used → Least A mid.bytes (drop at piece) used (item r) → IsViable A chain_limit new.bytes
+      → PieceFed files old.bytes piece new head records (Err (NoMemory taken))
+  piece_not_kept taken used r counted after below some least viable = (
+    counted,
+    lacks_in_piece
+        (lacks_for_event IsItem mid.bytes (drop at piece) used (item r) tt some below
+        (subst (λ (v : Seen). IsViable A chain_limit v.bytes) after viable) least),
+  )

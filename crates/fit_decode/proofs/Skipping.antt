@@ -6,7 +6,8 @@ use Rattle.fit_decode.proofs.Common.{IsViable, AllFit, records_bytes, all_fit-ap
 use Rattle.fit_decode.proofs.Common.{records_in_progress, Reason, Inside, IsSoundDecoder, fields_inside, InSection, ClosingSum}
 use Rattle.fit_decode.proofs.Common.{at_data, HasCome, Event, item, AreEvents, Fields, InData, Holds, HoldsAt, section_of, goes_viable, data_starts, more_of}
 use Rattle.fit_decode.proofs.Common.{items_told, all_told, partial_nothing, known_in_data, zero, suc, ◌<◌, ◌∷◌}
-use Rattle.fit_decode.proofs.Common.{one_place, idle_between_records, Section, at_header, FileHeader}
+use Rattle.fit_decode.proofs.Common.{one_place, idle_between_records, Section, at_header, FileHeader, Least, IsRecord, record_bytes, item_least}
+use Rattle.fit_decode.proofs.Common.{IsAny, MayLackMemoryIn, lacks_for_event}
 use Rattle.std.proofs.Common.{Bool}
 use Rattle.std.specs.Prelude.{Option}
 use Rattle.fit_record.specs.declared.message.Values.{Values}
@@ -165,6 +166,31 @@ module _ {A : Type 0} (d : Fields A) (bytes piece : List ℕ) (after : Environme
         | inr m ↦ skips_records k within summed at m.0 m.1 m.2 m.3
       ]
 
+  -- One message is told by no fewer bytes.
+  pub message_least : (v : Values A) → d.stage.section ≡ InSection → used ≤ length piece
+      → SkipsInSection d.env d.position d.in_progress after position piece used (Message v ∷ []) → Holds d bytes → 0 < used
+      → Least A bytes piece used (item (Message v))
+  message_least v at within skip holds some =
+      let k = subst (λ c. HoldsAt c d bytes) at holds in
+      elim (skip (k.size - length (records_bytes empty_environment k.records)) k.part k.in_record) [
+        | inl n ↦ absurd (omega (arith, n.0, some))
+        | inr m ↦
+            let whole : k.part ++ take used piece ≡ take used piece = ap (λ p. p ++ take used piece) m.0 in
+            let own : IsRecord d.env (Message v) (take used piece) = (m.2.0.0.0, m.2.0.1 ∙ append-nil (record_bytes d.env (Message v))) in
+            item_least bytes piece (record {
+              files = k.files;
+              header = k.header;
+              size = k.size;
+              records = k.records;
+              part = k.part;
+              come = k.come;
+              few = k.few;
+              some = k.some;
+            }) are low used (Message v) within
+            (subst (λ e. IsRecord e (Message v) (k.part ++ take used piece)) k.known (subst (IsRecord d.env (Message v)) (sym whole) own))
+            (omega (arith, m.1, ap length whole, length-take-le used piece within))
+      ]
+
 -- ---- what a caller of a decoder sees
 
 pub fresh : (refusal : Option Reason) (some : Bool) → some ≡ is_some refusal → some ≡ false → refusal ≡ None
@@ -199,6 +225,19 @@ module _ {A : Type 0} (d : Inside A) (k : IsSoundDecoder d) (none : d.refusal �
   records_skipped old seen bytes took events are_told =
       let told = skipped.told events (subst (λ b. AreEvents b events) (sym (ap (λ (o : Seen). o.bytes) seen)) are_told) in
       (told.0, subst (λ b. AreEvents b (events ++ map item records)) (sym (taken_is bytes took)) told.1)
+
+-- with the last byte of a message an event is complete
+pub message_completes : {A : Type 0} (d : Inside A) (k : IsSoundDecoder d) → d.refusal ≡ None → d.stage.section ≡ InSection → (piece : List ℕ)
+    (position : Position) (used : ℕ) (v : Values A) → IsBytes piece → used ≤ length piece
+    → SkipsInSection d.env d.position d.in_progress d.env position piece used (Message v ∷ [])
+    → (old : Seen) → record { bytes = d.history.items; refusal = d.refusal } ≡ old → 0 < used → MayLackMemoryIn A IsAny old.bytes piece
+message_completes {A} d k none at piece position used v low within skip old seen some =
+    let sum : List ℕ = d.sum ++ take used piece in
+    let held = k.holds none in
+    let all = skips (fields_inside d) d.history.items piece d.env sum position used (Message v ∷ []) k.are low at within skip refl k.viable held in
+    let least = message_least (fields_inside d) d.history.items piece d.env sum position used (Message v ∷ []) k.are low v at within skip held some in
+    subst (λ b. MayLackMemoryIn A IsAny b piece) (ap (λ (o : Seen). o.bytes) seen)
+    (lacks_for_event IsAny d.history.items piece used (item (Message v)) tt some within all.viable least)
 
 -- one message at most is skipped
 pub message_skipped : {A : Type 0} (e : Environment A) (p q : Position) (idle : Option (Record A)) (piece : List ℕ) (used : ℕ)

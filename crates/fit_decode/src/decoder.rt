@@ -9,6 +9,7 @@ ghost use Rattle.fit_record.specs.declared.message.Record.TheVariants.{Values as
 ghost use Rattle.fit_record.specs.declared.file.FitFile.{FitFile};
 ghost use Rattle.fit_chain.specs.Events.{Event as Told, AreEvents, item, known_after};
 ghost use Rattle.fit_chain.specs.Held.{bound_limit, IsHeld};
+ghost use Rattle.fit_chain.specs.Memory.{IsAny, MayLackMemoryIn};
 ghost use Rattle.fit_chain.specs.Progress.{HasCome, Progress};
 ghost use Rattle.fit_chain.specs.Needs.{Needs, NoFileEndsBefore};
 ghost use Rattle.fit_decode.specs.Answers.{event_of, fed, MessageFollows, Refuses, Wants};
@@ -208,6 +209,8 @@ impl<A: Allocator + Copy> Decoder<A> {
         ensures message { 0 < result → (events : List (Told A)) → AreEvents self.old.bytes events
             → (v : Values A) × IsRecord (known_after events) (Data v) (take result piece.now)
             × AreEvents self.new.bytes (events ++ item (Data v) ∷ []) }
+        // So one of them completes an event, for which the caller may take memory.
+        ensures completes { 0 < result → MayLackMemoryIn A IsAny self.old.bytes piece.now }
         // One that is all in the piece is skipped, unless `skip_records` would leave it.
         ensures whole { self.old.refusal ≡ None → (size : ℕ)
             → MessageFollows A self.old.bytes piece.now size → result ≡ size }

@@ -54,7 +54,7 @@ module _ {A : Type 0} (line : Lines A) (fs : List (FitFile A)) (b : List ℕ) (a
       fault.3 (fs, subst (IsChain chain_limit fs) (whole taken y eats (subst IsAtEnd after fault.1)) chain)
   told taken y heard source sink (Err (Decode (NoRoom used))) after eats none = none
   told taken y heard source sink (Err (Decode (Read place))) after eats (fault, tells) = fault.1
-  told taken y heard source sink (Err NoMemory) after eats (some, near, good) = good
+  told taken y heard source sink (Err NoMemory) after eats (some, good) = good
   told taken y heard source sink (Err (Write count)) after eats ((k, part, some, fails), viable, good) = fails.0
 
   taken_of : (has : Option (List ℕ)) (taken : List ℕ) → Consumes (Some b) has taken → (y : List ℕ) × (has ≡ Some y) × (b ≡ taken ++ y)

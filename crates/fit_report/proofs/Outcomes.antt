@@ -3,10 +3,13 @@ use Rattle.fit_report.proofs.Common.{◌≡◌, ℕ, ◌+◌, ◌≤◌, List, [
 use Rattle.fit_report.proofs.Common.{refl, sym, ap, ◌∙◌, subst, arith, length-append, Consumes, IsAtEnd, append-nil, get_or-append-add, take-append-add}
 use Rattle.fit_report.proofs.Common.{chain_limit, IsViable, Refused, Truncated, Fault, Seen, Event, AreEvents, at_header, IsRefused, no_file_yet}
 use Rattle.fit_report.proofs.Common.{ReportFault, Decode, NoMemory, Write, Lines, Stands, Stops, Channel, Tells, HasTold, HasHeard, report_fault}
-use Rattle.fit_report.proofs.Common.{Consumes-append}
+use Rattle.fit_report.proofs.Common.{Consumes-append, drop, append_assoc, take-append-drop, length-drop}
+use Rattle.std.proofs.Math.Seq.{take-append_seam}
+use Rattle.fit_chain.specs.Memory.{IsAny, MayLackMemoryIn}
+use Rattle.fit_report.specs.Reports.{TellsSome}
 use Rattle.fit_chain.specs.Checks.{AreChain}
-use Rattle.fit_decode.specs.Reads.{piece_size, IsNearlyViable}
-use Rattle.fit_decode.proofs.Nearly.{nearly}
+use Rattle.fit_decode.specs.Reads.{piece_size, IsInPiece, IsNearlyViable}
+use Rattle.fit_decode.proofs.Nearly.{nearly, wants_in_piece}
 use Rattle.fit_report.proofs.Texts.{Appends-nothing}
 
 -- ---- no bytes
@@ -34,6 +37,20 @@ module _ {A R : Type 0} (has_heard : R → List (Event A) → Type 0) (line : Li
   nearly_all : IsNearlyViable A chain_limit (bytes ++ piece)
   nearly_all = nearly chain_limit bytes piece (bytes ++ piece) refl short viable
 
+  -- that much was told, and memory was refused after it
+  told_before : (k : ℕ) (heard : List (Event A)) → Tells line (bytes ++ take k piece) heard sink
+      → MayLackMemoryIn A IsAny (bytes ++ take k piece) (drop k piece) → TellsSome line (bytes ++ piece) sink
+  told_before k heard tells lacks =
+      let told : List ℕ = bytes ++ take k piece in
+      let parts : bytes ++ piece ≡ told ++ drop k piece =
+      ap (λ l. bytes ++ l) (sym (take-append-drop k piece)) ∙ sym (append_assoc bytes (take k piece) (drop k piece)) in (
+        length told,
+        heard,
+        subst (λ t. Tells line t heard sink) (sym (ap (take (length told)) parts ∙ take-append_seam told (drop k piece))) tells,
+        wants_in_piece IsAny IsInPiece told (drop k piece) (bytes ++ piece) parts
+            (λ place after. omega (arith, after, ap length parts, length-append told (drop k piece), length-drop k piece, short)) lacks,
+      )
+
   pub piece_fault : (fault : ReportFault) → Stops has_heard line bytes piece reporter sink fault
       → (heard : List (Event A)) × HasTold line (bytes ++ piece) source sink heard (Err fault) × HasHeard has_heard reporter heard (Err fault)
   piece_fault (Decode (Refused place reason)) (k, within, is, why, heard, has, tells) =
@@ -54,11 +71,7 @@ module _ {A R : Type 0} (has_heard : R → List (Event A) → Type 0) (line : Li
         has,
       )
   piece_fault (Decode fault) none = absurd none
-  piece_fault NoMemory (k, heard, tells) = (
-    heard,
-    ((length bytes + k, heard, subst (λ t. Tells line t heard sink) (front k) tells), nearly_all, good),
-    tt,
-  )
+  piece_fault NoMemory (k, heard, tells, lacks) = (heard, (told_before k heard tells lacks, good), tt)
   piece_fault (Write count) (k, heard, are, fails) = (
     heard,
     ((length bytes + k, heard, subst (λ t. AreEvents t (reverse heard)) (front k) are, fails), nearly_all, good),

@@ -1,10 +1,14 @@
 -- Where the telling of a piece has stopped.
 use Rattle.fit_report.proofs.Common.{◌≡◌, ℕ, ◌+◌, ◌≤◌, List, ◌++◌, length, take, drop, get_or, reverse, Option, Err, refl, sym, ap, ◌∙◌, subst, arith}
-use Rattle.fit_report.proofs.Common.{length-append}
+use Rattle.fit_report.proofs.Common.{[], length-append, append_assoc, take-append-drop}
+use Rattle.std.proofs.lemmas.List.{drop-drop}
 use Rattle.fit_report.proofs.Common.{append-nil, length-drop, length-take, get_or-drop, Fault, Seen, fed, Refuses, Event, AreEvents, IsRefused, chain_limit}
 use Rattle.fit_report.proofs.Common.{ReportFault, Decode, NoMemory, Write, Lines, Channel, HasHeard, report_fault, Stands, Stops, fed_on, quiet_for}
 use Rattle.fit_frame.specs.declared.reason.Reason.{Reason}
 use Rattle.fit_chain.specs.declared.event.Fault.TheVariants as faults
+use Rattle.fit_chain.specs.Memory.{IsAny, MayLackMemoryIn}
+use Rattle.fit_chain.proofs.Lacking.{lacks_for_byte, lacks_in_rest}
+use Rattle.fit_decode.specs.Answers.{Wants}
 
 -- It has heard no more where a piece stopped.
 pub hears_no_more : {A R : Type 0} (has_heard : R → List (Event A) → Type 0) (reporter : R) (heard : List (Event A)) (fault : Fault)
@@ -17,13 +21,21 @@ hears_no_more has_heard reporter heard (faults.Read place) has = has
 -- A decoder stopped in a piece.
 pub record Stopped (A : Type 0) (old : Seen) (piece : List ℕ) (new : Seen) (fault : Fault) : Type 0 where
   pub refused : (place : ℕ) (reason : Reason) → fault ≡ faults.Refused place reason → Refuses A old piece new place reason
+  pub memory : (used : ℕ) → fault ≡ faults.NoMemory used → Wants A old piece new used
   pub others : (place : ℕ) → (fault ≡ faults.Truncated place → ⊥) × (fault ≡ faults.Read place → ⊥)
 
 -- Nothing of the piece was told.
 module _ {A R : Type 0} {has_heard : R → List (Event A) → Type 0} {line : Lines A} {reporter : R} {start : Option (List ℕ)} {written : ℕ}
     (old : Seen) (piece : List ℕ) (sink : Channel) (s : Stands has_heard line reporter old.bytes start sink.after written) where
-  pub stops_before : (after : R) → Stops has_heard line old.bytes piece after (record sink { before = start }) NoMemory
-  stops_before after = (0, s.heard, (subst (λ b. AreEvents b (reverse s.heard)) (sym (append-nil old.bytes)) s.are, s.put))
+  pub stops_before : (after : R) → MayLackMemoryIn A IsAny old.bytes piece
+      → Stops has_heard line old.bytes piece after (record sink { before = start }) NoMemory
+  stops_before after lacks =
+      let none : old.bytes ≡ old.bytes ++ [] = sym (append-nil old.bytes) in (
+        0,
+        s.heard,
+        (subst (λ b. AreEvents b (reverse s.heard)) none s.are, s.put),
+        subst (λ b. MayLackMemoryIn A IsAny b piece) none lacks,
+      )
 
   pub stops : (new : Seen) (fault : Fault) → Stopped A old piece new fault
       → Stops has_heard line old.bytes piece reporter (record sink { before = start }) (report_fault fault)
@@ -38,7 +50,9 @@ module _ {A R : Type 0} {has_heard : R → List (Event A) → Type 0} {line : Li
         s.has,
         (quiet_for old.bytes piece u refuses.quiet (reverse s.heard) s.are u (omega arith), s.put),
       )
-  stops new (faults.NoMemory used) t = stops_before reporter
+  stops new (faults.NoMemory used) t =
+      let wants = t.memory used refl in
+      stops_before reporter (lacks_for_byte IsAny old.bytes piece used wants.within wants.next wants.takes)
   stops new (faults.Truncated place) t = absurd ((t.others place).0 refl)
   stops new (faults.Read place) t = absurd ((t.others place).1 refl)
 
@@ -51,6 +65,14 @@ pub fed_after : (old mid new : Seen) (piece rest : List ℕ) (at used : ℕ) →
     → new ≡ fed old piece (at + used)
 fed_after old mid new piece rest at used is left after = fed_on old mid new piece at used is (after ∙ ap (λ (x : List ℕ). fed mid x used) left)
 
+-- Memory was refused in it, and so in the piece.
+pub lacks_after : {A : Type 0} (old mid : Seen) (piece rest : List ℕ) (at : ℕ) → mid.bytes ≡ old.bytes ++ take at piece → rest ≡ drop at piece
+    → MayLackMemoryIn A IsAny mid.bytes rest → MayLackMemoryIn A IsAny old.bytes piece
+lacks_after old mid piece rest at is left =
+    lacks_in_rest IsAny old.bytes piece mid.bytes rest
+    ((λ i. is i ++ left i) ∙ append_assoc old.bytes (take at piece) (drop at piece) ∙ ap (λ b. old.bytes ++ b) (take-append-drop at piece))
+    (omega (arith, ap length is, length-append old.bytes (take at piece)))
+
 -- A fault in it is one in the piece.
 module _ {A R : Type 0} (has_heard : R → List (Event A) → Type 0) (line : Lines A) (old mid : Seen) (piece rest : List ℕ) (at : ℕ) (reporter : R)
     (sink : Channel) (within : at ≤ length piece) (is : mid ≡ fed old piece at) (left : rest ≡ drop at piece) where
@@ -59,6 +81,12 @@ module _ {A R : Type 0} (has_heard : R → List (Event A) → Type 0) (line : Li
 
   so : (k : ℕ) (heard : List (Event A)) → AreEvents (mid.bytes ++ take k rest) (reverse heard) → AreEvents (old.bytes ++ take (at + k) piece) (reverse heard)
   so k heard = subst (λ b. AreEvents b (reverse heard)) (joined k)
+
+  lacks_on : (k : ℕ) → MayLackMemoryIn A IsAny (mid.bytes ++ take k rest) (drop k rest)
+      → MayLackMemoryIn A IsAny (old.bytes ++ take (at + k) piece) (drop (at + k) piece)
+  lacks_on k lacks =
+      subst (λ b. MayLackMemoryIn A IsAny b (drop (at + k) piece)) (joined k)
+      (subst (λ l. MayLackMemoryIn A IsAny (mid.bytes ++ take k rest) l) (ap (drop k) left ∙ drop-drop k at piece) lacks)
 
   pub stops_after : (fault : ReportFault) → Stops has_heard line mid.bytes rest reporter sink fault → Stops has_heard line old.bytes piece reporter sink fault
   stops_after (Decode (faults.Refused place reason)) (k, short, stands, why, heard, has, (are, put)) = (
@@ -72,5 +100,5 @@ module _ {A R : Type 0} (has_heard : R → List (Event A) → Type 0) (line : Li
     (so k heard are, put),
   )
   stops_after (Decode fault) none = absurd none
-  stops_after NoMemory (k, heard, (are, put)) = (at + k, heard, (so k heard are, put))
+  stops_after NoMemory (k, heard, (are, put), lacks) = (at + k, heard, (so k heard are, put), lacks_on k lacks)
   stops_after (Write count) (k, heard, are, fails) = (at + k, heard, so k heard are, fails)

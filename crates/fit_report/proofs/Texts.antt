@@ -23,6 +23,12 @@ pub text_told : {A : Type 0} (line : Lines A) (heard : List (Event A)) (answer :
 text_told line heard answer first text put none told is =
     text-hear line heard answer ∙ ap (λ t. text_of line heard ++ t) (sym (is ∙ told ∙ ap (λ t. t ++ line_of line heard answer) none))
 
+-- No event more was told.
+pub stands_more : {A R : Type 0} {has_heard : R → List (Event A) → Type 0} {line : Lines A} {reporter : R} {bytes : List ℕ} {start now : Option (List ℕ)}
+    {written : ℕ} (more : List ℕ) → ((heard : List (Event A)) → AreEvents bytes (reverse heard) → AreEvents more (reverse heard))
+    → Stands has_heard line reporter bytes start now written → Stands has_heard line reporter more start now written
+stands_more more still s = record { heard = s.heard; has = s.has; are = still s.heard s.are; put = s.put; counted = s.counted }
+
 -- A text was put, or in part, of events after those that were told.
 module _ {A R : Type 0} {has_heard : R → List (Event A) → Type 0} {line : Lines A} {before : R} {bytes : List ℕ} {start : Option (List ℕ)} {old : ℕ}
     (sink : Channel) (s : Stands has_heard line before bytes start sink.before old) (now : List (Event A)) (text : List ℕ)

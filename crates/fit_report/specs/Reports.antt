@@ -8,14 +8,15 @@ use Rattle.fit_chain.specs.declared.event.Fault.TheVariants.{Refused, NoMemory, 
 use Rattle.fit_chain.specs.Checks.{AreChain}
 use Rattle.fit_chain.specs.Events.{Event, AreEvents, file_events}
 pub use Rattle.fit_decode.specs.Reads.{Channel, channel}
-use Rattle.fit_decode.specs.Reads.{EndsReading, IsNearlyViable}
+use Rattle.fit_chain.specs.Memory.{IsAny}
+use Rattle.fit_decode.specs.Reads.{EndsReading, IsInPiece, IsNearlyViable, WantsMemory}
 use Rattle.fit_report.specs.declared.fault.ReportFault.{ReportFault}
 use Rattle.fit_report.specs.declared.fault.ReportFault.TheVariants as report
 use Rattle.fit_report.specs.Heard.{Lines, text_of}
 
 -- The fault that ended the reading of a chain of at most that many files, after these bytes were taken.
 abbrev pub Faults : Type 0 → ℕ → List ℕ → Channel → Fault → Type 0
-Faults A limit taken source fault = EndsReading A limit (AreChain A) taken source fault
+Faults A limit taken source fault = EndsReading A limit (AreChain A) IsInPiece (WantsMemory A IsAny limit IsInPiece 0) taken source fault
 
 -- the fault of a report
 abbrev pub report_fault : Fault → ReportFault
@@ -33,9 +34,10 @@ before_fault fault taken = taken
 abbrev pub Tells : {A : Type 0} → Lines A → List ℕ → List (Event A) → Channel → Type 0
 Tells line bytes heard sink = AreEvents bytes (reverse heard) × Appends sink.before sink.after (text_of line heard)
 
--- The text of the events of some first bytes was put.
+-- The text of the events of some first bytes was put, and memory was refused at a later byte of the last piece.
 abbrev pub TellsSome : {A : Type 0} → Lines A → List ℕ → Channel → Type 0
 TellsSome {A} line bytes sink = (k : ℕ) × (heard : List (Event A)) × Tells line (take k bytes) heard sink
+    × WantsMemory A IsAny chain_limit IsInPiece k bytes
 
 -- The sink has failed after some first bytes of a text, that many; the count stops at 2^64 - 1.
 abbrev pub TextFailsIn : List ℕ → Channel → ℕ → Type 0
@@ -47,16 +49,15 @@ abbrev pub TextBreaksOff : {A : Type 0} → Lines A → List ℕ → Channel →
 TextBreaksOff {A} line bytes sink written = (k : ℕ) × (heard : List (Event A)) × AreEvents (take k bytes) (reverse heard)
     × TextFailsIn (text_of line heard) sink written
 
--- What a report told that took these bytes: all of the input, which is a chain, was told; or what is before a fault; or, where
--- memory was refused or the sink failed, some of it, and all but at most a piece of the bytes begins a chain. Where the source
--- has failed, that alone is answered.
+-- What a report told that took these bytes: all of the input, which is a chain, was told; or what is before a fault; or some of
+-- it, where memory was refused at a later byte of the last piece, or where the sink failed, and then all but at most a piece of the
+-- bytes begins a chain. Where the source has failed, that alone is answered.
 abbrev pub HasTold : {A : Type 0} → Lines A → List ℕ → Channel → Channel → List (Event A) → Result (Unit {0}) ReportFault → Type 0
 HasTold {A} line taken source sink heard (Ok _) = IsAtEnd source.after × (source.failed ≡ false) × AreChain A taken × Tells line taken heard sink
 HasTold line taken source sink heard (Err (report.Decode (NoMemory used))) = ⊥
 HasTold {A} line taken source sink heard (Err (report.Decode fault)) =
     Faults A chain_limit taken source fault × Tells line (before_fault fault taken) heard sink
-HasTold {A} line taken source sink heard (Err report.NoMemory) =
-    TellsSome line taken sink × IsNearlyViable A chain_limit taken × (source.failed ≡ false)
+HasTold line taken source sink heard (Err report.NoMemory) = TellsSome line taken sink × (source.failed ≡ false)
 HasTold {A} line taken source sink heard (Err (report.Write written)) =
     TextBreaksOff line taken sink written × IsNearlyViable A chain_limit taken × (source.failed ≡ false)
 

@@ -3,6 +3,7 @@ ghost use Rattle.std.specs.Prelude.{◌≡◌, ◌++◌, [], ℕ, ◌≤◌, Lis
 ghost use Rattle.std.specs.Global.{Global};
 ghost use Rattle.fit_record.specs.Files.{chain_limit, IsViable};
 ghost use Rattle.fit_chain.specs.Events.{Event as Told, AreEvents};
+ghost use Rattle.fit_chain.specs.Memory.{IsAny, MayLackMemoryIn};
 ghost use Rattle.fit_report.specs.Heard.{AreHeard, hear, line_of, Skips};
 
 use fit_decode::{Decoder, Event};
@@ -19,7 +20,7 @@ pub trait Report {
     ghost line: { List (Told Global) → Told Global → List ℕ };
 
     /// Takes the next event, and puts its text after the old text. Out of memory, the text is of no use, and the
-    /// reporter gets no further event.
+    /// reporter gets no further event. `report` doesn't call it for `More`, which is no event.
     fn tell(&mut self, event: &Event, text: &mut Vec<u8>) -> Result<(), AllocError>
         // The events are those of bytes with which a chain of files begins.
         requires { (heard : List (Told Global)) × has_heard self.old heard
@@ -33,7 +34,8 @@ pub trait Report {
     /// Skips bytes at the front of the piece whose events it doesn't need one by one, and puts the text of these events after the
     /// old text. Returns how many bytes were used, all of them fed to the decoder. After a refusal nothing is skipped.
     ///
-    /// Out of memory, some first bytes of the piece were fed, the text is of no use, and the reporter gets no further event.
+    /// Out of memory, some first bytes of the piece were fed, the text is of no use, and the reporter gets no further event. Memory was
+    /// then refused at a byte of the piece that may take memory, or that completes an event.
     ///
     /// A reporter that needs each event leaves this method out, and skips nothing.
     fn skip(
@@ -50,6 +52,7 @@ pub trait Report {
         ensures memory { OnErr result ((k : ℕ) × (k ≤ length piece.now)
             × (decoder.new ≡ record decoder.old
             { bytes = decoder.old.bytes ++ take k piece.now })) }
+        ensures wants { OnErr result (MayLackMemoryIn Global IsAny decoder.old.bytes piece.now) }
         ensures viable { IsViable Global chain_limit decoder.new.bytes }
     {
         Ok(0)

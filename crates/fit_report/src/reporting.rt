@@ -1,24 +1,26 @@
 //! Passes the events of a source's bytes to a reporter, and its text to a sink.
-ghost use Rattle.std.specs.Prelude.{◌≡◌, ◌++◌, ℕ, ◌<◌, ◌≤◌, [], List, IfOk, OnOk, Option, None, Some, flat_map, length, reverse};
+ghost use Rattle.std.specs.Prelude.{◌≡◌, ◌++◌, ℕ, ◌<◌, ◌≤◌, [], List, false, IfOk, OnErr, OnOk, Option, None, Some, flat_map, length, reverse};
 ghost use Rattle.std.specs.Global.{Global};
 ghost use Rattle.fit_base.specs.Numbers.{IsBytes};
 ghost use Rattle.fit_record.specs.declared.file.FitFile.{FitFile};
 ghost use Rattle.fit_record.specs.Files.{chain_limit, IsChain, IsViable};
 ghost use Rattle.fit_chain.specs.Events.{Event as Told, AreEvents, file_events};
+ghost use Rattle.fit_chain.specs.Memory.{IsAny, MayLackMemoryIn};
 ghost use Rattle.fit_decode.specs.Answers.{fed};
 ghost use Rattle.fit_report.specs.Heard.{Skips};
 ghost use Rattle.fit_report.specs.Reports.{Reports, ReportsChain, channel};
 ghost use Rattle.fit_report.specs.inner.Passing.{Passes, Puts, Stands};
 
 use crate::{Report, ReportFault};
-use fit_decode::{Decoder, Fault, Fed, PIECE_SIZE, Source};
+use fit_decode::{Decoder, Event, Fault, Fed, PIECE_SIZE, Source};
 use fit_encode::{Sink, put_all};
 use std::alloc::{AllocError, Global};
 
 /// Puts a text in the sink, where `written` bytes of text were put before.
 fn put_text<K: Sink>(sink: &mut K, text: &[u8], written: &mut u64) -> Result<(), ReportFault>
-    ensures { Puts text.now (channel K.contents K.has_failed sink.old sink.new)
+    ensures puts { Puts text.now (channel K.contents K.has_failed sink.old sink.new)
         written.old written.new result }
+    ensures works { OnOk result (K.has_failed sink.old ≡ false → K.has_failed sink.new ≡ false) }
 {
     match put_all(sink, text) {
         Ok(()) => {
@@ -44,6 +46,7 @@ fn skip_all<R: Report>(
     requires viable { IsViable Global chain_limit decoder.old.bytes }
     ensures skips { IfOk result (λ used. Skips R.has_heard R.line decoder.old decoder.new piece.now
         reporter.old reporter.new text.old.items text.new.items used) }
+    ensures wants { OnErr result (MayLackMemoryIn Global IsAny decoder.old.bytes piece.now) }
     ensures viable { IsViable Global chain_limit decoder.new.bytes }
 {
     let mut at = 0;
@@ -75,6 +78,7 @@ fn tell_skipped<K: Sink, R: Report>(
     ensures passes { Passes R.has_heard R.line reporter.old reporter.new
         decoder.old.bytes piece.now decoder.new.bytes
         (channel K.contents K.has_failed sink.old sink.new) written.old written.new result }
+    ensures works { OnOk result (K.has_failed sink.old ≡ false → K.has_failed sink.new ≡ false) }
     ensures viable { IsViable Global chain_limit decoder.new.bytes }
 {
     text.clear();
@@ -103,9 +107,13 @@ fn tell_next<K: Sink, R: Report>(
     ensures passes { Passes R.has_heard R.line reporter.old reporter.new
         decoder.old.bytes piece.now decoder.new.bytes
         (channel K.contents K.has_failed sink.old sink.new) written.old written.new result }
+    ensures works { OnOk result (K.has_failed sink.old ≡ false → K.has_failed sink.new ≡ false) }
     ensures viable { IsViable Global chain_limit decoder.new.bytes }
 {
     let Fed { used, event } = decoder.feed(piece)?;
+    if let Event::More = event {
+        return Ok(used);
+    }
     text.clear();
     let Ok(()) = reporter.tell(&event, text) else {
         return Err(ReportFault::NoMemory);
@@ -132,6 +140,7 @@ fn tell_piece<K: Sink, R: Report>(
     ensures passes { Passes R.has_heard R.line reporter.old reporter.new
         decoder.old.bytes piece.now decoder.new.bytes
         (channel K.contents K.has_failed sink.old sink.new) written.old written.new result }
+    ensures works { OnOk result (K.has_failed sink.old ≡ false → K.has_failed sink.new ≡ false) }
     ensures viable { IsViable Global chain_limit decoder.new.bytes }
 {
     let mut at = 0;
@@ -152,9 +161,10 @@ fn tell_pieces<S: Source, K: Sink, R: Report>(
     reporter: &mut R,
 ) -> Result<(), ReportFault>
     requires { R.has_heard reporter.old [] }
-    ensures { Reports R.has_heard reporter.new R.line
+    ensures reports { Reports R.has_heard reporter.new R.line
         (channel S.remaining S.has_failed source.old source.new)
         (channel K.contents K.has_failed sink.old sink.new) result }
+    ensures works { OnOk result (K.has_failed sink.old ≡ false → K.has_failed sink.new ≡ false) }
 {
     let mut decoder = Decoder::new(alloc);
     let mut text = Vec::new(alloc);
@@ -180,7 +190,8 @@ fn tell_pieces<S: Source, K: Sink, R: Report>(
 ///
 /// `Decode` where the input is no chain of files or the source failed, and then the text of all events before the fault was put,
 /// and the reporter has heard just those; `NoMemory` where an allocation failed, and `Write` where the sink failed. Then the text of
-/// some first bytes was put, with `Write` only `written` bytes of it.
+/// some first bytes was put, with `Write` only `written` bytes of it. With `NoMemory` memory was refused after these bytes, at one of
+/// the last 4,096 taken, which isn't refused itself, and which may take memory or completes an event.
 pub fn report<S: Source, K: Sink, R: Report>(
     alloc: Global,
     source: &mut S,
@@ -201,6 +212,8 @@ pub fn report<S: Source, K: Sink, R: Report>(
     ensures heard { (fs : List (FitFile Global)) (b : List ℕ) → S.remaining source.old ≡ Some b
         → IsBytes b → IsChain chain_limit fs b
         → OnOk result (R.has_heard reporter.new (reverse (flat_map file_events fs))) }
+    // A sink that had not failed has not failed after a report that succeeds.
+    ensures works { OnOk result (K.has_failed sink.old ≡ false → K.has_failed sink.new ≡ false) }
 {
     tell_pieces(alloc, source, sink, reporter)
 }

@@ -91,8 +91,8 @@ module _ (texts : Texts) (input : List ℕ) where
 
       ran : Runs line h.source h.output h.faults status → HasWritten h.output status
       ran (taken, took, inl (answer, heard, finds, are, says)) = said taken answer heard took finds are says
-      ran (taken, took, inr (k, heard, are, inl (put, puts, is), near, good)) = absurd (h.memory is)
-      ran (taken, took, inr (k, heard, are, inr (bad, n, short, put, puts, is), near, good)) = absurd cc
+      ran (taken, took, inr (k, heard, are, inl (put, puts, is, wants), good)) = absurd (h.memory is)
+      ran (taken, took, inr (k, heard, are, inr ((bad, n, short, put, puts, is), near), good)) = absurd cc
 
 -- ---- by the commands
 

@@ -61,8 +61,8 @@ module _ {K : Type 0} (contents : K → Option (List ℕ)) (has_failed : K → B
           (subst (λ k. Appends start (contents k) (text_of line heard)) (sym same) tells.1, puts, is),
         ),
       )
-      ran_so (Err report.NoMemory) (taken, eats, ((k, some, (are, put)), near, good)) (same, puts, is) =
-          (taken, eats, inr (k, some, are, inl (subst (λ o. Appends start (contents o) (text_of line some)) (sym same) put, puts, is), near, good))
+      ran_so (Err report.NoMemory) (taken, eats, ((k, some, (are, put), wants), good)) (same, puts, is) =
+          (taken, eats, inr (k, some, are, inl (subst (λ o. Appends start (contents o) (text_of line some)) (sym same) put, puts, is, wants), good))
       ran_so (Err (report.Write written)) (taken, eats, ((k, some, are, (bad, n, short, put, counted)), near, good)) (same, puts, is) = (
         taken,
         eats,
@@ -71,14 +71,16 @@ module _ {K : Type 0} (contents : K → Option (List ℕ)) (has_failed : K → B
           some,
           are,
           inr (
-            ap has_failed same ∙ bad,
-            n,
-            short,
-            subst (λ o. Appends start (contents o) (take n (text_of line some))) (sym same) put,
-            puts,
-            is,
+            (
+              ap has_failed same ∙ bad,
+              n,
+              short,
+              subst (λ o. Appends start (contents o) (take n (text_of line some))) (sym same) put,
+              puts,
+              is,
+            ),
+            near,
           ),
-          near,
           good,
         ),
       )

@@ -9,7 +9,8 @@ use Rattle.fit_chain.specs.declared.event.Fault.{Fault}
 use Rattle.fit_chain.specs.declared.event.Fault.TheVariants.{Refused, Truncated, NoMemory, Read}
 use Rattle.fit_chain.specs.Checks.{AreChain}
 use Rattle.fit_chain.specs.Events.{Event, AreEvents}
-use Rattle.fit_decode.specs.Reads.{IsNearlyViable}
+use Rattle.fit_chain.specs.Memory.{IsAny}
+use Rattle.fit_decode.specs.Reads.{IsInPiece, IsNearlyViable, WantsMemory}
 use Rattle.fit_report.specs.Heard.{Lines, text_of}
 use Rattle.fit_report.specs.Reports.{Channel, Faults, before_fault}
 use Rattle.fit_csv.specs.declared.fault.CsvFault.{CsvFault}
@@ -66,21 +67,23 @@ Says (Err (Read place)) lines output faults status =
     Appends output.before output.after lines × PutsOrFails faults (read_fault_line place) × (status ≡ 4)
 Says (Err (NoMemory used)) lines output faults status = ⊥
 
--- Memory was refused after the lines, or the output has failed in them.
-abbrev pub LinesBreakOff : List ℕ → Channel → Channel → ℕ → Type 0
-LinesBreakOff lines output faults status =
-    (Appends output.before output.after lines × PutsOrFails faults out_of_memory_line × (status ≡ 3)) ⊎ OutputFailsIn lines output faults status
+-- Memory was refused after the lines of the first k bytes, at a later byte of the last piece that was taken; or the output has failed in
+-- them, and all but at most a piece of what was taken begins a chain.
+abbrev pub LinesBreakOff : Type 0 → ℕ → List ℕ → List ℕ → Channel → Channel → ℕ → Type 0
+LinesBreakOff A k taken lines output faults status =
+    (Appends output.before output.after lines × PutsOrFails faults out_of_memory_line × (status ≡ 3)
+    × WantsMemory A IsAny chain_limit IsInPiece k taken)
+    ⊎ (OutputFailsIn lines output faults status × IsNearlyViable A chain_limit taken)
 
 -- What a command did that writes these lines of events: of all that it took from the input it wrote the lines, and said what it
--- found; or it broke off in the lines of some first bytes, and all but at most a piece of what it took begins a chain. The source has
--- not failed then.
+-- found; or it broke off in the lines of some first bytes. The source has not failed then.
 abbrev pub Runs : {A : Type 0} → Lines A → Channel → Channel → Channel → ℕ → Type 0
 Runs {A} line source output faults status =
     (taken : List ℕ) × Consumes source.before source.after taken
     × (((found : Result (Unit {0}) Fault) × (heard : List (Event A)) × ReportFinds A taken source found × AreEvents (good_bytes found taken) (reverse heard)
     × Says found (text_of line heard) output faults status)
-    ⊎ ((k : ℕ) × (heard : List (Event A)) × AreEvents (take k taken) (reverse heard) × LinesBreakOff (text_of line heard) output faults status
-    × IsNearlyViable A chain_limit taken × (source.failed ≡ false)))
+    ⊎ ((k : ℕ) × (heard : List (Event A)) × AreEvents (take k taken) (reverse heard)
+    × LinesBreakOff A k taken (text_of line heard) output faults status × (source.failed ≡ false)))
 
 -- ---- a conversion
 

@@ -1,5 +1,5 @@
 //! What the program does, over any source and sinks.
-ghost use Rattle.std.specs.Prelude.{◌≡◌, ◌++◌, [], flat_map, reverse};
+ghost use Rattle.std.specs.Prelude.{◌≡◌, ◌++◌, ◌<◌, [], false, flat_map, length, reverse};
 ghost use Rattle.fit_chain.specs.Events.{file_events};
 ghost use Rattle.fit_report.specs.Heard.{text_of};
 ghost use Rattle.fit_report.specs.Reports.{channel};
@@ -54,6 +54,9 @@ pub fn run<S: Source, K: Sink, E: Sink>(
         (channel S.remaining S.has_failed source.old source.new)
         (channel K.contents K.has_failed output.old output.new)
         (channel E.contents E.has_failed faults.old faults.new) result }
+
+    // Where the status is 0, the output has not failed.
+    ensures works { result ≡ 0 → K.has_failed output.new ≡ false }
 
     // What each command writes where its input is the bytes of a chain of files.
     ensures checks { command ≡ Command.Check → WritesOfChain (λ fs. file_lines 1 fs ++ ok_line)
@@ -110,6 +113,7 @@ fn run_report<S: Source, K: Sink, E: Sink, R: Report>(
         (λ fs. text_of R.line (reverse (flat_map file_events fs)) ++ ok_line)
         (channel S.remaining S.has_failed source.old source.new)
         (channel K.contents K.has_failed output.old output.new) result }
+    ensures works { result ≡ 0 → K.has_failed output.new ≡ false }
 {
     let told = report(alloc, source, output, reporter);
     finish(output, faults, told)
@@ -117,9 +121,10 @@ fn run_report<S: Source, K: Sink, E: Sink, R: Report>(
 
 /// Says what a report answered.
 fn finish<K: Sink, E: Sink>(output: &mut K, faults: &mut E, told: Result<(), ReportFault>) -> u8
-    ensures { Finishes told output.old output.new
+    ensures finishes { Finishes told output.old output.new
         (channel K.contents K.has_failed output.old output.new)
         (channel E.contents E.has_failed faults.old faults.new) result }
+    ensures works { result ≡ 0 → K.has_failed output.new ≡ false }
 {
     match told {
         Ok(()) => end(output, faults, OK, GOOD),
@@ -233,9 +238,10 @@ fn complain_of_bytes<E: Sink>(faults: &mut E, fault: Fault) -> u8
 
 /// Writes the last line of a run, and answers its status.
 fn end<K: Sink, E: Sink>(output: &mut K, faults: &mut E, line: &str, status: u8) -> u8
-    ensures { WritesLines line.now status
+    ensures writes { WritesLines line.now status
         (channel K.contents K.has_failed output.old output.new)
         (channel E.contents E.has_failed faults.old faults.new) result }
+    ensures works { 0 < length line.now → result < 4 → K.has_failed output.new ≡ false }
 {
     match put_all(output, line.as_bytes()) {
         Ok(()) => status,

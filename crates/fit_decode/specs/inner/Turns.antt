@@ -1,5 +1,5 @@
 -- What the parts of a reader do.
-use Rattle.std.specs.Prelude.{◌≡◌, ℕ, ◌+◌, ◌<◌, ◌≤◌, Bool, true, false, List, ◌++◌, Option, Some, None, Result, Ok, Err, take, length, slice_index}
+use Rattle.std.specs.Prelude.{◌≡◌, ℕ, ◌+◌, ◌<◌, ◌≤◌, min, Bool, true, false, List, ◌++◌, Option, Some, None, Result, Ok, Err, take, length, slice_index}
 use Rattle.std.specs.Io.KnownBytes.{Consumes, IsAtEnd}
 use Rattle.fit_frame.specs.declared.header.Header.{Header}
 use Rattle.fit_record.specs.declared.file.FitFile.{FitFile}
@@ -8,8 +8,10 @@ use Rattle.fit_record.specs.Files.{chain_limit, IsViable}
 use Rattle.fit_chain.specs.declared.event.Fault.{Fault}
 use Rattle.fit_chain.specs.declared.event.Fault.TheVariants.{Refused, Truncated, NoMemory, Read}
 use Rattle.fit_chain.specs.Comes.{ComesToRecords, ComesTo, Ended, NoSooner}
+use Rattle.fit_chain.specs.Memory.{IsItem, MayLackMemoryIn}
+use Rattle.fit_chain.specs.Needs.{Needs}
 use Rattle.fit_decode.specs.Answers.{Seen}
-use Rattle.fit_decode.specs.Reads.{piece_size}
+use Rattle.fit_decode.specs.Reads.{IsInNeededPiece, piece_size}
 use Rattle.fit_chain.specs.Refusals.{IsRefused}
 
 -- A decoder that was fed these bytes, none of which was refused.
@@ -25,23 +27,27 @@ PieceFed files bytes piece new head records (Ok true) =
 PieceFed {A} files bytes piece new head records (Err (Refused place reason)) =
     (k : ℕ) × (k < length piece) × (place ≡ length bytes + k) × ComesTo files (bytes ++ take k piece)
     × IsRefused A chain_limit (bytes ++ take k piece) (slice_index piece k) reason
-PieceFed files bytes piece new head records (Err (NoMemory used)) = used ≡ length bytes + length piece
+PieceFed {A} files bytes piece new head records (Err (NoMemory used)) = (used ≡ length bytes + length piece) × MayLackMemoryIn A IsItem bytes piece
 PieceFed files bytes piece new head records (Err fault) = ⊥
 
--- The last piece that was taken: after bytes with which some chain begins, and no further than the next file goes.
+-- The last piece that was taken: after bytes with which some chain begins, no more than is missing there, and no further than the next
+-- file goes. Memory was refused at one of its bytes.
 pub record LastPiece {A : Type 0} (files : List (FitFile A)) (taken : List ℕ) : Type 0 where
   pub before : List ℕ
   pub piece : List ℕ
   pub parts : taken ≡ before ++ piece
-  pub short : length piece ≤ piece_size
+  pub n : ℕ
+  pub needs : Needs A before n
+  pub short : length piece ≤ min n piece_size
   pub viable : IsViable A chain_limit before
   pub come : ComesTo files before
   pub within : NoSooner files before (length piece)
+  pub lacks : MayLackMemoryIn A IsItem before piece
 
 -- The fault that ended the reading of the file after these files, after all these bytes.
 abbrev pub FaultIn : {A : Type 0} → List (FitFile A) → List ℕ → Option (List ℕ) → Bool → Seen → Fault → Type 0
 FaultIn {A} files taken has failed new (Refused place reason) =
-    (place < length taken) × (length taken ≤ place + piece_size) × ComesTo files (take place taken)
+    (place < length taken) × IsInNeededPiece A taken place × ComesTo files (take place taken)
     × IsRefused A chain_limit (take place taken) (slice_index taken place) reason × (failed ≡ false)
 FaultIn files taken has failed new (Truncated place) = (place ≡ length taken) × IsAtEnd has × ComesTo files taken × (new ≡ unrefused taken) × (failed ≡ false)
 FaultIn files taken has failed new (NoMemory used) = (used ≡ length taken) × LastPiece files taken × (failed ≡ false)

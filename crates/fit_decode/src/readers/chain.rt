@@ -12,13 +12,13 @@ use fit_history::History;
 use fit_record::FitFile;
 use std::alloc::Global;
 
-/// Reads a chain of files, to the end of the source. It takes pieces of at most 4,096 bytes, and its memory from `Global`;
-/// `Reading` takes any allocator.
+/// Reads a chain of files, to the end of the source. It takes pieces of at most 4,096 bytes, none longer than what a file still needs,
+/// and its memory from `Global`; `Reading` takes any allocator.
 ///
-/// `Refused` has the first byte with which no chain begins, and the reason; from there on at most 4,096 bytes were taken.
-/// `Truncated` has the place where a source ends inside a file, or before the first, and `Read` the place where it
-/// failed. With `NoMemory`, `used` is the number of bytes taken, at most a piece of them after bytes with which a chain
-/// begins.
+/// `Refused` has the first byte with which no chain begins, and the reason; after its piece nothing was taken. `Truncated` has the
+/// place where a source ends inside a file, or before the first, and `Read` the place where it failed. With `NoMemory`, `used` is
+/// the number of bytes taken. Memory was refused at a byte of the last piece that isn't refused itself, and that may take memory or
+/// completes a record or a file.
 pub fn read_chain<S: Source>(alloc: Global, source: &mut S) -> Result<Vec<FitFile>, Fault>
     // Where the input is a chain's bytes, its files are returned.
     ensures chain { (fs : List (FitFile Global)) (b : List ℕ) → S.remaining source.old ≡ Some b

@@ -12,13 +12,13 @@ use fit_history::History;
 use fit_record::FitFile;
 use std::alloc::Global;
 
-/// Reads one file, and leaves the bytes after it. It takes pieces of at most 4,096 bytes, and its memory from `Global`;
-/// `Reading` takes any allocator.
+/// Reads one file, and leaves the bytes after it. It takes pieces of at most 4,096 bytes, none longer than what a file still needs,
+/// and its memory from `Global`; `Reading` takes any allocator.
 ///
-/// `Refused` has the first byte with which no file begins, and the reason; from there on at most 4,096 bytes were taken.
-/// `Truncated` has the place where a source ends before a file does, and `Read` the place where it failed. With
-/// `NoMemory`, `used` is the number of bytes taken: none after a complete file, and at most a piece after bytes with which a
-/// file begins.
+/// `Refused` has the first byte with which no file begins, and the reason; after its piece nothing was taken. `Truncated` has the
+/// place where a source ends before a file does, and `Read` the place where it failed. With `NoMemory`, `used` is the number of bytes
+/// taken, none after a complete file. Memory was refused at a byte of the last piece that isn't refused itself, and that may take
+/// memory or completes a record.
 pub fn read_one<S: Source>(alloc: Global, source: &mut S) -> Result<FitFile, Fault>
     // Where a file's bytes begin the input, that file is returned, and the bytes after it are left.
     ensures file { (f : FitFile Global) (b x : List ℕ) → S.remaining source.old ≡ Some (b ++ x)

@@ -13,7 +13,8 @@ use fit_record::FitFile;
 use std::alloc::{Allocator, Global};
 use std::marker::Model;
 
-/// Reads a chain from a source, file by file. It takes pieces of at most 4,096 bytes, and none after the file that it returns.
+/// Reads a chain from a source, file by file. It takes pieces of at most 4,096 bytes, none longer than what a file still needs, and none
+/// after the file that it returns.
 ///
 /// Clauses see the source, the bytes taken since `new`, and the fault if there was one.
 #[derive(Drop)]
@@ -64,8 +65,9 @@ impl<S: Source, A: Allocator + Copy> Reading<S, A> {
     ///
     /// Places count from the start of the chain. `Refused` has the place of the first byte with which no chain of files begins, and
     /// the reason; `Truncated` the place where the source ends, which is inside a file or before the first one; `Read` the place where
-    /// the source failed. With `NoMemory`, `used` is the number of bytes taken since `new`: none after a whole file that is there, and
-    /// at most a piece after bytes with which a chain begins.
+    /// the source failed. With `NoMemory`, `used` is the number of bytes taken since `new`, none after a whole file that is there.
+    /// Memory was refused at a byte of the last piece, which this call took: one that isn't refused itself, and that may take memory or
+    /// completes a record.
     pub fn next(&mut self) -> Result<Option<FitFile<A>>, Fault>
         // After a fault each call returns it again.
         ensures latched { (fault : Fault) → self.old.fault ≡ Some fault

@@ -1,9 +1,10 @@
 -- What the parts of a report do.
-use Rattle.std.specs.Prelude.{◌≡◌, ℕ, ◌+◌, ◌-◌, ◌^◌, ◌<◌, min, true, List, ◌++◌, Option, Result, Ok, Err, take, length, reverse, slice_index}
+use Rattle.std.specs.Prelude.{◌≡◌, ℕ, ◌+◌, ◌-◌, ◌^◌, ◌<◌, min, true, List, ◌++◌, Option, Result, Ok, Err, take, drop, length, reverse, slice_index}
 use Rattle.std.specs.Io.KnownBytes.{Appends}
 use Rattle.fit_record.specs.Files.{chain_limit}
 use Rattle.fit_chain.specs.declared.event.Fault.TheVariants.{Refused}
 use Rattle.fit_chain.specs.Events.{Event, AreEvents}
+use Rattle.fit_chain.specs.Memory.{IsAny, MayLackMemoryIn}
 use Rattle.fit_chain.specs.Refusals.{IsRefused}
 use Rattle.fit_report.specs.declared.fault.ReportFault.{ReportFault}
 use Rattle.fit_report.specs.declared.fault.ReportFault.TheVariants.{Decode, NoMemory, Write}
@@ -27,14 +28,16 @@ Puts text sink old new (Err (Write written)) =
     (sink.failed ≡ true) × (n : ℕ) × (n < length text) × Appends sink.before sink.after (take n text) × (written ≡ min (old + n) (2 ^ 64 - 1))
 Puts text sink old new (Err fault) = ⊥
 
--- Where the telling of a piece after these bytes has stopped: at a byte that is refused, and what is before it was told and heard; or,
--- where memory was refused or the sink failed, after some first bytes.
+-- Where the telling of a piece after these bytes has stopped: at a byte that is refused, and what is before it was told and heard; or
+-- after some first bytes, where memory was refused at a later byte of the piece, or the sink failed.
 abbrev pub Stops : {A R : Type 0} → (R → List (Event A) → Type 0) → Lines A → List ℕ → List ℕ → R → Channel → ReportFault → Type 0
 Stops {A} has_heard line bytes piece reporter sink (Decode (Refused place reason)) =
     (k : ℕ) × (k < length piece) × (place ≡ length bytes + k) × IsRefused A chain_limit (bytes ++ take k piece) (slice_index piece k) reason
     × (heard : List (Event A)) × has_heard reporter heard × Tells line (bytes ++ take k piece) heard sink
 Stops has_heard line bytes piece reporter sink (Decode fault) = ⊥
-Stops {A} has_heard line bytes piece reporter sink NoMemory = (k : ℕ) × (heard : List (Event A)) × Tells line (bytes ++ take k piece) heard sink
+Stops {A} has_heard line bytes piece reporter sink NoMemory =
+    (k : ℕ) × (heard : List (Event A)) × Tells line (bytes ++ take k piece) heard sink
+    × MayLackMemoryIn A IsAny (bytes ++ take k piece) (drop k piece)
 Stops {A} has_heard line bytes piece reporter sink (Write count) =
     (k : ℕ) × (heard : List (Event A)) × AreEvents (bytes ++ take k piece) (reverse heard) × TextFailsIn (text_of line heard) sink count
 

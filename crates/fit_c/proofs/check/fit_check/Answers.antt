@@ -3,7 +3,13 @@ use Rattle.fit_c.proofs.Said.{chain_checked, check_good}
 use Rattle.fit_c.proofs.check.fit_check.Goals as goal
 
 pub returns-clause-finding : goal.returns-clause-finding
-returns-clause-finding c = (c.check_bytes.result, c.of_check.ensures, c.check_bytes.ensures.files, c.check_bytes.ensures.fault)
+returns-clause-finding c = (
+  c.check_bytes.result,
+  c.of_check.ensures,
+  c.check_bytes.ensures.files,
+  c.check_bytes.ensures.fault,
+  c.check_bytes.ensures.place,
+)
 
 pub returns-clause-good : goal.returns-clause-good
 returns-clause-good c = λ zero. check_good c.args.bytes.now c.check_bytes.result c.check_bytes.ensures.files

@@ -1,8 +1,8 @@
 -- What is fed is told.
 use Rattle.fit_report.proofs.Common.{channel, reverse, ap, ◌∙◌, subst, Err, hear, AreEvents, AreHeard, Seen, err_from_is_err_and}
-use Rattle.fit_report.proofs.Hearing.{heard_next, uses_some}
+use Rattle.fit_report.proofs.Hearing.{heard_more, heard_next, not_told, uses_some}
 use Rattle.fit_report.proofs.Pieces.{stops, stops_before}
-use Rattle.fit_report.proofs.Texts.{stands_on, stops_in, text_told}
+use Rattle.fit_report.proofs.Texts.{stands_more, stands_on, stops_in, text_told}
 use Rattle.fit_report.proofs.reporting.tell_next.Goals as goal
 
 pub returns-in_err-used-clause-passes : goal.returns-in_err-used-clause-passes
@@ -12,6 +12,7 @@ returns-in_err-used-clause-passes g c =
     stops c.args.decoder.now c.args.piece.now (channel g.K.Sink.contents g.K.Sink.has_failed c.args.sink.now c.args.sink.now) s c.feed.new.self
     c.in_err-used.field-0.0 (record {
       refused = λ place reason is. c.feed.ensures.refused place reason c.requires.fresh (c.in_err-used.was ∙ ap Err is);
+      memory = λ used is. c.feed.ensures.memory used (c.in_err-used.was ∙ ap Err is);
       others = λ place. (
         λ is. (c.feed.ensures.others place).0 (c.in_err-used.was ∙ ap Err is),
         λ is.
@@ -48,7 +49,7 @@ returns-clause-passes g c = λ start s.
     stands_on (channel g.K.Sink.contents g.K.Sink.has_failed c.args.sink.now c.put_text.new.sink) s (hear event s.heard) c.as_slice.result.now
     (text_told g.R.Report.line s.heard event c.clear.new.self.items c.tell.new.text.items c.as_slice.result.now c.clear.ensures.items
     (c.in-Ok.ensures.text s.heard s.has heard) c.as_slice.ensures.value)
-    c.tell.new.self c.feed.new.self.bytes c.put_text.new.written (c.in-Ok.ensures.heard s.heard s.has heard) are c.in_ok-put_text.ensures
+    c.tell.new.self c.feed.new.self.bytes c.put_text.new.written (c.in-Ok.ensures.heard s.heard s.has heard) are c.in_ok-put_text.ensures.puts
 
 pub returns-in_err-put_text-clause-passes : goal.returns-in_err-put_text-clause-passes
 returns-in_err-put_text-clause-passes g c =
@@ -62,8 +63,18 @@ returns-in_err-put_text-clause-passes g c =
     (text_told g.R.Report.line s.heard event c.clear.new.self.items c.tell.new.text.items c.as_slice.result.now c.clear.ensures.items
     (c.in-Ok.ensures.text s.heard s.has (c.feed.new.self.bytes, fed.viable, are)) c.as_slice.ensures.value)
     c.tell.new.self c.args.piece.now c.in_ok-used.field-0.used c.put_text.new.written c.in_err-put_text.field-0.0
-    (subst (λ b. AreEvents b (reverse (hear event s.heard))) (ap (λ (v : Seen). v.bytes) fed.used.1) are) c.in_err-put_text.ensures)
+    (subst (λ b. AreEvents b (reverse (hear event s.heard))) (ap (λ (v : Seen). v.bytes) fed.used.1) are) c.in_err-put_text.ensures.puts)
 
-pub returns-in_default-clause-passes : goal.returns-in_default-clause-passes
-returns-in_default-clause-passes g c = λ start s.
+pub returns-in-More-clause-passes : goal.returns-in-More-clause-passes
+returns-in-More-clause-passes g c = λ start s.
+    let fed = c.in_ok-used.ensures in
+    stands_more c.feed.new.self.bytes
+    (heard_more c.args.decoder.now c.feed.new.self c.args.piece.now c.in_ok-used.field-0.used c.in_ok-used.field-0.event c.in-More.is fed.used.1
+    (record { more = fed.more; event = fed.event })) s
+
+pub returns-in_default-tell-clause-passes : goal.returns-in_default-tell-clause-passes
+returns-in_default-tell-clause-passes g c = λ start s.
+    let fed = c.in_ok-used.ensures in
     stops_before c.args.decoder.now c.args.piece.now (channel g.K.Sink.contents g.K.Sink.has_failed c.args.sink.now c.args.sink.now) s c.tell.new.self
+    (not_told c.args.decoder.now c.feed.new.self c.args.piece.now c.in_ok-used.field-0.used c.in_ok-used.field-0.event c.in_default.not-More fed.used.1
+    fed.used.0 (record { more = fed.more; event = fed.event }) fed.viable)

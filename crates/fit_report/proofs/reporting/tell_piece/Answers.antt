@@ -43,5 +43,6 @@ loop-at-preserved g c =
           c.split_at.ensures.back skipped.used.1)
           c.split_at-in-loop-at.ensures.back told.used.1;
       stands = λ start s. told.passes start (skipped.passes start (i.stands start s));
+      works = λ good. told.works (skipped.works (i.works good));
       viable = told.viable;
     }

@@ -1,4 +1,4 @@
-use Rattle.fit_report.proofs.Common.{◌≡◌, ℕ, ◌-◌, ◌≤◌, List, Option, length, Global, chain_limit, IsViable, fed, Stands}
+use Rattle.fit_report.proofs.Common.{◌≡◌, ℕ, ◌-◌, ◌≤◌, List, Option, length, false, Global, chain_limit, IsViable, fed, Stands}
 use Rattle.fit_report.proofs.reporting.tell_piece.Given as goal
 
 abbrev pub invariant-loop-at : goal.invariant-loop-at
@@ -8,6 +8,7 @@ invariant-loop-at g l = record {
   stands : (start : Option (List ℕ))
       → Stands g.R.Report.has_heard g.R.Report.line l.initial.reporter l.initial.decoder.bytes start (g.K.Sink.contents l.initial.sink) l.initial.written
       → Stands g.R.Report.has_heard g.R.Report.line l.reporter l.decoder.bytes start (g.K.Sink.contents l.sink) l.written;
+  works : g.K.Sink.has_failed l.initial.sink ≡ false → g.K.Sink.has_failed l.sink ≡ false;
   viable : IsViable Global chain_limit l.decoder.bytes;
 }
 

@@ -14,12 +14,13 @@ pieces-init g c =
       counted = ap length (sym none);
       eaten = subst (Consumes (g.S.Source.remaining c.args.source.now) (g.S.Source.remaining c.args.source.now)) (sym none)
           (Consumes-nothing (g.S.Source.remaining c.args.source.now));
+      works = λ good. good;
       stands = stands_before g.R.Report.has_heard g.R.Report.line c.args.reporter.now c.new-decoder.result.bytes (g.K.Sink.contents c.args.sink.now) none
           c.requires;
     }
 
-pub returns-in_err-finish : goal.returns-in_err-finish
-returns-in_err-finish g c =
+pub returns-in_err-finish-clause-reports : goal.returns-in_err-finish-clause-reports
+returns-in_err-finish-clause-reports g c =
     let p = err_from_is_err_and c.from_residual.result c.from_residual.ensures.1 in
     let i = c.pieces.invariant in
     let s = i.stands in
@@ -35,8 +36,8 @@ returns-in_err-finish g c =
       rw (p.1, p.2) (hears_no_more g.R.Report.has_heard c.pieces.reporter s.heard c.in_err-finish.field-0.0 s.has),
     )
 
-pub returns-in_err-tell_piece : goal.returns-in_err-tell_piece
-returns-in_err-tell_piece g c =
+pub returns-in_err-tell_piece-clause-reports : goal.returns-in_err-tell_piece-clause-reports
+returns-in_err-tell_piece-clause-reports g c =
     let p = err_from_is_err_and c.from_residual-in_err-tell_piece.result c.from_residual-in_err-tell_piece.ensures.1 in
     let i = c.pieces.invariant in
     let piece = c.split_at.result.0.now in
@@ -63,6 +64,7 @@ pieces-preserved g c =
       counted = omega (arith, i.counted, ap length all, length-append c.pieces.decoder.bytes piece, c.split_at.ensures.front_len);
       eaten = subst (Consumes (g.S.Source.remaining c.args.source.now) (g.S.Source.remaining c.take.new.self)) (sym all)
           (Consumes-append _ _ _ c.pieces.decoder.bytes piece i.eaten (rw (← c.split_at.ensures.front) at c.in-Ok.ensures.bytes.0));
+      works = λ good. c.in_ok-tell_piece.ensures.works (i.works good);
       stands = c.in_ok-tell_piece.ensures.passes (g.K.Sink.contents c.args.sink.now) i.stands;
     }
 

@@ -1,8 +1,8 @@
 -- What is written of a chain, and the text that `from-csv` reads.
 use Rattle.fit_run.proofs.Common.{◌++◌, sym, subst, flat_map, Global, file_events, channel, chain_rows, table_of, ok_line, IsWritten, RunsCommand}
-use Rattle.fit_run.proofs.Concluded.{concluded, text_concluded}
+use Rattle.fit_run.proofs.Concluded.{concluded, good_status, text_concluded}
 use Rattle.fit_run.proofs.Counts.{chains_have_lines}
-use Rattle.fit_run.proofs.TextRead.{text_kept}
+use Rattle.fit_run.proofs.TextRead.{text_kept, text_works}
 use Rattle.fit_run.proofs.running.run.Goals as goal
 
 pub returns-in-Check-clause-checks : goal.returns-in-Check-clause-checks
@@ -45,3 +45,20 @@ returns-in-FromCsv-clause-from_text g c = λ command text fs b input is well goo
     (channel g.K.Sink.contents g.K.Sink.has_failed c.args.output.now c.from_csv-answer.new.sink)
     (channel g.E.Sink.contents g.E.Sink.has_failed c.args.faults.now c.conclude-in-FromCsv.new.faults)
     c.conclude-in-FromCsv.result c.from_csv-answer.result well good (c.from_csv-answer.ensures.chain text fs b input is) c.conclude-in-FromCsv.ensures
+
+pub returns-in-ToCsv-clause-works : goal.returns-in-ToCsv-clause-works
+returns-in-ToCsv-clause-works g c = λ zero.
+    good_status (channel g.E.Sink.contents g.E.Sink.has_failed c.args.faults.now c.conclude.new.faults) c.conclude.result c.to_csv-answer.result zero
+    c.conclude.ensures c.to_csv-answer.ensures.works
+
+pub returns-in-Table-clause-works : goal.returns-in-Table-clause-works
+returns-in-Table-clause-works g c = λ zero.
+    good_status (channel g.E.Sink.contents g.E.Sink.has_failed c.args.faults.now c.conclude-in-Table.new.faults) c.conclude-in-Table.result
+    c.table-answer.result zero c.conclude-in-Table.ensures c.table-answer.ensures.works
+
+pub returns-in-FromCsv-clause-works : goal.returns-in-FromCsv-clause-works
+returns-in-FromCsv-clause-works g c = λ zero.
+    let source = channel g.S.Source.remaining g.S.Source.has_failed c.args.source.now c.from_csv-answer.new.source in
+    let sink = channel g.K.Sink.contents g.K.Sink.has_failed c.args.output.now c.from_csv-answer.new.sink in
+    good_status (channel g.E.Sink.contents g.E.Sink.has_failed c.args.faults.now c.conclude-in-FromCsv.new.faults) c.conclude-in-FromCsv.result
+    c.from_csv-answer.result zero c.conclude-in-FromCsv.ensures (text_works source sink c.from_csv-answer.result c.from_csv-answer.ensures.reads)

@@ -5,7 +5,7 @@ use Rattle.fit_decode.proofs.Sizes.{field_is_within}
 use Rattle.fit_record.specs.declared.message.Record.TheVariants.{Values as Message}
 use Rattle.fit_chain.specs.Events.{known_after}
 use Rattle.fit_decode.proofs.Feeding.{was_viable}
-use Rattle.fit_decode.proofs.Skipping.{fresh, few_skipped, skipped_kept, records_skipped, message_skipped, message_follows}
+use Rattle.fit_decode.proofs.Skipping.{fresh, few_skipped, skipped_kept, records_skipped, message_skipped, message_follows, message_completes}
 use Rattle.fit_decode.proofs.decoder.Decoder.skip_message.Goals as goal
 
 pub returns-then-is_some-clause-viable : goal.returns-then-is_some-clause-viable
@@ -46,6 +46,15 @@ returns-clause-message g c = λ some events are.
     (slice_is_bytes c.args.piece.now c.type_inv.piece) s.ensures.within skip c.split_at.result.0.now c.split_at.ensures.front c.add_all.ensures
     c.args.self.now c.self.view_is c.note.new.self.items c.note.ensures events are in
     (v, (told.0.0.0, told.0.1 ∙ append-nil (record_bytes (known_after events) (Message v))), told.1)
+
+pub returns-clause-completes : goal.returns-clause-completes
+returns-clause-completes g c = λ some.
+    let s = c.skip_message_in_section-size in
+    let d = c.self.inside in
+    let (v, skip) = s.ensures.message some in
+    let none = fresh d.refusal c.is_some.result c.is_some.ensures c.if-is_some.false in
+    message_completes d c.self.invariant none c.in-Data.is c.args.piece.now s.new.position s.result v (slice_is_bytes c.args.piece.now c.type_inv.piece)
+    s.ensures.within skip c.args.self.now c.self.view_is some
 
 pub returns-clause-viable : goal.returns-clause-viable
 returns-clause-viable g c = (invariant_of-self g c).viable

@@ -1,8 +1,7 @@
 -- Each turn takes one file, or ends the reading.
-use Rattle.fit_decode.proofs.Common.{Ok, Err, sym, subst, arith, Global, IsAfter, IsEnd, short_bytes, chain_limit}
+use Rattle.fit_decode.proofs.Common.{Ok, Err, sym, subst, arith, Global, IsAfter, IsEnd, short_bytes}
 use Rattle.fit_decode.proofs.ChainRead.{chain_ended, chain_stopped, gives_chain, one_longer, one_more, pushed}
-use Rattle.fit_decode.proofs.Nearly.{all_viable}
-use Rattle.fit_decode.proofs.NextRead.{comes_after, next_good}
+use Rattle.fit_decode.proofs.NextRead.{comes_after, file_not_kept, next_good}
 use Rattle.fit_decode.proofs.readers.chain.read_chain.Goals as goal
 
 pub returns-then-is_err-clause-exact : goal.returns-then-is_err-clause-exact
@@ -14,7 +13,9 @@ returns-then-is_err-clause-exact g c =
     c.in-Ok.ensures.viable c.in-Ok.file r in
     let good = next_good c.files.files.items _ _ _ c.read_file.new.taken.items _ _ _ c.read_file.new.decoder c.read_file.new.count beyond
     c.in-Ok.ensures.counted c.in-Ok.ensures.viable c.in-Ok.file r in
-    (c.read_file.new.taken.items, more.1, (more.0.counted, all_viable chain_limit c.read_file.new.taken.items more.0.viable, good))
+    let wants = file_not_kept c.files.files.items _ _ _ c.read_file.new.taken.items _ _ _ c.read_file.new.decoder c.read_file.new.count beyond
+    c.in-Ok.ensures.counted c.in-Ok.ensures.viable c.in-Ok.file r in
+    (c.read_file.new.taken.items, more.1, (more.0.counted, wants, good))
 
 pub files-smaller : goal.files-smaller
 files-smaller g c =

@@ -48,7 +48,7 @@ returns-clause-turned g c = λ files stands.
       told = turn_of files c.args.decoder.now.bytes piece c.need.result _ _ c.take_piece.new.decoder c.take_piece.new.head c.take_piece.new.records
           c.take_piece.result
           (needs_no_sooner c.args.decoder.now.bytes c.need.result files stands.progress needs stands.come)
-          (omega (arith, c.min-wanted.ensures)) (omega arith) (omega (arith, c.min-wanted.ensures)) c.in-Ok.ensures.good c.requires.viable
+          needs (omega (arith, c.min-wanted.ensures)) (omega arith) c.in-Ok.ensures.good c.requires.viable
           (stands.progress, stands.come) (c.take_piece.ensures.fed files stands);
     }
 

@@ -1,7 +1,7 @@
 -- A piece is fed event by event.
 use Rattle.fit_decode.proofs.Common.{length, drop, Some, Err, sym, ap, ◌∙◌, subst, arith, length-drop, event_of, ComesToRecords}
 use Rattle.fit_decode.specs.Answers.{Seen}
-use Rattle.fit_decode.proofs.PieceTold.{fed_on, feeds_header, feeds_item, piece_over, piece_more, piece_end, piece_refused}
+use Rattle.fit_decode.proofs.PieceTold.{fed_on, feeds_header, feeds_item, piece_over, piece_more, piece_end, piece_refused, piece_wants, piece_not_kept}
 use Rattle.fit_decode.proofs.readers.piece.take_piece.Goals as goal
 
 pub returns-in-More-clause-fed : goal.returns-in-More-clause-fed
@@ -63,6 +63,20 @@ returns-in-Err-Refused-clause-fed g c = λ files stands.
     (c.in-Err-Refused.is ∙ ap Err c.in-Err-Refused.field-0-is) in
     piece_refused files _ _ c.args.decoder.now c.loop-at.decoder c.feed.new.self c.args.piece.now c.loop-at.at (omega arith) c.loop-at.invariant.is_fed
     (c.loop-at.invariant.stands files stands) c.in-Err-Refused.place c.in-Err-Refused.reason (rw c.split_at.ensures.back at refuses)
+
+pub returns-then-not-is_kept-clause-fed : goal.returns-then-not-is_kept-clause-fed
+returns-then-not-is_kept-clause-fed g c = λ files stands.
+    let (some, least) = c.in-Ok.ensures.event _ (ap event_of c.in-Item.is) in
+    piece_not_kept files _ _ c.args.decoder.now c.loop-at.decoder c.feed.new.self c.args.piece.now c.loop-at.at (omega arith) c.loop-at.invariant.is_fed
+    (c.loop-at.invariant.stands files stands) c.args.taken c.in-Ok.fed.used c.in-Item.record c.requires.counted
+    (rw c.split_at.ensures.back at c.in-Ok.ensures.used.1) (rw c.split_at.ensures.back at c.in-Ok.ensures.used.0) some (rw c.split_at.ensures.back at least) c.in-Ok.ensures.viable
+
+pub returns-in-Err-NoMemory-clause-fed : goal.returns-in-Err-NoMemory-clause-fed
+returns-in-Err-NoMemory-clause-fed g c = λ files stands.
+    let used = c.in-Err-NoMemory.field-0-0 in
+    let wants = c.feed.ensures.memory used (c.in-Err-NoMemory.is ∙ ap Err c.in-Err-NoMemory.field-0-is) in
+    piece_wants files _ _ c.args.decoder.now c.loop-at.decoder c.feed.new.self c.args.piece.now c.loop-at.at (omega arith) c.loop-at.invariant.is_fed
+    (c.loop-at.invariant.stands files stands) c.args.taken used c.requires.counted (rw c.split_at.ensures.back at wants)
 
 pub returns-clause-fed : goal.returns-clause-fed
 returns-clause-fed g c = λ files stands.
