@@ -35,13 +35,13 @@ pub use Rattle.fit_base.specs.Numbers.{twos_complement}
 pub use Rattle.fit_base.specs.declared.code.Class.{Class}
 pub use Rattle.fit_base.specs.declared.code.Class.TheVariants.{Text, Bytes, Signed, Unsigned}
 pub use Rattle.fit_base.specs.declared.items.Items.{Items}
-pub use Rattle.fit_profile.proofs.KeptTexts.{last_put, none_put, on_err_always, then_none, more_put, part_put}
+pub use Rattle.fit_numbers.proofs.KeptTexts.{last_put, none_put, on_err_always, then_none, more_put, part_put}
 pub use Rattle.fit_profile.specs.Described.{before_closing_zeros, without_zeros}
-pub use Rattle.fit_profile.specs.FixedText.{fixed_text, fraction, sign, IsIn128, StillBegins}
-unfoldable pub use Rattle.fit_profile.specs.FixedText.{last_digits}
+pub use Rattle.fit_numbers.specs.FixedText.{fixed_text, fraction, sign, IsIn128, StillBegins}
+unfoldable pub use Rattle.fit_numbers.specs.FixedText.{last_digits}
 pub use Rattle.fit_profile.specs.Names.{meaning}
 pub use Rattle.fit_profile.specs.Profile.{Meaning}
-pub use Rattle.fit_profile.specs.Scaled.{decimals, IsScale, IsScaled}
+pub use Rattle.fit_numbers.specs.Scaled.{decimals, IsScale, IsScaled}
 pub use Rattle.fit_cells.specs.Cells.{barred, class_of, item_text, items_text, hex_digit, cell, number_text, scaled_value, begins_as_bytes}
 pub use Rattle.fit_cells.specs.Cells.{string_text, bytes_text, is_plain}
 unfoldable pub use Rattle.fit_cells.specs.Cells.{hex_digits}

@@ -5,7 +5,7 @@ use Rattle.fit_cells.proofs.Common.{cases_Bool, ints, nil_from_length, All-from_
 use Rattle.fit_cells.proofs.Common.{HasShape, twos_complement, Meaning, IsScale, decimals, IsIn128, barred, begins_as_bytes, cell, class_of, hex_digits}
 use Rattle.fit_cells.proofs.Common.{item_text, items_text, number_text, scaled_value, string_text, bytes_text, is_bar, read_hex}
 use Rattle.std.proofs.Common.{◌==◌, Option}
-use Rattle.fit_profile.specs.Laws.{TextHasOneNumber}
+use Rattle.fit_numbers.specs.Laws.{TextHasOneNumber}
 use Rattle.fit_cells.proofs.ClassFacts.{text_width, bytes_width, item_width as kinds, item_width-kinds}
 use Rattle.fit_cells.proofs.ItemFacts.{shape_count}
 use Rattle.fit_cells.proofs.NumberFacts.{complement-is, power-bound, raw-least, raw-most, raw-in, scaled-in, shift-bound, one-raw, number-some}

@@ -9,9 +9,9 @@ use Rattle.fit_base.specs.declared.items.Items.{Items}
 use Rattle.fit_base.specs.BaseTypes.{base_type}
 use Rattle.fit_base.specs.Numbers.{twos_complement}
 use Rattle.fit_profile.specs.Described.{before_closing_zeros}
-use Rattle.fit_profile.specs.FixedText.{fixed_text}
+use Rattle.fit_numbers.specs.FixedText.{fixed_text}
 use Rattle.fit_profile.specs.Profile.{Meaning}
-use Rattle.fit_profile.specs.Scaled.{decimals}
+use Rattle.fit_numbers.specs.Scaled.{decimals}
 
 -- what the items of a field stand for: bytes where they have another width than the field's base type
 abbrev pub class_of : ℕ → ℕ → Class

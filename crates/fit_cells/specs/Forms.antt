@@ -2,9 +2,9 @@
 use Rattle.std.specs.Prelude.{◌≡◌, ◌≤◌, ◌⊎◌, ◌/◌, ◌^◌, ℕ, ℤ, pos, ◌-ℤ◌, ◌*ℤ◌, Option, if◌then◌else◌}
 use Rattle.fit_base.specs.declared.code.Class.TheVariants.{Signed, Unsigned}
 use Rattle.fit_base.specs.BaseTypes.{base_type}
-use Rattle.fit_profile.specs.FixedText.{fixed_text}
+use Rattle.fit_numbers.specs.FixedText.{fixed_text}
 use Rattle.fit_profile.specs.Profile.{Meaning}
-use Rattle.fit_profile.specs.Scaled.{decimals, IsScale}
+use Rattle.fit_numbers.specs.Scaled.{decimals, IsScale}
 use Rattle.fit_cells.specs.declared.form.NumberForm.{NumberForm}
 use Rattle.fit_cells.specs.Cells.{number_text}
 

@@ -3,7 +3,7 @@ use Rattle.std.specs.Prelude.{◌≡◌, ◌<◌, ◌^◌, ℕ, ℤ, List, Optio
 use Rattle.fit_base.specs.declared.items.Items.{Items}
 use Rattle.fit_base.specs.Fields.{HasShape}
 use Rattle.fit_profile.specs.Profile.{Meaning}
-use Rattle.fit_profile.specs.Scaled.{IsScale, IsScaled}
+use Rattle.fit_numbers.specs.Scaled.{IsScale, IsScaled}
 use Rattle.fit_cells.specs.Cells.{cell, scaled_value}
 use Rattle.fit_cells.specs.Rows.{BeginsWithMark, NoneEmpty, Row, RowsOfText, csv_text}
 

@@ -6,10 +6,10 @@ ghost use Rattle.csv.specs.Writing.{default_writer, field_text};
 ghost use Rattle.fit_base.specs.BaseTypes.{base_type};
 ghost use Rattle.fit_base.specs.declared.code.Class.TheVariants.{Text};
 ghost use Rattle.fit_base.specs.declared.items.Items.{Items};
-ghost use Rattle.fit_profile.specs.FixedText.{StillBegins};
+ghost use Rattle.fit_numbers.specs.FixedText.{StillBegins};
 ghost use Rattle.fit_profile.specs.Names.{meaning};
 ghost use Rattle.fit_profile.specs.Profile.{Meaning};
-ghost use Rattle.fit_profile.specs.Scaled.{IsScale};
+ghost use Rattle.fit_numbers.specs.Scaled.{IsScale};
 ghost use Rattle.fit_cells.specs.Cells.{cell, class_of};
 
 use crate::form::{formed, number_form, put_formed};

@@ -2,11 +2,11 @@
 ghost use Rattle.std.specs.Prelude.{◌≡◌, ◌≢◌, ◌≤◌, ◌<◌, ◌⊎◌, ◌++◌, ◌^◌, ◌/◌, ◌*◌, pos, neg_ℤ, ◌*ℤ◌, ◌-ℤ◌, ◌≤ℤ◌, ◌∷◌, [], ℕ, ℤ, Option, IfSome, IsNone, OnErr, OnOk, length, option_map, if◌then◌else◌};
 ghost use Rattle.fit_base.specs.BaseTypes.{base_type};
 ghost use Rattle.fit_base.specs.Numbers.{twos_complement};
-ghost use Rattle.fit_profile.specs.FixedText.{StillBegins};
-ghost use Rattle.fit_profile.specs.FixedText.{fixed_text};
+ghost use Rattle.fit_numbers.specs.FixedText.{StillBegins};
+ghost use Rattle.fit_numbers.specs.FixedText.{fixed_text};
 ghost use Rattle.fit_profile.specs.Names.{meaning};
 ghost use Rattle.fit_profile.specs.Profile.{Meaning};
-ghost use Rattle.fit_profile.specs.Scaled.{decimals, IsScale};
+ghost use Rattle.fit_numbers.specs.Scaled.{decimals, IsScale};
 ghost use Rattle.fit_cells.specs.Cells.{item_text, number_text};
 ghost use Rattle.fit_cells.specs.Forms.{IsFormOf, IsSmallForm};
 

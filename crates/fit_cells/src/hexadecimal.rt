@@ -1,6 +1,6 @@
 //! Hexadecimal digits.
 ghost use Rattle.std.specs.Prelude.{◌≡◌, ◌<◌, ◌≤◌, ◌++◌, ◌/◌, ◌%◌, ◌^◌, ◌⊎◌, ◌*◌, ℕ, codes, All, IfOk, OnErr, OnOk, length, take, drop};
-ghost use Rattle.fit_profile.specs.FixedText.{StillBegins};
+ghost use Rattle.fit_numbers.specs.FixedText.{StillBegins};
 ghost use Rattle.fit_cells.specs.Cells.{bytes_text, hex_digit, hex_digits};
 ghost use Rattle.fit_cells.specs.Steps.{hex_value, read_hex, read_pairs};
 
@@ -50,7 +50,7 @@ pub fn put_digits(text: &mut Vec<u8>, digits: u8, number: u64) -> Result<(), All
 }
 
 /// Puts bytes after a text, `0x` and two digits each.
-#[tactic(auto, using(fit_profile::proofs::KeptTexts::none_put, fit_profile::proofs::KeptTexts::more_put))]
+#[tactic(auto, using(fit_numbers::proofs::KeptTexts::none_put, fit_numbers::proofs::KeptTexts::more_put))]
 pub(crate) fn put_bytes(text: &mut Vec<u8>, bytes: &[u64]) -> Result<(), AllocError>
     ensures ok { OnOk result (text.new.items ≡ text.old.items ++ bytes_text bytes.now) }
     ensures kept { OnErr result (StillBegins text.old.items text.new.items) }

@@ -1,7 +1,7 @@
 //! What holds of cells, of rows and of their text.
 ghost use Rattle.fit_cells.specs.Laws.{CellsAreOne, ReadsBack, ReadsOneWay, ScaledIsExact};
 
-use fit_profile::laws::text_has_one_number;
+use fit_numbers::laws::text_has_one_number;
 use std::alloc::Allocator;
 
 /// The text of rows reads as those rows, if each has a cell and the first cell doesn't begin with a

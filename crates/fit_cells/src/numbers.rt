@@ -1,9 +1,9 @@
 //! Numbers, as they are in a cell.
 ghost use Rattle.std.specs.Prelude.{◌≡◌, ◌<◌, ◌≤◌, ◌++◌, ◌⊎◌, ◌^◌, ◌==◌, ◌+◌, pos, neg_ℤ, ◌≤ℤ◌, ◌<ℤ◌, All, IfSome, OnErr, OnOk, [], if◌then◌else◌, map, option_map};
 ghost use Rattle.fit_base.specs.BaseTypes.{base_type};
-ghost use Rattle.fit_profile.specs.FixedText.{StillBegins};
+ghost use Rattle.fit_numbers.specs.FixedText.{StillBegins};
 ghost use Rattle.fit_profile.specs.Names.{meaning};
-ghost use Rattle.fit_profile.specs.Scaled.{decimals, IsScale};
+ghost use Rattle.fit_numbers.specs.Scaled.{decimals, IsScale};
 ghost use Rattle.fit_cells.specs.Cells.{barred, item_text, number_text, scaled_value};
 ghost use Rattle.fit_cells.specs.Steps.{bar};
 
@@ -66,7 +66,7 @@ fn put_number(
 }
 
 /// Puts an item after a text.
-#[tactic(auto, using(fit_profile::proofs::KeptTexts::none_put, fit_profile::proofs::KeptTexts::more_put))]
+#[tactic(auto, using(fit_numbers::proofs::KeptTexts::none_put, fit_numbers::proofs::KeptTexts::more_put))]
 fn put_item(
     text: &mut Vec<u8>,
     class: Class,

@@ -2,7 +2,7 @@
 ghost use Rattle.std.specs.Prelude.{◌≡◌, ◌<◌, ◌≤◌, ◌⊎◌, ◌^◌, ◌*◌, ◌/◌, ℕ, ℤ, pos, neg_ℤ, ◌*ℤ◌, ◌-ℤ◌, ◌≤ℤ◌, ◌<ℤ◌, IfSome, Some, None, ◌==◌, [], if◌then◌else◌, option_map};
 ghost use Rattle.fit_base.specs.BaseTypes.{base_type};
 ghost use Rattle.fit_profile.specs.Names.{meaning};
-ghost use Rattle.fit_profile.specs.Scaled.{decimals, IsScale};
+ghost use Rattle.fit_numbers.specs.Scaled.{decimals, IsScale};
 ghost use Rattle.fit_cells.specs.Cells.{number_text};
 
 use fit_base::{Code, greatest};

@@ -6,7 +6,7 @@ ghost use Rattle.fit_base.specs.BaseTypes.{base_type};
 ghost use Rattle.fit_base.specs.Fields.{HasShape};
 ghost use Rattle.fit_base.specs.declared.items.Items.{Items};
 ghost use Rattle.fit_profile.specs.Names.{meaning};
-ghost use Rattle.fit_profile.specs.Scaled.{IsScale};
+ghost use Rattle.fit_numbers.specs.Scaled.{IsScale};
 ghost use Rattle.fit_cells.specs.Cells.{barred, cell, class_of, item_text, items_text};
 ghost use Rattle.fit_cells.specs.Steps.{is_bar};
 

@@ -1,6 +1,6 @@
 //! Strings, as they are in a cell.
 ghost use Rattle.std.specs.Prelude.{◌≡◌, List, ◌<◌, ◌++◌, ℕ, All, IfOk, OnErr, OnOk, slice_index, length};
-ghost use Rattle.fit_profile.specs.FixedText.{StillBegins};
+ghost use Rattle.fit_numbers.specs.FixedText.{StillBegins};
 ghost use Rattle.fit_cells.specs.Cells.{begins_as_bytes, string_text};
 
 use crate::hexadecimal::{put_bytes, read_bytes};
@@ -20,7 +20,7 @@ pub(crate) fn begins_as_bytes(text: &[u8]) -> bool
 }
 
 /// Puts bytes after a text, as they are.
-#[tactic(auto, using(fit_profile::proofs::KeptTexts::part_put))]
+#[tactic(auto, using(fit_numbers::proofs::KeptTexts::part_put))]
 fn put_text(text: &mut Vec<u8>, bytes: &[u64]) -> Result<(), AllocError>
     requires { All (λ b. b < 256) bytes.now }
     ensures ok { OnOk result (text.new.items ≡ text.old.items ++ bytes.now) }
@@ -33,7 +33,7 @@ fn put_text(text: &mut Vec<u8>, bytes: &[u64]) -> Result<(), AllocError>
 }
 
 /// Puts the text of a string after a text, or its bytes where that can't stand as it is.
-#[tactic(auto, using(fit_profile::proofs::KeptTexts::none_put, fit_profile::proofs::KeptTexts::more_put))]
+#[tactic(auto, using(fit_numbers::proofs::KeptTexts::none_put, fit_numbers::proofs::KeptTexts::more_put))]
 pub(crate) fn put_string(text: &mut Vec<u8>, bytes: &[u64]) -> Result<(), AllocError>
     requires { All (λ b. b < 256) bytes.now }
     ensures ok { OnOk result (text.new.items ≡ text.old.items ++ string_text bytes.now) }

@@ -43,11 +43,11 @@ pub use Rattle.fit_frame.specs.declared.header.Header.{Header}
 pub use Rattle.fit_frame.specs.declared.header.HeaderSum.{HeaderSum}
 pub use Rattle.fit_frame.specs.declared.header.HeaderSum.TheVariants.{Zero, True}
 pub use Rattle.fit_profile.specs.Described.{Naming, nameless, namings_at}
-pub use Rattle.fit_profile.specs.Laws.{TextHasOneNumber}
+pub use Rattle.fit_numbers.specs.Laws.{TextHasOneNumber}
 pub use Rattle.fit_profile.specs.Looks.{known}
 pub use Rattle.fit_profile.specs.Names.{message_label, field, field_of, message_of, meaning}
 pub use Rattle.fit_profile.specs.Profile.{Field, Meaning, message_index, messages, timestamp}
-pub use Rattle.fit_profile.specs.Scaled.{IsScale}
+pub use Rattle.fit_numbers.specs.Scaled.{IsScale}
 pub use Rattle.fit_profile.specs.Times.{header_time, previous_time}
 pub use Rattle.fit_record.specs.Environment.{defined_at, dev_defs, Environment, empty_environment, learn, learn_all}
 pub use Rattle.fit_record.specs.Files.{chain_limit, chain_bytes, IsWellFormed, IsWellFormedChain, body, file_bytes}

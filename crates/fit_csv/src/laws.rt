@@ -3,7 +3,7 @@ ghost use Rattle.fit_csv.specs.Follows.{RowsThatFollow};
 ghost use Rattle.fit_csv.specs.Laws.{ChainsAreOfRows, ChainsHaveOwnRows, ChainsReadBack, RecordsHaveOwnRows, TextsComeBack, TextsHaveOneFinding};
 
 use fit_encode::laws::{faults_are_one, good_chains_have_no_fault};
-use fit_profile::laws::text_has_one_number;
+use fit_numbers::laws::text_has_one_number;
 pub use fit_rows::laws::{
     chains_have_show_lines, chains_have_tables, degrees_are_nearest, events_have_the_rows,
     instant_text_is, tables_read_back,

@@ -1,8 +1,5 @@
 pub mod Profile
 pub mod Names
-pub mod Scaled
-pub mod FixedText
-pub mod Instant
 pub mod Laws
 pub mod Least
 pub mod Looks

@@ -8,10 +8,10 @@ use Rattle.fit_base.specs.Numbers.{twos_complement}
 use Rattle.fit_record.specs.declared.definition.FieldDef.{FieldDef}
 use Rattle.fit_record.specs.declared.definition.MessageDef.{MessageDef}
 use Rattle.fit_record.specs.declared.message.Values.{Values}
-use Rattle.fit_profile.specs.declared.decimal.Fixed.{Fixed}
+use Rattle.fit_numbers.specs.declared.decimal.Fixed.{Fixed}
 use Rattle.fit_profile.specs.Profile.{Meaning}
 use Rattle.fit_profile.specs.Names.{field}
-use Rattle.fit_profile.specs.Scaled.{decimals, IsScaled}
+use Rattle.fit_numbers.specs.Scaled.{decimals, IsScaled}
 use Rattle.fit_profile.specs.Looks.{first_field}
 
 -- the number that an item stands for, where its class is one of numbers

@@ -1,5 +1,4 @@
 -- Definitions that no public contract cites: what private functions and proofs need.
-pub mod Digits
 pub mod InBytes
 pub mod Keeps
 pub mod Plans

@@ -3,11 +3,8 @@ ghost use Rattle.std.specs.Prelude.{◌≡◌, ◌≤◌, ◌+◌, ◌++◌, len
 ghost use Rattle.fit_profile.specs.Names as names;
 
 use crate::profile::{field_info, message_name};
-use arrayvec::ArrayString;
+use fit_numbers::Label;
 use itoa::Buffer;
-
-/// A short text that takes no memory of its own.
-pub type Label = ArrayString<32>;
 
 /// A name as a label.
 fn label_of(name: &str) -> Label

@@ -1,32 +1,7 @@
-//! Laws of scaled values, of texts, of instants, and of looking back over records. These functions do nothing: what
-//! they ensure is what they are for.
-ghost use Rattle.fit_profile.specs.Laws.{InstantHasOneText, TextHasOneNumber, ScaledValueIsOne, DegreesAreOne, FirstIsLeast, LookingBackIsLearning};
+//! Laws of looking back over records. These functions do nothing: what they ensure is what they are for.
+ghost use Rattle.fit_profile.specs.Laws.{FirstIsLeast, LookingBackIsLearning};
 
 use std::alloc::Allocator;
-
-/// An instant has one text.
-#[tactic(auto, using(crate::proofs::DayFacts::one_instant_text))]
-pub fn instant_has_one_text()
-    ensures { InstantHasOneText }
-{}
-
-/// A text with a fixed number of decimals is that of one number at most.
-#[tactic(auto, using(crate::proofs::ScanFacts::one_number))]
-pub fn text_has_one_number()
-    ensures { TextHasOneNumber }
-{}
-
-/// A raw value stands for one number.
-#[tactic(auto, using(crate::proofs::ScaleFacts::one_scaled))]
-pub fn scaled_value_is_one()
-    ensures { ScaledValueIsOne }
-{}
-
-/// A number of semicircles is one number of degrees.
-#[tactic(auto, using(crate::proofs::DegreeFacts::one_degrees))]
-pub fn degrees_are_one()
-    ensures { DegreesAreOne }
-{}
 
 /// Header times and accumulated values are the least numbers at or after the previous ones that leave
 /// the given rest.

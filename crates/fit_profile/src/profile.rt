@@ -3,7 +3,7 @@ ghost use Rattle.std.specs.Prelude.{◌≡◌, ◌≤◌, option_map, option_and
 ghost use Rattle.fit_profile.specs.Names as names;
 ghost use Rattle.fit_profile.specs.Names.{meaning, field_of, message_of};
 ghost use Rattle.fit_profile.specs.Profile as profile;
-ghost use Rattle.fit_profile.specs.Scaled.{IsScale};
+ghost use Rattle.fit_numbers.specs.Scaled.{IsScale};
 
 /// What the profile says of a field. A number `raw` of the field means `raw / scale - offset` units.
 #[derive(Clone, Copy, Debug, PartialEq, Eq)]

@@ -1,7 +1,7 @@
 //! The numbers that fields hold.
 ghost use Rattle.std.specs.Prelude.{◌≡◌, ◌≤◌, ◌<◌, ◌^◌, ◌≤ℤ◌, ◌<ℤ◌, IfSome, pos, neg_ℤ};
 ghost use Rattle.fit_base.specs.BaseTypes.{base_type};
-ghost use Rattle.fit_profile.specs.Scaled.{IsScale};
+ghost use Rattle.fit_numbers.specs.Scaled.{IsScale};
 ghost use Rattle.fit_profile.specs.Values as values;
 ghost use Rattle.fit_profile.specs.Values.{IsAmount, IsValueOf, known_number};
 

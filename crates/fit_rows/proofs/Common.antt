@@ -31,17 +31,17 @@ unfoldable pub use Rattle.fit_cells.specs.Rows.{csv_text, NoneEmpty}
 pub use Rattle.fit_chain.specs.Events.{Event, file_events, header, item, file_end}
 pub use Rattle.fit_chain.specs.declared.event.Event.{Event as Answer}
 pub use Rattle.fit_profile.specs.Described.{Naming, nameless, namings_at, naming_of}
-pub use Rattle.fit_profile.specs.FixedText.{fixed_text}
-unfoldable pub use Rattle.fit_profile.specs.FixedText.{last_digits}
-pub use Rattle.fit_profile.specs.Instant.{date_digits, IsDayAfterEpoch, IsInstantText, clock_digits, four_digits, two_digits}
+pub use Rattle.fit_numbers.specs.FixedText.{fixed_text}
+unfoldable pub use Rattle.fit_numbers.specs.FixedText.{last_digits}
+pub use Rattle.fit_numbers.specs.Instant.{date_digits, IsDayAfterEpoch, IsInstantText, clock_digits, four_digits, two_digits}
 pub use Rattle.fit_profile.specs.Laws.{LookingBackIsLearning}
 pub use Rattle.fit_profile.specs.Looks.{known, first_field}
 pub use Rattle.fit_profile.specs.Names.{message_label, field, field_of, message_of}
 pub use Rattle.fit_profile.specs.Profile.{Field, Meaning, message_index, messages, timestamp}
-pub use Rattle.fit_profile.specs.Scaled.{IsDegrees, IsScale}
+pub use Rattle.fit_numbers.specs.Scaled.{IsDegrees, IsScale}
 pub use Rattle.fit_profile.specs.Times.{header_time, previous_time, time}
 pub use Rattle.fit_profile.specs.Values.{IsValueOf, first_number, known_number, valid_number}
-pub use Rattle.fit_profile.specs.declared.decimal.Fixed.{Fixed}
+pub use Rattle.fit_numbers.specs.declared.decimal.Fixed.{Fixed}
 pub use Rattle.fit_record.specs.Environment.{defined_at, dev_defs, Environment, empty_environment, learn, defined_by, describe, dev_code, learn_all}
 pub use Rattle.fit_record.specs.Files.{body}
 pub use Rattle.fit_record.specs.Records.{DataFits, Fits, dev_layout, layout, HaveShape, AllFit}

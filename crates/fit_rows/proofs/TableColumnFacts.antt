@@ -16,7 +16,7 @@ use Rattle.fit_base.specs.Numbers.{number}
 use Rattle.fit_base.specs.declared.code.Class.TheVariants.{Signed, Unsigned}
 use Rattle.fit_record.specs.ReadMessages.{field_from, fields_from, numbers_of}
 use Rattle.fit_record.specs.Records.{sizes}
-use Rattle.fit_profile.specs.FixedText.{fixed_text}
+use Rattle.fit_numbers.specs.FixedText.{fixed_text}
 use Rattle.fit_cells.specs.declared.form.NumberForm.{NumberForm}
 use Rattle.fit_rows.specs.Degrees.{degrees_of}
 use Rattle.fit_rows.specs.declared.tables.columns.Column.TheVariants.{Absent, At}

@@ -1,7 +1,7 @@
 -- The text of an instant as a function: years and months are counted off one after another.
 use Rattle.std.specs.Prelude.{ℕ, zero, suc, ◌+◌, ◌-◌, ◌/◌, ◌%◌, nat_lt, if◌then◌else◌, List, ◌++◌, codes, decimal, pos}
 use Rattle.jiff_core.specs.Calendar.{days_in_month, days_in_year}
-use Rattle.fit_profile.specs.Instant.{date_digits, clock_digits}
+use Rattle.fit_numbers.specs.Instant.{date_digits, clock_digits}
 
 -- The date n days after the first of a month, which lies at most that many months later in the year, as YYYY-MM-DD.
 unfoldable pub date_in_year : ℕ → ℕ → ℕ → ℕ → List ℕ

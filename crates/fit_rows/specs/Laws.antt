@@ -2,8 +2,8 @@
 use Rattle.std.specs.Prelude.{◌≡◌, ◌<◌, ◌^◌, ℕ, ℤ, List, flat_map, reverse}
 use Rattle.fit_record.specs.declared.file.FitFile.{FitFile}
 use Rattle.fit_chain.specs.Events.{file_events}
-use Rattle.fit_profile.specs.Instant.{IsInstantText}
-use Rattle.fit_profile.specs.Scaled.{IsDegrees}
+use Rattle.fit_numbers.specs.Instant.{IsInstantText}
+use Rattle.fit_numbers.specs.Scaled.{IsDegrees}
 use Rattle.fit_cells.specs.Rows.{RowsOfText, csv_text}
 use Rattle.fit_report.specs.Heard.{text_of}
 use Rattle.fit_rows.specs.ShowLines.{show_line, show_lines}

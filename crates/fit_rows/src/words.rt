@@ -10,7 +10,7 @@ ghost use Rattle.fit_rows.specs.InstantText.{instant_text};
 use fit_base::{Entries, Order};
 use fit_cells::put_digits;
 use fit_frame::HeaderSum;
-use fit_profile::laws::instant_has_one_text;
+use fit_numbers::laws::instant_has_one_text;
 use fit_profile::{Info, Label, Stream, utc_text};
 use fit_record::DevDef;
 use itoa::Buffer;

@@ -1,6 +1,6 @@
 //! What records make known, messages, and the cells of fields.
 ghost use Rattle.std.specs.Prelude.{IfSome};
-ghost use Rattle.fit_profile.specs.Scaled.{IsScale};
+ghost use Rattle.fit_numbers.specs.Scaled.{IsScale};
 
 use fit_base::{Code, Items, has_shape};
 use fit_csv::{cell_items, cell_text};

@@ -5,7 +5,7 @@ ghost use Rattle.fit_base.specs.declared.items.Items.{Items};
 ghost use Rattle.fit_base.specs.Fields.{HasShape};
 ghost use Rattle.fit_profile.specs.Described.{namings_at};
 ghost use Rattle.fit_profile.specs.Names.{meaning};
-ghost use Rattle.fit_profile.specs.Scaled.{IsScale};
+ghost use Rattle.fit_numbers.specs.Scaled.{IsScale};
 ghost use Rattle.fit_cells.specs.Cells.{cell};
 ghost use Rattle.fit_rows.specs.ChainRows.{dev_row, field_row, row};
 ghost use Rattle.fit_csv.specs.RowKinds.{IsDevRow, IsFieldRow, naming_at};

@@ -18,7 +18,7 @@ use csv::{ByteRecord, Reader};
 use fit_base::Entries;
 use fit_cells::{RowWriter, next_row, row_reader};
 use fit_encode::SpelledFile;
-use fit_profile::laws::text_has_one_number;
+use fit_numbers::laws::text_has_one_number;
 use fit_rows::MessageReader;
 use std::alloc::Global;
 

@@ -1,6 +1,6 @@
 -- What the texts of the times of a minute have in common. No public contract names these.
 use Rattle.std.specs.Prelude.{◌≡◌, ℕ, ◌/◌, ◌%◌, ◌^◌, ◌<◌, List, ◌++◌, codes}
-use Rattle.fit_profile.specs.Instant.{two_digits}
+use Rattle.fit_numbers.specs.Instant.{two_digits}
 use Rattle.fit_rows.specs.InstantText.{instant_text}
 
 -- the end of the text of a time, from its seconds on

@@ -14,9 +14,9 @@ use Rattle.fit_record.specs.MessageBytes.{message_in}
 use Rattle.fit_profile.specs.declared.told.Told.{Told}
 use Rattle.fit_chain.specs.declared.event.Event.{Event as Answer}
 use Rattle.fit_decode.specs.Answers.{event_of}
-use Rattle.fit_profile.specs.declared.decimal.Fixed.{Fixed}
+use Rattle.fit_numbers.specs.declared.decimal.Fixed.{Fixed}
 use Rattle.fit_profile.specs.declared.message.Message.{Message}
-use Rattle.fit_profile.specs.FixedText.{fixed_text}
+use Rattle.fit_numbers.specs.FixedText.{fixed_text}
 use Rattle.fit_profile.specs.Looks.{known}
 use Rattle.fit_profile.specs.Meant.{shown}
 use Rattle.fit_profile.specs.Times.{time as time_of}

@@ -7,7 +7,7 @@ ghost use Rattle.fit_base.specs.Fields.{HasShape};
 ghost use Rattle.fit_base.specs.declared.code.Class.TheVariants.{Text};
 ghost use Rattle.fit_record.specs.ReadMessages.{field_from};
 ghost use Rattle.fit_profile.specs.Names.{meaning};
-ghost use Rattle.fit_profile.specs.Scaled.{IsScale};
+ghost use Rattle.fit_numbers.specs.Scaled.{IsScale};
 ghost use Rattle.fit_cells.specs.Cells.{cell};
 ghost use Rattle.fit_cells.specs.Forms.{IsFormOf, IsSmallForm};
 ghost use Rattle.fit_rows.specs.inner.Frames.{two_cells};
@@ -101,7 +101,7 @@ impl Model for Frame {
     ghost use Rattle.fit_base.specs.BaseTypes.{base_type};
     ghost use Rattle.fit_base.specs.declared.code.Class.TheVariants.{Float, Text};
     ghost use Rattle.fit_profile.specs.Names.{meaning};
-    ghost use Rattle.fit_profile.specs.Scaled.{IsScale};
+    ghost use Rattle.fit_numbers.specs.Scaled.{IsScale};
     ghost use Rattle.fit_cells.specs.Forms.{IsFormOf, IsSmallForm};
     ghost use Rattle.fit_rows.specs.inner.Frames.{FrameText};
 

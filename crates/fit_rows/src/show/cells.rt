@@ -6,7 +6,7 @@ ghost use Rattle.fit_base.specs.Fields.{HasShape};
 ghost use Rattle.fit_record.specs.ReadMessages.{field_from};
 ghost use Rattle.fit_profile.specs.Described.{is_printable};
 ghost use Rattle.fit_profile.specs.Names.{meaning};
-ghost use Rattle.fit_profile.specs.Scaled.{IsScale};
+ghost use Rattle.fit_numbers.specs.Scaled.{IsScale};
 ghost use Rattle.fit_cells.specs.Forms.{IsFormOf, IsSmallForm};
 ghost use Rattle.fit_rows.specs.ShowLines.{shown_cell};
 
@@ -58,7 +58,7 @@ impl Model for ShownCell {
     ghost use Rattle.fit_base.specs.BaseTypes.{base_type};
     ghost use Rattle.fit_base.specs.declared.code.Class.TheVariants.{Float};
     ghost use Rattle.fit_profile.specs.Names.{meaning};
-    ghost use Rattle.fit_profile.specs.Scaled.{IsScale};
+    ghost use Rattle.fit_numbers.specs.Scaled.{IsScale};
     ghost use Rattle.fit_cells.specs.Forms.{IsFormOf, IsSmallForm};
     ghost use Rattle.fit_rows.specs.inner.Showing.{CellKey};
 

@@ -1,7 +1,7 @@
 //! What comes after the cells of fields in a line, found out once for many messages.
 ghost use Rattle.std.specs.Prelude.{◌≡◌, ◌<◌, ◌+◌, ◌++◌, ◌∷◌, [], if◌then◌else◌, IfOk, IfSome, OnOk, codes, length, map, option_map};
 ghost use Rattle.fit_profile.specs.Names.{meaning};
-ghost use Rattle.fit_profile.specs.Scaled.{IsScale};
+ghost use Rattle.fit_numbers.specs.Scaled.{IsScale};
 ghost use Rattle.fit_rows.specs.inner.Frames.{HasFields, TakesField};
 ghost use Rattle.fit_rows.specs.inner.Showing.{dev_field_part, field_part, first_head, key_text, shown_keys, spaced};
 

@@ -7,7 +7,7 @@ ghost use Rattle.fit_profile.specs.declared.told.Told.{Told};
 ghost use Rattle.fit_profile.specs.Meant.{shown};
 ghost use Rattle.fit_profile.specs.Profile.{Meaning};
 ghost use Rattle.fit_profile.specs.Values.{first_number};
-ghost use Rattle.fit_profile.specs.FixedText.{fixed_text};
+ghost use Rattle.fit_numbers.specs.FixedText.{fixed_text};
 ghost use Rattle.fit_profile.specs.Values as values;
 ghost use Rattle.fit_cells.specs.Forms.{IsFormOf};
 ghost use Rattle.fit_rows.specs.Degrees.{degrees_of};
@@ -19,7 +19,7 @@ use crate::tables::columns::{Column, Place, Places};
 use fit_base::base_type::SINT32;
 use fit_base::{Items, Order};
 use fit_cells::put_formed;
-use fit_profile::laws::degrees_are_one;
+use fit_numbers::laws::degrees_are_one;
 use fit_profile::{Fixed, Message, degrees, put_fixed};
 use std::alloc::AllocError;
 

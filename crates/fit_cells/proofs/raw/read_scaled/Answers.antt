@@ -1,6 +1,6 @@
 use Rattle.fit_cells.proofs.Common.{◌≡◌, ◌∙◌, ◌*ℤ◌, ◌-ℤ◌, ◌*◌, ◌^◌, ◌/◌, ℕ, pos, arith, ap, sym, ints, same_Some, none-some, fixed_text, IsIn128, decimals}
 use Rattle.fit_cells.proofs.Common.{scaled_value}
-use Rattle.fit_profile.specs.declared.decimal.Fixed.{Fixed}
+use Rattle.fit_numbers.specs.declared.decimal.Fixed.{Fixed}
 use Rattle.fit_cells.proofs.NumberFacts.{kept, scaled-in}
 use Rattle.fit_cells.proofs.raw.read_scaled.Goals as goal
 

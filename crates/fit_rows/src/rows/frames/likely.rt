@@ -1,6 +1,6 @@
 //! Guesses the value that a text shows. Nothing is claimed of a guess: who takes it compares the text with the rows of the guess.
 ghost use Rattle.std.specs.Prelude.{IfSome};
-ghost use Rattle.fit_profile.specs.Scaled.{IsScale};
+ghost use Rattle.fit_numbers.specs.Scaled.{IsScale};
 
 use crate::rows::frames::Frame;
 use fit_base::{Code, Items};

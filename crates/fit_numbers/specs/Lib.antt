@@ -1,0 +1,5 @@
+pub mod Scaled
+pub mod FixedText
+pub mod Instant
+pub mod Laws
+pub mod inner

@@ -1,0 +1,15 @@
+//! Numbers as text: with a fixed number of decimals, in degrees, and as civil times.
+#![tactic(auto)]
+
+mod decimal;
+mod digits;
+mod instant;
+pub mod laws;
+mod pairs;
+mod put;
+mod scaled;
+
+pub use decimal::Fixed;
+pub use instant::{Label, utc_text};
+pub use put::{put_fixed, put_whole};
+pub use scaled::{decimals_of, degrees};
