@@ -1,17 +1,20 @@
 -- How the numbers of a field are shown.
-use Rattle.std.specs.Prelude.{◌≡◌, ◌≤◌, ◌⊎◌, ◌/◌, ◌^◌, ℕ, ℤ, pos, ◌-ℤ◌, ◌*ℤ◌, Option, if◌then◌else◌}
+use Rattle.std.specs.Prelude.{◌≡◌, ◌≤◌, ◌⊎◌, ◌^◌, ℕ, ℤ, pos, ◌-ℤ◌, ◌*ℤ◌, Option, if◌then◌else◌}
 use Rattle.fit_base.specs.declared.code.Class.TheVariants.{Signed, Unsigned}
 use Rattle.fit_base.specs.BaseTypes.{base_type}
 use Rattle.fit_numbers.specs.FixedText.{fixed_text}
 use Rattle.fit_profile.specs.Profile.{Meaning}
-use Rattle.fit_numbers.specs.Scaled.{decimals, IsScale}
 use Rattle.fit_cells.specs.declared.form.NumberForm.{NumberForm}
 use Rattle.fit_cells.specs.Cells.{number_text}
+
+-- The factors of the scales of the profile: 10 to the power of their decimals, over the scale.
+abbrev pub IsFactor : ℕ → Type 0
+IsFactor n = (n ≡ 1) ⊎ (n ≡ 2) ⊎ (n ≡ 625) ⊎ (n ≡ 390625)
 
 -- its numbers have 64 bits at most, also when they are scaled
 pub record IsSmallForm (f : NumberForm) : Type 0 where
   pub width : (f.width ≡ 1) ⊎ (f.width ≡ 2) ⊎ (f.width ≡ 4)
-  pub scale : IsScale f.scale
+  pub factor : IsFactor f.factor
   pub shift : f.shift ≤ 2 ^ 42
   pub few : f.decimals ≤ 8
 
@@ -20,4 +23,4 @@ pub record IsFormOf (code : ℕ) (info : Option Meaning) (f : NumberForm) : Type
   pub width : f.width ≡ (base_type code).width
   pub class : (base_type code).class ≡ (if f.signed then Signed else Unsigned)
   pub invalid : f.invalid ≡ (base_type code).invalid
-  pub text : (raw : ℤ) → number_text info raw ≡ fixed_text ((raw -ℤ pos f.shift) *ℤ pos (10 ^ decimals f.scale / f.scale)) f.decimals
+  pub text : (raw : ℤ) → number_text info raw ≡ fixed_text ((raw -ℤ pos f.shift) *ℤ pos f.factor) f.decimals

@@ -1,5 +1,5 @@
 //! How the numbers of a field are shown, found out once for many of them.
-ghost use Rattle.std.specs.Prelude.{◌≡◌, ◌≢◌, ◌≤◌, ◌<◌, ◌⊎◌, ◌++◌, ◌^◌, ◌/◌, ◌*◌, pos, neg_ℤ, ◌*ℤ◌, ◌-ℤ◌, ◌≤ℤ◌, ◌∷◌, [], ℕ, ℤ, Option, IfSome, IsNone, OnErr, OnOk, length, option_map, if◌then◌else◌};
+ghost use Rattle.std.specs.Prelude.{◌≡◌, ◌≢◌, ◌≤◌, ◌<◌, ◌⊎◌, ◌++◌, ◌+◌, take, ◌^◌, ◌/◌, ◌*◌, pos, neg_ℤ, ◌*ℤ◌, ◌-ℤ◌, ◌≤ℤ◌, ◌∷◌, [], ℕ, ℤ, Option, IfSome, IsNone, OnErr, OnOk, length, option_map, if◌then◌else◌};
 ghost use Rattle.fit_base.specs.BaseTypes.{base_type};
 ghost use Rattle.fit_base.specs.Numbers.{twos_complement};
 ghost use Rattle.fit_numbers.specs.FixedText.{StillBegins};
@@ -8,10 +8,10 @@ ghost use Rattle.fit_profile.specs.Names.{meaning};
 ghost use Rattle.fit_profile.specs.Profile.{Meaning};
 ghost use Rattle.fit_numbers.specs.Scaled.{decimals, IsScale};
 ghost use Rattle.fit_cells.specs.Cells.{item_text, number_text};
-ghost use Rattle.fit_cells.specs.Forms.{IsFormOf, IsSmallForm};
+ghost use Rattle.fit_cells.specs.Forms.{IsFactor, IsFormOf, IsSmallForm};
 
 use fit_base::{Class, Code, Items, signed};
-use fit_profile::{Fixed, Info, decimals_of, put_fixed};
+use fit_profile::{Fixed, Info, decimals_of, put_fixed, write_fixed};
 use std::alloc::AllocError;
 
 /// How the items of a field are shown, where they are numbers of at most four bytes.
@@ -23,12 +23,26 @@ pub struct NumberForm {
     pub width: u8,
     /// The bits of an item without a value.
     pub invalid: u64,
-    /// The scale of the profile, 1 where there is none.
-    pub scale: u32,
+    /// How many units of the last decimal one over the scale of the profile is: 1 where there is none.
+    pub factor: u32,
     /// The offset in units of the raw value.
     pub shift: u64,
     /// How many decimals are shown.
     pub decimals: u8,
+}
+
+/// How many units of the last decimal one over a scale is.
+fn factor_of(scale: u32) -> u32
+    requires { IsScale scale }
+    ensures value { result ≡ 10 ^ decimals scale / scale }
+    ensures known { IsFactor result }
+{
+    match scale {
+        5 => 2,
+        16 => 625,
+        256 => 390_625,
+        _ => 1,
+    }
 }
 
 /// The form of numbers of this width that mean what the profile says.
@@ -40,7 +54,7 @@ fn form_by(signed: bool, width: u8, invalid: u64, info: Option<Info>) -> NumberF
     ensures invalid { result.invalid ≡ invalid }
     ensures small { IsSmallForm result }
     ensures text { (raw : ℤ) → number_text (option_map meaning info) raw ≡ fixed_text
-        ((raw -ℤ pos result.shift) *ℤ pos (10 ^ decimals result.scale / result.scale))
+        ((raw -ℤ pos result.shift) *ℤ pos result.factor)
         result.decimals }
 {
     match info {
@@ -48,7 +62,7 @@ fn form_by(signed: bool, width: u8, invalid: u64, info: Option<Info>) -> NumberF
             signed,
             width,
             invalid,
-            scale: info.scale,
+            factor: factor_of(info.scale),
             shift: info.offset as u64 * info.scale as u64,
             decimals: decimals_of(info.scale),
         },
@@ -56,7 +70,7 @@ fn form_by(signed: bool, width: u8, invalid: u64, info: Option<Info>) -> NumberF
             signed,
             width,
             invalid,
-            scale: 1,
+            factor: 1,
             shift: 0,
             decimals: 0,
         },
@@ -110,21 +124,6 @@ pub fn formed(form: Option<NumberForm>, items: &Items) -> Option<(NumberForm, u6
     Some((form, bits))
 }
 
-/// A number of whole units in units of the last decimal, over the scale.
-fn in_decimals(number: i64, scale: u32) -> i64
-    requires least { neg_ℤ (pos (2 ^ 43)) ≤ℤ number }
-    requires most { number ≤ℤ pos (2 ^ 43) }
-    requires scale { IsScale scale }
-    ensures { result ≡ number *ℤ pos (10 ^ decimals scale / scale) }
-{
-    match scale {
-        5 => number * 2,
-        16 => number * 625,
-        256 => number * 390_625,
-        _ => number,
-    }
-}
-
 /// The number that the bits of an item are.
 fn raw(form: NumberForm, bits: u64) -> i64
     requires small { IsSmallForm form }
@@ -140,6 +139,18 @@ fn raw(form: NumberForm, bits: u64) -> i64
     }
 }
 
+/// The number of an item in units of the last decimal.
+#[inline(always)]
+fn in_decimals(form: NumberForm, bits: u64) -> i64
+    requires small { IsSmallForm form }
+    requires bits { bits < 256 ^ form.width }
+    ensures { (code : ℕ) (info : Option Meaning) → IsFormOf code info form → bits ≢ form.invalid
+        → fixed_text result form.decimals
+        ≡ item_text (base_type code).class code info form.width bits }
+{
+    (raw(form, bits) - form.shift as i64) * i64::from(form.factor)
+}
+
 /// The number of an item that isn't the invalid one.
 #[inline(always)]
 pub fn formed_number(form: NumberForm, bits: u64) -> Fixed
@@ -151,9 +162,8 @@ pub fn formed_number(form: NumberForm, bits: u64) -> Fixed
         ≡ item_text (base_type code).class code info form.width bits }
     ensures few { result.decimals ≤ 8 }
 {
-    let number = raw(form, bits) - form.shift as i64;
     Fixed {
-        value: i128::from(in_decimals(number, form.scale)),
+        value: i128::from(in_decimals(form, bits)),
         decimals: form.decimals,
     }
 }
@@ -171,6 +181,23 @@ pub fn put_formed(text: &mut Vec<u8>, form: NumberForm, bits: u64) -> Result<(),
     if bits == form.invalid {
         return Ok(());
     }
-    let number = raw(form, bits) - form.shift as i64;
-    put_fixed(text, in_decimals(number, form.scale), form.decimals)
+    put_fixed(text, in_decimals(form, bits), form.decimals)
+}
+
+/// Writes an item into bytes from a place on. Returns the place after it, which is the same place where the item is invalid.
+#[inline(always)]
+pub fn write_formed(bytes: &mut [u8], at: usize, form: NumberForm, bits: u64) -> usize
+    requires small { IsSmallForm form }
+    requires bits { bits < 256 ^ form.width }
+    requires room { at + 30 ≤ length bytes.old }
+    ensures size { length bytes.new ≡ length bytes.old }
+    ensures within { result ≤ at + 30 }
+    ensures text { (code : ℕ) (info : Option Meaning) → IsFormOf code info form
+        → take result bytes.new ≡ take at bytes.old
+        ++ item_text (base_type code).class code info form.width bits }
+{
+    if bits == form.invalid {
+        return at;
+    }
+    write_fixed(bytes, at, in_decimals(form, bits), form.decimals)
 }

@@ -2,7 +2,7 @@
 pub use Rattle.std.proofs.Common.{inl, inr, ◌≡◌, ◌∙◌, ℕ, pos, ◌≤ℤ◌, ◌<ℤ◌, List, ◌/◌, arith, refl, sym, ℤ, drop, drop-cons, get_or, ◌++◌, ◌∷◌, [], ◌+◌}
 pub use Rattle.std.proofs.Common.{◌*◌, ◌%◌, ◌^◌, ◌<◌, ◌≤◌, zero, suc, negsuc, mul_assoc, unsigned_abs, decimal, ap, ap₂, add-one, length}
 pub use Rattle.std.proofs.Common.{append_assoc, drop_of_length-le, false, Some, subst, Result, Ok, Err}
-pub use Rattle.std.proofs.Common.{Bool, true, ◌*ℤ◌, Decides, FitsSigned, to_z, of_z, length-append, ◌+ℤ◌, w64}
+pub use Rattle.std.proofs.Common.{Bool, true, ◌*ℤ◌, Decides, FitsSigned, to_z, of_z, length-append, ◌+ℤ◌, w64, take}
 pub use Rattle.std.proofs.Math.Nat.{pow-suc, pow-succ', div-lt_iff_lt-mul, div-le_self, mod-lt, mod-eq_of_lt, add-mul, mul_comm, div-div-eq-div-mul}
 pub use Rattle.std.proofs.lemmas.Bool.{cases_lt, cases_Bool, ne_eqb, cases_eq, and_parts}
 pub use Rattle.std.proofs.lemmas.Fmt.{decimal_by_steps_wide, decimal_step_wide, decimal_is_IsNumeral_wide, length-decimal-le_wide}

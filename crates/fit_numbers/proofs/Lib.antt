@@ -7,3 +7,4 @@ mod PairFacts
 mod PutFacts
 mod ScanFacts
 mod ScaleFacts
+mod WriteFacts

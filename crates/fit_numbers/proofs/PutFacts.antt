@@ -1,7 +1,8 @@
 -- The digits of numbers that are put one after another.
 use Rattle.fit_numbers.proofs.Common.{◌≡◌, ◌∙◌, ◌++◌, ◌∷◌, [], ◌+◌, ◌*◌, ◌/◌, ◌%◌, ◌^◌, ◌<◌, ◌≤◌, zero, suc, ℕ, decimal, List, refl, ap, ap₂, sym, arith}
-use Rattle.fit_numbers.proofs.Common.{append_assoc, pow-succ', div-div-eq-div-mul, decimal_by_steps_wide, decimal_step_wide, last_digits}
+use Rattle.fit_numbers.proofs.Common.{append_assoc, length, take, pow-succ', div-div-eq-div-mul, decimal_by_steps_wide, decimal_step_wide, last_digits}
 use Rattle.std.proofs.lemmas.List.{append-nil}
+use Rattle.std.proofs.Math.Seq.{take-append_seam}
 use Rattle.fit_numbers.proofs.DigitFacts.{last_digits-end, last_digits-none, power_above}
 
 pub one_digit : (n : ℕ) → n < 10 → decimal n ≡ (48 + n) ∷ []
@@ -31,36 +32,6 @@ four_digits n low high =
     ∙ ap (λ ds. ds ++ ((48 + n % 10) ∷ [])) (three_digits (n / 10) (omega (arith, low)) (omega (arith, high)))
     ∙ rw (a, b, c, d) refl
 
-pub last_four : (n : ℕ) → last_digits 4 n
-    ≡ (48 + n / 100 % 100 / 10) ∷ (48 + n / 100 % 100 % 10) ∷ (48 + n % 100 / 10) ∷ (48 + n % 100 % 10) ∷ []
-unfolding last_digits
-last_four n =
-    let a : n / 1000 % 10 ≡ n / 100 % 100 / 10 = omega arith in
-    let b : n / 100 % 10 ≡ n / 100 % 100 % 10 = omega arith in
-    let c : n / 10 % 10 ≡ n % 100 / 10 = omega arith in
-    let d : n / 1 % 10 ≡ n % 100 % 10 = omega arith in
-    rw (a, b, c, d) refl
-
--- four digits before the last four
-four_before : (n : ℕ) → last_digits 8 n ≡ last_digits 4 (n / 10_000) ++ last_digits 4 n
-unfolding last_digits
-four_before n =
-    let a : n / 10_000_000 % 10 ≡ n / 10_000 / 1000 % 10 = omega arith in
-    let b : n / 1_000_000 % 10 ≡ n / 10_000 / 100 % 10 = omega arith in
-    let c : n / 100_000 % 10 ≡ n / 10_000 / 10 % 10 = omega arith in
-    let d : n / 10_000 % 10 ≡ n / 10_000 / 1 % 10 = omega arith in
-    rw (a, b, c, d) refl
-
-pub last_eight : (n : ℕ) → last_digits 8 n
-    ≡ (48 + n / 10_000 % 10_000 / 100 / 10) ∷ (48 + n / 10_000 % 10_000 / 100 % 10) ∷ (48 + n / 10_000 % 10_000 % 100 / 10)
-    ∷ (48 + n / 10_000 % 10_000 % 100 % 10) ∷ (48 + n % 10_000 / 100 / 10) ∷ (48 + n % 10_000 / 100 % 10) ∷ (48 + n % 10_000 % 100 / 10)
-    ∷ (48 + n % 10_000 % 100 % 10) ∷ []
-last_eight n =
-    let parts : (m : ℕ) → (m / 100 % 100 ≡ m % 10_000 / 100) × (m % 100 ≡ m % 10_000 % 100) = λ m. (omega arith, omega arith) in
-    let high = parts (n / 10_000) in
-    let low = parts n in
-    four_before n ∙ ap₂ (λ a b. a ++ b) (last_four (n / 10_000)) (last_four n) ∙ rw (high.0, high.1, low.0, low.1) refl
-
 -- a number is what stands before its last digits, and those
 pub split_digits : (k n : ℕ) → 10 ^ k ≤ n → n < 10 ^ 64 → decimal n ≡ decimal (n / 10 ^ k) ++ last_digits k n
 split_digits zero n low high = rw last_digits-none (let e : n / 1 ≡ n = omega arith in rw e (sym (append-nil (decimal n))))
@@ -79,6 +50,9 @@ put_parts : (k n : ℕ) (text : List ℕ) → 10 ^ k ≤ n → n < 2 ^ 64 → (t
 put_parts k n text low high = append_assoc text (decimal (n / 10 ^ k)) (last_digits k n)
     ∙ ap (λ ds. text ++ ds) (sym (split_digits k n low (omega (arith, high))))
 
+pub before_two : (n : ℕ) (text : List ℕ) → 100 ≤ n → n < 2 ^ 64 → (text ++ decimal (n / 100)) ++ last_digits 2 n ≡ text ++ decimal n
+before_two = put_parts 2
+
 pub before_four : (n : ℕ) (text : List ℕ) → 10_000 ≤ n → n < 2 ^ 64 → (text ++ decimal (n / 10_000)) ++ last_digits 4 n ≡ text ++ decimal n
 before_four = put_parts 4
 
@@ -86,35 +60,6 @@ pub before_eight : (n : ℕ) (text : List ℕ) → 100_000_000 ≤ n → n < 2 ^
     → (text ++ decimal (n / 100_000_000)) ++ last_digits 8 n ≡ text ++ decimal n
 before_eight = put_parts 8
 
-pub one_decimal : (n : ℕ) → n < 10 → last_digits 1 n ≡ (48 + n) ∷ []
-unfolding last_digits
-one_decimal n h = let one : n / 1 % 10 ≡ n = omega (arith, h) in ap (λ d. (48 + d) ∷ []) one
-
-pub two_decimals : (n : ℕ) → n < 100 → last_digits 2 n ≡ (48 + n / 10) ∷ (48 + n % 10) ∷ []
-unfolding last_digits
-two_decimals n h =
-    let first : n / 10 % 10 ≡ n / 10 = omega (arith, h) in
-    let last : n / 1 % 10 ≡ n % 10 = omega arith in
-    ap₂ (λ a b. (48 + a) ∷ (48 + b) ∷ []) first last
-
-pub three_decimals : (n : ℕ) → n < 1000 → last_digits 3 n ≡ (48 + n / 100) ∷ (48 + n % 100 / 10) ∷ (48 + n % 100 % 10) ∷ []
-unfolding last_digits
-three_decimals n h =
-    let a : n / 100 % 10 ≡ n / 100 = omega (arith, h) in
-    let b : n / 10 % 10 ≡ n % 100 / 10 = omega arith in
-    let c : n / 1 % 10 ≡ n % 100 % 10 = omega arith in
-    rw (a, b, c) refl
-
-pub seven_decimals : (n : ℕ) → n < 10_000_000 → last_digits 7 n
-    ≡ (48 + n / 10_000 / 100) ∷ (48 + n / 10_000 % 100 / 10) ∷ (48 + n / 10_000 % 100 % 10) ∷ (48 + n % 10_000 / 100 / 10)
-    ∷ (48 + n % 10_000 / 100 % 10) ∷ (48 + n % 10_000 % 100 / 10) ∷ (48 + n % 10_000 % 100 % 10) ∷ []
-unfolding last_digits
-seven_decimals n h =
-    let a : n / 1_000_000 % 10 ≡ n / 10_000 / 100 = omega (arith, h) in
-    let b : n / 100_000 % 10 ≡ n / 10_000 % 100 / 10 = omega arith in
-    let c : n / 10_000 % 10 ≡ n / 10_000 % 100 % 10 = omega arith in
-    let d : n / 1000 % 10 ≡ n % 10_000 / 100 / 10 = omega arith in
-    let e : n / 100 % 10 ≡ n % 10_000 / 100 % 10 = omega arith in
-    let f : n / 10 % 10 ≡ n % 10_000 % 100 / 10 = omega arith in
-    let g : n / 1 % 10 ≡ n % 10_000 % 100 % 10 = omega arith in
-    rw (a, b, c, d, e, f, g) refl
+-- what was written after a text and after it other bytes, of which these were cut off
+pub cut : (old more all : List ℕ) → all ≡ old ++ more → take (length old) all ≡ old
+cut old more all e = ap (take (length old)) e ∙ take-append_seam old more

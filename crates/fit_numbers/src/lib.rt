@@ -8,8 +8,10 @@ pub mod laws;
 mod pairs;
 mod put;
 mod scaled;
+mod write;
 
 pub use decimal::Fixed;
 pub use instant::{Label, utc_text};
 pub use put::{put_fixed, put_whole};
 pub use scaled::{decimals_of, degrees};
+pub use write::write_fixed;

@@ -22,7 +22,9 @@ mod time;
 mod told;
 mod value;
 
-pub use fit_numbers::{Fixed, Label, decimals_of, degrees, put_fixed, put_whole, utc_text};
+pub use fit_numbers::{
+    Fixed, Label, decimals_of, degrees, put_fixed, put_whole, utc_text, write_fixed,
+};
 pub use label::{field_label, message_label};
 pub use message::{FieldView, Message};
 pub use profile::{Info, field_info, message_name};

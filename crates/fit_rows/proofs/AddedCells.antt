@@ -49,3 +49,18 @@ four_cells text t w a b c d same before end =
     last_cells text (t ++ (44 ∷ 44 ∷ 44 ∷ [])) w a b (c ∷ d ∷ [] ∷ [] ∷ [] ∷ []) same
     (more_cells (text ++ a) t (t ++ (44 ∷ 44 ∷ 44 ∷ [])) (b ∷ c ∷ d ∷ []) ([] ∷ [] ∷ [] ∷ []) before refl)
     (end ∙ sym (append_assoc t (44 ∷ 44 ∷ 44 ∷ []) (10 ∷ [])))
+
+-- the same where they are known whole
+pub first_whole : (text : List ℕ) (n : ℕ) (cell : Cell) → needs_quotes default_writer cell ≡ false
+    → text ++ (decimal n ++ (44 ∷ cell)) ≡ text ++ (decimal n ++ fields_text default_writer (cell ∷ []))
+first_whole text n cell plain =
+    let same : field_text default_writer cell ≡ cell = rw plain refl in
+    ap (λ (t : List ℕ). text ++ (decimal n ++ t)) (ap (λ (t : List ℕ). 44 ∷ t) (sym same) ∙ sym (fields_one cell))
+
+-- a row by its first two cells, and then the others and the end of the line
+pub row_in_parts : (text first new : List ℕ) (n : ℕ) (cell : Cell) (rest : Row) → field_text default_writer (decimal n) ≡ decimal n
+    → first ≡ text ++ (decimal n ++ fields_text default_writer (cell ∷ [])) → new ≡ (first ++ fields_text default_writer rest) ++ (10 ∷ [])
+    → new ≡ text ++ csv_text ((decimal n ∷ cell ∷ rest) ∷ [])
+row_in_parts text first new n cell rest same begun ends =
+    last_cells text (first ++ fields_text default_writer rest) new (decimal n) cell rest same
+    (more_cells (text ++ decimal n) first (first ++ fields_text default_writer rest) (cell ∷ []) rest (first_cells text first n cell begun) refl) ends

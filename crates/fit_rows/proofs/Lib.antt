@@ -23,6 +23,7 @@ mod ShownLines
 pub mod LinesOfChains
 pub mod KnownDefinitions
 pub mod FramedRows
+mod FrontFacts
 pub mod Stamps
 pub mod FloatCells
 pub mod BeginFacts

@@ -5,5 +5,6 @@ pub mod Current
 pub mod Reporting
 pub mod Showing
 pub mod Minutes
+pub mod Fronts
 pub mod Frames
 pub mod MessageKeys

@@ -10,7 +10,7 @@ use std::alloc::{AllocError, Global};
 use std::marker::Model;
 
 /// The last minute with a time below 0x10000000, which is no civil time.
-const LAST_SYSTEM_MINUTE: u32 = 4_473_924;
+pub(crate) const LAST_SYSTEM_MINUTE: u32 = 4_473_924;
 
 /// The digit of a number below ten.
 fn digit(n: u32) -> u8

@@ -1,11 +1,24 @@
 //! A text that is put after many others.
-ghost use Rattle.std.specs.Prelude.{◌≡◌, ◌++◌, IfOk, OnOk};
+ghost use Rattle.std.specs.Prelude.{◌≡◌, ◌≤◌, ◌+◌, ◌++◌, IfOk, OnOk, length, take};
 
 use std::alloc::AllocError;
 use std::marker::Model;
 
 /// How many bytes a short text has at most.
-const SHORT: usize = 32;
+pub(crate) const SHORT: usize = 32;
+
+/// Writes a text into bytes from a place on. Returns the place after it.
+#[inline(always)]
+pub(crate) fn write_text(bytes: &mut [u8], at: usize, text: &[u8]) -> usize
+    requires { at + length text.now ≤ length bytes.old }
+    ensures size { length bytes.new ≡ length bytes.old }
+    ensures end { result ≡ at + length text.now }
+    ensures text { take result bytes.new ≡ take at bytes.old ++ text.now }
+{
+    let end = at + text.len();
+    bytes[at..end].copy_from_slice(text);
+    end
+}
 
 /// A text that is put after many others. A short one takes a copy of a fixed number of bytes, of which those after it are cut off.
 #[derive(Drop)]
@@ -66,5 +79,18 @@ impl Stamp {
         text.extend_from_slice(short)?;
         text.truncate(end);
         Ok(())
+    }
+
+    /// Writes a short text into bytes from a place on, with what is cut off after it. Returns the place after the text.
+    #[inline(always)]
+    pub(crate) fn write(&self, bytes: &mut [u8], at: usize) -> usize
+        requires short { length self.now ≤ 32 }
+        requires room { at + 32 ≤ length bytes.old }
+        ensures size { length bytes.new ≡ length bytes.old }
+        ensures end { result ≡ at + length self.now }
+        ensures text { take result bytes.new ≡ take at bytes.old ++ self.now }
+    {
+        let (short, _) = self.padded.as_slice().split_at(SHORT);
+        write_text(bytes, at, short) - SHORT + self.used
     }
 }

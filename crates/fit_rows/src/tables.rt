@@ -1,6 +1,7 @@
 //! The table of a ride, event by event.
 
 pub(crate) mod columns;
+pub(crate) mod front;
 pub(crate) mod maker;
 pub(crate) mod numbers;
 pub(crate) mod report;

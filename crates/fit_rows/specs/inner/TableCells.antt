@@ -39,6 +39,10 @@ AddsCells cells old new = new ≡ old ++ fields_text default_writer (map (λ cel
 abbrev pub AddsCell : Option Cell → List ℕ → List ℕ → Type 0
 AddsCell cell old new = AddsCells (cell ∷ []) old new
 
+-- The cells were put after a text, each after a comma, and after them the end of the line.
+abbrev pub EndsRow : List (Option Cell) → List ℕ → List ℕ → Type 0
+EndsRow cells old new = new ≡ (old ++ fields_text default_writer (map (λ cell. unwrap_or cell []) cells)) ++ (10 ∷ [])
+
 -- the cells of a row from the positions to the distance
 abbrev pub place_cells : {A : Type 0} → MessageDef A → Values A → Told → List (Option Cell)
 place_cells d v t =

@@ -1,5 +1,5 @@
 //! The numbers of record messages, put in cells of the table.
-ghost use Rattle.std.specs.Prelude.{◌≡◌, ◌≤◌, ◌+◌, ◌==◌, IfOk, IfSome, None, Some, if◌then◌else◌, length, option_and_then, option_map, pos, slice_get, true};
+ghost use Rattle.std.specs.Prelude.{◌≡◌, ◌≤◌, ◌+◌, ◌++◌, ◌==◌, IfSome, None, Some, if◌then◌else◌, length, option_and_then, option_map, pos, slice_get, take, true, false};
 ghost use Rattle.std.specs.Global.{Global};
 ghost use Rattle.fit_record.specs.declared.definition.MessageDef.{MessageDef};
 ghost use Rattle.fit_record.specs.declared.message.Values.{Values};
@@ -15,64 +15,83 @@ ghost use Rattle.fit_rows.specs.Table as table;
 ghost use Rattle.fit_rows.specs.inner.TableCells.{AreSome, PutsCell, shown_text};
 ghost use Rattle.fit_rows.specs.inner.TableColumns.{AreInBytes, IsKnown, is_tabled, items_at};
 
+use crate::stamp::write_text;
 use crate::tables::columns::{Column, Place, Places};
 use fit_base::base_type::SINT32;
 use fit_base::{Items, Order};
-use fit_cells::put_formed;
+use fit_cells::write_formed;
 use fit_numbers::laws::degrees_are_one;
-use fit_profile::{Fixed, Message, degrees, put_fixed};
-use std::alloc::AllocError;
+use fit_profile::{Fixed, Message, degrees, write_fixed};
 
 /// The numbers of a record message.
 pub(crate) trait RecordNumbers {
     // They are those of a message of this definition with these values, which tells this.
     ghost are_of: { Self → MessageDef Global → Values Global → Told → Type 0 };
 
-    /// Puts the number of the first field of this number. Whether there is one.
-    fn put_value(&self, text: &mut Vec<u8>, number: u8) -> Result<bool, AllocError>
+    /// Writes the number of the first field of this number into the bytes of a row from a place on. Returns whether there
+    /// is one, and the place after it.
+    fn write_value(&self, row: &mut [u8], at: usize, number: u8) -> (bool, usize)
         requires numbers { AreSome (are_of self.now) }
         requires tabled { is_tabled number ≡ true }
-        ensures { IfOk result (λ put. (d : MessageDef Global) (v : Values Global) (t : Told)
+        requires room { at + 48 ≤ length row.old }
+        ensures size { length row.new ≡ length row.old }
+        ensures within { result.1 ≤ at + 48 }
+        ensures none { result.0 ≡ false → result.1 ≡ at }
+        ensures cell { (d : MessageDef Global) (v : Values Global) (t : Told)
             → are_of self.now d v t
-            → PutsCell (table.value_text d v number) put text.old.items text.new.items) };
+            → PutsCell (table.value_text d v number)
+            result.0 (take at row.old) (take result.1 row.new) };
 
-    /// Puts the position in the first field of this number. Whether there is one.
-    fn put_position(&self, text: &mut Vec<u8>, number: u8) -> Result<bool, AllocError>
+    /// Writes the position in the first field of this number in the same way.
+    fn write_position(&self, row: &mut [u8], at: usize, number: u8) -> (bool, usize)
         requires numbers { AreSome (are_of self.now) }
         requires tabled { is_tabled number ≡ true }
-        ensures { IfOk result (λ put. (d : MessageDef Global) (v : Values Global) (t : Told)
+        requires room { at + 48 ≤ length row.old }
+        ensures size { length row.new ≡ length row.old }
+        ensures within { result.1 ≤ at + 48 }
+        ensures none { result.0 ≡ false → result.1 ≡ at }
+        ensures cell { (d : MessageDef Global) (v : Values Global) (t : Told)
             → are_of self.now d v t
-            → PutsCell (table.degrees_text d v number) put text.old.items text.new.items) };
+            → PutsCell (table.degrees_text d v number)
+            result.0 (take at row.old) (take result.1 row.new) };
 
-    /// Puts the accumulated distance. Whether there is one.
-    fn put_distance(&self, text: &mut Vec<u8>) -> Result<bool, AllocError>
-        requires { AreSome (are_of self.now) }
-        ensures { IfOk result (λ put. (d : MessageDef Global) (v : Values Global) (t : Told)
+    /// Writes the accumulated distance in the same way.
+    fn write_distance(&self, row: &mut [u8], at: usize) -> (bool, usize)
+        requires numbers { AreSome (are_of self.now) }
+        requires room { at + 48 ≤ length row.old }
+        ensures size { length row.new ≡ length row.old }
+        ensures within { result.1 ≤ at + 48 }
+        ensures none { result.0 ≡ false → result.1 ≡ at }
+        ensures cell { (d : MessageDef Global) (v : Values Global) (t : Told)
             → are_of self.now d v t
             → PutsCell (option_map (λ n. table.amount_text (pos n) 16 0) t.distance)
-            put text.old.items text.new.items) };
+            result.0 (take at row.old) (take result.1 row.new) };
 
-    /// Puts the speed in compressed_speed_distance. Whether there is one.
-    fn put_speed(&self, text: &mut Vec<u8>) -> Result<bool, AllocError>
-        requires { AreSome (are_of self.now) }
-        ensures { IfOk result (λ put. (d : MessageDef Global) (v : Values Global) (t : Told)
+    /// Writes the speed in compressed_speed_distance in the same way.
+    fn write_speed(&self, row: &mut [u8], at: usize) -> (bool, usize)
+        requires numbers { AreSome (are_of self.now) }
+        requires room { at + 48 ≤ length row.old }
+        ensures size { length row.new ≡ length row.old }
+        ensures within { result.1 ≤ at + 48 }
+        ensures none { result.0 ≡ false → result.1 ≡ at }
+        ensures cell { (d : MessageDef Global) (v : Values Global) (t : Told)
             → are_of self.now d v t
             → PutsCell (option_map (λ n. table.amount_text (pos n) 100 0) t.speed)
-            put text.old.items text.new.items) };
+            result.0 (take at row.old) (take result.1 row.new) };
 }
 
-/// Puts a number, where there is one. Whether there is.
-fn put_number(text: &mut Vec<u8>, value: Option<Fixed>) -> Result<bool, AllocError>
-    requires { IfSome value (λ v. v.decimals ≤ 8) }
-    ensures { IfOk result (λ put.
-        PutsCell (shown_text value) put text.old.items text.new.items) }
+/// Writes a number, where there is one. Returns whether there is, and the place after it.
+fn write_number(row: &mut [u8], at: usize, value: Option<Fixed>) -> (bool, usize)
+    requires few { IfSome value (λ v. v.decimals ≤ 8) }
+    requires room { at + 48 ≤ length row.old }
+    ensures size { length row.new ≡ length row.old }
+    ensures within { result.1 ≤ at + 48 }
+    ensures none { result.0 ≡ false → result.1 ≡ at }
+    ensures cell { PutsCell (shown_text value) result.0 (take at row.old) (take result.1 row.new) }
 {
     match value {
-        Some(value) => {
-            value.put(text)?;
-            Ok(true)
-        }
-        None => Ok(false),
+        Some(value) => (true, write_text(row, at, value.print().as_str().as_bytes())),
+        None => (false, at),
     }
 }
 
@@ -124,18 +143,19 @@ fn in_degrees(semicircles: i32) -> i64
     degrees(semicircles).value as i64
 }
 
-/// Puts a position in degrees, where there is one. Whether there is.
+/// Writes a position in degrees, where there is one. Returns whether there is, and the place after it.
 #[inline(always)]
-fn put_degrees(text: &mut Vec<u8>, position: Option<i32>) -> Result<bool, AllocError>
-    ensures { IfOk result (λ put. PutsCell (option_map (λ s. fixed_text (degrees_of s) 7) position)
-        put text.old.items text.new.items) }
+fn write_degrees(row: &mut [u8], at: usize, position: Option<i32>) -> (bool, usize)
+    requires room { at + 48 ≤ length row.old }
+    ensures size { length row.new ≡ length row.old }
+    ensures within { result.1 ≤ at + 48 }
+    ensures none { result.0 ≡ false → result.1 ≡ at }
+    ensures cell { PutsCell (option_map (λ s. fixed_text (degrees_of s) 7) position) result.0
+        (take at row.old) (take result.1 row.new) }
 {
     match position {
-        Some(semicircles) => {
-            put_fixed(text, in_degrees(semicircles), 7)?;
-            Ok(true)
-        }
-        None => Ok(false),
+        Some(semicircles) => (true, write_fixed(row, at, in_degrees(semicircles), 7)),
+        None => (false, at),
     }
 }
 
@@ -166,67 +186,77 @@ impl<'a> RecordNumbers for Message<'a> {
     ghost are_of = { λ m d v t. ((shown m).definition ≡ d) × ((shown m).values ≡ v)
         × ((shown m).told ≡ t) };
 
-    fn put_value(&self, text: &mut Vec<u8>, number: u8) -> Result<bool, AllocError> {
-        put_number(text, value(self, number))
+    fn write_value(&self, row: &mut [u8], at: usize, number: u8) -> (bool, usize) {
+        write_number(row, at, value(self, number))
     }
 
-    fn put_position(&self, text: &mut Vec<u8>, number: u8) -> Result<bool, AllocError> {
-        put_degrees(text, position(self, number))
+    fn write_position(&self, row: &mut [u8], at: usize, number: u8) -> (bool, usize) {
+        write_degrees(row, at, position(self, number))
     }
 
-    fn put_distance(&self, text: &mut Vec<u8>) -> Result<bool, AllocError> {
-        put_number(text, distance(self))
+    fn write_distance(&self, row: &mut [u8], at: usize) -> (bool, usize) {
+        write_number(row, at, distance(self))
     }
 
-    fn put_speed(&self, text: &mut Vec<u8>) -> Result<bool, AllocError> {
-        put_number(text, speed(self))
+    fn write_speed(&self, row: &mut [u8], at: usize) -> (bool, usize) {
+        write_number(row, at, speed(self))
     }
 }
 
-/// Puts the number of the field at a place in the bytes of a message, where it is valid. Whether it is.
+/// Writes the number of the field at a place in the bytes of a message, where it is valid. Returns whether it is, and
+/// the place after it.
 #[inline(always)]
-fn put_value_at(
-    text: &mut Vec<u8>,
+fn write_value_at(
+    row: &mut [u8],
+    at: usize,
     place: &Place,
     order: Order,
     bytes: &[u8],
-) -> Result<bool, AllocError>
+) -> (bool, usize)
     requires known { IsKnown place.now }
     requires within { place.now.offset + place.now.field.size ≤ length bytes.now }
-    ensures { IfOk result (λ put. (m : Meaning)
-        → IsFormOf place.now.field.code (Some m) place.now.form
+    requires room { at + 48 ≤ length row.old }
+    ensures size { length row.new ≡ length row.old }
+    ensures within { result.1 ≤ at + 48 }
+    ensures none { result.0 ≡ false → result.1 ≡ at }
+    ensures cell { (m : Meaning) → IsFormOf place.now.field.code (Some m) place.now.form
         → PutsCell (option_map (λ raw. table.amount_text raw m.scale m.offset)
         (first_number place.now.field (items_at place.now order bytes.now)))
-        put text.old.items text.new.items) }
+        result.0 (take at row.old) (take result.1 row.new) }
 {
     let bits = place.bits(order, bytes);
     if bits == place.form.invalid {
-        return Ok(false);
+        return (false, at);
     }
-    put_formed(text, place.form, bits)?;
-    Ok(true)
+    (true, write_formed(row, at, place.form, bits))
 }
 
-/// Puts the position in the field at a place in the bytes of a message, where that is of the base type sint32 and valid. Whether it is.
+/// Writes the position in the field at a place in the bytes of a message, where that is of the base type sint32 and
+/// valid. Returns whether it is, and the place after it.
 #[inline(always)]
-fn put_position_at(
-    text: &mut Vec<u8>,
+fn write_position_at(
+    row: &mut [u8],
+    at: usize,
     place: &Place,
     order: Order,
     bytes: &[u8],
-) -> Result<bool, AllocError>
+) -> (bool, usize)
     requires known { IsKnown place.now }
     requires within { place.now.offset + place.now.field.size ≤ length bytes.now }
-    ensures { IfOk result (λ put. PutsCell (if place.now.field.code == 0x85
+    requires room { at + 48 ≤ length row.old }
+    ensures size { length row.new ≡ length row.old }
+    ensures within { result.1 ≤ at + 48 }
+    ensures none { result.0 ≡ false → result.1 ≡ at }
+    ensures cell { PutsCell (if place.now.field.code == 0x85
         then option_map (λ s. fixed_text (degrees_of s) 7)
         (first_number place.now.field (items_at place.now order bytes.now)) else None)
-        put text.old.items text.new.items) }
+        result.0 (take at row.old) (take result.1 row.new) }
 {
     if place.field.code != SINT32 {
-        return Ok(false);
+        return (false, at);
     }
     let bits = place.bits(order, bytes);
-    put_degrees(text, semicircles(place.form.width, bits))
+    write_degrees(row, at, semicircles(place.form.width, bits))
 }
 
 /// The numbers of a record message in its bytes.
@@ -241,28 +271,28 @@ impl<'a> RecordNumbers for NumbersInBytes<'a> {
     ghost are_of = { λ n d v t. AreInBytes n.places.now n.order n.bytes.now d v t };
 
     #[inline(always)]
-    fn put_value(&self, text: &mut Vec<u8>, number: u8) -> Result<bool, AllocError> {
+    fn write_value(&self, row: &mut [u8], at: usize, number: u8) -> (bool, usize) {
         match self.places.column(number) {
-            Column::Absent => Ok(false),
-            Column::At(place) => put_value_at(text, place, self.order, self.bytes),
+            Column::Absent => (false, at),
+            Column::At(place) => write_value_at(row, at, place, self.order, self.bytes),
         }
     }
 
     #[inline(always)]
-    fn put_position(&self, text: &mut Vec<u8>, number: u8) -> Result<bool, AllocError> {
+    fn write_position(&self, row: &mut [u8], at: usize, number: u8) -> (bool, usize) {
         match self.places.column(number) {
-            Column::Absent => Ok(false),
-            Column::At(place) => put_position_at(text, place, self.order, self.bytes),
+            Column::Absent => (false, at),
+            Column::At(place) => write_position_at(row, at, place, self.order, self.bytes),
         }
     }
 
     #[inline(always)]
-    fn put_distance(&self, _text: &mut Vec<u8>) -> Result<bool, AllocError> {
-        Ok(false)
+    fn write_distance(&self, _row: &mut [u8], at: usize) -> (bool, usize) {
+        (false, at)
     }
 
     #[inline(always)]
-    fn put_speed(&self, _text: &mut Vec<u8>) -> Result<bool, AllocError> {
-        Ok(false)
+    fn write_speed(&self, _row: &mut [u8], at: usize) -> (bool, usize) {
+        (false, at)
     }
 }

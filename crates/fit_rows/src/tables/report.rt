@@ -14,7 +14,7 @@ ghost use Rattle.fit_rows.specs.inner.Reporting.{AnswerFits, records_after_answe
 ghost use Rattle.fit_rows.specs.Table.{table_message_rows, table_record_rows};
 ghost use Rattle.fit_rows.specs.inner.TableCells.{files_after_answer, rows_in, table_answer_rows};
 
-use crate::minutes::Times;
+use crate::tables::front::Firsts;
 use crate::tables::maker::{TableMaker, put_message_row, put_table_row};
 use fit_decode::{Decoder, Event};
 use fit_profile::laws::looking_back_is_learning;
@@ -42,14 +42,14 @@ fn row_of(message: Option<Message>) -> Option<Message>
 /// Puts the text of the row of a record message, where there is one.
 fn put_text(
     text: &mut Vec<u8>,
-    times: &mut Times,
+    firsts: &mut Firsts,
     message: &Option<Message>,
     file: u64,
 ) -> Result<(), AllocError>
     ensures { OnOk result (text.new.items ≡ text.old.items ++ csv_text (rows_in file message.now)) }
 {
     match message {
-        Some(message) => put_table_row(text, times, message, file),
+        Some(message) => put_table_row(text, firsts, message, file),
         None => Ok(()),
     }
 }
@@ -57,7 +57,7 @@ fn put_text(
 /// Takes a record in, and puts the text of its row in the file of this number.
 fn take_record(
     text: &mut Vec<u8>,
-    times: &mut Times,
+    firsts: &mut Firsts,
     stream: &mut Stream,
     file: u64,
     record_: &Record,
@@ -68,7 +68,7 @@ fn take_record(
     ensures stream { OnOk result (stream.new ≡ record_.now ∷ stream.old) }
 {
     let message = row_of(stream.push(record_)?);
-    put_text(text, times, &message, file)
+    put_text(text, firsts, &message, file)
 }
 
 /// Puts the text of the row of the data message that the bytes are, where it can be made of these. Whether it did.
@@ -132,14 +132,14 @@ fn take_message(
     }
     maker.columns.forget();
     let record_ = record_of(maker.alloc, stream, bytes)?;
-    take_record(text, &mut maker.times, stream, file, &record_)
+    take_record(text, &mut maker.firsts, stream, file, &record_)
 }
 
 /// Takes an event in, and puts the text of its row. A header begins a file.
 #[tactic(auto, using(fit_cells::proofs::AddedRows::text_none))]
 fn take_event(
     text: &mut Vec<u8>,
-    times: &mut Times,
+    firsts: &mut Firsts,
     stream: &mut Stream,
     files: &mut u64,
     event: &Event,
@@ -157,7 +157,7 @@ fn take_event(
             *files += 1;
             Ok(())
         }
-        Event::Item(record_) => take_record(text, times, stream, *files, record_),
+        Event::Item(record_) => take_record(text, firsts, stream, *files, record_),
         Event::More | Event::FileEnd => Ok(()),
     }
 }
@@ -210,7 +210,7 @@ impl Report for TableReport {
         self.maker.columns.forget();
         take_event(
             text,
-            &mut self.maker.times,
+            &mut self.maker.firsts,
             &mut self.stream,
             &mut self.files,
             event,

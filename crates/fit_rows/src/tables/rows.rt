@@ -1,5 +1,5 @@
 //! The rows of the table.
-ghost use Rattle.std.specs.Prelude.{◌≡◌, ◌++◌, ◌∷◌, [], OnOk, decimal, option_map, pos, true, unwrap_or};
+ghost use Rattle.std.specs.Prelude.{◌≡◌, ◌≤◌, ◌+◌, ◌/◌, ◌++◌, ◌∷◌, [], OnOk, decimal, length, option_map, pos, take, true, unwrap_or};
 ghost use Rattle.std.specs.Global.{Global};
 ghost use Rattle.csv.specs.Writing.{default_writer, fields_text};
 ghost use Rattle.fit_record.specs.Faults.{or_else};
@@ -9,159 +9,206 @@ ghost use Rattle.fit_profile.specs.declared.told.Told.{Told};
 ghost use Rattle.fit_cells.specs.Rows.{HasRows};
 ghost use Rattle.fit_rows.specs.InstantText.{instant_text};
 ghost use Rattle.fit_rows.specs.Table as table;
-ghost use Rattle.fit_rows.specs.inner.TableCells.{AddsCell, AddsCells, AreSome, effort_cells, place_cells};
+ghost use Rattle.fit_rows.specs.inner.TableCells.{AddsCell, AddsCells, AreSome, EndsRow, effort_cells, place_cells};
 ghost use Rattle.fit_rows.specs.inner.TableColumns.{is_tabled};
 
-use crate::minutes::Times;
+use crate::tables::front::{Firsts, Front, write_byte};
 use crate::tables::numbers::RecordNumbers;
-use fit_profile::put_whole;
 use std::alloc::AllocError;
 
-/// Puts the cell of the first field of this number.
+/// How many bytes a row has at most, where what it begins with is short.
+const ROW_SIZE: usize = 477;
+
+/// Writes the cell of the first field of this number.
 #[inline(always)]
-fn add_value<N: RecordNumbers>(
-    text: &mut Vec<u8>,
-    numbers: &N,
-    number: u8,
-) -> Result<(), AllocError>
+fn add_value<N: RecordNumbers>(row: &mut [u8], at: usize, numbers: &N, number: u8) -> usize
     requires numbers { AreSome (N.are_of numbers.now) }
     requires tabled { is_tabled number ≡ true }
-    ensures { OnOk result ((d : MessageDef Global) (v : Values Global) (t : Told)
+    requires room { at + 49 ≤ length row.old }
+    ensures size { length row.new ≡ length row.old }
+    ensures within { result ≤ at + 49 }
+    ensures cell { (d : MessageDef Global) (v : Values Global) (t : Told)
         → N.are_of numbers.now d v t
-        → AddsCell (table.value_text d v number) text.old.items text.new.items) }
+        → AddsCell (table.value_text d v number) (take at row.old) (take result row.new) }
 {
-    text.push(b',')?;
-    numbers.put_value(text, number)?;
-    Ok(())
+    let at = write_byte(row, at, b',');
+    numbers.write_value(row, at, number).1
 }
 
-/// Puts the cell of the position in the first field of this number.
+/// Writes the cell of the position in the first field of this number.
 #[inline(always)]
-fn add_position<N: RecordNumbers>(
-    text: &mut Vec<u8>,
-    numbers: &N,
-    number: u8,
-) -> Result<(), AllocError>
+fn add_position<N: RecordNumbers>(row: &mut [u8], at: usize, numbers: &N, number: u8) -> usize
     requires numbers { AreSome (N.are_of numbers.now) }
     requires tabled { is_tabled number ≡ true }
-    ensures { OnOk result ((d : MessageDef Global) (v : Values Global) (t : Told)
+    requires room { at + 49 ≤ length row.old }
+    ensures size { length row.new ≡ length row.old }
+    ensures within { result ≤ at + 49 }
+    ensures cell { (d : MessageDef Global) (v : Values Global) (t : Told)
         → N.are_of numbers.now d v t
-        → AddsCell (table.degrees_text d v number) text.old.items text.new.items) }
+        → AddsCell (table.degrees_text d v number) (take at row.old) (take result row.new) }
 {
-    text.push(b',')?;
-    numbers.put_position(text, number)?;
-    Ok(())
+    let at = write_byte(row, at, b',');
+    numbers.write_position(row, at, number).1
 }
 
-/// Puts the cell of the altitude.
+/// Writes the cell of the altitude.
 #[inline(always)]
-fn add_altitude<N: RecordNumbers>(text: &mut Vec<u8>, numbers: &N) -> Result<(), AllocError>
-    requires { AreSome (N.are_of numbers.now) }
-    ensures { OnOk result ((d : MessageDef Global) (v : Values Global) (t : Told)
+fn add_altitude<N: RecordNumbers>(row: &mut [u8], at: usize, numbers: &N) -> usize
+    requires numbers { AreSome (N.are_of numbers.now) }
+    requires room { at + 49 ≤ length row.old }
+    ensures size { length row.new ≡ length row.old }
+    ensures within { result ≤ at + 49 }
+    ensures cell { (d : MessageDef Global) (v : Values Global) (t : Told)
         → N.are_of numbers.now d v t
         → AddsCell (or_else (table.value_text d v 78) (table.value_text d v 2))
-        text.old.items text.new.items) }
+        (take at row.old) (take result row.new) }
 {
-    text.push(b',')?;
-    let is_enhanced = numbers.put_value(text, 78)?;
+    let at = write_byte(row, at, b',');
+    let (is_enhanced, at) = numbers.write_value(row, at, 78);
     if is_enhanced {
-        return Ok(());
+        return at;
     }
-    numbers.put_value(text, 2)?;
-    Ok(())
+    numbers.write_value(row, at, 2).1
 }
 
-/// Puts the cell of the distance.
+/// Writes the cell of the distance.
 #[inline(always)]
-fn add_distance<N: RecordNumbers>(text: &mut Vec<u8>, numbers: &N) -> Result<(), AllocError>
-    requires { AreSome (N.are_of numbers.now) }
-    ensures { OnOk result ((d : MessageDef Global) (v : Values Global) (t : Told)
+fn add_distance<N: RecordNumbers>(row: &mut [u8], at: usize, numbers: &N) -> usize
+    requires numbers { AreSome (N.are_of numbers.now) }
+    requires room { at + 49 ≤ length row.old }
+    ensures size { length row.new ≡ length row.old }
+    ensures within { result ≤ at + 49 }
+    ensures cell { (d : MessageDef Global) (v : Values Global) (t : Told)
         → N.are_of numbers.now d v t
         → AddsCell (or_else (table.value_text d v 5)
         (option_map (λ n. table.amount_text (pos n) 16 0) t.distance))
-        text.old.items text.new.items) }
+        (take at row.old) (take result row.new) }
 {
-    text.push(b',')?;
-    let is_own = numbers.put_value(text, 5)?;
+    let at = write_byte(row, at, b',');
+    let (is_own, at) = numbers.write_value(row, at, 5);
     if is_own {
-        return Ok(());
+        return at;
     }
-    numbers.put_distance(text)?;
-    Ok(())
+    numbers.write_distance(row, at).1
 }
 
-/// Puts the cell of the speed.
+/// Writes the cell of the speed.
 #[inline(always)]
-fn add_speed<N: RecordNumbers>(text: &mut Vec<u8>, numbers: &N) -> Result<(), AllocError>
-    requires { AreSome (N.are_of numbers.now) }
-    ensures { OnOk result ((d : MessageDef Global) (v : Values Global) (t : Told)
+fn add_speed<N: RecordNumbers>(row: &mut [u8], at: usize, numbers: &N) -> usize
+    requires numbers { AreSome (N.are_of numbers.now) }
+    requires room { at + 49 ≤ length row.old }
+    ensures size { length row.new ≡ length row.old }
+    ensures within { result ≤ at + 49 }
+    ensures cell { (d : MessageDef Global) (v : Values Global) (t : Told)
         → N.are_of numbers.now d v t
         → AddsCell (or_else (table.value_text d v 73) (or_else (table.value_text d v 6)
         (option_map (λ n. table.amount_text (pos n) 100 0) t.speed)))
-        text.old.items text.new.items) }
+        (take at row.old) (take result row.new) }
 {
-    text.push(b',')?;
-    let is_enhanced = numbers.put_value(text, 73)?;
+    let at = write_byte(row, at, b',');
+    let (is_enhanced, at) = numbers.write_value(row, at, 73);
     if is_enhanced {
-        return Ok(());
+        return at;
     }
-    let is_own = numbers.put_value(text, 6)?;
+    let (is_own, at) = numbers.write_value(row, at, 6);
     if is_own {
-        return Ok(());
+        return at;
     }
-    numbers.put_speed(text)?;
+    numbers.write_speed(row, at).1
+}
+
+/// Writes the cells of the position, the altitude and the distance.
+#[inline(never)]
+fn add_place<N: RecordNumbers>(row: &mut [u8], at: usize, numbers: &N) -> usize
+    requires numbers { AreSome (N.are_of numbers.now) }
+    requires room { at + 196 ≤ length row.old }
+    ensures size { length row.new ≡ length row.old }
+    ensures within { result ≤ at + 196 }
+    ensures cells { (d : MessageDef Global) (v : Values Global) (t : Told)
+        → N.are_of numbers.now d v t
+        → AddsCells (place_cells d v t) (take at row.old) (take result row.new) }
+{
+    let at = add_position(row, at, numbers, 0);
+    let at = add_position(row, at, numbers, 1);
+    let at = add_altitude(row, at, numbers);
+    add_distance(row, at, numbers)
+}
+
+/// Writes the cells of the speed, the heart rate, the cadence, the power and the temperature.
+#[inline(never)]
+fn add_effort<N: RecordNumbers>(row: &mut [u8], at: usize, numbers: &N) -> usize
+    requires numbers { AreSome (N.are_of numbers.now) }
+    requires room { at + 245 ≤ length row.old }
+    ensures size { length row.new ≡ length row.old }
+    ensures within { result ≤ at + 245 }
+    ensures cells { (d : MessageDef Global) (v : Values Global) (t : Told)
+        → N.are_of numbers.now d v t
+        → AddsCells (effort_cells d v t) (take at row.old) (take result row.new) }
+{
+    let at = add_speed(row, at, numbers);
+    let at = add_value(row, at, numbers, 3);
+    let at = add_value(row, at, numbers, 4);
+    let at = add_value(row, at, numbers, 7);
+    add_value(row, at, numbers, 13)
+}
+
+/// Writes the numbers of a row and the end of its line into bytes from a place on. Returns the place after them.
+#[inline(always)]
+fn add_numbers<N: RecordNumbers>(row: &mut [u8], at: usize, numbers: &N) -> usize
+    requires numbers { AreSome (N.are_of numbers.now) }
+    requires room { at + 442 ≤ length row.old }
+    ensures cells { (d : MessageDef Global) (v : Values Global) (t : Told)
+        → N.are_of numbers.now d v t
+        → EndsRow (place_cells d v t ++ effort_cells d v t)
+        (take at row.old) (take result row.new) }
+    ensures size { length row.new ≡ length row.old }
+    ensures within { result ≤ at + 442 }
+{
+    let at = add_place(row, at, numbers);
+    let at = add_effort(row, at, numbers);
+    write_byte(row, at, b'\n')
+}
+
+/// Puts the numbers of a row and the end of its line after a text, with bytes that are cut off after it.
+fn put_numbers<N: RecordNumbers>(text: &mut Vec<u8>, numbers: &N) -> Result<(), AllocError>
+    requires { AreSome (N.are_of numbers.now) }
+    ensures { OnOk result ((d : MessageDef Global) (v : Values Global) (t : Told)
+        → N.are_of numbers.now d v t
+        → EndsRow (place_cells d v t ++ effort_cells d v t) text.old.items text.new.items) }
+{
+    let start = text.len();
+    text.extend_from_slice(&[0; ROW_SIZE])?;
+    let end = add_numbers(text.as_mut_slice(), start, numbers);
+    text.truncate(end);
     Ok(())
 }
 
-/// Puts the cells of the position, the altitude and the distance.
-#[inline(never)]
-fn add_place<N: RecordNumbers>(text: &mut Vec<u8>, numbers: &N) -> Result<(), AllocError>
-    requires { AreSome (N.are_of numbers.now) }
-    ensures { OnOk result ((d : MessageDef Global) (v : Values Global) (t : Told)
-        → N.are_of numbers.now d v t
-        → AddsCells (place_cells d v t) text.old.items text.new.items) }
-{
-    add_position(text, numbers, 0)?;
-    add_position(text, numbers, 1)?;
-    add_altitude(text, numbers)?;
-    add_distance(text, numbers)
-}
-
-/// Puts the cells of the speed, the heart rate, the cadence, the power and the temperature.
-#[inline(never)]
-fn add_effort<N: RecordNumbers>(text: &mut Vec<u8>, numbers: &N) -> Result<(), AllocError>
-    requires { AreSome (N.are_of numbers.now) }
-    ensures { OnOk result ((d : MessageDef Global) (v : Values Global) (t : Told)
-        → N.are_of numbers.now d v t
-        → AddsCells (effort_cells d v t) text.old.items text.new.items) }
-{
-    add_speed(text, numbers)?;
-    add_value(text, numbers, 3)?;
-    add_value(text, numbers, 4)?;
-    add_value(text, numbers, 7)?;
-    add_value(text, numbers, 13)
-}
-
-/// Puts the first two cells of a row after a text.
-#[inline(never)]
-fn put_first(
+/// Puts a row of which it is known what it begins with after a text, with bytes that are cut off after it.
+fn put_begun<N: RecordNumbers>(
     text: &mut Vec<u8>,
-    times: &mut Times,
-    file: u64,
-    time: Option<u32>,
+    front: &Front,
+    time: u32,
+    numbers: &N,
 ) -> Result<(), AllocError>
-    ensures { OnOk result (text.new.items ≡ text.old.items ++ (decimal file
-        ++ fields_text default_writer (unwrap_or (option_map instant_text time) [] ∷ []))) }
+    requires numbers { AreSome (N.are_of numbers.now) }
+    requires minute { time / 60 ≡ front.now.1 }
+    ensures { OnOk result ((d : MessageDef Global) (v : Values Global) (t : Told)
+        → N.are_of numbers.now d v t
+        → EndsRow (place_cells d v t ++ effort_cells d v t)
+        (text.old.items ++ (decimal front.now.0 ++ (44 ∷ instant_text time))) text.new.items) }
 {
-    put_whole(text, file)?;
-    text.push(b',')?;
-    times.put_cell(text, time)
+    let start = text.len();
+    text.extend_from_slice(&[0; ROW_SIZE])?;
+    let at = front.write(text.as_mut_slice(), start, time);
+    let end = add_numbers(text.as_mut_slice(), at, numbers);
+    text.truncate(end);
+    Ok(())
 }
 
 /// Puts the row of a record message of a file after a text, by its time and its numbers.
 pub(crate) fn put_row<N: RecordNumbers>(
     text: &mut Vec<u8>,
-    times: &mut Times,
+    firsts: &mut Firsts,
     file: u64,
     time: Option<u32>,
     numbers: &N,
@@ -171,9 +218,9 @@ pub(crate) fn put_row<N: RecordNumbers>(
         → N.are_of numbers.now d v t → time ≡ t.time
         → HasRows (table.table_row file d v t ∷ []) text.old text.new) }
 {
-    put_first(text, times, file, time)?;
-    add_place(text, numbers)?;
-    add_effort(text, numbers)?;
-    text.push(b'\n')?;
-    Ok(())
+    if let Some((front, time)) = firsts.front_of(file, time) {
+        return put_begun(text, front, time, numbers);
+    }
+    firsts.put(text, file, time)?;
+    put_numbers(text, numbers)
 }

@@ -9,19 +9,19 @@ use fit_profile::Info;
 use std::alloc::Global;
 use std::str;
 
-/// A number in units of the last decimal, over what a whole one has of them.
-fn over_scale(number: u64, scale: u32) -> u64 {
-    match scale {
-        5 => number / 2,
-        16 => number / 625,
-        256 => number / 390_625,
+/// A number in units of the last decimal, over the factor of its form.
+fn over_factor(number: u64, factor: u32) -> u64 {
+    match factor {
+        2 => number / 2,
+        625 => number / 625,
+        390_625 => number / 390_625,
         _ => number,
     }
 }
 
 /// The bits of a number of this form, by its digits without the point and its sign.
 fn bits_of(form: NumberForm, digits: u64, is_negative: bool) -> u64 {
-    let size = over_scale(digits, form.scale);
+    let size = over_factor(digits, form.factor);
     let number = if is_negative {
         form.shift.wrapping_sub(size)
     } else {

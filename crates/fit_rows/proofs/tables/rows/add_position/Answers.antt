@@ -1,8 +1,9 @@
-use Rattle.fit_rows.proofs.Common.{degrees_text}
+use Rattle.fit_rows.proofs.Common.{degrees_text, take}
 use Rattle.fit_rows.proofs.TableNumbers.{added, high_degrees}
 use Rattle.fit_rows.proofs.tables.rows.add_position.Goals as goal
 
-pub returns : goal.returns
-returns g c d v t are =
-    added (degrees_text d v c.args.number) c.args.text.now.items c.push.new.self.items c.put_position.new.text.items (high_degrees d v c.args.number)
-    c.in_ok-push.ensures.items (c.in_ok-put_position.ensures d v t are).1
+pub returns-clause-cell : goal.returns-clause-cell
+returns-clause-cell g c d v t are =
+    added (degrees_text d v c.args.number) (take c.args.at c.args.row.now) (take c.write_byte-at.result c.write_byte-at.new.row)
+    (take c.write_position.result.1 c.write_position.new.row) (high_degrees d v c.args.number) c.write_byte-at.ensures.text
+    (c.write_position.ensures.cell d v t are).1

@@ -2,7 +2,7 @@ use Rattle.fit_rows.proofs.Common.{◌∙◌, ◌++◌, ◌∷◌, [], ap, on_ok
 use Rattle.std.proofs.Common.{List, ℕ}
 use Rattle.std.specs.Prelude.{option_map, unwrap_or}
 use Rattle.fit_rows.proofs.AddedCells.{first_plain}
-use Rattle.fit_rows.proofs.tables.rows.put_first.Goals as goal
+use Rattle.fit_rows.proofs.tables.front.put_first.Goals as goal
 
 pub returns : goal.returns
 returns c = on_ok_weaker c.put_cell.result (λ put.
