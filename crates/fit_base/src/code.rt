@@ -22,7 +22,7 @@ pub enum Class {
     Bytes,
 }
 
-/// A base type code. Any byte is one: a code that the protocol doesn't name is as byte.
+/// A base type code (FIT protocol, "Base Types"). Any byte is one: a code that isn't in the protocol's table counts as byte.
 #[derive(Clone, Copy, Debug, PartialEq, Eq)]
 pub struct Code(pub u8);
 

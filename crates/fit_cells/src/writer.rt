@@ -9,7 +9,7 @@ use csv::Writer;
 use std::alloc::{AllocError, Global};
 use std::marker::Model;
 
-/// Brings all that was written to the text underneath, and answers how long that is.
+/// Brings all that was written to the text underneath, and returns how long that is.
 fn flushed_len(writer: &mut Writer<Vec<u8>>) -> Result<usize, AllocError>
     requires { IsBetweenRows writer.old }
     ensures between { OnOk result (IsBetweenRows writer.new) }

@@ -52,7 +52,7 @@ fn words(rt: &HostRuntime) -> Result<Vec<String>, ErrorKind> {
     Ok(words)
 }
 
-/// Does what the words ask for, and answers the exit status.
+/// Does what the words ask for, and returns the exit status.
 fn run_line(rt: &HostRuntime, words: &[String]) -> u8 {
     match parse_line(rt.alloc(), words) {
         Ok(Line { command, path }) => match path {

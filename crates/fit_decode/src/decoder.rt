@@ -93,11 +93,12 @@ impl<A: Allocator + Copy> Decoder<A> {
     /// and completed none.
     ///
     /// `Refused` has the first byte with which the bytes fed begin no chain of files, and the reason; after it each call
-    /// returns it again, and nothing is held any more. With `NoMemory` the first `used` bytes of the piece count as fed, and the rest may be fed again.
+    /// returns it again, and nothing is held any more. With `NoMemory` the first `used` bytes of the piece count as fed, and
+    /// the rest may be fed again.
     /// No memory is taken by a byte of a header, of a closing checksum, or of a data message without fields and developer
     /// fields.
     pub fn feed(&mut self, piece: &[u8]) -> Result<Fed<A>, Fault>
-        // After a refusal each call answers it again.
+        // After a refusal each call returns it again.
         ensures latched { (reason : Reason) → self.old.refusal ≡ Some reason
             → (result ≡ Err (Fault.Refused (length self.old.bytes) reason))
             × (self.new ≡ self.old) }
@@ -268,8 +269,8 @@ impl<A: Allocator + Copy> Decoder<A> {
         u64::from(self.stage.files)
     }
 
-    /// How many bytes are to come at least until a file ends: before a file 14, or 1 where no file may follow, and
-    /// after a refusal 0. From the place of its data size on, a header counts the data section too.
+    /// The least number of bytes still to come until a file ends. Before a file that is 14, or 1 where the chain has as many
+    /// files as it may; after a refusal it is 0. Once the data size of a header has come, the data section counts too.
     pub fn need(&self) -> u64
         ensures refused { (reason : Reason) → self.now.refusal ≡ Some reason → result ≡ 0 }
         ensures need { self.now.refusal ≡ None → Needs A self.now.bytes result }

@@ -66,7 +66,8 @@ impl<'a> Source for &'a [u8] {
 }
 
 /// A source over any reader. Every error of the reader counts as a failure, and no read is tried
-/// again. An empty buffer isn't passed on. Contracts know of it what they know of the reader.
+/// again. An empty buffer isn't passed on. Clauses see the bytes that are left only where the reader tells them; a file or a pipe
+/// doesn't.
 #[derive(Drop)]
 pub struct ReadSource<R: Read> {
     reader: R,

@@ -60,7 +60,7 @@ pub fn put_all<K: Sink>(sink: &mut K, bytes: &[u8]) -> Result<(), u64>
 }
 
 /// A sink over any writer. Every error of the writer counts as a failure, and no write is tried
-/// again. An empty slice isn't passed on. Contracts know of the sink what they know of the writer.
+/// again. An empty slice isn't passed on. Clauses see what was written only where the writer tells it; a file or a pipe doesn't.
 #[derive(Drop)]
 pub struct WriteSink<W: Write> {
     writer: W,

@@ -55,8 +55,8 @@ impl SpelledRecords {
         }
     }
 
-    /// Puts a record at the end, which fits after the others. The environment is what these make known. Where memory is
-    /// refused, nothing changes.
+    /// Puts a record at the end. It has to fit after the records before it, and `env` is what they have defined. Out of memory,
+    /// nothing changes.
     pub fn push(&mut self, env: &Env, r: &Record) -> Result<(), AllocError>
         requires known { env.now ≡ learn_all empty_environment self.old }
         requires fits { Fits env.now r.now }

@@ -43,7 +43,7 @@ pub enum Reason {
 }
 
 impl Reason {
-    /// The name of the reason, as it is printed.
+    /// The name of the variant, as "HeaderSize", which the programs print. `Display` writes a sentence instead.
     pub fn name(self) -> &'static str
         ensures { result.now ≡ reason_name self }
     {

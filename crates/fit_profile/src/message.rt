@@ -163,21 +163,23 @@ impl<'a, A: Allocator> Message<'a, A> {
         value_of(&self.defined.definition, self.values, number)
     }
 
-    /// The time of the message: its valid field 253, and else that of its compressed header.
+    /// The time of the message, in seconds since 1989-12-31T00:00:00 UTC: its valid field 253, and else that of its compressed
+    /// timestamp header. `None` where it has neither.
     pub fn time(&self) -> Option<u32>
         ensures { result ≡ (shown self.now).told.time }
     {
         self.told.time
     }
 
-    /// The time of a compressed header.
+    /// The time of its compressed timestamp header, in the same seconds. `None` where the header is a normal one, or no message
+    /// before had a time.
     pub fn header_time(&self) -> Option<u32>
         ensures { result ≡ (shown self.now).told.header_time }
     {
         self.told.header_time
     }
 
-    /// The speed in compressed_speed_distance, in m/s.
+    /// The speed in compressed_speed_distance (field 8 of a record message), in m/s. `None` where that is absent or invalid.
     pub fn speed(&self) -> Option<Fixed>
         ensures amount { IsAmount 100 (shown self.now).told.speed result }
         ensures few { IfSome result (λ v. v.decimals ≤ 8) }
@@ -185,7 +187,8 @@ impl<'a, A: Allocator> Message<'a, A> {
         in_scale(self.told.speed, 100)
     }
 
-    /// The distance accumulated from compressed_speed_distance, in m.
+    /// The distance accumulated from compressed_speed_distance over the file, in m (FIT SDK, Profile, column "Accumulate"). `None`
+    /// where this message has no valid one.
     pub fn distance(&self) -> Option<Fixed>
         ensures amount { IsAmount 16 (shown self.now).told.distance result }
         ensures few { IfSome result (λ v. v.decimals ≤ 8) }
@@ -193,7 +196,7 @@ impl<'a, A: Allocator> Message<'a, A> {
         in_scale(self.told.distance, 16)
     }
 
-    /// The cycles accumulated from cycles.
+    /// The cycles accumulated from cycles (field 18) over the file, a count. `None` where this message has no valid one.
     pub fn total_cycles(&self) -> Option<Fixed>
         ensures amount { IsAmount 1 (shown self.now).told.total_cycles result }
         ensures few { IfSome result (λ v. v.decimals ≤ 8) }
@@ -201,7 +204,8 @@ impl<'a, A: Allocator> Message<'a, A> {
         in_scale(self.told.total_cycles, 1)
     }
 
-    /// The power accumulated from compressed_accumulated_power, in watts.
+    /// The power accumulated from compressed_accumulated_power (field 28) over the file, in watts. `None` where this message has no
+    /// valid one.
     pub fn accumulated_power(&self) -> Option<Fixed>
         ensures amount { IsAmount 1 (shown self.now).told.accumulated_power result }
         ensures few { IfSome result (λ v. v.decimals ≤ 8) }

@@ -88,12 +88,14 @@ fn lent<A: Allocator>(text: &Option<String<A>>) -> Option<&str>
 }
 
 impl<A: Allocator> Texts<A> {
+    /// The name, where there is one.
     pub fn name(&self) -> Option<&str>
         ensures { option_map (λ s. s.now) result ≡ self.now.name }
     {
         lent(&self.name)
     }
 
+    /// The unit, where there is one.
     pub fn unit(&self) -> Option<&str>
         ensures { option_map (λ s. s.now) result ≡ self.now.unit }
     {

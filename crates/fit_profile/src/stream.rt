@@ -110,14 +110,15 @@ impl Stream {
         header_time(self.last.time, Some(offset))
     }
 
-    /// The time of the next record, where it is a data message with a time: that of its timestamp, and else that of its header.
+    /// The time of the next record, in seconds since 1989-12-31T00:00:00 UTC: that of its timestamp, and else that of its header.
+    /// `None` for a definition message, and where a data message has neither.
     pub fn time(&self, record_: &Record) -> Option<u32>
         ensures { result ≡ times.time self.now record_.now }
     {
         time_of(&self.env, self.last.time, record_)
     }
 
-    /// The time of the next record where it is the data message that these bytes are, as `time` gives it.
+    /// The same of the data message in these bytes.
     pub fn message_time(&self, bytes: &[u8]) -> Option<u32>
         requires { (v : Values Global) × IsRecord (known self.now) (Data v) bytes.now }
         ensures { (v : Values Global) → IsRecord (known self.now) (Data v) bytes.now

@@ -39,7 +39,7 @@ fn numbered(front: &str, number: u64, back: &str) -> Lines
     lines
 }
 
-/// Adds a text, a number and a text.
+/// Puts a text, a number in decimal digits and a text after another text. `AllocError` where memory was refused.
 pub fn put_numbered(
     text: &mut Vec<u8>,
     front: &str,

@@ -119,7 +119,7 @@ fn run_report<S: Source, K: Sink, E: Sink, R: Report>(
     finish(output, faults, told)
 }
 
-/// Says what a report answered.
+/// Says what a report returned.
 fn finish<K: Sink, E: Sink>(output: &mut K, faults: &mut E, told: Result<(), ReportFault>) -> u8
     ensures finishes { Finishes told output.old output.new
         (channel K.contents K.has_failed output.old output.new)
@@ -165,7 +165,7 @@ fn say<K: Sink, E: Sink>(output: &mut K, faults: &mut E, fault: Fault) -> u8
     }
 }
 
-/// Says what a conversion answered.
+/// Says what a conversion returned.
 fn conclude<E: Sink>(faults: &mut E, answer: Result<(), CsvFault>) -> u8
     ensures { Concludes answer
         (channel E.contents E.has_failed faults.old faults.new) result }
@@ -236,7 +236,7 @@ fn complain_of_bytes<E: Sink>(faults: &mut E, fault: Fault) -> u8
     }
 }
 
-/// Writes the last line of a run, and answers its status.
+/// Writes the last line of a run, and returns its status.
 fn end<K: Sink, E: Sink>(output: &mut K, faults: &mut E, line: &str, status: u8) -> u8
     ensures writes { WritesLines line.now status
         (channel K.contents K.has_failed output.old output.new)

@@ -11,7 +11,8 @@ pub fn records_end<A: Allocator>()
     ensures { RecordsEnd A }
 {}
 
-/// Which parts of a record can become one so that records fill the room.
+/// The test `goes_on` is true of a part of a record exactly where some bytes complete the record so that records fill the rest of
+/// the room.
 #[tactic(auto, using(crate::proofs::TakenAndRefusedBytes::parts_are_tested))]
 pub fn parts_are_tested<A: Allocator>()
     ensures { PartsAreTested A }
@@ -23,7 +24,7 @@ pub fn taken_bytes_go_on<A: Allocator>()
     ensures whole { TakenBytesEnd A }
 {}
 
-/// Where a reader of records stands.
+/// A reader that begins a record, or has taken a byte, is at a part of a record whose rest is within the room.
 pub fn readers_stand<A: Allocator>()
     ensures begin { BeginningsStand A }
     ensures go_on { TakenBytesStand A }
@@ -34,7 +35,8 @@ pub fn refused_bytes_end_all<A: Allocator>()
     ensures { RefusedBytesEndAll A }
 {}
 
-/// What the position and the record in progress are where a record begins, and what they are good for after some bytes.
+/// Where a record begins nothing is in progress. After some bytes what is kept is no complete record, and records that fill the
+/// room begin with these bytes; nothing is kept exactly where no byte has come.
 pub fn records_are_in_progress<A: Allocator>()
     ensures begin { RecordsBegin A }
     ensures go_on { RecordsInProgress A }

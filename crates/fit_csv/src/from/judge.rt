@@ -133,7 +133,7 @@ fn after_first_line(text: &[u8]) -> Option<&[u8]>
     text.strip_prefix(b"row,a,b,c,d,e,f\n")
 }
 
-/// Takes the row with which a text begins, as `to_csv` writes it, and answers what is left.
+/// Takes the row with which a text begins, as `to_csv` writes it, and returns what is left.
 fn take_plain<'a>(
     alloc: Global,
     writer: &mut RowWriter,
@@ -153,7 +153,7 @@ fn take_plain<'a>(
     }
 }
 
-/// Takes the data message with whose rows a text begins, or else its first row, and answers what is left.
+/// Takes the data message with whose rows a text begins, or else its first row, and returns what is left.
 fn take_next<'a>(
     alloc: Global,
     reader: &mut MessageReader,

@@ -111,7 +111,7 @@ fn next_part(
 }
 
 impl OpenFile {
-    /// Takes the data message with whose rows a text begins, as `to_csv` writes them, and answers what is left. Where it takes none,
+    /// Takes the data message with whose rows a text begins, as `to_csv` writes them, and returns what is left. Where it takes none,
     /// nothing changes.
     pub(crate) fn take_message<'a>(
         &mut self,
