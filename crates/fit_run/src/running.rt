@@ -83,15 +83,15 @@ pub fn run<S: Source, K: Sink, E: Sink>(
         Command::Show => run_report(alloc, source, output, faults, &mut ShowReport::new(alloc)),
         Command::ToCsv => {
             let answer = to_csv(alloc, source, output);
-            conclude(faults, answer)
+            end_conversion(faults, answer)
         }
         Command::FromCsv => {
             let answer = from_csv(alloc, source, output);
-            conclude(faults, answer)
+            end_conversion(faults, answer)
         }
         Command::Table => {
             let answer = table(alloc, source, output);
-            conclude(faults, answer)
+            end_conversion(faults, answer)
         }
     }
 }
@@ -116,32 +116,26 @@ fn run_report<S: Source, K: Sink, E: Sink, R: Report>(
     ensures works { result ≡ 0 → K.has_failed output.new ≡ false }
 {
     let told = report(alloc, source, output, reporter);
-    finish(output, faults, told)
+    end_report(output, faults, told)
 }
 
-/// Says what a report returned.
-fn finish<K: Sink, E: Sink>(output: &mut K, faults: &mut E, told: Result<(), ReportFault>) -> u8
+/// Ends the run of a report: writes its last line, and returns the status.
+fn end_report<K: Sink, E: Sink>(output: &mut K, faults: &mut E, told: Result<(), ReportFault>) -> u8
     ensures finishes { Finishes told output.old output.new
         (channel K.contents K.has_failed output.old output.new)
         (channel E.contents E.has_failed faults.old faults.new) result }
     ensures works { result ≡ 0 → K.has_failed output.new ≡ false }
 {
     match told {
-        Ok(()) => end(output, faults, OK, GOOD),
-        Err(ReportFault::Decode(fault)) => say(output, faults, fault),
-        Err(ReportFault::NoMemory) => {
-            tell(faults, OUT_OF_MEMORY);
-            NO_MEMORY
-        }
-        Err(ReportFault::Write { .. }) => {
-            tell(faults, WRITE_FAULT);
-            FAILED
-        }
+        Ok(()) => end_with_line(output, faults, OK, GOOD),
+        Err(ReportFault::Decode(fault)) => end_decoding(output, faults, fault),
+        Err(ReportFault::NoMemory) => fail(faults, OUT_OF_MEMORY, NO_MEMORY),
+        Err(ReportFault::Write { .. }) => fail(faults, WRITE_FAULT, FAILED),
     }
 }
 
-/// Says what is wrong with the input.
-fn say<K: Sink, E: Sink>(output: &mut K, faults: &mut E, fault: Fault) -> u8
+/// Ends the run of a report whose input is no chain of files, or could not be read.
+fn end_decoding<K: Sink, E: Sink>(output: &mut K, faults: &mut E, fault: Fault) -> u8
     ensures { FaultSaid fault output.old output.new
         (channel K.contents K.has_failed output.old output.new)
         (channel E.contents E.has_failed faults.old faults.new) result }
@@ -149,95 +143,74 @@ fn say<K: Sink, E: Sink>(output: &mut K, faults: &mut E, fault: Fault) -> u8
     match fault {
         Fault::Refused { place, reason } => {
             let line = lines::refused(place, reason);
-            end(output, faults, line.as_str(), REFUSED)
+            end_with_line(output, faults, line.as_str(), REFUSED)
         }
         Fault::Truncated { place } => {
-            end(output, faults, lines::truncated(place).as_str(), REFUSED)
+            end_with_line(output, faults, lines::truncated(place).as_str(), REFUSED)
         }
-        Fault::Read { place } => {
-            tell(faults, lines::read_fault(place).as_str());
-            FAILED
-        }
-        Fault::NoMemory { .. } => {
-            tell(faults, OUT_OF_MEMORY);
-            NO_MEMORY
-        }
+        Fault::Read { place } => fail(faults, lines::read_fault(place).as_str(), FAILED),
+        Fault::NoMemory { .. } => fail(faults, OUT_OF_MEMORY, NO_MEMORY),
     }
 }
 
-/// Says what a conversion returned.
-fn conclude<E: Sink>(faults: &mut E, answer: Result<(), CsvFault>) -> u8
+/// Ends the run of a conversion: writes a line where it failed, and returns the status.
+fn end_conversion<E: Sink>(faults: &mut E, answer: Result<(), CsvFault>) -> u8
     ensures { Concludes answer
         (channel E.contents E.has_failed faults.old faults.new) result }
 {
     match answer {
         Ok(()) => GOOD,
-        Err(fault) => complain(faults, fault),
+        Err(fault) => fail_conversion(faults, fault),
     }
 }
 
-/// Says why an input is refused.
-fn refuse<E: Sink>(faults: &mut E, line: &str) -> u8
+/// Writes a fault line, and returns the status. That the line can't be written changes nothing else.
+fn fail<E: Sink>(faults: &mut E, line: &str, status: u8) -> u8
     ensures line { PutsOrFails
         (channel E.contents E.has_failed faults.old faults.new)
         line.now }
-    ensures status { result ≡ 1 }
+    ensures status { result ≡ status }
 {
-    tell(faults, line);
-    REFUSED
+    let _ = put_all(faults, line.as_bytes());
+    status
 }
 
-/// Says why a conversion broke off.
-fn complain<E: Sink>(faults: &mut E, fault: CsvFault) -> u8
+/// Writes why a conversion failed, and returns the status.
+fn fail_conversion<E: Sink>(faults: &mut E, fault: CsvFault) -> u8
     ensures { Concludes {X = Unit {0}} (Err fault)
         (channel E.contents E.has_failed faults.old faults.new) result }
 {
     match fault {
-        CsvFault::Decode(fault) => complain_of_bytes(faults, fault),
-        CsvFault::Encode(fault) => refuse(faults, lines::encode_fault(fault)),
-        CsvFault::Header => refuse(faults, HEADER_ROW),
-        CsvFault::BadRow { row } => refuse(faults, lines::bad_row(row).as_str()),
+        CsvFault::Decode(fault) => fail_decoding(faults, fault),
+        CsvFault::Encode(fault) => fail(faults, lines::encode_fault(fault), REFUSED),
+        CsvFault::Header => fail(faults, HEADER_ROW, REFUSED),
+        CsvFault::BadRow { row } => fail(faults, lines::bad_row(row).as_str(), REFUSED),
         CsvFault::BadCell { row, column } => {
-            refuse(faults, lines::bad_cell(row, column).as_str())
+            fail(faults, lines::bad_cell(row, column).as_str(), REFUSED)
         }
-        CsvFault::NoMemory => {
-            tell(faults, OUT_OF_MEMORY);
-            NO_MEMORY
-        }
-        CsvFault::Read => {
-            tell(faults, TEXT_FAULT);
-            FAILED
-        }
-        CsvFault::Write { .. } => {
-            tell(faults, WRITE_FAULT);
-            FAILED
-        }
+        CsvFault::NoMemory => fail(faults, OUT_OF_MEMORY, NO_MEMORY),
+        CsvFault::Read => fail(faults, TEXT_FAULT, FAILED),
+        CsvFault::Write { .. } => fail(faults, WRITE_FAULT, FAILED),
     }
 }
 
-/// Says what is wrong with the bytes that a conversion reads.
-fn complain_of_bytes<E: Sink>(faults: &mut E, fault: Fault) -> u8
+/// Writes what is wrong with the bytes that a conversion reads, and returns the status.
+fn fail_decoding<E: Sink>(faults: &mut E, fault: Fault) -> u8
     ensures { Concludes {X = Unit {0}} (Err (CsvFault.Decode fault))
         (channel E.contents E.has_failed faults.old faults.new) result }
 {
     match fault {
         Fault::Refused { place, reason } => {
-            refuse(faults, lines::refused(place, reason).as_str())
+            fail(faults, lines::refused(place, reason).as_str(), REFUSED)
         }
-        Fault::Truncated { place } => refuse(faults, lines::truncated(place).as_str()),
-        Fault::Read { place } => {
-            tell(faults, lines::read_fault(place).as_str());
-            FAILED
-        }
-        Fault::NoMemory { .. } => {
-            tell(faults, OUT_OF_MEMORY);
-            NO_MEMORY
-        }
+        Fault::Truncated { place } => fail(faults, lines::truncated(place).as_str(), REFUSED),
+        Fault::Read { place } => fail(faults, lines::read_fault(place).as_str(), FAILED),
+        Fault::NoMemory { .. } => fail(faults, OUT_OF_MEMORY, NO_MEMORY),
     }
 }
 
-/// Writes the last line of a run, and returns its status.
-fn end<K: Sink, E: Sink>(output: &mut K, faults: &mut E, line: &str, status: u8) -> u8
+/// Writes the last line of a run to the output, and returns the status; that of a write fault where the output fails.
+fn end_with_line<K: Sink, E: Sink>(output: &mut K, faults: &mut E, line: &str, status: u8) -> u8
     ensures writes { WritesLines line.now status
         (channel K.contents K.has_failed output.old output.new)
         (channel E.contents E.has_failed faults.old faults.new) result }
@@ -245,18 +218,6 @@ fn end<K: Sink, E: Sink>(output: &mut K, faults: &mut E, line: &str, status: u8)
 {
     match put_all(output, line.as_bytes()) {
         Ok(()) => status,
-        Err(_) => {
-            tell(faults, WRITE_FAULT);
-            FAILED
-        }
+        Err(_) => fail(faults, WRITE_FAULT, FAILED),
     }
-}
-
-/// Writes a fault line. That it can't be written changes nothing else.
-fn tell<E: Sink>(faults: &mut E, line: &str)
-    ensures { PutsOrFails
-        (channel E.contents E.has_failed faults.old faults.new)
-        line.now }
-{
-    let _ = put_all(faults, line.as_bytes());
 }
