@@ -7,4 +7,4 @@ pub use Rattle.fit_csv.specs.FromText.{FromText, FromTextOf, IsTextOf, ReadsText
 pub use Rattle.fit_csv.specs.declared.fault.CsvFault.{CsvFault}
 pub use Rattle.fit_report.specs.Heard.{Lines, text_of}
 pub use Rattle.fit_report.specs.Reports.{Channel, ReportsChain, HasTold}
-pub use Rattle.fit_c.specs.Answers.{IsTextUnlessWant, answer, given, report_answer, check_answer, fault_answer}
+pub use Rattle.fit_c.specs.Answers.{IsTextUnlessNoMemory, conversion_answer, given, report_answer, check_answer, fault_answer}

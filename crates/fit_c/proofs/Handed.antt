@@ -1,7 +1,7 @@
 -- What a text has that was handed over.
 use Rattle.fit_c.proofs.Common.{◌≡◌, inr, inl, true, false, Bool, ℕ, List, [], Option, Some, None, Result, Ok, Err, ◌++◌, refl, sym, ap, ◌∙◌, subst, flat_map}
 use Rattle.fit_c.proofs.Common.{is_ok, reverse, Global, file_events, Lines, text_of, Channel, ReportsChain, CsvFault, FromText, FromTextOf, IsTextOf, ReadsText}
-use Rattle.fit_c.proofs.Common.{IsTextUnlessWant, answer, given, report_answer}
+use Rattle.fit_c.proofs.Common.{IsTextUnlessNoMemory, conversion_answer, given, report_answer}
 use Rattle.std.proofs.lemmas.List.{append-nil}
 use Rattle.std.specs.Io.KnownBytes.{Appends}
 use Rattle.fit_record.specs.declared.file.FitFile.{FitFile}
@@ -19,7 +19,7 @@ put None after items text none is more = absurd cc
 
 pub shown_chain : (line : Lines Global) (fs : List (FitFile Global)) (source sink : Channel) (r : Result (Unit {0}) ReportFault) (items : List ℕ)
     → source.failed ≡ false → sink.before ≡ Some [] → Some items ≡ sink.after → ReportsChain line fs source sink r
-    → IsTextUnlessWant (text_of line (reverse (flat_map file_events fs))) (report_answer r) items
+    → IsTextUnlessNoMemory (text_of line (reverse (flat_map file_events fs))) (report_answer r) items
 shown_chain line fs source sink (Ok u) items works none is told = inr (refl, put sink.before sink.after items _ none is told)
 shown_chain line fs source sink (Err (reports.Decode (faults.Read place))) items works none is bad = let both : true ≡ false = sym bad ∙ works in absurd cc
 shown_chain line fs source sink (Err (reports.Decode (faults.Refused place reason))) items works none is bad = absurd bad
@@ -35,7 +35,7 @@ whole : (text taken left : List ℕ) → text ≡ taken ++ left → left ≡ [] 
 whole text taken left joined none = let same : taken ++ left ≡ taken ++ [] = ap (λ l. taken ++ l) none in sym (joined ∙ same ∙ append-nil taken)
 
 module _ (sink : Channel) (good : Bool) (items : List ℕ) (none : sink.before ≡ Some []) (is : good ≡ true → Some items ≡ sink.after) where
-  pub text_good : (text left : List ℕ) (r : Result (Unit {0}) CsvFault) → good ≡ is_ok r → ReadsText (given text left) sink r → (answer r).status ≡ 0
+  pub text_good : (text left : List ℕ) (r : Result (Unit {0}) CsvFault) → good ≡ is_ok r → ReadsText (given text left) sink r → (conversion_answer r).status ≡ 0
       → (files : List (FitFile Global)) × IsTextOf text files items
   text_good text left (Ok u) so (taken, joined, rest) zero =
       let found : FromText taken sink = rest.1 in
@@ -45,7 +45,7 @@ module _ (sink : Channel) (good : Bool) (items : List ℕ) (none : sink.before �
   text_good text left (Err fault) so bad zero = absurd (conversion_bad fault zero)
 
   pub bytes_back : (bytes : List ℕ) (source : Channel) (r : Result (Unit {0}) CsvFault) → source.failed ≡ false → good ≡ is_ok r
-      → FromTextOf bytes source sink r → IsTextUnlessWant bytes (answer r) items
+      → FromTextOf bytes source sink r → IsTextUnlessNoMemory bytes (conversion_answer r) items
   bytes_back bytes source (Ok u) works so (more, fine) = inr (refl, put sink.before sink.after items bytes none (is so) more)
   bytes_back bytes source (Err (csv.Decode fault)) works so bad = absurd bad
   bytes_back bytes source (Err csv.Header) works so bad = absurd bad

@@ -1,5 +1,5 @@
 -- What follows from a status.
-use Rattle.fit_c.proofs.Common.{◌≡◌, ℕ, List, Result, Ok, Err, inl, inr, refl, ◌⊎◌, IfErr, IfOk, Global, CsvFault, answer, check_answer, fault_answer}
+use Rattle.fit_c.proofs.Common.{◌≡◌, ℕ, List, Result, Ok, Err, inl, inr, refl, ◌⊎◌, IfErr, IfOk, Global, CsvFault, check_answer, conversion_answer, fault_answer}
 use Rattle.fit_chain.specs.declared.event.Fault.{Fault}
 use Rattle.fit_chain.specs.Checks.{AreChain, AreFiles, LacksMemory}
 use Rattle.fit_chain.specs.declared.event.Fault.TheVariants as faults
@@ -13,7 +13,7 @@ fault_bad (faults.Truncated place) zero = absurd cc
 fault_bad (faults.NoMemory used) zero = absurd cc
 fault_bad (faults.Read place) zero = absurd cc
 
-pub conversion_bad : (fault : CsvFault) → (answer {X = Unit {0}} (Err fault)).status ≡ 0 → ⊥
+pub conversion_bad : (fault : CsvFault) → (conversion_answer {X = Unit {0}} (Err fault)).status ≡ 0 → ⊥
 conversion_bad (csv.Decode fault) zero = fault_bad fault zero
 conversion_bad csv.Header zero = absurd cc
 conversion_bad (csv.BadRow row) zero = absurd cc

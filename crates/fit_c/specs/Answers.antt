@@ -50,16 +50,16 @@ check_answer (Ok count) = record (status_alone 0) { files = count }
 check_answer (Err fault) = fault_answer fault
 
 -- what is said of what a conversion answered
-abbrev pub answer : {X : Type 0} → Result X CsvFault → FitAnswer
-answer (Ok _) = status_alone 0
-answer (Err (csv.Decode fault)) = fault_answer fault
-answer (Err csv.Header) = record (status_alone 4) { row = 1 }
-answer (Err (csv.BadRow row)) = record (status_alone 4) { row = row }
-answer (Err (csv.BadCell row column)) = record (status_alone 4) { row = row; column = column }
-answer (Err (csv.Encode fault)) = status_alone 5
-answer (Err csv.NoMemory) = status_alone 3
-answer (Err csv.Read) = status_alone 3
-answer (Err (csv.Write written)) = status_alone 3
+abbrev pub conversion_answer : {X : Type 0} → Result X CsvFault → FitAnswer
+conversion_answer (Ok _) = status_alone 0
+conversion_answer (Err (csv.Decode fault)) = fault_answer fault
+conversion_answer (Err csv.Header) = record (status_alone 4) { row = 1 }
+conversion_answer (Err (csv.BadRow row)) = record (status_alone 4) { row = row }
+conversion_answer (Err (csv.BadCell row column)) = record (status_alone 4) { row = row; column = column }
+conversion_answer (Err (csv.Encode fault)) = status_alone 5
+conversion_answer (Err csv.NoMemory) = status_alone 3
+conversion_answer (Err csv.Read) = status_alone 3
+conversion_answer (Err (csv.Write written)) = status_alone 3
 
 -- what is said of what a report answered
 abbrev pub report_answer : {X : Type 0} → Result X ReportFault → FitAnswer
@@ -74,8 +74,8 @@ abbrev pub IsFinding : List ℕ → FitAnswer → Type 0
 IsFinding bytes a = (r : Result ℕ Fault) × (a ≡ check_answer r) × IfOk r (AreFiles bytes) × IfErr r (IsFaultOf bytes) × IfErr r (LacksMemoryAt bytes)
 
 -- This is the text, unless memory was refused.
-abbrev pub IsTextUnlessWant : List ℕ → FitAnswer → List ℕ → Type 0
-IsTextUnlessWant wanted a text = (a.status ≡ 3) ⊎ ((a.status ≡ 0) × (text ≡ wanted))
+abbrev pub IsTextUnlessNoMemory : List ℕ → FitAnswer → List ℕ → Type 0
+IsTextUnlessNoMemory wanted a text = (a.status ≡ 3) ⊎ ((a.status ≡ 0) × (text ≡ wanted))
 
 -- a source of these bytes, of which those are left, and a sink that began with nothing and has this text
 abbrev pub given : List ℕ → List ℕ → Channel
@@ -88,7 +88,7 @@ kept text failed = record { before = Some []; after = Some text; failed = failed
 -- rows of all events before it.
 abbrev pub IsConverted : RowsOf → List ℕ → FitAnswer → List ℕ → Type 0
 IsConverted rows bytes a text =
-    (r : Result (Unit {0}) CsvFault) × (left : List ℕ) × (failed : Bool) × (a ≡ answer r) × Converts rows (given bytes left) (kept text failed) r
+    (r : Result (Unit {0}) CsvFault) × (left : List ℕ) × (failed : Bool) × (a ≡ conversion_answer r) × Converts rows (given bytes left) (kept text failed) r
 
 -- The text is what a report of the bytes has told by these lines, and the answer is that report's.
 abbrev pub IsReported : Lines Global → List ℕ → FitAnswer → List ℕ → Type 0
@@ -100,5 +100,5 @@ IsReported line bytes a text =
 -- its first such cell; or why the files of its rows have no bytes.
 abbrev pub IsTextRead : List ℕ → FitAnswer → Type 0
 IsTextRead text a =
-    (r : Result (Unit {0}) CsvFault) × (left : List ℕ) × (held : Option (List ℕ)) × (failed : Bool) × (a ≡ answer r)
+    (r : Result (Unit {0}) CsvFault) × (left : List ℕ) × (held : Option (List ℕ)) × (failed : Bool) × (a ≡ conversion_answer r)
     × ReadsText (given text left) (record { before = Some []; after = held; failed = failed }) r

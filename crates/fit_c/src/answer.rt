@@ -1,13 +1,13 @@
-//! What the calls answer.
+//! What the calls return.
 ghost use Rattle.std.specs.Prelude.{◌≡◌};
-ghost use Rattle.fit_c.specs.Answers.{answer, check_answer, fault_answer, status_alone, reason_code, report_answer};
+ghost use Rattle.fit_c.specs.Answers.{check_answer, conversion_answer, fault_answer, status_alone, reason_code, report_answer};
 
 use fit_csv::CsvFault;
 use fit_decode::Fault;
 use fit_frame::Reason;
 use fit_report::ReportFault;
 
-/// A status, and where and why. A number that the status doesn't speak of is 0.
+/// A status, and where and why. A number that has no meaning for the status is 0.
 #[repr(C)]
 #[derive(Clone, Copy)]
 pub struct FitAnswer {
@@ -58,8 +58,8 @@ fn code(reason: Reason) -> u32
     }
 }
 
-/// What is said of a fault of the bytes. A slice is a source that doesn't fail.
-fn of_fault(fault: Fault) -> FitAnswer
+/// The answer for a fault of the bytes. A slice is a source that doesn't fail.
+fn answer_for_fault(fault: Fault) -> FitAnswer
     ensures { result ≡ fault_answer fault }
 {
     match fault {
@@ -73,23 +73,23 @@ fn of_fault(fault: Fault) -> FitAnswer
     }
 }
 
-/// What is said of bytes that were checked.
-pub(crate) fn of_check(checked: Result<u64, Fault>) -> FitAnswer
+/// The answer for bytes that were checked.
+pub(crate) fn answer_for_check(checked: Result<u64, Fault>) -> FitAnswer
     ensures { result ≡ check_answer checked }
 {
     match checked {
         Ok(files) => FitAnswer { files, ..plain(0) },
-        Err(fault) => of_fault(fault),
+        Err(fault) => answer_for_fault(fault),
     }
 }
 
-/// What is said of what a conversion answered.
-pub(crate) fn of_conversion(answered: Result<(), CsvFault>) -> FitAnswer
-    ensures { result ≡ answer answered }
+/// The answer for what a conversion returned.
+pub(crate) fn answer_for_conversion(answered: Result<(), CsvFault>) -> FitAnswer
+    ensures { result ≡ conversion_answer answered }
 {
     match answered {
         Ok(()) => plain(0),
-        Err(CsvFault::Decode(fault)) => of_fault(fault),
+        Err(CsvFault::Decode(fault)) => answer_for_fault(fault),
         Err(CsvFault::Header) => FitAnswer { row: 1, ..plain(4) },
         Err(CsvFault::BadRow { row }) => FitAnswer { row, ..plain(4) },
         Err(CsvFault::BadCell { row, column }) => FitAnswer {
@@ -102,13 +102,13 @@ pub(crate) fn of_conversion(answered: Result<(), CsvFault>) -> FitAnswer
     }
 }
 
-/// What is said of what a report answered.
-pub(crate) fn of_report(answered: Result<(), ReportFault>) -> FitAnswer
+/// The answer for what a report returned.
+pub(crate) fn answer_for_report(answered: Result<(), ReportFault>) -> FitAnswer
     ensures { result ≡ report_answer answered }
 {
     match answered {
         Ok(()) => plain(0),
-        Err(ReportFault::Decode(fault)) => of_fault(fault),
+        Err(ReportFault::Decode(fault)) => answer_for_fault(fault),
         Err(ReportFault::NoMemory | ReportFault::Write { .. }) => plain(3),
     }
 }

@@ -5,7 +5,7 @@ ghost use Rattle.fit_chain.specs.Checks.{AreChain};
 ghost use Rattle.fit_c.specs.Answers.{IsFinding};
 
 use crate::FitAnswer;
-use crate::answer::of_check;
+use crate::answer::answer_for_check;
 use fit_decode::check_bytes;
 use std::alloc::Global;
 
@@ -17,5 +17,5 @@ pub extern "C" fn fit_check(alloc: Global, bytes: &[u8]) -> FitAnswer
     // A chain of files gets no other status, unless memory is refused.
     ensures chain { AreChain Global bytes.now → (result.status ≡ 0) ⊎ (result.status ≡ 3) }
 {
-    of_check(check_bytes(alloc, bytes))
+    answer_for_check(check_bytes(alloc, bytes))
 }

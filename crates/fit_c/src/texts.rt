@@ -11,10 +11,10 @@ ghost use Rattle.fit_rows.specs.ChainRows.{chain_rows, rows_of};
 ghost use Rattle.fit_csv.specs.FromText.{IsTextOf};
 ghost use Rattle.fit_rows.specs.ShowLines.{show_line};
 ghost use Rattle.fit_rows.specs.Table.{table_of};
-ghost use Rattle.fit_c.specs.Answers.{IsConverted, IsReported, IsTextRead, IsTextUnlessWant};
+ghost use Rattle.fit_c.specs.Answers.{IsConverted, IsReported, IsTextRead, IsTextUnlessNoMemory};
 
 use crate::FitAnswer;
-use crate::answer::{of_conversion, of_report};
+use crate::answer::{answer_for_conversion, answer_for_report};
 use fit_csv::{ShowReport, from_csv, table, to_csv};
 use fit_encode::WriteSink;
 use fit_report::report;
@@ -49,13 +49,13 @@ pub extern "C" fn fit_table(alloc: Global, bytes: &[u8], text: &mut &'static [u8
     ensures converted { IsConverted table_of bytes.now result text.new.now }
     ensures good { result.status ≡ 0 → AreChain Global bytes.now }
     ensures chain { (fs : List (FitFile Global)) → IsChain chain_limit fs bytes.now
-        → IsTextUnlessWant (csv_text (table_of (flat_map file_events fs))) result text.new.now }
+        → IsTextUnlessNoMemory (csv_text (table_of (flat_map file_events fs))) result text.new.now }
 {
     let mut source = bytes;
     let mut sink = memory(alloc);
     let answered = table(alloc, &mut source, &mut sink);
     *text = handed(sink);
-    of_conversion(answered)
+    answer_for_conversion(answered)
 }
 
 /// A chain of files as CSV text. Where the bytes are none, the text has the rows before the fault.
@@ -64,13 +64,13 @@ pub extern "C" fn fit_to_csv(alloc: Global, bytes: &[u8], text: &mut &'static [u
     ensures converted { IsConverted rows_of bytes.now result text.new.now }
     ensures good { result.status ≡ 0 → AreChain Global bytes.now }
     ensures chain { (fs : List (FitFile Global)) → IsChain chain_limit fs bytes.now
-        → IsTextUnlessWant (csv_text (chain_rows fs)) result text.new.now }
+        → IsTextUnlessNoMemory (csv_text (chain_rows fs)) result text.new.now }
 {
     let mut source = bytes;
     let mut sink = memory(alloc);
     let answered = to_csv(alloc, &mut source, &mut sink);
     *text = handed(sink);
-    of_conversion(answered)
+    answer_for_conversion(answered)
 }
 
 /// The lines of `fit show` of a chain of files, without the last. Where the bytes are none, the text has the lines before the fault.
@@ -79,14 +79,14 @@ pub extern "C" fn fit_show(alloc: Global, bytes: &[u8], text: &mut &'static [u8]
     ensures reported { IsReported show_line bytes.now result text.new.now }
     ensures good { result.status ≡ 0 → AreChain Global bytes.now }
     ensures chain { (fs : List (FitFile Global)) → IsChain chain_limit fs bytes.now
-        → IsTextUnlessWant (text_of show_line (reverse (flat_map file_events fs)))
+        → IsTextUnlessNoMemory (text_of show_line (reverse (flat_map file_events fs)))
         result text.new.now }
 {
     let mut source = bytes;
     let mut sink = memory(alloc);
     let answered = report(alloc, &mut source, &mut sink, &mut ShowReport::new(alloc));
     *text = handed(sink);
-    of_report(answered)
+    answer_for_report(answered)
 }
 
 /// The bytes of the chain of files whose rows are those of a text. No bytes where the text is refused, and none where memory is.
@@ -97,11 +97,11 @@ pub extern "C" fn fit_from_csv(alloc: Global, text: &[u8], bytes: &mut &'static 
         → (files : List (FitFile Global)) × IsTextOf text.now files bytes.new.now }
     ensures nothing { result.status ≢ 0 → bytes.new.now ≡ [] }
     ensures chain { (files : List (FitFile Global)) (b : List ℕ) → IsTextOf text.now files b
-        → IsTextUnlessWant b result bytes.new.now }
+        → IsTextUnlessNoMemory b result bytes.new.now }
 {
     let mut source = text;
     let mut sink = memory(alloc);
     let answered = from_csv(alloc, &mut source, &mut sink);
     *bytes = handed_where(answered.is_ok(), sink);
-    of_conversion(answered)
+    answer_for_conversion(answered)
 }

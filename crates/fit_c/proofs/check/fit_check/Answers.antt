@@ -5,7 +5,7 @@ use Rattle.fit_c.proofs.check.fit_check.Goals as goal
 pub returns-clause-finding : goal.returns-clause-finding
 returns-clause-finding c = (
   c.check_bytes.result,
-  c.of_check.ensures,
+  c.answer_for_check.ensures,
   c.check_bytes.ensures.files,
   c.check_bytes.ensures.fault,
   c.check_bytes.ensures.place,
@@ -13,8 +13,8 @@ returns-clause-finding c = (
 
 pub returns-clause-good : goal.returns-clause-good
 returns-clause-good c = λ zero. check_good c.args.bytes.now c.check_bytes.result c.check_bytes.ensures.files
-    (ap (λ a. a.status) (sym c.of_check.ensures) ∙ zero)
+    (ap (λ a. a.status) (sym c.answer_for_check.ensures) ∙ zero)
 
 pub returns-clause-chain : goal.returns-clause-chain
 returns-clause-chain c = λ chain.
-    subst (λ a. (a.status ≡ 0) ⊎ (a.status ≡ 3)) (sym c.of_check.ensures) (chain_checked c.check_bytes.result (c.check_bytes.ensures.memory chain))
+    subst (λ a. (a.status ≡ 0) ⊎ (a.status ≡ 3)) (sym c.answer_for_check.ensures) (chain_checked c.check_bytes.result (c.check_bytes.ensures.memory chain))

@@ -1,4 +1,4 @@
-use Rattle.fit_c.proofs.Common.{false, Some, refl, subst, sym, flat_map, reverse, file_events, text_of, Channel, HasTold, IsTextUnlessWant, given}
+use Rattle.fit_c.proofs.Common.{false, Some, refl, subst, sym, flat_map, reverse, file_events, text_of, Channel, HasTold, IsTextUnlessNoMemory, given}
 use Rattle.fit_base.proofs.ByteLists.{slice_is_bytes}
 use Rattle.fit_rows.specs.ShowLines.{show_line}
 use Rattle.fit_c.proofs.Handed.{shown_chain}
@@ -14,7 +14,7 @@ returns-clause-reported c =
       r,
       left,
       failed,
-      c.of_report.ensures,
+      c.answer_for_report.ensures,
       taken,
       heard,
       eaten,
@@ -28,5 +28,5 @@ returns-clause-chain c = λ fs chain.
     let source : Channel = record { before = Some c.args.bytes.now; after = Some c.report-answered.new.source.now; failed = false } in
     let sink : Channel = record { before = c.memory-sink.result.held; after = c.report-answered.new.sink.held; failed = c.report-answered.new.sink.failed } in
     let told = c.report-answered.ensures.chain fs c.args.bytes.now refl (slice_is_bytes c.args.bytes.now c.type_inv.bytes) chain in
-    subst (λ a. IsTextUnlessWant (text_of show_line (reverse (flat_map file_events fs))) a c.handed.result.now) (sym c.of_report.ensures)
+    subst (λ a. IsTextUnlessNoMemory (text_of show_line (reverse (flat_map file_events fs))) a c.handed.result.now) (sym c.answer_for_report.ensures)
     (shown_chain show_line fs source sink c.report-answered.result c.handed.result.now refl c.memory-sink.ensures.held c.handed.ensures told)

@@ -13,7 +13,7 @@ returns-clause-converted c =
       r,
       left,
       failed,
-      c.of_conversion.ensures,
+      c.answer_for_conversion.ensures,
       subst (λ b. Converts table_of source (record { before = b; after = Some c.handed.result.now; failed = failed }) r) c.memory-sink.ensures.held
           (subst (λ a. Converts table_of source (record { before = c.memory-sink.result.held; after = a; failed = failed }) r) (sym c.handed.ensures)
           c.table-answered.ensures.converts),

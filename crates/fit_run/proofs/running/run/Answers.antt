@@ -44,12 +44,13 @@ returns-in-FromCsv-clause-from_text g c = λ command text fs b input is well goo
     text_concluded b (channel g.S.Source.remaining g.S.Source.has_failed c.args.source.now c.from_csv-answer.new.source)
     (channel g.K.Sink.contents g.K.Sink.has_failed c.args.output.now c.from_csv-answer.new.sink)
     (channel g.E.Sink.contents g.E.Sink.has_failed c.args.faults.now c.end_conversion-in-FromCsv.new.faults)
-    c.end_conversion-in-FromCsv.result c.from_csv-answer.result well good (c.from_csv-answer.ensures.chain text fs b input is) c.end_conversion-in-FromCsv.ensures
+    c.end_conversion-in-FromCsv.result c.from_csv-answer.result well good (c.from_csv-answer.ensures.chain text fs b input is)
+    c.end_conversion-in-FromCsv.ensures
 
 pub returns-in-ToCsv-clause-works : goal.returns-in-ToCsv-clause-works
 returns-in-ToCsv-clause-works g c = λ zero.
-    good_status (channel g.E.Sink.contents g.E.Sink.has_failed c.args.faults.now c.end_conversion.new.faults) c.end_conversion.result c.to_csv-answer.result zero
-    c.end_conversion.ensures c.to_csv-answer.ensures.works
+    good_status (channel g.E.Sink.contents g.E.Sink.has_failed c.args.faults.now c.end_conversion.new.faults) c.end_conversion.result
+    c.to_csv-answer.result zero c.end_conversion.ensures c.to_csv-answer.ensures.works
 
 pub returns-in-Table-clause-works : goal.returns-in-Table-clause-works
 returns-in-Table-clause-works g c = λ zero.
