@@ -1,5 +1,6 @@
 -- What follows from a status.
-use Rattle.fit_c.proofs.Common.{◌≡◌, ℕ, List, Result, Ok, Err, inl, inr, refl, ◌⊎◌, IfErr, IfOk, Global, CsvFault, check_answer, conversion_answer, fault_answer}
+use Rattle.fit_c.proofs.Common.{◌≡◌, ℕ, List, Result, Ok, Err, inl, inr, refl, ◌⊎◌, IfErr, IfOk, Global, CsvFault}
+use Rattle.fit_c.proofs.Common.{check_answer, conversion_answer, fault_answer}
 use Rattle.fit_chain.specs.declared.event.Fault.{Fault}
 use Rattle.fit_chain.specs.Checks.{AreChain, AreFiles, LacksMemory}
 use Rattle.fit_chain.specs.declared.event.Fault.TheVariants as faults

@@ -69,7 +69,8 @@ returns-then-not-is_kept-clause-fed g c = λ files stands.
     let (some, least) = c.in-Ok.ensures.event _ (ap event_of c.in-Item.is) in
     piece_not_kept files _ _ c.args.decoder.now c.loop-at.decoder c.feed.new.self c.args.piece.now c.loop-at.at (omega arith) c.loop-at.invariant.is_fed
     (c.loop-at.invariant.stands files stands) c.args.taken c.in-Ok.fed.used c.in-Item.record c.requires.counted
-    (rw c.split_at.ensures.back at c.in-Ok.ensures.used.1) (rw c.split_at.ensures.back at c.in-Ok.ensures.used.0) some (rw c.split_at.ensures.back at least) c.in-Ok.ensures.viable
+    (rw c.split_at.ensures.back at c.in-Ok.ensures.used.1) (rw c.split_at.ensures.back at c.in-Ok.ensures.used.0) some
+    (rw c.split_at.ensures.back at least) c.in-Ok.ensures.viable
 
 pub returns-in-Err-NoMemory-clause-fed : goal.returns-in-Err-NoMemory-clause-fed
 returns-in-Err-NoMemory-clause-fed g c = λ files stands.
