@@ -1,6 +1,6 @@
 //! Numbers with a fixed number of decimals, put after a text.
-//! A function whose name ends in `_here` writes. The one without that word calls it inlined where the text has room, and else calls
-//! `grow_..`, which is cold, so that the usual way has no code for a text that grows.
+//! Short numbers are most of a recording: `put_few` calls `put_few_here` inlined where the text has room, and else `grow_few`, which
+//! is cold, so that the usual way has no code for a text that grows.
 ghost use Rattle.std.specs.Prelude.{◌≡◌, ◌≤◌, ◌<◌, ◌++◌, ◌+◌, ◌/◌, ◌%◌, ◌^◌, OnErr, OnOk, decimal};
 ghost use Rattle.fit_numbers.specs.FixedText.{fixed_text, fraction, last_digits, StillBegins};
 
