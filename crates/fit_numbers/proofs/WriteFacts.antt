@@ -1,5 +1,5 @@
 -- Digits that are written after a text, one part after another.
-use Rattle.fit_numbers.proofs.Common.{◌≡◌, ◌∙◌, ◌++◌, ◌∷◌, [], ◌+◌, ◌*◌, ◌/◌, ◌%◌, ◌^◌, ◌<◌, ◌≤◌, zero, suc, ℕ, decimal, List, refl, ap, ap₂, sym, arith}
+use Rattle.fit_numbers.proofs.Common.{◌≡◌, ◌∙◌, ◌++◌, ◌∷◌, [], ◌+◌, ◌/◌, ◌%◌, ◌^◌, ◌<◌, ◌≤◌, zero, suc, ℕ, decimal, List, refl, ap, ap₂, sym, arith}
 use Rattle.fit_numbers.proofs.Common.{append_assoc, div-div-eq-div-mul, mul_comm, last_digits}
 use Rattle.std.proofs.lemmas.List.{append-nil}
 use Rattle.std.proofs.lemmas.Nat.{pow-add}

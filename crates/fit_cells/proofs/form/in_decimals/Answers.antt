@@ -1,4 +1,4 @@
-use Rattle.fit_cells.proofs.Common.{rules, ◌≡◌, ◌∙◌, ◌*ℤ◌, ap, sym, arith, ℤ, pos, ◌-ℤ◌, to_z, of_z, ints, to_z-of_z, w64, fixed_text}
+use Rattle.fit_cells.proofs.Common.{rules, ◌≡◌, ◌∙◌, ◌*ℤ◌, ap, arith, ℤ, pos, ◌-ℤ◌, to_z, of_z, ints, to_z-of_z, w64}
 use Rattle.fit_cells.proofs.FormFacts.{formed_item, product_fits}
 use Rattle.fit_cells.proofs.form.in_decimals.Goals as goal
 

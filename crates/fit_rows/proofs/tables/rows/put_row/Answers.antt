@@ -1,4 +1,4 @@
-use Rattle.fit_rows.proofs.Common.{◌∙◌, ◌++◌, ◌∷◌, [], ap, arith, default_writer, fields_text, high-decimal, instant_text, map, on_ok_weaker, unquoted}
+use Rattle.fit_rows.proofs.Common.{◌∙◌, ◌++◌, ◌∷◌, [], ap, default_writer, fields_text, high-decimal, instant_text, map, on_ok_weaker, unquoted}
 use Rattle.fit_rows.proofs.Common.{effort_cells, place_cells, sym}
 use Rattle.std.proofs.Common.{decimal, ℕ}
 use Rattle.std.specs.Prelude.{option_map, unwrap_or, Option}
