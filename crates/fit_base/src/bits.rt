@@ -1,5 +1,5 @@
 //! The numbers of a field, of which a lone one takes no memory.
-ghost use Rattle.std.specs.Prelude.{◌≡◌, ◌≤◌, [], ◌∷◌, ◌++◌, ◌==◌, ◌<◌, ◌↔◌, OnOk, OnErr, IfOk, IsOk, IsSome, length, option_to_list};
+ghost use Rattle.std.specs.Prelude.{◌≡◌, ◌≤◌, [], ◌∷◌, ◌++◌, ◌==◌, ◌<◌, ◌↔◌, OnOk, OnErr, IfOk, IsOk, IfSome, IsSome, length, option_to_list};
 
 use std::alloc::{AllocError, Allocator, Global};
 use std::fmt::{self, Debug, Formatter, Write};
@@ -129,6 +129,17 @@ impl<A: Allocator> Bits<A> {
         }
     }
 
+    /// The only number, where there is one and it takes no memory.
+    #[inline(always)]
+    pub(crate) fn lone(&self) -> Option<u64>
+        ensures { IfSome result (λ number. self.now ≡ number ∷ []) }
+    {
+        match &self.held {
+            Held::One(number, _) => Some(*number),
+            _ => None,
+        }
+    }
+
     /// How many numbers there are.
     pub fn len(&self) -> usize
         ensures { result ≡ length self.now }
@@ -146,6 +157,7 @@ impl<A: Allocator> Bits<A> {
 
 impl<A: Allocator + Copy> Bits<A> {
     /// Puts a number at the end. The first takes no memory.
+    #[inline]
     pub fn push(&mut self, number: u64) -> Result<(), AllocError>
         ensures ok { OnOk result (self.new ≡ self.old ++ number ∷ []) }
         ensures err { OnErr result (self.new ≡ self.old) }
@@ -203,7 +215,8 @@ impl<A: Allocator + Copy> Bits<A> {
     }
 }
 
-/// A vector of two numbers.
+/// A vector of two numbers. It stands apart, since most numbers go where memory is already.
+#[inline(never)]
 fn pair<A: Allocator>(alloc: A, first: u64, second: u64) -> Result<Vec<u64, A>, AllocError>
     ensures { IfOk result (λ numbers. numbers.items ≡ first ∷ second ∷ []) }
 {

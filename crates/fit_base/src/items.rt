@@ -3,7 +3,7 @@ ghost use Rattle.std.specs.Prelude.{◌≡◌, ◌↔◌, ◌≤◌, [], ◌∷�
 ghost use Rattle.fit_base.specs.Fields.{HasShape};
 
 use crate::code::items_in;
-use crate::{Bits, Code, greatest, width_of};
+use crate::{Bits, Code, greatest, has_width, width_of};
 use std::alloc::{AllocError, Allocator, Global};
 
 /// The numbers of one field, each of `width` bytes.
@@ -41,7 +41,21 @@ impl<A: Allocator> Items<A> {
 }
 
 /// Whether the items are as many, as wide and as large as a field of this code and size has.
+#[inline(always)]
 pub fn has_shape<A: Allocator>(code: Code, size: u8, items: &Items<A>) -> bool
+    ensures { IsTrue result ↔ HasShape code.0 size items.now }
+{
+    if items.width == size && code.width() == size {
+        if let Some(number) = items.bits.lone() {
+            return has_width(number, size);
+        }
+    }
+    has_shape_of_any(code, size, items)
+}
+
+/// The same for a field that needn't be a lone number. It stands apart, since most fields are one.
+#[inline(never)]
+fn has_shape_of_any<A: Allocator>(code: Code, size: u8, items: &Items<A>) -> bool
     ensures { IsTrue result ↔ HasShape code.0 size items.now }
 {
     let width = width_of(code, size);

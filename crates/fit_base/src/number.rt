@@ -14,16 +14,12 @@ pub enum Order {
 }
 
 /// The greatest number of `width` bytes.
+#[inline(always)]
 pub fn greatest(width: u8) -> u64
     requires { (width ≡ 1) ⊎ (width ≡ 2) ⊎ (width ≡ 4) ⊎ (width ≡ 8) }
     ensures { result + 1 ≡ 256 ^ width }
 {
-    match width {
-        1 => 0xFF,
-        2 => 0xFFFF,
-        4 => 0xFFFF_FFFF,
-        _ => u64::MAX,
-    }
+    GREATEST[width as usize]
 }
 
 /// Whether a number has no more bytes than this.
@@ -89,3 +85,6 @@ pub fn signed(width: u8, bits: u64) -> i64
         _ => bits.cast_signed(),
     }
 }
+
+/// The greatest number of each width. No number has a width of 0, 3, 5, 6 or 7 bytes.
+static GREATEST: [u64; 9] = [0, 0xFF, 0xFFFF, 0, 0xFFFF_FFFF, 0, 0, 0, u64::MAX];
