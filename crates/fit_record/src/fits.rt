@@ -82,7 +82,9 @@ fn header_fits(local: u8, offset: Option<u8>) -> Result<(), ShapeFault>
     }
 }
 
-/// The first field that isn't as defined, counted from `first`.
+/// The first field that isn't as defined, counted from `first`. Each call is a walk of its own, which knows where its layout
+/// stands.
+#[inline(always)]
 fn wrong_field<A: Allocator>(first: u64, layout: &Layout<'_>, items: &[Items<A>]) -> Option<u64>
     requires { first + length layout.now < 512 }
     ensures { result ≡ wrong_from first layout.now items.now }
@@ -105,6 +107,7 @@ fn wrong_field<A: Allocator>(first: u64, layout: &Layout<'_>, items: &[Items<A>]
 }
 
 /// Whether the items of a data message are as defined.
+#[inline(always)]
 fn body_fits<A: Allocator>(p: &Defined<A>, v: &Values<A>) -> Result<(), ShapeFault>
     requires { IsSound p.now }
     ensures ok { OnOk result (HaveShape (layout p.now) v.now.fields
