@@ -28,3 +28,4 @@ pub mod RoomTestsAnswer
 pub mod DataHeaders
 pub mod Gathering
 pub mod FoundMessages
+pub mod HeldDefinitions

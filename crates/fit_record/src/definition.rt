@@ -1,5 +1,5 @@
 //! Definition messages (FIT protocol, "Definition Message").
-ghost use Rattle.std.specs.Prelude.{◌≡◌, ◌<◌, ◌≤◌, IfOk, None, Some, length, sum_by};
+ghost use Rattle.std.specs.Prelude.{◌≡◌, ◌<◌, ◌≤◌, IfOk, IsTrue, None, Some, length, sum_by};
 ghost use Rattle.fit_base.specs.BaseTypes.{base_type};
 ghost use Rattle.fit_record.specs.Records.{DefinitionFits, body_length};
 ghost use Rattle.fit_record.specs.Sizes.{body_limit};
@@ -109,6 +109,30 @@ impl<A: Allocator> MessageDef<A> {
             ..self
         }
     }
+}
+
+/// Whether two definitions are the same and have no developer fields.
+pub(crate) fn are_same<A: Allocator>(a: &MessageDef<A>, b: &MessageDef<A>) -> bool
+    ensures { IsTrue result → (a.now ≡ b.now) × (b.now.dev ≡ None) }
+{
+    if a.dev.is_some() || b.dev.is_some() {
+        return false;
+    }
+    if a.local != b.local
+        || a.reserved != b.reserved
+        || a.order != b.order
+        || a.global != b.global
+    {
+        return false;
+    }
+    same_fields(a.fields.as_slice(), b.fields.as_slice())
+}
+
+/// Whether two lists of fields are the same.
+fn same_fields(a: &[FieldDef], b: &[FieldDef]) -> bool
+    ensures { IsTrue result → a.now ≡ b.now }
+{
+    a == b
 }
 
 /// The same definition, in memory of its own.

@@ -1,14 +1,14 @@
 //! What a reader of records knows: the definition of each local message type, and the described
 //! developer fields.
-ghost use Rattle.std.specs.Prelude.{◌≡◌, ◌+◌, ◌<◌, ◌≤◌, IfOk, IfErr, map, option_map, option_and_then, option_copied, slice_get, slice_set, IsOk, IsSomeAnd, OnOk, OnErr, IfSome, Some, None, [], length};
+ghost use Rattle.std.specs.Prelude.{◌≡◌, ◌+◌, ◌<◌, ◌≤◌, IfOk, IfErr, map, option_map, option_and_then, option_copied, slice_get, slice_set, IsOk, IsSomeAnd, OnOk, OnErr, IfSome, IsTrue, Some, None, [], length};
 ghost use Rattle.fit_record.specs.declared.message.Record.TheVariants.{Define};
-ghost use Rattle.fit_record.specs.Environment.{DescribesNothing, empty_environment, defined_at, definition_at, describe, described_by, dev_code, dev_code_at, dev_defs, learn};
+ghost use Rattle.fit_record.specs.Environment.{DescribesNothing, empty_environment, defined_at, defined_by, definition_at, describe, described_by, dev_code, dev_code_at, dev_defs, learn};
 ghost use Rattle.fit_record.specs.Records.{Fits, DefinitionFits, DataFits, body_length, message_size, record_bytes};
 ghost use Rattle.fit_record.specs.Faults.{first_fault};
 ghost use Rattle.fit_record.specs.Sizes.{body_limit};
 ghost use Rattle.fit_record.specs.Sound.{IsSound};
 
-use crate::definition::{body_length, definition_copy};
+use crate::definition::{are_same, body_length, definition_copy};
 use crate::fits::{data_fits, definition_fits};
 use crate::learn::{Description, DevKey, description_of};
 use crate::{DevDef, MessageDef, Record, ShapeFault, Values};
@@ -148,10 +148,24 @@ impl<A: Allocator + Copy> Env<A> {
     {
         match r {
             Record::Define(d) => {
+                if self.holds(d) {
+                    return Ok(());
+                }
                 let copy = definition_copy(self.alloc, d)?;
                 self.define(copy)
             }
             Record::Values(v) => self.take_in(v),
+        }
+    }
+
+    /// Whether a definition without developer fields is in its place already, so that nothing changes where it is taken in.
+    fn holds(&self, d: &MessageDef<A>) -> bool
+        ensures { IsTrue result
+            → defined_at self.now d.now.local ≡ Some (defined_by self.now d.now) }
+    {
+        match self.defined(d.local) {
+            Some(p) => are_same(&p.definition, d),
+            None => false,
         }
     }
 
