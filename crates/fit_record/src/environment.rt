@@ -67,6 +67,7 @@ impl<A: Allocator + Copy> Env<A> {
 
 impl<A: Allocator> Env<A> {
     /// What is defined for a local message type. One of 16 or more has none.
+    #[inline(always)]
     pub fn defined(&self, local: u8) -> Option<&Defined<A>>
         ensures place { option_copied result ≡ defined_at self.now local }
         ensures sound { IfSome (defined_at self.now local) IsSound }
@@ -113,6 +114,7 @@ impl<A: Allocator> Env<A> {
 
     /// The developer field that a data message describes, and the base type code that it gives it ("Developer Fields"). A message
     /// that isn't a field description describes none.
+    #[inline(always)]
     pub fn described_by(&self, v: &Values<A>) -> Option<Description>
         requires { IsSomeAnd (defined_at self.now v.now.local) (DataFits v.now) }
         ensures { result ≡ described_by self.now v.now }
@@ -140,6 +142,7 @@ impl<A: Allocator + Copy> Env<A> {
     /// Takes a record in: a definition takes its place, and a field description sets the code of its
     /// developer field. Where an allocation fails, nothing changes. A data message that describes
     /// nothing takes no memory.
+    #[inline(always)]
     pub fn learn(&mut self, r: &Record<A>) -> Result<(), AllocError>
         requires { Fits self.old r.now }
         ensures ok { OnOk result (self.new ≡ learn self.old r.now) }
@@ -147,15 +150,24 @@ impl<A: Allocator + Copy> Env<A> {
         ensures free { DescribesNothing self.old r.now → IsOk result }
     {
         match r {
-            Record::Define(d) => {
-                if self.holds(d) {
-                    return Ok(());
-                }
-                let copy = definition_copy(self.alloc, d)?;
-                self.define(copy)
-            }
+            Record::Define(d) => self.learn_definition(d),
             Record::Values(v) => self.take_in(v),
         }
+    }
+
+    /// Takes a definition in, with memory of its own where it isn't in its place already. It stands apart, since most records are
+    /// data messages.
+    #[inline(never)]
+    fn learn_definition(&mut self, d: &MessageDef<A>) -> Result<(), AllocError>
+        requires { DefinitionFits d.now }
+        ensures ok { OnOk result (self.new ≡ learn self.old (Define d.now)) }
+        ensures err { OnErr result (self.new ≡ self.old) }
+    {
+        if self.holds(d) {
+            return Ok(());
+        }
+        let copy = definition_copy(self.alloc, d)?;
+        self.define(copy)
     }
 
     /// Whether a definition without developer fields is in its place already, so that nothing changes where it is taken in.
@@ -190,6 +202,7 @@ impl<A: Allocator + Copy> Env<A> {
     }
 
     /// Takes a data message in.
+    #[inline(always)]
     fn take_in(&mut self, v: &Values<A>) -> Result<(), AllocError>
         requires { IsSomeAnd (defined_at self.old v.now.local) (DataFits v.now) }
         ensures ok { OnOk result (self.new ≡ describe self.old (described_by self.old v.now)) }
@@ -203,6 +216,7 @@ impl<A: Allocator + Copy> Env<A> {
     }
 
     /// Keeps the base type code of a developer field.
+    #[inline(never)]
     fn describe(&mut self, s: Description) -> Result<(), AllocError>
         ensures ok { OnOk result (self.new ≡ describe self.old (Some s)) }
         ensures err { OnErr result (self.new ≡ self.old) }

@@ -28,7 +28,8 @@ pub struct Description {
     pub code: u8,
 }
 
-/// What a message describes, if it does.
+/// What a message describes, if it does. Most are told by their global message number that they don't.
+#[inline(always)]
 pub(crate) fn description_of<A: Allocator>(d: &MessageDef<A>, v: &Values<A>) -> Option<Description>
     requires { HaveShape (map (λ f. (f.code, f.size)) d.now.fields) v.now.fields }
     ensures { result ≡ description d.now v.now }
@@ -36,6 +37,16 @@ pub(crate) fn description_of<A: Allocator>(d: &MessageDef<A>, v: &Values<A>) -> 
     if d.global != FIELD_DESCRIPTION {
         return None;
     }
+    description_in(d, v)
+}
+
+/// What a field description describes.
+#[inline(never)]
+fn description_in<A: Allocator>(d: &MessageDef<A>, v: &Values<A>) -> Option<Description>
+    requires global { d.now.global ≡ 206 }
+    requires fields { HaveShape (map (λ f. (f.code, f.size)) d.now.fields) v.now.fields }
+    ensures { result ≡ description d.now v.now }
+{
     let fields = d.fields.as_slice();
     let items = v.fields.as_slice();
     let index = only_byte(fields, items, 0)?;
