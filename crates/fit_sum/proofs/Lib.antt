@@ -13,3 +13,4 @@ mod TurnsAreShifts
 mod BytesOfWords
 mod SpelledWords
 mod BlocksOfWords
+mod Windows

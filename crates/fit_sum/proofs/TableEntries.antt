@@ -1,10 +1,9 @@
 -- What the tables hold, and a byte by a table.
-use Rattle.fit_sum.proofs.Common.{◌≡◌, ℕ, zero, suc, ◌+◌, ◌*◌, ◌/◌, ◌%◌, ◌^◌, ◌<◌, ◌==◌, ◌&&◌, Bool, true, false, List, [], ◌∷◌, length, get_or, refl, arith}
-use Rattle.fit_sum.proofs.Common.{ap, sym, ◌∙◌, bit_xor, bit_and, xor_assoc, and_mask, shift, shifts}
+use Rattle.fit_sum.proofs.Common.{◌≡◌, ℕ, zero, suc, ◌+◌, ◌/◌, ◌%◌, ◌<◌, ◌==◌, ◌&&◌, Bool, true, false, List, [], ◌∷◌, length, get_or, refl, arith}
+use Rattle.fit_sum.proofs.Common.{ap, sym, ◌∙◌, bit_xor, xor_assoc, shift, shifts}
 use Rattle.std.proofs.lemmas.Bool.{eqb-true}
-use Rattle.fit_sum.specs.declared.nibbles.TheConstants.{NIBBLES}
 use Rattle.fit_sum.specs.declared.tables.TheConstants.{TABLE_8, TABLE_16, TABLE_24, TABLE_32, TABLE_40, TABLE_48, TABLE_56, TABLE_64}
-use Rattle.fit_sum.proofs.ShiftsOfSums.{steps-parts, steps-xor, steps-shift, xor_apart}
+use Rattle.fit_sum.proofs.ShiftsOfSums.{steps-parts, steps-xor}
 
 -- entry j of the list is what k shifts leave of i + j: a test, which computes over a whole table
 unfoldable is_table : ℕ → ℕ → List ℕ → Bool
@@ -27,28 +26,6 @@ entry_from k i (x ∷ xs) (suc j) t h =
 
 entry : (k : ℕ) (table : List ℕ) (j : ℕ) → is_table k 0 table ≡ true → j < length table → get_or table j 0 ≡ shifts k j
 entry k table j t h = entry_from k 0 table j t h ∙ ap (shifts k) (omega arith)
-
--- ---- nibbles
-nibbles : is_table 4 0 NIBBLES ≡ true
-unfolding is_table shifts shift
-nibbles = refl
-
-pub nibble-step : (c n : ℕ) → n < 16 → bit_xor (bit_xor (c / 16) (get_or NIBBLES (bit_and c 15) 0)) (get_or NIBBLES n 0) ≡ shifts 4 (bit_xor c n)
-nibble-step c n h =
-    let low : c % 16 < 16 = omega arith in
-    rw (and_mask c 4, entry 4 NIBBLES (c % 16) nibbles low, entry 4 NIBBLES n nibbles h, ← steps-parts 4 c) (sym (steps-xor 4 c n))
-
--- a byte is two nibbles
-pub byte-nibbles : (c b : ℕ) → b < 256 → shifts 4 (bit_xor (shifts 4 (bit_xor c (b % 16))) (b / 16)) ≡ shifts 8 (bit_xor c b)
-unfolding shifts
-byte-nibbles c b h =
-    let low = b % 16 in
-    let high = b / 16 in
-    let parts : bit_xor (b % 16) (2 ^ 4 * (b / 16)) ≡ b = xor_apart 4 low high (omega arith) ∙ omega arith in
-    let whole : bit_xor (bit_xor c low) (2 ^ 4 * high) ≡ bit_xor c b = xor_assoc c low (2 ^ 4 * high) ∙ ap (bit_xor c) parts in
-    let four : shifts 4 (bit_xor c b) ≡ bit_xor (shifts 4 (bit_xor c low)) high
-    = sym (ap (shifts 4) whole) ∙ steps-xor 4 (bit_xor c low) (2 ^ 4 * high) ∙ ap (bit_xor (shifts 4 (bit_xor c low))) (steps-shift 4 high) in
-    ap (shifts 4) (sym four)
 
 -- ---- a byte at once
 pub byte-step : (c b : ℕ) → b < 256 → bit_xor (c / 256) (shifts 8 (bit_xor (c % 256) b)) ≡ shifts 8 (bit_xor c b)

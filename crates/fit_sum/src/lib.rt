@@ -1,10 +1,10 @@
 //! The checksum of FIT files.
 #![tactic(auto)]
 
-mod nibbles;
 mod slices;
 mod sum;
 mod tables;
+mod window;
 mod words;
 
 pub use crate::sum::Sum;

@@ -1,10 +1,9 @@
 //! A running checksum, which contracts see as the bytes that were added to it.
 ghost use Rattle.std.specs.Prelude.{◌≡◌, ℕ, List, [], ◌∷◌, ◌++◌};
 ghost use Rattle.fit_sum.specs.Checksum.{checksum};
-ghost use Rattle.fit_sum.specs.inner.Register.{IsSumOf};
+ghost use Rattle.fit_sum.specs.inner.Kept.{IsSumOf};
 
-use crate::nibbles::add_byte;
-use crate::words::add_bytes;
+use crate::window::{add_to, sum_of};
 use fit_history::History;
 use std::marker::Model;
 
@@ -13,7 +12,13 @@ use std::marker::Model;
 /// A contract sees it as the list of these bytes. It takes no memory, and no call fails.
 #[derive(Drop)]
 pub struct Sum {
-    register: u16,
+    /// The register of words, after the bytes before those in the window.
+    words: [u64; 16],
+    /// The last bytes that were added, at least 128 where there are more. They wait here until they make a block, so that
+    /// adding a few bytes costs little more than to copy them.
+    window: [u8; 256],
+    /// How many bytes are in the window.
+    count: usize,
     added: History<u8>,
 }
 
@@ -22,7 +27,7 @@ impl Model for Sum {
 
     ghost view = { λ sum. sum.added.items };
 
-    ghost invariant = { λ sum. IsSumOf sum.register sum.added.items };
+    ghost invariant = { λ sum. IsSumOf sum.words sum.window sum.count sum.added.items };
 }
 
 impl Sum {
@@ -31,7 +36,9 @@ impl Sum {
         ensures { result ≡ [] }
     {
         Sum {
-            register: 0,
+            words: [0; 16],
+            window: [0; 256],
+            count: 0,
             added: History::new(),
         }
     }
@@ -40,15 +47,15 @@ impl Sum {
     pub fn add(&mut self, byte: u8)
         ensures { self.new ≡ self.old ++ byte ∷ [] }
     {
-        self.register = add_byte(self.register, byte);
-        self.added.add(&byte);
+        self.add_all(&[byte]);
     }
 
     /// Adds several bytes. For long pieces this is many times as fast as `add` for each of them.
+    #[inline]
     pub fn add_all(&mut self, bytes: &[u8])
         ensures { self.new ≡ self.old ++ bytes.now }
     {
-        self.register = add_bytes(self.register, bytes);
+        self.count = add_to(&mut self.words, &mut self.window, self.count, bytes);
         self.added.note(bytes);
     }
 
@@ -56,6 +63,6 @@ impl Sum {
     pub fn value(&self) -> u16
         ensures { result ≡ checksum self.now }
     {
-        self.register
+        sum_of(&self.words, &self.window, self.count)
     }
 }
