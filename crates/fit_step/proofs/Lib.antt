@@ -34,3 +34,4 @@ pub mod Limits
 pub mod HeldParts
 pub mod EntriesSoFar
 pub mod HeldInProgress
+mod RepeatedDefinitions

@@ -3,3 +3,4 @@ pub mod Runs
 pub mod Steps
 pub mod Undone
 pub mod Scans
+pub mod Repeated

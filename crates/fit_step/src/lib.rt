@@ -15,6 +15,7 @@ mod position;
 mod read_definition;
 mod record_header;
 mod record_reader;
+mod repeated;
 mod sizes;
 mod skipping;
 mod stop;

@@ -8,6 +8,7 @@ ghost use Rattle.fit_step.specs.Skipping.{size_to_skip, AreSizesToSkip, HeadsMes
 use crate::Position;
 use crate::header::{has_reserved_bit, is_definition, local_type};
 use crate::read_definition::whole_definition;
+use crate::repeated::repeated_definition;
 use fit_record::{Env, FIELD_DESCRIPTION, Record};
 use std::alloc::Allocator;
 
@@ -111,7 +112,10 @@ fn skip_record<A: Allocator + Copy>(
     if size > 0 {
         return size;
     }
-    skip_definition(alloc, env, sizes, bytes)
+    match repeated_definition(env, bytes) {
+        Some(size) => size,
+        None => skip_definition(alloc, env, sizes, bytes),
+    }
 }
 
 /// Skips complete records at the front of these bytes: how many bytes they have, and how many they are. What they define is learned.
