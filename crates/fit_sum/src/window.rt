@@ -17,6 +17,7 @@ fn put_at(window: &mut [u8; 256], count: usize, bytes: &[u8])
 }
 
 /// Takes in the blocks of a full window, and then those that follow it, but for the last one of all, which is returned.
+#[inline(always)]
 fn take_blocks(words: &mut [u64; 16], window: &[u8; 256], blocks: &[[u8; 128]]) -> [u8; 128]
     ensures { MovesOn words.old words.new result (window.now ++ concat blocks.now) }
 {

@@ -109,6 +109,7 @@ pub(crate) fn add_words(words: &[u64; 16]) -> u16
 }
 
 /// The register of words after more blocks.
+#[inline(always)]
 pub(crate) fn add_blocks(words: &mut [u64; 16], blocks: &[[u8; 128]])
     ensures { (front : List ℕ) → Keeps front words.old → Keeps (front ++ concat blocks.now) words.new }
 {
