@@ -97,6 +97,7 @@ impl<A: Allocator + Copy> Decoder<A> {
     /// the rest may be fed again.
     /// No memory is taken by a byte of a header, of a closing checksum, or of a data message without fields and developer
     /// fields.
+    #[inline(always)]
     pub fn feed(&mut self, piece: &[u8]) -> Result<Fed<A>, Fault>
         // After a refusal each call returns it again.
         ensures latched { (reason : Reason) → self.old.refusal ≡ Some reason
@@ -317,6 +318,8 @@ impl<A: Allocator + Copy> Decoder<A> {
 }
 
 /// Nothing is known any more, and no record is in progress.
+#[cold]
+#[inline(never)]
 fn let_go<A: Allocator + Copy>(alloc: A, env: &mut Env<A>, in_progress: &mut Option<Record<A>>)
     ensures known { env.new ≡ empty_environment }
     ensures idle { in_progress.new ≡ None }

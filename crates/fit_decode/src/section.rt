@@ -45,6 +45,7 @@ fn section_of(room: u32) -> Section
 
 impl Stage {
     /// Bytes of a header.
+    #[inline(always)]
     pub(crate) fn feed_header<A: Allocator>(
         &mut self,
         reader: &mut HeadReader,
@@ -76,6 +77,7 @@ impl Stage {
     }
 
     /// Bytes of records.
+    #[inline(always)]
     pub(crate) fn feed_data<A: Allocator + Copy>(
         &mut self,
         alloc: A,
@@ -103,6 +105,7 @@ impl Stage {
     }
 
     /// Bytes of a closing checksum.
+    #[inline(always)]
     pub(crate) fn feed_sum<A: Allocator + Copy>(
         &mut self,
         alloc: A,

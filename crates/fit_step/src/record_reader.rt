@@ -52,6 +52,7 @@ fn take_byte<A: Allocator + Copy>(
 }
 
 /// The same of a byte that may end a number, or stand outside of one.
+#[inline(never)]
 fn take_step<A: Allocator + Copy>(
     alloc: A,
     env: &mut Env<A>,
@@ -85,7 +86,9 @@ fn take_step<A: Allocator + Copy>(
     }
 }
 
-/// The same, byte by byte.
+/// The same, byte by byte. It stands apart, since a function that begins clears room for all its results, and a whole record needs
+/// little of it.
+#[inline(never)]
 fn scan_bytes<A: Allocator + Copy>(
     alloc: A,
     env: &mut Env<A>,
@@ -109,6 +112,7 @@ fn scan_bytes<A: Allocator + Copy>(
 }
 
 /// A record of which all bytes stand at the front of the piece, where one begins there. It is learned.
+#[inline(always)]
 fn take_whole<A: Allocator + Copy>(
     alloc: A,
     env: &mut Env<A>,
@@ -139,6 +143,7 @@ fn take_whole<A: Allocator + Copy>(
 /// A complete record is learned, and the next one begins after it.
 ///
 /// It refuses the first byte with which no records can fill the data section. Where memory is refused, the byte can come again.
+#[inline(always)]
 pub fn read_record<A: Allocator + Copy>(
     alloc: A,
     env: &mut Env<A>,

@@ -11,6 +11,7 @@ use std::alloc::Allocator;
 
 /// The data message that begins the piece, where all its bytes stand there, and how many they are. There is none where a byte is
 /// to be refused, and where memory is refused: then its bytes come one by one.
+#[inline(always)]
 fn whole_message<A: Allocator + Copy>(
     alloc: A,
     env: &Env<A>,
@@ -36,6 +37,7 @@ fn whole_message<A: Allocator + Copy>(
 
 /// The record that begins the piece, where all its bytes are there, and how many they are. There is none where its bytes are to be
 /// read one by one: as where one is to be refused, where memory runs out, and where a definition message has developer fields.
+#[inline(always)]
 pub fn whole_record<A: Allocator + Copy>(
     alloc: A,
     env: &Env<A>,
