@@ -2,10 +2,16 @@
 use Rattle.fit_encode.proofs.Common.{◌≡◌, ℕ, ◌*◌, ◌<◌, ◌≤◌, List, [], ◌∷◌, ◌++◌, length, refl, ◌∙◌, length-append, arith, flat_map, sum_by, AllByRecursion}
 use Rattle.fit_encode.proofs.Common.{Items, Order, little_bytes, items_bytes, length-little_bytes, checksum, Header, HeaderFits, header_bytes, FitFile}
 use Rattle.fit_encode.proofs.Common.{Record, Define, Data, Environment, record_bytes, order_at, IsWellFormed, body, summed, file_bytes, chain_bytes}
-use Rattle.fit_encode.proofs.Common.{chain_limit, items_size, record_size}
+use Rattle.fit_encode.proofs.Common.{chain_limit, items_size, record_size, sym, ap, subst, Some, None, option_map, IsSomeAnd, MessageDef, Defined, Values, DataFits}
+use Rattle.fit_encode.proofs.Common.{data_bytes, defined_at, Fits, unwrap_or}
+use Rattle.fit_record.specs.Records.{message_size}
 use Rattle.std.proofs.Common.{◌^◌}
 use Rattle.std.proofs.lemmas.List.Sums.{sum_by-cons}
-use Rattle.fit_record.proofs.RecordLengths.{length-definition}
+use Rattle.std.specs.Prelude.{Option, ◌+◌, ◌-◌, min}
+use Rattle.fit_record.specs.DefinitionLengths.{definition_length, dev_length}
+use Rattle.fit_record.specs.Environment.{dev_defs}
+use Rattle.fit_record.specs.declared.definition.DevDef.{DevDef}
+use Rattle.fit_record.proofs.RecordLengths.{length-definition, length-data}
 use Rattle.fit_base.proofs.ShapeTests.{length-numbers}
 use Rattle.fit_frame.proofs.OneHeader.{length-header_bytes}
 
@@ -20,6 +26,40 @@ length-record_bytes e (Define d) = length-definition d
 length-record_bytes e (Data v) =
     let o = order_at e v.local in
     omega (arith, length-append (flat_map (items_bytes o) v.fields) (flat_map (items_bytes o) v.dev), length-lists o v.fields, length-lists o v.dev)
+
+-- ---- a record that fits
+
+dev_short : (dev : Option (List DevDef)) → length (dev_defs dev) < 256 → dev_length dev < 1000
+dev_short None h = omega arith
+dev_short (Some fields) h = omega arith
+
+pub definition_size : {A : Type 0} (e : Environment A) (r : Record A) (d : MessageDef A) (n : ℕ) → r ≡ Define d → n ≡ min (definition_length d) (2 ^ 64 - 1)
+    → Fits e r → n ≡ length (record_bytes e r)
+definition_size {A} e r d n is size =
+    let here : Fits e (Define d) → n ≡ length (record_bytes e (Define d)) =
+    λ fits. omega (arith, size, length-definition d, fits.fields, dev_short d.dev fits.dev_fields) in
+    subst (λ (x : Record A). Fits e x → n ≡ length (record_bytes e x)) (sym is) here
+
+-- a data message has as many bytes as its definition says
+message_length : {A : Type 0} (o : Order) (p : Option (Defined A)) (v : Values A) (n : ℕ) → Some n ≡ option_map message_size p → IsSomeAnd p (DataFits v)
+    → n ≡ length (data_bytes o v)
+message_length o None v n size fits = absurd fits
+message_length o (Some p) v n size fits = ap (λ (x : Option ℕ). unwrap_or x 0) size ∙ sym (length-data o v p fits)
+
+pub data_size : {A : Type 0} (e : Environment A) (r : Record A) (v : Values A) (n : ℕ) → r ≡ Data v → Some n ≡ option_map message_size (defined_at e v.local)
+    → Fits e r → 1 + n ≡ length (record_bytes e r)
+data_size {A} e r v n is size =
+    let here : Fits e (Data v) → 1 + n ≡ length (record_bytes e (Data v)) =
+    λ fits. let same = message_length (order_at e v.local) (defined_at e v.local) v n size fits in omega (arith, same) in
+    subst (λ (x : Record A). Fits e x → 1 + n ≡ length (record_bytes e x)) (sym is) here
+
+pub has_size : {A : Type 0} (e : Environment A) (r : Record A) (v : Values A) → r ≡ Data v → None ≡ option_map message_size (defined_at e v.local)
+    → Fits e r → ⊥
+has_size {A} e r v is none = subst (λ (x : Record A). Fits e x → ⊥) (sym is) (go (defined_at e v.local) none)
+  where
+    go : (p : Option (Defined A)) → None ≡ option_map message_size p → IsSomeAnd p (DataFits v) → ⊥
+    go None none fits = fits
+    go (Some p) none fits = absurd (cc none)
 
 -- ---- files
 

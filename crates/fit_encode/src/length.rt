@@ -43,7 +43,7 @@ fn record_length<A: Allocator>(r: &Record<A>) -> u64
 }
 
 /// How many bytes a definition message has.
-fn definition_length<A: Allocator>(d: &MessageDef<A>) -> u64
+pub(crate) fn definition_length<A: Allocator>(d: &MessageDef<A>) -> u64
     ensures { result ≡ min (definition_length d.now) (2 ^ 64 - 1) }
 {
     let fields = (d.fields.len() as u64).saturating_mul(3).saturating_add(6);

@@ -49,7 +49,7 @@ fn spell_definition<K: Sink, A: Allocator>(
 }
 
 /// The record header, and what follows it up to the number of fields.
-fn definition_head<A: Allocator>(d: &MessageDef<A>) -> [u8; 6]
+pub(crate) fn definition_head<A: Allocator>(d: &MessageDef<A>) -> [u8; 6]
     requires { DefinitionFits d.now }
     ensures { result ≡ definition_head d.now }
 {
@@ -140,7 +140,7 @@ fn spell_values<K: Sink, A: Allocator>(
 }
 
 /// The record header of a data message.
-fn data_header(local: u8, offset: Option<u8>) -> u8
+pub(crate) fn data_header(local: u8, offset: Option<u8>) -> u8
     requires { DataHeaderFits local offset }
     ensures { result ≡ data_header local offset }
 {

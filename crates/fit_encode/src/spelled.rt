@@ -1,12 +1,14 @@
 //! Records and files that are kept as their bytes.
-ghost use Rattle.std.specs.Prelude.{◌≡◌, ◌<◌, ◌^◌, [], ◌∷◌, ◌++◌, OnOk, OnErr, IfSome, None, length};
+ghost use Rattle.std.specs.Prelude.{◌≡◌, ◌+◌, ◌<◌, ◌^◌, [], ◌∷◌, ◌++◌, OnOk, OnErr, IfSome, None, length};
 ghost use Rattle.fit_record.specs.Environment.{empty_environment, learn_all};
 ghost use Rattle.fit_record.specs.Records.{AllFit, Fits, record_bytes, records_bytes};
 ghost use Rattle.fit_encode.specs.inner.Kept.{AreTooLong};
+ghost use Rattle.fit_encode.specs.inner.Spelling.{bytes_in_order, IsSpellable};
 
-use crate::encoder::{order_of, send_record};
-use crate::memory::MemorySink;
-use crate::spelling::Spelling;
+use crate::encoder::order_of;
+use crate::length::definition_length;
+use crate::place::place_record;
+use fit_base::Order;
 use fit_frame::Header;
 use fit_history::History;
 use fit_record::{Env, Record};
@@ -20,8 +22,6 @@ const MOST: usize = 0xFFFF_FFFF;
 #[derive(Drop)]
 pub struct SpelledRecords {
     bytes: Vec<u8>,
-    /// Holds the bytes of one record.
-    one: MemorySink,
     /// How many records have bytes here: all of them, or those before the first with which they are too many.
     count: u64,
     too_long: bool,
@@ -48,7 +48,6 @@ impl SpelledRecords {
     {
         SpelledRecords {
             bytes: Vec::new(alloc),
-            one: MemorySink::new(alloc),
             count: 0,
             too_long: false,
             records: History::new(),
@@ -67,13 +66,13 @@ impl SpelledRecords {
             self.records.add(r);
             return Ok(());
         }
-        spell_alone(&mut self.one, env, r)?;
-        if self.one.bytes.len() > MOST - self.bytes.len() {
+        let size = record_size(env, r);
+        if size > MOST - self.bytes.len() {
             self.too_long = true;
             self.records.add(r);
             return Ok(());
         }
-        self.bytes.extend_from_slice(self.one.bytes.as_slice())?;
+        put_record(&mut self.bytes, order_of(env, r), size, r)?;
         self.count += 1;
         self.records.add(r);
         Ok(())
@@ -102,18 +101,34 @@ impl SpelledRecords {
     }
 }
 
-/// Spells a record in place of what was held.
-fn spell_alone(one: &mut MemorySink, env: &Env, r: &Record) -> Result<(), AllocError>
+/// How many bytes a record has that fits.
+fn record_size(env: &Env, r: &Record) -> usize
     requires { Fits env.now r.now }
-    ensures { OnOk result (one.new.bytes.items ≡ record_bytes env.now r.now) }
+    ensures { result ≡ length (record_bytes env.now r.now) }
 {
-    one.clear();
-    let order = order_of(env, r);
-    let mut out = Spelling::new(0);
-    match send_record(&mut out, one, order, r) {
-        Ok(()) => Ok(()),
-        Err(_) => Err(AllocError),
+    match r {
+        Record::Define(d) => definition_length(d) as usize,
+        Record::Values(v) => match env.length(v.local) {
+            Some(size) => 1 + size as usize,
+            None => unreachable!(),
+        },
     }
+}
+
+/// Puts a record at the end, in one piece: a number is written with bytes after it, which are cut off. Out of memory, nothing
+/// changes.
+fn put_record(bytes: &mut Vec<u8>, order: Order, size: usize, r: &Record) -> Result<(), AllocError>
+    requires spellable { IsSpellable r.now }
+    requires size { size ≡ length (bytes_in_order order r.now) }
+    requires small { length bytes.old.items + size < 2 ^ 32 }
+    ensures ok { OnOk result (bytes.new.items ≡ bytes.old.items ++ bytes_in_order order r.now) }
+    ensures err { OnErr result (bytes.new.items ≡ bytes.old.items) }
+{
+    let start = bytes.len();
+    bytes.resize(start + size + 8, 0)?;
+    let end = place_record(bytes.as_mut_slice(), start, order, r);
+    bytes.truncate(end);
+    Ok(())
 }
 
 /// A file, of which the records are kept as their bytes.

@@ -2,4 +2,4 @@ use Rattle.fit_encode.proofs.Kept.{none-kept}
 use Rattle.fit_encode.proofs.spelled.SpelledRecords.new.Goals as goal
 
 pub invariant_of-result : goal.invariant_of-result
-invariant_of-result c = none-kept c.new.result.items c.new-3.result.items c.new.ensures.items c.new-3.ensures
+invariant_of-result c = none-kept c.new.result.items c.new-2.result.items c.new.ensures.items c.new-2.ensures
