@@ -49,5 +49,5 @@ pub use Rattle.fit_encode.specs.declared.fault.EncodeFault.{EncodeFault}
 pub use Rattle.fit_encode.specs.declared.fault.EncodeFault.TheVariants.{Write, BadHeader, TooLong, ZeroIsSum, ChainLength, NoMemory, BadLocal}
 pub use Rattle.fit_encode.specs.declared.fault.EncodeFault.TheVariants.{BadOffset, UndefinedLocal, WrongShape}
 pub use Rattle.fit_encode.specs.inner.Sending.{Sending, Breaks, IsCounted, fresh, Spells, Sends, PutsAll, sink_state}
-pub use Rattle.fit_encode.specs.inner.Spelling.{bytes_in_order, items_size, record_size, definition_head, order_in, orders_after, IsWidth, HasBytes}
+pub use Rattle.fit_encode.specs.inner.Spelling.{bytes_in_order, order_in, orders_after, size_in, sizes_after, IsWidth, HasBytes}
 pub use Rattle.fit_encode.specs.inner.Spelling.{IsSpellable}

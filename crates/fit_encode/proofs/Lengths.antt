@@ -1,31 +1,20 @@
 -- How many bytes records, files and chains have.
-use Rattle.fit_encode.proofs.Common.{◌≡◌, ℕ, ◌*◌, ◌<◌, ◌≤◌, List, [], ◌∷◌, ◌++◌, length, refl, ◌∙◌, length-append, arith, flat_map, sum_by, AllByRecursion}
-use Rattle.fit_encode.proofs.Common.{Items, Order, little_bytes, items_bytes, length-little_bytes, checksum, Header, HeaderFits, header_bytes, FitFile}
+use Rattle.fit_encode.proofs.Common.{◌≡◌, ℕ, ◌*◌, ◌<◌, ◌≤◌, List, [], ◌∷◌, ◌++◌, length, ◌∙◌, length-append, arith, AllByRecursion}
+use Rattle.fit_encode.proofs.Common.{Order, little_bytes, length-little_bytes, checksum, Header, HeaderFits, header_bytes, FitFile}
 use Rattle.fit_encode.proofs.Common.{Record, Define, Data, Environment, record_bytes, order_at, IsWellFormed, body, summed, file_bytes, chain_bytes}
-use Rattle.fit_encode.proofs.Common.{chain_limit, items_size, record_size, sym, ap, subst, Some, None, option_map, IsSomeAnd, MessageDef, Defined, Values, DataFits}
-use Rattle.fit_encode.proofs.Common.{data_bytes, defined_at, Fits, unwrap_or}
+use Rattle.fit_encode.proofs.Common.{chain_limit, sym, ap, subst, Some, None, option_map, IsSomeAnd, MessageDef, Defined, Values, DataFits}
+use Rattle.fit_encode.proofs.Common.{data_bytes, defined_at, Fits, unwrap_or, IsSpellable, bytes_in_order, take, drop, get_or, records_bytes, AllFit, learn, learn_all, empty_environment, size_in}
 use Rattle.fit_record.specs.Records.{message_size}
 use Rattle.std.proofs.Common.{◌^◌}
-use Rattle.std.proofs.lemmas.List.Sums.{sum_by-cons}
-use Rattle.std.specs.Prelude.{Option, ◌+◌, ◌-◌, min}
+use Rattle.std.specs.Prelude.{Option, ◌+◌}
 use Rattle.fit_record.specs.DefinitionLengths.{definition_length, dev_length}
 use Rattle.fit_record.specs.Environment.{dev_defs}
 use Rattle.fit_record.specs.declared.definition.DevDef.{DevDef}
 use Rattle.fit_record.proofs.RecordLengths.{length-definition, length-data}
-use Rattle.fit_base.proofs.ShapeTests.{length-numbers}
+use Rattle.fit_encode.proofs.Orders.{AreSizes, in_size}
+use Rattle.fit_encode.proofs.RecordSteps.{next_bytes}
+use Rattle.fit_encode.proofs.Spellable.{fits_at, record_parts}
 use Rattle.fit_frame.proofs.OneHeader.{length-header_bytes}
-
-length-lists : {A : Type 0} (o : Order) (lists : List (Items A)) → length (flat_map (items_bytes o) lists) ≡ sum_by items_size lists
-length-lists o [] = refl
-length-lists o (i ∷ lists) =
-    length-append (items_bytes o i) (flat_map (items_bytes o) lists)
-    ∙ omega (arith, length-numbers o i.width i.bits, length-lists o lists, sum_by-cons items_size i lists)
-
-pub length-record_bytes : {A : Type 0} (e : Environment A) (r : Record A) → length (record_bytes e r) ≡ record_size r
-length-record_bytes e (Define d) = length-definition d
-length-record_bytes e (Data v) =
-    let o = order_at e v.local in
-    omega (arith, length-append (flat_map (items_bytes o) v.fields) (flat_map (items_bytes o) v.dev), length-lists o v.fields, length-lists o v.dev)
 
 -- ---- a record that fits
 
@@ -33,12 +22,17 @@ dev_short : (dev : Option (List DevDef)) → length (dev_defs dev) < 256 → dev
 dev_short None h = omega arith
 dev_short (Some fields) h = omega arith
 
-pub definition_size : {A : Type 0} (e : Environment A) (r : Record A) (d : MessageDef A) (n : ℕ) → r ≡ Define d → n ≡ min (definition_length d) (2 ^ 64 - 1)
-    → Fits e r → n ≡ length (record_bytes e r)
-definition_size {A} e r d n is size =
-    let here : Fits e (Define d) → n ≡ length (record_bytes e (Define d)) =
-    λ fits. omega (arith, size, length-definition d, fits.fields, dev_short d.dev fits.dev_fields) in
-    subst (λ (x : Record A). Fits e x → n ≡ length (record_bytes e x)) (sym is) here
+pub definition_size : {A : Type 0} (e : Environment A) (r : Record A) (d : MessageDef A) (n : ℕ) → r ≡ Define d → n ≡ definition_length d
+    → n ≡ length (record_bytes e r)
+definition_size {A} e r d n is size = subst (λ (x : Record A). n ≡ length (record_bytes e x)) (sym is) (size ∙ sym (length-definition d))
+
+-- A definition message is short.
+pub no_long_definition : {A : Type 0} (o : Order) (r : Record A) (d : MessageDef A) (n : ℕ) → r ≡ Define d → IsSpellable r
+    → n ≡ length (bytes_in_order o r) → 4088 < n → ⊥
+no_long_definition {A} o r d n is =
+    let here : IsSpellable (Define d) → n ≡ length (bytes_in_order o (Define d)) → 4088 < n → ⊥ =
+    λ fits size long. omega (arith, size, length-definition d, fits.fields, dev_short d.dev fits.dev_fields) in
+    subst (λ (x : Record A). IsSpellable x → n ≡ length (bytes_in_order o x) → 4088 < n → ⊥) (sym is) here
 
 -- a data message has as many bytes as its definition says
 message_length : {A : Type 0} (o : Order) (p : Option (Defined A)) (v : Values A) (n : ℕ) → Some n ≡ option_map message_size p → IsSomeAnd p (DataFits v)
@@ -60,6 +54,21 @@ has_size {A} e r v is none = subst (λ (x : Record A). Fits e x → ⊥) (sym is
     go : (p : Option (Defined A)) → None ≡ option_map message_size p → IsSomeAnd p (DataFits v) → ⊥
     go None none fits = fits
     go (Some p) none fits = absurd (cc none)
+
+-- ---- records one after another
+
+-- With this record they are still as many bytes as all have, or fewer.
+pub size_within : {A : Type 0} (rs : List (Record A)) (i : ℕ) (r : Record A) (sizes : List ℕ) (m n : ℕ) → i < length rs → r ≡ get_or rs i r
+    → AllFit empty_environment rs → AreSizes (learn_all empty_environment (take i rs)) sizes → length (records_bytes empty_environment rs) < 2 ^ 32
+    → m ≡ length (records_bytes empty_environment (take i rs)) → n ≡ size_in sizes r
+    → (m + n < 2 ^ 32) × (m + n ≡ length (records_bytes empty_environment (take (i + 1) rs)))
+size_within rs i r sizes m n less is all known small before size =
+    let e = learn_all empty_environment (take i rs) in
+    let this : n ≡ length (record_bytes e r) = size ∙ in_size e sizes r (fits_at empty_environment rs i r less is all) known in
+    let front = length-append (records_bytes empty_environment (take i rs)) (record_bytes e r) in
+    let whole = ap length (record_parts empty_environment rs i r less is) in
+    let parts = length-append (records_bytes empty_environment (take i rs) ++ record_bytes e r) (records_bytes (learn e r) (drop (i + 1) rs)) in
+    (omega (arith, this, front, whole, parts, before, small), omega (arith, this, front, before, ap length (next_bytes empty_environment rs i r less is)))
 
 -- ---- files
 

@@ -1,7 +1,6 @@
 pub mod Common
 pub mod Written
 pub mod Sendings
-pub mod Messages
 pub mod Places
 pub mod RecordSteps
 pub mod FaultSteps

@@ -146,7 +146,7 @@ impl Encoder {
         if self.env.learn(r).is_err() {
             return Err(EncodeFault::NoMemory);
         }
-        if let Err(written) = send_record(&mut self.out, sink, order, r) {
+        if let Err(written) = send_record(&mut self.out, sink, order, size as usize, r) {
             self.failed = Some(written);
             return Err(EncodeFault::Write { written });
         }
@@ -262,19 +262,21 @@ fn send<K: Sink>(out: &mut Spelling, sink: &mut K, bytes: &[u8]) -> Result<(), u
     out.flush(sink)
 }
 
-/// Sends a record.
-pub(crate) fn send_record<K: Sink, A: Allocator>(
+/// Sends a record of this many bytes.
+fn send_record<K: Sink, A: Allocator>(
     out: &mut Spelling,
     sink: &mut K,
     order: Order,
+    size: usize,
     r: &Record<A>,
 ) -> Result<(), u64>
-    requires { IsSpellable r.now }
+    requires spellable { IsSpellable r.now }
+    requires size { size ≡ length (bytes_in_order order r.now) }
     ensures sends { Sends
         (sink_state K.contents K.has_failed sink.old) (sink_state K.contents K.has_failed sink.new)
         out.old out.new (bytes_in_order order r.now) result }
     ensures empty { OnOk result (out.new.held ≡ []) }
 {
-    spell_record(out, sink, order, r)?;
+    spell_record(out, sink, order, size, r)?;
     out.flush(sink)
 }

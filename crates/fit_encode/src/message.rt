@@ -2,50 +2,38 @@
 ghost use Rattle.std.specs.Prelude.{◌≡◌, ◌⊎◌, ◌<◌, ◌≤◌, ◌++◌, [], ◌∷◌, flat_map, length};
 ghost use Rattle.std.specs.List.{AllByRecursion};
 ghost use Rattle.fit_base.specs.Fields.{items_bytes};
-ghost use Rattle.fit_base.specs.Numbers.{number_bytes};
-ghost use Rattle.fit_record.specs.Records.{field_bytes, dev_field_bytes, dev_part, definition_header, definition_bytes, DefinitionFits, data_header, data_bytes, DataHeaderFits};
-ghost use Rattle.fit_record.specs.Environment.{dev_defs};
+ghost use Rattle.fit_record.specs.Records.{DefinitionFits, data_header, data_bytes, DataHeaderFits};
 ghost use Rattle.fit_encode.specs.inner.Sending.{sink_state, Sends};
 ghost use Rattle.fit_encode.specs.inner.Spelling.{bytes_in_order, definition_head, HasBytes, IsSpellable};
 
 use crate::Sink;
-use crate::spelling::Spelling;
-use fit_base::{Entries, Items, Order};
-use fit_record::{DevDef, FieldDef, MessageDef, Record, Values};
+use crate::spelling::{SHORT, Spelling};
+use fit_base::{Items, Order};
+use fit_record::{MessageDef, Record, Values};
 use std::alloc::Allocator;
 
-/// Spells a record. The order is that of its local message type where it is a data message.
+/// Spells a record of this many bytes. The order is that of its local message type where it is a data message.
+#[inline]
 pub(crate) fn spell_record<K: Sink, A: Allocator>(
     out: &mut Spelling,
     sink: &mut K,
     order: Order,
+    size: usize,
     r: &Record<A>,
 ) -> Result<(), u64>
-    requires { IsSpellable r.now }
+    requires spellable { IsSpellable r.now }
+    requires size { size ≡ length (bytes_in_order order r.now) }
     ensures { Sends
         (sink_state K.contents K.has_failed sink.old) (sink_state K.contents K.has_failed sink.new)
         out.old out.new (bytes_in_order order r.now) result }
 {
+    if size <= SHORT {
+        return out.record(sink, order, size, r);
+    }
     match r {
-        Record::Define(d) => spell_definition(out, sink, d),
+        Record::Define(_) => unreachable!(),
         Record::Values(v) => spell_values(out, sink, order, v),
     }
-}
-
-/// Spells a definition message.
-fn spell_definition<K: Sink, A: Allocator>(
-    out: &mut Spelling,
-    sink: &mut K,
-    d: &MessageDef<A>,
-) -> Result<(), u64>
-    requires { DefinitionFits d.now }
-    ensures { Sends
-        (sink_state K.contents K.has_failed sink.old) (sink_state K.contents K.has_failed sink.new)
-        out.old out.new (definition_header d.now ∷ definition_bytes d.now) result }
-{
-    out.bytes(sink, &definition_head(d))?;
-    spell_fields(out, sink, d.fields.as_slice())?;
-    spell_dev_part(out, sink, &d.dev)
 }
 
 /// The record header, and what follows it up to the number of fields.
@@ -68,59 +56,7 @@ pub(crate) fn definition_head<A: Allocator>(d: &MessageDef<A>) -> [u8; 6]
     ]
 }
 
-/// Spells the entries of fields.
-fn spell_fields<K: Sink>(out: &mut Spelling, sink: &mut K, fields: &[FieldDef]) -> Result<(), u64>
-    ensures { Sends
-        (sink_state K.contents K.has_failed sink.old) (sink_state K.contents K.has_failed sink.new)
-        out.old out.new (flat_map field_bytes fields.now) result }
-{
-    for f in fields {
-        out.bytes(sink, &[f.number, f.size, f.code])?;
-    }
-    Ok(())
-}
-
-/// Spells the number of developer fields and their entries, where there are any.
-fn spell_dev_part<K: Sink, A: Allocator>(
-    out: &mut Spelling,
-    sink: &mut K,
-    dev: &Option<Entries<DevDef, A>>,
-) -> Result<(), u64>
-    requires { length (dev_defs dev.now) < 256 }
-    ensures { Sends
-        (sink_state K.contents K.has_failed sink.old) (sink_state K.contents K.has_failed sink.new)
-        out.old out.new (dev_part dev.now) result }
-{
-    match dev {
-        None => Ok(()),
-        Some(fields) => spell_dev_list(out, sink, fields.as_slice()),
-    }
-}
-
-/// Spells the number of developer fields, and their entries.
-fn spell_dev_list<K: Sink>(out: &mut Spelling, sink: &mut K, fields: &[DevDef]) -> Result<(), u64>
-    requires { length fields.now < 256 }
-    ensures { Sends
-        (sink_state K.contents K.has_failed sink.old) (sink_state K.contents K.has_failed sink.new)
-        out.old out.new (length fields.now ∷ flat_map dev_field_bytes fields.now) result }
-{
-    out.bytes(sink, &[fields.len() as u8])?;
-    spell_dev_fields(out, sink, fields)
-}
-
-/// Spells the entries of developer fields.
-fn spell_dev_fields<K: Sink>(out: &mut Spelling, sink: &mut K, fields: &[DevDef]) -> Result<(), u64>
-    ensures { Sends
-        (sink_state K.contents K.has_failed sink.old) (sink_state K.contents K.has_failed sink.new)
-        out.old out.new (flat_map dev_field_bytes fields.now) result }
-{
-    for f in fields {
-        out.bytes(sink, &[f.number, f.size, f.index])?;
-    }
-    Ok(())
-}
-
-/// Spells a data message.
+/// Spells a data message of any length.
 fn spell_values<K: Sink, A: Allocator>(
     out: &mut Spelling,
     sink: &mut K,

@@ -16,7 +16,7 @@ use std::alloc::Allocator;
 
 /// Writes bytes.
 #[inline(always)]
-fn place_bytes(bytes: &mut [u8], at: usize, source: &[u8]) -> usize
+pub(crate) fn place_bytes(bytes: &mut [u8], at: usize, source: &[u8]) -> usize
     requires { at + length source.now ≤ length bytes.old }
     ensures size { length bytes.new ≡ length bytes.old }
     ensures end { result ≡ at + length source.now }
@@ -36,7 +36,7 @@ fn eight_bytes(bits: u64) -> [u8; 8]
 
 /// Writes a number of this many bytes.
 #[inline(always)]
-fn place_number(bytes: &mut [u8], at: usize, order: Order, width: u8, bits: u64) -> usize
+pub(crate) fn place_number(bytes: &mut [u8], at: usize, order: Order, width: u8, bits: u64) -> usize
     requires width { (width ≡ 1) ⊎ (width ≡ 2) ⊎ (width ≡ 4) ⊎ (width ≡ 8) }
     requires bits { bits < 256 ^ width }
     requires room { at + 8 ≤ length bytes.old }

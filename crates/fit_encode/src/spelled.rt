@@ -107,7 +107,7 @@ fn record_size(env: &Env, r: &Record) -> usize
     ensures { result ≡ length (record_bytes env.now r.now) }
 {
     match r {
-        Record::Define(d) => definition_length(d) as usize,
+        Record::Define(d) => definition_length(d),
         Record::Values(v) => match env.length(v.local) {
             Some(size) => 1 + size as usize,
             None => unreachable!(),

@@ -3,28 +3,42 @@ ghost use Rattle.std.specs.Prelude.{◌≡◌, ◌⊎◌, ◌+◌, ◌≤◌, �
 ghost use Rattle.fit_base.specs.Numbers.{number_bytes, little_bytes};
 ghost use Rattle.fit_sum.specs.Checksum.{checksum};
 ghost use Rattle.fit_encode.specs.inner.Sending.{sink_state, Sends};
+ghost use Rattle.fit_encode.specs.inner.Spelling.{bytes_in_order, IsSpellable};
 
+use crate::place::{place_bytes, place_number, place_record};
 use crate::{Sink, put_all};
-use arrayvec::ArrayVec;
-use fit_base::{Order, put_bits};
+use fit_base::Order;
+use fit_record::Record;
 use fit_sum::Sum;
+use std::alloc::Allocator;
 use std::marker::Model;
+
+/// How many bytes are held back at most.
+pub(crate) const ROOM: usize = 4096;
+
+/// The most bytes of a record that is spelled in one piece: it takes eight bytes of room more.
+pub(crate) const SHORT: usize = 4088;
 
 /// Bytes of a file on their way to a sink. They are held back until there are enough of them, so
 /// that they go out in long runs, and the checksum goes over the same runs.
 #[derive(Drop)]
 pub(crate) struct Spelling {
-    run: ArrayVec<u8, 4096>,
+    run: [u8; ROOM],
+    /// How many bytes of the run there are.
+    used: usize,
     sum: Sum,
     count: u64,
 }
 
 impl Model for Spelling {
+    ghost use Rattle.std.specs.Prelude.{◌≤◌, take};
     ghost use Rattle.fit_encode.specs.inner.Sending.{Sending};
 
     ghost Value = { Sending };
 
-    ghost view = { λ s. record { sent = s.sum; held = s.run.items; count = s.count } };
+    ghost view = { λ s. record { sent = s.sum; held = take s.used s.run; count = s.count } };
+
+    ghost invariant = { λ s. s.used ≤ 4096 };
 }
 
 impl Spelling {
@@ -33,7 +47,8 @@ impl Spelling {
         ensures { result ≡ record { sent = []; held = []; count = count } }
     {
         Spelling {
-            run: ArrayVec::new(),
+            run: [0; ROOM],
+            used: 0,
             sum: Sum::new(),
             count,
         }
@@ -47,12 +62,13 @@ impl Spelling {
             self.old self.new [] result }
         ensures empty { OnOk result (self.new.held ≡ []) }
     {
-        if let Err(written) = put_all(sink, self.run.as_slice()) {
+        let held = &self.run[..self.used];
+        if let Err(written) = put_all(sink, held) {
             return Err(self.count.saturating_add(written));
         }
-        self.sum.add_all(self.run.as_slice());
-        self.count = self.count.saturating_add(self.run.len() as u64);
-        self.run.clear();
+        self.sum.add_all(held);
+        self.count = self.count.saturating_add(held.len() as u64);
+        self.used = 0;
         Ok(())
     }
 
@@ -65,7 +81,7 @@ impl Spelling {
             self.old self.new [] result }
         ensures room { OnOk result (length self.new.held + more ≤ 4096) }
     {
-        if self.run.remaining_capacity() < more {
+        if ROOM - self.used < more {
             return self.flush(sink);
         }
         Ok(())
@@ -80,9 +96,7 @@ impl Spelling {
             self.old self.new bytes.now result }
     {
         self.make_room(sink, bytes.len())?;
-        if self.run.try_extend_from_slice(bytes).is_err() {
-            unreachable!()
-        }
+        self.used = place_bytes(&mut self.run, self.used, bytes);
         Ok(())
     }
 
@@ -101,12 +115,30 @@ impl Spelling {
             (sink_state K.contents K.has_failed sink.new)
             self.old self.new (number_bytes order width bits) result }
     {
-        match width {
-            1 => self.bytes(sink, &bytes_of::<1>(order, bits)),
-            2 => self.bytes(sink, &bytes_of::<2>(order, bits)),
-            4 => self.bytes(sink, &bytes_of::<4>(order, bits)),
-            _ => self.bytes(sink, &bytes_of::<8>(order, bits)),
-        }
+        self.make_room(sink, 8)?;
+        self.used = place_number(&mut self.run, self.used, order, width, bits);
+        Ok(())
+    }
+
+    /// Spells a record of this many bytes in one piece.
+    pub(crate) fn record<K: Sink, A: Allocator>(
+        &mut self,
+        sink: &mut K,
+        order: Order,
+        size: usize,
+        r: &Record<A>,
+    ) -> Result<(), u64>
+        requires spellable { IsSpellable r.now }
+        requires size { size ≡ length (bytes_in_order order r.now) }
+        requires short { size ≤ 4088 }
+        ensures { Sends
+            (sink_state K.contents K.has_failed sink.old)
+            (sink_state K.contents K.has_failed sink.new)
+            self.old self.new (bytes_in_order order r.now) result }
+    {
+        self.make_room(sink, size + 8)?;
+        self.used = place_record(&mut self.run, self.used, order, r);
+        Ok(())
     }
 
     /// Sends what is held back, and then the checksum of all bytes of the file (FIT protocol, "CRC").
@@ -136,17 +168,6 @@ impl Spelling {
     {
         self.sum.value()
     }
-}
-
-/// The bytes of a number. Bytes whose number the compiler knows are copied without a call.
-fn bytes_of<const WIDTH: usize>(order: Order, bits: u64) -> [u8; WIDTH]
-    requires width { (WIDTH ≡ 1) ⊎ (WIDTH ≡ 2) ⊎ (WIDTH ≡ 4) ⊎ (WIDTH ≡ 8) }
-    requires bits { bits < 256 ^ WIDTH }
-    ensures { result ≡ number_bytes order WIDTH bits }
-{
-    let mut bytes = [0; WIDTH];
-    put_bits(order, WIDTH as u8, bits, &mut bytes);
-    bytes
 }
 
 /// The bytes of a checksum, the lowest first.

@@ -10,7 +10,7 @@ ghost use Rattle.fit_frame.specs.Header.{HeaderFits, header_bytes};
 ghost use Rattle.fit_encode.specs.inner.Spelling.{order_in, orders_after};
 
 use crate::check::{check_files, check_one};
-use crate::length::data_length;
+use crate::length::{data_length, note_size, size_in};
 use crate::message::spell_record;
 use crate::spelling::Spelling;
 use crate::{EncodeFault, Sink};
@@ -143,7 +143,7 @@ pub(crate) fn spell_head<K: Sink>(
 }
 
 /// Spells records that can stand one after another. Of what they make known it keeps the byte order
-/// of each local message type, which is all that their bytes depend on.
+/// of each local message type, which is all that their bytes depend on, and how many bytes its data messages have.
 fn spell_records<K: Sink, A: Allocator>(
     out: &mut Spelling,
     sink: &mut K,
@@ -155,9 +155,12 @@ fn spell_records<K: Sink, A: Allocator>(
         out.old out.new (records_bytes empty_environment records.now) result }
 {
     let mut orders = [Order::Little; 16];
+    let mut sizes = [0; 16];
     for r in records {
-        spell_record(out, sink, order_in(&orders, r), r)?;
+        let size = size_in(&sizes, r);
+        spell_record(out, sink, order_in(&orders, r), size, r)?;
         note_order(&mut orders, r);
+        note_size(&mut sizes, r);
     }
     Ok(())
 }

@@ -1,5 +1,5 @@
 -- The bytes of one record, where the byte order of its data is known.
-use Rattle.std.specs.Prelude.{◌≡◌, ◌⊎◌, ℕ, ◌<◌, ◌+◌, ◌*◌, ◌^◌, List, [], ◌∷◌, ◌++◌, length, sum_by, slice_index_or, slice_set, nat_lt, if◌then◌else◌}
+use Rattle.std.specs.Prelude.{◌≡◌, ◌⊎◌, ℕ, ◌<◌, ◌+◌, ◌^◌, List, [], ◌∷◌, ◌++◌, length, slice_index_or, slice_set, nat_lt, if◌then◌else◌}
 use Rattle.std.specs.List.{AllByRecursion}
 use Rattle.fit_base.specs.declared.items.Items.{Items}
 use Rattle.fit_base.specs.declared.number.Order.{Order}
@@ -9,7 +9,7 @@ use Rattle.fit_record.specs.declared.definition.MessageDef.{MessageDef}
 use Rattle.fit_record.specs.declared.message.Record.{Record}
 use Rattle.fit_record.specs.declared.message.Record.TheVariants.{Define, Values as Data}
 use Rattle.fit_record.specs.DefinitionLengths.{definition_length}
-use Rattle.fit_record.specs.Records.{architecture, definition_header, definition_bytes, DefinitionFits, data_header, data_bytes, DataHeaderFits}
+use Rattle.fit_record.specs.Records.{architecture, definition_header, definition_bytes, body_length, DefinitionFits, data_header, data_bytes, DataHeaderFits}
 
 abbrev pub bytes_in_order : {A : Type 0} → Order → Record A → List ℕ
 bytes_in_order order (Define d) = definition_header d ∷ definition_bytes d
@@ -42,11 +42,12 @@ abbrev pub orders_after : {A : Type 0} → List Order → Record A → List Orde
 orders_after orders (Define d) = if nat_lt d.local 16 then slice_set orders d.local d.order else orders
 orders_after orders (Data v) = orders
 
--- ---- how many bytes there are
+-- ---- and how many bytes follow the record header of its data messages
 
-abbrev pub items_size : {A : Type 0} → Items A → ℕ
-items_size items = length items.bits * items.width
+abbrev pub size_in : {A : Type 0} → List ℕ → Record A → ℕ
+size_in sizes (Define d) = definition_length d
+size_in sizes (Data v) = 1 + slice_index_or sizes v.local 0
 
-abbrev pub record_size : {A : Type 0} → Record A → ℕ
-record_size (Define d) = definition_length d
-record_size (Data v) = sum_by items_size v.fields + sum_by items_size v.dev + 1
+abbrev pub sizes_after : {A : Type 0} → List ℕ → Record A → List ℕ
+sizes_after sizes (Define d) = if nat_lt d.local 16 then slice_set sizes d.local (body_length d) else sizes
+sizes_after sizes (Data v) = sizes

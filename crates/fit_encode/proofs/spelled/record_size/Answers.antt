@@ -2,7 +2,7 @@ use Rattle.fit_encode.proofs.Lengths.{definition_size, data_size, has_size}
 use Rattle.fit_encode.proofs.spelled.record_size.Goals as goal
 
 pub returns-in-Define : goal.returns-in-Define
-returns-in-Define c = definition_size c.args.env.now c.args.r.now c.in-Define.d _ c.in-Define.is c.definition_length.ensures c.requires
+returns-in-Define c = definition_size c.args.env.now c.args.r.now c.in-Define.d _ c.in-Define.is c.definition_length.ensures.length
 
 pub returns-in-Some : goal.returns-in-Some
 returns-in-Some c = data_size c.args.env.now c.args.r.now c.in-Values.v _ c.in-Values.is c.in-Some.ensures.size c.requires

@@ -1,4 +1,4 @@
-use Rattle.fit_encode.proofs.Common.{◌≡◌, ◌∙◌, ℕ, refl, sym, ap, subst, arith, err_from_is_err_and, Environment, learn, record_bytes, Encoding, learned, CanPut}
+use Rattle.fit_encode.proofs.Common.{◌≡◌, ◌∙◌, ℕ, refl, sym, ap, subst, arith, length, err_from_is_err_and, Environment, learn, record_bytes, Encoding, learned, CanPut}
 use Rattle.fit_encode.proofs.Common.{HasPlace, IsPlaceFault, IsPutFault}
 use Rattle.std.proofs.Common.{Global}
 use Rattle.fit_encode.proofs.Encoders.{breaks_off, in_terms, next_open, not_written, on_err_at, small_record, some_byte, while_open}
@@ -47,7 +47,10 @@ returns-then-is_err-clause-refused g c =
     λ _. (subst (λ (e : Encoding Global). CanPut e c.args.r.now) c.self.view_is here, c.self.view_is, refl)
 
 pub send_record-requires : goal.send_record-requires
-send_record-requires g c = spellable c.self.inside.env c.args.r.now c.in_ok-size.ensures.ok.0.fits
+send_record-requires g c = record {
+  spellable = spellable c.self.inside.env c.args.r.now c.in_ok-size.ensures.ok.0.fits;
+  size = c.in_ok-size.ensures.ok.1 ∙ ap length (sym c.order_of-order.ensures);
+}
 
 pub returns-in-Err-clause-written : goal.returns-in-Err-clause-written
 returns-in-Err-clause-written g c =

@@ -1,4 +1,4 @@
-use Rattle.fit_encode.proofs.Common.{◌≡◌, ◌++◌, ◌∙◌, ap, rules, Sending}
+use Rattle.fit_encode.proofs.Common.{◌++◌, ◌∙◌, ap, Sending}
 use Rattle.fit_encode.proofs.Sendings.{Spells-held, Breaks-more, Sends-err}
 use Rattle.fit_encode.proofs.spelling.Spelling.bytes.Goals as goal
 
@@ -9,6 +9,5 @@ returns-in_err-make_room g c =
 pub returns : goal.returns
 returns g c =
     let view = c.self.view_is in
-    let held : c.try_extend_from_slice.new.self.items ≡ c.self.inside.run.items ++ c.args.bytes.now = search rules in
     Spells-held _ c.args.bytes.now c.in_ok-make_room.ensures.sends (ap (λ (s : Sending). s.sent) view)
-    (held ∙ ap (λ (s : Sending). s.held ++ c.args.bytes.now) view) (ap (λ (s : Sending). s.count) view)
+    (c.place_bytes-self-inside.ensures.text ∙ ap (λ (s : Sending). s.held ++ c.args.bytes.now) view) (ap (λ (s : Sending). s.count) view)

@@ -1,4 +1,4 @@
-use Rattle.fit_encode.proofs.Common.{◌∙◌, ap, arith, Sending}
+use Rattle.fit_encode.proofs.Common.{ap, arith, Sending}
 use Rattle.fit_encode.proofs.Sendings.{Breaks-flush}
 use Rattle.fit_encode.proofs.spelling.Spelling.flush.Goals as goal
 
@@ -6,6 +6,5 @@ pub returns-in-Err-clause-sends : goal.returns-in-Err-clause-sends
 returns-in-Err-clause-sends g c =
     let view = c.self.view_is in
     let count = ap (λ (s : Sending). s.count) view in
-    Breaks-flush _ _ c.args.self.now c.as_slice.result.now c.in-Err.written c.saturating_add.result
-    (c.as_slice.ensures.value ∙ ap (λ (s : Sending). s.held) view)
+    Breaks-flush _ _ c.args.self.now _ c.in-Err.written c.saturating_add.result (ap (λ (s : Sending). s.held) view)
     c.in-Err.ensures.part c.in-Err.ensures.err (λ fits. omega (arith, count, c.saturating_add.ensures)) c.in-Err.ensures.failed
