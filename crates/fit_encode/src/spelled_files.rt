@@ -94,15 +94,22 @@ fn put_files<K: Sink>(sink: &mut K, files: &[SpelledFile]) -> Result<(), u64>
         (K.has_failed sink.new) (chain_bytes files.now)) }
     ensures works { OnOk result (K.has_failed sink.new ≡ false) }
 {
+    let mut out = Spelling::new(0);
     let mut count = 0;
     for file in files {
-        count = put_file(sink, count, file)?;
+        count = put_file(&mut out, sink, count, file)?;
     }
     Ok(())
 }
 
-/// Puts a file that can be written. `count` bytes went out before it, and the result counts on.
-fn put_file<K: Sink>(sink: &mut K, count: u64, file: &SpelledFile) -> Result<u64, u64>
+/// Puts a file that can be written. `count` bytes went out before it, and the result counts on. Whatever was spelled before is
+/// forgotten.
+fn put_file<K: Sink>(
+    out: &mut Spelling,
+    sink: &mut K,
+    count: u64,
+    file: &SpelledFile,
+) -> Result<u64, u64>
     requires { IsWellFormed file.now }
     ensures { PutsAll
         (sink_state K.contents K.has_failed sink.old) (sink_state K.contents K.has_failed sink.new)
@@ -110,9 +117,9 @@ fn put_file<K: Sink>(sink: &mut K, count: u64, file: &SpelledFile) -> Result<u64
 {
     let header = file.header();
     let bytes = file.records().bytes();
-    let mut out = Spelling::new(count);
-    spell_head(&mut out, sink, header, data_len(bytes))?;
-    spell_long(&mut out, sink, bytes)?;
+    out.begin(count);
+    spell_head(out, sink, header, data_len(bytes))?;
+    spell_long(out, sink, bytes)?;
     out.end(sink)?;
     Ok(out.count())
 }

@@ -54,6 +54,15 @@ impl Spelling {
         }
     }
 
+    /// Begins another file, whatever came before. `count` bytes went out before it.
+    pub(crate) fn begin(&mut self, count: u64)
+        ensures { self.new ≡ record { sent = []; held = []; count = count } }
+    {
+        self.used = 0;
+        self.sum = Sum::new();
+        self.count = count;
+    }
+
     /// Sends what is held back.
     pub(crate) fn flush<K: Sink>(&mut self, sink: &mut K) -> Result<(), u64>
         ensures sends { Sends

@@ -46,7 +46,8 @@ pub fn write_one<K: Sink>(alloc: Global, sink: &mut K, file: &FitFile) -> Result
         Ok(data_len) => data_len,
         Err(fault) => return Err(fault),
     };
-    if let Err(written) = write_file(sink, 0, data_len, file) {
+    let mut out = Spelling::new(0);
+    if let Err(written) = write_file(&mut out, sink, 0, data_len, file) {
         return Err(EncodeFault::Write { written });
     }
     Ok(())
@@ -96,16 +97,24 @@ fn write_files<K: Sink, A: Allocator>(sink: &mut K, files: &[FitFile<A>]) -> Res
         (K.has_failed sink.new) (chain_bytes files.now)) }
     ensures works { OnOk result (K.has_failed sink.new ≡ false) }
 {
+    let mut out = Spelling::new(0);
     let mut count = 0;
     for file in files {
-        count = write_file(sink, count, data_length(file.records.as_slice()), file)?;
+        count = write_file(
+            &mut out,
+            sink,
+            count,
+            data_length(file.records.as_slice()),
+            file,
+        )?;
     }
     Ok(())
 }
 
 /// Writes a file that can be written, with `data_len` bytes of data. `count` bytes went out before it,
-/// and the result counts on.
+/// and the result counts on. Whatever was spelled before is forgotten.
 fn write_file<K: Sink, A: Allocator>(
+    out: &mut Spelling,
     sink: &mut K,
     count: u64,
     data_len: u32,
@@ -117,9 +126,9 @@ fn write_file<K: Sink, A: Allocator>(
         (sink_state K.contents K.has_failed sink.old) (sink_state K.contents K.has_failed sink.new)
         count (file_bytes file.now) result }
 {
-    let mut out = Spelling::new(count);
-    spell_head(&mut out, sink, &file.header, data_len)?;
-    spell_records(&mut out, sink, file.records.as_slice())?;
+    out.begin(count);
+    spell_head(out, sink, &file.header, data_len)?;
+    spell_records(out, sink, file.records.as_slice())?;
     out.end(sink)?;
     Ok(out.count())
 }

@@ -12,25 +12,25 @@ spell_records-requires g c = subst (AllFit {A = g.row.A.Denot} empty_environment
 pub returns-in_err-spell_head : goal.returns-in_err-spell_head
 returns-in_err-spell_head g c =
     PutsAll-err _ _ _ _ c.from_residual.result c.from_residual.ensures.1
-    (head_breaks c.args.file.now c.new-out.ensures (ap (header_bytes c.args.file.now.header) c.requires.size) c.in_err-spell_head.ensures)
+    (head_breaks c.args.file.now c.begin.ensures (ap (header_bytes c.args.file.now.header) c.requires.size) c.in_err-spell_head.ensures)
 
 pub returns-in_err-spell_records : goal.returns-in_err-spell_records
 returns-in_err-spell_records g c =
     let f = c.args.file.now in
     PutsAll-err _ _ _ _ c.from_residual-in_err-spell_records.result c.from_residual-in_err-spell_records.ensures.1
-    (data_breaks f c.new-out.ensures (ap (header_bytes f.header) c.requires.size) c.in_ok-spell_head.ensures
+    (data_breaks f c.begin.ensures (ap (header_bytes f.header) c.requires.size) c.in_ok-spell_head.ensures
     (ap (records_bytes {A = g.row.A.Denot} empty_environment) c.as_slice.ensures) c.in_err-spell_records.ensures)
 
 pub returns-in_err-end : goal.returns-in_err-end
 returns-in_err-end g c =
     let f = c.args.file.now in
     PutsAll-err _ _ _ _ c.from_residual-in_err-end.result c.from_residual-in_err-end.ensures.1
-    (sum_breaks f c.new-out.ensures (ap (header_bytes f.header) c.requires.size) c.in_ok-spell_head.ensures
+    (sum_breaks f c.begin.ensures (ap (header_bytes f.header) c.requires.size) c.in_ok-spell_head.ensures
     (ap (records_bytes {A = g.row.A.Denot} empty_environment) c.as_slice.ensures) c.in_ok-spell_records.ensures c.in_err-end.ensures.sends)
 
 pub returns : goal.returns
 returns g c =
     let f = c.args.file.now in
-    file_put f c.new-out.ensures (ap (header_bytes f.header) c.requires.size) c.in_ok-spell_head.ensures
+    file_put f c.begin.ensures (ap (header_bytes f.header) c.requires.size) c.in_ok-spell_head.ensures
     (ap (records_bytes {A = g.row.A.Denot} empty_environment) c.as_slice.ensures) c.in_ok-spell_records.ensures c.count.result c.in_ok-end.ensures.sends
     c.in_ok-end.ensures.empty c.count.ensures

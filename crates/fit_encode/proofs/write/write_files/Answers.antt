@@ -1,6 +1,30 @@
-use Rattle.fit_encode.proofs.Common.{arith, err_from_is_err_and}
+use Rattle.fit_encode.proofs.Common.{◌≡◌, ◌∙◌, ℕ, ◌<◌, List, [], ◌∷◌, length, get_or, sym, ap, subst, arith, err_from_is_err_and, Record, empty_environment, AllFit, records_bytes}
+use Rattle.fit_encode.proofs.Common.{IsWellFormed, AllByRecursion}
+use Rattle.std.proofs.Common.{zero, suc}
 use Rattle.fit_encode.proofs.FilesPut.{chain_stops, one_more_put}
 use Rattle.fit_encode.proofs.write.write_files.Goals as goal
+
+each_at : {X : Type 0} (P : X → Type 0) (xs : List X) (i : ℕ) (x : X) → i < length xs → x ≡ get_or xs i x → AllByRecursion P xs → P x
+each_at P [] i x less is all = absurd (omega arith)
+each_at P (y ∷ ys) zero x less is all = subst P (sym is) all.0
+each_at P (y ∷ ys) (suc i) x less is all = each_at P ys i x (omega arith) is all.1
+
+pub data_length-requires-clause-fit : goal.data_length-requires-clause-fit
+data_length-requires-clause-fit g c =
+    let good : IsWellFormed {A = g.row.A.Denot} c.file-item.result =
+    each_at IsWellFormed c.args.files.now c.loop-file.file-index c.file-item.result (omega arith) c.file-item.is c.requires.each in
+    subst (AllFit {A = g.row.A.Denot} empty_environment) (sym c.as_slice.ensures) good.records
+
+pub data_length-requires-clause-small : goal.data_length-requires-clause-small
+data_length-requires-clause-small g c =
+    let good : IsWellFormed {A = g.row.A.Denot} c.file-item.result =
+    each_at IsWellFormed c.args.files.now c.loop-file.file-index c.file-item.result (omega arith) c.file-item.is c.requires.each in
+    let same = ap (λ (rs : List (Record g.row.A.Denot)). length (records_bytes empty_environment rs)) c.as_slice.ensures in
+    omega (arith, same, good.header.data_fits)
+
+pub write_file-requires-clause-size : goal.write_file-requires-clause-size
+write_file-requires-clause-size g c =
+    c.data_length.ensures ∙ ap (λ (rs : List (Record g.row.A.Denot)). length (records_bytes empty_environment rs)) c.as_slice.ensures
 
 pub returns-in_err-count-clause-err : goal.returns-in_err-count-clause-err
 returns-in_err-count-clause-err g c =
