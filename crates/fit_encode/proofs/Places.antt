@@ -2,7 +2,7 @@
 use Rattle.fit_encode.proofs.Common.{◌≡◌, ℕ, ◌<◌, ◌≤◌, List, ◌∷◌, ◌++◌, length, take, drop, get_or, refl, sym, ap, ◌∙◌, append_assoc, length-append, arith}
 use Rattle.fit_encode.proofs.Common.{flat_map, little_bytes, length-little_bytes, ◌/◌, ◌%◌}
 use Rattle.std.proofs.Common.{◌+◌, zero, suc}
-use Rattle.std.proofs.Math.Seq.{take-append-add}
+use Rattle.std.proofs.Math.Seq.{take-append-add, take-append_seam}
 use Rattle.std.proofs.lemmas.List.{take-take, length-take-le}
 use Rattle.fit_encode.proofs.Sendings.{next_part_of, parts_of}
 
@@ -43,3 +43,7 @@ pub part_written : {X : Type 0} (f : X → List ℕ) (xs : List X) (i : ℕ) (d 
 part_written f xs i d x before mid new less is first second =
     second ∙ ap (λ (ys : List ℕ). ys ++ f x) first ∙ append_assoc before (flat_map f (take i xs)) (f x)
     ∙ ap (λ (ys : List ℕ). before ++ ys) (next_part_of f xs i d x less is)
+
+-- what was put after some bytes, of which these are the first
+pub first_part : (old more all : List ℕ) → all ≡ old ++ more → take (length old) all ≡ old
+first_part old more all is = ap (take (length old)) is ∙ take-append_seam old more

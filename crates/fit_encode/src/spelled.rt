@@ -1,5 +1,5 @@
 //! Records and files that are kept as their bytes.
-ghost use Rattle.std.specs.Prelude.{◌≡◌, ◌+◌, ◌<◌, ◌^◌, [], ◌∷◌, ◌++◌, OnOk, OnErr, IfSome, None, length};
+ghost use Rattle.std.specs.Prelude.{◌≡◌, ◌+◌, ◌<◌, ◌≤◌, ◌^◌, [], ◌∷◌, ◌++◌, OnOk, OnErr, IfSome, None, length, take};
 ghost use Rattle.fit_record.specs.Environment.{empty_environment, learn_all};
 ghost use Rattle.fit_record.specs.Records.{AllFit, Fits, record_bytes, records_bytes};
 ghost use Rattle.fit_encode.specs.inner.Kept.{AreTooLong};
@@ -125,10 +125,27 @@ fn put_record(bytes: &mut Vec<u8>, order: Order, size: usize, r: &Record) -> Res
     ensures err { OnErr result (bytes.new.items ≡ bytes.old.items) }
 {
     let start = bytes.len();
-    bytes.resize(start + size + 8, 0)?;
+    make_room(bytes, size)?;
     let end = place_record(bytes.as_mut_slice(), start, order, r);
     bytes.truncate(end);
     Ok(())
+}
+
+/// Puts zeros at the end, at least this many and eight more. Most records are short, and theirs are a copy of a fixed number of bytes.
+#[inline(always)]
+#[tactic(auto, using(crate::proofs::Places::first_part))]
+fn make_room(bytes: &mut Vec<u8>, size: usize) -> Result<(), AllocError>
+    requires { length bytes.old.items + size < 2 ^ 32 }
+    ensures room { OnOk result (length bytes.old.items + size + 8 ≤ length bytes.new.items) }
+    ensures front { OnOk result
+        (take (length bytes.old.items) bytes.new.items ≡ bytes.old.items) }
+    ensures err { OnErr result (bytes.new.items ≡ bytes.old.items) }
+{
+    if size <= 56 {
+        bytes.extend_from_slice(&[0; 64])
+    } else {
+        bytes.resize(bytes.len() + size + 8, 0)
+    }
 }
 
 /// A file, of which the records are kept as their bytes.
