@@ -2,6 +2,7 @@ pub mod Common
 pub mod Written
 pub mod Sendings
 pub mod Places
+pub mod Runs
 pub mod RecordSteps
 pub mod FaultSteps
 pub mod Lengths

@@ -259,7 +259,7 @@ fn send<K: Sink>(out: &mut Spelling, sink: &mut K, bytes: &[u8]) -> Result<(), u
     ensures empty { OnOk result (out.new.held ≡ []) }
 {
     out.bytes(sink, bytes)?;
-    out.flush(sink)
+    out.send(sink)
 }
 
 /// Sends a record of this many bytes.
@@ -278,5 +278,5 @@ fn send_record<K: Sink, A: Allocator>(
     ensures empty { OnOk result (out.new.held ≡ []) }
 {
     spell_record(out, sink, order, size, r)?;
-    out.flush(sink)
+    out.send(sink)
 }

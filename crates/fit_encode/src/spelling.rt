@@ -2,7 +2,7 @@
 ghost use Rattle.std.specs.Prelude.{◌≡◌, ◌⊎◌, ◌+◌, ◌≤◌, ◌<◌, ◌^◌, [], ◌++◌, OnOk, length};
 ghost use Rattle.fit_base.specs.Numbers.{number_bytes, little_bytes};
 ghost use Rattle.fit_sum.specs.Checksum.{checksum};
-ghost use Rattle.fit_encode.specs.inner.Sending.{sink_state, Sends};
+ghost use Rattle.fit_encode.specs.inner.Sending.{fresh, sink_state, Sends};
 ghost use Rattle.fit_encode.specs.inner.Spelling.{bytes_in_order, IsSpellable};
 
 use crate::place::{place_bytes, place_number, place_record};
@@ -20,35 +20,39 @@ pub(crate) const ROOM: usize = 4096;
 pub(crate) const SHORT: usize = 4088;
 
 /// Bytes of a file on their way to a sink. They are held back until there are enough of them, so
-/// that they go out in long runs, and the checksum goes over the same runs.
+/// that they go out in long runs, or until they are sent. The checksum goes over long runs in any case.
 #[derive(Drop)]
 pub(crate) struct Spelling {
     run: [u8; ROOM],
     /// How many bytes of the run there are.
     used: usize,
+    /// How many of these went out.
+    gone: usize,
+    /// The checksum of the bytes before the run.
     sum: Sum,
     count: u64,
 }
 
 impl Model for Spelling {
-    ghost use Rattle.std.specs.Prelude.{◌≤◌, take};
+    ghost use Rattle.std.specs.Prelude.{◌-◌, ◌≤◌, ◌++◌, take, drop};
     ghost use Rattle.fit_encode.specs.inner.Sending.{Sending};
 
     ghost Value = { Sending };
 
-    ghost view = { λ s. record { sent = s.sum; held = take s.used s.run; count = s.count } };
+    ghost view = { λ s. record { sent = s.sum ++ take s.gone s.run; held = drop s.gone (take s.used s.run); count = s.count; room = 4096 - s.used } };
 
-    ghost invariant = { λ s. s.used ≤ 4096 };
+    ghost invariant = { λ s. (s.gone ≤ s.used) × (s.used ≤ 4096) };
 }
 
 impl Spelling {
     /// Nothing is spelled of this file. `count` bytes went out before it.
     pub(crate) fn new(count: u64) -> Spelling
-        ensures { result ≡ record { sent = []; held = []; count = count } }
+        ensures { result ≡ fresh count }
     {
         Spelling {
             run: [0; ROOM],
             used: 0,
+            gone: 0,
             sum: Sum::new(),
             count,
         }
@@ -56,28 +60,52 @@ impl Spelling {
 
     /// Begins another file, whatever came before. `count` bytes went out before it.
     pub(crate) fn begin(&mut self, count: u64)
-        ensures { self.new ≡ record { sent = []; held = []; count = count } }
+        ensures { self.new ≡ fresh count }
     {
         self.used = 0;
+        self.gone = 0;
         self.sum = Sum::new();
         self.count = count;
     }
 
     /// Sends what is held back.
-    pub(crate) fn flush<K: Sink>(&mut self, sink: &mut K) -> Result<(), u64>
+    pub(crate) fn send<K: Sink>(&mut self, sink: &mut K) -> Result<(), u64>
         ensures sends { Sends
             (sink_state K.contents K.has_failed sink.old)
             (sink_state K.contents K.has_failed sink.new)
             self.old self.new [] result }
         ensures empty { OnOk result (self.new.held ≡ []) }
     {
-        let held = &self.run[..self.used];
+        let held = &self.run[self.gone..self.used];
         if let Err(written) = put_all(sink, held) {
             return Err(self.count.saturating_add(written));
         }
-        self.sum.add_all(held);
         self.count = self.count.saturating_add(held.len() as u64);
+        self.gone = self.used;
+        Ok(())
+    }
+
+    /// Takes the run, which went out, into the checksum.
+    fn settle(&mut self)
+        requires { self.old.held ≡ [] }
+        ensures { self.new ≡ record self.old { room = 4096 } }
+    {
+        self.sum.add_all(&self.run[..self.used]);
         self.used = 0;
+        self.gone = 0;
+    }
+
+    /// Sends what is held back, and takes the run into the checksum.
+    fn flush<K: Sink>(&mut self, sink: &mut K) -> Result<(), u64>
+        ensures sends { Sends
+            (sink_state K.contents K.has_failed sink.old)
+            (sink_state K.contents K.has_failed sink.new)
+            self.old self.new [] result }
+        ensures empty { OnOk result (self.new.held ≡ []) }
+        ensures room { OnOk result (self.new.room ≡ 4096) }
+    {
+        self.send(sink)?;
+        self.settle();
         Ok(())
     }
 
@@ -88,7 +116,7 @@ impl Spelling {
             (sink_state K.contents K.has_failed sink.old)
             (sink_state K.contents K.has_failed sink.new)
             self.old self.new [] result }
-        ensures room { OnOk result (length self.new.held + more ≤ 4096) }
+        ensures room { OnOk result (more ≤ self.new.room) }
     {
         if ROOM - self.used < more {
             return self.flush(sink);
@@ -171,8 +199,9 @@ impl Spelling {
         self.count
     }
 
-    /// The checksum of the bytes that went out.
+    /// The checksum of the bytes that went out, of which none is in the run.
     fn checksum(&self) -> u16
+        requires { self.now.room ≡ 4096 }
         ensures { result ≡ checksum self.now.sent }
     {
         self.sum.value()

@@ -3,12 +3,13 @@ use Rattle.std.specs.Prelude.{◌≡◌, ℕ, ◌+◌, ◌<◌, ◌^◌, Bool, t
 use Rattle.std.specs.Io.KnownBytes.{Appends}
 use Rattle.fit_encode.specs.Sinks.{Written}
 
--- The bytes of a file that went out, those that are held back for the next put, and how many went out in all, with those
--- of earlier files.
+-- The bytes of a file that went out, those that are held back for the next put, how many went out in all, with those
+-- of earlier files, and for how many more there is room.
 pub record Sending : Type 0 where
   pub sent : List ℕ
   pub held : List ℕ
   pub count : ℕ
+  pub room : ℕ
 
 -- a sink, by what tells its bytes and what tells whether a call failed
 abbrev pub sink_state : {S : Type 0} → (S → Option (List ℕ)) → (S → Bool) → S → Written
@@ -46,7 +47,7 @@ Sends before after old new bytes (Err written) = Breaks before after old bytes w
 
 -- nothing of a file is spelled, and that many bytes went out before it
 abbrev pub fresh : ℕ → Sending
-fresh count = record { sent = []; held = []; count = count }
+fresh count = record { sent = []; held = []; count = count; room = 4096 }
 
 -- What a call that puts all these bytes leaves, by its answer. That many bytes went out before, and it counts on.
 abbrev pub PutsAll : Written → Written → ℕ → List ℕ → Result ℕ ℕ → Type 0

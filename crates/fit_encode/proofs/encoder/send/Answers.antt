@@ -8,4 +8,4 @@ returns-in_err-bytes-clause-sends g c =
 
 pub returns-clause-sends : goal.returns-clause-sends
 returns-clause-sends g c =
-    Sends-on _ _ _ _ _ _ c.args.bytes.now [] c.args.bytes.now c.flush.result (append-nil c.args.bytes.now) c.in_ok-bytes.ensures c.flush.ensures.sends
+    Sends-on _ _ _ _ _ _ c.args.bytes.now [] c.args.bytes.now c.send.result (append-nil c.args.bytes.now) c.in_ok-bytes.ensures c.send.ensures.sends

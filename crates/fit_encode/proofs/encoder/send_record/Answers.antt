@@ -9,4 +9,4 @@ returns-in_err-spell_record-clause-sends g c =
 pub returns-clause-sends : goal.returns-clause-sends
 returns-clause-sends g c =
     let bytes = bytes_in_order c.args.order c.args.r.now in
-    Sends-on _ _ _ _ _ _ bytes [] bytes c.flush.result (append-nil bytes) c.in_ok-spell_record.ensures c.flush.ensures.sends
+    Sends-on _ _ _ _ _ _ bytes [] bytes c.send.result (append-nil bytes) c.in_ok-spell_record.ensures c.send.ensures.sends

@@ -1,4 +1,5 @@
-use Rattle.fit_encode.proofs.Common.{◌++◌, ◌∙◌, ap, Sending, number_bytes}
+use Rattle.fit_encode.proofs.Common.{◌++◌, ◌∙◌, List, ℕ, ap, arith, Sending, number_bytes, length-number_bytes}
+use Rattle.fit_encode.proofs.Runs.{run_longer}
 use Rattle.fit_encode.proofs.Sendings.{Spells-held, Breaks-more, Sends-err}
 use Rattle.fit_encode.proofs.spelling.Spelling.number.Goals as goal
 
@@ -11,5 +12,10 @@ pub returns : goal.returns
 returns g c =
     let view = c.self.view_is in
     let bytes = number_bytes c.args.order c.args.width c.args.bits in
-    Spells-held _ bytes c.in_ok-make_room.ensures.sends (ap (λ (s : Sending). s.sent) view)
-    (c.place_number-self-inside.ensures.text ∙ ap (λ (s : Sending). s.held ++ bytes) view) (ap (λ (s : Sending). s.count) view)
+    let s = c.self.inside in
+    let placed = c.place_number-self-inside in
+    let longer = run_longer s.gone s.used placed.result s.run placed.new.bytes bytes c.self.invariant.0 (omega (arith, c.self.told, c.self.invariant.1))
+    (omega (arith, c.place_number-self-inside.ensures.end, length-number_bytes c.args.order c.args.width c.args.bits)) placed.ensures.text in
+    Spells-held _ bytes c.in_ok-make_room.ensures.sends
+    (ap (λ (x : List ℕ). s.sum ++ x) longer.0 ∙ ap (λ (s : Sending). s.sent) view)
+    (longer.1 ∙ ap (λ (s : Sending). s.held ++ bytes) view) (ap (λ (s : Sending). s.count) view)

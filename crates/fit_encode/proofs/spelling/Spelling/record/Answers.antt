@@ -1,4 +1,5 @@
-use Rattle.fit_encode.proofs.Common.{◌++◌, ◌∙◌, ap, take, Sending, bytes_in_order}
+use Rattle.fit_encode.proofs.Common.{◌++◌, ◌∙◌, List, ℕ, ap, arith, Sending, bytes_in_order}
+use Rattle.fit_encode.proofs.Runs.{run_longer}
 use Rattle.fit_encode.proofs.Sendings.{Spells-held, Breaks-more, Sends-err}
 use Rattle.fit_encode.proofs.spelling.Spelling.record.Goals as goal
 
@@ -11,6 +12,10 @@ pub returns : goal.returns
 returns g c =
     let view = c.self.view_is in
     let bytes = bytes_in_order {A = g.row.A.Denot} c.args.order c.args.r.now in
-    Spells-held _ bytes c.in_ok-make_room.ensures.sends (ap (λ (s : Sending). s.sent) view)
-    (◌∙◌ {b = take c.self.inside.used c.self.inside.run ++ bytes} c.place_record-self-inside.ensures.text (ap (λ (s : Sending). s.held ++ bytes) view))
-    (ap (λ (s : Sending). s.count) view)
+    let s = c.self.inside in
+    let placed = c.place_record-self-inside in
+    let longer = run_longer s.gone s.used placed.result s.run placed.new.bytes bytes c.self.invariant.0 (omega (arith, c.self.told, c.self.invariant.1))
+    c.place_record-self-inside.ensures.end placed.ensures.text in
+    Spells-held _ bytes c.in_ok-make_room.ensures.sends
+    (ap (λ (x : List ℕ). s.sum ++ x) longer.0 ∙ ap (λ (s : Sending). s.sent) view)
+    (longer.1 ∙ ap (λ (s : Sending). s.held ++ bytes) view) (ap (λ (s : Sending). s.count) view)
