@@ -9,6 +9,7 @@ use Rattle.std.proofs.Common.{option_map}
 use Rattle.std.specs.Prelude.{◌==◌, ◌&&◌}
 use Rattle.fit_profile.specs.declared.names.Described.{Described}
 use Rattle.fit_profile.specs.declared.names.Names.{Names}
+use Rattle.fit_record.specs.Environment.{DescribesNothing}
 use Rattle.fit_record.specs.Records.{IsRecord}
 use Rattle.fit_record.specs.declared.message.Record.TheVariants.{Define, Values as Data}
 use Rattle.fit_record.specs.declared.learn.Description.{Description}
@@ -188,6 +189,13 @@ keeps-last e l l' n items items' now v k view fits none last pushed =
     (keeps-next e e l l' n n items now (Data v) k view (ap (describe e) (sym none))
     (last-now e l l' n (reverse items) now (Data v) (tell e l (Data v)) k view fits refl last)
     (λ index number. no-naming v (defined_at e v.local) index number (naming_in n index number) none) (λ local. refl))
+
+-- the same after any record that neither defines nor describes anything
+pub keeps-plain : {A : Type 0} (e : Environment A) (l l' : Last) (n : Names A) (items items' now : List (Record A)) (r : Record A)
+    → KeepsRecords e l n (reverse items) → reverse items ≡ now → Fits (known now) r → DescribesNothing e r
+    → l' ≡ last_after l (tell e l r) → items' ≡ items ++ (r ∷ []) → KeepsRecords e l' n (reverse items')
+keeps-plain e l l' n items items' now (Define d) k view fits none last pushed = absurd none
+keeps-plain e l l' n items items' now (Data v) k view fits none last pushed = keeps-last e l l' n items items' now v k view fits none last pushed
 
 pub told-now : {A : Type 0} (e : Environment A) (l : Last) (n : Names A) (xs now : List (Record A)) (r : Record A) (t : Option Told) → KeepsRecords e l n xs
     → xs ≡ now

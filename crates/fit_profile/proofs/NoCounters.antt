@@ -1,7 +1,10 @@
 -- A message without a field for a component has no number of it.
 use Rattle.fit_profile.proofs.Common.{◌≡◌, ℕ, List, ◌∷◌, None, true, false, inl, inr, refl, ap, sym, ◌∙◌, list_any, cases_Bool, or_parts, both_ways, Items}
-use Rattle.fit_profile.proofs.Common.{FieldDef, MessageDef, Values, first_field, number_of, Some, told_at, last_after}
+use Rattle.fit_profile.proofs.Common.{FieldDef, MessageDef, Values, first_field, number_of, Some, told_at, last_after, tell}
+use Rattle.fit_profile.proofs.Common.{Defined, Environment, defined_at, described_by}
 use Rattle.std.proofs.Common.{◌==◌, ◌&&◌}
+use Rattle.std.specs.Prelude.{◌||◌}
+use Rattle.fit_record.specs.declared.message.Record.TheVariants.{Values as Data}
 use Rattle.std.proofs.lemmas.Bool.{eqb-true}
 use Rattle.fit_profile.specs.declared.component.Component.{Component}
 use Rattle.fit_record.specs.Faults.{or_else}
@@ -32,3 +35,16 @@ pub only-time : {A : Type 0} (last : Last) (d : MessageDef A) (v : Values A) →
     → record last { time = or_else (or_else (field_time d v) (header_time last.time v.offset)) last.time } ≡ last_after last (Some (told_at last d v))
 only-time last d v none =
     rw (no-number sums.distance d v refl none, no-number sums.total_cycles d v refl none, no-number sums.accumulated_power d v refl none) refl
+
+-- neither a field description nor a message with counters
+pub parts : {A : Type 0} (d : MessageDef A) → (d.global == 206 || (d.global == 20 && list_any (λ f. is_counter f.number) d.fields)) ≡ false
+    → ((d.global == 206) ≡ false) × ((d.global == 20 && list_any (λ f. is_counter f.number) d.fields) ≡ false)
+parts d none = or_parts (d.global == 206) (d.global == 20 && list_any (λ f. is_counter f.number) d.fields) none
+
+pub tells : {A : Type 0} (e : Environment A) (p : Defined A) (l : Last) (v : Values A) → defined_at e v.local ≡ Some p
+    → tell e l (Data v) ≡ Some (told_at l p.definition v)
+tells e p l v known = rw known refl
+
+pub describes-nothing : {A : Type 0} (e : Environment A) (p : Defined A) (v : Values A) → defined_at e v.local ≡ Some p → (p.definition.global == 206) ≡ false
+    → described_by e v ≡ None
+describes-nothing e p v known other = rw (known, other) refl

@@ -13,6 +13,7 @@ mod message;
 mod message_bytes;
 pub mod message_number;
 mod names;
+mod plain;
 mod plan;
 mod profile;
 mod scaled;

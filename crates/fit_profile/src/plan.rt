@@ -21,6 +21,8 @@ use fit_record::{FIELD_DESCRIPTION, FieldDef, MessageDef, Record};
 pub(crate) struct Plan {
     /// They are field descriptions, or may have counters: most do not.
     pub tells_more: bool,
+    /// They are field descriptions.
+    pub describes: bool,
     /// Where the four bytes of their timestamp begin in those of their fields.
     pub time_place: Option<usize>,
 }
@@ -60,6 +62,7 @@ impl Plan {
     {
         Plan {
             tells_more: tells_more(definition),
+            describes: definition.global == FIELD_DESCRIPTION,
             time_place: time_place(definition.fields.as_slice()),
         }
     }

@@ -1,5 +1,5 @@
 //! The records of a file, one after another, and what each message means by those before it.
-ghost use Rattle.std.specs.Prelude.{◌≡◌, ◌∷◌, [], OnOk, OnErr, IfOk, IsOk, IsSomeAnd, ⊤, MatchResult, Some, true, false, drop, option_map, option_and_then, slice_get};
+ghost use Rattle.std.specs.Prelude.{◌≡◌, ◌∷◌, [], OnOk, OnErr, IfOk, IfSome, IsOk, IsSome, IsSomeAnd, None, ⊤, MatchResult, Some, true, false, drop, option_map, option_and_then, slice_get};
 ghost use Rattle.std.specs.Borrow.{sem};
 ghost use Rattle.std.specs.declared.alloc.Global.{Global};
 ghost use mathlib.Core.Option.{none};
@@ -22,6 +22,7 @@ use crate::learn::take_in;
 use crate::message::{Message, message_of};
 use crate::message_bytes::{record_of, take_time, time_in};
 use crate::names::{Names, Texts};
+use crate::plain::tell_plain;
 use crate::plan::Plans;
 use crate::time::header_time;
 use crate::told::{Last, Told, last_after, last_after_record, tell, time_of};
@@ -179,8 +180,22 @@ impl Stream {
         Ok(())
     }
 
-    /// Takes a record in, and tells its times and accumulated values.
-    fn note(&mut self, record_: &Record) -> Result<Option<Told>, AllocError>
+    /// Takes in a data message that describes no developer field, and tells its times and accumulated
+    /// values. Any other record is left, and None is told.
+    fn note_plain(&mut self, record_: &Record) -> Option<Told>
+        requires { Fits (known self.old) record_.now }
+        ensures taken { IsSome result → self.new ≡ record_.now ∷ self.old }
+        ensures told { IfSome result (λ t. Some t ≡ told_of self.old record_.now) }
+        ensures kept { result ≡ None → self.new ≡ self.old }
+    {
+        let told = tell_plain(&self.env, &self.plans, self.last, record_)?;
+        self.last = last_after(self.last, Some(told));
+        self.pushed.add(record_);
+        Some(told)
+    }
+
+    /// Takes any record in, and tells its times and accumulated values.
+    fn note_other(&mut self, record_: &Record) -> Result<Option<Told>, AllocError>
         requires { Fits (known self.old) record_.now }
         ensures ok { OnOk result (self.new ≡ record_.now ∷ self.old) }
         ensures err { OnErr result (self.new ≡ self.old) }
@@ -191,6 +206,20 @@ impl Stream {
         let last = last_after(self.last, told);
         self.advance(record_, last)?;
         Ok(told)
+    }
+
+    /// Takes a record in, and tells its times and accumulated values. Most records describe nothing.
+    fn note(&mut self, record_: &Record) -> Result<Option<Told>, AllocError>
+        requires { Fits (known self.old) record_.now }
+        ensures ok { OnOk result (self.new ≡ record_.now ∷ self.old) }
+        ensures err { OnErr result (self.new ≡ self.old) }
+        ensures told { IfOk result (λ t. t ≡ told_of self.old record_.now) }
+        ensures free { DescribesNothing (known self.old) record_.now → IsOk result }
+    {
+        match self.note_plain(record_) {
+            Some(told) => Ok(Some(told)),
+            None => self.note_other(record_),
+        }
     }
 
     /// Takes the next record. A definition gives None, a data message what it means, given the records
@@ -208,8 +237,8 @@ impl Stream {
         Ok(self.message(told, record_))
     }
 
-    /// Takes the next record in, as `push` does, and makes no message of it.
-    pub fn take(&mut self, record_: &Record) -> Result<(), AllocError>
+    /// Takes any record in, and tells nothing.
+    fn take_other(&mut self, record_: &Record) -> Result<(), AllocError>
         requires { Fits (known self.old) record_.now }
         ensures ok { OnOk result (self.new ≡ record_.now ∷ self.old) }
         ensures err { OnErr result (self.new ≡ self.old) }
@@ -217,6 +246,19 @@ impl Stream {
     {
         let last = last_after_record(&self.env, self.last, record_);
         self.advance(record_, last)
+    }
+
+    /// Takes the next record in, as `push` does, and makes no message of it.
+    pub fn take(&mut self, record_: &Record) -> Result<(), AllocError>
+        requires { Fits (known self.old) record_.now }
+        ensures ok { OnOk result (self.new ≡ record_.now ∷ self.old) }
+        ensures err { OnErr result (self.new ≡ self.old) }
+        ensures free { DescribesNothing (known self.old) record_.now → IsOk result }
+    {
+        match self.note_plain(record_) {
+            Some(_) => Ok(()),
+            None => self.take_other(record_),
+        }
     }
 
     /// Takes in the data message that these bytes are, where it tells nothing but a time. Whether it did.

@@ -1,5 +1,6 @@
 //! Times and accumulated values of a message.
-ghost use Rattle.std.specs.Prelude.{◌≡◌, ◌≤◌, ◌<◌, ◌^◌, ◌%◌, ◌/◌, Some, option_map, option_and_then, unwrap_or};
+ghost use Rattle.std.specs.Prelude.{◌≡◌, ◌≤◌, ◌<◌, ◌^◌, ◌%◌, ◌/◌, ◌==◌, ◌&&◌, false, Some, option_map, option_and_then, unwrap_or};
+ghost use Rattle.std.specs.List.{list_any};
 ghost use Rattle.fit_record.specs.Environment.{defined_at};
 ghost use Rattle.fit_record.specs.Faults.{or_else};
 ghost use Rattle.fit_profile.specs.Times as times;
@@ -122,7 +123,11 @@ pub(crate) fn time_of<A: Allocator>(
 }
 
 /// What is told of a message with counters by the last ones before it.
-fn counted_at<A: Allocator>(last: Last, definition: &MessageDef<A>, values: &Values<A>) -> Told
+pub(crate) fn counted_at<A: Allocator>(
+    last: Last,
+    definition: &MessageDef<A>,
+    values: &Values<A>,
+) -> Told
     ensures { result ≡ telling.told_at last definition.now values.now }
 {
     let distance = number(DISTANCE, definition, values);
@@ -138,13 +143,16 @@ fn counted_at<A: Allocator>(last: Last, definition: &MessageDef<A>, values: &Val
     }
 }
 
-/// What is told of a message by the last ones before it.
-fn told_at<A: Allocator>(last: Last, definition: &MessageDef<A>, values: &Values<A>) -> Told
+/// What is told of a message without counters by the last ones before it.
+pub(crate) fn uncounted_at<A: Allocator>(
+    last: Last,
+    definition: &MessageDef<A>,
+    values: &Values<A>,
+) -> Told
+    requires { (definition.now.global == 20
+        && list_any (λ f. sums.is_counter f.number) definition.now.fields) ≡ false }
     ensures { result ≡ telling.told_at last definition.now values.now }
 {
-    if may_count(definition) {
-        return counted_at(last, definition, values);
-    }
     Told {
         time: time(last.time, definition, values),
         header_time: header_time(last.time, values.offset),
@@ -153,6 +161,16 @@ fn told_at<A: Allocator>(last: Last, definition: &MessageDef<A>, values: &Values
         total_cycles: None,
         accumulated_power: None,
     }
+}
+
+/// What is told of a message by the last ones before it.
+fn told_at<A: Allocator>(last: Last, definition: &MessageDef<A>, values: &Values<A>) -> Told
+    ensures { result ≡ telling.told_at last definition.now values.now }
+{
+    if may_count(definition) {
+        return counted_at(last, definition, values);
+    }
+    uncounted_at(last, definition, values)
 }
 
 /// What is told of a data message.

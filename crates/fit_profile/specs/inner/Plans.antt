@@ -1,5 +1,5 @@
 -- What is found out once of the messages of a definition. No public contract names these definitions.
-use Rattle.std.specs.Prelude.{◌≡◌, ◌≤◌, ◌+◌, ℕ, List, Option, Some, None, IfSome, drop, option_and_then, slice_index_or, take}
+use Rattle.std.specs.Prelude.{◌≡◌, ◌==◌, ◌≤◌, ◌+◌, ℕ, List, Option, Some, None, IfSome, drop, option_and_then, slice_index_or, take}
 use Rattle.std.specs.Global.{Global}
 use Rattle.fit_base.specs.Numbers.{number}
 use Rattle.fit_base.specs.declared.number.Order.{Order}
@@ -23,9 +23,11 @@ time_of_fields order fields bytes =
 abbrev pub time_at : Order → Option ℕ → List ℕ → Option ℕ
 time_at order place bytes = option_and_then (λ p. valid_time (number order (take 4 (drop p bytes)))) place
 
--- This plan is that of the definition: it knows whether a message tells more than a time, and where its time stands.
+-- This plan is that of the definition: it knows whether a message tells more than a time, whether it describes a developer field, and where
+-- its time stands.
 pub record IsPlan (plan : Plan) (d : MessageDef Global) : Type 0 where
   pub more : plan.tells_more ≡ tells_more d
+  pub describes : plan.describes ≡ (d.global == 206)
   pub within : IfSome plan.time_place (λ p. p + 4 ≤ sizes (slots d.fields))
   pub time : (bytes : List ℕ) → time_of_fields d.order d.fields bytes ≡ time_at d.order plan.time_place bytes
 

@@ -1,26 +1,11 @@
-use Rattle.fit_profile.proofs.Common.{◌≡◌, ◌∙◌, ◌++◌, ◌∷◌, [], sym, ap, refl, subst, false, true, IsSomeAnd, or_parts, Some, None, list_any}
-use Rattle.fit_profile.proofs.Common.{Defined, Environment, Values, MessageDef, defined_at, described_by, tell, told_at, last_after}
-use Rattle.std.specs.Prelude.{◌==◌, ◌&&◌, ◌||◌}
+use Rattle.fit_profile.proofs.Common.{◌≡◌, ◌∙◌, ◌++◌, ◌∷◌, [], sym, ap, subst, true, IsSomeAnd, None}
+use Rattle.fit_profile.proofs.Common.{defined_at, described_by, tell, last_after}
 use Rattle.fit_record.specs.Faults.{or_else}
 use Rattle.fit_record.specs.MessageBytes.{message_in}
 use Rattle.fit_record.specs.declared.message.Record.TheVariants.{Values as Data}
-use Rattle.fit_profile.specs.declared.told.Last.{Last}
-use Rattle.fit_profile.specs.Accumulated.{is_counter, tells_more}
-use Rattle.fit_profile.proofs.NoCounters.{only-time}
+use Rattle.fit_profile.specs.Accumulated.{tells_more}
+use Rattle.fit_profile.proofs.NoCounters.{only-time, parts, tells, describes-nothing}
 use Rattle.fit_profile.proofs.message_bytes.take_time.Goals as goal
-
--- neither a field description nor a message with counters
-parts : {A : Type 0} (d : MessageDef A) → (d.global == 206 || (d.global == 20 && list_any (λ f. is_counter f.number) d.fields)) ≡ false
-    → ((d.global == 206) ≡ false) × ((d.global == 20 && list_any (λ f. is_counter f.number) d.fields) ≡ false)
-parts d none = or_parts (d.global == 206) (d.global == 20 && list_any (λ f. is_counter f.number) d.fields) none
-
-tells : {A : Type 0} (e : Environment A) (p : Defined A) (l : Last) (v : Values A) → defined_at e v.local ≡ Some p
-    → tell e l (Data v) ≡ Some (told_at l p.definition v)
-tells e p l v known = rw known refl
-
-describes-nothing : {A : Type 0} (e : Environment A) (p : Defined A) (v : Values A) → defined_at e v.local ≡ Some p → (p.definition.global == 206) ≡ false
-    → described_by e v ≡ None
-describes-nothing e p v known other = rw (known, other) refl
 
 pub returns-clause-last : goal.returns-clause-last
 returns-clause-last c _ v is =

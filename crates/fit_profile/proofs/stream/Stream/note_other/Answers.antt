@@ -1,6 +1,6 @@
 use Rattle.fit_profile.proofs.Common.{reverse}
 use Rattle.fit_profile.proofs.Kept.{last-now, told-now}
-use Rattle.fit_profile.proofs.stream.Stream.note.Goals as goal
+use Rattle.fit_profile.proofs.stream.Stream.note_other.Goals as goal
 
 pub advance-requires-clause-last : goal.advance-requires-clause-last
 advance-requires-clause-last c =

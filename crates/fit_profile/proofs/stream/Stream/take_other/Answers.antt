@@ -1,6 +1,6 @@
 use Rattle.fit_profile.proofs.Common.{refl, reverse, tell}
 use Rattle.fit_profile.proofs.Kept.{last-now}
-use Rattle.fit_profile.proofs.stream.Stream.take.Goals as goal
+use Rattle.fit_profile.proofs.stream.Stream.take_other.Goals as goal
 
 pub advance-requires-clause-last : goal.advance-requires-clause-last
 advance-requires-clause-last c =

@@ -1,0 +1,23 @@
+use Rattle.fit_profile.proofs.Common.{◌∙◌, ◌∷◌, [], Some, ap, reverse, reverse-append, last_after}
+use Rattle.fit_profile.proofs.Kept.{keeps-plain, told-now}
+use Rattle.fit_profile.proofs.stream.Stream.note_plain.Goals as goal
+
+pub invariant_of-self : goal.invariant_of-self
+invariant_of-self c =
+    let s = c.self.inside in (
+      keeps-plain s.env s.last c.last_after-self-inside.result s.names s.pushed.items c.add.new.self.items c.args.self.now c.args.record_.now
+          c.self.invariant.0 c.self.view_is c.requires c.in_ok-told.ensures.nothing
+          (c.last_after-self-inside.ensures ∙ ap (last_after s.last) c.in_ok-told.ensures.told) c.add.ensures,
+      c.self.invariant.1,
+    )
+
+pub returns-clause-told : goal.returns-clause-told
+returns-clause-told c =
+    let s = c.self.inside in
+    told-now s.env s.last s.names (reverse s.pushed.items) c.args.self.now c.args.record_.now (Some c.in_ok-told.told) c.self.invariant.0 c.self.view_is
+    c.requires c.in_ok-told.ensures.told
+
+pub returns-clause-taken : goal.returns-clause-taken
+returns-clause-taken c _ =
+    let r = c.args.record_.now in
+    ap reverse c.add.ensures ∙ reverse-append c.self.inside.pushed.items (r ∷ []) ∙ ap (λ xs. r ∷ xs) c.self.view_is
