@@ -15,6 +15,7 @@ pub struct Info {
     pub offset: u32,
 }
 
+#[inline(always)]
 fn field(name: &'static str, unit: &'static str, scale: u32, offset: u32) -> Info
     ensures { meaning result ≡
         record { name = name.now; unit = unit.now; scale = scale; offset = offset } }
@@ -27,6 +28,7 @@ fn field(name: &'static str, unit: &'static str, scale: u32, offset: u32) -> Inf
     }
 }
 
+#[inline(always)]
 fn file_id(number: u8) -> Option<Info>
     ensures { option_map meaning result ≡ field_of profile.file_id.fields number }
 {
@@ -43,6 +45,7 @@ fn file_id(number: u8) -> Option<Info>
     Some(info)
 }
 
+#[inline(always)]
 fn sport(number: u8) -> Option<Info>
     ensures { option_map meaning result ≡ field_of profile.sport.fields number }
 {
@@ -55,6 +58,7 @@ fn sport(number: u8) -> Option<Info>
     Some(info)
 }
 
+#[inline(always)]
 fn session(number: u8) -> Option<Info>
     ensures { option_map meaning result ≡ field_of profile.session.fields number }
 {
@@ -89,6 +93,7 @@ fn session(number: u8) -> Option<Info>
     Some(info)
 }
 
+#[inline(always)]
 fn lap(number: u8) -> Option<Info>
     ensures { option_map meaning result ≡ field_of profile.lap.fields number }
 {
@@ -123,6 +128,7 @@ fn lap(number: u8) -> Option<Info>
     Some(info)
 }
 
+#[inline(always)]
 fn record_message(number: u8) -> Option<Info>
     ensures { option_map meaning result ≡ field_of profile.record_message.fields number }
 {
@@ -154,6 +160,7 @@ fn record_message(number: u8) -> Option<Info>
     Some(info)
 }
 
+#[inline(always)]
 fn event(number: u8) -> Option<Info>
     ensures { option_map meaning result ≡ field_of profile.event.fields number }
 {
@@ -168,6 +175,7 @@ fn event(number: u8) -> Option<Info>
     Some(info)
 }
 
+#[inline(always)]
 fn device_info(number: u8) -> Option<Info>
     ensures { option_map meaning result ≡ field_of profile.device_info.fields number }
 {
@@ -187,6 +195,7 @@ fn device_info(number: u8) -> Option<Info>
     Some(info)
 }
 
+#[inline(always)]
 fn activity(number: u8) -> Option<Info>
     ensures { option_map meaning result ≡ field_of profile.activity.fields number }
 {
@@ -202,6 +211,7 @@ fn activity(number: u8) -> Option<Info>
     Some(info)
 }
 
+#[inline(always)]
 fn file_creator(number: u8) -> Option<Info>
     ensures { option_map meaning result ≡ field_of profile.file_creator.fields number }
 {
@@ -213,6 +223,7 @@ fn file_creator(number: u8) -> Option<Info>
     Some(info)
 }
 
+#[inline(always)]
 fn hrv(number: u8) -> Option<Info>
     ensures { option_map meaning result ≡ field_of profile.hrv.fields number }
 {
@@ -223,6 +234,7 @@ fn hrv(number: u8) -> Option<Info>
     Some(info)
 }
 
+#[inline(always)]
 fn field_description(number: u8) -> Option<Info>
     ensures { option_map meaning result ≡ field_of profile.field_description.fields number }
 {
@@ -237,6 +249,7 @@ fn field_description(number: u8) -> Option<Info>
     Some(info)
 }
 
+#[inline(always)]
 fn developer_data_id(number: u8) -> Option<Info>
     ensures { option_map meaning result ≡ field_of profile.developer_data_id.fields number }
 {
@@ -273,6 +286,7 @@ pub fn message_name(global: u16) -> Option<&'static str>
 }
 
 /// A field that is listed for its message.
+#[inline(always)]
 fn listed(global: u16, number: u8) -> Option<Info>
     ensures { option_map meaning result ≡ option_and_then (λ m. field_of m.fields number)
         (message_of global) }
@@ -294,9 +308,9 @@ fn listed(global: u16, number: u8) -> Option<Info>
     }
 }
 
-/// What the profile says of a field. Field 253 is `timestamp` in every message, and field 254
-/// `message_index` in every message that the profile lists; all others are None where they aren't listed.
-pub fn field_info(global: u16, number: u8) -> Option<Info>
+/// The same as `field_info`, within its caller: what that doesn't ask for isn't looked up.
+#[inline(always)]
+pub(crate) fn info_of(global: u16, number: u8) -> Option<Info>
     ensures table { option_map meaning result ≡ names.field global number }
     ensures scale { IfSome result (λ i. IsScale i.scale) }
     ensures short { IfSome result (λ i. length i.name.now ≤ 32) }
@@ -309,4 +323,14 @@ pub fn field_info(global: u16, number: u8) -> Option<Info>
         }
         _ => listed(global, number),
     }
+}
+
+/// What the profile says of a field. Field 253 is `timestamp` in every message, and field 254
+/// `message_index` in every message that the profile lists; all others are None where they aren't listed.
+pub fn field_info(global: u16, number: u8) -> Option<Info>
+    ensures table { option_map meaning result ≡ names.field global number }
+    ensures scale { IfSome result (λ i. IsScale i.scale) }
+    ensures short { IfSome result (λ i. length i.name.now ≤ 32) }
+{
+    info_of(global, number)
 }

@@ -1,13 +1,18 @@
 //! The numbers that fields hold.
-ghost use Rattle.std.specs.Prelude.{◌≡◌, ◌≤◌, ◌<◌, ◌^◌, ◌≤ℤ◌, ◌<ℤ◌, IfSome, pos, neg_ℤ};
-ghost use Rattle.fit_base.specs.BaseTypes.{base_type};
+ghost use Rattle.std.specs.Prelude.{◌≡◌, ◌⊎◌, ◌+◌, ◌≤◌, ◌<◌, ◌^◌, ◌≤ℤ◌, ◌<ℤ◌, ◌==◌, ◌&&◌, not, nat_lt, if◌then◌else◌, IfSome, pos, neg_ℤ};
+ghost use Rattle.fit_base.specs.Numbers.{twos_complement};
 ghost use Rattle.fit_numbers.specs.Scaled.{IsScale};
 ghost use Rattle.fit_profile.specs.Values as values;
 ghost use Rattle.fit_profile.specs.Values.{IsAmount, IsValueOf, known_number};
 
 use crate::look::first_of;
-use crate::{Fixed, Info, field_info, fixed};
-use fit_base::{Class, Code, Items, has_width, signed};
+use crate::profile::info_of;
+use crate::{Fixed, Info, fixed};
+use fit_base::base_type::{
+    ENUM, SINT8, SINT16, SINT32, SINT64, UINT8, UINT8Z, UINT16, UINT16Z, UINT32, UINT32Z, UINT64,
+    UINT64Z,
+};
+use fit_base::{Items, has_width, signed};
 use fit_record::{FieldDef, MessageDef, Values};
 use std::alloc::Allocator;
 
@@ -29,41 +34,87 @@ pub(crate) fn in_scale(number: Option<u64>, scale: u32) -> Option<Fixed>
     }
 }
 
-/// The number that an item of a code stands for.
-fn number_of(code: Code, bits: u64) -> Option<i128>
-    requires { bits < 256 ^ (base_type code.0).width }
-    ensures number { result ≡ values.number_of_class (base_type code.0).class
-        (base_type code.0).width bits }
+/// A number of `own` bytes, of which the greatest is no value.
+#[inline(always)]
+fn below(own: u8, greatest: u64, width: u8, bits: u64) -> Option<i128>
+    requires { greatest + 1 ≡ 256 ^ own }
+    ensures number { result ≡ (if (width == own && nat_lt bits (256 ^ own))
+        && not (bits == greatest) then Some (pos bits) else None) }
     ensures least { IfSome result (λ n. neg_ℤ (pos (2 ^ 63)) ≤ℤ n) }
     ensures most { IfSome result (λ n. n <ℤ pos (2 ^ 64)) }
 {
-    match code.class() {
-        Class::Signed => Some(i128::from(signed(code.width(), bits))),
-        Class::Unsigned => Some(i128::from(bits)),
+    if width == own && bits < greatest {
+        Some(i128::from(bits))
+    } else {
+        None
+    }
+}
+
+/// A number of `own` bytes, of which 0 is no value.
+#[inline(always)]
+fn above_zero(own: u8, greatest: u64, width: u8, bits: u64) -> Option<i128>
+    requires { greatest + 1 ≡ 256 ^ own }
+    ensures number { result ≡ (if (width == own && nat_lt bits (256 ^ own))
+        && not (bits == 0) then Some (pos bits) else None) }
+    ensures least { IfSome result (λ n. neg_ℤ (pos (2 ^ 63)) ≤ℤ n) }
+    ensures most { IfSome result (λ n. n <ℤ pos (2 ^ 64)) }
+{
+    if width == own && bits != 0 && bits <= greatest {
+        Some(i128::from(bits))
+    } else {
+        None
+    }
+}
+
+/// A number of `own` bytes in two's complement, of which the greatest is no value.
+#[inline(always)]
+fn with_sign(own: u8, invalid: u64, width: u8, bits: u64) -> Option<i128>
+    requires { (own ≡ 1) ⊎ (own ≡ 2) ⊎ (own ≡ 4) ⊎ (own ≡ 8) }
+    ensures number { result ≡ (if (width == own && nat_lt bits (256 ^ own))
+        && not (bits == invalid) then Some (twos_complement own bits) else None) }
+    ensures least { IfSome result (λ n. neg_ℤ (pos (2 ^ 63)) ≤ℤ n) }
+    ensures most { IfSome result (λ n. n <ℤ pos (2 ^ 64)) }
+{
+    if width == own && has_width(bits, own) && bits != invalid {
+        Some(i128::from(signed(own, bits)))
+    } else {
+        None
+    }
+}
+
+/// The number that an item of its code's width holds, where it is valid. One jump leads to all that is to be known of a code.
+#[inline(always)]
+fn valid_number(code: u8, width: u8, bits: u64) -> Option<i128>
+    ensures number { result ≡ values.valid_number code width bits }
+    ensures least { IfSome result (λ n. neg_ℤ (pos (2 ^ 63)) ≤ℤ n) }
+    ensures most { IfSome result (λ n. n <ℤ pos (2 ^ 64)) }
+{
+    match code {
+        ENUM | UINT8 => below(1, 0xFF, width, bits),
+        UINT16 => below(2, 0xFFFF, width, bits),
+        UINT32 => below(4, 0xFFFF_FFFF, width, bits),
+        UINT64 => below(8, u64::MAX, width, bits),
+        SINT8 => with_sign(1, 0x7F, width, bits),
+        SINT16 => with_sign(2, 0x7FFF, width, bits),
+        SINT32 => with_sign(4, 0x7FFF_FFFF, width, bits),
+        SINT64 => with_sign(8, 0x7FFF_FFFF_FFFF_FFFF, width, bits),
+        UINT8Z => above_zero(1, 0xFF, width, bits),
+        UINT16Z => above_zero(2, 0xFFFF, width, bits),
+        UINT32Z => above_zero(4, 0xFFFF_FFFF, width, bits),
+        UINT64Z => above_zero(8, u64::MAX, width, bits),
         _ => None,
     }
 }
 
-/// The number that an item of its code's width holds, where it is valid.
-fn valid_number(code: Code, width: u8, bits: u64) -> Option<i128>
-    ensures number { result ≡ values.valid_number code.0 width bits }
-    ensures least { IfSome result (λ n. neg_ℤ (pos (2 ^ 63)) ≤ℤ n) }
-    ensures most { IfSome result (λ n. n <ℤ pos (2 ^ 64)) }
-{
-    if width != code.width() || !has_width(bits, width) || bits == code.invalid() {
-        return None;
-    }
-    number_of(code, bits)
-}
-
 /// The number of a field's first item.
+#[inline(always)]
 fn first_number<A: Allocator>(field: &FieldDef, items: &Items<A>) -> Option<i128>
     ensures number { result ≡ values.first_number field.now items.now }
     ensures least { IfSome result (λ n. neg_ℤ (pos (2 ^ 63)) ≤ℤ n) }
     ensures most { IfSome result (λ n. n <ℤ pos (2 ^ 64)) }
 {
     match items.bits.as_slice() {
-        [bits, ..] => valid_number(Code(field.code), items.width, *bits),
+        [bits, ..] => valid_number(field.code, items.width, *bits),
         [] => None,
     }
 }
@@ -83,6 +134,6 @@ pub(crate) fn value_of<A: Allocator>(
         number,
     )?;
     let raw = first_number(field, items)?;
-    let info = field_info(definition.global, number)?;
+    let info = info_of(definition.global, number)?;
     Some(fixed(raw, info))
 }
