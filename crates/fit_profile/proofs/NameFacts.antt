@@ -45,20 +45,12 @@ pub naming-updated : {X : Type 0} (m n : BTreeMap DevKey X) (key : DevKey) (x no
 naming-updated m n key x none u index number =
     map-updated dev_key_cmp m n key (record { index = index; number = number }) x none (is_key key index number) (at-key key index number) u
 
-pub place-updated : {X : Type 0} (m n : BTreeMap ℕ X) (local l : ℕ) (x none : X) → Updates nat_cmp m n local (Some x)
-    → unwrap_or (get nat_cmp n l) none ≡ cond (local == l) x (unwrap_or (get nat_cmp m l) none)
-place-updated m n local l x none u = map-updated nat_cmp m n local l x none (local == l) (equal-is local l) u
-
 -- a key that had nothing may be kept with the default
 map-reserved : {K X : Type 0} (cmp : K → K → Ordering) (m n : BTreeMap K X) (key q : K) (none : X) (b : Bool) → is_at (cmp key) q ≡ b → (b ≡ true → q ≡ key)
     → Updates cmp m n key (Some none) → get cmp m key ≡ None → unwrap_or (get cmp n q) none ≡ unwrap_or (get cmp m q) none
 map-reserved cmp m n key q none true at same u absent =
     map-updated cmp m n key q none none true at u ∙ sym (ap (λ k. unwrap_or (get cmp m k) none) (same refl) ∙ ap (λ o. unwrap_or o none) absent)
 map-reserved cmp m n key q none false at same u absent = map-updated cmp m n key q none none false at u
-
-pub place-reserved : {X : Type 0} (m n : BTreeMap ℕ X) (local l : ℕ) (none : X) → Updates nat_cmp m n local (Some none) → get nat_cmp m local ≡ None
-    → unwrap_or (get nat_cmp n l) none ≡ unwrap_or (get nat_cmp m l) none
-place-reserved m n local l none = map-reserved nat_cmp m n local l none (local == l) (equal-is local l) (λ e. sym (eqb-true local l e))
 
 pub naming-reserved : {X : Type 0} (m n : BTreeMap DevKey X) (key : DevKey) (none : X) → Updates dev_key_cmp m n key (Some none) → get dev_key_cmp m key ≡ None
     → (index number : ℕ)

@@ -8,14 +8,14 @@ ghost use Rattle.fit_profile.specs.inner.Keeps.{described, naming_in, namings_in
 
 use crate::names::{Described, Names, texts_of};
 use fit_record::{Env, MessageDef, Record, Values};
-use std::alloc::{AllocError, Allocator};
+use std::alloc::{AllocError, Global};
 
 /// Takes a definition in: its developer fields have the names and units of their last descriptions.
-fn define<A: Allocator + Copy>(
-    env: &mut Env<A>,
-    names: &mut Names<A>,
-    record_: &Record<A>,
-    definition: &MessageDef<A>,
+fn define(
+    env: &mut Env,
+    names: &mut Names,
+    record_: &Record,
+    definition: &MessageDef,
 ) -> Result<(), AllocError>
     requires is { record_.now ≡ Define definition.now }
     requires fits { Fits env.old record_.now }
@@ -31,18 +31,17 @@ fn define<A: Allocator + Copy>(
         → namings_in names.new local ≡ namings_in names.old local) }
 {
     let namings = names.namings_of(definition)?;
-    names.reserve_place(definition.local)?;
     env.learn(record_)?;
     names.put(definition.local, namings);
     Ok(())
 }
 
 /// The developer field that a message describes, with its name and its unit.
-fn described_in<A: Allocator + Copy>(
-    env: &Env<A>,
-    alloc: A,
-    values: &Values<A>,
-) -> Result<Option<Described<A>>, AllocError>
+fn described_in(
+    env: &Env,
+    alloc: Global,
+    values: &Values,
+) -> Result<Option<Described<Global>>, AllocError>
     requires { IsSomeAnd (defined_at env.now values.now.local) (DataFits values.now) }
     ensures ok { IfOk result (λ o. o ≡ option_and_then (λ p. described p.definition values.now)
         (defined_at env.now values.now.local)) }
@@ -62,11 +61,11 @@ fn described_in<A: Allocator + Copy>(
 }
 
 /// Takes a data message in: a field description gives a developer field its name and its unit.
-fn describe<A: Allocator + Copy>(
-    env: &mut Env<A>,
-    names: &mut Names<A>,
-    record_: &Record<A>,
-    values: &Values<A>,
+fn describe(
+    env: &mut Env,
+    names: &mut Names,
+    record_: &Record,
+    values: &Values,
 ) -> Result<(), AllocError>
     requires is { record_.now ≡ Data values.now }
     requires fits { Fits env.old record_.now }
@@ -93,11 +92,7 @@ fn describe<A: Allocator + Copy>(
 }
 
 /// Takes a record in. Where memory is refused, all that is known stays.
-pub(crate) fn take_in<A: Allocator + Copy>(
-    env: &mut Env<A>,
-    names: &mut Names<A>,
-    record_: &Record<A>,
-) -> Result<(), AllocError>
+pub(crate) fn take_in(env: &mut Env, names: &mut Names, record_: &Record) -> Result<(), AllocError>
     requires { Fits env.old record_.now }
     ensures learned { OnOk result (env.new ≡ learn env.old record_.now) }
     ensures env_kept { OnErr result (env.new ≡ env.old) }

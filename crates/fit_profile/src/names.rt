@@ -1,7 +1,6 @@
 //! Names and units of developer fields: those of the last descriptions, and those of the defined fields.
-ghost use Rattle.std.specs.Prelude.{◌≡◌, ◌==◌, IfOk, OnOk, IsSome, ℕ, [], if◌then◌else◌, map, option_map, slice_get};
+ghost use Rattle.std.specs.Prelude.{◌≡◌, ◌==◌, ◌<◌, IfOk, OnOk, IsSome, ℕ, [], if◌then◌else◌, length, map, option_map, slice_get, slice_index_or, slice_set};
 ghost use Rattle.std.specs.BTreeMap.{get};
-ghost use Rattle.std.specs.Ordering.{nat_cmp};
 ghost use Rattle.std.specs.String.{string_bytes};
 ghost use Rattle.fit_record.specs.Environment.{dev_defs, dev_key_cmp};
 ghost use Rattle.fit_profile.specs.Described.{naming, nameless};
@@ -37,7 +36,7 @@ impl<A: Allocator> Model for Texts<A> {
 #[derive(Drop)]
 pub(crate) struct Names<A: Allocator = Global> {
     pub described: BTreeMap<DevKey, Texts<A>, A>,
-    pub places: BTreeMap<u8, Entries<Texts<A>, A>, A>,
+    pub places: [Entries<Texts<A>, A>; 16],
     pub alloc: A,
 }
 
@@ -127,12 +126,49 @@ pub(crate) fn texts_of<A: Allocator + Copy>(
     Ok(Texts { name, unit })
 }
 
+/// Sixteen local message types without developer fields.
+fn no_places<A: Allocator + Copy>(alloc: A) -> [Entries<Texts<A>, A>; 16]
+    ensures { (local : ℕ) → slice_index_or result local [] ≡ [] }
+{
+    [
+        Entries::new(alloc),
+        Entries::new(alloc),
+        Entries::new(alloc),
+        Entries::new(alloc),
+        Entries::new(alloc),
+        Entries::new(alloc),
+        Entries::new(alloc),
+        Entries::new(alloc),
+        Entries::new(alloc),
+        Entries::new(alloc),
+        Entries::new(alloc),
+        Entries::new(alloc),
+        Entries::new(alloc),
+        Entries::new(alloc),
+        Entries::new(alloc),
+        Entries::new(alloc),
+    ]
+}
+
+/// Puts the names and units of a local message type in their place.
+fn set_place<A: Allocator>(
+    places: &mut [Entries<Texts<A>, A>; 16],
+    local: u8,
+    namings: Entries<Texts<A>, A>,
+)
+    requires { local < 16 }
+    ensures place { places.new ≡ slice_set places.old local namings }
+    ensures length { length places.old ≡ 16 }
+{
+    places[local as usize] = namings;
+}
+
 impl<A: Allocator> Names<A> {
     /// The names and units of the developer fields of a local message type.
     pub fn at(&self, local: u8) -> &[Texts<A>]
         ensures { result.now ≡ namings_in self.now local }
     {
-        match self.places.get(&local) {
+        match self.places.get(local as usize) {
             Some(texts) => texts.as_slice(),
             None => &[],
         }
@@ -154,7 +190,7 @@ impl<A: Allocator + Copy> Names<A> {
     {
         Names {
             described: BTreeMap::new(alloc),
-            places: BTreeMap::new(alloc),
+            places: no_places(alloc),
             alloc,
         }
     }
@@ -197,31 +233,15 @@ impl<A: Allocator + Copy> Names<A> {
         }
     }
 
-    /// Takes memory for a definition to come. No name or unit changes.
-    pub fn reserve_place(&mut self, local: u8) -> Result<(), AllocError>
-        ensures namings { (l : ℕ) → namings_in self.new l ≡ namings_in self.old l }
-        ensures naming { (index number : ℕ) → naming_in self.new index number
-            ≡ naming_in self.old index number }
-        ensures held { OnOk result (IsSome (get nat_cmp self.new.places local)) }
-    {
-        if !self.places.contains_key(&local) {
-            self.places.insert(local, Entries::new(self.alloc))?;
-        }
-        Ok(())
-    }
-
     /// Keeps the names and units of a local message type.
     pub fn put(&mut self, local: u8, namings: Entries<Texts<A>, A>)
-        requires { IsSome (get nat_cmp self.old.places local) }
+        requires { local < 16 }
         ensures namings { (l : ℕ) → namings_in self.new l
             ≡ (if local == l then namings else namings_in self.old l) }
         ensures naming { (index number : ℕ) → naming_in self.new index number
             ≡ naming_in self.old index number }
     {
-        match self.places.insert(local, namings) {
-            Ok(_) => (),
-            Err(_) => unreachable!(),
-        }
+        set_place(&mut self.places, local, namings);
     }
 
     /// Takes memory for what will be described. No name or unit changes.

@@ -144,6 +144,7 @@ pub(crate) fn counted_at<A: Allocator>(
 }
 
 /// What is told of a message without counters by the last ones before it.
+#[inline(always)]
 pub(crate) fn uncounted_at<A: Allocator>(
     last: Last,
     definition: &MessageDef<A>,

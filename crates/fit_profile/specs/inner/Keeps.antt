@@ -1,6 +1,5 @@
 -- What a stream keeps of the records so far. No public contract names these definitions.
-use Rattle.std.specs.Prelude.{◌≡◌, ℕ, ◌==◌, ◌&&◌, Bool, List, [], Option, option_map, unwrap_or}
-use Rattle.std.specs.Ordering.{nat_cmp}
+use Rattle.std.specs.Prelude.{◌≡◌, ℕ, ◌==◌, ◌&&◌, Bool, List, [], Option, option_map, slice_index_or, unwrap_or}
 use Rattle.std.specs.BTreeMap.{get}
 use Rattle.fit_record.specs.declared.message.Record.{Record}
 use Rattle.fit_record.specs.declared.definition.MessageDef.{MessageDef}
@@ -28,7 +27,7 @@ naming_in names index number = unwrap_or (get dev_key_cmp names.described (recor
 
 -- those that are kept for the developer fields of a local message type
 abbrev pub namings_in : {A : Type 0} → Names A → ℕ → List Naming
-namings_in names local = unwrap_or (get nat_cmp names.places local) []
+namings_in names local = slice_index_or names.places local []
 
 -- the environment, the last values, and the names and units are those of these records
 pub record KeepsRecords {A : Type 0} (env : Environment A) (last : Last) (names : Names A) (earlier : List (Record A)) : Type 0 where

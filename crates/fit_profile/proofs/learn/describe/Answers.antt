@@ -4,17 +4,17 @@ use Rattle.fit_profile.proofs.Kept.{one-described, no-definition, nothing-descri
 use Rattle.fit_profile.proofs.learn.describe.Goals as goal
 
 pub returns-clause-naming : goal.returns-clause-naming
-returns-clause-naming g c index number =
+returns-clause-naming c index number =
     one-described c.args.env.now c.args.record_.now c.args.values.now c.in-Some.described index number (naming_in c.args.names.now index number)
     (naming_in c.reserve.new.self index number) (naming_in c.set.new.self index number) c.requires.is (sym c.in-Some.is ∙ c.in_ok-described.ensures.ok)
     (c.reserve.ensures.naming index number) (c.set.ensures.naming index number)
 
 pub returns-clause-namings : goal.returns-clause-namings
-returns-clause-namings g c local =
+returns-clause-namings c local =
     no-definition (naming_in c.args.names.now) c.args.record_.now c.args.values.now local (namings_in c.args.names.now local) (namings_in c.set.new.self local)
     c.requires.is (c.set.ensures.namings local ∙ c.reserve.ensures.namings local)
 
 pub returns-in_err-reserve-clause-free : goal.returns-in_err-reserve-clause-free
-returns-in_err-reserve-clause-free g c nothing =
+returns-in_err-reserve-clause-free c nothing =
     absurd (nothing-described c.args.values.now (defined_at c.args.env.now c.args.values.now.local) c.in-Some.described
     (subst (DescribesNothing c.args.env.now) c.requires.is nothing) (sym c.in-Some.is ∙ c.in_ok-described.ensures.ok))

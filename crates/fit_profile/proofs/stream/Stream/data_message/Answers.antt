@@ -9,7 +9,7 @@ message_of-requires c =
     let earlier = drop 1 c.args.self.now in
     let kept = place-kept earlier c.args.self.now (reverse c.self.inside.pushed.items) c.self.inside.env v c.self.invariant.0.env_is c.self.view_is
     c.requires.pushed in
-    (omega arith, is-defined (defined_at (known earlier) v.local) (defined_at c.self.inside.env v.local) v c.requires.fits kept)
+    (omega arith, (omega arith, is-defined (defined_at (known earlier) v.local) (defined_at c.self.inside.env v.local) v c.requires.fits kept))
 
 pub returns : goal.returns
 returns c =
