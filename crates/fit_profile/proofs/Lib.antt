@@ -1,4 +1,5 @@
 pub mod Common
+mod FieldPlaces
 pub mod FirstField
 mod InBytes
 mod Kept

@@ -1,5 +1,6 @@
 -- Definitions that no public contract cites: what private functions and proofs need.
 pub mod InBytes
 pub mod Keeps
+pub mod Places
 pub mod Plans
 pub mod Shows

@@ -13,6 +13,7 @@ mod message;
 mod message_bytes;
 pub mod message_number;
 mod names;
+mod places;
 mod plain;
 mod plan;
 mod profile;

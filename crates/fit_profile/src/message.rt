@@ -1,16 +1,11 @@
 //! A data message, and what it means by the records before it.
-ghost use Rattle.std.specs.Prelude.{◌≡◌, ◌≤◌, IfSome, IsSome, Some, option_map, option_and_then, option_copied, slice_get};
-ghost use Rattle.fit_record.specs.Environment.{defined_at, first_items};
-ghost use Rattle.fit_profile.specs.Names as names;
-ghost use Rattle.fit_profile.specs.Looks.{first_field};
-ghost use Rattle.fit_profile.specs.Meant.{shown, part_of, first_part, field_at, dev_field_at};
-ghost use Rattle.fit_profile.specs.inner.Shows.{Shows};
-ghost use Rattle.fit_profile.specs.Values.{IsAmount, IsValueOf, known_number};
+ghost use Rattle.fit_profile.specs.inner.Places.{ArePlaces};
 
-use crate::look::first_of;
 use crate::names::{Names, Texts};
+use crate::places::first_at;
+use crate::plan::Plans;
 use crate::told::Told;
-use crate::value::{in_scale, value_of};
+use crate::value::{in_scale, value_in};
 use crate::{Fixed, message_name};
 use fit_base::Items;
 use fit_record::{Defined, Env, FieldDef, MessageDef, Values};
@@ -32,9 +27,19 @@ pub struct Message<'a, A: Allocator = Global> {
     values: &'a Values<A>,
     texts: &'a [Texts<A>],
     told: Told,
+    /// Where the fields of the definition stand by their numbers.
+    places: &'a [u8; 256],
+    ghost placed: { ArePlaces places.now defined.now.definition.fields },
 }
 
 impl<'a, A: Allocator> Message<'a, A> {
+    ghost use Rattle.std.specs.Prelude.{◌≡◌, ◌≤◌, IfSome, option_map, option_and_then, option_copied, slice_get};
+    ghost use Rattle.fit_record.specs.Environment.{first_items};
+    ghost use Rattle.fit_profile.specs.Names as names;
+    ghost use Rattle.fit_profile.specs.Looks.{first_field};
+    ghost use Rattle.fit_profile.specs.Meant.{shown, part_of, first_part, field_at, dev_field_at};
+    ghost use Rattle.fit_profile.specs.Values.{IsAmount, IsValueOf, known_number};
+
     /// The global message number.
     pub fn global(&self) -> u16
         ensures { result ≡ (shown self.now).definition.global }
@@ -105,9 +110,10 @@ impl<'a, A: Allocator> Message<'a, A> {
         ensures { option_map (λ f. (f.0.now, f.1.now)) result
             ≡ first_field (shown self.now).definition.fields (shown self.now).values.fields number }
     {
-        first_of(
+        first_at(
             self.defined.definition.fields.as_slice(),
             self.values.fields.as_slice(),
+            self.places,
             number,
         )
     }
@@ -160,7 +166,8 @@ impl<'a, A: Allocator> Message<'a, A> {
             (known_number (shown self.now).definition (shown self.now).values number) result }
         ensures few { IfSome result (λ v. v.decimals ≤ 8) }
     {
-        value_of(&self.defined.definition, self.values, number)
+        let (field, items) = self.first_of(number)?;
+        value_in(self.defined.definition.global, number, field, items)
     }
 
     /// The time of the message, in seconds since 1989-12-31T00:00:00 UTC: its valid field 253, and else that of its compressed
@@ -214,23 +221,34 @@ impl<'a, A: Allocator> Message<'a, A> {
     }
 }
 
-/// The message of values that were just learned.
-pub(crate) fn message_of<'a, A: Allocator>(
-    env: &'a Env<A>,
-    names: &'a Names<A>,
-    told: Told,
-    values: &'a Values<A>,
-) -> Message<'a, A>
-    requires { IsSome (defined_at env.now values.now.local) }
-    ensures { Shows env.now names.now told values.now (shown result) }
-{
-    match env.defined(values.local) {
-        Some(defined) => Message {
-            defined,
-            values,
-            texts: names.at(values.local),
-            told,
-        },
-        None => unreachable!(),
+impl<'a> Message<'a> {
+    ghost use Rattle.std.specs.Prelude.{IsSome};
+    ghost use Rattle.fit_record.specs.Environment.{defined_at};
+    ghost use Rattle.fit_profile.specs.Meant.{shown};
+    ghost use Rattle.fit_profile.specs.inner.Plans.{ArePlanned};
+    ghost use Rattle.fit_profile.specs.inner.Shows.{Shows};
+
+    /// The message of values that were just learned.
+    pub(crate) fn of(
+        env: &'a Env,
+        names: &'a Names,
+        plans: &'a Plans,
+        told: Told,
+        values: &'a Values,
+    ) -> Message<'a>
+        requires defined { IsSome (defined_at env.now values.now.local) }
+        requires plans { ArePlanned plans.now.places env.now.places }
+        ensures { Shows env.now names.now told values.now (shown result) }
+    {
+        match (env.defined(values.local), plans.at(values.local)) {
+            (Some(defined), Some(plan)) => Message {
+                defined,
+                values,
+                texts: names.at(values.local),
+                told,
+                places: &plan.places,
+            },
+            _ => unreachable!(),
+        }
     }
 }

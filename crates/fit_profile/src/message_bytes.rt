@@ -37,8 +37,8 @@ fn message_of<'a>(env: &'a Env, bytes: &'a [u8]) -> MessageBytes<'a>
 
 /// The time of a message by the last time before it.
 #[inline(always)]
-fn time_of_message(previous: Option<u32>, plan: Plan, message: &MessageBytes<'_>) -> Option<u32>
-    requires plan { IsPlan plan message.now.defined.now.definition }
+fn time_of_message(previous: Option<u32>, plan: &Plan, message: &MessageBytes<'_>) -> Option<u32>
+    requires plan { IsPlan plan.now message.now.defined.now.definition }
     requires size { length message.now.body.now ≡ message_size message.now.defined.now }
     ensures { result ≡ or_else (times.field_time message.now.defined.now.definition
         (message_in message.now)) (times.header_time previous message.now.offset) }
@@ -51,10 +51,10 @@ fn time_of_message(previous: Option<u32>, plan: Plan, message: &MessageBytes<'_>
 
 /// The plan of the definition of a message.
 #[inline(always)]
-fn plan_of(plans: &Plans, message: &MessageBytes<'_>) -> Plan
+fn plan_of<'a>(plans: &'a Plans, message: &MessageBytes<'_>) -> &'a Plan
     requires { IsPlanned (slice_index_or plans.now.places message.now.local None)
         (Some message.now.defined.now) }
-    ensures { IsPlan result message.now.defined.now.definition }
+    ensures { IsPlan result.now message.now.defined.now.definition }
 {
     match plans.at(message.local) {
         Some(plan) => plan,

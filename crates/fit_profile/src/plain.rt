@@ -11,8 +11,8 @@ use fit_record::{Env, MessageDef, Record, Values};
 
 /// What is told of a message that describes nothing, by the last ones before it and the plan of its definition.
 #[inline(always)]
-fn told_by(last: Last, plan: Plan, definition: &MessageDef, values: &Values) -> Told
-    requires { IsPlan plan definition.now }
+fn told_by(last: Last, plan: &Plan, definition: &MessageDef, values: &Values) -> Told
+    requires { IsPlan plan.now definition.now }
     ensures { result ≡ telling.told_at last definition.now values.now }
 {
     if plan.tells_more {

@@ -1,5 +1,5 @@
 //! What is found out once of a definition, so that a stream takes in its data messages by their bytes.
-ghost use Rattle.std.specs.Prelude.{◌≡◌, ◌≤◌, ◌<◌, ◌+◌, ℕ, List, IfSome, length, None, slice_index_or, slice_set, Some};
+ghost use Rattle.std.specs.Prelude.{◌≡◌, ◌≤◌, ◌<◌, ◌+◌, ℕ, List, IfSome, length, None, option_copied, slice_index_or, slice_set, Some};
 ghost use Rattle.fit_base.specs.declared.number.Order.{Order};
 ghost use Rattle.fit_record.specs.Environment.{Environment, learn};
 ghost use Rattle.fit_record.specs.Records.{Fits, sizes};
@@ -11,6 +11,7 @@ ghost use Rattle.std.specs.Global.{Global};
 
 use crate::component::may_count;
 use crate::field_number::TIMESTAMP;
+use crate::places::places_of;
 use crate::time::valid_time;
 use fit_base::base_type::UINT32;
 use fit_base::{Order, bits_at};
@@ -25,6 +26,8 @@ pub(crate) struct Plan {
     pub describes: bool,
     /// Where the four bytes of their timestamp begin in those of their fields.
     pub time_place: Option<usize>,
+    /// One more than the place of the first field of each number, and 0 where there is none.
+    pub places: [u8; 256],
 }
 
 /// Where the bytes of the timestamp begin in those of fields.
@@ -64,13 +67,14 @@ impl Plan {
             tells_more: tells_more(definition),
             describes: definition.global == FIELD_DESCRIPTION,
             time_place: time_place(definition.fields.as_slice()),
+            places: places_of(definition.fields.as_slice()),
         }
     }
 
     /// The time in the bytes of the fields.
-    pub fn time(self, order: Order, bytes: &[u8]) -> Option<u32>
-        requires { IfSome self.time_place (λ p. p + 4 ≤ length bytes.now) }
-        ensures { result ≡ plans.time_at order self.time_place bytes.now }
+    pub fn time(&self, order: Order, bytes: &[u8]) -> Option<u32>
+        requires { IfSome self.now.time_place (λ p. p + 4 ≤ length bytes.now) }
+        ensures { result ≡ plans.time_at order self.now.time_place bytes.now }
     {
         let place = self.time_place?;
         let (_, after) = bytes.split_at(place);
@@ -95,10 +99,11 @@ impl Plans {
 
     /// That of a local message type.
     #[inline(always)]
-    pub fn at(&self, local: u8) -> Option<Plan>
-        ensures { result ≡ slice_index_or self.now.places local None }
+    pub fn at(&self, local: u8) -> Option<&Plan>
+        ensures { option_copied result ≡ slice_index_or self.now.places local None }
     {
-        *self.places.get(local as usize)?
+        let place = self.places.get(local as usize)?;
+        place.as_ref()
     }
 
     /// Puts a plan in its place.

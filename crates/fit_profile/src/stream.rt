@@ -19,7 +19,7 @@ ghost use Rattle.fit_profile.specs.Times as times;
 ghost use Rattle.fit_profile.specs.contracts.stream.Stream.{the_row};
 
 use crate::learn::take_in;
-use crate::message::{Message, message_of};
+use crate::message::Message;
 use crate::message_bytes::{record_of, take_time, time_in};
 use crate::names::{Names, Texts};
 use crate::plain::tell_plain;
@@ -307,7 +307,7 @@ impl Stream {
         requires told { told ≡ telling.told (drop 1 self.now) values.now }
         ensures { MessageOf (drop 1 self.now) (Data values.now) (Some result) }
     {
-        message_of(&self.env, &self.names, told, values)
+        Message::of(&self.env, &self.names, &self.plans, told, values)
     }
 
     /// The message of the record that was just taken in.

@@ -1,11 +1,11 @@
 //! The numbers that fields hold.
-ghost use Rattle.std.specs.Prelude.{◌≡◌, ◌⊎◌, ◌+◌, ◌≤◌, ◌<◌, ◌^◌, ◌≤ℤ◌, ◌<ℤ◌, ◌==◌, ◌&&◌, not, nat_lt, if◌then◌else◌, IfSome, pos, neg_ℤ};
+ghost use Rattle.std.specs.Prelude.{◌≡◌, ◌⊎◌, ◌+◌, ◌≤◌, ◌<◌, ◌^◌, ◌≤ℤ◌, ◌<ℤ◌, ◌==◌, ◌&&◌, not, nat_lt, if◌then◌else◌, IfSome, option_and_then, option_map, pos, neg_ℤ};
 ghost use Rattle.fit_base.specs.Numbers.{twos_complement};
 ghost use Rattle.fit_numbers.specs.Scaled.{IsScale};
 ghost use Rattle.fit_profile.specs.Values as values;
-ghost use Rattle.fit_profile.specs.Values.{IsAmount, IsValueOf, known_number};
+ghost use Rattle.fit_profile.specs.Names as names;
+ghost use Rattle.fit_profile.specs.Values.{IsAmount, IsValueOf};
 
-use crate::look::first_of;
 use crate::profile::info_of;
 use crate::{Fixed, Info, fixed};
 use fit_base::base_type::{
@@ -13,7 +13,7 @@ use fit_base::base_type::{
     UINT64Z,
 };
 use fit_base::{Items, has_width, signed};
-use fit_record::{FieldDef, MessageDef, Values};
+use fit_record::FieldDef;
 use std::alloc::Allocator;
 
 /// A number of units of which `scale` are one.
@@ -119,21 +119,19 @@ fn first_number<A: Allocator>(field: &FieldDef, items: &Items<A>) -> Option<i128
     }
 }
 
-/// The number of the first field of this number, scaled by the profile.
-pub(crate) fn value_of<A: Allocator>(
-    definition: &MessageDef<A>,
-    values: &Values<A>,
+/// The number of a field of a message, scaled by the profile.
+#[inline(always)]
+pub(crate) fn value_in<A: Allocator>(
+    global: u16,
     number: u8,
+    field: &FieldDef,
+    items: &Items<A>,
 ) -> Option<Fixed>
-    ensures value { IsValueOf (known_number definition.now values.now number) result }
+    ensures value { IsValueOf (option_and_then (λ raw. option_map (λ m. (raw, m)) (names.field global number))
+        (values.first_number field.now items.now)) result }
     ensures few { IfSome result (λ v. v.decimals ≤ 8) }
 {
-    let (field, items) = first_of(
-        definition.fields.as_slice(),
-        values.fields.as_slice(),
-        number,
-    )?;
     let raw = first_number(field, items)?;
-    let info = info_of(definition.global, number)?;
+    let info = info_of(global, number)?;
     Some(fixed(raw, info))
 }

@@ -13,6 +13,7 @@ use Rattle.fit_profile.specs.Looks.{first_field}
 use Rattle.fit_profile.specs.Times.{time_in_field, valid_time}
 use Rattle.fit_profile.specs.declared.plan.Plan.{Plan}
 use Rattle.fit_profile.specs.inner.InBytes.{slots}
+use Rattle.fit_profile.specs.inner.Places.{ArePlaces}
 
 -- the time that these fields hold whose bytes begin these
 abbrev pub time_of_fields : Order → List FieldDef → List ℕ → Option ℕ
@@ -23,11 +24,12 @@ time_of_fields order fields bytes =
 abbrev pub time_at : Order → Option ℕ → List ℕ → Option ℕ
 time_at order place bytes = option_and_then (λ p. valid_time (number order (take 4 (drop p bytes)))) place
 
--- This plan is that of the definition: it knows whether a message tells more than a time, whether it describes a developer field, and where
--- its time stands.
+-- This plan is that of the definition: it knows whether a message tells more than a time, whether it describes a developer field, where each
+-- field stands, and where its time does.
 pub record IsPlan (plan : Plan) (d : MessageDef Global) : Type 0 where
   pub more : plan.tells_more ≡ tells_more d
   pub describes : plan.describes ≡ (d.global == 206)
+  pub places : ArePlaces plan.places d.fields
   pub within : IfSome plan.time_place (λ p. p + 4 ≤ sizes (slots d.fields))
   pub time : (bytes : List ℕ) → time_of_fields d.order d.fields bytes ≡ time_at d.order plan.time_place bytes
 

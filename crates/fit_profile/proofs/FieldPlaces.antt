@@ -1,0 +1,65 @@
+-- The first field of a number, by the places of all numbers.
+use Rattle.fit_profile.proofs.Common.{◌≡◌, ◌∙◌, ℕ, zero, suc, ◌+◌, ◌<◌, ◌≤◌, List, [], ◌∷◌, length, drop, drop-cons, get_or, add-one, ap, sym, refl, arith}
+use Rattle.fit_profile.proofs.Common.{inl, inr, cases_Bool, cases_eq, eq-eqb, ne_eqb, Option, Some, None, option_and_then, slice_get}
+use Rattle.fit_profile.proofs.Common.{FieldDef, Items, first_field, drop_of_length-le}
+use Rattle.std.proofs.Common.{◌==◌, set, option_map}
+use Rattle.std.proofs.lemmas.Grind.{get_or-set_at}
+use Rattle.std.proofs.lemmas.List.{get_or-set_other}
+use Rattle.fit_profile.specs.inner.Places.{both_at, place_from}
+
+pub absent : {A : Type 0} (fields : List FieldDef) (items : List (Items A)) (number from : ℕ) → place_from from fields number ≡ 0
+    → first_field fields items number ≡ None
+absent [] items number from e = refl
+absent (f ∷ fields) [] number from e = refl
+absent (f ∷ fields) (i ∷ items) number from e = elim (cases_Bool (f.number == number)) [
+  | inl same ↦ let here = rw same at e in absurd (omega (arith, here))
+  | inr other ↦ rw other (absent fields items number (from + 1) (rw other at e))
+]
+
+no-items : {A : Type 0} (o : Option FieldDef) → None ≡ option_and_then (λ f. option_map {U = FieldDef × Items A} (λ i. (f, i)) None) o
+no-items None = refl
+no-items (Some f) = refl
+
+above : (fields : List FieldDef) (number from place : ℕ) → place_from from fields number ≡ place + 1 → from ≤ place
+above [] number from place e = absurd (omega (arith, e))
+above (f ∷ fields) number from place e = elim (cases_Bool (f.number == number)) [
+  | inl same ↦ let here = rw same at e in omega (arith, here)
+  | inr other ↦ let later = above fields number (from + 1) place (rw other at e) in omega (arith, later)
+]
+
+pub found : {A : Type 0} (fields : List FieldDef) (items : List (Items A)) (number from k : ℕ) → place_from from fields number ≡ from + k + 1
+    → first_field fields items number ≡ both_at fields items k
+found [] items number from k e = absurd (omega (arith, e))
+found (f ∷ fields) [] number from zero e = refl
+found (f ∷ fields) [] number from (suc k) e = no-items (slice_get fields k)
+found (f ∷ fields) (i ∷ items) number from zero e = elim (cases_Bool (f.number == number)) [
+  | inl same ↦ rw same refl
+  | inr other ↦
+      let next : place_from (from + 1) fields number ≡ from + 1 = let later = rw other at e in omega (arith, later) in
+      let later = above fields number (from + 1) from next in
+      absurd (omega (arith, later))
+]
+found (f ∷ fields) (i ∷ items) number from (suc k) e = elim (cases_Bool (f.number == number)) [
+  | inl same ↦ let here = rw same at e in absurd (omega (arith, here))
+  | inr other ↦
+      let next : place_from (from + 1) fields number ≡ from + 1 + k + 1 = let later = rw other at e in omega (arith, later) in
+      rw other (found fields items number (from + 1) k next)
+]
+
+-- a field before those whose places are known
+pub put-before : (fields : List FieldDef) (places : List ℕ) (d : FieldDef) (place : ℕ) → place < length fields → (get_or fields place d).number < length places
+    → ((n : ℕ) → n < 256 → get_or places n 0 ≡ place_from (place + 1) (drop (place + 1) fields) n)
+    → (n : ℕ) → n < 256 → get_or (set places (get_or fields place d).number (place + 1)) n 0 ≡ place_from place (drop place fields) n
+put-before fields places d place h within before n small =
+    let f = get_or fields place d in
+    let front : place_from place (drop place fields) n ≡ place_from place (f ∷ drop (place + 1) fields) n =
+    ap (λ fs. place_from place fs n) (drop-cons fields place d h ∙ ap (λ k. f ∷ drop k fields) (sym (add-one place))) in
+    elim (cases_eq n f.number) [
+      | inl same ↦ get_or-set_at places f.number n (place + 1) 0 same within ∙ sym (front ∙ rw (eq-eqb f.number n (sym same)) refl)
+      | inr other ↦ get_or-set_other places f.number n (place + 1) 0 other ∙ before n small
+          ∙ sym (front ∙ rw (ne_eqb f.number n (λ e. other (sym e))) refl)
+    ]
+
+-- after the last field there is none
+pub none-after : (fields : List FieldDef) (from number : ℕ) → length fields ≤ from → place_from from (drop from fields) number ≡ 0
+none-after fields from number h = ap (λ fs. place_from from fs number) (drop_of_length-le fields h)
