@@ -11,6 +11,7 @@ use Rattle.fit_record.specs.Faults.{or_else}
 use Rattle.fit_profile.specs.Accumulated as sums
 use Rattle.fit_profile.specs.Times.{field_time, header_time}
 use Rattle.fit_profile.specs.declared.told.Last.{Last}
+use Rattle.fit_profile.specs.declared.told.Told.{Told}
 use Rattle.fit_profile.specs.Accumulated.{is_counter}
 
 no-field : {A : Type 0} (fields : List FieldDef) (items : List (Items A)) (number : ℕ) → is_counter number ≡ true
@@ -35,6 +36,24 @@ pub only-time : {A : Type 0} (last : Last) (d : MessageDef A) (v : Values A) →
     → record last { time = or_else (or_else (field_time d v) (header_time last.time v.offset)) last.time } ≡ last_after last (Some (told_at last d v))
 only-time last d v none =
     rw (no-number sums.distance d v refl none, no-number sums.total_cycles d v refl none, no-number sums.accumulated_power d v refl none) refl
+
+-- of such a message nothing is told but its times
+pub told-uncounted : {A : Type 0} (last : Last) (d : MessageDef A) (v : Values A) (t : Told)
+    → (d.global == 20 && list_any (λ f. is_counter f.number) d.fields) ≡ false
+    → t ≡ record {
+      time = or_else (field_time d v) (header_time last.time v.offset);
+      header_time = header_time last.time v.offset;
+      speed = None;
+      distance = None;
+      total_cycles = None;
+      accumulated_power = None;
+    }
+    → t ≡ told_at last d v
+told-uncounted last d v t none e =
+    let distance = no-number sums.distance d v refl none in
+    let cycles = no-number sums.total_cycles d v refl none in
+    let power = no-number sums.accumulated_power d v refl none in
+    e ∙ sym (rw (distance, cycles, power) refl)
 
 -- neither a field description nor a message with counters
 pub parts : {A : Type 0} (d : MessageDef A) → (d.global == 206 || (d.global == 20 && list_any (λ f. is_counter f.number) d.fields)) ≡ false

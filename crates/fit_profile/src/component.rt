@@ -4,8 +4,10 @@ ghost use Rattle.std.specs.List.{list_any};
 ghost use Rattle.fit_base.specs.Numbers as numbers;
 ghost use Rattle.fit_profile.specs.Accumulated.{number_in, number_of};
 ghost use Rattle.fit_profile.specs.Accumulated.{is_counter};
+ghost use Rattle.fit_profile.specs.inner.Places.{ArePlaces};
 
 use crate::look::first_of;
+use crate::places::first_at;
 use fit_base::Items;
 use fit_record::{FieldDef, MessageDef, Values};
 use std::alloc::Allocator;
@@ -76,6 +78,32 @@ pub(crate) fn number<A: Allocator>(
     let (_, items) = first_of(
         definition.fields.as_slice(),
         values.fields.as_slice(),
+        c.field,
+    )?;
+    number_at(c, items)
+}
+
+/// The same by the places of the fields.
+#[inline(always)]
+pub(crate) fn number_by<A: Allocator>(
+    c: Component,
+    definition: &MessageDef<A>,
+    values: &Values<A>,
+    places: &[u8; 256],
+) -> Option<u64>
+    requires items { c.items ≤ 3 }
+    requires skipped { c.skipped ≤ 2 ^ 24 }
+    requires places { ArePlaces places.now definition.now.fields }
+    ensures small { IfSome result (λ n. n < 2 ^ 24) }
+    ensures number { result ≡ number_of c definition.now values.now }
+{
+    if definition.global != 20 {
+        return None;
+    }
+    let (_, items) = first_at(
+        definition.fields.as_slice(),
+        values.fields.as_slice(),
+        places,
         c.field,
     )?;
     number_at(c, items)

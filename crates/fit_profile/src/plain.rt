@@ -2,12 +2,48 @@
 ghost use Rattle.std.specs.Prelude.{◌≡◌, IfSome, None, Some};
 ghost use Rattle.fit_record.specs.Environment.{DescribesNothing, described_by};
 ghost use Rattle.fit_record.specs.declared.message.Record.TheVariants.{Values as Data};
+ghost use Rattle.fit_record.specs.Faults.{or_else};
+ghost use Rattle.fit_profile.specs.Times as times;
 ghost use Rattle.fit_profile.specs.Told as telling;
+ghost use Rattle.fit_profile.specs.inner.Places.{ArePlaces};
 ghost use Rattle.fit_profile.specs.inner.Plans.{ArePlanned, IsPlan};
 
+use crate::component::number_by;
 use crate::plan::{Plan, Plans};
-use crate::told::{Last, Told, counted_at, uncounted_at};
+use crate::time::{field_time_by, header_time};
+use crate::told::{ACCUMULATED_POWER, DISTANCE, Last, TOTAL_CYCLES, Told, counted, uncounted};
 use fit_record::{Env, MessageDef, Record, Values};
+
+/// The time of a message by the last time before it and the places of its fields.
+#[inline(always)]
+fn time_by(
+    previous: Option<u32>,
+    places: &[u8; 256],
+    definition: &MessageDef,
+    values: &Values,
+) -> Option<u32>
+    requires { ArePlaces places.now definition.now.fields }
+    ensures { result ≡ or_else (times.field_time definition.now values.now)
+        (times.header_time previous values.now.offset) }
+{
+    match field_time_by(definition, values, places) {
+        Some(time) => Some(time),
+        None => header_time(previous, values.offset),
+    }
+}
+
+/// What is told of a message with counters.
+fn counted_by(last: Last, places: &[u8; 256], definition: &MessageDef, values: &Values) -> Told
+    requires { ArePlaces places.now definition.now.fields }
+    ensures { result ≡ telling.told_at last definition.now values.now }
+{
+    let time = time_by(last.time, places, definition, values);
+    let header_time = header_time(last.time, values.offset);
+    let distance = number_by(DISTANCE, definition, values, places);
+    let cycles = number_by(TOTAL_CYCLES, definition, values, places);
+    let power = number_by(ACCUMULATED_POWER, definition, values, places);
+    counted(last, time, header_time, distance, cycles, power)
+}
 
 /// What is told of a message that describes nothing, by the last ones before it and the plan of its definition.
 #[inline(always)]
@@ -16,9 +52,10 @@ fn told_by(last: Last, plan: &Plan, definition: &MessageDef, values: &Values) ->
     ensures { result ≡ telling.told_at last definition.now values.now }
 {
     if plan.tells_more {
-        return counted_at(last, definition, values);
+        return counted_by(last, &plan.places, definition, values);
     }
-    uncounted_at(last, definition, values)
+    let time = time_by(last.time, &plan.places, definition, values);
+    uncounted(time, header_time(last.time, values.offset))
 }
 
 /// What is told of a data message by the last ones before it. None where it describes a developer field.

@@ -1,4 +1,4 @@
-//! What is found out once of a definition, so that a stream takes in its data messages by their bytes.
+//! What is found out once of a definition, so that a stream takes in its data messages quickly, as records or by their bytes.
 ghost use Rattle.std.specs.Prelude.{◌≡◌, ◌≤◌, ◌<◌, ◌+◌, ℕ, List, IfSome, length, None, option_copied, slice_index_or, slice_set, Some};
 ghost use Rattle.fit_base.specs.declared.number.Order.{Order};
 ghost use Rattle.fit_record.specs.Environment.{Environment, learn};

@@ -2,12 +2,15 @@
 ghost use Rattle.std.specs.Prelude.{◌≡◌, ◌<◌, ◌^◌, option_map};
 ghost use Rattle.fit_profile.specs.Least.{least_from};
 ghost use Rattle.fit_profile.specs.Times as times;
+ghost use Rattle.fit_profile.specs.inner.Places.{ArePlaces};
 
 use crate::field_number::TIMESTAMP;
 use crate::least::steps_to;
 use crate::look::{first_of, only_item};
+use crate::places::first_at;
+use fit_base::Items;
 use fit_base::base_type::UINT32;
-use fit_record::{MessageDef, Values};
+use fit_record::{FieldDef, MessageDef, Values};
 use std::alloc::Allocator;
 
 /// A time of a field, where it is valid.
@@ -19,6 +22,19 @@ pub(crate) fn valid_time(n: u64) -> Option<u32>
     } else {
         None
     }
+}
+
+/// The time that a field holds.
+fn time_in_field<A: Allocator>(field: &FieldDef, items: &Items<A>) -> Option<u32>
+    ensures { result ≡ times.time_in_field field.now items.now }
+{
+    if field.code != UINT32 {
+        return None;
+    }
+    if field.size != 4 {
+        return None;
+    }
+    valid_time(only_item(items.bits.as_slice())?)
 }
 
 /// The timestamp of a message.
@@ -33,13 +49,26 @@ pub(crate) fn field_time<A: Allocator>(
         values.fields.as_slice(),
         TIMESTAMP,
     )?;
-    if field.code != UINT32 {
-        return None;
-    }
-    if field.size != 4 {
-        return None;
-    }
-    valid_time(only_item(items.bits.as_slice())?)
+    time_in_field(field, items)
+}
+
+/// The same by the places of the fields.
+#[inline(always)]
+pub(crate) fn field_time_by<A: Allocator>(
+    definition: &MessageDef<A>,
+    values: &Values<A>,
+    places: &[u8; 256],
+) -> Option<u32>
+    requires { ArePlaces places.now definition.now.fields }
+    ensures { result ≡ times.field_time definition.now values.now }
+{
+    let (field, items) = first_at(
+        definition.fields.as_slice(),
+        values.fields.as_slice(),
+        places,
+        TIMESTAMP,
+    )?;
+    time_in_field(field, items)
 }
 
 /// A time that passed the greatest one begins again.

@@ -1,6 +1,5 @@
 //! Times and accumulated values of a message.
-ghost use Rattle.std.specs.Prelude.{◌≡◌, ◌≤◌, ◌<◌, ◌^◌, ◌%◌, ◌/◌, ◌==◌, ◌&&◌, false, Some, option_map, option_and_then, unwrap_or};
-ghost use Rattle.std.specs.List.{list_any};
+ghost use Rattle.std.specs.Prelude.{◌≡◌, ◌≤◌, ◌<◌, ◌^◌, ◌%◌, ◌/◌, None, Some, option_map, option_and_then, unwrap_or};
 ghost use Rattle.fit_record.specs.Environment.{defined_at};
 ghost use Rattle.fit_record.specs.Faults.{or_else};
 ghost use Rattle.fit_profile.specs.Times as times;
@@ -34,7 +33,7 @@ pub struct Last {
     pub accumulated_power: u64,
 }
 
-const DISTANCE: Component = Component {
+pub(crate) const DISTANCE: Component = Component {
     field: 8,
     items: 3,
     width: 1,
@@ -43,7 +42,7 @@ const DISTANCE: Component = Component {
     modulus: 4096,
 };
 
-const TOTAL_CYCLES: Component = Component {
+pub(crate) const TOTAL_CYCLES: Component = Component {
     field: 18,
     items: 1,
     width: 1,
@@ -52,7 +51,7 @@ const TOTAL_CYCLES: Component = Component {
     modulus: 256,
 };
 
-const ACCUMULATED_POWER: Component = Component {
+pub(crate) const ACCUMULATED_POWER: Component = Component {
     field: 28,
     items: 1,
     width: 2,
@@ -122,20 +121,28 @@ pub(crate) fn time_of<A: Allocator>(
     }
 }
 
-/// What is told of a message with counters by the last ones before it.
-pub(crate) fn counted_at<A: Allocator>(
+/// What is told of a message with these times and these numbers of counters, by the last ones before it.
+pub(crate) fn counted(
     last: Last,
-    definition: &MessageDef<A>,
-    values: &Values<A>,
+    time: Option<u32>,
+    header_time: Option<u32>,
+    distance: Option<u64>,
+    cycles: Option<u64>,
+    power: Option<u64>,
 ) -> Told
-    ensures { result ≡ telling.told_at last definition.now values.now }
+    ensures { result ≡ record {
+      time = time;
+      header_time = header_time;
+      speed = option_map (λ x. x % 2 ^ 12) distance;
+      distance = option_and_then (sums.next_from last.distance sums.distance) distance;
+      total_cycles = option_and_then (sums.next_from last.total_cycles sums.total_cycles) cycles;
+      accumulated_power = option_and_then
+          (sums.next_from last.accumulated_power sums.accumulated_power) power;
+    } }
 {
-    let distance = number(DISTANCE, definition, values);
-    let cycles = number(TOTAL_CYCLES, definition, values);
-    let power = number(ACCUMULATED_POWER, definition, values);
     Told {
-        time: time(last.time, definition, values),
-        header_time: header_time(last.time, values.offset),
+        time,
+        header_time,
         speed: speed(distance),
         distance: accumulated(DISTANCE, last.distance, distance),
         total_cycles: accumulated(TOTAL_CYCLES, last.total_cycles, cycles),
@@ -143,25 +150,38 @@ pub(crate) fn counted_at<A: Allocator>(
     }
 }
 
-/// What is told of a message without counters by the last ones before it.
+/// What is told of a message with these times and no counters.
 #[inline(always)]
-pub(crate) fn uncounted_at<A: Allocator>(
-    last: Last,
-    definition: &MessageDef<A>,
-    values: &Values<A>,
-) -> Told
-    requires { (definition.now.global == 20
-        && list_any (λ f. sums.is_counter f.number) definition.now.fields) ≡ false }
-    ensures { result ≡ telling.told_at last definition.now values.now }
+pub(crate) fn uncounted(time: Option<u32>, header_time: Option<u32>) -> Told
+    ensures { result ≡ record {
+      time = time;
+      header_time = header_time;
+      speed = None;
+      distance = None;
+      total_cycles = None;
+      accumulated_power = None;
+    } }
 {
     Told {
-        time: time(last.time, definition, values),
-        header_time: header_time(last.time, values.offset),
+        time,
+        header_time,
         speed: None,
         distance: None,
         total_cycles: None,
         accumulated_power: None,
     }
+}
+
+/// What is told of a message with counters by the last ones before it.
+fn counted_at<A: Allocator>(last: Last, definition: &MessageDef<A>, values: &Values<A>) -> Told
+    ensures { result ≡ telling.told_at last definition.now values.now }
+{
+    let time = time(last.time, definition, values);
+    let header_time = header_time(last.time, values.offset);
+    let distance = number(DISTANCE, definition, values);
+    let cycles = number(TOTAL_CYCLES, definition, values);
+    let power = number(ACCUMULATED_POWER, definition, values);
+    counted(last, time, header_time, distance, cycles, power)
 }
 
 /// What is told of a message by the last ones before it.
@@ -171,7 +191,10 @@ fn told_at<A: Allocator>(last: Last, definition: &MessageDef<A>, values: &Values
     if may_count(definition) {
         return counted_at(last, definition, values);
     }
-    uncounted_at(last, definition, values)
+    uncounted(
+        time(last.time, definition, values),
+        header_time(last.time, values.offset),
+    )
 }
 
 /// What is told of a data message.

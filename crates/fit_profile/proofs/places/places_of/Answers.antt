@@ -1,4 +1,4 @@
-use Rattle.fit_profile.proofs.Common.{◌≡◌, ◌∙◌, ◌-◌, ◌+◌, ◌<◌, ◌≤◌, ℕ, ap, arith, sym, drop, get_or, length, rules, FieldDef}
+use Rattle.fit_profile.proofs.Common.{◌≡◌, ◌∙◌, ◌-◌, ◌+◌, ◌<◌, ap, arith, sym, drop, get_or, length, rules, FieldDef}
 use Rattle.std.proofs.lemmas.List.{get_or-replicate}
 use Rattle.std.proofs.Math.ListN.{length-set}
 use Rattle.fit_profile.specs.inner.Places.{place_from}
