@@ -30,3 +30,5 @@ mod FromChain
 mod Unwritten
 mod TextRows
 mod ReportTexts
+mod LooseReads
+mod LooseTexts

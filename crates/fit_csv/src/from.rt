@@ -11,6 +11,7 @@ mod definition;
 mod fields;
 mod header;
 mod judge;
+mod loose;
 mod message;
 mod misfit;
 mod number;

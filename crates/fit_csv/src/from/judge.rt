@@ -12,6 +12,7 @@ ghost use Rattle.fit_csv.specs.inner.SoundChain.{BeginsWithMore, IsSoundChain, r
 use crate::CsvFault;
 use crate::from::cells::{Cells, cells_of, same};
 use crate::from::chain::Chain;
+use crate::from::loose::plain_text;
 use crate::from::misfit::Misfit;
 use crate::from::plain::plain_row;
 use csv::{ByteRecord, Reader};
@@ -218,12 +219,34 @@ fn judge_any(alloc: Global, text: &[u8]) -> Result<Entries<SpelledFile>, CsvFaul
     judge_rest(alloc, text, &mut reader, &mut row)
 }
 
+/// The files whose rows are those of a text, where it is spelled as spreadsheets spell, which its first line shows. Some such texts
+/// are left to `judge_any`.
+fn judge_loose(alloc: Global, text: &[u8]) -> Option<Entries<SpelledFile>>
+    ensures { IfSome result (AreFilesOf text.now) }
+{
+    if after_first_line(text).is_some() {
+        return None;
+    }
+    let plain = plain_text(alloc, text)?;
+    judge_plain(alloc, plain.as_slice())
+}
+
+/// The files whose rows are those of a text, where they are found without the crate csv.
+fn judge_fast(alloc: Global, text: &[u8]) -> Option<Entries<SpelledFile>>
+    ensures { IfSome result (AreFilesOf text.now) }
+{
+    match judge_plain(alloc, text) {
+        Some(files) => Some(files),
+        None => judge_loose(alloc, text),
+    }
+}
+
 /// The files whose rows are those of a text, or the first fault of its rows.
 pub(crate) fn judge(alloc: Global, text: &[u8]) -> Result<Entries<SpelledFile>, CsvFault>
     ensures ok { IfOk result (AreFilesOf text.now) }
     ensures err { IfErr result (IsTextFault text.now) }
 {
-    match judge_plain(alloc, text) {
+    match judge_fast(alloc, text) {
         Some(files) => Ok(files),
         None => judge_any(alloc, text),
     }

@@ -1,0 +1,354 @@
+//! Texts as spreadsheets write them, spelled anew as `to_csv` spells: CR LF at the ends of lines, cells in quotes that need none,
+//! a byte order mark at the start, no line end at the end.
+ghost use Rattle.std.specs.Prelude.{◌≡◌, ◌++◌, ◌∷◌, ◌<◌, ◌≤◌, [], ℕ, List, EachIndex, Vec, IfSome, MatchOption, IsTrue, length, slice_index};
+ghost use Rattle.std.specs.Prelude.{take, true, false};
+ghost use Rattle.csv.specs.Reading.{strip_bom};
+ghost use Rattle.csv.specs.declared.parser.State.TheVariants as st;
+ghost use Rattle.fit_cells.specs.Rows.{Row, RowsOfText};
+ghost use Rattle.fit_csv.specs.inner.Loose.{Closes, EndsCell, EndsLine, HasRowsOf, NoneOf, Opens, StandsFor, WritesOn, is_mark, is_special};
+ghost use Rattle.fit_csv.specs.inner.Loose.{may_open, spot_after, spot_from};
+
+use std::alloc::Global;
+
+/// Where a text stands outside of quotes.
+#[derive(Clone, Copy)]
+pub(crate) enum Spot {
+    RowStart,
+    CellStart,
+    InCell,
+}
+
+/// Where a byte leads that is no quote.
+fn spot_at(b: u8) -> Spot
+    ensures { result ≡ spot_after b }
+{
+    match b {
+        b',' => Spot::CellStart,
+        b'\n' => Spot::RowStart,
+        _ => Spot::InCell,
+    }
+}
+
+/// Where a text leads.
+fn spot_of(written: &[u8]) -> Spot
+    ensures { result ≡ spot_from Spot.RowStart written.now }
+{
+    match written.last() {
+        Some(b) => spot_at(*b),
+        None => Spot::RowStart,
+    }
+}
+
+/// Whether a cell without quotes can't have a byte.
+#[inline(always)]
+fn special(b: u8) -> bool
+    ensures { result ≡ is_special b }
+{
+    if b > b',' {
+        return false;
+    }
+    b == b',' || b == b'"' || b == b'\r' || b == b'\n'
+}
+
+/// Whether a byte is a quote or a carriage return.
+#[inline(always)]
+fn mark(b: u8) -> bool
+    ensures { result ≡ is_mark b }
+{
+    if b > b'"' {
+        return false;
+    }
+    b == b'"' || b == b'\r'
+}
+
+/// How many bytes come before the first that a cell without quotes can't have.
+fn bare_length(text: &[u8]) -> usize
+    ensures within { result ≤ length text.now }
+    ensures bare { (k : ℕ) → k < result → is_special (slice_index text.now k) ≡ false }
+{
+    for (i, b) in text.iter().enumerate() {
+        if special(*b) {
+            return i;
+        }
+    }
+    text.len()
+}
+
+/// Whether each byte comes after the quote in the alphabet, and so is neither a quote nor a carriage return.
+#[inline(always)]
+fn all_high(bytes: &[u8]) -> bool
+    ensures { IsTrue result → EachIndex bytes.now (λ k. 34 < slice_index bytes.now k) }
+{
+    bytes.iter().all(|b| *b > b'"')
+}
+
+/// How many bytes, eight at a time, come before a quote or a carriage return.
+fn eights_length(text: &[u8]) -> usize
+    ensures within { result ≤ length text.now }
+    ensures none { (k : ℕ) → k < result → is_mark (slice_index text.now k) ≡ false }
+{
+    let mut at = 0;
+    for _ in 0..text.len() / 8 {
+        if !all_high(&text[at..at + 8]) {
+            return at;
+        }
+        at += 8;
+    }
+    at
+}
+
+/// How many bytes come before the first quote or carriage return.
+fn run_length(text: &[u8]) -> usize
+    ensures within { result ≤ length text.now }
+    ensures none { (k : ℕ) → k < result → is_mark (slice_index text.now k) ≡ false }
+{
+    let first = eights_length(text);
+    for i in first..text.len() {
+        if mark(text[i]) {
+            return i;
+        }
+    }
+    text.len()
+}
+
+/// How many bytes a cell has after its opening quote, the closing quote too.
+fn quoted_length(text: &[u8]) -> Option<usize>
+    ensures { IfSome result (λ n. (n ≤ length text.now) × Closes true (take n text.now)) }
+{
+    let mut is_open = true;
+    for (i, b) in text.iter().enumerate() {
+        if *b == b'"' {
+            is_open = !is_open;
+        } else if !is_open {
+            return Some(i);
+        }
+    }
+    if is_open { None } else { Some(text.len()) }
+}
+
+/// Writes bytes after what was written.
+fn put(written: &mut Vec<u8>, bytes: &[u8]) -> Option<()>
+    ensures { IfSome result (λ done. written.new.items ≡ written.old.items ++ bytes.now) }
+{
+    match written.extend_from_slice(bytes) {
+        Ok(()) => Some(()),
+        Err(_) => None,
+    }
+}
+
+/// Writes a byte after what was written.
+#[inline(always)]
+fn put_byte(written: &mut Vec<u8>, byte: u8) -> Option<()>
+    ensures { IfSome result (λ done. written.new.items ≡ written.old.items ++ byte ∷ []) }
+{
+    match written.push(byte) {
+        Ok(()) => Some(()),
+        Err(_) => None,
+    }
+}
+
+/// Writes a few bytes after what was written.
+fn put_few(written: &mut Vec<u8>, bytes: &[u8]) -> Option<()>
+    ensures { IfSome result (λ done. written.new.items ≡ written.old.items ++ bytes.now) }
+{
+    for b in bytes {
+        put_byte(written, *b)?;
+    }
+    Some(())
+}
+
+/// What comes after the end of a row.
+fn after_row(text: &[u8]) -> Option<&[u8]>
+    ensures { IfSome result (λ left. EndsLine text.now left.now) }
+{
+    match text {
+        [b'\n', left @ ..] => Some(left),
+        [b'\r', b'\n', left @ ..] => Some(left),
+        [] => Some(text),
+        _ => None,
+    }
+}
+
+/// Writes what comes after a cell in quotes, and returns what is left.
+fn end_cell<'a>(written: &mut Vec<u8>, text: &'a [u8]) -> Option<&'a [u8]>
+    ensures { IfSome result (λ left. (spelled : List ℕ) × EndsCell text.now left.now spelled
+        × (written.new.items ≡ written.old.items ++ spelled)) }
+{
+    if let [b',', left @ ..] = text {
+        put_byte(written, b',')?;
+        return Some(left);
+    }
+    let left = after_row(text)?;
+    put_byte(written, b'\n')?;
+    Some(left)
+}
+
+/// Whether a cell may begin there without quotes.
+fn opens_bare(written: &[u8], bare: &[u8]) -> bool
+    ensures { IsTrue result → Opens (spot_from Spot.RowStart written.now) bare.now }
+{
+    match spot_of(written) {
+        Spot::CellStart => true,
+        Spot::RowStart => !bare.is_empty(),
+        Spot::InCell => false,
+    }
+}
+
+/// Whether a cell may begin there.
+fn opens(written: &[u8]) -> bool
+    ensures { result ≡ may_open (spot_from Spot.RowStart written.now) }
+{
+    !matches!(spot_of(written), Spot::InCell)
+}
+
+/// What comes after a byte with which a text begins.
+fn after_byte(text: &[u8], byte: u8) -> Option<&[u8]>
+    ensures { IfSome result (λ left. text.now ≡ byte ∷ left.now) }
+{
+    let (first, left) = text.split_first()?;
+    if *first == byte { Some(left) } else { None }
+}
+
+/// The bytes of a cell whose opening quote came before them, where it needs no quotes, and what comes after its closing one.
+fn bare_cell(text: &[u8]) -> Option<(&[u8], &[u8])>
+    ensures { IfSome result (λ p. (text.now ≡ p.0.now ++ 34 ∷ p.1.now) × NoneOf is_special p.0.now) }
+{
+    let (bare, rest) = text.split_at(bare_length(text));
+    let after = after_byte(rest, b'"')?;
+    if after_byte(after, b'"').is_some() {
+        return None;
+    }
+    Some((bare, after))
+}
+
+/// Writes a cell without its quotes, and what comes after it.
+fn take_bare<'a>(written: &mut Vec<u8>, bare: &[u8], after: &'a [u8]) -> Option<&'a [u8]>
+    requires { NoneOf is_special bare.now }
+    ensures { IfSome result (λ left.
+        WritesOn (34 ∷ (bare.now ++ 34 ∷ after.now)) left.now written.old.items written.new.items) }
+{
+    if !opens_bare(written.as_slice(), bare) {
+        return None;
+    }
+    put_few(written, bare)?;
+    end_cell(written, after)
+}
+
+/// Writes a cell with its quotes, and what comes after it.
+fn take_kept<'a>(written: &mut Vec<u8>, text: &'a [u8]) -> Option<&'a [u8]>
+    ensures { IfSome result (λ left.
+        WritesOn (34 ∷ text.now) left.now written.old.items written.new.items) }
+{
+    if !opens(written.as_slice()) {
+        return None;
+    }
+    let (kept, after) = text.split_at(quoted_length(text)?);
+    put_byte(written, b'"')?;
+    put(written, kept)?;
+    end_cell(written, after)
+}
+
+/// Spells anew a cell whose opening quote came before the text, and returns what is left.
+fn take_quoted<'a>(written: &mut Vec<u8>, text: &'a [u8]) -> Option<&'a [u8]>
+    ensures { IfSome result (λ left.
+        WritesOn (34 ∷ text.now) left.now written.old.items written.new.items) }
+{
+    match bare_cell(text) {
+        Some((bare, after)) => take_bare(written, bare, after),
+        None => take_kept(written, text),
+    }
+}
+
+/// Writes what comes before the first quote or carriage return.
+fn take_run<'a>(written: &mut Vec<u8>, text: &'a [u8]) -> Option<&'a [u8]>
+    ensures { IfSome result (λ left.
+        WritesOn text.now left.now written.old.items written.new.items) }
+{
+    let (run, left) = text.split_at(run_length(text));
+    if run.is_empty() {
+        return None;
+    }
+    put(written, run)?;
+    Some(left)
+}
+
+/// Writes a line feed for a carriage return and a line feed.
+fn take_line<'a>(written: &mut Vec<u8>, left: &'a [u8]) -> Option<&'a [u8]>
+    ensures { IfSome result (λ l.
+        WritesOn (13 ∷ 10 ∷ left.now) l.now written.old.items written.new.items) }
+{
+    put_byte(written, b'\n')?;
+    Some(left)
+}
+
+/// Spells anew a beginning of a text, and returns what is left.
+fn take_some<'a>(written: &mut Vec<u8>, text: &'a [u8]) -> Option<&'a [u8]>
+    ensures { IfSome result (λ left.
+        WritesOn text.now left.now written.old.items written.new.items) }
+{
+    match text {
+        [b'"', rest @ ..] => take_quoted(written, rest),
+        [b'\r', b'\n', left @ ..] => take_line(written, left),
+        _ => take_run(written, text),
+    }
+}
+
+/// What was written, with a line end where the last row has none.
+fn with_line_end(mut written: Vec<u8>) -> Option<Vec<u8>>
+    ensures { IfSome result (λ plain. (text : List ℕ) → StandsFor text [] written.items
+        → HasRowsOf st.StartRecord text st.StartRecord plain.items) }
+{
+    match spot_of(written.as_slice()) {
+        Spot::RowStart => Some(written),
+        _ => {
+            put_byte(&mut written, b'\n')?;
+            Some(written)
+        }
+    }
+}
+
+/// A text spelled anew.
+fn spelled_anew(alloc: Global, text: &[u8]) -> Option<Vec<u8>>
+    ensures { IfSome result (λ plain. HasRowsOf st.StartRecord text.now st.StartRecord plain.items) }
+{
+    let Ok(mut written) = Vec::with_capacity(alloc, text.len() + 1) else {
+        return None;
+    };
+    let mut rest = text;
+    for _ in 0..text.len() + 1 {
+        if rest.is_empty() {
+            return with_line_end(written);
+        }
+        rest = take_some(&mut written, rest)?;
+    }
+    None
+}
+
+/// What comes after a byte order mark at the start of a text.
+fn after_mark(text: &[u8]) -> Option<&[u8]>
+    ensures { MatchOption result (strip_bom text.now ≡ text.now) (λ rest. strip_bom text.now ≡ rest.now) }
+{
+    text.strip_prefix(b"\xEF\xBB\xBF")
+}
+
+/// A text without a byte order mark at its start.
+fn without_mark(text: &[u8]) -> &[u8]
+    ensures { result.now ≡ strip_bom text.now }
+{
+    match after_mark(text) {
+        Some(rest) => rest,
+        None => text,
+    }
+}
+
+/// A text spelled anew, as `to_csv` may spell it. Whatever rows it then has, it had before.
+pub(crate) fn plain_text(alloc: Global, text: &[u8]) -> Option<Vec<u8>>
+    ensures { IfSome result (λ plain.
+        (rows : List Row) → RowsOfText plain.items rows → RowsOfText text.now rows) }
+{
+    let plain = spelled_anew(alloc, without_mark(text))?;
+    if after_mark(plain.as_slice()).is_some() {
+        return None;
+    }
+    Some(plain)
+}
