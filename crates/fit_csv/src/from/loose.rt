@@ -61,19 +61,6 @@ fn mark(b: u8) -> bool
     b == b'"' || b == b'\r'
 }
 
-/// How many bytes come before the first that a cell without quotes can't have.
-fn bare_length(text: &[u8]) -> usize
-    ensures within { result ≤ length text.now }
-    ensures bare { (k : ℕ) → k < result → is_special (slice_index text.now k) ≡ false }
-{
-    for (i, b) in text.iter().enumerate() {
-        if special(*b) {
-            return i;
-        }
-    }
-    text.len()
-}
-
 /// Whether each byte comes after the quote in the alphabet, and so is neither a quote nor a carriage return.
 #[inline(always)]
 fn all_high(bytes: &[u8]) -> bool
@@ -147,14 +134,21 @@ fn put_byte(written: &mut Vec<u8>, byte: u8) -> Option<()>
     }
 }
 
-/// Writes a few bytes after what was written.
-fn put_few(written: &mut Vec<u8>, bytes: &[u8]) -> Option<()>
-    ensures { IfSome result (λ done. written.new.items ≡ written.old.items ++ bytes.now) }
+/// Writes the bytes before the first that a cell without quotes can't have, and returns how many they are.
+fn put_bare(written: &mut Vec<u8>, text: &[u8]) -> Option<usize>
+    ensures within { IfSome result (λ shown. shown ≤ length text.now) }
+    ensures bare { IfSome result (λ shown.
+        (k : ℕ) → k < shown → is_special (slice_index text.now k) ≡ false) }
+    ensures put { IfSome result (λ shown.
+        written.new.items ≡ written.old.items ++ take shown text.now) }
 {
-    for b in bytes {
+    for (i, b) in text.iter().enumerate() {
+        if special(*b) {
+            return Some(i);
+        }
         put_byte(written, *b)?;
     }
-    Some(())
+    Some(text.len())
 }
 
 /// What comes after the end of a row.
@@ -183,13 +177,13 @@ fn end_cell<'a>(written: &mut Vec<u8>, text: &'a [u8]) -> Option<&'a [u8]>
     Some(left)
 }
 
-/// Whether a cell may begin there without quotes.
-fn opens_bare(written: &[u8], bare: &[u8]) -> bool
-    ensures { IsTrue result → Opens (spot_from Spot.RowStart written.now) bare.now }
+/// Whether a cell that shows some bytes, or none, may begin at a spot without quotes.
+fn opens_bare(spot: Spot, shown: usize) -> bool
+    ensures { (cell : List ℕ) → IsTrue result → shown ≡ length cell → Opens spot cell }
 {
-    match spot_of(written) {
+    match spot {
         Spot::CellStart => true,
-        Spot::RowStart => !bare.is_empty(),
+        Spot::RowStart => shown > 0,
         Spot::InCell => false,
     }
 }
@@ -209,29 +203,21 @@ fn after_byte(text: &[u8], byte: u8) -> Option<&[u8]>
     if *first == byte { Some(left) } else { None }
 }
 
-/// The bytes of a cell whose opening quote came before them, where it needs no quotes, and what comes after its closing one.
-fn bare_cell(text: &[u8]) -> Option<(&[u8], &[u8])>
-    ensures { IfSome result (λ p. (text.now ≡ p.0.now ++ 34 ∷ p.1.now) × NoneOf is_special p.0.now) }
+/// What comes after a cell of that many bytes and its closing quote, where it may stand at a spot without quotes.
+fn after_bare(spot: Spot, text: &[u8], shown: usize) -> Option<&[u8]>
+    requires { shown ≤ length text.now }
+    ensures { IfSome result (λ after. (text.now ≡ take shown text.now ++ 34 ∷ after.now)
+        × Opens spot (take shown text.now)) }
 {
-    let (bare, rest) = text.split_at(bare_length(text));
+    if !opens_bare(spot, shown) {
+        return None;
+    }
+    let (_, rest) = text.split_at(shown);
     let after = after_byte(rest, b'"')?;
     if after_byte(after, b'"').is_some() {
         return None;
     }
-    Some((bare, after))
-}
-
-/// Writes a cell without its quotes, and what comes after it.
-fn take_bare<'a>(written: &mut Vec<u8>, bare: &[u8], after: &'a [u8]) -> Option<&'a [u8]>
-    requires { NoneOf is_special bare.now }
-    ensures { IfSome result (λ left.
-        WritesOn (34 ∷ (bare.now ++ 34 ∷ after.now)) left.now written.old.items written.new.items) }
-{
-    if !opens_bare(written.as_slice(), bare) {
-        return None;
-    }
-    put_few(written, bare)?;
-    end_cell(written, after)
+    Some(after)
 }
 
 /// Writes a cell with its quotes, and what comes after it.
@@ -253,10 +239,14 @@ fn take_quoted<'a>(written: &mut Vec<u8>, text: &'a [u8]) -> Option<&'a [u8]>
     ensures { IfSome result (λ left.
         WritesOn (34 ∷ text.now) left.now written.old.items written.new.items) }
 {
-    match bare_cell(text) {
-        Some((bare, after)) => take_bare(written, bare, after),
-        None => take_kept(written, text),
+    let spot = spot_of(written.as_slice());
+    let before = written.len();
+    let shown = put_bare(written, text)?;
+    if let Some(after) = after_bare(spot, text, shown) {
+        return end_cell(written, after);
     }
+    written.truncate(before);
+    take_kept(written, text)
 }
 
 /// Writes what comes before the first quote or carriage return.
@@ -309,7 +299,8 @@ fn with_line_end(mut written: Vec<u8>) -> Option<Vec<u8>>
 
 /// A text spelled anew.
 fn spelled_anew(alloc: Global, text: &[u8]) -> Option<Vec<u8>>
-    ensures { IfSome result (λ plain. HasRowsOf st.StartRecord text.now st.StartRecord plain.items) }
+    ensures { IfSome result (λ plain.
+        HasRowsOf st.StartRecord text.now st.StartRecord plain.items) }
 {
     let Ok(mut written) = Vec::with_capacity(alloc, text.len() + 1) else {
         return None;
@@ -326,7 +317,8 @@ fn spelled_anew(alloc: Global, text: &[u8]) -> Option<Vec<u8>>
 
 /// What comes after a byte order mark at the start of a text.
 fn after_mark(text: &[u8]) -> Option<&[u8]>
-    ensures { MatchOption result (strip_bom text.now ≡ text.now) (λ rest. strip_bom text.now ≡ rest.now) }
+    ensures { MatchOption result (strip_bom text.now ≡ text.now)
+        (λ rest. strip_bom text.now ≡ rest.now) }
 {
     text.strip_prefix(b"\xEF\xBB\xBF")
 }
