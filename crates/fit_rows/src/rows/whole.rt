@@ -32,7 +32,8 @@ fn likely_message(
     let defined = before.env().defined(local)?;
     maker.keep_template(before, local, defined).ok()?;
     let template = maker.templates.get(local)?;
-    template.likely(maker.alloc, written, text)
+    let cell = &mut maker.value;
+    template.likely(maker.alloc, written, cell, text)
 }
 
 /// What is left of a text after the rows of a message, where the message fits after the records of a stream and the text begins with

@@ -3,7 +3,7 @@ ghost use Rattle.std.specs.Prelude.{IfSome};
 ghost use Rattle.fit_numbers.specs.Scaled.{IsScale};
 
 use crate::rows::frames::Frame;
-use fit_base::{Code, Items};
+use fit_base::{Bits, Code, Items};
 use fit_cells::{NumberForm, cell_items_by};
 use fit_profile::Info;
 use std::alloc::Global;
@@ -54,48 +54,125 @@ fn likely_number(form: NumberForm, text: &[u8]) -> (u64, usize) {
     (form.invalid, 0)
 }
 
+/// What a hexadecimal digit stands for, and any other byte for some number.
+fn digit_value(digit: u8) -> u64 {
+    let letters = u64::from(digit >> 6);
+    u64::from(digit & 15).wrapping_add(letters.wrapping_mul(9))
+}
+
+/// The number that the digits after `0x` may write with which a text begins.
+fn likely_hexadecimal(digits: &[u8]) -> u64 {
+    let mut number = 0u64;
+    for digit in digits {
+        number = number.wrapping_mul(16).wrapping_add(digit_value(*digit));
+    }
+    number
+}
+
 /// What comes after the first byte of this kind in a text.
 pub(crate) fn after(text: &[u8], byte: u8) -> Option<&[u8]> {
     let place = text.iter().position(|b| *b == byte)?;
     text.get(place + 1..)
 }
 
-/// The items of this base type and size that the cell may show with which a text begins, and what comes after the cell.
-fn likely_cell<'a>(
+/// Puts what stands in quotes into `cell`, by a text after the first quote, and returns what comes after the last one.
+fn take_quoted<'a>(cell: &mut Vec<u8>, text: &'a [u8]) -> Option<&'a [u8]> {
+    let mut rest = text;
+    for _ in 0..text.len() {
+        let place = rest.iter().position(|b| *b == b'"')?;
+        cell.extend_from_slice(rest.get(..place)?).ok()?;
+        rest = rest.get(place + 1..)?;
+        let [b'"', doubled @ ..] = rest else {
+            return Some(rest);
+        };
+        cell.push(b'"').ok()?;
+        rest = doubled;
+    }
+    None
+}
+
+/// Puts the cell with which a text may begin into `cell`, without its quotes, and returns what comes after it.
+fn take_cell<'a>(cell: &mut Vec<u8>, text: &'a [u8]) -> Option<&'a [u8]> {
+    cell.clear();
+    if let [b'"', quoted @ ..] = text {
+        return take_quoted(cell, quoted);
+    }
+    let length = text.iter().position(|b| *b == b',')?;
+    cell.extend_from_slice(text.get(..length)?).ok()?;
+    text.get(length..)
+}
+
+/// The items of a string of this size that may have this text. The text is lost.
+fn likely_string(alloc: Global, size: u8, text: &mut Vec<u8>) -> Option<Items> {
+    let size = size as usize;
+    if text.len() > size {
+        return None;
+    }
+    text.resize(size, 0).ok()?;
+    let bits = Bits::from_bytes(alloc, text.as_slice()).ok()?;
+    Some(Items { width: 1, bits })
+}
+
+/// The items of this base type and size whose cell this may be.
+fn likely_items(
     alloc: Global,
     written: &mut Vec<u8>,
     code: Code,
     size: u8,
     info: Option<Info>,
-    text: &'a [u8],
-) -> Option<(Items, &'a [u8])>
+    cell: &[u8],
+) -> Option<Items>
     requires { IfSome info (λ i. IsScale i.scale) }
 {
-    let length = text.iter().position(|b| *b == b',')?;
-    let Ok(cell) = str::from_utf8(&text[..length]) else {
+    let Ok(cell) = str::from_utf8(cell) else {
         return None;
     };
-    match cell_items_by(alloc, written, code, size, info, cell) {
-        Ok(Some(items)) => Some((items, &text[length..])),
-        _ => None,
-    }
+    cell_items_by(alloc, written, code, size, info, cell).ok()?
 }
 
 impl Frame {
+    /// The items whose cell this may be. The cell is lost.
+    fn likely_in(&self, alloc: Global, written: &mut Vec<u8>, cell: &mut Vec<u8>) -> Option<Items> {
+        match cell.as_slice() {
+            [b'0', b'x', ..] => {}
+            _ => {
+                if self.is_text {
+                    return likely_string(alloc, self.size, cell);
+                }
+            }
+        }
+        likely_items(
+            alloc,
+            written,
+            Code(self.code),
+            self.size,
+            self.info,
+            cell.as_slice(),
+        )
+    }
+
     /// The items that a text may show after what stands before them, and what comes after their cell.
     pub(crate) fn likely<'a>(
         &self,
         alloc: Global,
         written: &mut Vec<u8>,
+        cell: &mut Vec<u8>,
         text: &'a [u8],
     ) -> Option<(Items, &'a [u8])> {
         let text = text.get(self.between.len()..)?;
         match self.form {
             Some(form) if self.size == form.width => {
                 let (bits, length) = likely_number(form, text);
-                Some((Items::one(alloc, form.width, bits), text.get(length..)?))
+                return Some((Items::one(alloc, form.width, bits), text.get(length..)?));
             }
-            _ => likely_cell(alloc, written, Code(self.code), self.size, self.info, text),
+            _ => {}
         }
+        if self.is_float {
+            let length = 2 + 2 * self.size as usize;
+            let bits = likely_hexadecimal(text.get(2..length)?);
+            return Some((Items::one(alloc, self.size, bits), text.get(length..)?));
+        }
+        let rest = take_cell(cell, text)?;
+        Some((self.likely_in(alloc, written, cell)?, rest))
     }
 }

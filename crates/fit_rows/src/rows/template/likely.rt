@@ -23,13 +23,14 @@ pub(crate) fn likely_byte(text: &[u8]) -> (Option<u8>, usize) {
 fn likely_items<'a>(
     alloc: Global,
     written: &mut Vec<u8>,
+    cell: &mut Vec<u8>,
     frames: &[Frame],
     text: &'a [u8],
 ) -> Option<(Entries<Items>, &'a [u8])> {
     let mut all = Entries::with_capacity(alloc, frames.len()).ok()?;
     let mut rest = text;
     for frame in frames {
-        let (items, left) = frame.likely(alloc, written, rest)?;
+        let (items, left) = frame.likely(alloc, written, cell, rest)?;
         all.push(items).ok()?;
         rest = left;
     }
@@ -37,11 +38,12 @@ fn likely_items<'a>(
 }
 
 impl Template {
-    /// The message whose rows a text may show.
+    /// The message whose rows a text may show. `written` and `cell` lend their memory; their texts are lost.
     pub(crate) fn likely(
         &self,
         alloc: Global,
         written: &mut Vec<u8>,
+        cell: &mut Vec<u8>,
         text: &[u8],
     ) -> Option<Values> {
         let text = text.get(self.front.len()..)?;
@@ -49,8 +51,8 @@ impl Template {
         let count = self.kept.own.fields.len();
         let frames = self.frames.as_slice();
         let rest = after(text, b'\n')?;
-        let (fields, rest) = likely_items(alloc, written, frames.get(..count)?, rest)?;
-        let (dev, _) = likely_items(alloc, written, frames.get(count..)?, rest)?;
+        let (fields, rest) = likely_items(alloc, written, cell, frames.get(..count)?, rest)?;
+        let (dev, _) = likely_items(alloc, written, cell, frames.get(count..)?, rest)?;
         Some(Values {
             local: self.kept.own.local,
             offset,
