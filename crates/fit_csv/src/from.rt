@@ -19,6 +19,7 @@ mod open_definition;
 mod open_file;
 mod open_message;
 mod plain;
+mod ranges;
 mod text;
 
 use crate::CsvFault;

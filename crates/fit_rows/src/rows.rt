@@ -3,6 +3,7 @@
 pub(crate) mod definition;
 pub(crate) mod file;
 pub(crate) mod frames;
+pub(crate) mod likely;
 pub(crate) mod maker;
 pub(crate) mod message;
 pub(crate) mod report;

@@ -89,8 +89,8 @@ impl Chain {
         }
     }
 
-    /// Takes the data message with whose rows a text begins, as `to_csv` writes them, and returns what is left. Where it takes none,
-    /// nothing changes.
+    /// Takes the record with whose rows a text begins, as `to_csv` writes them, and returns what is left. Where it takes none, nothing
+    /// changes.
     pub(crate) fn take_message<'a>(
         &mut self,
         reader: &mut MessageReader,

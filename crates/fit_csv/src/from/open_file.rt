@@ -14,6 +14,7 @@ use crate::from::message::message_head;
 use crate::from::misfit::Misfit;
 use crate::from::open_definition::{definition_of, is_whole, take_definition};
 use crate::from::open_message::{is_whole_message, take_message};
+use crate::from::ranges::is_in_range;
 use fit_base::Entries;
 use fit_encode::SpelledRecords;
 use fit_frame::Header;
@@ -111,8 +112,8 @@ fn next_part(
 }
 
 impl OpenFile {
-    /// Takes the data message with whose rows a text begins, as `to_csv` writes them, and returns what is left. Where it takes none,
-    /// nothing changes.
+    /// Takes the record with whose rows a text begins, as `to_csv` writes them, and returns what is left. Where it takes none, nothing
+    /// changes.
     pub(crate) fn take_message<'a>(
         &mut self,
         reader: &mut MessageReader,
@@ -127,10 +128,11 @@ impl OpenFile {
         if !self.is_between_records() {
             return Ok(None);
         }
-        let Some((values, left)) = reader.whole_message(&self.before, text) else {
+        let Some((record_, left)) = reader.whole_record(&self.before, text) else {
             return Ok(None);
         };
-        self.add_record(Record::Values(values))?;
+        is_in_range(&record_);
+        self.add_record(record_)?;
         Ok(Some(left))
     }
 

@@ -1,5 +1,5 @@
-//! Data messages whose rows stand as `to_csv` writes them, taken whole: what a text shows is guessed, and the rows of the guess are
-//! compared with it.
+//! Records whose rows stand as `to_csv` writes them, taken whole: what a text shows is guessed, and the rows of the guess are compared
+//! with it.
 ghost use Rattle.std.specs.Prelude.{◌≡◌, ◌++◌, IfSome};
 ghost use Rattle.fit_record.specs.declared.message.Record.TheVariants.{Values as Data};
 ghost use Rattle.fit_record.specs.Records.{Fits};
@@ -9,6 +9,7 @@ ghost use Rattle.fit_rows.specs.ChainRows.{data_rows, record_rows};
 ghost use Rattle.fit_rows.specs.inner.Current.{AreCurrent};
 ghost use Rattle.fit_rows.specs.inner.MessageKeys.{message_key};
 
+use crate::rows::likely::likely_definition;
 use crate::rows::maker::RowMaker;
 use crate::rows::message::put_record;
 use crate::rows::template::likely::likely_byte;
@@ -36,32 +37,48 @@ fn likely_message(
     template.likely(maker.alloc, written, cell, text)
 }
 
-/// What is left of a text after the rows of a message, where the message fits after the records of a stream and the text begins with
-/// its rows as `to_csv` writes them.
+/// The record whose rows a text may show. Nothing is claimed of it but that it is one.
+fn likely_record(
+    maker: &mut RowMaker,
+    written: &mut Vec<u8>,
+    before: &Stream,
+    text: &[u8],
+) -> Option<Record>
+    requires { AreCurrent message_key maker.old.templates before.now }
+    ensures { AreCurrent message_key maker.new.templates before.now }
+{
+    match text {
+        [b'd', b'e', ..] => Some(Record::Define(likely_definition(maker.alloc, text)?)),
+        _ => Some(Record::Values(likely_message(maker, written, before, text)?)),
+    }
+}
+
+/// What is left of a text after the rows of a record, where the record fits after the records of a stream and the text begins with its
+/// rows as `to_csv` writes them.
 #[tactic(auto, using(crate::proofs::BeginFacts::stripped))]
 fn after_rows<'a>(
     maker: &mut RowMaker,
     written: &mut Vec<u8>,
     before: &Stream,
-    message: &Record,
+    record_: &Record,
     text: &'a [u8],
 ) -> Option<&'a [u8]>
     requires { AreCurrent message_key maker.old.templates before.now }
-    ensures fits { IfSome result (λ left. Fits (known before.now) message.now) }
+    ensures fits { IfSome result (λ left. Fits (known before.now) record_.now) }
     ensures text { IfSome result (λ left.
-        text.now ≡ csv_text (record_rows before.now message.now) ++ left.now) }
+        text.now ≡ csv_text (record_rows before.now record_.now) ++ left.now) }
 {
-    if before.env().fits(message).is_err() {
+    if before.env().fits(record_).is_err() {
         return None;
     }
     written.clear();
-    if put_record(written, maker, before, message).is_err() {
+    if put_record(written, maker, before, record_).is_err() {
         return None;
     }
     text.strip_prefix(written.as_slice())
 }
 
-/// Reads data messages from the rows that `to_csv` writes of them. What it keeps from one message to the next only saves time.
+/// Reads records from the rows that `to_csv` writes of them. What it keeps from one record to the next only saves time.
 #[derive(Drop)]
 pub struct MessageReader {
     maker: RowMaker,
@@ -84,8 +101,24 @@ impl MessageReader {
         }
     }
 
-    /// The data message after the records of a stream with whose rows a text begins, as `to_csv` writes them, and what is left of the
-    /// text. There may be one where `None` is returned: a guess was wrong, or memory was refused.
+    /// The record after the records of a stream with whose rows a text begins, as `to_csv` writes them, and what is left of the text.
+    /// There may be one where `None` is returned: a guess was wrong, or memory was refused.
+    pub fn whole_record<'a>(
+        &mut self,
+        before: &Stream,
+        text: &'a [u8],
+    ) -> Option<(Record, &'a [u8])>
+        ensures fits { IfSome result (λ p. Fits (known before.now) p.0) }
+        ensures text { IfSome result (λ p.
+            text.now ≡ csv_text (record_rows before.now p.0) ++ p.1.now) }
+    {
+        self.maker.templates.forget();
+        let record_ = likely_record(&mut self.maker, &mut self.written, before, text)?;
+        let left = after_rows(&mut self.maker, &mut self.written, before, &record_, text)?;
+        Some((record_, left))
+    }
+
+    /// The same where the record is a data message.
     pub fn whole_message<'a>(
         &mut self,
         before: &Stream,
@@ -95,11 +128,8 @@ impl MessageReader {
         ensures text { IfSome result (λ p.
             text.now ≡ csv_text (data_rows before.now p.0) ++ p.1.now) }
     {
-        self.maker.templates.forget();
-        let values = likely_message(&mut self.maker, &mut self.written, before, text)?;
-        let message = Record::Values(values);
-        let left = after_rows(&mut self.maker, &mut self.written, before, &message, text)?;
-        match message {
+        let (record_, left) = self.whole_record(before, text)?;
+        match record_ {
             Record::Values(values) => Some((values, left)),
             Record::Define(_definition) => None,
         }
