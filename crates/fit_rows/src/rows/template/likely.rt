@@ -46,13 +46,20 @@ impl Template {
         cell: &mut Vec<u8>,
         text: &[u8],
     ) -> Option<Values> {
-        let text = text.get(self.front.len()..)?;
-        let (offset, _) = likely_byte(text);
+        let after_front = text.get(self.front.len()..)?;
+        let (offset, _) = likely_byte(after_front);
+        let rest = match offset {
+            Some(_) => after(after_front, b'\n')?,
+            None => text.get(self.line.len()..)?,
+        };
         let count = self.kept.own.fields.len();
-        let frames = self.frames.as_slice();
-        let rest = after(text, b'\n')?;
-        let (fields, rest) = likely_items(alloc, written, cell, frames.get(..count)?, rest)?;
-        let (dev, _) = likely_items(alloc, written, cell, frames.get(count..)?, rest)?;
+        let (frames, dev_frames) = self.frames.as_slice().split_at_checked(count)?;
+        let (fields, rest) = likely_items(alloc, written, cell, frames, rest)?;
+        let dev = if dev_frames.is_empty() {
+            Entries::new(alloc)
+        } else {
+            likely_items(alloc, written, cell, dev_frames, rest)?.0
+        };
         Some(Values {
             local: self.kept.own.local,
             offset,
