@@ -118,7 +118,7 @@ impl Frame {
         text: &'a [u8],
     ) -> Option<(Items, &'a [u8])> {
         let text = text.get(self.between.len()..)?;
-        match self.form {
+        match &self.form {
             Some(form) if self.size == form.width => {
                 let (bits, length) = likely_number(form, text)?;
                 return Some((Items::one(alloc, form.width, bits), text.get(length..)?));

@@ -42,28 +42,34 @@ fn first_digits(text: &[u8]) -> Option<(u64, usize)> {
     Some((number, (bits / 8) as usize))
 }
 
-/// The number that digits write, and that many more after them.
+/// The number that the first digits of a text write, at most sixteen, and how many these are.
 #[inline(always)]
-fn joined(front: u64, back: u64, count: usize) -> Option<u64> {
+fn likely_whole(text: &[u8]) -> Option<(u64, usize)> {
+    let (number, length) = first_digits(text)?;
+    if length != 8 {
+        return Some((number, length));
+    }
+    let (back, count) = first_digits(text.get(8..)?)?;
     let power = POWERS.as_slice().get(count)?;
-    Some(front.wrapping_mul(*power).wrapping_add(back))
+    let number = number.wrapping_mul(*power).wrapping_add(back);
+    Some((number, count.wrapping_add(8)))
 }
 
-/// The number that the first digits of a text write without their point, at most sixteen before it, and how many bytes that takes.
+/// The number of this form that the first digits of a text write without their point, and how many bytes that takes. Every decimal of
+/// the form is written.
 #[inline(always)]
-fn likely_decimal(text: &[u8]) -> Option<(u64, usize)> {
-    let (mut number, mut length) = first_digits(text)?;
-    if length == 8 {
-        let (back, count) = first_digits(text.get(length..)?)?;
-        number = joined(number, back, count)?;
-        length = length.wrapping_add(count);
+fn likely_decimal(form: &NumberForm, text: &[u8]) -> Option<(u64, usize)> {
+    let (mut number, length) = likely_whole(text)?;
+    if form.decimals == 0 || length == 0 {
+        return Some((number, length));
     }
-    if let Some([b'.', rest @ ..]) = text.get(length..) {
-        let (back, count) = first_digits(rest)?;
-        number = joined(number, back, count)?;
-        length = length.wrapping_add(1).wrapping_add(count);
+    let start = length.wrapping_add(1);
+    let end = start.wrapping_add(form.decimals as usize);
+    for byte in text.get(start..end)? {
+        let digit = u64::from(byte.wrapping_sub(b'0'));
+        number = number.wrapping_mul(10).wrapping_add(digit);
     }
-    Some((number, length))
+    Some((number, end))
 }
 
 /// A number in units of the last decimal, over the factor of its form.
@@ -77,23 +83,23 @@ fn over_factor(number: u64, factor: u32) -> u64 {
 }
 
 /// The bits that a number of this form has of some more.
-fn last_bits(form: NumberForm, number: u64) -> u64 {
+fn last_bits(form: &NumberForm, number: u64) -> u64 {
     let others = 64u32.wrapping_sub(8 * u32::from(form.width));
     number & u64::MAX.wrapping_shr(others)
 }
 
 /// The bits of the number below zero with which a text may begin, after its sign, and how many bytes that takes.
 #[inline(never)]
-fn likely_negative(form: NumberForm, text: &[u8]) -> Option<(u64, usize)> {
-    let (number, length) = likely_decimal(text)?;
+fn likely_negative(form: &NumberForm, text: &[u8]) -> Option<(u64, usize)> {
+    let (number, length) = likely_decimal(form, text)?;
     let raw = form.shift.wrapping_sub(over_factor(number, form.factor));
     Some((last_bits(form, raw), length.wrapping_add(1)))
 }
 
 /// The bits of the number of this form with which a text may begin, and how many bytes that takes.
 #[inline(always)]
-pub(crate) fn likely_number(form: NumberForm, text: &[u8]) -> Option<(u64, usize)> {
-    let (number, length) = likely_decimal(text)?;
+pub(crate) fn likely_number(form: &NumberForm, text: &[u8]) -> Option<(u64, usize)> {
+    let (number, length) = likely_decimal(form, text)?;
     if length == 0 {
         return match text {
             [b'-', rest @ ..] => likely_negative(form, rest),
