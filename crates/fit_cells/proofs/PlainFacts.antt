@@ -173,3 +173,7 @@ pub lone_cell : {A : Type 0} (f : NumberForm) (code : ℕ) (info : Option Meanin
     → items.bits ≡ bits ∷ []
     → field_text default_writer (cell code info items) ≡ item_text (base_type code).class code info f.width bits
 lone_cell f code info items bits form same one = plain_cell code info items (formed_class f code info form).0 ∙ formed_cell f code info items bits form same one
+
+-- a cell that needs no quotes, after a text
+pub plain_lone : (text cell : List ℕ) → needs_quotes default_writer cell ≡ false → text ++ cell ≡ text ++ field_text default_writer cell
+plain_lone text cell plain = rw plain refl

@@ -54,6 +54,13 @@ fn kinds_of(text: &[u8]) -> Kinds
     }
 }
 
+/// Whether a cell needs quotes in a row.
+pub(crate) fn needs_quotes(cell: &[u8]) -> bool
+    ensures { result ≡ needs_quotes default_writer cell.now }
+{
+    kinds_of(cell).needs_quotes
+}
+
 /// Whether a text can stand as it is, by the kinds of its bytes.
 fn is_plain_by(kinds: Kinds, text: &[u8]) -> bool
     requires ascii { kinds.is_ascii ≡ list_all (λ b. nat_lt b 128) text.now }

@@ -5,6 +5,7 @@ ghost use Rattle.fit_cells.specs.Rows.{HasRows, IsBetweenRows, written};
 
 use crate::lone::{CellWriter, LONG};
 use crate::rows::{begin_anew, put_row, row_writer};
+use crate::shown::needs_quotes;
 use csv::Writer;
 use std::alloc::{AllocError, Global};
 use std::marker::Model;
@@ -72,30 +73,74 @@ fn put_after(
     copy_after(writer, start, text)
 }
 
-/// Puts rows and lone cells after texts, through the crate `csv`. The rows may have different numbers of cells.
+/// Writes a row, and puts its text after another one. The writer is fit for the next rows then.
+fn put_row_after(
+    alloc: Global,
+    writer: &mut Writer<Vec<u8>>,
+    text: &mut Vec<u8>,
+    cells: &[&[u8]],
+) -> Result<(), AllocError>
+    requires { IsBetweenRows writer.old }
+    ensures between { IsBetweenRows writer.new }
+    ensures ok { OnOk result (HasRows (map (λ f. f.now) cells.now ∷ []) text.old text.new) }
+    ensures err { OnErr result (text.new.items ≡ text.old.items) }
+{
+    let first = put_after(writer, text, cells);
+    renew(alloc, writer, first.is_err());
+    if first.is_ok() {
+        return first;
+    }
+    // where the row before had another number of cells, a new writer takes this one
+    let second = put_after(writer, text, cells);
+    renew(alloc, writer, second.is_err());
+    second
+}
+
+/// A writer of rows. It is made in a function of its own, since a function clears its variables at each call, however seldom it uses
+/// them.
+#[cold]
+#[inline(never)]
+fn new_rows(alloc: Global) -> Result<Box<Writer<Vec<u8>>>, AllocError>
+    ensures { IfOk result (λ b. IsBetweenRows b.value) }
+{
+    let writer = Box::new(alloc, row_writer(Vec::new(alloc)))?;
+    Ok(writer)
+}
+
+/// A writer of lone cells, in the same way.
+#[cold]
+#[inline(never)]
+fn new_cells(alloc: Global) -> Result<Box<CellWriter>, AllocError> {
+    let writer = Box::new(alloc, CellWriter::new(alloc))?;
+    Ok(writer)
+}
+
+/// Puts rows and lone cells after texts. The rows may have different numbers of cells. What needs quotes goes through the crate `csv`,
+/// for which writers are made when they are first needed.
 #[derive(Drop)]
 pub struct RowWriter {
-    writer: Writer<Vec<u8>>,
-    cells: CellWriter,
+    rows: Option<Box<Writer<Vec<u8>>>>,
+    cells: Option<Box<CellWriter>>,
     alloc: Global,
 }
 
 impl Model for RowWriter {
+    ghost use Rattle.std.specs.Prelude.{IfSome};
     ghost use Rattle.fit_cells.specs.Rows.{IsBetweenRows};
 
     ghost Value = { Unit {0} };
 
     ghost view = { λ w. tt };
 
-    ghost invariant = { λ w. IsBetweenRows w.writer };
+    ghost invariant = { λ w. IfSome w.rows (λ b. IsBetweenRows b.value) };
 }
 
 impl RowWriter {
     /// It has written nothing.
     pub fn new(alloc: Global) -> Self {
         RowWriter {
-            writer: row_writer(Vec::new(alloc)),
-            cells: CellWriter::new(alloc),
+            rows: None,
+            cells: None,
             alloc,
         }
     }
@@ -105,23 +150,42 @@ impl RowWriter {
         ensures ok { OnOk result (HasRows (map (λ f. f.now) cells.now ∷ []) text.old text.new) }
         ensures err { OnErr result (text.new.items ≡ text.old.items) }
     {
-        let first = put_after(&mut self.writer, text, cells);
-        renew(self.alloc, &mut self.writer, first.is_err());
-        if first.is_ok() {
-            return first;
-        }
-        // where the row before had another number of cells, a new writer takes this one
-        let second = put_after(&mut self.writer, text, cells);
-        renew(self.alloc, &mut self.writer, second.is_err());
-        second
+        let mut writer = match self.rows.take() {
+            Some(writer) => writer,
+            None => new_rows(self.alloc)?,
+        };
+        let put = put_row_after(self.alloc, &mut writer, text, cells);
+        self.rows = Some(writer);
+        put
+    }
+
+    /// Puts a cell after a text through the crate `csv`. Out of memory, the text stays as it is.
+    #[cold]
+    #[inline(never)]
+    fn put_any(&mut self, text: &mut Vec<u8>, cell: &[u8]) -> Result<(), AllocError>
+        ensures ok { OnOk result (text.new.items
+            ≡ text.old.items ++ field_text default_writer cell.now) }
+        ensures err { OnErr result (text.new.items ≡ text.old.items) }
+    {
+        let mut writer = match self.cells.take() {
+            Some(writer) => writer,
+            None => new_cells(self.alloc)?,
+        };
+        let put = writer.put(text, cell);
+        self.cells = Some(writer);
+        put
     }
 
     /// Puts a cell after a text, in quotes where it needs them. Out of memory, the text stays as it is.
+    #[tactic(auto, using(crate::proofs::PlainFacts::plain_lone))]
     pub fn put_lone(&mut self, text: &mut Vec<u8>, cell: &[u8]) -> Result<(), AllocError>
         ensures ok { OnOk result (text.new.items
             ≡ text.old.items ++ field_text default_writer cell.now) }
         ensures err { OnErr result (text.new.items ≡ text.old.items) }
     {
-        self.cells.put(text, cell)
+        if needs_quotes(cell) {
+            return self.put_any(text, cell);
+        }
+        text.extend_from_slice(cell)
     }
 }

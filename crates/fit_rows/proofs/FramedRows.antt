@@ -1,10 +1,10 @@
 -- Rows of values between what stands around these.
-use Rattle.fit_rows.proofs.Common.{◌≡◌, ◌∙◌, ◌++◌, ◌∷◌, [], ◌-◌, ◌+◌, length, take, get_or, map, refl, sym, ap, ap₂, append_assoc, arith, false}
+use Rattle.fit_rows.proofs.Common.{◌≡◌, ◌∙◌, ◌++◌, ◌∷◌, [], Global, HasRows, ◌-◌, ◌+◌, length, take, get_or, map, refl, sym, ap, ap₂, append_assoc, arith, false}
 use Rattle.fit_rows.proofs.Common.{map-append, take_more, take-append_seam, default_writer, escaped, field_text}
 use Rattle.fit_rows.proofs.Common.{fields_text, is_blank, needs_quotes, Items, FieldDef, cell, csv_text, high-decimal, unquoted}
 use Rattle.fit_rows.proofs.Common.{optional_number, row, FrameKey, end_of, field_key, frame_text, frames_of, head_text, tail_text}
 use Rattle.fit_rows.proofs.Common.{two_cells, value_row}
-use Rattle.std.proofs.Common.{◌<◌, ℕ, List, codes, decimal, Option, Some, None}
+use Rattle.std.proofs.Common.{◌<◌, ℕ, List, codes, decimal, Option, Some, None, Vec}
 use Rattle.std.proofs.lemmas.List.{append-nil, length-append}
 use Rattle.fit_cells.specs.Rows.{Cell}
 
@@ -25,19 +25,9 @@ row_parts a b c d e = whole_row a b c d e
     ∙ parted (field_text default_writer a) (field_text default_writer b) (field_text default_writer c) (field_text default_writer d)
     (field_text default_writer e)
 
-take_front : (xs ys : List ℕ) (n : ℕ) → n ≡ length (xs ++ ys) - length ys → take n (xs ++ ys) ≡ xs
-take_front xs ys n e = ap (λ k. take k (xs ++ ys)) (e ∙ omega (arith, length-append xs ys)) ∙ take-append_seam xs ys
-
--- a text without the last bytes of a row
-cut_row : (old front back text : List ℕ) → text ≡ old ++ (front ++ back) → take (length text - length back) text ≡ old ++ front
-cut_row old front back text e =
-    let all : text ≡ (old ++ front) ++ back = e ∙ sym (append_assoc old front back) in
-    rw all (take_front (old ++ front) back (length ((old ++ front) ++ back) - length back) refl)
-
--- the first two cells of a row without others
-pub two_of_row : (a b : Cell) (old text : List ℕ) → text ≡ old ++ csv_text (row a b [] [] [] [] [] ∷ [])
-    → take (length text - 5) text ≡ old ++ two_cells a b
-two_of_row a b old text e = cut_row old (two_cells a b) (codes ",,,,\n") text (e ∙ ap (λ t. old ++ t) (row_parts a b [] [] []))
+-- two cells put one after the other
+pub two_put : (text a b : List ℕ) → (((text ++ a) ++ (44 ∷ [])) ++ b) ++ (44 ∷ []) ≡ text ++ (a ++ (44 ∷ (b ++ (44 ∷ []))))
+two_put text a b = simp append_assoc refl
 
 -- ---- rows one after another
 
@@ -100,3 +90,13 @@ data_parts local offset label time text plain =
     ∙ ap₂ (λ o t. text ++ (two_cells (codes "data") (decimal local) ++ (o ++ (two_cells [] label ++ (t ++ codes ",,\n")))))
     (sym (plain-optional offset)) (sym at_time)
     ∙ ap (λ t. text ++ t) (sym (row_parts (codes "data") (decimal local) (optional_number offset) label time))
+
+-- the row with which a message without a time offset begins, put in three parts
+pub line_parts : (local : ℕ) (label : List ℕ) (u v w x : Vec ℕ Global) → v.items ≡ u.items ++ two_cells (codes "data") (decimal local)
+    → w.items ≡ v.items ++ two_cells [] label → x.items ≡ w.items ++ codes ",,\n"
+    → HasRows (row (codes "data") (decimal local) [] label [] [] [] ∷ []) u x
+line_parts local label u v w x front middle end = record {
+  text = end
+      ∙ ap (λ t. t ++ codes ",,\n") (middle ∙ ap (λ t. t ++ two_cells [] label) (front ∙ sym (append-nil _)) ∙ sym (append-nil _))
+      ∙ data_parts local None label [] u.items refl;
+}

@@ -1,6 +1,6 @@
 -- Rows of chains that are known from elsewhere.
 use Rattle.fit_rows.proofs.Common.{◌≡◌, ◌++◌, refl, [], ◌∷◌, is_utf8, chars, file_events, last_digits, hex_digits, date_after, date_in_year, instant_text}
-use Rattle.fit_rows.proofs.Common.{csv_text, chain_rows, field_row, file_row, records_rows, table_events_rows, table_of, escaped, fields_text, is_blank}
+use Rattle.fit_rows.proofs.Common.{csv_text, chain_rows, end_row, field_row, file_row, records_rows, table_events_rows, table_of, escaped, fields_text, is_blank}
 use Rattle.std.proofs.Common.{ℕ, codes}
 use Rattle.std.specs.Fmt.{digits}
 use lib.Utf8.{encode}
@@ -27,6 +27,11 @@ last_instant = refl
 empty_file_rows : csv_text (chain_rows (empty_file ∷ [])) ≡ codes "row,a,b,c,d,e,f\nfile,14,32,0,sum,,\nend,,,,,,\n"
 unfolding csv_text records_rows escaped fields_text is_blank digits
 empty_file_rows = refl
+
+-- the row that ends a file
+pub end_put : csv_text (end_row ∷ []) ≡ codes "end,,,,,,\n"
+unfolding csv_text escaped fields_text is_blank
+end_put = refl
 
 -- a header of 16 bytes
 longer_header_row : csv_text (file_row (record { size = 16; protocol = 32; profile = 0; sum = sums.True; rest = record { items = 0x41 ∷ 0x42 ∷ [] } }) ∷ [])

@@ -11,7 +11,7 @@ use fit_record::{DevDef, FieldDef, MessageDef};
 use std::alloc::AllocError;
 
 /// Puts the next cell of a row, a word that needs no quotes.
-fn add_word(text: &mut Vec<u8>, word: &str) -> Result<(), AllocError>
+pub(crate) fn add_word(text: &mut Vec<u8>, word: &str) -> Result<(), AllocError>
     requires { field_text default_writer word.now ≡ word.now }
     ensures { OnOk result (text.new.items
         ≡ text.old.items ++ fields_text default_writer (word.now ∷ [])) }
@@ -23,7 +23,7 @@ fn add_word(text: &mut Vec<u8>, word: &str) -> Result<(), AllocError>
 
 /// Puts the next cell of a row, a number.
 #[inline(always)]
-fn add_number(text: &mut Vec<u8>, number: u64) -> Result<(), AllocError>
+pub(crate) fn add_number(text: &mut Vec<u8>, number: u64) -> Result<(), AllocError>
     ensures { OnOk result (text.new.items
         ≡ text.old.items ++ fields_text default_writer (decimal number ∷ [])) }
 {

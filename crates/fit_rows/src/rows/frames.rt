@@ -26,8 +26,11 @@ use fit_record::read_items;
 use std::alloc::{AllocError, Global};
 use std::marker::Model;
 
+/// How many bytes are set aside for what stands between two values and what is cut off after it. Few are longer.
+const BETWEEN_ROOM: usize = 96;
+
 /// Puts two cells after a text, each with a comma after it.
-#[tactic(auto, using(crate::proofs::FramedRows::two_of_row))]
+#[tactic(auto, using(crate::proofs::FramedRows::two_put))]
 pub(crate) fn put_two<'a>(
     text: &mut Vec<u8>,
     writer: &mut RowWriter,
@@ -36,18 +39,10 @@ pub(crate) fn put_two<'a>(
 ) -> Result<(), AllocError>
     ensures { OnOk result (text.new.items ≡ text.old.items ++ two_cells first.now second.now) }
 {
-    let cells = [
-        first,
-        second,
-        b"".as_slice(),
-        b"".as_slice(),
-        b"".as_slice(),
-        b"".as_slice(),
-        b"".as_slice(),
-    ];
-    writer.put(text, cells.as_slice())?;
-    // without the commas after the other cells, and the line feed
-    text.truncate(text.len().saturating_sub(5));
+    writer.put_lone(text, first)?;
+    text.push(b',')?;
+    writer.put_lone(text, second)?;
+    text.push(b',')?;
     Ok(())
 }
 
@@ -142,7 +137,7 @@ impl Frame {
           info = option_map meaning info;
         }) }
     {
-        let mut between = Vec::new(alloc);
+        let mut between = Vec::with_capacity(alloc, BETWEEN_ROOM)?;
         between.extend_from_slice(before)?;
         put_two(&mut between, writer, kind, name)?;
         Ok(Frame {

@@ -42,7 +42,7 @@ fn put_event(
             put_file_row(text, &mut maker.writer, &mut maker.value, header)
         }
         Event::Item(record_) => put_record(text, maker, stream, record_),
-        Event::FileEnd => put_end_row(text, &mut maker.writer),
+        Event::FileEnd => put_end_row(text),
     }
 }
 

@@ -159,18 +159,10 @@ fn put_line(
     ensures { OnOk result (HasRows (rows.row (codes "data") (decimal local) []
         (message_label global) [] [] [] ∷ []) text.old text.new) }
 {
-    let mut locals = Buffer::new();
-    let label = message_label(global);
-    let cells = [
-        b"data".as_slice(),
-        locals.format(local).as_bytes(),
-        b"".as_slice(),
-        label.as_str().as_bytes(),
-        b"".as_slice(),
-        b"".as_slice(),
-        b"".as_slice(),
-    ];
-    writer.put(text, cells.as_slice())
+    put_front(text, writer, local)?;
+    put_label(text, writer, global)?;
+    text.extend_from_slice(b",,\n")?;
+    Ok(())
 }
 
 /// Puts the values of fields one after another, each after what stands before it, and this end.
