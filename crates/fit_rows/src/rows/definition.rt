@@ -4,6 +4,8 @@ ghost use Rattle.csv.specs.Writing.{default_writer, field_text, fields_text};
 ghost use Rattle.fit_cells.specs.Rows.{HasRows};
 ghost use Rattle.fit_rows.specs.ChainRows as rows;
 
+pub(crate) mod again;
+
 use crate::words::{dev_slice, order_word};
 use fit_base::Entries;
 use fit_profile::put_whole;

@@ -8,6 +8,7 @@ ghost use Rattle.fit_rows.specs.inner.MessageKeys.{message_key};
 
 use crate::kept::{ByLocal, keep_at};
 use crate::minutes::Times;
+use crate::rows::definition::again::DefinitionRows;
 use crate::rows::template::Template;
 use fit_cells::RowWriter;
 use fit_profile::Stream;
@@ -22,6 +23,7 @@ pub(crate) struct RowMaker {
     /// The memory of a cell.
     pub value: Vec<u8>,
     pub times: Times,
+    pub definitions: DefinitionRows,
     /// That of the last message of each local message type.
     pub templates: ByLocal<Template>,
 }
@@ -36,6 +38,7 @@ impl RowMaker {
             writer: RowWriter::new(alloc),
             value: Vec::new(alloc),
             times: Times::new(alloc),
+            definitions: DefinitionRows::new(alloc),
             templates: ByLocal::new(alloc),
         }
     }

@@ -15,7 +15,6 @@ ghost use Rattle.fit_rows.specs.inner.Frames.{HasFields, TakesFields, frame_slot
 ghost use Rattle.fit_rows.specs.inner.MessageKeys.{message_key};
 
 use crate::items::{FieldItems, ItemBytes, MadeItems};
-use crate::rows::definition::put_definition;
 use crate::rows::maker::RowMaker;
 use crate::words::header_time;
 use fit_profile::Stream;
@@ -93,7 +92,7 @@ pub(crate) fn put_record(
     ensures current { AreCurrent message_key maker.new.templates stream.now }
 {
     match record_ {
-        Record::Define(definition) => put_definition(text, definition),
+        Record::Define(definition) => maker.definitions.put(text, definition),
         Record::Values(values) => match stream.env().defined(values.local) {
             Some(defined) => {
                 let mut items = MadeItems {
