@@ -12,6 +12,9 @@ use std::marker::Model;
 /// The last minute with a time below 0x10000000, which is no civil time.
 pub(crate) const LAST_SYSTEM_MINUTE: u32 = 4_473_924;
 
+/// How many bytes are set aside for what the times of a minute begin with and what is cut off after it.
+const MINUTE_ROOM: usize = 56;
+
 /// The digit of a number below ten.
 fn digit(n: u32) -> u8
     requires { n < 10 }
@@ -54,7 +57,7 @@ impl Minute {
         requires { 4_473_924 < time / 60 }
         ensures { IfOk result (λ m. m ≡ time / 60) }
     {
-        let mut text = Vec::new(alloc);
+        let mut text = Vec::with_capacity(alloc, MINUTE_ROOM)?;
         text.extend_from_slice(time_text(Some(time)).as_str().as_bytes())?;
         text.truncate(17);
         Ok(Minute {
@@ -104,11 +107,13 @@ impl Times {
     fn put_new(&mut self, text: &mut Vec<u8>, time: u32) -> Result<(), AllocError>
         ensures { OnOk result (text.new.items ≡ text.old.items ++ instant_text time) }
     {
-        text.extend_from_slice(time_text(Some(time)).as_str().as_bytes())?;
         if time / 60 > LAST_SYSTEM_MINUTE {
-            self.minute = Some(Minute::of(self.alloc, time)?);
+            let minute = Minute::of(self.alloc, time)?;
+            minute.put(text, time)?;
+            self.minute = Some(minute);
+            return Ok(());
         }
-        Ok(())
+        text.extend_from_slice(time_text(Some(time)).as_str().as_bytes())
     }
 
     /// Puts a time.

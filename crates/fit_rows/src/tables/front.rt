@@ -4,12 +4,15 @@ ghost use Rattle.csv.specs.Writing.{default_writer, fields_text};
 ghost use Rattle.fit_rows.specs.InstantText.{instant_text};
 ghost use Rattle.fit_rows.specs.inner.Minutes.{seconds_text};
 
-use crate::minutes::{LAST_SYSTEM_MINUTE, Times};
+use crate::minutes::LAST_SYSTEM_MINUTE;
 use crate::stamp::{SHORT, Stamp};
 use crate::words::time_text;
 use fit_profile::put_whole;
 use std::alloc::{AllocError, Global};
 use std::marker::Model;
+
+/// How many bytes are set aside for what a row begins with and what is cut off after it.
+const FRONT_ROOM: usize = 80;
 
 /// The file and the minute of a row, and what its text begins with, where that is short.
 #[derive(Drop)]
@@ -65,7 +68,7 @@ impl Front {
         requires { 4_473_924 < time / 60 }
         ensures { IfOk result (λ f. IfSome f (λ f. f ≡ (file, time / 60))) }
     {
-        let mut text = Vec::new(alloc);
+        let mut text = Vec::with_capacity(alloc, FRONT_ROOM)?;
         put_whole(&mut text, file)?;
         text.push(b',')?;
         let end = text.len() + 17;
@@ -105,37 +108,29 @@ impl Front {
 }
 
 /// Puts the first two cells of a row after a text.
-fn put_first(
-    text: &mut Vec<u8>,
-    times: &mut Times,
-    file: u64,
-    time: Option<u32>,
-) -> Result<(), AllocError>
+pub(crate) fn put_first(text: &mut Vec<u8>, file: u64, time: Option<u32>) -> Result<(), AllocError>
     ensures { OnOk result (text.new.items ≡ text.old.items ++ (decimal file
         ++ fields_text default_writer (unwrap_or (option_map instant_text time) [] ∷ []))) }
 {
+    let time = time_text(time);
     put_whole(text, file)?;
     text.push(b',')?;
-    times.put_cell(text, time)
+    text.extend_from_slice(time.as_str().as_bytes())?;
+    Ok(())
 }
 
-/// Puts the first two cells of rows, one row after another.
+/// What the last row began with, for those after it.
 #[derive(Drop)]
 pub(crate) struct Firsts {
     alloc: Global,
-    times: Times,
-    /// That of the last row which `put` began, where its time is civil.
+    /// Where the time of the row is civil, and what it began with is short.
     front: Option<Front>,
 }
 
 impl Firsts {
-    /// It has put no cell.
+    /// There was no row.
     pub(crate) fn new(alloc: Global) -> Firsts {
-        Firsts {
-            alloc,
-            times: Times::new(alloc),
-            front: None,
-        }
+        Firsts { alloc, front: None }
     }
 
     /// What the row of a file and a time begins with, and the time, where that is known.
@@ -153,22 +148,22 @@ impl Firsts {
         }
     }
 
-    /// Puts the first two cells of a row after a text, and keeps what they begin with.
+    /// Finds out what the rows of a file with times of the minute of this time begin with.
     #[inline(never)]
-    pub(crate) fn put(
-        &mut self,
-        text: &mut Vec<u8>,
-        file: u64,
-        time: Option<u32>,
-    ) -> Result<(), AllocError>
-        ensures { OnOk result (text.new.items ≡ text.old.items ++ (decimal file
-            ++ fields_text default_writer (unwrap_or (option_map instant_text time) [] ∷ []))) }
-    {
-        put_first(text, &mut self.times, file, time)?;
+    fn renew(&mut self, file: u64, time: Option<u32>) -> Result<(), AllocError> {
         if let Some(time) = time {
             if time / 60 > LAST_SYSTEM_MINUTE {
                 self.front = Front::of(self.alloc, file, time)?;
             }
+        }
+        Ok(())
+    }
+
+    /// Finds out what the row of a file and a time begins with, where it isn't known.
+    #[inline(always)]
+    pub(crate) fn learn(&mut self, file: u64, time: Option<u32>) -> Result<(), AllocError> {
+        if self.front_of(file, time).is_none() {
+            self.renew(file, time)?;
         }
         Ok(())
     }

@@ -12,7 +12,7 @@ ghost use Rattle.fit_rows.specs.Table as table;
 ghost use Rattle.fit_rows.specs.inner.TableCells.{AddsCell, AddsCells, AreSome, EndsRow, effort_cells, place_cells};
 ghost use Rattle.fit_rows.specs.inner.TableColumns.{is_tabled};
 
-use crate::tables::front::{Firsts, Front, write_byte};
+use crate::tables::front::{Firsts, Front, put_first, write_byte};
 use crate::tables::numbers::RecordNumbers;
 use std::alloc::AllocError;
 
@@ -218,9 +218,10 @@ pub(crate) fn put_row<N: RecordNumbers>(
         → N.are_of numbers.now d v t → time ≡ t.time
         → HasRows (table.table_row file d v t ∷ []) text.old text.new) }
 {
+    firsts.learn(file, time)?;
     if let Some((front, time)) = firsts.front_of(file, time) {
         return put_begun(text, front, time, numbers);
     }
-    firsts.put(text, file, time)?;
+    put_first(text, file, time)?;
     put_numbers(text, numbers)
 }

@@ -27,9 +27,9 @@ returns g c = on_ok_weaker c.put_numbers.result (λ ends d v t are timed.
     let time = unwrap_or (option_map instant_text t.time) [] in
     let numbers = map (λ (cell : Option Cell). unwrap_or cell []) (place_cells d v t ++ effort_cells d v t) in
     record {
-      text = row_in_parts text c.put.new.text.items c.put_numbers.new.text.items c.args.file time numbers
+      text = row_in_parts text c.put_first.new.text.items c.put_numbers.new.text.items c.args.file time numbers
           (unquoted (decimal c.args.file) (high-decimal c.args.file))
-          (c.in_ok-put.ensures
+          (c.in_ok-put_first.ensures
           ∙ ap (λ at. text ++ (decimal c.args.file ++ fields_text default_writer (unwrap_or (option_map instant_text at) [] ∷ []))) timed)
           (ends d v t are);
     }) c.put_numbers.ensures

@@ -6,7 +6,7 @@ use Rattle.fit_rows.proofs.tables.front.Front.of.Goals as goal
 pub invariant_of-result : goal.invariant_of-result
 invariant_of-result c =
     let time = c.as_bytes.ensures.value ∙ c.as_str.ensures.value ∙ c.time_text.ensures.text in
-    let number = c.in_ok-put_whole.ensures.ok ∙ ap (λ (t : List ℕ). t ++ decimal c.args.file) c.new-text.ensures.items in
+    let number = c.in_ok-put_whole.ensures.ok ∙ ap (λ (t : List ℕ). t ++ decimal c.args.file) c.in_ok-text.ensures.items in
     let before = c.in_ok-push.ensures.items ∙ ap (λ (t : List ℕ). t ++ (44 ∷ [])) number in
     let all = c.in_ok-extend_from_slice.ensures.items ∙ ap₂ (λ (a b : List ℕ). a ++ b) before time in
     let short = c.in_ok-new.ensures ∙ c.truncate.ensures.items in
