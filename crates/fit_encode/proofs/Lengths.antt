@@ -3,7 +3,8 @@ use Rattle.fit_encode.proofs.Common.{◌≡◌, ℕ, ◌*◌, ◌<◌, ◌≤◌
 use Rattle.fit_encode.proofs.Common.{Order, little_bytes, length-little_bytes, checksum, Header, HeaderFits, header_bytes, FitFile}
 use Rattle.fit_encode.proofs.Common.{Record, Define, Data, Environment, record_bytes, order_at, IsWellFormed, body, summed, file_bytes, chain_bytes}
 use Rattle.fit_encode.proofs.Common.{chain_limit, sym, ap, subst, Some, None, option_map, IsSomeAnd, MessageDef, Defined, Values, DataFits}
-use Rattle.fit_encode.proofs.Common.{data_bytes, defined_at, Fits, unwrap_or, IsSpellable, bytes_in_order, take, drop, get_or, records_bytes, AllFit, learn, learn_all, empty_environment, size_in}
+use Rattle.fit_encode.proofs.Common.{data_bytes, defined_at, Fits, unwrap_or, IsSpellable, bytes_in_order, take, drop, get_or, records_bytes, AllFit}
+use Rattle.fit_encode.proofs.Common.{learn, learn_all, empty_environment, size_in}
 use Rattle.fit_record.specs.Records.{message_size}
 use Rattle.std.proofs.Common.{◌^◌}
 use Rattle.std.specs.Prelude.{Option, ◌+◌}

@@ -3,7 +3,8 @@
 use Rattle.fit_encode.proofs.Common.{◌≡◌, ℕ, ◌<◌, inl, inr, Bool, true, false, cond, List, ◌∷◌, length, get_or, set, Some, None, refl, sym, ap, ◌∙◌, subst, ltb}
 use Rattle.fit_encode.proofs.Common.{lt-ltb, get_or-set_same, get_or-set_other, arith, slice_index_or, unwrap_or, option_map, option_and_then, cases_eq, Order}
 use Rattle.fit_encode.proofs.Common.{Little, Defined, Record, Define, Data, Environment, learn, defined_at, defined_by, describe, description, Fits, DataFits}
-use Rattle.fit_encode.proofs.Common.{data_header, data_bytes, record_bytes, order_at, bytes_in_order, order_in, orders_after, size_in, sizes_after, MessageDef, Values}
+use Rattle.fit_encode.proofs.Common.{data_header, data_bytes, record_bytes, order_at, bytes_in_order, order_in, orders_after, size_in, sizes_after}
+use Rattle.fit_encode.proofs.Common.{MessageDef, Values}
 use Rattle.fit_encode.proofs.Common.{IsSomeAnd, empty_environment}
 use Rattle.std.specs.Prelude.{Option, replicate}
 use Rattle.std.proofs.Common.{zero, suc}

@@ -4,7 +4,7 @@ ghost use Rattle.std.specs.List.{list_any};
 ghost use Rattle.fit_base.specs.Numbers as numbers;
 ghost use Rattle.fit_profile.specs.Accumulated.{number_in, number_of};
 ghost use Rattle.fit_profile.specs.Accumulated.{is_counter};
-ghost use Rattle.fit_profile.specs.inner.Places.{ArePlaces};
+ghost use Rattle.fit_profile.specs.inner.Places.{AreFieldPlaces};
 
 use crate::look::first_of;
 use crate::places::first_at;
@@ -93,7 +93,7 @@ pub(crate) fn number_by<A: Allocator>(
 ) -> Option<u64>
     requires items { c.items ≤ 3 }
     requires skipped { c.skipped ≤ 2 ^ 24 }
-    requires places { ArePlaces places.now definition.now.fields }
+    requires places { AreFieldPlaces places.now definition.now.fields }
     ensures small { IfSome result (λ n. n < 2 ^ 24) }
     ensures number { result ≡ number_of c definition.now values.now }
 {

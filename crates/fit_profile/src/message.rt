@@ -1,5 +1,5 @@
 //! A data message, and what it means by the records before it.
-ghost use Rattle.fit_profile.specs.inner.Places.{ArePlaces};
+ghost use Rattle.fit_profile.specs.inner.Places.{AreFieldPlaces};
 
 use crate::names::{Names, Texts};
 use crate::places::first_at;
@@ -29,7 +29,7 @@ pub struct Message<'a, A: Allocator = Global> {
     told: Told,
     /// Where the fields of the definition stand by their numbers.
     places: &'a [u8; 256],
-    ghost placed: { ArePlaces places.now defined.now.definition.fields },
+    ghost placed: { AreFieldPlaces places.now defined.now.definition.fields },
 }
 
 impl<'a, A: Allocator> Message<'a, A> {

@@ -1,7 +1,7 @@
 //! Where the fields of a definition stand by their numbers, so that a field of a message is found at once.
 ghost use Rattle.std.specs.Prelude.{◌≡◌, ◌<◌, length, option_map};
 ghost use Rattle.fit_profile.specs.Looks.{first_field};
-ghost use Rattle.fit_profile.specs.inner.Places.{ArePlaces, both_at};
+ghost use Rattle.fit_profile.specs.inner.Places.{AreFieldPlaces, both_at};
 
 use fit_base::Items;
 use fit_record::FieldDef;
@@ -10,7 +10,7 @@ use std::alloc::Allocator;
 /// One more than the place of the first field of each number, and 0 where there is none.
 pub(crate) fn places_of(fields: &[FieldDef]) -> [u8; 256]
     requires { length fields.now < 256 }
-    ensures { ArePlaces result fields.now }
+    ensures { AreFieldPlaces result fields.now }
 {
     let mut places = [0; 256];
     // From the last field to the first, so that the first of a number stays.
@@ -29,7 +29,7 @@ pub(crate) fn first_at<'a, A: Allocator>(
     places: &[u8; 256],
     number: u8,
 ) -> Option<(&'a FieldDef, &'a Items<A>)>
-    requires { ArePlaces places.now fields.now }
+    requires { AreFieldPlaces places.now fields.now }
     ensures { option_map (λ f. (f.0.now, f.1.now)) result
         ≡ first_field fields.now items.now number }
 {

@@ -5,7 +5,7 @@ ghost use Rattle.fit_record.specs.declared.message.Record.TheVariants.{Values as
 ghost use Rattle.fit_record.specs.Faults.{or_else};
 ghost use Rattle.fit_profile.specs.Times as times;
 ghost use Rattle.fit_profile.specs.Told as telling;
-ghost use Rattle.fit_profile.specs.inner.Places.{ArePlaces};
+ghost use Rattle.fit_profile.specs.inner.Places.{AreFieldPlaces};
 ghost use Rattle.fit_profile.specs.inner.Plans.{ArePlanned, IsPlan};
 
 use crate::component::number_by;
@@ -22,7 +22,7 @@ fn time_by(
     definition: &MessageDef,
     values: &Values,
 ) -> Option<u32>
-    requires { ArePlaces places.now definition.now.fields }
+    requires { AreFieldPlaces places.now definition.now.fields }
     ensures { result ≡ or_else (times.field_time definition.now values.now)
         (times.header_time previous values.now.offset) }
 {
@@ -34,7 +34,7 @@ fn time_by(
 
 /// What is told of a message with counters.
 fn counted_by(last: Last, places: &[u8; 256], definition: &MessageDef, values: &Values) -> Told
-    requires { ArePlaces places.now definition.now.fields }
+    requires { AreFieldPlaces places.now definition.now.fields }
     ensures { result ≡ telling.told_at last definition.now values.now }
 {
     let time = time_by(last.time, places, definition, values);

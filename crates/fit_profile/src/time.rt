@@ -2,7 +2,7 @@
 ghost use Rattle.std.specs.Prelude.{◌≡◌, ◌<◌, ◌^◌, option_map};
 ghost use Rattle.fit_profile.specs.Least.{least_from};
 ghost use Rattle.fit_profile.specs.Times as times;
-ghost use Rattle.fit_profile.specs.inner.Places.{ArePlaces};
+ghost use Rattle.fit_profile.specs.inner.Places.{AreFieldPlaces};
 
 use crate::field_number::TIMESTAMP;
 use crate::least::steps_to;
@@ -59,7 +59,7 @@ pub(crate) fn field_time_by<A: Allocator>(
     values: &Values<A>,
     places: &[u8; 256],
 ) -> Option<u32>
-    requires { ArePlaces places.now definition.now.fields }
+    requires { AreFieldPlaces places.now definition.now.fields }
     ensures { result ≡ times.field_time definition.now values.now }
 {
     let (field, items) = first_at(

@@ -1,5 +1,6 @@
 -- Rows of values between what stands around these.
-use Rattle.fit_rows.proofs.Common.{◌≡◌, ◌∙◌, ◌++◌, ◌∷◌, [], Global, HasRows, ◌-◌, ◌+◌, length, take, get_or, map, refl, sym, ap, ap₂, append_assoc, arith, false}
+use Rattle.fit_rows.proofs.Common.{◌≡◌, ◌∙◌, ◌++◌, ◌∷◌, [], Global, HasRows, ◌-◌, ◌+◌, length, take, get_or, map, refl, sym, ap, ap₂, append_assoc}
+use Rattle.fit_rows.proofs.Common.{arith, false}
 use Rattle.fit_rows.proofs.Common.{map-append, take_more, take-append_seam, default_writer, escaped, field_text}
 use Rattle.fit_rows.proofs.Common.{fields_text, is_blank, needs_quotes, Items, FieldDef, cell, csv_text, high-decimal, unquoted}
 use Rattle.fit_rows.proofs.Common.{optional_number, row, FrameKey, end_of, field_key, frame_text, frames_of, head_text, tail_text}

@@ -1,6 +1,7 @@
 -- Rows of chains that are known from elsewhere.
 use Rattle.fit_rows.proofs.Common.{◌≡◌, ◌++◌, refl, [], ◌∷◌, is_utf8, chars, file_events, last_digits, hex_digits, date_after, date_in_year, instant_text}
-use Rattle.fit_rows.proofs.Common.{csv_text, chain_rows, end_row, field_row, file_row, records_rows, table_events_rows, table_of, escaped, fields_text, is_blank}
+use Rattle.fit_rows.proofs.Common.{csv_text, chain_rows, end_row, field_row, file_row, records_rows, table_events_rows, table_of, escaped}
+use Rattle.fit_rows.proofs.Common.{fields_text, is_blank}
 use Rattle.std.proofs.Common.{ℕ, codes}
 use Rattle.std.specs.Fmt.{digits}
 use lib.Utf8.{encode}

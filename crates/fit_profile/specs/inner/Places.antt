@@ -9,8 +9,8 @@ place_from from [] number = 0
 place_from from (f ∷ fields) number = if f.number == number then from + 1 else place_from (from + 1) fields number
 
 -- These are the places of the first fields of all numbers.
-abbrev pub ArePlaces : List ℕ → List FieldDef → Type 0
-ArePlaces places fields = (number : ℕ) → number < 256 → slice_index_or places number 0 ≡ place_from 0 fields number
+abbrev pub AreFieldPlaces : List ℕ → List FieldDef → Type 0
+AreFieldPlaces places fields = (number : ℕ) → number < 256 → slice_index_or places number 0 ≡ place_from 0 fields number
 
 -- the field and the items at a place
 abbrev pub both_at : {A : Type 0} → List FieldDef → List (Items A) → ℕ → Option (FieldDef × Items A)

@@ -13,7 +13,7 @@ use Rattle.fit_profile.specs.Looks.{first_field}
 use Rattle.fit_profile.specs.Times.{time_in_field, valid_time}
 use Rattle.fit_profile.specs.declared.plan.Plan.{Plan}
 use Rattle.fit_profile.specs.inner.InBytes.{slots}
-use Rattle.fit_profile.specs.inner.Places.{ArePlaces}
+use Rattle.fit_profile.specs.inner.Places.{AreFieldPlaces}
 
 -- the time that these fields hold whose bytes begin these
 abbrev pub time_of_fields : Order → List FieldDef → List ℕ → Option ℕ
@@ -29,7 +29,7 @@ time_at order place bytes = option_and_then (λ p. valid_time (number order (tak
 pub record IsPlan (plan : Plan) (d : MessageDef Global) : Type 0 where
   pub more : plan.tells_more ≡ tells_more d
   pub describes : plan.describes ≡ (d.global == 206)
-  pub places : ArePlaces plan.places d.fields
+  pub places : AreFieldPlaces plan.places d.fields
   pub within : IfSome plan.time_place (λ p. p + 4 ≤ sizes (slots d.fields))
   pub time : (bytes : List ℕ) → time_of_fields d.order d.fields bytes ≡ time_at d.order plan.time_place bytes
 

@@ -1,4 +1,5 @@
-use Rattle.fit_encode.proofs.Common.{◌≡◌, ◌∙◌, refl, take, take_all, length, sym, ap, subst, arith, Environment, empty_environment, learn, learn_all, records_bytes}
+use Rattle.fit_encode.proofs.Common.{◌≡◌, ◌∙◌, refl, take, take_all, length, sym, ap, subst, arith, Environment, empty_environment, learn, learn_all}
+use Rattle.fit_encode.proofs.Common.{records_bytes}
 use Rattle.fit_record.specs.Records.{message_size}
 use Rattle.fit_record.proofs.SixteenPlaces.{sixteen_places}
 use Rattle.fit_encode.proofs.Lengths.{size_within}
@@ -43,7 +44,8 @@ loop-r-preserved g c =
     let r = c.r-item.result in
     let inv = c.loop-r.invariant in
     let e = learn_all {A = g.row.A.Denot} empty_environment (take i rs) in
-    let within = size_within rs i r c.loop-r.sizes c.loop-r.length c.size_in.result (omega arith) c.r-item.is c.requires.fit inv.sizes c.requires.small inv.total
+    let within = size_within rs i r c.loop-r.sizes c.loop-r.length c.size_in.result (omega arith) c.r-item.is c.requires.fit inv.sizes
+        c.requires.small inv.total
     c.size_in.ensures in
     let sizes = sizes_next e c.loop-r.sizes r (fits_at empty_environment rs i r (omega arith) c.r-item.is c.requires.fit) (sixteen_places (take i rs))
     inv.sizes_long inv.sizes in

@@ -4,13 +4,16 @@ use Rattle.fit_encode.proofs.place.place_fields.Goals as goal
 
 pub place_bytes-at-requires : goal.place_bytes-at-requires
 place_bytes-at-requires c =
-    let room = part_within field_bytes c.args.fields.now c.loop-f.f-index (record { number = 0; size = 0; code = 0 }) _ c.args.at c.loop-f.at (omega arith) refl c.loop-f.invariant.end in
+    let room = part_within field_bytes c.args.fields.now c.loop-f.f-index (record { number = 0; size = 0; code = 0 }) _ c.args.at c.loop-f.at
+        (omega arith) refl c.loop-f.invariant.end in
     omega (arith, room, c.requires, c.loop-f.auto.bytes)
 
 pub loop-f-preserved : goal.loop-f-preserved
 loop-f-preserved c =
     let placed = c.place_bytes-at.ensures in record {
-      end = part_end field_bytes c.args.fields.now c.loop-f.f-index (record { number = 0; size = 0; code = 0 }) _ c.args.at c.loop-f.at c.place_bytes-at.result (omega arith) refl c.loop-f.invariant.end placed.end;
-      text = part_written field_bytes c.args.fields.now c.loop-f.f-index (record { number = 0; size = 0; code = 0 }) _ (take c.args.at c.args.bytes.now) (take c.loop-f.at c.loop-f.bytes) _ (omega arith) refl
+      end = part_end field_bytes c.args.fields.now c.loop-f.f-index (record { number = 0; size = 0; code = 0 }) _ c.args.at c.loop-f.at
+          c.place_bytes-at.result (omega arith) refl c.loop-f.invariant.end placed.end;
+      text = part_written field_bytes c.args.fields.now c.loop-f.f-index (record { number = 0; size = 0; code = 0 }) _
+          (take c.args.at c.args.bytes.now) (take c.loop-f.at c.loop-f.bytes) _ (omega arith) refl
           c.loop-f.invariant.text placed.text;
     }

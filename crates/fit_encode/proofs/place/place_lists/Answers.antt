@@ -4,13 +4,16 @@ use Rattle.fit_encode.proofs.place.place_lists.Goals as goal
 
 pub place_items-at-requires-clause-room : goal.place_items-at-requires-clause-room
 place_items-at-requires-clause-room g c =
-    let room = part_within (items_bytes {A = g.row.A.Denot} c.args.order) c.args.lists.now c.loop-items.items-index c.items-item.result c.items-item.result c.args.at c.loop-items.at (omega arith) c.items-item.is c.loop-items.invariant.end in
+    let room = part_within (items_bytes {A = g.row.A.Denot} c.args.order) c.args.lists.now c.loop-items.items-index c.items-item.result
+        c.items-item.result c.args.at c.loop-items.at (omega arith) c.items-item.is c.loop-items.invariant.end in
     omega (arith, room, c.requires.room, c.loop-items.auto.bytes)
 
 pub loop-items-preserved : goal.loop-items-preserved
 loop-items-preserved g c =
     let placed = c.place_items-at.ensures in record {
-      end = part_end (items_bytes {A = g.row.A.Denot} c.args.order) c.args.lists.now c.loop-items.items-index c.items-item.result c.items-item.result c.args.at c.loop-items.at c.place_items-at.result (omega arith) c.items-item.is c.loop-items.invariant.end placed.end;
-      text = part_written (items_bytes {A = g.row.A.Denot} c.args.order) c.args.lists.now c.loop-items.items-index c.items-item.result c.items-item.result (take c.args.at c.args.bytes.now) (take c.loop-items.at c.loop-items.bytes) _ (omega arith) c.items-item.is
+      end = part_end (items_bytes {A = g.row.A.Denot} c.args.order) c.args.lists.now c.loop-items.items-index c.items-item.result c.items-item.result
+          c.args.at c.loop-items.at c.place_items-at.result (omega arith) c.items-item.is c.loop-items.invariant.end placed.end;
+      text = part_written (items_bytes {A = g.row.A.Denot} c.args.order) c.args.lists.now c.loop-items.items-index c.items-item.result
+          c.items-item.result (take c.args.at c.args.bytes.now) (take c.loop-items.at c.loop-items.bytes) _ (omega arith) c.items-item.is
           c.loop-items.invariant.text placed.text;
     }

@@ -1,4 +1,5 @@
-use Rattle.fit_encode.proofs.Common.{◌≡◌, ◌∙◌, ℕ, ◌<◌, List, [], ◌∷◌, length, get_or, sym, ap, subst, arith, err_from_is_err_and, Record, empty_environment, AllFit, records_bytes}
+use Rattle.fit_encode.proofs.Common.{◌≡◌, ◌∙◌, ℕ, ◌<◌, List, [], ◌∷◌, length, get_or, sym, ap, subst, arith, err_from_is_err_and, Record}
+use Rattle.fit_encode.proofs.Common.{empty_environment, AllFit, records_bytes}
 use Rattle.fit_encode.proofs.Common.{IsWellFormed, AllByRecursion}
 use Rattle.std.proofs.Common.{zero, suc}
 use Rattle.fit_encode.proofs.FilesPut.{chain_stops, one_more_put}

@@ -1,4 +1,5 @@
-use Rattle.fit_encode.proofs.Common.{◌≡◌, ◌∙◌, ℕ, refl, sym, ap, subst, arith, length, err_from_is_err_and, Environment, learn, record_bytes, Encoding, learned, CanPut}
+use Rattle.fit_encode.proofs.Common.{◌≡◌, ◌∙◌, ℕ, refl, sym, ap, subst, arith, length, err_from_is_err_and, Environment, learn, record_bytes}
+use Rattle.fit_encode.proofs.Common.{Encoding, learned, CanPut}
 use Rattle.fit_encode.proofs.Common.{HasPlace, IsPlaceFault, IsPutFault}
 use Rattle.std.proofs.Common.{Global}
 use Rattle.fit_encode.proofs.Encoders.{breaks_off, in_terms, next_open, not_written, on_err_at, small_record, some_byte, while_open}
