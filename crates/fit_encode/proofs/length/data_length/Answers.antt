@@ -45,7 +45,7 @@ loop-r-preserved g c =
     let inv = c.loop-r.invariant in
     let e = learn_all {A = g.row.A.Denot} empty_environment (take i rs) in
     let within = size_within rs i r c.loop-r.sizes c.loop-r.length c.size_in.result (omega arith) c.r-item.is c.requires.fit inv.sizes
-        c.requires.small inv.total
+    c.requires.small inv.total
     c.size_in.ensures in
     let sizes = sizes_next e c.loop-r.sizes r (fits_at empty_environment rs i r (omega arith) c.r-item.is c.requires.fit) (sixteen_places (take i rs))
     inv.sizes_long inv.sizes in

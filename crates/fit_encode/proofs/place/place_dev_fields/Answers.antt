@@ -5,7 +5,7 @@ use Rattle.fit_encode.proofs.place.place_dev_fields.Goals as goal
 pub place_bytes-at-requires : goal.place_bytes-at-requires
 place_bytes-at-requires c =
     let room = part_within dev_field_bytes c.args.fields.now c.loop-f.f-index (record { number = 0; size = 0; index = 0 }) _ c.args.at c.loop-f.at
-        (omega arith) refl c.loop-f.invariant.end in
+    (omega arith) refl c.loop-f.invariant.end in
     omega (arith, room, c.requires, c.loop-f.auto.bytes)
 
 pub loop-f-preserved : goal.loop-f-preserved

@@ -5,7 +5,7 @@ use Rattle.fit_encode.proofs.place.place_lists.Goals as goal
 pub place_items-at-requires-clause-room : goal.place_items-at-requires-clause-room
 place_items-at-requires-clause-room g c =
     let room = part_within (items_bytes {A = g.row.A.Denot} c.args.order) c.args.lists.now c.loop-items.items-index c.items-item.result
-        c.items-item.result c.args.at c.loop-items.at (omega arith) c.items-item.is c.loop-items.invariant.end in
+    c.items-item.result c.args.at c.loop-items.at (omega arith) c.items-item.is c.loop-items.invariant.end in
     omega (arith, room, c.requires.room, c.loop-items.auto.bytes)
 
 pub loop-items-preserved : goal.loop-items-preserved

@@ -5,7 +5,7 @@ use Rattle.fit_encode.proofs.place.place_numbers.Goals as goal
 pub place_number-at-requires-clause-room : goal.place_number-at-requires-clause-room
 place_number-at-requires-clause-room c =
     let room = part_within (number_bytes c.args.order c.args.width) c.args.numbers.now c.loop-bits.bits-index 0 _ c.args.at c.loop-bits.at
-        (omega arith) refl c.loop-bits.invariant.end in
+    (omega arith) refl c.loop-bits.invariant.end in
     omega (arith, room, c.requires.room, c.loop-bits.auto.bytes)
 
 pub loop-bits-preserved : goal.loop-bits-preserved

@@ -26,7 +26,7 @@ invariant_of-self-then-size-len c =
     (c.requires.known ∙ ap (learn_all {A = Global} empty_environment) (sym c.self.view_is), c.requires.fits) in
     let short = (c.self.invariant.all c.if-self.false).short in
     rw c.add-then-size-len.ensures
-        (long-now s.bytes.items (record_bytes c.args.env.now c.args.r.now) s.count s.too_long s.records.items c.args.env.now c.args.r.now
+    (long-now s.bytes.items (record_bytes c.args.env.now c.args.r.now) s.count s.too_long s.records.items c.args.env.now c.args.r.now
     c.self.invariant c.if-self.false may refl (omega (arith, short, c.len.ensures, c.record_size-size.ensures, c.if-size-len.true)))
 
 pub invariant_of-self-2 : goal.invariant_of-self-2

@@ -13,7 +13,7 @@ returns g c =
     let s = c.self.inside in
     let placed = c.place_bytes-self-inside in
     let longer = run_longer s.gone s.used placed.result s.run placed.new.bytes c.args.bytes.now c.self.invariant.0
-        (omega (arith, c.self.told, c.self.invariant.1))
+    (omega (arith, c.self.told, c.self.invariant.1))
     c.place_bytes-self-inside.ensures.end placed.ensures.text in
     Spells-held _ c.args.bytes.now c.in_ok-make_room.ensures.sends
     (ap (λ (x : List ℕ). s.sum ++ x) longer.0 ∙ ap (λ (s : Sending). s.sent) view)
