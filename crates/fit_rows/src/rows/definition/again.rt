@@ -157,16 +157,15 @@ impl DefinitionRows {
         has_seen
     }
 
-    /// Keeps rows, in place of the oldest where there are many.
-    fn keep(&mut self, rows: KeptRows) -> Result<(), AllocError> {
+    /// Keeps rows, in place of the oldest where there are many. Where memory is refused they aren't kept: that costs time alone.
+    fn keep(&mut self, rows: KeptRows) {
         if self.kept.len() < MOST {
-            self.kept.push(rows)?;
-            return Ok(());
+            let _ = self.kept.push(rows);
+            return;
         }
         let place = self.oldest % MOST;
         self.kept[place] = rows;
         self.oldest = place + 1;
-        Ok(())
     }
 
     /// Puts the rows of a definition message that aren't kept, and keeps them where one of its kind was put before.
@@ -178,8 +177,9 @@ impl DefinitionRows {
         put_definition(text, definition)?;
         if self.has_seen(definition) {
             let (_, own) = text.as_slice().split_at(start);
-            let kept = KeptRows::new(self.alloc, definition, own)?;
-            self.keep(kept)?;
+            if let Ok(kept) = KeptRows::new(self.alloc, definition, own) {
+                self.keep(kept);
+            }
         }
         Ok(())
     }
