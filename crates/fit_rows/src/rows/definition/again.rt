@@ -10,8 +10,31 @@ use fit_record::{DevDef, MessageDef};
 use std::alloc::{AllocError, Global};
 use std::marker::Model;
 
-/// How many definitions are kept at most.
+/// How many definitions are kept at most, and of how many the mark is noted.
 const MOST: usize = 16;
+
+/// A mark with three bytes more.
+#[inline(always)]
+fn mixed(mark: u64, a: u8, b: u8, c: u8) -> u64 {
+    let bytes = u64::from(a) + 256 * u64::from(b) + 65_536 * u64::from(c);
+    (mark ^ bytes)
+        .wrapping_mul(0x9E37_79B9_7F4A_7C15)
+        .rotate_left(29)
+}
+
+/// A number by which most definitions differ, however much they have in common. Those with the same mark are compared.
+fn mark_of(definition: &MessageDef) -> u64 {
+    let mut mark = u64::from(definition.local) + 256 * u64::from(definition.global);
+    for field in definition.fields.as_slice() {
+        mark = mixed(mark, field.number, field.size, field.code);
+    }
+    if let Some(fields) = &definition.dev {
+        for field in fields.as_slice() {
+            mark = mixed(mark, field.number, field.size, field.index);
+        }
+    }
+    mark
+}
 
 /// Whether two developer fields have the same number, size and developer data index.
 fn is_same_dev(a: &DevDef, b: &DevDef) -> bool
@@ -65,6 +88,7 @@ fn devs_copy(
 /// A definition message and the text of its rows.
 #[derive(Drop)]
 struct KeptRows {
+    mark: u64,
     definition: MessageDef,
     text: Vec<u8>,
 }
@@ -84,14 +108,20 @@ impl Model for KeptRows {
 }
 
 impl KeptRows {
-    /// Those of this definition message, which this text shows.
-    fn new(alloc: Global, definition: &MessageDef, text: &[u8]) -> Result<KeptRows, AllocError>
+    /// Those of this definition message, which has this mark and which this text shows.
+    fn new(
+        alloc: Global,
+        mark: u64,
+        definition: &MessageDef,
+        text: &[u8],
+    ) -> Result<KeptRows, AllocError>
         requires { text.now ≡ csv_text (rows.definition_rows definition.now) }
         ensures { IfOk result (λ k. k ≡ definition.now) }
     {
         let fields = Entries::from_slice(alloc, definition.fields.as_slice())?;
         let dev = devs_copy(alloc, &definition.dev)?;
         Ok(KeptRows {
+            mark,
             definition: MessageDef {
                 local: definition.local,
                 reserved: definition.reserved,
@@ -105,6 +135,7 @@ impl KeptRows {
     }
 
     /// Whether they are those of this definition message.
+    #[inline(never)]
     fn are_of(&self, definition: &MessageDef) -> bool
         ensures { IsTrue result → self.now ≡ definition.now }
     {
@@ -133,8 +164,10 @@ pub(crate) struct DefinitionRows {
     kept: Vec<KeptRows>,
     /// Which of these gives way to the next.
     oldest: usize,
-    /// A bit for each kind of definition that was put.
-    seen: u64,
+    /// The marks of the last definitions that were put and not kept.
+    seen: [u64; MOST],
+    /// Which of these gives way to the next.
+    first_seen: usize,
 }
 
 impl DefinitionRows {
@@ -144,17 +177,20 @@ impl DefinitionRows {
             alloc,
             kept: Vec::new(alloc),
             oldest: 0,
-            seen: 0,
+            seen: [0; MOST],
+            first_seen: 0,
         }
     }
 
-    /// Notes a definition, and says whether one of its kind was noted before.
-    fn has_seen(&mut self, definition: &MessageDef) -> bool {
-        let kind = u64::from(definition.local) + 5 * u64::from(definition.global);
-        let bit = 1u64 << (kind % 64);
-        let has_seen = self.seen & bit != 0;
-        self.seen |= bit;
-        has_seen
+    /// Notes the mark of a definition, and says whether it was noted before.
+    fn has_seen(&mut self, mark: u64) -> bool {
+        if self.seen.contains(&mark) {
+            return true;
+        }
+        let place = self.first_seen % MOST;
+        self.seen[place] = mark;
+        self.first_seen = place + 1;
+        false
     }
 
     /// Keeps rows, in place of the oldest where there are many. Where memory is refused they aren't kept: that costs time alone.
@@ -168,28 +204,33 @@ impl DefinitionRows {
         self.oldest = place + 1;
     }
 
-    /// Puts the rows of a definition message that aren't kept, and keeps them where one of its kind was put before.
+    /// Puts the rows of a definition message with this mark that aren't kept, and keeps them where the mark was noted before.
     #[inline(never)]
-    fn put_new(&mut self, text: &mut Vec<u8>, definition: &MessageDef) -> Result<(), AllocError>
+    fn put_new(
+        &mut self,
+        text: &mut Vec<u8>,
+        mark: u64,
+        definition: &MessageDef,
+    ) -> Result<(), AllocError>
         ensures { OnOk result (HasRows (rows.definition_rows definition.now) text.old text.new) }
     {
         let start = text.len();
         put_definition(text, definition)?;
-        if self.has_seen(definition) {
+        if self.has_seen(mark) {
             let (_, own) = text.as_slice().split_at(start);
-            if let Ok(kept) = KeptRows::new(self.alloc, definition, own) {
+            if let Ok(kept) = KeptRows::new(self.alloc, mark, definition, own) {
                 self.keep(kept);
             }
         }
         Ok(())
     }
 
-    /// Those of this definition message, where they are kept.
-    fn kept_of(&self, definition: &MessageDef) -> Option<&KeptRows>
+    /// Those of this definition message, which has this mark, where they are kept.
+    fn kept_of(&self, mark: u64, definition: &MessageDef) -> Option<&KeptRows>
         ensures { IfSome result (λ k. k.now ≡ definition.now) }
     {
         for kept in self.kept.as_slice() {
-            if kept.are_of(definition) {
+            if kept.mark == mark && kept.are_of(definition) {
                 return Some(kept);
             }
         }
@@ -204,9 +245,10 @@ impl DefinitionRows {
     ) -> Result<(), AllocError>
         ensures { OnOk result (HasRows (rows.definition_rows definition.now) text.old text.new) }
     {
-        if let Some(kept) = self.kept_of(definition) {
+        let mark = mark_of(definition);
+        if let Some(kept) = self.kept_of(mark, definition) {
             return kept.put(text);
         }
-        self.put_new(text, definition)
+        self.put_new(text, mark, definition)
     }
 }
