@@ -79,7 +79,7 @@ pub use Rattle.fit_step.specs.declared.position.Position.{Position}
 pub use Rattle.fit_step.specs.declared.stop.Stop.{Stop}
 pub use Rattle.fit_step.specs.declared.stop.Stop.TheVariants.{Refused, NoMemory}
 pub use Rattle.fit_step.specs.inner.Runs.{Fails, NoFitFails, CutsGoOn, RecordsRunThrough}
-pub use Rattle.fit_step.specs.inner.Scans.{RecordByte, StandsWithRoom}
+pub use Rattle.fit_step.specs.inner.Scans.{RecordByte, StandsWithRoom, TakesByte}
 pub use Rattle.fit_step.specs.inner.Steps.{IsDefining, message_begun, entered, state, Made, Defines, DefinesAt, ReadsAt, IsInField, next_with_bytes}
 pub use Rattle.fit_step.specs.inner.Undone.{Adds, AddsEntry}
 pub use Rattle.fit_record.proofs.RecordLengths.{length-fields, length-items, length-data, length-dev_fields}

@@ -2,7 +2,7 @@
 use Rattle.fit_step.proofs.Common.{◌≡◌, ℕ, ◌+◌, ◌-◌, ◌<◌, append_assoc, Bool, true, false, List, [], ◌∷◌, ◌++◌, length, take, refl, sym, ap, ◌∙◌, subst, arith}
 use Rattle.fit_step.proofs.Common.{Some, None, Ok, Err, Option, Result, OnOk, OnErr, take_more, Record, Environment, learn, Fits, Position, Stop, Refused}
 use Rattle.fit_step.proofs.Common.{NoMemory, State, Step, start, step, RecordPart, nothing, state_of, state_at, PartFitsRoom, Steps, KeepsPart, tests_of}
-use Rattle.fit_step.proofs.Common.{StandsAfter, IsInProgress, ReadsRecord, StandsWithRoom, RecordByte, ◌≤◌, slice_index}
+use Rattle.fit_step.proofs.Common.{StandsAfter, IsInProgress, ReadsRecord, StandsWithRoom, RecordByte, TakesByte, ◌≤◌, slice_index}
 use Rattle.std.specs.Result.{is_ok}
 use Rattle.fit_step.proofs.Kept.{still_stands, still_room}
 use Rattle.fit_step.proofs.RecordsInProgress.{EndsWithRecord, starts_after, sixteen_learned, starts_where_none, goes_after, ends_after, wants_after}
@@ -36,6 +36,18 @@ pub step_whole : {A : Type 0} (e : Environment A) (after : Option (Record A)) (p
 step_whole e after p false made is steps keeps = absurd cc
 step_whole e None p true made is steps keeps = absurd keeps.0
 step_whole e (Some r) p true made is steps keeps = (r, refl, keeps.0, steps)
+
+-- a byte with which a record goes on, and one with which it is whole
+pub byte_goes : {A : Type 0} (old new : Environment A) (p : Position) (in_progress : Option (Record A)) (b : ℕ) (whole : Bool) (made : Step A)
+    → whole ≡ false → TakesByte old new p in_progress b (Ok whole) made → RecordByte old new (state_at p in_progress) b (Ok None) made
+byte_goes old new p in_progress b false made is takes = takes
+byte_goes old new p in_progress b true made is takes = absurd cc
+
+pub byte_ends : {A : Type 0} (old new : Environment A) (p : Position) (in_progress : Option (Record A)) (b : ℕ) (whole : Bool) (made : Step A)
+    → whole ≡ true → TakesByte old new p in_progress b (Ok whole) made
+    → (r : Record A) × (in_progress ≡ Some r) × RecordByte old new (state_at p None) b (Ok (Some r)) made
+byte_ends old new p in_progress b true made is takes = takes
+byte_ends old new p in_progress b false made is takes = absurd cc
 
 -- ---- what was read
 

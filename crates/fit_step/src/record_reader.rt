@@ -7,7 +7,7 @@ ghost use Rattle.fit_step.specs.InProgress.{AwaitsByte, Reads};
 ghost use Rattle.fit_step.specs.Machine.{step};
 ghost use Rattle.fit_step.specs.Places.{state_at};
 ghost use Rattle.fit_step.specs.Tests.{tests_of};
-ghost use Rattle.fit_step.specs.inner.Scans.{RecordByte, StandsWithRoom};
+ghost use Rattle.fit_step.specs.inner.Scans.{StandsWithRoom, TakesByte};
 
 use crate::inside::take_inside;
 use crate::undone::undo;
@@ -31,22 +31,23 @@ fn is_learned<A: Allocator + Copy>(env: &mut Env<A>, whole: &Option<Record<A>>) 
     }
 }
 
-/// One byte of a record, and the record where it is whole with it. A whole record is learned.
+/// One byte of a record. Whether the record is whole with it: then it is learned, and still in its place.
+#[inline(always)]
 fn take_byte<A: Allocator + Copy>(
     alloc: A,
     env: &mut Env<A>,
     position: &mut Position,
     in_progress: &mut Option<Record<A>>,
     byte: u8,
-) -> Result<Option<Record<A>>, Stop>
+) -> Result<bool, Stop>
     requires { StandsWithRoom env.old (state_at position.old in_progress.old) }
-    ensures made { RecordByte env.old env.new (state_at position.new in_progress.new) byte result
+    ensures made { TakesByte env.old env.new position.new in_progress.new byte result
         (step env.old (tests_of env.old) (state_at position.old in_progress.old) byte) }
     ensures err { OnErr result (state_at position.new in_progress.new
         ≡ state_at position.old in_progress.old) }
 {
     if take_inside(position, in_progress, byte) {
-        return Ok(None);
+        return Ok(false);
     }
     take_step(alloc, env, position, in_progress, byte)
 }
@@ -59,9 +60,9 @@ fn take_step<A: Allocator + Copy>(
     position: &mut Position,
     in_progress: &mut Option<Record<A>>,
     byte: u8,
-) -> Result<Option<Record<A>>, Stop>
+) -> Result<bool, Stop>
     requires { StandsWithRoom env.old (state_at position.old in_progress.old) }
-    ensures made { RecordByte env.old env.new (state_at position.new in_progress.new) byte result
+    ensures made { TakesByte env.old env.new position.new in_progress.new byte result
         (step env.old (tests_of env.old) (state_at position.old in_progress.old) byte) }
     ensures err { OnErr result (state_at position.new in_progress.new
         ≡ state_at position.old in_progress.old) }
@@ -70,7 +71,7 @@ fn take_step<A: Allocator + Copy>(
         Err(stop) => Err(stop),
         Ok((next, false)) => {
             *position = next;
-            Ok(None)
+            Ok(false)
         }
         Ok((next, true)) => {
             if !is_learned(env, in_progress) {
@@ -78,10 +79,7 @@ fn take_step<A: Allocator + Copy>(
                 return Err(Stop::NoMemory);
             }
             *position = next;
-            match in_progress.take() {
-                Some(record) => Ok(Some(record)),
-                None => unreachable!(),
-            }
+            Ok(true)
         }
     }
 }
@@ -103,8 +101,8 @@ fn scan_bytes<A: Allocator + Copy>(
 {
     for (i, byte) in piece.iter().enumerate() {
         match take_byte(alloc, env, position, in_progress, *byte) {
-            Ok(None) => {}
-            Ok(Some(record)) => return (i + 1, Ok(Some(record))),
+            Ok(false) => {}
+            Ok(true) => return (i + 1, Ok(in_progress.take())),
             Err(stop) => return (i, Err(stop)),
         }
     }

@@ -1,12 +1,18 @@
-use Rattle.fit_step.proofs.Common.{◌≡◌, ◌<◌, ◌++◌, length, take, get_or, refl, sym, ◌∙◌, subst, arith, IsInProgress, slice_is_bytes, state_at, StandsWithRoom}
-use Rattle.fit_step.proofs.ReadBytes.{record_ends, record_stops, record_goes, stands_on}
+use Rattle.fit_step.proofs.Common.{◌≡◌, ◌<◌, ◌++◌, length, take, get_or, refl, sym, ◌∙◌, subst, arith, IsInProgress, slice_is_bytes, state_at, StandsWithRoom, None, step, tests_of}
+use Rattle.fit_step.proofs.ReadBytes.{byte_ends, byte_goes, record_ends, record_stops, record_goes, stands_on}
 use Rattle.fit_step.proofs.record_reader.scan_bytes.Goals as goal
 
-pub returns-in-Ok-Some-clause-reads : goal.returns-in-Ok-Some-clause-reads
-returns-in-Ok-Some-clause-reads g c = λ room bytes h.
-    record_ends c.args.env.now c.loop-i.env c.take_byte.new.env room bytes c.args.piece.now c.loop-i.i c.loop-i.position c.take_byte.new.position
-    c.loop-i.in_progress c.take_byte.new.in_progress c.loop-i-test.true (slice_is_bytes c.args.piece.now c.type_inv.piece c.loop-i.i)
-    c.loop-i.invariant.known (c.loop-i.invariant.come room bytes h) c.in-Ok-Some.record (rw c.in-Ok-Some.field-0-is at c.in-Ok-Some.ensures.made)
+pub returns-in-Ok-true-clause-reads : goal.returns-in-Ok-true-clause-reads
+returns-in-Ok-true-clause-reads g c = λ room bytes h.
+    let e = c.loop-i.env in
+    let b = get_or c.args.piece.now c.loop-i.i 0 in
+    let made = step e (tests_of e) (state_at c.loop-i.position c.loop-i.in_progress) b in
+    let whole = byte_ends e c.take_byte.new.env c.take_byte.new.position c.take_byte.new.in_progress b c.in-Ok-true.field-0 made
+    c.in-Ok-true.field-0-test c.in-Ok-true.ensures.made in
+    rw (c.take.ensures.value ∙ whole.1, c.take.ensures.after)
+    (record_ends c.args.env.now e c.take_byte.new.env room bytes c.args.piece.now c.loop-i.i c.loop-i.position c.take_byte.new.position
+    c.loop-i.in_progress None c.loop-i-test.true (slice_is_bytes c.args.piece.now c.type_inv.piece c.loop-i.i)
+    c.loop-i.invariant.known (c.loop-i.invariant.come room bytes h) whole.0 whole.2)
 
 pub returns-in-Err-clause-reads : goal.returns-in-Err-clause-reads
 returns-in-Err-clause-reads g c = λ room bytes h.
@@ -17,7 +23,10 @@ returns-in-Err-clause-reads g c = λ room bytes h.
 pub loop-i-preserved : goal.loop-i-preserved
 loop-i-preserved g c =
     let low : get_or c.args.piece.now c.loop-i.i 0 < 256 = slice_is_bytes c.args.piece.now c.type_inv.piece c.loop-i.i in
-    let made = rw c.in-Ok-None.field-0-is at c.in-Ok-None.ensures.made in
+    let e = c.loop-i.env in
+    let b = get_or c.args.piece.now c.loop-i.i 0 in
+    let made = byte_goes e c.take_byte.new.env c.take_byte.new.position c.take_byte.new.in_progress b c.in-Ok-false.field-0
+    (step e (tests_of e) (state_at c.loop-i.position c.loop-i.in_progress) b) c.in-Ok-false.field-0-test c.in-Ok-false.ensures.made in
     record {
       known = made.0 ∙ c.loop-i.invariant.known;
       come = λ room bytes h.

@@ -1,4 +1,4 @@
-use Rattle.fit_step.proofs.Common.{rules, ◌≡◌, refl, sym, subst, OnErr, step, state_at, tests_of, RecordByte, StandsWithRoom}
+use Rattle.fit_step.proofs.Common.{rules, ◌≡◌, refl, sym, subst, OnErr, step, state_at, tests_of, StandsWithRoom, TakesByte}
 use Rattle.fit_step.proofs.record_reader.take_byte.Goals as goal
 
 pub take_inside-requires : goal.take_inside-requires
@@ -16,8 +16,9 @@ take_step-requires g c = (
 pub returns-clause-made : goal.returns-clause-made
 returns-clause-made g c =
     let e = c.args.env.now in
-    let after = state_at c.take_step.new.position c.take_step.new.in_progress in
-    subst (λ p. RecordByte e c.take_step.new.env after c.args.byte c.take_step.result (step e (tests_of e) (state_at p c.args.in_progress.now) c.args.byte))
+    let after = c.take_step.new in
+    subst (λ p. TakesByte e after.env after.position after.in_progress c.args.byte c.take_step.result
+    (step e (tests_of e) (state_at p c.args.in_progress.now) c.args.byte))
     (c.take_inside.ensures.same c.if-take_inside.false) c.take_step.ensures.made
 
 pub returns-clause-err : goal.returns-clause-err

@@ -1,4 +1,4 @@
-use Rattle.fit_step.proofs.Common.{rules, ◌≡◌, None, Some, sym, ap, ◌∙◌, subst, arith, IsOk, both_ways, step, state_at, tests_of}
+use Rattle.fit_step.proofs.Common.{rules, None, sym, ap, subst, arith, IsOk, both_ways, step, state_at, tests_of}
 use Rattle.fit_step.proofs.EmptyMessages.{describes_nothing, record_stopped}
 use Rattle.fit_step.proofs.ReadBytes.{step_whole}
 use Rattle.fit_step.proofs.record_reader.take_step.Goals as goal
@@ -19,17 +19,14 @@ returns-then-not-is_learned-clause-err g c =
     ap (λ o. state_at c.args.position.now o)
     (c.undo.ensures e c.args.in_progress.now w.0 c.args.byte (state_at next None) (omega arith) (c.requires.1) w.3 w.1)
 
-pub returns-in-Some-clause-made : goal.returns-in-Some-clause-made
-returns-in-Some-clause-made g c =
+pub returns-else-not-is_learned-clause-made : goal.returns-else-not-is_learned-clause-made
+returns-else-not-is_learned-clause-made g c =
     let e = c.args.env.now in
     let before = state_at c.args.position.now c.args.in_progress.now in
     let next = c.in-Ok-default-true.next in
     let w = step_whole e c.step.new.in_progress next c.in-Ok-default-true.field-0-1 (step e (tests_of e) before c.args.byte) c.in-Ok-default-true.field-0-1-test
     c.in-Ok-default-true.ensures.made c.in-Ok-default-true.ensures.kept in
-    let at : c.step.new.in_progress ≡ Some c.in-Some.record = sym c.take.ensures.value ∙ c.in-Some.is in
-    let both : Some w.0 ≡ Some c.in-Some.record = sym w.1 ∙ at in
-    let same : w.0 ≡ c.in-Some.record = cc in
-    (c.is_learned.ensures.learned c.in-Some.record at c.if-not-is_learned.false, rw (c.take.ensures.after, ← same) w.3)
+    (w.0, w.1, (c.is_learned.ensures.learned w.0 w.1 c.if-not-is_learned.false, w.3))
 
 pub returns-in-Err-clause-made : goal.returns-in-Err-clause-made
 returns-in-Err-clause-made g c =
