@@ -17,4 +17,4 @@ pub use Rattle.fit_numbers.specs.FixedText.{fixed_text, fraction, sign, StillBeg
 unfoldable pub use Rattle.fit_numbers.specs.FixedText.{last_digits}
 pub use Rattle.fit_numbers.specs.Scaled.{IsDegrees, IsScale, IsScaled}
 pub use Rattle.fit_numbers.specs.inner.Digits.{next_value, signed_value}
-unfoldable pub use Rattle.fit_numbers.specs.inner.Digits.{digits_in}
+unfoldable pub use Rattle.fit_numbers.specs.inner.Digits.{digits_in, triple_byte}

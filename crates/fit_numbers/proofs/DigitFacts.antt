@@ -23,6 +23,18 @@ last_digits-end (suc k) n =
     let digit : n / 10 ^ suc k ≡ n / 10 / 10 ^ k = ap (λ p. n / p) (pow-succ' 10 k) ∙ sym (div-div-eq-div-mul n 10 (10 ^ k)) in
     ap₂ (λ x ds. (48 + x % 10) ∷ ds) digit (last_digits-end k n)
 
+-- the digits before them make no difference
+pub last_digits-mod : (k n : ℕ) → last_digits k (n % 10 ^ k) ≡ last_digits k n
+last_digits-mod zero n = last_digits-none (n % 10 ^ 0) ∙ sym (last_digits-none n)
+last_digits-mod (suc k) n =
+    let p = 10 ^ k in
+    let low : n % 10 ^ suc k ≡ n / 10 % p * 10 + n % 10 = ap (λ q. n % q) (pow-suc 10 k) ∙ mod-mul n {m = 10 ^ k} {c = 10} (power_above k) (omega arith) in
+    let before : n % 10 ^ suc k / 10 ≡ n / 10 % p = rw low (omega arith) in
+    let last : n % 10 ^ suc k % 10 ≡ n % 10 = rw low (omega arith) in
+    last_digits-end k (n % 10 ^ suc k)
+    ∙ ap₂ (λ q x. last_digits k q ++ ((48 + x) ∷ [])) before last
+    ∙ ap (λ ds. ds ++ ((48 + n % 10) ∷ [])) (last_digits-mod k (n / 10)) ∙ sym (last_digits-end k n)
+
 pub length-last_digits : (k n : ℕ) → length (last_digits k n) ≡ k
 unfolding last_digits
 length-last_digits zero n = refl

@@ -3,8 +3,8 @@ mod DayFacts
 mod DegreeFacts
 mod DigitFacts
 pub mod KeptTexts
-mod PairFacts
 mod PutFacts
 mod ScanFacts
 mod ScaleFacts
+mod TripleFacts
 mod WriteFacts

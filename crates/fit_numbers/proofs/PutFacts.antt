@@ -2,7 +2,7 @@
 use Rattle.fit_numbers.proofs.Common.{◌≡◌, ◌∙◌, ◌++◌, ◌∷◌, [], ◌+◌, ◌*◌, ◌/◌, ◌%◌, ◌^◌, ◌<◌, ◌≤◌, zero, suc, ℕ, decimal, List, refl, ap, ap₂, sym, arith}
 use Rattle.fit_numbers.proofs.Common.{append_assoc, length, take, pow-succ', div-div-eq-div-mul, decimal_by_steps_wide, decimal_step_wide, last_digits}
 use Rattle.std.proofs.lemmas.List.{append-nil}
-use Rattle.std.proofs.Math.Seq.{take-append_seam}
+use Rattle.std.proofs.Math.Seq.{take-append_seam, take-append-add}
 use Rattle.fit_numbers.proofs.DigitFacts.{last_digits-end, last_digits-none, power_above}
 
 pub one_digit : (n : ℕ) → n < 10 → decimal n ≡ (48 + n) ∷ []
@@ -50,15 +50,24 @@ put_parts : (k n : ℕ) (text : List ℕ) → 10 ^ k ≤ n → n < 2 ^ 64 → (t
 put_parts k n text low high = append_assoc text (decimal (n / 10 ^ k)) (last_digits k n)
     ∙ ap (λ ds. text ++ ds) (sym (split_digits k n low (omega (arith, high))))
 
-pub before_two : (n : ℕ) (text : List ℕ) → 100 ≤ n → n < 2 ^ 64 → (text ++ decimal (n / 100)) ++ last_digits 2 n ≡ text ++ decimal n
-before_two = put_parts 2
+pub before_three : (n : ℕ) (text : List ℕ) → 1000 ≤ n → n < 2 ^ 64 → (text ++ decimal (n / 1000)) ++ last_digits 3 n ≡ text ++ decimal n
+before_three = put_parts 3
 
-pub before_four : (n : ℕ) (text : List ℕ) → 10_000 ≤ n → n < 2 ^ 64 → (text ++ decimal (n / 10_000)) ++ last_digits 4 n ≡ text ++ decimal n
-before_four = put_parts 4
+pub before_six : (n : ℕ) (text : List ℕ) → 1_000_000 ≤ n → n < 2 ^ 64
+    → (text ++ decimal (n / 1_000_000)) ++ last_digits 6 n ≡ text ++ decimal n
+before_six = put_parts 6
 
-pub before_eight : (n : ℕ) (text : List ℕ) → 100_000_000 ≤ n → n < 2 ^ 64
-    → (text ++ decimal (n / 100_000_000)) ++ last_digits 8 n ≡ text ++ decimal n
-before_eight = put_parts 8
+pub before_nine : (n : ℕ) (text : List ℕ) → 1_000_000_000 ≤ n → n < 2 ^ 64
+    → (text ++ decimal (n / 1_000_000_000)) ++ last_digits 9 n ≡ text ++ decimal n
+before_nine = put_parts 9
+
+pub before_eighteen : (n : ℕ) (text : List ℕ) → 1_000_000_000_000_000_000 ≤ n → n < 2 ^ 64
+    → (text ++ decimal (n / 1_000_000_000_000_000_000)) ++ last_digits 18 n ≡ text ++ decimal n
+before_eighteen = put_parts 18
+
+-- what was put after a text with other bytes, which were cut off
+pub used_only : (old all digits : List ℕ) (used : ℕ) → all ≡ old ++ digits → take (length old + used) all ≡ old ++ take used digits
+used_only old all digits used e = ap (take (length old + used)) e ∙ take-append-add old digits used
 
 -- what was written after a text and after it other bytes, of which these were cut off
 pub cut : (old more all : List ℕ) → all ≡ old ++ more → take (length old) all ≡ old

@@ -3,6 +3,10 @@ use Rattle.fit_numbers.proofs.Common.{◌≡◌, ◌∙◌, ◌++◌, ◌∷◌,
 use Rattle.fit_numbers.proofs.Common.{append_assoc, div-div-eq-div-mul, mul_comm, last_digits}
 use Rattle.std.proofs.lemmas.List.{append-nil}
 use Rattle.std.proofs.lemmas.Nat.{pow-add}
+use Rattle.std.proofs.Common.{length, take}
+use Rattle.std.proofs.Math.Seq.{take-take, take-append-add}
+use Rattle.std.proofs.lemmas.List.{length-take-le}
+use Rattle.fit_numbers.proofs.DigitFacts.{last_digits-mod}
 use Rattle.fit_numbers.proofs.PutFacts.{two_digits}
 
 -- digits before the last ones
@@ -31,11 +35,36 @@ one_and_four = joined 1 4
 pub two_and_four : (n : ℕ) (text : List ℕ) → (text ++ last_digits 2 (n / 10_000)) ++ last_digits 4 n ≡ text ++ last_digits 6 n
 two_and_four = joined 2 4
 
-pub three_and_four : (n : ℕ) (text : List ℕ) → (text ++ last_digits 3 (n / 10_000)) ++ last_digits 4 n ≡ text ++ last_digits 7 n
-three_and_four = joined 3 4
+pub one_and_six : (n : ℕ) (text : List ℕ) → (text ++ last_digits 1 (n / 1_000_000)) ++ last_digits 6 n ≡ text ++ last_digits 7 n
+one_and_six = joined 1 6
 
 pub four_and_four : (n : ℕ) (text : List ℕ) → (text ++ last_digits 4 (n / 10_000)) ++ last_digits 4 n ≡ text ++ last_digits 8 n
 four_and_four = joined 4 4
+
+pub nine_and_nine : (n : ℕ) (text : List ℕ)
+    → (text ++ last_digits 9 (n / 1_000_000_000)) ++ last_digits 9 n ≡ text ++ last_digits 18 n
+nine_and_nine = joined 9 9
+
+-- of a number that has no more digits, the last ones of another
+pub six_in_two : (n : ℕ) (text : List ℕ)
+    → (text ++ last_digits 3 (n % 1_000_000 / 1000)) ++ last_digits 3 (n % 1_000_000) ≡ text ++ last_digits 6 n
+six_in_two n text = joined 3 3 (n % 1_000_000) text ∙ ap (λ ds. text ++ ds) (last_digits-mod 6 n)
+
+pub nine_in_two : (n : ℕ) (text : List ℕ)
+    → (text ++ last_digits 3 (n % 1_000_000_000 / 1_000_000)) ++ last_digits 6 (n % 1_000_000_000) ≡ text ++ last_digits 9 n
+nine_in_two n text = joined 3 6 (n % 1_000_000_000) text ∙ ap (λ ds. text ++ ds) (last_digits-mod 9 n)
+
+pub one_by_one : (text : List ℕ) (a b c d : ℕ)
+    → (((text ++ (a ∷ [])) ++ (b ∷ [])) ++ (c ∷ [])) ++ (d ∷ []) ≡ text ++ (a ∷ b ∷ c ∷ d ∷ [])
+one_by_one text a b c d = simp append_assoc refl
+
+-- of four bytes that were written, the first few
+pub begun : (old new four : List ℕ) (at used : ℕ) → used ≤ 4 → at ≤ length old → take (at + 4) new ≡ take at old ++ four
+    → take (at + used) new ≡ take at old ++ take used four
+begun old new four at used few room e =
+    let start : length (take at old) ≡ at = length-take-le at old room in
+    sym (take-take (at + used) (at + 4) new (omega (arith, few))) ∙ ap (take (at + used)) e
+    ∙ ap (λ n. take (n + used) (take at old ++ four)) (sym start) ∙ take-append-add (take at old) four used
 
 pub last_one : (n : ℕ) → last_digits 1 n ≡ (48 + n % 10) ∷ []
 unfolding last_digits

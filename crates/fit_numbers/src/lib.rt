@@ -4,10 +4,12 @@
 mod decimal;
 mod digits;
 mod instant;
+mod last;
 pub mod laws;
-mod pairs;
 mod put;
 mod scaled;
+mod triples;
+mod whole;
 mod write;
 
 pub use decimal::Fixed;

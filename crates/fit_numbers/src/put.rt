@@ -1,20 +1,13 @@
 //! Numbers with a fixed number of decimals, put after a text.
-//! Short numbers are most of a recording: `put_few` calls `put_few_here` inlined where the text has room, and else `grow_few`, which
-//! is cold, so that the usual way has no code for a text that grows.
+//! Short numbers are most of a recording: `put_few` puts them inlined where the text has room, and else calls `grow_few`, which is
+//! cold, so that the usual way has no code for a text that grows.
 ghost use Rattle.std.specs.Prelude.{◌≡◌, ◌≤◌, ◌<◌, ◌++◌, ◌+◌, ◌/◌, ◌%◌, ◌^◌, OnErr, OnOk, decimal};
 ghost use Rattle.fit_numbers.specs.FixedText.{fixed_text, fraction, last_digits, StillBegins};
 
-use crate::pairs::{ones, tens};
-use crate::write::{write_fixed, write_whole};
+use crate::triples::{all_digits, ones, tens};
+use crate::whole::write_whole;
+use crate::write::write_fixed;
 use std::alloc::AllocError;
-
-/// The digit of a number below ten.
-fn digit(n: u64) -> u8
-    requires { n < 10 }
-    ensures { result ≡ 48 + n }
-{
-    b'0' + n as u8
-}
 
 /// Whether a text has room for that many bytes more.
 #[inline(always)]
@@ -22,28 +15,47 @@ fn has_room(text: &Vec<u8>, bytes: usize) -> bool {
     text.capacity() - text.len() >= bytes
 }
 
-/// Puts a number of at most four digits after a text.
+/// Puts a number of at most three digits after a text, with bytes that are cut off after it.
 #[inline(always)]
-#[tactic(auto, using(crate::proofs::PutFacts::one_digit, crate::proofs::PutFacts::two_digits, crate::proofs::PutFacts::three_digits, crate::proofs::PutFacts::four_digits))]
-fn put_few_here(text: &mut Vec<u8>, n: u64) -> Result<(), AllocError>
-    requires { n < 10_000 }
+#[tactic(auto, using(crate::proofs::PutFacts::used_only))]
+fn put_three(text: &mut Vec<u8>, n: u64) -> Result<(), AllocError>
+    requires { n < 1000 }
+    ensures ok { OnOk result (text.new.items ≡ text.old.items ++ decimal n) }
+    ensures err { OnErr result (text.new.items ≡ text.old.items) }
+{
+    let (digits, used) = all_digits(n);
+    let end = text.len() + used;
+    text.extend_from_slice(&digits)?;
+    text.truncate(end);
+    Ok(())
+}
+
+/// The same without other bytes.
+fn put_just_three(text: &mut Vec<u8>, n: u64) -> Result<(), AllocError>
+    requires { n < 1000 }
+    ensures ok { OnOk result (text.new.items ≡ text.old.items ++ decimal n) }
+    ensures err { OnErr result (text.new.items ≡ text.old.items) }
+{
+    let (digits, used) = all_digits(n);
+    let (own, _) = digits.split_at(used);
+    text.extend_from_slice(own)
+}
+
+/// Puts a number of four digits after a text.
+#[inline(always)]
+#[tactic(auto, using(crate::proofs::PutFacts::four_digits))]
+fn put_four(text: &mut Vec<u8>, n: u64) -> Result<(), AllocError>
+    requires least { 1000 ≤ n }
+    requires most { n < 10_000 }
     ensures ok { OnOk result (text.new.items ≡ text.old.items ++ decimal n) }
     ensures err { OnErr result (text.new.items ≡ text.old.items) }
 {
     let high = n / 100;
     let low = n % 100;
-    if n < 10 {
-        text.extend_from_slice(&[digit(n)])
-    } else if n < 100 {
-        text.extend_from_slice(&[tens(n), ones(n)])
-    } else if n < 1000 {
-        text.extend_from_slice(&[digit(high), tens(low), ones(low)])
-    } else {
-        text.extend_from_slice(&[tens(high), ones(high), tens(low), ones(low)])
-    }
+    text.extend_from_slice(&[tens(high), ones(high), tens(low), ones(low)])
 }
 
-/// The same where the text has no room.
+/// Puts a number of at most four digits after a text that has no room.
 #[cold]
 #[inline(never)]
 fn grow_few(text: &mut Vec<u8>, n: u64) -> Result<(), AllocError>
@@ -51,20 +63,27 @@ fn grow_few(text: &mut Vec<u8>, n: u64) -> Result<(), AllocError>
     ensures ok { OnOk result (text.new.items ≡ text.old.items ++ decimal n) }
     ensures err { OnErr result (text.new.items ≡ text.old.items) }
 {
-    put_few_here(text, n)
+    if n < 1000 {
+        put_just_three(text, n)
+    } else {
+        put_four(text, n)
+    }
 }
 
-/// The same wherever the text has room.
+/// Puts a number of at most four digits after a text.
 #[inline(never)]
 fn put_few(text: &mut Vec<u8>, n: u64) -> Result<(), AllocError>
     requires { n < 10_000 }
     ensures ok { OnOk result (text.new.items ≡ text.old.items ++ decimal n) }
     ensures err { OnErr result (text.new.items ≡ text.old.items) }
 {
-    if has_room(text, 4) {
-        put_few_here(text, n)
+    if !has_room(text, 4) {
+        return grow_few(text, n);
+    }
+    if n < 1000 {
+        put_three(text, n)
     } else {
-        grow_few(text, n)
+        put_four(text, n)
     }
 }
 

@@ -1,5 +1,0 @@
-use Rattle.fit_numbers.proofs.PairFacts.{pair_at}
-use Rattle.fit_numbers.proofs.pairs.tens.Goals as goal
-
-pub returns : goal.returns
-returns c = (pair_at c.args.n c.requires).0
