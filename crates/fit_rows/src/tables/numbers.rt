@@ -80,6 +80,20 @@ pub(crate) trait RecordNumbers {
             result.0 (take at row.old) (take result.1 row.new) };
 }
 
+/// Writes a number. Returns the place after it. All but the largest are written without a copy.
+fn write_amount(row: &mut [u8], at: usize, value: Fixed) -> usize
+    requires few { value.decimals ≤ 8 }
+    requires room { at + 48 ≤ length row.old }
+    ensures size { length row.new ≡ length row.old }
+    ensures within { result ≤ at + 48 }
+    ensures text { take result row.new ≡ take at row.old ++ fixed_text value.value value.decimals }
+{
+    match i64::try_from(value.value) {
+        Ok(number) => write_fixed(row, at, number, value.decimals),
+        Err(_) => write_text(row, at, value.print().as_str().as_bytes()),
+    }
+}
+
 /// Writes a number, where there is one. Returns whether there is, and the place after it.
 fn write_number(row: &mut [u8], at: usize, value: Option<Fixed>) -> (bool, usize)
     requires few { IfSome value (λ v. v.decimals ≤ 8) }
@@ -90,7 +104,7 @@ fn write_number(row: &mut [u8], at: usize, value: Option<Fixed>) -> (bool, usize
     ensures cell { PutsCell (shown_text value) result.0 (take at row.old) (take result.1 row.new) }
 {
     match value {
-        Some(value) => (true, write_text(row, at, value.print().as_str().as_bytes())),
+        Some(value) => (true, write_amount(row, at, value)),
         None => (false, at),
     }
 }
