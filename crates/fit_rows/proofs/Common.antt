@@ -75,6 +75,7 @@ pub use Rattle.fit_rows.specs.inner.Frames.{FrameKey, FrameText, end_of, field_k
 pub use Rattle.fit_rows.specs.inner.Frames.{HasFields, TakesField, TakesFields, values_text, dev_frame_key, frame_keys, frame_slots, key_rows, value_rows}
 pub use Rattle.fit_rows.specs.inner.MessageKeys.{DevKey, MessageKey, dev_key, dev_keys, message_key}
 pub use Rattle.fit_rows.specs.inner.Minutes.{IsMinute, seconds_text}
+pub use Rattle.fit_rows.specs.inner.Sheets.{and_sheet}
 pub use Rattle.fit_rows.specs.inner.Reporting.{AnswerFits, answer_rows, records_after_answer}
 pub use Rattle.fit_rows.specs.inner.Showing.{text_with, CellKey, ShownKey, first_head, key_text, keys_text, line_front, shown_key, shown_keys, PartKey}
 pub use Rattle.fit_rows.specs.inner.Showing.{dev_field_part, field_part, line_head, line_keys, line_slots, line_text, own_end, own_parts, part_texts}

@@ -25,6 +25,7 @@ pub mod KnownDefinitions
 pub mod FramedRows
 mod FrontFacts
 pub mod Stamps
+pub mod Sheets
 pub mod FloatCells
 pub mod BeginFacts
 pub mod TableColumnFacts

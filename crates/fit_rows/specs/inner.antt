@@ -5,6 +5,7 @@ pub mod Current
 pub mod Reporting
 pub mod Showing
 pub mod Minutes
+pub mod Sheets
 pub mod Fronts
 pub mod Frames
 pub mod MessageKeys

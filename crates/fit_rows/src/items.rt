@@ -1,5 +1,5 @@
 //! The items of the fields of a message, made or in their bytes, put in rows and in lines.
-ghost use Rattle.std.specs.Prelude.{◌≡◌, ℕ, ◌++◌, ◌∷◌, [], List, OnOk, length};
+ghost use Rattle.std.specs.Prelude.{◌≡◌, ◌≤◌, ℕ, ◌++◌, ◌∷◌, [], IfOk, List, OnOk, length};
 ghost use Rattle.std.specs.Global.{Global};
 ghost use Rattle.csv.specs.Writing.{default_writer, field_text};
 ghost use Rattle.fit_base.specs.declared.items.Items.{Items};
@@ -8,8 +8,10 @@ ghost use Rattle.fit_record.specs.Records.{HaveShape, sizes};
 ghost use Rattle.fit_cells.specs.Cells.{cell};
 ghost use Rattle.fit_rows.specs.ShowLines.{shown_cell};
 ghost use Rattle.fit_rows.specs.inner.Frames.{HasFields, TakesField};
+ghost use Rattle.fit_rows.specs.inner.Sheets.{and_sheet};
 
 use crate::rows::frames::Frame;
+use crate::sheet::Sheet;
 use crate::show::cells::ShownCell;
 use fit_base::{Items, Order};
 use fit_cells::RowWriter;
@@ -24,14 +26,18 @@ pub(crate) trait FieldItems {
     fn put_next(
         &mut self,
         text: &mut Vec<u8>,
+        sheet: &mut Sheet,
+        at: usize,
         writer: &mut RowWriter,
         value: &mut Vec<u8>,
         frame: &Frame,
-    ) -> Result<(), AllocError>
-        requires { HasFields has_items self.old ((frame.now.code, frame.now.size) ∷ []) }
-        ensures { OnOk result (TakesField has_items self.old self.new
-            (frame.now.code, frame.now.size) (λ i. text.new.items
-            ≡ (text.old.items ++ frame.now.between)
+    ) -> Result<usize, AllocError>
+        requires place { at ≤ 1024 }
+        requires fields { HasFields has_items self.old ((frame.now.code, frame.now.size) ∷ []) }
+        ensures place { IfOk result (λ end. end ≤ 1024) }
+        ensures fields { IfOk result (λ end. TakesField has_items self.old self.new
+            (frame.now.code, frame.now.size) (λ i. and_sheet text.new.items sheet.new end
+            ≡ (and_sheet text.old.items sheet.old at ++ frame.now.between)
             ++ field_text default_writer (cell frame.now.code frame.now.info i))) };
 
     /// Takes those of the next field, and puts its cell as a line shows it.
@@ -83,11 +89,13 @@ impl<'a> FieldItems for MadeItems<'a> {
     fn put_next(
         &mut self,
         text: &mut Vec<u8>,
+        sheet: &mut Sheet,
+        at: usize,
         writer: &mut RowWriter,
         value: &mut Vec<u8>,
         frame: &Frame,
-    ) -> Result<(), AllocError> {
-        frame.put(text, writer, value, self.next())
+    ) -> Result<usize, AllocError> {
+        frame.put(text, sheet, at, writer, value, self.next())
     }
 
     #[inline(always)]
@@ -114,13 +122,17 @@ impl<'a> FieldItems for ItemBytes<'a> {
     fn put_next(
         &mut self,
         text: &mut Vec<u8>,
+        sheet: &mut Sheet,
+        at: usize,
         writer: &mut RowWriter,
         value: &mut Vec<u8>,
         frame: &Frame,
-    ) -> Result<(), AllocError> {
+    ) -> Result<usize, AllocError> {
         let (bytes, rest) = self.rest.split_at(frame.size() as usize);
         self.rest = rest;
-        frame.put_bytes(text, writer, value, self.alloc, self.order, bytes)
+        frame.put_bytes(
+            text, sheet, at, writer, value, self.alloc, self.order, bytes,
+        )
     }
 
     #[inline(always)]

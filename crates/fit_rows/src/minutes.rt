@@ -13,7 +13,7 @@ use std::marker::Model;
 pub(crate) const LAST_SYSTEM_MINUTE: u32 = 4_473_924;
 
 /// How many bytes are set aside for what the times of a minute begin with and what is cut off after it.
-const MINUTE_ROOM: usize = 56;
+const MINUTE_ROOM: usize = 64;
 
 /// The digit of a number below ten.
 fn digit(n: u32) -> u8

@@ -1,11 +1,16 @@
 //! A text that is put after many others.
 ghost use Rattle.std.specs.Prelude.{◌≡◌, ◌≤◌, ◌+◌, ◌++◌, IfOk, OnOk, length, take};
+ghost use Rattle.fit_rows.specs.inner.Sheets.{and_sheet};
 
+use crate::sheet::{Sheet, make_room, put_sheet};
 use std::alloc::AllocError;
 use std::marker::Model;
 
 /// How many bytes a short text has at most.
 pub(crate) const SHORT: usize = 32;
+
+/// How many bytes a text has at most that is written in a sheet.
+const WIDE: usize = 64;
 
 /// Writes a text into bytes from a place on. Returns the place after it.
 #[inline(always)]
@@ -20,23 +25,24 @@ pub(crate) fn write_text(bytes: &mut [u8], at: usize, text: &[u8]) -> usize
     end
 }
 
-/// A text that is put after many others. A short one takes a copy of a fixed number of bytes, of which those after it are cut off.
+/// A text that is put after many others. One that isn't long takes a copy of a fixed number of bytes, of which those after it are cut
+/// off or written over.
 #[derive(Drop)]
 pub(crate) struct Stamp {
-    /// The text and what is cut off.
+    /// The text, and what fills it up to the longest copy.
     padded: Vec<u8>,
     /// How many bytes the text has.
     used: usize,
 }
 
 impl Model for Stamp {
-    ghost use Rattle.std.specs.Prelude.{◌≤◌, ◌+◌, ℕ, List, length, take};
+    ghost use Rattle.std.specs.Prelude.{◌≤◌, ℕ, List, length, take};
 
     ghost Value = { List ℕ };
 
     ghost view = { λ s. take s.used s.padded.items };
 
-    ghost invariant = { λ s. s.used + 32 ≤ length s.padded.items };
+    ghost invariant = { λ s. (s.used ≤ length s.padded.items) × (64 ≤ length s.padded.items) };
 }
 
 impl Stamp {
@@ -47,7 +53,9 @@ impl Stamp {
     {
         let used = text.len();
         let mut padded = text;
-        padded.extend_from_slice(&[0; SHORT])?;
+        if used < WIDE {
+            padded.extend_from_slice(&[0; WIDE][used..])?;
+        }
         Ok(Stamp { padded, used })
     }
 
@@ -81,6 +89,20 @@ impl Stamp {
         Ok(())
     }
 
+    /// Writes a text of at most this many bytes into bytes from a place on, by a copy of this many. Returns the place after the text.
+    #[inline(always)]
+    fn write_by(&self, bytes: &mut [u8], at: usize, count: usize) -> usize
+        requires count { count ≤ 64 }
+        requires short { length self.now ≤ count }
+        requires room { at + count ≤ length bytes.old }
+        ensures size { length bytes.new ≡ length bytes.old }
+        ensures end { result ≡ at + length self.now }
+        ensures text { take result bytes.new ≡ take at bytes.old ++ self.now }
+    {
+        let (short, _) = self.padded.as_slice().split_at(count);
+        write_text(bytes, at, short) - count + self.used
+    }
+
     /// Writes a short text into bytes from a place on, with what is cut off after it. Returns the place after the text.
     #[inline(always)]
     pub(crate) fn write(&self, bytes: &mut [u8], at: usize) -> usize
@@ -90,7 +112,39 @@ impl Stamp {
         ensures end { result ≡ at + length self.now }
         ensures text { take result bytes.new ≡ take at bytes.old ++ self.now }
     {
-        let (short, _) = self.padded.as_slice().split_at(SHORT);
-        write_text(bytes, at, short) - SHORT + self.used
+        self.write_by(bytes, at, SHORT)
+    }
+
+    /// Puts a text that isn't written in a sheet, after what is.
+    #[cold]
+    #[inline(never)]
+    fn put_after(&self, text: &mut Vec<u8>, sheet: &Sheet, at: usize) -> Result<(), AllocError>
+        requires { at ≤ 1024 }
+        ensures { OnOk result (text.new.items ≡ and_sheet text.old.items sheet.now at ++ self.now) }
+    {
+        put_sheet(text, sheet, at)?;
+        self.put_long(text)
+    }
+
+    /// Adds the text to what is written in a sheet, or puts it after a text and the sheet. Returns the place after what is written
+    /// then. A number has room there.
+    #[inline(always)]
+    pub(crate) fn add(
+        &self,
+        text: &mut Vec<u8>,
+        sheet: &mut Sheet,
+        at: usize,
+    ) -> Result<usize, AllocError>
+        requires { at ≤ 1024 }
+        ensures room { IfOk result (λ end. end + 32 ≤ 1024) }
+        ensures text { IfOk result (λ end. and_sheet text.new.items sheet.new end
+            ≡ and_sheet text.old.items sheet.old at ++ self.now) }
+    {
+        if self.used > WIDE {
+            self.put_after(text, sheet, at)?;
+            return Ok(0);
+        }
+        let at = make_room(text, sheet, at)?;
+        Ok(self.write_by(sheet, at, WIDE))
     }
 }

@@ -1,5 +1,5 @@
 //! What stands around values in their rows, found out once for many messages.
-ghost use Rattle.std.specs.Prelude.{◌≡◌, ◌++◌, [], IfOk, IfSome, OnOk, codes, length, option_map};
+ghost use Rattle.std.specs.Prelude.{◌≡◌, ◌≤◌, ◌++◌, [], IfOk, IfSome, OnOk, codes, length, option_map};
 ghost use Rattle.std.specs.Global.{Global};
 ghost use Rattle.csv.specs.Writing.{default_writer, field_text, needs_quotes};
 ghost use Rattle.fit_base.specs.BaseTypes.{base_type};
@@ -11,15 +11,17 @@ ghost use Rattle.fit_numbers.specs.Scaled.{IsScale};
 ghost use Rattle.fit_cells.specs.Cells.{cell};
 ghost use Rattle.fit_cells.specs.Forms.{IsFormOf, IsSmallForm};
 ghost use Rattle.fit_rows.specs.inner.Frames.{two_cells};
+ghost use Rattle.fit_rows.specs.inner.Sheets.{and_sheet};
 
 pub(crate) mod likely;
 
 use crate::floats::{is_lone_float, put_float};
+use crate::lone::lone_form;
+use crate::sheet::{Sheet, put_sheet};
 use crate::stamp::Stamp;
 use fit_base::{Code, Items, Order, bits_at};
 use fit_cells::{
-    NumberForm, RowWriter, ShownText, formed, is_never_quoted, number_form, put_cell, put_formed,
-    shown_text,
+    NumberForm, RowWriter, ShownText, formed, is_never_quoted, put_cell, shown_text, write_formed,
 };
 use fit_profile::Info;
 use fit_record::read_items;
@@ -84,7 +86,8 @@ pub(crate) struct Frame {
     code: u8,
     size: u8,
     info: Option<Info>,
-    form: Option<NumberForm>,
+    /// The form of a lone number, where its bytes are those of the field.
+    lone: Option<NumberForm>,
     /// Whether the value is a string.
     is_text: bool,
     /// Whether the value is one floating point number.
@@ -109,8 +112,9 @@ impl Model for Frame {
       info = option_map meaning f.info;
     } };
 
-    ghost invariant = { λ f. IfSome f.info (λ i. IsScale i.scale) × IfSome f.form IsSmallForm
-        × IfSome f.form (IsFormOf f.code (option_map meaning f.info))
+    ghost invariant = { λ f. IfSome f.info (λ i. IsScale i.scale) × IfSome f.lone IsSmallForm
+        × IfSome f.lone (λ l. l.width ≡ f.size)
+        × IfSome f.lone (IsFormOf f.code (option_map meaning f.info))
         × (IsTrue f.is_text → (base_type f.code).class ≡ Text)
         × (IsTrue f.is_float → (base_type f.code).class ≡ Float)
         × (IsTrue f.is_float → (base_type f.code).width ≡ f.size) };
@@ -145,7 +149,7 @@ impl Frame {
             code,
             size,
             info,
-            form: number_form(Code(code), info),
+            lone: lone_form(code, size, info),
             is_text: !is_never_quoted(Code(code)),
             is_float: is_lone_float(Code(code), size),
         })
@@ -186,33 +190,36 @@ impl Frame {
     pub(crate) fn put(
         &self,
         text: &mut Vec<u8>,
+        sheet: &mut Sheet,
+        at: usize,
         writer: &mut RowWriter,
         value: &mut Vec<u8>,
         items: &Items,
-    ) -> Result<(), AllocError>
-        requires { HasShape self.now.code self.now.size items.now }
-        ensures { OnOk result (text.new.items ≡ (text.old.items ++ self.now.between)
+    ) -> Result<usize, AllocError>
+        requires place { at ≤ 1024 }
+        requires shape { HasShape self.now.code self.now.size items.now }
+        ensures place { IfOk result (λ end. end ≤ 1024) }
+        ensures text { IfOk result (λ end. and_sheet text.new.items sheet.new end
+            ≡ (and_sheet text.old.items sheet.old at ++ self.now.between)
             ++ field_text default_writer (cell self.now.code self.now.info items.now)) }
     {
-        self.between.put(text)?;
-        if let Some((form, bits)) = formed(self.form, items) {
-            put_formed(text, form, bits)?;
-            return Ok(());
+        let at = self.between.add(text, sheet, at)?;
+        if let Some((form, bits)) = formed(self.lone, items) {
+            return Ok(write_formed(sheet, at, form, bits));
         }
-        self.put_other(text, writer, value, items)
+        put_sheet(text, sheet, at)?;
+        self.put_other(text, writer, value, items)?;
+        Ok(0)
     }
 
     /// The form of a lone number, where its bytes are those of the field.
     #[inline(always)]
-    fn lone_form(&self) -> Option<NumberForm>
+    fn lone(&self) -> Option<NumberForm>
         ensures small { IfSome result IsSmallForm }
         ensures width { IfSome result (λ f. f.width ≡ self.now.size) }
         ensures form { IfSome result (IsFormOf self.now.code self.now.info) }
     {
-        match self.form {
-            Some(form) if form.width == self.size => Some(form),
-            _ => None,
-        }
+        self.lone
     }
 
     /// Puts a value that is no lone number after a text, by the bytes of its field.
@@ -258,9 +265,9 @@ impl Frame {
         }
     }
 
-    /// The same as `put`, by the bytes of the field.
-    #[inline(always)]
-    pub(crate) fn put_bytes(
+    /// Puts a value that is no lone number of at most four bytes after a text, by the bytes of its field.
+    #[inline(never)]
+    fn put_read(
         &self,
         text: &mut Vec<u8>,
         writer: &mut RowWriter,
@@ -270,15 +277,10 @@ impl Frame {
         bytes: &[u8],
     ) -> Result<(), AllocError>
         requires { length bytes.now ≡ self.now.size }
-        ensures { OnOk result (text.new.items ≡ (text.old.items ++ self.now.between)
+        ensures { OnOk result (text.new.items ≡ text.old.items
             ++ field_text default_writer (cell self.now.code self.now.info
             (field_from {A = Global} order (self.now.code, self.now.size) bytes.now))) }
     {
-        self.between.put(text)?;
-        if let Some(form) = self.lone_form() {
-            put_formed(text, form, bits_at(order, form.width, bytes))?;
-            return Ok(());
-        }
         if self.is_text {
             return self.put_string(text, writer, value, alloc, order, bytes);
         }
@@ -286,5 +288,36 @@ impl Frame {
             return put_float(text, self.size, order, bytes);
         }
         self.put_rest(text, writer, value, alloc, order, bytes)
+    }
+
+    /// The same as `put`, by the bytes of the field.
+    #[inline(always)]
+    pub(crate) fn put_bytes(
+        &self,
+        text: &mut Vec<u8>,
+        sheet: &mut Sheet,
+        at: usize,
+        writer: &mut RowWriter,
+        value: &mut Vec<u8>,
+        alloc: Global,
+        order: Order,
+        bytes: &[u8],
+    ) -> Result<usize, AllocError>
+        requires place { at ≤ 1024 }
+        requires length { length bytes.now ≡ self.now.size }
+        ensures place { IfOk result (λ end. end ≤ 1024) }
+        ensures text { IfOk result (λ end. and_sheet text.new.items sheet.new end
+            ≡ (and_sheet text.old.items sheet.old at ++ self.now.between)
+            ++ field_text default_writer (cell self.now.code self.now.info
+            (field_from {A = Global} order (self.now.code, self.now.size) bytes.now))) }
+    {
+        let at = self.between.add(text, sheet, at)?;
+        if let Some(form) = self.lone() {
+            let bits = bits_at(order, form.width, bytes);
+            return Ok(write_formed(sheet, at, form, bits));
+        }
+        put_sheet(text, sheet, at)?;
+        self.put_read(text, writer, value, alloc, order, bytes)?;
+        Ok(0)
     }
 }

@@ -10,6 +10,7 @@ use crate::kept::{ByLocal, keep_at};
 use crate::minutes::Times;
 use crate::rows::definition::again::DefinitionRows;
 use crate::rows::template::Template;
+use crate::sheet::{SHEET_SIZE, Sheet};
 use fit_cells::RowWriter;
 use fit_profile::Stream;
 use fit_record::Defined;
@@ -19,6 +20,8 @@ use std::alloc::{AllocError, Global};
 #[derive(Drop)]
 pub(crate) struct RowMaker {
     pub alloc: Global,
+    /// What rows are written in first.
+    pub sheet: Sheet,
     pub writer: RowWriter,
     /// The memory of a cell.
     pub value: Vec<u8>,
@@ -35,6 +38,7 @@ impl RowMaker {
     {
         RowMaker {
             alloc,
+            sheet: [0; SHEET_SIZE],
             writer: RowWriter::new(alloc),
             value: Vec::new(alloc),
             times: Times::new(alloc),

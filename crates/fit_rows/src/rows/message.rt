@@ -47,10 +47,11 @@ fn put_by<S: FieldItems>(
     let Some(template) = maker.templates.get(local) else {
         unreachable!()
     };
+    let sheet = &mut maker.sheet;
     let writer = &mut maker.writer;
     let value = &mut maker.value;
     let times = &mut maker.times;
-    template.put(text, writer, value, times, offset, time, items)
+    template.put(text, sheet, writer, value, times, offset, time, items)
 }
 
 /// Puts the rows of a data message of this definition after the records of a stream.

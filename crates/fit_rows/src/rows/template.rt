@@ -1,14 +1,15 @@
 //! The rows of the messages of a definition without their values, found out once for many messages.
-ghost use Rattle.std.specs.Prelude.{◌≡◌, ◌++◌, ◌∷◌, [], IfOk, IsTrue, OnOk, Some, codes, decimal, map, option_map, unwrap_or};
+ghost use Rattle.std.specs.Prelude.{◌≡◌, ◌≤◌, ◌++◌, ◌∷◌, [], IfOk, IsTrue, OnOk, Some, codes, decimal, map, option_map, unwrap_or};
 ghost use Rattle.fit_record.specs.Environment.{defined_at};
 ghost use Rattle.fit_record.specs.Sound.{IsSound};
 ghost use Rattle.fit_profile.specs.Looks.{known};
 ghost use Rattle.fit_profile.specs.Names.{message_label};
-ghost use Rattle.fit_cells.specs.Rows.{HasRows};
+ghost use Rattle.fit_cells.specs.Rows.{HasRows, csv_text};
 ghost use Rattle.fit_rows.specs.ChainRows as rows;
 ghost use Rattle.fit_rows.specs.InstantText.{instant_text};
 ghost use Rattle.fit_rows.specs.inner.Frames.{HasFields, TakesFields, dev_frame_key, end_of, field_key, frame_slots, frame_text, frames_of, key_rows, tail_text, two_cells, values_text};
 ghost use Rattle.fit_rows.specs.inner.MessageKeys.{message_key};
+ghost use Rattle.fit_rows.specs.inner.Sheets.{and_sheet};
 
 pub(crate) mod likely;
 
@@ -17,6 +18,7 @@ use crate::kept::developer::KeptDev;
 use crate::kept::message::KeptMessage;
 use crate::minutes::Times;
 use crate::rows::frames::{Frame, put_tail, put_two};
+use crate::sheet::{Sheet, put_sheet};
 use crate::stamp::Stamp;
 use crate::words::unit_text;
 use fit_cells::RowWriter;
@@ -165,25 +167,29 @@ fn put_line(
     Ok(())
 }
 
-/// Puts the values of fields one after another, each after what stands before it, and this end.
+/// Puts the values of fields one after another, each after what stands before it, and this end. Nothing is left in the sheet.
 fn put_frames<S: FieldItems>(
     text: &mut Vec<u8>,
+    sheet: &mut Sheet,
+    at: usize,
     writer: &mut RowWriter,
     value: &mut Vec<u8>,
     frames: &[Frame],
     end: &Stamp,
     items: &mut S,
 ) -> Result<(), AllocError>
-    requires { HasFields S.has_items items.old (map (λ f. (f.code, f.size)) frames.now) }
+    requires place { at ≤ 1024 }
+    requires fields { HasFields S.has_items items.old (map (λ f. (f.code, f.size)) frames.now) }
     ensures { OnOk result (TakesFields S.has_items items.old items.new
         (map (λ f. (f.code, f.size)) frames.now) (λ all. text.new.items
-        ≡ text.old.items ++ values_text frames.now end.now all)) }
+        ≡ and_sheet text.old.items sheet.old at ++ values_text frames.now end.now all)) }
 {
+    let mut at = at;
     for frame in frames {
-        items.put_next(text, writer, value, frame)?;
+        at = items.put_next(text, sheet, at, writer, value, frame)?;
     }
-    end.put(text)?;
-    Ok(())
+    let last = end.add(text, sheet, at)?;
+    put_sheet(text, sheet, last)
 }
 
 /// Puts a number after a text, where there is one.
@@ -296,29 +302,34 @@ impl Template {
         Ok(())
     }
 
-    /// Puts the row with which a message begins, by the time of its header.
+    /// Puts the row with which a message begins, by the time of its header. The sheet begins anew.
+    #[inline(always)]
     fn put_first(
         &self,
         text: &mut Vec<u8>,
+        sheet: &mut Sheet,
         times: &mut Times,
         offset: Option<u8>,
         time: Option<u32>,
-    ) -> Result<(), AllocError>
-        ensures { OnOk result (HasRows (rows.row (codes "data") (decimal self.now.own.local)
+    ) -> Result<usize, AllocError>
+        ensures place { IfOk result (λ end. end ≤ 1024) }
+        ensures rows { IfOk result (λ end. and_sheet text.new.items sheet.new end
+            ≡ text.old.items ++ csv_text (rows.row (codes "data") (decimal self.now.own.local)
             (rows.optional_number offset) (message_label self.now.own.global)
-            (unwrap_or (option_map instant_text time) []) [] [] ∷ []) text.old text.new) }
+            (unwrap_or (option_map instant_text time) []) [] [] ∷ [])) }
     {
         if offset.is_some() || time.is_some() {
-            return self.put_timed(text, times, offset, time);
+            self.put_timed(text, times, offset, time)?;
+            return Ok(0);
         }
-        self.line.put(text)?;
-        Ok(())
+        self.line.add(text, sheet, 0)
     }
 
     /// Puts the rows of a message, by the time of its header.
     pub(crate) fn put<S: FieldItems>(
         &self,
         text: &mut Vec<u8>,
+        sheet: &mut Sheet,
         writer: &mut RowWriter,
         value: &mut Vec<u8>,
         times: &mut Times,
@@ -330,8 +341,8 @@ impl Template {
         ensures { OnOk result (TakesFields S.has_items items.old items.new (frame_slots self.now)
             (λ all. HasRows (key_rows self.now offset time all) text.old text.new)) }
     {
-        self.put_first(text, times, offset, time)?;
+        let at = self.put_first(text, sheet, times, offset, time)?;
         let frames = self.frames.as_slice();
-        put_frames(text, writer, value, frames, &self.end, items)
+        put_frames(text, sheet, at, writer, value, frames, &self.end, items)
     }
 }

@@ -11,11 +11,10 @@ ghost use Rattle.fit_cells.specs.Forms.{IsFormOf, IsSmallForm};
 ghost use Rattle.fit_rows.specs.ShowLines.{shown_cell};
 
 use crate::floats::{is_lone_float, put_float};
+use crate::lone::lone_form;
 use fit_base::base_type::BYTE;
 use fit_base::{Code, Items, Order, bits_at};
-use fit_cells::{
-    NumberForm, formed, is_never_quoted, number_form, put_cell, put_formed, shown_text,
-};
+use fit_cells::{NumberForm, formed, is_never_quoted, put_cell, put_formed, shown_text};
 use fit_profile::Info;
 use fit_record::read_items;
 use std::alloc::{AllocError, Global};
@@ -26,19 +25,6 @@ fn is_shown(cell: &[u8]) -> bool
     ensures { result ≡ list_all is_printable cell.now }
 {
     cell.iter().all(|byte| *byte >= 0x20 && *byte != 0x7F)
-}
-
-/// The form of a lone number of a field, where the field has as many bytes as it.
-fn lone_form(code: u8, size: u8, info: Option<Info>) -> Option<NumberForm>
-    requires { IfSome info (λ i. IsScale i.scale) }
-    ensures small { IfSome result IsSmallForm }
-    ensures width { IfSome result (λ f. f.width ≡ size) }
-    ensures form { IfSome result (IsFormOf code (option_map meaning info)) }
-{
-    match number_form(Code(code), info) {
-        Some(form) if form.width == size => Some(form),
-        _ => None,
-    }
 }
 
 /// How the cell of a field is made of its items.

@@ -118,12 +118,9 @@ impl Frame {
         text: &'a [u8],
     ) -> Option<(Items, &'a [u8])> {
         let text = text.get(self.between.len()..)?;
-        match &self.form {
-            Some(form) if self.size == form.width => {
-                let (bits, length) = likely_number(form, text)?;
-                return Some((Items::one(alloc, form.width, bits), text.get(length..)?));
-            }
-            _ => {}
+        if let Some(form) = &self.lone {
+            let (bits, length) = likely_number(form, text)?;
+            return Some((Items::one(alloc, form.width, bits), text.get(length..)?));
         }
         if self.is_float {
             let length = 2 + 2 * self.size as usize;

@@ -1,0 +1,19 @@
+-- Texts that are written in a sheet, and put after a text together.
+use Rattle.fit_rows.proofs.Common.{◌≡◌, ◌∙◌, ◌++◌, ◌∷◌, [], ap, sym, append_assoc, take, and_sheet, Row, csv_text, text_append}
+use Rattle.std.proofs.Common.{ℕ, List}
+use Rattle.std.proofs.lemmas.List.{append-nil}
+
+-- nothing is written
+pub none_written : (text sheet : List ℕ) → and_sheet text sheet 0 ≡ text
+none_written text sheet = append-nil text
+
+-- more is written
+pub more_written : (text old new more : List ℕ) (at end : ℕ) → take end new ≡ take at old ++ more → and_sheet text new end ≡ and_sheet text old at ++ more
+more_written text old new more at end e = ap (λ w. text ++ w) e ∙ sym (append_assoc text (take at old) more)
+
+-- rows after the first one
+pub rows_after : (old first new : List ℕ) (row : Row) (rows : List Row) → first ≡ old ++ csv_text (row ∷ []) → new ≡ first ++ csv_text rows
+    → new ≡ old ++ csv_text (row ∷ rows)
+rows_after old first new row rows begun put =
+    put ∙ ap (λ t. t ++ csv_text rows) begun ∙ append_assoc old (csv_text (row ∷ [])) (csv_text rows)
+    ∙ ap (λ t. old ++ t) (sym (text_append (row ∷ []) rows))
