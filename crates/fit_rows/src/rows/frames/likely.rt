@@ -33,6 +33,9 @@ pub(crate) fn after(text: &[u8], byte: u8) -> Option<&[u8]> {
     text.get(place + 1..)
 }
 
+/// How many bytes of a text are looked at for one cell. The values of a field have at most 255 bytes, and their cell is shorter than this.
+const LONGEST: usize = 8192;
+
 /// Puts what stands in quotes into `cell`, by a text after the first quote, and returns what comes after the last one.
 fn take_quoted<'a>(cell: &mut Vec<u8>, text: &'a [u8]) -> Option<&'a [u8]> {
     let mut rest = text;
@@ -127,7 +130,9 @@ impl Frame {
             let bits = likely_hexadecimal(text.get(2..length)?);
             return Some((Items::one(alloc, self.size, bits), text.get(length..)?));
         }
-        let rest = take_cell(cell, text)?;
-        Some((self.likely_in(alloc, written, cell)?, rest))
+        let front = text.get(..LONGEST).unwrap_or(text);
+        let rest = take_cell(cell, front)?;
+        let length = front.len().wrapping_sub(rest.len());
+        Some((self.likely_in(alloc, written, cell)?, text.get(length..)?))
     }
 }
