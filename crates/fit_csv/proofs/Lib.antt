@@ -32,3 +32,4 @@ mod TextRows
 mod ReportTexts
 mod LooseReads
 mod LooseTexts
+mod Windows

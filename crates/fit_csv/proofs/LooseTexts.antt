@@ -13,13 +13,14 @@ use Rattle.csv.specs.declared.parser.State.TheVariants as st
 use Rattle.fit_cells.specs.Rows.{Row, RowsOfText}
 use Rattle.fit_csv.specs.declared.from.loose.Spot.{Spot}
 use Rattle.fit_csv.specs.declared.from.loose.Spot.TheVariants.{RowStart, CellStart, InCell}
-use Rattle.fit_csv.specs.inner.Loose.{Closes, EndsCell, HasRowsOf, NoneOf, Opens, StandsFor, WritesOn, is_mark, is_special}
+use Rattle.fit_csv.specs.inner.Loose.{Closes, EndsCell, HasRowsOf, NoneOf, Opens, StandsFor, WritesEnd, WritesOn, is_mark}
+use Rattle.fit_csv.specs.inner.Loose.{is_special}
 use Rattle.fit_csv.specs.inner.Loose.{may_open, spot_after, spot_from, spot_state}
 use Rattle.fit_csv.proofs.LooseReads.{run-copied, return-dropped, cell-end, dropped, kept, row-end, moved, same-records}
 
 -- ---- what was written goes on
 
-spot-append : (spot : Spot) (a b : List ℕ) → spot_from spot (a ++ b) ≡ spot_from (spot_from spot a) b
+pub spot-append : (spot : Spot) (a b : List ℕ) → spot_from spot (a ++ b) ≡ spot_from (spot_from spot a) b
 unfolding spot_from
 spot-append spot [] b = refl
 spot-append spot (c ∷ a) b = spot-append (spot_after c) a b
@@ -27,13 +28,22 @@ spot-append spot (c ∷ a) b = spot-append (spot_after c) a b
 abbrev At : Spot → List ℕ → List ℕ → Type 0
 At spot left plain = HasRowsOf (spot_state spot) left (spot_state spot) plain
 
+-- where a text leads after rows that have an end
+spot-after-rows : (rows text : List ℕ) → spot_from RowStart rows ≡ RowStart → spot_from RowStart (rows ++ text) ≡ spot_from RowStart text
+spot-after-rows rows text ends = spot-append RowStart rows text ∙ ap (λ (spot : Spot). spot_from spot text) ends
+
 written-more : (from left written x : List ℕ)
     → ((p : List ℕ) → At (spot_from (spot_from RowStart written) x) left p → At (spot_from RowStart written) from (x ++ p))
     → WritesOn from left written (written ++ x)
-written-more from left written x more text stands = record {
-  goes_on = λ p h. subst (λ (q : List ℕ). HasRowsOf st.StartRecord text st.StartRecord q) (sym (append_assoc written x p))
-      (stands.goes_on (x ++ p) (more p (subst (λ (spot : Spot). At spot left p) (spot-append RowStart written x) h)));
-}
+written-more from left written x more text rows ends stands =
+    let all : (p : List ℕ) → (rows ++ written) ++ (x ++ p) ≡ (rows ++ (written ++ x)) ++ p =
+    λ p. sym (append_assoc (rows ++ written) x p) ∙ ap (λ (q : List ℕ). q ++ p) (append_assoc rows written x) in
+    let after : spot_from RowStart (rows ++ (written ++ x)) ≡ spot_from (spot_from RowStart written) x =
+    spot-after-rows rows (written ++ x) ends ∙ spot-append RowStart written x in record {
+      goes_on = λ p h. subst (λ (q : List ℕ). HasRowsOf st.StartRecord text st.StartRecord q) (all p)
+          (stands.goes_on (x ++ p) (subst (λ (spot : Spot). At spot from (x ++ p)) (sym (spot-after-rows rows written ends))
+          (more p (subst (λ (spot : Spot). At spot left p) after h))));
+    }
 
 pub run-goes-on : (written x left : List ℕ) → NoneOf is_mark x → WritesOn (x ++ left) left written (written ++ x)
 run-goes-on written x left plain = written-more (x ++ left) left written x (λ p h. run-copied (spot_from RowStart written) x left p plain h)
@@ -67,10 +77,10 @@ stands-first text = record { goes_on = λ p h. h }
 same-text : (s : State) (t : List ℕ) → HasRowsOf s t s t
 same-text s t = record { rows_of = λ fields field rows is. is }
 
-pub whole : (text written : List ℕ) → spot_from RowStart written ≡ RowStart → StandsFor text [] written → HasRowsOf st.StartRecord text st.StartRecord written
-whole text written at stands =
-    subst (λ (q : List ℕ). HasRowsOf st.StartRecord text st.StartRecord q) (append-nil written)
-    (stands.goes_on [] (same-text (spot_state (spot_from RowStart written)) []))
+pub whole : (written : List ℕ) → WritesEnd written written
+whole written text rows ends stands =
+    subst (λ (q : List ℕ). HasRowsOf st.StartRecord text st.StartRecord q) (append-nil (rows ++ written))
+    (stands.goes_on [] (same-text (spot_state (spot_from RowStart (rows ++ written))) []))
 
 last-end : (spot : Spot) → At spot [] (10 ∷ [])
 unfolding next_record
@@ -78,8 +88,10 @@ last-end RowStart = record { rows_of = λ fields field rows is. moved st.StartRe
 last-end CellStart = row-end st.StartField st.StartField [] [] [] (refl, refl, refl) refl (inr (inr (refl, refl))) (same-text st.StartRecord [])
 last-end InCell = row-end st.InField st.InField [] [] [] (refl, refl, refl) refl (inr (inr (refl, refl))) (same-text st.StartRecord [])
 
-pub whole-ended : (text written : List ℕ) → StandsFor text [] written → HasRowsOf st.StartRecord text st.StartRecord (written ++ (10 ∷ []))
-whole-ended text written stands = stands.goes_on (10 ∷ []) (last-end (spot_from RowStart written))
+pub whole-ended : (written : List ℕ) → WritesEnd written (written ++ (10 ∷ []))
+whole-ended written text rows ends stands =
+    subst (λ (q : List ℕ). HasRowsOf st.StartRecord text st.StartRecord q) (append_assoc rows written (10 ∷ []))
+    (stands.goes_on (10 ∷ []) (last-end (spot_from RowStart (rows ++ written))))
 
 -- ---- what the code tests
 

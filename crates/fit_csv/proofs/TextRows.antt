@@ -1,5 +1,5 @@
 -- A text whose rows are those of a chain as far as it has been read.
-use Rattle.fit_csv.proofs.Common.{◌≡◌, ◌∙◌, [], ◌∷◌, ◌++◌, length, sym, ap, subst, append_assoc, flat_map, Global, Record, Row, RowsOfText, csv_text}
+use Rattle.fit_csv.proofs.Common.{◌≡◌, ◌∙◌, [], ◌∷◌, ◌++◌, length, refl, sym, ap, subst, append_assoc, flat_map, Global, Record, Row, RowsOfText, csv_text}
 use Rattle.fit_csv.proofs.Common.{first_line, text_append, chain_rows, file_row, file_rows, record_rows, records_rows, AreFilesOf, ChainStep, with_record}
 use Rattle.fit_csv.proofs.Common.{BeginsWithMore, IsSoundChain, IsSoundCurrent, IsSoundFile, current_rows, open_file_rows, part_rows, rows_so_far, Chain}
 use Rattle.fit_csv.proofs.Common.{OpenFile, Part, Nothing}
@@ -23,6 +23,21 @@ file-goes-on f r text left sound none is = (
 pub row-goes-on : (c : Chain) (r : Row) (t : Chain) (text left : List ℕ) → IsSoundChain c → ChainStep c r t → text ≡ csv_text (r ∷ []) ++ left
     → BeginsWithMore text left (rows_so_far c) (rows_so_far t)
 row-goes-on c r t text left sound step is = (r ∷ [], is, chain-more c r t sound step)
+
+-- no row of a text
+pub no-more-rows : (text : List ℕ) (before : List Row) → BeginsWithMore text text before before
+unfolding csv_text
+no-more-rows text before = ([], refl, sym (append-nil before))
+
+-- rows of a text, and the ones after them
+pub still-more-rows : (text rest left : List ℕ) (before middle after : List Row) → BeginsWithMore text rest before middle
+    → BeginsWithMore rest left middle after → BeginsWithMore text left before after
+still-more-rows text rest left before middle after (first, begins, more) (second, goes_on, still) = (
+  first ++ second,
+  begins ∙ ap (λ (l : List ℕ). csv_text first ++ l) goes_on ∙ sym (append_assoc (csv_text first) (csv_text second) left)
+      ∙ ap (λ (l : List ℕ). l ++ left) (sym (text_append first second)),
+  still ∙ ap (λ (l : List Row). l ++ second) more ∙ append_assoc before first second,
+)
 
 -- the text that has been read, and what is left of it
 pub text-goes-on : (before after : List Row) (text rest left : List ℕ) → text ≡ csv_text (first_line ∷ before) ++ rest → BeginsWithMore rest left before after

@@ -9,6 +9,7 @@ mod cells;
 mod chain;
 mod definition;
 mod fields;
+mod guess;
 mod header;
 mod judge;
 mod loose;
@@ -21,6 +22,7 @@ mod open_message;
 mod plain;
 mod ranges;
 mod text;
+mod window;
 
 use crate::CsvFault;
 use crate::from::judge::judge;

@@ -13,14 +13,14 @@ use test_known::protocol::RECORD;
 use test_known::{TABLE_HEAD, longest};
 
 /// Puts the text of some bytes after what is there.
-fn put_text(rt: &impl Abort, alloc: Global, bytes: &[u8], text: &mut Vec<u8>) {
+pub(crate) fn put_text(rt: &impl Abort, alloc: Global, bytes: &[u8], text: &mut Vec<u8>) {
     let mut source = bytes;
     let mut sink = WriteSink::new(text);
     assert_eq!(rt; to_csv(alloc, &mut source, &mut sink), Ok(()));
 }
 
 /// Puts the bytes of some text after what is there.
-fn put_bytes(rt: &impl Abort, alloc: Global, text: &[u8], bytes: &mut Vec<u8>) {
+pub(crate) fn put_bytes(rt: &impl Abort, alloc: Global, text: &[u8], bytes: &mut Vec<u8>) {
     let mut source = text;
     let mut sink = WriteSink::new(bytes);
     assert_eq!(rt; from_csv(alloc, &mut source, &mut sink), Ok(()));

@@ -18,6 +18,8 @@ mod from_text;
 #[cfg(test)]
 mod profile;
 #[cfg(test)]
+mod spreadsheets;
+#[cfg(test)]
 mod streams;
 #[cfg(test)]
 mod taken;

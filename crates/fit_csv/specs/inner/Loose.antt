@@ -51,9 +51,15 @@ pub record StandsFor (text left written : List ℕ) : Type 0 where
   pub goes_on : (plain : List ℕ) → HasRowsOf (spot_state (spot_from RowStart written)) left (spot_state (spot_from RowStart written)) plain
       → HasRowsOf st.StartRecord text st.StartRecord (written ++ plain)
 
--- Writing has gone on as far as the text has been read.
+-- After any rows, writing has gone on as far as the text has been read.
 abbrev pub WritesOn : List ℕ → List ℕ → List ℕ → List ℕ → Type 0
-WritesOn from left written more = (text : List ℕ) → StandsFor text from written → StandsFor text left more
+WritesOn from left written more = (text rows : List ℕ) → spot_from RowStart rows ≡ RowStart → StandsFor text from (rows ++ written)
+    → StandsFor text left (rows ++ more)
+
+-- After any rows, this is how the text ends of which nothing is left.
+abbrev pub WritesEnd : List ℕ → List ℕ → Type 0
+WritesEnd written ended = (text rows : List ℕ) → spot_from RowStart rows ≡ RowStart → StandsFor text [] (rows ++ written)
+    → HasRowsOf st.StartRecord text st.StartRecord (rows ++ ended)
 
 -- The text begins with the end of a row, also that of its last one, and this comes after it.
 abbrev pub EndsLine : List ℕ → List ℕ → Type 0

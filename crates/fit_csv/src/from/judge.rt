@@ -1,26 +1,25 @@
 //! Judges the rows of a text.
-ghost use Rattle.std.specs.Prelude.{◌≡◌, ◌↔◌, ◌<◌, ◌+◌, ◌^◌, ◌++◌, ◌∷◌, [], None, IfErr, IfOk, IfSome, IsTrue, OnOk, length};
+ghost use Rattle.std.specs.Prelude.{◌≡◌, ◌↔◌, ◌<◌, ◌+◌, ◌^◌, ◌∷◌, [], None, IfErr, IfOk, IfSome, IsTrue, OnOk, length};
 ghost use Rattle.csv.specs.Records.{fields_of};
 ghost use Rattle.fit_csv.specs.declared.from.chain.Chain.{Chain};
 ghost use Rattle.fit_csv.specs.Judged.{AreFilesOf};
 ghost use Rattle.fit_csv.specs.inner.TextFaults.{IsTextFault, IsUnjudged};
 ghost use Rattle.fit_csv.specs.inner.Progress.{ChainStep};
-ghost use Rattle.fit_cells.specs.Rows.{HasRead, csv_text, first_line};
+ghost use Rattle.fit_cells.specs.Rows.{HasRead, first_line};
 ghost use Rattle.fit_csv.specs.inner.Seven.{row_of};
-ghost use Rattle.fit_csv.specs.inner.SoundChain.{BeginsWithMore, IsSoundChain, rows_so_far};
+ghost use Rattle.fit_csv.specs.inner.SoundChain.{IsSoundChain};
 
 use crate::CsvFault;
 use crate::from::cells::{Cells, cells_of, same};
 use crate::from::chain::Chain;
-use crate::from::loose::plain_text;
+use crate::from::guess::judge_plain;
 use crate::from::misfit::Misfit;
-use crate::from::plain::plain_row;
+use crate::from::window::judge_loose;
 use csv::{ByteRecord, Reader};
 use fit_base::Entries;
-use fit_cells::{RowWriter, next_row, row_reader};
+use fit_cells::{next_row, row_reader};
 use fit_encode::SpelledFile;
 use fit_numbers::laws::text_has_one_number;
-use fit_rows::MessageReader;
 use std::alloc::Global;
 
 /// Whether cells are those of the first line.
@@ -90,17 +89,6 @@ fn whole_files(chain: Chain, rows: u64) -> Result<Entries<SpelledFile>, CsvFault
     Ok(chain.files)
 }
 
-/// The files of a chain that is whole.
-fn files_of(chain: Chain) -> Option<Entries<SpelledFile>>
-    ensures { IfSome result (λ files. (chain.current ≡ None) × (files ≡ chain.files)
-        × (0 < length files)) }
-{
-    match whole_files(chain, 0) {
-        Ok(files) => Some(files),
-        Err(_) => None,
-    }
-}
-
 /// Judges the rows after the first line.
 fn judge_rest(
     alloc: Global,
@@ -127,79 +115,6 @@ fn judge_rest(
     unreachable!()
 }
 
-/// What comes after the first line of a text, where that stands as `to_csv` writes it.
-fn after_first_line(text: &[u8]) -> Option<&[u8]>
-    ensures { IfSome result (λ rest. text.now ≡ csv_text (first_line ∷ []) ++ rest.now) }
-{
-    text.strip_prefix(b"row,a,b,c,d,e,f\n")
-}
-
-/// Takes the row with which a text begins, as `to_csv` writes it, and returns what is left.
-fn take_plain<'a>(
-    alloc: Global,
-    writer: &mut RowWriter,
-    written: &mut Vec<u8>,
-    chain: &mut Chain,
-    text: &'a [u8],
-) -> Option<&'a [u8]>
-    requires { IsSoundChain chain.old }
-    ensures sound { IfSome result (λ left. IsSoundChain chain.new) }
-    ensures rows { IfSome result (λ left.
-        BeginsWithMore text.now left.now (rows_so_far chain.old) (rows_so_far chain.new)) }
-{
-    let (cells, left) = plain_row(writer, written, text)?;
-    match chain.take_row(alloc, written, &cells) {
-        Ok(()) => Some(left),
-        Err(_) => None,
-    }
-}
-
-/// Takes the data message with whose rows a text begins, or else its first row, and returns what is left.
-fn take_next<'a>(
-    alloc: Global,
-    reader: &mut MessageReader,
-    writer: &mut RowWriter,
-    written: &mut Vec<u8>,
-    chain: &mut Chain,
-    text: &'a [u8],
-) -> Option<&'a [u8]>
-    requires { IsSoundChain chain.old }
-    ensures sound { IfSome result (λ left. IsSoundChain chain.new) }
-    ensures rows { IfSome result (λ left.
-        BeginsWithMore text.now left.now (rows_so_far chain.old) (rows_so_far chain.new)) }
-{
-    match chain.take_message(reader, text) {
-        Ok(Some(left)) => Some(left),
-        Ok(None) => take_plain(alloc, writer, written, chain, text),
-        Err(_) => None,
-    }
-}
-
-/// The files whose rows are those of a text, where it stands as `to_csv` writes it. Some such texts are left to `judge_any`.
-fn judge_plain(alloc: Global, text: &[u8]) -> Option<Entries<SpelledFile>>
-    ensures { IfSome result (AreFilesOf text.now) }
-{
-    let mut rest = after_first_line(text)?;
-    let mut chain = Chain::new(alloc);
-    let mut reader = MessageReader::new(alloc);
-    let mut writer = RowWriter::new(alloc);
-    let mut written = Vec::new(alloc);
-    for _ in 0..text.len() {
-        if rest.is_empty() {
-            return files_of(chain);
-        }
-        rest = take_next(
-            alloc,
-            &mut reader,
-            &mut writer,
-            &mut written,
-            &mut chain,
-            rest,
-        )?;
-    }
-    None
-}
-
 /// The files whose rows are those of a text, or the first fault of its rows. The crate csv reads its rows.
 fn judge_any(alloc: Global, text: &[u8]) -> Result<Entries<SpelledFile>, CsvFault>
     ensures ok { IfOk result (AreFilesOf text.now) }
@@ -217,18 +132,6 @@ fn judge_any(alloc: Global, text: &[u8]) -> Result<Entries<SpelledFile>, CsvFaul
         return Err(CsvFault::Header);
     }
     judge_rest(alloc, text, &mut reader, &mut row)
-}
-
-/// The files whose rows are those of a text, where it is spelled as spreadsheets spell, which its first line shows. Some such texts
-/// are left to `judge_any`.
-fn judge_loose(alloc: Global, text: &[u8]) -> Option<Entries<SpelledFile>>
-    ensures { IfSome result (AreFilesOf text.now) }
-{
-    if after_first_line(text).is_some() {
-        return None;
-    }
-    let plain = plain_text(alloc, text)?;
-    judge_plain(alloc, plain.as_slice())
 }
 
 /// The files whose rows are those of a text, where they are found without the crate csv.

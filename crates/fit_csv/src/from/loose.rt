@@ -1,14 +1,13 @@
 //! Texts as spreadsheets write them, spelled anew as `to_csv` spells: CR LF at the ends of lines, cells in quotes that need none,
 //! a byte order mark at the start, no line end at the end.
-ghost use Rattle.std.specs.Prelude.{◌≡◌, ◌++◌, ◌∷◌, ◌<◌, ◌≤◌, [], ℕ, List, EachIndex, Vec, IfSome, MatchOption, IsTrue, length, slice_index};
+ghost use Rattle.std.specs.Prelude.{◌≡◌, ◌++◌, ◌∷◌, ◌<◌, ◌≤◌, [], ℕ, List, EachIndex, IfSome, MatchOption, IsTrue, length, slice_index};
 ghost use Rattle.std.specs.Prelude.{take, true, false};
 ghost use Rattle.csv.specs.Reading.{strip_bom};
-ghost use Rattle.csv.specs.declared.parser.State.TheVariants as st;
-ghost use Rattle.fit_cells.specs.Rows.{Row, RowsOfText};
-ghost use Rattle.fit_csv.specs.inner.Loose.{Closes, EndsCell, EndsLine, HasRowsOf, NoneOf, Opens, StandsFor, WritesOn, is_mark, is_special};
+ghost use Rattle.fit_csv.specs.inner.Loose.{Closes, EndsCell, EndsLine, NoneOf, Opens, WritesEnd, WritesOn, is_mark, is_special};
 ghost use Rattle.fit_csv.specs.inner.Loose.{may_open, spot_after, spot_from};
 
-use std::alloc::Global;
+/// How far one step of the spelling looks ahead. A cell of a FIT file is shorter, and a longer one in quotes is not spelled anew.
+pub(crate) const STEP_SIZE: usize = 4_096;
 
 /// Where a text stands outside of quotes.
 #[derive(Clone, Copy)]
@@ -66,16 +65,20 @@ fn mark(b: u8) -> bool
 fn all_high(bytes: &[u8]) -> bool
     ensures { IsTrue result → EachIndex bytes.now (λ k. 34 < slice_index bytes.now k) }
 {
-    bytes.iter().all(|b| *b > b'"')
+    let mut high = true;
+    for b in bytes {
+        high &= *b > b'"';
+    }
+    high
 }
 
-/// How many bytes, eight at a time, come before a quote or a carriage return.
+/// How many bytes of one step, eight at a time, come before a quote or a carriage return.
 fn eights_length(text: &[u8]) -> usize
     ensures within { result ≤ length text.now }
     ensures none { (k : ℕ) → k < result → is_mark (slice_index text.now k) ≡ false }
 {
     let mut at = 0;
-    for _ in 0..text.len() / 8 {
+    for _ in 0..text.len().min(STEP_SIZE) / 8 {
         if !all_high(&text[at..at + 8]) {
             return at;
         }
@@ -84,26 +87,29 @@ fn eights_length(text: &[u8]) -> usize
     at
 }
 
-/// How many bytes come before the first quote or carriage return.
+/// How many bytes of one step come before the first quote or carriage return.
 fn run_length(text: &[u8]) -> usize
     ensures within { result ≤ length text.now }
     ensures none { (k : ℕ) → k < result → is_mark (slice_index text.now k) ≡ false }
 {
-    let first = eights_length(text);
-    for i in first..text.len() {
+    let end = text.len().min(STEP_SIZE);
+    for i in eights_length(text)..end {
         if mark(text[i]) {
             return i;
         }
     }
-    text.len()
+    end
 }
 
-/// How many bytes a cell has after its opening quote, the closing quote too.
+/// How many bytes a cell has after its opening quote, the closing quote too, where one step is enough for it.
 fn quoted_length(text: &[u8]) -> Option<usize>
     ensures { IfSome result (λ n. (n ≤ length text.now) × Closes true (take n text.now)) }
 {
     let mut is_open = true;
     for (i, b) in text.iter().enumerate() {
+        if i == STEP_SIZE {
+            return None;
+        }
         if *b == b'"' {
             is_open = !is_open;
         } else if !is_open {
@@ -114,7 +120,7 @@ fn quoted_length(text: &[u8]) -> Option<usize>
 }
 
 /// Writes bytes after what was written.
-fn put(written: &mut Vec<u8>, bytes: &[u8]) -> Option<()>
+pub(crate) fn put(written: &mut Vec<u8>, bytes: &[u8]) -> Option<()>
     ensures { IfSome result (λ done. written.new.items ≡ written.old.items ++ bytes.now) }
 {
     match written.extend_from_slice(bytes) {
@@ -134,21 +140,19 @@ fn put_byte(written: &mut Vec<u8>, byte: u8) -> Option<()>
     }
 }
 
-/// Writes the bytes before the first that a cell without quotes can't have, and returns how many they are.
-fn put_bare(written: &mut Vec<u8>, text: &[u8]) -> Option<usize>
+/// How many bytes come before the first that a cell without quotes can't have, where one step is enough for them.
+#[inline(always)]
+fn bare_length(text: &[u8]) -> Option<usize>
     ensures within { IfSome result (λ shown. shown ≤ length text.now) }
     ensures bare { IfSome result (λ shown.
         (k : ℕ) → k < shown → is_special (slice_index text.now k) ≡ false) }
-    ensures put { IfSome result (λ shown.
-        written.new.items ≡ written.old.items ++ take shown text.now) }
 {
-    for (i, b) in text.iter().enumerate() {
-        if special(*b) {
+    for i in 0..text.len().min(STEP_SIZE) {
+        if special(text[i]) {
             return Some(i);
         }
-        put_byte(written, *b)?;
     }
-    Some(text.len())
+    None
 }
 
 /// What comes after the end of a row.
@@ -239,17 +243,15 @@ fn take_quoted<'a>(written: &mut Vec<u8>, text: &'a [u8]) -> Option<&'a [u8]>
     ensures { IfSome result (λ left.
         WritesOn (34 ∷ text.now) left.now written.old.items written.new.items) }
 {
-    let spot = spot_of(written.as_slice());
-    let before = written.len();
-    let shown = put_bare(written, text)?;
-    if let Some(after) = after_bare(spot, text, shown) {
+    let shown = bare_length(text)?;
+    if let Some(after) = after_bare(spot_of(written.as_slice()), text, shown) {
+        put(written, &text[..shown])?;
         return end_cell(written, after);
     }
-    written.truncate(before);
     take_kept(written, text)
 }
 
-/// Writes what comes before the first quote or carriage return.
+/// Writes what one step finds before the first quote or carriage return.
 fn take_run<'a>(written: &mut Vec<u8>, text: &'a [u8]) -> Option<&'a [u8]>
     ensures { IfSome result (λ left.
         WritesOn text.now left.now written.old.items written.new.items) }
@@ -283,36 +285,29 @@ fn take_some<'a>(written: &mut Vec<u8>, text: &'a [u8]) -> Option<&'a [u8]>
     }
 }
 
-/// What was written, with a line end where the last row has none.
-fn with_line_end(mut written: Vec<u8>) -> Option<Vec<u8>>
-    ensures { IfSome result (λ plain. (text : List ℕ) → StandsFor text [] written.items
-        → HasRowsOf st.StartRecord text st.StartRecord plain.items) }
+/// Spells a text anew until that many bytes are written or nothing is left of it, and returns what is left.
+pub(crate) fn spell_on<'a>(written: &mut Vec<u8>, text: &'a [u8], many: usize) -> Option<&'a [u8]>
+    ensures { IfSome result (λ left.
+        WritesOn text.now left.now written.old.items written.new.items) }
 {
-    match spot_of(written.as_slice()) {
-        Spot::RowStart => Some(written),
-        _ => {
-            put_byte(&mut written, b'\n')?;
-            Some(written)
+    let mut left = text;
+    for _ in 0..many {
+        if left.is_empty() || written.len() >= many {
+            return Some(left);
         }
+        left = take_some(written, left)?;
     }
+    Some(left)
 }
 
-/// A text spelled anew.
-fn spelled_anew(alloc: Global, text: &[u8]) -> Option<Vec<u8>>
-    ensures { IfSome result (λ plain.
-        HasRowsOf st.StartRecord text.now st.StartRecord plain.items) }
+/// Writes a line end where the last row of a text has none.
+pub(crate) fn end_line(written: &mut Vec<u8>) -> Option<()>
+    ensures { IfSome result (λ done. WritesEnd written.old.items written.new.items) }
 {
-    let Ok(mut written) = Vec::with_capacity(alloc, text.len() + 1) else {
-        return None;
-    };
-    let mut rest = text;
-    for _ in 0..text.len() + 1 {
-        if rest.is_empty() {
-            return with_line_end(written);
-        }
-        rest = take_some(&mut written, rest)?;
+    match spot_of(written.as_slice()) {
+        Spot::RowStart => Some(()),
+        _ => put_byte(written, b'\n'),
     }
-    None
 }
 
 /// What comes after a byte order mark at the start of a text.
@@ -324,23 +319,11 @@ fn after_mark(text: &[u8]) -> Option<&[u8]>
 }
 
 /// A text without a byte order mark at its start.
-fn without_mark(text: &[u8]) -> &[u8]
+pub(crate) fn without_mark(text: &[u8]) -> &[u8]
     ensures { result.now ≡ strip_bom text.now }
 {
     match after_mark(text) {
         Some(rest) => rest,
         None => text,
     }
-}
-
-/// A text spelled anew, as `to_csv` may spell it. Whatever rows it then has, it had before.
-pub(crate) fn plain_text(alloc: Global, text: &[u8]) -> Option<Vec<u8>>
-    ensures { IfSome result (λ plain.
-        (rows : List Row) → RowsOfText plain.items rows → RowsOfText text.now rows) }
-{
-    let plain = spelled_anew(alloc, without_mark(text))?;
-    if after_mark(plain.as_slice()).is_some() {
-        return None;
-    }
-    Some(plain)
 }
