@@ -1,11 +1,15 @@
 -- Texts that are written in a sheet, and put after a text together.
-use Rattle.fit_rows.proofs.Common.{◌≡◌, ◌∙◌, ◌++◌, ◌∷◌, [], ap, sym, append_assoc, take, and_sheet, Row, csv_text, text_append}
+use Rattle.fit_rows.proofs.Common.{◌≡◌, ◌≤◌, ◌∙◌, ◌+◌, ◌++◌, ◌∷◌, [], ap, sym, append_assoc, length, take, and_sheet, Row, csv_text, text_append}
 use Rattle.std.proofs.Common.{ℕ, List}
-use Rattle.std.proofs.lemmas.List.{append-nil}
+use Rattle.std.proofs.lemmas.List.{append-nil, length-append, length-take-le}
 
 -- nothing is written
 pub none_written : (text sheet : List ℕ) → and_sheet text sheet 0 ≡ text
 none_written text sheet = append-nil text
+
+-- how many bytes both have
+pub length-and_sheet : (text sheet : List ℕ) (at : ℕ) → at ≤ length sheet → length (and_sheet text sheet at) ≡ length text + at
+length-and_sheet text sheet at within = length-append text (take at sheet) ∙ ap (λ n. length text + n) (length-take-le at sheet within)
 
 -- more is written
 pub more_written : (text old new more : List ℕ) (at end : ℕ) → take end new ≡ take at old ++ more → and_sheet text new end ≡ and_sheet text old at ++ more

@@ -1,5 +1,5 @@
 //! The items of the fields of a message, made or in their bytes, put in rows and in lines.
-ghost use Rattle.std.specs.Prelude.{◌≡◌, ◌≤◌, ℕ, ◌++◌, ◌∷◌, [], IfOk, List, OnOk, length};
+ghost use Rattle.std.specs.Prelude.{◌≡◌, ◌≤◌, ◌+◌, ℕ, ◌++◌, ◌∷◌, [], IfOk, List, length};
 ghost use Rattle.std.specs.Global.{Global};
 ghost use Rattle.csv.specs.Writing.{default_writer, field_text};
 ghost use Rattle.fit_base.specs.declared.items.Items.{Items};
@@ -41,11 +41,20 @@ pub(crate) trait FieldItems {
             ++ field_text default_writer (cell frame.now.code frame.now.info i))) };
 
     /// Takes those of the next field, and puts its cell as a line shows it.
-    fn show_next(&mut self, text: &mut Vec<u8>, shown: &ShownCell) -> Result<(), AllocError>
-        requires { HasFields has_items self.old ((shown.now.code, shown.now.size) ∷ []) }
-        ensures { OnOk result (TakesField has_items self.old self.new
-            (shown.now.code, shown.now.size) (λ i. text.new.items
-            ≡ text.old.items ++ shown_cell shown.now.code shown.now.info i)) };
+    fn show_next(
+        &mut self,
+        text: &mut Vec<u8>,
+        sheet: &mut Sheet,
+        at: usize,
+        shown: &ShownCell,
+    ) -> Result<usize, AllocError>
+        requires room { at + 32 ≤ 1024 }
+        requires fields { HasFields has_items self.old ((shown.now.code, shown.now.size) ∷ []) }
+        ensures place { IfOk result (λ end. end ≤ 1024) }
+        ensures fields { IfOk result (λ end. TakesField has_items self.old self.new
+            (shown.now.code, shown.now.size) (λ i. and_sheet text.new.items sheet.new end
+            ≡ and_sheet text.old.items sheet.old at
+            ++ shown_cell shown.now.code shown.now.info i)) };
 }
 
 /// Items that are made.
@@ -99,8 +108,14 @@ impl<'a> FieldItems for MadeItems<'a> {
     }
 
     #[inline(always)]
-    fn show_next(&mut self, text: &mut Vec<u8>, shown: &ShownCell) -> Result<(), AllocError> {
-        shown.put(text, self.next())
+    fn show_next(
+        &mut self,
+        text: &mut Vec<u8>,
+        sheet: &mut Sheet,
+        at: usize,
+        shown: &ShownCell,
+    ) -> Result<usize, AllocError> {
+        shown.put(text, sheet, at, self.next())
     }
 }
 
@@ -136,9 +151,15 @@ impl<'a> FieldItems for ItemBytes<'a> {
     }
 
     #[inline(always)]
-    fn show_next(&mut self, text: &mut Vec<u8>, shown: &ShownCell) -> Result<(), AllocError> {
+    fn show_next(
+        &mut self,
+        text: &mut Vec<u8>,
+        sheet: &mut Sheet,
+        at: usize,
+        shown: &ShownCell,
+    ) -> Result<usize, AllocError> {
         let (bytes, rest) = self.rest.split_at(shown.size() as usize);
         self.rest = rest;
-        shown.put_bytes(text, self.alloc, self.order, bytes)
+        shown.put_bytes(text, sheet, at, self.alloc, self.order, bytes)
     }
 }

@@ -1,10 +1,12 @@
 //! The texts of times, by what the times of a minute have in common.
-ghost use Rattle.std.specs.Prelude.{◌≡◌, ◌+◌, ◌++◌, ◌/◌, ◌<◌, [], IfOk, IsTrue, OnOk, false, option_map, unwrap_or};
+ghost use Rattle.std.specs.Prelude.{◌≡◌, ◌≤◌, ◌+◌, ◌++◌, ◌/◌, ◌<◌, [], IfOk, IsTrue, OnOk, false, option_map, take, unwrap_or};
 ghost use Rattle.csv.specs.Writing.{default_writer, needs_quotes};
 ghost use Rattle.fit_rows.specs.InstantText.{instant_text};
 ghost use Rattle.fit_rows.specs.inner.Minutes.{seconds_text};
+ghost use Rattle.fit_rows.specs.inner.Sheets.{and_sheet};
 
-use crate::stamp::Stamp;
+use crate::sheet::{Sheet, put_sheet};
+use crate::stamp::{Stamp, write_text};
 use crate::words::time_text;
 use std::alloc::{AllocError, Global};
 use std::marker::Model;
@@ -29,6 +31,17 @@ fn put_seconds(text: &mut Vec<u8>, seconds: u32) -> Result<(), AllocError>
     ensures { OnOk result (text.new.items ≡ text.old.items ++ seconds_text seconds) }
 {
     text.extend_from_slice(&[digit(seconds / 10), digit(seconds % 10), b'Z'])
+}
+
+/// Writes the end of a time from its seconds on in a sheet. Returns the place after it.
+#[inline(always)]
+fn write_seconds(sheet: &mut Sheet, at: usize, seconds: u32) -> usize
+    requires seconds { seconds < 60 }
+    requires room { at + 3 ≤ 1024 }
+    ensures end { result ≡ at + 3 }
+    ensures text { take result sheet.new ≡ take at sheet.old ++ seconds_text seconds }
+{
+    write_text(sheet, at, &[digit(seconds / 10), digit(seconds % 10), b'Z'])
 }
 
 /// A minute of civil time.
@@ -83,6 +96,25 @@ impl Minute {
         self.text.put(text)?;
         put_seconds(text, time % 60)
     }
+
+    /// Adds one of its times to what is written in a sheet.
+    #[inline(always)]
+    fn add(
+        &self,
+        text: &mut Vec<u8>,
+        sheet: &mut Sheet,
+        at: usize,
+        time: u32,
+    ) -> Result<usize, AllocError>
+        requires minute { time / 60 ≡ self.now }
+        requires place { at ≤ 1024 }
+        ensures room { IfOk result (λ end. end + 16 ≤ 1024) }
+        ensures text { IfOk result (λ end. and_sheet text.new.items sheet.new end
+            ≡ and_sheet text.old.items sheet.old at ++ instant_text time) }
+    {
+        let at = self.text.add(text, sheet, at)?;
+        Ok(write_seconds(sheet, at, time % 60))
+    }
 }
 
 /// Puts times one after another.
@@ -127,6 +159,30 @@ impl Times {
             }
         }
         self.put_new(text, time)
+    }
+
+    /// Adds a time to what is written in a sheet, or puts it after a text and the sheet. Returns the place after what is written then.
+    #[inline(always)]
+    pub(crate) fn add(
+        &mut self,
+        text: &mut Vec<u8>,
+        sheet: &mut Sheet,
+        at: usize,
+        time: u32,
+    ) -> Result<usize, AllocError>
+        requires { at ≤ 1024 }
+        ensures room { IfOk result (λ end. end + 16 ≤ 1024) }
+        ensures text { IfOk result (λ end. and_sheet text.new.items sheet.new end
+            ≡ and_sheet text.old.items sheet.old at ++ instant_text time) }
+    {
+        if let Some(minute) = &self.minute {
+            if minute.has(time) {
+                return minute.add(text, sheet, at, time);
+            }
+        }
+        put_sheet(text, sheet, at)?;
+        self.put_new(text, time)?;
+        Ok(0)
     }
 
     /// Puts a time as a cell, which is empty where there is none.

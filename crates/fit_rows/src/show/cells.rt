@@ -1,5 +1,5 @@
 //! The cells of fields as a line shows them.
-ghost use Rattle.std.specs.Prelude.{◌≡◌, ◌++◌, IfSome, OnOk, length, option_map};
+ghost use Rattle.std.specs.Prelude.{◌≡◌, ◌≤◌, ◌+◌, ◌++◌, IfOk, IfSome, OnOk, length, option_map};
 ghost use Rattle.std.specs.Global.{Global};
 ghost use Rattle.std.specs.List.{list_all};
 ghost use Rattle.fit_base.specs.Fields.{HasShape};
@@ -9,12 +9,14 @@ ghost use Rattle.fit_profile.specs.Names.{meaning};
 ghost use Rattle.fit_numbers.specs.Scaled.{IsScale};
 ghost use Rattle.fit_cells.specs.Forms.{IsFormOf, IsSmallForm};
 ghost use Rattle.fit_rows.specs.ShowLines.{shown_cell};
+ghost use Rattle.fit_rows.specs.inner.Sheets.{and_sheet};
 
 use crate::floats::{is_lone_float, put_float};
 use crate::lone::lone_form;
+use crate::sheet::{Sheet, put_sheet};
 use fit_base::base_type::BYTE;
 use fit_base::{Code, Items, Order, bits_at};
-use fit_cells::{NumberForm, formed, is_never_quoted, put_cell, put_formed, shown_text};
+use fit_cells::{NumberForm, formed, is_never_quoted, put_cell, shown_text, write_formed};
 use fit_profile::Info;
 use fit_record::read_items;
 use std::alloc::{AllocError, Global};
@@ -109,15 +111,26 @@ impl ShownCell {
 
     /// Puts the cell: a lone number by its form, which has no control character.
     #[inline(always)]
-    pub(crate) fn put(&self, text: &mut Vec<u8>, items: &Items) -> Result<(), AllocError>
-        requires { HasShape self.now.code self.now.size items.now }
-        ensures { OnOk result (text.new.items ≡ text.old.items
+    pub(crate) fn put(
+        &self,
+        text: &mut Vec<u8>,
+        sheet: &mut Sheet,
+        at: usize,
+        items: &Items,
+    ) -> Result<usize, AllocError>
+        requires room { at + 32 ≤ 1024 }
+        requires shape { HasShape self.now.code self.now.size items.now }
+        ensures place { IfOk result (λ end. end ≤ 1024) }
+        ensures text { IfOk result (λ end. and_sheet text.new.items sheet.new end
+            ≡ and_sheet text.old.items sheet.old at
             ++ shown_cell self.now.code self.now.info items.now) }
     {
         if let Some((form, bits)) = formed(self.lone, items) {
-            return put_formed(text, form, bits);
+            return Ok(write_formed(sheet, at, form, bits));
         }
-        self.put_other(text, items)
+        put_sheet(text, sheet, at)?;
+        self.put_other(text, items)?;
+        Ok(0)
     }
 
     /// The form of a lone number, where its bytes are those of the field.
@@ -173,18 +186,26 @@ impl ShownCell {
     pub(crate) fn put_bytes(
         &self,
         text: &mut Vec<u8>,
+        sheet: &mut Sheet,
+        at: usize,
         alloc: Global,
         order: Order,
         bytes: &[u8],
-    ) -> Result<(), AllocError>
-        requires { length bytes.now ≡ self.now.size }
-        ensures { OnOk result (text.new.items ≡ text.old.items
+    ) -> Result<usize, AllocError>
+        requires room { at + 32 ≤ 1024 }
+        requires length { length bytes.now ≡ self.now.size }
+        ensures place { IfOk result (λ end. end ≤ 1024) }
+        ensures text { IfOk result (λ end. and_sheet text.new.items sheet.new end
+            ≡ and_sheet text.old.items sheet.old at
             ++ shown_cell self.now.code self.now.info
             (field_from {A = Global} order (self.now.code, self.now.size) bytes.now)) }
     {
         if let Some(form) = self.lone() {
-            return put_formed(text, form, bits_at(order, form.width, bytes));
+            let bits = bits_at(order, form.width, bytes);
+            return Ok(write_formed(sheet, at, form, bits));
         }
-        self.put_read(text, alloc, order, bytes)
+        put_sheet(text, sheet, at)?;
+        self.put_read(text, alloc, order, bytes)?;
+        Ok(0)
     }
 }

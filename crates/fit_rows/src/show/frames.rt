@@ -1,12 +1,14 @@
 //! What comes after the cells of fields in a line, found out once for many messages.
-ghost use Rattle.std.specs.Prelude.{◌≡◌, ◌<◌, ◌+◌, ◌++◌, ◌∷◌, [], if◌then◌else◌, IfOk, IfSome, OnOk, codes, length, map, option_map};
+ghost use Rattle.std.specs.Prelude.{◌≡◌, ◌≤◌, ◌<◌, ◌+◌, ◌++◌, ◌∷◌, [], if◌then◌else◌, IfOk, IfSome, OnOk, codes, length, map, option_map};
 ghost use Rattle.fit_profile.specs.Names.{meaning};
 ghost use Rattle.fit_numbers.specs.Scaled.{IsScale};
 ghost use Rattle.fit_rows.specs.inner.Frames.{HasFields, TakesField};
+ghost use Rattle.fit_rows.specs.inner.Sheets.{and_sheet};
 ghost use Rattle.fit_rows.specs.inner.Showing.{dev_field_part, field_part, first_head, key_text, shown_keys, spaced};
 
 use crate::items::FieldItems;
 use crate::kept::developer::KeptDev;
+use crate::sheet::Sheet;
 use crate::show::cells::ShownCell;
 use crate::show::fields::{put_name, put_words, separator};
 use crate::stamp::Stamp;
@@ -131,17 +133,21 @@ impl ShownField {
     pub(crate) fn put<S: FieldItems>(
         &self,
         text: &mut Vec<u8>,
+        sheet: &mut Sheet,
+        at: usize,
         items: &mut S,
-    ) -> Result<(), AllocError>
-        requires { HasFields S.has_items items.old ((self.now.code, self.now.size) ∷ []) }
-        ensures { OnOk result (TakesField S.has_items items.old items.new
-            (self.now.code, self.now.size)
-            (λ i. text.new.items ≡ text.old.items ++ key_text self.now i)) }
+    ) -> Result<usize, AllocError>
+        requires room { at + 32 ≤ 1024 }
+        requires fields { HasFields S.has_items items.old ((self.now.code, self.now.size) ∷ []) }
+        ensures room { IfOk result (λ end. end + 32 ≤ 1024) }
+        ensures fields { IfOk result (λ end. TakesField S.has_items items.old items.new
+            (self.now.code, self.now.size) (λ i. and_sheet text.new.items sheet.new end
+            ≡ and_sheet text.old.items sheet.old at ++ key_text self.now i)) }
     {
-        let start = text.len();
-        items.show_next(text, &self.cell)?;
-        let after = self.after(text.len() == start);
-        after.put(text)
+        let start = text.len() + at;
+        let place = items.show_next(text, sheet, at, &self.cell)?;
+        let after = self.after(text.len() + place == start);
+        after.add(text, sheet, place)
     }
 }
 

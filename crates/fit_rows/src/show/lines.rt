@@ -128,7 +128,7 @@ fn put_values<S: FieldItems>(
     let Some(template) = maker.templates.get(local) else {
         unreachable!()
     };
-    template.put(text, &mut maker.times, time, items)
+    template.put(text, &mut maker.sheet, &mut maker.times, time, items)
 }
 
 /// Puts the line of a record after the records of a stream.

@@ -1,5 +1,5 @@
 //! The lines of the messages of a definition without their values, found out once for many messages.
-ghost use Rattle.std.specs.Prelude.{◌≡◌, ◌++◌, IfOk, IsTrue, None, OnOk, Some, codes, map, slice_get};
+ghost use Rattle.std.specs.Prelude.{◌≡◌, ◌≤◌, ◌+◌, ◌++◌, IfOk, IsTrue, None, OnOk, Some, codes, map, slice_get};
 ghost use Rattle.fit_record.specs.Environment.{defined_at};
 ghost use Rattle.fit_record.specs.Sound.{IsSound};
 ghost use Rattle.fit_profile.specs.Looks.{known};
@@ -8,11 +8,13 @@ ghost use Rattle.fit_rows.specs.inner.Current.{AreCurrent};
 ghost use Rattle.fit_rows.specs.inner.Frames.{HasFields, TakesFields};
 ghost use Rattle.fit_rows.specs.inner.Showing.{keys_text, line_front, line_slots, line_text};
 ghost use Rattle.fit_rows.specs.inner.MessageKeys.{message_key};
+ghost use Rattle.fit_rows.specs.inner.Sheets.{and_sheet};
 
 use crate::items::FieldItems;
 use crate::kept::message::KeptMessage;
 use crate::kept::{ByLocal, keep_at};
 use crate::minutes::Times;
+use crate::sheet::{SHEET_SIZE, Sheet, put_sheet};
 use crate::show::fields::put_words;
 use crate::show::frames::{ShownField, push_devs, put_dev_head, put_head, shown_fields};
 use crate::stamp::Stamp;
@@ -37,21 +39,25 @@ fn put_front(text: &mut Vec<u8>, local: u8, global: u16) -> Result<(), AllocErro
     put_words(text, words.as_slice())
 }
 
-/// Puts the next fields, one after another.
+/// Puts the next fields, one after another. Nothing is left in the sheet.
 fn put_fields<S: FieldItems>(
     text: &mut Vec<u8>,
+    sheet: &mut Sheet,
+    at: usize,
     fields: &[ShownField],
     items: &mut S,
 ) -> Result<(), AllocError>
-    requires { HasFields S.has_items items.old (map (λ f. (f.code, f.size)) fields.now) }
+    requires room { at + 32 ≤ 1024 }
+    requires fields { HasFields S.has_items items.old (map (λ f. (f.code, f.size)) fields.now) }
     ensures { OnOk result (TakesFields S.has_items items.old items.new
-        (map (λ f. (f.code, f.size)) fields.now)
-        (λ all. text.new.items ≡ text.old.items ++ keys_text fields.now all)) }
+        (map (λ f. (f.code, f.size)) fields.now) (λ all. text.new.items
+        ≡ and_sheet text.old.items sheet.old at ++ keys_text fields.now all)) }
 {
+    let mut at = at;
     for field in fields {
-        field.put(text, items)?;
+        at = field.put(text, sheet, at, items)?;
     }
-    Ok(())
+    put_sheet(text, sheet, at)
 }
 
 /// What a message without a time begins with.
@@ -142,23 +148,26 @@ impl LineTemplate {
         self.kept.is(stream, local, defined)
     }
 
-    /// Puts what a message with this time begins with.
+    /// Puts what a message with this time begins with. The sheet begins anew.
     #[inline(always)]
     fn put_label(
         &self,
         text: &mut Vec<u8>,
+        sheet: &mut Sheet,
         times: &mut Times,
         time: Option<u32>,
-    ) -> Result<(), AllocError>
-        ensures { OnOk result (text.new.items ≡ text.old.items
+    ) -> Result<usize, AllocError>
+        ensures place { IfOk result (λ end. end ≤ 1024) }
+        ensures text { IfOk result (λ end. and_sheet text.new.items sheet.new end
+            ≡ text.old.items
             ++ (line_front self.now.own.local self.now.own.global ++ lines.time_part time)) }
     {
         match time {
             Some(time) => {
-                self.timed.put(text)?;
-                times.put(text, time)
+                let at = self.timed.add(text, sheet, 0)?;
+                times.add(text, sheet, at, time)
             }
-            None => self.front.put(text),
+            None => self.front.add(text, sheet, 0),
         }
     }
 
@@ -166,6 +175,7 @@ impl LineTemplate {
     pub(crate) fn put<S: FieldItems>(
         &self,
         text: &mut Vec<u8>,
+        sheet: &mut Sheet,
         times: &mut Times,
         time: Option<u32>,
         items: &mut S,
@@ -174,9 +184,9 @@ impl LineTemplate {
         ensures { OnOk result (TakesFields S.has_items items.old items.new (line_slots self.now)
             (λ all. text.new.items ≡ text.old.items ++ line_text self.now time all)) }
     {
-        self.put_label(text, times, time)?;
-        self.head.put(text)?;
-        put_fields(text, self.fields.as_slice(), items)
+        let at = self.put_label(text, sheet, times, time)?;
+        let first = self.head.add(text, sheet, at)?;
+        put_fields(text, sheet, first, self.fields.as_slice(), items)
     }
 }
 
@@ -184,6 +194,8 @@ impl LineTemplate {
 #[derive(Drop)]
 pub(crate) struct LineMaker {
     pub alloc: Global,
+    /// What lines are written in first.
+    pub sheet: Sheet,
     /// That of the last message of each local message type.
     pub templates: ByLocal<LineTemplate>,
     pub times: Times,
@@ -196,6 +208,7 @@ impl LineMaker {
     {
         LineMaker {
             alloc,
+            sheet: [0; SHEET_SIZE],
             templates: ByLocal::new(alloc),
             times: Times::new(alloc),
         }

@@ -1,15 +1,17 @@
-use Rattle.fit_rows.proofs.Common.{◌≡◌, ◌++◌, OnOk, sym, subst, CellKey, IsFormOf}
-use Rattle.std.proofs.Common.{List, ℕ}
+use Rattle.fit_rows.proofs.Common.{◌∙◌, ◌++◌, sym, ap, subst, and_sheet, base_type, item_text, CellKey, IsFormOf}
 use Rattle.std.specs.Prelude.{IfSome}
+use Rattle.fit_rows.proofs.Sheets.{more_written}
 use Rattle.fit_rows.proofs.ShownCells.{lone_shown}
 use Rattle.fit_rows.proofs.show.cells.ShownCell.put.Goals as goal
 
-pub returns-in-Some : goal.returns-in-Some
-returns-in-Some c =
+pub returns-in-Some-clause-text : goal.returns-in-Some-clause-text
+returns-in-Some-clause-text c =
     let kept : CellKey = c.args.self.now in
     let number = c.in-Some.ensures in
+    let before = and_sheet c.args.text.now.items c.args.sheet.now c.args.at in
     let known = subst (λ (f : CellKey). IfSome c.self.inside.lone (IsFormOf f.code f.info)) c.self.view_is c.self.invariant.3 in
     let form = number.form kept.code kept.info known in
-    subst (λ (t : List ℕ). OnOk c.put_formed.result (c.put_formed.new.text.items ≡ c.args.text.now.items ++ t))
-    (sym (lone_shown c.in-Some.form kept.code kept.info c.args.items.now c.in-Some.bits form number.lone.0 number.lone.1))
-    (c.put_formed.ensures.ok kept.code kept.info form)
+    more_written c.args.text.now.items c.args.sheet.now c.write_formed.new.bytes
+    (item_text (base_type kept.code).class kept.code kept.info c.in-Some.form.width c.in-Some.bits) c.args.at c.write_formed.result
+    (c.write_formed.ensures.text kept.code kept.info form)
+    ∙ ap (λ t. before ++ t) (sym (lone_shown c.in-Some.form kept.code kept.info c.args.items.now c.in-Some.bits form number.lone.0 number.lone.1))

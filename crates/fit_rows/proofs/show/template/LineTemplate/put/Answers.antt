@@ -1,13 +1,13 @@
 use Rattle.fit_rows.proofs.Common.{◌≤◌, ◌∙◌, ◌++◌, length, length-map, map, drop, refl, sym, ap, subst, append_assoc, arith, on_ok_weaker}
-use Rattle.fit_rows.proofs.Common.{MessageKey, keys_text, line_front, line_head, line_keys, time_part}
+use Rattle.fit_rows.proofs.Common.{MessageKey, and_sheet, keys_text, line_front, line_head, line_keys, time_part}
 use Rattle.std.proofs.Common.{◌+◌, ℕ, List}
 use Rattle.std.proofs.lemmas.List.{length-append}
 use Rattle.fit_rows.proofs.FieldWalks.{field_slot}
 use Rattle.fit_rows.proofs.ShownLines.{dev_slot, key_slot, line_parts, shown_slots}
 use Rattle.fit_rows.proofs.show.template.LineTemplate.put.Goals as goal
 
-pub put_fields-requires : goal.put_fields-requires
-put_fields-requires g c =
+pub put_fields-requires-clause-fields : goal.put_fields-requires-clause-fields
+put_fields-requires-clause-fields g c =
     let key : MessageKey = c.args.self.now in
     let fields = c.as_slice.ensures.value ∙ c.self.invariant.2 ∙ ap line_keys c.self.view_is in
     let same = ap (map key_slot) fields ∙ shown_slots key in
@@ -18,6 +18,8 @@ returns g c = on_ok_weaker c.put_fields.result (λ takes more all h.
     let key : MessageKey = c.args.self.now in
     let old = c.args.text.now.items in
     let front = line_front key.own.local key.own.global in
+    let labelled = and_sheet c.put_label.new.text.items c.put_label.new.sheet c.in_ok-at.at in
+    let begun = and_sheet c.add.new.text.items c.add.new.sheet c.in_ok-first.first in
     let head = c.self.invariant.1 ∙ ap line_head c.self.view_is in
     let fields = c.as_slice.ensures.value ∙ c.self.invariant.2 ∙ ap line_keys c.self.view_is in
     let same = ap (map key_slot) fields ∙ shown_slots key in
@@ -32,8 +34,7 @@ returns g c = on_ok_weaker c.put_fields.result (λ takes more all h.
     ) in (
       long,
       subst (λ (fs : List (ℕ × ℕ)). g.S.FieldItems.has_items c.put_fields.new.items more (drop (length fs) all)) same t.1,
-      line_parts key c.args.time all old (old ++ front) c.put_label.new.text.items c.put.new.text.items c.put_fields.new.text.items refl
-          (c.in_ok-put_label.ensures ∙ sym (append_assoc old front (time_part c.args.time)))
-          (c.in_ok-put.ensures ∙ ap (λ u. c.put_label.new.text.items ++ u) head)
-          (t.2 ∙ ap (λ fs. c.put.new.text.items ++ keys_text fs all) fields) many,
+      line_parts key c.args.time all old (old ++ front) labelled begun c.put_fields.new.text.items refl
+          (c.in_ok-at.ensures.text ∙ sym (append_assoc old front (time_part c.args.time)))
+          (c.in_ok-first.ensures.text ∙ ap (λ u. labelled ++ u) head) (t.2 ∙ ap (λ fs. begun ++ keys_text fs all) fields) many,
     )) c.put_fields.ensures
