@@ -1,6 +1,7 @@
 -- Texts that are written in a sheet, and put after a text together.
-use Rattle.fit_rows.proofs.Common.{◌≡◌, ◌≤◌, ◌∙◌, ◌+◌, ◌++◌, ◌∷◌, [], ap, sym, append_assoc, length, take, and_sheet, Row, csv_text, text_append}
-use Rattle.std.proofs.Common.{ℕ, List}
+use Rattle.fit_rows.proofs.Common.{◌≡◌, ◌≤◌, ◌∙◌, ◌+◌, ◌/◌, ◌^◌, ◌++◌, ◌∷◌, [], ap, arith, sym, append_assoc, length, take, and_sheet}
+use Rattle.fit_rows.proofs.Common.{Row, csv_text, text_append}
+use Rattle.std.proofs.Common.{ℕ, List, decimal}
 use Rattle.std.proofs.lemmas.List.{append-nil, length-append, length-take-le}
 
 -- nothing is written
@@ -21,3 +22,7 @@ pub rows_after : (old first new : List ℕ) (row : Row) (rows : List Row) → fi
 rows_after old first new row rows begun put =
     put ∙ ap (λ t. t ++ csv_text rows) begun ∙ append_assoc old (csv_text (row ∷ [])) (csv_text rows)
     ∙ ap (λ t. old ++ t) (sym (text_append (row ∷ []) rows))
+
+-- a number without decimals
+pub whole_number : (n : ℕ) → decimal (n / 10 ^ 0) ++ [] ≡ decimal n
+whole_number n = let one : n / 1 ≡ n = omega arith in append-nil (decimal (n / 10 ^ 0)) ∙ ap decimal one

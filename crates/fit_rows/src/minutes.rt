@@ -148,19 +148,6 @@ impl Times {
         text.extend_from_slice(time_text(Some(time)).as_str().as_bytes())
     }
 
-    /// Puts a time.
-    #[inline(always)]
-    pub(crate) fn put(&mut self, text: &mut Vec<u8>, time: u32) -> Result<(), AllocError>
-        ensures { OnOk result (text.new.items ≡ text.old.items ++ instant_text time) }
-    {
-        if let Some(minute) = &self.minute {
-            if minute.has(time) {
-                return minute.put(text, time);
-            }
-        }
-        self.put_new(text, time)
-    }
-
     /// Adds a time to what is written in a sheet, or puts it after a text and the sheet. Returns the place after what is written then.
     #[inline(always)]
     pub(crate) fn add(
@@ -185,21 +172,26 @@ impl Times {
         Ok(0)
     }
 
-    /// Puts a time as a cell, which is empty where there is none.
+    /// The same for a cell, which is empty where there is no time.
     #[inline(always)]
-    pub(crate) fn put_cell(
+    pub(crate) fn add_cell(
         &mut self,
         text: &mut Vec<u8>,
+        sheet: &mut Sheet,
+        at: usize,
         time: Option<u32>,
-    ) -> Result<(), AllocError>
-        ensures text { OnOk result (text.new.items
-            ≡ text.old.items ++ unwrap_or (option_map instant_text time) []) }
+    ) -> Result<usize, AllocError>
+        requires { at + 16 ≤ 1024 }
+        ensures room { IfOk result (λ end. end + 16 ≤ 1024) }
+        ensures text { IfOk result (λ end. and_sheet text.new.items sheet.new end
+            ≡ and_sheet text.old.items sheet.old at
+            ++ unwrap_or (option_map instant_text time) []) }
         ensures plain { needs_quotes default_writer (unwrap_or (option_map instant_text time) [])
             ≡ false }
     {
         match time {
-            Some(time) => self.put(text, time),
-            None => Ok(()),
+            Some(time) => self.add(text, sheet, at, time),
+            None => Ok(at),
         }
     }
 }

@@ -1,5 +1,5 @@
 //! The rows of the messages of a definition without their values, found out once for many messages.
-ghost use Rattle.std.specs.Prelude.{◌≡◌, ◌≤◌, ◌++◌, ◌∷◌, [], IfOk, IsTrue, OnOk, Some, codes, decimal, map, option_map, unwrap_or};
+ghost use Rattle.std.specs.Prelude.{◌≡◌, ◌≤◌, ◌+◌, ◌++◌, ◌∷◌, [], IfOk, IsTrue, OnOk, Some, codes, decimal, map, option_map, take, unwrap_or};
 ghost use Rattle.fit_record.specs.Environment.{defined_at};
 ghost use Rattle.fit_record.specs.Sound.{IsSound};
 ghost use Rattle.fit_profile.specs.Looks.{known};
@@ -19,10 +19,10 @@ use crate::kept::message::KeptMessage;
 use crate::minutes::Times;
 use crate::rows::frames::{Frame, put_tail, put_two};
 use crate::sheet::{Sheet, put_sheet};
-use crate::stamp::Stamp;
+use crate::stamp::{Stamp, write_text};
 use crate::words::unit_text;
 use fit_cells::RowWriter;
-use fit_profile::{Stream, field_info, field_label, message_label, put_whole};
+use fit_profile::{Stream, field_info, field_label, message_label, write_fixed};
 use fit_record::{Defined, FieldDef};
 use itoa::Buffer;
 use std::alloc::{AllocError, Global};
@@ -192,13 +192,17 @@ fn put_frames<S: FieldItems>(
     put_sheet(text, sheet, last)
 }
 
-/// Puts a number after a text, where there is one.
-fn put_optional(text: &mut Vec<u8>, number: Option<u8>) -> Result<(), AllocError>
-    ensures { OnOk result (text.new.items ≡ text.old.items ++ rows.optional_number number) }
+/// Writes a number in a sheet, where there is one. Returns the place after it.
+#[inline(always)]
+#[tactic(auto, using(crate::proofs::Sheets::whole_number))]
+fn write_optional(sheet: &mut Sheet, at: usize, number: Option<u8>) -> usize
+    requires { at + 32 ≤ 1024 }
+    ensures place { result ≤ 1024 }
+    ensures text { take result sheet.new ≡ take at sheet.old ++ rows.optional_number number }
 {
     match number {
-        Some(number) => put_whole(text, u64::from(number)),
-        None => Ok(()),
+        Some(number) => write_fixed(sheet, at, i64::from(number), 0),
+        None => at,
     }
 }
 
@@ -209,9 +213,9 @@ pub(crate) struct Template {
     /// The first row of a message without a time offset.
     line: Stamp,
     /// What stands before the time offset.
-    front: Vec<u8>,
+    front: Stamp,
     /// What stands between the time offset and the time.
-    label: Vec<u8>,
+    label: Stamp,
     frames: Vec<Frame>,
     /// The end of the last row.
     end: Stamp,
@@ -231,8 +235,8 @@ impl Model for Template {
 
     ghost invariant = { λ t. (t.line ≡ csv_text (row (codes "data") (decimal t.kept.own.local) []
         (message_label t.kept.own.global) [] [] [] ∷ []))
-        × (t.front.items ≡ two_cells (codes "data") (decimal t.kept.own.local))
-        × (t.label.items ≡ two_cells [] (message_label t.kept.own.global))
+        × (t.front ≡ two_cells (codes "data") (decimal t.kept.own.local))
+        × (t.label ≡ two_cells [] (message_label t.kept.own.global))
         × (t.frames.items ≡ frames_of [] (frame_keys t.kept))
         × (t.end ≡ end_of [] (frame_keys t.kept)) };
 }
@@ -266,8 +270,8 @@ impl Template {
         Ok(Template {
             kept,
             line: Stamp::new(line)?,
-            front,
-            label,
+            front: Stamp::new(front)?,
+            label: Stamp::new(label)?,
             frames,
             end: Stamp::new(end)?,
         })
@@ -282,24 +286,27 @@ impl Template {
         self.kept.is(stream, local, defined)
     }
 
-    /// Puts the row with which a message begins between its time offset and the time of its header.
+    /// Puts the row with which a message begins with a time offset or the time of its header. The sheet begins anew.
+    #[inline(never)]
     fn put_timed(
         &self,
         text: &mut Vec<u8>,
+        sheet: &mut Sheet,
         times: &mut Times,
         offset: Option<u8>,
         time: Option<u32>,
-    ) -> Result<(), AllocError>
-        ensures { OnOk result (HasRows (rows.row (codes "data") (decimal self.now.own.local)
+    ) -> Result<usize, AllocError>
+        ensures place { IfOk result (λ end. end ≤ 1024) }
+        ensures rows { IfOk result (λ end. and_sheet text.new.items sheet.new end
+            ≡ text.old.items ++ csv_text (rows.row (codes "data") (decimal self.now.own.local)
             (rows.optional_number offset) (message_label self.now.own.global)
-            (unwrap_or (option_map instant_text time) []) [] [] ∷ []) text.old text.new) }
+            (unwrap_or (option_map instant_text time) []) [] [] ∷ [])) }
     {
-        text.extend_from_slice(self.front.as_slice())?;
-        put_optional(text, offset)?;
-        text.extend_from_slice(self.label.as_slice())?;
-        times.put_cell(text, time)?;
-        text.extend_from_slice(b",,\n")?;
-        Ok(())
+        let before = self.front.add(text, sheet, 0)?;
+        let numbered = write_optional(sheet, before, offset);
+        let labelled = self.label.add(text, sheet, numbered)?;
+        let timed = times.add_cell(text, sheet, labelled, time)?;
+        Ok(write_text(sheet, timed, b",,\n"))
     }
 
     /// Puts the row with which a message begins, by the time of its header. The sheet begins anew.
@@ -319,8 +326,7 @@ impl Template {
             (unwrap_or (option_map instant_text time) []) [] [] ∷ [])) }
     {
         if offset.is_some() || time.is_some() {
-            self.put_timed(text, times, offset, time)?;
-            return Ok(0);
+            return self.put_timed(text, sheet, times, offset, time);
         }
         self.line.add(text, sheet, 0)
     }

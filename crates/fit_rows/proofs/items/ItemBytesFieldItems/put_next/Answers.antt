@@ -23,12 +23,12 @@ returns-clause-fields c = IfOk-weaker c.put_bytes.result _ _ (λ end put more it
     let order = c.args.self.now.order in
     let code = c.args.frame.now.code in
     let size = c.args.frame.now.size in
+    let before = and_sheet c.args.text.now.items c.args.sheet.now c.args.at ++ c.args.frame.now.between in
     let beyond = c.split_at.ensures.back ∙ ap (λ n. drop n bytes) c.size.ensures in (
       field_from order (code, size) (take size bytes),
       fields_from order more (drop size bytes),
       have.1,
       (ap length beyond ∙ (first_in_bytes (code, size) more bytes have.0).1, sym (ap (fields_from order more) beyond)),
-      put ∙ ap (λ b. (and_sheet c.args.text.now.items c.args.sheet.now c.args.at ++ c.args.frame.now.between)
-          ++ field_text default_writer (cell code c.args.frame.now.info (field_from {A = Global} order (code, size) b)))
+      put ∙ ap (λ b. before ++ field_text default_writer (cell code c.args.frame.now.info (field_from {A = Global} order (code, size) b)))
           (c.split_at.ensures.front ∙ ap (λ n. take n bytes) c.size.ensures),
     )) c.put_bytes.ensures.text

@@ -16,12 +16,11 @@ put-requires-clause-shape c =
 pub returns-clause-fields : goal.returns-clause-fields
 returns-clause-fields c = IfOk-weaker c.put.result _ _ (λ end put more items have.
     let f = first_made (c.args.frame.now.code, c.args.frame.now.size) more items have.1 in
-    let next = c.next.ensures f.0 f.1 (have.0 ∙ f.2) in (
+    let next = c.next.ensures f.0 f.1 (have.0 ∙ f.2) in
+    let before = and_sheet c.args.text.now.items c.args.sheet.now c.args.at ++ c.args.frame.now.between in (
       f.0,
       f.1,
       f.2,
       (next.1, f.4),
-      put
-          ∙ ap (λ i. (and_sheet c.args.text.now.items c.args.sheet.now c.args.at ++ c.args.frame.now.between) ++ field_text default_writer (cell c.args.frame.now.code c.args.frame.now.info i))
-          next.0,
+      put ∙ ap (λ i. before ++ field_text default_writer (cell c.args.frame.now.code c.args.frame.now.info i)) next.0,
     )) c.put.ensures.text

@@ -16,10 +16,11 @@ put-requires-clause-shape c =
 pub returns-clause-fields : goal.returns-clause-fields
 returns-clause-fields c = IfOk-weaker c.put.result _ _ (λ end put more items have.
     let f = first_made (c.args.shown.now.code, c.args.shown.now.size) more items have.1 in
-    let next = c.next.ensures f.0 f.1 (have.0 ∙ f.2) in (
+    let next = c.next.ensures f.0 f.1 (have.0 ∙ f.2) in
+    let before = and_sheet c.args.text.now.items c.args.sheet.now c.args.at in (
       f.0,
       f.1,
       f.2,
       (next.1, f.4),
-      put ∙ ap (λ i. and_sheet c.args.text.now.items c.args.sheet.now c.args.at ++ shown_cell c.args.shown.now.code c.args.shown.now.info i) next.0,
+      put ∙ ap (λ i. before ++ shown_cell c.args.shown.now.code c.args.shown.now.info i) next.0,
     )) c.put.ensures.text

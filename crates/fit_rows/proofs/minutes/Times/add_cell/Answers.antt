@@ -1,7 +1,7 @@
 use Rattle.fit_rows.proofs.Common.{◌∙◌, [], ap, arith, default_writer, instant_text, needs_quotes}
 use Rattle.std.specs.Prelude.{option_map, unwrap_or}
 use Rattle.fit_rows.proofs.PlainInstants.{plain-instant}
-use Rattle.fit_rows.proofs.minutes.Times.put_cell.Goals as goal
+use Rattle.fit_rows.proofs.minutes.Times.add_cell.Goals as goal
 
 pub returns-in-Some-clause-plain : goal.returns-in-Some-clause-plain
 returns-in-Some-clause-plain c =
