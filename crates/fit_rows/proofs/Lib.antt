@@ -30,6 +30,7 @@ pub mod FloatCells
 pub mod BeginFacts
 pub mod TableColumnFacts
 pub mod AddedCells
+mod BegunRows
 pub mod TableNumbers
 mod RowsInBytes
 mod CurrentFacts

@@ -1,6 +1,7 @@
 -- Definitions that no public contract cites: what private functions and proofs need.
 pub mod TableCells
 pub mod TableColumns
+pub mod TableKinds
 pub mod Current
 pub mod Reporting
 pub mod Showing

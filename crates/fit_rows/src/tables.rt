@@ -2,6 +2,7 @@
 
 pub(crate) mod columns;
 pub(crate) mod front;
+pub(crate) mod kinds;
 pub(crate) mod maker;
 pub(crate) mod numbers;
 pub(crate) mod report;

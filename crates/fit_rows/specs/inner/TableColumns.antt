@@ -13,6 +13,7 @@ use Rattle.fit_profile.specs.declared.told.Told.{Told}
 use Rattle.fit_profile.specs.Looks.{first_field}
 use Rattle.fit_profile.specs.Names.{field}
 use Rattle.fit_cells.specs.Forms.{IsFormOf, IsSmallForm}
+use Rattle.fit_rows.specs.inner.TableKinds.{IsOfKind}
 use Rattle.fit_rows.specs.declared.tables.columns.Place.{Place}
 use Rattle.fit_rows.specs.declared.tables.columns.Places.{Places}
 use Rattle.fit_rows.specs.declared.tables.columns.Column.{Column}
@@ -27,12 +28,13 @@ is_tabled n =
 abbrev pub slots : List FieldDef → List (ℕ × ℕ)
 slots fields = map (λ f. (f.code, f.size)) fields
 
--- a place whose field has an item, and the form that is kept with it
+-- a place whose field has an item, and the form and the kind that are kept with it
 pub record IsKnown (p : Place) : Type 0 where
   pub small : IsSmallForm p.form
   pub form : IsSomeAnd (field 20 p.field.number) (λ m. IsFormOf p.field.code (Some m) p.form)
   pub width : item_width p.field.code p.field.size ≡ p.form.width
   pub room : p.form.width ≤ p.field.size
+  pub kind : IsOfKind p.kind p.field.code p.form
 
 -- the column of a field after that many bytes
 abbrev pub IsPlaced : ℕ → FieldDef → Column → Type 0

@@ -2,9 +2,12 @@
 ghost use Rattle.std.specs.Prelude.{◌≡◌, ◌+◌, ◌≤◌, ◌<◌, ◌^◌, drop, length, take, true, IfOk, IfSome, IsTrue, List};
 ghost use Rattle.fit_base.specs.Numbers.{number};
 ghost use Rattle.fit_record.specs.declared.definition.FieldDef.{FieldDef};
+ghost use Rattle.fit_rows.specs.declared.tables.kinds.Kind.TheVariants.{Other};
 ghost use Rattle.fit_rows.specs.inner.TableColumns.{ArePlaces, IsColumn, IsKnown, IsPlaced, is_tabled};
+ghost use Rattle.fit_rows.specs.inner.TableKinds.{IsOfKind};
 
 use crate::kept::are_same;
+use crate::tables::kinds::Kind;
 use fit_base::{Code, Order, bits_at, width_of};
 use fit_cells::{NumberForm, number_form};
 use fit_profile::field_info;
@@ -21,6 +24,7 @@ pub(crate) struct Place {
     pub offset: usize,
     pub field: FieldDef,
     pub form: NumberForm,
+    pub kind: Kind,
 }
 
 impl Place {
@@ -36,6 +40,26 @@ impl Place {
         let (_, from) = bytes.split_at(self.offset);
         let (item, _) = from.split_at(self.form.width as usize);
         bits_at(order, self.form.width, item)
+    }
+
+    /// The same place, of whose kind the base type and the form are.
+    #[inline(always)]
+    pub(crate) fn of_kind(&self, kind: Kind) -> Place
+        requires known { IsOfKind self.now.kind self.now.field.code self.now.form }
+        requires same { self.now.kind ≡ kind }
+        requires some { kind ≡ Other → ⊥ }
+        ensures { result ≡ self.now }
+    {
+        Place {
+            offset: self.offset,
+            field: FieldDef {
+                number: self.field.number,
+                size: self.field.size,
+                code: kind.code(),
+            },
+            form: kind.form(),
+            kind,
+        }
     }
 }
 
@@ -61,6 +85,7 @@ fn placed(offset: usize, field: &FieldDef) -> Option<Column>
         offset,
         field: *field,
         form,
+        kind: Kind::of(field.number, field.code, form),
     }))
 }
 

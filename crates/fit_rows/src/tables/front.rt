@@ -149,21 +149,11 @@ impl Firsts {
     }
 
     /// Finds out what the rows of a file with times of the minute of this time begin with.
-    #[inline(never)]
-    fn renew(&mut self, file: u64, time: Option<u32>) -> Result<(), AllocError> {
+    pub(crate) fn renew(&mut self, file: u64, time: Option<u32>) -> Result<(), AllocError> {
         if let Some(time) = time {
             if time / 60 > LAST_SYSTEM_MINUTE {
                 self.front = Front::of(self.alloc, file, time)?;
             }
-        }
-        Ok(())
-    }
-
-    /// Finds out what the row of a file and a time begins with, where it isn't known.
-    #[inline(always)]
-    pub(crate) fn learn(&mut self, file: u64, time: Option<u32>) -> Result<(), AllocError> {
-        if self.front_of(file, time).is_none() {
-            self.renew(file, time)?;
         }
         Ok(())
     }

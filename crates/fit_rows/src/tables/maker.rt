@@ -10,9 +10,8 @@ ghost use Rattle.fit_rows.specs.inner.TableCells.{MayPutRow};
 
 use crate::kept::{ByLocal, keep_at};
 use crate::tables::columns::Columns;
-use crate::tables::front::Firsts;
 use crate::tables::numbers::NumbersInBytes;
-use crate::tables::rows::put_row;
+use crate::tables::rows::{TableRowMaker, put_row};
 use fit_profile::Message;
 use fit_record::MessageBytes;
 use std::alloc::{AllocError, Global};
@@ -21,7 +20,7 @@ use std::alloc::{AllocError, Global};
 #[derive(Drop)]
 pub(crate) struct TableMaker {
     pub alloc: Global,
-    pub firsts: Firsts,
+    pub rows: TableRowMaker,
     /// Those of the last record message of each local message type.
     pub columns: ByLocal<Columns>,
 }
@@ -31,7 +30,7 @@ impl TableMaker {
     pub(crate) fn new(alloc: Global) -> TableMaker {
         TableMaker {
             alloc,
-            firsts: Firsts::new(alloc),
+            rows: TableRowMaker::new(alloc),
             columns: ByLocal::new(alloc),
         }
     }
@@ -40,21 +39,21 @@ impl TableMaker {
 /// Puts the row of a record message of a file.
 pub(crate) fn put_table_row(
     text: &mut Vec<u8>,
-    firsts: &mut Firsts,
+    rows: &mut TableRowMaker,
     message: &Message,
     file: u64,
 ) -> Result<(), AllocError>
     ensures { OnOk result (HasRows (table.table_row file (shown message.now).definition
         (shown message.now).values (shown message.now).told ∷ []) text.old text.new) }
 {
-    put_row(text, firsts, file, message.time(), message)
+    put_row(text, rows, file, message.time(), message)
 }
 
 /// Puts the row of a record message of a file from its bytes, by its columns and its time, where its numbers can be read there.
 /// Whether it did.
 fn put_by(
     text: &mut Vec<u8>,
-    firsts: &mut Firsts,
+    rows: &mut TableRowMaker,
     columns: &Columns,
     message: &MessageBytes<'_>,
     time: Option<u32>,
@@ -74,7 +73,7 @@ fn put_by(
         order: message.defined.definition.order,
         bytes: message.body,
     };
-    put_row(text, firsts, file, time, &numbers)?;
+    put_row(text, rows, file, time, &numbers)?;
     Ok(true)
 }
 
@@ -98,7 +97,7 @@ fn put_by_new(
 {
     let fields = message.defined.definition.fields.as_slice();
     let columns = Columns::new(maker.alloc, fields)?;
-    let put = put_by(text, &mut maker.firsts, &columns, message, time, file)?;
+    let put = put_by(text, &mut maker.rows, &columns, message, time, file)?;
     keep_at(&mut maker.columns.items, message.local as usize, columns)?;
     Ok(put)
 }
@@ -128,7 +127,7 @@ pub(crate) fn put_message_row(
     if let Some(Some(columns)) = maker.columns.items.as_slice().get(local as usize) {
         if is_current || columns.are_of(fields) {
             maker.columns.current = Some(local);
-            return put_by(text, &mut maker.firsts, columns, message, time, file);
+            return put_by(text, &mut maker.rows, columns, message, time, file);
         }
     }
     maker.columns.forget();

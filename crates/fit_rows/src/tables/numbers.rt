@@ -17,6 +17,7 @@ ghost use Rattle.fit_rows.specs.inner.TableColumns.{AreInBytes, IsKnown, is_tabl
 
 use crate::stamp::write_text;
 use crate::tables::columns::{Column, Place, Places};
+use crate::tables::kinds::Kind;
 use fit_base::base_type::SINT32;
 use fit_base::{Items, Order};
 use fit_cells::write_formed;
@@ -245,6 +246,57 @@ fn write_value_at(
     (true, write_formed(row, at, place.form, bits))
 }
 
+/// The same, not inlined.
+#[inline(never)]
+fn write_other_at(
+    row: &mut [u8],
+    at: usize,
+    place: &Place,
+    order: Order,
+    bytes: &[u8],
+) -> (bool, usize)
+    requires known { IsKnown place.now }
+    requires within { place.now.offset + place.now.field.size ≤ length bytes.now }
+    requires room { at + 48 ≤ length row.old }
+    ensures size { length row.new ≡ length row.old }
+    ensures within { result.1 ≤ at + 48 }
+    ensures none { result.0 ≡ false → result.1 ≡ at }
+    ensures cell { (m : Meaning) → IsFormOf place.now.field.code (Some m) place.now.form
+        → PutsCell (option_map (λ raw. table.amount_text raw m.scale m.offset)
+        (first_number place.now.field (items_at place.now order bytes.now)))
+        result.0 (take at row.old) (take result.1 row.new) }
+{
+    write_value_at(row, at, place, order, bytes)
+}
+
+/// The same where most recordings have numbers of one kind: it is that of the fields of this number.
+#[inline(always)]
+fn write_placed(
+    row: &mut [u8],
+    at: usize,
+    number: u8,
+    place: &Place,
+    order: Order,
+    bytes: &[u8],
+) -> (bool, usize)
+    requires known { IsKnown place.now }
+    requires within { place.now.offset + place.now.field.size ≤ length bytes.now }
+    requires room { at + 48 ≤ length row.old }
+    ensures size { length row.new ≡ length row.old }
+    ensures within { result.1 ≤ at + 48 }
+    ensures none { result.0 ≡ false → result.1 ≡ at }
+    ensures cell { (m : Meaning) → IsFormOf place.now.field.code (Some m) place.now.form
+        → PutsCell (option_map (λ raw. table.amount_text raw m.scale m.offset)
+        (first_number place.now.field (items_at place.now order bytes.now)))
+        result.0 (take at row.old) (take result.1 row.new) }
+{
+    let usual = Kind::usual(number);
+    if usual != Kind::Other && place.kind == usual {
+        return write_value_at(row, at, &place.of_kind(usual), order, bytes);
+    }
+    write_other_at(row, at, place, order, bytes)
+}
+
 /// Writes the position in the field at a place in the bytes of a message, where that is of the base type sint32 and
 /// valid. Returns whether it is, and the place after it.
 #[inline(always)]
@@ -273,6 +325,55 @@ fn write_position_at(
     write_degrees(row, at, semicircles(place.form.width, bits))
 }
 
+/// The same, not inlined.
+#[inline(never)]
+fn write_other_position(
+    row: &mut [u8],
+    at: usize,
+    place: &Place,
+    order: Order,
+    bytes: &[u8],
+) -> (bool, usize)
+    requires known { IsKnown place.now }
+    requires within { place.now.offset + place.now.field.size ≤ length bytes.now }
+    requires room { at + 48 ≤ length row.old }
+    ensures size { length row.new ≡ length row.old }
+    ensures within { result.1 ≤ at + 48 }
+    ensures none { result.0 ≡ false → result.1 ≡ at }
+    ensures cell { PutsCell (if place.now.field.code == 0x85
+        then option_map (λ s. fixed_text (degrees_of s) 7)
+        (first_number place.now.field (items_at place.now order bytes.now)) else None)
+        result.0 (take at row.old) (take result.1 row.new) }
+{
+    write_position_at(row, at, place, order, bytes)
+}
+
+/// The same where most recordings have positions of the usual kind.
+#[inline(always)]
+fn write_placed_position(
+    row: &mut [u8],
+    at: usize,
+    place: &Place,
+    order: Order,
+    bytes: &[u8],
+) -> (bool, usize)
+    requires known { IsKnown place.now }
+    requires within { place.now.offset + place.now.field.size ≤ length bytes.now }
+    requires room { at + 48 ≤ length row.old }
+    ensures size { length row.new ≡ length row.old }
+    ensures within { result.1 ≤ at + 48 }
+    ensures none { result.0 ≡ false → result.1 ≡ at }
+    ensures cell { PutsCell (if place.now.field.code == 0x85
+        then option_map (λ s. fixed_text (degrees_of s) 7)
+        (first_number place.now.field (items_at place.now order bytes.now)) else None)
+        result.0 (take at row.old) (take result.1 row.new) }
+{
+    if place.kind == Kind::Semicircles {
+        return write_position_at(row, at, &place.of_kind(Kind::Semicircles), order, bytes);
+    }
+    write_other_position(row, at, place, order, bytes)
+}
+
 /// The numbers of a record message in its bytes.
 #[derive(Drop)]
 pub(crate) struct NumbersInBytes<'a> {
@@ -288,7 +389,7 @@ impl<'a> RecordNumbers for NumbersInBytes<'a> {
     fn write_value(&self, row: &mut [u8], at: usize, number: u8) -> (bool, usize) {
         match self.places.column(number) {
             Column::Absent => (false, at),
-            Column::At(place) => write_value_at(row, at, place, self.order, self.bytes),
+            Column::At(place) => write_placed(row, at, number, place, self.order, self.bytes),
         }
     }
 
@@ -296,7 +397,7 @@ impl<'a> RecordNumbers for NumbersInBytes<'a> {
     fn write_position(&self, row: &mut [u8], at: usize, number: u8) -> (bool, usize) {
         match self.places.column(number) {
             Column::Absent => (false, at),
-            Column::At(place) => write_position_at(row, at, place, self.order, self.bytes),
+            Column::At(place) => write_placed_position(row, at, place, self.order, self.bytes),
         }
     }
 

@@ -14,8 +14,8 @@ ghost use Rattle.fit_rows.specs.inner.Reporting.{AnswerFits, records_after_answe
 ghost use Rattle.fit_rows.specs.Table.{table_message_rows, table_record_rows};
 ghost use Rattle.fit_rows.specs.inner.TableCells.{files_after_answer, rows_in, table_answer_rows};
 
-use crate::tables::front::Firsts;
 use crate::tables::maker::{TableMaker, put_message_row, put_table_row};
+use crate::tables::rows::TableRowMaker;
 use fit_decode::{Decoder, Event};
 use fit_profile::laws::looking_back_is_learning;
 use fit_profile::message_number::RECORD;
@@ -42,14 +42,14 @@ fn row_of(message: Option<Message>) -> Option<Message>
 /// Puts the text of the row of a record message, where there is one.
 fn put_text(
     text: &mut Vec<u8>,
-    firsts: &mut Firsts,
+    rows: &mut TableRowMaker,
     message: &Option<Message>,
     file: u64,
 ) -> Result<(), AllocError>
     ensures { OnOk result (text.new.items ≡ text.old.items ++ csv_text (rows_in file message.now)) }
 {
     match message {
-        Some(message) => put_table_row(text, firsts, message, file),
+        Some(message) => put_table_row(text, rows, message, file),
         None => Ok(()),
     }
 }
@@ -57,7 +57,7 @@ fn put_text(
 /// Takes a record in, and puts the text of its row in the file of this number.
 fn take_record(
     text: &mut Vec<u8>,
-    firsts: &mut Firsts,
+    rows: &mut TableRowMaker,
     stream: &mut Stream,
     file: u64,
     record_: &Record,
@@ -68,7 +68,7 @@ fn take_record(
     ensures stream { OnOk result (stream.new ≡ record_.now ∷ stream.old) }
 {
     let message = row_of(stream.push(record_)?);
-    put_text(text, firsts, &message, file)
+    put_text(text, rows, &message, file)
 }
 
 /// Puts the text of the row of the data message that the bytes are, where it can be made of these. Whether it did.
@@ -110,6 +110,29 @@ fn record_of(alloc: Global, stream: &Stream, bytes: &[u8]) -> Result<Record, All
     }
 }
 
+/// Takes in the data message that the bytes are by the record that they are, and puts the text of its row in the file of this number.
+#[cold]
+#[inline(never)]
+fn take_whole(
+    text: &mut Vec<u8>,
+    maker: &mut TableMaker,
+    stream: &mut Stream,
+    file: u64,
+    bytes: &[u8],
+) -> Result<(), AllocError>
+    requires record_ { (v : Values Global) × IsRecord (known stream.old) (Data v) bytes.now }
+    ensures text { OnOk result ((v : Values Global)
+        → IsRecord (known stream.old) (Data v) bytes.now → text.new.items
+        ≡ text.old.items ++ csv_text (table_message_rows file stream.old v)) }
+    ensures stream { OnOk result ((v : Values Global)
+        → IsRecord (known stream.old) (Data v) bytes.now → stream.new ≡ Data v ∷ stream.old) }
+    ensures current { AreCurrent column_fields maker.new.columns stream.new }
+{
+    maker.columns.forget();
+    let record_ = record_of(maker.alloc, stream, bytes)?;
+    take_record(text, &mut maker.rows, stream, file, &record_)
+}
+
 /// Takes in the data message that the bytes are, and puts the text of its row in the file of this number.
 fn take_message(
     text: &mut Vec<u8>,
@@ -130,16 +153,14 @@ fn take_message(
     if put_message(text, maker, stream, file, bytes)? {
         return stream.take_message(bytes);
     }
-    maker.columns.forget();
-    let record_ = record_of(maker.alloc, stream, bytes)?;
-    take_record(text, &mut maker.firsts, stream, file, &record_)
+    take_whole(text, maker, stream, file, bytes)
 }
 
 /// Takes an event in, and puts the text of its row. A header begins a file.
 #[tactic(auto, using(fit_cells::proofs::AddedRows::text_none))]
 fn take_event(
     text: &mut Vec<u8>,
-    firsts: &mut Firsts,
+    rows: &mut TableRowMaker,
     stream: &mut Stream,
     files: &mut u64,
     event: &Event,
@@ -157,7 +178,7 @@ fn take_event(
             *files += 1;
             Ok(())
         }
-        Event::Item(record_) => take_record(text, firsts, stream, *files, record_),
+        Event::Item(record_) => take_record(text, rows, stream, *files, record_),
         Event::More | Event::FileEnd => Ok(()),
     }
 }
@@ -210,7 +231,7 @@ impl Report for TableReport {
         self.maker.columns.forget();
         take_event(
             text,
-            &mut self.maker.firsts,
+            &mut self.maker.rows,
             &mut self.stream,
             &mut self.files,
             event,

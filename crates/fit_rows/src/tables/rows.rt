@@ -14,7 +14,7 @@ ghost use Rattle.fit_rows.specs.inner.TableColumns.{is_tabled};
 
 use crate::tables::front::{Firsts, Front, put_first, write_byte};
 use crate::tables::numbers::RecordNumbers;
-use std::alloc::AllocError;
+use std::alloc::{AllocError, Global};
 
 /// How many bytes a row has at most, where what it begins with is short.
 const ROW_SIZE: usize = 477;
@@ -169,46 +169,78 @@ fn add_numbers<N: RecordNumbers>(row: &mut [u8], at: usize, numbers: &N) -> usiz
     write_byte(row, at, b'\n')
 }
 
-/// Puts the numbers of a row and the end of its line after a text, with bytes that are cut off after it.
-fn put_numbers<N: RecordNumbers>(text: &mut Vec<u8>, numbers: &N) -> Result<(), AllocError>
-    requires { AreSome (N.are_of numbers.now) }
+/// Puts the first bytes of a row after a text.
+#[inline(always)]
+fn put_written(text: &mut Vec<u8>, row: &[u8], end: usize) -> Result<(), AllocError>
+    requires { end ≤ length row.now }
+    ensures { OnOk result (text.new.items ≡ text.old.items ++ take end row.now) }
+{
+    let (written, _) = row.split_at(end);
+    text.extend_from_slice(written)
+}
+
+/// Puts the numbers of a row and the end of its line after a text, by bytes that they are written into first.
+fn put_numbers<N: RecordNumbers>(
+    text: &mut Vec<u8>,
+    row: &mut [u8],
+    numbers: &N,
+) -> Result<(), AllocError>
+    requires numbers { AreSome (N.are_of numbers.now) }
+    requires room { 477 ≤ length row.old }
     ensures { OnOk result ((d : MessageDef Global) (v : Values Global) (t : Told)
         → N.are_of numbers.now d v t
         → EndsRow (place_cells d v t ++ effort_cells d v t) text.old.items text.new.items) }
 {
-    let start = text.len();
-    text.extend_from_slice(&[0; ROW_SIZE])?;
-    let end = add_numbers(text.as_mut_slice(), start, numbers);
-    text.truncate(end);
-    Ok(())
+    let end = add_numbers(row, 0, numbers);
+    put_written(text, row, end)
 }
 
-/// Puts a row of which it is known what it begins with after a text, with bytes that are cut off after it.
+/// Puts a row of which it is known what it begins with after a text, by bytes that it is written into first.
+#[inline(always)]
 fn put_begun<N: RecordNumbers>(
     text: &mut Vec<u8>,
+    row: &mut [u8],
     front: &Front,
     time: u32,
     numbers: &N,
 ) -> Result<(), AllocError>
     requires numbers { AreSome (N.are_of numbers.now) }
     requires minute { time / 60 ≡ front.now.1 }
+    requires room { 477 ≤ length row.old }
     ensures { OnOk result ((d : MessageDef Global) (v : Values Global) (t : Told)
         → N.are_of numbers.now d v t
         → EndsRow (place_cells d v t ++ effort_cells d v t)
         (text.old.items ++ (decimal front.now.0 ++ (44 ∷ instant_text time))) text.new.items) }
 {
-    let start = text.len();
-    text.extend_from_slice(&[0; ROW_SIZE])?;
-    let at = front.write(text.as_mut_slice(), start, time);
-    let end = add_numbers(text.as_mut_slice(), at, numbers);
-    text.truncate(end);
-    Ok(())
+    let at = front.write(row, 0, time);
+    let end = add_numbers(row, at, numbers);
+    put_written(text, row, end)
 }
 
-/// Puts the row of a record message of a file after a text, by its time and its numbers.
-pub(crate) fn put_row<N: RecordNumbers>(
+/// What rows are put with, one after another.
+#[derive(Drop)]
+pub(crate) struct TableRowMaker {
+    firsts: Firsts,
+    /// The bytes that a row is written into. They stay as they are until the next one.
+    row: [u8; ROW_SIZE],
+}
+
+impl TableRowMaker {
+    /// It has put no row.
+    pub(crate) fn new(alloc: Global) -> TableRowMaker {
+        TableRowMaker {
+            firsts: Firsts::new(alloc),
+            row: [0; ROW_SIZE],
+        }
+    }
+}
+
+/// Puts the row of a record message of a file after a text, and finds out what the rows of its minute begin with.
+#[cold]
+#[inline(never)]
+fn put_first_row<N: RecordNumbers>(
     text: &mut Vec<u8>,
-    firsts: &mut Firsts,
+    maker: &mut TableRowMaker,
     file: u64,
     time: Option<u32>,
     numbers: &N,
@@ -218,10 +250,30 @@ pub(crate) fn put_row<N: RecordNumbers>(
         → N.are_of numbers.now d v t → time ≡ t.time
         → HasRows (table.table_row file d v t ∷ []) text.old text.new) }
 {
-    firsts.learn(file, time)?;
-    if let Some((front, time)) = firsts.front_of(file, time) {
-        return put_begun(text, front, time, numbers);
+    maker.firsts.renew(file, time)?;
+    if let Some((front, time)) = maker.firsts.front_of(file, time) {
+        return put_begun(text, &mut maker.row, front, time, numbers);
     }
     put_first(text, file, time)?;
-    put_numbers(text, numbers)
+    put_numbers(text, &mut maker.row, numbers)
+}
+
+/// Puts the row of a record message of a file after a text, by its time and its numbers.
+#[inline(always)]
+pub(crate) fn put_row<N: RecordNumbers>(
+    text: &mut Vec<u8>,
+    maker: &mut TableRowMaker,
+    file: u64,
+    time: Option<u32>,
+    numbers: &N,
+) -> Result<(), AllocError>
+    requires { AreSome (N.are_of numbers.now) }
+    ensures { OnOk result ((d : MessageDef Global) (v : Values Global) (t : Told)
+        → N.are_of numbers.now d v t → time ≡ t.time
+        → HasRows (table.table_row file d v t ∷ []) text.old text.new) }
+{
+    if let Some((front, time)) = maker.firsts.front_of(file, time) {
+        return put_begun(text, &mut maker.row, front, time, numbers);
+    }
+    put_first_row(text, maker, file, time, numbers)
 }

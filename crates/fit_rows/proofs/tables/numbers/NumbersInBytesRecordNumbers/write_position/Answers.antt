@@ -4,14 +4,14 @@ use Rattle.fit_rows.proofs.TableNumbers.{puts_none}
 use Rattle.fit_rows.specs.declared.tables.columns.Column.{Column}
 use Rattle.fit_rows.proofs.tables.numbers.NumbersInBytesRecordNumbers.write_position.Goals as goal
 
-pub write_position_at-requires-clause-known : goal.write_position_at-requires-clause-known
-write_position_at-requires-clause-known c =
+pub write_placed_position-requires-clause-known : goal.write_placed_position-requires-clause-known
+write_placed_position-requires-clause-known c =
     let are = c.requires.numbers.3 in
     (subst (λ (column : Column). IsColumn c.requires.numbers.0.fields c.args.number column) c.in-At.is
     (c.column.ensures c.requires.numbers.0.fields are.places)).known
 
-pub write_position_at-requires-clause-within : goal.write_position_at-requires-clause-within
-write_position_at-requires-clause-within c =
+pub write_placed_position-requires-clause-within : goal.write_placed_position-requires-clause-within
+write_placed_position-requires-clause-within c =
     let are = c.requires.numbers.3 in
     let first = subst (λ (column : Column). IsColumn c.requires.numbers.0.fields c.args.number column) c.in-At.is
     (c.column.ensures c.requires.numbers.0.fields are.places) in
@@ -29,7 +29,7 @@ returns-in-At-clause-cell c d v t are =
     let o = c.args.self.now.order in
     let bytes = c.args.self.now.bytes.now in
     let first = subst (λ (column : Column). IsColumn d.fields c.args.number column) c.in-At.is (c.column.ensures d.fields are.places) in
-    subst (λ cell. PutsCell cell c.write_position_at.result.0 (take c.args.at c.args.row.now)
-    (take c.write_position_at.result.1 c.write_position_at.new.row))
+    subst (λ cell. PutsCell cell c.write_placed_position.result.0 (take c.args.at c.args.row.now)
+    (take c.write_placed_position.result.1 c.write_placed_position.new.row))
     (sym (placed_degrees d v c.args.number p.field (items_at p o bytes) (first_at p o bytes d v c.args.number first are.fields)))
-    c.write_position_at.ensures.cell
+    c.write_placed_position.ensures.cell

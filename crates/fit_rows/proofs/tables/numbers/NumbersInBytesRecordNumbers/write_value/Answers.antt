@@ -4,14 +4,14 @@ use Rattle.fit_rows.proofs.TableNumbers.{puts_none}
 use Rattle.fit_rows.specs.declared.tables.columns.Column.{Column}
 use Rattle.fit_rows.proofs.tables.numbers.NumbersInBytesRecordNumbers.write_value.Goals as goal
 
-pub write_value_at-requires-clause-known : goal.write_value_at-requires-clause-known
-write_value_at-requires-clause-known c =
+pub write_placed-requires-clause-known : goal.write_placed-requires-clause-known
+write_placed-requires-clause-known c =
     let are = c.requires.numbers.3 in
     (subst (λ (column : Column). IsColumn c.requires.numbers.0.fields c.args.number column) c.in-At.is
     (c.column.ensures c.requires.numbers.0.fields are.places)).known
 
-pub write_value_at-requires-clause-within : goal.write_value_at-requires-clause-within
-write_value_at-requires-clause-within c =
+pub write_placed-requires-clause-within : goal.write_placed-requires-clause-within
+write_placed-requires-clause-within c =
     let are = c.requires.numbers.3 in
     let first = subst (λ (column : Column). IsColumn c.requires.numbers.0.fields c.args.number column) c.in-At.is
     (c.column.ensures c.requires.numbers.0.fields are.places) in
@@ -28,5 +28,5 @@ returns-in-At-clause-cell c d v t are =
     let p = c.in-At.place in
     let first = subst (λ (column : Column). IsColumn d.fields c.args.number column) c.in-At.is (c.column.ensures d.fields are.places) in
     let is = value_in p c.args.self.now.order c.args.self.now.bytes.now d v c.args.number first are.global are.fields in
-    subst (λ cell. PutsCell cell c.write_value_at.result.0 (take c.args.at c.args.row.now) (take c.write_value_at.result.1 c.write_value_at.new.row)) is.2
-    (c.write_value_at.ensures.cell is.0 is.1)
+    subst (λ cell. PutsCell cell c.write_placed.result.0 (take c.args.at c.args.row.now) (take c.write_placed.result.1 c.write_placed.new.row)) is.2
+    (c.write_placed.ensures.cell is.0 is.1)
