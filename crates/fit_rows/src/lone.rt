@@ -9,6 +9,7 @@ use fit_cells::{NumberForm, number_form};
 use fit_profile::Info;
 
 /// The form of a lone number of a field, where the field has as many bytes as it.
+#[inline(always)]
 pub(crate) fn lone_form(code: u8, size: u8, info: Option<Info>) -> Option<NumberForm>
     requires { IfSome info (λ i. IsScale i.scale) }
     ensures small { IfSome result IsSmallForm }

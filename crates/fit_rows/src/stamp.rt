@@ -2,7 +2,7 @@
 ghost use Rattle.std.specs.Prelude.{◌≡◌, ◌≤◌, ◌+◌, ◌++◌, IfOk, OnOk, length, take};
 ghost use Rattle.fit_rows.specs.inner.Sheets.{and_sheet};
 
-use crate::sheet::{Sheet, make_room, put_sheet};
+use crate::sheet::{SHEET_SIZE, Sheet, make_room, put_sheet};
 use std::alloc::AllocError;
 use std::marker::Model;
 
@@ -23,6 +23,27 @@ pub(crate) fn write_text(bytes: &mut [u8], at: usize, text: &[u8]) -> usize
     let end = at + text.len();
     bytes[at..end].copy_from_slice(text);
     end
+}
+
+/// Adds a text to what is written in a sheet, or puts it after a text and the sheet. Returns the place after what is written then.
+#[inline(always)]
+pub(crate) fn add_text(
+    text: &mut Vec<u8>,
+    sheet: &mut Sheet,
+    at: usize,
+    more: &[u8],
+) -> Result<usize, AllocError>
+    requires { at ≤ 1024 }
+    ensures place { IfOk result (λ end. end ≤ 1024) }
+    ensures text { IfOk result (λ end. and_sheet text.new.items sheet.new end
+        ≡ and_sheet text.old.items sheet.old at ++ more.now) }
+{
+    if more.len() > SHEET_SIZE - at {
+        put_sheet(text, sheet, at)?;
+        text.extend_from_slice(more)?;
+        return Ok(0);
+    }
+    Ok(write_text(sheet, at, more))
 }
 
 /// A text that is put after many others. One that isn't long takes a copy of a fixed number of bytes, of which those after it are cut

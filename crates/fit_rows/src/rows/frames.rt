@@ -18,7 +18,7 @@ pub(crate) mod likely;
 use crate::floats::{is_lone_float, put_float};
 use crate::lone::lone_form;
 use crate::sheet::{Sheet, put_sheet};
-use crate::stamp::Stamp;
+use crate::stamp::{Stamp, add_text};
 use fit_base::{Code, Items, Order, bits_at};
 use fit_cells::{
     NumberForm, RowWriter, ShownText, formed, is_never_quoted, put_cell, shown_text, write_formed,
@@ -61,22 +61,29 @@ pub(crate) fn put_tail(
     text.extend_from_slice(b",,\n")
 }
 
-/// Puts the text of a string after a text, in quotes where it needs them.
+/// Puts the text of a string, in quotes where it needs them.
 #[inline(always)]
 #[tactic(auto, using(crate::proofs::TextCells::unquoted))]
-fn put_shown(
+fn add_shown(
     text: &mut Vec<u8>,
+    sheet: &mut Sheet,
+    at: usize,
     writer: &mut RowWriter,
     shown: ShownText<'_>,
-) -> Result<(), AllocError>
-    requires { shown.needs_quotes ≡ needs_quotes default_writer shown.text.now }
-    ensures { OnOk result (text.new.items
-        ≡ text.old.items ++ field_text default_writer shown.entry.text.now) }
+) -> Result<usize, AllocError>
+    requires place { at ≤ 1024 }
+    requires quotes { shown.needs_quotes ≡ needs_quotes default_writer shown.text.now }
+    ensures place { IfOk result (λ end. end ≤ 1024) }
+    ensures text { IfOk result (λ end. and_sheet text.new.items sheet.new end
+        ≡ and_sheet text.old.items sheet.old at
+        ++ field_text default_writer shown.entry.text.now) }
 {
     if shown.needs_quotes {
-        return writer.put_lone(text, shown.text);
+        put_sheet(text, sheet, at)?;
+        writer.put_lone(text, shown.text)?;
+        return Ok(0);
     }
-    text.extend_from_slice(shown.text)
+    add_text(text, sheet, at, shown.text)
 }
 
 /// What stands between the value before and one's own, and how one's own is read.
@@ -242,26 +249,35 @@ impl Frame {
         self.put_other(text, writer, value, &items)
     }
 
-    /// Puts the value of a string after a text, by the bytes of its field.
+    /// Puts the value of a string, by the bytes of its field.
     #[inline(never)]
-    fn put_string(
+    fn add_string(
         &self,
         text: &mut Vec<u8>,
+        sheet: &mut Sheet,
+        at: usize,
         writer: &mut RowWriter,
         value: &mut Vec<u8>,
         alloc: Global,
         order: Order,
         bytes: &[u8],
-    ) -> Result<(), AllocError>
+    ) -> Result<usize, AllocError>
+        requires place { at ≤ 1024 }
         requires class { (base_type self.now.code).class ≡ Text }
         requires length { length bytes.now ≡ self.now.size }
-        ensures { OnOk result (text.new.items ≡ text.old.items
+        ensures place { IfOk result (λ end. end ≤ 1024) }
+        ensures text { IfOk result (λ end. and_sheet text.new.items sheet.new end
+            ≡ and_sheet text.old.items sheet.old at
             ++ field_text default_writer (cell self.now.code self.now.info
             (field_from {A = Global} order (self.now.code, self.now.size) bytes.now))) }
     {
         match shown_text(bytes) {
-            Some(shown) => put_shown(text, writer, shown),
-            None => self.put_rest(text, writer, value, alloc, order, bytes),
+            Some(shown) => add_shown(text, sheet, at, writer, shown),
+            None => {
+                put_sheet(text, sheet, at)?;
+                self.put_rest(text, writer, value, alloc, order, bytes)?;
+                Ok(0)
+            }
         }
     }
 
@@ -281,9 +297,6 @@ impl Frame {
             ++ field_text default_writer (cell self.now.code self.now.info
             (field_from {A = Global} order (self.now.code, self.now.size) bytes.now))) }
     {
-        if self.is_text {
-            return self.put_string(text, writer, value, alloc, order, bytes);
-        }
         if self.is_float {
             return put_float(text, self.size, order, bytes);
         }
@@ -315,6 +328,9 @@ impl Frame {
         if let Some(form) = self.lone() {
             let bits = bits_at(order, form.width, bytes);
             return Ok(write_formed(sheet, at, form, bits));
+        }
+        if self.is_text {
+            return self.add_string(text, sheet, at, writer, value, alloc, order, bytes);
         }
         put_sheet(text, sheet, at)?;
         self.put_read(text, writer, value, alloc, order, bytes)?;

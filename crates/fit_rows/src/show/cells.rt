@@ -14,6 +14,7 @@ ghost use Rattle.fit_rows.specs.inner.Sheets.{and_sheet};
 use crate::floats::{is_lone_float, put_float};
 use crate::lone::lone_form;
 use crate::sheet::{Sheet, put_sheet};
+use crate::stamp::add_text;
 use fit_base::base_type::BYTE;
 use fit_base::{Code, Items, Order, bits_at};
 use fit_cells::{NumberForm, formed, is_never_quoted, put_cell, shown_text, write_formed};
@@ -171,14 +172,38 @@ impl ShownCell {
             ++ shown_cell self.now.code self.now.info
             (field_from {A = Global} order (self.now.code, self.now.size) bytes.now)) }
     {
-        if let Some(shown) = self.plain_text(bytes) {
-            return text.extend_from_slice(shown);
-        }
         if self.is_float {
             return put_float(text, self.size, order, bytes);
         }
         let items = read_items(alloc, order, self.code, self.size, bytes)?;
         self.put_other(text, &items)
+    }
+
+    /// Puts the cell of what is no lone number of at most four bytes, by the bytes of the field.
+    #[inline(never)]
+    fn add_read(
+        &self,
+        text: &mut Vec<u8>,
+        sheet: &mut Sheet,
+        at: usize,
+        alloc: Global,
+        order: Order,
+        bytes: &[u8],
+    ) -> Result<usize, AllocError>
+        requires place { at ≤ 1024 }
+        requires length { length bytes.now ≡ self.now.size }
+        ensures place { IfOk result (λ end. end ≤ 1024) }
+        ensures text { IfOk result (λ end. and_sheet text.new.items sheet.new end
+            ≡ and_sheet text.old.items sheet.old at
+            ++ shown_cell self.now.code self.now.info
+            (field_from {A = Global} order (self.now.code, self.now.size) bytes.now)) }
+    {
+        if let Some(shown) = self.plain_text(bytes) {
+            return add_text(text, sheet, at, shown);
+        }
+        put_sheet(text, sheet, at)?;
+        self.put_read(text, alloc, order, bytes)?;
+        Ok(0)
     }
 
     /// Puts the cell by the bytes of the field.
@@ -204,8 +229,6 @@ impl ShownCell {
             let bits = bits_at(order, form.width, bytes);
             return Ok(write_formed(sheet, at, form, bits));
         }
-        put_sheet(text, sheet, at)?;
-        self.put_read(text, alloc, order, bytes)?;
-        Ok(0)
+        self.add_read(text, sheet, at, alloc, order, bytes)
     }
 }
