@@ -140,17 +140,20 @@ fn put_byte(written: &mut Vec<u8>, byte: u8) -> Option<()>
     }
 }
 
-/// How many bytes come before the first that a cell without quotes can't have, where one step is enough for them.
-#[inline(always)]
-fn bare_length(text: &[u8]) -> Option<usize>
+/// Writes the bytes before the first that a cell without quotes can't have, and returns how many they are, where one step is enough for
+/// them.
+fn put_bare(written: &mut Vec<u8>, text: &[u8]) -> Option<usize>
     ensures within { IfSome result (λ shown. shown ≤ length text.now) }
     ensures bare { IfSome result (λ shown.
         (k : ℕ) → k < shown → is_special (slice_index text.now k) ≡ false) }
+    ensures put { IfSome result (λ shown.
+        written.new.items ≡ written.old.items ++ take shown text.now) }
 {
     for i in 0..text.len().min(STEP_SIZE) {
         if special(text[i]) {
             return Some(i);
         }
+        put_byte(written, text[i])?;
     }
     None
 }
@@ -243,11 +246,13 @@ fn take_quoted<'a>(written: &mut Vec<u8>, text: &'a [u8]) -> Option<&'a [u8]>
     ensures { IfSome result (λ left.
         WritesOn (34 ∷ text.now) left.now written.old.items written.new.items) }
 {
-    let shown = bare_length(text)?;
-    if let Some(after) = after_bare(spot_of(written.as_slice()), text, shown) {
-        put(written, &text[..shown])?;
+    let spot = spot_of(written.as_slice());
+    let before = written.len();
+    let shown = put_bare(written, text)?;
+    if let Some(after) = after_bare(spot, text, shown) {
         return end_cell(written, after);
     }
+    written.truncate(before);
     take_kept(written, text)
 }
 
