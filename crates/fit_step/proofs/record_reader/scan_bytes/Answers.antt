@@ -1,4 +1,5 @@
-use Rattle.fit_step.proofs.Common.{◌≡◌, ◌<◌, ◌++◌, length, take, get_or, refl, sym, ◌∙◌, subst, arith, IsInProgress, slice_is_bytes, state_at, StandsWithRoom, None, step, tests_of}
+use Rattle.fit_step.proofs.Common.{◌≡◌, ◌<◌, ◌++◌, length, take, get_or, refl, sym, ◌∙◌, subst, arith, IsInProgress}
+use Rattle.fit_step.proofs.Common.{slice_is_bytes, state_at, StandsWithRoom, None, step, tests_of}
 use Rattle.fit_step.proofs.ReadBytes.{byte_ends, byte_goes, record_ends, record_stops, record_goes, stands_on}
 use Rattle.fit_step.proofs.record_reader.scan_bytes.Goals as goal
 
