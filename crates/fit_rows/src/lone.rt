@@ -9,15 +9,14 @@ use fit_cells::{NumberForm, number_form};
 use fit_profile::Info;
 
 /// The form of a lone number of a field, where the field has as many bytes as it.
-#[inline(always)]
 pub(crate) fn lone_form(code: u8, size: u8, info: Option<Info>) -> Option<NumberForm>
     requires { IfSome info (λ i. IsScale i.scale) }
     ensures small { IfSome result IsSmallForm }
     ensures width { IfSome result (λ f. f.width ≡ size) }
     ensures form { IfSome result (IsFormOf code (option_map meaning info)) }
 {
-    match number_form(Code(code), info) {
-        Some(form) if form.width == size => Some(form),
-        _ => None,
+    if Code(code).width() != size {
+        return None;
     }
+    number_form(Code(code), info)
 }

@@ -9,8 +9,8 @@ use std::marker::Model;
 /// How many bytes a short text has at most.
 pub(crate) const SHORT: usize = 32;
 
-/// How many bytes a text has at most that is written in a sheet.
-const WIDE: usize = 64;
+/// How many bytes a text has at most that is written in a sheet, and how many are set aside for such a text.
+pub(crate) const WIDE: usize = 64;
 
 /// Writes a text into bytes from a place on. Returns the place after it.
 #[inline(always)]

@@ -11,7 +11,7 @@ use crate::kept::developer::KeptDev;
 use crate::sheet::Sheet;
 use crate::show::cells::ShownCell;
 use crate::show::fields::{put_name, put_words, separator};
-use crate::stamp::Stamp;
+use crate::stamp::{Stamp, WIDE};
 use crate::words::unit_text;
 use fit_profile::{Info, field_info, field_label};
 use fit_record::FieldDef;
@@ -110,7 +110,7 @@ impl ShownField {
           info = option_map meaning info;
         }) }
     {
-        let mut full = Vec::new(alloc);
+        let mut full = Vec::with_capacity(alloc, WIDE)?;
         put_spaced(&mut full, unit)?;
         full.extend_from_slice(head.as_slice())?;
         Ok(ShownField {
@@ -164,7 +164,7 @@ pub(crate) fn shown_fields(
     let mut shown = Vec::new(alloc);
     for (place, field) in fields.iter().enumerate() {
         let (_, others) = fields.split_at(place + 1);
-        let mut head = Vec::new(alloc);
+        let mut head = Vec::with_capacity(alloc, WIDE)?;
         put_head(&mut head, place + 1, global, others, end)?;
         let info = field_info(global, field.number);
         let unit = unit_text(info).as_bytes();
@@ -187,7 +187,7 @@ pub(crate) fn push_devs(
 {
     for (place, dev) in devs.iter().enumerate() {
         let (_, others) = devs.split_at(place + 1);
-        let mut head = Vec::new(alloc);
+        let mut head = Vec::with_capacity(alloc, WIDE)?;
         put_dev_head(&mut head, before + (place + 1), others)?;
         let unit = dev.unit.as_slice();
         shown.push(ShownField::new(alloc, unit, dev.code, dev.size, None, head)?)?;

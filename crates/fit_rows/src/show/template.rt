@@ -17,7 +17,7 @@ use crate::minutes::Times;
 use crate::sheet::{SHEET_SIZE, Sheet, put_sheet};
 use crate::show::fields::put_words;
 use crate::show::frames::{ShownField, push_devs, put_dev_head, put_head, shown_fields};
-use crate::stamp::Stamp;
+use crate::stamp::{Stamp, WIDE};
 use fit_profile::{Stream, message_label};
 use fit_record::Defined;
 use itoa::Buffer;
@@ -64,7 +64,7 @@ fn put_fields<S: FieldItems>(
 fn front(alloc: Global, local: u8, global: u16) -> Result<Stamp, AllocError>
     ensures { IfOk result (λ s. s ≡ line_front local global) }
 {
-    let mut text = Vec::new(alloc);
+    let mut text = Vec::with_capacity(alloc, WIDE)?;
     put_front(&mut text, local, global)?;
     Stamp::new(text)
 }
@@ -73,7 +73,7 @@ fn front(alloc: Global, local: u8, global: u16) -> Result<Stamp, AllocError>
 fn timed_front(alloc: Global, local: u8, global: u16) -> Result<Stamp, AllocError>
     ensures { IfOk result (λ s. s ≡ line_front local global ++ codes " ") }
 {
-    let mut text = Vec::new(alloc);
+    let mut text = Vec::with_capacity(alloc, WIDE)?;
     put_front(&mut text, local, global)?;
     text.push(b' ')?;
     Stamp::new(text)
@@ -126,7 +126,7 @@ impl LineTemplate {
         let fields = definition.fields.as_slice();
         let mut end = Vec::new(alloc);
         put_dev_head(&mut end, fields.len(), devs)?;
-        let mut head = Vec::new(alloc);
+        let mut head = Vec::with_capacity(alloc, WIDE)?;
         put_head(&mut head, 0, global, fields, end.as_slice())?;
         let mut shown = shown_fields(alloc, global, fields, end.as_slice())?;
         push_devs(alloc, &mut shown, fields.len(), devs)?;

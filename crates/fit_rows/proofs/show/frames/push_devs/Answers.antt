@@ -14,7 +14,7 @@ loop-place-preserved c =
     let kept = c.dev.inside in
     let next = first_head (before + (k + 1)) (map dev_field_part (drop (k + 1) devs)) (codes "\n") in
     let head : c.put_dev_head.new.text.items ≡ next = c.in_ok-put_dev_head.ensures
-    ∙ ap₂ (λ t others. t ++ first_head (before + (k + 1)) (map dev_field_part others) (codes "\n")) c.new-head.ensures.items c.split_at.ensures.back in
+    ∙ ap₂ (λ t others. t ++ first_head (before + (k + 1)) (map dev_field_part others) (codes "\n")) c.in_ok-head.ensures.items c.split_at.ensures.back in
     let item = c.in_ok-new.ensures
     ∙ ap₂ (λ (u t : List ℕ). shown_key (record { name = []; unit = u; code = kept.code; size = kept.size; info = None }) t) c.as_slice-unit.ensures.value head
     ∙ ap (λ (d : DevKey). shown_key (dev_field_part d) next) (c.dev.view_is ∙ c.index-devs-place.is) in

@@ -16,7 +16,7 @@ loop-place-preserved c =
     let f = get_or fields k nothing in
     let next = first_head (0 + (k + 1)) (map (field_part global) (drop (k + 1) fields)) end in
     let head : c.put_head.new.text.items ≡ next = c.in_ok-put_head.ensures
-    ∙ ap₂ (λ t others. t ++ first_head (k + 1) (map (field_part global) others) end) c.new-head.ensures.items c.split_at.ensures.back
+    ∙ ap₂ (λ t others. t ++ first_head (k + 1) (map (field_part global) others) end) c.in_ok-head.ensures.items c.split_at.ensures.back
     ∙ ap (λ n. first_head n (map (field_part global) (drop (k + 1) fields)) end) (omega arith) in
     let meant = c.field_info-info.ensures.table in
     let unit : c.as_bytes-unit.result.now ≡ unit_text (field global f.number) =
