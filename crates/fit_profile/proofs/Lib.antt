@@ -1,4 +1,5 @@
 pub mod Common
+mod CounterBytes
 mod FieldPlaces
 pub mod FirstField
 mod InBytes

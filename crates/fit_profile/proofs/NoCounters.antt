@@ -1,7 +1,7 @@
 -- A message without a field for a component has no number of it.
 use Rattle.fit_profile.proofs.Common.{◌≡◌, ℕ, List, ◌∷◌, None, true, false, inl, inr, refl, ap, sym, ◌∙◌, list_any, cases_Bool, or_parts, both_ways, Items}
 use Rattle.fit_profile.proofs.Common.{FieldDef, MessageDef, Values, first_field, number_of, Some, told_at, last_after, tell}
-use Rattle.fit_profile.proofs.Common.{Defined, Environment, defined_at, described_by}
+use Rattle.fit_profile.proofs.Common.{Defined, Environment, defined_at, described_by, IsSomeAnd, Option}
 use Rattle.std.proofs.Common.{◌==◌, ◌&&◌}
 use Rattle.std.specs.Prelude.{◌||◌}
 use Rattle.fit_record.specs.declared.message.Record.TheVariants.{Values as Data}
@@ -12,7 +12,7 @@ use Rattle.fit_profile.specs.Accumulated as sums
 use Rattle.fit_profile.specs.Times.{field_time, header_time}
 use Rattle.fit_profile.specs.declared.told.Last.{Last}
 use Rattle.fit_profile.specs.declared.told.Told.{Told}
-use Rattle.fit_profile.specs.Accumulated.{is_counter}
+use Rattle.fit_profile.specs.Accumulated.{is_counter, tells_more}
 
 no-field : {A : Type 0} (fields : List FieldDef) (items : List (Items A)) (number : ℕ) → is_counter number ≡ true
     → list_any (λ f. is_counter f.number) fields ≡ false → first_field fields items number ≡ None
@@ -67,3 +67,9 @@ tells e p l v known = rw known refl
 pub describes-nothing : {A : Type 0} (e : Environment A) (p : Defined A) (v : Values A) → defined_at e v.local ≡ Some p → (p.definition.global == 206) ≡ false
     → described_by e v ≡ None
 describes-nothing e p v known other = rw (known, other) refl
+
+-- a field description tells more than a time
+pub describes-more : {A : Type 0} (o : Option (Defined A)) → IsSomeAnd o (λ p. (p.definition.global == 206) ≡ true)
+    → IsSomeAnd o (λ p. tells_more p.definition ≡ true)
+describes-more None h = absurd h
+describes-more (Some p) h = rw h refl

@@ -3,6 +3,7 @@
 #![tactic(auto)]
 
 mod component;
+mod counter_places;
 pub mod field_number;
 mod label;
 pub mod laws;

@@ -1,5 +1,5 @@
 //! Data messages that a stream takes in by their bytes.
-ghost use Rattle.std.specs.Prelude.{◌≡◌, ◌++◌, ◌∷◌, [], length, true, false, IfOk, IsSomeAnd, None, Some, slice_index_or};
+ghost use Rattle.std.specs.Prelude.{◌≡◌, ◌==◌, ◌++◌, ◌∷◌, [], length, true, false, IfOk, IfSome, IsSomeAnd, None, Some, slice_index_or};
 ghost use Rattle.std.specs.declared.alloc.Global.{Global};
 ghost use Rattle.fit_record.specs.Environment.{defined_at, described_by};
 ghost use Rattle.fit_record.specs.Faults.{or_else};
@@ -8,14 +8,13 @@ ghost use Rattle.fit_record.specs.Records.{message_size, IsRecord};
 ghost use Rattle.fit_record.specs.Sound.{IsSound};
 ghost use Rattle.fit_record.specs.declared.message.Record.TheVariants.{Values as Data};
 ghost use Rattle.fit_record.specs.declared.message.Values.{Values};
-ghost use Rattle.fit_profile.specs.Accumulated.{tells_more};
 ghost use Rattle.fit_profile.specs.Times as times;
 ghost use Rattle.fit_profile.specs.Told as telling;
 ghost use Rattle.fit_profile.specs.inner.Plans.{ArePlanned, IsPlan, IsPlanned};
 
 use crate::plan::{Plan, Plans};
 use crate::time::header_time;
-use crate::told::{Last, with_time};
+use crate::told::{DISTANCE, Last, Told, accumulated, counted, last_after, speed, with_time};
 use fit_history::History;
 use fit_record::{Env, MessageBytes, Record};
 use std::alloc::{AllocError, Global};
@@ -49,6 +48,23 @@ fn time_of_message(previous: Option<u32>, plan: &Plan, message: &MessageBytes<'_
     }
 }
 
+/// What is told of a message by the last ones before it.
+fn told_of_message(last: Last, plan: &Plan, message: &MessageBytes<'_>) -> Told
+    requires plan { IsPlan plan.now message.now.defined.now.definition }
+    requires size { length message.now.body.now ≡ message_size message.now.defined.now }
+    ensures { result ≡ telling.told_at last message.now.defined.now.definition
+        (message_in message.now) }
+{
+    let time = time_of_message(last.time, plan, message);
+    let header_time = header_time(last.time, message.offset);
+    let distance = plan.counters.distance_in(message.body);
+    let cycles = plan.counters.cycles_in(message.body);
+    let power = plan
+        .counters
+        .power_in(message.defined.definition.order, message.body);
+    counted(last, time, header_time, distance, cycles, power)
+}
+
 /// The plan of the definition of a message.
 #[inline(always)]
 fn plan_of<'a>(plans: &'a Plans, message: &MessageBytes<'_>) -> &'a Plan
@@ -73,6 +89,24 @@ pub(crate) fn time_in(env: &Env, plans: &Plans, previous: Option<u32>, bytes: &[
     time_of_message(previous, plan_of(plans, &message), &message)
 }
 
+/// The speed and the accumulated distance of the data message that the bytes are, by the last ones before it.
+pub(crate) fn speed_and_distance(
+    env: &Env,
+    plans: &Plans,
+    last: Last,
+    bytes: &[u8],
+) -> (Option<u64>, Option<u64>)
+    requires plans { ArePlanned plans.now.places env.now.places }
+    requires message { (v : Values Global) × IsRecord env.now (Data v) bytes.now }
+    ensures { (v : Values Global) → IsRecord env.now (Data v) bytes.now
+        → IsSomeAnd (telling.tell env.now last (Data v))
+        (λ t. (result.0 ≡ t.speed) × (result.1 ≡ t.distance)) }
+{
+    let message = message_of(env, bytes);
+    let number = plan_of(plans, &message).counters.distance_in(message.body);
+    (speed(number), accumulated(DISTANCE, last.distance, number))
+}
+
 /// Puts a message in a history of records.
 fn add_message(records: &mut History<Record>, message: &MessageBytes<'_>)
     ensures { records.new.items ≡ records.old.items ++ Data (message_in message.now) ∷ [] }
@@ -80,8 +114,29 @@ fn add_message(records: &mut History<Record>, message: &MessageBytes<'_>)
     records.add_from(message);
 }
 
-/// Takes in the data message that the bytes are, where it tells nothing but a time. Whether it did.
-pub(crate) fn take_time(
+/// The last ones after a message. None where it is a field description.
+#[inline(always)]
+fn last_after_plain(last: Last, plan: &Plan, message: &MessageBytes<'_>) -> Option<Last>
+    requires plan { IsPlan plan.now message.now.defined.now.definition }
+    requires size { length message.now.body.now ≡ message_size message.now.defined.now }
+    ensures last { IfSome result (λ after. after ≡ telling.last_after last (Some
+        (telling.told_at last message.now.defined.now.definition (message_in message.now)))) }
+    ensures plain { IfSome result (λ _.
+        (message.now.defined.now.definition.global == 206) ≡ false) }
+    ensures describes { result ≡ None
+        → (message.now.defined.now.definition.global == 206) ≡ true }
+{
+    if !plan.tells_more {
+        return Some(with_time(last, time_of_message(last.time, plan, message)));
+    }
+    if plan.describes {
+        return None;
+    }
+    Some(last_after(last, Some(told_of_message(last, plan, message))))
+}
+
+/// Takes in the data message that the bytes are, where it is no field description. Whether it did.
+pub(crate) fn take_plain(
     env: &Env,
     plans: &Plans,
     last: &mut Last,
@@ -98,17 +153,19 @@ pub(crate) fn take_time(
         → described_by env.now v ≡ None }
     ensures last_kept { result ≡ false → last.new ≡ last.old }
     ensures records_kept { result ≡ false → records.new.items ≡ records.old.items }
-    ensures more { result ≡ false → (v : Values Global) → IsRecord env.now (Data v) bytes.now
-        → IsSomeAnd (defined_at env.now v.local) (λ p. tells_more p.definition ≡ true) }
+    ensures describes { result ≡ false → (v : Values Global) → IsRecord env.now (Data v) bytes.now
+        → IsSomeAnd (defined_at env.now v.local) (λ p. (p.definition.global == 206) ≡ true) }
 {
     let message = message_of(env, bytes);
     let plan = plan_of(plans, &message);
-    if plan.tells_more {
-        return false;
+    match last_after_plain(*last, plan, &message) {
+        None => false,
+        Some(after) => {
+            *last = after;
+            add_message(records, &message);
+            true
+        }
     }
-    *last = with_time(*last, time_of_message(last.time, plan, &message));
-    add_message(records, &message);
-    true
 }
 
 /// The record that the bytes of a data message are.

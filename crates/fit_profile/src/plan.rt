@@ -10,6 +10,7 @@ ghost use Rattle.fit_profile.specs.inner.Plans.{ArePlanned, IsPlan};
 ghost use Rattle.std.specs.Global.{Global};
 
 use crate::component::may_count;
+use crate::counter_places::CounterPlaces;
 use crate::field_number::TIMESTAMP;
 use crate::places::places_of;
 use crate::time::valid_time;
@@ -25,13 +26,15 @@ pub(crate) struct Plan {
     /// They are field descriptions.
     pub describes: bool,
     /// Where the four bytes of their timestamp begin in those of their fields.
-    pub time_place: Option<usize>,
+    pub time_place: Option<u16>,
+    /// Where their counters do.
+    pub counters: CounterPlaces,
     /// One more than the place of the first field of each number, and 0 where there is none.
     pub places: [u8; 256],
 }
 
 /// Where the bytes of the timestamp begin in those of fields.
-fn time_place(fields: &[FieldDef]) -> Option<usize>
+fn time_place(fields: &[FieldDef]) -> Option<u16>
     requires { length fields.now < 256 }
     ensures within { IfSome result (λ p. p + 4 ≤ sizes (slots fields.now)) }
     ensures time { (order : Order) (bytes : List ℕ)
@@ -45,7 +48,7 @@ fn time_place(fields: &[FieldDef]) -> Option<usize>
             }
             return Some(place);
         }
-        place += field.size as usize;
+        place += u16::from(field.size);
     }
     None
 }
@@ -67,6 +70,7 @@ impl Plan {
             tells_more: tells_more(definition),
             describes: definition.global == FIELD_DESCRIPTION,
             time_place: time_place(definition.fields.as_slice()),
+            counters: CounterPlaces::of(definition),
             places: places_of(definition.fields.as_slice()),
         }
     }
@@ -76,7 +80,7 @@ impl Plan {
         requires { IfSome self.now.time_place (λ p. p + 4 ≤ length bytes.now) }
         ensures { result ≡ plans.time_at order self.now.time_place bytes.now }
     {
-        let place = self.time_place?;
+        let place = self.time_place? as usize;
         let (_, after) = bytes.split_at(place);
         let (number, _) = after.split_at(4);
         valid_time(bits_at(order, 4, number))

@@ -1,5 +1,5 @@
 //! The records of a file, one after another, and what each message means by those before it.
-ghost use Rattle.std.specs.Prelude.{◌≡◌, ◌∷◌, [], OnOk, OnErr, IfOk, IfSome, IsOk, IsSome, IsSomeAnd, None, ⊤, MatchResult, Some, true, false, drop, option_map, option_and_then, slice_get};
+ghost use Rattle.std.specs.Prelude.{◌≡◌, ◌≤◌, ◌∷◌, [], OnOk, OnErr, IfOk, IfSome, IsOk, IsSome, IsSomeAnd, None, ⊤, MatchResult, Some, true, false, drop, option_map, option_and_then, slice_get};
 ghost use Rattle.std.specs.Borrow.{sem};
 ghost use Rattle.std.specs.declared.alloc.Global.{Global};
 ghost use mathlib.Core.Option.{none};
@@ -16,16 +16,19 @@ ghost use Rattle.fit_profile.specs.Meant.{MessageOf};
 ghost use Rattle.fit_profile.specs.Told.{told_of};
 ghost use Rattle.fit_profile.specs.Told as telling;
 ghost use Rattle.fit_profile.specs.Times as times;
+ghost use Rattle.fit_profile.specs.Values.{IsAmount};
 ghost use Rattle.fit_profile.specs.contracts.stream.Stream.{the_row};
 
+use crate::Fixed;
 use crate::learn::take_in;
 use crate::message::Message;
-use crate::message_bytes::{record_of, take_time, time_in};
+use crate::message_bytes::{record_of, speed_and_distance, take_plain, time_in};
 use crate::names::{Names, Texts};
 use crate::plain::tell_plain;
 use crate::plan::Plans;
 use crate::time::header_time;
 use crate::told::{Last, Told, last_after, last_after_record, tell, time_of};
+use crate::value::in_scale;
 use fit_history::History;
 use fit_record::{Env, Record, Values};
 use std::alloc::{AllocError, Global};
@@ -126,6 +129,21 @@ impl Stream {
             → result ≡ times.time self.now (Data v) }
     {
         time_in(&self.env, &self.plans, self.last.time, bytes)
+    }
+
+    /// The speed in compressed_speed_distance in m/s and the distance accumulated from it in m, of the data message in these bytes, as
+    /// `Message::speed` and `Message::distance` give them.
+    pub fn message_amounts(&self, bytes: &[u8]) -> (Option<Fixed>, Option<Fixed>)
+        requires { (v : Values Global) × IsRecord (known self.now) (Data v) bytes.now }
+        ensures speed { (v : Values Global) → IsRecord (known self.now) (Data v) bytes.now
+            → IsAmount 100 (telling.told self.now v).speed result.0 }
+        ensures distance { (v : Values Global) → IsRecord (known self.now) (Data v) bytes.now
+            → IsAmount 16 (telling.told self.now v).distance result.1 }
+        ensures few_speed { IfSome result.0 (λ v. v.decimals ≤ 8) }
+        ensures few_distance { IfSome result.1 (λ v. v.decimals ≤ 8) }
+    {
+        let (speed, distance) = speed_and_distance(&self.env, &self.plans, self.last, bytes);
+        (in_scale(speed, 100), in_scale(distance, 16))
     }
 
     /// The name and the unit of a developer field of a local message type.
@@ -261,8 +279,8 @@ impl Stream {
         }
     }
 
-    /// Takes in the data message that these bytes are, where it tells nothing but a time. Whether it did.
-    fn take_time(&mut self, bytes: &[u8]) -> bool
+    /// Takes in the data message that these bytes are, where it is no field description. Whether it did.
+    fn take_plain(&mut self, bytes: &[u8]) -> bool
         requires { (v : Values Global) × IsRecord (known self.old) (Data v) bytes.now }
         ensures taken { result ≡ true → (v : Values Global)
             → IsRecord (known self.old) (Data v) bytes.now → self.new ≡ Data v ∷ self.old }
@@ -271,7 +289,7 @@ impl Stream {
             → IsRecord (known self.old) (Data v) bytes.now
             → IsSomeAnd (defined_at (known self.old) v.local) (λ p. tells_more p.definition ≡ true) }
     {
-        take_time(
+        take_plain(
             &self.env,
             &self.plans,
             &mut self.last,
@@ -293,7 +311,7 @@ impl Stream {
             → defined_at (known self.old) v.local ≡ Some p → tells_more p.definition ≡ false
             → IsOk result }
     {
-        if self.take_time(bytes) {
+        if self.take_plain(bytes) {
             return Ok(());
         }
         let record_ = record_of(&self.env, self.alloc, bytes)?;

@@ -61,7 +61,7 @@ pub(crate) const ACCUMULATED_POWER: Component = Component {
 };
 
 /// The accumulated value of a component by its number in a message.
-fn accumulated(c: Component, previous: u64, number: Option<u64>) -> Option<u64>
+pub(crate) fn accumulated(c: Component, previous: u64, number: Option<u64>) -> Option<u64>
     requires divisor { 0 < c.divisor }
     requires above { 0 < c.modulus }
     requires below { c.modulus ≤ 2 ^ 16 }
@@ -71,7 +71,7 @@ fn accumulated(c: Component, previous: u64, number: Option<u64>) -> Option<u64>
 }
 
 /// The speed in the number that speed and distance make up.
-fn speed(number: Option<u64>) -> Option<u64>
+pub(crate) fn speed(number: Option<u64>) -> Option<u64>
     ensures { result ≡ option_map (λ x. x % 2 ^ 12) number }
 {
     Some(number? % 4096)
