@@ -114,25 +114,28 @@ fn add_message(records: &mut History<Record>, message: &MessageBytes<'_>)
     records.add_from(message);
 }
 
-/// The last ones after a message. None where it is a field description.
+/// Changes the last ones to those after a message, where it is no field description. Whether it did.
 #[inline(always)]
-fn last_after_plain(last: Last, plan: &Plan, message: &MessageBytes<'_>) -> Option<Last>
+fn note_plain(last: &mut Last, plan: &Plan, message: &MessageBytes<'_>) -> bool
     requires plan { IsPlan plan.now message.now.defined.now.definition }
     requires size { length message.now.body.now ≡ message_size message.now.defined.now }
-    ensures last { IfSome result (λ after. after ≡ telling.last_after last (Some
-        (telling.told_at last message.now.defined.now.definition (message_in message.now)))) }
-    ensures plain { IfSome result (λ _.
-        (message.now.defined.now.definition.global == 206) ≡ false) }
-    ensures describes { result ≡ None
+    ensures last { result ≡ true → last.new ≡ telling.last_after last.old (Some
+        (telling.told_at last.old message.now.defined.now.definition (message_in message.now))) }
+    ensures plain { result ≡ true
+        → (message.now.defined.now.definition.global == 206) ≡ false }
+    ensures kept { result ≡ false → last.new ≡ last.old }
+    ensures describes { result ≡ false
         → (message.now.defined.now.definition.global == 206) ≡ true }
 {
     if !plan.tells_more {
-        return Some(with_time(last, time_of_message(last.time, plan, message)));
+        *last = with_time(*last, time_of_message(last.time, plan, message));
+        return true;
     }
     if plan.describes {
-        return None;
+        return false;
     }
-    Some(last_after(last, Some(told_of_message(last, plan, message))))
+    *last = last_after(*last, Some(told_of_message(*last, plan, message)));
+    true
 }
 
 /// Takes in the data message that the bytes are, where it is no field description. Whether it did.
@@ -158,14 +161,11 @@ pub(crate) fn take_plain(
 {
     let message = message_of(env, bytes);
     let plan = plan_of(plans, &message);
-    match last_after_plain(*last, plan, &message) {
-        None => false,
-        Some(after) => {
-            *last = after;
-            add_message(records, &message);
-            true
-        }
+    if note_plain(last, plan, &message) {
+        add_message(records, &message);
+        return true;
     }
+    false
 }
 
 /// The record that the bytes of a data message are.

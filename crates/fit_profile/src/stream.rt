@@ -298,8 +298,21 @@ impl Stream {
         )
     }
 
-    /// Takes the next record in, as `take` does, where it is the data message that these bytes are: no
-    /// record is made of most messages. If memory runs out, the stream stays as it was.
+    /// The same by a record of it. It stands apart, since most messages need none.
+    #[cold]
+    #[inline(never)]
+    fn take_record_of(&mut self, bytes: &[u8]) -> Result<(), AllocError>
+        requires { (v : Values Global) × IsRecord (known self.old) (Data v) bytes.now }
+        ensures ok { OnOk result ((v : Values Global)
+            → IsRecord (known self.old) (Data v) bytes.now → self.new ≡ Data v ∷ self.old) }
+        ensures err { OnErr result (self.new ≡ self.old) }
+    {
+        let record_ = record_of(&self.env, self.alloc, bytes)?;
+        self.take(&record_)
+    }
+
+    /// Takes the next record in, as `take` does, where it is the data message that these bytes are: a
+    /// record is made of a field description alone. If memory runs out, the stream stays as it was.
     pub fn take_message(&mut self, bytes: &[u8]) -> Result<(), AllocError>
         requires { (v : Values Global) × IsRecord (known self.old) (Data v) bytes.now }
         ensures ok { OnOk result ((v : Values Global)
@@ -314,8 +327,7 @@ impl Stream {
         if self.take_plain(bytes) {
             return Ok(());
         }
-        let record_ = record_of(&self.env, self.alloc, bytes)?;
-        self.take(&record_)
+        self.take_record_of(bytes)
     }
 
     /// The data message that was just taken in.
