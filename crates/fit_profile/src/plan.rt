@@ -101,6 +101,17 @@ impl Plans {
         Plans { places: [None; 16] }
     }
 
+    /// Nothing is defined any more. A plan is large, so only those that are there are let go.
+    pub fn clear(&mut self)
+        ensures { (local : ℕ) → slice_index_or self.new.places local None ≡ None }
+    {
+        for local in 0..16 {
+            if self.places[local].is_some() {
+                self.places[local] = None;
+            }
+        }
+    }
+
     /// That of a local message type.
     #[inline(always)]
     pub fn at(&self, local: u8) -> Option<&Plan>

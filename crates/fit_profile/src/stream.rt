@@ -92,7 +92,7 @@ impl Stream {
         ensures { self.new ≡ [] }
     {
         self.env = Env::new(self.alloc);
-        self.plans = Plans::new();
+        self.plans.clear();
         self.last = NOTHING;
         self.names = Names::new(self.alloc);
         self.pushed = History::new();

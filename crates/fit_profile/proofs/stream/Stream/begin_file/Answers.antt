@@ -4,7 +4,7 @@ use Rattle.fit_profile.proofs.stream.Stream.begin_file.Goals as goal
 
 pub invariant_of-self : goal.invariant_of-self
 invariant_of-self c = (
-  keeps-nothing c.new.result c.new-2.result c.new-self-inside-2.result.items c.new.ensures c.new-2.ensures.naming c.new-2.ensures.namings
-      c.new-self-inside-2.ensures,
-  planned_new c.new-self-inside.result.places c.new.result c.new-self-inside.ensures c.new.ensures,
+  keeps-nothing c.new.result c.new-2.result c.new-self-inside.result.items c.new.ensures c.new-2.ensures.naming c.new-2.ensures.namings
+      c.new-self-inside.ensures,
+  planned_new c.clear.new.self.places c.new.result c.clear.ensures c.new.ensures,
 )

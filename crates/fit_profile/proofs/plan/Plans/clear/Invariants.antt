@@ -1,0 +1,9 @@
+use Rattle.fit_profile.proofs.Common.{◌≡◌, ◌<◌, ℕ, None, length}
+use Rattle.std.specs.Prelude.{slice_index_or}
+use Rattle.fit_profile.proofs.plan.Plans.clear.Given as goal
+
+abbrev pub invariant-loop-local : goal.invariant-loop-local
+invariant-loop-local l = record {
+  long : length l.self.places ≡ 16;
+  before : (k : ℕ) → k < l.local → slice_index_or l.self.places k None ≡ None;
+}
