@@ -1,10 +1,11 @@
 //! Data messages that describe no developer field. They change neither what is known nor the names.
-ghost use Rattle.std.specs.Prelude.{◌≡◌, IfSome, None, Some};
+ghost use Rattle.std.specs.Prelude.{◌≡◌, IfSome, None, Some, false};
 ghost use Rattle.fit_record.specs.Environment.{DescribesNothing, described_by};
 ghost use Rattle.fit_record.specs.declared.message.Record.TheVariants.{Values as Data};
 ghost use Rattle.fit_record.specs.Faults.{or_else};
 ghost use Rattle.fit_profile.specs.Times as times;
 ghost use Rattle.fit_profile.specs.Told as telling;
+ghost use Rattle.fit_profile.specs.inner.Alone.{times_alone};
 ghost use Rattle.fit_profile.specs.inner.Places.{AreFieldPlaces};
 ghost use Rattle.fit_profile.specs.inner.Plans.{ArePlanned, IsPlan};
 
@@ -45,6 +46,64 @@ fn counted_by(last: Last, places: &[u8; 256], definition: &MessageDef, values: &
     counted(last, time, header_time, distance, cycles, power)
 }
 
+/// The times of a message of which no more is told, by the last ones before it: its own, and that of its header.
+#[inline(always)]
+fn times_by(
+    last: Last,
+    plan: &Plan,
+    definition: &MessageDef,
+    values: &Values,
+) -> (Option<u32>, Option<u32>)
+    requires plan { IsPlan plan.now definition.now }
+    requires alone { plan.now.tells_more ≡ false }
+    ensures { times_alone result.0 result.1 ≡ telling.told_at last definition.now values.now }
+{
+    let time = time_by(last.time, &plan.places, definition, values);
+    (time, header_time(last.time, values.offset))
+}
+
+/// The times of a data message of which no more is told, by the last ones before it: its own, and that of its header. None where
+/// there may be more to tell.
+#[inline(always)]
+fn times_of_values(
+    env: &Env,
+    plans: &Plans,
+    last: Last,
+    values: &Values,
+) -> Option<(Option<u32>, Option<u32>)>
+    requires { ArePlanned plans.now.places env.now.places }
+    ensures told { IfSome result (λ t.
+        Some (times_alone t.0 t.1) ≡ telling.tell env.now last (Data values.now)) }
+    ensures nothing { IfSome result (λ _. described_by env.now values.now ≡ None) }
+{
+    let plan = plans.at(values.local)?;
+    let defined = env.defined(values.local)?;
+    if !plan.tells_more {
+        return Some(times_by(last, plan, &defined.definition, values));
+    }
+    None
+}
+
+/// The times of a record of which no more is told, by the last ones before it: its own, and that of its header. None of a definition,
+/// and where there may be more to tell.
+#[inline(always)]
+pub(crate) fn tell_times(
+    env: &Env,
+    plans: &Plans,
+    last: Last,
+    record_: &Record,
+) -> Option<(Option<u32>, Option<u32>)>
+    requires { ArePlanned plans.now.places env.now.places }
+    ensures told { IfSome result (λ t.
+        Some (times_alone t.0 t.1) ≡ telling.tell env.now last record_.now) }
+    ensures nothing { IfSome result (λ _. DescribesNothing env.now record_.now) }
+{
+    match record_ {
+        Record::Define(_) => None,
+        Record::Values(values) => times_of_values(env, plans, last, values),
+    }
+}
+
 /// What is told of a message that describes nothing, by the last ones before it and the plan of its definition.
 #[inline(always)]
 fn told_by(last: Last, plan: &Plan, definition: &MessageDef, values: &Values) -> Told
@@ -54,8 +113,8 @@ fn told_by(last: Last, plan: &Plan, definition: &MessageDef, values: &Values) ->
     if plan.tells_more {
         return counted_by(last, &plan.places, definition, values);
     }
-    let time = time_by(last.time, &plan.places, definition, values);
-    uncounted(time, header_time(last.time, values.offset))
+    let (time, header_time) = times_by(last, plan, definition, values);
+    uncounted(time, header_time)
 }
 
 /// What is told of a data message by the last ones before it. None where it describes a developer field.

@@ -17,6 +17,7 @@ ghost use Rattle.fit_profile.specs.Told.{told_of};
 ghost use Rattle.fit_profile.specs.Told as telling;
 ghost use Rattle.fit_profile.specs.Times as times;
 ghost use Rattle.fit_profile.specs.Values.{IsAmount};
+ghost use Rattle.fit_profile.specs.inner.Alone.{times_alone};
 ghost use Rattle.fit_profile.specs.contracts.stream.Stream.{the_row};
 
 use crate::Fixed;
@@ -24,10 +25,10 @@ use crate::learn::take_in;
 use crate::message::Message;
 use crate::message_bytes::{record_of, speed_and_distance, take_plain, time_in};
 use crate::names::{Names, Texts};
-use crate::plain::tell_plain;
+use crate::plain::{tell_plain, tell_times};
 use crate::plan::Plans;
 use crate::time::header_time;
-use crate::told::{Last, Told, last_after, last_after_record, tell, time_of};
+use crate::told::{Last, Told, last_after, last_after_record, tell, time_of, uncounted, with_time};
 use crate::value::in_scale;
 use fit_history::History;
 use fit_record::{Env, Record, Values};
@@ -212,6 +213,22 @@ impl Stream {
         Some(told)
     }
 
+    /// Takes in a data message of which nothing but times is told, and tells them: its own, and that of its header. Any other record is
+    /// left, and None is told.
+    #[inline(always)]
+    fn note_times(&mut self, record_: &Record) -> Option<(Option<u32>, Option<u32>)>
+        requires { Fits (known self.old) record_.now }
+        ensures taken { IsSome result → self.new ≡ record_.now ∷ self.old }
+        ensures told { IfSome result (λ t.
+            Some (times_alone t.0 t.1) ≡ told_of self.old record_.now) }
+        ensures kept { result ≡ None → self.new ≡ self.old }
+    {
+        let (time, header_time) = tell_times(&self.env, &self.plans, self.last, record_)?;
+        self.last = with_time(self.last, time);
+        self.pushed.add(record_);
+        Some((time, header_time))
+    }
+
     /// Takes any record in, and tells its times and accumulated values.
     fn note_other(&mut self, record_: &Record) -> Result<Option<Told>, AllocError>
         requires { Fits (known self.old) record_.now }
@@ -249,6 +266,22 @@ impl Stream {
         ensures* after { sem 𝓛 (follows_so the_row the_row self.entry.ghost_name none (λ _ _. ⊤)
             (λ n. MatchResult result (λ _. n ≡ record_.now ∷ self.old) (λ _. n ≡ self.old))) }
         // No memory is taken for a data message that describes no developer field.
+        ensures free { DescribesNothing (known self.old) record_.now → IsOk result }
+    {
+        if let Some((time, header_time)) = self.note_times(record_) {
+            let told = uncounted(time, header_time);
+            return Ok(self.message(Some(told), record_));
+        }
+        self.push_any(record_)
+    }
+
+    /// Takes the next record, whatever is told of it. It stands apart, since of most messages only times are told.
+    #[inline(never)]
+    fn push_any<'a>(&'a mut self, record_: &'a Record) -> Result<Option<Message<'a>>, AllocError>
+        requires { Fits (known self.old) record_.now }
+        ensures message { IfOk result (λ m. MessageOf self.old record_.now m) }
+        ensures* after { sem 𝓛 (follows_so the_row the_row self.entry.ghost_name none (λ _ _. ⊤)
+            (λ n. MatchResult result (λ _. n ≡ record_.now ∷ self.old) (λ _. n ≡ self.old))) }
         ensures free { DescribesNothing (known self.old) record_.now → IsOk result }
     {
         let told = self.note(record_)?;

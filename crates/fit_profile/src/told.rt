@@ -5,6 +5,7 @@ ghost use Rattle.fit_record.specs.Faults.{or_else};
 ghost use Rattle.fit_profile.specs.Times as times;
 ghost use Rattle.fit_profile.specs.Accumulated as sums;
 ghost use Rattle.fit_profile.specs.Told as telling;
+ghost use Rattle.fit_profile.specs.inner.Alone.{times_alone};
 
 use crate::component::{Component, may_count, number};
 use crate::least::least_from;
@@ -153,14 +154,7 @@ pub(crate) fn counted(
 /// What is told of a message with these times and no counters.
 #[inline(always)]
 pub(crate) fn uncounted(time: Option<u32>, header_time: Option<u32>) -> Told
-    ensures { result ≡ record {
-      time = time;
-      header_time = header_time;
-      speed = None;
-      distance = None;
-      total_cycles = None;
-      accumulated_power = None;
-    } }
+    ensures { result ≡ times_alone time header_time }
 {
     Told {
         time,
