@@ -2,6 +2,7 @@ pub mod Common
 mod KnownCells
 pub mod AddedRows
 pub mod HexFacts
+pub mod PairFacts
 pub mod ReadFacts
 pub mod NumberFacts
 mod StringFacts

@@ -91,7 +91,7 @@ module _ (P : ℕ → Type 0) (of_byte : (b : ℕ) → 44 < b → b < 124 → P 
     all-others f h [] = tt
     all-others f h (n ∷ bits) = (of_bar, all-append (f n) (flat_map (λ t. 124 ∷ t) (map f bits)) (h n) (all-others f h bits))
 
-    all-barred : (f : ℕ → List ℕ) → ((n : ℕ) → AllByRecursion P (f n)) → (bits : List ℕ) → AllByRecursion P (barred (map f bits))
+    pub all-barred : (f : ℕ → List ℕ) → ((n : ℕ) → AllByRecursion P (f n)) → (bits : List ℕ) → AllByRecursion P (barred (map f bits))
     all-barred f h [] = tt
     all-barred f h (n ∷ bits) = all-append (f n) (flat_map (λ t. 124 ∷ t) (map f bits)) (h n) (all-others f h bits)
 
@@ -149,7 +149,7 @@ plain_cell code info items other = unquoted (cell code info items) (elim (cases_
 ])
 
 -- a form is that of numbers
-formed_class : (f : NumberForm) (code : ℕ) (info : Option Meaning) → IsFormOf code info f
+pub formed_class : (f : NumberForm) (code : ℕ) (info : Option Meaning) → IsFormOf code info f
     → ((base_type code).class ≡ Text → ⊥) × ((base_type code).class ≡ Bytes → ⊥)
 formed_class f code info form = elim (cases_Bool f.signed) [
   | inl signed ↦

@@ -1,11 +1,57 @@
 //! Hexadecimal digits.
-ghost use Rattle.std.specs.Prelude.{◌≡◌, ◌<◌, ◌≤◌, ◌++◌, ◌/◌, ◌%◌, ◌^◌, ◌⊎◌, ◌*◌, ℕ, codes, All, IfOk, OnErr, OnOk, length, take, drop};
+ghost use Rattle.std.specs.Prelude.{◌≡◌, ◌<◌, ◌≤◌, ◌+◌, ◌++◌, ◌/◌, ◌%◌, ◌^◌, ◌⊎◌, ◌*◌, ℕ, codes, All, IfOk, OnErr, OnOk, length, take, drop};
 ghost use Rattle.fit_numbers.specs.FixedText.{StillBegins};
 ghost use Rattle.fit_cells.specs.Cells.{bytes_text, hex_digit, hex_digits};
 ghost use Rattle.fit_cells.specs.Steps.{hex_value, read_hex, read_pairs};
 
 use fit_base::Bits;
 use std::alloc::{AllocError, Global};
+
+/// The two hexadecimal digits of each byte.
+static PAIRS: [u8; 512] = *b"000102030405060708090A0B0C0D0E0F101112131415161718191A1B1C1D1E1F\
+    202122232425262728292A2B2C2D2E2F303132333435363738393A3B3C3D3E3F\
+    404142434445464748494A4B4C4D4E4F505152535455565758595A5B5C5D5E5F\
+    606162636465666768696A6B6C6D6E6F707172737475767778797A7B7C7D7E7F\
+    808182838485868788898A8B8C8D8E8F909192939495969798999A9B9C9D9E9F\
+    A0A1A2A3A4A5A6A7A8A9AAABACADAEAFB0B1B2B3B4B5B6B7B8B9BABBBCBDBEBF\
+    C0C1C2C3C4C5C6C7C8C9CACBCCCDCECFD0D1D2D3D4D5D6D7D8D9DADBDCDDDEDF\
+    E0E1E2E3E4E5E6E7E8E9EAEBECEDEEEFF0F1F2F3F4F5F6F7F8F9FAFBFCFDFEFF";
+
+/// The two hexadecimal digits of a byte.
+#[inline(always)]
+fn pair(byte: u8) -> [u8; 2]
+    ensures { result ≡ hex_digits 2 byte }
+{
+    [PAIRS[2 * byte as usize], PAIRS[2 * byte as usize + 1]]
+}
+
+/// Writes two bytes into a row from a place on. Returns the place after them.
+#[inline(always)]
+fn write_two(row: &mut [u8], at: usize, two: [u8; 2]) -> usize
+    requires room { at + 2 ≤ length row.old }
+    ensures size { length row.new ≡ length row.old }
+    ensures end { result ≡ at + 2 }
+    ensures text { take result row.new ≡ take at row.old ++ two }
+{
+    let [first, second] = two;
+    row[at] = first;
+    row[at + 1] = second;
+    at + 2
+}
+
+/// Writes bytes into a row from a place on, `0x` and two digits each. Returns the place after them.
+pub fn write_bytes(row: &mut [u8], at: usize, bytes: &[u8]) -> usize
+    requires room { at + (2 + 2 * length bytes.now) ≤ length row.old }
+    ensures size { length row.new ≡ length row.old }
+    ensures end { result ≡ at + (2 + 2 * length bytes.now) }
+    ensures text { take result row.new ≡ take at row.old ++ bytes_text bytes.now }
+{
+    let mut end = write_two(row, at, *b"0x");
+    for byte in bytes {
+        end = write_two(row, end, pair(*byte));
+    }
+    end
+}
 
 /// The hexadecimal digit of a number at a place, counted from the last.
 fn digit_at(number: u64, place: u8) -> u8
