@@ -27,6 +27,9 @@ mod FrontFacts
 pub mod Stamps
 pub mod Sheets
 pub mod FloatCells
+pub mod OctetCells
+pub mod SeveralCells
+pub mod SeveralNumbers
 pub mod BeginFacts
 pub mod TableColumnFacts
 pub mod AddedCells

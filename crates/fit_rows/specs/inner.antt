@@ -7,6 +7,8 @@ pub mod Reporting
 pub mod Showing
 pub mod Minutes
 pub mod Sheets
+pub mod Octets
+pub mod Several
 pub mod Fronts
 pub mod Frames
 pub mod MessageKeys

@@ -1,5 +1,5 @@
 //! What stands around values in their rows, found out once for many messages.
-ghost use Rattle.std.specs.Prelude.{◌≡◌, ◌≤◌, ◌++◌, [], IfOk, IfSome, OnOk, codes, length, option_map};
+ghost use Rattle.std.specs.Prelude.{◌≡◌, ◌≤◌, ◌%◌, ◌++◌, [], IfOk, IfSome, OnOk, codes, length, option_map};
 ghost use Rattle.std.specs.Global.{Global};
 ghost use Rattle.csv.specs.Writing.{default_writer, field_text, needs_quotes};
 ghost use Rattle.fit_base.specs.BaseTypes.{base_type};
@@ -17,6 +17,8 @@ pub(crate) mod likely;
 
 use crate::floats::{is_lone_float, put_float};
 use crate::lone::lone_form;
+use crate::octets::{add_bytes, is_of_bytes};
+use crate::several::{add_numbers, several_form};
 use crate::sheet::{Sheet, put_sheet};
 use crate::stamp::{Stamp, add_text};
 use fit_base::{Code, Items, Order, bits_at};
@@ -99,16 +101,21 @@ pub(crate) struct Frame {
     is_text: bool,
     /// Whether the value is one floating point number.
     is_float: bool,
+    /// Whether the value is bytes.
+    is_of_bytes: bool,
+    /// The form of the numbers, where the value is several.
+    several: Option<NumberForm>,
 }
 
 impl Model for Frame {
-    ghost use Rattle.std.specs.Prelude.{◌≡◌, IfSome, IsTrue, option_map};
+    ghost use Rattle.std.specs.Prelude.{◌≡◌, ◌%◌, IfSome, IsTrue, option_map};
     ghost use Rattle.fit_base.specs.BaseTypes.{base_type};
     ghost use Rattle.fit_base.specs.declared.code.Class.TheVariants.{Float, Text};
     ghost use Rattle.fit_profile.specs.Names.{meaning};
     ghost use Rattle.fit_numbers.specs.Scaled.{IsScale};
     ghost use Rattle.fit_cells.specs.Forms.{IsFormOf, IsSmallForm};
     ghost use Rattle.fit_rows.specs.inner.Frames.{FrameText};
+    ghost use Rattle.fit_rows.specs.inner.Octets.{IsOfBytes};
 
     ghost Value = { FrameText };
 
@@ -124,7 +131,11 @@ impl Model for Frame {
         × IfSome f.lone (IsFormOf f.code (option_map meaning f.info))
         × (IsTrue f.is_text → (base_type f.code).class ≡ Text)
         × (IsTrue f.is_float → (base_type f.code).class ≡ Float)
-        × (IsTrue f.is_float → (base_type f.code).width ≡ f.size) };
+        × (IsTrue f.is_float → (base_type f.code).width ≡ f.size)
+        × (IsTrue f.is_of_bytes → IsOfBytes f.code f.size)
+        × IfSome f.several IsSmallForm
+        × IfSome f.several (λ s. f.size % s.width ≡ 0)
+        × IfSome f.several (IsFormOf f.code (option_map meaning f.info)) };
 }
 
 impl Frame {
@@ -159,6 +170,8 @@ impl Frame {
             lone: lone_form(code, size, info),
             is_text: !is_never_quoted(Code(code)),
             is_float: is_lone_float(Code(code), size),
+            is_of_bytes: is_of_bytes(Code(code), size),
+            several: several_form(code, size, info),
         })
     }
 
@@ -281,8 +294,18 @@ impl Frame {
         }
     }
 
+    /// The form of the numbers, where the value is several.
+    #[inline(always)]
+    fn several(&self) -> Option<NumberForm>
+        ensures small { IfSome result IsSmallForm }
+        ensures whole { IfSome result (λ f. self.now.size % f.width ≡ 0) }
+        ensures form { IfSome result (IsFormOf self.now.code self.now.info) }
+    {
+        self.several
+    }
+
     /// Puts a value that is no lone number of at most four bytes after a text, by the bytes of its field.
-    #[inline(never)]
+    #[inline(always)]
     fn put_read(
         &self,
         text: &mut Vec<u8>,
@@ -301,6 +324,38 @@ impl Frame {
             return put_float(text, self.size, order, bytes);
         }
         self.put_rest(text, writer, value, alloc, order, bytes)
+    }
+
+    /// Adds a value that is neither a lone number of at most four bytes nor a string, by the bytes of its field.
+    #[inline(never)]
+    fn add_read(
+        &self,
+        text: &mut Vec<u8>,
+        sheet: &mut Sheet,
+        at: usize,
+        writer: &mut RowWriter,
+        value: &mut Vec<u8>,
+        alloc: Global,
+        order: Order,
+        bytes: &[u8],
+    ) -> Result<usize, AllocError>
+        requires place { at ≤ 1024 }
+        requires length { length bytes.now ≡ self.now.size }
+        ensures place { IfOk result (λ end. end ≤ 1024) }
+        ensures text { IfOk result (λ end. and_sheet text.new.items sheet.new end
+            ≡ and_sheet text.old.items sheet.old at
+            ++ field_text default_writer (cell self.now.code self.now.info
+            (field_from {A = Global} order (self.now.code, self.now.size) bytes.now))) }
+    {
+        if self.is_of_bytes {
+            return add_bytes(text, sheet, at, self.size, bytes);
+        }
+        if let Some(form) = self.several() {
+            return add_numbers(text, sheet, at, form, order, bytes);
+        }
+        put_sheet(text, sheet, at)?;
+        self.put_read(text, writer, value, alloc, order, bytes)?;
+        Ok(0)
     }
 
     /// The same as `put`, by the bytes of the field.
@@ -332,8 +387,6 @@ impl Frame {
         if self.is_text {
             return self.add_string(text, sheet, at, writer, value, alloc, order, bytes);
         }
-        put_sheet(text, sheet, at)?;
-        self.put_read(text, writer, value, alloc, order, bytes)?;
-        Ok(0)
+        self.add_read(text, sheet, at, writer, value, alloc, order, bytes)
     }
 }

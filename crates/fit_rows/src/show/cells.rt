@@ -1,5 +1,5 @@
 //! The cells of fields as a line shows them.
-ghost use Rattle.std.specs.Prelude.{◌≡◌, ◌≤◌, ◌+◌, ◌++◌, IfOk, IfSome, OnOk, length, option_map};
+ghost use Rattle.std.specs.Prelude.{◌≡◌, ◌≤◌, ◌%◌, ◌+◌, ◌++◌, IfOk, IfSome, OnOk, length, option_map};
 ghost use Rattle.std.specs.Global.{Global};
 ghost use Rattle.std.specs.List.{list_all};
 ghost use Rattle.fit_base.specs.Fields.{HasShape};
@@ -13,6 +13,8 @@ ghost use Rattle.fit_rows.specs.inner.Sheets.{and_sheet};
 
 use crate::floats::{is_lone_float, put_float};
 use crate::lone::lone_form;
+use crate::octets::{add_bytes, is_of_bytes};
+use crate::several::{add_numbers, several_form};
 use crate::sheet::{Sheet, put_sheet};
 use crate::stamp::add_text;
 use fit_base::base_type::BYTE;
@@ -40,15 +42,20 @@ pub(crate) struct ShownCell {
     lone: Option<NumberForm>,
     /// Whether the cell shows one floating point number.
     is_float: bool,
+    /// Whether the cell shows bytes.
+    is_of_bytes: bool,
+    /// The form of the numbers, where the cell shows several.
+    several: Option<NumberForm>,
 }
 
 impl Model for ShownCell {
-    ghost use Rattle.std.specs.Prelude.{◌≡◌, IfSome, IsTrue, option_map};
+    ghost use Rattle.std.specs.Prelude.{◌≡◌, ◌%◌, IfSome, IsTrue, option_map};
     ghost use Rattle.fit_base.specs.BaseTypes.{base_type};
     ghost use Rattle.fit_base.specs.declared.code.Class.TheVariants.{Float};
     ghost use Rattle.fit_profile.specs.Names.{meaning};
     ghost use Rattle.fit_numbers.specs.Scaled.{IsScale};
     ghost use Rattle.fit_cells.specs.Forms.{IsFormOf, IsSmallForm};
+    ghost use Rattle.fit_rows.specs.inner.Octets.{IsOfBytes};
     ghost use Rattle.fit_rows.specs.inner.Showing.{CellKey};
 
     ghost Value = { CellKey };
@@ -63,7 +70,11 @@ impl Model for ShownCell {
         × IfSome c.lone (λ f. f.width ≡ c.size)
         × IfSome c.lone (IsFormOf c.code (option_map meaning c.info))
         × (IsTrue c.is_float → (base_type c.code).class ≡ Float)
-        × (IsTrue c.is_float → (base_type c.code).width ≡ c.size) };
+        × (IsTrue c.is_float → (base_type c.code).width ≡ c.size)
+        × (IsTrue c.is_of_bytes → IsOfBytes c.code c.size)
+        × IfSome c.several IsSmallForm
+        × IfSome c.several (λ s. c.size % s.width ≡ 0)
+        × IfSome c.several (IsFormOf c.code (option_map meaning c.info)) };
 }
 
 impl ShownCell {
@@ -82,6 +93,8 @@ impl ShownCell {
             info,
             lone: lone_form(code, size, info),
             is_float: is_lone_float(Code(code), size),
+            is_of_bytes: is_of_bytes(Code(code), size),
+            several: several_form(code, size, info),
         }
     }
 
@@ -144,6 +157,16 @@ impl ShownCell {
         self.lone
     }
 
+    /// The form of the numbers, where the cell shows several.
+    #[inline(always)]
+    fn several(&self) -> Option<NumberForm>
+        ensures small { IfSome result IsSmallForm }
+        ensures whole { IfSome result (λ f. self.now.size % f.width ≡ 0) }
+        ensures form { IfSome result (IsFormOf self.now.code self.now.info) }
+    {
+        self.several
+    }
+
     /// The text of a string by the bytes of the field, where it is shown as it is.
     fn plain_text<'a>(&self, bytes: &'a [u8]) -> Option<&'a [u8]>
         requires { length bytes.now ≡ self.now.size }
@@ -198,6 +221,12 @@ impl ShownCell {
             ++ shown_cell self.now.code self.now.info
             (field_from {A = Global} order (self.now.code, self.now.size) bytes.now)) }
     {
+        if self.is_of_bytes {
+            return add_bytes(text, sheet, at, self.size, bytes);
+        }
+        if let Some(form) = self.several() {
+            return add_numbers(text, sheet, at, form, order, bytes);
+        }
         if let Some(shown) = self.plain_text(bytes) {
             return add_text(text, sheet, at, shown);
         }

@@ -1,0 +1,57 @@
+-- The cells of several numbers by the bytes of their fields.
+use Rattle.fit_rows.proofs.Common.{◌≡◌, ◌∙◌, ◌/◌, ◌%◌, [], length, map, refl, sym, ap, Order, cell, field_text, default_writer, shown_cell, item_width, base_type}
+use Rattle.fit_rows.proofs.Common.{eq-eqb, eqb-true, inl, inr, cases_Bool, nil_from_length, list_all, item_text, IsFormOf}
+use Rattle.std.proofs.Common.{ℕ, List, Option, if◌then◌else◌, ◌==◌, true}
+use Rattle.fit_base.specs.declared.code.Class.{Class}
+use Rattle.fit_base.specs.declared.code.Class.TheVariants.{Bytes, Text}
+use Rattle.fit_cells.proofs.ClassFacts.{side_by_side}
+use Rattle.fit_cells.proofs.PlainFacts.{all-barred, all-item, formed_class, plain_cell}
+use Rattle.fit_cells.specs.Cells.{barred, class_of, items_text}
+use Rattle.fit_cells.specs.declared.form.NumberForm.{NumberForm}
+use Rattle.fit_profile.specs.Described.{is_printable}
+use Rattle.fit_profile.specs.Profile.{Meaning}
+use Rattle.fit_record.specs.ReadMessages.{field_from, numbers_of}
+use Rattle.fit_rows.proofs.ShownCells.{all_printable, printable, printable_shown}
+use Rattle.fit_rows.specs.inner.Several.{numbers_text}
+
+-- an empty field needs no case of its own
+some_or_none : (class : Class) (code : ℕ) (info : Option Meaning) (width : ℕ) (bits : List ℕ) → (class ≡ Text → ⊥) → (class ≡ Bytes → ⊥)
+    → (if length bits == 0 then [] else items_text class code info width bits) ≡ barred (map (item_text class code info width) bits)
+some_or_none class code info width bits text bytes = elim (cases_Bool (length bits == 0)) [
+  | inl none ↦ let empty : bits ≡ [] = nil_from_length bits (eqb-true (length bits) 0 none) in rw empty refl
+  | inr some ↦ rw some (side_by_side class code info width bits text bytes)
+]
+
+pub several_cell : (A : Type 0) (f : NumberForm) (o : Order) (code size : ℕ) (info : Option Meaning) (bytes : List ℕ) → IsFormOf code info f
+    → size % f.width ≡ 0
+    → cell code info (field_from {A = A} o (code, size) bytes) ≡ numbers_text code info f.width (numbers_of o f.width (size / f.width) bytes)
+several_cell A f o code size info bytes form whole =
+    let wide : item_width code size ≡ f.width =
+    ap (λ w. if size % w == 0 then w else 1) (sym form.width) ∙ ap (λ b. if b then f.width else 1) (eq-eqb (size % f.width) 0 whole) in
+    let bits = ap (λ w. numbers_of o w (size / w) bytes) wide in
+    let class : class_of code (item_width code size) ≡ (base_type code).class =
+    ap (class_of code) wide ∙ ap (λ w. if f.width == w then (base_type code).class else Bytes) (sym form.width)
+    ∙ ap (λ b. if b then (base_type code).class else Bytes) (eq-eqb f.width f.width refl) in
+    let other = formed_class f code info form in
+    (λ i. if length (bits i) == 0 then [] else items_text (class i) code info (wide i) (bits i))
+    ∙ some_or_none (base_type code).class code info f.width (numbers_of o f.width (size / f.width) bytes) other.0 other.1
+
+-- the same in a row
+pub several_in_row : (A : Type 0) (f : NumberForm) (o : Order) (code size : ℕ) (info : Option Meaning) (bytes : List ℕ) → IsFormOf code info f
+    → size % f.width ≡ 0
+    → field_text default_writer (cell code info (field_from {A = A} o (code, size) bytes))
+    ≡ numbers_text code info f.width (numbers_of o f.width (size / f.width) bytes)
+several_in_row A f o code size info bytes form whole =
+    plain_cell code info (field_from {A = A} o (code, size) bytes) (formed_class f code info form).0 ∙ several_cell A f o code size info bytes form whole
+
+-- the same in a line
+pub several_in_line : (A : Type 0) (f : NumberForm) (o : Order) (code size : ℕ) (info : Option Meaning) (bytes : List ℕ) → IsFormOf code info f
+    → size % f.width ≡ 0
+    → shown_cell code info (field_from {A = A} o (code, size) bytes) ≡ numbers_text code info f.width (numbers_of o f.width (size / f.width) bytes)
+several_in_line A f o code size info bytes form whole =
+    let is = several_cell A f o code size info bytes form whole in
+    let bits = numbers_of o f.width (size / f.width) bytes in
+    let item = item_text (base_type code).class code info f.width in
+    let printed = all_printable (numbers_text code info f.width bits) (all-barred (λ b. is_printable b ≡ true) printable refl item
+    (all-item (λ b. is_printable b ≡ true) printable (base_type code).class code info f.width) bits) in
+    printable_shown code info (field_from {A = A} o (code, size) bytes) (ap (list_all is_printable) is ∙ printed) ∙ is
