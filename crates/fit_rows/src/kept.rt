@@ -1,5 +1,6 @@
 //! What is kept of a definition, so that what is made of it serves its later messages too.
-ghost use Rattle.std.specs.Prelude.{◌≡◌, IfOk, IsTrue, None, OnOk, Some, option_and_then, option_map, slice_get};
+ghost use Rattle.std.specs.Prelude.{◌≡◌, ℕ, IfOk, IsTrue, OnOk, Some, option_and_then, option_map, set, slice_get, true};
+ghost use Rattle.fit_rows.specs.inner.Current.{NoneAreCurrent, Renews};
 
 pub(crate) mod developer;
 pub(crate) mod message;
@@ -82,18 +83,18 @@ impl Kept {
 #[derive(Drop)]
 pub(crate) struct ByLocal<T: Drop> {
     pub items: Vec<Option<T>>,
-    /// The local message type for which what is kept is known to be that of its definition.
-    pub current: Option<u8>,
+    /// Whether what is kept for a local message type is known to be that of its definition, for each of them.
+    pub current: [bool; 16],
 }
 
 impl<T: Drop> ByLocal<T> {
     /// Nothing is kept.
     pub(crate) fn new(alloc: Global) -> ByLocal<T>
-        ensures { result.current ≡ None }
+        ensures { NoneAreCurrent result }
     {
         ByLocal {
             items: Vec::new(alloc),
-            current: None,
+            current: [false; 16],
         }
     }
 
@@ -108,30 +109,55 @@ impl<T: Drop> ByLocal<T> {
 
     /// Forgets what is known to be that of a definition.
     pub(crate) fn forget(&mut self)
-        ensures { self.new.current ≡ None }
+        ensures { NoneAreCurrent self.new }
     {
-        self.current = None;
+        self.current = [false; 16];
     }
 
     /// Whether what is kept for a local message type is known to be that of its definition.
     #[inline(always)]
     pub(crate) fn is_current(&self, local: u8) -> bool
-        ensures { IsTrue result → self.now.current ≡ Some local }
+        ensures { IsTrue result → slice_get self.now.current local ≡ Some true }
     {
-        match self.current {
-            Some(current) => current == local,
+        match self.current.get(local as usize) {
+            Some(is_current) => *is_current,
             None => false,
         }
+    }
+
+    /// Keeps what is that of the definition of a local message type.
+    pub(crate) fn keep(&mut self, local: u8, item: T) -> Result<(), AllocError>
+        ensures kept { OnOk result (slice_get self.new.items.items local ≡ Some (Some item)) }
+        ensures current { Renews self.old self.new local item }
+    {
+        note(&mut self.current, local, false);
+        keep_at(&mut self.items, local as usize, item)?;
+        note(&mut self.current, local, true);
+        Ok(())
+    }
+}
+
+/// Notes whether what is kept for a local message type is known to be that of its definition.
+#[inline(always)]
+pub(crate) fn note(current: &mut [bool; 16], local: u8, is_current: bool)
+    ensures { current.new ≡ set current.old local is_current }
+{
+    let place = local as usize;
+    if place < current.len() {
+        current[place] = is_current;
     }
 }
 
 /// Keeps something at a place of a list, which grows up to it.
-pub(crate) fn keep_at<T: Drop>(
+fn keep_at<T: Drop>(
     kept: &mut Vec<Option<T>>,
     place: usize,
     item: T,
 ) -> Result<(), AllocError>
-    ensures { OnOk result (slice_get kept.new.items place ≡ Some (Some item)) }
+    ensures here { OnOk result (slice_get kept.new.items place ≡ Some (Some item)) }
+    ensures others { (other : ℕ) (t : T) → (other ≡ place → ⊥)
+        → slice_get kept.old.items other ≡ Some (Some t)
+        → slice_get kept.new.items other ≡ Some (Some t) }
 {
     for _ in kept.len()..place {
         kept.push(None)?;

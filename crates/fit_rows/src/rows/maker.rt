@@ -1,12 +1,12 @@
 //! What is kept from one row to the next.
-ghost use Rattle.std.specs.Prelude.{◌≡◌, None, OnOk, Some, slice_get};
+ghost use Rattle.std.specs.Prelude.{◌≡◌, IsTrue, OnOk, Some, slice_get};
 ghost use Rattle.fit_record.specs.Environment.{defined_at};
 ghost use Rattle.fit_record.specs.Sound.{IsSound};
 ghost use Rattle.fit_profile.specs.Looks.{known};
-ghost use Rattle.fit_rows.specs.inner.Current.{AreCurrent};
+ghost use Rattle.fit_rows.specs.inner.Current.{AreCurrent, NoneAreCurrent};
 ghost use Rattle.fit_rows.specs.inner.MessageKeys.{message_key};
 
-use crate::kept::{ByLocal, keep_at};
+use crate::kept::{ByLocal, note};
 use crate::minutes::Times;
 use crate::rows::definition::again::DefinitionRows;
 use crate::rows::template::Template;
@@ -34,7 +34,7 @@ pub(crate) struct RowMaker {
 impl RowMaker {
     /// It has put no row.
     pub(crate) fn new(alloc: Global) -> RowMaker
-        ensures { result.templates.current ≡ None }
+        ensures { NoneAreCurrent result.templates }
     {
         RowMaker {
             alloc,
@@ -47,27 +47,36 @@ impl RowMaker {
         }
     }
 
+    /// Whether the rows of the definition of this local message type after the records of a stream are kept.
+    fn keeps(&self, stream: &Stream, local: u8, defined: &Defined) -> bool
+        requires place { defined_at (known stream.now) local ≡ Some defined.now }
+        requires sound { IsSound defined.now }
+        ensures { IsTrue result → slice_get self.now.templates.items.items local
+            ≡ Some (Some (message_key stream.now local defined.now)) }
+    {
+        if let Some(Some(template)) = self.templates.items.as_slice().get(local as usize) {
+            return template.is_of(stream, local, defined);
+        }
+        false
+    }
+
     /// Keeps the rows of the definition of this local message type after the records of a stream, where they aren't kept.
     #[inline(never)]
     fn renew(&mut self, stream: &Stream, local: u8, defined: &Defined) -> Result<(), AllocError>
         requires place { defined_at (known stream.now) local ≡ Some defined.now }
         requires sound { IsSound defined.now }
+        requires current { AreCurrent message_key self.old.templates stream.now }
         ensures kept { OnOk result (slice_get self.new.templates.items.items local
             ≡ Some (Some (message_key stream.now local defined.now))) }
         ensures current { AreCurrent message_key self.new.templates stream.now }
     {
-        self.templates.forget();
-        if let Some(Some(template)) = self.templates.items.as_slice().get(local as usize) {
-            if template.is_of(stream, local, defined) {
-                self.templates.current = Some(local);
-                return Ok(());
-            }
+        if self.keeps(stream, local, defined) {
+            note(&mut self.templates.current, local, true);
+            return Ok(());
         }
         let writer = &mut self.writer;
         let template = Template::new(self.alloc, writer, stream, local, defined)?;
-        keep_at(&mut self.templates.items, local as usize, template)?;
-        self.templates.current = Some(local);
-        Ok(())
+        self.templates.keep(local, template)
     }
 
     /// Keeps the rows of the definition of this local message type after the records of a stream, where it isn't known that they

@@ -1,10 +1,10 @@
 //! The lines of the messages of a definition without their values, found out once for many messages.
-ghost use Rattle.std.specs.Prelude.{◌≡◌, ◌≤◌, ◌+◌, ◌++◌, IfOk, IsTrue, None, OnOk, Some, codes, map, slice_get};
+ghost use Rattle.std.specs.Prelude.{◌≡◌, ◌≤◌, ◌+◌, ◌++◌, IfOk, IsTrue, OnOk, Some, codes, map, slice_get};
 ghost use Rattle.fit_record.specs.Environment.{defined_at};
 ghost use Rattle.fit_record.specs.Sound.{IsSound};
 ghost use Rattle.fit_profile.specs.Looks.{known};
 ghost use Rattle.fit_rows.specs.ShowLines as lines;
-ghost use Rattle.fit_rows.specs.inner.Current.{AreCurrent};
+ghost use Rattle.fit_rows.specs.inner.Current.{AreCurrent, NoneAreCurrent};
 ghost use Rattle.fit_rows.specs.inner.Frames.{HasFields, TakesFields};
 ghost use Rattle.fit_rows.specs.inner.Showing.{keys_text, line_front, line_slots, line_text};
 ghost use Rattle.fit_rows.specs.inner.MessageKeys.{message_key};
@@ -12,7 +12,7 @@ ghost use Rattle.fit_rows.specs.inner.Sheets.{and_sheet};
 
 use crate::items::FieldItems;
 use crate::kept::message::KeptMessage;
-use crate::kept::{ByLocal, keep_at};
+use crate::kept::{ByLocal, note};
 use crate::minutes::Times;
 use crate::sheet::{SHEET_SIZE, Sheet, put_sheet};
 use crate::show::fields::put_words;
@@ -204,7 +204,7 @@ pub(crate) struct LineMaker {
 impl LineMaker {
     /// It has put no line.
     pub(crate) fn new(alloc: Global) -> LineMaker
-        ensures { result.templates.current ≡ None }
+        ensures { NoneAreCurrent result.templates }
     {
         LineMaker {
             alloc,
@@ -214,26 +214,35 @@ impl LineMaker {
         }
     }
 
+    /// Whether the line of the definition of this local message type after the records of a stream is kept.
+    fn keeps(&self, stream: &Stream, local: u8, defined: &Defined) -> bool
+        requires place { defined_at (known stream.now) local ≡ Some defined.now }
+        requires sound { IsSound defined.now }
+        ensures { IsTrue result → slice_get self.now.templates.items.items local
+            ≡ Some (Some (message_key stream.now local defined.now)) }
+    {
+        if let Some(Some(template)) = self.templates.items.as_slice().get(local as usize) {
+            return template.is_of(stream, local, defined);
+        }
+        false
+    }
+
     /// Keeps the line of the definition of this local message type after the records of a stream, where it isn't kept.
     #[inline(never)]
     fn renew(&mut self, stream: &Stream, local: u8, defined: &Defined) -> Result<(), AllocError>
         requires place { defined_at (known stream.now) local ≡ Some defined.now }
         requires sound { IsSound defined.now }
+        requires current { AreCurrent message_key self.old.templates stream.now }
         ensures kept { OnOk result (slice_get self.new.templates.items.items local
             ≡ Some (Some (message_key stream.now local defined.now))) }
         ensures current { AreCurrent message_key self.new.templates stream.now }
     {
-        self.templates.forget();
-        if let Some(Some(template)) = self.templates.items.as_slice().get(local as usize) {
-            if template.is_of(stream, local, defined) {
-                self.templates.current = Some(local);
-                return Ok(());
-            }
+        if self.keeps(stream, local, defined) {
+            note(&mut self.templates.current, local, true);
+            return Ok(());
         }
         let template = LineTemplate::new(self.alloc, stream, local, defined)?;
-        keep_at(&mut self.templates.items, local as usize, template)?;
-        self.templates.current = Some(local);
-        Ok(())
+        self.templates.keep(local, template)
     }
 
     /// Keeps the line of the definition of this local message type after the records of a stream, where it isn't known that it is

@@ -1,19 +1,19 @@
 //! The rows of the table, and what is kept from one to the next.
-ghost use Rattle.std.specs.Prelude.{◌≡◌, ◌∷◌, [], ℕ, IfOk, OnOk, Some, false, length};
+ghost use Rattle.std.specs.Prelude.{◌≡◌, ◌∷◌, [], IfOk, IfSome, OnOk, Some, false, length, slice_get, true};
 ghost use Rattle.fit_record.specs.Records.{message_size};
 ghost use Rattle.fit_record.specs.Sound.{IsSound};
 ghost use Rattle.fit_profile.specs.Meant.{shown};
 ghost use Rattle.fit_cells.specs.Rows.{HasRows};
 ghost use Rattle.fit_rows.specs.Table as table;
-ghost use Rattle.fit_rows.specs.inner.Current.{IsCurrent};
+ghost use Rattle.fit_rows.specs.inner.Current.{IsCurrent, Renews};
 ghost use Rattle.fit_rows.specs.inner.TableCells.{MayPutRow};
 
-use crate::kept::{ByLocal, keep_at};
+use crate::kept::{ByLocal, note};
 use crate::tables::columns::Columns;
 use crate::tables::numbers::NumbersInBytes;
 use crate::tables::rows::{TableRowMaker, put_row};
 use fit_profile::Message;
-use fit_record::MessageBytes;
+use fit_record::{FieldDef, MessageBytes};
 use std::alloc::{AllocError, Global};
 
 /// What the rows of the table are put with, one after another.
@@ -91,15 +91,38 @@ fn put_by_new(
     requires global { message.now.defined.now.definition.global ≡ 20 }
     requires sound { IsSound message.now.defined.now }
     requires long { length message.now.body.now ≡ message_size message.now.defined.now }
+    requires current { IsCurrent maker.old.columns message.now.local
+        message.now.defined.now.definition.fields }
     ensures row { IfOk result (λ put. MayPutRow file message.now time put text.old text.new) }
     ensures none { IfOk result (λ put. put ≡ false → text.new.items ≡ text.old.items) }
-    ensures current { maker.new.columns.current ≡ maker.old.columns.current }
+    ensures current { Renews maker.old.columns maker.new.columns message.now.local
+        message.now.defined.now.definition.fields }
 {
     let fields = message.defined.definition.fields.as_slice();
     let columns = Columns::new(maker.alloc, fields)?;
     let put = put_by(text, &mut maker.rows, &columns, message, time, file)?;
-    keep_at(&mut maker.columns.items, message.local as usize, columns)?;
+    maker.columns.keep(message.local, columns)?;
     Ok(put)
+}
+
+/// The columns that are kept for a local message type, where they are those of these fields.
+#[inline(always)]
+fn kept_columns<'a>(
+    kept: &'a [Option<Columns>],
+    local: u8,
+    is_current: bool,
+    fields: &[FieldDef],
+) -> Option<&'a Columns>
+    requires { is_current ≡ true → slice_get kept.now local ≡ Some (Some fields.now) }
+    ensures kept { IfSome result (λ c. slice_get kept.now local ≡ Some (Some c.now)) }
+    ensures fields { IfSome result (λ c. c.now ≡ fields.now) }
+{
+    if let Some(Some(columns)) = kept.get(local as usize) {
+        if is_current || columns.are_of(fields) {
+            return Some(columns);
+        }
+    }
+    None
 }
 
 /// Puts the row of a record message of a file from its bytes, by its time, where its numbers can be read there. Whether it did.
@@ -117,19 +140,17 @@ pub(crate) fn put_message_row(
         message.now.defined.now.definition.fields }
     ensures row { IfOk result (λ put. MayPutRow file message.now time put text.old text.new) }
     ensures none { IfOk result (λ put. put ≡ false → text.new.items ≡ text.old.items) }
-    ensures current { (local : ℕ) → maker.new.columns.current ≡ Some local
-        → (local ≡ message.now.local)
-        × IsCurrent maker.new.columns local message.now.defined.now.definition.fields }
+    ensures current { Renews maker.old.columns maker.new.columns message.now.local
+        message.now.defined.now.definition.fields }
 {
     let local = message.local;
     let fields = message.defined.definition.fields.as_slice();
     let is_current = maker.columns.is_current(local);
-    if let Some(Some(columns)) = maker.columns.items.as_slice().get(local as usize) {
-        if is_current || columns.are_of(fields) {
-            maker.columns.current = Some(local);
-            return put_by(text, &mut maker.rows, columns, message, time, file);
+    match kept_columns(maker.columns.items.as_slice(), local, is_current, fields) {
+        Some(columns) => {
+            note(&mut maker.columns.current, local, true);
+            put_by(text, &mut maker.rows, columns, message, time, file)
         }
+        None => put_by_new(text, maker, message, time, file),
     }
-    maker.columns.forget();
-    put_by_new(text, maker, message, time, file)
 }

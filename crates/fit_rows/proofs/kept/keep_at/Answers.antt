@@ -3,8 +3,8 @@ use Rattle.std.proofs.Common.{Some}
 use Rattle.std.proofs.lemmas.List.{length-append}
 use Rattle.fit_rows.proofs.kept.keep_at.Goals as goal
 
-pub returns : goal.returns
-returns g c =
+pub returns-clause-here : goal.returns-clause-here
+returns-clause-here g c =
     let kept = c.loop.kept.items in
     let item = Some c.args.item in
     let last : length kept ≡ c.args.place = omega (arith, c.loop.invariant, c.loop-test.false, c.if-place-len.false, c.len.ensures) in

@@ -5,7 +5,7 @@ use Rattle.std.proofs.lemmas.List.{append-nil}
 use Rattle.fit_record.specs.MessageBytes.{message_in}
 use Rattle.fit_record.specs.Records.{IsRecord}
 use Rattle.fit_rows.specs.inner.TableCells.{MayPutRow}
-use Rattle.fit_rows.proofs.CurrentFacts.{one_current}
+use Rattle.fit_rows.proofs.CurrentFacts.{renewed}
 use Rattle.fit_rows.proofs.RowsInBytes.{row_of_other}
 use Rattle.fit_rows.proofs.TableNumbers.{if_ok}
 use Rattle.fit_rows.proofs.tables.report.put_message.Goals as goal
@@ -52,5 +52,5 @@ put_message_row-requires-clause-current c =
 pub returns-clause-current : goal.returns-clause-current
 returns-clause-current c =
     let m = c.in-Some.message in
-    one_current column_fields c.put_message_row.new.maker.columns c.args.stream.now m.local m.defined.now
-    (subst (λ e. defined_at e m.local ≡ Some m.defined.now) c.env.ensures c.in-Some.ensures.defined) c.put_message_row.ensures.current
+    renewed column_fields c.args.maker.now.columns c.put_message_row.new.maker.columns c.args.stream.now m.local m.defined.now
+    (subst (λ e. defined_at e m.local ≡ Some m.defined.now) c.env.ensures c.in-Some.ensures.defined) c.requires.current c.put_message_row.ensures.current
