@@ -20,8 +20,8 @@ pub noted : {T : Type 0} (old new : ByLocal T) (local : ℕ) (item : T) → new.
 noted old new local item items flags here = (
   λ _. ap (λ kept. slice_get kept local) items ∙ here,
   λ other t differs was flag.
-  ap (λ kept. slice_get kept other) items
-  ∙ was (sym (elsewhere old.current local other true differs) ∙ sym (ap (λ fs. slice_get fs other) flags) ∙ flag),
+      ap (λ kept. slice_get kept other) items
+      ∙ was (sym (elsewhere old.current local other true differs) ∙ sym (ap (λ fs. slice_get fs other) flags) ∙ flag),
 )
 
 -- that of one local message type is known, and what was known of the others still is
@@ -30,7 +30,7 @@ pub renewed : {T : Type 0} (item_of : List (Record Global) → ℕ → Defined G
     → AreCurrent item_of new before
 renewed item_of old new before local p is are renews = λ l q other. elim (cases_eq l local) [
   | inl same ↦
-  subst (λ k. IsCurrent new k (item_of before k q)) (sym same)
-  (subst (λ r. IsCurrent new local (item_of before local r)) (same_Some p q (sym is ∙ ap (defined_at (known before)) (sym same) ∙ other)) renews.0)
+      subst (λ k. IsCurrent new k (item_of before k q)) (sym same)
+      (subst (λ r. IsCurrent new local (item_of before local r)) (same_Some p q (sym is ∙ ap (defined_at (known before)) (sym same) ∙ other)) renews.0)
   | inr differs ↦ renews.1 l (item_of before l q) differs (are l q other)
 ]

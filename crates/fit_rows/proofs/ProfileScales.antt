@@ -3,8 +3,9 @@ use Rattle.fit_rows.proofs.Common.{◌≡◌, ◌∙◌, inl, inr, Bool, true, [
 use Rattle.fit_rows.proofs.Common.{Items, FieldDef, MessageDef, Values, Fixed, fixed_text, Field, Meaning, message_index, messages, timestamp, field, field_of}
 use Rattle.fit_rows.proofs.Common.{message_of, IsScale, first_field, IsValueOf, first_number, known_number, amount_text, value_text, shown_text}
 use Rattle.std.proofs.Common.{ℕ, ◌==◌, List, Option, Some, None}
-use Rattle.std.specs.Prelude.{option_map, if◌then◌else◌, ℤ}
+use Rattle.std.specs.Prelude.{option_map, if◌then◌else◌, ℤ, pos}
 use Rattle.fit_profile.specs.Profile.{Message}
+use Rattle.fit_profile.specs.Values.{IsAmount}
 use Rattle.fit_cells.proofs.NumberFacts.{is_scaled}
 
 abbrev is_scale : ℕ → Bool
@@ -90,6 +91,14 @@ value_shown (Some r) None (Some v) scale is = absurd is
 value_shown (Some r) (Some m) None scale is = absurd is
 value_shown (Some r) (Some m) (Some v) scale is =
     ap Some (ap₂ fixed_text (is_scaled r v.value m.scale m.offset (scale m refl) is.1) is.0)
+
+-- the text of a number of units
+pub amount_shown : (scale : ℕ) (n : Option ℕ) (value : Option Fixed) → IsScale scale → IsAmount scale n value
+    → shown_text value ≡ option_map (λ (n : ℕ). amount_text (pos n) scale 0) n
+amount_shown scale None None known is = refl
+amount_shown scale None (Some v) known is = absurd is
+amount_shown scale (Some n) None known is = absurd is
+amount_shown scale (Some n) (Some v) known is = ap Some (ap₂ fixed_text (is_scaled (pos n) v.value scale 0 known is.1) is.0)
 
 by_field : {A : Type 0} (global number : ℕ) (f : Option (FieldDef × Items A)) (value : Option Fixed)
     → IsValueOf (option_and_then (λ f. option_and_then (λ raw. option_map (λ m. (raw, m)) (field global number)) (first_number f.0 f.1)) f) value

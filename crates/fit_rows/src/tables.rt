@@ -1,5 +1,6 @@
 //! The table of a ride, event by event.
 
+pub(crate) mod amounts;
 pub(crate) mod columns;
 pub(crate) mod front;
 pub(crate) mod kinds;

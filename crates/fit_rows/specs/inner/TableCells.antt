@@ -6,20 +6,14 @@ use Rattle.csv.specs.Writing.{default_writer, fields_text}
 use Rattle.fit_record.specs.Faults.{or_else}
 use Rattle.fit_record.specs.declared.definition.MessageDef.{MessageDef}
 use Rattle.fit_record.specs.declared.message.Record.{Record}
-use Rattle.fit_record.specs.declared.message.Record.TheVariants.{Values as Data}
 use Rattle.fit_record.specs.declared.message.Values.{Values}
-use Rattle.fit_record.specs.declared.message_bytes.MessageBytes.{MessageBytes}
-use Rattle.fit_record.specs.Environment.{defined_at}
-use Rattle.fit_record.specs.MessageBytes.{message_in}
 use Rattle.fit_profile.specs.declared.told.Told.{Told}
 use Rattle.fit_chain.specs.declared.event.Event.{Event as Answer}
 use Rattle.fit_decode.specs.Answers.{event_of}
 use Rattle.fit_numbers.specs.declared.decimal.Fixed.{Fixed}
 use Rattle.fit_profile.specs.declared.message.Message.{Message}
 use Rattle.fit_numbers.specs.FixedText.{fixed_text}
-use Rattle.fit_profile.specs.Looks.{known}
 use Rattle.fit_profile.specs.Meant.{shown}
-use Rattle.fit_profile.specs.Times.{time as time_of}
 use Rattle.fit_cells.specs.Rows.{Cell, HasRows, Row}
 use Rattle.fit_rows.specs.ChainRows.{next_files}
 use Rattle.fit_rows.specs.Table.{amount_text, degrees_text, table_event_rows, table_message_rows, table_row, value_text}
@@ -59,11 +53,9 @@ effort_cells d v t =
 abbrev pub AreSome : (MessageDef Global → Values Global → Told → Type 0) → Type 0
 AreSome Are = (d : MessageDef Global) × (v : Values Global) × (t : Told) × Are d v t
 
--- If a row was put after a text, it is the row of this message, by this time of it, in the file of this number, after any records that
--- give it this definition and this time.
-abbrev pub MayPutRow : ℕ → MessageBytes Global → Option ℕ → Bool → Vec ℕ Global → Vec ℕ Global → Type 0
-MayPutRow file m time put old new = put ≡ true → (before : List (Record Global)) → defined_at (known before) m.local ≡ Some m.defined.now
-    → time ≡ time_of before (Data (message_in m)) → HasRows (table_message_rows file before (message_in m)) old new
+-- If a row was put after a text, it is the row of this message after these records in the file of this number.
+abbrev pub MayPutRow : ℕ → List (Record Global) → Values Global → Bool → Vec ℕ Global → Vec ℕ Global → Type 0
+MayPutRow file before v put old new = put ≡ true → HasRows (table_message_rows file before v) old new
 
 -- the row of a record message in the file of this number, or none
 abbrev pub rows_in : {A : Type 0} → ℕ → Option (Message A) → List Row

@@ -1,5 +1,5 @@
 -- Where the numbers of the table stand in the bytes of record messages of a definition. No public contract names these definitions.
-use Rattle.std.specs.Prelude.{◌≡◌, ◌≤◌, ◌+◌, ◌==◌, ◌||◌, ℕ, Bool, List, None, Some, drop, length, map, take, IsSomeAnd}
+use Rattle.std.specs.Prelude.{◌≡◌, ◌≤◌, ◌+◌, ◌==◌, ◌||◌, ℕ, Bool, List, Option, None, Some, false, drop, length, map, take, pos, option_map, IsSomeAnd, IfSome}
 use Rattle.std.specs.Global.{Global}
 use Rattle.fit_base.specs.declared.number.Order.{Order}
 use Rattle.fit_base.specs.BaseTypes.{item_width}
@@ -14,6 +14,9 @@ use Rattle.fit_profile.specs.Looks.{first_field}
 use Rattle.fit_profile.specs.Names.{field}
 use Rattle.fit_cells.specs.Forms.{IsFormOf, IsSmallForm}
 use Rattle.fit_rows.specs.inner.TableKinds.{IsOfKind}
+use Rattle.fit_rows.specs.Table.{amount_text}
+use Rattle.fit_rows.specs.inner.TableCells.{shown_text}
+use Rattle.fit_rows.specs.declared.tables.amounts.Amounts.{Amounts}
 use Rattle.fit_rows.specs.declared.tables.columns.Place.{Place}
 use Rattle.fit_rows.specs.declared.tables.columns.Places.{Places}
 use Rattle.fit_rows.specs.declared.tables.columns.Column.{Column}
@@ -58,9 +61,9 @@ abbrev pub IsColumn : List FieldDef → ℕ → Column → Type 0
 IsColumn fields number Absent = (o : Order) (bytes : List ℕ) → first_field {A = Global} fields (fields_from o (slots fields) bytes) number ≡ None
 IsColumn fields number (At p) = IsFirst fields number p
 
--- the columns of the table, and that no field has a distance to accumulate
+-- the columns of the table, and whether a field may have a distance to accumulate
 pub record ArePlaces (fields : List FieldDef) (p : Places) : Type 0 where
-  pub counts_nothing : IsColumn fields 8 Absent
+  pub counts : p.counts ≡ false → IsColumn fields 8 Absent
   pub position_lat : IsColumn fields 0 p.position_lat
   pub position_long : IsColumn fields 1 p.position_long
   pub enhanced_altitude : IsColumn fields 78 p.enhanced_altitude
@@ -73,12 +76,23 @@ pub record ArePlaces (fields : List FieldDef) (p : Places) : Type 0 where
   pub power : IsColumn fields 7 p.power
   pub temperature : IsColumn fields 13 p.temperature
 
--- These are the bytes of a record message with its numbers at these places, of this definition and with these values, which
--- accumulates nothing.
-pub record AreInBytes (p : Places) (o : Order) (bytes : List ℕ) (d : MessageDef Global) (v : Values Global) (t : Told) : Type 0 where
+-- the speed and the distance that a message tells
+pub record AreAmounts (a : Amounts) (t : Told) : Type 0 where
+  pub speed : shown_text a.speed ≡ option_map (λ n. amount_text (pos n) 100 0) t.speed
+  pub distance : shown_text a.distance ≡ option_map (λ n. amount_text (pos n) 16 0) t.distance
+  pub few_speed : IfSome a.speed (λ v. v.decimals ≤ 8)
+  pub few_distance : IfSome a.distance (λ v. v.decimals ≤ 8)
+
+-- It tells these, or neither.
+abbrev pub Tells : Option Amounts → Told → Type 0
+Tells None t = (t.speed ≡ None) × (t.distance ≡ None)
+Tells (Some a) t = AreAmounts a t
+
+-- These are the bytes of a record message with its numbers at these places, of this definition and with these values, which tells this of
+-- a distance to accumulate.
+pub record AreInBytes (p : Places) (o : Order) (bytes : List ℕ) (a : Option Amounts) (d : MessageDef Global) (v : Values Global) (t : Told) : Type 0 where
   pub places : ArePlaces d.fields p
   pub global : d.global ≡ 20
   pub fields : v.fields ≡ fields_from o (slots d.fields) bytes
   pub within : sizes (slots d.fields) ≤ length bytes
-  pub distance : t.distance ≡ None
-  pub speed : t.speed ≡ None
+  pub tells : Tells a t

@@ -104,9 +104,11 @@ fn column_of(fields: &[FieldDef], number: u8) -> Option<Column>
     Some(Column::Absent)
 }
 
-/// Where the numbers of the table stand in record messages that accumulate nothing.
+/// Where the numbers of the table stand in record messages.
 #[derive(Clone, Copy)]
 pub(crate) struct Places {
+    /// Whether a field may have a distance to accumulate.
+    pub counts: bool,
     pub position_lat: Column,
     pub position_long: Column,
     pub enhanced_altitude: Column,
@@ -121,16 +123,17 @@ pub(crate) struct Places {
 }
 
 impl Places {
-    /// Those of record messages with these fields, where each can be read and none has a distance to accumulate.
+    /// Those of record messages with these fields, where each can be read.
     fn new(fields: &[FieldDef]) -> Option<Places>
         requires { length fields.now < 256 }
         ensures { IfSome result (ArePlaces fields.now) }
     {
-        match column_of(fields, COMPRESSED_SPEED_DISTANCE) {
-            Some(Column::Absent) => (),
-            _ => return None,
-        }
+        let counts = match column_of(fields, COMPRESSED_SPEED_DISTANCE) {
+            Some(Column::Absent) => false,
+            _ => true,
+        };
         Some(Places {
+            counts,
             position_lat: column_of(fields, 0)?,
             position_long: column_of(fields, 1)?,
             enhanced_altitude: column_of(fields, 78)?,

@@ -1,18 +1,25 @@
 //! The rows of the table, and what is kept from one to the next.
-ghost use Rattle.std.specs.Prelude.{◌≡◌, ◌∷◌, [], IfOk, IfSome, OnOk, Some, false, length, slice_get, true};
-ghost use Rattle.fit_record.specs.Records.{message_size};
+ghost use Rattle.std.specs.Prelude.{◌≡◌, ◌∷◌, [], IfOk, IfSome, OnOk, Some, false, length, option_map, slice_get, true};
+ghost use Rattle.fit_record.specs.Environment.{defined_at};
+ghost use Rattle.fit_record.specs.MessageBytes.{message_in};
+ghost use Rattle.fit_record.specs.Records.{IsRecord, message_size};
 ghost use Rattle.fit_record.specs.Sound.{IsSound};
+ghost use Rattle.fit_record.specs.declared.message.Record.TheVariants.{Values as Data};
+ghost use Rattle.fit_profile.specs.Looks.{known};
 ghost use Rattle.fit_profile.specs.Meant.{shown};
+ghost use Rattle.fit_profile.specs.declared.told.Told.{Told};
 ghost use Rattle.fit_cells.specs.Rows.{HasRows};
 ghost use Rattle.fit_rows.specs.Table as table;
 ghost use Rattle.fit_rows.specs.inner.Current.{IsCurrent, Renews};
 ghost use Rattle.fit_rows.specs.inner.TableCells.{MayPutRow};
+ghost use Rattle.fit_rows.specs.inner.TableColumns.{ArePlaces, Tells};
 
 use crate::kept::{ByLocal, note};
-use crate::tables::columns::Columns;
+use crate::tables::amounts::Amounts;
+use crate::tables::columns::{Columns, Places};
 use crate::tables::numbers::NumbersInBytes;
 use crate::tables::rows::{TableRowMaker, put_row};
-use fit_profile::Message;
+use fit_profile::{Message, Stream};
 use fit_record::{FieldDef, MessageBytes};
 use std::alloc::{AllocError, Global};
 
@@ -49,58 +56,131 @@ pub(crate) fn put_table_row(
     put_row(text, rows, file, message.time(), message)
 }
 
-/// Puts the row of a record message of a file from its bytes, by its columns and its time, where its numbers can be read there.
-/// Whether it did.
+/// Puts the row of a record message of a file from its bytes by these places of its numbers, and by what it tells of a distance to
+/// accumulate, where it may have one.
+#[inline(always)]
+fn put_placed(
+    text: &mut Vec<u8>,
+    rows: &mut TableRowMaker,
+    places: &Places,
+    amounts: Option<&Amounts>,
+    message: &MessageBytes<'_>,
+    time: Option<u32>,
+    file: u64,
+) -> Result<(), AllocError>
+    requires places { ArePlaces message.now.defined.now.definition.fields places.now }
+    requires global { message.now.defined.now.definition.global ≡ 20 }
+    requires long { length message.now.body.now ≡ message_size message.now.defined.now }
+    requires some { (t : Told) × Tells (option_map (λ a. a.now) amounts) t }
+    ensures { OnOk result ((t : Told) → time ≡ t.time
+        → Tells (option_map (λ a. a.now) amounts.entry) t
+        → HasRows (table.table_row file message.now.defined.now.definition
+        (message_in message.now) t ∷ []) text.old text.new) }
+{
+    let numbers = NumbersInBytes {
+        places,
+        order: message.defined.definition.order,
+        bytes: message.body,
+        amounts,
+    };
+    put_row(text, rows, file, time, &numbers)
+}
+
+/// Puts the row of a record message that may have a distance to accumulate, by what it tells after the records of a stream.
+#[inline(never)]
+fn put_counted(
+    text: &mut Vec<u8>,
+    rows: &mut TableRowMaker,
+    places: &Places,
+    stream: &Stream,
+    message: &MessageBytes<'_>,
+    bytes: &[u8],
+    file: u64,
+) -> Result<(), AllocError>
+    requires places { ArePlaces message.now.defined.now.definition.fields places.now }
+    requires global { message.now.defined.now.definition.global ≡ 20 }
+    requires long { length message.now.body.now ≡ message_size message.now.defined.now }
+    requires defined { defined_at (known stream.now) message.now.local
+        ≡ Some message.now.defined.now }
+    requires record_ { IsRecord (known stream.now) (Data (message_in message.now)) bytes.now }
+    ensures { OnOk result (HasRows
+        (table.table_message_rows file stream.now (message_in message.now)) text.old text.new) }
+{
+    let amounts = Amounts::of(stream, bytes);
+    let time = stream.message_time(bytes);
+    put_placed(text, rows, places, Some(&amounts), message, time, file)
+}
+
+/// Puts the row of a record message of a file from its bytes after the records of a stream, by its columns, where its numbers can be
+/// read there. Whether it did.
 fn put_by(
     text: &mut Vec<u8>,
     rows: &mut TableRowMaker,
     columns: &Columns,
+    stream: &Stream,
     message: &MessageBytes<'_>,
-    time: Option<u32>,
+    bytes: &[u8],
     file: u64,
 ) -> Result<bool, AllocError>
     requires fields { message.now.defined.now.definition.fields ≡ columns.now }
     requires global { message.now.defined.now.definition.global ≡ 20 }
     requires long { length message.now.body.now ≡ message_size message.now.defined.now }
-    ensures row { IfOk result (λ put. MayPutRow file message.now time put text.old text.new) }
+    requires defined { defined_at (known stream.now) message.now.local
+        ≡ Some message.now.defined.now }
+    requires record_ { IsRecord (known stream.now) (Data (message_in message.now)) bytes.now }
+    ensures row { IfOk result (λ put. MayPutRow file stream.now (message_in message.now) put
+        text.old text.new) }
     ensures none { IfOk result (λ put. put ≡ false → text.new.items ≡ text.old.items) }
 {
     let Some(places) = columns.places() else {
         return Ok(false);
     };
-    let numbers = NumbersInBytes {
-        places,
-        order: message.defined.definition.order,
-        bytes: message.body,
-    };
-    put_row(text, rows, file, time, &numbers)?;
+    if places.counts {
+        put_counted(text, rows, places, stream, message, bytes, file)?;
+        return Ok(true);
+    }
+    let time = stream.message_time(bytes);
+    put_placed(text, rows, places, None, message, time, file)?;
     Ok(true)
 }
 
-/// Puts the row of a record message of a file from its bytes, by its time and by columns that are found out and kept, where its
-/// numbers can be read there. Whether it did.
+/// Puts the row of a record message of a file from its bytes after the records of a stream, by columns that are found out and kept,
+/// where its numbers can be read there. Whether it did.
 #[cold]
 #[inline(never)]
 fn put_by_new(
     text: &mut Vec<u8>,
     maker: &mut TableMaker,
+    stream: &Stream,
     message: &MessageBytes<'_>,
-    time: Option<u32>,
+    bytes: &[u8],
     file: u64,
 ) -> Result<bool, AllocError>
     requires global { message.now.defined.now.definition.global ≡ 20 }
     requires sound { IsSound message.now.defined.now }
     requires long { length message.now.body.now ≡ message_size message.now.defined.now }
+    requires defined { defined_at (known stream.now) message.now.local
+        ≡ Some message.now.defined.now }
+    requires record_ { IsRecord (known stream.now) (Data (message_in message.now)) bytes.now }
     requires current { IsCurrent maker.old.columns message.now.local
         message.now.defined.now.definition.fields }
-    ensures row { IfOk result (λ put. MayPutRow file message.now time put text.old text.new) }
+    ensures row { IfOk result (λ put. MayPutRow file stream.now (message_in message.now) put
+        text.old text.new) }
     ensures none { IfOk result (λ put. put ≡ false → text.new.items ≡ text.old.items) }
     ensures current { Renews maker.old.columns maker.new.columns message.now.local
         message.now.defined.now.definition.fields }
 {
     let fields = message.defined.definition.fields.as_slice();
     let columns = Columns::new(maker.alloc, fields)?;
-    let put = put_by(text, &mut maker.rows, &columns, message, time, file)?;
+    let put = put_by(
+        text,
+        &mut maker.rows,
+        &columns,
+        stream,
+        message,
+        bytes,
+        file,
+    )?;
     maker.columns.keep(message.local, columns)?;
     Ok(put)
 }
@@ -125,20 +205,26 @@ fn kept_columns<'a>(
     None
 }
 
-/// Puts the row of a record message of a file from its bytes, by its time, where its numbers can be read there. Whether it did.
+/// Puts the row of a record message of a file from its bytes after the records of a stream, where its numbers can be read there. Whether
+/// it did.
 pub(crate) fn put_message_row(
     text: &mut Vec<u8>,
     maker: &mut TableMaker,
+    stream: &Stream,
     message: &MessageBytes<'_>,
-    time: Option<u32>,
+    bytes: &[u8],
     file: u64,
 ) -> Result<bool, AllocError>
     requires global { message.now.defined.now.definition.global ≡ 20 }
     requires sound { IsSound message.now.defined.now }
     requires long { length message.now.body.now ≡ message_size message.now.defined.now }
+    requires defined { defined_at (known stream.now) message.now.local
+        ≡ Some message.now.defined.now }
+    requires record_ { IsRecord (known stream.now) (Data (message_in message.now)) bytes.now }
     requires current { IsCurrent maker.old.columns message.now.local
         message.now.defined.now.definition.fields }
-    ensures row { IfOk result (λ put. MayPutRow file message.now time put text.old text.new) }
+    ensures row { IfOk result (λ put. MayPutRow file stream.now (message_in message.now) put
+        text.old text.new) }
     ensures none { IfOk result (λ put. put ≡ false → text.new.items ≡ text.old.items) }
     ensures current { Renews maker.old.columns maker.new.columns message.now.local
         message.now.defined.now.definition.fields }
@@ -149,8 +235,8 @@ pub(crate) fn put_message_row(
     match kept_columns(maker.columns.items.as_slice(), local, is_current, fields) {
         Some(columns) => {
             note(&mut maker.columns.current, local, true);
-            put_by(text, &mut maker.rows, columns, message, time, file)
+            put_by(text, &mut maker.rows, columns, stream, message, bytes, file)
         }
-        None => put_by_new(text, maker, message, time, file),
+        None => put_by_new(text, maker, stream, message, bytes, file),
     }
 }

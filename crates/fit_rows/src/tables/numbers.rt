@@ -16,6 +16,7 @@ ghost use Rattle.fit_rows.specs.inner.TableCells.{AreSome, PutsCell, shown_text}
 ghost use Rattle.fit_rows.specs.inner.TableColumns.{AreInBytes, IsKnown, is_tabled, items_at};
 
 use crate::stamp::write_text;
+use crate::tables::amounts::Amounts;
 use crate::tables::columns::{Column, Place, Places};
 use crate::tables::kinds::Kind;
 use fit_base::base_type::SINT32;
@@ -96,7 +97,7 @@ fn write_amount(row: &mut [u8], at: usize, value: Fixed) -> usize
 }
 
 /// Writes a number, where there is one. Returns whether there is, and the place after it.
-fn write_number(row: &mut [u8], at: usize, value: Option<Fixed>) -> (bool, usize)
+pub(crate) fn write_number(row: &mut [u8], at: usize, value: Option<Fixed>) -> (bool, usize)
     requires few { IfSome value (λ v. v.decimals ≤ 8) }
     requires room { at + 48 ≤ length row.old }
     ensures size { length row.new ≡ length row.old }
@@ -374,16 +375,18 @@ fn write_placed_position(
     write_other_position(row, at, place, order, bytes)
 }
 
-/// The numbers of a record message in its bytes.
+/// The numbers of a record message in its bytes, and what it tells of a distance to accumulate, where it may have one.
 #[derive(Drop)]
 pub(crate) struct NumbersInBytes<'a> {
     pub places: &'a Places,
     pub order: Order,
     pub bytes: &'a [u8],
+    pub amounts: Option<&'a Amounts>,
 }
 
 impl<'a> RecordNumbers for NumbersInBytes<'a> {
-    ghost are_of = { λ n d v t. AreInBytes n.places.now n.order n.bytes.now d v t };
+    ghost are_of = { λ n d v t. AreInBytes n.places.now n.order n.bytes.now
+        (option_map (λ a. a.now) n.amounts) d v t };
 
     #[inline(always)]
     fn write_value(&self, row: &mut [u8], at: usize, number: u8) -> (bool, usize) {
@@ -402,12 +405,18 @@ impl<'a> RecordNumbers for NumbersInBytes<'a> {
     }
 
     #[inline(always)]
-    fn write_distance(&self, _row: &mut [u8], at: usize) -> (bool, usize) {
-        (false, at)
+    fn write_distance(&self, row: &mut [u8], at: usize) -> (bool, usize) {
+        match self.amounts {
+            Some(amounts) => amounts.write_distance(row, at),
+            None => (false, at),
+        }
     }
 
     #[inline(always)]
-    fn write_speed(&self, _row: &mut [u8], at: usize) -> (bool, usize) {
-        (false, at)
+    fn write_speed(&self, row: &mut [u8], at: usize) -> (bool, usize) {
+        match self.amounts {
+            Some(amounts) => amounts.write_speed(row, at),
+            None => (false, at),
+        }
     }
 }

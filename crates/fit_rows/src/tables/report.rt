@@ -94,8 +94,7 @@ fn put_message(
     if message.defined.definition.global != RECORD {
         return Ok(true);
     }
-    let time = stream.message_time(bytes);
-    put_message_row(text, maker, &message, time, file)
+    put_message_row(text, maker, stream, &message, bytes, file)
 }
 
 /// The record that the bytes of a data message are.

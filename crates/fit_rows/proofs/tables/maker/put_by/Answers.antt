@@ -1,28 +1,24 @@
-use Rattle.fit_rows.proofs.Common.{subst, sym, refl, ArePlaces, HasRows}
-use Rattle.std.proofs.Common.{None}
+use Rattle.fit_rows.proofs.Common.{subst, sym, ArePlaces, HasRows}
 use Rattle.fit_record.specs.MessageBytes.{message_in}
 use Rattle.fit_profile.specs.Told.{told}
-use Rattle.fit_profile.specs.declared.told.Told.{Told}
-use Rattle.fit_rows.proofs.RowsInBytes.{counts_nothing, in_bytes, no_distance, no_speed, row_of_record}
+use Rattle.fit_rows.proofs.RowsInBytes.{row_of_record, tells_nothing}
 use Rattle.fit_rows.proofs.tables.maker.put_by.Goals as goal
 
-pub put_row-requires : goal.put_row-requires
-put_row-requires c =
+pub put_placed-requires-clause-some : goal.put_placed-requires-clause-some
+put_placed-requires-clause-some c =
     let m = c.args.message.now in
-    let are = subst (λ fields. ArePlaces fields c.in-Some.places.now) (sym c.requires.fields) c.in-Some.ensures in
-    let nothing : Told = record { time = None; header_time = None; speed = None; distance = None; total_cycles = None; accumulated_power = None } in
-    (m.defined.now.definition, message_in m, nothing, in_bytes m c.in-Some.places.now nothing are c.requires.global c.requires.long refl refl)
+    let are = subst (λ fields. ArePlaces fields c.in-Some.places.now) (sym c.requires.fields) c.in-Some.ensures in (
+      told c.args.stream.now (message_in m),
+      tells_nothing c.args.stream.now m c.in-Some.places.now c.requires.defined c.requires.global are c.if-places.false,
+    )
 
 pub returns-clause-row : goal.returns-clause-row
-returns-clause-row c put before defined timed =
+returns-clause-row c put =
     let m = c.args.message.now in
-    let p = m.defined.now in
+    let before = c.args.stream.now in
     let v = message_in m in
-    let places = c.in-Some.places.now in
-    let are = subst (λ fields. ArePlaces fields places) (sym c.requires.fields) c.in-Some.ensures in
-    let none = counts_nothing m places are in
-    let global = c.requires.global in
-    subst (λ rows. HasRows rows c.args.text.now c.put_row.new.text) (sym (row_of_record c.args.file before v p defined global))
-    (c.in_ok-put_row.ensures p.definition v (told before v)
-    (in_bytes m places (told before v) are global c.requires.long (no_distance before v p defined global none) (no_speed before v p defined global none))
-    timed)
+    let are = subst (λ fields. ArePlaces fields c.in-Some.places.now) (sym c.requires.fields) c.in-Some.ensures in
+    subst (λ rows. HasRows rows c.args.text.now c.put_placed.new.text)
+    (sym (row_of_record c.args.file before v m.defined.now c.requires.defined c.requires.global))
+    (c.in_ok-put_placed.ensures (told before v) (c.message_time-time.ensures v c.requires.record_)
+    (tells_nothing before m c.in-Some.places.now c.requires.defined c.requires.global are c.if-places.false))

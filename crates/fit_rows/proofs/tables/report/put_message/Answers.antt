@@ -1,5 +1,5 @@
 use Rattle.fit_rows.proofs.Common.{column_fields, ◌≡◌, ◌∙◌, ◌++◌, [], ap, subst, sym, true, Data, Values, Global, csv_text, defined_at, known}
-use Rattle.fit_rows.proofs.Common.{table_message_rows, time}
+use Rattle.fit_rows.proofs.Common.{table_message_rows}
 use Rattle.std.proofs.Common.{Some}
 use Rattle.std.proofs.lemmas.List.{append-nil}
 use Rattle.fit_record.specs.MessageBytes.{message_in}
@@ -28,6 +28,14 @@ returns-then-message-ne-RECORD-clause-row c put v is_record =
     let none = row_of_other c.args.file before (message_in m) m.defined.now defined c.if-message-ne-RECORD.true in
     sym (ap (λ w. text ++ csv_text (table_message_rows c.args.file before w)) (sym found.0) ∙ ap (λ rows. text ++ csv_text rows) none ∙ append-nil text)
 
+pub put_message_row-requires-clause-record_ : goal.put_message_row-requires-clause-record_
+put_message_row-requires-clause-record_ c =
+    let bytes = c.args.bytes.now in
+    let v = c.requires.record_.0 in
+    let found = c.in-Some.ensures.found v bytes [] (sym (append-nil bytes))
+    (subst (λ e. IsRecord e (Data v) bytes) (sym c.env.ensures) c.requires.record_.1) in
+    subst (λ w. IsRecord (known c.args.stream.now) (Data w) bytes) (sym found.0) c.requires.record_.1
+
 pub returns-clause-row : goal.returns-clause-row
 returns-clause-row c =
     let bytes = c.args.bytes.now in
@@ -35,14 +43,12 @@ returns-clause-row c =
     let m = c.in-Some.message in
     let old = c.args.text.now in
     let new = c.put_message_row.new.text in
-    if_ok (λ put. MayPutRow c.args.file m c.message_time-time.result put old new)
+    if_ok (λ put. MayPutRow c.args.file before (message_in m) put old new)
     (λ put. put ≡ true → (v : Values Global) → IsRecord (known before) (Data v) bytes
     → new.items ≡ old.items ++ csv_text (table_message_rows c.args.file before v)) c.put_message_row.result
     (λ put row is v is_record.
     let found = c.in-Some.ensures.found v bytes [] (sym (append-nil bytes)) (subst (λ e. IsRecord e (Data v) bytes) (sym c.env.ensures) is_record) in
-    let defined = subst (λ e. defined_at e m.local ≡ Some m.defined.now) c.env.ensures c.in-Some.ensures.defined in
-    let timed = c.message_time-time.ensures v is_record ∙ ap (λ w. time before (Data w)) (sym found.0) in
-    (row is before defined timed).text ∙ ap (λ w. old.items ++ csv_text (table_message_rows c.args.file before w)) found.0) c.put_message_row.ensures.row
+    (row is).text ∙ ap (λ w. old.items ++ csv_text (table_message_rows c.args.file before w)) found.0) c.put_message_row.ensures.row
 
 pub put_message_row-requires-clause-current : goal.put_message_row-requires-clause-current
 put_message_row-requires-clause-current c =
