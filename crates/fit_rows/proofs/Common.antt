@@ -81,4 +81,4 @@ pub use Rattle.fit_rows.specs.inner.Showing.{text_with, CellKey, ShownKey, first
 pub use Rattle.fit_rows.specs.inner.Showing.{dev_field_part, field_part, line_head, line_keys, line_slots, line_text, own_end, own_parts, part_texts}
 pub use Rattle.fit_rows.specs.inner.TableCells.{shown_text, table_answer_rows, rows_in, files_after_answer, PutsCell, AddsCell, effort_cells, place_cells}
 pub use Rattle.fit_rows.specs.inner.Current.{AreCurrent, IsCurrent, NoneAreCurrent, Renews, column_fields}
-pub use Rattle.fit_rows.specs.inner.TableColumns.{ArePlaces, AreAmounts, AreInBytes, Tells, IsColumn, IsFirst, IsKnown, IsPlaced, items_at, slots}
+pub use Rattle.fit_rows.specs.inner.TableColumns.{ArePlaces, AreAmounts, AreInBytes, TellsAmounts, IsColumn, IsFirst, IsKnown, IsPlaced, items_at, slots}

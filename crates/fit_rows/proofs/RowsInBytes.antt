@@ -1,6 +1,6 @@
 -- The row of a record message in its bytes.
 use Rattle.fit_rows.proofs.Common.{◌≡◌, ◌∙◌, ◌∷◌, [], length, Bool, false, sym, ap, arith, eq-eqb, ne_eqb, option_and_then, Global, Items, Defined, FieldDef}
-use Rattle.fit_rows.proofs.Common.{Record, Data, Values, defined_at, known, first_field, layout, dev_layout, Row, AreInBytes, ArePlaces, Tells, slots}
+use Rattle.fit_rows.proofs.Common.{Record, Data, Values, defined_at, known, first_field, layout, dev_layout, Row, AreInBytes, ArePlaces, TellsAmounts, slots}
 use Rattle.fit_rows.proofs.Common.{table_message_rows}
 use Rattle.fit_rows.proofs.Common.{table_row}
 use Rattle.std.proofs.Common.{◌%◌, ◌^◌, ◌≤◌, ◌==◌, ℕ, List, Option, Some, None, if◌then◌else◌}
@@ -21,7 +21,7 @@ sizes_within m long = omega (arith, long, sum_by-append (λ (f : ℕ × ℕ). f.
 
 -- the numbers of a message stand in its bytes
 pub in_bytes : (m : MessageBytes Global) (places : Places) (a : Option Amounts) (t : Told) → ArePlaces m.defined.now.definition.fields places
-    → m.defined.now.definition.global ≡ 20 → length m.body.now ≡ message_size m.defined.now → Tells a t
+    → m.defined.now.definition.global ≡ 20 → length m.body.now ≡ message_size m.defined.now → TellsAmounts a t
     → AreInBytes places m.defined.now.definition.order m.body.now a m.defined.now.definition (message_in m) t
 in_bytes m places a t are global long tells = record {
   places = are;
@@ -58,7 +58,7 @@ no_speed before v p defined global none = ap (option_map (λ (x : ℕ). x % 2 ^ 
 
 pub tells_nothing : (before : List (Record Global)) (m : MessageBytes Global) (places : Places) → defined_at (known before) m.local ≡ Some m.defined.now
     → m.defined.now.definition.global ≡ 20 → ArePlaces m.defined.now.definition.fields places → places.counts ≡ false
-    → Tells None (told before (message_in m))
+    → TellsAmounts None (told before (message_in m))
 tells_nothing before m places defined global are none =
     let absent = counts_nothing m places are none in
     (no_speed before (message_in m) m.defined.now defined global absent, no_distance before (message_in m) m.defined.now defined global absent)

@@ -1,6 +1,6 @@
 -- The cells of several numbers by the bytes of their fields.
-use Rattle.fit_rows.proofs.Common.{◌≡◌, ◌∙◌, ◌/◌, ◌%◌, [], length, map, refl, sym, ap, Order, cell, field_text, default_writer, shown_cell, item_width, base_type}
-use Rattle.fit_rows.proofs.Common.{eq-eqb, eqb-true, inl, inr, cases_Bool, nil_from_length, list_all, item_text, IsFormOf}
+use Rattle.fit_rows.proofs.Common.{◌≡◌, ◌∙◌, ◌/◌, ◌%◌, [], length, map, refl, sym, ap, Order, cell, field_text, default_writer, shown_cell, item_width}
+use Rattle.fit_rows.proofs.Common.{base_type, eq-eqb, eqb-true, inl, inr, cases_Bool, nil_from_length, list_all, item_text, IsFormOf}
 use Rattle.std.proofs.Common.{ℕ, List, Option, if◌then◌else◌, ◌==◌, true}
 use Rattle.fit_base.specs.declared.code.Class.{Class}
 use Rattle.fit_base.specs.declared.code.Class.TheVariants.{Bytes, Text}

@@ -84,9 +84,9 @@ pub record AreAmounts (a : Amounts) (t : Told) : Type 0 where
   pub few_distance : IfSome a.distance (λ v. v.decimals ≤ 8)
 
 -- It tells these, or neither.
-abbrev pub Tells : Option Amounts → Told → Type 0
-Tells None t = (t.speed ≡ None) × (t.distance ≡ None)
-Tells (Some a) t = AreAmounts a t
+abbrev pub TellsAmounts : Option Amounts → Told → Type 0
+TellsAmounts None t = (t.speed ≡ None) × (t.distance ≡ None)
+TellsAmounts (Some a) t = AreAmounts a t
 
 -- These are the bytes of a record message with its numbers at these places, of this definition and with these values, which tells this of
 -- a distance to accumulate.
@@ -95,4 +95,4 @@ pub record AreInBytes (p : Places) (o : Order) (bytes : List ℕ) (a : Option Am
   pub global : d.global ≡ 20
   pub fields : v.fields ≡ fields_from o (slots d.fields) bytes
   pub within : sizes (slots d.fields) ≤ length bytes
-  pub tells : Tells a t
+  pub tells : TellsAmounts a t

@@ -12,7 +12,7 @@ ghost use Rattle.fit_cells.specs.Rows.{HasRows};
 ghost use Rattle.fit_rows.specs.Table as table;
 ghost use Rattle.fit_rows.specs.inner.Current.{IsCurrent, Renews};
 ghost use Rattle.fit_rows.specs.inner.TableCells.{MayPutRow};
-ghost use Rattle.fit_rows.specs.inner.TableColumns.{ArePlaces, Tells};
+ghost use Rattle.fit_rows.specs.inner.TableColumns.{ArePlaces, TellsAmounts};
 
 use crate::kept::{ByLocal, note};
 use crate::tables::amounts::Amounts;
@@ -71,9 +71,9 @@ fn put_placed(
     requires places { ArePlaces message.now.defined.now.definition.fields places.now }
     requires global { message.now.defined.now.definition.global ≡ 20 }
     requires long { length message.now.body.now ≡ message_size message.now.defined.now }
-    requires some { (t : Told) × Tells (option_map (λ a. a.now) amounts) t }
+    requires some { (t : Told) × TellsAmounts (option_map (λ a. a.now) amounts) t }
     ensures { OnOk result ((t : Told) → time ≡ t.time
-        → Tells (option_map (λ a. a.now) amounts.entry) t
+        → TellsAmounts (option_map (λ a. a.now) amounts.entry) t
         → HasRows (table.table_row file message.now.defined.now.definition
         (message_in message.now) t ∷ []) text.old text.new) }
 {
