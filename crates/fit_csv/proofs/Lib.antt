@@ -31,5 +31,6 @@ mod Unwritten
 mod TextRows
 mod ReportTexts
 mod LooseReads
+mod Lanes
 mod LooseTexts
 mod Windows

@@ -161,21 +161,6 @@ high-not-special b high =
 pub high-no-mark : (b : ℕ) → 34 < b → false ≡ is_mark b
 high-no-mark b high = rw (no-equal b 34 high, no-equal b 13 (omega arith)) refl
 
--- eight more bytes without a mark
-pub eight-more : (text : List ℕ) (at n : ℕ) → n ≡ 8 → at + 8 ≤ length text
-    → ((k : ℕ) → k < length (take n (drop at text)) → 34 < get_or (take n (drop at text)) k 0)
-    → ((k : ℕ) → k < at → is_mark (get_or text k 0) ≡ false) → (k : ℕ) → k < at + 8 → is_mark (get_or text k 0) ≡ false
-eight-more text at n eight within high before k low = elim (cases_lt k at) [
-  | inl front ↦ before k front
-  | inr back ↦
-      let there : at + (k - at) ≡ k = omega arith in
-      let left : length (drop at text) ≡ length text - at = length-drop at text in
-      let long : length (take n (drop at text)) ≡ n = length-take-le n (drop at text) (omega arith) in
-      let byte : get_or (take n (drop at text)) (k - at) 0 ≡ get_or text k 0 =
-      get_or-take n (drop at text) (k - at) 0 (omega arith) ∙ get_or-drop at text (k - at) 0 ∙ ap (λ j. get_or text j 0) there in
-      sym (high-no-mark (get_or text k 0) (subst (λ b. 34 < b) byte (high (k - at) (omega arith))))
-]
-
 -- bytes of which none passes a test
 pub none-of : (test : ℕ → Bool) (n : ℕ) (text : List ℕ) → n ≤ length text → ((k : ℕ) → k < n → test (get_or text k 0) ≡ false) → NoneOf test (take n text)
 unfolding NoneOf

@@ -6,6 +6,10 @@ ghost use Rattle.csv.specs.Reading.{strip_bom};
 ghost use Rattle.fit_csv.specs.inner.Loose.{Closes, EndsCell, EndsLine, NoneOf, Opens, WritesEnd, WritesOn, is_mark, is_special};
 ghost use Rattle.fit_csv.specs.inner.Loose.{may_open, spot_after, spot_from};
 
+mod runs;
+
+use crate::from::loose::runs::{bare_length, run_length};
+
 /// How far one step of the spelling looks ahead. A cell of a FIT file is shorter, and a longer one in quotes is not spelled anew.
 pub(crate) const STEP_SIZE: usize = 4_096;
 
@@ -36,69 +40,6 @@ fn spot_of(written: &[u8]) -> Spot
         Some(b) => spot_at(*b),
         None => Spot::RowStart,
     }
-}
-
-/// Whether a cell without quotes can't have a byte.
-#[inline(always)]
-fn special(b: u8) -> bool
-    ensures { result ≡ is_special b }
-{
-    if b > b',' {
-        return false;
-    }
-    b == b',' || b == b'"' || b == b'\r' || b == b'\n'
-}
-
-/// Whether a byte is a quote or a carriage return.
-#[inline(always)]
-fn mark(b: u8) -> bool
-    ensures { result ≡ is_mark b }
-{
-    if b > b'"' {
-        return false;
-    }
-    b == b'"' || b == b'\r'
-}
-
-/// Whether each byte comes after the quote in the alphabet, and so is neither a quote nor a carriage return.
-#[inline(always)]
-fn all_high(bytes: &[u8]) -> bool
-    ensures { IsTrue result → EachIndex bytes.now (λ k. 34 < slice_index bytes.now k) }
-{
-    let mut high = true;
-    for b in bytes {
-        high &= *b > b'"';
-    }
-    high
-}
-
-/// How many bytes of one step, eight at a time, come before a quote or a carriage return.
-fn eights_length(text: &[u8]) -> usize
-    ensures within { result ≤ length text.now }
-    ensures none { (k : ℕ) → k < result → is_mark (slice_index text.now k) ≡ false }
-{
-    let mut at = 0;
-    for _ in 0..text.len().min(STEP_SIZE) / 8 {
-        if !all_high(&text[at..at + 8]) {
-            return at;
-        }
-        at += 8;
-    }
-    at
-}
-
-/// How many bytes of one step come before the first quote or carriage return.
-fn run_length(text: &[u8]) -> usize
-    ensures within { result ≤ length text.now }
-    ensures none { (k : ℕ) → k < result → is_mark (slice_index text.now k) ≡ false }
-{
-    let end = text.len().min(STEP_SIZE);
-    for i in eights_length(text)..end {
-        if mark(text[i]) {
-            return i;
-        }
-    }
-    end
 }
 
 /// How many bytes a cell has after its opening quote, the closing quote too, where one step is enough for it.
@@ -138,24 +79,6 @@ fn put_byte(written: &mut Vec<u8>, byte: u8) -> Option<()>
         Ok(()) => Some(()),
         Err(_) => None,
     }
-}
-
-/// Writes the bytes before the first that a cell without quotes can't have, and returns how many they are, where one step is enough for
-/// them.
-fn put_bare(written: &mut Vec<u8>, text: &[u8]) -> Option<usize>
-    ensures within { IfSome result (λ shown. shown ≤ length text.now) }
-    ensures bare { IfSome result (λ shown.
-        (k : ℕ) → k < shown → is_special (slice_index text.now k) ≡ false) }
-    ensures put { IfSome result (λ shown.
-        written.new.items ≡ written.old.items ++ take shown text.now) }
-{
-    for i in 0..text.len().min(STEP_SIZE) {
-        if special(text[i]) {
-            return Some(i);
-        }
-        put_byte(written, text[i])?;
-    }
-    None
 }
 
 /// What comes after the end of a row.
@@ -247,12 +170,11 @@ fn take_quoted<'a>(written: &mut Vec<u8>, text: &'a [u8]) -> Option<&'a [u8]>
         WritesOn (34 ∷ text.now) left.now written.old.items written.new.items) }
 {
     let spot = spot_of(written.as_slice());
-    let before = written.len();
-    let shown = put_bare(written, text)?;
+    let shown = bare_length(text)?;
     if let Some(after) = after_bare(spot, text, shown) {
+        put(written, &text[..shown])?;
         return end_cell(written, after);
     }
-    written.truncate(before);
     take_kept(written, text)
 }
 

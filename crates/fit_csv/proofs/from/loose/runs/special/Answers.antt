@@ -1,5 +1,5 @@
 use Rattle.fit_csv.proofs.LooseTexts.{high-not-special}
-use Rattle.fit_csv.proofs.from.loose.special.Goals as goal
+use Rattle.fit_csv.proofs.from.loose.runs.special.Goals as goal
 
 pub returns-then-b-gt44 : goal.returns-then-b-gt44
 returns-then-b-gt44 c = high-not-special c.args.b c.if-b-gt44.true

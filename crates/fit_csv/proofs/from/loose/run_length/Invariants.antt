@@ -1,6 +1,0 @@
-use Rattle.std.proofs.Common.{◌≡◌, ℕ, ◌<◌, get_or, false}
-use Rattle.fit_csv.specs.inner.Loose.{is_mark}
-use Rattle.fit_csv.proofs.from.loose.run_length.Given as goal
-
-abbrev pub invariant-loop-i : goal.invariant-loop-i
-invariant-loop-i l = (k : ℕ) → k < l.i → is_mark (get_or l.text k 0) ≡ false

@@ -1,0 +1,15 @@
+use Rattle.std.proofs.Common.{◌+◌, ◌-◌, ◌*◌, arith, length}
+use Rattle.fit_csv.specs.inner.Loose.{is_mark}
+use Rattle.fit_csv.proofs.Lanes.{more-before}
+use Rattle.fit_csv.proofs.from.loose.runs.run_length.Goals as goal
+
+pub returns-then-found-lt-LANES-clause-none : goal.returns-then-found-lt-LANES-clause-none
+returns-then-found-lt-LANES-clause-none c = more-before is_mark c.args.text.now c.loop.at (length c.args.text.now - c.loop.at) c.before_mark-found.result
+    (omega (arith, c.loop.invariant.place, c.loop-test.true, c.before_mark-found.ensures.within)) c.before_mark-found.ensures.none c.loop.invariant.none
+
+pub loop-preserved : goal.loop-preserved
+loop-preserved c = record {
+  place = omega (arith, c.loop.invariant.place, c.before_mark-found.ensures.within, c.if-found-lt-LANES.false);
+  none = more-before is_mark c.args.text.now c.loop.at (length c.args.text.now - c.loop.at) c.before_mark-found.result
+      (omega (arith, c.loop.invariant.place, c.loop-test.true, c.before_mark-found.ensures.within)) c.before_mark-found.ensures.none c.loop.invariant.none;
+}
