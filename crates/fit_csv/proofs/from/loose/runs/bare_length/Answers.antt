@@ -11,5 +11,6 @@ pub loop-preserved : goal.loop-preserved
 loop-preserved c = record {
   place = omega (arith, c.loop.invariant.place, c.before_special-found.ensures.within, c.if-found-lt-LANES.false);
   bare = more-before is_special c.args.text.now c.loop.at (length c.args.text.now - c.loop.at) c.before_special-found.result
-      (omega (arith, c.loop.invariant.place, c.loop-test.true, c.before_special-found.ensures.within)) c.before_special-found.ensures.bare c.loop.invariant.bare;
+      (omega (arith, c.loop.invariant.place, c.loop-test.true, c.before_special-found.ensures.within))
+      c.before_special-found.ensures.bare c.loop.invariant.bare;
 }
