@@ -25,6 +25,17 @@ pub(crate) fn write_text(bytes: &mut [u8], at: usize, text: &[u8]) -> usize
     end
 }
 
+/// The same of an array, all of which is read before any of it is written.
+#[inline(always)]
+fn write_array<const COUNT: usize>(bytes: &mut [u8], at: usize, array: [u8; COUNT]) -> usize
+    requires { at + COUNT ≤ length bytes.old }
+    ensures size { length bytes.new ≡ length bytes.old }
+    ensures end { result ≡ at + COUNT }
+    ensures text { take result bytes.new ≡ take at bytes.old ++ array.entry }
+{
+    write_text(bytes, at, array.as_slice())
+}
+
 /// Adds a text to what is written in a sheet, or puts it after a text and the sheet. Returns the place after what is written then.
 #[inline(always)]
 pub(crate) fn add_text(
@@ -112,16 +123,18 @@ impl Stamp {
 
     /// Writes a text of at most this many bytes into bytes from a place on, by a copy of this many. Returns the place after the text.
     #[inline(always)]
-    fn write_by(&self, bytes: &mut [u8], at: usize, count: usize) -> usize
-        requires count { count ≤ 64 }
-        requires short { length self.now ≤ count }
-        requires room { at + count ≤ length bytes.old }
+    fn write_by<const COUNT: usize>(&self, bytes: &mut [u8], at: usize) -> usize
+        requires count { COUNT ≤ 64 }
+        requires short { length self.now ≤ COUNT }
+        requires room { at + COUNT ≤ length bytes.old }
         ensures size { length bytes.new ≡ length bytes.old }
         ensures end { result ≡ at + length self.now }
         ensures text { take result bytes.new ≡ take at bytes.old ++ self.now }
     {
-        let (short, _) = self.padded.as_slice().split_at(count);
-        write_text(bytes, at, short) - count + self.used
+        match self.padded.as_slice().split_first_chunk::<COUNT>() {
+            Some((front, _)) => write_array(bytes, at, *front) - COUNT + self.used,
+            None => unreachable!(),
+        }
     }
 
     /// Writes a short text into bytes from a place on, with what is cut off after it. Returns the place after the text.
@@ -133,7 +146,7 @@ impl Stamp {
         ensures end { result ≡ at + length self.now }
         ensures text { take result bytes.new ≡ take at bytes.old ++ self.now }
     {
-        self.write_by(bytes, at, SHORT)
+        self.write_by::<SHORT>(bytes, at)
     }
 
     /// Puts a text that isn't written in a sheet, after what is.
@@ -166,6 +179,6 @@ impl Stamp {
             return Ok(0);
         }
         let at = make_room(text, sheet, at)?;
-        Ok(self.write_by(sheet, at, WIDE))
+        Ok(self.write_by::<WIDE>(sheet, at))
     }
 }
