@@ -1,13 +1,13 @@
 -- From the mask of sixteen bytes that are looked at together to the bytes before the first that is looked for.
-use Rattle.std.proofs.Common.{◌≡◌, ℕ, ◌+◌, ◌-◌, ◌*◌, ◌/◌, ◌%◌, ◌^◌, ◌<◌, ◌≤◌, eqb, cond, Bool, true, false, not, ◌||◌, List, map, length, get_or, drop, take}
+use Rattle.std.proofs.Common.{◌≡◌, ℕ, ◌+◌, ◌-◌, ◌*◌, ◌/◌, ◌%◌, ◌^◌, ◌<◌, ◌≤◌, eqb, cond, Bool, true, false, not, ◌||◌, List, map, length, get_or, drop, take, suc, zero, ◌++◌, append_assoc, take-append-drop}
 use Rattle.std.proofs.Common.{◌∷◌, [], bit_and, replicate, Fits, w8, refl, sym, ap, ◌∙◌, subst, arith, inl, inr}
 use Rattle.std.proofs.lemmas.Bool.{agree_below, agree_below_at, not-true, cases_lt}
-use Rattle.std.proofs.lemmas.List.{ext_get_or, get_or-drop, get_or-take, get_or-map, length-map}
+use Rattle.std.proofs.lemmas.List.{ext_get_or, get_or-drop, get_or-take, get_or-map, length-append, length-map, length-take-le, take-append-le, take-take}
 use Rattle.std.proofs.lemmas.Nat.{and_le_r}
-use Rattle.std.proofs.lemmas.Simd.{map-map, mask_l-mod, length-chunk, first_set_mask_l, run_in_chunk_le, run_in_chunk_fails, zip2_splat, length-zip2}
+use Rattle.std.proofs.lemmas.Simd.{map-map, mask_l-mod, length-chunk, first_set_mask_l, run_in_chunk_le, run_in_chunk_fails, zip2_splat, length-zip2, put_chunk_is}
 use Rattle.std.proofs.lemmas.Simd.{Each1-all, Each1-zip2, Each2-splat, SwzOk, SwzOk-from_below, swz_l, length-swz_l, get_or-swz_l_below}
 use lib.Count.{count_trailing_zeros}
-use lib.Lanes.{chunk, zip2, mask_l, top}
+use lib.Lanes.{chunk, put_chunk, zip2, mask_l, top}
 
 pub before-first : (test : ℕ → Bool) (d : List ℕ) (r : ℕ) (z : List ℕ) (f : ℕ → ℕ) → 16 ≤ length d → ((k : ℕ) → Fits w8 (get_or d k 0))
     → r ≡ cond (eqb (mask_l (map (top 7) z) % 2 ^ 64) 0) 16 (count_trailing_zeros 64 (mask_l (map (top 7) z) % 2 ^ 64))
@@ -67,3 +67,35 @@ more-before test text at n r short more before k low = elim (cases_lt k at) [
 pub themselves : (v : List ℕ) → v ≡ map (λ x. x) v
 themselves [] = refl
 themselves (x ∷ v) = ap (λ (more : List ℕ). x ∷ more) (themselves v)
+
+-- ---- sixteen bytes that are written together
+
+take-past : (xs ys : List ℕ) (n m k : ℕ) → length xs ≡ n → k ≡ n + m → take k (xs ++ ys) ≡ xs ++ take m ys
+take-past [] ys n m k long is = ap (λ j. take j ys) (omega (arith, long, is))
+take-past (x ∷ xs) ys n m zero long is = absurd (omega (arith, long, is))
+take-past (x ∷ xs) ys n m (suc k) long is = ap (λ (l : List ℕ). x ∷ l) (take-past xs ys (length xs) m k refl (omega (arith, long, is)))
+
+-- of which any that aren't wanted are left out
+pub lanes-put : (front mid post text : List ℕ) (at few : ℕ) → length front ≡ at → few ≤ 16 → 16 ≤ length text → 16 ≤ length mid
+    → take (at + few) (front ++ (put_chunk 0 mid (take 16 text) ++ post)) ≡ front ++ take few text
+lanes-put front mid post text at few long short enough room =
+    let v = take 16 text in
+    let wide : length v ≡ 16 = length-take-le 16 text enough in
+    let rest = drop (length v) mid in
+    let is : put_chunk 0 mid v ≡ v ++ rest = put_chunk_is 0 mid v (omega (arith, wide)) in
+    take-past front (put_chunk 0 mid v ++ post) at few (at + few) long refl ∙ ap (λ (l : List ℕ). front ++ l)
+    (take-append-le few (put_chunk 0 mid v) post (omega (arith, ap length is, length-append v rest, wide)) ∙ ap (take few) is
+    ∙ take-append-le few v rest (omega (arith, wide)) ∙ take-take few 16 text short)
+
+-- more of a text after what stands of it on a sheet
+pub put-more : (front old new text : List ℕ) (at shown found n : ℕ) → found ≤ 16 → 16 ≤ n → shown ≤ length text
+    → take (at + shown) old ≡ front ++ take shown text
+    → ((few : ℕ) → few ≤ 16 → take ((at + shown) + few) new ≡ take (at + shown) old ++ take few (take n (drop shown text)))
+    → take (at + (shown + found)) new ≡ front ++ take (shown + found) text
+put-more front old new text at shown found n short enough within before more =
+    let joined : take (shown + found) text ≡ take shown text ++ take found (drop shown text) =
+    ap (λ (l : List ℕ). take (shown + found) l) (sym (take-append-drop shown text))
+    ∙ take-past (take shown text) (drop shown text) shown found (shown + found) (length-take-le shown text within) refl in
+    ap (λ k. take k new) (omega arith) ∙ more found short ∙ ap (λ (l : List ℕ). take (at + shown) old ++ l) (take-take found n (drop shown text) (omega arith))
+    ∙ ap (λ (l : List ℕ). l ++ take found (drop shown text)) before ∙ append_assoc front (take shown text) (take found (drop shown text))
+    ∙ ap (λ (l : List ℕ). front ++ l) (sym joined)

@@ -33,4 +33,6 @@ mod ReportTexts
 mod LooseReads
 mod Lanes
 mod LooseTexts
+mod ShortCells
+mod ShortLines
 mod Windows

@@ -1,8 +1,8 @@
 -- A text that is spelled anew piece by piece stands for what was read of the other one.
-use Rattle.std.proofs.Common.{inl, inr, ◌≡◌, ◌&&◌, ◌+◌, ◌-◌, ◌<◌, ◌≤◌, Option, MatchOption, Bor, suc, zero, take, drop, length, get_or, slice_get, ◌∙◌, ◌++◌}
+use Rattle.std.proofs.Common.{inr, ◌≡◌, ◌&&◌, ◌+◌, ◌-◌, ◌<◌, ◌≤◌, Option, MatchOption, Bor, suc, zero, take, drop, length, get_or, slice_get, ◌∙◌, ◌++◌}
 use Rattle.std.proofs.Common.{not, ◌∷◌, ◌==◌, [], ℕ, List, Bool, Some, None, refl, sym, ap, subst, arith, true, false, append_assoc, inr}
-use Rattle.std.proofs.lemmas.List.{append-nil, get_or-drop, get_or-take, length-drop, length-take-le}
-use Rattle.std.proofs.lemmas.Bool.{cases_lt, ne_eqb}
+use Rattle.std.proofs.lemmas.List.{append-nil}
+use Rattle.std.proofs.lemmas.Bool.{ne_eqb}
 use Rattle.std.proofs.lemmas.Grind.{take_at_read}
 use Rattle.std.proofs.lemmas.Option.{same_Some}
 use Rattle.csv.specs.Machine.{next_record, step}
@@ -201,3 +201,11 @@ pub rows-kept : (loose text plain : List ℕ) → text ≡ strip_bom loose → s
 rows-kept loose text plain begins no_mark h rows is =
     subst (λ (t : List ℕ). AreRecords default_config st.StartRecord t rows) begins
     (same-records st.StartRecord st.StartRecord text plain h rows (subst (λ (t : List ℕ). AreRecords default_config st.StartRecord t rows) no_mark is))
+
+-- what is written in two steps
+pub both-go-on : (from middle left old some more : List ℕ) → WritesOn from middle old some → WritesOn middle left some more → WritesOn from left old more
+both-go-on from middle left old some more first second text rows ends stands = second text rows ends (first text rows ends stands)
+
+pub spot-of-last : (spot : Spot) (x : List ℕ) (c : ℕ) → spot_from spot (x ++ (c ∷ [])) ≡ spot_after c
+unfolding spot_from
+spot-of-last spot x c = spot-append spot x (c ∷ [])

@@ -1,5 +1,5 @@
 -- When a text that was spelled anew has the rows of the text that it was made from. No public contract names these.
-use Rattle.std.specs.Prelude.{◌≡◌, ◌++◌, ◌∷◌, ◌==◌, ◌||◌, ◌⊎◌, [], ℕ, List, Bool, true, false, not, Some, None, if◌then◌else◌}
+use Rattle.std.specs.Prelude.{◌≡◌, ◌≤◌, ◌+◌, drop, length, take, ◌++◌, ◌∷◌, ◌==◌, ◌||◌, ◌⊎◌, [], ℕ, List, Bool, true, false, not, Some, None, if◌then◌else◌}
 use Rattle.csv.specs.Machine.{Read, next_record}
 use Rattle.csv.specs.Reading.{AreRecords, default_config}
 use Rattle.csv.specs.declared.parser.State.{State}
@@ -88,3 +88,13 @@ Closes true [] = ⊥
 Closes false [] = Unit {0}
 Closes true (c ∷ cell) = Closes (not (c == 34)) cell
 Closes false (c ∷ cell) = (c ≡ 34) × Closes true cell
+
+-- The text begins with a cell in quotes that needs none, of few bytes, and with what comes after it: so many bytes in all, of which these are
+-- written.
+pub record IsShortCell (text : List ℕ) (shown end size : ℕ) : Type 0 where
+  pub few : shown ≤ 16
+  pub enough : 17 ≤ length text
+  pub within : size ≤ length text
+  pub shows : text ≡ 34 ∷ (take shown (drop 1 text) ++ (34 ∷ drop (shown + 2) text))
+  pub plain : NoneOf is_special (take shown (drop 1 text))
+  pub ends : EndsCell (drop (shown + 2) text) (drop size text) (end ∷ [])

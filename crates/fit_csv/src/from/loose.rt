@@ -6,9 +6,15 @@ ghost use Rattle.csv.specs.Reading.{strip_bom};
 ghost use Rattle.fit_csv.specs.inner.Loose.{Closes, EndsCell, EndsLine, NoneOf, Opens, WritesEnd, WritesOn, is_mark, is_special};
 ghost use Rattle.fit_csv.specs.inner.Loose.{may_open, spot_after, spot_from};
 
+mod cells;
+mod lines;
 mod runs;
+mod sheet;
 
+use crate::from::loose::cells::take_cells;
+use crate::from::loose::lines::take_lines;
 use crate::from::loose::runs::{bare_length, run_length};
+use crate::from::loose::sheet::{SHEET_SIZE, Sheet};
 
 /// How far one step of the spelling looks ahead. A cell of a FIT file is shorter, and a longer one in quotes is not spelled anew.
 pub(crate) const STEP_SIZE: usize = 4_096;
@@ -200,15 +206,54 @@ fn take_line<'a>(written: &mut Vec<u8>, left: &'a [u8]) -> Option<&'a [u8]>
     Some(left)
 }
 
+/// Spells anew cells in quotes at the front of a text, short ones together or a single one, and returns what is left.
+fn take_some_quoted<'a>(
+    written: &mut Vec<u8>,
+    sheet: &mut Sheet,
+    text: &'a [u8],
+    many: usize,
+) -> Option<&'a [u8]>
+    ensures { IfSome result (λ left.
+        WritesOn text.now left.now written.old.items written.new.items) }
+{
+    let left = take_cells(written, sheet, text, many)?;
+    if left.len() < text.len() {
+        return Some(left);
+    }
+    take_quoted(written, after_byte(left, b'"')?)
+}
+
+/// Spells anew short lines at the front of a text together, or writes what one step finds, and returns what is left.
+fn take_some_plain<'a>(
+    written: &mut Vec<u8>,
+    sheet: &mut Sheet,
+    text: &'a [u8],
+    many: usize,
+) -> Option<&'a [u8]>
+    ensures { IfSome result (λ left.
+        WritesOn text.now left.now written.old.items written.new.items) }
+{
+    let left = take_lines(written, sheet, text, many)?;
+    if left.len() < text.len() {
+        return Some(left);
+    }
+    take_run(written, left)
+}
+
 /// Spells anew a beginning of a text, and returns what is left.
-fn take_some<'a>(written: &mut Vec<u8>, text: &'a [u8]) -> Option<&'a [u8]>
+fn take_some<'a>(
+    written: &mut Vec<u8>,
+    sheet: &mut Sheet,
+    text: &'a [u8],
+    many: usize,
+) -> Option<&'a [u8]>
     ensures { IfSome result (λ left.
         WritesOn text.now left.now written.old.items written.new.items) }
 {
     match text {
-        [b'"', rest @ ..] => take_quoted(written, rest),
+        [b'"', ..] => take_some_quoted(written, sheet, text, many),
         [b'\r', b'\n', left @ ..] => take_line(written, left),
-        _ => take_run(written, text),
+        _ => take_some_plain(written, sheet, text, many),
     }
 }
 
@@ -217,12 +262,13 @@ pub(crate) fn spell_on<'a>(written: &mut Vec<u8>, text: &'a [u8], many: usize) -
     ensures { IfSome result (λ left.
         WritesOn text.now left.now written.old.items written.new.items) }
 {
+    let mut sheet = [0; SHEET_SIZE];
     let mut left = text;
     for _ in 0..many {
         if left.is_empty() || written.len() >= many {
             return Some(left);
         }
-        left = take_some(written, left)?;
+        left = take_some(written, &mut sheet, left, many)?;
     }
     Some(left)
 }

@@ -1,4 +1,4 @@
-use Rattle.std.proofs.Common.{◌==◌, cond, bit_or, take, refl}
+use Rattle.std.proofs.Common.{bit_or, take, refl}
 use Rattle.std.proofs.lemmas.Simd.{length-chunk, zip2_of_maps, zip2_splat}
 use Rattle.fit_csv.specs.inner.Loose.{is_mark}
 use Rattle.fit_csv.proofs.Lanes.{before-first}

@@ -1,4 +1,4 @@
-use Rattle.std.proofs.Common.{◌==◌, ℕ, List, cond, map, refl, take}
+use Rattle.std.proofs.Common.{refl, take}
 use Rattle.std.proofs.lemmas.Simd.{length-chunk, zip2_of_maps}
 use Rattle.fit_csv.specs.inner.Loose.{is_special}
 use Rattle.fit_csv.proofs.Lanes.{before-first, by-low-half, halves-fit, themselves}

@@ -1,4 +1,4 @@
-use Rattle.std.proofs.Common.{◌+◌, ◌-◌, ◌*◌, arith, length}
+use Rattle.std.proofs.Common.{◌-◌, arith, length}
 use Rattle.fit_csv.specs.inner.Loose.{is_mark}
 use Rattle.fit_csv.proofs.Lanes.{more-before}
 use Rattle.fit_csv.proofs.from.loose.runs.run_length.Goals as goal

@@ -1,0 +1,14 @@
+use Rattle.std.proofs.Common.{◌≡◌, ◌≤◌, ◌-◌, ◌++◌, take}
+use Rattle.fit_csv.specs.inner.Loose.{WritesOn, spot_from}
+use Rattle.fit_csv.specs.declared.from.loose.Spot.TheVariants.{RowStart}
+use Rattle.fit_csv.proofs.from.loose.cells.take_cells.Given as goal
+
+abbrev pub invariant-loop-at : goal.invariant-loop-at
+invariant-loop-at l = record {
+  place : l.at ≤ 1024;
+  spot : l.spot ≡ spot_from RowStart (l.written.items ++ take l.at l.sheet);
+  goes : WritesOn l.text l.left l.written.items (l.written.items ++ take l.at l.sheet);
+}
+
+abbrev pub decreases-loop-at : goal.decreases-loop-at
+decreases-loop-at l = 1024 - l.at
