@@ -1,5 +1,6 @@
 -- Short cells in quotes that are spelled anew without them, one after another.
-use Rattle.std.proofs.Common.{◌≡◌, ℕ, ◌+◌, ◌-◌, ◌<◌, ◌≤◌, false, List, [], ◌∷◌, ◌++◌, length, get_or, drop, take, take-append-drop, append_assoc, refl, sym, ap, ◌∙◌, subst, arith, inl, inr}
+use Rattle.std.proofs.Common.{◌≡◌, ℕ, ◌+◌, ◌-◌, ◌<◌, ◌≤◌, false, List, [], ◌∷◌, ◌++◌, length, get_or, drop, take, take-append-drop, append_assoc}
+use Rattle.std.proofs.Common.{refl, sym, ap, ◌∙◌, subst, arith, inl, inr}
 use Rattle.std.proofs.lemmas.List.{drop-drop, drop_more, get_or-take, length-drop}
 use Rattle.fit_csv.specs.declared.from.loose.Spot.TheVariants.{RowStart}
 use Rattle.fit_csv.specs.inner.Loose.{EndsCell, IsShortCell, Opens, WritesOn, is_special, spot_after, spot_from}
@@ -37,11 +38,13 @@ short-cell text shown end size n long short enough few opens plain closes ends =
       enough = omega arith;
       within = omega arith;
       shows = first ∙ ap (λ (l : List ℕ). 34 ∷ l) (sym (take-append-drop shown rest) ∙ ap (λ (l : List ℕ). take shown rest ++ l) close);
-      plain = none-of is_special shown rest (omega (arith, left)) (λ k low. subst (λ b. is_special b ≡ false) (get_or-take n rest k 0 (omega arith)) (plain k low));
+      plain = none-of is_special shown rest (omega (arith, left))
+          (λ k low. subst (λ b. is_special b ≡ false) (get_or-take n rest k 0 (omega arith)) (plain k low));
       ends = ends;
     }
 
-pub short-goes-on : (written text : List ℕ) (shown end size : ℕ) → IsShortCell text shown end size → Opens (spot_from RowStart written) (take shown (drop 1 text))
+pub short-goes-on : (written text : List ℕ) (shown end size : ℕ) → IsShortCell text shown end size
+    → Opens (spot_from RowStart written) (take shown (drop 1 text))
     → WritesOn text (drop size text) written (written ++ (take shown (drop 1 text) ++ (end ∷ [])))
 short-goes-on written text shown end size short opens =
     let bare = take shown (drop 1 text) in

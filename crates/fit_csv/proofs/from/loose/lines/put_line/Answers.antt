@@ -8,7 +8,8 @@ returns-then-found-lt-LANES-clause-none c =
     let text = c.args.text.now in
     let shown = c.loop.shown in
     more-before is_mark text shown (length text - shown) c.before_mark-found.result
-    (omega (arith, c.loop.invariant.place, c.loop-test.true, c.requires.long, c.before_mark-found.ensures.within)) c.before_mark-found.ensures.none c.loop.invariant.none
+    (omega (arith, c.loop.invariant.place, c.loop-test.true, c.requires.long, c.before_mark-found.ensures.within))
+    c.before_mark-found.ensures.none c.loop.invariant.none
 
 pub returns-then-found-lt-LANES-clause-put : goal.returns-then-found-lt-LANES-clause-put
 returns-then-found-lt-LANES-clause-put c =
