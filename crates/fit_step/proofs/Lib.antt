@@ -25,6 +25,7 @@ pub mod Undoing
 pub mod WholeMessage
 pub mod ReadDefinitions
 pub mod SkippedRecords
+mod PlainMessages
 pub mod Splits
 pub mod RecordFronts
 pub mod RecordsInProgress

@@ -3,6 +3,7 @@ use Rattle.fit_step.proofs.Common.{◌≡◌, ℕ, ◌+◌, ◌-◌, ◌<◌, ap
 use Rattle.fit_step.proofs.Common.{Some, None, Ok, Err, Option, Result, OnOk, OnErr, take_more, Record, Environment, learn, Fits, Position, Stop, Refused}
 use Rattle.fit_step.proofs.Common.{NoMemory, State, Step, start, step, RecordPart, nothing, state_of, state_at, PartFitsRoom, Steps, KeepsPart, tests_of}
 use Rattle.fit_step.proofs.Common.{StandsAfter, IsInProgress, ReadsRecord, StandsWithRoom, RecordByte, TakesByte, ◌≤◌, slice_index}
+use Rattle.fit_step.specs.InProgress.{Reads, ReadsInPlace}
 use Rattle.std.specs.Result.{is_ok}
 use Rattle.fit_step.proofs.Kept.{still_stands, still_room}
 use Rattle.fit_step.proofs.RecordsInProgress.{EndsWithRecord, starts_after, sixteen_learned, starts_where_none, goes_after, ends_after, wants_after}
@@ -107,3 +108,32 @@ module _ {A : Type 0} (e now env : Environment A) (room : ℕ) (bytes piece : Li
       subst (λ x. StandsAfter x room (bytes ++ take (i + 1) piece) (state_at q after)) (sym made.0)
       (subst (λ z. StandsAfter now room z (state_at q after)) one
       (goes_after now room (bytes ++ take i piece) (state_at p before) come b low (state_at q after) made.1))
+
+-- what was made of a record in its place, told of what stood before
+module _ {A : Type 0} (now old env : Environment A) (before first after : Position) (idle in_progress : Option (Record A)) (piece : List ℕ) (used : ℕ)
+    (answer : Result Bool Stop) where
+  pub from_old : now ≡ old → before ≡ first → ReadsInPlace now before idle env after in_progress piece used answer
+      → ReadsInPlace old first idle env after in_progress piece used answer
+  from_old known there reads =
+      subst (λ (e : Environment A). ReadsInPlace e first idle env after in_progress piece used answer) known
+      (subst (λ (p : Position). ReadsInPlace now p idle env after in_progress piece used answer) there reads)
+
+  module _ (reads : ReadsInPlace now before idle env after in_progress piece used answer) where
+    told_as : (is : Result Bool Stop) → answer ≡ is → ReadsInPlace now before idle env after in_progress piece used is
+    told_as is same = subst (ReadsInPlace now before idle env after in_progress piece used) same reads
+
+    pub tells_more : (whole : Bool) → answer ≡ Ok whole → whole ≡ false → Reads now before idle env after in_progress piece used (Ok None)
+    tells_more whole is other = told_as (Ok false) (is ∙ ap Ok other)
+
+    pub tells_in_place : (whole : Bool) → answer ≡ Ok whole → whole ≡ true → ReadsInPlace now before idle env after in_progress piece used (Ok true)
+    tells_in_place whole is all = told_as (Ok true) (is ∙ ap Ok all)
+
+    pub tells_whole : (whole : Bool) → answer ≡ Ok whole → whole ≡ true → (out left : Option (Record A)) → out ≡ in_progress → left ≡ None
+        → Reads now before idle env after left piece used (Ok out)
+    tells_whole whole is all out left taken none =
+        let (r, stands, told) = told_as (Ok true) (is ∙ ap Ok all) in
+        subst (λ (o : Option (Record A)). Reads now before idle env after left piece used (Ok o)) (sym (taken ∙ stands))
+        (subst (λ (o : Option (Record A)). Reads now before idle env after o piece used (Ok (Some r))) (sym none) told)
+
+    pub tells_stop : (stop : Stop) → answer ≡ Err stop → Reads now before idle env after in_progress piece used (Err stop)
+    tells_stop stop is = told_as (Err stop) is

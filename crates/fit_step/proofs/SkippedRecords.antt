@@ -148,7 +148,7 @@ sixteen_all e [] sixteen = sixteen
 sixteen_all e (r ∷ records) sixteen = sixteen_all (learn e r) records (sixteen_learned e r sixteen)
 
 -- six bytes and more can be filled, whatever is known
-large_fill : {A : Type 0} (e : Environment A) (room : ℕ) → length e.places ≡ 16 → 6 ≤ room → CanFill e room
+pub large_fill : {A : Type 0} (e : Environment A) (room : ℕ) → length e.places ≡ 16 → 6 ≤ room → CanFill e room
 large_fill e room sixteen large =
     let same : 6 + (room - 6) ≡ room = omega (arith, large) in
     subst (CanFill e) same (six_and_more e (room - 6) (omega (arith, sixteen)))

@@ -6,6 +6,15 @@ use Rattle.fit_step.proofs.Common.{Fits, IsRecord, can_fill, can_carry, can_fill
 use Rattle.fit_step.proofs.TakenAndRefusedBytes.{records_end}
 pub use Rattle.fit_record.proofs.FoundMessages.{same_size, data_read, data_record}
 
+pub message_ends : {A : Type 0} (e : Environment A) (message : Values A) (size room : ℕ) (piece : List ℕ) → length e.places ≡ 16 → IsBytes piece
+    → 1 + size ≤ length piece → 1 + size ≤ room → CanFill (learn e (Data message)) (room - (1 + size))
+    → IsRecord e (Data message) (take (1 + size) piece)
+    → Ends e (tests_of e) (start room) (take (1 + size) piece) (start (room - (1 + size))) (Data message)
+message_ends e message size room piece sixteen are within enough filled spelled =
+    let total : length (take (1 + size) piece) + (room - (1 + size)) ≡ room = omega (arith, length-take-le (1 + size) piece within, enough) in
+    subst (λ n. Ends e (tests_of e) (start n) (take (1 + size) piece) (start (room - (1 + size))) (Data message)) total
+    (records_end e (Data message) (take (1 + size) piece) (room - (1 + size)) sixteen spelled (IsBytes-take (1 + size) piece are) filled)
+
 module _ {A : Type 0} (e : Environment A) (p : Defined A) (message : Values A) (size room : ℕ) (piece : List ℕ) (sixteen : length e.places ≡ 16)
     (are : IsBytes piece) (known : defined_at e message.local ≡ Some p) (long : size ≡ message_size p) (within : 1 + size ≤ length piece)
     (some : 0 < room) (carry : can_carry e message.local (room - 1) ≡ true) (spelled : IsRecord e (Data message) (take (1 + size) piece)) where
@@ -27,12 +36,6 @@ module _ {A : Type 0} (e : Environment A) (p : Defined A) (message : Values A) (
       let fill : can_fill e (room - (1 + size)) ≡ true = ap (can_fill e) (sym left) ∙ parts.1 in
       (can_fill_after_data e message (room - (1 + size)) sixteen).0 fill
 
-  message_ends : Ends e (tests_of e) (start room) (take (1 + size) piece) (start (room - (1 + size))) (Data message)
-  message_ends =
-      let total : length (take (1 + size) piece) + (room - (1 + size)) ≡ room = omega (arith, length-take-le (1 + size) piece within, enough) in
-      subst (λ n. Ends e (tests_of e) (start n) (take (1 + size) piece) (start (room - (1 + size))) (Data message)) total
-      (records_end e (Data message) (take (1 + size) piece) (room - (1 + size)) sixteen spelled (IsBytes-take (1 + size) piece are) filled)
-
   pub message_read : ((0 < 1 + size) × (1 + size ≤ length piece) × (1 + size ≤ room)) × Fits e (Data message)
       × Ends e (tests_of e) (start room) (take (1 + size) piece) (start (room - (1 + size))) (Data message)
-  message_read = (message_within, spelled.0, message_ends)
+  message_read = (message_within, spelled.0, message_ends e message size room piece sixteen are within enough filled spelled)

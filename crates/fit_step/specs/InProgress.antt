@@ -1,6 +1,6 @@
 -- What has come of a record that isn't whole, and what more bytes make of it. The room is the number of bytes of the data section that
 -- were to come before the record.
-use Rattle.std.specs.Prelude.{◌≡◌, ◌↔◌, ℕ, ◌+◌, ◌-◌, ◌<◌, ◌≤◌, true, List, [], ◌∷◌, ◌++◌, take, length, slice_index}
+use Rattle.std.specs.Prelude.{◌≡◌, ◌↔◌, ℕ, ◌+◌, ◌-◌, ◌<◌, ◌≤◌, Bool, true, false, List, [], ◌∷◌, ◌++◌, take, length, slice_index}
 use Rattle.std.specs.Prelude.{◌*◌, sum_by, Option, Some, None, Result, Ok, Err}
 use Rattle.fit_base.specs.declared.items.Items.{Items}
 use Rattle.fit_base.specs.Numbers.{IsBytes}
@@ -78,6 +78,14 @@ abbrev pub Reads : {A : Type 0} → Environment A → Position → Option (Recor
     → Result (Option (Record A)) Stop → Type 0
 Reads old before idle new after in_progress piece used answer =
     (room : ℕ) (bytes : List ℕ) → IsInProgress old room bytes before idle → ReadsRecord old new room bytes after in_progress piece used answer
+
+-- The same where a complete record is left in its place, and it is told whether it is complete.
+abbrev pub ReadsInPlace : {A : Type 0} → Environment A → Position → Option (Record A) → Environment A → Position → Option (Record A) → List ℕ → ℕ
+    → Result Bool Stop → Type 0
+ReadsInPlace old before idle new after in_progress piece used (Ok false) = Reads old before idle new after in_progress piece used (Ok None)
+ReadsInPlace {A = A} old before idle new after in_progress piece used (Ok true) =
+    (r : Record A) × (in_progress ≡ Some r) × Reads old before idle new after None piece used (Ok (Some r))
+ReadsInPlace old before idle new after in_progress piece used (Err stop) = Reads old before idle new after in_progress piece used (Err stop)
 
 -- ---- how much is kept
 

@@ -1,9 +1,10 @@
 //! The bytes of a piece that belong to a record.
-ghost use Rattle.std.specs.Prelude.{◌≡◌, ◌≤◌, length, OnErr, Ok, None, Some, true, false, IfNone, IfSome, IsSomeAnd};
+ghost use Rattle.std.specs.Prelude.{◌≡◌, ◌<◌, ◌≤◌, length, OnErr, Ok, None, Some, true, false, IfNone, IfSome, IsSomeAnd};
 ghost use Rattle.fit_record.specs.declared.message.Record.{Record};
+ghost use Rattle.fit_record.specs.declared.message.Record.TheVariants.{Values as Data};
 ghost use Rattle.fit_record.specs.Environment.{DescribesNothing, learn};
 ghost use Rattle.fit_record.specs.Records.{Fits};
-ghost use Rattle.fit_step.specs.InProgress.{AwaitsByte, Reads};
+ghost use Rattle.fit_step.specs.InProgress.{AwaitsByte, Reads, ReadsInPlace};
 ghost use Rattle.fit_step.specs.Machine.{step};
 ghost use Rattle.fit_step.specs.Places.{state_at};
 ghost use Rattle.fit_step.specs.Tests.{tests_of};
@@ -11,9 +12,9 @@ ghost use Rattle.fit_step.specs.inner.Scans.{StandsWithRoom, TakesByte};
 
 use crate::inside::take_inside;
 use crate::undone::undo;
-use crate::whole::whole_record;
+use crate::whole::{plain_message, whole_record};
 use crate::{Position, Stop, step};
-use fit_record::{Env, Record};
+use fit_record::{Env, Record, Values};
 use std::alloc::Allocator;
 
 /// Learns a whole record. Whether there was memory.
@@ -84,8 +85,7 @@ fn take_step<A: Allocator + Copy>(
     }
 }
 
-/// The same, byte by byte. It stands apart, since a function that begins clears room for all its results, and a whole record needs
-/// little of it.
+/// The same of all bytes up to the one with which the record is whole: how many they are, and whether it is.
 #[inline(never)]
 fn scan_bytes<A: Allocator + Copy>(
     alloc: A,
@@ -93,20 +93,20 @@ fn scan_bytes<A: Allocator + Copy>(
     position: &mut Position,
     in_progress: &mut Option<Record<A>>,
     piece: &[u8],
-) -> (usize, Result<Option<Record<A>>, Stop>)
+) -> (usize, Result<bool, Stop>)
     requires { StandsWithRoom env.old (state_at position.old in_progress.old) }
     ensures within { result.0 ≤ length piece.now }
-    ensures reads { Reads env.old position.old in_progress.old env.new position.new in_progress.new
-        piece.now result.0 result.1 }
+    ensures reads { ReadsInPlace env.old position.old in_progress.old env.new position.new
+        in_progress.new piece.now result.0 result.1 }
 {
     for (i, byte) in piece.iter().enumerate() {
         match take_byte(alloc, env, position, in_progress, *byte) {
             Ok(false) => {}
-            Ok(true) => return (i + 1, Ok(in_progress.take())),
+            Ok(true) => return (i + 1, Ok(true)),
             Err(stop) => return (i, Err(stop)),
         }
     }
-    (piece.len(), Ok(None))
+    (piece.len(), Ok(false))
 }
 
 /// A record of which all bytes stand at the front of the piece, where one begins there. It is learned.
@@ -121,7 +121,7 @@ fn take_whole<A: Allocator + Copy>(
     requires { StandsWithRoom env.old (state_at position.old in_progress.now) }
     ensures within { IfSome result (λ found. found.1 ≤ length piece.now) }
     ensures told { IfSome result (λ found. Reads env.old position.old in_progress.now env.new
-        position.new in_progress.now piece.now found.1 (Ok (Some found.0))) }
+        position.new None piece.now found.1 (Ok (Some found.0))) }
     ensures none { IfNone result ((env.new ≡ env.old) × (position.new ≡ position.old)) }
 {
     match in_progress {
@@ -135,6 +135,80 @@ fn take_whole<A: Allocator + Copy>(
     }
     *position = Position::new(position.room - used as u32);
     Some((record, used))
+}
+
+/// Reads a data message of which all bytes stand at the front of the piece, where one begins there: the message, and how many bytes it
+/// has. What is known stays, and the next record begins after it.
+///
+/// There is none, and nothing changes, where bytes of a record have come, or another record begins; where some of its bytes are missing
+/// or are to be refused, or memory is; where it is a field description; and where it ends in the last six bytes of the data section.
+/// `read_record` reads all records.
+#[inline(always)]
+pub fn read_message<A: Allocator + Copy>(
+    alloc: A,
+    env: &Env<A>,
+    position: &mut Position,
+    in_progress: &Option<Record<A>>,
+    piece: &[u8],
+) -> Option<(Values<A>, usize)>
+    requires { AwaitsByte env.now position.old in_progress.now }
+    ensures within { IfSome result (λ found. found.1 ≤ length piece.now) }
+    ensures reads { IfSome result (λ found. Reads env.now position.old in_progress.now env.now
+        position.new in_progress.now piece.now found.1 (Ok (Some (Data found.0)))) }
+    ensures more { IfSome result (λ found. 0 < position.new.room) }
+    ensures none { IfNone result (position.new ≡ position.old) }
+{
+    match in_progress {
+        Some(_) => return None,
+        None => {}
+    }
+    let (values, used) = plain_message(alloc, env, position.room, piece)?;
+    position.room -= used as u32;
+    Some((values, used))
+}
+
+/// The same where none of its bytes has come: it may be whole in the piece.
+#[inline(never)]
+fn read_anew<A: Allocator + Copy>(
+    alloc: A,
+    env: &mut Env<A>,
+    position: &mut Position,
+    in_progress: &mut Option<Record<A>>,
+    piece: &[u8],
+) -> (usize, Result<bool, Stop>)
+    requires { StandsWithRoom env.old (state_at position.old in_progress.old) }
+    ensures within { result.0 ≤ length piece.now }
+    ensures reads { ReadsInPlace env.old position.old in_progress.old env.new position.new
+        in_progress.new piece.now result.0 result.1 }
+{
+    match take_whole(alloc, env, position, in_progress, piece) {
+        Some((record, used)) => {
+            *in_progress = Some(record);
+            (used, Ok(true))
+        }
+        None => scan_bytes(alloc, env, position, in_progress, piece),
+    }
+}
+
+/// Reads the bytes of a record as `read_record` does, and leaves it in `in_progress` where it is complete: how many of the piece were
+/// used, and whether it is.
+#[inline(always)]
+pub fn read_in_place<A: Allocator + Copy>(
+    alloc: A,
+    env: &mut Env<A>,
+    position: &mut Position,
+    in_progress: &mut Option<Record<A>>,
+    piece: &[u8],
+) -> (usize, Result<bool, Stop>)
+    requires { AwaitsByte env.old position.old in_progress.old }
+    ensures within { result.0 ≤ length piece.now }
+    ensures reads { ReadsInPlace env.old position.old in_progress.old env.new position.new
+        in_progress.new piece.now result.0 result.1 }
+{
+    if in_progress.is_some() {
+        return scan_bytes(alloc, env, position, in_progress, piece);
+    }
+    read_anew(alloc, env, position, in_progress, piece)
 }
 
 /// Reads the bytes of a record, of which some may have come: how many of the piece were used, and the record where it is complete.
@@ -154,8 +228,10 @@ pub fn read_record<A: Allocator + Copy>(
     ensures reads { Reads env.old position.old in_progress.old env.new position.new in_progress.new
         piece.now result.0 result.1 }
 {
-    match take_whole(alloc, env, position, in_progress, piece) {
-        Some((record, used)) => (used, Ok(Some(record))),
-        None => scan_bytes(alloc, env, position, in_progress, piece),
+    let (used, answer) = read_in_place(alloc, env, position, in_progress, piece);
+    match answer {
+        Ok(false) => (used, Ok(None)),
+        Ok(true) => (used, Ok(in_progress.take())),
+        Err(stop) => (used, Err(stop)),
     }
 }

@@ -4,16 +4,19 @@ use Rattle.fit_step.proofs.ReadBytes.{byte_ends, byte_goes, record_ends, record_
 use Rattle.fit_step.proofs.record_reader.scan_bytes.Goals as goal
 
 pub returns-in-Ok-true-clause-reads : goal.returns-in-Ok-true-clause-reads
-returns-in-Ok-true-clause-reads g c = λ room bytes h.
+returns-in-Ok-true-clause-reads g c =
     let e = c.loop-i.env in
     let b = get_or c.args.piece.now c.loop-i.i 0 in
     let made = step e (tests_of e) (state_at c.loop-i.position c.loop-i.in_progress) b in
     let whole = byte_ends e c.take_byte.new.env c.take_byte.new.position c.take_byte.new.in_progress b c.in-Ok-true.field-0 made
-    c.in-Ok-true.field-0-test c.in-Ok-true.ensures.made in
-    rw (c.take.ensures.value ∙ whole.1, c.take.ensures.after)
-    (record_ends c.args.env.now e c.take_byte.new.env room bytes c.args.piece.now c.loop-i.i c.loop-i.position c.take_byte.new.position
-    c.loop-i.in_progress None c.loop-i-test.true (slice_is_bytes c.args.piece.now c.type_inv.piece c.loop-i.i)
-    c.loop-i.invariant.known (c.loop-i.invariant.come room bytes h) whole.0 whole.2)
+    c.in-Ok-true.field-0-test c.in-Ok-true.ensures.made in (
+      whole.0,
+      whole.1,
+      λ room bytes h.
+          record_ends c.args.env.now e c.take_byte.new.env room bytes c.args.piece.now c.loop-i.i c.loop-i.position c.take_byte.new.position
+          c.loop-i.in_progress None c.loop-i-test.true (slice_is_bytes c.args.piece.now c.type_inv.piece c.loop-i.i)
+          c.loop-i.invariant.known (c.loop-i.invariant.come room bytes h) whole.0 whole.2,
+    )
 
 pub returns-in-Err-clause-reads : goal.returns-in-Err-clause-reads
 returns-in-Err-clause-reads g c = λ room bytes h.

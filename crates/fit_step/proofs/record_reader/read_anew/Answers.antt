@@ -1,0 +1,19 @@
+use Rattle.fit_step.proofs.Common.{rules, state_at, StandsWithRoom, refl}
+use Rattle.fit_step.proofs.ReadBytes.{from_old}
+use Rattle.fit_step.proofs.record_reader.read_anew.Goals as goal
+
+pub scan_bytes-requires : goal.scan_bytes-requires
+scan_bytes-requires g c =
+    let same = c.in-None.ensures.none in
+    let here : StandsWithRoom c.args.env.now (state_at c.args.position.now c.args.in_progress.now) = c.requires in
+    (search rules, rw (same.0, same.1) here)
+
+pub returns-in-None-clause-reads : goal.returns-in-None-clause-reads
+returns-in-None-clause-reads g c =
+    let same = c.in-None.ensures.none in
+    let scan = c.scan_bytes in
+    from_old c.take_whole.new.env c.args.env.now scan.new.env c.take_whole.new.position c.args.position.now scan.new.position c.args.in_progress.now
+    scan.new.in_progress c.args.piece.now scan.result.0 scan.result.1 same.0 same.1 scan.ensures.reads
+
+pub returns-in-Some-clause-reads : goal.returns-in-Some-clause-reads
+returns-in-Some-clause-reads g c = (c.in-Some.record, refl, c.in-Some.ensures.told)
