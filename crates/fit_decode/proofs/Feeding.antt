@@ -1,11 +1,13 @@
 -- What a caller of `feed` sees: that the invariant is kept, and what is told of the bytes used.
-use Rattle.fit_decode.proofs.Common.{◌≡◌, ℕ, ◌+◌, ◌<◌, ◌≤◌, List, ◌++◌, length, take, slice_index, sym, ap, ◌∙◌, subst, arith, length-append, Fits, w64, Some}
-use Rattle.fit_decode.proofs.Common.{None, Ok, Err, length-take-le, IsBytes, IsBytes-append, IsBytes-take, Reason, empty_environment, chain_limit, IsViable}
-use Rattle.fit_decode.proofs.Common.{Stop, Inside, Answer, Event, header, item, file_end, event_of, Refuses, Wants, Quiet, Least, AreChain, IsRefused}
+use Rattle.fit_decode.proofs.Common.{◌≡◌, ℕ, ◌+◌, ◌<◌, ◌≤◌, List, ◌++◌, length, take, slice_index, refl, sym, ap, ◌∙◌, subst, arith, length-append, Fits, w64}
+use Rattle.fit_decode.proofs.Common.{Some, None, Ok, Err, length-take-le, IsBytes, IsBytes-append, IsBytes-take, Reason, empty_environment, chain_limit, IsViable}
+use Rattle.fit_decode.proofs.Common.{Stop, Record, Inside, Answer, Event, header, item, file_end, event_of, Refuses, Wants, Quiet, Least, AreChain, IsRefused}
 use Rattle.fit_decode.proofs.Common.{Advanced, NotRefused, NextAnswer, Holds, IsSoundDecoder, fields_inside, short_bytes}
 use Rattle.std.specs.Prelude.{Option, Result}
 use Rattle.fit_step.specs.declared.stop.Stop.TheVariants.{Refused, NoMemory}
+use Rattle.fit_chain.specs.declared.event.Fault.TheVariants as faults
 use Rattle.fit_decode.specs.Answers.{Seen, fed}
+use Rattle.fit_decode.specs.inner.Feeds.{Feeds, TellsItem}
 use Rattle.fit_chain.specs.declared.event.Event.TheVariants as answers
 use Rattle.fit_decode.proofs.Ended.{HasEnded, ended_chain, chain_ended}
 
@@ -35,9 +37,6 @@ not_refused {A} answer event is = subst (NotRefused {A = A}) (sym is) tt
 pub not_for_memory : {A : Type 0} (answer : Result (Answer A) Stop) → answer ≡ Err NoMemory → NotRefused answer
 not_for_memory {A} answer is = subst (NotRefused {A = A}) (sym is) tt
 
-pub stopped : {A : Type 0} (answer : Result (Answer A) Stop) (stop other : Stop) → answer ≡ Err stop → stop ≡ other → answer ≡ Err other
-stopped answer stop other is same = is ∙ ap Err same
-
 -- ---- the invariant
 
 module _ {A : Type 0} {d : Inside A} (k : IsSoundDecoder d) (piece : List ℕ) (used : ℕ) (low : IsBytes piece) (within : used ≤ length piece)
@@ -65,6 +64,7 @@ fresh_holds_all refusal fresh reason is = absurd (let both : Some reason ≡ Non
 -- What a piece makes of a decoder, before its bytes are counted.
 pub record Took {A : Type 0} (d now : Inside A) (piece : List ℕ) (used : ℕ) (answer : Result (Answer A) Stop) : Type 0 where
   pub sound : IsSoundDecoder d
+  pub was : d.refusal ≡ None
   pub low : IsBytes piece
   pub next : NextAnswer (fields_inside now) d.history.items piece used answer
   pub counted : now.count ≡ d.count
@@ -74,7 +74,8 @@ pub record Took {A : Type 0} (d now : Inside A) (piece : List ℕ) (used : ℕ) 
 pub takes : {A : Type 0} {d now : Inside A} {piece : List ℕ} {used : ℕ} {answer : Result (Answer A) Stop} → IsSoundDecoder d → d.refusal ≡ None → IsBytes piece
     → NextAnswer (fields_inside now) d.history.items piece used answer → now.count ≡ d.count → now.refusal ≡ d.refusal → now.history.items ≡ d.history.items
     → Took d now piece used answer
-takes sound none low next counted kept items = record { sound = sound; low = low; next = next; counted = counted; fresh = kept ∙ none; items = items }
+takes sound none low next counted kept items =
+    record { sound = sound; was = none; low = low; next = next; counted = counted; fresh = kept ∙ none; items = items }
 
 module _ {A : Type 0} {d now : Inside A} {piece : List ℕ} {used : ℕ} {answer : Result (Answer A) Stop} (t : Took d now piece used answer) where
   pub within : used ≤ length piece
@@ -113,6 +114,17 @@ module _ {A : Type 0} (d : Inside A) (k : IsSoundDecoder d) (old : Seen) (seen :
 
   pub reason_kept : (was : Reason) → d.refusal ≡ Some was → old.refusal ≡ None → ⊥
   reason_kept was kept fresh = let both : Some was ≡ None = sym kept ∙ ap (λ (s : Seen). s.refusal) seen ∙ fresh in cc
+
+  pub feeds_latched : (piece : List ℕ) (was : Reason) → d.refusal ≡ Some was → Feeds A old piece old (Err (faults.Refused d.count was))
+  feeds_latched piece was kept = record {
+    latched = λ reason is. ((λ i. Err (faults.Refused (place_seen i) (reason_seen was reason kept is i))), refl);
+    used = tt;
+    more = tt;
+    event = tt;
+    refused = λ _ _ fresh _. absurd (reason_kept was kept fresh);
+    memory = λ _ is. absurd cc;
+    others = λ _. ((λ is. absurd cc), (λ is. absurd cc));
+  }
 
   module _ (none : d.refusal ≡ None) where
     pub chain_fed : HasEnded (fields_inside d) → (old.refusal ≡ None) × AreChain A old.bytes
@@ -169,3 +181,53 @@ module _ {A : Type 0} {d now : Inside A} {piece : List ℕ} {used : ℕ} {answer
         next = told.2;
         takes = told.3;
       })
+
+  fresh_seen : old.refusal ≡ None
+  fresh_seen = ap (λ (s : Seen). s.refusal) (sym seen) ∙ t.was
+
+  module _ (bytes : List ℕ) (noted : bytes ≡ now.history.items ++ take used piece) where
+    pub feeds_event : (event : Answer A) → answer ≡ Ok event
+        → Feeds A old piece (record { bytes = bytes; refusal = now.refusal }) (Ok (record { used = used; event = event }))
+    feeds_event event is = record {
+      latched = λ reason refused. fresh_holds_all old.refusal fresh_seen reason refused;
+      used = bytes_fed bytes noted;
+      more = no_event event is;
+      event = one_event event is;
+      refused = λ _ _ _ never. absurd cc;
+      memory = λ _ never. absurd cc;
+      others = λ _. ((λ never. absurd cc), (λ never. absurd cc));
+    }
+
+    pub feeds_refusal : (reason : Reason) → answer ≡ Err (Refused reason)
+        → Feeds A old piece (record { bytes = bytes; refusal = Some reason }) (Err (faults.Refused (now.count + used) reason))
+    feeds_refusal reason is = record {
+      latched = λ was refused. fresh_holds_all old.refusal fresh_seen was refused;
+      used = tt;
+      more = tt;
+      event = tt;
+      refused = λ place why _ both.
+          let at : now.count + used ≡ place = cc both in
+          let same : reason ≡ why = cc both in
+          refuses reason is bytes noted place why at same;
+      memory = λ _ never. absurd cc;
+      others = λ _. ((λ never. absurd cc), (λ never. absurd cc));
+    }
+
+    pub feeds_want : answer ≡ Err NoMemory → Feeds A old piece (record { bytes = bytes; refusal = now.refusal }) (Err (faults.NoMemory used))
+    feeds_want is = record {
+      latched = λ was refused. fresh_holds_all old.refusal fresh_seen was refused;
+      used = tt;
+      more = tt;
+      event = tt;
+      refused = λ _ _ _ never. absurd cc;
+      memory = λ count both. let same : used ≡ count = cc both in wants is bytes noted count same;
+      others = λ _. ((λ never. absurd cc), (λ never. absurd cc));
+    }
+
+-- a record is told
+pub item_told : {A : Type 0} {d now : Inside A} {piece : List ℕ} {used : ℕ} {r : Record A} → Took d now piece used (Ok (answers.Item r)) → {old : Seen}
+    → record { bytes = d.history.items; refusal = d.refusal } ≡ old → (bytes : List ℕ) → bytes ≡ now.history.items ++ take used piece
+    → TellsItem A old piece (record { bytes = bytes; refusal = now.refusal }) used r
+item_told {r = r} t seen bytes noted =
+    let one = one_event t seen (answers.Item r) refl (item r) refl in
+    record { fresh = fresh_seen t seen; some = one.0; within = within t; after = (bytes_fed t seen bytes noted).1; least = one.1 }

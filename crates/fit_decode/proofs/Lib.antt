@@ -7,6 +7,8 @@ pub mod Invariant
 pub mod Advancing
 pub mod Ended
 pub mod Feeding
+mod Items
+mod Placed
 pub mod Needed
 pub mod Consumed
 pub mod PieceTaken

@@ -19,6 +19,9 @@ use Rattle.fit_frame.specs.declared.reason.Reason.TheVariants.{TooManyFiles}
 use Rattle.fit_chain.proofs.HeaderFed.{header_fronts, header_quiet, header_least, header_refuses, full_refuses}
 use Rattle.fit_chain.proofs.SumFed.{sum_fronts, sum_quiet, sum_viable, file_come, file_goes, file_viable, file_least, sum_refuses}
 use Rattle.fit_chain.specs.declared.event.Event.TheVariants as answers
+use Rattle.fit_decode.specs.declared.section.Part.{Part}
+use Rattle.fit_decode.specs.declared.section.Part.TheVariants as parts
+use Rattle.fit_decode.specs.inner.Sections.{as_event, header_of}
 
 -- ---- where records begin
 
@@ -90,10 +93,10 @@ module _ {A : Type 0} (d : Fields A) (at : d.stage.section ≡ Header) (bytes pi
   no_front [] begun all = refl
   no_front (b ∷ front) begun all = absurd (omega (arith, begun, all))
 
-  pub header_fed : (stage : Stage) (reader : Seen) (position : Position) (sum : List ℕ) (used : ℕ) (answer : Result (Answer A) Stop)
-      → HeaderFed d.stage d.reader.bytes d.sum stage reader position sum piece used answer
-      → NextAnswer (record d { stage = stage; reader = reader; sum = sum; position = position }) bytes piece used answer
-  header_fed stage reader position sum used (Ok answers.More) (lim, (all, read, begun), covered, same) =
+  pub header_fed : (stage : Stage) (reader : Seen) (position : Position) (sum : List ℕ) (head : Option FileHeader) (used : ℕ) (answer : Result Part Stop)
+      → HeaderFed d.stage d.reader.bytes d.sum stage reader position sum head piece used answer
+      → NextAnswer (record d { stage = stage; reader = reader; sum = sum; position = position }) bytes piece used (as_event d.in_progress head answer)
+  header_fed stage reader position sum head used (Ok parts.More) (lim, (all, read, begun), covered, same) =
       let open_ : IsHeaderPart (d.sum ++ take used piece) = subst (λ l. IsHeaderPart (l ++ take used piece)) front_is begun in
       let within : used ≤ length piece = omega (arith, all) in
       let none = begun_header (d.sum ++ take used piece) open_.0 open_.1 in
@@ -115,7 +118,7 @@ module _ {A : Type 0} (d : Fields A) (at : d.stage.section ≡ Header) (bytes pi
               idle = k.idle;
             }));
       }
-  header_fed stage reader position sum used (Ok (answers.Header h n)) (few, some, within, whole, fresh, covered, goes_on, begins, room) =
+  header_fed stage reader position sum head used (Ok (parts.Header n)) (h, stands, few, some, within, whole, fresh, covered, goes_on, begins, room) =
       let is : IsFileHeader h n (d.sum ++ take used piece) = subst (λ l. IsFileHeader h n (l ++ take used piece)) front_is whole in
       let less : length k.files < chain_limit = omega (arith, few, k.counted) in
       let come = whole_header k.files d.sum bytes (take used piece) h n k.come is in
@@ -129,7 +132,8 @@ module _ {A : Type 0} (d : Fields A) (at : d.stage.section ≡ Header) (bytes pi
       subst (λ e. IsInProgress e (n - 0) [] position d.in_progress) (sym k.known)
       (subst (λ o. IsInProgress empty_environment (n - 0) [] position o) (sym k.idle) begun) in
       let all : sum ≡ header_bytes h n ++ [] = covered ∙ is.0.1 ∙ sym (append-nil (header_bytes h n)) in
-      record {
+      subst (λ (o : Option FileHeader). NextAnswer (record d { stage = stage; reader = reader; sum = sum; position = position }) bytes piece used
+      (Ok (header_of o n))) (sym stands) (record {
         told = (some, within, header_least k.files d.sum bytes piece k.come used h n within is);
         viable = goes_viable chain_limit k.files (at_data h n [] []) (bytes ++ take used piece) come
             (IsBytes-append bytes (take used piece) are (IsBytes-take used piece low))
@@ -137,8 +141,8 @@ module _ {A : Type 0} (d : Fields A) (at : d.stage.section ≡ Header) (bytes pi
         holds = λ _. subst (λ s. Holds (record d { stage = s; reader = reader; sum = sum; position = position }) (bytes ++ take used piece)) (sym goes_on)
             (subst (λ m. HoldsAt (section_of m) now (bytes ++ take used piece)) (sym same)
             (begins_records k.files now (bytes ++ take used piece) h n [] come less k.counted k.whole fresh all k.known here));
-      }
-  header_fed stage reader position sum used (Err (Refused reason)) (inl (full, some, none, is)) =
+      })
+  header_fed stage reader position sum head used (Err (Refused reason)) (inl (full, some, none, is)) =
       let all : length k.files ≡ chain_limit = omega (arith, full, k.counted, at_most (d.sum) k.goes.1) in
       let empty : d.sum ≡ [] = no_front d.sum k.goes.1 all in
       let viable = goes_viable chain_limit k.files (at_header d.sum) bytes k.come are k.goes in
@@ -155,7 +159,7 @@ module _ {A : Type 0} (d : Fields A) (at : d.stage.section ≡ Header) (bytes pi
         viable = subst (IsViable A chain_limit) here viable;
         holds = λ never. absurd never;
       }
-  header_fed stage reader position sum used (Err (Refused reason)) (inr (few, within, begun, refuses)) =
+  header_fed stage reader position sum head used (Err (Refused reason)) (inr (few, within, begun, refuses)) =
       let open_ : IsHeaderPart (d.sum ++ take used piece) = subst (λ l. IsHeaderPart (l ++ take used piece)) front_is begun in
       let less : length k.files < chain_limit = omega (arith, few, k.counted) in
       let none = begun_header (d.sum ++ take used piece) open_.0 open_.1 in
@@ -167,7 +171,7 @@ module _ {A : Type 0} (d : Fields A) (at : d.stage.section ≡ Header) (bytes pi
         viable = why.viable;
         holds = λ never. absurd never;
       }
-  header_fed stage reader position sum used answer fed = absurd fed
+  header_fed stage reader position sum head used answer fed = absurd fed
 
 -- ---- data sections
 

@@ -3,6 +3,7 @@ pub mod Turns
 pub mod Between
 pub mod Scans
 pub mod Sections
+pub mod Feeds
 pub mod Kept
 pub mod Skips
 pub mod Invariant

@@ -1,5 +1,5 @@
 //! The resumable decoder.
-ghost use Rattle.std.specs.Prelude.{◌≡◌, ◌↔◌, ℕ, ◌<◌, ◌≤◌, List, [], ◌∷◌, ◌++◌, length, take, Some, None, Ok, Err, IfOk, IsErr, IsOk, IsTrue};
+ghost use Rattle.std.specs.Prelude.{◌≡◌, ◌↔◌, ℕ, ◌<◌, ◌≤◌, List, [], ◌∷◌, ◌++◌, length, take, Some, None, Ok, Err, IfOk, IfSome, IfNone, IsErr, IsOk, IsTrue};
 ghost use Rattle.fit_frame.specs.declared.reason.Reason.{Reason};
 ghost use Rattle.fit_record.specs.Files.{chain_limit, IsViable};
 ghost use Rattle.fit_record.specs.Environment.{empty_environment};
@@ -15,14 +15,17 @@ ghost use Rattle.fit_chain.specs.Needs.{Needs, NoFileEndsBefore};
 ghost use Rattle.fit_decode.specs.Answers.{event_of, fed, MessageFollows, Refuses, Wants};
 ghost use Rattle.fit_chain.specs.Pieces.{Quiet, Least, TellsRecords};
 ghost use Rattle.fit_chain.specs.Checks.{AreChain};
+ghost use Rattle.fit_decode.specs.inner.Feeds.{Feeds, TellsItem};
 
 use crate::need::bytes_to_come;
-use crate::section::{Section, Stage};
+use crate::section::{Part, Section, Stage, take_event};
 use crate::{Event, Fault, Fed};
-use fit_frame::{HeadReader, Reason};
+use fit_frame::{HeadReader, Header, Reason};
 use fit_history::History;
-use fit_record::{Env, Record};
-use fit_step::{Position, Stop, in_progress_size, skip_in_section, skip_message_in_section};
+use fit_record::{Env, Record, Values};
+use fit_step::{
+    Position, Stop, in_progress_size, read_message, skip_in_section, skip_message_in_section,
+};
 use fit_sum::Sum;
 use std::alloc::{Allocator, Global};
 use std::marker::Model;
@@ -37,6 +40,7 @@ pub struct Decoder<A: Allocator + Copy = Global> {
     sum: Sum,
     env: Env<A>,
     in_progress: Option<Record<A>>,
+    head: Option<Header>,
     stage: Stage,
     position: Position,
     count: u64,
@@ -77,6 +81,7 @@ impl<A: Allocator + Copy> Decoder<A> {
             sum: Sum::new(),
             env: Env::new(alloc),
             in_progress: None,
+            head: None,
             stage: Stage {
                 files: 0,
                 section: Section::Header,
@@ -122,14 +127,64 @@ impl<A: Allocator + Copy> Decoder<A> {
         // Bytes that aren't refused begin a chain.
         ensures viable { IsViable A chain_limit self.new.bytes }
     {
+        match self.take_message(piece) {
+            Some((values, used)) => Ok(Fed {
+                used,
+                event: Event::Item(Record::Values(values)),
+            }),
+            None => self.feed_part(piece),
+        }
+    }
+
+    /// Takes a data message that is whole in the piece, where one begins there: the message, and how many bytes were used. Where
+    /// there is none, nothing changes.
+    #[inline(always)]
+    fn take_message(&mut self, piece: &[u8]) -> Option<(Values<A>, usize)>
+        ensures item { IfSome result (λ whole. TellsItem A self.old piece.now self.new whole.1
+            (Data whole.0)) }
+        ensures none { IfNone result (self.new ≡ self.old) }
+        ensures viable { IsViable A chain_limit self.new.bytes }
+    {
+        if self.refusal.is_some() {
+            return None;
+        }
+        let Section::Data = self.stage.section else {
+            return None;
+        };
+        let (values, length) = read_message(
+            self.alloc,
+            &self.env,
+            &mut self.position,
+            &self.in_progress,
+            piece,
+        )?;
+        let (whole, _) = piece.split_at(length);
+        self.sum.add_all(whole);
+        self.history.note(whole);
+        self.count += length as u64;
+        Some((values, length))
+    }
+
+    /// Does what `feed` does, whatever the piece begins with. A header or a record that is complete stays in its place until it is told,
+    /// so that little is carried where none is.
+    #[inline(always)]
+    fn feed_part(&mut self, piece: &[u8]) -> Result<Fed<A>, Fault>
+        ensures feeds { Feeds A self.old piece.now self.new result }
+        ensures viable { IsViable A chain_limit self.new.bytes }
+    {
         if let Some(reason) = self.refusal {
             let place = self.count;
             return Err(Fault::Refused { place, reason });
         }
         let (used, answer) = match self.stage.section {
             Section::Header => {
-                self.stage
-                    .feed_header(&mut self.reader, &mut self.position, &mut self.sum, piece)
+                self.stage.feed_header(
+                    &mut self.reader,
+                    &mut self.position,
+                    &mut self.sum,
+                    &mut self.head,
+                    piece,
+                )
             }
             Section::Data => self.stage.feed_data(
                 self.alloc,
@@ -148,7 +203,14 @@ impl<A: Allocator + Copy> Decoder<A> {
         self.history.note(taken);
         self.count += used as u64;
         match answer {
-            Ok(event) => Ok(Fed { used, event }),
+            Ok(Part::More) => Ok(Fed {
+                used,
+                event: Event::More,
+            }),
+            Ok(part) => {
+                let event = take_event(part, &mut self.in_progress, &mut self.head);
+                Ok(Fed { used, event })
+            }
             Err(stop) => match stop {
                 Stop::Refused(reason) => {
                     self.refusal = Some(reason);
@@ -298,6 +360,7 @@ impl<A: Allocator + Copy> Decoder<A> {
             in_progress,
             alloc: _,
             reader: _,
+            head: _,
             sum: _,
             stage: Stage {
                 files: _,

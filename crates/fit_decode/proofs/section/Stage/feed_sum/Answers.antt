@@ -2,4 +2,4 @@ use Rattle.fit_decode.proofs.Common.{refl}
 use Rattle.fit_decode.proofs.section.Stage.feed_sum.Goals as goal
 
 pub returns-in-Err : goal.returns-in-Err
-returns-in-Err g c = (rw (c.value.ensures, c.in-Err.is) at c.scan_sum-used.ensures, refl, refl, refl)
+returns-in-Err g c = λ placed head. (rw (c.value.ensures, c.in-Err.is) at c.scan_sum-used.ensures, refl, refl, refl)
