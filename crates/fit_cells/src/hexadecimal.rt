@@ -39,6 +39,17 @@ fn write_two(row: &mut [u8], at: usize, two: [u8; 2]) -> usize
     at + 2
 }
 
+/// Writes what stands before hexadecimal digits.
+#[inline(always)]
+fn write_mark(row: &mut [u8], at: usize) -> usize
+    requires room { at + 2 ≤ length row.old }
+    ensures size { length row.new ≡ length row.old }
+    ensures end { result ≡ at + 2 }
+    ensures text { take result row.new ≡ take at row.old ++ codes "0x" }
+{
+    write_two(row, at, *b"0x")
+}
+
 /// Writes bytes into a row from a place on, `0x` and two digits each. Returns the place after them.
 pub fn write_bytes(row: &mut [u8], at: usize, bytes: &[u8]) -> usize
     requires room { at + (2 + 2 * length bytes.now) ≤ length row.old }
@@ -46,9 +57,35 @@ pub fn write_bytes(row: &mut [u8], at: usize, bytes: &[u8]) -> usize
     ensures end { result ≡ at + (2 + 2 * length bytes.now) }
     ensures text { take result row.new ≡ take at row.old ++ bytes_text bytes.now }
 {
-    let mut end = write_two(row, at, *b"0x");
+    let mut end = write_mark(row, at);
     for byte in bytes {
         end = write_two(row, end, pair(*byte));
+    }
+    end
+}
+
+/// The byte of a number at a place, counted from the last.
+#[inline(always)]
+fn byte_at(number: u64, place: u8) -> u8
+    requires { place < 8 }
+    ensures { result ≡ number / 2 ^ (8 * place) % 256 }
+{
+    ((number >> (8 * place as u32)) % 256) as u8
+}
+
+/// Writes the bits of a floating point number of this many bytes into a row from a place on, `0x` and two hexadecimal digits a byte.
+/// Returns the place after them.
+pub fn write_float(row: &mut [u8], at: usize, width: u8, bits: u64) -> usize
+    requires width { width ≤ 8 }
+    requires room { at + (2 + 2 * width) ≤ length row.old }
+    ensures size { length row.new ≡ length row.old }
+    ensures end { result ≡ at + (2 + 2 * width) }
+    ensures text { take result row.new ≡ take at row.old
+        ++ (codes "0x" ++ hex_digits (2 * width) bits) }
+{
+    let mut end = write_mark(row, at);
+    for written in 0..width {
+        end = write_two(row, end, pair(byte_at(bits, width - 1 - written)));
     }
     end
 }

@@ -18,7 +18,7 @@ pub use cell::{cell_text, is_never_quoted, put_cell};
 pub use form::{
     NumberForm, formed, formed_number, lone_number, number_form, put_formed, write_formed,
 };
-pub use hexadecimal::{put_digits, read_bytes, write_bytes};
+pub use hexadecimal::{put_digits, read_bytes, write_bytes, write_float};
 pub use rows::{next_row, put_row, row_reader, row_text, row_writer, rows_text};
 pub use scan::{cell_items, cell_items_by};
 pub use shown::{ShownText, shown_text};

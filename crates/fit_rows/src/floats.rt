@@ -1,12 +1,14 @@
 //! Fields of one floating point number.
-ghost use Rattle.std.specs.Prelude.{◌≡◌, ◌⊎◌, ◌+◌, ◌*◌, ◌++◌, IsTrue, OnOk, codes, length};
+ghost use Rattle.std.specs.Prelude.{◌≡◌, ◌≤◌, ◌⊎◌, ◌+◌, ◌*◌, ◌++◌, IfOk, IsTrue, codes, length};
 ghost use Rattle.fit_base.specs.BaseTypes.{base_type};
 ghost use Rattle.fit_base.specs.Numbers.{number};
 ghost use Rattle.fit_base.specs.declared.code.Class.TheVariants.{Float};
 ghost use Rattle.fit_cells.specs.Cells.{hex_digits};
+ghost use Rattle.fit_rows.specs.inner.Sheets.{and_sheet};
 
+use crate::sheet::{Sheet, make_room};
 use fit_base::{Class, Code, Order, bits_at};
-use fit_cells::put_digits;
+use fit_cells::write_float;
 use std::alloc::AllocError;
 
 /// Whether a field of this base type and size is one floating point number.
@@ -17,19 +19,24 @@ pub(crate) fn is_lone_float(code: Code, size: u8) -> bool
     code.class() == Class::Float && code.width() == size
 }
 
-/// Puts a floating point number after a text, by its bytes.
+/// Adds a floating point number to what is written in a sheet, by its bytes. Returns the place after it.
 #[inline(never)]
-pub(crate) fn put_float(
+pub(crate) fn add_float(
     text: &mut Vec<u8>,
+    sheet: &mut Sheet,
+    at: usize,
     width: u8,
     order: Order,
     bytes: &[u8],
-) -> Result<(), AllocError>
+) -> Result<usize, AllocError>
+    requires place { at ≤ 1024 }
     requires width { (width ≡ 1) ⊎ (width ≡ 2) ⊎ (width ≡ 4) ⊎ (width ≡ 8) }
     requires length { length bytes.now ≡ width }
-    ensures { OnOk result (text.new.items ≡ text.old.items
+    ensures place { IfOk result (λ end. end ≤ 1024) }
+    ensures text { IfOk result (λ end. and_sheet text.new.items sheet.new end
+        ≡ and_sheet text.old.items sheet.old at
         ++ (codes "0x" ++ hex_digits (2 * width) (number order bytes.now))) }
 {
-    text.extend_from_slice(b"0x")?;
-    put_digits(text, 2 * width, bits_at(order, width, bytes))
+    let at = make_room(text, sheet, at)?;
+    Ok(write_float(sheet, at, width, bits_at(order, width, bytes)))
 }

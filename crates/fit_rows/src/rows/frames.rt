@@ -15,7 +15,7 @@ ghost use Rattle.fit_rows.specs.inner.Sheets.{and_sheet};
 
 pub(crate) mod likely;
 
-use crate::floats::{is_lone_float, put_float};
+use crate::floats::{add_float, is_lone_float};
 use crate::lone::lone_form;
 use crate::octets::{add_bytes, is_of_bytes};
 use crate::several::{add_numbers, several_form};
@@ -242,7 +242,7 @@ impl Frame {
         self.lone
     }
 
-    /// Puts a value that is no lone number after a text, by the bytes of its field.
+    /// Puts a value that isn't written in a sheet after a text, by the bytes of its field.
     #[inline(never)]
     fn put_rest(
         &self,
@@ -304,28 +304,6 @@ impl Frame {
         self.several
     }
 
-    /// Puts a value that is no lone number of at most four bytes after a text, by the bytes of its field.
-    #[inline(always)]
-    fn put_read(
-        &self,
-        text: &mut Vec<u8>,
-        writer: &mut RowWriter,
-        value: &mut Vec<u8>,
-        alloc: Global,
-        order: Order,
-        bytes: &[u8],
-    ) -> Result<(), AllocError>
-        requires { length bytes.now ≡ self.now.size }
-        ensures { OnOk result (text.new.items ≡ text.old.items
-            ++ field_text default_writer (cell self.now.code self.now.info
-            (field_from {A = Global} order (self.now.code, self.now.size) bytes.now))) }
-    {
-        if self.is_float {
-            return put_float(text, self.size, order, bytes);
-        }
-        self.put_rest(text, writer, value, alloc, order, bytes)
-    }
-
     /// Adds a value that is neither a lone number of at most four bytes nor a string, by the bytes of its field.
     #[inline(never)]
     fn add_read(
@@ -350,11 +328,14 @@ impl Frame {
         if self.is_of_bytes {
             return add_bytes(text, sheet, at, self.size, bytes);
         }
+        if self.is_float {
+            return add_float(text, sheet, at, self.size, order, bytes);
+        }
         if let Some(form) = self.several() {
             return add_numbers(text, sheet, at, form, order, bytes);
         }
         put_sheet(text, sheet, at)?;
-        self.put_read(text, writer, value, alloc, order, bytes)?;
+        self.put_rest(text, writer, value, alloc, order, bytes)?;
         Ok(0)
     }
 

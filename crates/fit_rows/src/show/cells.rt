@@ -11,7 +11,7 @@ ghost use Rattle.fit_cells.specs.Forms.{IsFormOf, IsSmallForm};
 ghost use Rattle.fit_rows.specs.ShowLines.{shown_cell};
 ghost use Rattle.fit_rows.specs.inner.Sheets.{and_sheet};
 
-use crate::floats::{is_lone_float, put_float};
+use crate::floats::{add_float, is_lone_float};
 use crate::lone::lone_form;
 use crate::octets::{add_bytes, is_of_bytes};
 use crate::several::{add_numbers, several_form};
@@ -181,7 +181,7 @@ impl ShownCell {
         if is_shown(text) { Some(text) } else { None }
     }
 
-    /// Puts the cell of what is no lone number, by the bytes of the field.
+    /// Puts the cell of what isn't written in a sheet, by the bytes of the field.
     #[inline(never)]
     fn put_read(
         &self,
@@ -195,9 +195,6 @@ impl ShownCell {
             ++ shown_cell self.now.code self.now.info
             (field_from {A = Global} order (self.now.code, self.now.size) bytes.now)) }
     {
-        if self.is_float {
-            return put_float(text, self.size, order, bytes);
-        }
         let items = read_items(alloc, order, self.code, self.size, bytes)?;
         self.put_other(text, &items)
     }
@@ -223,6 +220,9 @@ impl ShownCell {
     {
         if self.is_of_bytes {
             return add_bytes(text, sheet, at, self.size, bytes);
+        }
+        if self.is_float {
+            return add_float(text, sheet, at, self.size, order, bytes);
         }
         if let Some(form) = self.several() {
             return add_numbers(text, sheet, at, form, order, bytes);

@@ -1,7 +1,11 @@
-use Rattle.std.proofs.Common.{List, ℕ}
+use Rattle.std.proofs.Common.{List, ℕ, codes}
 use Rattle.std.specs.Prelude.{IfOk}
 use Rattle.fit_rows.proofs.Common.{◌≡◌, ◌∙◌, ◌/◌, ◌%◌, ◌++◌, ap, sym, subst, and_sheet, CellKey, Global}
+use Rattle.fit_rows.proofs.Common.{◌*◌, base_type, hex_digits}
+use Rattle.fit_base.specs.Numbers.{number}
+use Rattle.fit_base.specs.declared.code.Class.TheVariants.{Float}
 use Rattle.fit_record.specs.ReadMessages.{numbers_of}
+use Rattle.fit_rows.proofs.FloatCells.{field_width, float_in_line}
 use Rattle.fit_rows.proofs.OctetCells.{bytes_in_line}
 use Rattle.fit_rows.proofs.SeveralCells.{several_in_line}
 use Rattle.fit_rows.specs.inner.Octets.{IsOfBytes}
@@ -16,6 +20,21 @@ returns-then-self-clause-text c =
     let is = sym (bytes_in_line Global c.args.order kept.code kept.size kept.info c.args.bytes.now are c.requires.length) in
     subst (λ (t : List ℕ). IfOk c.add_bytes.result (λ end. and_sheet c.add_bytes.new.text.items c.add_bytes.new.sheet end ≡ before ++ t)) is
     c.add_bytes.ensures.text
+
+pub add_float-requires-clause-width : goal.add_float-requires-clause-width
+add_float-requires-clause-width c = field_width c.self.inside.code c.self.inside.size (c.self.invariant.5 c.if-self-2.true)
+
+pub returns-then-self-2-clause-text : goal.returns-then-self-2-clause-text
+returns-then-self-2-clause-text c =
+    let kept : CellKey = c.args.self.now in
+    let before = and_sheet c.args.text.now.items c.args.sheet.now c.args.at in
+    let float = subst (λ (f : CellKey). (base_type f.code).class ≡ Float) c.self.view_is (c.self.invariant.4 c.if-self-2.true) in
+    let own = subst (λ (f : CellKey). (base_type f.code).width ≡ f.size) c.self.view_is (c.self.invariant.5 c.if-self-2.true) in
+    let digits = number c.args.order c.args.bytes.now in
+    let is = ap (λ (f : CellKey). codes "0x" ++ hex_digits (2 * f.size) digits) c.self.view_is
+    ∙ sym (float_in_line Global c.args.order kept.code kept.size kept.info c.args.bytes.now float own c.requires.length) in
+    subst (λ (t : List ℕ). IfOk c.add_float.result (λ end. and_sheet c.add_float.new.text.items c.add_float.new.sheet end ≡ before ++ t)) is
+    c.add_float.ensures.text
 
 pub add_numbers-requires-clause-whole : goal.add_numbers-requires-clause-whole
 add_numbers-requires-clause-whole c = ap (λ n. n % c.in-Some.form.width) c.requires.length ∙ c.in-Some.ensures.whole
