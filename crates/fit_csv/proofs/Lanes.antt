@@ -1,12 +1,12 @@
 -- From the mask of sixteen bytes that are looked at together to the bytes before the first that is looked for.
-use Rattle.std.proofs.Common.{◌≡◌, ℕ, ◌+◌, ◌-◌, ◌*◌, ◌/◌, ◌%◌, ◌^◌, ◌<◌, ◌≤◌, eqb, cond, Bool, true, false, not, ◌||◌, List, map, length, get_or}
-use Rattle.std.proofs.Common.{drop, take, suc, zero, ◌++◌, append_assoc, take-append-drop}
+use Rattle.std.proofs.Common.{◌≡◌, ℕ, ◌+◌, ◌-◌, ◌*◌, ◌/◌, ◌%◌, ◌^◌, ◌<◌, ◌≤◌, eqb, cond, Bool, true}
+use Rattle.std.proofs.Common.{false, not, ◌||◌, List, map, length, get_or, drop, take, suc, zero, ◌++◌, append_assoc, take-append-drop}
 use Rattle.std.proofs.Common.{◌∷◌, [], bit_and, replicate, Fits, w8, refl, sym, ap, ◌∙◌, subst, arith, inl, inr}
 use Rattle.std.proofs.lemmas.Bool.{agree_below, agree_below_at, not-true, cases_lt}
 use Rattle.std.proofs.lemmas.List.{ext_get_or, get_or-drop, get_or-take, get_or-map, length-append, length-map, length-take-le, take-append-le, take-take}
 use Rattle.std.proofs.lemmas.Nat.{and_le_r}
-use Rattle.std.proofs.lemmas.Simd.{map-map, mask_l-mod, length-chunk, first_set_mask_l, run_in_chunk_le, run_in_chunk_fails, zip2_splat, length-zip2}
-use Rattle.std.proofs.lemmas.Simd.{put_chunk_is}
+use Rattle.std.proofs.lemmas.Simd.{map-map, mask_l-mod, length-chunk, first_set_mask_l, run_in_chunk_le}
+use Rattle.std.proofs.lemmas.Simd.{run_in_chunk_fails, zip2_splat, length-zip2, put_chunk_is}
 use Rattle.std.proofs.lemmas.Simd.{Each1-all, Each1-zip2, Each2-splat, SwzOk, SwzOk-from_below, swz_l, length-swz_l, get_or-swz_l_below}
 use lib.Count.{count_trailing_zeros}
 use lib.Lanes.{chunk, put_chunk, zip2, mask_l, top}

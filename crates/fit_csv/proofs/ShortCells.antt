@@ -1,6 +1,6 @@
 -- Short cells in quotes that are spelled anew without them, one after another.
-use Rattle.std.proofs.Common.{◌≡◌, ℕ, ◌+◌, ◌-◌, ◌<◌, ◌≤◌, false, List, [], ◌∷◌, ◌++◌, length, get_or, drop, take, take-append-drop, append_assoc}
-use Rattle.std.proofs.Common.{refl, sym, ap, ◌∙◌, subst, arith, inl, inr}
+use Rattle.std.proofs.Common.{◌≡◌, ◌⊎◌, ℕ, ◌+◌, ◌-◌, ◌<◌, ◌≤◌, false, List, [], ◌∷◌, ◌++◌, length}
+use Rattle.std.proofs.Common.{get_or, drop, take, take-append-drop, append_assoc, refl, sym, ap, ◌∙◌, subst, arith, inl, inr}
 use Rattle.std.proofs.lemmas.List.{drop-drop, drop_more, get_or-take, length-drop}
 use Rattle.fit_csv.specs.declared.from.loose.Spot.TheVariants.{RowStart}
 use Rattle.fit_csv.specs.inner.Loose.{EndsCell, IsShortCell, Opens, WritesOn, is_special, spot_after, spot_from}
@@ -52,12 +52,18 @@ short-goes-on written text shown end size short opens =
     (bare-goes-on written bare (drop (shown + 2) text) (drop size text) (end ∷ []) opens short.plain short.ends)
 
 -- one more short cell after what stands on a sheet
-pub more-cells : (from left next old front bare more : List ℕ) (end : ℕ) → WritesOn from left old (old ++ front)
+pub more-cells : (from left next start old front bare more : List ℕ) (end : ℕ) → WritesOn from left start (old ++ front)
     → WritesOn left next (old ++ front) ((old ++ front) ++ (bare ++ (end ∷ []))) → more ≡ front ++ (bare ++ (end ∷ []))
-    → (spot_after end ≡ spot_from RowStart (old ++ more)) × WritesOn from next old (old ++ more)
-more-cells from left next old front bare more end goes cell is =
+    → (spot_after end ≡ spot_from RowStart (old ++ more)) × WritesOn from next start (old ++ more)
+more-cells from left next start old front bare more end goes cell is =
     let all : (old ++ front) ++ (bare ++ (end ∷ [])) ≡ old ++ more = append_assoc old front (bare ++ (end ∷ [])) ∙ ap (λ (l : List ℕ). old ++ l) (sym is) in
     let last : (old ++ front) ++ (bare ++ (end ∷ [])) ≡ ((old ++ front) ++ bare) ++ (end ∷ []) = sym (append_assoc (old ++ front) bare (end ∷ [])) in (
       sym (ap (λ (l : List ℕ). spot_from RowStart l) (sym all ∙ last) ∙ spot-of-last RowStart ((old ++ front) ++ bare) end),
-      subst (λ (l : List ℕ). WritesOn from next old l) all (both-go-on from left next old (old ++ front) ((old ++ front) ++ (bare ++ (end ∷ []))) goes cell),
+      subst (λ (l : List ℕ). WritesOn from next start l) all
+          (both-go-on from left next start (old ++ front) ((old ++ front) ++ (bare ++ (end ∷ []))) goes cell),
     )
+
+-- the byte that is written after a cell
+pub end-byte : (text left : List ℕ) (end : ℕ) → EndsCell text left (end ∷ []) → (end ≡ 44) ⊎ (end ≡ 10)
+end-byte text left end (inl ends) = inl (ap (λ (l : List ℕ). get_or l 0 0) ends.1)
+end-byte text left end (inr ends) = inr (ap (λ (l : List ℕ). get_or l 0 0) ends.1)

@@ -1,6 +1,6 @@
 -- Short lines without quotes that are spelled anew, one after another.
-use Rattle.std.proofs.Common.{◌≡◌, ℕ, ◌+◌, ◌-◌, ◌<◌, ◌≤◌, false, List, [], ◌∷◌, ◌++◌, length, get_or, set, drop, take, take-append-drop, append_assoc}
-use Rattle.std.proofs.Common.{sym, ap, ◌∙◌, subst, arith}
+use Rattle.std.proofs.Common.{◌≡◌, ℕ, ◌+◌, ◌-◌, ◌<◌, ◌≤◌, false, List, [], ◌∷◌, ◌++◌, length}
+use Rattle.std.proofs.Common.{get_or, set, drop, take, take-append-drop, append_assoc, sym, ap, ◌∙◌, subst, arith}
 use Rattle.std.proofs.lemmas.List.{length-take-le, take-take, take_at, take_more_set, take_rest}
 use Rattle.fit_csv.specs.inner.Loose.{WritesOn, is_mark}
 use Rattle.fit_csv.proofs.LooseTexts.{both-go-on, line-goes-on, none-of, run-goes-on}

@@ -89,8 +89,8 @@ Closes false [] = Unit {0}
 Closes true (c ∷ cell) = Closes (not (c == 34)) cell
 Closes false (c ∷ cell) = (c ≡ 34) × Closes true cell
 
--- The text begins with a cell in quotes that needs none, of few bytes, and with what comes after it: that many bytes in all. Written are those
--- that it shows and one after them.
+-- The text begins with a cell in quotes that needs none and shows few bytes, and with what ends it: that many bytes in all. This byte is
+-- written after those that the cell shows.
 pub record IsShortCell (text : List ℕ) (shown end size : ℕ) : Type 0 where
   pub few : shown ≤ 16
   pub enough : 17 ≤ length text

@@ -1,18 +1,16 @@
 //! Texts as spreadsheets write them, spelled anew as `to_csv` spells: CR LF at the ends of lines, cells in quotes that need none,
 //! a byte order mark at the start, no line end at the end.
-ghost use Rattle.std.specs.Prelude.{◌≡◌, ◌++◌, ◌∷◌, ◌<◌, ◌≤◌, [], ℕ, List, EachIndex, IfSome, MatchOption, IsTrue, length, slice_index};
-ghost use Rattle.std.specs.Prelude.{take, true, false};
+ghost use Rattle.std.specs.Prelude.{◌≡◌, ◌++◌, ◌∷◌, ◌≤◌, [], ℕ, List, IfSome, MatchOption, IsTrue, length, take, true};
 ghost use Rattle.csv.specs.Reading.{strip_bom};
-ghost use Rattle.fit_csv.specs.inner.Loose.{Closes, EndsCell, EndsLine, NoneOf, Opens, WritesEnd, WritesOn, is_mark, is_special};
-ghost use Rattle.fit_csv.specs.inner.Loose.{may_open, spot_after, spot_from};
+ghost use Rattle.fit_csv.specs.inner.Loose.{Closes, EndsCell, EndsLine, Opens, WritesEnd, WritesOn, may_open, spot_after, spot_from};
 
 mod cells;
 mod lines;
 mod runs;
 mod sheet;
 
-use crate::from::loose::cells::take_cells;
-use crate::from::loose::lines::take_lines;
+use crate::from::loose::cells::put_cells;
+use crate::from::loose::lines::{LINE_SIZE, put_some};
 use crate::from::loose::runs::{bare_length, run_length};
 use crate::from::loose::sheet::{SHEET_SIZE, Sheet};
 
@@ -206,55 +204,65 @@ fn take_line<'a>(written: &mut Vec<u8>, left: &'a [u8]) -> Option<&'a [u8]>
     Some(left)
 }
 
-/// Spells anew cells in quotes at the front of a text, short ones together or a single one, and returns what is left.
-fn take_some_quoted<'a>(
-    written: &mut Vec<u8>,
-    sheet: &mut Sheet,
-    text: &'a [u8],
-    many: usize,
-) -> Option<&'a [u8]>
-    ensures { IfSome result (λ left.
-        WritesOn text.now left.now written.old.items written.new.items) }
-{
-    let left = take_cells(written, sheet, text, many)?;
-    if left.len() < text.len() {
-        return Some(left);
-    }
-    take_quoted(written, after_byte(left, b'"')?)
-}
-
-/// Spells anew short lines at the front of a text together, or writes what one step finds, and returns what is left.
-fn take_some_plain<'a>(
-    written: &mut Vec<u8>,
-    sheet: &mut Sheet,
-    text: &'a [u8],
-    many: usize,
-) -> Option<&'a [u8]>
-    ensures { IfSome result (λ left.
-        WritesOn text.now left.now written.old.items written.new.items) }
-{
-    let left = take_lines(written, sheet, text, many)?;
-    if left.len() < text.len() {
-        return Some(left);
-    }
-    take_run(written, left)
-}
-
 /// Spells anew a beginning of a text, and returns what is left.
-fn take_some<'a>(
-    written: &mut Vec<u8>,
-    sheet: &mut Sheet,
-    text: &'a [u8],
-    many: usize,
-) -> Option<&'a [u8]>
+fn take_some<'a>(written: &mut Vec<u8>, text: &'a [u8]) -> Option<&'a [u8]>
     ensures { IfSome result (λ left.
         WritesOn text.now left.now written.old.items written.new.items) }
 {
     match text {
-        [b'"', ..] => take_some_quoted(written, sheet, text, many),
+        [b'"', rest @ ..] => take_quoted(written, rest),
         [b'\r', b'\n', left @ ..] => take_line(written, left),
-        _ => take_some_plain(written, sheet, text, many),
+        _ => take_run(written, text),
     }
+}
+
+/// Spells anew short lines and short cells in quotes on a sheet, as many as come before another cell or line, and writes them together.
+#[inline(never)]
+fn take_short<'a>(
+    written: &mut Vec<u8>,
+    sheet: &mut Sheet,
+    text: &'a [u8],
+    many: usize,
+) -> Option<&'a [u8]>
+    ensures { IfSome result (λ left.
+        WritesOn text.now left.now written.old.items written.new.items) }
+{
+    let stop = many.saturating_sub(written.len());
+    let limit = stop.min(SHEET_SIZE - LINE_SIZE);
+    let mut left = text;
+    let mut at = 0;
+    while at < limit {
+        let before = at;
+        if let [b'"', ..] = left {
+            (at, left) = put_cells(written.as_slice(), sheet, at, left, limit);
+        } else {
+            (at, left) = put_some(sheet, at, left, stop);
+        }
+        if at == before {
+            break;
+        }
+    }
+    if at > 0 {
+        put(written, &sheet[..at])?;
+    }
+    Some(left)
+}
+
+/// Spells anew short lines and cells at the front of a text, and what comes then, unless that many bytes are written. Returns what is left.
+fn take_more<'a>(
+    written: &mut Vec<u8>,
+    sheet: &mut Sheet,
+    text: &'a [u8],
+    many: usize,
+) -> Option<&'a [u8]>
+    ensures { IfSome result (λ left.
+        WritesOn text.now left.now written.old.items written.new.items) }
+{
+    let left = take_short(written, sheet, text, many)?;
+    if left.is_empty() || written.len() >= many {
+        return Some(left);
+    }
+    take_some(written, left)
 }
 
 /// Spells a text anew until that many bytes are written or nothing is left of it, and returns what is left.
@@ -268,7 +276,7 @@ pub(crate) fn spell_on<'a>(written: &mut Vec<u8>, text: &'a [u8], many: usize) -
         if left.is_empty() || written.len() >= many {
             return Some(left);
         }
-        left = take_some(written, &mut sheet, left, many)?;
+        left = take_more(written, &mut sheet, left, many)?;
     }
     Some(left)
 }

@@ -79,10 +79,10 @@ pub(crate) fn run_length(text: &[u8]) -> usize
     let mut at = 0;
     for _ in 0..end / LANES {
         let found = before_mark(&text[at..]);
-        at += found;
         if found < LANES {
-            return at;
+            return at + found;
         }
+        at += LANES;
     }
     for i in at..end {
         if mark(text[i]) {
@@ -102,10 +102,10 @@ pub(crate) fn bare_length(text: &[u8]) -> Option<usize>
     let mut at = 0;
     for _ in 0..end / LANES {
         let found = before_special(&text[at..]);
-        at += found;
         if found < LANES {
-            return Some(at);
+            return Some(at + found);
         }
+        at += LANES;
     }
     for i in at..end {
         if special(text[i]) {

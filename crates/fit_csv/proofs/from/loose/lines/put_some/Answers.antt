@@ -24,8 +24,8 @@ pub returns-clause-goes : goal.returns-clause-goes
 returns-clause-goes c old =
     let text = c.args.text.now in
     let shown = c.put_line-shown.result in
-    end-goes old c.args.sheet.now c.put_line-shown.new.sheet text (take (length text - shown) (drop shown text)) c.in-Some.rest.now c.args.at
-    (c.args.at + shown)
+    end-goes old c.args.sheet.now c.put_line-shown.new.sheet text (take (length text - shown) (drop shown text)) c.in-Some.rest.now
+    c.args.at (c.args.at + shown)
     (front-goes old c.args.sheet.now c.put_line-shown.new.sheet text c.args.at shown
     (omega (arith, c.put_line-shown.ensures.within, c.if-text-lt-LINE_SIZE.false)) c.put_line-shown.ensures.none c.put_line-shown.ensures.put)
     c.in-Some.ensures (omega (arith, c.requires, c.put_line-shown.ensures.within, c.if-shown-eq-LINE_SIZE.false, c.put_line-shown.array_long))

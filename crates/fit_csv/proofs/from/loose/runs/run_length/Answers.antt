@@ -9,7 +9,7 @@ returns-then-found-lt-LANES-clause-none c = more-before is_mark c.args.text.now 
 
 pub loop-preserved : goal.loop-preserved
 loop-preserved c = record {
-  place = omega (arith, c.loop.invariant.place, c.before_mark-found.ensures.within, c.if-found-lt-LANES.false);
-  none = more-before is_mark c.args.text.now c.loop.at (length c.args.text.now - c.loop.at) c.before_mark-found.result
-      (omega (arith, c.loop.invariant.place, c.loop-test.true, c.before_mark-found.ensures.within)) c.before_mark-found.ensures.none c.loop.invariant.none;
+  place = omega (arith, c.loop.invariant.place);
+  none = more-before is_mark c.args.text.now c.loop.at (length c.args.text.now - c.loop.at) 16 (omega (arith, c.loop.invariant.place, c.loop-test.true))
+      (λ k low. c.before_mark-found.ensures.none k (omega (arith, c.if-found-lt-LANES.false))) c.loop.invariant.none;
 }

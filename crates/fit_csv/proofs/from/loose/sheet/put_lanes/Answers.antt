@@ -8,8 +8,8 @@ pub returns : goal.returns
 returns c few short =
     let sheet = c.args.sheet.now in
     let at = c.args.at in
-    let size : length sheet ≡ 1024 = c.told-sheet in
-    let wide : length (drop at sheet) ≡ 1024 - at = omega (arith, length-drop at sheet, size) in
-    lanes-put (take at sheet) (mid_of at (1024 - at) sheet) (post_of at (1024 - at) sheet) c.args.text.now at few
+    let size : length sheet ≡ 2048 = c.told-sheet in
+    let wide : length (drop at sheet) ≡ 2048 - at = omega (arith, length-drop at sheet, size) in
+    lanes-put (take at sheet) (mid_of at (2048 - at) sheet) (post_of at (2048 - at) sheet) c.args.text.now at few
     (length-take-le at sheet (omega (arith, size, c.requires.room))) short c.requires.long
-    (omega (arith, length-take-le (1024 - at) (drop at sheet) (omega (arith, wide)), c.requires.room))
+    (omega (arith, length-take-le (2048 - at) (drop at sheet) (omega (arith, wide)), c.requires.room))
