@@ -1,8 +1,8 @@
 -- What a caller of `feed` sees: that the invariant is kept, and what is told of the bytes used.
 use Rattle.fit_decode.proofs.Common.{◌≡◌, ℕ, ◌+◌, ◌<◌, ◌≤◌, List, ◌++◌, length, take, slice_index, refl, sym, ap, ◌∙◌, subst, arith, length-append, Fits, w64}
-use Rattle.fit_decode.proofs.Common.{Some, None, Ok, Err, length-take-le, IsBytes, IsBytes-append, IsBytes-take, Reason, empty_environment, chain_limit, IsViable}
+use Rattle.fit_decode.proofs.Common.{Some, None, Ok, Err, length-take-le, IsBytes, IsBytes-append, IsBytes-take, Reason, empty_environment}
 use Rattle.fit_decode.proofs.Common.{Stop, Record, Inside, Answer, Event, header, item, file_end, event_of, Refuses, Wants, Quiet, Least, AreChain, IsRefused}
-use Rattle.fit_decode.proofs.Common.{Advanced, NotRefused, NextAnswer, Holds, IsSoundDecoder, fields_inside, short_bytes}
+use Rattle.fit_decode.proofs.Common.{Advanced, NotRefused, NextAnswer, Holds, IsSoundDecoder, fields_inside, short_bytes, chain_limit, IsViable}
 use Rattle.std.specs.Prelude.{Option, Result}
 use Rattle.fit_step.specs.declared.stop.Stop.TheVariants.{Refused, NoMemory}
 use Rattle.fit_chain.specs.declared.event.Fault.TheVariants as faults

@@ -18,13 +18,14 @@ ghost use Rattle.fit_chain.specs.Checks.{AreChain};
 ghost use Rattle.fit_decode.specs.inner.Feeds.{Feeds, TellsItem};
 
 use crate::need::bytes_to_come;
-use crate::section::{Part, Section, Stage, take_event};
+use crate::section::{Part, Section, Stage, section_of, take_event};
 use crate::{Event, Fault, Fed};
 use fit_frame::{HeadReader, Header, Reason};
 use fit_history::History;
 use fit_record::{Env, Record, Values};
 use fit_step::{
-    Position, Stop, in_progress_size, read_message, skip_in_section, skip_message_in_section,
+    Position, Stop, in_progress_size, read_message, read_whole_definition, skip_in_section,
+    skip_message_in_section,
 };
 use fit_sum::Sum;
 use std::alloc::{Allocator, Global};
@@ -127,13 +128,27 @@ impl<A: Allocator + Copy> Decoder<A> {
         // Bytes that aren't refused begin a chain.
         ensures viable { IsViable A chain_limit self.new.bytes }
     {
-        match self.take_message(piece) {
-            Some((values, used)) => Ok(Fed {
-                used,
-                event: Event::Item(Record::Values(values)),
-            }),
-            None => self.feed_part(piece),
+        if !self.is_inside_record() {
+            if let Some((values, used)) = self.take_message(piece) {
+                return Ok(Fed {
+                    used,
+                    event: Event::Item(Record::Values(values)),
+                });
+            }
+            if let Some((record, used)) = self.take_definition(piece) {
+                return Ok(Fed {
+                    used,
+                    event: Event::Item(record),
+                });
+            }
         }
+        self.feed_part(piece)
+    }
+
+    /// Whether bytes of a record have come that isn't whole. Then `feed` needn't look for one that is whole in the piece.
+    #[inline(always)]
+    fn is_inside_record(&self) -> bool {
+        self.in_progress.is_some()
     }
 
     /// Takes a data message that is whole in the piece, where one begins there: the message, and how many bytes were used. Where
@@ -163,6 +178,36 @@ impl<A: Allocator + Copy> Decoder<A> {
         self.history.note(whole);
         self.count += length as u64;
         Some((values, length))
+    }
+
+    /// Takes a definition message that is whole in the piece, where one begins there, and learns it: the record, and how many bytes
+    /// were used. Where there is none, nothing changes.
+    #[inline(always)]
+    fn take_definition(&mut self, piece: &[u8]) -> Option<(Record<A>, usize)>
+        ensures item { IfSome result (λ whole. TellsItem A self.old piece.now self.new whole.1
+            whole.0) }
+        ensures none { IfNone result (self.new ≡ self.old) }
+        ensures viable { IsViable A chain_limit self.new.bytes }
+    {
+        if self.refusal.is_some() {
+            return None;
+        }
+        let Section::Data = self.stage.section else {
+            return None;
+        };
+        let (record, size) = read_whole_definition(
+            self.alloc,
+            &mut self.env,
+            &mut self.position,
+            &self.in_progress,
+            piece,
+        )?;
+        self.stage.section = section_of(self.position.room);
+        let (bytes, _) = piece.split_at(size);
+        self.sum.add_all(bytes);
+        self.history.note(bytes);
+        self.count += size as u64;
+        Some((record, size))
     }
 
     /// Does what `feed` does, whatever the piece begins with. A header or a record that is complete stays in its place until it is told,

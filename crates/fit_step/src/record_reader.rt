@@ -10,7 +10,9 @@ ghost use Rattle.fit_step.specs.Places.{state_at};
 ghost use Rattle.fit_step.specs.Tests.{tests_of};
 ghost use Rattle.fit_step.specs.inner.Scans.{StandsWithRoom, TakesByte};
 
+use crate::header::is_definition;
 use crate::inside::take_inside;
+use crate::read_definition::definition_within;
 use crate::undone::undo;
 use crate::whole::{plain_message, whole_record};
 use crate::{Position, Stop, step};
@@ -167,7 +169,45 @@ pub fn read_message<A: Allocator + Copy>(
     Some((values, used))
 }
 
-/// The same where none of its bytes has come: it may be whole in the piece.
+/// Reads a definition message of which all bytes stand at the front of the piece, where one begins there: the record, and how many bytes
+/// it has. It is learned, and the next record begins after it.
+///
+/// There is none, and nothing changes, where bytes of a record have come, or another record begins; where some of its bytes are missing
+/// or are to be refused, or memory is; where it has developer fields; and where it ends in the last six bytes of the data section.
+/// `read_record` reads all records.
+#[inline(always)]
+pub fn read_whole_definition<A: Allocator + Copy>(
+    alloc: A,
+    env: &mut Env<A>,
+    position: &mut Position,
+    in_progress: &Option<Record<A>>,
+    piece: &[u8],
+) -> Option<(Record<A>, usize)>
+    requires { AwaitsByte env.old position.old in_progress.now }
+    ensures within { IfSome result (λ found. found.1 ≤ length piece.now) }
+    ensures reads { IfSome result (λ found. Reads env.old position.old in_progress.now env.new
+        position.new in_progress.now piece.now found.1 (Ok (Some found.0))) }
+    ensures none { IfNone result ((env.new ≡ env.old) × (position.new ≡ position.old)) }
+{
+    match in_progress {
+        Some(_) => return None,
+        None => {}
+    }
+    let (header, _) = piece.split_first()?;
+    if !is_definition(*header) {
+        return None;
+    }
+    let (definition, used) = definition_within(alloc, env, position.room, piece)?;
+    let record = Record::Define(definition);
+    match env.learn(&record) {
+        Ok(()) => {}
+        Err(_) => return None,
+    }
+    position.room -= used as u32;
+    Some((record, used))
+}
+
+/// Does what `scan_bytes` does for a record of which no byte has come: it may be whole in the piece.
 #[inline(never)]
 fn read_anew<A: Allocator + Copy>(
     alloc: A,

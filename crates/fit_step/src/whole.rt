@@ -6,6 +6,7 @@ ghost use Rattle.fit_record.specs.Records.{Fits};
 ghost use Rattle.fit_step.specs.Machine.{start, Ends};
 ghost use Rattle.fit_step.specs.Tests.{tests_of};
 
+use crate::header::is_definition;
 use crate::read_definition::definition_within;
 use fit_record::{Env, FIELD_DESCRIPTION, Record, Values};
 use std::alloc::Allocator;
@@ -80,9 +81,11 @@ pub fn whole_record<A: Allocator + Copy>(
     ensures ends { IfSome result (λ found. Ends env.now (tests_of env.now) (start room)
         (take found.1 piece.now) (start (room - found.1)) found.0) }
 {
-    if let Some((message, used)) = whole_message(alloc, env, room, piece) {
-        return Some((Record::Values(message), used));
+    let (header, _) = piece.split_first()?;
+    if is_definition(*header) {
+        let (definition, used) = definition_within(alloc, env, room, piece)?;
+        return Some((Record::Define(definition), used));
     }
-    let (definition, used) = definition_within(alloc, env, room, piece)?;
-    Some((Record::Define(definition), used))
+    let (message, used) = whole_message(alloc, env, room, piece)?;
+    Some((Record::Values(message), used))
 }
