@@ -1,9 +1,11 @@
 -- A message without a field for a component has no number of it.
 use Rattle.fit_profile.proofs.Common.{◌≡◌, ℕ, List, ◌∷◌, None, true, false, inl, inr, refl, ap, sym, ◌∙◌, list_any, cases_Bool, or_parts, both_ways, Items}
-use Rattle.fit_profile.proofs.Common.{FieldDef, MessageDef, Values, first_field, number_of, Some, told_at, last_after, tell}
-use Rattle.fit_profile.proofs.Common.{Defined, Environment, defined_at, described_by, IsSomeAnd, Option}
+use Rattle.fit_profile.proofs.Common.{FieldDef, MessageDef, Values, first_field, number_in, number_of, Some, told_at, last_after, tell}
+use Rattle.fit_profile.proofs.Common.{Defined, Environment, defined_at, described_by, IsSomeAnd, Option, option_and_then, if◌then◌else◌}
 use Rattle.std.proofs.Common.{◌==◌, ◌&&◌}
 use Rattle.std.specs.Prelude.{◌||◌}
+use Rattle.std.specs.Global.{Global}
+use Rattle.fit_record.specs.ReadMessages.{fields_from}
 use Rattle.fit_record.specs.declared.message.Record.TheVariants.{Values as Data}
 use Rattle.std.proofs.lemmas.Bool.{eqb-true}
 use Rattle.fit_profile.specs.declared.component.Component.{Component}
@@ -13,6 +15,8 @@ use Rattle.fit_profile.specs.Times.{field_time, header_time}
 use Rattle.fit_profile.specs.declared.told.Last.{Last}
 use Rattle.fit_profile.specs.declared.told.Told.{Told}
 use Rattle.fit_profile.specs.Accumulated.{is_counter, tells_more}
+use Rattle.fit_profile.specs.inner.Counters.{ArePlacesOf, IsPlaceOf}
+use Rattle.fit_profile.specs.inner.InBytes.{slots}
 
 no-field : {A : Type 0} (fields : List FieldDef) (items : List (Items A)) (number : ℕ) → is_counter number ≡ true
     → list_any (λ f. is_counter f.number) fields ≡ false → first_field fields items number ≡ None
@@ -24,12 +28,34 @@ no-field (f ∷ fields) (i ∷ items) number is none =
     ]
 no-field _ _ number is none = refl
 
-pub no-number : {A : Type 0} (c : Component) (d : MessageDef A) (v : Values A) → is_counter c.field ≡ true
-    → (d.global == 20 && list_any (λ f. is_counter f.number) d.fields) ≡ false → number_of c d v ≡ None
-no-number c d v is none = elim (cases_Bool (d.global == 20)) [
-  | inl record_message ↦ rw (record_message, no-field d.fields v.fields c.field is (rw record_message at none)) refl
+-- by the items of its fields, and by its values
+pub no-number_in : {A : Type 0} (c : Component) (d : MessageDef A) (items : List (Items A)) → is_counter c.field ≡ true
+    → (d.global == 20 && list_any (λ f. is_counter f.number) d.fields) ≡ false
+    → (if d.global == 20 then option_and_then (λ f. number_in c f.1) (first_field d.fields items c.field) else None) ≡ None
+no-number_in c d items is none = elim (cases_Bool (d.global == 20)) [
+  | inl record_message ↦ rw (record_message, no-field d.fields items c.field is (rw record_message at none)) refl
   | inr other ↦ rw other refl
 ]
+
+pub no-number : {A : Type 0} (c : Component) (d : MessageDef A) (v : Values A) → is_counter c.field ≡ true
+    → (d.global == 20 && list_any (λ f. is_counter f.number) d.fields) ≡ false → number_of c d v ≡ None
+no-number c d v is none = no-number_in c d v.fields is none
+
+-- such messages have a number of it at no place
+pub no-place : (c : Component) (d : MessageDef Global) → is_counter c.field ≡ true
+    → (d.global == 20 && list_any (λ f. is_counter f.number) d.fields) ≡ false → IsPlaceOf c None d
+no-place c d is none = record {
+  within = tt;
+  number = λ bytes. no-number_in c d (fields_from d.order (slots d.fields) bytes) is none;
+}
+
+pub no-places : (d : MessageDef Global) → (d.global == 20 && list_any (λ f. is_counter f.number) d.fields) ≡ false
+    → ArePlacesOf (record { distance = None; cycles = None; power = None }) d
+no-places d none = record {
+  distance = no-place sums.distance d refl none;
+  cycles = no-place sums.total_cycles d refl none;
+  power = no-place sums.accumulated_power d refl none;
+}
 
 -- the last ones after such a message are as before, but for the time
 pub only-time : {A : Type 0} (last : Last) (d : MessageDef A) (v : Values A) → (d.global == 20 && list_any (λ f. is_counter f.number) d.fields) ≡ false

@@ -7,7 +7,7 @@ ghost use Rattle.fit_profile.specs.Accumulated as sums;
 ghost use Rattle.fit_profile.specs.inner.Counters.{ArePlacesOf, IsPlaceOf, counting, number_at, number_of_fields};
 ghost use Rattle.fit_profile.specs.inner.InBytes.{slots};
 
-use crate::component::Component;
+use crate::component::{Component, may_count};
 use crate::message_number::RECORD;
 use crate::told::{ACCUMULATED_POWER, DISTANCE, TOTAL_CYCLES};
 use fit_base::{Code, Order, bits_at, width_of};
@@ -76,11 +76,18 @@ fn counting(c: Component, number: u64) -> Option<u64>
 }
 
 impl CounterPlaces {
-    /// Those of a definition.
+    /// Those of a definition. Most have none of the fields, and one look at these says so for all counters.
     pub fn of(definition: &MessageDef) -> CounterPlaces
         requires { length definition.now.fields < 256 }
         ensures { ArePlacesOf result definition.now }
     {
+        if !may_count(definition) {
+            return CounterPlaces {
+                distance: None,
+                cycles: None,
+                power: None,
+            };
+        }
         CounterPlaces {
             distance: place_of(DISTANCE, definition),
             cycles: place_of(TOTAL_CYCLES, definition),
