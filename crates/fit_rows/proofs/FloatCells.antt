@@ -1,6 +1,6 @@
 -- The cells of floating point numbers by the bytes of their fields.
 use Rattle.fit_rows.proofs.Common.{◌≡◌, ◌∙◌, ◌*◌, ◌/◌, ◌%◌, ◌++◌, [], ◌∷◌, length, refl, sym, ap, arith, subst, base_type, item_width, eq-eqb, Order, cell}
-use Rattle.fit_rows.proofs.Common.{true, list_all, take_all, hex_digits, inl, inr, field_text, default_writer, shown_cell}
+use Rattle.fit_rows.proofs.Common.{true, take_all, hex_digits, inl, inr}
 use Rattle.std.proofs.Common.{ℕ, List, Option, if◌then◌else◌, ◌==◌, ◌⊎◌, codes}
 use Rattle.std.proofs.lemmas.List.{append-nil}
 use Rattle.fit_base.specs.Numbers.{number}
@@ -11,7 +11,7 @@ use Rattle.fit_cells.specs.Cells.{class_of, items_text}
 use Rattle.fit_profile.specs.Described.{is_printable}
 use Rattle.fit_profile.specs.Profile.{Meaning}
 use Rattle.fit_record.specs.ReadMessages.{field_from, numbers_of}
-use Rattle.fit_rows.proofs.ShownCells.{all_printable, printable, printable_shown}
+use Rattle.fit_rows.proofs.ShownCells.{BothShow, both_show, printable}
 
 own_width : (w : ℕ) → (w ≡ 1) ⊎ (w ≡ 2) ⊎ (w ≡ 4) ⊎ (w ≡ 8) → ((if w % w == 0 then w else 1) ≡ w) × (w / w ≡ 1)
 own_width w wide = elim wide [
@@ -26,7 +26,7 @@ pub field_width : (code size : ℕ) → (base_type code).width ≡ size → (siz
 field_width code size own = subst (λ w. (w ≡ 1) ⊎ (w ≡ 2) ⊎ (w ≡ 4) ⊎ (w ≡ 8)) own (code_width code)
 
 -- the cell of one floating point number
-pub float_text : (A : Type 0) (o : Order) (code size : ℕ) (info : Option Meaning) (bytes : List ℕ) → (base_type code).class ≡ Float
+float_text : (A : Type 0) (o : Order) (code size : ℕ) (info : Option Meaning) (bytes : List ℕ) → (base_type code).class ≡ Float
     → (base_type code).width ≡ size → length bytes ≡ size
     → cell code info (field_from {A = A} o (code, size) bytes) ≡ codes "0x" ++ hex_digits (2 * size) (number o bytes)
 float_text A o code size info bytes float own long =
@@ -41,19 +41,12 @@ float_text A o code size info bytes float own long =
     (λ i. if length (bits i) == 0 then [] else items_text (class i) code info (wide i) (bits i))
     ∙ append-nil (codes "0x" ++ hex_digits (2 * size) (number o bytes))
 
--- the same in a row
-pub float_in_row : (A : Type 0) (o : Order) (code size : ℕ) (info : Option Meaning) (bytes : List ℕ) → (base_type code).class ≡ Float
+-- the same in a row and in a line
+pub float_shown : (A : Type 0) (o : Order) (code size : ℕ) (info : Option Meaning) (bytes : List ℕ) → (base_type code).class ≡ Float
     → (base_type code).width ≡ size → length bytes ≡ size
-    → field_text default_writer (cell code info (field_from {A = A} o (code, size) bytes)) ≡ codes "0x" ++ hex_digits (2 * size) (number o bytes)
-float_in_row A o code size info bytes float own long =
-    plain_cell code info (field_from {A = A} o (code, size) bytes) (λ e. cc (sym float ∙ e)) ∙ float_text A o code size info bytes float own long
-
--- the same in a line
-pub float_in_line : (A : Type 0) (o : Order) (code size : ℕ) (info : Option Meaning) (bytes : List ℕ) → (base_type code).class ≡ Float
-    → (base_type code).width ≡ size → length bytes ≡ size
-    → shown_cell code info (field_from {A = A} o (code, size) bytes) ≡ codes "0x" ++ hex_digits (2 * size) (number o bytes)
-float_in_line A o code size info bytes float own long =
+    → BothShow code info (field_from {A = A} o (code, size) bytes) (codes "0x" ++ hex_digits (2 * size) (number o bytes))
+float_shown A o code size info bytes float own long =
+    let items = field_from {A = A} o (code, size) bytes in
     let is = float_text A o code size info bytes float own long in
-    let printed = all_printable (codes "0x" ++ hex_digits (2 * size) (number o bytes))
-    (all-item (λ b. is_printable b ≡ true) printable Float code info size (number o bytes)) in
-    printable_shown code info (field_from {A = A} o (code, size) bytes) (ap (list_all is_printable) is ∙ printed) ∙ is
+    both_show code info items (codes "0x" ++ hex_digits (2 * size) (number o bytes)) is (plain_cell code info items (λ e. cc (sym float ∙ e)) ∙ is)
+    (all-item (λ b. is_printable b ≡ true) printable Float code info size (number o bytes))

@@ -1,12 +1,11 @@
 -- Rows of values between what stands around these.
-use Rattle.fit_rows.proofs.Common.{◌≡◌, ◌∙◌, ◌++◌, ◌∷◌, [], Global, HasRows, ◌-◌, ◌+◌, length, take, get_or, map, refl, sym, ap, ap₂, append_assoc}
-use Rattle.fit_rows.proofs.Common.{arith, false}
-use Rattle.fit_rows.proofs.Common.{map-append, take_more, take-append_seam, default_writer, escaped, field_text}
+use Rattle.fit_rows.proofs.Common.{◌≡◌, ◌∙◌, ◌++◌, ◌∷◌, [], Global, HasRows, ◌+◌, length, take, get_or, map, refl, sym, ap, ap₂, append_assoc}
+use Rattle.fit_rows.proofs.Common.{map-append, take_more, default_writer, escaped, field_text}
 use Rattle.fit_rows.proofs.Common.{fields_text, is_blank, needs_quotes, Items, FieldDef, cell, csv_text, high-decimal, unquoted}
 use Rattle.fit_rows.proofs.Common.{optional_number, row, FrameKey, end_of, field_key, frame_text, frames_of, head_text, tail_text}
-use Rattle.fit_rows.proofs.Common.{two_cells, value_row}
+use Rattle.fit_rows.proofs.Common.{false, two_cells, value_row}
 use Rattle.std.proofs.Common.{◌<◌, ℕ, List, codes, decimal, Option, Some, None, Vec}
-use Rattle.std.proofs.lemmas.List.{append-nil, length-append}
+use Rattle.std.proofs.lemmas.List.{append-nil}
 use Rattle.fit_cells.specs.Rows.{Cell}
 
 whole_row : (a b c d e : Cell) → csv_text (row a b c d e [] [] ∷ [])

@@ -1,6 +1,6 @@
 -- The cells of several numbers by the bytes of their fields.
-use Rattle.fit_rows.proofs.Common.{◌≡◌, ◌∙◌, ◌/◌, ◌%◌, [], length, map, refl, sym, ap, Order, cell, field_text, default_writer, shown_cell, item_width}
-use Rattle.fit_rows.proofs.Common.{base_type, eq-eqb, eqb-true, inl, inr, cases_Bool, nil_from_length, list_all, item_text, IsFormOf}
+use Rattle.fit_rows.proofs.Common.{◌≡◌, ◌∙◌, ◌/◌, ◌%◌, [], length, map, refl, sym, ap, Order, cell, item_width}
+use Rattle.fit_rows.proofs.Common.{base_type, eq-eqb, eqb-true, inl, inr, cases_Bool, nil_from_length, item_text, IsFormOf}
 use Rattle.std.proofs.Common.{ℕ, List, Option, if◌then◌else◌, ◌==◌, true}
 use Rattle.fit_base.specs.declared.code.Class.{Class}
 use Rattle.fit_base.specs.declared.code.Class.TheVariants.{Bytes, Text}
@@ -11,7 +11,7 @@ use Rattle.fit_cells.specs.declared.form.NumberForm.{NumberForm}
 use Rattle.fit_profile.specs.Described.{is_printable}
 use Rattle.fit_profile.specs.Profile.{Meaning}
 use Rattle.fit_record.specs.ReadMessages.{field_from, numbers_of}
-use Rattle.fit_rows.proofs.ShownCells.{all_printable, printable, printable_shown}
+use Rattle.fit_rows.proofs.ShownCells.{BothShow, both_show, printable}
 use Rattle.fit_rows.specs.inner.Several.{numbers_text}
 
 -- an empty field needs no case of its own
@@ -22,7 +22,7 @@ some_or_none class code info width bits text bytes = elim (cases_Bool (length bi
   | inr some ↦ rw some (side_by_side class code info width bits text bytes)
 ]
 
-pub several_cell : (A : Type 0) (f : NumberForm) (o : Order) (code size : ℕ) (info : Option Meaning) (bytes : List ℕ) → IsFormOf code info f
+several_cell : (A : Type 0) (f : NumberForm) (o : Order) (code size : ℕ) (info : Option Meaning) (bytes : List ℕ) → IsFormOf code info f
     → size % f.width ≡ 0
     → cell code info (field_from {A = A} o (code, size) bytes) ≡ numbers_text code info f.width (numbers_of o f.width (size / f.width) bytes)
 several_cell A f o code size info bytes form whole =
@@ -36,22 +36,16 @@ several_cell A f o code size info bytes form whole =
     (λ i. if length (bits i) == 0 then [] else items_text (class i) code info (wide i) (bits i))
     ∙ some_or_none (base_type code).class code info f.width (numbers_of o f.width (size / f.width) bytes) other.0 other.1
 
--- the same in a row
-pub several_in_row : (A : Type 0) (f : NumberForm) (o : Order) (code size : ℕ) (info : Option Meaning) (bytes : List ℕ) → IsFormOf code info f
-    → size % f.width ≡ 0
-    → field_text default_writer (cell code info (field_from {A = A} o (code, size) bytes))
-    ≡ numbers_text code info f.width (numbers_of o f.width (size / f.width) bytes)
-several_in_row A f o code size info bytes form whole =
-    plain_cell code info (field_from {A = A} o (code, size) bytes) (formed_class f code info form).0 ∙ several_cell A f o code size info bytes form whole
-
--- the same in a line
-pub several_in_line : (A : Type 0) (f : NumberForm) (o : Order) (code size : ℕ) (info : Option Meaning) (bytes : List ℕ) → IsFormOf code info f
-    → size % f.width ≡ 0
-    → shown_cell code info (field_from {A = A} o (code, size) bytes) ≡ numbers_text code info f.width (numbers_of o f.width (size / f.width) bytes)
-several_in_line A f o code size info bytes form whole =
-    let is = several_cell A f o code size info bytes form whole in
-    let bits = numbers_of o f.width (size / f.width) bytes in
+-- the same in a row and in a line
+pub several_shown : (A : Type 0) (f : NumberForm) (o : Order) (code size : ℕ) (info : Option Meaning) (bytes : List ℕ) → IsFormOf code info f
+    → size % f.width ≡ 0 → length bytes ≡ size
+    → BothShow code info (field_from {A = A} o (code, size) bytes) (numbers_text code info f.width (numbers_of o f.width (length bytes / f.width) bytes))
+several_shown A f o code size info bytes form whole long =
+    let items = field_from {A = A} o (code, size) bytes in
+    let bits = numbers_of o f.width (length bytes / f.width) bytes in
+    let is : cell code info items ≡ numbers_text code info f.width bits = several_cell A f o code size info bytes form whole
+    ∙ ap (λ n. numbers_text code info f.width (numbers_of o f.width (n / f.width) bytes)) (sym long) in
     let item = item_text (base_type code).class code info f.width in
-    let printed = all_printable (numbers_text code info f.width bits) (all-barred (λ b. is_printable b ≡ true) printable refl item
-    (all-item (λ b. is_printable b ≡ true) printable (base_type code).class code info f.width) bits) in
-    printable_shown code info (field_from {A = A} o (code, size) bytes) (ap (list_all is_printable) is ∙ printed) ∙ is
+    both_show code info items (numbers_text code info f.width bits) is (plain_cell code info items (formed_class f code info form).0 ∙ is)
+    (all-barred (λ b. is_printable b ≡ true) printable refl item
+    (all-item (λ b. is_printable b ≡ true) printable (base_type code).class code info f.width) bits)

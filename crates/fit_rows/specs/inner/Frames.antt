@@ -3,6 +3,8 @@ use Rattle.std.specs.Prelude.{◌≡◌, ◌≤◌, ℕ, List, [], ◌∷◌, �
 use Rattle.std.specs.Global.{Global}
 use Rattle.csv.specs.Writing.{default_writer, field_text}
 use Rattle.fit_base.specs.declared.items.Items.{Items}
+use Rattle.fit_base.specs.declared.number.Order.{Order}
+use Rattle.fit_record.specs.ReadMessages.{field_from}
 use Rattle.fit_record.specs.declared.definition.FieldDef.{FieldDef}
 use Rattle.fit_profile.specs.Names.{field, field_label, message_label}
 use Rattle.fit_profile.specs.Profile.{Meaning}
@@ -57,6 +59,10 @@ pub record FrameText : Type 0 where
   pub code : ℕ
   pub size : ℕ
   pub info : Option Meaning
+
+-- the text of a value by the bytes of its field
+abbrev pub field_in_row : FrameText → Order → List ℕ → List ℕ
+field_in_row f order bytes = field_text default_writer (cell f.code f.info (field_from {A = Global} order (f.code, f.size) bytes))
 
 abbrev pub frame_text : List ℕ → FrameKey → FrameText
 frame_text before k = record { between = before ++ head_text k; code = k.code; size = k.size; info = k.info }

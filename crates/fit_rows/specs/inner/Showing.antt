@@ -1,6 +1,9 @@
 -- What the parts of `show` do. No public contract names these.
 use Rattle.std.specs.Prelude.{ℕ, ◌+◌, ◌==◌, if◌then◌else◌, List, [], ◌∷◌, ◌++◌, drop, length, map, zip, codes, decimal, Option, None}
+use Rattle.std.specs.Global.{Global}
 use Rattle.fit_base.specs.declared.items.Items.{Items}
+use Rattle.fit_base.specs.declared.number.Order.{Order}
+use Rattle.fit_record.specs.ReadMessages.{field_from}
 use Rattle.fit_record.specs.declared.definition.FieldDef.{FieldDef}
 use Rattle.fit_record.specs.declared.message.Record.{Record}
 use Rattle.fit_chain.specs.declared.event.Event.{Event as Answer}
@@ -24,6 +27,10 @@ pub record CellKey : Type 0 where
   pub code : ℕ
   pub size : ℕ
   pub info : Option Meaning
+
+-- the cell of a field by its bytes
+abbrev pub field_in_line : CellKey → Order → List ℕ → List ℕ
+field_in_line k order bytes = shown_cell k.code k.info (field_from {A = Global} order (k.code, k.size) bytes)
 
 -- a field or a developer field: its name, its unit, and how its cell is made of its items
 pub record PartKey : Type 0 where

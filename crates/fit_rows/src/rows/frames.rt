@@ -1,16 +1,14 @@
 //! What stands around values in their rows, found out once for many messages.
 ghost use Rattle.std.specs.Prelude.{◌≡◌, ◌≤◌, ◌%◌, ◌++◌, [], IfOk, IfSome, OnOk, codes, length, option_map};
-ghost use Rattle.std.specs.Global.{Global};
 ghost use Rattle.csv.specs.Writing.{default_writer, field_text, needs_quotes};
 ghost use Rattle.fit_base.specs.BaseTypes.{base_type};
 ghost use Rattle.fit_base.specs.Fields.{HasShape};
 ghost use Rattle.fit_base.specs.declared.code.Class.TheVariants.{Text};
-ghost use Rattle.fit_record.specs.ReadMessages.{field_from};
 ghost use Rattle.fit_profile.specs.Names.{meaning};
 ghost use Rattle.fit_numbers.specs.Scaled.{IsScale};
 ghost use Rattle.fit_cells.specs.Cells.{cell};
 ghost use Rattle.fit_cells.specs.Forms.{IsFormOf, IsSmallForm};
-ghost use Rattle.fit_rows.specs.inner.Frames.{two_cells};
+ghost use Rattle.fit_rows.specs.inner.Frames.{field_in_row, two_cells};
 ghost use Rattle.fit_rows.specs.inner.Sheets.{and_sheet};
 
 pub(crate) mod likely;
@@ -255,8 +253,7 @@ impl Frame {
     ) -> Result<(), AllocError>
         requires { length bytes.now ≡ self.now.size }
         ensures { OnOk result (text.new.items ≡ text.old.items
-            ++ field_text default_writer (cell self.now.code self.now.info
-            (field_from {A = Global} order (self.now.code, self.now.size) bytes.now))) }
+            ++ field_in_row self.now order bytes.now) }
     {
         let items = read_items(alloc, order, self.code, self.size, bytes)?;
         self.put_other(text, writer, value, &items)
@@ -280,9 +277,7 @@ impl Frame {
         requires length { length bytes.now ≡ self.now.size }
         ensures place { IfOk result (λ end. end ≤ 1024) }
         ensures text { IfOk result (λ end. and_sheet text.new.items sheet.new end
-            ≡ and_sheet text.old.items sheet.old at
-            ++ field_text default_writer (cell self.now.code self.now.info
-            (field_from {A = Global} order (self.now.code, self.now.size) bytes.now))) }
+            ≡ and_sheet text.old.items sheet.old at ++ field_in_row self.now order bytes.now) }
     {
         match shown_text(bytes) {
             Some(shown) => add_shown(text, sheet, at, writer, shown),
@@ -321,9 +316,7 @@ impl Frame {
         requires length { length bytes.now ≡ self.now.size }
         ensures place { IfOk result (λ end. end ≤ 1024) }
         ensures text { IfOk result (λ end. and_sheet text.new.items sheet.new end
-            ≡ and_sheet text.old.items sheet.old at
-            ++ field_text default_writer (cell self.now.code self.now.info
-            (field_from {A = Global} order (self.now.code, self.now.size) bytes.now))) }
+            ≡ and_sheet text.old.items sheet.old at ++ field_in_row self.now order bytes.now) }
     {
         if self.is_of_bytes {
             return add_bytes(text, sheet, at, self.size, bytes);
@@ -357,8 +350,7 @@ impl Frame {
         ensures place { IfOk result (λ end. end ≤ 1024) }
         ensures text { IfOk result (λ end. and_sheet text.new.items sheet.new end
             ≡ (and_sheet text.old.items sheet.old at ++ self.now.between)
-            ++ field_text default_writer (cell self.now.code self.now.info
-            (field_from {A = Global} order (self.now.code, self.now.size) bytes.now))) }
+            ++ field_in_row self.now order bytes.now) }
     {
         let at = self.between.add(text, sheet, at)?;
         if let Some(form) = self.lone() {

@@ -1,15 +1,14 @@
 //! The cells of fields as a line shows them.
 ghost use Rattle.std.specs.Prelude.{◌≡◌, ◌≤◌, ◌%◌, ◌+◌, ◌++◌, IfOk, IfSome, OnOk, length, option_map};
-ghost use Rattle.std.specs.Global.{Global};
 ghost use Rattle.std.specs.List.{list_all};
 ghost use Rattle.fit_base.specs.Fields.{HasShape};
-ghost use Rattle.fit_record.specs.ReadMessages.{field_from};
 ghost use Rattle.fit_profile.specs.Described.{is_printable};
 ghost use Rattle.fit_profile.specs.Names.{meaning};
 ghost use Rattle.fit_numbers.specs.Scaled.{IsScale};
 ghost use Rattle.fit_cells.specs.Forms.{IsFormOf, IsSmallForm};
 ghost use Rattle.fit_rows.specs.ShowLines.{shown_cell};
 ghost use Rattle.fit_rows.specs.inner.Sheets.{and_sheet};
+ghost use Rattle.fit_rows.specs.inner.Showing.{field_in_line};
 
 use crate::floats::{add_float, is_lone_float};
 use crate::lone::lone_form;
@@ -170,9 +169,8 @@ impl ShownCell {
     /// The text of a string by the bytes of the field, where it is shown as it is.
     fn plain_text<'a>(&self, bytes: &'a [u8]) -> Option<&'a [u8]>
         requires { length bytes.now ≡ self.now.size }
-        ensures { IfSome result (λ shown. (order : Order) → shown.now
-            ≡ shown_cell self.now.code self.now.info
-            (field_from {A = Global} order (self.now.code, self.now.size) bytes.now)) }
+        ensures { IfSome result (λ shown. (order : Order)
+            → shown.now ≡ field_in_line self.now order bytes.now) }
     {
         if is_never_quoted(Code(self.code)) {
             return None;
@@ -192,8 +190,7 @@ impl ShownCell {
     ) -> Result<(), AllocError>
         requires { length bytes.now ≡ self.now.size }
         ensures { OnOk result (text.new.items ≡ text.old.items
-            ++ shown_cell self.now.code self.now.info
-            (field_from {A = Global} order (self.now.code, self.now.size) bytes.now)) }
+            ++ field_in_line self.now order bytes.now) }
     {
         let items = read_items(alloc, order, self.code, self.size, bytes)?;
         self.put_other(text, &items)
@@ -214,9 +211,7 @@ impl ShownCell {
         requires length { length bytes.now ≡ self.now.size }
         ensures place { IfOk result (λ end. end ≤ 1024) }
         ensures text { IfOk result (λ end. and_sheet text.new.items sheet.new end
-            ≡ and_sheet text.old.items sheet.old at
-            ++ shown_cell self.now.code self.now.info
-            (field_from {A = Global} order (self.now.code, self.now.size) bytes.now)) }
+            ≡ and_sheet text.old.items sheet.old at ++ field_in_line self.now order bytes.now) }
     {
         if self.is_of_bytes {
             return add_bytes(text, sheet, at, self.size, bytes);
@@ -250,9 +245,7 @@ impl ShownCell {
         requires length { length bytes.now ≡ self.now.size }
         ensures place { IfOk result (λ end. end ≤ 1024) }
         ensures text { IfOk result (λ end. and_sheet text.new.items sheet.new end
-            ≡ and_sheet text.old.items sheet.old at
-            ++ shown_cell self.now.code self.now.info
-            (field_from {A = Global} order (self.now.code, self.now.size) bytes.now)) }
+            ≡ and_sheet text.old.items sheet.old at ++ field_in_line self.now order bytes.now) }
     {
         if let Some(form) = self.lone() {
             let bits = bits_at(order, form.width, bytes);

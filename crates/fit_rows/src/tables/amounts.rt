@@ -29,32 +29,18 @@ impl Amounts {
         let (speed, distance) = stream.message_amounts(bytes);
         Amounts { speed, distance }
     }
+}
 
-    /// Writes the speed, where there is one. Returns whether there is, and the place after it.
-    #[inline(never)]
-    pub(crate) fn write_speed(&self, row: &mut [u8], at: usize) -> (bool, usize)
-        requires few { IfSome self.now.speed (λ v. v.decimals ≤ 8) }
-        requires room { at + 48 ≤ length row.old }
-        ensures size { length row.new ≡ length row.old }
-        ensures within { result.1 ≤ at + 48 }
-        ensures none { result.0 ≡ false → result.1 ≡ at }
-        ensures cell { PutsCell (shown_text self.now.speed) result.0
-            (take at row.old) (take result.1 row.new) }
-    {
-        write_number(row, at, self.speed)
-    }
-
-    /// Writes the distance in the same way.
-    #[inline(never)]
-    pub(crate) fn write_distance(&self, row: &mut [u8], at: usize) -> (bool, usize)
-        requires few { IfSome self.now.distance (λ v. v.decimals ≤ 8) }
-        requires room { at + 48 ≤ length row.old }
-        ensures size { length row.new ≡ length row.old }
-        ensures within { result.1 ≤ at + 48 }
-        ensures none { result.0 ≡ false → result.1 ≡ at }
-        ensures cell { PutsCell (shown_text self.now.distance) result.0
-            (take at row.old) (take result.1 row.new) }
-    {
-        write_number(row, at, self.distance)
-    }
+/// Writes an amount, where there is one. Returns whether there is, and the place after it.
+#[inline(never)]
+pub(crate) fn write_told(row: &mut [u8], at: usize, amount: Option<Fixed>) -> (bool, usize)
+    requires few { IfSome amount (λ v. v.decimals ≤ 8) }
+    requires room { at + 48 ≤ length row.old }
+    ensures size { length row.new ≡ length row.old }
+    ensures within { result.1 ≤ at + 48 }
+    ensures none { result.0 ≡ false → result.1 ≡ at }
+    ensures cell { PutsCell (shown_text amount) result.0
+        (take at row.old) (take result.1 row.new) }
+{
+    write_number(row, at, amount)
 }

@@ -16,7 +16,7 @@ ghost use Rattle.fit_rows.specs.inner.TableCells.{AreSome, PutsCell, shown_text}
 ghost use Rattle.fit_rows.specs.inner.TableColumns.{AreInBytes, IsKnown, is_tabled, items_at};
 
 use crate::stamp::write_text;
-use crate::tables::amounts::Amounts;
+use crate::tables::amounts::{Amounts, write_told};
 use crate::tables::columns::{Column, Place, Places};
 use crate::tables::kinds::Kind;
 use fit_base::base_type::SINT32;
@@ -407,7 +407,7 @@ impl<'a> RecordNumbers for NumbersInBytes<'a> {
     #[inline(always)]
     fn write_distance(&self, row: &mut [u8], at: usize) -> (bool, usize) {
         match self.amounts {
-            Some(amounts) => amounts.write_distance(row, at),
+            Some(amounts) => write_told(row, at, amounts.distance),
             None => (false, at),
         }
     }
@@ -415,7 +415,7 @@ impl<'a> RecordNumbers for NumbersInBytes<'a> {
     #[inline(always)]
     fn write_speed(&self, row: &mut [u8], at: usize) -> (bool, usize) {
         match self.amounts {
-            Some(amounts) => amounts.write_speed(row, at),
+            Some(amounts) => write_told(row, at, amounts.speed),
             None => (false, at),
         }
     }
