@@ -149,7 +149,11 @@ pub(crate) fn note(current: &mut [bool; 16], local: u8, is_current: bool)
 }
 
 /// Keeps something at a place of a list, which grows up to it.
-fn keep_at<T: Drop>(kept: &mut Vec<Option<T>>, place: usize, item: T) -> Result<(), AllocError>
+pub(crate) fn keep_at<T: Drop>(
+    kept: &mut Vec<Option<T>>,
+    place: usize,
+    item: T,
+) -> Result<(), AllocError>
     ensures here { OnOk result (slice_get kept.new.items place ≡ Some (Some item)) }
     ensures others { (other : ℕ) (t : T) → (other ≡ place → ⊥)
         → slice_get kept.old.items other ≡ Some (Some t)

@@ -1,5 +1,5 @@
 //! Where the numbers of the table stand in the bytes of messages of a definition, found out once for many messages.
-ghost use Rattle.std.specs.Prelude.{◌≡◌, ◌+◌, ◌≤◌, ◌<◌, ◌^◌, drop, length, take, true, IfOk, IfSome, IsTrue, List};
+ghost use Rattle.std.specs.Prelude.{◌≡◌, ◌+◌, ◌≤◌, ◌<◌, ◌^◌, drop, length, take, true, IfOk, IfSome, IsTrue, List, OnOk};
 ghost use Rattle.fit_base.specs.Numbers.{number};
 ghost use Rattle.fit_record.specs.declared.definition.FieldDef.{FieldDef};
 ghost use Rattle.fit_rows.specs.declared.tables.kinds.Kind.TheVariants.{Other};
@@ -203,6 +203,18 @@ impl Columns {
             fields: own,
             places: Places::new(fields),
         })
+    }
+
+    /// Makes them those of record messages with these fields, in the memory that they have.
+    pub(crate) fn renew(&mut self, fields: &[FieldDef]) -> Result<(), AllocError>
+        requires { length fields.now < 256 }
+        ensures { OnOk result (self.new ≡ fields.now) }
+    {
+        self.places = None;
+        self.fields.clear();
+        self.fields.extend_from_slice(fields)?;
+        self.places = Places::new(fields);
+        Ok(())
     }
 
     /// Whether they are those of these fields.

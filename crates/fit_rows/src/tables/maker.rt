@@ -1,9 +1,10 @@
 //! The rows of the table, and what is kept from one to the next.
-ghost use Rattle.std.specs.Prelude.{◌≡◌, ◌∷◌, [], IfOk, IfSome, OnOk, Some, false, length, option_map, slice_get, true};
+ghost use Rattle.std.specs.Prelude.{◌≡◌, ◌∷◌, ◌<◌, [], ℕ, IfOk, IfSome, List, OnOk, Some, false, length, option_map, slice_get, true};
 ghost use Rattle.fit_record.specs.Environment.{defined_at};
 ghost use Rattle.fit_record.specs.MessageBytes.{message_in};
 ghost use Rattle.fit_record.specs.Records.{IsRecord, message_size};
 ghost use Rattle.fit_record.specs.Sound.{IsSound};
+ghost use Rattle.fit_record.specs.declared.definition.FieldDef.{FieldDef};
 ghost use Rattle.fit_record.specs.declared.message.Record.TheVariants.{Values as Data};
 ghost use Rattle.fit_profile.specs.Looks.{known};
 ghost use Rattle.fit_profile.specs.Meant.{shown};
@@ -14,7 +15,7 @@ ghost use Rattle.fit_rows.specs.inner.Current.{IsCurrent, Renews};
 ghost use Rattle.fit_rows.specs.inner.TableCells.{MayPutRow};
 ghost use Rattle.fit_rows.specs.inner.TableColumns.{ArePlaces, TellsAmounts};
 
-use crate::kept::{ByLocal, note};
+use crate::kept::{ByLocal, keep_at, note};
 use crate::tables::amounts::Amounts;
 use crate::tables::columns::{Columns, Places};
 use crate::tables::numbers::NumbersInBytes;
@@ -144,6 +145,63 @@ fn put_by(
     Ok(true)
 }
 
+/// Makes what is kept the columns of record messages with these fields.
+fn renew_kept(
+    kept: &mut Option<Columns>,
+    alloc: Global,
+    fields: &[FieldDef],
+) -> Result<(), AllocError>
+    requires { length fields.now < 256 }
+    ensures { OnOk result (kept.new ≡ Some fields.now) }
+{
+    match kept {
+        Some(columns) => columns.renew(fields),
+        None => {
+            *kept = Some(Columns::new(alloc, fields)?);
+            Ok(())
+        }
+    }
+}
+
+/// Makes what is kept at a place of a list, which grows up to it, the columns of record messages with these fields.
+fn renew_at(
+    kept: &mut Vec<Option<Columns>>,
+    alloc: Global,
+    place: usize,
+    fields: &[FieldDef],
+) -> Result<(), AllocError>
+    requires { length fields.now < 256 }
+    ensures here { OnOk result (slice_get kept.new.items place ≡ Some (Some fields.now)) }
+    ensures others { (other : ℕ) (t : List FieldDef) → (other ≡ place → ⊥)
+        → slice_get kept.old.items other ≡ Some (Some t)
+        → slice_get kept.new.items other ≡ Some (Some t) }
+{
+    if place < kept.len() {
+        return renew_kept(&mut kept[place], alloc, fields);
+    }
+    let columns = Columns::new(alloc, fields)?;
+    keep_at(kept, place, columns)
+}
+
+/// Keeps the columns of record messages with these fields for a local message type. They are large, and where some were kept they are
+/// found out in the place of these.
+fn renew(
+    columns: &mut ByLocal<Columns>,
+    alloc: Global,
+    local: u8,
+    fields: &[FieldDef],
+) -> Result<(), AllocError>
+    requires { length fields.now < 256 }
+    ensures kept { OnOk result (slice_get columns.new.items.items local
+        ≡ Some (Some fields.now)) }
+    ensures current { Renews columns.old columns.new local fields.now }
+{
+    note(&mut columns.current, local, false);
+    renew_at(&mut columns.items, alloc, local as usize, fields)?;
+    note(&mut columns.current, local, true);
+    Ok(())
+}
+
 /// Puts the row of a record message of a file from its bytes after the records of a stream, by columns that are found out and kept,
 /// where its numbers can be read there. Whether it did.
 #[cold]
@@ -171,18 +229,11 @@ fn put_by_new(
         message.now.defined.now.definition.fields }
 {
     let fields = message.defined.definition.fields.as_slice();
-    let columns = Columns::new(maker.alloc, fields)?;
-    let put = put_by(
-        text,
-        &mut maker.rows,
-        &columns,
-        stream,
-        message,
-        bytes,
-        file,
-    )?;
-    maker.columns.keep(message.local, columns)?;
-    Ok(put)
+    renew(&mut maker.columns, maker.alloc, message.local, fields)?;
+    match kept_columns(maker.columns.items.as_slice(), message.local, true, fields) {
+        Some(columns) => put_by(text, &mut maker.rows, columns, stream, message, bytes, file),
+        None => Ok(false),
+    }
 }
 
 /// The columns that are kept for a local message type, where they are those of these fields.
