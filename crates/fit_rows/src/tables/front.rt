@@ -108,14 +108,17 @@ impl Front {
 }
 
 /// Puts the first two cells of a row after a text.
+#[inline(always)]
 pub(crate) fn put_first(text: &mut Vec<u8>, file: u64, time: Option<u32>) -> Result<(), AllocError>
     ensures { OnOk result (text.new.items ≡ text.old.items ++ (decimal file
         ++ fields_text default_writer (unwrap_or (option_map instant_text time) [] ∷ []))) }
 {
-    let time = time_text(time);
     put_whole(text, file)?;
     text.push(b',')?;
-    text.extend_from_slice(time.as_str().as_bytes())?;
+    let Some(time) = time else {
+        return Ok(());
+    };
+    text.extend_from_slice(time_text(Some(time)).as_str().as_bytes())?;
     Ok(())
 }
 

@@ -250,9 +250,11 @@ fn put_first_row<N: RecordNumbers>(
         → N.are_of numbers.now d v t → time ≡ t.time
         → HasRows (table.table_row file d v t ∷ []) text.old text.new) }
 {
-    maker.firsts.renew(file, time)?;
-    if let Some((front, time)) = maker.firsts.front_of(file, time) {
-        return put_begun(text, &mut maker.row, front, time, numbers);
+    if time.is_some() {
+        maker.firsts.renew(file, time)?;
+        if let Some((front, time)) = maker.firsts.front_of(file, time) {
+            return put_begun(text, &mut maker.row, front, time, numbers);
+        }
     }
     put_first(text, file, time)?;
     put_numbers(text, &mut maker.row, numbers)
