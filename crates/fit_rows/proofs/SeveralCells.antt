@@ -15,7 +15,7 @@ use Rattle.fit_rows.proofs.ShownCells.{BothShow, both_show, printable}
 use Rattle.fit_rows.specs.inner.Several.{numbers_text}
 
 -- an empty field needs no case of its own
-some_or_none : (class : Class) (code : ℕ) (info : Option Meaning) (width : ℕ) (bits : List ℕ) → (class ≡ Text → ⊥) → (class ≡ Bytes → ⊥)
+pub some_or_none : (class : Class) (code : ℕ) (info : Option Meaning) (width : ℕ) (bits : List ℕ) → (class ≡ Text → ⊥) → (class ≡ Bytes → ⊥)
     → (if length bits == 0 then [] else items_text class code info width bits) ≡ barred (map (item_text class code info width) bits)
 some_or_none class code info width bits text bytes = elim (cases_Bool (length bits == 0)) [
   | inl none ↦ let empty : bits ≡ [] = nil_from_length bits (eqb-true (length bits) 0 none) in rw empty refl

@@ -7,6 +7,7 @@ mod items;
 mod kept;
 pub mod laws;
 mod lone;
+mod made;
 mod minutes;
 mod octets;
 mod rows;

@@ -37,7 +37,7 @@ pub(crate) fn several_form(code: u8, size: u8, info: Option<Info>) -> Option<Num
 
 /// Writes what stands before the number at a place of a field: a bar, but before the first one.
 #[inline(always)]
-fn write_bar(bytes: &mut [u8], at: usize, place: usize) -> usize
+pub(crate) fn write_bar(bytes: &mut [u8], at: usize, place: usize) -> usize
     requires room { at + 1 ≤ length bytes.old }
     ensures size { length bytes.new ≡ length bytes.old }
     ensures within { result ≤ at + 1 }

@@ -12,6 +12,7 @@ ghost use Rattle.fit_rows.specs.inner.Frames.{field_in_row, two_cells};
 ghost use Rattle.fit_rows.specs.inner.Sheets.{and_sheet};
 
 pub(crate) mod likely;
+mod made;
 
 use crate::floats::{add_float, is_lone_float};
 use crate::lone::lone_form;
@@ -225,9 +226,7 @@ impl Frame {
         if let Some((form, bits)) = formed(self.lone, items) {
             return Ok(write_formed(sheet, at, form, bits));
         }
-        put_sheet(text, sheet, at)?;
-        self.put_other(text, writer, value, items)?;
-        Ok(0)
+        self.add_made(text, sheet, at, writer, value, items)
     }
 
     /// The form of a lone number, where its bytes are those of the field.

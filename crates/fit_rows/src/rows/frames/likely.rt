@@ -3,9 +3,11 @@ ghost use Rattle.std.specs.Prelude.{IfSome};
 ghost use Rattle.fit_numbers.specs.Scaled.{IsScale};
 
 mod numbers;
+mod several;
 
 use crate::rows::frames::Frame;
 use crate::rows::frames::likely::numbers::likely_number;
+use crate::rows::frames::likely::several::{likely_bytes, likely_numbers};
 use fit_base::{Bits, Code, Items};
 use fit_cells::cell_items_by;
 use fit_profile::Info;
@@ -112,6 +114,15 @@ impl Frame {
         )
     }
 
+    /// The several numbers or the bytes with which a text may begin, where the value is such, and what comes after them.
+    #[inline(always)]
+    fn likely_several<'a>(&self, alloc: Global, text: &'a [u8]) -> Option<(Items, &'a [u8])> {
+        if self.is_of_bytes {
+            return likely_bytes(alloc, self.size, text);
+        }
+        likely_numbers(alloc, &self.several?, self.size, text)
+    }
+
     /// The items that a text may show after what stands before them, and what comes after their cell.
     pub(crate) fn likely<'a>(
         &self,
@@ -129,6 +140,9 @@ impl Frame {
             let length = 2 + 2 * self.size as usize;
             let bits = likely_hexadecimal(text.get(2..length)?);
             return Some((Items::one(alloc, self.size, bits), text.get(length..)?));
+        }
+        if let Some(found) = self.likely_several(alloc, text) {
+            return Some(found);
         }
         let front = text.get(..LONGEST).unwrap_or(text);
         let rest = take_cell(cell, front)?;
