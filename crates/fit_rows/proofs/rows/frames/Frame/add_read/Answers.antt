@@ -1,4 +1,4 @@
-use Rattle.std.proofs.Common.{List, ℕ, codes}
+use Rattle.std.proofs.Common.{codes}
 use Rattle.fit_rows.proofs.Common.{◌≡◌, ◌∙◌, ◌%◌, ◌++◌, ap, sym, subst, and_sheet, FrameText, Global}
 use Rattle.fit_rows.proofs.Common.{◌*◌, base_type, hex_digits}
 use Rattle.fit_base.specs.Numbers.{number}
