@@ -41,7 +41,6 @@ pub struct Decoder<A: Allocator + Copy = Global> {
     sum: Sum,
     env: Env<A>,
     in_progress: Option<Record<A>>,
-    head: Option<Header>,
     stage: Stage,
     position: Position,
     count: u64,
@@ -82,7 +81,6 @@ impl<A: Allocator + Copy> Decoder<A> {
             sum: Sum::new(),
             env: Env::new(alloc),
             in_progress: None,
-            head: None,
             stage: Stage {
                 files: 0,
                 section: Section::Header,
@@ -221,13 +219,14 @@ impl<A: Allocator + Copy> Decoder<A> {
             let place = self.count;
             return Err(Fault::Refused { place, reason });
         }
+        let mut head: Option<Header> = None;
         let (used, answer) = match self.stage.section {
             Section::Header => {
                 self.stage.feed_header(
                     &mut self.reader,
                     &mut self.position,
                     &mut self.sum,
-                    &mut self.head,
+                    &mut head,
                     piece,
                 )
             }
@@ -253,7 +252,7 @@ impl<A: Allocator + Copy> Decoder<A> {
                 event: Event::More,
             }),
             Ok(part) => {
-                let event = take_event(part, &mut self.in_progress, &mut self.head);
+                let event = take_event(part, &mut self.in_progress, &mut head);
                 Ok(Fed { used, event })
             }
             Err(stop) => match stop {
@@ -405,7 +404,6 @@ impl<A: Allocator + Copy> Decoder<A> {
             in_progress,
             alloc: _,
             reader: _,
-            head: _,
             sum: _,
             stage: Stage {
                 files: _,

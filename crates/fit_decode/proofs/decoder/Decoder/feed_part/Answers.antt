@@ -1,4 +1,4 @@
-use Rattle.fit_decode.proofs.Common.{◌++◌, Ok, refl, sym, ap, ◌∙◌, rules, layout, slice_is_bytes, fields_inside}
+use Rattle.fit_decode.proofs.Common.{◌++◌, None, Ok, refl, sym, ap, ◌∙◌, rules, layout, slice_is_bytes, fields_inside}
 use Rattle.fit_decode.specs.contracts.decoder.Decoder.{the_row}
 use Rattle.fit_decode.specs.contracts.decoder.Decoder.feed_part.{A-row}
 use Rattle.fit_step.specs.declared.stop.Stop.TheVariants as stops
@@ -18,7 +18,7 @@ use Rattle.fit_decode.proofs.decoder.Decoder.feed_part.Goals.{Joined-self-2, in-
 -- where the sections meet
 took : (g : given.Over) (c : Joined-self-2 g)
     → Took c.self.inside (record c.match-self-2.self-inside { in_progress = left_by c.match-self-2.self-inside.in_progress c.match-self-2.used.1 })
-    c.args.piece.now c.match-self-2.used.0 (as_event c.match-self-2.self-inside.in_progress c.match-self-2.self-inside.head
+    c.args.piece.now c.match-self-2.used.0 (as_event c.match-self-2.self-inside.in_progress c.match-self-2.head
     c.match-self-2.used.1)
 took g c =
     let k = c.self.invariant in
@@ -28,23 +28,23 @@ took g c =
     elim c.match-self-2.branch [
       | in-Header w ↦
           let f = w.feed_header in
-          rw (w.used-is, w.self-inside-is, left_idle d.in_progress f.result.1 (at_section k fresh w.in-Header.is).idle) (takes k fresh low
+          rw (w.used-is, w.self-inside-is, w.head-is, left_idle d.in_progress f.result.1 (at_section k fresh w.in-Header.is).idle) (takes k fresh low
           (header_fed d w.in-Header.is c.self.inside.history.items c.args.piece.now (at_section k fresh w.in-Header.is) k.are low
           f.new.self f.new.reader f.new.position f.new.sum f.new.head f.result.0 f.result.1 f.ensures) refl refl refl)
       | in-Data w ↦
           let f = w.feed_data in
-          rw (w.used-is, w.self-inside-is) (takes k fresh low
+          rw (w.used-is, w.self-inside-is, w.head-is) (takes k fresh low
           (data_fed d w.in-Data.is c.self.inside.history.items c.args.piece.now (at_section k fresh w.in-Data.is) k.are low
           f.new.self f.new.env f.new.position (left_by f.new.in_progress f.result.1) f.new.sum f.result.0
-          (as_event f.new.in_progress c.self.inside.head f.result.1)
-          (f.ensures c.self.inside.head))
+          (as_event f.new.in_progress None f.result.1)
+          (f.ensures None))
           refl refl refl)
       | in-ClosingSum w ↦
           let f = w.feed_sum in
-          rw (w.used-is, w.self-inside-is, left_idle d.in_progress f.result.1 (at_section k fresh w.in-ClosingSum.is).idle) (takes k fresh low
+          rw (w.used-is, w.self-inside-is, w.head-is, left_idle d.in_progress f.result.1 (at_section k fresh w.in-ClosingSum.is).idle) (takes k fresh low
           (sum_fed d w.in-ClosingSum.is c.self.inside.history.items c.args.piece.now (at_section k fresh w.in-ClosingSum.is) k.are low
-          f.new.self f.new.env f.new.sum f.result.0 (as_event d.in_progress c.self.inside.head f.result.1)
-          (f.ensures d.in_progress c.self.inside.head)) refl refl refl)
+          f.new.self f.new.env f.new.sum f.result.0 (as_event d.in_progress None f.result.1)
+          (f.ensures d.in_progress None)) refl refl refl)
     ]
 
 pub returns-in-Some-clause-feeds : goal.returns-in-Some-clause-feeds
@@ -86,9 +86,9 @@ invariant_of-self g c =
     still_kept (took g (goal.at.invariant_of-self g c).Joined-self-2) _
     (c.note.ensures ∙ ap (λ b. c.match-self-2.self-inside.history.items ++ b) c.split_at.ensures.front) refl
     (λ i. record (fields_inside c.match-self-2.self-inside) { in_progress = ap (left_by c.match-self-2.self-inside.in_progress) (sym same) i })
-    (not_refused (as_event c.match-self-2.self-inside.in_progress c.match-self-2.self-inside.head
+    (not_refused (as_event c.match-self-2.self-inside.in_progress c.match-self-2.head
     c.match-self-2.used.1) events.More
-    (event_told c.match-self-2.self-inside.in_progress c.match-self-2.self-inside.head c.match-self-2.used.1 parts.More events.More same refl)) refl
+    (event_told c.match-self-2.self-inside.in_progress c.match-self-2.head c.match-self-2.used.1 parts.More events.More same refl)) refl
 
 pub invariant_of-self-in-Ok : goal.invariant_of-self-in-Ok
 invariant_of-self-in-Ok g c =
@@ -97,9 +97,9 @@ invariant_of-self-in-Ok g c =
     (λ i. record (fields_inside c.match-self-2.self-inside) {
       in_progress = (c.take_event-event.ensures.left ∙ ap (left_by c.match-self-2.self-inside.in_progress) (sym c.in-Ok.is)) i;
     })
-    (not_refused (as_event c.match-self-2.self-inside.in_progress c.match-self-2.self-inside.head
+    (not_refused (as_event c.match-self-2.self-inside.in_progress c.match-self-2.head
     c.match-self-2.used.1) c.take_event-event.result
-    (event_told c.match-self-2.self-inside.in_progress c.match-self-2.self-inside.head c.match-self-2.used.1 c.in-Ok.part
+    (event_told c.match-self-2.self-inside.in_progress c.match-self-2.head c.match-self-2.used.1 c.in-Ok.part
     c.take_event-event.result c.in-Ok.is c.take_event-event.ensures.event)) refl
 
 pub invariant_of-self-in-Refused : goal.invariant_of-self-in-Refused
@@ -115,9 +115,9 @@ invariant_of-self-in-NoMemory g c =
     (λ i. record (fields_inside c.match-self-2.self-inside) {
       in_progress = ap (left_by c.match-self-2.self-inside.in_progress) (sym c.in-Err.is) i;
     })
-    (not_for_memory (as_event c.match-self-2.self-inside.in_progress c.match-self-2.self-inside.head
+    (not_for_memory (as_event c.match-self-2.self-inside.in_progress c.match-self-2.head
     c.match-self-2.used.1)
-    (stop_told c.match-self-2.self-inside.in_progress c.match-self-2.self-inside.head c.match-self-2.used.1
+    (stop_told c.match-self-2.self-inside.in_progress c.match-self-2.head c.match-self-2.used.1
     c.in-Err.stop stops.NoMemory c.in-Err.is c.in-NoMemory.is)) refl
 
 pub returns-in-Ok-More-clause-feeds : goal.returns-in-Ok-More-clause-feeds
@@ -125,7 +125,7 @@ returns-in-Ok-More-clause-feeds g c =
     let same = c.in-Ok-More.is ∙ ap Ok (rw c.in-Ok-More.is at c.in-Ok-More.field-0-is) in
     feeds_event (took g (goal.at.returns-in-Ok-More-clause-feeds g c).Joined-self-2) c.self.view_is c.note.new.self.items
     (c.note.ensures ∙ ap (λ b. c.match-self-2.self-inside.history.items ++ b) c.split_at.ensures.front) events.More
-    (event_told c.match-self-2.self-inside.in_progress c.match-self-2.self-inside.head c.match-self-2.used.1 parts.More events.More same refl)
+    (event_told c.match-self-2.self-inside.in_progress c.match-self-2.head c.match-self-2.used.1 parts.More events.More same refl)
 
 pub returns-in-Ok-More-clause-viable : goal.returns-in-Ok-More-clause-viable
 returns-in-Ok-More-clause-viable g c = (invariant_of-self g c).viable
@@ -134,7 +134,7 @@ pub returns-in-Ok-clause-feeds : goal.returns-in-Ok-clause-feeds
 returns-in-Ok-clause-feeds g c =
     feeds_event (took g (goal.at.returns-in-Ok-clause-feeds g c).Joined-self-2) c.self.view_is c.note.new.self.items
     (c.note.ensures ∙ ap (λ b. c.match-self-2.self-inside.history.items ++ b) c.split_at.ensures.front) c.take_event-event.result
-    (event_told c.match-self-2.self-inside.in_progress c.match-self-2.self-inside.head c.match-self-2.used.1 c.in-Ok.part
+    (event_told c.match-self-2.self-inside.in_progress c.match-self-2.head c.match-self-2.used.1 c.in-Ok.part
     c.take_event-event.result c.in-Ok.is c.take_event-event.ensures.event)
 
 pub returns-in-Ok-clause-viable : goal.returns-in-Ok-clause-viable
@@ -144,7 +144,7 @@ pub returns-in-Refused-clause-feeds : goal.returns-in-Refused-clause-feeds
 returns-in-Refused-clause-feeds g c =
     feeds_refusal (took g (goal.at.returns-in-Refused-clause-feeds g c).Joined-self-2) c.self.view_is c.note.new.self.items
     (c.note.ensures ∙ ap (λ b. c.match-self-2.self-inside.history.items ++ b) c.split_at.ensures.front) c.in-Refused.reason
-    (stop_told c.match-self-2.self-inside.in_progress c.match-self-2.self-inside.head c.match-self-2.used.1
+    (stop_told c.match-self-2.self-inside.in_progress c.match-self-2.head c.match-self-2.used.1
     c.in-Err.stop (stops.Refused c.in-Refused.reason) c.in-Err.is c.in-Refused.is)
 
 pub returns-in-Refused-clause-viable : goal.returns-in-Refused-clause-viable
@@ -154,7 +154,7 @@ pub returns-in-NoMemory-clause-feeds : goal.returns-in-NoMemory-clause-feeds
 returns-in-NoMemory-clause-feeds g c =
     feeds_want (took g (goal.at.returns-in-NoMemory-clause-feeds g c).Joined-self-2) c.self.view_is c.note.new.self.items
     (c.note.ensures ∙ ap (λ b. c.match-self-2.self-inside.history.items ++ b) c.split_at.ensures.front)
-    (stop_told c.match-self-2.self-inside.in_progress c.match-self-2.self-inside.head c.match-self-2.used.1
+    (stop_told c.match-self-2.self-inside.in_progress c.match-self-2.head c.match-self-2.used.1
     c.in-Err.stop stops.NoMemory c.in-Err.is c.in-NoMemory.is)
 
 pub returns-in-NoMemory-clause-viable : goal.returns-in-NoMemory-clause-viable
