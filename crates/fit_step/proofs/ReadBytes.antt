@@ -1,13 +1,13 @@
--- What a byte of a piece makes of a record in progress.
+-- What a byte of a piece makes of a record in progress, and what was read of the piece.
 use Rattle.fit_step.proofs.Common.{◌≡◌, ℕ, ◌+◌, ◌-◌, ◌<◌, append_assoc, Bool, true, false, List, [], ◌∷◌, ◌++◌, length, take, refl, sym, ap, ◌∙◌, subst, arith}
 use Rattle.fit_step.proofs.Common.{Some, None, Ok, Err, Option, Result, OnOk, OnErr, take_more, Record, Environment, learn, Fits, Position, Stop, Refused}
-use Rattle.fit_step.proofs.Common.{NoMemory, State, Step, start, step, RecordPart, nothing, state_of, state_at, PartFitsRoom, Steps, KeepsPart, tests_of}
-use Rattle.fit_step.proofs.Common.{StandsAfter, IsInProgress, ReadsRecord, StandsWithRoom, RecordByte, TakesByte, ◌≤◌, slice_index}
+use Rattle.fit_step.proofs.Common.{NoMemory, State, Step, start, step, RecordPart, nothing, state_of, state_at, Steps, KeepsPart, tests_of}
+use Rattle.fit_step.proofs.Common.{StandsAfter, IsInProgress, ReadsRecord, StandsWithRoom, RecordByte, TakesByte, ◌≤◌, slice_index, Ends, IsBytes, IsBytes-take}
 use Rattle.fit_step.specs.InProgress.{Reads, ReadsInPlace}
 use Rattle.std.specs.Result.{is_ok}
 use Rattle.fit_step.proofs.Kept.{still_stands, still_room}
 use Rattle.fit_step.proofs.RecordsInProgress.{EndsWithRecord, starts_after, sixteen_learned, starts_where_none, goes_after, ends_after, wants_after}
-use Rattle.fit_step.proofs.RecordsInProgress.{refused_after}
+use Rattle.fit_step.proofs.RecordsInProgress.{refused_after, ends_further}
 
 -- what holds of a good answer, and of a fault
 pub when_ok : {X Y P : Type 0} (r : Result X Y) → OnOk r P → is_ok r ≡ true → P
@@ -19,8 +19,9 @@ when_err (Ok x) h is = absurd cc
 when_err (Err y) h is = h
 
 -- where no record is in progress one begins
-pub begins_where_none : {A : Type 0} (e : Environment A) (s : State A) → PartFitsRoom e s → s.in_progress ≡ None → s ≡ start s.room
-begins_where_none {A} e s h none = go h.part h.is
+begins_where_none : {A : Type 0} (e : Environment A) (room : ℕ) (bytes : List ℕ) (s : State A) → StandsAfter e room bytes s → s.in_progress ≡ None
+    → s ≡ start s.room
+begins_where_none {A} e room bytes s h none = go h.part h.is
   where
     go : (f : RecordPart A) → s ≡ state_of s.room f → s ≡ start s.room
     go nothing is = is
@@ -66,6 +67,28 @@ whole_read e env room bytes piece used p in_progress r some within sixteen learn
       (subst (StandsAfter (learn e r) (room - length (bytes ++ take used piece)) []) (sym k.starts)
       (starts_after (learn e r) (room - length (bytes ++ take used piece)) (sixteen_learned e r sixteen) k.filled)),
 )
+
+-- a record of which all bytes stand at the front of the piece, where none is in progress
+module _ {A : Type 0} (e env : Environment A) (p : Position) (in_progress : Option (Record A)) (none : in_progress ≡ None) (piece : List ℕ) (used : ℕ)
+    (r : Record A) (are : IsBytes piece) (some : 0 < used) (within : used ≤ length piece) (learned : env ≡ learn e r)
+    (ends : Ends e (tests_of e) (start p.room) (take used piece) (start (p.room - used)) r) where
+  -- the next record begins at `q`
+  pub whole_and_next : (q : Position) (after : Option (Record A)) → start (p.room - used) ≡ state_at q after
+      → Reads e p in_progress env q after piece used (Ok (Some r))
+  whole_and_next q after next room bytes h =
+      let begins = begins_where_none e room bytes (state_at p in_progress) h none in
+      let made : Ends e (tests_of e) (state_at p in_progress) (take used piece) (state_at q after) r =
+      subst (λ s. Ends e (tests_of e) s (take used piece) (state_at q after) r) (sym begins)
+      (subst (λ t. Ends e (tests_of e) (start p.room) (take used piece) t r) next ends) in
+      whole_read e env room bytes piece used q after r some within h.sixteen learned
+      (ends_further e room bytes (take used piece) (state_at p in_progress) (state_at q after) r h (IsBytes-take used piece are) made)
+
+  -- the next record begins at `p`, with less room
+  pub whole_at_front : Reads e p in_progress env (record p { room = p.room - used }) in_progress piece used (Ok (Some r))
+  whole_at_front room bytes h =
+      let begins = begins_where_none e room bytes (state_at p in_progress) h none in
+      let next = ap (λ (s : State A). record s { room = p.room - used }) (sym begins) in
+      whole_and_next (record p { room = p.room - used }) in_progress next room bytes h
 
 -- a byte of the piece, after those of which this is the state
 module _ {A : Type 0} (e now env : Environment A) (room : ℕ) (bytes piece : List ℕ) (i : ℕ) (p q : Position) (before after : Option (Record A))

@@ -1,32 +1,12 @@
-use Rattle.fit_step.proofs.Common.{rules, ◌≡◌, ◌-◌, take, sym, ap, subst, IsBytes-take, slice_is_bytes, Data, State, start, Ends, state_at, tests_of, Position}
-use Rattle.fit_step.proofs.ReadBytes.{begins_where_none, whole_read}
-use Rattle.fit_step.proofs.RecordsInProgress.{ends_further, room_after}
+use Rattle.fit_step.proofs.Common.{rules, sym, slice_is_bytes, Data}
+use Rattle.fit_step.proofs.ReadBytes.{whole_at_front}
 use Rattle.fit_step.proofs.record_reader.read_message.Goals as goal
 
 pub plain_message-requires : goal.plain_message-requires
 plain_message-requires g c = let (most, front, some, h) = c.requires in (search rules, h.sixteen)
 
 pub returns-clause-reads : goal.returns-clause-reads
-returns-clause-reads g c = λ room bytes h.
-    let e = c.args.env.now in
-    let p = c.args.position.now in
-    let used = c.in_ok-values.used in
-    let q : Position = record p { room = p.room - used } in
-    let r = Data c.in_ok-values.values in
-    let taken = take used c.args.piece.now in
-    let (most, front, some, k) = c.requires in
-    let begins = begins_where_none e (state_at p c.args.in_progress.now) (room_after e most front (state_at p c.args.in_progress.now) k some).1 c.in-None.is in
-    let beyond : start (p.room - used) ≡ state_at q c.args.in_progress.now =
-    λ i. record {
-      phase = ap (λ (s : State _). s.phase) (sym begins) i;
-      room = p.room - used;
-      in_progress = sym c.in-None.is i;
-      partial = ap (λ (s : State _). s.partial) (sym begins) i;
-    } in
-    let ends : Ends e (tests_of e) (state_at p c.args.in_progress.now) taken (state_at q c.args.in_progress.now) r =
-    subst (λ s. Ends e (tests_of e) s taken (state_at q c.args.in_progress.now) r) (sym begins)
-    (subst (λ t. Ends e (tests_of e) (start p.room) taken t r) beyond c.in_ok-values.ensures.ends) in
-    whole_read e e room bytes c.args.piece.now used q c.args.in_progress.now r c.in_ok-values.ensures.within.0
-    c.in_ok-values.ensures.within.1 h.sixteen (sym c.in_ok-values.ensures.learned)
-    (ends_further e room bytes taken (state_at p c.args.in_progress.now) (state_at q c.args.in_progress.now) r h
-    (IsBytes-take used c.args.piece.now (slice_is_bytes c.args.piece.now c.type_inv.piece)) ends)
+returns-clause-reads g c =
+    let read = c.in_ok-values in
+    whole_at_front c.args.env.now c.args.env.now c.args.position.now c.args.in_progress.now c.in-None.is c.args.piece.now read.used (Data read.values)
+    (slice_is_bytes c.args.piece.now c.type_inv.piece) read.ensures.within.0 read.ensures.within.1 (sym read.ensures.learned) read.ensures.ends
