@@ -226,6 +226,11 @@ impl Frame {
         if let Some((form, bits)) = formed(self.lone, items) {
             return Ok(write_formed(sheet, at, form, bits));
         }
+        if self.is_text {
+            put_sheet(text, sheet, at)?;
+            self.put_other(text, writer, value, items)?;
+            return Ok(0);
+        }
         self.add_made(text, sheet, at, writer, value, items)
     }
 

@@ -5,6 +5,7 @@ ghost use Rattle.fit_base.specs.Fields.{HasShape};
 ghost use Rattle.fit_cells.specs.Cells.{cell};
 ghost use Rattle.fit_rows.specs.inner.Sheets.{and_sheet};
 
+use crate::floats::add_made_float;
 use crate::made::{add_made_bytes, add_made_numbers};
 use crate::rows::frames::Frame;
 use crate::sheet::{Sheet, put_sheet};
@@ -34,6 +35,11 @@ impl Frame {
         let bits = items.bits.as_slice();
         if self.is_of_bytes {
             return add_made_bytes(text, sheet, at, value, self.size, bits);
+        }
+        if self.is_float {
+            if let [number] = bits {
+                return add_made_float(text, sheet, at, self.size, *number);
+            }
         }
         if let Some(form) = self.several() {
             return add_made_numbers(text, sheet, at, form, bits);
