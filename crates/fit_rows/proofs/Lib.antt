@@ -29,7 +29,6 @@ pub mod Sheets
 pub mod FloatCells
 pub mod OctetCells
 pub mod SeveralCells
-mod MadeCells
 pub mod SeveralNumbers
 pub mod BeginFacts
 pub mod TableColumnFacts
