@@ -4,14 +4,14 @@
  * on the file is at least the difference. Times are processor time of this thread, the best of 20 turns of 500 calls. The file is one
  * of less than 1 MB. */
 #define _POSIX_C_SOURCE 199309L
-#include "fit.h"
+#include "gazhdor.h"
 
 #include <stdio.h>
 #include <time.h>
 
 enum { TURNS = 20, CALLS = 500 };
 
-typedef fit_answer (*text_call)(const uint8_t *, size_t, fit_text *);
+typedef gazhdor_answer (*text_call)(const uint8_t *, size_t, gazhdor_text *);
 
 static double now(void)
 {
@@ -20,10 +20,10 @@ static double now(void)
     return (double)t.tv_sec * 1e6 + (double)t.tv_nsec / 1e3;
 }
 
-static fit_answer check(const uint8_t *bytes, size_t length, fit_text *text)
+static gazhdor_answer check(const uint8_t *bytes, size_t length, gazhdor_text *text)
 {
     (void)text;
-    return fit_check(bytes, length);
+    return gazhdor_check(bytes, length);
 }
 
 /* The microseconds of a call over these bytes. */
@@ -33,9 +33,9 @@ static double least(text_call call, const uint8_t *bytes, size_t length)
     for (int turn = 0; turn < TURNS; turn++) {
         double start = now();
         for (int i = 0; i < CALLS; i++) {
-            fit_text text = FIT_NO_TEXT;
+            gazhdor_text text = GAZHDOR_NO_TEXT;
             call(bytes, length, &text);
-            fit_free(text);
+            gazhdor_free(text);
         }
         double took = (now() - start) / CALLS;
         if (turn == 0 || took < best)
@@ -66,14 +66,14 @@ int main(int argc, char **argv)
     fclose(file);
 
     printf("%-13s %12s %12s %8s\n", "", "no bytes, us", "the file, us", "at most");
-    row("fit_check", check, bytes, length);
-    row("fit_table", fit_table, bytes, length);
-    row("fit_to_csv", fit_to_csv, bytes, length);
-    row("fit_show", fit_show, bytes, length);
+    row("gazhdor_check", check, bytes, length);
+    row("gazhdor_table", gazhdor_table, bytes, length);
+    row("gazhdor_to_csv", gazhdor_to_csv, bytes, length);
+    row("gazhdor_show", gazhdor_show, bytes, length);
 
-    fit_text text = FIT_NO_TEXT;
-    if (fit_to_csv(bytes, length, &text).status == FIT_GOOD)
-        row("fit_from_csv", fit_from_csv, text.bytes, text.length);
-    fit_free(text);
+    gazhdor_text text = GAZHDOR_NO_TEXT;
+    if (gazhdor_to_csv(bytes, length, &text).status == GAZHDOR_GOOD)
+        row("gazhdor_from_csv", gazhdor_from_csv, text.bytes, text.length);
+    gazhdor_free(text);
     return 0;
 }

@@ -1,7 +1,8 @@
 /* Says of a file whether it is a FIT file, and writes the first lines of its table: demo FILE */
-#include "fit.h"
+#include "gazhdor.h"
 
 #include <stdio.h>
+#include <stdlib.h>
 
 /* The bytes of a file; NULL where it can't be read. */
 static uint8_t *load(const char *path, size_t *length)
@@ -42,23 +43,23 @@ int main(int argc, char **argv)
         return 4;
     }
 
-    fit_answer found = fit_check(bytes, length);
+    gazhdor_answer found = gazhdor_check(bytes, length);
     switch (found.status) {
-    case FIT_GOOD: printf("good, %llu file(s)\n", (unsigned long long)found.files); break;
-    case FIT_REFUSED: printf("refused at byte %llu, reason %u\n", (unsigned long long)found.place, (unsigned)found.reason); break;
-    case FIT_TRUNCATED: printf("truncated at byte %llu\n", (unsigned long long)found.place); break;
-    default: printf("out of memory\n");
+    case GAZHDOR_GOOD: printf("good, %llu file(s)\n", (unsigned long long)found.files); break;
+    case GAZHDOR_REFUSED: printf("refused at byte %llu: %s\n", (unsigned long long)found.place, gazhdor_reason_name(found.reason)); break;
+    case GAZHDOR_TRUNCATED: printf("truncated at byte %llu\n", (unsigned long long)found.place); break;
+    default: printf("%s\n", gazhdor_status_name(found.status));
     }
 
     /* Also of a file that is refused there is a table, of what comes before. */
-    fit_text table = FIT_NO_TEXT;
-    fit_table(bytes, length, &table);
+    gazhdor_text table = GAZHDOR_NO_TEXT;
+    gazhdor_table(bytes, length, &table);
     size_t end = 0;
     for (int lines = 0; end < table.length && lines < 3; end++)
         lines += table.bytes[end] == '\n';
     fwrite(table.bytes, 1, end, stdout);
-    fit_free(table);
+    gazhdor_free(table);
 
     free(bytes);
-    return found.status == FIT_GOOD ? 0 : 1;
+    return found.status == GAZHDOR_GOOD ? 0 : 1;
 }

@@ -1,9 +1,10 @@
-/* Tests of the calls of fit.h on a ride, by what must be so of any file: calls RIDE STEP. STEP 1 tries each front and each byte.
+/* Tests of the calls of gazhdor.h on a ride, by what must be so of any file: calls RIDE STEP. STEP 1 tries each front and each byte.
  * Blocks are counted, and each growth of memory is refused in turn: link with --wrap=malloc, realloc and free. */
-#include "fit.h"
+#include "gazhdor.h"
 
 #include <pthread.h>
 #include <stdio.h>
+#include <stdlib.h>
 #include <string.h>
 
 /* ---- memory: how many blocks there are, and which growth is to be refused; 0 for none */
@@ -49,38 +50,38 @@ void __wrap_free(void *block)
         }                                                                           \
     } while (0)
 
-typedef fit_answer call(const uint8_t *bytes, size_t length, fit_text *text);
-static call *const calls[] = { fit_table, fit_to_csv, fit_show, fit_from_csv };
+typedef gazhdor_answer call(const uint8_t *bytes, size_t length, gazhdor_text *text);
+static call *const calls[] = { gazhdor_table, gazhdor_to_csv, gazhdor_show, gazhdor_from_csv };
 static const char *const names[] = { "table", "to-csv", "show", "from-csv" };
 
-static int is(fit_answer a, uint32_t status, uint32_t reason, uint64_t place, uint64_t row, uint64_t column, uint64_t files)
+static int is(gazhdor_answer a, uint32_t status, uint32_t reason, uint64_t place, uint64_t row, uint64_t column, uint64_t files)
 {
     return a.status == status && a.reason == reason && a.place == place && a.row == row && a.column == column && a.files == files;
 }
 
-static int same(fit_text a, fit_text b)
+static int same(gazhdor_text a, gazhdor_text b)
 {
     return a.length == b.length && memcmp(a.bytes, b.bytes, a.length) == 0;
 }
 
-static int begins(fit_text front, fit_text whole)
+static int begins(gazhdor_text front, gazhdor_text whole)
 {
     return front.length <= whole.length && memcmp(front.bytes, whole.bytes, front.length) == 0;
 }
 
 static uint8_t *ride;
 static size_t length;
-static fit_text texts[4];
+static gazhdor_text texts[4];
 
 /* Each call on the whole ride; and its text is what the program writes, in the files that the folder has. */
 static void whole(const char *folder)
 {
-    WANT(is(fit_check(ride, length), FIT_GOOD, 0, 0, 0, 0, 1));
+    WANT(is(gazhdor_check(ride, length), GAZHDOR_GOOD, 0, 0, 0, 0, 1));
     for (int i = 0; i < 4; i++) {
-        fit_text none = FIT_NO_TEXT;
+        gazhdor_text none = GAZHDOR_NO_TEXT;
         texts[i] = none;
         const uint8_t *given = i == 3 ? texts[1].bytes : ride;
-        WANT(is(calls[i](given, i == 3 ? texts[1].length : length, &texts[i]), FIT_GOOD, 0, 0, 0, 0, 0));
+        WANT(is(calls[i](given, i == 3 ? texts[1].length : length, &texts[i]), GAZHDOR_GOOD, 0, 0, 0, 0, 0));
         char path[4096];
         snprintf(path, sizeof path, "%s/%s", folder, names[i]);
         FILE *file = fopen(path, "rb");
@@ -90,7 +91,7 @@ static void whole(const char *folder)
         WANT(fgetc(file) == EOF);
         fclose(file);
     }
-    fit_text bytes = { ride, length };
+    gazhdor_text bytes = { ride, length };
     WANT(same(texts[3], bytes));
 }
 
@@ -101,12 +102,12 @@ static void fronts(size_t step)
     for (size_t end = 0; end < length; end += step) {
         uint8_t *front = malloc(end + (end == 0));
         memcpy(front, ride, end);
-        WANT(is(fit_check(front, end), FIT_TRUNCATED, 0, end, 0, 0, 0));
+        WANT(is(gazhdor_check(front, end), GAZHDOR_TRUNCATED, 0, end, 0, 0, 0));
         for (int i = 0; i < 3; i++) {
-            fit_text text = FIT_NO_TEXT;
-            WANT(is(calls[i](front, end, &text), FIT_TRUNCATED, 0, end, 0, 0, 0));
+            gazhdor_text text = GAZHDOR_NO_TEXT;
+            WANT(is(calls[i](front, end, &text), GAZHDOR_TRUNCATED, 0, end, 0, 0, 0));
             WANT(begins(text, texts[i]));
-            fit_free(text);
+            gazhdor_free(text);
         }
         free(front);
     }
@@ -118,13 +119,13 @@ static void changed(size_t step)
 {
     for (size_t at = 0; at < length; at += step) {
         ride[at] ^= 0x55;
-        fit_answer found = fit_check(ride, length);
-        WANT(found.status == FIT_REFUSED ? at <= found.place && found.place < length && 1 <= found.reason && found.reason <= 11
-                                         : is(found, FIT_TRUNCATED, 0, length, 0, 0, 0));
+        gazhdor_answer found = gazhdor_check(ride, length);
+        WANT(found.status == GAZHDOR_REFUSED ? at <= found.place && found.place < length && 1 <= found.reason && found.reason <= 11
+                                         : is(found, GAZHDOR_TRUNCATED, 0, length, 0, 0, 0));
         for (int i = 0; i < 3; i++) {
-            fit_text text = FIT_NO_TEXT;
+            gazhdor_text text = GAZHDOR_NO_TEXT;
             WANT(is(calls[i](ride, length, &text), found.status, found.reason, found.place, 0, 0, 0));
-            fit_free(text);
+            gazhdor_free(text);
         }
         ride[at] ^= 0x55;
     }
@@ -142,23 +143,50 @@ static void others(void)
         { "row,a,b,c,d,e,f\nfile,14,32,65536,sum,,\nend,,,,,,\n", 2, 4 },
     };
     for (size_t i = 0; i < sizeof bad / sizeof *bad; i++) {
-        fit_text none = FIT_NO_TEXT;
-        WANT(is(fit_from_csv((const uint8_t *)bad[i].text, strlen(bad[i].text), &none), FIT_TEXT, 0, 0, bad[i].row, bad[i].column, 0));
+        gazhdor_text none = GAZHDOR_NO_TEXT;
+        WANT(is(gazhdor_from_csv((const uint8_t *)bad[i].text, strlen(bad[i].text), &none), GAZHDOR_TEXT, 0, 0, bad[i].row, bad[i].column, 0));
         WANT(none.length == 0);
     }
     /* The true sum of this header is 0, which zeros in its place can't say. */
     const char *zeros = "row,a,b,c,d,e,f\nfile,14,32,46477,zero,,\nend,,,,,,\n";
-    fit_text none = FIT_NO_TEXT;
-    WANT(is(fit_from_csv((const uint8_t *)zeros, strlen(zeros), &none), FIT_UNWRITABLE, 0, 0, 0, 0, 0));
+    gazhdor_text none = GAZHDOR_NO_TEXT;
+    WANT(is(gazhdor_from_csv((const uint8_t *)zeros, strlen(zeros), &none), GAZHDOR_UNWRITABLE, 0, 0, 0, 0, 0));
     WANT(none.length == 0);
     uint8_t *twice = malloc(2 * length);
     memcpy(twice, ride, length);
     memcpy(twice + length, ride, length);
-    WANT(is(fit_check(twice, 2 * length), FIT_GOOD, 0, 0, 0, 0, 2));
-    WANT(is(fit_check(twice, 2 * length - 1), FIT_TRUNCATED, 0, 2 * length - 1, 0, 0, 0));
+    WANT(is(gazhdor_check(twice, 2 * length), GAZHDOR_GOOD, 0, 0, 0, 0, 2));
+    WANT(is(gazhdor_check(twice, 2 * length - 1), GAZHDOR_TRUNCATED, 0, 2 * length - 1, 0, 0, 0));
     twice[length] = 0x0D;
-    WANT(is(fit_check(twice, 2 * length), FIT_REFUSED, FIT_HEADER_SIZE, length, 0, 0, 0));
+    WANT(is(gazhdor_check(twice, 2 * length), GAZHDOR_REFUSED, GAZHDOR_HEADER_SIZE, length, 0, 0, 0));
     free(twice);
+}
+
+/* With no bytes the pointer may be NULL: that is the front of no bytes, and the text without a first line. */
+static void nothing(void)
+{
+    WANT(is(gazhdor_check(NULL, 0), GAZHDOR_TRUNCATED, 0, 0, 0, 0, 0));
+    for (int i = 0; i < 4; i++) {
+        gazhdor_text text = GAZHDOR_NO_TEXT, front = GAZHDOR_NO_TEXT;
+        gazhdor_answer answer = calls[i](NULL, 0, &text);
+        WANT(i == 3 ? is(answer, GAZHDOR_TEXT, 0, 0, 1, 0, 0) : is(answer, GAZHDOR_TRUNCATED, 0, 0, 0, 0, 0));
+        calls[i]((const uint8_t *)"", 0, &front);
+        WANT(same(text, front));
+        gazhdor_free(text);
+        gazhdor_free(front);
+    }
+}
+
+/* The names; tests/c compares those of reasons with what the program prints. */
+static void named(void)
+{
+    static const char *const statuses[] = { "good", "refused", "truncated", "out of memory", "text refused", "no file has such rows" };
+    for (uint32_t status = GAZHDOR_GOOD; status <= GAZHDOR_UNWRITABLE; status++)
+        WANT(strcmp(gazhdor_status_name(status), statuses[status]) == 0);
+    WANT(strcmp(gazhdor_status_name(GAZHDOR_UNWRITABLE + 1), "unknown") == 0);
+    WANT(strcmp(gazhdor_reason_name(0), "unknown") == 0);
+    WANT(strcmp(gazhdor_reason_name(GAZHDOR_TOO_MANY_FILES + 1), "unknown") == 0);
+    WANT(strcmp(gazhdor_version(), GAZHDOR_VERSION) == 0);
 }
 
 /* Each growth of memory refused in turn: no memory, with a front of the text; or, where another way needs less, the same answer as
@@ -168,21 +196,21 @@ static void want(void)
     long before = blocks;
     for (refused = 1;; refused++) {
         growths = 0;
-        fit_answer a = fit_check(ride, length);
+        gazhdor_answer a = gazhdor_check(ride, length);
         WANT(blocks == before);
         if (growths < refused)
             break;
-        WANT(is(a, FIT_NO_MEMORY, 0, 0, 0, 0, 0) || is(a, FIT_GOOD, 0, 0, 0, 0, 1));
+        WANT(is(a, GAZHDOR_NO_MEMORY, 0, 0, 0, 0, 0) || is(a, GAZHDOR_GOOD, 0, 0, 0, 0, 1));
     }
     for (int i = 0; i < 4; i++)
         for (refused = 1;; refused++) {
             growths = 0;
-            fit_text text = FIT_NO_TEXT;
-            fit_answer a = calls[i](i == 3 ? texts[1].bytes : ride, i == 3 ? texts[1].length : length, &text);
+            gazhdor_text text = GAZHDOR_NO_TEXT;
+            gazhdor_answer a = calls[i](i == 3 ? texts[1].bytes : ride, i == 3 ? texts[1].length : length, &text);
             long made = growths;
-            WANT(made < refused || is(a, FIT_NO_MEMORY, 0, 0, 0, 0, 0) || (a.status == FIT_GOOD && same(text, texts[i])));
-            WANT(i == 3 && a.status != FIT_GOOD ? text.length == 0 : begins(text, texts[i]));
-            fit_free(text);
+            WANT(made < refused || is(a, GAZHDOR_NO_MEMORY, 0, 0, 0, 0, 0) || (a.status == GAZHDOR_GOOD && same(text, texts[i])));
+            WANT(i == 3 && a.status != GAZHDOR_GOOD ? text.length == 0 : begins(text, texts[i]));
+            gazhdor_free(text);
             WANT(blocks == before);
             if (made < refused)
                 break;
@@ -193,11 +221,11 @@ static void want(void)
 static void *in_thread(void *given)
 {
     for (long i = 0; i < *(long *)given; i++) {
-        fit_text text = FIT_NO_TEXT;
-        WANT(is(fit_check(ride, length), FIT_GOOD, 0, 0, 0, 0, 1));
-        WANT(is(calls[i % 3](ride, length, &text), FIT_GOOD, 0, 0, 0, 0, 0));
+        gazhdor_text text = GAZHDOR_NO_TEXT;
+        WANT(is(gazhdor_check(ride, length), GAZHDOR_GOOD, 0, 0, 0, 0, 1));
+        WANT(is(calls[i % 3](ride, length, &text), GAZHDOR_GOOD, 0, 0, 0, 0, 0));
         WANT(same(text, texts[i % 3]));
-        fit_free(text);
+        gazhdor_free(text);
     }
     return NULL;
 }
@@ -224,10 +252,12 @@ int main(int argc, char **argv)
     fronts(step);
     changed(step);
     others();
+    nothing();
+    named();
     want();
     threads(600 / (long)step);
     for (int i = 0; i < 4; i++)
-        fit_free(texts[i]);
+        gazhdor_free(texts[i]);
     free(ride);
     return 0;
 }

@@ -10,7 +10,7 @@ import sqlite3
 import sys
 import time
 
-import fit
+import gazhdor
 
 
 def load(path):
@@ -19,11 +19,11 @@ def load(path):
         with open(path, "rb") as file:
             data = file.read()
         size = len(data)
-        for row in fit.table(data, partial=True):
+        for row in gazhdor.table(data, partial=True):
             when = row.timestamp
             rows.append((row.file, when.isoformat(" ") if isinstance(when, datetime.datetime) else when, *row[2:]))
         return path, size, "ok", rows
-    except (fit.FitError, OSError) as error:
+    except (gazhdor.FitError, OSError) as error:
         return path, size, str(error), rows
     except MemoryError:
         return path, size, "out of memory", rows

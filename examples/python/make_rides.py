@@ -1,4 +1,4 @@
-"""Makes rides to try things on: make_rides.py FOLDER COUNT [MINUTES]. Each is written as CSV text, of which fit.from_csv makes the
+"""Makes rides to try things on: make_rides.py FOLDER COUNT [MINUTES]. Each is written as CSV text, of which gazhdor.from_csv makes the
 file. A ride takes 20 minutes unless MINUTES says another number. Run it with PYTHONPATH naming the folder python/. The same number
 makes the same ride."""
 import math
@@ -6,7 +6,7 @@ import os
 import random
 import sys
 
-import fit
+import gazhdor
 
 DEFINITIONS = """row,a,b,c,d,e,f
 file,14,32,2065,sum,,
@@ -48,7 +48,7 @@ def ride(seed, minutes):
             f"field,altitude,{round(altitude * 5) / 5:.1f},m,,,\nfield,distance,{distance:.2f},m,,,\nfield,speed,{speed:.3f},m/s,,,\n"
             f"field,heart_rate,{'' if t % 977 < 6 else round(heart)},bpm,,,\nfield,cadence,{round(80 + 5 * math.sin(t / 40)) if speed > 1 else 0},rpm,,,\n")
     rows.append("end,,,,,,\n")
-    return fit.from_csv("".join(rows))
+    return gazhdor.from_csv("".join(rows))
 
 
 if __name__ == "__main__":

@@ -2,11 +2,11 @@
 import io
 import sys
 
-import fit
+import gazhdor
 import pandas
 
 if len(sys.argv) != 2:
     sys.exit("usage: pandas_table.py FILE")
-table = pandas.read_csv(io.StringIO(fit.table_text(sys.argv[1])), parse_dates=["timestamp"])
+table = pandas.read_csv(io.StringIO(gazhdor.table_text(sys.argv[1])), parse_dates=["timestamp"])
 print(table.dtypes.to_string())
 print(table[["altitude", "speed", "heart_rate"]].describe().loc[["count", "mean", "max"]].to_string())

@@ -19,7 +19,7 @@ use Rattle.fit_csv.specs.Conversions.{Converts, RowsOf}
 use Rattle.fit_csv.specs.FromText.{ReadsText}
 use Rattle.fit_c.specs.declared.answer.FitAnswer.{FitAnswer}
 
--- the number of a reason, as `fit.h` has it
+-- the number of a reason, as `gazhdor.h` has it
 abbrev pub reason_code : Reason → ℕ
 reason_code HeaderSize = 1
 reason_code Protocol = 2

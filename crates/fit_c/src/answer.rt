@@ -21,7 +21,7 @@ pub struct FitAnswer {
     pub row: u64,
     /// With status 4 the column of a cell, counted from 1; 0 where the row as a whole is refused.
     pub column: u64,
-    /// With status 0 how many files there are, in the answer of `fit_check`.
+    /// With status 0 how many files there are, in the answer of `gazhdor_check`.
     pub files: u64,
 }
 

@@ -11,7 +11,7 @@ use std::alloc::Global;
 
 /// Whether some bytes are a FIT file, or a chain of such files, and how many; else where they aren't, and why.
 #[unsafe(no_mangle)]
-pub extern "C" fn fit_check(alloc: Global, bytes: &[u8]) -> FitAnswer
+pub extern "C" fn gazhdor_check(alloc: Global, bytes: &[u8]) -> FitAnswer
     ensures finding { IsFinding bytes.now result }
     ensures good { result.status ≡ 0 → AreChain Global bytes.now }
     // A chain of files gets no other status, unless memory is refused.

@@ -1,4 +1,4 @@
-//! The calls for C, which `c/fit.h` declares. They keep nothing, and take memory from the C library alone.
+//! The calls for C, which `c/gazhdor.h` declares. They keep nothing, and take memory from the C library alone.
 #![tactic(auto)]
 
 mod answer;
@@ -6,5 +6,5 @@ mod check;
 mod texts;
 
 pub use answer::FitAnswer;
-pub use check::fit_check;
-pub use texts::{fit_from_csv, fit_show, fit_table, fit_to_csv};
+pub use check::gazhdor_check;
+pub use texts::{gazhdor_from_csv, gazhdor_show, gazhdor_table, gazhdor_to_csv};

@@ -45,7 +45,7 @@ fn handed_where(good: bool, sink: WriteSink<Vec<u8>>) -> &'static [u8]
 
 /// The table of a chain of files as CSV text. Where the bytes are none, the text has the rows before the fault.
 #[unsafe(no_mangle)]
-pub extern "C" fn fit_table(alloc: Global, bytes: &[u8], text: &mut &'static [u8]) -> FitAnswer
+pub extern "C" fn gazhdor_table(alloc: Global, bytes: &[u8], text: &mut &'static [u8]) -> FitAnswer
     ensures converted { IsConverted table_of bytes.now result text.new.now }
     ensures good { result.status ≡ 0 → AreChain Global bytes.now }
     ensures chain { (fs : List (FitFile Global)) → IsChain chain_limit fs bytes.now
@@ -60,7 +60,7 @@ pub extern "C" fn fit_table(alloc: Global, bytes: &[u8], text: &mut &'static [u8
 
 /// A chain of files as CSV text. Where the bytes are none, the text has the rows before the fault.
 #[unsafe(no_mangle)]
-pub extern "C" fn fit_to_csv(alloc: Global, bytes: &[u8], text: &mut &'static [u8]) -> FitAnswer
+pub extern "C" fn gazhdor_to_csv(alloc: Global, bytes: &[u8], text: &mut &'static [u8]) -> FitAnswer
     ensures converted { IsConverted rows_of bytes.now result text.new.now }
     ensures good { result.status ≡ 0 → AreChain Global bytes.now }
     ensures chain { (fs : List (FitFile Global)) → IsChain chain_limit fs bytes.now
@@ -75,7 +75,7 @@ pub extern "C" fn fit_to_csv(alloc: Global, bytes: &[u8], text: &mut &'static [u
 
 /// The lines of `fit show` of a chain of files, without the last. Where the bytes are none, the text has the lines before the fault.
 #[unsafe(no_mangle)]
-pub extern "C" fn fit_show(alloc: Global, bytes: &[u8], text: &mut &'static [u8]) -> FitAnswer
+pub extern "C" fn gazhdor_show(alloc: Global, bytes: &[u8], text: &mut &'static [u8]) -> FitAnswer
     ensures reported { IsReported show_line bytes.now result text.new.now }
     ensures good { result.status ≡ 0 → AreChain Global bytes.now }
     ensures chain { (fs : List (FitFile Global)) → IsChain chain_limit fs bytes.now
@@ -91,7 +91,11 @@ pub extern "C" fn fit_show(alloc: Global, bytes: &[u8], text: &mut &'static [u8]
 
 /// The bytes of the chain of files whose rows are those of a text. No bytes where the text is refused, and none where memory is.
 #[unsafe(no_mangle)]
-pub extern "C" fn fit_from_csv(alloc: Global, text: &[u8], bytes: &mut &'static [u8]) -> FitAnswer
+pub extern "C" fn gazhdor_from_csv(
+    alloc: Global,
+    text: &[u8],
+    bytes: &mut &'static [u8],
+) -> FitAnswer
     ensures read { IsTextRead text.now result }
     ensures good { result.status ≡ 0
         → (files : List (FitFile Global)) × IsTextOf text.now files bytes.new.now }

@@ -1,11 +1,13 @@
 -- The two hexadecimal digits of each byte, and those of the bytes of a number.
-use Rattle.fit_cells.proofs.Common.{◌≡◌, ◌∙◌, ℕ, suc, ◌+◌, ◌-◌, ◌*◌, ◌/◌, ◌%◌, ◌^◌, ◌<◌, ◌≤◌, List, ◌∷◌, [], ◌++◌, true, refl, sym, ap, ap₂, arith, get_or}
+use Rattle.fit_cells.proofs.Common.{◌≡◌, ◌∙◌, ℕ, suc, ◌+◌, ◌-◌, ◌*◌, ◌/◌, ◌%◌, ◌^◌, ◌<◌, ◌≤◌}
+use Rattle.fit_cells.proofs.Common.{List, ◌∷◌, [], ◌++◌, true, refl, sym, ap, ap₂, arith, get_or, drop}
 use Rattle.fit_cells.proofs.Common.{eqb-true, append_assoc, pow-succ', hex_digit, hex_digits}
 use Rattle.fit_cells.proofs.HexFacts.{two-sixteen}
 use Rattle.std.proofs.Common.{append-nil}
 use Rattle.std.proofs.Math.Nat.{div-div-eq-div-mul}
 use Rattle.std.proofs.Common.{◌==◌}
 use Rattle.std.proofs.lemmas.Bool.{agree_below_at}
+use Rattle.std.proofs.lemmas.List.{drop-drop}
 use Rattle.fit_cells.specs.declared.hexadecimal.TheConstants.{PAIRS}
 
 pub pair_at : (b : ℕ) → b < 256 → get_or PAIRS (2 * b) 0 ∷ get_or PAIRS (2 * b + 1) 0 ∷ [] ≡ hex_digits 2 b
@@ -47,3 +49,12 @@ unfolding hex_digits
 bytes_written n w k text whole done told =
     let none : 2 * (w - k) ≡ 0 = omega (arith, done) in
     sym (ap (λ d. text ++ hex_digits d n) none ∙ append-nil text) ∙ told
+
+-- what stands after the bytes that are written
+pub same_after : (between end : ℕ) (old middle new : List ℕ) → between ≤ end → drop end new ≡ drop end middle → drop between middle ≡ drop between old
+    → drop end new ≡ drop end old
+same_after between end old middle new less last first =
+    let reach : between + (end - between) ≡ end = omega (arith, less) in
+    let further : (row : List ℕ) → drop (end - between) (drop between row) ≡ drop end row =
+    λ row. drop-drop (end - between) between row ∙ ap (λ n. drop n row) reach in
+    last ∙ sym (further middle) ∙ ap (drop (end - between)) first ∙ further old

@@ -32,6 +32,7 @@ fn write_two(row: &mut [u8], at: usize, two: [u8; 2]) -> usize
     ensures size { length row.new ≡ length row.old }
     ensures end { result ≡ at + 2 }
     ensures text { take result row.new ≡ take at row.old ++ two }
+    ensures after { drop result row.new ≡ drop result row.old }
 {
     let [first, second] = two;
     row[at] = first;
@@ -46,16 +47,18 @@ fn write_mark(row: &mut [u8], at: usize) -> usize
     ensures size { length row.new ≡ length row.old }
     ensures end { result ≡ at + 2 }
     ensures text { take result row.new ≡ take at row.old ++ codes "0x" }
+    ensures after { drop result row.new ≡ drop result row.old }
 {
     write_two(row, at, *b"0x")
 }
 
-/// Writes bytes into a row from a place on, `0x` and two digits each. Returns the place after them.
+/// Writes bytes into a row from a place on, `0x` and two digits each. Returns the place after them, from which on the row stays.
 pub fn write_bytes(row: &mut [u8], at: usize, bytes: &[u8]) -> usize
     requires room { at + (2 + 2 * length bytes.now) ≤ length row.old }
     ensures size { length row.new ≡ length row.old }
     ensures end { result ≡ at + (2 + 2 * length bytes.now) }
     ensures text { take result row.new ≡ take at row.old ++ bytes_text bytes.now }
+    ensures after { drop result row.new ≡ drop result row.old }
 {
     let mut end = write_mark(row, at);
     for byte in bytes {
@@ -74,7 +77,7 @@ fn byte_at(number: u64, place: u8) -> u8
 }
 
 /// Writes the bits of a floating point number of this many bytes into a row from a place on, `0x` and two hexadecimal digits a byte.
-/// Returns the place after them.
+/// Returns the place after them, from which on the row stays.
 pub fn write_float(row: &mut [u8], at: usize, width: u8, bits: u64) -> usize
     requires width { width ≤ 8 }
     requires room { at + (2 + 2 * width) ≤ length row.old }
@@ -82,6 +85,7 @@ pub fn write_float(row: &mut [u8], at: usize, width: u8, bits: u64) -> usize
     ensures end { result ≡ at + (2 + 2 * width) }
     ensures text { take result row.new ≡ take at row.old
         ++ (codes "0x" ++ hex_digits (2 * width) bits) }
+    ensures after { drop result row.new ≡ drop result row.old }
 {
     let mut end = write_mark(row, at);
     for written in 0..width {

@@ -35,6 +35,7 @@ fn main(rt: HostRuntime) -> ExitCode {
         Err(ErrorKind::OutOfMemory) => out_of_memory(&rt),
         Err(_) => {
             let _ = eprintln!(rt; "a word of the command line isn't UTF-8");
+            let _ = eprintln!(rt; "use < for a FILE with such a name");
             bad_usage(&rt)
         }
     };
@@ -59,9 +60,23 @@ fn run_line(rt: &HostRuntime, words: &[String]) -> u8 {
             Some(path) if path.as_str() != "-" => run_file(rt, command, path.as_str()),
             _ => run_reader(rt, command, rt.stdin()),
         },
-        Err(LineFault::Usage) => bad_usage(rt),
+        Err(LineFault::Usage) => {
+            let status = bad_usage(rt);
+            if is_dashed(words) {
+                let _ = eprintln!(rt; "use -- before a FILE that begins with -");
+            }
+            status
+        }
         Err(LineFault::Help) => help(rt),
         Err(LineFault::NoMemory) => out_of_memory(rt),
+    }
+}
+
+/// Whether the word in the place of FILE begins with a dash, and may still be meant as a name.
+fn is_dashed(words: &[String]) -> bool {
+    match words {
+        [_, _, file, ..] => file.starts_with('-') && !matches!(file.as_str(), "-" | "--"),
+        _ => false,
     }
 }
 

@@ -96,5 +96,5 @@ unfoldable pub use Rattle.fit_csv.specs.inner.Progress.{Run}
 pub use Rattle.fit_csv.specs.inner.Reporting.{HasText, csv_fault}
 pub use Rattle.fit_csv.specs.inner.Seven.{AsFar, DifferAt, row_of}
 pub use Rattle.fit_csv.specs.inner.SoundChain.{IsSoundChain, IsSoundCurrent, IsSoundDefinition, IsSoundFile, IsSoundMessage, IsSoundSoFar, current_rows}
-pub use Rattle.fit_csv.specs.inner.SoundChain.{open_file_rows, open_rows, part_rows, rows_so_far, IsSoundPart, HaveShapeSoFar, BeginsWithMore}
+pub use Rattle.fit_csv.specs.inner.SoundChain.{open_file_rows, open_rows, part_rows, rows_so_far, IsSoundPart, HaveShapeSoFar}
 pub use Rattle.fit_csv.specs.inner.TextFaults.{IsTextFault, IsUnjudged, IsReadFault}

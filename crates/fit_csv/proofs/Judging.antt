@@ -1,12 +1,10 @@
 -- Judging the rows of a text one after another tells which of them can stand where they are.
-use Rattle.fit_csv.proofs.Common.{◌≡◌, ◌∙◌, ◌≤◌, ◌+◌, [], ◌∷◌, ◌++◌, length, Bor, sym, ap, subst, inl, inr, arith, append_assoc, flat_map, reader_state}
+use Rattle.fit_csv.proofs.Common.{◌≡◌, ◌∙◌, ◌+◌, [], ◌∷◌, ◌++◌, length, sym, ap, subst, inl, inr, arith, append_assoc, flat_map}
 use Rattle.fit_csv.proofs.Common.{TextHasOneNumber, chain_rows, file_rows, AreFilesOf, AreWhole, CanFollow, FirstRows, IsBadCell, IsChainOfRows, IsCutOff}
-use Rattle.fit_csv.proofs.Common.{IsRefusedRow, IsRowFault, MayGoOn, IsTextFault, IsUnjudged, ChainStep, Run, nothing_yet, HasRead, Row, RowsOfText, first_line}
+use Rattle.fit_csv.proofs.Common.{IsRefusedRow, IsRowFault, MayGoOn, IsTextFault, IsUnjudged, ChainStep, Run, nothing_yet, Row, RowsOfText, first_line}
 use Rattle.fit_csv.proofs.Common.{IsSoundChain, IsSoundCurrent, current_rows, rows_so_far, CsvFault, Chain}
 use Rattle.std.proofs.Common.{ℕ, ◌<◌, List, None}
 use Rattle.std.proofs.lemmas.List.{append-nil}
-use Rattle.csv.specs.declared.reader.Reader.{Reader}
-use Rattle.fit_cells.proofs.RowsWithin.{rows-of-text}
 use Rattle.fit_csv.specs.declared.fault.CsvFault.TheVariants as faults
 use Rattle.fit_csv.proofs.ChainSteps.{CanStep}
 use Rattle.fit_csv.proofs.Completed.{may-go-on}
@@ -95,19 +93,16 @@ text-fault CanStand r number text (faults.BadCell row column) refused h = refuse
 text-fault CanStand r number text faults.NoMemory refused h = tt
 text-fault CanStand r number text fault refused h = absurd h
 
-pub first-rows : (text : List ℕ) (rows : List Row) (r : Reader (Bor (List ℕ))) → HasRead text rows r → FirstRows text rows
-first-rows text rows r read = (reader_state r, read.place.0, read.place.2)
-
 -- the next row can't stand after those of a chain
-pub refused-row : TextHasOneNumber → (text : List ℕ) (rows : List Row) (c : Chain) (this : Row) (number : ℕ) (fault : CsvFault) (r : Reader (Bor (List ℕ)))
-    → Run nothing_yet rows c
-    → HasRead text ((first_line ∷ rows) ++ this ∷ []) r → number ≡ length rows + 2 → IsUnjudged (CanStep c) this number fault → IsTextFault text fault
-refused-row law text rows c this number fault r run read place wrong =
+pub refused-row : TextHasOneNumber → (text : List ℕ) (rows : List Row) (c : Chain) (this : Row) (number : ℕ) (fault : CsvFault)
+    → Run nothing_yet rows c → FirstRows text ((first_line ∷ rows) ++ this ∷ []) → number ≡ length rows + 2
+    → IsUnjudged (CanStep c) this number fault → IsTextFault text fault
+refused-row law text rows c this number fault run read place wrong =
     let counted : number ≡ length (first_line ∷ rows) + 1 = omega (arith, place) in
     text-fault (CanStep c) this number text fault (λ h. record {
       front = first_line ∷ rows;
       this = this;
-      read = first-rows text ((first_line ∷ rows) ++ this ∷ []) r read;
+      read = read;
       some = omega arith;
       begins = begins rows c run;
       wrong = subst (λ n. IsRowFault (CanFollow (first_line ∷ rows)) this n fault) counted (followed law rows c this number fault run h);
@@ -131,6 +126,3 @@ pub whole-text : (text : List ℕ) (rows : List Row) (c : Chain) → Run nothing
 whole-text text rows c run read none some =
     let (same, good) = whole-rows rows c run none in
     (subst (λ (l : List Row). RowsOfText text l) same read, good, some)
-
-pub too-many : (text : List ℕ) (rows : List Row) (r : Reader (Bor (List ℕ))) → HasRead text rows r → length rows ≤ length text
-too-many text rows r read = rows-of-text text rows (reader_state r) read.place.0 read.place.2

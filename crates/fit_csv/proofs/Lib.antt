@@ -28,11 +28,13 @@ mod InRange
 mod SevenRows
 mod FromChain
 mod Unwritten
-mod TextRows
 mod ReportTexts
 mod LooseReads
+mod RowReads
 mod Lanes
 mod LooseTexts
 mod ShortCells
 mod ShortLines
-mod Windows
+mod JudgedRows
+mod WholeRecords
+mod Spelled

@@ -37,12 +37,12 @@ ended s s2 n n2 fields f2 f field fd2 t p u v (r ∷ rows) e e2 more h =
     ((f, n, u), e, h.2 ∙ ap (λ (q : Read). q.0) same, more rows (subst (λ (q : Read). AreRecords default_config q.1 q.2 rows) same h.3))
 
 -- between two rows
-rows-from : (s : State) (t : List ℕ) (rows : List Row) → AreRecords default_config s t rows → RowsFrom s [] [] t rows
+pub rows-from : (s : State) (t : List ℕ) (rows : List Row) → AreRecords default_config s t rows → RowsFrom s [] [] t rows
 unfolding Reached
 rows-from s t [] (s2, ys, (same, text), none) = rw (same, text) none
 rows-from s t (r ∷ rows) (s2, ys, (p, e, is, reached), none) = (p, e, is, (s2, ys, reached, none))
 
-records : (s : State) (t : List ℕ) (rows : List Row) → RowsFrom s [] [] t rows → AreRecords default_config s t rows
+pub records : (s : State) (t : List ℕ) (rows : List Row) → RowsFrom s [] [] t rows → AreRecords default_config s t rows
 unfolding Reached
 records s t [] none = (s, t, (refl, refl), none)
 records s t (r ∷ rows) (p, e, is, (s2, ys, reached, none)) = (s2, ys, (p, e, is, reached), none)

@@ -1,22 +1,21 @@
 -- A text that is spelled anew piece by piece stands for what was read of the other one.
-use Rattle.std.proofs.Common.{inr, ◌≡◌, ◌&&◌, ◌+◌, ◌-◌, ◌<◌, ◌≤◌, Option, MatchOption, Bor, suc, zero, take, drop, length, get_or, slice_get, ◌∙◌, ◌++◌}
-use Rattle.std.proofs.Common.{not, ◌∷◌, ◌==◌, [], ℕ, List, Bool, Some, None, refl, sym, ap, subst, arith, true, false, append_assoc, inr}
+use Rattle.std.proofs.Common.{◌≡◌, ◌&&◌, ◌+◌, ◌-◌, ◌<◌, ◌≤◌, Option, MatchOption, Bor, suc, zero, take, drop, length, get_or, slice_get, ◌∙◌, ◌++◌}
+use Rattle.std.proofs.Common.{not, ◌∷◌, ◌==◌, [], ℕ, List, Bool, Some, None, refl, sym, ap, subst, arith, true, false, append_assoc}
 use Rattle.std.proofs.lemmas.List.{append-nil}
 use Rattle.std.proofs.lemmas.Bool.{ne_eqb}
 use Rattle.std.proofs.lemmas.Grind.{take_at_read}
 use Rattle.std.proofs.lemmas.Option.{same_Some}
-use Rattle.csv.specs.Machine.{next_record, step}
+use Rattle.csv.specs.Machine.{step}
 use Rattle.std.specs.Cmp.Lexicographic.{pointwise}
-use Rattle.csv.specs.Reading.{AreRecords, default_config, strip_bom}
+use Rattle.csv.specs.Reading.{strip_bom}
 use Rattle.csv.specs.declared.parser.State.{State}
 use Rattle.csv.specs.declared.parser.State.TheVariants as st
-use Rattle.fit_cells.specs.Rows.{Row, RowsOfText}
 use Rattle.fit_csv.specs.declared.from.loose.Spot.{Spot}
-use Rattle.fit_csv.specs.declared.from.loose.Spot.TheVariants.{RowStart, CellStart, InCell}
-use Rattle.fit_csv.specs.inner.Loose.{Closes, EndsCell, HasRowsOf, NoneOf, Opens, StandsFor, WritesEnd, WritesOn, is_mark}
+use Rattle.fit_csv.specs.declared.from.loose.Spot.TheVariants.{RowStart}
+use Rattle.fit_csv.specs.inner.Loose.{Closes, EndsCell, HasRowsOf, NoneOf, Opens, StandsFor, WritesOn, is_mark}
 use Rattle.fit_csv.specs.inner.Loose.{is_special}
 use Rattle.fit_csv.specs.inner.Loose.{may_open, spot_after, spot_from, spot_state}
-use Rattle.fit_csv.proofs.LooseReads.{run-copied, return-dropped, cell-end, dropped, kept, row-end, moved, same-records}
+use Rattle.fit_csv.proofs.LooseReads.{run-copied, return-dropped, cell-end, dropped, kept}
 
 -- ---- what was written goes on
 
@@ -74,24 +73,8 @@ pub stands-first : (text : List ℕ) → StandsFor text text []
 unfolding spot_from
 stands-first text = record { goes_on = λ p h. h }
 
-same-text : (s : State) (t : List ℕ) → HasRowsOf s t s t
+pub same-text : (s : State) (t : List ℕ) → HasRowsOf s t s t
 same-text s t = record { rows_of = λ fields field rows is. is }
-
-pub whole : (written : List ℕ) → WritesEnd written written
-whole written text rows ends stands =
-    subst (λ (q : List ℕ). HasRowsOf st.StartRecord text st.StartRecord q) (append-nil (rows ++ written))
-    (stands.goes_on [] (same-text (spot_state (spot_from RowStart (rows ++ written))) []))
-
-last-end : (spot : Spot) → At spot [] (10 ∷ [])
-unfolding next_record
-last-end RowStart = record { rows_of = λ fields field rows is. moved st.StartRecord st.StartRecord fields fields field field [] (10 ∷ []) rows refl is }
-last-end CellStart = row-end st.StartField st.StartField [] [] [] (refl, refl, refl) refl (inr (inr (refl, refl))) (same-text st.StartRecord [])
-last-end InCell = row-end st.InField st.InField [] [] [] (refl, refl, refl) refl (inr (inr (refl, refl))) (same-text st.StartRecord [])
-
-pub whole-ended : (written : List ℕ) → WritesEnd written (written ++ (10 ∷ []))
-whole-ended written text rows ends stands =
-    subst (λ (q : List ℕ). HasRowsOf st.StartRecord text st.StartRecord q) (append_assoc rows written (10 ∷ []))
-    (stands.goes_on (10 ∷ []) (last-end (spot_from RowStart (rows ++ written))))
 
 -- ---- what the code tests
 
@@ -193,14 +176,6 @@ pub plain-stays : (is_open : Bool) (b : ℕ) → is_open ≡ true → (b ≡ 34 
 unfolding Closes
 plain-stays true b is other more closes = subst (λ quote. Closes (not quote) more) (sym (ne_eqb b 34 other)) closes
 plain-stays false b is other more closes = cc is
-
--- ---- the whole text
-
-pub rows-kept : (loose text plain : List ℕ) → text ≡ strip_bom loose → strip_bom plain ≡ plain → HasRowsOf st.StartRecord text st.StartRecord plain
-    → (rows : List Row) → RowsOfText plain rows → RowsOfText loose rows
-rows-kept loose text plain begins no_mark h rows is =
-    subst (λ (t : List ℕ). AreRecords default_config st.StartRecord t rows) begins
-    (same-records st.StartRecord st.StartRecord text plain h rows (subst (λ (t : List ℕ). AreRecords default_config st.StartRecord t rows) no_mark is))
 
 -- what is written in two steps
 pub both-go-on : (from middle left old some more : List ℕ) → WritesOn from middle old some → WritesOn middle left some more → WritesOn from left old more

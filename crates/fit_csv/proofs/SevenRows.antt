@@ -34,7 +34,7 @@ defined-seven : {A : Type 0} (v : Values A) (time : Option ℕ) (namings : List 
 defined-seven v time namings None = tt
 defined-seven v time namings (Some p) = message-seven v p time namings
 
-record-seven : {A : Type 0} (before : List (Record A)) (r : Record A) → AllSeven (record_rows before r)
+pub record-seven : {A : Type 0} (before : List (Record A)) (r : Record A) → AllSeven (record_rows before r)
 record-seven before (Define d) = definition-seven d
 record-seven before (Data v) = defined-seven v (header_time (previous_time before) v.offset) (namings_at before v.local) (defined_at (known before) v.local)
 
@@ -50,7 +50,7 @@ files-seven (f ∷ files) =
     both-seven (file_rows f) (flat_map file_rows files)
     (both-seven (file_row f.header ∷ records_rows [] f.records) (end_row ∷ []) (refl, records-seven [] f.records) (refl, tt)) (files-seven files)
 
-none-empty : (rows : List Row) → AllSeven rows → NoneEmpty rows
+pub none-empty : (rows : List Row) → AllSeven rows → NoneEmpty rows
 unfolding NoneEmpty
 none-empty [] seven = tt
 none-empty (r ∷ rows) seven = (λ e. let h = seven.0 in cc, none-empty rows seven.1)

@@ -39,7 +39,7 @@ unfolding FileRun
 joined-run f [] ys m t first rest = subst (λ (x : OpenFile). FileRun x ys t) (sym first) rest
 joined-run f (r ∷ xs) ys m t (n, step, first) rest = (n, step, joined-run n xs ys m t first rest)
 
-lifted-run : (files : List (FitFile Global)) (f : OpenFile) (rows : List Row) (g : OpenFile) → FileRun f rows g
+pub lifted-run : (files : List (FitFile Global)) (f : OpenFile) (rows : List Row) (g : OpenFile) → FileRun f rows g
     → Run (record { files = files; current = Some f }) rows (record { files = files; current = Some g })
 unfolding FileRun Run
 lifted-run files f [] g run = ap (λ (x : OpenFile). record { files = files; current = Some x }) run

@@ -6,3 +6,5 @@ pub mod Misfits
 pub mod Progress
 pub mod SoundChain
 pub mod Loose
+pub mod RowReads
+pub mod Judging

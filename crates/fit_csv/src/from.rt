@@ -19,8 +19,8 @@ mod number;
 mod open_definition;
 mod open_file;
 mod open_message;
-mod plain;
 mod ranges;
+mod reader;
 mod text;
 mod window;
 
@@ -55,7 +55,7 @@ fn convert<S: Source, K: Sink>(alloc: Global, source: &mut S, sink: &mut K) -> R
     faults_are_exact::<Global>();
     let text = read_text(alloc, source)?;
     let files = judge(alloc, text.as_slice())?;
-    match write_spelled(sink, files.as_slice()) {
+    match write_spelled(sink, &files) {
         Ok(()) => Ok(()),
         Err(fault) => Err(from_fault(fault)),
     }

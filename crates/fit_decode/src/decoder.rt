@@ -18,7 +18,7 @@ ghost use Rattle.fit_chain.specs.Checks.{AreChain};
 ghost use Rattle.fit_decode.specs.inner.Feeds.{Feeds, TellsItem};
 
 use crate::need::bytes_to_come;
-use crate::section::{Part, Section, Stage, section_of, take_event};
+use crate::section::{Part, Section, Stage, take_event};
 use crate::{Event, Fault, Fed};
 use fit_frame::{HeadReader, Header, Reason};
 use fit_history::History;
@@ -164,13 +164,16 @@ impl<A: Allocator + Copy> Decoder<A> {
         let Section::Data = self.stage.section else {
             return None;
         };
-        let (values, length) = read_message(
+        let Ok(found) = read_message(
             self.alloc,
             &self.env,
             &mut self.position,
             &self.in_progress,
             piece,
-        )?;
+        ) else {
+            return None;
+        };
+        let (values, length) = found?;
         let (whole, _) = piece.split_at(length);
         self.sum.add_all(whole);
         self.history.note(whole);
@@ -193,14 +196,16 @@ impl<A: Allocator + Copy> Decoder<A> {
         let Section::Data = self.stage.section else {
             return None;
         };
-        let (record, size) = read_whole_definition(
+        let Ok(found) = read_whole_definition(
             self.alloc,
             &mut self.env,
             &mut self.position,
             &self.in_progress,
             piece,
-        )?;
-        self.stage.section = section_of(self.position.room);
+        ) else {
+            return None;
+        };
+        let (record, size) = found?;
         let (bytes, _) = piece.split_at(size);
         self.sum.add_all(bytes);
         self.history.note(bytes);
@@ -398,27 +403,34 @@ impl<A: Allocator + Copy> Decoder<A> {
         ensures ended { AreChain A self.now.bytes → result ≡ 0 }
         ensures limit { result ≤ bound_limit }
     {
-        // Every part is named here. The other ones have a fixed size and no memory of their own.
+        // Each field is named here, with its type: these are all that is kept between bytes. Only two of them, the environment
+        // and the record in progress, have memory of their own.
         let Decoder {
+            alloc,
+            reader,
+            sum,
             env,
             in_progress,
-            alloc: _,
-            reader: _,
-            sum: _,
             stage: Stage {
-                files: _,
-                section: _,
-                half: _,
+                files,
+                section,
+                half,
             },
-            position: Position {
-                phase: _,
-                room: _,
-                partial: _,
-            },
-            count: _,
-            refusal: _,
-            history: _,
+            position,
+            count,
+            refusal,
+            history,
         } = self;
+        let _alloc: &A = alloc;
+        let _reader: &HeadReader = reader;
+        let _sum: &Sum = sum;
+        let env: &Env<A> = env;
+        let in_progress: &Option<Record<A>> = in_progress;
+        let (_files, _section, _half): (&u32, &Section, &bool) = (files, section, half);
+        let _position: &Position = position;
+        let _count: &u64 = count;
+        let _refusal: &Option<Reason> = refusal;
+        let _history: &History<u8> = history;
         env.held() + in_progress_size(in_progress)
     }
 }

@@ -72,7 +72,7 @@ pub(crate) struct Stage {
 }
 
 /// The section after which that many bytes of data are to come.
-pub(crate) fn section_of(room: u32) -> Section
+fn section_of(room: u32) -> Section
     ensures { result ≡ section_of room }
 {
     if room == 0 {

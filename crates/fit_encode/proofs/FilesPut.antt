@@ -3,6 +3,8 @@ use Rattle.fit_encode.proofs.Common.{◌≡◌, ℕ, ◌<◌, false, List, [], �
 use Rattle.fit_encode.proofs.Common.{header_bytes, little_bytes, checksum, body, summed, file_bytes, chain_bytes, chain_limit, IsWellFormedChain, StopsAt}
 use Rattle.fit_encode.proofs.Common.{Appends-trans, FitFile, Written, Sending, Spells, Breaks, PutsAll, IsCounted, fresh}
 use Rattle.std.proofs.Common.{◌+◌, ◌^◌, Option, Ok}
+use Rattle.fit_encode.proofs.Common.{Bool, true, arith, length-append}
+use Rattle.std.proofs.Math.Seq.{take-append-add}
 use Rattle.fit_encode.proofs.Lengths.{chain_short, some_file_byte}
 use Rattle.fit_encode.proofs.Sendings.{Appends-as, Breaks-as, Breaks-from, Breaks-more, Breaks-on, IsCounted-as, IsCounted-more, Spells-as, Spells-from}
 use Rattle.fit_encode.proofs.Sendings.{Spells-on, StopsAt-as, all_spelled, next_part_of, parts_of, stops_at, went_out}
@@ -60,3 +62,16 @@ module _ {A : Type 0} (old : Option (List ℕ)) (a b : Written) (fs : List (FitF
       let parts = parts_of file_bytes fs i f f less is in
       StopsAt-as parts (stops_at (flat_map file_bytes (take i fs)) (file_bytes f) (flat_map file_bytes (drop (i + 1) fs)) count
       (subst (λ (x : List ℕ). length x < 2 ^ 64) (sym parts) (chain_short fs good.within good.each)) first.appended first.total broken)
+
+-- ---- bytes in two parts
+
+-- The first part went out, and some bytes of the second one.
+pub second-stops : (before mid after : Option (List ℕ)) {failed : Bool} (front rest all : List ℕ) (n written : ℕ) → front ++ rest ≡ all → n ≡ length front
+    → Appends before mid front → Appends mid after (take written rest) → written < length rest → failed ≡ true → StopsAt before after failed all (n + written)
+second-stops before mid after front rest all n written joined size first second less stopped =
+    let is : take (n + written) all ≡ front ++ take written rest =
+    ap (λ m. take (m + written) all) size ∙ ap (take (length front + written)) (sym joined) ∙ take-append-add front rest written in record {
+      part = omega (arith, ap length joined, length-append front rest, size, less);
+      first = Appends-as _ _ (sym is) (Appends-trans _ _ _ _ _ first second);
+      stopped = stopped;
+    }

@@ -1,12 +1,13 @@
--- Records that are kept as their bytes.
+-- Records and files that are kept as their bytes.
 use Rattle.fit_encode.proofs.Common.{◌≡◌, ◌∙◌, ℕ, ◌<◌, ◌≤◌, Bool, true, false, List, [], ◌∷◌, ◌++◌, length, refl, sym, ap, subst, append_assoc, length-append}
 use Rattle.fit_encode.proofs.Common.{arith, Header, FormFits, HeaderFits, SumIsZero, FitFile, Record, Environment, empty_environment, learn_all, Fits, AllFit}
 use Rattle.fit_encode.proofs.Common.{record_bytes, records_bytes, IsWellFormed, body, TooLong, ZeroIsSum, IsFileFault, all_fit-append}
 use Rattle.std.proofs.Common.{◌+◌, ◌^◌}
 use Rattle.std.specs.Global.{Global}
-use Rattle.fit_encode.specs.inner.Kept.{AreSpelled, AreTooLong}
+use Rattle.fit_encode.proofs.Common.{ap₂, append-nil, checksum, length-little_bytes, little_bytes, summed, header_bytes, file_bytes, chain_bytes}
+use Rattle.fit_encode.specs.inner.Kept.{AreSpelled, AreTooLong, AreWritten, file_of, with_sum}
 use Rattle.fit_encode.proofs.Encoders.{some_byte}
-use Rattle.fit_encode.proofs.FaultSteps.{good_file, zero_fault}
+use Rattle.fit_encode.proofs.FaultSteps.{good_file, last_good, zero_fault}
 use Rattle.fit_encode.proofs.NoFault.{no_excess}
 use Rattle.fit_encode.proofs.RecordSteps.{records_bytes-last}
 
@@ -121,3 +122,37 @@ sum-fault number f h rs n head same all size small zero =
 pub file-good : (f : FitFile Global) (h : Header) (rs : List (Record Global)) (n : ℕ) → h ≡ f.header → rs ≡ f.records → AllFit empty_environment rs
     → n ≡ length (records_bytes empty_environment rs) → HeaderFits h n → IsWellFormed f
 file-good f h rs n head same all size fits = good_file f rs n same all size (subst (λ (x : Header). HeaderFits x n) head fits)
+
+-- ---- files
+
+pub spelled-file : (old new head section : List ℕ) (h : Header) (rs : List (Record Global)) → new ≡ old ++ with_sum (head ++ section)
+    → head ≡ header_bytes h (length (records_bytes empty_environment rs))
+    → (length (records_bytes empty_environment rs) < 2 ^ 32 → section ≡ records_bytes empty_environment rs) → IsWellFormed (file_of h rs)
+    → IsWellFormed (file_of h rs) × (new ≡ old ++ file_bytes (file_of h rs))
+spelled-file old new head section h rs is front rest good =
+    (good, is ∙ ap₂ (λ (a b : List ℕ). old ++ with_sum (a ++ b)) front (rest good.header.data_fits))
+
+chain-more : (fs : List (FitFile Global)) (f : FitFile Global) → chain_bytes (fs ++ f ∷ []) ≡ chain_bytes fs ++ file_bytes f
+chain-more [] f = append-nil (file_bytes f)
+chain-more (x ∷ fs) f =
+    ap (λ (bytes : List ℕ). file_bytes x ++ bytes) (chain-more fs f) ∙ sym (append_assoc (file_bytes x) (chain_bytes fs) (file_bytes f))
+
+-- one more file that can be written
+pub one-more-file : (old new : List ℕ) (f : FitFile Global) (fs : List (FitFile Global)) → AreWritten old fs → IsWellFormed f × (new ≡ old ++ file_bytes f)
+    → length new < 2 ^ 64
+    → AreWritten new (fs ++ f ∷ [])
+one-more-file old new f fs w is short =
+    let sum = little_bytes 2 (checksum (summed f)) in
+    let two : 2 ≤ length (file_bytes f) = omega (arith, length-append (summed f) sum, length-little_bytes 2 (checksum (summed f))) in record {
+      good = last_good fs f w.good is.0;
+      bytes_are = is.1 ∙ ap (λ (bytes : List ℕ). bytes ++ file_bytes f) w.bytes_are ∙ sym (chain-more fs f);
+      few = let few = w.few in omega (arith, few, two, ap length is.1, length-append old (file_bytes f), length-append fs (f ∷ []));
+      short = short;
+    }
+
+-- the bytes of records that may be those of a data section
+pub kept-bytes : (bytes : List ℕ) (count : ℕ) (b : Bool) (items now : List (Record Global)) → AreSpelled bytes count b items → items ≡ now
+    → length (records_bytes empty_environment now) < 2 ^ 32 → bytes ≡ records_bytes empty_environment now
+kept-bytes bytes count b items now h view short =
+    bytes-kept bytes count b items h (subst (λ (rs : List (Record Global)). length (records_bytes empty_environment rs) < 2 ^ 32) (sym view) short)
+    ∙ ap (λ (rs : List (Record Global)). records_bytes empty_environment rs) view

@@ -1,6 +1,7 @@
 //! Writes FIT files: the one spelling of a file, of a chain of files, and record by record.
 #![tactic(auto)]
 
+mod chain_bytes;
 mod check;
 mod encoder;
 mod fault;
@@ -17,6 +18,6 @@ mod write;
 pub use encoder::Encoder;
 pub use fault::EncodeFault;
 pub use sink::{CutSink, Sink, SinkFailed, WriteSink, put_all};
-pub use spelled::{SpelledFile, SpelledRecords};
-pub use spelled_files::write_spelled;
+pub use spelled::SpelledRecords;
+pub use spelled_files::{SpelledFiles, write_spelled};
 pub use write::{write_chain, write_one};

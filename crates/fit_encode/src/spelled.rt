@@ -1,19 +1,20 @@
-//! Records and files that are kept as their bytes.
-ghost use Rattle.std.specs.Prelude.{◌≡◌, ◌+◌, ◌<◌, ◌≤◌, ◌^◌, [], ◌∷◌, ◌++◌, OnOk, OnErr, IfSome, None, length, take};
+//! Records that are kept as their bytes.
+ghost use Rattle.std.specs.Prelude.{◌≡◌, ◌+◌, ◌<◌, ◌≤◌, ◌^◌, [], ◌∷◌, ◌++◌, OnOk, OnErr, IfOk, IfSome, None, length, take};
 ghost use Rattle.fit_record.specs.Environment.{empty_environment, learn_all};
 ghost use Rattle.fit_record.specs.Records.{AllFit, Fits, record_bytes, records_bytes};
-ghost use Rattle.fit_encode.specs.inner.Kept.{AreTooLong};
+ghost use Rattle.fit_encode.specs.inner.Kept.{AreTooLong, with_sum};
 ghost use Rattle.fit_encode.specs.inner.Spelling.{bytes_in_order, IsSpellable};
 
+use crate::chain_bytes::ChainBytes;
 use crate::encoder::order_of;
 use crate::length::definition_length;
 use crate::place::place_record;
 use fit_base::Order;
-use fit_frame::Header;
 use fit_history::History;
 use fit_record::{Env, Record};
 use std::alloc::{AllocError, Global};
 use std::marker::Model;
+use std::mem;
 
 /// The most bytes of a data section.
 const MOST: usize = 0xFFFF_FFFF;
@@ -52,6 +53,40 @@ impl SpelledRecords {
             too_long: false,
             records: History::new(),
         }
+    }
+
+    /// Lets all records go, and keeps their memory for others. Returns what they were.
+    pub(crate) fn let_go(&mut self) -> History<Record>
+        ensures past { result.items ≡ self.old }
+        ensures left { self.new ≡ [] }
+    {
+        self.bytes.clear();
+        self.count = 0;
+        self.too_long = false;
+        mem::replace(&mut self.records, History::new())
+    }
+
+    /// Puts a header, the bytes of the records, and the checksum of both after other bytes, and lets the records go. Returns what they
+    /// were. Out of memory, nothing changes.
+    pub(crate) fn put_after(
+        &mut self,
+        bytes: &mut ChainBytes,
+        head: &[u8],
+    ) -> Result<History<Record>, AllocError>
+        requires head { 0 < length head.now }
+        requires short { length (records_bytes empty_environment self.old) < 2 ^ 32 }
+        ensures ok { OnOk result (bytes.new ≡ bytes.old
+            ++ with_sum (head.now ++ records_bytes empty_environment self.old)) }
+        ensures few { OnOk result (length bytes.new < 2 ^ 64) }
+        ensures past { IfOk result (λ past. past.items ≡ self.old) }
+        ensures left { OnOk result (self.new ≡ []) }
+        ensures err { OnErr result (bytes.new ≡ bytes.old) }
+        ensures kept { OnErr result (self.new ≡ self.old) }
+    {
+        bytes.push(head, &mut self.bytes)?;
+        self.count = 0;
+        self.too_long = false;
+        Ok(mem::replace(&mut self.records, History::new()))
     }
 
     /// Puts a record at the end. It has to fit after the records before it, and `env` is what they have defined. Out of memory,
@@ -145,44 +180,5 @@ fn make_room(bytes: &mut Vec<u8>, size: usize) -> Result<(), AllocError>
         bytes.extend_from_slice(&[0; 64])
     } else {
         bytes.resize(bytes.len() + size + 8, 0)
-    }
-}
-
-/// A file, of which the records are kept as their bytes.
-#[derive(Drop)]
-pub struct SpelledFile {
-    header: Header,
-    records: SpelledRecords,
-}
-
-impl Model for SpelledFile {
-    ghost use Rattle.std.specs.declared.alloc.Global.{Global};
-    ghost use Rattle.fit_record.specs.declared.file.FitFile.{FitFile};
-
-    ghost Value = { FitFile Global };
-
-    ghost view = { λ s. record { header = s.header; records = s.records } };
-}
-
-impl SpelledFile {
-    /// The file with this header and these records.
-    pub fn new(header: Header, records: SpelledRecords) -> SpelledFile
-        ensures { result ≡ record { header = header; records = records } }
-    {
-        SpelledFile { header, records }
-    }
-
-    /// The header.
-    pub(crate) fn header(&self) -> &Header
-        ensures { result.now ≡ self.now.header }
-    {
-        &self.header
-    }
-
-    /// The records.
-    pub(crate) fn records(&self) -> &SpelledRecords
-        ensures { result.now ≡ self.now.records }
-    {
-        &self.records
     }
 }

@@ -209,7 +209,7 @@ impl Spelling {
 }
 
 /// The bytes of a checksum, the lowest first.
-fn sum_bytes(sum: u16) -> [u8; 2]
+pub(crate) fn sum_bytes(sum: u16) -> [u8; 2]
     ensures { result ≡ little_bytes 2 sum }
 {
     sum.to_le_bytes()

@@ -5,7 +5,10 @@ use Rattle.fit_profile.proofs.Common.{FieldDef, Items, first_field, drop_of_leng
 use Rattle.std.proofs.Common.{◌==◌, set, option_map}
 use Rattle.std.proofs.lemmas.Grind.{get_or-set_at}
 use Rattle.std.proofs.lemmas.List.{get_or-set_other}
-use Rattle.fit_profile.specs.inner.Places.{both_at, place_from}
+use Rattle.std.specs.List.{list_any}
+use Rattle.std.specs.Prelude.{Bool, true, false, not, slice_index_or, ◌||◌}
+use Rattle.fit_profile.specs.Accumulated.{is_counter}
+use Rattle.fit_profile.specs.inner.Places.{AreFieldPlaces, both_at, place_from}
 
 pub absent : {A : Type 0} (fields : List FieldDef) (items : List (Items A)) (number from : ℕ) → place_from from fields number ≡ 0
     → first_field fields items number ≡ None
@@ -63,3 +66,39 @@ put-before fields places d place h within before n small =
 -- after the last field there is none
 pub none-after : (fields : List FieldDef) (from number : ℕ) → length fields ≤ from → place_from from (drop from fields) number ≡ 0
 none-after fields from number h = ap (λ fs. place_from from fs number) (drop_of_length-le fields h)
+
+-- whether there is a field of this number
+has : ℕ → List FieldDef → ℕ → Bool
+has from fields number = not (place_from from fields number == 0)
+
+has-more : (f : FieldDef) (fields : List FieldDef) (from number : ℕ) → has from (f ∷ fields) number ≡ (f.number == number || has (from + 1) fields number)
+unfolding has
+has-more f fields from number = elim (cases_Bool (f.number == number)) [
+  | inl same ↦ let some : (from + 1 == 0) ≡ false = ne_eqb (from + 1) 0 (λ e. absurd (omega (arith, e))) in rw (same, some) refl
+  | inr other ↦ rw other refl
+]
+
+shuffled : (a b c x y z : Bool) → ((a || b || c) || (x || y || z)) ≡ ((a || x) || (b || y) || (c || z))
+shuffled true b c x y z = refl
+shuffled false true c true y z = refl
+shuffled false true c false y z = refl
+shuffled false false true true y z = refl
+shuffled false false true false true z = refl
+shuffled false false true false false z = refl
+shuffled false false false x y z = refl
+
+counted : (fields : List FieldDef) (from : ℕ)
+    → list_any (λ f. is_counter f.number) fields ≡ (has from fields 8 || has from fields 18 || has from fields 28)
+unfolding has
+counted [] from = refl
+counted (f ∷ fields) from =
+    rw (has-more f fields from 8, has-more f fields from 18, has-more f fields from 28, counted fields (from + 1))
+    (shuffled (f.number == 8) (f.number == 18) (f.number == 28) (has (from + 1) fields 8) (has (from + 1) fields 18) (has (from + 1) fields 28))
+
+-- whether there are counters, by the places of all numbers
+pub counters-placed : (places : List ℕ) (fields : List FieldDef) → AreFieldPlaces places fields
+    → list_any (λ f. is_counter f.number) fields
+    ≡ (not (slice_index_or places 8 0 == 0) || not (slice_index_or places 18 0 == 0) || not (slice_index_or places 28 0 == 0))
+unfolding has
+counters-placed places fields placed =
+    rw (placed 8 (omega arith), placed 18 (omega arith), placed 28 (omega arith)) (counted fields 0)

@@ -3,7 +3,8 @@ use Rattle.fit_profile.proofs.Common.{◌≡◌, ◌∙◌, ℕ, List, [], ◌�
 use Rattle.fit_profile.proofs.Common.{option_and_then, unwrap_or, if◌then◌else◌, reverse-append, MessageDef, dev_defs, description, Naming, nameless, naming}
 use Rattle.fit_profile.proofs.Common.{naming_by, naming_after, namings_after, naming_of, KeepsRecords, described, is_key, naming_in, namings_in, none-some}
 use Rattle.fit_profile.proofs.Common.{same_Some, Defined, Values, Record, Environment, empty_environment, defined_at, describe, described_by, learn, Fits}
-use Rattle.fit_profile.proofs.Common.{DataFits, known}
+use Rattle.fit_profile.proofs.Common.{Bool, true, zero, suc, get_or, DataFits, known}
+use Rattle.std.proofs.Common.{replicate}
 use Rattle.fit_profile.proofs.Common.{told, told_at, told_of, tell, last_of, last_after}
 use Rattle.std.proofs.Common.{option_map}
 use Rattle.std.specs.Prelude.{◌==◌, ◌&&◌}
@@ -173,6 +174,18 @@ keeps-next e e' l l' n n' items now r k view env last naming namings =
 pub kept-record : {A : Type 0} {e : Environment A} {l : Last} {n : Names A} {xs : List (Record A)} (now : List (Record A)) (r : Record A) (bytes : List ℕ)
     → KeepsRecords e l n xs → xs ≡ now → IsRecord (known now) r bytes → IsRecord e r bytes
 kept-record now r bytes k view is = subst (λ e. IsRecord e r bytes) (sym (k.env_is ∙ ap known view)) is
+
+none-defined : {A : Type 0} (n local : ℕ) (v : Values A) → IsSomeAnd (get_or (replicate n None) local None) (DataFits v) → ⊥
+none-defined zero local v h = h
+none-defined (suc n) zero v h = h
+none-defined (suc n) (suc local) v h = none-defined n local v h
+
+-- a data message fits only after its definition, so it isn't the first record of a file
+pub not-first : {A : Type 0} (is_new : Bool) (items items' now : List (Record A)) (e : Environment A) (r : Record A) → (is_new ≡ true → items ≡ [])
+    → reverse items ≡ now → Fits (known now) r → DescribesNothing e r → is_new ≡ true → items' ≡ []
+not-first is_new items items' now e (Define d) new view fits none is = absurd none
+not-first is_new items items' now e (Data v) new view fits none is =
+    absurd (none-defined 16 v.local v (subst (λ ys. Fits (known ys) (Data v)) (sym view ∙ ap reverse (new is)) fits))
 
 no-naming : {A : Type 0} (v : Values A) (o : Option (Defined A)) (index number : ℕ) (before : Naming)
     → option_and_then (λ p. description p.definition v) o ≡ None

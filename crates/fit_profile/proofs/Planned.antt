@@ -1,7 +1,9 @@
 -- Each definition in its place has its plan.
-use Rattle.fit_profile.proofs.Common.{◌≡◌, ℕ, zero, suc, List, [], ◌∷◌, length, get_or, arith, reverse, subst, sym, ap, ◌∙◌, Option, Some, None, none-some}
+use Rattle.fit_profile.proofs.Common.{◌≡◌, ℕ, zero, suc, List, [], ◌∷◌, ◌++◌, ◌<◌, ◌≤◌, length, take}
+use Rattle.fit_profile.proofs.Common.{get_or, refl, arith, reverse, subst, sym, ap, ◌∙◌, Option, Some, None, none-some}
 use Rattle.fit_profile.proofs.Common.{Defined, Record, Environment, empty_environment, known}
 use Rattle.std.specs.Prelude.{slice_index_or}
+use Rattle.std.proofs.lemmas.List.{take_all}
 use Rattle.std.proofs.Common.{set, replicate}
 use Rattle.fit_record.proofs.SixteenPlaces.{sixteen_places}
 use Rattle.std.specs.Global.{Global}
@@ -24,14 +26,33 @@ planned_new plans e none empty local =
 
 -- a definition and its plan take their places
 pub planned_set : (plans : List (Option Plan)) (places : List (Option (Defined Global))) (local : ℕ) (plan : Plan) (p : Defined Global)
-    → length plans ≡ length places → ArePlanned plans places → IsPlan plan p.definition → ArePlanned (set plans local (Some plan)) (set places local (Some p))
-planned_set [] [] local plan p e k s i = tt
-planned_set [] (q ∷ places) local plan p e k s i = absurd (omega arith)
-planned_set (q ∷ plans) [] local plan p e k s i = absurd (omega arith)
-planned_set (q ∷ plans) (m ∷ places) zero plan p e k s zero = s
-planned_set (q ∷ plans) (m ∷ places) zero plan p e k s (suc i) = k (suc i)
-planned_set (q ∷ plans) (m ∷ places) (suc local) plan p e k s zero = k zero
-planned_set (q ∷ plans) (m ∷ places) (suc local) plan p e k s (suc i) = planned_set plans places local plan p (omega arith) (λ j. k (suc j)) s i
+    → local < length plans → local < length places → ArePlanned plans places → IsPlan plan p.definition
+    → ArePlanned (set plans local (Some plan)) (set places local (Some p))
+planned_set [] places local plan p a b k s i = absurd (omega arith)
+planned_set (q ∷ plans) [] local plan p a b k s i = absurd (omega arith)
+planned_set (q ∷ plans) (m ∷ places) zero plan p a b k s zero = s
+planned_set (q ∷ plans) (m ∷ places) zero plan p a b k s (suc i) = k (suc i)
+planned_set (q ∷ plans) (m ∷ places) (suc local) plan p a b k s zero = k zero
+planned_set (q ∷ plans) (m ∷ places) (suc local) plan p a b k s (suc i) =
+    planned_set plans places local plan p (omega arith) (omega arith) (λ j. k (suc j)) s i
+
+-- plans that are the same at each place
+pub planned_same : (plans plans' : List (Option Plan)) (places : List (Option (Defined Global)))
+    → ((local : ℕ) → slice_index_or plans' local None ≡ slice_index_or plans local None) → ArePlanned plans places → ArePlanned plans' places
+planned_same plans plans' places same k local = subst (λ p. IsPlanned p (slice_index_or places local None)) (sym (same local)) (k local)
+
+more-none : (n : ℕ) (plans : List (Option Plan)) (local : ℕ) → get_or (plans ++ replicate n None) local None ≡ get_or plans local None
+more-none zero [] local = refl
+more-none (suc n) [] zero = refl
+more-none (suc n) [] (suc local) = more-none n [] local
+more-none n (plan ∷ plans) zero = refl
+more-none n (plan ∷ plans) (suc local) = more-none n plans local
+
+-- places that hold no plan may stand after the others
+pub filled : (old new : List (Option Plan)) (m n : ℕ) → length old ≤ m → new ≡ take m old ++ replicate n None → (local : ℕ)
+    → slice_index_or new local None ≡ slice_index_or old local None
+filled old new m n short is local =
+    ap (λ plans. slice_index_or plans local None) (is ∙ ap (λ plans. plans ++ replicate n None) (take_all m old short)) ∙ more-none n old local
 
 -- the environment of a file's records has sixteen places
 pub sixteen_of : (e : Environment Global) (records : List (Record Global)) → e ≡ known (reverse records) → length e.places ≡ 16

@@ -1,13 +1,16 @@
 //! The counters of record messages in the bytes of their fields: where they stand, and the numbers there.
-ghost use Rattle.std.specs.Prelude.{◌≡◌, ◌==◌, ◌&&◌, ◌≤◌, ◌<◌, ◌+◌, ◌*◌, ◌/◌, ℕ, List, IfSome, length};
+ghost use Rattle.std.specs.Prelude.{◌≡◌, ◌==◌, ◌&&◌, ◌||◌, ◌≤◌, ◌<◌, ◌+◌, ◌*◌, ◌/◌, ℕ, List, IfSome, length, not, slice_index_or};
+ghost use Rattle.std.specs.List.{list_any};
 ghost use Rattle.fit_base.specs.BaseTypes.{item_width};
 ghost use Rattle.fit_base.specs.declared.number.Order.{Order};
 ghost use Rattle.fit_record.specs.Records.{sizes};
 ghost use Rattle.fit_profile.specs.Accumulated as sums;
+ghost use Rattle.fit_profile.specs.Accumulated.{is_counter};
 ghost use Rattle.fit_profile.specs.inner.Counters.{ArePlacesOf, IsPlaceOf, counting, number_at, number_of_fields};
 ghost use Rattle.fit_profile.specs.inner.InBytes.{slots};
+ghost use Rattle.fit_profile.specs.inner.Places.{AreFieldPlaces};
 
-use crate::component::{Component, may_count};
+use crate::component::Component;
 use crate::message_number::RECORD;
 use crate::told::{ACCUMULATED_POWER, DISTANCE, TOTAL_CYCLES};
 use fit_base::{Code, Order, bits_at, width_of};
@@ -75,13 +78,34 @@ fn counting(c: Component, number: u64) -> Option<u64>
     }
 }
 
+/// Whether one of the fields that have these places has the number of a counter's field.
+#[inline(always)]
+fn have_counter_by(places: &[u8; 256]) -> bool
+    ensures { result ≡ (not (slice_index_or places.now 8 0 == 0)
+        || not (slice_index_or places.now 18 0 == 0) || not (slice_index_or places.now 28 0 == 0)) }
+{
+    places[8] != 0 || places[18] != 0 || places[28] != 0
+}
+
+/// Whether messages of this definition may have counters, by the places of its fields. Most have none.
+#[inline(always)]
+pub(crate) fn may_count_by(definition: &MessageDef, places: &[u8; 256]) -> bool
+    requires { AreFieldPlaces places.now definition.now.fields }
+    ensures { result ≡ (definition.now.global == 20
+        && list_any (λ f. is_counter f.number) definition.now.fields) }
+{
+    definition.global == RECORD && have_counter_by(places)
+}
+
 impl CounterPlaces {
-    /// Those of a definition. Most have none of the fields, and one look at these says so for all counters.
-    pub fn of(definition: &MessageDef) -> CounterPlaces
-        requires { length definition.now.fields < 256 }
+    /// Those of a definition whose messages may have counters, or have none.
+    pub fn of(definition: &MessageDef, may_count: bool) -> CounterPlaces
+        requires few { length definition.now.fields < 256 }
+        requires counts { may_count ≡ (definition.now.global == 20
+            && list_any (λ f. is_counter f.number) definition.now.fields) }
         ensures { ArePlacesOf result definition.now }
     {
-        if !may_count(definition) {
+        if !may_count {
             return CounterPlaces {
                 distance: None,
                 cycles: None,

@@ -237,7 +237,7 @@ impl<'a> Message<'a> {
         values: &'a Values,
     ) -> Message<'a>
         requires defined { IsSome (defined_at env.now values.now.local) }
-        requires plans { ArePlanned plans.now.places env.now.places }
+        requires plans { ArePlanned plans.now.places.items env.now.places }
         ensures { Shows env.now names.now told values.now (shown result) }
     {
         match (env.defined(values.local), plans.at(values.local)) {

@@ -68,7 +68,7 @@ fn told_of_message(last: Last, plan: &Plan, message: &MessageBytes<'_>) -> Told
 /// The plan of the definition of a message.
 #[inline(always)]
 fn plan_of<'a>(plans: &'a Plans, message: &MessageBytes<'_>) -> &'a Plan
-    requires { IsPlanned (slice_index_or plans.now.places message.now.local None)
+    requires { IsPlanned (slice_index_or plans.now.places.items message.now.local None)
         (Some message.now.defined.now) }
     ensures { IsPlan result.now message.now.defined.now.definition }
 {
@@ -80,7 +80,7 @@ fn plan_of<'a>(plans: &'a Plans, message: &MessageBytes<'_>) -> &'a Plan
 
 /// The time of the data message that the bytes are, by the last time before it.
 pub(crate) fn time_in(env: &Env, plans: &Plans, previous: Option<u32>, bytes: &[u8]) -> Option<u32>
-    requires plans { ArePlanned plans.now.places env.now.places }
+    requires plans { ArePlanned plans.now.places.items env.now.places }
     requires message { (v : Values Global) × IsRecord env.now (Data v) bytes.now }
     ensures { (v : Values Global) → IsRecord env.now (Data v) bytes.now
         → result ≡ times.time_of env.now previous (Data v) }
@@ -96,7 +96,7 @@ pub(crate) fn speed_and_distance(
     last: Last,
     bytes: &[u8],
 ) -> (Option<u64>, Option<u64>)
-    requires plans { ArePlanned plans.now.places env.now.places }
+    requires plans { ArePlanned plans.now.places.items env.now.places }
     requires message { (v : Values Global) × IsRecord env.now (Data v) bytes.now }
     ensures { (v : Values Global) → IsRecord env.now (Data v) bytes.now
         → IsSomeAnd (telling.tell env.now last (Data v))
@@ -146,7 +146,7 @@ pub(crate) fn take_plain(
     records: &mut History<Record>,
     bytes: &[u8],
 ) -> bool
-    requires plans { ArePlanned plans.now.places env.now.places }
+    requires plans { ArePlanned plans.now.places.items env.now.places }
     requires message { (v : Values Global) × IsRecord env.now (Data v) bytes.now }
     ensures last { result ≡ true → (v : Values Global) → IsRecord env.now (Data v) bytes.now
         → last.new ≡ telling.last_after last.old (telling.tell env.now last.old (Data v)) }

@@ -71,7 +71,7 @@ fn times_of_values(
     last: Last,
     values: &Values,
 ) -> Option<(Option<u32>, Option<u32>)>
-    requires { ArePlanned plans.now.places env.now.places }
+    requires { ArePlanned plans.now.places.items env.now.places }
     ensures told { IfSome result (λ t.
         Some (times_alone t.0 t.1) ≡ telling.tell env.now last (Data values.now)) }
     ensures nothing { IfSome result (λ _. described_by env.now values.now ≡ None) }
@@ -93,7 +93,7 @@ pub(crate) fn tell_times(
     last: Last,
     record_: &Record,
 ) -> Option<(Option<u32>, Option<u32>)>
-    requires { ArePlanned plans.now.places env.now.places }
+    requires { ArePlanned plans.now.places.items env.now.places }
     ensures told { IfSome result (λ t.
         Some (times_alone t.0 t.1) ≡ telling.tell env.now last record_.now) }
     ensures nothing { IfSome result (λ _. DescribesNothing env.now record_.now) }
@@ -120,7 +120,7 @@ fn told_by(last: Last, plan: &Plan, definition: &MessageDef, values: &Values) ->
 /// What is told of a data message by the last ones before it. None where it describes a developer field.
 #[inline(always)]
 fn tell_values(env: &Env, plans: &Plans, last: Last, values: &Values) -> Option<Told>
-    requires { ArePlanned plans.now.places env.now.places }
+    requires { ArePlanned plans.now.places.items env.now.places }
     ensures told { IfSome result (λ t. Some t ≡ telling.tell env.now last (Data values.now)) }
     ensures nothing { IfSome result (λ _. described_by env.now values.now ≡ None) }
 {
@@ -135,7 +135,7 @@ fn tell_values(env: &Env, plans: &Plans, last: Last, values: &Values) -> Option<
 /// What is told of a record by the last ones before it. None of a definition, and where it describes a developer field.
 #[inline(always)]
 pub(crate) fn tell_plain(env: &Env, plans: &Plans, last: Last, record_: &Record) -> Option<Told>
-    requires { ArePlanned plans.now.places env.now.places }
+    requires { ArePlanned plans.now.places.items env.now.places }
     ensures told { IfSome result (λ t. Some t ≡ telling.tell env.now last record_.now) }
     ensures nothing { IfSome result (λ _. DescribesNothing env.now record_.now) }
 {

@@ -1,22 +1,24 @@
 //! What is found out once of a definition, so that a stream takes in its data messages quickly, as records or by their bytes.
-ghost use Rattle.std.specs.Prelude.{◌≡◌, ◌≤◌, ◌<◌, ◌+◌, ℕ, List, IfSome, length, None, option_copied, slice_index_or, slice_set, Some};
+ghost use Rattle.std.specs.Prelude.{◌≡◌, ◌==◌, ◌&&◌, ◌≤◌, ◌<◌, ◌+◌, ℕ, List, IfSome, IsOk, OnOk, length, None, option_copied, slice_index_or, slice_set, Some};
+ghost use Rattle.std.specs.List.{list_any};
 ghost use Rattle.fit_base.specs.declared.number.Order.{Order};
-ghost use Rattle.fit_record.specs.Environment.{Environment, learn};
+ghost use Rattle.fit_record.specs.Environment.{DescribesNothing, Environment, learn};
 ghost use Rattle.fit_record.specs.Records.{Fits, sizes};
-ghost use Rattle.fit_profile.specs.Accumulated.{tells_more};
+ghost use Rattle.fit_profile.specs.Accumulated.{is_counter, tells_more};
 ghost use Rattle.fit_profile.specs.inner.InBytes.{slots};
+ghost use Rattle.fit_profile.specs.inner.Places.{AreFieldPlaces};
 ghost use Rattle.fit_profile.specs.inner.Plans as plans;
-ghost use Rattle.fit_profile.specs.inner.Plans.{ArePlanned, IsPlan};
+ghost use Rattle.fit_profile.specs.inner.Plans.{ArePlanned, HasRoomFor, IsPlan};
 ghost use Rattle.std.specs.Global.{Global};
 
-use crate::component::may_count;
-use crate::counter_places::CounterPlaces;
+use crate::counter_places::{CounterPlaces, may_count_by};
 use crate::field_number::TIMESTAMP;
 use crate::places::places_of;
 use crate::time::valid_time;
 use fit_base::base_type::UINT32;
 use fit_base::{Order, bits_at};
 use fit_record::{FIELD_DESCRIPTION, FieldDef, MessageDef, Record};
+use std::alloc::{AllocError, Global};
 
 /// How the data messages of a definition are taken in.
 #[derive(Clone, Copy)]
@@ -33,13 +35,17 @@ pub(crate) struct Plan {
     pub places: [u8; 256],
 }
 
-/// Where the bytes of the timestamp begin in those of fields.
-fn time_place(fields: &[FieldDef]) -> Option<u16>
-    requires { length fields.now < 256 }
+/// Where the bytes of the timestamp begin in those of fields that have these places.
+fn time_place(fields: &[FieldDef], places: &[u8; 256]) -> Option<u16>
+    requires few { length fields.now < 256 }
+    requires places { AreFieldPlaces places.now fields.now }
     ensures within { IfSome result (λ p. p + 4 ≤ sizes (slots fields.now)) }
     ensures time { (order : Order) (bytes : List ℕ)
         → plans.time_of_fields order fields.now bytes ≡ plans.time_at order result bytes }
 {
+    if places[TIMESTAMP as usize] == 0 {
+        return None;
+    }
     let mut place = 0;
     for field in fields {
         if field.number == TIMESTAMP {
@@ -53,11 +59,13 @@ fn time_place(fields: &[FieldDef]) -> Option<u16>
     None
 }
 
-/// Whether messages of this definition tell more than times.
-fn tells_more(definition: &MessageDef) -> bool
+/// Whether messages of this definition, which may have counters or not, tell more than times.
+fn tells_more(definition: &MessageDef, may_count: bool) -> bool
+    requires { may_count ≡ (definition.now.global == 20
+        && list_any (λ f. is_counter f.number) definition.now.fields) }
     ensures { result ≡ tells_more definition.now }
 {
-    definition.global == FIELD_DESCRIPTION || may_count(definition)
+    definition.global == FIELD_DESCRIPTION || may_count
 }
 
 impl Plan {
@@ -66,12 +74,15 @@ impl Plan {
         requires { length definition.now.fields < 256 }
         ensures { IsPlan result definition.now }
     {
+        let fields = definition.fields.as_slice();
+        let places = places_of(fields);
+        let may_count = may_count_by(definition, &places);
         Plan {
-            tells_more: tells_more(definition),
+            tells_more: tells_more(definition, may_count),
             describes: definition.global == FIELD_DESCRIPTION,
-            time_place: time_place(definition.fields.as_slice()),
-            counters: CounterPlaces::of(definition),
-            places: places_of(definition.fields.as_slice()),
+            time_place: time_place(fields, &places),
+            counters: CounterPlaces::of(definition, may_count),
+            places,
         }
     }
 
@@ -87,25 +98,40 @@ impl Plan {
     }
 }
 
+/// Makes places for sixteen plans, where there are none.
+fn fill(places: &mut Vec<Option<Plan>>) -> Result<(), AllocError>
+    ensures same { (local : ℕ) → slice_index_or places.new.items local None
+        ≡ slice_index_or places.old.items local None }
+    ensures room { OnOk result (16 ≤ length places.new.items) }
+{
+    if places.len() < 16 {
+        places.resize(16, None)?;
+    }
+    Ok(())
+}
+
 /// Those of the definitions of the sixteen local message types.
 #[derive(Drop)]
 pub(crate) struct Plans {
-    pub places: [Option<Plan>; 16],
+    /// Sixteen from the first definition on, and before it none.
+    pub places: Vec<Option<Plan>>,
 }
 
 impl Plans {
     /// Nothing is defined.
-    pub fn new() -> Plans
-        ensures { (local : ℕ) → slice_index_or result.places local None ≡ None }
+    pub fn new(alloc: Global) -> Plans
+        ensures { (local : ℕ) → slice_index_or result.places.items local None ≡ None }
     {
-        Plans { places: [None; 16] }
+        Plans {
+            places: Vec::new(alloc),
+        }
     }
 
     /// Nothing is defined any more. A plan is large, so only those that are there are let go.
     pub fn clear(&mut self)
-        ensures { (local : ℕ) → slice_index_or self.new.places local None ≡ None }
+        ensures { (local : ℕ) → slice_index_or self.new.places.items local None ≡ None }
     {
-        for local in 0..16 {
+        for local in 0..self.places.len() {
             if self.places[local].is_some() {
                 self.places[local] = None;
             }
@@ -115,27 +141,40 @@ impl Plans {
     /// That of a local message type.
     #[inline(always)]
     pub fn at(&self, local: u8) -> Option<&Plan>
-        ensures { option_copied result ≡ slice_index_or self.now.places local None }
+        ensures { option_copied result ≡ slice_index_or self.now.places.items local None }
     {
-        let place = self.places.get(local as usize)?;
+        let place = self.places.as_slice().get(local as usize)?;
         place.as_ref()
     }
 
     /// Puts a plan in its place.
     fn put(&mut self, local: u8, plan: Plan)
-        requires { local < 16 }
-        ensures place { self.new.places ≡ slice_set self.old.places local (Some plan) }
-        ensures length { length self.old.places ≡ 16 }
+        requires { local < length self.old.places.items }
+        ensures { self.new.places.items ≡ slice_set self.old.places.items local (Some plan) }
     {
         self.places[local as usize] = Some(plan);
     }
 
+    /// Takes memory for a record that will be taken in. No plan changes, and a data message takes none.
+    pub fn make_room(&mut self, record_: &Record) -> Result<(), AllocError>
+        ensures same { (local : ℕ) → slice_index_or self.new.places.items local None
+            ≡ slice_index_or self.old.places.items local None }
+        ensures room { OnOk result (HasRoomFor self.new.places.items record_.now) }
+        ensures free { (e : Environment Global) → DescribesNothing e record_.now → IsOk result }
+    {
+        match record_ {
+            Record::Define(_) => fill(&mut self.places),
+            Record::Values(_) => Ok(()),
+        }
+    }
+
     /// Takes a record in.
     pub fn take(&mut self, record_: &Record)
-        requires { (e : Environment Global) × Fits e record_.now }
+        requires fits { (e : Environment Global) × Fits e record_.now }
+        requires room { HasRoomFor self.old.places.items record_.now }
         ensures { (e : Environment Global) → length e.places ≡ 16
-            → ArePlanned self.old.places e.places
-            → ArePlanned self.new.places (learn e record_.now).places }
+            → ArePlanned self.old.places.items e.places
+            → ArePlanned self.new.places.items (learn e record_.now).places }
     {
         match record_ {
             Record::Define(definition) => self.put(definition.local, Plan::of(definition)),

@@ -47,12 +47,14 @@ pub struct Stream {
     plans: Plans,
     last: Last,
     names: Names,
+    /// No record has come since the file began, so there is nothing to let go where the next one begins.
+    is_new: bool,
     pushed: History<Record>,
     alloc: Global,
 }
 
 impl Model for Stream {
-    ghost use Rattle.std.specs.Prelude.{List, reverse};
+    ghost use Rattle.std.specs.Prelude.{◌≡◌, [], List, reverse, true};
     ghost use Rattle.std.specs.declared.alloc.Global.{Global};
     ghost use Rattle.fit_record.specs.declared.message.Record.{Record};
     ghost use Rattle.fit_profile.specs.inner.Keeps.{KeepsRecords};
@@ -63,7 +65,7 @@ impl Model for Stream {
     ghost view = { λ s. reverse s.pushed.items };
 
     ghost invariant = { λ s. KeepsRecords s.env s.last s.names (reverse s.pushed.items)
-        × ArePlanned s.plans.places s.env.places };
+        × ArePlanned s.plans.places.items s.env.places × (s.is_new ≡ true → s.pushed.items ≡ []) };
 }
 
 const NOTHING: Last = Last {
@@ -80,9 +82,10 @@ impl Stream {
     {
         Stream {
             env: Env::new(alloc),
-            plans: Plans::new(),
+            plans: Plans::new(alloc),
             last: NOTHING,
             names: Names::new(alloc),
+            is_new: true,
             pushed: History::new(),
             alloc,
         }
@@ -92,10 +95,14 @@ impl Stream {
     pub fn begin_file(&mut self)
         ensures { self.new ≡ [] }
     {
+        if self.is_new {
+            return;
+        }
         self.env = Env::new(self.alloc);
         self.plans.clear();
         self.last = NOTHING;
         self.names = Names::new(self.alloc);
+        self.is_new = true;
         self.pushed = History::new();
     }
 
@@ -192,9 +199,11 @@ impl Stream {
         ensures err { OnErr result (self.new ≡ self.old) }
         ensures free { DescribesNothing (known self.old) record_.now → IsOk result }
     {
+        self.plans.make_room(record_)?;
         take_in(&mut self.env, &mut self.names, record_)?;
         self.plans.take(record_);
         self.last = last;
+        self.is_new = false;
         self.pushed.add(record_);
         Ok(())
     }

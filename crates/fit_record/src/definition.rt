@@ -129,10 +129,17 @@ pub(crate) fn are_same<A: Allocator>(a: &MessageDef<A>, b: &MessageDef<A>) -> bo
 }
 
 /// Whether two lists of fields are the same.
-fn same_fields(a: &[FieldDef], b: &[FieldDef]) -> bool
+fn all_same(a: &[FieldDef], b: &[FieldDef]) -> bool
     ensures { IsTrue result → a.now ≡ b.now }
 {
     a == b
+}
+
+/// Whether two lists of fields are the same. Where they differ, the last one mostly does, so it is compared first.
+fn same_fields(a: &[FieldDef], b: &[FieldDef]) -> bool
+    ensures { IsTrue result → a.now ≡ b.now }
+{
+    a.last() == b.last() && all_same(a, b)
 }
 
 /// The same definition, in memory of its own.

@@ -1,10 +1,13 @@
 -- Numbers put one after another, with a bar between one and the next.
-use Rattle.fit_rows.proofs.Common.{◌≡◌, ◌∙◌, ◌+◌, ◌++◌, ◌∷◌, [], zero, suc, map, take, drop, flat_map, refl, sym, ap, add-one, append_assoc, Order}
+use Rattle.fit_rows.proofs.Common.{◌≡◌, ◌∙◌, ◌+◌, ◌%◌, ◌++◌, ◌∷◌, [], inl, inr, zero}
+use Rattle.fit_rows.proofs.Common.{suc, map, take, drop, flat_map, refl, sym, ap, add-one, append_assoc, Order}
 use Rattle.std.proofs.Common.{ℕ, List}
 use Rattle.std.proofs.lemmas.List.{append-nil}
 use Rattle.fit_base.specs.Numbers.{number}
 use Rattle.fit_cells.specs.Cells.{barred}
+use Rattle.fit_cells.specs.Forms.{IsSmallForm}
 use Rattle.fit_cells.specs.Steps.{bar}
+use Rattle.fit_cells.specs.declared.form.NumberForm.{NumberForm}
 use Rattle.fit_record.specs.ReadMessages.{numbers_of}
 
 -- texts that come after that many others
@@ -38,3 +41,11 @@ pub numbers_put : (item : ℕ → List ℕ) (o : Order) (w place n : ℕ) (rest 
     → text ++ barred_from place (map item (numbers_of o w n rest)) ≡ whole → text ≡ whole
 numbers_put item o w place n rest text whole none_left told =
     sym (ap (λ k. text ++ barred_from place (map item (numbers_of o w k rest))) none_left ∙ ap (λ t. text ++ t) (none place) ∙ append-nil text) ∙ told
+
+-- a number that is as wide as its field fills it
+pub lone_fills : (size : ℕ) (f : NumberForm) → IsSmallForm f → f.width ≡ size → size % f.width ≡ 0
+lone_fills size f small same = rw (sym same) (elim small.width [
+  | inl one ↦ rw one refl
+  | inr (inl two) ↦ rw two refl
+  | inr (inr four) ↦ rw four refl
+])

@@ -1,5 +1,6 @@
 -- The numbers of the table by the places of their fields in the bytes of a message.
 use Rattle.fit_rows.proofs.Common.{◌≡◌, ◌∙◌, ◌+◌, ◌-◌, ◌/◌, ◌^◌, ◌≤◌, suc, Bool, true, false, length, take, drop, get_or, refl, sym, ap, subst}
+use Rattle.fit_rows.proofs.Common.{[], ◌∷◌, ◌||◌}
 use Rattle.fit_rows.proofs.Common.{arith, add-one, eq-eqb, inl, inr, ◌&&◌, not, nat_lt, option_and_then, slice_get, IsSomeAnd, Global, cases_Bool, ne_eqb}
 use Rattle.fit_rows.proofs.Common.{Items, Order, base_type, item_width, twos_complement, FieldDef, MessageDef, Values, first_field, field, Meaning}
 use Rattle.fit_rows.proofs.Common.{first_number}
@@ -10,6 +11,7 @@ use Rattle.std.proofs.Common.{◌==◌, ◌<◌, ℕ, List, Option, Some, None, 
 use Rattle.std.proofs.Math.Seq.{drop-cons}
 use Rattle.std.proofs.Math.ListN.{length-drop}
 use Rattle.std.proofs.lemmas.List.Sums.{sum_by-cons}
+use Rattle.std.specs.List.{list_any}
 use Rattle.std.specs.Prelude.{option_map, ℤ, pos, if◌then◌else◌, IfSome}
 use Rattle.fit_base.proofs.ByteLists.{IsBytes-back, IsBytes-front}
 use Rattle.fit_base.specs.Numbers.{number}
@@ -21,6 +23,7 @@ use Rattle.fit_cells.specs.declared.form.NumberForm.{NumberForm}
 use Rattle.fit_rows.specs.Degrees.{degrees_of}
 use Rattle.fit_rows.specs.declared.tables.columns.Column.TheVariants.{Absent, At}
 use Rattle.fit_rows.specs.declared.tables.columns.Place.{Place}
+use Rattle.fit_rows.specs.inner.TableColumns.{HaveNone, held_number}
 use Rattle.fit_rows.proofs.ItemFacts.{lone_below}
 
 -- ---- the first field of a number
@@ -45,6 +48,17 @@ pub found_in : (o : Order) (fields : List FieldDef) (bytes : List ℕ) (number i
 found_in o fields bytes number i d h e =
     ap (λ fs. first_in o fs bytes number) (drop-cons fields i d h) ∙ rw (eq-eqb (get_or fields i d).number number e) refl
 
+none_in : (o : Order) (fields : List FieldDef) (bytes : List ℕ) (number : ℕ) → list_any (λ (f : FieldDef). f.number == number) fields ≡ false
+    → first_in o fields bytes number ≡ None
+none_in o [] bytes number none = refl
+none_in o (f ∷ fields) bytes number none = elim (cases_Bool (f.number == number)) [
+  | inl is ↦ cc (sym none ∙ ap (λ (b : Bool). b || list_any (λ (g : FieldDef). g.number == number) fields) is)
+  | inr other ↦ rw other (none_in o fields (drop f.size bytes) number (rw other at none))
+]
+
+pub have_none : (fields : List FieldDef) (number : ℕ) → list_any (λ (f : FieldDef). f.number == number) fields ≡ false → HaveNone fields number
+have_none fields number none o bytes = none_in o fields bytes number none
+
 pub sizes_left : (fields : List FieldDef) (i : ℕ) (d : FieldDef) → i < length fields
     → sizes (slots (drop i fields)) ≡ (get_or fields i d).size + sizes (slots (drop (i + 1) fields))
 sizes_left fields i d h =
@@ -56,7 +70,7 @@ sizes_left fields i d h =
 pub first_column : (fields : List FieldDef) (number offset : ℕ) (f : FieldDef) (column : Column)
     → ((o : Order) (bytes : List ℕ) → first_in o fields bytes number ≡ Some (f, items_of o f (drop offset bytes)))
     → f.number ≡ number → offset + f.size ≤ sizes (slots fields) → IsPlaced offset f column → IsColumn fields number column
-first_column fields number offset f Absent finds is within placed = absurd placed
+first_column fields number offset f Absent finds is within placed = λ o bytes. ap held_number (finds o bytes) ∙ placed o (take f.size (drop offset bytes))
 first_column fields number offset f (At p) finds is within placed = record {
   finds = subst (λ (k : ℕ). (o : Order) (bytes : List ℕ) → first_in o fields bytes number ≡ Some (p.field, items_of o p.field (drop k bytes))) (sym placed.0)
       (subst (λ (g : FieldDef). (o : Order) (bytes : List ℕ) → first_in o fields bytes number ≡ Some (g, items_of o g (drop offset bytes)))
@@ -81,13 +95,17 @@ some_items w size small room = elim small [
   | inr (inr e) ↦ ap (λ (k : ℕ). size / k) e ∙ omega (arith, e, room) ∙ ap (λ (k : ℕ). suc (size / k - 1)) (sym e)
 ]
 
+one_of : (f : FieldDef) (o : Order) (w : ℕ) (bytes : List ℕ) → item_width f.code f.size ≡ w → f.size / w ≡ suc (f.size / w - 1) → w ≤ f.size
+    → first_number f (items_of o f bytes) ≡ valid_number f.code w (number o (take w bytes))
+one_of f o w bytes own some room =
+    ap (λ (k : ℕ). option_and_then (valid_number f.code k) (slice_get (numbers_of o k (f.size / k) (take f.size bytes)) 0)) own
+    ∙ ap (λ (n : ℕ). option_and_then (valid_number f.code w) (slice_get (numbers_of o w n (take f.size bytes)) 0)) some
+    ∙ ap (λ (b : List ℕ). valid_number f.code w (number o b)) (take-take w f.size bytes room)
+
 -- the number of the first item in the bytes of a field that has one
 pub first_item : (f : FieldDef) (o : Order) (w : ℕ) (bytes : List ℕ) → item_width f.code f.size ≡ w → (w ≡ 1) ⊎ (w ≡ 2) ⊎ (w ≡ 4) → w ≤ f.size
     → first_number f (items_of o f bytes) ≡ valid_number f.code w (number o (take w bytes))
-first_item f o w bytes own small room =
-    ap (λ (k : ℕ). option_and_then (valid_number f.code k) (slice_get (numbers_of o k (f.size / k) (take f.size bytes)) 0)) own
-    ∙ ap (λ (n : ℕ). option_and_then (valid_number f.code w) (slice_get (numbers_of o w n (take f.size bytes)) 0)) (some_items w f.size small room)
-    ∙ ap (λ (b : List ℕ). valid_number f.code w (number o b)) (take-take w f.size bytes room)
+first_item f o w bytes own small room = one_of f o w bytes own (some_items w f.size small room) room
 
 -- the number of the first item at a place
 pub number_at : (p : Place) (o : Order) (bytes : List ℕ) (bits : ℕ) → IsKnown p → bits ≡ number o (take p.form.width (drop p.offset bytes))
@@ -185,8 +203,14 @@ value_in p o bytes d v number first global are =
     (subst (λ (n : ℕ). IsSomeAnd (field 20 n) (λ m. IsFormOf p.field.code (Some m) p.form)) first.numbered first.known.form)
     (first_at p o bytes d v number first are)
 
-pub no_value : (d : MessageDef Global) (v : Values Global) (number : ℕ) → first_field d.fields v.fields number ≡ None → value_text d v number ≡ None
-no_value d v number none = ap (number_of_first (field d.global number)) none
+number_none : (meaning : Option Meaning) (first : Option (FieldDef × Items Global)) → held_number first ≡ None → number_of_first meaning first ≡ None
+number_none meaning None none = refl
+number_none meaning (Some g) none =
+    ap (λ (raw : Option ℤ). amount_of (option_and_then (λ r. option_map (λ n. (r, n)) meaning) raw)) none
+
+pub no_value : (d : MessageDef Global) (v : Values Global) (number : ℕ) → held_number (first_field d.fields v.fields number) ≡ None
+    → value_text d v number ≡ None
+no_value d v number none = number_none (field d.global number) (first_field d.fields v.fields number) none
 
 abbrev pub degrees_of_first : Option (FieldDef × Items Global) → Option (List ℕ)
 degrees_of_first first =
@@ -198,8 +222,16 @@ pub placed_degrees : (d : MessageDef Global) (v : Values Global) (number : ℕ) 
     → degrees_text d v number ≡ (if f.code == 0x85 then option_map (λ s. fixed_text (degrees_of s) 7) (first_number f i) else None)
 placed_degrees d v number f i first = ap degrees_of_first first
 
-pub no_degrees : (d : MessageDef Global) (v : Values Global) (number : ℕ) → first_field d.fields v.fields number ≡ None → degrees_text d v number ≡ None
-no_degrees d v number none = ap degrees_of_first none
+degrees_none : (first : Option (FieldDef × Items Global)) → held_number first ≡ None → degrees_of_first first ≡ None
+degrees_none None none = refl
+degrees_none (Some g) none = elim (cases_Bool (g.0.code == 0x85)) [
+  | inl is ↦ rw is (ap (option_map (λ (s : ℤ). fixed_text (degrees_of s) 7)) none)
+  | inr other ↦ rw other refl
+]
+
+pub no_degrees : (d : MessageDef Global) (v : Values Global) (number : ℕ) → held_number (first_field d.fields v.fields number) ≡ None
+    → degrees_text d v number ≡ None
+no_degrees d v number none = degrees_none (first_field d.fields v.fields number) none
 
 -- the position at a place
 pub position_at : (p : Place) (o : Order) (bytes : List ℕ) (bits : ℕ) → IsKnown p → bits ≡ number o (take p.form.width (drop p.offset bytes))

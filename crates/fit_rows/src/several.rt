@@ -1,5 +1,5 @@
 //! Fields of several numbers of at most four bytes.
-ghost use Rattle.std.specs.Prelude.{◌≡◌, ◌≤◌, ◌+◌, ◌*◌, ◌/◌, ◌%◌, ◌++◌, ℕ, IfOk, IfSome, Option, length, option_map, take};
+ghost use Rattle.std.specs.Prelude.{◌≡◌, ◌≤◌, ◌+◌, ◌*◌, ◌/◌, ◌%◌, ◌++◌, ℕ, IfOk, IfSome, IsSomeAnd, IsTrue, Option, length, option_map, take};
 ghost use Rattle.fit_base.specs.BaseTypes.{base_type};
 ghost use Rattle.fit_base.specs.Numbers.{number};
 ghost use Rattle.fit_profile.specs.Names.{meaning};
@@ -12,6 +12,7 @@ ghost use Rattle.fit_cells.specs.Steps.{bar};
 ghost use Rattle.fit_rows.specs.inner.Several.{numbers_text};
 ghost use Rattle.fit_rows.specs.inner.Sheets.{and_sheet};
 
+use crate::lone::lone_form;
 use crate::sheet::{Sheet, make_room};
 use fit_base::{Code, Order, bits_at};
 use fit_cells::{NumberForm, number_form, write_formed};
@@ -19,7 +20,7 @@ use fit_profile::Info;
 use std::alloc::AllocError;
 
 /// The form of the numbers of a field, where the field has several, or none.
-pub(crate) fn several_form(code: u8, size: u8, info: Option<Info>) -> Option<NumberForm>
+fn several_form(code: u8, size: u8, info: Option<Info>) -> Option<NumberForm>
     requires { IfSome info (λ i. IsScale i.scale) }
     ensures small { IfSome result IsSmallForm }
     ensures whole { IfSome result (λ f. size % f.width ≡ 0) }
@@ -33,6 +34,20 @@ pub(crate) fn several_form(code: u8, size: u8, info: Option<Info>) -> Option<Num
         return None;
     }
     Some(form)
+}
+
+/// The form of the numbers of a field, where they are of at most four bytes and fill it, and whether the field has just one.
+pub(crate) fn field_form(code: u8, size: u8, info: Option<Info>) -> (Option<NumberForm>, bool)
+    requires { IfSome info (λ i. IsScale i.scale) }
+    ensures small { IfSome result.0 IsSmallForm }
+    ensures whole { IfSome result.0 (λ f. size % f.width ≡ 0) }
+    ensures form { IfSome result.0 (IsFormOf code (option_map meaning info)) }
+    ensures lone { IsTrue result.1 → IsSomeAnd result.0 (λ f. f.width ≡ size) }
+{
+    match lone_form(code, size, info) {
+        Some(form) => (Some(form), true),
+        None => (several_form(code, size, info), false),
+    }
 }
 
 /// Writes what stands before the number at a place of a field: a bar, but before the first one.

@@ -36,3 +36,4 @@ pub mod HeldParts
 pub mod EntriesSoFar
 pub mod HeldInProgress
 mod RepeatedDefinitions
+pub mod Beginnings

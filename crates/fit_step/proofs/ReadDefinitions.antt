@@ -1,68 +1,63 @@
 -- The definition message that bytes spell.
-use Rattle.fit_step.proofs.Common.{◌≡◌, ℕ, suc, ◌+◌, ◌-◌, ◌^◌, ◌<◌, true, false, List, [], ◌∷◌, ◌++◌, length, take, refl, sym, ap, ◌∙◌, subst, arith, lit<}
-use Rattle.fit_step.proofs.Common.{Some, None, flat_map, option_map, unwrap_or, append-nil, length-take-le, length-set, take-add, Order, IsBytes, number}
-use Rattle.fit_step.proofs.Common.{number_bytes, IsBytes-cons, IsBytes-none, IsBytes-tail, IsBytes-take, number-below, number_bytes-number, FieldDef}
-use Rattle.fit_step.proofs.Common.{MessageDef, Define, Environment, defined_by, learn, CanFill, has_developer_fields, has_reserved_bit, is_definition}
-use Rattle.fit_step.proofs.Common.{local_type, architecture, field_bytes, definition_bytes, definition_header, DefinitionFits, IsRecord, six_and_more, new_dev}
-use Rattle.fit_step.proofs.Common.{start, Ends, tests_of, ◌≤◌, drop, slice_index}
+use Rattle.fit_step.proofs.Common.{◌≡◌, ℕ, ◌+◌, ◌-◌, ◌*◌, ◌<◌, List, [], ◌∷◌, ◌++◌, length, take, sym, ap, ◌∙◌, subst, arith, lit<, flat_map, option_map}
+use Rattle.fit_step.proofs.Common.{unwrap_or, append-nil, length-take-le, length-set, Some, IsBytes, IsBytes-take, number_bytes, FieldDef, MessageDef, Define}
+use Rattle.fit_step.proofs.Common.{Environment, defined_by, learn, CanFill, architecture, field_bytes, definition_bytes, definition_header, DefinitionFits}
+use Rattle.fit_step.proofs.Common.{IsRecord, six_and_more, start, Ends, tests_of, ◌≤◌, length-fields}
 use Rattle.fit_step.proofs.TakenAndRefusedBytes.{records_end}
-use Rattle.fit_step.proofs.HeaderBits.{definition_spelled}
+use Rattle.fit_record.proofs.OneRecord.{same_fields}
+use Rattle.fit_record.proofs.RecordLengths.{length-definition}
+use Rattle.fit_record.specs.DefinitionLengths.{dev_length}
+use Rattle.fit_record.specs.Records.{dev_part}
+use Rattle.fit_step.specs.Skipping.{HasDefinition}
+use Rattle.fit_step.specs.declared.read_definition.Front.{Front}
+use Rattle.fit_step.specs.inner.Definitions.{AreFields, Begins, definition_of, definition_spelled}
 
--- ---- a list of a known length
+-- ---- the record
 
-five_of : (l : List ℕ) → length l ≡ 5 → slice_index l 0 ∷ slice_index l 1 ∷ slice_index l 2 ∷ slice_index l 3 ∷ slice_index l 4 ∷ [] ≡ l
-five_of (a ∷ b ∷ c ∷ d ∷ e ∷ []) h = refl
-five_of l h = absurd (omega (arith, h))
-
--- ---- all of the message
-
-module _ {A : Type 0} (e : Environment A) (b : ℕ) (rest piece front : List ℕ) (order : Order) (fields : List FieldDef) (local global size : ℕ)
-    (are : IsBytes piece) (begins : piece ≡ b ∷ rest) (clean : has_reserved_bit b ≡ false) (kind : is_definition b ≡ true)
-    (no_dev : has_developer_fields b ≡ false) (same : local ≡ local_type b)
-    (long : 5 ≤ length rest) (is_front : front ≡ take 5 rest) (order_is : architecture order ≡ slice_index front 1)
-    (global_is : global ≡ number order (slice_index front 2 ∷ slice_index front 3 ∷ []))
-    (within : size ≤ length (drop 5 rest)) (counted : length fields ≡ slice_index front 4) (spelled : flat_map field_bytes fields ≡ take size (drop 5 rest))
+module _ {A : Type 0} (f : Front) (entries bytes : List ℕ) (begins : Begins f entries bytes) (fields : List FieldDef) (are : AreFields f entries fields)
   where
-    abbrev read : MessageDef A
-    read = record { local = local; reserved = slice_index front 0; order = order; global = global; fields = fields; dev = None }
+    pub read_fits : DefinitionFits (definition_of {A = A} f fields)
+    read_fits = record { local = begins.local; global = begins.global; fields = subst (λ n. n < 256) (sym are.0) begins.count; dev_fields = lit< tt }
 
-    all_are : IsBytes (b ∷ rest)
-    all_are = subst IsBytes begins are
+    pub read_is_record : (e : Environment A) → IsRecord e (Define (definition_of f fields)) (take (6 + length entries) bytes)
+    read_is_record e =
+        let header : 0x40 + f.local ≡ 0x40 + f.local + 0 = omega arith in
+        let body : List ℕ = f.reserved ∷ architecture f.order ∷ number_bytes f.order 2 f.global ++ length fields ∷ flat_map field_bytes fields in
+        let says : definition_spelled f entries ≡ (0x40 + f.local + 0) ∷ body =
+        λ i. header i ∷ f.reserved ∷ architecture f.order ∷ number_bytes f.order 2 f.global ++ sym are.0 i ∷ sym are.1 i in
+        (read_fits, begins.is ∙ says ∙ ap (λ l. (0x40 + f.local + 0) ∷ l) (sym (append-nil body)))
 
-    front_are : IsBytes front
-    front_are = subst IsBytes (sym is_front) (IsBytes-take 5 rest (IsBytes-tail b rest all_are))
+-- only these are its fields
+pub fields_are : (f : Front) (entries : List ℕ) (fs gs : List FieldDef) → AreFields f entries fs → AreFields f entries gs → fs ≡ gs
+fields_are f entries fs gs some others =
+    (same_fields fs gs [] [] (some.0 ∙ sym others.0) (ap (λ l. l ++ []) (some.1 ∙ sym others.1))).0
 
-    two_are : IsBytes (slice_index front 2 ∷ slice_index front 3 ∷ [])
-    two_are = IsBytes-cons (slice_index front 2) (slice_index front 3 ∷ []) (front_are 2) (IsBytes-cons (slice_index front 3) [] (front_are 3) IsBytes-none)
+-- ---- where a definition message stands
 
-    header : (local < 16) × (definition_header read ≡ b)
-    header =
-        let s = definition_spelled b (all_are 0) clean kind in
-        subst (λ l. (l < 16) × (0x40 + l + unwrap_or (option_map (λ _. 0x20) (new_dev false)) 0 ≡ b)) (sym same)
-        (s.0, subst (λ c. 0x40 + local_type b + unwrap_or (option_map (λ _. 0x20) (new_dev c)) 0 ≡ b) no_dev s.1)
-
-    fits : DefinitionFits read
-    fits = record {
-      local = header.0;
-      global = subst (λ n. n < 2 ^ 16) (sym global_is) (number-below order (slice_index front 2 ∷ slice_index front 3 ∷ []) two_are);
-      fields = let low = front_are 4 in omega (arith, counted, low);
-      dev_fields = lit< tt;
-    }
-
-    of_global : number_bytes order 2 global ≡ slice_index front 2 ∷ slice_index front 3 ∷ []
-    of_global = ap (number_bytes order 2) global_is ∙ number_bytes-number order (slice_index front 2 ∷ slice_index front 3 ∷ []) two_are
-
-    of_front : front ++ take size (drop 5 rest) ≡ definition_bytes read
-    of_front =
-        ap (λ l. l ++ take size (drop 5 rest)) (sym (five_of front (ap length is_front ∙ length-take-le 5 rest long)))
-        ∙ (λ i. slice_index front 0 ∷ sym order_is i ∷ sym of_global i ++ sym counted i ∷ sym spelled i)
-        ∙ sym (append-nil (read.reserved ∷ architecture order ∷ number_bytes order 2 global ++ length fields ∷ flat_map field_bytes fields))
-
-    pub read_is_record : IsRecord e (Define read) (take (6 + size) piece)
-    read_is_record = (
-      fits,
-      ap (take (6 + size)) begins ∙ (let next : 6 + size ≡ suc (5 + size) = omega arith in ap (λ k. take k (b ∷ rest)) next)
-          ∙ (λ i. sym header.1 i ∷ (take-add 5 size rest ∙ ap (λ l. l ++ take size (drop 5 rest)) (sym is_front) ∙ of_front) i),
+pub definition_stands : {A : Type 0} (e : Environment A) (bytes : List ℕ) (size : ℕ) → HasDefinition e bytes size
+    → (f : Front) × (entries : List ℕ) × Begins f entries bytes × (6 + length entries ≡ size)
+definition_stands e bytes size (d, within, (fits, is), no_dev) =
+    let f : Front = record { local = d.local; reserved = d.reserved; order = d.order; global = d.global; count = length d.fields } in
+    let entries : List ℕ = flat_map field_bytes d.fields in
+    let long : length entries ≡ 3 * length d.fields = length-fields d.fields in
+    let none : dev_length d.dev ≡ 0 = ap dev_length no_dev in
+    let all : 6 + length entries ≡ size = omega (arith, long, none, length-definition d, ap length is, length-take-le size bytes within) in
+    let header : definition_header d ≡ 0x40 + d.local =
+    ap (λ o. 0x40 + d.local + unwrap_or (option_map (λ _. 0x20) o) 0) no_dev ∙ (let plain : 0x40 + d.local + 0 ≡ 0x40 + d.local = omega arith in plain) in
+    let body : List ℕ = d.reserved ∷ architecture d.order ∷ number_bytes d.order 2 d.global ++ length d.fields ∷ entries in
+    let says : definition_header d ∷ definition_bytes d ≡ definition_spelled f entries =
+    ap (λ o. definition_header d ∷ (body ++ dev_part o)) no_dev ∙ ap (λ l. definition_header d ∷ l) (append-nil body) ∙ ap (λ h. h ∷ body) header in (
+      f,
+      entries,
+      record {
+        local = fits.local;
+        global = fits.global;
+        count = fits.fields;
+        long = long;
+        within = omega (arith, all, within);
+        is = ap (λ n. take n bytes) all ∙ is ∙ says;
+      },
+      all,
     )
 
 -- where six bytes or more are to come after it, records can fill them

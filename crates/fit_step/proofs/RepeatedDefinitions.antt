@@ -1,14 +1,15 @@
 -- A definition message that says what is defined already: it is a record, and with it nothing changes.
-use Rattle.fit_step.proofs.Common.{◌≡◌, ℕ, ◌+◌, ◌-◌, ◌*◌, ◌<◌, ◌≤◌, true, false, List, [], ◌∷◌, ◌++◌, length, take, drop, refl, sym, ap, ◌∙◌, subst, arith}
-use Rattle.fit_step.proofs.Common.{Some, None, flat_map, map, append_assoc, append-nil, length-take-le, flat_map_more}
-use Rattle.fit_step.proofs.Common.{get_or, slice_index, slice_set, IsBytes, number, FieldDef, MessageDef, Defined, Define, Environment, defined_at, defined_by}
-use Rattle.fit_step.proofs.Common.{dev_code, dev_defs, learn, has_developer_fields, has_reserved_bit, is_definition, local_type, field_bytes, IsRecord}
-use Rattle.fit_step.proofs.Common.{IsSkipped}
+use Rattle.fit_step.proofs.Common.{◌≡◌, ℕ, ◌+◌, ◌-◌, ◌*◌, ◌<◌, ◌≤◌, List, [], ◌∷◌, ◌++◌, length, take, drop, refl, sym, ap, ◌∙◌, subst, arith}
+use Rattle.fit_step.proofs.Common.{Some, None, flat_map, map, append_assoc, append-nil, flat_map_more}
+use Rattle.fit_step.proofs.Common.{get_or, slice_set, FieldDef, Defined, Define, Environment, defined_at, defined_by}
+use Rattle.fit_step.proofs.Common.{dev_code, dev_defs, learn, field_bytes}
 use Rattle.std.proofs.Common.{add-one}
 use Rattle.std.proofs.Math.Seq.{take-suc}
 use Rattle.std.proofs.lemmas.List.{set-get_or, take-append-drop, take_all}
+use Rattle.fit_record.specs.Sound.{IsSound}
+use Rattle.fit_step.specs.declared.read_definition.Front.{Front}
+use Rattle.fit_step.specs.inner.Definitions.{SaysNothingNew, definition_of}
 use Rattle.fit_step.specs.inner.Repeated.{BeginsAs}
-use Rattle.fit_step.proofs.ReadDefinitions.{read_is_record}
 
 empty_of : (codes : List ℕ) → length codes ≡ 0 → codes ≡ []
 empty_of [] none = refl
@@ -16,23 +17,16 @@ empty_of (code ∷ codes) none = absurd (omega (arith, none))
 
 -- ---- fields, and their bytes one after another
 
-three_of : (l : List ℕ) → length l ≡ 3 → l ≡ slice_index l 0 ∷ slice_index l 1 ∷ slice_index l 2 ∷ []
-three_of (a ∷ b ∷ c ∷ []) h = refl
-three_of l h = absurd (omega (arith, h))
-
 pub field_told : (fields : List FieldDef) (i : ℕ) (rest entry after bytes : List ℕ) (d : FieldDef) → i < length fields
-    → flat_map field_bytes (take i fields) ++ rest ≡ bytes → length rest ≡ (length fields - i) * 3 → entry ≡ take 3 rest → after ≡ drop 3 rest
-    → slice_index entry 0 ≡ (get_or fields i d).number → slice_index entry 1 ≡ (get_or fields i d).size → slice_index entry 2 ≡ (get_or fields i d).code
+    → flat_map field_bytes (take i fields) ++ rest ≡ bytes → entry ≡ take 3 rest → after ≡ drop 3 rest → field_bytes (get_or fields i d) ≡ entry
     → flat_map field_bytes (take (i + 1) fields) ++ after ≡ bytes
-field_told fields i rest entry after bytes d within told long front back number_is size_is code_is =
+field_told fields i rest entry after bytes d within told front back says =
     let f = get_or fields i d in
     let before = flat_map field_bytes (take i fields) in
-    let three : length entry ≡ 3 = ap length front ∙ length-take-le 3 rest (omega (arith, long, within)) in
-    let says : entry ≡ field_bytes (get_or fields i d) = three_of entry three ∙ (λ j. number_is j ∷ size_is j ∷ code_is j ∷ []) in
-    let more : take (i + 1) fields ≡ take i fields ++ get_or fields i d ∷ [] = rw (add-one, take-suc fields i d within) refl in
+    let more : take (i + 1) fields ≡ take i fields ++ f ∷ [] = rw (add-one, take-suc fields i d within) refl in
     let whole : entry ++ after ≡ rest = (λ j. front j ++ back j) ∙ take-append-drop 3 rest in
     ap (λ l. flat_map field_bytes l ++ after) more
-    ∙ ap (λ l. l ++ after) (sym (flat_map_more field_bytes [] (take i fields) f) ∙ ap (λ l. before ++ l) (sym says))
+    ∙ ap (λ l. l ++ after) (sym (flat_map_more field_bytes [] (take i fields) f) ∙ ap (λ l. before ++ l) says)
     ∙ append_assoc before entry after
     ∙ ap (λ l. before ++ l) whole
     ∙ told
@@ -57,24 +51,20 @@ stays {A} e p local known same none codes =
     let places = ap (slice_set e.places p.definition.local) at ∙ set-get_or e.places p.definition.local None in
     λ i. record e { places = places i }
 
-pub repeated : {A : Type 0} (e : Environment A) (p : Defined A) (b : ℕ) (rest piece front : List ℕ) (local size : ℕ) → IsBytes piece → piece ≡ b ∷ rest
-    → has_reserved_bit b ≡ false → is_definition b ≡ true → has_developer_fields b ≡ false → local ≡ local_type b → 5 ≤ length rest → front ≡ take 5 rest
-    → defined_at e local ≡ Some p → length p.dev_codes ≡ length (dev_defs p.definition.dev) → p.definition.dev ≡ None → BeginsAs p.definition local front
-    → size ≤ length (drop 5 rest) → flat_map field_bytes p.definition.fields ≡ take size (drop 5 rest) → IsSkipped e e (take (6 + size) piece)
-repeated {A} e p b rest piece front local size are begins clean kind no_dev same long is_front known codes none begin within spelled =
+pub known_again : {A : Type 0} (e : Environment A) (p : Defined A) (f : Front) (entries : List ℕ) → defined_at e f.local ≡ Some p → IsSound p
+    → BeginsAs p.definition f → flat_map field_bytes p.definition.fields ≡ entries → SaysNothingNew e f entries
+known_again {A} e p f entries known sound says spelled =
     let d = p.definition in
-    let global = number d.order (slice_index front 2 ∷ slice_index front 3 ∷ []) in
-    let read : MessageDef A =
-    record { local = local; reserved = slice_index front 0; order = d.order; global = global; fields = d.fields; dev = None } in
-    let says : read ≡ d =
+    let same : d ≡ definition_of f d.fields =
     λ i. record {
-      local = sym begin.local_is i;
-      reserved = sym begin.reserved_is i;
-      order = d.order;
-      global = sym begin.global_is i;
+      local = says.local i;
+      reserved = says.reserved i;
+      order = says.order i;
+      global = says.global i;
       fields = d.fields;
-      dev = sym none i;
-    } in
-    let is = read_is_record e b rest piece front d.order d.fields local global size are begins clean kind no_dev same long is_front begin.order_is refl within
-    begin.counted spelled in
-    (Define d, subst (λ q. IsRecord e (Define q) (take (6 + size) piece)) says is, stays e p local known begin.local_is none codes)
+      dev = says.no_dev i;
+    } in (
+      d.fields,
+      (says.count, spelled),
+      subst (λ q. learn e (Define q) ≡ e) same (stays e p f.local known says.local says.no_dev sound.codes),
+    )

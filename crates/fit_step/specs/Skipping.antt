@@ -1,9 +1,10 @@
 -- Records that are skipped.
-use Rattle.std.specs.Prelude.{◌≡◌, ◌⊎◌, ℕ, ◌+◌, ◌-◌, ◌==◌, if◌then◌else◌, false, List, [], ◌∷◌, ◌<◌, ◌≤◌, take, length, slice_index, Option, IfSome}
+use Rattle.std.specs.Prelude.{◌≡◌, ◌⊎◌, ℕ, ◌+◌, ◌-◌, ◌==◌, if◌then◌else◌, false, List, [], ◌∷◌, ◌<◌, ◌≤◌, take, length, slice_index, Option, None, IfSome}
 use Rattle.std.specs.Option.{option_map_or}
+use Rattle.fit_record.specs.declared.definition.MessageDef.{MessageDef}
 use Rattle.fit_record.specs.declared.message.Values.{Values}
 use Rattle.fit_record.specs.declared.message.Record.{Record}
-use Rattle.fit_record.specs.declared.message.Record.TheVariants.{Values as Data}
+use Rattle.fit_record.specs.declared.message.Record.TheVariants.{Define, Values as Data}
 use Rattle.fit_record.specs.Environment.{Environment, defined_at, definition_at, learn, learn_all}
 use Rattle.fit_record.specs.HeaderByte.{has_reserved_bit, is_definition, local_type}
 use Rattle.fit_record.specs.Records.{AreRecords, IsRecord, message_size}
@@ -31,6 +32,10 @@ SkipsInSection old before in_progress new after piece used records =
 abbrev pub HasMessage : {A : Type 0} → Environment A → List ℕ → ℕ → Type 0
 HasMessage {A} e bytes size =
     (v : Values A) × (size ≤ length bytes) × IsRecord e (Data v) (take size bytes) × IfSome (definition_at e v.local) (λ d. d.global ≡ 206 → ⊥)
+
+-- A definition message of this size without developer fields stands at the front of the bytes.
+abbrev pub HasDefinition : {A : Type 0} → Environment A → List ℕ → ℕ → Type 0
+HasDefinition {A} e bytes size = (d : MessageDef A) × (size ≤ length bytes) × IsRecord e (Define d) (take size bytes) × (d.dev ≡ None)
 
 -- ---- for private functions
 

@@ -4,3 +4,4 @@ pub mod Steps
 pub mod Undone
 pub mod Scans
 pub mod Repeated
+pub mod Definitions

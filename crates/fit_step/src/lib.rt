@@ -23,10 +23,9 @@ mod undone;
 mod whole;
 
 pub use held::in_progress_size;
-pub use one_byte::step;
-pub use partial::Partial;
-pub use phase::{DefinitionPhase, Phase};
+pub(crate) use partial::Partial;
+pub(crate) use phase::{DefinitionPhase, Phase};
 pub use position::Position;
-pub use record_reader::{read_in_place, read_message, read_record, read_whole_definition};
+pub use record_reader::{read_in_place, read_message, read_whole_definition};
 pub use skipping::{skip_in_section, skip_message_in_section};
 pub use stop::Stop;

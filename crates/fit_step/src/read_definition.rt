@@ -1,20 +1,30 @@
-//! Definition messages of which all bytes are in one piece.
-ghost use Rattle.std.specs.Prelude.{◌≡◌, ◌-◌, ◌*◌, ◌<◌, ◌≤◌, IfOk, IfSome, [], ◌∷◌, flat_map, length, take};
+//! Definition messages without developer fields, of which all bytes are in one piece.
+ghost use Rattle.std.specs.Prelude.{◌≡◌, ℕ, List, ◌*◌, IfOk, IfSome, IsSomeAnd, [], ◌∷◌, flat_map, length};
 ghost use Rattle.fit_base.specs.Numbers.{number};
-ghost use Rattle.fit_record.specs.declared.message.Record.TheVariants.{Define};
-ghost use Rattle.fit_record.specs.Environment.{Environment};
-ghost use Rattle.fit_record.specs.Records.{architecture, field_bytes, Fits, IsRecord};
-ghost use Rattle.fit_step.specs.Machine.{start, Ends};
-ghost use Rattle.fit_step.specs.Tests.{tests_of};
+ghost use Rattle.fit_base.specs.declared.number.Order.{Order as ByteOrder};
+ghost use Rattle.fit_record.specs.Records.{architecture, field_bytes};
+ghost use Rattle.fit_step.specs.declared.read_definition.Front.{Front as Fronts};
+ghost use Rattle.fit_step.specs.inner.Definitions.{Begins, definition_of};
 
 use crate::header::{has_developer_fields, has_reserved_bit, is_definition, local_type};
 use fit_base::{Entries, Order};
-use fit_record::{Env, FieldDef, MessageDef};
+use fit_record::{FieldDef, MessageDef};
 use std::alloc::{AllocError, Allocator};
+
+/// What a definition message says before its fields.
+#[derive(Clone, Copy)]
+pub(crate) struct Front {
+    pub(crate) local: u8,
+    pub(crate) reserved: u8,
+    pub(crate) order: Order,
+    pub(crate) global: u16,
+    pub(crate) count: u8,
+}
 
 /// The byte order that an architecture names.
 fn order_of(byte: u8) -> Option<Order>
-    ensures { IfSome result (λ order. architecture order ≡ byte) }
+    ensures some { IfSome result (λ order. architecture order ≡ byte) }
+    ensures none { result ≡ None → (order : ByteOrder) → architecture order ≡ byte → ⊥ }
 {
     match byte {
         0 => Some(Order::Little),
@@ -24,7 +34,7 @@ fn order_of(byte: u8) -> Option<Order>
 }
 
 /// The number of two bytes.
-pub(crate) fn global_of(order: Order, first: u8, second: u8) -> u16
+fn global_of(order: Order, first: u8, second: u8) -> u16
     ensures { result ≡ number order (first ∷ second ∷ []) }
 {
     match order {
@@ -33,15 +43,50 @@ pub(crate) fn global_of(order: Order, first: u8, second: u8) -> u16
     }
 }
 
-/// The fields of a definition message, which has three bytes for each.
-fn read_entries<A: Allocator>(
+/// The definition message without developer fields that begins the piece, where all its bytes stand there: what it says before its
+/// fields, and their bytes.
+#[inline(always)]
+pub(crate) fn definition_bytes(piece: &[u8]) -> Option<(Front, &[u8])>
+    ensures begins { IfSome result (λ found. Begins found.0 found.1.now piece.now) }
+    ensures found { (f : Fronts) (entries : List ℕ) → Begins f entries piece.now
+        → IsSomeAnd result (λ found. length found.1.now ≡ length entries) }
+{
+    let (header, rest) = piece.split_first()?;
+    let byte = *header;
+    if has_reserved_bit(byte) || !is_definition(byte) || has_developer_fields(byte) {
+        return None;
+    }
+    if rest.len() < 5 {
+        return None;
+    }
+    let (five, after) = rest.split_at(5);
+    let order = order_of(five[1])?;
+    let count = five[4];
+    let size = count as usize * 3;
+    if after.len() < size {
+        return None;
+    }
+    let (entries, _) = after.split_at(size);
+    let front = Front {
+        local: local_type(byte),
+        reserved: five[0],
+        order,
+        global: global_of(order, five[2], five[3]),
+        count,
+    };
+    Some((front, entries))
+}
+
+/// The fields, three bytes for each.
+#[inline(always)]
+pub(crate) fn read_fields<A: Allocator>(
     alloc: A,
     count: u8,
     bytes: &[u8],
 ) -> Result<Entries<FieldDef, A>, AllocError>
-    requires { length bytes.now ≡ count * 3 }
-    ensures count { IfOk result (λ fields. length fields ≡ count) }
-    ensures bytes { IfOk result (λ fields. flat_map field_bytes fields ≡ bytes.now) }
+    requires { length bytes.now ≡ 3 * count }
+    ensures { IfOk result (λ fields. (length fields ≡ count)
+        × (flat_map field_bytes fields ≡ bytes.now)) }
 {
     let mut fields = Entries::with_capacity(alloc, count as usize)?;
     let mut rest = bytes;
@@ -57,64 +102,17 @@ fn read_entries<A: Allocator>(
     Ok(fields)
 }
 
-/// The definition message that begins the piece, where all its bytes are there, and how many they are. There is none where the
-/// message has developer fields, where a byte is to be refused, and where memory runs out: then its bytes are read one by one.
-pub(crate) fn whole_definition<A: Allocator + Copy>(
-    alloc: A,
-    piece: &[u8],
-) -> Option<(MessageDef<A>, usize)>
-    ensures within { IfSome result (λ found. (0 < found.1) × (found.1 ≤ length piece.now)) }
-    ensures record { (e : Environment A) → IfSome result
-        (λ found. IsRecord e (Define found.0) (take found.1 piece.now)) }
+/// The definition with these fields.
+#[inline(always)]
+pub(crate) fn with_fields<A: Allocator>(front: Front, fields: Entries<FieldDef, A>) -> MessageDef<A>
+    ensures { result ≡ definition_of front fields }
 {
-    let (header, rest) = piece.split_first()?;
-    let byte = *header;
-    if has_reserved_bit(byte) || !is_definition(byte) || has_developer_fields(byte) {
-        return None;
-    }
-    if rest.len() < 5 {
-        return None;
-    }
-    let (front, after) = rest.split_at(5);
-    let order = order_of(front[1])?;
-    let count = front[4];
-    let size = count as usize * 3;
-    if after.len() < size {
-        return None;
-    }
-    let (entries, _) = after.split_at(size);
-    let Ok(fields) = read_entries(alloc, count, entries) else {
-        return None;
-    };
-    let definition = MessageDef {
-        local: local_type(byte),
-        reserved: front[0],
-        order,
-        global: global_of(order, front[2], front[3]),
+    MessageDef {
+        local: front.local,
+        reserved: front.reserved,
+        order: front.order,
+        global: front.global,
         fields,
         dev: None,
-    };
-    Some((definition, 6 + size))
-}
-
-/// The same where six bytes or more of the data section are to come after it: records can fill them, whatever is defined.
-pub(crate) fn definition_within<A: Allocator + Copy>(
-    alloc: A,
-    env: &Env<A>,
-    room: u32,
-    piece: &[u8],
-) -> Option<(MessageDef<A>, usize)>
-    ensures within { IfSome result (λ found. (0 < found.1) × (found.1 ≤ length piece.now)
-        × (found.1 ≤ room)) }
-    ensures fits { IfSome result (λ found. Fits env.now (Define found.0)) }
-    ensures ends { IfSome result (λ found. Ends env.now (tests_of env.now) (start room)
-        (take found.1 piece.now) (start (room - found.1)) (Define found.0)) }
-{
-    let (definition, used) = whole_definition(alloc, piece)?;
-    if room < 6 || used > (room - 6) as usize {
-        return None;
     }
-    // The check knows that there are sixteen places where one is asked for its length.
-    let _ = env.length(definition.local);
-    Some((definition, used))
 }

@@ -1,5 +1,5 @@
 //! The bytes of a piece that belong to a record.
-ghost use Rattle.std.specs.Prelude.{◌≡◌, ◌<◌, ◌≤◌, length, OnErr, Ok, None, Some, true, false, IfNone, IfSome, IsSomeAnd};
+ghost use Rattle.std.specs.Prelude.{◌≡◌, ℕ, ◌+◌, ◌<◌, ◌≤◌, length, OnErr, Ok, None, Some, true, false, IfNone, IfOk, IfSome, IsSomeAnd};
 ghost use Rattle.fit_record.specs.declared.message.Record.{Record};
 ghost use Rattle.fit_record.specs.declared.message.Record.TheVariants.{Values as Data};
 ghost use Rattle.fit_record.specs.Environment.{DescribesNothing, learn};
@@ -7,17 +7,17 @@ ghost use Rattle.fit_record.specs.Records.{Fits};
 ghost use Rattle.fit_step.specs.InProgress.{AwaitsByte, Reads, ReadsInPlace};
 ghost use Rattle.fit_step.specs.Machine.{step};
 ghost use Rattle.fit_step.specs.Places.{state_at};
+ghost use Rattle.fit_step.specs.Skipping.{HasDefinition, HasMessage};
 ghost use Rattle.fit_step.specs.Tests.{tests_of};
 ghost use Rattle.fit_step.specs.inner.Scans.{StandsWithRoom, TakesByte};
 
-use crate::header::is_definition;
 use crate::inside::take_inside;
-use crate::read_definition::definition_within;
+use crate::one_byte::step;
 use crate::undone::undo;
-use crate::whole::{plain_message, whole_record};
-use crate::{Position, Stop, step};
+use crate::whole::{plain_definition, plain_message, whole_message};
+use crate::{Position, Stop};
 use fit_record::{Env, Record, Values};
-use std::alloc::Allocator;
+use std::alloc::{AllocError, Allocator};
 
 /// Learns a whole record. Whether there was memory.
 fn is_learned<A: Allocator + Copy>(env: &mut Env<A>, whole: &Option<Record<A>>) -> bool
@@ -111,7 +111,7 @@ fn scan_bytes<A: Allocator + Copy>(
     (piece.len(), Ok(false))
 }
 
-/// A record of which all bytes stand at the front of the piece, where one begins there. It is learned.
+/// A data message of which all bytes stand at the front of the piece, where one begins there. It is learned.
 #[inline(always)]
 fn take_whole<A: Allocator + Copy>(
     alloc: A,
@@ -130,7 +130,8 @@ fn take_whole<A: Allocator + Copy>(
         Some(_) => return None,
         None => {}
     }
-    let (record, used) = whole_record(alloc, env, position.room, piece)?;
+    let (values, used) = whole_message(alloc, env, position.room, piece)?;
+    let record = Record::Values(values);
     match env.learn(&record) {
         Ok(()) => {}
         Err(_) => return None,
@@ -142,9 +143,9 @@ fn take_whole<A: Allocator + Copy>(
 /// Reads a data message of which all bytes stand at the front of the piece, where one begins there: the message, and how many bytes it
 /// has. What is known stays, and the next record begins after it.
 ///
-/// There is none, and nothing changes, where bytes of a record have come, or another record begins; where some of its bytes are missing
-/// or are to be refused, or memory is; where it is a field description; and where it ends in the last six bytes of the data section.
-/// `read_record` reads all records.
+/// There is none where bytes of a record have come, or another record begins; where some of its bytes are missing or are to be refused;
+/// where it is a field description; and where it ends in the last six bytes of the data section. Then, and where memory is refused,
+/// nothing changes. `read_in_place` reads all records.
 #[inline(always)]
 pub fn read_message<A: Allocator + Copy>(
     alloc: A,
@@ -152,29 +153,37 @@ pub fn read_message<A: Allocator + Copy>(
     position: &mut Position,
     in_progress: &Option<Record<A>>,
     piece: &[u8],
-) -> Option<(Values<A>, usize)>
+) -> Result<Option<(Values<A>, usize)>, AllocError>
     requires { AwaitsByte env.now position.old in_progress.now }
-    ensures within { IfSome result (λ found. found.1 ≤ length piece.now) }
-    ensures reads { IfSome result (λ found. Reads env.now position.old in_progress.now env.now
-        position.new in_progress.now piece.now found.1 (Ok (Some (Data found.0)))) }
-    ensures more { IfSome result (λ found. 0 < position.new.room) }
-    ensures none { IfNone result (position.new ≡ position.old) }
+    ensures reads { IfOk result (λ o. IfSome o (λ found. Reads env.now position.old in_progress.now
+        env.now position.new in_progress.now piece.now found.1 (Ok (Some (Data found.0))))) }
+    // It is no field description.
+    ensures message { IfOk result (λ o. IfSome o (λ found. HasMessage env.now piece.now found.1)) }
+    // Six bytes or more of the data section are left.
+    ensures left { IfOk result (λ o. IfSome o (λ found. 6 ≤ position.new.room)) }
+    ensures none { IfOk result (λ o. IfNone o (position.new ≡ position.old)) }
+    ensures err { OnErr result (position.new ≡ position.old) }
+    // One that is all in the piece is found.
+    ensures whole { in_progress.now ≡ None → (size : ℕ) → HasMessage env.now piece.now size
+        → size + 6 ≤ position.old.room → IfOk result (λ o. IsSomeAnd o (λ found. found.1 ≡ size)) }
 {
     match in_progress {
-        Some(_) => return None,
+        Some(_) => return Ok(None),
         None => {}
     }
-    let (values, used) = plain_message(alloc, env, position.room, piece)?;
+    let Some((values, used)) = plain_message(alloc, env, position.room, piece)? else {
+        return Ok(None);
+    };
     position.room -= used as u32;
-    Some((values, used))
+    Ok(Some((values, used)))
 }
 
 /// Reads a definition message of which all bytes stand at the front of the piece, where one begins there: the record, and how many bytes
 /// it has. It is learned, and the next record begins after it.
 ///
-/// There is none, and nothing changes, where bytes of a record have come, or another record begins; where some of its bytes are missing
-/// or are to be refused, or memory is; where it has developer fields; and where it ends in the last six bytes of the data section.
-/// `read_record` reads all records.
+/// There is none where bytes of a record have come, or another record begins; where some of its bytes are missing or are to be refused;
+/// where it has developer fields; and where it ends in the last six bytes of the data section. Then, and where memory is refused,
+/// nothing changes. `read_in_place` reads all records.
 #[inline(always)]
 pub fn read_whole_definition<A: Allocator + Copy>(
     alloc: A,
@@ -182,29 +191,30 @@ pub fn read_whole_definition<A: Allocator + Copy>(
     position: &mut Position,
     in_progress: &Option<Record<A>>,
     piece: &[u8],
-) -> Option<(Record<A>, usize)>
+) -> Result<Option<(Record<A>, usize)>, AllocError>
     requires { AwaitsByte env.old position.old in_progress.now }
-    ensures within { IfSome result (λ found. found.1 ≤ length piece.now) }
-    ensures reads { IfSome result (λ found. Reads env.old position.old in_progress.now env.new
-        position.new in_progress.now piece.now found.1 (Ok (Some found.0))) }
-    ensures none { IfNone result ((env.new ≡ env.old) × (position.new ≡ position.old)) }
+    ensures reads { IfOk result (λ o. IfSome o (λ found. Reads env.old position.old in_progress.now
+        env.new position.new in_progress.now piece.now found.1 (Ok (Some found.0)))) }
+    ensures definition { IfOk result (λ o. IfSome o (λ found.
+        HasDefinition env.old piece.now found.1)) }
+    // Six bytes or more of the data section are left.
+    ensures left { IfOk result (λ o. IfSome o (λ found. 6 ≤ position.new.room)) }
+    ensures none { IfOk result (λ o. IfNone o ((env.new ≡ env.old)
+        × (position.new ≡ position.old))) }
+    ensures err { OnErr result ((env.new ≡ env.old) × (position.new ≡ position.old)) }
+    // One that is all in the piece is found.
+    ensures whole { in_progress.now ≡ None → (size : ℕ) → HasDefinition env.old piece.now size
+        → size + 6 ≤ position.old.room → IfOk result (λ o. IsSomeAnd o (λ found. found.1 ≡ size)) }
 {
     match in_progress {
-        Some(_) => return None,
+        Some(_) => return Ok(None),
         None => {}
     }
-    let (header, _) = piece.split_first()?;
-    if !is_definition(*header) {
-        return None;
-    }
-    let (definition, used) = definition_within(alloc, env, position.room, piece)?;
-    let record = Record::Define(definition);
-    match env.learn(&record) {
-        Ok(()) => {}
-        Err(_) => return None,
-    }
+    let Some((definition, used)) = plain_definition(alloc, env, position.room, piece)? else {
+        return Ok(None);
+    };
     position.room -= used as u32;
-    Some((record, used))
+    Ok(Some((Record::Define(definition), used)))
 }
 
 /// Does what `scan_bytes` does for a record of which no byte has come: it may be whole in the piece.
@@ -230,8 +240,10 @@ fn read_anew<A: Allocator + Copy>(
     }
 }
 
-/// Reads the bytes of a record as `read_record` does, and leaves it in `in_progress` where it is complete: how many of the piece were
-/// used, and whether it is.
+/// Reads the bytes of a record, of which some may have come: how many of the piece were used, and whether it is complete. A complete
+/// record is learned and stays in `in_progress`, which the caller empties; the next one begins after it.
+///
+/// It refuses the first byte with which no records can fill the data section. Where memory is refused, the byte can come again.
 #[inline(always)]
 pub fn read_in_place<A: Allocator + Copy>(
     alloc: A,
@@ -249,29 +261,4 @@ pub fn read_in_place<A: Allocator + Copy>(
         return scan_bytes(alloc, env, position, in_progress, piece);
     }
     read_anew(alloc, env, position, in_progress, piece)
-}
-
-/// Reads the bytes of a record, of which some may have come: how many of the piece were used, and the record where it is complete.
-/// A complete record is learned, and the next one begins after it.
-///
-/// It refuses the first byte with which no records can fill the data section. Where memory is refused, the byte can come again.
-#[inline(always)]
-pub fn read_record<A: Allocator + Copy>(
-    alloc: A,
-    env: &mut Env<A>,
-    position: &mut Position,
-    in_progress: &mut Option<Record<A>>,
-    piece: &[u8],
-) -> (usize, Result<Option<Record<A>>, Stop>)
-    requires { AwaitsByte env.old position.old in_progress.old }
-    ensures within { result.0 ≤ length piece.now }
-    ensures reads { Reads env.old position.old in_progress.old env.new position.new in_progress.new
-        piece.now result.0 result.1 }
-{
-    let (used, answer) = read_in_place(alloc, env, position, in_progress, piece);
-    match answer {
-        Ok(false) => (used, Ok(None)),
-        Ok(true) => (used, Ok(in_progress.take())),
-        Err(stop) => (used, Err(stop)),
-    }
 }

@@ -1,101 +1,119 @@
 //! Definition messages that say again what is defined already.
-ghost use Rattle.std.specs.Prelude.{◌≡◌, ◌*◌, ◌<◌, ◌≤◌, IfSome, true, flat_map, length, take};
-ghost use Rattle.fit_record.specs.Records.{architecture, field_bytes};
-ghost use Rattle.fit_step.specs.Skipping.{IsSkipped};
+ghost use Rattle.std.specs.Prelude.{◌≡◌, ◌*◌, ◌∷◌, [], true, flat_map, length};
+ghost use Rattle.fit_record.specs.Records.{field_bytes};
+ghost use Rattle.fit_step.specs.inner.Definitions.{SaysNothingNew};
 ghost use Rattle.fit_step.specs.inner.Repeated.{BeginsAs};
 
-use crate::header::{has_developer_fields, has_reserved_bit, is_definition, local_type};
-use crate::read_definition::global_of;
-use fit_base::Order;
+use crate::read_definition::Front;
 use fit_record::{Env, FieldDef, MessageDef};
 use std::alloc::Allocator;
 
-/// Whether an architecture names this byte order.
-fn names_order(byte: u8, order: Order) -> bool
-    ensures { result ≡ true → architecture order ≡ byte }
+/// Whether a definition says this before its fields.
+#[inline(always)]
+fn begins_as<A: Allocator>(d: &MessageDef<A>, front: Front) -> bool
+    ensures { result ≡ true → BeginsAs d.now front }
 {
-    match order {
-        Order::Little => byte == 0,
-        Order::Big => byte == 1,
+    if d.fields.len() != front.count as usize {
+        return false;
     }
+    if d.global != front.global {
+        return false;
+    }
+    if d.reserved != front.reserved {
+        return false;
+    }
+    if d.order != front.order {
+        return false;
+    }
+    if d.local != front.local {
+        return false;
+    }
+    d.dev.is_none()
 }
 
-/// Whether a definition is of this local message type, and has these five bytes after its record header.
-fn begins_as<A: Allocator>(d: &MessageDef<A>, local: u8, front: &[u8]) -> bool
-    requires { length front.now ≡ 5 }
-    ensures { result ≡ true → BeginsAs d.now local front.now }
+/// Whether these are the bytes of a field.
+#[inline(always)]
+fn is_field(field: &FieldDef, bytes: &[u8]) -> bool
+    requires { length bytes.now ≡ 3 }
+    ensures { result ≡ true → field_bytes field.now ≡ bytes.now }
 {
-    if d.local != local {
-        return false;
-    }
-    if d.reserved != front[0] {
-        return false;
-    }
-    if !names_order(front[1], d.order) {
-        return false;
-    }
-    if d.global != global_of(d.order, front[2], front[3]) {
-        return false;
-    }
-    if d.fields.len() != front[4] as usize {
-        return false;
-    }
-    true
+    (bytes[0] == field.number) & (bytes[1] == field.size) & (bytes[2] == field.code)
+}
+
+/// Whether these are the bytes of four fields.
+#[inline(always)]
+fn are_four(fields: &[FieldDef], bytes: &[u8]) -> bool
+    requires four { length fields.now ≡ 4 }
+    requires long { length bytes.now ≡ 12 }
+    ensures { result ≡ true → flat_map field_bytes fields.now ≡ bytes.now }
+{
+    is_field(&fields[0], &bytes[..3])
+        & is_field(&fields[1], &bytes[3..6])
+        & is_field(&fields[2], &bytes[6..9])
+        & is_field(&fields[3], &bytes[9..])
+}
+
+/// Whether these are the bytes of eight fields: so many are compared at once.
+#[inline(always)]
+fn are_eight(fields: &[FieldDef], bytes: &[u8]) -> bool
+    requires eight { length fields.now ≡ 8 }
+    requires long { length bytes.now ≡ 24 }
+    ensures { result ≡ true → flat_map field_bytes fields.now ≡ bytes.now }
+{
+    let (four, others) = fields.split_at(4);
+    let (front, back) = bytes.split_at(12);
+    are_four(four, front) & are_four(others, back)
 }
 
 /// Whether these are the bytes of the fields, three for each.
+#[inline(always)]
 fn are_fields(fields: &[FieldDef], bytes: &[u8]) -> bool
-    requires { length bytes.now ≡ length fields.now * 3 }
+    requires { length bytes.now ≡ 3 * length fields.now }
+    ensures { result ≡ true → flat_map field_bytes fields.now ≡ bytes.now }
+{
+    let mut left = fields;
+    let mut rest = bytes;
+    for _ in 0..fields.len() / 8 {
+        let (eight, others) = left.split_at(8);
+        let (front, back) = rest.split_at(24);
+        if !are_eight(eight, front) {
+            return false;
+        }
+        left = others;
+        rest = back;
+    }
+    are_few(left, rest)
+}
+
+/// The same, one by one.
+#[inline(always)]
+fn are_few(fields: &[FieldDef], bytes: &[u8]) -> bool
+    requires { length bytes.now ≡ 3 * length fields.now }
     ensures { result ≡ true → flat_map field_bytes fields.now ≡ bytes.now }
 {
     let mut rest = bytes;
     for field in fields {
-        let (entry, after) = rest.split_at(3);
-        if entry[0] != field.number {
+        let (front, back) = rest.split_at(3);
+        if !is_field(field, front) {
             return false;
         }
-        if entry[1] != field.size {
-            return false;
-        }
-        if entry[2] != field.code {
-            return false;
-        }
-        rest = after;
+        rest = back;
     }
     true
 }
 
-/// How many bytes the definition message has that begins the piece, where all its bytes are there, it has no developer fields, and it
-/// says just what its local message type is defined as already. With it nothing changes, and no memory is taken.
-pub(crate) fn repeated_definition<A: Allocator>(env: &Env<A>, piece: &[u8]) -> Option<usize>
-    ensures within { IfSome result (λ used. (0 < used) × (used ≤ length piece.now)) }
-    ensures skipped { IfSome result (λ used. IsSkipped env.now env.now (take used piece.now)) }
+/// Whether a definition message says just what its local message type is defined as already, without developer fields. With it
+/// nothing changes.
+#[inline(always)]
+pub(crate) fn is_known<A: Allocator>(env: &Env<A>, front: Front, entries: &[u8]) -> bool
+    requires { length entries.now ≡ 3 * front.count }
+    ensures { result ≡ true → SaysNothingNew env.now front entries.now }
 {
-    let (header, rest) = piece.split_first()?;
-    let byte = *header;
-    if has_reserved_bit(byte) || !is_definition(byte) || has_developer_fields(byte) {
-        return None;
+    let Some(defined) = env.defined(front.local) else {
+        return false;
+    };
+    if !begins_as(&defined.definition, front) {
+        return false;
     }
-    if rest.len() < 5 {
-        return None;
-    }
-    let (front, after) = rest.split_at(5);
-    let local = local_type(byte);
-    let defined = env.defined(local)?;
-    match &defined.definition.dev {
-        Some(_) => return None,
-        None => {}
-    }
-    if !begins_as(&defined.definition, local, front) {
-        return None;
-    }
-    let size = 3 * front[4] as usize;
-    if after.len() < size {
-        return None;
-    }
-    let (entries, _) = after.split_at(size);
-    if !are_fields(defined.definition.fields.as_slice(), entries) {
-        return None;
-    }
-    Some(6 + size)
+    are_fields(defined.definition.fields.as_slice(), entries)
 }

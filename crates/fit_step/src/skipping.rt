@@ -7,8 +7,8 @@ ghost use Rattle.fit_step.specs.Skipping.{size_to_skip, AreSizesToSkip, HeadsMes
 
 use crate::Position;
 use crate::header::{has_reserved_bit, is_definition, local_type};
-use crate::read_definition::whole_definition;
-use crate::repeated::repeated_definition;
+use crate::read_definition::{definition_bytes, read_fields, with_fields};
+use crate::repeated::is_known;
 use fit_record::{Env, FIELD_DESCRIPTION, Record};
 use std::alloc::Allocator;
 
@@ -70,7 +70,7 @@ fn message_to_skip(sizes: &[u32; 16], bytes: &[u8]) -> usize
 }
 
 /// Learns the definition message that begins these bytes, where all of it stands there and it has no developer fields: how many
-/// bytes it has, or else 0.
+/// bytes it has, or else 0. One that is known already takes no memory.
 fn skip_definition<A: Allocator + Copy>(
     alloc: A,
     env: &mut Env<A>,
@@ -83,15 +83,21 @@ fn skip_definition<A: Allocator + Copy>(
     ensures none { result ≡ 0 → env.new ≡ env.old }
     ensures skipped { 0 < result → IsSkipped env.old env.new (take result bytes.now) }
 {
-    let Some((definition, size)) = whole_definition(alloc, bytes) else {
+    let Some((front, entries)) = definition_bytes(bytes) else {
         return 0;
     };
-    let local = definition.local;
-    match env.define(definition) {
+    let size = 6 + entries.len();
+    if is_known(env, front, entries) {
+        return size;
+    }
+    let Ok(fields) = read_fields(alloc, front.count, entries) else {
+        return 0;
+    };
+    match env.define(with_fields(front, fields)) {
         Ok(()) => {}
         Err(_) => return 0,
     }
-    sizes[local as usize] = size_to_skip(env, local);
+    sizes[front.local as usize] = size_to_skip(env, front.local);
     size
 }
 
@@ -112,10 +118,7 @@ fn skip_record<A: Allocator + Copy>(
     if size > 0 {
         return size;
     }
-    match repeated_definition(env, bytes) {
-        Some(size) => size,
-        None => skip_definition(alloc, env, sizes, bytes),
-    }
+    skip_definition(alloc, env, sizes, bytes)
 }
 
 /// Skips complete records at the front of these bytes: how many bytes they have, and how many they are. What they define is learned.

@@ -3,7 +3,7 @@ use Rattle.fit_sum.proofs.Common.{◌≡◌, ℕ, zero, suc, ◌+◌, ◌*◌, �
 use Rattle.fit_sum.proofs.Common.{drop-drop, take-add, subst, add-one, drop-cons, bit_xor, xor_assoc, xor_zero_l, pow-suc, xor_lt, take_all, AllBytes}
 use Rattle.fit_sum.proofs.Common.{bytes_number, words_from, mix}
 use Rattle.fit_sum.proofs.ShiftsOfSums.{xor_pairs, xor_apart, shl-xor}
-use Rattle.fit_sum.proofs.Common.{IsWords, words_number}
+use Rattle.fit_sum.proofs.TurnsAreShifts.{IsWords, joined}
 
 -- ---- eight bytes
 one_at : (k i : ℕ) (bytes : List ℕ) → i < length bytes → take (suc k) (drop i bytes) ≡ get_or bytes i 0 ∷ take k (drop (i + 1) bytes)
@@ -89,9 +89,8 @@ unfolding words_from
 length-words_from zero i bytes = refl
 length-words_from (suc k) i bytes = ap suc (length-words_from k (suc i) bytes)
 
-joined-words_from : (k i : ℕ) (bytes : List ℕ) → 8 * (i + k) ≤ length bytes
-    → words_number (words_from i k bytes) ≡ bytes_number (take (8 * k) (drop (8 * i) bytes))
-unfolding words_from words_number
+joined-words_from : (k i : ℕ) (bytes : List ℕ) → 8 * (i + k) ≤ length bytes → joined (words_from i k bytes) ≡ bytes_number (take (8 * k) (drop (8 * i) bytes))
+unfolding words_from joined
 joined-words_from zero i bytes h = sym number-none
 joined-words_from (suc k) i bytes h =
     let rest = drop (8 * i) bytes in
@@ -109,14 +108,14 @@ joined-words_from (suc k) i bytes h =
     ∙ ap (λ n. bytes_number (take n rest)) (sym count)
 
 -- the sixteen words of a block
-pub joined-block : (block : List ℕ) → length block ≡ 128 → words_number (words_from 0 16 block) ≡ bytes_number block
+pub joined-block : (block : List ℕ) → length block ≡ 128 → joined (words_from 0 16 block) ≡ bytes_number block
 joined-block block n =
     let all : length block ≤ 128 = omega arith in
     joined-words_from 16 0 block (omega arith) ∙ ap bytes_number (take_all 128 block all)
 
 -- ---- words added to words
-pub joined-mix : (xs ys : List ℕ) → length xs ≡ length ys → IsWords xs → IsWords ys → words_number (mix xs ys) ≡ bit_xor (words_number xs) (words_number ys)
-unfolding words_number mix
+pub joined-mix : (xs ys : List ℕ) → length xs ≡ length ys → IsWords xs → IsWords ys → joined (mix xs ys) ≡ bit_xor (joined xs) (joined ys)
+unfolding joined mix
 joined-mix [] [] n p q = refl
 joined-mix [] (y ∷ ys) n p q = absurd (omega arith)
 joined-mix (x ∷ xs) [] n p q = absurd (omega arith)
@@ -124,12 +123,12 @@ joined-mix (x ∷ xs) (y ∷ ys) n p q =
     let same : length xs ≡ length ys = omega arith in
     rw (
       joined-mix xs ys same p.1 q.1,
-      ← xor_apart 64 (bit_xor x y) (bit_xor (words_number xs) (words_number ys)) (xor_lt 64 x y p.0 q.0),
-      ← xor_apart 64 x (words_number xs) p.0,
-      ← xor_apart 64 y (words_number ys) q.0,
-      shl-xor 64 (words_number xs) (words_number ys),
+      ← xor_apart 64 (bit_xor x y) (bit_xor (joined xs) (joined ys)) (xor_lt 64 x y p.0 q.0),
+      ← xor_apart 64 x (joined xs) p.0,
+      ← xor_apart 64 y (joined ys) q.0,
+      shl-xor 64 (joined xs) (joined ys),
     )
-    (xor_pairs x y (2 ^ 64 * words_number xs) (2 ^ 64 * words_number ys))
+    (xor_pairs x y (2 ^ 64 * joined xs) (2 ^ 64 * joined ys))
 
 pub IsWords-mix : (xs ys : List ℕ) → IsWords xs → IsWords ys → IsWords (mix xs ys)
 unfolding mix

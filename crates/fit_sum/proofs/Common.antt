@@ -15,9 +15,6 @@ pub use Rattle.std.specs.Prelude.{flat_map, if◌then◌else◌}
 pub use Rattle.std.specs.Simd.{first_chunks}
 pub use Rattle.fit_sum.specs.Checksum.{add_to_front, divisor, remainder, low_bits, from_bits}
 unfoldable pub use Rattle.fit_sum.specs.Checksum.{checksum}
-pub use Rattle.fit_sum.specs.inner.Register.{AllBytes}
-pub use Rattle.fit_sum.specs.inner.Kept.{Keeps, IsSumOf, MovesOn}
-unfoldable pub use Rattle.fit_sum.specs.inner.Kept.{Carries}
-pub use Rattle.fit_sum.specs.inner.Words.{IsWords}
+pub use Rattle.fit_sum.specs.inner.Register.{AllBytes, IsSumOf}
 unfoldable pub use Rattle.fit_sum.specs.inner.Register.{shifts, run, shift}
-unfoldable pub use Rattle.fit_sum.specs.inner.Words.{bytes_number, words_from, mix, turns, spelled, words_number, xor_into, turn}
+unfoldable pub use Rattle.fit_sum.specs.inner.Words.{bytes_number, words_from, mix, turns, spelled, xor_into, turn}

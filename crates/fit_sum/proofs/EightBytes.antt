@@ -1,4 +1,4 @@
--- Eight bytes at once: the register is the sum of what each of them gives alone.
+-- Two and eight bytes at once: the register is the sum of what each of them gives alone.
 use Rattle.fit_sum.proofs.Common.{◌≡◌, ℕ, ◌+◌, ◌*◌, ◌/◌, ◌%◌, ◌<◌, List, [], ◌∷◌, length, get_or, refl, ap, sym, ◌∙◌, arith, bit_xor, xor_assoc, xor_zero_l}
 use Rattle.fit_sum.proofs.Common.{xor_comm, shifts, run, AllBytes, bytes_number}
 use Rattle.fit_sum.proofs.ShiftsOfSums.{steps-xor, steps-add}
@@ -22,6 +22,10 @@ run-first n x bytes h e =
     ∙ ap (λ t. bit_xor (shifts t (shifts 8 x)) (run 0 bytes)) e
     ∙ ap (λ t. bit_xor t (run 0 bytes)) (sym (steps-add 8 n x))
 
+run-two : (a b : ℕ) → b < 256 → run 0 (a ∷ b ∷ []) ≡ bit_xor (shifts 16 a) (shifts 8 b)
+unfolding run
+run-two a b h = run-first 8 a (b ∷ []) (h, tt) refl ∙ ap (λ t. bit_xor (shifts 16 a) (shifts 8 t)) (xor_zero_l b)
+
 run-eight : (a b c d e f g h : ℕ) → AllBytes (b ∷ c ∷ d ∷ e ∷ f ∷ g ∷ h ∷ [])
     → run 0 (a ∷ b ∷ c ∷ d ∷ e ∷ f ∷ g ∷ h ∷ [])
     ≡ bit_xor (shifts 64 a) (bit_xor (shifts 56 b)
@@ -34,8 +38,7 @@ run-eight a b c d e f g h p =
     ∙ ap (bit_xor (shifts 48 c)) (run-first 32 d (e ∷ f ∷ g ∷ h ∷ []) p.1.1.1 refl
     ∙ ap (bit_xor (shifts 40 d)) (run-first 24 e (f ∷ g ∷ h ∷ []) p.1.1.1.1 refl
     ∙ ap (bit_xor (shifts 32 e)) (run-first 16 f (g ∷ h ∷ []) p.1.1.1.1.1 refl
-    ∙ ap (bit_xor (shifts 24 f)) (run-first 8 g (h ∷ []) p.1.1.1.1.1.1 refl
-    ∙ ap (bit_xor (shifts 16 g)) (ap (shifts 8) (xor_zero_l h))))))))
+    ∙ ap (bit_xor (shifts 24 f)) (run-two g h p.1.1.1.1.1.1.0))))))
 
 -- the register goes into the first two bytes
 run-register : (c a b : ℕ) (bytes : List ℕ) → a < 256 → run c (a ∷ b ∷ bytes) ≡ run 0 (bit_xor (c % 256) a ∷ bit_xor (c / 256) b ∷ bytes)
@@ -57,3 +60,8 @@ eight c (x ∷ y ∷ d ∷ e ∷ f ∷ g ∷ h ∷ i ∷ []) second n below =
     sym (run-eight (bit_xor (c % 256) x) (bit_xor (c / 256) y) d e f g h i rest)
     ∙ sym (run-register c x y (d ∷ e ∷ f ∷ g ∷ h ∷ i ∷ []) (below 0))
 eight c bytes second n below = absurd (omega arith)
+
+pub two : (c : ℕ) (bytes : List ℕ) → bit_xor (c / 256) (get_or bytes 1 0) < 256 → length bytes ≡ 2 → ((i : ℕ) → get_or bytes i 0 < 256)
+    → bit_xor (shifts 16 (bit_xor (c % 256) (get_or bytes 0 0))) (shifts 8 (bit_xor (c / 256) (get_or bytes 1 0))) ≡ run c bytes
+two c (x ∷ y ∷ []) second n below = sym (run-two (bit_xor (c % 256) x) (bit_xor (c / 256) y) second) ∙ sym (run-register c x y [] (below 0))
+two c bytes second n below = absurd (omega arith)

@@ -13,4 +13,3 @@ mod TurnsAreShifts
 mod BytesOfWords
 mod SpelledWords
 mod BlocksOfWords
-mod Windows

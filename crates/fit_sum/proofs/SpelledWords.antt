@@ -3,7 +3,7 @@ use Rattle.fit_sum.proofs.Common.{◌≡◌, ℕ, ◌+◌, ◌*◌, ◌^◌, ◌
 use Rattle.fit_sum.proofs.Common.{to_le_bytes, w64, take-suc, from_le_bytes-to_le_bytes_8, append-nil, run, AllBytes, bytes_number, spelled}
 use Rattle.fit_sum.proofs.Division.{run-append}
 use Rattle.fit_sum.proofs.RegisterOfAdded.{IsBytes-append}
-use Rattle.fit_sum.proofs.Common.{IsWords, words_number}
+use Rattle.fit_sum.proofs.TurnsAreShifts.{IsWords, joined}
 use Rattle.fit_sum.proofs.BytesOfWords.{number-none, number-eight, number-append}
 
 number-word : (w : ℕ) → w < 2 ^ 64 → bytes_number (to_le_bytes w64 w) ≡ w
@@ -22,8 +22,8 @@ unfolding spelled
 length-spelled [] = refl
 length-spelled (w ∷ words) = omega (arith, length-spelled words)
 
-pub number-spelled : (words : List ℕ) → IsWords words → bytes_number (spelled words) ≡ words_number words
-unfolding spelled words_number
+pub number-spelled : (words : List ℕ) → IsWords words → bytes_number (spelled words) ≡ joined words
+unfolding spelled joined
 number-spelled [] h = number-none
 number-spelled (w ∷ words) h =
     number-append (to_le_bytes w64 w) (spelled words)

@@ -4,7 +4,6 @@
 mod slices;
 mod sum;
 mod tables;
-mod window;
 mod words;
 
 pub use crate::sum::Sum;

@@ -1,16 +1,14 @@
-//! Eight bytes at once: the part that each of them has in the register, from a table of its own.
-ghost use Rattle.std.specs.Prelude.{◌≡◌, bit_xor};
+//! Several bytes at once: the part that each of them has in the register, from a table of its own.
+ghost use Rattle.std.specs.Prelude.{◌≡◌, ◌%◌, ◌/◌, bit_xor};
 ghost use Rattle.fit_sum.specs.inner.Register.{shifts, run};
 
-use crate::tables::{
-    after_8, after_16, after_24, after_32, after_40, after_48, after_56, after_64,
-};
+use crate::tables::left_after;
 
 fn add_one(register: u16, byte: u8) -> u16
     ensures { result ≡ shifts 8 (bit_xor register byte) }
 {
     let low = (register % 256) as u8;
-    (register >> 8) ^ after_8(low ^ byte)
+    (register >> 8) ^ left_after(1, low ^ byte)
 }
 
 fn add_each(register: u16, bytes: &[u8]) -> u16
@@ -23,20 +21,53 @@ fn add_each(register: u16, bytes: &[u8]) -> u16
     sum
 }
 
+/// The low and the high byte of the register, with two more bytes in them.
+#[inline(always)]
+fn with_two(register: u16, a: u8, b: u8) -> (u8, u8)
+    ensures low { result.0 ≡ bit_xor (register % 256) a }
+    ensures high { result.1 ≡ bit_xor (register / 256) b }
+{
+    let word = register ^ u16::from_le_bytes([a, b]);
+    ((word % 256) as u8, (word / 256) as u8)
+}
+
+/// The register after two more bytes.
+fn add_two(register: u16, bytes: &[u8; 2]) -> u16
+    ensures { result ≡ run register bytes.now }
+{
+    let [a, b] = *bytes;
+    let (low, high) = with_two(register, a, b);
+    left_after(2, low) ^ left_after(1, high)
+}
+
 /// The register after eight more bytes.
 pub(crate) fn add_eight(register: u16, bytes: &[u8; 8]) -> u16
     ensures { result ≡ run register bytes.now }
 {
     let [a, b, c, d, e, f, g, h] = *bytes;
-    let low = (register % 256) as u8;
-    let high = (register / 256) as u8;
-    after_64(low ^ a)
-        ^ (after_56(high ^ b)
-            ^ (after_48(c)
-                ^ (after_40(d) ^ (after_32(e) ^ (after_24(f) ^ (after_16(g) ^ after_8(h)))))))
+    let (low, high) = with_two(register, a, b);
+    left_after(8, low)
+        ^ (left_after(7, high)
+            ^ (left_after(6, c)
+                ^ (left_after(5, d)
+                    ^ (left_after(4, e)
+                        ^ (left_after(3, f) ^ (left_after(2, g) ^ left_after(1, h)))))))
 }
 
-/// The register after more bytes, eight at a time and the rest one by one.
+/// The register after more bytes, two at a time and the last one alone.
+fn add_by_twos(register: u16, bytes: &[u8]) -> u16
+    ensures { result ≡ run register bytes.now }
+{
+    let (whole, rest) = bytes.as_chunks::<2>();
+    let mut sum = register;
+    for two in whole {
+        sum = add_two(sum, two);
+    }
+    add_each(sum, rest)
+}
+
+/// The register after more bytes, eight at a time and the rest two by two.
+#[inline(always)]
 pub(crate) fn add_by_eights(register: u16, bytes: &[u8]) -> u16
     ensures { result ≡ run register bytes.now }
 {
@@ -45,5 +76,5 @@ pub(crate) fn add_by_eights(register: u16, bytes: &[u8]) -> u16
     for eight in whole {
         sum = add_eight(sum, eight);
     }
-    add_each(sum, rest)
+    add_by_twos(sum, rest)
 }

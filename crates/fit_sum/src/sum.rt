@@ -1,9 +1,9 @@
 //! A running checksum, which contracts see as the bytes that were added to it.
 ghost use Rattle.std.specs.Prelude.{◌≡◌, ℕ, List, [], ◌∷◌, ◌++◌};
 ghost use Rattle.fit_sum.specs.Checksum.{checksum};
-ghost use Rattle.fit_sum.specs.inner.Kept.{IsSumOf};
+ghost use Rattle.fit_sum.specs.inner.Register.{IsSumOf};
 
-use crate::window::{add_to, sum_of};
+use crate::words::add_bytes;
 use fit_history::History;
 use std::marker::Model;
 
@@ -12,13 +12,7 @@ use std::marker::Model;
 /// A contract sees it as the list of these bytes. It takes no memory, and no call fails.
 #[derive(Drop)]
 pub struct Sum {
-    /// The register of words, after the bytes before those in the window.
-    words: [u64; 16],
-    /// The last bytes that were added, at least 128 where there are more. They wait here until they make a block, so that
-    /// adding a few bytes costs little more than to copy them.
-    window: [u8; 256],
-    /// How many bytes are in the window.
-    count: usize,
+    register: u16,
     added: History<u8>,
 }
 
@@ -27,7 +21,7 @@ impl Model for Sum {
 
     ghost view = { λ sum. sum.added.items };
 
-    ghost invariant = { λ sum. IsSumOf sum.words sum.window sum.count sum.added.items };
+    ghost invariant = { λ sum. IsSumOf sum.register sum.added.items };
 }
 
 impl Sum {
@@ -36,9 +30,7 @@ impl Sum {
         ensures { result ≡ [] }
     {
         Sum {
-            words: [0; 16],
-            window: [0; 256],
-            count: 0,
+            register: 0,
             added: History::new(),
         }
     }
@@ -51,11 +43,11 @@ impl Sum {
     }
 
     /// Adds several bytes. For long pieces this is many times as fast as `add` for each of them.
-    #[inline]
+    #[inline(always)]
     pub fn add_all(&mut self, bytes: &[u8])
         ensures { self.new ≡ self.old ++ bytes.now }
     {
-        self.count = add_to(&mut self.words, &mut self.window, self.count, bytes);
+        self.register = add_bytes(self.register, bytes);
         self.added.note(bytes);
     }
 
@@ -63,6 +55,6 @@ impl Sum {
     pub fn value(&self) -> u16
         ensures { result ≡ checksum self.now }
     {
-        sum_of(&self.words, &self.window, self.count)
+        self.register
     }
 }

@@ -3,13 +3,12 @@
 //! Over 0 and 1 the divisor x^16 + x^15 + x^2 + 1 to the power 64 is
 //! x^1024 + x^960 + x^128 + 1. So the register of sixteen bits may be one of sixteen words: the
 //! word that is shifted out goes into three places, and no table is needed.
-ghost use Rattle.std.specs.Prelude.{◌≡◌, ℕ, ◌<◌, ◌*◌, List, ◌++◌, take, drop};
+ghost use Rattle.std.specs.Prelude.{◌≡◌, ◌<◌, ◌++◌, ◌*◌, take, drop};
 ghost use Rattle.std.specs.List.{concat};
 ghost use Rattle.fit_sum.specs.inner.Register.{run, AllBytes};
 ghost use Rattle.fit_sum.specs.inner.Words.{bytes_number, turns, words_from, mix, spelled};
-ghost use Rattle.fit_sum.specs.inner.Kept.{Keeps};
 
-use crate::slices::add_eight;
+use crate::slices::{add_by_eights, add_eight};
 
 /// Word `at` of a block, its lowest byte first.
 #[inline]
@@ -32,7 +31,7 @@ fn word(block: &[u8; 128], at: usize) -> u64
 
 /// The words of a block, with the register's words added to them.
 #[inline]
-pub(crate) fn mixed(register: &[u64; 16], block: &[u8; 128]) -> [u64; 16]
+fn mixed(register: &[u64; 16], block: &[u8; 128]) -> [u64; 16]
     ensures sums { result ≡ mix register.now (words_from 0 16 block.now) }
     ensures bytes { AllBytes block.now }
 {
@@ -98,7 +97,7 @@ fn shifted(register: &[u64; 16]) -> [u64; 16]
 }
 
 /// What the words leave of a register, as the bytes that they are.
-pub(crate) fn add_words(words: &[u64; 16]) -> u16
+fn add_words(words: &[u64; 16]) -> u16
     ensures { result ≡ run 0 (spelled words.now) }
 {
     let mut sum = 0;
@@ -108,14 +107,38 @@ pub(crate) fn add_words(words: &[u64; 16]) -> u16
     sum
 }
 
-/// The register of words after more blocks.
-#[inline(always)]
-pub(crate) fn add_blocks(words: &mut [u64; 16], blocks: &[[u8; 128]])
-    ensures { (front : List ℕ) → Keeps front words.old → Keeps (front ++ concat blocks.now) words.new }
+/// The register after some blocks and one more.
+fn add_blocks(register: u16, front: &[[u8; 128]], last: &[u8; 128]) -> u16
+    ensures { result ≡ run register (concat front.now ++ last.now) }
 {
-    let mut register = *words;
-    for block in blocks {
-        register = shifted(&mixed(&register, block));
+    let mut words = [0; 16];
+    words[0] = u64::from(register);
+    for block in front {
+        words = shifted(&mixed(&words, block));
     }
-    *words = register;
+    add_words(&mixed(&words, last))
+}
+
+/// The register after more bytes: whole blocks by words, and the rest by eights.
+#[inline(never)]
+fn add_long(register: u16, bytes: &[u8]) -> u16
+    ensures { result ≡ run register bytes.now }
+{
+    let (whole, rest) = bytes.as_chunks::<128>();
+    match whole.split_last() {
+        None => add_by_eights(register, bytes),
+        Some((last, front)) => add_by_eights(add_blocks(register, front, last), rest),
+    }
+}
+
+/// The register after more bytes. Where they are few, little is done besides the look-ups.
+#[inline(always)]
+pub(crate) fn add_bytes(register: u16, bytes: &[u8]) -> u16
+    ensures { result ≡ run register bytes.now }
+{
+    if bytes.len() < 256 {
+        add_by_eights(register, bytes)
+    } else {
+        add_long(register, bytes)
+    }
 }

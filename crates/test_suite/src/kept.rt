@@ -1,7 +1,9 @@
 //! Known files, written again from records that are kept as their bytes.
 
+use crate::written::header;
 use fit_decode::read_chain;
-use fit_encode::{CutSink, SpelledFile, SpelledRecords, write_spelled};
+use fit_encode::{CutSink, EncodeFault, SpelledFiles, SpelledRecords, write_spelled};
+use fit_frame::HeaderSum;
 use fit_record::{Env, FitFile, Record};
 use std::alloc::Global;
 use std::test::Fail;
@@ -24,15 +26,35 @@ fn known_files(rt: HostRuntime) -> Result<(), Fail> {
     let alloc = rt.alloc();
     for known in files() {
         let mut source = known.bytes;
-        let mut files = Vec::new(alloc);
+        let mut files = SpelledFiles::new(alloc);
         for file in read_chain(alloc, &mut source)? {
             let FitFile { header, records } = file;
-            files.push(SpelledFile::new(header, keep(alloc, records.as_slice())?))?;
+            let mut kept = keep(alloc, records.as_slice())?;
+            files.push(&header, &mut kept)?;
         }
         let mut sink = CutSink::<256>::new(256);
-        let answer = write_spelled(&mut sink, files.as_slice());
+        let answer = write_spelled(&mut sink, &files);
         assert_eq!(rt; answer, Ok(()), "{}", known.name);
         assert_eq!(rt; sink.bytes(), known.bytes, "{}", known.name);
     }
+    Ok(())
+}
+
+#[test]
+fn first_fault_of_several(rt: HostRuntime) -> Result<(), Fail> {
+    let alloc = rt.alloc();
+    let mut files = SpelledFiles::new(alloc);
+    let mut none = SpelledRecords::new(alloc);
+    let mut sink = CutSink::<64>::new(64);
+    assert_eq!(rt; files.is_empty(), true);
+    let answer = write_spelled(&mut sink, &files);
+    assert_eq!(rt; answer, Err(EncodeFault::ChainLength));
+    files.push(&header(12, 0, HeaderSum::Absent), &mut none)?;
+    files.push(&header(14, 46477, HeaderSum::Zero), &mut none)?;
+    files.push(&header(13, 0, HeaderSum::True), &mut none)?;
+    assert_eq!(rt; (files.is_empty(), files.has_room()), (false, true));
+    let answer = write_spelled(&mut sink, &files);
+    assert_eq!(rt; answer, Err(EncodeFault::ZeroIsSum { file: 2 }));
+    assert_eq!(rt; sink.bytes(), b"".as_slice());
     Ok(())
 }

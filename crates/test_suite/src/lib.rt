@@ -44,8 +44,8 @@ mod sources;
 #[cfg(test)]
 mod starved;
 #[cfg(test)]
-mod steps;
-#[cfg(test)]
 mod sums;
+#[cfg(test)]
+mod whole_records;
 #[cfg(test)]
 mod written;

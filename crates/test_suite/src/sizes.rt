@@ -1,8 +1,9 @@
 //! What no contract says: how little is kept between the bytes of a file.
 use fit_decode::Decoder;
 use fit_frame::{HeadReader, Reason};
+use fit_history::History;
 use fit_record::{Defined, DevKey, Env, Record};
-use fit_step::{Partial, Position};
+use fit_step::Position;
 use fit_sum::Sum;
 use std::collections::BTreeMap;
 use std::mem;
@@ -13,14 +14,28 @@ const LIST: usize = 24;
 /// The bytes of the address of one.
 const ADDRESS: usize = 8;
 
+/// A sum is a register of sixteen bits. What was added to it has no bytes.
 #[test]
-fn no_list_in_a_position(rt: HostRuntime) {
-    assert!(rt; mem::size_of::<Partial>() < LIST);
-    assert!(rt; mem::size_of::<Position>() < mem::size_of::<Partial>() + LIST);
+fn no_byte_that_was_added_in_a_sum(rt: HostRuntime) {
+    assert!(rt; mem::size_of::<Sum>() <= 16);
+    assert!(rt; mem::size_of::<History<u8>>() == 0);
 }
 
-/// Beside what is known and the record in progress, a decoder has no room for the address of a list. Two of its parts are shorter than
-/// an address, and lie in as many bytes.
+/// The bytes of a header, how many they are, and the refusal.
+#[test]
+fn no_list_in_a_reader_of_headers(rt: HostRuntime) {
+    let bytes = mem::size_of::<[u8; 255]>();
+    assert!(rt; mem::size_of::<HeadReader>() < bytes + LIST);
+}
+
+/// The bytes of a number, at most eight, and how many they are; what the next byte is; how many bytes are to come.
+#[test]
+fn no_list_in_a_position(rt: HostRuntime) {
+    assert!(rt; mem::size_of::<Position>() <= 32);
+}
+
+/// Beside what is known and the record in progress, a decoder has no room for the address of a list. Three of its parts are shorter
+/// than an address, and lie in as many bytes.
 #[test]
 fn no_list_in_a_decoder(rt: HostRuntime) {
     let held = mem::size_of::<Env>() + mem::size_of::<Option<Record>>();

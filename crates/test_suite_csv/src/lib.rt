@@ -1,10 +1,13 @@
-//! Tests over `fit_profile`, `fit_cells`, `fit_csv` and `fit_examples`. They stand apart so that the proofs of those crates stay short.
+//! Tests over `fit_profile`, `fit_cells`, `fit_rows`, `fit_csv` and `fit_examples`. They stand apart so that the proofs of those crates
+//! stay short.
 #![tactic(auto)]
 
 #[cfg(test)]
 mod big;
 #[cfg(test)]
 mod cells;
+#[cfg(test)]
+mod columns;
 #[cfg(test)]
 mod conversions;
 #[cfg(test)]
@@ -25,3 +28,7 @@ mod streams;
 mod taken;
 #[cfg(test)]
 mod values;
+#[cfg(test)]
+mod whole;
+#[cfg(test)]
+mod written;

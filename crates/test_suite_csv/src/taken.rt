@@ -8,7 +8,7 @@ ghost use Rattle.fit_record.specs.declared.message.Values.{Values};
 use crate::streams::{push_definition, push_descriptions, push_dev_definition, push_distance};
 use fit_base::Order;
 use fit_base::base_type::{BYTE, UINT32};
-use fit_profile::Stream;
+use fit_profile::{Fixed, Stream};
 use fit_record::{Env, FieldDef};
 use std::process::Abort;
 use test_known::protocol::{COMPRESSED_SPEED_DISTANCE, RECORD, TIMESTAMP};
@@ -61,6 +61,60 @@ fn messages_that_count(rt: HostRuntime) {
     take(&rt, &mut stream, &[0x00, 0x64, 0, 0x10], None);
     // The counter has wrapped.
     push_distance(&rt, alloc, &mut stream, &[0x64, 0, 0], Some(2_560_000));
+}
+
+/// Asserts the speed, in hundredths, and the accumulated distance, in units of four decimals, of the data message that the bytes are, and
+/// takes it in.
+fn take_amounts(
+    rt: &impl Abort,
+    stream: &mut Stream,
+    bytes: &[u8],
+    speed: Option<i128>,
+    distance: Option<i128>,
+) {
+    if is_message(stream.env(), bytes) {
+        let found = stream.message_amounts(bytes);
+        assert_eq!(rt; found.0, speed.map(|value| Fixed { value, decimals: 2 }));
+        assert_eq!(rt; found.1, distance.map(|value| Fixed { value, decimals: 4 }));
+        stream.take_message(bytes).expect(rt, "memory");
+        return;
+    }
+    assert!(rt; false);
+}
+
+/// The lowest twelve bits are hundredths of a metre in a second, the others sixteenths of a metre.
+#[test]
+fn amounts_of_messages(rt: HostRuntime) {
+    let alloc = rt.alloc();
+    let fields = [FieldDef::new(COMPRESSED_SPEED_DISTANCE, 3, BYTE)];
+    let stamped = [FieldDef::one(TIMESTAMP, UINT32)];
+    let mut stream = Stream::new(alloc);
+    push_definition(&rt, alloc, &mut stream, 0, Order::Big, RECORD, &fields);
+    push_definition(&rt, alloc, &mut stream, 1, Order::Big, RECORD, &stamped);
+    for (bytes, speed, distance) in [
+        ([0x00, 0x64, 0, 0x10], Some(100), Some(160_000)),
+        ([0x00, 0xFF, 0x0F, 0x10], Some(4095), Some(160_000)),
+        // No value.
+        ([0x00, 0xFF, 0xFF, 0xFF], None, None),
+        // The counter has wrapped.
+        ([0x00, 0x01, 0, 0], Some(1), Some(2_560_000)),
+    ] {
+        take_amounts(&rt, &mut stream, &bytes, speed, distance);
+    }
+    take_amounts(
+        &rt,
+        &mut stream,
+        &[0x01, 0x3B, 0x9A, 0xCA, 0x1F],
+        None,
+        None,
+    );
+    take_amounts(
+        &rt,
+        &mut stream,
+        &[0x00, 0, 0, 0x01],
+        Some(0),
+        Some(2_570_000),
+    );
 }
 
 #[test]

@@ -56,11 +56,6 @@ abbrev pub WritesOn : List ℕ → List ℕ → List ℕ → List ℕ → Type 0
 WritesOn from left written more = (text rows : List ℕ) → spot_from RowStart rows ≡ RowStart → StandsFor text from (rows ++ written)
     → StandsFor text left (rows ++ more)
 
--- After any rows, this is how the text ends of which nothing is left.
-abbrev pub WritesEnd : List ℕ → List ℕ → Type 0
-WritesEnd written ended = (text rows : List ℕ) → spot_from RowStart rows ≡ RowStart → StandsFor text [] (rows ++ written)
-    → HasRowsOf st.StartRecord text st.StartRecord (rows ++ ended)
-
 -- The text begins with the end of a row, also that of its last one, and this comes after it.
 abbrev pub EndsLine : List ℕ → List ℕ → Type 0
 EndsLine text left = (text ≡ 10 ∷ left) ⊎ ((text ≡ 13 ∷ 10 ∷ left) ⊎ ((text ≡ []) × (left ≡ [])))

@@ -15,7 +15,7 @@ use Rattle.fit_rows.specs.ChainRows.{data_rows, dev_def_row, field_def_row, file
 use Rattle.fit_csv.specs.Judged.{DevDefInRange, FieldDefInRange, HeaderInRange, IsFileOfRows, RecordInRange}
 use Rattle.fit_csv.specs.inner.Misfits.{HeadInRange, head_row}
 use Rattle.fit_csv.specs.inner.Progress.{dev_total, is_whole, is_whole_message}
-use Rattle.fit_cells.specs.Rows.{Row, csv_text}
+use Rattle.fit_cells.specs.Rows.{Row}
 use Rattle.fit_csv.specs.declared.from.chain.Chain.{Chain}
 use Rattle.fit_csv.specs.declared.from.definition.OpenDefinition.{OpenDefinition}
 use Rattle.fit_csv.specs.declared.from.open_file.OpenFile.{OpenFile}
@@ -95,7 +95,3 @@ current_rows (Some f) = open_file_rows f
 -- the rows after the first line
 abbrev pub rows_so_far : Chain → List Row
 rows_so_far c = flat_map file_rows c.files ++ current_rows c.current
-
--- The text begins with the rows that stand after the ones before, and this is left of it.
-abbrev pub BeginsWithMore : List ℕ → List ℕ → List Row → List Row → Type 0
-BeginsWithMore text left before after = (rows : List Row) × (text ≡ csv_text rows ++ left) × (after ≡ before ++ rows)

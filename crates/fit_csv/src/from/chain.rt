@@ -1,28 +1,24 @@
 //! The files of a chain, of which some rows have come.
-ghost use Rattle.std.specs.Prelude.{◌≡◌, ◌↔◌, IfErr, IfOk, IfSome, IsNone, IsTrue, None, OnOk, Some, codes};
+ghost use Rattle.std.specs.Prelude.{◌≡◌, ◌↔◌, IfErr, IsTrue, None, OnOk, Some, codes};
 ghost use Rattle.fit_csv.specs.declared.from.chain.Chain.{Chain};
 ghost use Rattle.fit_csv.specs.declared.from.open_file.OpenFile.{OpenFile};
 ghost use Rattle.fit_csv.specs.inner.Misfits.{IsMisfit};
 ghost use Rattle.fit_csv.specs.inner.Progress.{ChainStep, nothing_yet};
 ghost use Rattle.fit_csv.specs.inner.Seven.{row_of};
-ghost use Rattle.fit_csv.specs.inner.SoundChain.{BeginsWithMore, IsSoundChain, rows_so_far};
+ghost use Rattle.fit_csv.specs.inner.SoundChain.{IsSoundChain};
 
 use crate::from::cells::{Cells, same};
 use crate::from::header::{file_end, file_header};
 use crate::from::misfit::Misfit;
 use crate::from::open_file::{OpenFile, Part};
-use fit_base::Entries;
-use fit_encode::{SpelledFile, SpelledRecords};
+use fit_encode::{SpelledFiles, SpelledRecords};
 use fit_profile::Stream;
-use fit_record::CHAIN_LIMIT;
-use fit_rows::MessageReader;
 use std::alloc::Global;
-use std::mem;
 
 /// The files of a chain that are whole, and the one that isn't.
 #[derive(Drop)]
 pub(crate) struct Chain {
-    pub files: Entries<SpelledFile>,
+    pub files: SpelledFiles,
     pub current: Option<OpenFile>,
 }
 
@@ -32,19 +28,20 @@ impl Chain {
         ensures { result ≡ nothing_yet }
     {
         Chain {
-            files: Entries::new(alloc),
+            files: SpelledFiles::new(alloc),
             current: None,
         }
     }
 
     /// Takes the row in which a file begins.
+    #[inline(never)]
     fn begin_file(&mut self, alloc: Global, cells: &Cells) -> Result<(), Misfit>
         requires none { self.old.current ≡ None }
         ensures ok { OnOk result (ChainStep self.old (row_of cells.now) self.new) }
         ensures err { IfErr result (IsMisfit (λ r. (t : Chain) × ChainStep self.old r t)
             (row_of cells.now)) }
     {
-        if self.files.len() >= CHAIN_LIMIT as usize {
+        if !self.files.has_room() {
             return Err(Misfit::Kind);
         }
         if !same(cells.kind, b"file") {
@@ -72,6 +69,7 @@ impl Chain {
     }
 
     /// Takes the row in which the current file ends.
+    #[inline(never)]
     fn end_file(&mut self, cells: &Cells) -> Result<(), Misfit>
         requires { (f : OpenFile) × (self.old.current ≡ Some f) × (f.part ≡ Part.Nothing)
             × (cells.now.kind.now ≡ codes "end") }
@@ -80,32 +78,12 @@ impl Chain {
             (row_of cells.now)) }
     {
         file_end(cells)?;
-        let Some(file) = mem::replace(&mut self.current, None) else {
+        let Some(file) = &mut self.current else {
             return Err(Misfit::Kind);
         };
-        match self.files.push(SpelledFile::new(file.header, file.records)) {
-            Ok(()) => Ok(()),
-            Err(_) => Err(Misfit::NoMemory),
-        }
-    }
-
-    /// Takes the record with whose rows a text begins, as `to_csv` writes them, and returns what is left. Where it takes none, nothing
-    /// changes.
-    pub(crate) fn take_message<'a>(
-        &mut self,
-        reader: &mut MessageReader,
-        text: &'a [u8],
-    ) -> Result<Option<&'a [u8]>, Misfit>
-        requires { IsSoundChain self.old }
-        ensures sound { IfOk result (λ found. IfSome found (λ left. IsSoundChain self.new)) }
-        ensures rows { IfOk result (λ found. IfSome found (λ left.
-            BeginsWithMore text.now left.now (rows_so_far self.old) (rows_so_far self.new))) }
-        ensures same { IfOk result (λ found. IsNone found → self.new ≡ self.old) }
-    {
-        match &mut self.current {
-            Some(file) => file.take_message(reader, text),
-            None => Ok(None),
-        }
+        self.files.push(&file.header, &mut file.records)?;
+        self.current = None;
+        Ok(())
     }
 
     /// Takes the next row.

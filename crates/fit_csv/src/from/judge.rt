@@ -1,25 +1,28 @@
 //! Judges the rows of a text.
-ghost use Rattle.std.specs.Prelude.{◌≡◌, ◌↔◌, ◌<◌, ◌+◌, ◌^◌, ◌∷◌, [], None, IfErr, IfOk, IfSome, IsTrue, OnOk, length};
+ghost use Rattle.std.specs.Prelude.{◌≡◌, ◌↔◌, ◌<◌, ◌≤◌, ◌+◌, ◌++◌, ◌^◌, [], List, ℕ, None, IfErr, IfOk, IfSome, IsNone, IsTrue, MatchOption, OnOk, length};
+ghost use Rattle.csv.specs.Reading.{strip_bom};
 ghost use Rattle.csv.specs.Records.{fields_of};
 ghost use Rattle.fit_csv.specs.declared.from.chain.Chain.{Chain};
 ghost use Rattle.fit_csv.specs.Judged.{AreFilesOf};
+ghost use Rattle.fit_csv.specs.inner.Judging.{FailsIn, HasJudged, Judges};
 ghost use Rattle.fit_csv.specs.inner.TextFaults.{IsTextFault, IsUnjudged};
-ghost use Rattle.fit_csv.specs.inner.Progress.{ChainStep};
-ghost use Rattle.fit_cells.specs.Rows.{HasRead, first_line};
+ghost use Rattle.fit_csv.specs.inner.Progress.{ChainStep, nothing_yet};
+ghost use Rattle.fit_cells.specs.Rows.{first_line};
 ghost use Rattle.fit_csv.specs.inner.Seven.{row_of};
 ghost use Rattle.fit_csv.specs.inner.SoundChain.{IsSoundChain};
 
 use crate::CsvFault;
 use crate::from::cells::{Cells, cells_of, same};
 use crate::from::chain::Chain;
-use crate::from::guess::judge_plain;
+use crate::from::guess::take_record;
+use crate::from::loose::without_mark;
 use crate::from::misfit::Misfit;
-use crate::from::window::judge_loose;
-use csv::{ByteRecord, Reader};
-use fit_base::Entries;
-use fit_cells::{next_row, row_reader};
-use fit_encode::SpelledFile;
+use crate::from::reader::RowReader;
+use crate::from::window::{Window, is_loose};
+use csv::ByteRecord;
+use fit_encode::SpelledFiles;
 use fit_numbers::laws::text_has_one_number;
+use fit_rows::MessageReader;
 use std::alloc::Global;
 
 /// Whether cells are those of the first line.
@@ -72,8 +75,8 @@ fn judge_row(
     }
 }
 
-/// The files of a chain of which that many rows have come, where the text may end after them.
-fn whole_files(chain: Chain, rows: u64) -> Result<Entries<SpelledFile>, CsvFault>
+/// The files of a chain of which that many rows have come, the first line too, where the text may end after them.
+fn whole_files(chain: Chain, rows: u64) -> Result<SpelledFiles, CsvFault>
     requires { rows < 2 ^ 63 }
     ensures ok { IfOk result (λ files. (chain.current ≡ None) × (files ≡ chain.files)
         × (0 < length files)) }
@@ -89,68 +92,257 @@ fn whole_files(chain: Chain, rows: u64) -> Result<Entries<SpelledFile>, CsvFault
     Ok(chain.files)
 }
 
-/// Judges the rows after the first line.
-fn judge_rest(
+/// The rows of a text that were judged, and what judges the next ones.
+#[derive(Drop)]
+pub(crate) struct RowJudge {
     alloc: Global,
-    text: &[u8],
-    reader: &mut Reader<&[u8]>,
-    row: &mut ByteRecord,
-) -> Result<Entries<SpelledFile>, CsvFault>
-    requires { HasRead text.now (first_line ∷ []) reader.old }
-    ensures ok { IfOk result (AreFilesOf text.now) }
-    ensures err { IfErr result (IsTextFault text.now) }
-{
-    text_has_one_number();
-    let mut chain = Chain::new(alloc);
-    let mut written = Vec::new(alloc);
-    for number in 1..text.len() + 1 {
-        let Ok(found) = next_row(reader, row) else {
+    pub chain: Chain,
+    /// How many rows have come, the first line too.
+    pub rows: u64,
+    guesser: MessageReader,
+    reader: RowReader,
+    /// The memory of a cell that a row may have.
+    written: Vec<u8>,
+}
+
+impl RowJudge {
+    /// The first line has come.
+    fn new(alloc: Global) -> RowJudge
+        ensures chain { result.chain ≡ nothing_yet }
+        ensures rows { result.rows ≡ 1 }
+    {
+        RowJudge {
+            alloc,
+            chain: Chain::new(alloc),
+            rows: 1,
+            guesser: MessageReader::new(alloc),
+            reader: RowReader::new(alloc),
+            written: Vec::new(alloc),
+        }
+    }
+
+    /// Takes the record with whose rows a text begins, as `to_csv` writes them, and returns what is left. There may be one where it takes
+    /// none, and then nothing changes.
+    fn take_record<'a>(&mut self, text: &'a [u8]) -> Result<Option<&'a [u8]>, CsvFault>
+        requires sound { IsSoundChain self.old.chain }
+        requires few { self.old.rows ≤ 2 ^ 63 }
+        ensures judged { IfOk result (λ found. IfSome found (λ left. (after : List ℕ)
+            → Judges (text.now ++ after) (left.now ++ after) self.old self.new)) }
+        ensures more { IfOk result (λ found. IfSome found (λ left. self.old.rows < self.new.rows)) }
+        ensures chain { IfOk result (λ found. IsNone found → self.new.chain ≡ self.old.chain) }
+        ensures rows { IfOk result (λ found. IsNone found → self.new.rows ≡ self.old.rows) }
+        ensures memory { IfErr result (λ fault. fault ≡ CsvFault.NoMemory) }
+    {
+        let Ok(found) = take_record(&mut self.chain, &mut self.guesser, text) else {
             return Err(CsvFault::NoMemory);
         };
-        if !found {
-            return whole_files(chain, number as u64);
+        let Some((count, left)) = found else {
+            return Ok(None);
+        };
+        self.rows += count;
+        Ok(Some(left))
+    }
+
+    /// Judges the row that was read.
+    fn judge_row(&mut self) -> Result<(), CsvFault>
+        requires sound { IsSoundChain self.old.chain }
+        requires few { self.old.rows ≤ 2 ^ 63 }
+        ensures ok { OnOk result
+            (ChainStep self.old.chain (fields_of self.old.reader.row) self.new.chain) }
+        ensures counted { OnOk result (self.new.rows ≡ self.old.rows + 1) }
+        ensures err { IfErr result (IsUnjudged (λ r. (t : Chain) × ChainStep self.old.chain r t)
+            (fields_of self.old.reader.row) (self.old.rows + 1)) }
+    {
+        let number = self.rows + 1;
+        judge_row(
+            self.alloc,
+            &mut self.written,
+            &mut self.chain,
+            &self.reader.row,
+            number,
+        )?;
+        self.rows = number;
+        Ok(())
+    }
+
+    /// Judges the first row of two texts that stand one after the other, and returns what is left of both, unless no row is left.
+    fn take_row<'a, 'b>(
+        &mut self,
+        front: &'a [u8],
+        back: &'b [u8],
+    ) -> Result<Option<(&'a [u8], &'b [u8])>, CsvFault>
+        requires sound { IsSoundChain self.old.chain }
+        requires few { self.old.rows ≤ 2 ^ 63 }
+        ensures judged { IfOk result (λ found. MatchOption found
+            (Judges (front.now ++ back.now) [] self.old self.new)
+            (λ p. Judges (front.now ++ back.now) (p.0.now ++ p.1.now) self.old self.new)) }
+        ensures more { IfOk result (λ found. IfSome found (λ p. self.old.rows < self.new.rows)) }
+        ensures err { IfErr result (FailsIn (front.now ++ back.now) self.old) }
+    {
+        text_has_one_number();
+        let Some(left) = self.reader.read(front, back)? else {
+            return Ok(None);
+        };
+        self.judge_row()?;
+        Ok(Some(left))
+    }
+
+    /// Judges the record with whose rows the first of two texts begins, where they stand as `to_csv` writes them, or else the first row of
+    /// both. Returns what is left of both, unless no row is left.
+    fn take_next<'a, 'b>(
+        &mut self,
+        front: &'a [u8],
+        back: &'b [u8],
+    ) -> Result<Option<(&'a [u8], &'b [u8])>, CsvFault>
+        requires sound { IsSoundChain self.old.chain }
+        requires few { self.old.rows ≤ 2 ^ 63 }
+        ensures judged { IfOk result (λ found. MatchOption found
+            (Judges (front.now ++ back.now) [] self.old self.new)
+            (λ p. Judges (front.now ++ back.now) (p.0.now ++ p.1.now) self.old self.new)) }
+        ensures more { IfOk result (λ found. IfSome found (λ p. self.old.rows < self.new.rows)) }
+        ensures err { IfErr result (FailsIn (front.now ++ back.now) self.old) }
+    {
+        match self.take_record(front)? {
+            Some(left) => Ok(Some((left, back))),
+            None => self.take_row(front, back),
         }
-        judge_row(alloc, &mut written, &mut chain, row, number as u64 + 1)?;
     }
-    unreachable!()
-}
 
-/// The files whose rows are those of a text, or the first fault of its rows. The crate csv reads its rows.
-fn judge_any(alloc: Global, text: &[u8]) -> Result<Entries<SpelledFile>, CsvFault>
-    ensures ok { IfOk result (AreFilesOf text.now) }
-    ensures err { IfErr result (IsTextFault text.now) }
-{
-    let mut reader = row_reader(alloc, text);
-    let mut row = ByteRecord::new(alloc);
-    let Ok(found) = next_row(&mut reader, &mut row) else {
-        return Err(CsvFault::NoMemory);
-    };
-    if !found {
-        return Err(CsvFault::Header);
+    /// Judges the rows of a window, the last of which may end in the text after it, and returns what is left of that, unless no row is
+    /// left. They are rows of a whole text.
+    fn take_window<'a>(
+        &mut self,
+        whole: &[u8],
+        window: &[u8],
+        after: &'a [u8],
+    ) -> Result<Option<&'a [u8]>, CsvFault>
+        requires { HasJudged whole.now (window.now ++ after.now) self.old.chain self.old.rows }
+        ensures judged { IfOk result (λ found. MatchOption found
+            (HasJudged whole.now [] self.new.chain self.new.rows)
+            (λ left. HasJudged whole.now left.now self.new.chain self.new.rows)) }
+        ensures more { IfOk result (λ found. IfSome found (λ p. self.old.rows < self.new.rows)) }
+        ensures err { IfErr result (IsTextFault whole.now) }
+    {
+        let mut front = window;
+        let mut back = after;
+        for _ in 0..whole.len() + 1 {
+            let Some((rest, left)) = self.take_next(front, back)? else {
+                return Ok(None);
+            };
+            if rest.is_empty() {
+                return Ok(Some(left));
+            }
+            front = rest;
+            back = left;
+        }
+        unreachable!()
     }
-    if !is_first_line(&row) {
-        return Err(CsvFault::Header);
-    }
-    judge_rest(alloc, text, &mut reader, &mut row)
-}
 
-/// The files whose rows are those of a text, where they are found without the crate csv.
-fn judge_fast(alloc: Global, text: &[u8]) -> Option<Entries<SpelledFile>>
-    ensures { IfSome result (AreFilesOf text.now) }
-{
-    match judge_plain(alloc, text) {
-        Some(files) => Some(files),
-        None => judge_loose(alloc, text),
+    /// Judges the first row of what is left of a whole text.
+    fn take_first<'a>(&mut self, whole: &[u8], left: &'a [u8]) -> Result<Option<&'a [u8]>, CsvFault>
+        requires { HasJudged whole.now left.now self.old.chain self.old.rows }
+        ensures judged { IfOk result (λ found. MatchOption found
+            (HasJudged whole.now [] self.new.chain self.new.rows)
+            (λ rest. HasJudged whole.now rest.now self.new.chain self.new.rows)) }
+        ensures more { IfOk result (λ found. IfSome found (λ rest. self.old.rows < self.new.rows)) }
+        ensures err { IfErr result (IsTextFault whole.now) }
+    {
+        text_has_one_number();
+        let Some(rest) = self.reader.read_one(left)? else {
+            return Ok(None);
+        };
+        self.judge_row()?;
+        Ok(Some(rest))
+    }
+
+    /// Judges the first row of what is left of a whole text, or many rows that are spelled anew. Returns what is left then, unless no row is
+    /// left.
+    fn take_other<'a>(
+        &mut self,
+        window: &mut Window,
+        whole: &[u8],
+        left: &'a [u8],
+    ) -> Result<Option<&'a [u8]>, CsvFault>
+        requires { HasJudged whole.now left.now self.old.chain self.old.rows }
+        ensures judged { IfOk result (λ found. MatchOption found
+            (HasJudged whole.now [] self.new.chain self.new.rows)
+            (λ rest. HasJudged whole.now rest.now self.new.chain self.new.rows)) }
+        ensures more { IfOk result (λ found. IfSome found (λ rest. self.old.rows < self.new.rows)) }
+        ensures err { IfErr result (IsTextFault whole.now) }
+    {
+        if !is_loose(left) {
+            return self.take_first(whole, left);
+        }
+        match window.fill(left) {
+            Some(after) => self.take_window(whole, window.bytes.as_slice(), after),
+            None => self.take_first(whole, left),
+        }
+    }
+
+    /// Judges the record with whose rows begins what is left of a whole text, or else its first row, or many that are spelled anew. Returns
+    /// what is left then, unless no row is left.
+    fn take_some<'a>(
+        &mut self,
+        window: &mut Window,
+        whole: &[u8],
+        left: &'a [u8],
+    ) -> Result<Option<&'a [u8]>, CsvFault>
+        requires { HasJudged whole.now left.now self.old.chain self.old.rows }
+        ensures judged { IfOk result (λ found. MatchOption found
+            (HasJudged whole.now [] self.new.chain self.new.rows)
+            (λ rest. HasJudged whole.now rest.now self.new.chain self.new.rows)) }
+        ensures more { IfOk result (λ found. IfSome found (λ rest. self.old.rows < self.new.rows)) }
+        ensures err { IfErr result (IsTextFault whole.now) }
+    {
+        match self.take_record(left)? {
+            Some(rest) => Ok(Some(rest)),
+            None => self.take_other(window, whole, left),
+        }
+    }
+
+    /// Judges the rows that are left of a text.
+    fn take_rest(mut self, whole: &[u8], left: &[u8]) -> Result<SpelledFiles, CsvFault>
+        requires { HasJudged whole.now left.now self.chain self.rows }
+        ensures ok { IfOk result (AreFilesOf whole.now) }
+        ensures err { IfErr result (IsTextFault whole.now) }
+    {
+        text_has_one_number();
+        let mut window = Window::new(self.alloc);
+        let mut left = left;
+        for _ in 0..whole.len() + 1 {
+            let Some(rest) = self.take_some(&mut window, whole, left)? else {
+                return whole_files(self.chain, self.rows);
+            };
+            left = rest;
+        }
+        unreachable!()
+    }
+
+    /// What is left of a text after the first line, where it begins with that.
+    fn take_first_line<'a>(&mut self, text: &'a [u8]) -> Result<&'a [u8], CsvFault>
+        ensures ok { IfOk result (λ left. (whole : List ℕ) → strip_bom whole ≡ text.now
+            → HasJudged whole left.now nothing_yet 1) }
+        ensures chain { self.new.chain ≡ self.old.chain }
+        ensures rows { self.new.rows ≡ self.old.rows }
+        ensures err { IfErr result (λ fault. (whole : List ℕ) → strip_bom whole ≡ text.now
+            → IsTextFault whole fault) }
+    {
+        let Some(left) = self.reader.read_one(text)? else {
+            return Err(CsvFault::Header);
+        };
+        if !is_first_line(&self.reader.row) {
+            return Err(CsvFault::Header);
+        }
+        Ok(left)
     }
 }
 
 /// The files whose rows are those of a text, or the first fault of its rows.
-pub(crate) fn judge(alloc: Global, text: &[u8]) -> Result<Entries<SpelledFile>, CsvFault>
+pub(crate) fn judge(alloc: Global, text: &[u8]) -> Result<SpelledFiles, CsvFault>
     ensures ok { IfOk result (AreFilesOf text.now) }
     ensures err { IfErr result (IsTextFault text.now) }
 {
-    match judge_fast(alloc, text) {
-        Some(files) => Ok(files),
-        None => judge_any(alloc, text),
-    }
+    let mut judge = RowJudge::new(alloc);
+    let left = judge.take_first_line(without_mark(text))?;
+    judge.take_rest(text, left)
 }

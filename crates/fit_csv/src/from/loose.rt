@@ -1,8 +1,8 @@
 //! Texts as spreadsheets write them, spelled anew as `to_csv` spells: CR LF at the ends of lines, cells in quotes that need none,
-//! a byte order mark at the start, no line end at the end.
+//! a byte order mark at the start.
 ghost use Rattle.std.specs.Prelude.{◌≡◌, ◌++◌, ◌∷◌, ◌≤◌, [], ℕ, List, IfSome, MatchOption, IsTrue, length, take, true};
 ghost use Rattle.csv.specs.Reading.{strip_bom};
-ghost use Rattle.fit_csv.specs.inner.Loose.{Closes, EndsCell, EndsLine, Opens, WritesEnd, WritesOn, may_open, spot_after, spot_from};
+ghost use Rattle.fit_csv.specs.inner.Loose.{Closes, EndsCell, EndsLine, Opens, WritesOn, may_open, spot_after, spot_from};
 
 mod cells;
 mod lines;
@@ -16,6 +16,9 @@ use crate::from::loose::sheet::{SHEET_SIZE, Sheet};
 
 /// How far one step of the spelling looks ahead. A cell of a FIT file is shorter, and a longer one in quotes is not spelled anew.
 pub(crate) const STEP_SIZE: usize = 4_096;
+
+/// How many bytes are written at most. A step writes a sheet or what it looks at, and two bytes more.
+pub(crate) const MOST: usize = 65_536;
 
 /// Where a text stands outside of quotes.
 #[derive(Clone, Copy)]
@@ -64,21 +67,29 @@ fn quoted_length(text: &[u8]) -> Option<usize>
     if is_open { None } else { Some(text.len()) }
 }
 
-/// Writes bytes after what was written.
-pub(crate) fn put(written: &mut Vec<u8>, bytes: &[u8]) -> Option<()>
-    ensures { IfSome result (λ done. written.new.items ≡ written.old.items ++ bytes.now) }
+/// Writes bytes after what was written, where there is room for them.
+fn put(written: &mut Vec<u8>, bytes: &[u8]) -> Option<()>
+    ensures text { IfSome result (λ done. written.new.items ≡ written.old.items ++ bytes.now) }
+    ensures few { IfSome result (λ done. length written.new.items ≤ 65536) }
 {
+    if written.len() + bytes.len() > MOST {
+        return None;
+    }
     match written.extend_from_slice(bytes) {
         Ok(()) => Some(()),
         Err(_) => None,
     }
 }
 
-/// Writes a byte after what was written.
+/// Writes a byte after what was written, where there is room for it.
 #[inline(always)]
 fn put_byte(written: &mut Vec<u8>, byte: u8) -> Option<()>
-    ensures { IfSome result (λ done. written.new.items ≡ written.old.items ++ byte ∷ []) }
+    ensures text { IfSome result (λ done. written.new.items ≡ written.old.items ++ byte ∷ []) }
+    ensures few { IfSome result (λ done. length written.new.items ≤ 65536) }
 {
+    if written.len() >= MOST {
+        return None;
+    }
     match written.push(byte) {
         Ok(()) => Some(()),
         Err(_) => None,
@@ -130,7 +141,7 @@ fn opens(written: &[u8]) -> bool
 }
 
 /// What comes after a byte with which a text begins.
-fn after_byte(text: &[u8], byte: u8) -> Option<&[u8]>
+pub(crate) fn after_byte(text: &[u8], byte: u8) -> Option<&[u8]>
     ensures { IfSome result (λ left. text.now ≡ byte ∷ left.now) }
 {
     let (first, left) = text.split_first()?;
@@ -279,16 +290,6 @@ pub(crate) fn spell_on<'a>(written: &mut Vec<u8>, text: &'a [u8], many: usize) -
         left = take_more(written, &mut sheet, left, many)?;
     }
     Some(left)
-}
-
-/// Writes a line end where the last row of a text has none.
-pub(crate) fn end_line(written: &mut Vec<u8>) -> Option<()>
-    ensures { IfSome result (λ done. WritesEnd written.old.items written.new.items) }
-{
-    match spot_of(written.as_slice()) {
-        Spot::RowStart => Some(()),
-        _ => put_byte(written, b'\n'),
-    }
 }
 
 /// What comes after a byte order mark at the start of a text.

@@ -1,12 +1,12 @@
 //! A file of which not all rows have come.
-ghost use Rattle.std.specs.Prelude.{◌≡◌, ◌↔◌, IfErr, IfOk, IfSome, IsNone, IsTrue, OnOk, codes, reverse};
+ghost use Rattle.std.specs.Prelude.{◌≡◌, ◌↔◌, IfErr, IfOk, IsTrue, OnOk, codes, reverse};
 ghost use Rattle.fit_record.specs.Records.{Fits};
 ghost use Rattle.fit_profile.specs.Looks.{known};
 ghost use Rattle.fit_csv.specs.declared.from.open_file.Part.{Part};
 ghost use Rattle.fit_csv.specs.inner.Misfits.{IsMisfit};
 ghost use Rattle.fit_csv.specs.inner.Progress.{CanStandNext, FileStep, FitsOnceWhole, PartHasRoom, PartStep, settled, with_record};
 ghost use Rattle.fit_csv.specs.inner.Seven.{row_of};
-ghost use Rattle.fit_csv.specs.inner.SoundChain.{BeginsWithMore, IsSoundFile, open_file_rows};
+ghost use Rattle.fit_csv.specs.inner.SoundChain.{IsSoundFile};
 
 use crate::from::cells::{Cells, same};
 use crate::from::definition::{OpenDefinition, definition_head};
@@ -14,13 +14,11 @@ use crate::from::message::message_head;
 use crate::from::misfit::Misfit;
 use crate::from::open_definition::{definition_of, is_whole, take_definition};
 use crate::from::open_message::{is_whole_message, take_message};
-use crate::from::ranges::is_in_range;
 use fit_base::Entries;
 use fit_encode::SpelledRecords;
 use fit_frame::Header;
 use fit_profile::Stream;
 use fit_record::{Record, Values};
-use fit_rows::MessageReader;
 use std::alloc::Global;
 use std::mem;
 
@@ -112,32 +110,8 @@ fn next_part(
 }
 
 impl OpenFile {
-    /// Takes the record with whose rows a text begins, as `to_csv` writes them, and returns what is left. Where it takes none, nothing
-    /// changes.
-    pub(crate) fn take_message<'a>(
-        &mut self,
-        reader: &mut MessageReader,
-        text: &'a [u8],
-    ) -> Result<Option<&'a [u8]>, Misfit>
-        requires { IsSoundFile self.old }
-        ensures sound { IfOk result (λ found. IfSome found (λ left. IsSoundFile self.new)) }
-        ensures rows { IfOk result (λ found. IfSome found (λ left.
-            BeginsWithMore text.now left.now (open_file_rows self.old) (open_file_rows self.new))) }
-        ensures same { IfOk result (λ found. IsNone found → self.new ≡ self.old) }
-    {
-        if !self.is_between_records() {
-            return Ok(None);
-        }
-        let Some((record_, left)) = reader.whole_record(&self.before, text) else {
-            return Ok(None);
-        };
-        is_in_range(&record_);
-        self.add_record(record_)?;
-        Ok(Some(left))
-    }
-
     /// A record is whole.
-    fn add_record(&mut self, r: Record) -> Result<(), Misfit>
+    pub(crate) fn add_record(&mut self, r: Record) -> Result<(), Misfit>
         requires same_records { self.old.before ≡ reverse self.old.records }
         requires fits { Fits (known self.old.before) r }
         ensures ok { OnOk result (self.new ≡ with_record self.old r) }
@@ -185,6 +159,7 @@ impl OpenFile {
     }
 
     /// Takes the next row. It isn't one in which the file ends.
+    #[inline(never)]
     pub(crate) fn take_row(
         &mut self,
         alloc: Global,

@@ -1,90 +1,69 @@
-//! Judges a text as spreadsheets write it: it is spelled anew as `to_csv` spells, some rows at a time, and these are judged.
-ghost use Rattle.std.specs.Prelude.{◌≡◌, ◌++◌, ◌∷◌, [], IfSome};
-ghost use Rattle.fit_csv.specs.Judged.{AreFilesOf};
-ghost use Rattle.fit_csv.specs.inner.SoundChain.{BeginsWithMore, IsSoundChain, rows_so_far};
-ghost use Rattle.fit_cells.specs.Rows.{csv_text, first_line};
+//! Spells a text anew as `to_csv` spells, some rows at a time, so that records can be taken whole from what spreadsheets write.
+ghost use Rattle.std.specs.Prelude.{◌++◌, ◌≤◌, IfSome, List, length};
+ghost use Rattle.csv.specs.Reading.{AreRecords, default_config};
+ghost use Rattle.csv.specs.declared.parser.State.TheVariants as st;
+ghost use Rattle.fit_cells.specs.Rows.{Row};
 
-use crate::from::guess::{Guesser, after_first_line};
-use crate::from::loose::{STEP_SIZE, end_line, put, spell_on, without_mark};
-use fit_base::Entries;
-use fit_encode::SpelledFile;
+use crate::from::loose::{MOST, spell_on};
 use std::alloc::Global;
 
-/// How many bytes are spelled anew before rows are taken from their front.
-const MANY: usize = 65_536;
+/// How many bytes are spelled anew at first.
+const FEW: usize = 2_048;
 
-/// How many bytes wait at least until more have come, unless the text is over: more than the rows of any usual message.
-const FEW: usize = 16_384;
+/// How many bytes are spelled anew at most before rows are taken from them.
+const MANY: usize = 60_000;
 
-/// Holds these bytes and no others.
-fn hold(held: &mut Vec<u8>, bytes: &[u8]) -> Option<()>
-    ensures { IfSome result (λ done. held.new.items ≡ bytes.now) }
-{
-    held.clear();
-    put(held, bytes)
-}
-
-/// The rows that were spelled anew and not yet taken.
+/// What was spelled anew of a text.
 #[derive(Drop)]
-struct Window {
-    waiting: Vec<u8>,
-    /// Where those bytes stand that move to the front.
-    moving: Vec<u8>,
+pub(crate) struct Window {
+    pub bytes: Vec<u8>,
+    /// How many bytes are spelled anew next.
+    size: usize,
 }
 
 impl Window {
-    /// Nothing waits, and there is room for a text of that many bytes or for as many as wait at once.
-    fn new(alloc: Global, size: usize) -> Option<Window>
-        ensures { IfSome result (λ window. window.waiting.items ≡ []) }
-    {
-        let waiting = Vec::with_capacity(alloc, size.min(MANY + STEP_SIZE) + 2).ok()?;
-        let moving = Vec::with_capacity(alloc, size.min(FEW + STEP_SIZE) + 2).ok()?;
-        Some(Window { waiting, moving })
+    /// Nothing was spelled anew.
+    pub(crate) fn new(alloc: Global) -> Window {
+        Window {
+            bytes: Vec::new(alloc),
+            size: FEW,
+        }
     }
 
-    /// Takes the first line from the front.
-    fn take_first_line(&mut self) -> Option<()>
-        ensures { IfSome result (λ done.
-            self.old.waiting.items ≡ csv_text (first_line ∷ []) ++ self.new.waiting.items) }
+    /// Spells anew a beginning of a text, and returns what is left of it. The next time it is a longer one. There may be none, where a
+    /// row of it has another spelling than spreadsheets write.
+    pub(crate) fn fill<'a>(&mut self, text: &'a [u8]) -> Option<&'a [u8]>
+        ensures few { IfSome result (λ left. length self.new.bytes.items ≤ 65536) }
+        ensures rows { IfSome result (λ left. (rows : List Row)
+            → AreRecords default_config st.StartRecord (self.new.bytes.items ++ left.now) rows
+            → AreRecords default_config st.StartRecord text.now rows) }
     {
-        let rest = after_first_line(self.waiting.as_slice())?;
-        hold(&mut self.moving, rest)?;
-        hold(&mut self.waiting, self.moving.as_slice())
-    }
-
-    /// Takes rows from the front until few bytes wait.
-    fn take_rows(&mut self, guesser: &mut Guesser) -> Option<()>
-        requires { IsSoundChain guesser.old.chain }
-        ensures sound { IfSome result (λ done. IsSoundChain guesser.new.chain) }
-        ensures rows { IfSome result (λ done.
-            BeginsWithMore self.old.waiting.items self.new.waiting.items
-            (rows_so_far guesser.old.chain) (rows_so_far guesser.new.chain)) }
-    {
-        let rest = guesser.take_rows(self.waiting.as_slice(), FEW)?;
-        hold(&mut self.moving, rest)?;
-        hold(&mut self.waiting, self.moving.as_slice())
+        let size = self.size.min(MANY);
+        self.size = FEW;
+        self.bytes.clear();
+        let left = spell_on(&mut self.bytes, text, size)?;
+        if self.bytes.len() > MOST {
+            return None;
+        }
+        self.size = size.saturating_mul(4);
+        Some(left)
     }
 }
 
-/// The files whose rows are those of a text, where it is spelled as spreadsheets spell, which its first line shows. Some such texts
-/// are left to `judge_any`.
-pub(crate) fn judge_loose(alloc: Global, text: &[u8]) -> Option<Entries<SpelledFile>>
-    ensures { IfSome result (AreFilesOf text.now) }
-{
-    if after_first_line(text).is_some() {
-        return None;
+/// Whether a text that begins with a row of a record may be worth spelling anew: the row begins with a quote, or ends with a carriage
+/// return and a line feed.
+pub(crate) fn is_loose(text: &[u8]) -> bool {
+    match text {
+        [b'"', b'd', ..] => true,
+        [b'd', ..] => ends_in_return(text),
+        _ => false,
     }
-    let mut window = Window::new(alloc, text.len())?;
-    let mut left = spell_on(&mut window.waiting, without_mark(text), FEW)?;
-    window.take_first_line()?;
-    let mut guesser = Guesser::new(alloc);
-    for _ in 0..text.len() + 1 {
-        if left.is_empty() {
-            end_line(&mut window.waiting)?;
-            return guesser.finish(window.waiting.as_slice());
-        }
-        left = spell_on(&mut window.waiting, left, MANY)?;
-        window.take_rows(&mut guesser)?;
+}
+
+/// Whether a carriage return comes before the first line feed.
+fn ends_in_return(text: &[u8]) -> bool {
+    match text.iter().position(|b| *b == b'\n') {
+        Some(place) => place > 0 && text[place - 1] == b'\r',
+        None => false,
     }
-    None
 }

@@ -1,5 +1,5 @@
 -- What is found out once of the messages of a definition. No public contract names these definitions.
-use Rattle.std.specs.Prelude.{◌≡◌, ◌==◌, ◌≤◌, ◌+◌, ℕ, List, Option, Some, None, IfSome, drop, option_and_then, slice_index_or, take}
+use Rattle.std.specs.Prelude.{◌≡◌, ◌==◌, ◌≤◌, ◌+◌, ℕ, List, Option, Some, None, IfSome, drop, length, option_and_then, slice_index_or, take}
 use Rattle.std.specs.Global.{Global}
 use Rattle.fit_base.specs.Numbers.{number}
 use Rattle.fit_base.specs.declared.number.Order.{Order}
@@ -8,6 +8,8 @@ use Rattle.fit_record.specs.Records.{sizes}
 use Rattle.fit_record.specs.declared.definition.FieldDef.{FieldDef}
 use Rattle.fit_record.specs.declared.definition.MessageDef.{MessageDef}
 use Rattle.fit_record.specs.declared.environment.Defined.{Defined}
+use Rattle.fit_record.specs.declared.message.Record.{Record}
+use Rattle.fit_record.specs.declared.message.Record.TheVariants.{Define, Values as Data}
 use Rattle.fit_profile.specs.Accumulated.{tells_more}
 use Rattle.fit_profile.specs.Looks.{first_field}
 use Rattle.fit_profile.specs.Times.{time_in_field, valid_time}
@@ -44,3 +46,8 @@ IsPlanned _ _ = ⊥
 -- the same of every place
 abbrev pub ArePlanned : List (Option Plan) → List (Option (Defined Global)) → Type 0
 ArePlanned plans places = (local : ℕ) → IsPlanned (slice_index_or plans local None) (slice_index_or places local None)
+
+-- there is a place for the plan of the record, where it is a definition
+abbrev pub HasRoomFor : List (Option Plan) → Record Global → Type 0
+HasRoomFor plans (Define d) = 16 ≤ length plans
+HasRoomFor plans (Data v) = Unit {0}

@@ -1,5 +1,6 @@
 -- Where the numbers of the table stand in the bytes of record messages of a definition. No public contract names these definitions.
-use Rattle.std.specs.Prelude.{◌≡◌, ◌≤◌, ◌+◌, ◌==◌, ◌||◌, ℕ, Bool, List, Option, None, Some, false, drop, length, map, take, pos, option_map, IsSomeAnd, IfSome}
+use Rattle.std.specs.Prelude.{◌≡◌, ◌≤◌, ◌+◌, ◌==◌, ◌||◌, ℕ, Bool, List, Option, None, Some, false, drop, length, map, take, ℤ, pos, IsSomeAnd, IfSome}
+use Rattle.std.specs.Prelude.{option_and_then, option_map}
 use Rattle.std.specs.Global.{Global}
 use Rattle.fit_base.specs.declared.number.Order.{Order}
 use Rattle.fit_base.specs.BaseTypes.{item_width}
@@ -12,6 +13,7 @@ use Rattle.fit_record.specs.declared.message.Values.{Values}
 use Rattle.fit_profile.specs.declared.told.Told.{Told}
 use Rattle.fit_profile.specs.Looks.{first_field}
 use Rattle.fit_profile.specs.Names.{field}
+use Rattle.fit_profile.specs.Values.{first_number}
 use Rattle.fit_cells.specs.Forms.{IsFormOf, IsSmallForm}
 use Rattle.fit_rows.specs.inner.TableKinds.{IsOfKind}
 use Rattle.fit_rows.specs.Table.{amount_text}
@@ -39,14 +41,22 @@ pub record IsKnown (p : Place) : Type 0 where
   pub room : p.form.width ≤ p.field.size
   pub kind : IsOfKind p.kind p.field.code p.form
 
+-- The field holds no number, whatever its bytes.
+abbrev pub ShowsNothing : FieldDef → Type 0
+ShowsNothing f = (o : Order) (bytes : List ℕ) → first_number f (field_from {A = Global} o (f.code, f.size) bytes) ≡ None
+
 -- the column of a field after that many bytes
 abbrev pub IsPlaced : ℕ → FieldDef → Column → Type 0
-IsPlaced offset f Absent = ⊥
+IsPlaced offset f Absent = ShowsNothing f
 IsPlaced offset f (At p) = (p.offset ≡ offset) × (p.field ≡ f) × IsKnown p
+
+-- the items of a field after that many bytes of a message
+abbrev pub items_from : ℕ → FieldDef → Order → List ℕ → Items Global
+items_from offset f o bytes = field_from o (f.code, f.size) (take f.size (drop offset bytes))
 
 -- the items of the field at a place in the bytes of a message
 abbrev pub items_at : Place → Order → List ℕ → Items Global
-items_at p o bytes = field_from o (p.field.code, p.field.size) (take p.field.size (drop p.offset bytes))
+items_at p o bytes = items_from p.offset p.field o bytes
 
 -- the place of the first field of a number
 pub record IsFirst (fields : List FieldDef) (number : ℕ) (p : Place) : Type 0 where
@@ -56,14 +66,22 @@ pub record IsFirst (fields : List FieldDef) (number : ℕ) (p : Place) : Type 0 
   pub within : p.offset + p.field.size ≤ sizes (slots fields)
   pub known : IsKnown p
 
+-- No field has the number.
+abbrev pub HaveNone : List FieldDef → ℕ → Type 0
+HaveNone fields number = (o : Order) (bytes : List ℕ) → first_field {A = Global} fields (fields_from o (slots fields) bytes) number ≡ None
+
+-- the number that a field holds, where there is one
+abbrev pub held_number : Option (FieldDef × Items Global) → Option ℤ
+held_number first = option_and_then (λ f. first_number f.0 f.1) first
+
 -- the column of the first field of a number
 abbrev pub IsColumn : List FieldDef → ℕ → Column → Type 0
-IsColumn fields number Absent = (o : Order) (bytes : List ℕ) → first_field {A = Global} fields (fields_from o (slots fields) bytes) number ≡ None
+IsColumn fields number Absent = (o : Order) (bytes : List ℕ) → held_number (first_field fields (fields_from o (slots fields) bytes) number) ≡ None
 IsColumn fields number (At p) = IsFirst fields number p
 
 -- the columns of the table, and whether a field may have a distance to accumulate
 pub record ArePlaces (fields : List FieldDef) (p : Places) : Type 0 where
-  pub counts : p.counts ≡ false → IsColumn fields 8 Absent
+  pub counts : p.counts ≡ false → HaveNone fields 8
   pub position_lat : IsColumn fields 0 p.position_lat
   pub position_long : IsColumn fields 1 p.position_long
   pub enhanced_altitude : IsColumn fields 78 p.enhanced_altitude

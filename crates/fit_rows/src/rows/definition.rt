@@ -1,14 +1,15 @@
 //! The rows of definition messages.
-ghost use Rattle.std.specs.Prelude.{◌≡◌, ◌++◌, ◌∷◌, [], OnOk, decimal, map};
+ghost use Rattle.std.specs.Prelude.{◌≡◌, ◌≤◌, ◌+◌, ◌++◌, ◌∷◌, [], OnOk, decimal, length, map, take};
 ghost use Rattle.csv.specs.Writing.{default_writer, field_text, fields_text};
-ghost use Rattle.fit_cells.specs.Rows.{HasRows};
+ghost use Rattle.fit_cells.specs.Rows.{HasRows, csv_text};
 ghost use Rattle.fit_rows.specs.ChainRows as rows;
 
 pub(crate) mod again;
 
+use crate::stamp::write_text;
 use crate::words::{dev_slice, order_word};
 use fit_base::Entries;
-use fit_profile::put_whole;
+use fit_profile::{put_whole, write_fixed};
 use fit_record::{DevDef, FieldDef, MessageDef};
 use std::alloc::AllocError;
 
@@ -71,6 +72,71 @@ fn put_def_row(text: &mut Vec<u8>, definition: &MessageDef) -> Result<(), AllocE
     Ok(())
 }
 
+/// How many bytes are set aside for the row of a field: more than it has, since a number is written with bytes that are written over.
+const ROW_ROOM: usize = 128;
+
+/// How many bytes of a row are copied at once. The row of a field has fewer.
+const SHORT_ROW: usize = 32;
+
+/// Writes a number of one byte.
+#[inline(always)]
+#[tactic(auto, using(crate::proofs::Sheets::whole_number))]
+fn write_byte(row: &mut [u8], at: usize, number: u8) -> usize
+    requires { at + 30 ≤ length row.old }
+    ensures size { length row.new ≡ length row.old }
+    ensures within { result ≤ at + 30 }
+    ensures text { take result row.new ≡ take at row.old ++ decimal number }
+{
+    write_fixed(row, at, i64::from(number), 0)
+}
+
+/// Writes the next cell of a row, a number of one byte.
+#[inline(always)]
+fn write_cell(row: &mut [u8], at: usize, number: u8) -> usize
+    requires { at + 31 ≤ length row.old }
+    ensures size { length row.new ≡ length row.old }
+    ensures within { result ≤ at + 31 }
+    ensures text { take result row.new
+        ≡ take at row.old ++ fields_text default_writer (decimal number ∷ []) }
+{
+    let at = write_text(row, at, b",");
+    write_byte(row, at, number)
+}
+
+/// Writes the row of three numbers after a word that needs no quotes. Returns the place after it.
+#[inline(always)]
+fn write_row(row: &mut [u8; ROW_ROOM], kind: &[u8], number: u8, size: u8, last: u8) -> usize
+    requires plain { field_text default_writer kind.now ≡ kind.now }
+    requires short { length kind.now ≤ 4 }
+    ensures within { result ≤ 128 }
+    ensures text { take result row.new ≡ csv_text (rows.row kind.now (decimal number) (decimal size)
+        (decimal last) [] [] [] ∷ []) }
+{
+    let begun = write_text(row, 0, kind);
+    let numbered = write_cell(row, begun, number);
+    let sized = write_cell(row, numbered, size);
+    let at = write_cell(row, sized, last);
+    write_text(row, at, b",,,\n")
+}
+
+/// Puts what is written in a row before a place: by a copy of a fixed number of bytes, of which those after it are cut off.
+#[inline(always)]
+#[tactic(auto, using(crate::proofs::Stamps::cut))]
+fn put_written(text: &mut Vec<u8>, row: &[u8; ROW_ROOM], end: usize) -> Result<(), AllocError>
+    requires { end ≤ 128 }
+    ensures { OnOk result (text.new.items ≡ text.old.items ++ take end row.now) }
+{
+    if end > SHORT_ROW {
+        let (written, _) = row.as_slice().split_at(end);
+        return text.extend_from_slice(written);
+    }
+    let (short, _) = row.as_slice().split_at(SHORT_ROW);
+    let length = text.len() + end;
+    text.extend_from_slice(short)?;
+    text.truncate(length);
+    Ok(())
+}
+
 /// Puts the row of three numbers after a word that needs no quotes.
 fn put_numbers(
     text: &mut Vec<u8>,
@@ -79,16 +145,14 @@ fn put_numbers(
     size: u8,
     last: u8,
 ) -> Result<(), AllocError>
-    requires { field_text default_writer kind.now ≡ kind.now }
+    requires plain { field_text default_writer kind.now ≡ kind.now }
+    requires short { length kind.now ≤ 4 }
     ensures { OnOk result (HasRows (rows.row kind.now (decimal number) (decimal size) (decimal last)
         [] [] [] ∷ []) text.old text.new) }
 {
-    text.extend_from_slice(kind)?;
-    add_byte(text, number)?;
-    add_byte(text, size)?;
-    add_byte(text, last)?;
-    text.extend_from_slice(b",,,\n")?;
-    Ok(())
+    let mut row = [0; ROW_ROOM];
+    let end = write_row(&mut row, kind, number, size, last);
+    put_written(text, &row, end)
 }
 
 /// Puts the rows of the fields of a definition.

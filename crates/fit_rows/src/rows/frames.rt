@@ -15,11 +15,10 @@ pub(crate) mod likely;
 mod made;
 
 use crate::floats::{add_float, is_lone_float};
-use crate::lone::lone_form;
 use crate::octets::{add_bytes, is_of_bytes};
-use crate::several::{add_numbers, several_form};
+use crate::several::{add_numbers, field_form};
 use crate::sheet::{Sheet, put_sheet};
-use crate::stamp::{Stamp, add_text};
+use crate::stamp::{Stamp, WIDE, add_text};
 use fit_base::{Code, Items, Order, bits_at};
 use fit_cells::{
     NumberForm, RowWriter, ShownText, formed, is_never_quoted, put_cell, shown_text, write_formed,
@@ -28,9 +27,6 @@ use fit_profile::Info;
 use fit_record::read_items;
 use std::alloc::{AllocError, Global};
 use std::marker::Model;
-
-/// How many bytes are set aside for what stands between two values and what is cut off after it. Few are longer.
-const BETWEEN_ROOM: usize = 96;
 
 /// Puts two cells after a text, each with a comma after it.
 #[tactic(auto, using(crate::proofs::FramedRows::two_put))]
@@ -93,21 +89,21 @@ pub(crate) struct Frame {
     between: Stamp,
     code: u8,
     size: u8,
-    info: Option<Info>,
-    /// The form of a lone number, where its bytes are those of the field.
-    lone: Option<NumberForm>,
+    /// Whether the value is a lone number of at most four bytes, which are those of the field.
+    is_lone: bool,
     /// Whether the value is a string.
     is_text: bool,
     /// Whether the value is one floating point number.
     is_float: bool,
     /// Whether the value is bytes.
     is_of_bytes: bool,
-    /// The form of the numbers, where the value is several.
-    several: Option<NumberForm>,
+    info: Option<Info>,
+    /// The form of the numbers, where the value is one or several of at most four bytes.
+    form: Option<NumberForm>,
 }
 
 impl Model for Frame {
-    ghost use Rattle.std.specs.Prelude.{◌≡◌, ◌%◌, IfSome, IsTrue, option_map};
+    ghost use Rattle.std.specs.Prelude.{◌≡◌, ◌%◌, IfSome, IsSomeAnd, IsTrue, option_map};
     ghost use Rattle.fit_base.specs.BaseTypes.{base_type};
     ghost use Rattle.fit_base.specs.declared.code.Class.TheVariants.{Float, Text};
     ghost use Rattle.fit_profile.specs.Names.{meaning};
@@ -125,16 +121,14 @@ impl Model for Frame {
       info = option_map meaning f.info;
     } };
 
-    ghost invariant = { λ f. IfSome f.info (λ i. IsScale i.scale) × IfSome f.lone IsSmallForm
-        × IfSome f.lone (λ l. l.width ≡ f.size)
-        × IfSome f.lone (IsFormOf f.code (option_map meaning f.info))
+    ghost invariant = { λ f. IfSome f.info (λ i. IsScale i.scale) × IfSome f.form IsSmallForm
+        × IfSome f.form (λ n. f.size % n.width ≡ 0)
+        × IfSome f.form (IsFormOf f.code (option_map meaning f.info))
         × (IsTrue f.is_text → (base_type f.code).class ≡ Text)
         × (IsTrue f.is_float → (base_type f.code).class ≡ Float)
         × (IsTrue f.is_float → (base_type f.code).width ≡ f.size)
         × (IsTrue f.is_of_bytes → IsOfBytes f.code f.size)
-        × IfSome f.several IsSmallForm
-        × IfSome f.several (λ s. f.size % s.width ≡ 0)
-        × IfSome f.several (IsFormOf f.code (option_map meaning f.info)) };
+        × (IsTrue f.is_lone → IsSomeAnd f.form (λ n. n.width ≡ f.size)) };
 }
 
 impl Frame {
@@ -158,19 +152,20 @@ impl Frame {
           info = option_map meaning info;
         }) }
     {
-        let mut between = Vec::with_capacity(alloc, BETWEEN_ROOM)?;
+        let mut between = Vec::with_capacity(alloc, WIDE)?;
         between.extend_from_slice(before)?;
         put_two(&mut between, writer, kind, name)?;
+        let (form, is_lone) = field_form(code, size, info);
         Ok(Frame {
             between: Stamp::new(between)?,
             code,
             size,
-            info,
-            lone: lone_form(code, size, info),
+            is_lone,
             is_text: !is_never_quoted(Code(code)),
             is_float: is_lone_float(Code(code), size),
             is_of_bytes: is_of_bytes(Code(code), size),
-            several: several_form(code, size, info),
+            info,
+            form,
         })
     }
 
@@ -223,7 +218,7 @@ impl Frame {
             ++ field_text default_writer (cell self.now.code self.now.info items.now)) }
     {
         let at = self.between.add(text, sheet, at)?;
-        if let Some((form, bits)) = formed(self.lone, items) {
+        if let Some((form, bits)) = formed(self.lone(), items) {
             return Ok(write_formed(sheet, at, form, bits));
         }
         if self.is_text {
@@ -241,7 +236,13 @@ impl Frame {
         ensures width { IfSome result (λ f. f.width ≡ self.now.size) }
         ensures form { IfSome result (IsFormOf self.now.code self.now.info) }
     {
-        self.lone
+        if !self.is_lone {
+            return None;
+        }
+        match self.form {
+            Some(form) => Some(form),
+            None => unreachable!(),
+        }
     }
 
     /// Puts a value that isn't written in a sheet after a text, by the bytes of its field.
@@ -293,14 +294,14 @@ impl Frame {
         }
     }
 
-    /// The form of the numbers, where the value is several.
+    /// The form of the numbers, where the value is one or several of at most four bytes.
     #[inline(always)]
     fn several(&self) -> Option<NumberForm>
         ensures small { IfSome result IsSmallForm }
         ensures whole { IfSome result (λ f. self.now.size % f.width ≡ 0) }
         ensures form { IfSome result (IsFormOf self.now.code self.now.info) }
     {
-        self.several
+        self.form
     }
 
     /// Adds a value that is neither a lone number of at most four bytes nor a string, by the bytes of its field.

@@ -4,6 +4,9 @@ use fit_base::{Entries, Order};
 use fit_record::{DevDef, FieldDef, MessageDef};
 use std::alloc::Global;
 
+/// How many digits a number of the rows of a definition has at most.
+const MOST_DIGITS: usize = 5;
+
 /// The number with which a text may begin, and what comes after it and the byte after it.
 #[inline(always)]
 fn take_number(text: &[u8]) -> Option<(u16, &[u8])> {
@@ -12,6 +15,9 @@ fn take_number(text: &[u8]) -> Option<(u16, &[u8])> {
         let digit = byte.wrapping_sub(b'0');
         if digit >= 10 {
             return Some((number, text.get(place + 1..)?));
+        }
+        if place >= MOST_DIGITS {
+            return None;
         }
         number = number.wrapping_mul(10).wrapping_add(u16::from(digit));
     }

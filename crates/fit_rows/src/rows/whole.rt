@@ -128,6 +128,9 @@ impl MessageReader {
         ensures text { IfSome result (λ p.
             text.now ≡ csv_text (data_rows before.now p.0) ++ p.1.now) }
     {
+        if !text.starts_with(b"data,") {
+            return None;
+        }
         let (record_, left) = self.whole_record(before, text)?;
         match record_ {
             Record::Values(values) => Some((values, left)),

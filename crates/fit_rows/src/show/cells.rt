@@ -11,9 +11,8 @@ ghost use Rattle.fit_rows.specs.inner.Sheets.{and_sheet};
 ghost use Rattle.fit_rows.specs.inner.Showing.{field_in_line};
 
 use crate::floats::{add_float, is_lone_float};
-use crate::lone::lone_form;
 use crate::octets::{add_bytes, is_of_bytes};
-use crate::several::{add_numbers, several_form};
+use crate::several::{add_numbers, field_form};
 use crate::sheet::{Sheet, put_sheet};
 use crate::stamp::add_text;
 use fit_base::base_type::BYTE;
@@ -36,19 +35,19 @@ fn is_shown(cell: &[u8]) -> bool
 pub(crate) struct ShownCell {
     code: u8,
     size: u8,
-    info: Option<Info>,
-    /// The form of a lone number, where its bytes are those of the field.
-    lone: Option<NumberForm>,
+    /// Whether the cell shows a lone number of at most four bytes, which are those of the field.
+    is_lone: bool,
     /// Whether the cell shows one floating point number.
     is_float: bool,
     /// Whether the cell shows bytes.
     is_of_bytes: bool,
-    /// The form of the numbers, where the cell shows several.
-    several: Option<NumberForm>,
+    info: Option<Info>,
+    /// The form of the numbers, where the cell shows one or several of at most four bytes.
+    form: Option<NumberForm>,
 }
 
 impl Model for ShownCell {
-    ghost use Rattle.std.specs.Prelude.{◌≡◌, ◌%◌, IfSome, IsTrue, option_map};
+    ghost use Rattle.std.specs.Prelude.{◌≡◌, ◌%◌, IfSome, IsSomeAnd, IsTrue, option_map};
     ghost use Rattle.fit_base.specs.BaseTypes.{base_type};
     ghost use Rattle.fit_base.specs.declared.code.Class.TheVariants.{Float};
     ghost use Rattle.fit_profile.specs.Names.{meaning};
@@ -65,15 +64,13 @@ impl Model for ShownCell {
       info = option_map meaning c.info;
     } };
 
-    ghost invariant = { λ c. IfSome c.info (λ i. IsScale i.scale) × IfSome c.lone IsSmallForm
-        × IfSome c.lone (λ f. f.width ≡ c.size)
-        × IfSome c.lone (IsFormOf c.code (option_map meaning c.info))
+    ghost invariant = { λ c. IfSome c.info (λ i. IsScale i.scale) × IfSome c.form IsSmallForm
+        × IfSome c.form (λ f. c.size % f.width ≡ 0)
+        × IfSome c.form (IsFormOf c.code (option_map meaning c.info))
         × (IsTrue c.is_float → (base_type c.code).class ≡ Float)
         × (IsTrue c.is_float → (base_type c.code).width ≡ c.size)
         × (IsTrue c.is_of_bytes → IsOfBytes c.code c.size)
-        × IfSome c.several IsSmallForm
-        × IfSome c.several (λ s. c.size % s.width ≡ 0)
-        × IfSome c.several (IsFormOf c.code (option_map meaning c.info)) };
+        × (IsTrue c.is_lone → IsSomeAnd c.form (λ f. f.width ≡ c.size)) };
 }
 
 impl ShownCell {
@@ -86,14 +83,15 @@ impl ShownCell {
           info = option_map meaning info;
         } }
     {
+        let (form, is_lone) = field_form(code, size, info);
         ShownCell {
             code,
             size,
-            info,
-            lone: lone_form(code, size, info),
+            is_lone,
             is_float: is_lone_float(Code(code), size),
             is_of_bytes: is_of_bytes(Code(code), size),
-            several: several_form(code, size, info),
+            info,
+            form,
         }
     }
 
@@ -138,7 +136,7 @@ impl ShownCell {
             ≡ and_sheet text.old.items sheet.old at
             ++ shown_cell self.now.code self.now.info items.now) }
     {
-        if let Some((form, bits)) = formed(self.lone, items) {
+        if let Some((form, bits)) = formed(self.lone(), items) {
             return Ok(write_formed(sheet, at, form, bits));
         }
         put_sheet(text, sheet, at)?;
@@ -153,17 +151,23 @@ impl ShownCell {
         ensures width { IfSome result (λ f. f.width ≡ self.now.size) }
         ensures form { IfSome result (IsFormOf self.now.code self.now.info) }
     {
-        self.lone
+        if !self.is_lone {
+            return None;
+        }
+        match self.form {
+            Some(form) => Some(form),
+            None => unreachable!(),
+        }
     }
 
-    /// The form of the numbers, where the cell shows several.
+    /// The form of the numbers, where the cell shows one or several of at most four bytes.
     #[inline(always)]
     fn several(&self) -> Option<NumberForm>
         ensures small { IfSome result IsSmallForm }
         ensures whole { IfSome result (λ f. self.now.size % f.width ≡ 0) }
         ensures form { IfSome result (IsFormOf self.now.code self.now.info) }
     {
-        self.several
+        self.form
     }
 
     /// The text of a string by the bytes of the field, where it is shown as it is.

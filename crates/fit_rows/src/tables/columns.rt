@@ -1,14 +1,17 @@
 //! Where the numbers of the table stand in the bytes of messages of a definition, found out once for many messages.
-ghost use Rattle.std.specs.Prelude.{◌≡◌, ◌+◌, ◌≤◌, ◌<◌, ◌^◌, drop, length, take, true, IfOk, IfSome, IsTrue, List, OnOk};
+ghost use Rattle.std.specs.Prelude.{◌≡◌, ◌==◌, ◌+◌, ◌≤◌, ◌<◌, ◌^◌, ℕ, drop, length, take, false, true, IfOk, IfSome, IsTrue, List, None, OnOk};
+ghost use Rattle.std.specs.List.{list_any};
+ghost use Rattle.fit_base.specs.BaseTypes.{base_type, item_width};
 ghost use Rattle.fit_base.specs.Numbers.{number};
 ghost use Rattle.fit_record.specs.declared.definition.FieldDef.{FieldDef};
+ghost use Rattle.fit_profile.specs.Values.{valid_number};
 ghost use Rattle.fit_rows.specs.declared.tables.kinds.Kind.TheVariants.{Other};
-ghost use Rattle.fit_rows.specs.inner.TableColumns.{ArePlaces, IsColumn, IsKnown, IsPlaced, is_tabled};
+ghost use Rattle.fit_rows.specs.inner.TableColumns.{ArePlaces, IsColumn, IsKnown, IsPlaced, ShowsNothing, is_tabled};
 ghost use Rattle.fit_rows.specs.inner.TableKinds.{IsOfKind};
 
 use crate::kept::are_same;
 use crate::tables::kinds::Kind;
-use fit_base::{Code, Order, bits_at, width_of};
+use fit_base::{Class, Code, Order, bits_at, width_of};
 use fit_cells::{NumberForm, number_form};
 use fit_profile::field_info;
 use fit_profile::field_number::COMPRESSED_SPEED_DISTANCE;
@@ -63,24 +66,49 @@ impl Place {
     }
 }
 
-/// Where the first field of a number stands.
+/// Where the number of the first field of a number stands.
 #[derive(Clone, Copy)]
 pub(crate) enum Column {
-    /// No field has the number.
+    /// No field has the number, or the first one that has it holds none.
     Absent,
     At(Place),
 }
 
-/// The column of a field of record messages after that many bytes, where it has an item and the form of its items is known.
+/// Whether the items of this base type may be numbers.
+fn may_be_numbers(code: Code) -> bool
+    ensures { result ≡ false → (width bits : ℕ) → valid_number code.0 width bits ≡ None }
+{
+    match code.class() {
+        Class::Signed | Class::Unsigned => true,
+        Class::Text | Class::Float | Class::Bytes => false,
+    }
+}
+
+/// Whether a field has an item of its base type that may be a number.
+fn may_show(field: &FieldDef) -> bool
+    ensures nothing { result ≡ false → ShowsNothing field.now }
+    ensures width { result ≡ true → item_width field.now.code field.now.size
+        ≡ (base_type field.now.code).width }
+    ensures room { result ≡ true → (base_type field.now.code).width ≤ field.now.size }
+{
+    let code = Code(field.code);
+    if field.size == 0 || width_of(code, field.size) != code.width() {
+        return false;
+    }
+    may_be_numbers(code)
+}
+
+/// The column of a field of record messages after that many bytes, where it shows nothing or the form of its items is known, as of
+/// numbers of at most four bytes.
 fn placed(offset: usize, field: &FieldDef) -> Option<Column>
     ensures { IfSome result (IsPlaced offset field.now) }
 {
-    let info = field_info(RECORD, field.number)?;
-    let code = Code(field.code);
-    let form = number_form(code, Some(info))?;
-    if field.size < form.width || width_of(code, field.size) != form.width {
-        return None;
+    if !may_show(field) {
+        return Some(Column::Absent);
     }
+    let code = Code(field.code);
+    let info = field_info(RECORD, field.number)?;
+    let form = number_form(code, Some(info))?;
     Some(Column::At(Place {
         offset,
         field: *field,
@@ -104,6 +132,13 @@ fn column_of(fields: &[FieldDef], number: u8) -> Option<Column>
     Some(Column::Absent)
 }
 
+/// Whether one of the fields has this number.
+fn have(fields: &[FieldDef], number: u8) -> bool
+    ensures { result ≡ list_any (λ f. f.number == number) fields.now }
+{
+    fields.iter().any(|field| field.number == number)
+}
+
 /// Where the numbers of the table stand in record messages.
 #[derive(Clone, Copy)]
 pub(crate) struct Places {
@@ -124,16 +159,13 @@ pub(crate) struct Places {
 
 impl Places {
     /// Those of record messages with these fields, where each can be read.
+    #[tactic(auto, using(crate::proofs::TableColumnFacts::have_none))]
     fn new(fields: &[FieldDef]) -> Option<Places>
         requires { length fields.now < 256 }
         ensures { IfSome result (ArePlaces fields.now) }
     {
-        let counts = match column_of(fields, COMPRESSED_SPEED_DISTANCE) {
-            Some(Column::Absent) => false,
-            _ => true,
-        };
         Some(Places {
-            counts,
+            counts: have(fields, COMPRESSED_SPEED_DISTANCE),
             position_lat: column_of(fields, 0)?,
             position_long: column_of(fields, 1)?,
             enhanced_altitude: column_of(fields, 78)?,

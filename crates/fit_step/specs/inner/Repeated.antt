@@ -1,13 +1,13 @@
--- A definition and the bytes after a record header.
-use Rattle.std.specs.Prelude.{◌≡◌, ℕ, List, [], ◌∷◌, length, slice_index}
-use Rattle.fit_base.specs.Numbers.{number}
+-- A definition, and what a definition message without developer fields says before its fields.
+use Rattle.std.specs.Prelude.{◌≡◌, None, length}
 use Rattle.fit_record.specs.declared.definition.MessageDef.{MessageDef}
-use Rattle.fit_record.specs.Records.{architecture}
+use Rattle.fit_step.specs.declared.read_definition.Front.{Front}
 
--- The definition is of this local message type, and these five bytes are those of it before the fields.
-pub record BeginsAs {A : Type 0} (d : MessageDef A) (local : ℕ) (front : List ℕ) : Type 0 where
-  pub local_is : d.local ≡ local
-  pub reserved_is : d.reserved ≡ slice_index front 0
-  pub order_is : architecture d.order ≡ slice_index front 1
-  pub global_is : d.global ≡ number d.order (slice_index front 2 ∷ slice_index front 3 ∷ [])
-  pub counted : length d.fields ≡ slice_index front 4
+-- The definition says the same.
+pub record BeginsAs {A : Type 0} (d : MessageDef A) (f : Front) : Type 0 where
+  pub local : d.local ≡ f.local
+  pub reserved : d.reserved ≡ f.reserved
+  pub order : d.order ≡ f.order
+  pub global : d.global ≡ f.global
+  pub count : length d.fields ≡ f.count
+  pub no_dev : d.dev ≡ None

@@ -1,5 +1,5 @@
 -- Bytes as numbers, and the register of sixteen words.
-use Rattle.std.specs.Prelude.{ℕ, zero, suc, ◌+◌, ◌*◌, ◌^◌, ◌<◌, List, [], ◌∷◌, ◌++◌, take, drop, bit_xor}
+use Rattle.std.specs.Prelude.{ℕ, zero, suc, ◌+◌, ◌*◌, ◌^◌, List, [], ◌∷◌, ◌++◌, take, drop, bit_xor}
 use Rattle.std.specs.Int.{to_le_bytes, w64}
 
 -- the number of some bytes, the lowest first
@@ -38,12 +38,3 @@ unfoldable pub turns : ℕ → List ℕ → List ℕ
 turns zero words = words
 turns (suc n) [] = []
 turns (suc n) (w ∷ ys) = turns n (turn w ys)
-
-abbrev pub IsWords : List ℕ → Type 0
-IsWords [] = Unit {0}
-IsWords (w ∷ words) = (w < 2 ^ 64) × IsWords words
-
--- the number of some words, the lowest first
-unfoldable pub words_number : List ℕ → ℕ
-words_number [] = 0
-words_number (w ∷ words) = w + 2 ^ 64 * words_number words

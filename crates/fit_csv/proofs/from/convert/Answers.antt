@@ -26,11 +26,10 @@ returns-in_err-files-clause-reads g c =
 pub returns-in-Ok-clause-reads : goal.returns-in-Ok-clause-reads
 returns-in-Ok-clause-reads g c =
     let whole = c.in_ok-text.text.items in
-    let files = c.as_slice-2.result.now in
+    let files = c.in_ok-files.files in
     let source = channel g.S.Source.remaining g.S.Source.has_failed c.args.source.now c.read_text.new.source in
     let sink = channel g.K.Sink.contents g.K.Sink.has_failed c.args.sink.now c.write_spelled.new.sink in
-    let are : AreFilesOf whole files = subst (λ (fs : List (FitFile Global)). AreFilesOf whole fs) (sym c.as_slice-2.ensures)
-    (subst (λ (t : List ℕ). AreFilesOf t c.in_ok-files.files) c.as_slice.ensures.value c.in_ok-files.ensures.ok) in (
+    let are : AreFilesOf whole files = subst (λ (t : List ℕ). AreFilesOf t c.in_ok-files.files) c.as_slice.ensures.value c.in_ok-files.ensures.ok in (
       whole,
       c.in_ok-text.ensures.all,
       from-text c.faults_are_exact.ensures whole files c.in_ok-text.ensures.short are source sink (c.in_ok-text.ensures.end, c.in_ok-text.ensures.works)
@@ -40,11 +39,10 @@ returns-in-Ok-clause-reads g c =
 pub returns-clause-reads : goal.returns-clause-reads
 returns-clause-reads g c =
     let whole = c.in_ok-text.text.items in
-    let files = c.as_slice-2.result.now in
+    let files = c.in_ok-files.files in
     let source = channel g.S.Source.remaining g.S.Source.has_failed c.args.source.now c.read_text.new.source in
     let sink = channel g.K.Sink.contents g.K.Sink.has_failed c.args.sink.now c.write_spelled.new.sink in
-    let are : AreFilesOf whole files = subst (λ (fs : List (FitFile Global)). AreFilesOf whole fs) (sym c.as_slice-2.ensures)
-    (subst (λ (t : List ℕ). AreFilesOf t c.in_ok-files.files) c.as_slice.ensures.value c.in_ok-files.ensures.ok) in
+    let are : AreFilesOf whole files = subst (λ (t : List ℕ). AreFilesOf t c.in_ok-files.files) c.as_slice.ensures.value c.in_ok-files.ensures.ok in
     let given = from-fault c.faults_are_exact.ensures whole files c.in_ok-text.ensures.short are source sink
     (c.in_ok-text.ensures.end, c.in_ok-text.ensures.works)
     c.in-Err.fault c.in-Err.ensures.refused c.in-Err.ensures.written_of_good c.in-Err.ensures.written in

@@ -5,7 +5,7 @@ ghost use Rattle.fit_rows.specs.ChainRows as rows;
 
 use crate::kept::are_same;
 use crate::rows::definition::put_definition;
-use fit_base::Entries;
+use fit_base::{Entries, Order};
 use fit_record::{DevDef, MessageDef};
 use std::alloc::{AllocError, Global};
 use std::marker::Model;
@@ -13,24 +13,41 @@ use std::marker::Model;
 /// How many definitions are kept at most, and of how many the mark is noted.
 const MOST: usize = 16;
 
-/// A mark with three bytes more.
+/// Three bytes as one number.
 #[inline(always)]
-fn mixed(mark: u64, a: u8, b: u8, c: u8) -> u64 {
-    let bytes = u64::from(a) + 256 * u64::from(b) + 65_536 * u64::from(c);
-    (mark ^ bytes)
+fn joined(a: u8, b: u8, c: u8) -> u64 {
+    u64::from(a) + 256 * u64::from(b) + 65_536 * u64::from(c)
+}
+
+/// A mark with a number more.
+#[inline(always)]
+fn mixed(mark: u64, number: u64) -> u64 {
+    (mark ^ number)
         .wrapping_mul(0x9E37_79B9_7F4A_7C15)
         .rotate_left(29)
 }
 
+/// The mark of all that stands before the fields, of how many these are, and of whether developer fields come after them.
+fn front_mark(definition: &MessageDef) -> u64 {
+    let order = match definition.order {
+        Order::Little => 0,
+        Order::Big => 1,
+    };
+    let front = joined(definition.local, definition.reserved, order);
+    let fields = (definition.fields.len() as u64).wrapping_mul(2);
+    let count = fields ^ u64::from(definition.dev.is_some());
+    mixed(mixed(u64::from(definition.global), front), count)
+}
+
 /// A number by which most definitions differ, however much they have in common. Those with the same mark are compared.
 fn mark_of(definition: &MessageDef) -> u64 {
-    let mut mark = u64::from(definition.local) + 256 * u64::from(definition.global);
+    let mut mark = front_mark(definition);
     for field in definition.fields.as_slice() {
-        mark = mixed(mark, field.number, field.size, field.code);
+        mark = mixed(mark, joined(field.number, field.size, field.code));
     }
     if let Some(fields) = &definition.dev {
         for field in fields.as_slice() {
-            mark = mixed(mark, field.number, field.size, field.index);
+            mark = mixed(mark, joined(field.number, field.size, field.index));
         }
     }
     mark
@@ -156,7 +173,7 @@ impl KeptRows {
     }
 }
 
-/// Puts the rows of definition messages, and keeps those that come again.
+/// Puts the rows of definition messages, and keeps those that come again, at most sixteen.
 #[derive(Drop)]
 pub(crate) struct DefinitionRows {
     alloc: Global,
@@ -168,6 +185,16 @@ pub(crate) struct DefinitionRows {
     seen: [u64; MOST],
     /// Which of these gives way to the next.
     first_seen: usize,
+}
+
+impl Model for DefinitionRows {
+    ghost use Rattle.std.specs.Prelude.{◌≤◌, length};
+
+    ghost Value = { Unit {0} };
+
+    ghost view = { λ d. tt };
+
+    ghost invariant = { λ d. length d.kept.items ≤ 16 };
 }
 
 impl DefinitionRows {

@@ -120,7 +120,7 @@ impl Frame {
         if self.is_of_bytes {
             return likely_bytes(alloc, self.size, text);
         }
-        likely_numbers(alloc, &self.several?, self.size, text)
+        likely_numbers(alloc, &self.form?, self.size, text)
     }
 
     /// The items that a text may show after what stands before them, and what comes after their cell.
@@ -132,7 +132,8 @@ impl Frame {
         text: &'a [u8],
     ) -> Option<(Items, &'a [u8])> {
         let text = text.get(self.between.len()..)?;
-        if let Some(form) = &self.lone {
+        if self.is_lone {
+            let form = self.form.as_ref()?;
             let (bits, length) = likely_number(form, text)?;
             return Some((Items::one(alloc, form.width, bits), text.get(length..)?));
         }

@@ -7,6 +7,19 @@ plain_message-requires g c = let (most, front, some, h) = c.requires in (search 
 
 pub returns-clause-reads : goal.returns-clause-reads
 returns-clause-reads g c =
-    let read = c.in_ok-values in
-    whole_at_front c.args.env.now c.args.env.now c.args.position.now c.args.in_progress.now c.in-None.is c.args.piece.now read.used (Data read.values)
-    (slice_is_bytes c.args.piece.now c.type_inv.piece) read.ensures.within.0 read.ensures.within.1 (sym read.ensures.learned) read.ensures.ends
+    let e = c.args.env.now in
+    let piece = c.args.piece.now in
+    let room = c.args.position.now.room in
+    let v = c.in-Some-2.values in
+    let used = c.in-Some-2.used in
+    let told = rw c.in-Some-2.is at c.in_ok-values.ensures in
+    whole_at_front e e c.args.position.now c.args.in_progress.now c.in-None.is piece used (Data v)
+    (slice_is_bytes piece c.type_inv.piece) told.within.0 told.within.1 (sym told.learned) told.ends
+
+pub returns-in_default-clause-whole : goal.returns-in_default-clause-whole
+returns-in_default-clause-whole g c = λ idle size has large.
+    let told = rw c.in_default.is at c.in_ok-values.ensures in absurd (told.whole size has large)
+
+pub returns-clause-whole : goal.returns-clause-whole
+returns-clause-whole g c = λ idle size has large.
+    let told = rw c.in-Some-2.is at c.in_ok-values.ensures in told.whole size has large

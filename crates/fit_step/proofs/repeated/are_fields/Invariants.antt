@@ -1,8 +1,9 @@
-use Rattle.fit_step.proofs.Common.{◌≡◌, ◌-◌, ◌*◌, ◌++◌, length, take, flat_map, field_bytes}
+use Rattle.fit_step.proofs.Common.{◌≡◌, ◌+◌, ◌*◌, flat_map, field_bytes, length}
 use Rattle.fit_step.proofs.repeated.are_fields.Given as goal
 
-abbrev pub invariant-loop-field : goal.invariant-loop-field
-invariant-loop-field l = record {
-  told : flat_map field_bytes (take l.field-index l.fields) ++ l.rest ≡ l.bytes;
-  long : length l.rest ≡ (length l.fields - l.field-index) * 3;
+abbrev pub invariant-loop : goal.invariant-loop
+invariant-loop l = record {
+  told : flat_map field_bytes l.left ≡ l.rest → flat_map field_bytes l.fields ≡ l.bytes;
+  long : length l.rest ≡ 3 * length l.left;
+  passed : length l.left + 8 * l.counter ≡ length l.fields;
 }

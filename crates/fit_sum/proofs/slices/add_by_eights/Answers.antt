@@ -19,7 +19,7 @@ returns c =
     let bytes = c.args.bytes.now in
     let rest = c.as_chunks.result.1.now in
     let all : take c.loop-eight.eight-index c.as_chunks.result.0.now ≡ c.as_chunks.result.0.now = take_all _ _ c.loop-eight-test.false in
-    c.add_each.ensures
+    c.add_by_twos.ensures
     ∙ ap (λ t. run t rest) (c.loop-eight.invariant ∙ ap (λ t. run c.args.register (concat t)) (all ∙ c.as_chunks.ensures.front))
     ∙ sym (run-append c.args.register (concat (first_chunks 8 (length bytes / 8) bytes)) rest)
     ∙ ap (λ t. run c.args.register (concat (first_chunks 8 (length bytes / 8) bytes) ++ t)) c.as_chunks.ensures.back

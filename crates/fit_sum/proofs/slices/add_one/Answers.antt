@@ -3,4 +3,4 @@ use Rattle.fit_sum.proofs.TableEntries.{byte-step}
 use Rattle.fit_sum.proofs.slices.add_one.Goals as goal
 
 pub returns : goal.returns
-returns c = rw c.after_8.ensures (byte-step c.args.register c.args.byte (search rules))
+returns c = rw c.left_after.ensures (byte-step c.args.register c.args.byte (search rules))

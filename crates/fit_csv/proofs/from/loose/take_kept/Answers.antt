@@ -20,6 +20,7 @@ returns c =
     IfSome_then c.end_cell.result c.end_cell.ensures (λ left h.
     subst (λ (t : List ℕ). WritesOn (34 ∷ t) left.now old c.end_cell.new.written.items) all
     (subst (λ (w : List ℕ). WritesOn (34 ∷ (kept ++ after)) left.now old w)
-    (sym (h.2 ∙ ap (λ (w : List ℕ). w ++ h.0) (c.in_ok-put.ensures ∙ ap (λ (w : List ℕ). w ++ kept) c.in_ok-put_byte.ensures ∙ append_assoc old (34 ∷ []) kept)
+    (sym (h.2 ∙ ap (λ (w : List ℕ). w ++ h.0)
+    (c.in_ok-put.ensures.text ∙ ap (λ (w : List ℕ). w ++ kept) c.in_ok-put_byte.ensures.text ∙ append_assoc old (34 ∷ []) kept)
     ∙ append_assoc old (34 ∷ kept) h.0))
     (kept-goes-on old kept after left.now h.0 may closes h.1)))

@@ -5,5 +5,5 @@ use Rattle.fit_csv.proofs.from.loose.take_line.Goals as goal
 
 pub returns : goal.returns
 returns c =
-    subst (λ (w : List ℕ). WritesOn (13 ∷ 10 ∷ c.args.left.now) c.args.left.now c.args.written.now.items w) (sym c.in_ok-put_byte.ensures)
+    subst (λ (w : List ℕ). WritesOn (13 ∷ 10 ∷ c.args.left.now) c.args.left.now c.args.written.now.items w) (sym c.in_ok-put_byte.ensures.text)
     (line-goes-on c.args.written.now.items c.args.left.now)

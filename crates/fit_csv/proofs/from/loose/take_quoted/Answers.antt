@@ -17,5 +17,5 @@ returns-in-Some c =
     IfSome_then c.end_cell.result c.end_cell.ensures (λ left h.
     subst (λ (t : List ℕ). WritesOn (34 ∷ t) left.now old c.end_cell.new.written.items) (sym c.in-Some.ensures.0)
     (subst (λ (w : List ℕ). WritesOn (34 ∷ (bare ++ (34 ∷ after))) left.now old w)
-    (sym (h.2 ∙ ap (λ (w : List ℕ). w ++ h.0) c.in_ok-put.ensures ∙ append_assoc old bare h.0))
+    (sym (h.2 ∙ ap (λ (w : List ℕ). w ++ h.0) c.in_ok-put.ensures.text ∙ append_assoc old bare h.0))
     (bare-goes-on old bare after left.now h.0 opens plain h.1)))

@@ -16,4 +16,4 @@ returns c =
     ap (λ (x : List ℕ). x ++ left) c.split_at.ensures.front ∙ ap (λ (x : List ℕ). take c.run_length.result text ++ x) c.split_at.ensures.back
     ∙ take-append-drop c.run_length.result text in
     subst (λ (t : List ℕ). WritesOn t left old c.put.new.written.items) all
-    (subst (λ (w : List ℕ). WritesOn (run ++ left) left old w) (sym c.in_ok-put.ensures) (run-goes-on old run left plain))
+    (subst (λ (w : List ℕ). WritesOn (run ++ left) left old w) (sym c.in_ok-put.ensures.text) (run-goes-on old run left plain))

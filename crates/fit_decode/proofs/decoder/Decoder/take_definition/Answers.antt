@@ -1,4 +1,4 @@
-use Rattle.fit_decode.proofs.Common.{◌++◌, refl, ap, ◌∙◌, rules, layout, slice_is_bytes}
+use Rattle.fit_decode.proofs.Common.{arith, ◌++◌, refl, ap, ◌∙◌, rules, layout, slice_is_bytes}
 use Rattle.fit_decode.specs.contracts.decoder.Decoder.{the_row}
 use Rattle.fit_decode.specs.contracts.decoder.Decoder.take_definition.{A-row}
 use Rattle.fit_decode.proofs.Sizes.{field_is_within}
@@ -21,29 +21,38 @@ read_whole_definition-requires g c = (
 )
 
 pub invariant_of-self : goal.invariant_of-self
-invariant_of-self g c = rw (c.in_err-record.ensures.none.0, c.in_err-record.ensures.none.1) c.self.invariant
+invariant_of-self g c = rw (c.in_default-read_whole_definition.ensures.err.0, c.in_default-read_whole_definition.ensures.err.1) c.self.invariant
+
+pub invariant_of-self-in_err-record : goal.invariant_of-self-in_err-record
+invariant_of-self-in_err-record g c = let told = rw c.in_err-record.was at c.in-Ok.ensures in rw (told.none.0, told.none.1) c.self.invariant
 
 pub overflow_add-self : goal.overflow_add-self
 overflow_add-self g c =
-    few_bytes (record_taken c.self.inside c.self.invariant (fresh c.self.inside.refusal c.is_some.result c.is_some.ensures c.if-is_some.false) c.in-Data.is
-    c.args.piece.now (slice_is_bytes c.args.piece.now c.type_inv.piece) c.read_whole_definition.new.env c.read_whole_definition.new.position c.add_all.new.self
-    c.in_ok-record.size c.in_ok-record.record c.in_ok-record.ensures.reads
-    (c.add_all.ensures ∙ ap (λ l. c.self.inside.sum ++ l) c.split_at.ensures.front) c.section_of-self-inside.result c.section_of-self-inside.ensures)
+    let told = rw c.in_ok-record.was at c.in-Ok.ensures in
+    few_bytes
+    (record_taken c.self.inside c.self.invariant (fresh c.self.inside.refusal c.is_some.result c.is_some.ensures c.if-is_some.false) c.in-Data.is
+    c.args.piece.now (slice_is_bytes c.args.piece.now c.type_inv.piece)
+    c.read_whole_definition.new.env c.read_whole_definition.new.position c.add_all.new.self c.in_ok-record.size
+    c.in_ok-record.record told.reads (omega (arith, told.left)) (c.add_all.ensures ∙ ap (λ l. c.self.inside.sum ++ l) c.split_at.ensures.front))
 
 pub invariant_of-self-2 : goal.invariant_of-self-2
 invariant_of-self-2 g c =
-    still_kept (record_taken c.self.inside c.self.invariant (fresh c.self.inside.refusal c.is_some.result c.is_some.ensures c.if-is_some.false) c.in-Data.is
-    c.args.piece.now (slice_is_bytes c.args.piece.now c.type_inv.piece) c.read_whole_definition.new.env c.read_whole_definition.new.position c.add_all.new.self
-    c.in_ok-record.size c.in_ok-record.record c.in_ok-record.ensures.reads
-    (c.add_all.ensures ∙ ap (λ l. c.self.inside.sum ++ l) c.split_at.ensures.front) c.section_of-self-inside.result c.section_of-self-inside.ensures)
+    let told = rw c.in_ok-record.was at c.in-Ok.ensures in
+    still_kept
+    (record_taken c.self.inside c.self.invariant (fresh c.self.inside.refusal c.is_some.result c.is_some.ensures c.if-is_some.false) c.in-Data.is
+    c.args.piece.now (slice_is_bytes c.args.piece.now c.type_inv.piece)
+    c.read_whole_definition.new.env c.read_whole_definition.new.position c.add_all.new.self c.in_ok-record.size
+    c.in_ok-record.record told.reads (omega (arith, told.left)) (c.add_all.ensures ∙ ap (λ l. c.self.inside.sum ++ l) c.split_at.ensures.front))
     _ (c.note.ensures ∙ ap (λ b. c.self.inside.history.items ++ b) c.split_at.ensures.front) refl refl tt refl
 
 pub returns-clause-item : goal.returns-clause-item
 returns-clause-item g c =
-    item_told (record_taken c.self.inside c.self.invariant (fresh c.self.inside.refusal c.is_some.result c.is_some.ensures c.if-is_some.false) c.in-Data.is
-    c.args.piece.now (slice_is_bytes c.args.piece.now c.type_inv.piece) c.read_whole_definition.new.env c.read_whole_definition.new.position c.add_all.new.self
-    c.in_ok-record.size c.in_ok-record.record c.in_ok-record.ensures.reads
-    (c.add_all.ensures ∙ ap (λ l. c.self.inside.sum ++ l) c.split_at.ensures.front) c.section_of-self-inside.result c.section_of-self-inside.ensures)
+    let told = rw c.in_ok-record.was at c.in-Ok.ensures in
+    item_told
+    (record_taken c.self.inside c.self.invariant (fresh c.self.inside.refusal c.is_some.result c.is_some.ensures c.if-is_some.false) c.in-Data.is
+    c.args.piece.now (slice_is_bytes c.args.piece.now c.type_inv.piece)
+    c.read_whole_definition.new.env c.read_whole_definition.new.position c.add_all.new.self c.in_ok-record.size
+    c.in_ok-record.record told.reads (omega (arith, told.left)) (c.add_all.ensures ∙ ap (λ l. c.self.inside.sum ++ l) c.split_at.ensures.front))
     c.self.view_is c.note.new.self.items (c.note.ensures ∙ ap (λ b. c.self.inside.history.items ++ b) c.split_at.ensures.front)
 
 pub returns-clause-viable : goal.returns-clause-viable

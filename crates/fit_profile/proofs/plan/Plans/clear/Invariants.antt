@@ -4,6 +4,6 @@ use Rattle.fit_profile.proofs.plan.Plans.clear.Given as goal
 
 abbrev pub invariant-loop-local : goal.invariant-loop-local
 invariant-loop-local l = record {
-  long : length l.self.places ≡ 16;
-  before : (k : ℕ) → k < l.local → slice_index_or l.self.places k None ≡ None;
+  long : length l.self.places.items ≡ length l.initial.self.places.items;
+  before : (k : ℕ) → k < l.local → slice_index_or l.self.places.items k None ≡ None;
 }

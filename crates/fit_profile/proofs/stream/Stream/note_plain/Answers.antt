@@ -1,5 +1,5 @@
 use Rattle.fit_profile.proofs.Common.{◌∙◌, ◌∷◌, [], Some, ap, reverse, reverse-append, last_after}
-use Rattle.fit_profile.proofs.Kept.{keeps-plain, told-now}
+use Rattle.fit_profile.proofs.Kept.{keeps-plain, not-first, told-now}
 use Rattle.fit_profile.proofs.stream.Stream.note_plain.Goals as goal
 
 pub invariant_of-self : goal.invariant_of-self
@@ -9,6 +9,8 @@ invariant_of-self c =
           c.self.invariant.0 c.self.view_is c.requires c.in_ok-told.ensures.nothing
           (c.last_after-self-inside.ensures ∙ ap (last_after s.last) c.in_ok-told.ensures.told) c.add.ensures,
       c.self.invariant.1,
+      not-first s.is_new s.pushed.items c.add.new.self.items c.args.self.now s.env c.args.record_.now c.self.invariant.2 c.self.view_is c.requires
+          c.in_ok-told.ensures.nothing,
     )
 
 pub returns-clause-told : goal.returns-clause-told

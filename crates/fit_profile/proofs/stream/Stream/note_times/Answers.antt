@@ -1,5 +1,5 @@
 use Rattle.fit_profile.proofs.Common.{◌∙◌, ◌∷◌, [], Some, ap, reverse, reverse-append, last_after}
-use Rattle.fit_profile.proofs.Kept.{keeps-plain, told-now}
+use Rattle.fit_profile.proofs.Kept.{keeps-plain, not-first, told-now}
 use Rattle.fit_profile.specs.inner.Alone.{times_alone}
 use Rattle.fit_profile.proofs.stream.Stream.note_times.Goals as goal
 
@@ -10,6 +10,8 @@ invariant_of-self c =
           c.self.invariant.0 c.self.view_is c.requires c.in_ok-time.ensures.nothing
           (c.with_time-self-inside.ensures ∙ ap (last_after s.last) c.in_ok-time.ensures.told) c.add.ensures,
       c.self.invariant.1,
+      not-first s.is_new s.pushed.items c.add.new.self.items c.args.self.now s.env c.args.record_.now c.self.invariant.2 c.self.view_is c.requires
+          c.in_ok-time.ensures.nothing,
     )
 
 pub returns-clause-told : goal.returns-clause-told

@@ -2,7 +2,7 @@ use Rattle.fit_profile.proofs.Common.{◌≡◌, ◌∙◌, ◌∷◌, [], sym, 
 use Rattle.fit_profile.proofs.Common.{KeepsRecords, IsSomeAnd, defined_at, known}
 use Rattle.fit_profile.specs.Accumulated.{tells_more}
 use Rattle.fit_record.specs.declared.message.Record.TheVariants.{Values as Data}
-use Rattle.fit_profile.proofs.Kept.{kept-record, keeps-last}
+use Rattle.fit_profile.proofs.Kept.{kept-record, keeps-last, not-first}
 use Rattle.fit_profile.proofs.NoCounters.{describes-more}
 use Rattle.fit_profile.proofs.stream.Stream.take_plain.Goals as goal
 
@@ -26,6 +26,11 @@ invariant_of-self c =
             (subst (λ l. KeepsRecords s.env l s.names (reverse items)) (sym (c.take_plain.ensures.last_kept left)) c.self.invariant.0)
       ],
       c.self.invariant.1,
+      elim (cases_Bool c.take_plain.result) [
+        | inl taken ↦ not-first s.is_new items c.take_plain.new.records.items c.args.self.now s.env (Data v) c.self.invariant.2 c.self.view_is
+            c.requires.1.0 (c.take_plain.ensures.nothing taken v is)
+        | inr left ↦ λ new. c.take_plain.ensures.records_kept left ∙ c.self.invariant.2 new
+      ],
     )
 
 pub returns-clause-taken : goal.returns-clause-taken

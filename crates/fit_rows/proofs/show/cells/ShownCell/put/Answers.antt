@@ -1,5 +1,4 @@
-use Rattle.fit_rows.proofs.Common.{◌∙◌, ◌++◌, sym, ap, subst, and_sheet, base_type, item_text, CellKey, IsFormOf}
-use Rattle.std.specs.Prelude.{IfSome}
+use Rattle.fit_rows.proofs.Common.{◌∙◌, ◌++◌, sym, ap, and_sheet, base_type, item_text, CellKey}
 use Rattle.fit_rows.proofs.Sheets.{more_written}
 use Rattle.fit_rows.proofs.ShownCells.{lone_shown}
 use Rattle.fit_rows.proofs.show.cells.ShownCell.put.Goals as goal
@@ -9,8 +8,7 @@ returns-in-Some-clause-text c =
     let kept : CellKey = c.args.self.now in
     let number = c.in-Some.ensures in
     let before = and_sheet c.args.text.now.items c.args.sheet.now c.args.at in
-    let known = subst (λ (f : CellKey). IfSome c.self.inside.lone (IsFormOf f.code f.info)) c.self.view_is c.self.invariant.3 in
-    let form = number.form kept.code kept.info known in
+    let form = number.form kept.code kept.info c.lone.ensures.form in
     more_written c.args.text.now.items c.args.sheet.now c.write_formed.new.bytes
     (item_text (base_type kept.code).class kept.code kept.info c.in-Some.form.width c.in-Some.bits) c.args.at c.write_formed.result
     (c.write_formed.ensures.text kept.code kept.info form)

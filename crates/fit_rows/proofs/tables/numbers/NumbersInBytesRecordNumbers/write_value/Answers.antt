@@ -1,6 +1,7 @@
 use Rattle.fit_rows.proofs.Common.{◌∙◌, ap, arith, first_field, IsColumn, PutsCell, value_text, subst, take}
 use Rattle.fit_rows.proofs.TableColumnFacts.{no_value, value_in}
 use Rattle.fit_rows.proofs.TableNumbers.{puts_none}
+use Rattle.fit_rows.specs.inner.TableColumns.{held_number}
 use Rattle.fit_rows.specs.declared.tables.columns.Column.{Column}
 use Rattle.fit_rows.proofs.tables.numbers.NumbersInBytesRecordNumbers.write_value.Goals as goal
 
@@ -21,7 +22,8 @@ pub returns-in-Absent-clause-cell : goal.returns-in-Absent-clause-cell
 returns-in-Absent-clause-cell c d v t are =
     let absent = subst (λ (column : Column). IsColumn d.fields c.args.number column) c.in-Absent.is (c.column.ensures d.fields are.places) in
     puts_none (value_text d v c.args.number) (take c.args.at c.args.row.now)
-    (no_value d v c.args.number (ap (λ items. first_field d.fields items c.args.number) are.fields ∙ absent c.args.self.now.order c.args.self.now.bytes.now))
+    (no_value d v c.args.number (ap (λ items. held_number (first_field d.fields items c.args.number)) are.fields
+    ∙ absent c.args.self.now.order c.args.self.now.bytes.now))
 
 pub returns-in-At-clause-cell : goal.returns-in-At-clause-cell
 returns-in-At-clause-cell c d v t are =

@@ -1,0 +1,108 @@
+/* Gazhdor for C: checks and converts files of the FIT protocol, which watches and bicycle computers write.
+ *
+ * Each call works on bytes in memory and keeps nothing, so it may be made in as many threads at once as you like. No call
+ * reads or writes a file, sets a global or ends the process; the only memory it takes is that of malloc. What the first five
+ * promise is proved: the contract of each is that of the function of the same name in crates/fit_c.
+ *
+ * Not proved, since only C can keep it:
+ *  - `bytes` can be read for `length` bytes, and nobody writes them while the call runs. With length 0 it may be NULL.
+ *  - `text` points to a gazhdor_text that is GAZHDOR_NO_TEXT.
+ *  - A gazhdor_text that a call has filled is given to gazhdor_free once, by whoever made the call.
+ *  - malloc, realloc and free belong to one another, and no call is made in a signal handler.
+ *
+ *     gazhdor_text table = GAZHDOR_NO_TEXT;
+ *     gazhdor_answer answer = gazhdor_table(bytes, length, &table);
+ *     if (answer.status == GAZHDOR_GOOD) fwrite(table.bytes, 1, table.length, stdout);
+ *     gazhdor_free(table);
+ */
+#ifndef GAZHDOR_H
+#define GAZHDOR_H
+
+#include <stddef.h>
+#include <stdint.h>
+
+/* The version of this header; gazhdor_version() has that of the library. */
+#define GAZHDOR_VERSION "0.2.0"
+
+#ifdef __cplusplus
+extern "C" {
+#endif
+
+/* What a call found. */
+enum gazhdor_status {
+    GAZHDOR_GOOD = 0,      /* The bytes are a FIT file, or several, one after another; or the text is that of such files. */
+    GAZHDOR_REFUSED = 1,   /* The byte at `place` is the first that cannot belong to any such file: `reason` says why. */
+    GAZHDOR_TRUNCATED = 2, /* The bytes begin such a file, and end too soon, at `place`. */
+    GAZHDOR_NO_MEMORY = 3, /* Memory was refused. This says nothing of the bytes or of the text. */
+    GAZHDOR_TEXT = 4,      /* Row `row` of the text isn't allowed where it is; where `column` isn't 0, because of that cell. */
+    GAZHDOR_UNWRITABLE = 5 /* The rows of the text are those of files that have no bytes: too long, or with zeros for a checksum of 0. */
+};
+
+/* Why a byte is refused. docs/USE.md, "Is an upload a FIT file?", says what each means. */
+enum gazhdor_reason {
+    GAZHDOR_HEADER_SIZE = 1,
+    GAZHDOR_PROTOCOL = 2,
+    GAZHDOR_NO_FIT = 3,
+    GAZHDOR_SIGNATURE = 4,
+    GAZHDOR_HEADER_SUM = 5,
+    GAZHDOR_RESERVED_BIT = 6,
+    GAZHDOR_UNDEFINED_LOCAL = 7,
+    GAZHDOR_OVERRUN = 8,
+    GAZHDOR_ARCHITECTURE = 9,
+    GAZHDOR_FILE_SUM = 10,
+    GAZHDOR_TOO_MANY_FILES = 11
+};
+
+/* What a call returns. A number that has no meaning for the status is 0. */
+typedef struct gazhdor_answer {
+    uint32_t status; /* an enum gazhdor_status */
+    uint32_t reason; /* with GAZHDOR_REFUSED, an enum gazhdor_reason */
+    uint64_t place;  /* with GAZHDOR_REFUSED and GAZHDOR_TRUNCATED, a place among the bytes, counted from 0 */
+    uint64_t row;    /* with GAZHDOR_TEXT, counted from 1, the first line included */
+    uint64_t column; /* with GAZHDOR_TEXT, counted from 1; 0 where the row as a whole is refused */
+    uint64_t files;  /* with GAZHDOR_GOOD, in the answer of gazhdor_check: how many files there are */
+} gazhdor_answer;
+
+/* Some bytes that a call has made: UTF-8 text, or a FIT file. No zero byte ends them. */
+typedef struct gazhdor_text {
+    const uint8_t *bytes;
+    size_t length;
+} gazhdor_text;
+
+/* What a gazhdor_text is before a call; there is nothing to free. */
+#define GAZHDOR_NO_TEXT { (const uint8_t *)"", 0 }
+
+/* Whether `length` bytes are a FIT file or several, one after another, and how many: GAZHDOR_GOOD for just these. */
+gazhdor_answer gazhdor_check(const uint8_t *bytes, size_t length);
+
+/* The table of the record messages as CSV text: a row each, with time, position, altitude, distance, speed, heart rate,
+ * cadence, power and temperature.
+ *
+ * Of this call and the next two: where the bytes are refused or truncated, the text is that of all that comes before;
+ * where memory is refused, it is that of some of it. In each case it is yours to free. */
+gazhdor_answer gazhdor_table(const uint8_t *bytes, size_t length, gazhdor_text *text);
+
+/* All of the bytes as CSV text, of which gazhdor_from_csv makes the same bytes again (docs/CSV.md). */
+gazhdor_answer gazhdor_to_csv(const uint8_t *bytes, size_t length, gazhdor_text *text);
+
+/* The messages with their names, units and times, a line each, as `fit show` writes them, without its last line. */
+gazhdor_answer gazhdor_show(const uint8_t *bytes, size_t length, gazhdor_text *text);
+
+/* The FIT file or files that a CSV text of `length` bytes describes. There are no bytes where the status isn't GAZHDOR_GOOD. */
+gazhdor_answer gazhdor_from_csv(const uint8_t *text, size_t length, gazhdor_text *bytes);
+
+/* Frees what a call has made. GAZHDOR_NO_TEXT, and a text of no bytes, may be given too. */
+void gazhdor_free(gazhdor_text text);
+
+/* The name of a status, as "truncated", and of a reason as the program prints it, as "FileSum"; "unknown" for other numbers. */
+const char *gazhdor_status_name(uint32_t status);
+const char *gazhdor_reason_name(uint32_t reason);
+
+/* The version of the library, as "0.2.0". */
+const char *gazhdor_version(void);
+
+#ifdef __cplusplus
+}
+#endif
+
+#endif

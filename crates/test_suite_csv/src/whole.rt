@@ -1,0 +1,107 @@
+//! Records that are read whole from their rows.
+use crate::streams::pushed;
+use fit_decode::read_one;
+use fit_profile::Stream;
+use fit_record::{Record, Values};
+use fit_rows::MessageReader;
+use std::alloc::Global;
+use std::process::Abort;
+use test_known::fields::{kinds, two_fields};
+use test_known::{FIRST_ROW, Known, files};
+
+/// What comes after the first line and the row of the header in a text.
+fn after_header(text: &str) -> &[u8] {
+    let rows = text.strip_prefix(FIRST_ROW).unwrap_or_default();
+    rows.split_once("\n")
+        .map_or(b"", |lines| lines.1.as_bytes())
+}
+
+/// Asserts that a text begins with the rows of a data message, and returns what comes after them.
+fn after_message<'a>(
+    rt: &impl Abort,
+    reader: &mut MessageReader,
+    before: &Stream,
+    values: &Values,
+    text: &'a [u8],
+) -> &'a [u8] {
+    match reader.whole_message(before, text) {
+        Some((found, left)) => {
+            assert!(rt; found == *values);
+            left
+        }
+        None => {
+            assert!(rt; false);
+            text
+        }
+    }
+}
+
+/// The same of any record.
+fn after_record<'a>(
+    rt: &impl Abort,
+    reader: &mut MessageReader,
+    before: &Stream,
+    record_: &Record,
+    text: &'a [u8],
+) -> &'a [u8] {
+    match reader.whole_record(before, text) {
+        Some((found, left)) => {
+            assert!(rt; found == *record_);
+            left
+        }
+        None => {
+            assert!(rt; false);
+            text
+        }
+    }
+}
+
+/// Asserts that the records of the first file are read one by one from its text.
+fn read_whole(rt: &impl Abort, alloc: Global, known: &Known) {
+    let mut source = known.bytes;
+    let file = read_one(alloc, &mut source).expect(rt, "a file");
+    let mut reader = MessageReader::new(alloc);
+    let mut stream = Stream::new(alloc);
+    let mut text = after_header(known.text);
+    for record_ in file.records.as_slice() {
+        let left = after_record(rt, &mut reader, &stream, record_, text);
+        match record_ {
+            Record::Define(_) => assert!(rt; reader.whole_message(&stream, text).is_none()),
+            Record::Values(values) => {
+                let after = after_message(rt, &mut reader, &stream, values, text);
+                assert_eq!(rt; after, left);
+            }
+        }
+        pushed(rt, &mut stream, record_);
+        text = left;
+    }
+    assert!(rt; text.starts_with(b"end,,,,,,\n"), "{}", known.name);
+}
+
+#[test]
+fn each_record_of_known_texts(rt: HostRuntime) {
+    for known in files() {
+        read_whole(&rt, rt.alloc(), &known);
+    }
+    for known in [two_fields(), kinds()] {
+        read_whole(&rt, rt.alloc(), &known);
+    }
+}
+
+/// A text that begins with no rows of a record has none.
+#[test]
+fn no_record(rt: HostRuntime) {
+    let mut reader = MessageReader::new(rt.alloc());
+    let stream = Stream::new(rt.alloc());
+    for text in [
+        "",
+        "data",
+        "data,0,,record,,,\n",
+        "end,,,,,,\n",
+        "def,000000",
+        "def,0,0",
+    ] {
+        assert!(rt; reader.whole_record(&stream, text.as_bytes()).is_none());
+        assert!(rt; reader.whole_message(&stream, text.as_bytes()).is_none());
+    }
+}

@@ -1,0 +1,72 @@
+"""Makes the wheel of gazhdor, as pip asks for it (PEP 517), with nothing but Python's own library.
+
+The wheel has what the folder gazhdor/ has, links followed: the version and the library are those of the tree. Its tag names the
+oldest C library that will do. The same files make the same bytes, on every machine."""
+import base64
+import hashlib
+import os
+import re
+import zipfile
+
+HERE = os.path.dirname(os.path.abspath(__file__))
+METADATA = """Metadata-Version: 2.1
+Name: gazhdor
+Version: {version}
+Summary: Checks and converts FIT files, by a proved library
+License: MIT
+Requires-Python: >=3.7
+Classifier: License :: OSI Approved :: MIT License
+Classifier: Operating System :: POSIX :: Linux
+Classifier: Programming Language :: Python :: 3
+Classifier: Typing :: Typed
+"""
+WHEEL = """Wheel-Version: 1.0
+Generator: gazhdor
+Root-Is-Purelib: false
+Tag: {tag}
+"""
+
+
+def _read(name):
+    path = os.path.join(HERE, *name.split("/"))
+    try:
+        with open(path, "rb") as file:
+            return file.read()
+    except FileNotFoundError:
+        raise FileNotFoundError(f"{path} isn't there, or its target: the wheel is made where the whole tree is, by pip 21.3 or later") from None
+
+
+def _tag(library):
+    """The library names each version of the C library that it needs; none is older than 2.17 where pip runs today."""
+    minor = max([17] + [int(number) for number in re.findall(rb"\0GLIBC_2\.(\d+)", library)])
+    return f"py3-none-manylinux_2_{minor}_x86_64"
+
+
+def _record(files):
+    lines = []
+    for name, data in files:
+        digest = base64.urlsafe_b64encode(hashlib.sha256(data).digest()).rstrip(b"=").decode()
+        lines.append(f"{name},sha256={digest},{len(data)}\n")
+    return "".join(lines)
+
+
+def build_wheel(wheel_directory, config_settings=None, metadata_directory=None):
+    version = _read("gazhdor/VERSION").decode().strip()
+    tag = _tag(_read("gazhdor/libgazhdor.so"))
+    about = f"gazhdor-{version}.dist-info"
+    names = sorted(name for name in os.listdir(os.path.join(HERE, "gazhdor")) if name != "__pycache__")
+    files = [(f"gazhdor/{name}", _read(f"gazhdor/{name}")) for name in names]
+    files += [
+        (f"{about}/LICENSE", _read("LICENSE")),
+        (f"{about}/METADATA", METADATA.format(version=version).encode()),
+        (f"{about}/WHEEL", WHEEL.format(tag=tag).encode()),
+    ]
+    record = f"{about}/RECORD"
+    files.append((record, (_record(files) + f"{record},,\n").encode()))
+    wheel = f"gazhdor-{version}-{tag}.whl"
+    with zipfile.ZipFile(os.path.join(wheel_directory, wheel), "w", zipfile.ZIP_STORED) as into:
+        for name, data in files:
+            entry = zipfile.ZipInfo(name)  # which was changed at the start of 1980
+            entry.create_system, entry.external_attr = 3, 0o100644 << 16
+            into.writestr(entry, data)
+    return wheel

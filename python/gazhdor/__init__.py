@@ -1,0 +1,177 @@
+"""FIT files from Python: check them, read their tables, and convert them to text and back.
+
+    import gazhdor
+
+    answer = gazhdor.check("ride.fit")      # or bytes, or a binary file object
+    if not answer.good:
+        print(answer)                       # refused at byte 3258: FileSum
+    for row in gazhdor.table("ride.fit"):
+        print(row.timestamp, row.heart_rate)
+
+Each call reads the whole file, hands its bytes to the proved library of Gazhdor, and keeps nothing. The library lets other
+threads run meanwhile. A file object is read from where it is to its end, and stays open.
+
+All calls but `check` raise `Refused` or `Truncated` where the bytes are no FIT file. Each raises MemoryError where memory is
+refused, `ReadFailed` where a read fails, `NotBinary` where a file object gives text, and OSError where a path can't be opened.
+`import gazhdor` raises a `LibraryError` where the library can't be used. The variable GAZHDOR_LIBRARY names another libgazhdor.so
+than the one beside this file.
+
+From a shell: python3 -m gazhdor check|show|table|to-csv|from-csv [FILE..]
+"""
+import csv
+import datetime
+import io
+import itertools
+from typing import Any, Iterator, NamedTuple, Optional, Tuple, Union
+
+from ._answers import NO_MEMORY, REFUSED, TRUNCATED, Answer
+from ._library import VERSION as __version__
+from ._library import library as _library
+from ._library import text_of as _text_of
+from ._sources import Readable, Source
+from ._sources import bytes_of as _bytes_of
+from .errors import (
+    FitError,
+    LibraryError,
+    LibraryMissing,
+    LibraryUnusable,
+    NotBinary,
+    ReadFailed,
+    Refused,
+    TextRefused,
+    Truncated,
+    WrongMachine,
+    WrongVersion,
+)
+
+__all__ = [
+    "check",
+    "table",
+    "files",
+    "table_text",
+    "to_csv",
+    "show",
+    "from_csv",
+    "Answer",
+    "Row",
+    "Source",
+    "Readable",
+    "FitError",
+    "Refused",
+    "Truncated",
+    "TextRefused",
+    "NotBinary",
+    "ReadFailed",
+    "LibraryError",
+    "LibraryMissing",
+    "LibraryUnusable",
+    "WrongVersion",
+    "WrongMachine",
+    "__version__",
+]
+
+
+class Row(NamedTuple):
+    """A record message. None stands where the file says nothing of a value.
+
+    file           the number of the file in the chain, counted from 1
+    timestamp      an aware datetime in UTC; where the device didn't know the time, the text 'system+N', N being seconds
+    position_lat   degrees north
+    position_long  degrees east
+    altitude       metres
+    distance       metres since the start
+    speed          metres a second
+    heart_rate     beats a minute
+    cadence        turns a minute
+    power          watts
+    temperature    degrees Celsius
+    """
+
+    file: int
+    timestamp: Union[datetime.datetime, str, None]
+    position_lat: Optional[float]
+    position_long: Optional[float]
+    altitude: Optional[float]
+    distance: Optional[float]
+    speed: Optional[float]
+    heart_rate: Optional[float]
+    cadence: Optional[float]
+    power: Optional[float]
+    temperature: Optional[float]
+
+
+def _judge(answer: Answer) -> None:
+    if answer._status == NO_MEMORY:
+        raise MemoryError("gazhdor: out of memory")
+    if not answer.good:
+        kind = {REFUSED: Refused, TRUNCATED: Truncated}.get(answer._status, TextRefused)
+        raise kind(answer)
+
+
+def _judged(answer: Answer, partial: bool) -> None:
+    """Raises what is wrong; of what may be had in part, only that memory was refused."""
+    if answer._status == NO_MEMORY or not partial:
+        _judge(answer)
+
+
+def check(source: Source) -> Answer:
+    """Returns whether `source` is a FIT file or several, one after another. It raises nothing where they aren't good: the answer
+    says where and why."""
+    data = _bytes_of(source)
+    answer: Answer = _library.gazhdor_check(data, len(data))
+    _judged(answer, partial=True)
+    return answer
+
+
+def _converted(call: Any, source: Source, partial: bool) -> str:
+    answer, text = _text_of(call, _bytes_of(source))
+    _judged(answer, partial)
+    return text.decode()
+
+
+def table_text(source: Source, partial: bool = False) -> str:
+    """Returns the table of the record messages as CSV text: a line with the names of `Row`, and then a line for each message, with
+    its units. With `partial` it is the text of what comes before a fault; else a fault is raised, as `Refused` or `Truncated`."""
+    return _converted(_library.gazhdor_table, source, partial)
+
+
+def to_csv(source: Source, partial: bool = False) -> str:
+    """Returns all of the file as CSV text of seven columns, of which `from_csv` makes the same bytes again. `partial` as for
+    `table_text`."""
+    return _converted(_library.gazhdor_to_csv, source, partial)
+
+
+def show(source: Source, partial: bool = False) -> str:
+    """Returns the messages with their names, units and times, a line each. `partial` as for `table_text`."""
+    return _converted(_library.gazhdor_show, source, partial)
+
+
+def from_csv(text: Union[str, bytes, bytearray, memoryview]) -> bytes:
+    """Returns the bytes of the FIT file or files that a CSV text describes: a str, or its bytes in UTF-8, and no path. It raises
+    `TextRefused` where the text describes none, with the row and the column that aren't allowed."""
+    if not isinstance(text, (str, bytes, bytearray, memoryview)):
+        raise TypeError(f"from_csv takes a text or its bytes, and not {type(text).__name__}")
+    answer, data = _text_of(_library.gazhdor_from_csv, text.encode() if isinstance(text, str) else bytes(text))
+    _judge(answer)
+    return data
+
+
+def _when(cell: str) -> Union[datetime.datetime, str, None]:
+    return datetime.datetime.fromisoformat(cell[:-1] + "+00:00") if cell.endswith("Z") else cell or None
+
+
+def table(source: Source, partial: bool = False) -> Iterator[Row]:
+    """Yields a Row for each record message. The source is read when the first is asked for. With `partial` a fault is raised after
+    the rows before it, else before the first row, as `Refused` or `Truncated`."""
+    answer, text = _text_of(_library.gazhdor_table, _bytes_of(source))
+    _judged(answer, partial)
+    rows = csv.reader(io.StringIO(text.decode(), newline=""))
+    next(rows, None)
+    for cells in rows:
+        yield Row(int(cells[0]), _when(cells[1]), *(float(cell) if cell else None for cell in cells[2:]))
+    _judge(answer)
+
+
+def files(source: Source, partial: bool = False) -> Iterator[Tuple[int, Iterator[Row]]]:
+    """Yields (number, rows) for each file that has record messages, the rows being those of `table`."""
+    return itertools.groupby(table(source, partial), key=lambda row: row.file)

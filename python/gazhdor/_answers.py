@@ -1,0 +1,82 @@
+"""What the library returns."""
+import ctypes
+from typing import Optional
+
+_REASONS = (
+    "HeaderSize",
+    "Protocol",
+    "NoFit",
+    "Signature",
+    "HeaderSum",
+    "ReservedBit",
+    "UndefinedLocal",
+    "Overrun",
+    "Architecture",
+    "FileSum",
+    "TooManyFiles",
+)
+GOOD, REFUSED, TRUNCATED, NO_MEMORY, TEXT, UNWRITABLE = range(6)
+
+
+class Answer(ctypes.Structure):
+    """What `check` found. It is true where the bytes are a FIT file or several, one after another; as text it is the finding,
+    as 'ok' or 'refused at byte 3258: FileSum'.
+
+    good    whether they are
+    files   how many files they are, where they are good; else 0
+    place   the place of the byte that is refused, or where the bytes end too soon, counted from 0; else None
+    reason  the name of the reason, as 'FileSum', where a byte is refused; else None
+    row     of a text: the first row that isn't allowed where it is, counted from 1; else None
+    column  of a text: its first cell that isn't allowed there, counted from 1; None where the row as a whole is refused
+    """
+
+    _fields_ = [
+        ("_status", ctypes.c_uint32),
+        ("_reason", ctypes.c_uint32),
+        ("_place", ctypes.c_uint64),
+        ("_row", ctypes.c_uint64),
+        ("_column", ctypes.c_uint64),
+        ("files", ctypes.c_uint64),
+    ]
+    _status: int
+    _reason: int
+    _place: int
+    _row: int
+    _column: int
+    files: int
+
+    @property
+    def good(self) -> bool:
+        return self._status == GOOD
+
+    @property
+    def place(self) -> Optional[int]:
+        return self._place if self._status in (REFUSED, TRUNCATED) else None
+
+    @property
+    def reason(self) -> Optional[str]:
+        return _REASONS[self._reason - 1] if self._status == REFUSED else None
+
+    @property
+    def row(self) -> Optional[int]:
+        return self._row if self._status == TEXT else None
+
+    @property
+    def column(self) -> Optional[int]:
+        return self._column or None
+
+    def __bool__(self) -> bool:
+        return self.good
+
+    def __str__(self) -> str:
+        return (
+            "ok",
+            f"refused at byte {self.place}: {self.reason}",
+            f"truncated at byte {self.place}",
+            "out of memory",
+            f"row {self.row} column {self.column} refused" if self.column else f"row {self.row} refused",
+            "no file has such rows",
+        )[self._status]
+
+    def __repr__(self) -> str:
+        return f"<gazhdor.Answer: {self}>"

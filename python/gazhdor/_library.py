@@ -1,0 +1,98 @@
+"""Finds libgazhdor.so, loads it and calls it."""
+import ctypes
+import os
+import pkgutil
+import platform
+import sys
+from typing import Any, Optional, Tuple
+
+from ._answers import Answer
+from .errors import LibraryMissing, LibraryUnusable, WrongMachine, WrongVersion
+
+NAME = "libgazhdor.so"
+
+
+class _Text(ctypes.Structure):
+    _fields_ = [("bytes", ctypes.c_void_p), ("length", ctypes.c_size_t)]
+    bytes: Optional[int]
+    length: int
+
+
+def packed(name: str) -> Optional[bytes]:
+    """The bytes of a file beside this module, which may be in a folder or a zip file; None where it isn't there."""
+    try:
+        return pkgutil.get_data("gazhdor", name)
+    except OSError:
+        return None
+
+
+def _see_machine() -> None:
+    system, machine = platform.system(), platform.machine()
+    if (system, machine) != ("Linux", "x86_64") or sys.maxsize < 2**32:
+        bits = 8 * ctypes.sizeof(ctypes.c_void_p)
+        raise WrongMachine(f"the library of gazhdor is for 64-bit Python on x86_64 Linux, and this is {bits}-bit Python on {machine} {system}")
+
+
+def _opened(path: str) -> ctypes.CDLL:
+    try:
+        return ctypes.CDLL(path)
+    except OSError as error:
+        raise LibraryUnusable(f"{path} can't be loaded: {error}", path) from None
+
+
+def _find() -> Tuple[str, ctypes.CDLL]:
+    named = os.environ.get("GAZHDOR_LIBRARY")
+    if named:
+        if not os.path.exists(named):
+            raise LibraryMissing(f"{named} isn't there, which GAZHDOR_LIBRARY names", named)
+        return named, _opened(os.path.abspath(named))
+    _see_machine()
+    beside = os.path.join(os.path.dirname(os.path.abspath(__file__)), NAME)
+    if os.path.exists(beside):
+        return beside, _opened(beside)
+    inside = packed(NAME)
+    if inside is not None:
+        # The module is in a zip file, of which the system loads nothing. A library that is loaded needs its file no more.
+        import tempfile
+
+        with tempfile.NamedTemporaryFile(prefix="gazhdor-", suffix=".so") as file:
+            file.write(inside)
+            file.flush()
+            return beside, _opened(file.name)
+    try:
+        return NAME, ctypes.CDLL(f"{NAME}.0")
+    except OSError:
+        raise LibraryMissing(f"{beside} isn't there, and the system has no {NAME}.0: install the wheel, or set GAZHDOR_LIBRARY", beside) from None
+
+
+def _load(version: str) -> ctypes.CDLL:
+    path, library = _find()
+    try:
+        library.gazhdor_version.argtypes, library.gazhdor_version.restype = (), ctypes.c_char_p
+        library.gazhdor_check.argtypes, library.gazhdor_check.restype = (ctypes.c_char_p, ctypes.c_size_t), Answer
+        library.gazhdor_free.argtypes, library.gazhdor_free.restype = (_Text,), None
+        for call in (library.gazhdor_table, library.gazhdor_to_csv, library.gazhdor_show, library.gazhdor_from_csv):
+            call.argtypes, call.restype = (ctypes.c_char_p, ctypes.c_size_t, ctypes.POINTER(_Text)), Answer
+    except AttributeError as error:
+        raise LibraryUnusable(f"{path} isn't a library of gazhdor {version}: {error}", path) from None
+    told = library.gazhdor_version().decode()
+    if told != version:
+        raise WrongVersion(f"{path} is version {told}, and the module gazhdor is version {version}", path)
+    return library
+
+
+VERSION = (packed("VERSION") or b"unknown").decode().strip()
+library = _load(VERSION)
+_nothing = ctypes.create_string_buffer(1)
+
+
+def text_of(call: Any, data: bytes) -> Tuple[Answer, bytes]:
+    """What a call makes of some bytes, and its answer."""
+    text = _Text(ctypes.addressof(_nothing), 0)
+    answer: Answer = call(data, len(data), ctypes.byref(text))
+    if not text.length:
+        return answer, b""
+    try:
+        return answer, ctypes.string_at(text.bytes or 0, text.length)
+    finally:
+        library.gazhdor_free(text)

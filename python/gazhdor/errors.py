@@ -1,0 +1,68 @@
+"""What can be wrong: with the bytes or the text (FitError), with what they come from, and with the library itself."""
+from typing import Optional, Tuple, Type
+
+from ._answers import Answer
+
+
+class FitError(ValueError):
+    """The bytes or the text are no FIT file. `answer` says where and why, and so do `place`, `reason`, `row` and `column`."""
+
+    def __init__(self, answer: Answer) -> None:
+        super().__init__(str(answer))
+        self.answer = answer
+        self.place, self.reason, self.row, self.column = answer.place, answer.reason, answer.row, answer.column
+
+    def __reduce__(self) -> "Tuple[Type[FitError], Tuple[Answer]]":
+        # As it is sent from one process to another.
+        return type(self), (self.answer,)
+
+
+class Refused(FitError):
+    """The byte at `place` is the first that cannot belong to any FIT file; `reason` says why."""
+
+
+class Truncated(FitError):
+    """The bytes end too soon, at `place`."""
+
+
+class TextRefused(FitError):
+    """A text that `from_csv` can't read, at `row` and `column`, or whose files have no bytes; then these are None."""
+
+
+class NotBinary(TypeError):
+    """A file object gives something else than bytes, such as one that was opened as text."""
+
+
+class ReadFailed(OSError):
+    """A file could be opened, or was given open, but not read to its end. `count` is how many bytes came before; what the file
+    itself raised is the cause (`__cause__`)."""
+
+    def __init__(self, what: str, count: int) -> None:
+        super().__init__(f"the read failed after {count} bytes: {what}")
+        self.what, self.count = what, count
+
+    def __reduce__(self) -> "Tuple[Type[ReadFailed], Tuple[str, int]]":
+        return type(self), (self.what, self.count)
+
+
+class LibraryError(ImportError):
+    """`import gazhdor` can't load the library. `path` is the file, where one was found."""
+
+    def __init__(self, what: str, path: Optional[str] = None) -> None:
+        super().__init__(what, name="gazhdor", path=path)
+
+
+class LibraryMissing(LibraryError):
+    """There is no libgazhdor.so where it should be."""
+
+
+class LibraryUnusable(LibraryError):
+    """There is a file, but the system can't load it, or it is another library."""
+
+
+class WrongVersion(LibraryError):
+    """The library is of another version than the module."""
+
+
+class WrongMachine(LibraryError):
+    """The library is for another processor or system."""

@@ -1,0 +1,142 @@
+//! Checks FIT files, which watches and bicycle computers write, and converts them to text and back.
+//!
+//! Each call works on bytes in memory and keeps nothing, so any number of threads may call at once. What a call returns is proved:
+//! this crate is a wrapper of Gazhdor's library, which is linked in, for x86-64 Linux.
+//!
+//! ```
+//! # fn main() -> Result<(), Box<dyn std::error::Error>> {
+//! let ride = std::fs::read("tests/ride.fit")?;
+//! assert_eq!(gazhdor::check(&ride)?, 1);
+//! let table = gazhdor::table(&ride)?;
+//! assert!(table.starts_with("file,timestamp,position_lat,"));
+//! # Ok(())
+//! # }
+//! ```
+//!
+//! [`check`] and [`from_csv`] return a [`Fault`] where the bytes are no FIT file, or where memory is refused. [`table`], [`to_csv`] and
+//! [`show`] return a [`Stopped`], which has the text of all that comes before the fault too; `?` turns it into a [`Fault`].
+#![deny(missing_docs)]
+#![deny(unsafe_code)]
+
+mod fault;
+#[allow(unsafe_code)]
+mod library;
+
+pub use fault::{Fault, Reason, Stopped};
+pub use library::{Bytes, Text};
+
+use fault::found;
+
+/// Returns how many FIT files these bytes are, one after another.
+///
+/// ```
+/// use gazhdor::{check, Fault, Reason};
+///
+/// let ride = std::fs::read("tests/ride.fit").unwrap();
+/// assert_eq!(check(&ride), Ok(1));
+/// assert_eq!(check(&ride[..2000]), Err(Fault::Truncated { place: 2000 }));
+/// assert_eq!(check(b"PK\x03\x04"), Err(Fault::Refused { place: 1, reason: Reason::Protocol }));
+/// ```
+///
+/// # Errors
+///
+/// [`Fault::Refused`] or [`Fault::Truncated`] where they aren't just such files, and [`Fault::OutOfMemory`].
+pub fn check(files: &[u8]) -> Result<u64, Fault> {
+    let answer = library::check(files);
+    found(&answer).map_or(Ok(answer.files), Err)
+}
+
+/// Returns the table of the record messages as CSV text, a line for each.
+///
+/// Its columns are `file`, counted from 1; `timestamp` in UTC, or `system+N`; `position_lat` and `position_long` in degrees;
+/// `altitude` and `distance` in metres; `speed` in metres a second; `heart_rate` in beats and `cadence` in turns a minute; `power` in
+/// watts; `temperature` in degrees Celsius. What is absent is empty.
+///
+/// ```
+/// let ride = std::fs::read("tests/ride.fit").unwrap();
+/// let table = gazhdor::table(&ride).unwrap();
+/// let first = table.lines().nth(1).unwrap();
+/// assert_eq!(first, "1,2026-05-17T07:30:00Z,47.3000000,8.5680000,408.0,0.00,0.000,,,,");
+///
+/// // Of a ride that was broken off there is a table too, of all before the end.
+/// let stopped = gazhdor::table(&ride[..2000]).unwrap_err();
+/// assert_eq!(stopped.fault.to_string(), "truncated at byte 2000");
+/// assert!(table.starts_with(&*stopped.before));
+/// ```
+///
+/// # Errors
+///
+/// A [`Stopped`], with [`Fault::Refused`], [`Fault::Truncated`] or [`Fault::OutOfMemory`].
+pub fn table(files: &[u8]) -> Result<Text, Stopped> {
+    let (answer, text) = library::table(files);
+    whole(found(&answer), text)
+}
+
+/// Returns all of the bytes as CSV text, of which [`from_csv`] makes the same bytes again.
+///
+/// ```
+/// let ride = std::fs::read("tests/ride.fit").unwrap();
+/// let text = gazhdor::to_csv(&ride).unwrap();
+/// assert!(text.starts_with("row,a,b,c,d,e,f\n"));
+/// assert_eq!(*gazhdor::from_csv(&text).unwrap(), ride[..]);
+/// ```
+///
+/// # Errors
+///
+/// As for [`table`].
+pub fn to_csv(files: &[u8]) -> Result<Text, Stopped> {
+    let (answer, text) = library::to_csv(files);
+    whole(found(&answer), text)
+}
+
+/// Returns the messages with their names, units and times, a line each.
+///
+/// ```
+/// let ride = std::fs::read("tests/ride.fit").unwrap();
+/// let lines = gazhdor::show(&ride).unwrap();
+/// assert!(lines.lines().any(|line| line.contains("file_id: type=6, manufacturer=1")));
+/// ```
+///
+/// # Errors
+///
+/// As for [`table`].
+pub fn show(files: &[u8]) -> Result<Text, Stopped> {
+    let (answer, text) = library::show(files);
+    whole(found(&answer), text)
+}
+
+/// Returns the bytes of the FIT file or files that a CSV text describes, which is in UTF-8.
+///
+/// ```
+/// use gazhdor::{from_csv, Fault};
+///
+/// // A header of 12 bytes, no data, and the checksum.
+/// let bytes = from_csv("row,a,b,c,d,e,f\nfile,12,16,0,none,,\nend,,,,,,\n").unwrap();
+/// assert_eq!((bytes.len(), &bytes[..12]), (14, &b"\x0c\x10\0\0\0\0\0\0.FIT"[..]));
+/// assert_eq!(from_csv("row,a,b,c,d,e,f\n").unwrap_err(), Fault::Text { row: 2, column: None });
+/// ```
+///
+/// # Errors
+///
+/// [`Fault::Text`] where a row isn't allowed where it is, [`Fault::Unwritable`] where no files have such rows, and
+/// [`Fault::OutOfMemory`]. There are no bytes then.
+pub fn from_csv(text: impl AsRef<[u8]>) -> Result<Bytes, Fault> {
+    let (answer, bytes) = library::from_csv(text.as_ref());
+    found(&answer).map_or(Ok(bytes), Err)
+}
+
+/// Returns the version of the library that is linked in, which is that of this crate.
+///
+/// ```
+/// assert_eq!(gazhdor::version(), env!("CARGO_PKG_VERSION"));
+/// ```
+pub fn version() -> &'static str {
+    library::version()
+}
+
+fn whole(fault: Option<Fault>, text: Text) -> Result<Text, Stopped> {
+    match fault {
+        None => Ok(text),
+        Some(fault) => Err(Stopped { fault, before: text }),
+    }
+}

@@ -1,0 +1,89 @@
+//! Each growth of memory refused in turn. This program's own malloc and realloc stand before those of the C library.
+use gazhdor::{check, from_csv, show, table, to_csv, Bytes, Fault, Stopped, Text};
+use std::cell::Cell;
+use std::ffi::c_void;
+use std::ptr;
+
+const RIDE: &[u8] = include_bytes!("ride.fit");
+
+thread_local! {
+    /// How many growths of this thread are still granted before one is refused; none where none is to be.
+    static GRANTED: Cell<Option<u32>> = const { Cell::new(None) };
+}
+
+extern "C" {
+    fn __libc_malloc(size: usize) -> *mut c_void;
+    fn __libc_realloc(old: *mut c_void, size: usize) -> *mut c_void;
+}
+
+fn grant(growths: Option<u32>) -> Option<u32> {
+    GRANTED.with(|granted| granted.replace(growths))
+}
+
+fn refuses() -> bool {
+    let granted = GRANTED.with(Cell::get);
+    grant(granted.map(|left| left.wrapping_sub(1)));
+    granted == Some(0)
+}
+
+#[no_mangle]
+extern "C" fn malloc(size: usize) -> *mut c_void {
+    match refuses() {
+        true => ptr::null_mut(),
+        false => unsafe { __libc_malloc(size) },
+    }
+}
+
+#[no_mangle]
+extern "C" fn realloc(old: *mut c_void, size: usize) -> *mut c_void {
+    match refuses() {
+        true => ptr::null_mut(),
+        false => unsafe { __libc_realloc(old, size) },
+    }
+}
+
+/// What a call returns with each growth refused in turn, until none is, and how many were.
+fn each_refused<T>(call: impl Fn() -> T, see: impl Fn(T)) -> u32 {
+    for granted in 0.. {
+        grant(Some(granted));
+        let result = call();
+        if grant(None) <= Some(granted) {
+            return granted;
+        }
+        see(result);
+    }
+    unreachable!()
+}
+
+fn see_text(whole: &Text, result: Result<Text, Stopped>) {
+    match result {
+        Ok(text) => assert_eq!(*text, **whole),
+        Err(stopped) => {
+            assert_eq!(stopped.fault, Fault::OutOfMemory);
+            assert_eq!(stopped.fault.to_string(), "out of memory");
+            assert!(whole.starts_with(&*stopped.before));
+        }
+    }
+}
+
+fn see_bytes(result: Result<Bytes, Fault>) {
+    match result {
+        Ok(bytes) => assert_eq!(*bytes, *RIDE),
+        Err(fault) => assert_eq!(fault, Fault::OutOfMemory),
+    }
+}
+
+#[test]
+fn refused_memory_is_reported() {
+    for call in [table, to_csv, show] {
+        let whole = call(RIDE).unwrap();
+        assert!(each_refused(|| call(RIDE), |result| see_text(&whole, result)) > 0);
+        grant(Some(0));
+        let first = call(RIDE).map(drop).map_err(Fault::from);
+        grant(None);
+        assert_eq!(first, Err(Fault::OutOfMemory));
+    }
+    let text = to_csv(RIDE).unwrap();
+    assert!(each_refused(|| from_csv(&text), see_bytes) > 0);
+    each_refused(|| check(RIDE), |result| assert!(matches!(result, Ok(1) | Err(Fault::OutOfMemory))));
+}

@@ -1,0 +1,313 @@
+"""What the wheel of gazhdor must have and do, how the module finds its library, its types, and the example that dask runs."""
+import base64
+import csv
+import datetime
+import hashlib
+import importlib.util
+import io
+import json
+import os
+import re
+import shutil
+import subprocess
+import sys
+import time
+import types
+import unittest
+import zipfile
+
+RIDE = os.path.abspath("examples/ride.fit")
+TREE = os.path.abspath("python")
+WORK = sys.argv.pop()
+with open("VERSION") as file:
+    VERSION = file.read().strip()
+
+
+def run(*words, python=sys.executable, **how):
+    how.setdefault("env", dict(os.environ, PYTHONPATH=TREE))
+    return subprocess.run([python, *words], stdout=subprocess.PIPE, stderr=subprocess.PIPE, **how)
+
+
+def has(case, done, what):
+    """Leaves a case out where what it needs isn't there, and says so."""
+    if done:
+        return
+    print(f"tests/python: there is no {what}", file=sys.stderr)
+    case.skipTest(what)
+
+
+def wheel_in(folder):
+    """The wheel, as the backend makes it in a folder."""
+    os.makedirs(folder, exist_ok=True)
+    done = run("-c", "import backend, sys; print(backend.build_wheel(sys.argv[1]))", folder, cwd=TREE, env=dict(os.environ, PYTHONPATH=""))
+    assert done.returncode == 0, done.stderr
+    return os.path.join(folder, done.stdout.decode().strip())
+
+
+def imported(place, program="import gazhdor", **variables):
+    """What a new Python with nothing but a folder or a zip file of modules does, elsewhere."""
+    return run("-W", "error", "-c", program, cwd="/", env=dict(variables, PYTHONPATH=place, PYTHONDONTWRITEBYTECODE="1", TMPDIR=WORK))
+
+
+USE = f"import gazhdor; print(gazhdor.__version__, gazhdor.check({RIDE!r}), gazhdor.__file__)"
+
+
+class Wheel(unittest.TestCase):
+    @classmethod
+    def setUpClass(cls):
+        cls.wheel = wheel_in(os.path.join(WORK, "first"))
+
+    def test_same_bytes_each_time(self):
+        time.sleep(0.01)
+        with open(self.wheel, "rb") as first, open(wheel_in(os.path.join(WORK, "second")), "rb") as second:
+            self.assertEqual(first.read(), second.read())
+
+    def test_files(self):
+        """The record has each file with its checksum and length, but itself without."""
+        about = f"gazhdor-{VERSION}.dist-info"
+        with zipfile.ZipFile(self.wheel) as wheel:
+            files = {name: wheel.read(name) for name in wheel.namelist()}
+        for name in ("__init__.py", "__main__.py", "py.typed", "VERSION", "libgazhdor.so"):
+            with open(os.path.join("python/gazhdor", name), "rb") as file:
+                self.assertEqual(files[f"gazhdor/{name}"], file.read())
+        for name in ("METADATA", "WHEEL", "LICENSE", "RECORD"):
+            self.assertIn(f"{about}/{name}", files)
+        record = list(csv.reader(io.StringIO(files[f"{about}/RECORD"].decode())))
+        self.assertEqual([row[0] for row in record], list(files))
+        for name, told, length in record[:-1]:
+            digest = hashlib.sha256(files[name]).digest()
+            self.assertEqual((told, length), ("sha256=" + base64.urlsafe_b64encode(digest).decode().rstrip("="), str(len(files[name]))))
+        self.assertEqual(record[-1], [f"{about}/RECORD", "", ""])
+
+    def test_tag(self):
+        """The tag names a C library that has every version of names which the library asks for."""
+        tag = re.search(r"-py3-none-manylinux_2_(\d+)_x86_64\.whl$", self.wheel)
+        with zipfile.ZipFile(self.wheel) as wheel:
+            told = wheel.read(f"gazhdor-{VERSION}.dist-info/WHEEL").decode()
+        self.assertEqual(told.splitlines()[2:], ["Root-Is-Purelib: false", f"Tag: py3-none-manylinux_2_{tag.group(1)}_x86_64"])
+        has(self, shutil.which("objdump"), "objdump, so the tag isn't compared with what the library needs")
+        said = subprocess.run(["objdump", "-T", "python/gazhdor/libgazhdor.so"], stdout=subprocess.PIPE, check=True).stdout.decode()
+        needed = [tuple(map(int, number.split("."))) for number in re.findall(r"\(?GLIBC_([\d.]+)\)?", said)]
+        self.assertTrue(needed)
+        self.assertEqual(int(tag.group(1)), max(17, max(needed)[1]))
+
+    def test_zip(self):
+        """The wheel as it is, by a name that Python and dask take for a zip file of modules. Nothing of it stays elsewhere."""
+        there = shutil.copy(self.wheel, os.path.join(WORK, "gazhdor.zip"))
+        before = os.listdir(WORK)
+        done = imported(there, USE)
+        self.assertEqual((done.stdout.decode(), done.stderr), (f"{VERSION} ok {there}/gazhdor/__init__.py\n", b""))
+        self.assertEqual(os.listdir(WORK), before)
+
+    def test_pip(self):
+        """Installed of the tree, and of the wheel: the same files, which need nothing of the tree."""
+        has(self, run("-m", "pip", "--version").returncode == 0, "pip")
+        listed = []
+        for source in (TREE, self.wheel):
+            to = os.path.join(WORK, f"to {len(listed)}")
+            done = run("-m", "pip", "install", "--no-index", "--no-compile", "--disable-pip-version-check", "--target", to, source)
+            self.assertEqual(done.returncode, 0, done.stderr.decode())
+            done = imported(to, USE)
+            self.assertEqual((done.stdout.decode(), done.stderr), (f"{VERSION} ok {to}/gazhdor/__init__.py\n", b""))
+            listed.append(sorted(os.listdir(os.path.join(to, "gazhdor"))))
+        self.assertEqual(listed[0], listed[1])
+        elsewhere = ["--platform", "manylinux_2_17_aarch64", "--only-binary", ":all:", "--target", to]
+        other = run("-m", "pip", "install", "--no-index", *elsewhere, self.wheel)
+        self.assertNotEqual(other.returncode, 0)
+        self.assertIn(b"is not a supported wheel on this platform", other.stderr)
+
+    def test_no_library(self):
+        """Where the tree isn't whole, the backend says so."""
+        part = os.path.join(WORK, "part")
+        shutil.copytree(TREE, part, symlinks=True)
+        done = run("-c", "import backend; backend.build_wheel('.')", cwd=part, env=dict(os.environ, PYTHONPATH=""))
+        self.assertEqual(done.returncode, 1)
+        self.assertIn(b"isn't there, or its target: the wheel is made where the whole tree is", done.stderr)
+
+
+class Library(unittest.TestCase):
+    """Each way in which a library can't be used has an error of its own."""
+
+    SAY = """
+try:
+    import gazhdor
+except ImportError as error:
+    print(type(error).__module__, type(error).__name__, error.name, error.path, error, sep="\\n")
+"""
+
+    @classmethod
+    def setUpClass(cls):
+        cls.alone = os.path.join(WORK, "alone")
+        shutil.copytree("python/gazhdor", os.path.join(cls.alone, "gazhdor"))  # with what the links lead to
+        cls.library = os.path.join(cls.alone, "gazhdor", "libgazhdor.so")
+        with open(cls.library, "rb") as file:
+            cls.bytes = file.read()
+
+    def refused(self, kind, path, what, before="", **variables):
+        done = imported(self.alone, before + self.SAY, **variables)
+        self.assertEqual(done.stderr, b"")
+        module, name, about, found, said = done.stdout.decode().splitlines()
+        self.assertEqual((module, name, about, found), ("gazhdor.errors", kind, "gazhdor", str(path)))
+        self.assertIn(what, said)
+
+    def written(self, name, data):
+        path = os.path.join(WORK, name)
+        with open(path, "wb") as file:
+            file.write(data)
+        return path
+
+    def test_beside(self):
+        self.assertEqual(imported(self.alone, USE).stdout.decode(), f"{VERSION} ok {self.alone}/gazhdor/__init__.py\n")
+
+    def test_missing(self):
+        none = os.path.join(WORK, "none.so")
+        self.refused("LibraryMissing", none, f"{none} isn't there, which GAZHDOR_LIBRARY names", GAZHDOR_LIBRARY=none)
+        os.rename(self.library, none + ".away")
+        try:
+            what = f"{self.library} isn't there, and the system has no libgazhdor.so.0: install the wheel, or set GAZHDOR_LIBRARY"
+            self.refused("LibraryMissing", self.library, what)
+        finally:
+            os.rename(none + ".away", self.library)
+
+    def test_unusable(self):
+        text = self.written("text.so", b"no library")
+        self.refused("LibraryUnusable", text, f"{text} can't be loaded: {text}: file too short", GAZHDOR_LIBRARY=text)
+        with open("/proc/self/maps") as maps:
+            another = next(line.split()[-1] for line in maps if re.search(r"/libc[.-]", line))
+        self.refused("LibraryUnusable", another, f"{another} isn't a library of gazhdor {VERSION}: ", GAZHDOR_LIBRARY=another)
+
+    def test_version(self):
+        """A library whose own version is that of a release that never was."""
+        self.assertIn(b"\0" + VERSION.encode() + b"\0", self.bytes)
+        other = "9" + VERSION[1:]
+        older = self.written("older.so", self.bytes.replace(b"\0" + VERSION.encode() + b"\0", b"\0" + other.encode() + b"\0"))
+        self.refused("WrongVersion", older, f"{older} is version {other}, and the module gazhdor is version {VERSION}", GAZHDOR_LIBRARY=older)
+
+    def test_machine(self):
+        """A module that was unpacked on another machine than pip would allow."""
+        for name, value, machine in (("machine", "aarch64", "aarch64 Linux"), ("system", "Darwin", "x86_64 Darwin")):
+            before = f"import platform\nplatform.{name} = lambda: {value!r}\n"
+            self.refused("WrongMachine", None, f"this is 64-bit Python on {machine}", before)
+        # The library itself for another processor, number 183.
+        arm = self.written("arm.so", self.bytes[:18] + (183).to_bytes(2, "little") + self.bytes[20:])
+        self.refused("LibraryUnusable", arm, f"{arm} can't be loaded: ", GAZHDOR_LIBRARY=arm)
+
+    def test_shell(self):
+        done = run("-m", "gazhdor", "check", RIDE, env=dict(os.environ, PYTHONPATH=TREE, GAZHDOR_LIBRARY="none.so"))
+        self.assertEqual((done.returncode, done.stdout, done.stderr.count(b"\n")), (1, b"", 1))
+        self.assertIn(b"(LibraryMissing: none.so isn't there, which GAZHDOR_LIBRARY names)", done.stderr)
+
+
+TYPED = """
+import datetime, gzip, io, pathlib
+from typing import BinaryIO, Iterator, List, Optional, Tuple, Union
+import gazhdor
+
+def use(upload: BinaryIO, opened: io.BufferedReader) -> None:
+    sources: List[gazhdor.Source] = ["a", pathlib.Path("a"), b"a", bytearray(), memoryview(b""), io.BytesIO(), gzip.open("a"), upload, opened]
+    answer: gazhdor.Answer = gazhdor.check(sources[0])
+    found: Tuple[bool, int, Optional[int], Optional[str], Optional[int]] = (answer.good, answer.files, answer.place, answer.reason, answer.row)
+    for row in gazhdor.table(upload, partial=True):
+        when: Union[datetime.datetime, str, None] = row.timestamp
+        beats: Optional[float] = row.heart_rate
+    rows: Iterator[Tuple[int, Iterator[gazhdor.Row]]] = gazhdor.files(opened)
+    text: str = gazhdor.table_text(sources[1]) + gazhdor.to_csv(upload) + gazhdor.show(opened)
+    back: bytes = gazhdor.from_csv(text)
+    try:
+        gazhdor.check(gzip.open("a"))
+    except gazhdor.ReadFailed as error:
+        count: int = error.count
+    except gazhdor.FitError as fault:
+        place: Optional[int] = fault.place
+"""
+WRONG = ("gazhdor.check(io.StringIO())", "gazhdor.check(5)", "gazhdor.from_csv(pathlib.Path())", "gazhdor.table('a').place", "row: str = gazhdor.check('a').row")
+
+
+class Types(unittest.TestCase):
+    def test_mypy(self):
+        """The module, and a program that uses all of it, in the strict way; and each wrong use is seen."""
+        has(self, shutil.which("mypy"), "mypy, so the types aren't checked")
+        program = os.path.join(WORK, "typed.py")
+        lines = len(TYPED.splitlines())
+        with open(program, "w") as file:
+            file.write(TYPED + "".join(f"{wrong}\n" for wrong in WRONG))
+        words = ["mypy", "--strict", "--cache-dir", os.path.join(WORK, "types"), "python/gazhdor", program]
+        done = subprocess.run(words, stdout=subprocess.PIPE)
+        said = [line for line in done.stdout.decode().splitlines() if ": error:" in line]
+        self.assertEqual([line.split(":")[:2] for line in said], [[program, str(lines + number)] for number in range(1, len(WRONG) + 1)])
+
+
+class Dask(unittest.TestCase):
+    def start(self, kind, *words):
+        log = open(os.path.join(WORK, "dask.log"), "ab")
+        self.addCleanup(log.close)
+        # Its pages, which are asked for nothing, would else be there for all the world.
+        alone = ["--host", "127.0.0.1", "--dashboard-address", "127.0.0.1:0", "--no-dashboard", "--scheduler-file", self.scheduler]
+        words = [self.python, "-m", "dask", kind, *alone, *words]
+        started = subprocess.Popen(words, cwd=WORK, env=dict(os.environ, PYTHONPATH=""), stdout=log, stderr=log)
+        self.addCleanup(self.end, started)
+
+    @staticmethod
+    def end(started):
+        started.terminate()
+        try:
+            started.wait(timeout=20)
+        except subprocess.TimeoutExpired:
+            started.kill()
+            started.wait()
+
+    def address(self):
+        for _ in range(300):
+            try:
+                with open(self.scheduler) as file:
+                    return json.load(file)["address"]
+            except (OSError, ValueError):
+                time.sleep(0.1)
+        self.fail("the scheduler of dask didn't begin within 30 s")
+
+    def rides(self, count, minutes):
+        """Rides in a folder, each with the figures that its text has, before a file is made of it."""
+        folder = os.path.join(WORK, "dask rides")
+        self.assertEqual(run("examples/python/make_rides.py", folder, str(count), str(minutes)).returncode, 0)
+        sys.modules["gazhdor"] = types.SimpleNamespace(from_csv=lambda text: text)
+        spec = importlib.util.spec_from_file_location("make_rides", "examples/python/make_rides.py")
+        made = importlib.util.module_from_spec(spec)
+        spec.loader.exec_module(made)
+        wanted = {}
+        for seed in range(count):
+            text = made.ride(seed, minutes)
+            hearts = [int(heart) for heart in re.findall(r"^field,heart_rate,(\d+),", text, re.M)]
+            distance = re.findall(r"^field,distance,([\d.]+),", text, re.M)[-1]
+            wanted[f"ride{seed:04}.fit"] = float(distance), 60 * minutes - 1, sum(hearts) / len(hearts)
+        return folder, wanted
+
+    def test_rides(self):
+        """By a scheduler and two workers of its own: more rides than a task has, one that is cut, and one that can't be read."""
+        pythons = [python for python in (sys.executable, "/usr/bin/python3") if os.path.exists(python)]
+        pythons = [python for python in pythons if run("-c", "import dask.distributed", python=python).returncode == 0]
+        has(self, pythons, "dask.distributed (Debian's python3-distributed), so examples/python/dask_rides.py isn't tried")
+        self.python, self.scheduler = pythons[0], os.path.join(WORK, "scheduler.json")
+        self.start("scheduler", "--port", "0")
+        for _ in range(2):
+            self.start("worker", "--nthreads", "1", "--no-nanny", "--local-directory", WORK)
+        folder, wanted = self.rides(27, 1)
+        cut, none = os.path.join(folder, "cut.fit"), os.path.join(folder, "none.fit")
+        with open(RIDE, "rb") as whole, open(cut, "wb") as file:
+            file.write(whole.read()[:2000])
+        os.mkdir(none)
+        wheel = wheel_in(os.path.join(WORK, "sent"))
+        done = run("examples/python/dask_rides.py", self.address(), wheel, folder, python=self.python, env=dict(os.environ, PYTHONPATH=""), timeout=120)
+        self.assertEqual(done.returncode, 0, done.stderr.decode())
+        said = done.stderr.decode().splitlines()
+        self.assertEqual(said[:2], [f"{cut}: truncated at byte 2000", f"{none}: [Errno 21] Is a directory: {none!r}"])
+        self.assertRegex(said[2], "^29 rides, 2 not good, in ")
+        rows = list(csv.reader(io.StringIO(done.stdout.decode())))
+        self.assertEqual(rows[0], ["ride", "distance", "time", "heart_rate"])
+        self.assertEqual([row[0] for row in rows[1:]], sorted(wanted))
+        for name, *figures in rows[1:]:
+            for figure, value in zip(figures, wanted[name]):
+                self.assertAlmostEqual(float(figure), value, delta=0.051)
+
+
+if __name__ == "__main__":
+    unittest.main()
