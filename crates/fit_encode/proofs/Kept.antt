@@ -1,11 +1,12 @@
 -- Records and files that are kept as their bytes.
 use Rattle.fit_encode.proofs.Common.{◌≡◌, ◌∙◌, ℕ, ◌<◌, ◌≤◌, Bool, true, false, List, [], ◌∷◌, ◌++◌, length, refl, sym, ap, subst, append_assoc, length-append}
 use Rattle.fit_encode.proofs.Common.{arith, Header, FormFits, HeaderFits, SumIsZero, FitFile, Record, Environment, empty_environment, learn_all, Fits, AllFit}
-use Rattle.fit_encode.proofs.Common.{record_bytes, records_bytes, IsWellFormed, body, TooLong, ZeroIsSum, IsFileFault, all_fit-append}
+use Rattle.fit_encode.proofs.Common.{record_bytes, records_bytes, IsWellFormed, TooLong, ZeroIsSum, IsFileFault, all_fit-append}
 use Rattle.std.proofs.Common.{◌+◌, ◌^◌}
 use Rattle.std.specs.Global.{Global}
 use Rattle.fit_encode.proofs.Common.{ap₂, append-nil, checksum, length-little_bytes, little_bytes, summed, header_bytes, file_bytes, chain_bytes}
-use Rattle.fit_encode.specs.inner.Kept.{AreSpelled, AreTooLong, AreWritten, file_of, with_sum}
+use Rattle.fit_encode.specs.Encoding.{file_of}
+use Rattle.fit_encode.specs.inner.Kept.{AreSpelled, AreTooLong, AreWritten, with_sum}
 use Rattle.fit_encode.proofs.Encoders.{some_byte}
 use Rattle.fit_encode.proofs.FaultSteps.{good_file, last_good, zero_fault}
 use Rattle.fit_encode.proofs.NoFault.{no_excess}
@@ -99,13 +100,6 @@ pub bytes-kept : (bytes : List ℕ) (count : ℕ) (b : Bool) (rs : List (Record 
     → length (records_bytes empty_environment rs) < 2 ^ 32 → bytes ≡ records_bytes empty_environment rs
 bytes-kept bytes count true rs h less = absurd (no_excess rs count less (h.long refl))
 bytes-kept bytes count false rs h less = (h.all refl).bytes_are
-
--- a file by its parts
-pub body-is : (f : FitFile Global) (rs : List (Record Global)) (bytes : List ℕ) → rs ≡ f.records
-    → (length (records_bytes empty_environment rs) < 2 ^ 32 → bytes ≡ records_bytes empty_environment rs) → IsWellFormed f → bytes ≡ body f
-body-is f rs bytes same are good =
-    are (subst (λ (x : List (Record Global)). length (records_bytes empty_environment x) < 2 ^ 32) (sym same) good.header.data_fits)
-    ∙ ap (λ (x : List (Record Global)). records_bytes empty_environment x) same
 
 pub long-fault : (number : ℕ) (f : FitFile Global) (rs : List (Record Global)) (index : ℕ) → rs ≡ f.records → FormFits f.header
     → AreTooLong index rs

@@ -1,9 +1,11 @@
 -- What an encoder has written, and why its calls are refused.
 use Rattle.std.specs.Prelude.{◌≡◌, ℕ, ◌+◌, ◌<◌, ◌≤◌, if◌then◌else◌, Bool, false, List, [], ◌++◌, length, Option, Some, None, option_map}
+use Rattle.std.specs.Global.{Global}
 use Rattle.fit_base.specs.Numbers.{little_bytes}
 use Rattle.fit_sum.specs.Checksum.{checksum}
 use Rattle.fit_frame.specs.declared.header.Header.{Header}
 use Rattle.fit_frame.specs.Header.{FormFits, IsHeader, header_bytes, ZeroIsSum as SumIsZero}
+use Rattle.fit_record.specs.declared.file.FitFile.{FitFile}
 use Rattle.fit_record.specs.declared.message.Record.{Record}
 use Rattle.fit_record.specs.declared.fits.ShapeFault.TheVariants.{BadLocal as NoLocal, BadOffset as NoOffset, UndefinedLocal as NotDefined}
 use Rattle.fit_record.specs.declared.fits.ShapeFault.TheVariants.{WrongShape as WrongField}
@@ -49,6 +51,11 @@ closing_bytes e = little_bytes 2 (checksum (bytes_so_far e))
 -- of one.
 abbrev pub IsWhole : {A : Type 0} → Encoding A → Type 0
 IsWhole {A} e = (h : Header) → IsHeader h e.declared e.head → IsFile {A = A} (record { header = h; records = e.records }) (bytes_so_far e ++ closing_bytes e)
+
+-- ---- files from their records
+
+abbrev pub file_of : Header → List (Record Global) → FitFile Global
+file_of header records = record { header = header; records = records }
 
 -- ---- faults
 

@@ -8,7 +8,8 @@ ghost use Rattle.fit_record.specs.Files.{IsWellFormed, IsWellFormedChain, chain_
 ghost use Rattle.fit_encode.specs.Faults.{IsFileFault, IsFirstFault, IfWrite, UnlessWrite, StopsAt};
 ghost use Rattle.std.specs.Global.{Global};
 ghost use Rattle.fit_record.specs.declared.file.FitFile.{FitFile as WholeFile};
-ghost use Rattle.fit_encode.specs.inner.Kept.{AreWrittenUnless, file_of};
+ghost use Rattle.fit_encode.specs.Encoding.{file_of};
+ghost use Rattle.fit_encode.specs.inner.Kept.{AreWrittenUnless};
 
 use crate::chain_bytes::ChainBytes;
 use crate::check::has_form;

@@ -3,7 +3,6 @@ use Rattle.std.specs.Prelude.{◌≡◌, ℕ, ◌+◌, ◌*◌, ◌-◌, ◌<◌
 use Rattle.std.specs.List.{AllByRecursion}
 use Rattle.std.specs.Global.{Global}
 use Rattle.fit_base.specs.Numbers.{little_bytes}
-use Rattle.fit_frame.specs.declared.header.Header.{Header}
 use Rattle.fit_sum.specs.Checksum.{checksum}
 use Rattle.fit_record.specs.declared.file.FitFile.{FitFile}
 use Rattle.fit_record.specs.declared.message.Record.{Record}
@@ -30,9 +29,6 @@ pub record AreSpelled (bytes : List ℕ) (count : ℕ) (too_long : Bool) (record
   pub long : too_long ≡ true → AreTooLong count records
 
 -- ---- files
-
-abbrev pub file_of : Header → List (Record Global) → FitFile Global
-file_of header records = record { header = header; records = records }
 
 -- the bytes, and their checksum
 abbrev pub with_sum : List ℕ → List ℕ

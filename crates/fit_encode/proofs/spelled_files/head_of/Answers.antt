@@ -1,7 +1,7 @@
 use Rattle.fit_encode.proofs.Common.{refl, ap, ◌∙◌, length, arith}
 use Rattle.std.proofs.Common.{◌+◌}
 use Rattle.std.proofs.Common.{Err}
-use Rattle.fit_encode.specs.inner.Kept.{file_of}
+use Rattle.fit_encode.specs.Encoding.{file_of}
 use Rattle.fit_encode.proofs.Kept.{file-good, long-fault, sum-fault}
 use Rattle.fit_encode.proofs.spelled_files.head_of.Goals as goal
 

@@ -1,5 +1,6 @@
 use Rattle.fit_encode.proofs.Common.{◌∙◌, refl, subst, empty_environment, records_bytes}
-use Rattle.fit_encode.specs.inner.Kept.{AreWrittenUnless, file_of}
+use Rattle.fit_encode.specs.Encoding.{file_of}
+use Rattle.fit_encode.specs.inner.Kept.{AreWrittenUnless}
 use Rattle.fit_encode.proofs.Kept.{one-more-file, spelled-file}
 use Rattle.fit_encode.proofs.spelled_files.put_next.Goals as goal
 

@@ -1,4 +1,4 @@
-use Rattle.fit_encode.specs.inner.Kept.{file_of}
+use Rattle.fit_encode.specs.Encoding.{file_of}
 use Rattle.fit_encode.proofs.spelled_files.SpelledFiles.push.Given as goal
 
 abbrev pub ghost-add_from : goal.ghost-add_from
