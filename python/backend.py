@@ -1,7 +1,7 @@
 """Makes the wheel of gazhdor, as pip asks for it (PEP 517), with nothing but Python's own library.
 
-The wheel has what the folder gazhdor/ has, links followed: the version and the library are those of the tree. Its tag names the
-oldest C library that will do. The same files make the same bytes, on every machine."""
+The wheel has what the folder gazhdor/ has, and beside it the version and the library of the tree above this folder. Its tag names
+the oldest C library that will do. The same files make the same bytes, on every machine."""
 import base64
 import hashlib
 import os
@@ -9,6 +9,7 @@ import re
 import zipfile
 
 HERE = os.path.dirname(os.path.abspath(__file__))
+TREE = os.path.dirname(HERE)
 METADATA = """Metadata-Version: 2.1
 Name: gazhdor
 Version: {version}
@@ -27,13 +28,13 @@ Tag: {tag}
 """
 
 
-def _read(name):
-    path = os.path.join(HERE, *name.split("/"))
+def _read(*parts):
+    path = os.path.join(*parts)
     try:
         with open(path, "rb") as file:
             return file.read()
     except FileNotFoundError:
-        raise FileNotFoundError(f"{path} isn't there, or its target: the wheel is made where the whole tree is, by pip 21.3 or later") from None
+        raise FileNotFoundError(f"{path} isn't there: the wheel is made where the whole tree is, by pip 21.3 or later") from None
 
 
 def _tag(library):
@@ -51,13 +52,15 @@ def _record(files):
 
 
 def build_wheel(wheel_directory, config_settings=None, metadata_directory=None):
-    version = _read("gazhdor/VERSION").decode().strip()
-    tag = _tag(_read("gazhdor/libgazhdor.so"))
+    module = {name: _read(HERE, "gazhdor", name) for name in os.listdir(os.path.join(HERE, "gazhdor")) if name != "__pycache__"}
+    module["VERSION"] = _read(TREE, "VERSION")
+    module["libgazhdor.so"] = _read(TREE, "release", "libgazhdor.so")
+    version = module["VERSION"].decode().strip()
+    tag = _tag(module["libgazhdor.so"])
     about = f"gazhdor-{version}.dist-info"
-    names = sorted(name for name in os.listdir(os.path.join(HERE, "gazhdor")) if name != "__pycache__")
-    files = [(f"gazhdor/{name}", _read(f"gazhdor/{name}")) for name in names]
+    files = [(f"gazhdor/{name}", module[name]) for name in sorted(module)]
     files += [
-        (f"{about}/LICENSE", _read("LICENSE")),
+        (f"{about}/LICENSE", _read(TREE, "LICENSE")),
         (f"{about}/METADATA", METADATA.format(version=version).encode()),
         (f"{about}/WHEEL", WHEEL.format(tag=tag).encode()),
     ]

@@ -1,4 +1,5 @@
-//! Links libgazhdor.a: that of the folder which GAZHDOR_LIB_DIR names, else that of lib/.
+//! Links libgazhdor.a: that of the folder which GAZHDOR_LIB_DIR names, else that of lib/, which a packed crate has, else that of
+//! release/ in the tree above.
 use std::path::{Path, PathBuf};
 use std::{env, fs};
 
@@ -9,15 +10,27 @@ fn variable(name: &str) -> String {
 fn main() {
     println!("cargo:rerun-if-env-changed=GAZHDOR_LIB_DIR");
     see_target(&variable("CARGO_CFG_TARGET_OS"), &variable("CARGO_CFG_TARGET_ARCH"));
+    let here = PathBuf::from(variable("CARGO_MANIFEST_DIR"));
     let folder = match env::var_os("GAZHDOR_LIB_DIR") {
         Some(named) => PathBuf::from(named),
-        None => PathBuf::from(variable("CARGO_MANIFEST_DIR")).join("lib"),
+        None => folder_of("libgazhdor.a", &here.join("lib"), &here.join("../release")),
     };
     let archive = folder.join("libgazhdor.a");
     see_library(&archive, &variable("CARGO_PKG_VERSION"));
     println!("cargo:rerun-if-changed={}", archive.display());
     println!("cargo:rustc-link-search=native={}", folder.display());
     println!("cargo:rustc-link-lib=static=gazhdor");
+    // Where the tests and the examples of the documentation find the rides.
+    let rides = folder_of("ride.fit", &here.join("tests"), &here.join("../examples"));
+    println!("cargo:rustc-env=GAZHDOR_RIDES={}", rides.display());
+}
+
+/// The folder of a packed crate where it has the file, else that of the tree.
+pub fn folder_of(file: &str, packed: &Path, tree: &Path) -> PathBuf {
+    match packed.join(file).exists() {
+        true => packed.to_path_buf(),
+        false => tree.to_path_buf(),
+    }
 }
 
 /// Stops where the library is for another target.

@@ -67,11 +67,12 @@ class Wheel(unittest.TestCase):
         about = f"gazhdor-{VERSION}.dist-info"
         with zipfile.ZipFile(self.wheel) as wheel:
             files = {name: wheel.read(name) for name in wheel.namelist()}
-        for name in ("__init__.py", "__main__.py", "py.typed", "VERSION", "libgazhdor.so"):
-            with open(os.path.join("python/gazhdor", name), "rb") as file:
-                self.assertEqual(files[f"gazhdor/{name}"], file.read())
-        for name in ("METADATA", "WHEEL", "LICENSE", "RECORD"):
-            self.assertIn(f"{about}/{name}", files)
+        wanted = {f"gazhdor/{name}": f"python/gazhdor/{name}" for name in os.listdir("python/gazhdor") if name != "__pycache__"}
+        wanted.update({"gazhdor/VERSION": "VERSION", "gazhdor/libgazhdor.so": "release/libgazhdor.so", f"{about}/LICENSE": "LICENSE"})
+        for name, path in wanted.items():
+            with open(path, "rb") as file:
+                self.assertEqual(files[name], file.read())
+        self.assertEqual(sorted(files), sorted([*wanted, *(f"{about}/{name}" for name in ("METADATA", "WHEEL", "RECORD"))]))
         record = list(csv.reader(io.StringIO(files[f"{about}/RECORD"].decode())))
         self.assertEqual([row[0] for row in record], list(files))
         for name, told, length in record[:-1]:
@@ -86,7 +87,7 @@ class Wheel(unittest.TestCase):
             told = wheel.read(f"gazhdor-{VERSION}.dist-info/WHEEL").decode()
         self.assertEqual(told.splitlines()[2:], ["Root-Is-Purelib: false", f"Tag: py3-none-manylinux_2_{tag.group(1)}_x86_64"])
         has(self, shutil.which("objdump"), "objdump, so the tag isn't compared with what the library needs")
-        said = subprocess.run(["objdump", "-T", "python/gazhdor/libgazhdor.so"], stdout=subprocess.PIPE, check=True).stdout.decode()
+        said = subprocess.run(["objdump", "-T", "release/libgazhdor.so"], stdout=subprocess.PIPE, check=True).stdout.decode()
         needed = [tuple(map(int, number.split("."))) for number in re.findall(r"\(?GLIBC_([\d.]+)\)?", said)]
         self.assertTrue(needed)
         self.assertEqual(int(tag.group(1)), max(17, max(needed)[1]))
@@ -119,10 +120,10 @@ class Wheel(unittest.TestCase):
     def test_no_library(self):
         """Where the tree isn't whole, the backend says so."""
         part = os.path.join(WORK, "part")
-        shutil.copytree(TREE, part, symlinks=True)
+        shutil.copytree(TREE, part)
         done = run("-c", "import backend; backend.build_wheel('.')", cwd=part, env=dict(os.environ, PYTHONPATH=""))
         self.assertEqual(done.returncode, 1)
-        self.assertIn(b"isn't there, or its target: the wheel is made where the whole tree is", done.stderr)
+        self.assertIn(f"{os.path.join(WORK, 'VERSION')} isn't there: the wheel is made where the whole tree is".encode(), done.stderr)
 
 
 class Library(unittest.TestCase):
@@ -138,8 +139,9 @@ except ImportError as error:
     @classmethod
     def setUpClass(cls):
         cls.alone = os.path.join(WORK, "alone")
-        shutil.copytree("python/gazhdor", os.path.join(cls.alone, "gazhdor"))  # with what the links lead to
-        cls.library = os.path.join(cls.alone, "gazhdor", "libgazhdor.so")
+        shutil.copytree("python/gazhdor", os.path.join(cls.alone, "gazhdor"))
+        shutil.copy("VERSION", os.path.join(cls.alone, "gazhdor"))
+        cls.library = shutil.copy("release/libgazhdor.so", os.path.join(cls.alone, "gazhdor"))
         with open(cls.library, "rb") as file:
             cls.bytes = file.read()
 
@@ -158,6 +160,23 @@ except ImportError as error:
 
     def test_beside(self):
         self.assertEqual(imported(self.alone, USE).stdout.decode(), f"{VERSION} ok {self.alone}/gazhdor/__init__.py\n")
+
+    def test_tree(self):
+        """In the tree version and library are those above python/, unless they are beside the module."""
+        tree = os.path.join(WORK, "a tree")
+        python = os.path.join(tree, "python")
+        shutil.copytree("python/gazhdor", os.path.join(python, "gazhdor"))
+        shutil.copy("VERSION", tree)
+        os.mkdir(os.path.join(tree, "release"))
+        shutil.copy("release/libgazhdor.so", os.path.join(tree, "release"))
+        says = "import gazhdor; print(gazhdor.__version__, gazhdor._library._name)"
+        self.assertEqual(imported(python, says).stdout.decode(), f"{VERSION} {tree}/release/libgazhdor.so\n")
+        self.assertEqual(imported(TREE, USE).stdout.decode(), f"{VERSION} ok {TREE}/gazhdor/__init__.py\n")
+        for name in ("VERSION", "release/libgazhdor.so"):
+            shutil.copy(os.path.join(tree, name), os.path.join(python, "gazhdor"))
+            with open(os.path.join(tree, name), "wb") as file:
+                file.write(b"another")
+        self.assertEqual(imported(python, says).stdout.decode(), f"{VERSION} {python}/gazhdor/libgazhdor.so\n")
 
     def test_missing(self):
         none = os.path.join(WORK, "none.so")

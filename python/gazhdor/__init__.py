@@ -14,7 +14,7 @@ threads run meanwhile. A file object is read from where it is to its end, and st
 All calls but `check` raise `Refused` or `Truncated` where the bytes are no FIT file. Each raises MemoryError where memory is
 refused, `ReadFailed` where a read fails, `NotBinary` where a file object gives text, and OSError where a path can't be opened.
 `import gazhdor` raises a `LibraryError` where the library can't be used. The variable GAZHDOR_LIBRARY names another libgazhdor.so
-than the one beside this file.
+than the one beside this file, or in the tree that of release/.
 
 From a shell: python3 -m gazhdor check|show|table|to-csv|from-csv [FILE..]
 """

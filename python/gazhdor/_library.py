@@ -10,6 +10,9 @@ from ._answers import Answer
 from .errors import LibraryMissing, LibraryUnusable, WrongMachine, WrongVersion
 
 NAME = "libgazhdor.so"
+HERE = os.path.dirname(os.path.abspath(__file__))
+# The module stands in the folder python/ of a tree, unless it was installed; the tree has the library and the version for it.
+TREE = os.path.dirname(os.path.dirname(HERE))
 
 
 class _Text(ctypes.Structure):
@@ -47,7 +50,7 @@ def _find() -> Tuple[str, ctypes.CDLL]:
             raise LibraryMissing(f"{named} isn't there, which GAZHDOR_LIBRARY names", named)
         return named, _opened(os.path.abspath(named))
     _see_machine()
-    beside = os.path.join(os.path.dirname(os.path.abspath(__file__)), NAME)
+    beside = os.path.join(HERE, NAME)
     if os.path.exists(beside):
         return beside, _opened(beside)
     inside = packed(NAME)
@@ -59,6 +62,9 @@ def _find() -> Tuple[str, ctypes.CDLL]:
             file.write(inside)
             file.flush()
             return beside, _opened(file.name)
+    released = os.path.join(TREE, "release", NAME)
+    if os.path.exists(released):
+        return released, _opened(released)
     try:
         return NAME, ctypes.CDLL(f"{NAME}.0")
     except OSError:
@@ -81,7 +87,18 @@ def _load(version: str) -> ctypes.CDLL:
     return library
 
 
-VERSION = (packed("VERSION") or b"unknown").decode().strip()
+def _version() -> str:
+    told = packed("VERSION")
+    if told is None:
+        try:
+            with open(os.path.join(TREE, "VERSION"), "rb") as file:
+                told = file.read()
+        except OSError:
+            told = b"unknown"
+    return told.decode().strip()
+
+
+VERSION = _version()
 library = _load(VERSION)
 _nothing = ctypes.create_string_buffer(1)
 

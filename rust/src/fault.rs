@@ -115,7 +115,8 @@ impl Display for Reason {
 ///
 /// ```
 /// // The first 2,000 bytes as CSV text, and nothing lost of them.
-/// let ride = std::fs::read("tests/ride.fit").unwrap();
+/// # std::env::set_current_dir(env!("GAZHDOR_RIDES")).unwrap();
+/// let ride = std::fs::read("ride.fit").unwrap();
 /// let text = gazhdor::to_csv(&ride[..2000]).unwrap_or_else(|stopped| stopped.before);
 /// assert!(text.starts_with("row,a,b,c,d,e,f\nfile,14,"));
 /// ```

@@ -5,7 +5,8 @@
 //!
 //! ```
 //! # fn main() -> Result<(), Box<dyn std::error::Error>> {
-//! let ride = std::fs::read("tests/ride.fit")?;
+//! # std::env::set_current_dir(env!("GAZHDOR_RIDES")).unwrap();
+//! let ride = std::fs::read("ride.fit")?;
 //! assert_eq!(gazhdor::check(&ride)?, 1);
 //! let table = gazhdor::table(&ride)?;
 //! assert!(table.starts_with("file,timestamp,position_lat,"));
@@ -32,7 +33,8 @@ use fault::found;
 /// ```
 /// use gazhdor::{check, Fault, Reason};
 ///
-/// let ride = std::fs::read("tests/ride.fit").unwrap();
+/// # std::env::set_current_dir(env!("GAZHDOR_RIDES")).unwrap();
+/// let ride = std::fs::read("ride.fit").unwrap();
 /// assert_eq!(check(&ride), Ok(1));
 /// assert_eq!(check(&ride[..2000]), Err(Fault::Truncated { place: 2000 }));
 /// assert_eq!(check(b"PK\x03\x04"), Err(Fault::Refused { place: 1, reason: Reason::Protocol }));
@@ -53,7 +55,8 @@ pub fn check(files: &[u8]) -> Result<u64, Fault> {
 /// watts; `temperature` in degrees Celsius. What is absent is empty.
 ///
 /// ```
-/// let ride = std::fs::read("tests/ride.fit").unwrap();
+/// # std::env::set_current_dir(env!("GAZHDOR_RIDES")).unwrap();
+/// let ride = std::fs::read("ride.fit").unwrap();
 /// let table = gazhdor::table(&ride).unwrap();
 /// let first = table.lines().nth(1).unwrap();
 /// assert_eq!(first, "1,2026-05-17T07:30:00Z,47.3000000,8.5680000,408.0,0.00,0.000,,,,");
@@ -75,7 +78,8 @@ pub fn table(files: &[u8]) -> Result<Text, Stopped> {
 /// Returns all of the bytes as CSV text, of which [`from_csv`] makes the same bytes again.
 ///
 /// ```
-/// let ride = std::fs::read("tests/ride.fit").unwrap();
+/// # std::env::set_current_dir(env!("GAZHDOR_RIDES")).unwrap();
+/// let ride = std::fs::read("ride.fit").unwrap();
 /// let text = gazhdor::to_csv(&ride).unwrap();
 /// assert!(text.starts_with("row,a,b,c,d,e,f\n"));
 /// assert_eq!(*gazhdor::from_csv(&text).unwrap(), ride[..]);
@@ -92,7 +96,8 @@ pub fn to_csv(files: &[u8]) -> Result<Text, Stopped> {
 /// Returns the messages with their names, units and times, a line each.
 ///
 /// ```
-/// let ride = std::fs::read("tests/ride.fit").unwrap();
+/// # std::env::set_current_dir(env!("GAZHDOR_RIDES")).unwrap();
+/// let ride = std::fs::read("ride.fit").unwrap();
 /// let lines = gazhdor::show(&ride).unwrap();
 /// assert!(lines.lines().any(|line| line.contains("file_id: type=6, manufacturer=1")));
 /// ```

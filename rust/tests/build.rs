@@ -1,9 +1,9 @@
-//! What the build script says of a target or a library that isn't the right one.
+//! Which library the build script takes, and what it says of a target or a library that isn't the right one.
 #[allow(dead_code)]
 #[path = "../build.rs"]
 mod script;
 
-use script::{see_library, see_target};
+use script::{folder_of, see_library, see_target};
 use std::path::{Path, PathBuf};
 use std::{env, fs, process};
 
@@ -11,6 +11,16 @@ fn archive(bytes: &[u8], name: &str) -> PathBuf {
     let path = env::temp_dir().join(format!("gazhdor-{}-{name}", process::id()));
     fs::write(&path, bytes).unwrap();
     path
+}
+
+#[test]
+fn what_is_packed_comes_first() {
+    let (packed, tree) = (env::temp_dir(), Path::new("tree"));
+    let there = archive(b"", "packed");
+    let name = there.file_name().unwrap().to_str().unwrap();
+    assert_eq!(folder_of(name, &packed, tree), packed);
+    fs::remove_file(&there).unwrap();
+    assert_eq!(folder_of(name, &packed, tree), tree);
 }
 
 #[test]

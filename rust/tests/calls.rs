@@ -3,7 +3,7 @@ use gazhdor::{check, from_csv, show, table, to_csv, Fault, Reason};
 use std::error::Error;
 use std::thread;
 
-const RIDE: &[u8] = include_bytes!("ride.fit");
+const RIDE: &[u8] = include_bytes!(concat!(env!("GAZHDOR_RIDES"), "/ride.fit"));
 
 fn changed(place: usize, byte: u8) -> Vec<u8> {
     let mut bytes = RIDE.to_vec();
@@ -108,7 +108,7 @@ fn a_table_has_a_line_for_each_record() {
         "file,timestamp,position_lat,position_long,altitude,distance,speed,heart_rate,cadence,power,temperature";
     assert_eq!(lines.next(), Some(names));
     // The route was made by another program, with a point for each record that has a position.
-    let points = include_str!("ride.gpx").matches("<trkpt ").count();
+    let points = include_str!(concat!(env!("GAZHDOR_RIDES"), "/ride.gpx")).matches("<trkpt ").count();
     assert_eq!(lines.filter(|line| !line.split(',').nth(2).unwrap().is_empty()).count(), points);
 }
 

@@ -4,7 +4,7 @@ use std::cell::Cell;
 use std::ffi::c_void;
 use std::ptr;
 
-const RIDE: &[u8] = include_bytes!("ride.fit");
+const RIDE: &[u8] = include_bytes!(concat!(env!("GAZHDOR_RIDES"), "/ride.fit"));
 
 thread_local! {
     /// How many growths of this thread are still granted before one is refused; none where none is to be.
