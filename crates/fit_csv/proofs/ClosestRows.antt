@@ -1,7 +1,7 @@
 -- The closest row of each kind: each of its cells is the one there is, where that can stand.
-use Rattle.fit_csv.proofs.Common.{◌≡◌, ◌∙◌, ◌^◌, [], length, refl, sym, ap, subst, arith, decimal_nonempty, Order, Row, optional_number, order_word, row, AsFar}
+use Rattle.fit_csv.proofs.Common.{◌≡◌, ◌∙◌, ◌^◌, [], refl, sym, ap, subst, Order, Row, optional_number, order_word, row, AsFar}
 use Rattle.fit_csv.proofs.Common.{DefinitionHead, IsHeadRow, IsRowOfThree, head_row}
-use Rattle.std.proofs.Common.{ℕ, ◌<◌, decimal, Option, Some, None}
+use Rattle.std.proofs.Common.{ℕ, ◌<◌, decimal, Option}
 use Rattle.std.specs.Prelude.{codes, IfSome}
 use Rattle.fit_cells.specs.Rows.{Cell}
 
@@ -29,11 +29,6 @@ three-closest kind ta tb tc td te tf a b c is_a is_b is_c other (x, y, z, hx, hy
         ),
       ),
     ))
-
--- an empty cell shows no number
-pub none-shown : (cell : Cell) (count : Option ℕ) → IfSome count (λ n. n < 2 ^ 8) → optional_number count ≡ cell → length cell ≡ 0 → None ≡ count
-none-shown cell None small e none = refl
-none-shown cell (Some n) small e none = let some = decimal_nonempty n (omega (arith, small)) in let l = ap length e in absurd (omega (arith, some, l, none))
 
 pub head-closest : (ta tb tc td te tf : Cell) (h : DefinitionHead) → IsNumberIn 16 ta h.local → IsNumberIn (2 ^ 8) tb h.reserved
     → ((order : Order) → order_word order ≡ tc → h.order ≡ order)

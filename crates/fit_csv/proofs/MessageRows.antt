@@ -1,24 +1,12 @@
 -- Rows of data messages.
-use Rattle.fit_csv.proofs.Common.{◌≡◌, ◌∙◌, ◌^◌, [], ◌∷◌, length, take, refl, sym, ap, subst, inl, inr, arith, IsSome, Global, decimal_injective, Record}
+use Rattle.fit_csv.proofs.Common.{◌≡◌, ◌∙◌, [], ◌∷◌, take, refl, sym, ap, subst, inl, inr, arith, IsSome, Global, decimal_injective, Record}
 use Rattle.fit_csv.proofs.Common.{defined_at, DataHeaderFits, known, message_label, header_time, previous_time, end_row, optional_number, row, IsBadCell}
 use Rattle.fit_csv.proofs.Common.{Misfit, instant_text, IsCellFault, IsMessageOrEnd, IsMessageRow, global_at, message_row, Row, AsFar}
-use Rattle.std.proofs.Common.{ℕ, ◌<◌, List, decimal, Option, Some, None}
-use Rattle.std.specs.Prelude.{codes, IfSome, option_map, unwrap_or}
+use Rattle.std.proofs.Common.{ℕ, ◌<◌, List, decimal, Option}
+use Rattle.std.specs.Prelude.{codes, option_map, unwrap_or}
 use Rattle.fit_cells.specs.Rows.{Cell}
 use Rattle.fit_csv.proofs.Closest.{of-kind}
-use Rattle.fit_csv.proofs.ClosestRows.{none-shown}
-
-pub small-offset : (local : ℕ) (offset : Option ℕ) → DataHeaderFits local offset → IfSome offset (λ n. n < 2 ^ 8)
-small-offset local None fits = tt
-small-offset local (Some n) fits = omega (arith, fits.1)
-
-pub small-local : (local : ℕ) (offset : Option ℕ) → DataHeaderFits local offset → local < 16
-small-local local None fits = fits
-small-local local (Some n) fits = omega (arith, fits.0)
-
--- an empty cell shows no time offset
-pub no-offset : (cell : Cell) (local : ℕ) (offset : Option ℕ) → DataHeaderFits local offset → optional_number offset ≡ cell → length cell ≡ 0 → None ≡ offset
-no-offset cell local offset fits = none-shown cell offset (small-offset local offset fits)
+use Rattle.fit_rows.proofs.CellFacts.{small-local}
 
 -- the time of a header as a cell
 abbrev pub time_cell : List (Record Global) → Option ℕ → Cell

@@ -15,7 +15,6 @@ mod judge;
 mod loose;
 mod message;
 mod misfit;
-mod number;
 mod open_definition;
 mod open_file;
 mod open_message;

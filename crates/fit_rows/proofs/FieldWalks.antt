@@ -23,7 +23,7 @@ KnowsItems S = S → List (ℕ × ℕ) → List (Items Global) → Type 0
 pub cut_or : {X : Type 0} (xs : List X) (k : ℕ) (d : X) → k < length xs → drop k xs ≡ get_or xs k d ∷ drop (k + 1) xs
 cut_or xs k d within = drop-cons xs k d within ∙ ap (λ n. get_or xs k d ∷ drop n xs) (sym (add-one k))
 
-cut_at : {X : Type 0} (xs : List X) (k : ℕ) (x : X) → k < length xs → x ≡ get_or xs k x → drop k xs ≡ x ∷ drop (k + 1) xs
+pub cut_at : {X : Type 0} (xs : List X) (k : ℕ) (x : X) → k < length xs → x ≡ get_or xs k x → drop k xs ≡ x ∷ drop (k + 1) xs
 cut_at xs k x within is = cut_or xs k x within ∙ ap (λ y. y ∷ drop (k + 1) xs) (sym is)
 
 -- the text of fields one after another, by their items

@@ -73,7 +73,7 @@ pub keys_more : (global : ℕ) (fields : List FieldDef) (n : ℕ) (d : FieldDef)
 keys_more global fields n d within =
     ap (map (field_key global)) (take_more fields n d within) ∙ map-append (field_key global) (take n fields) (get_or fields n d ∷ [])
 
-plain-optional : (number : Option ℕ) → field_text default_writer (optional_number number) ≡ optional_number number
+pub plain-optional : (number : Option ℕ) → field_text default_writer (optional_number number) ≡ optional_number number
 plain-optional None = refl
 plain-optional (Some n) = unquoted (decimal n) (high-decimal n)
 

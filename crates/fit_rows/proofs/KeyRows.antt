@@ -59,11 +59,10 @@ rows_of_devs (f ∷ fields) (c ∷ coded) (n ∷ namings) [] = refl
 rows_of_devs (f ∷ fields) (c ∷ coded) (n ∷ namings) (i ∷ items) = ap (λ rows. dev_row f c n i ∷ rows) (rows_of_devs fields coded namings items)
 
 -- the rows of a message
-pub message_whole : (before : List (Record Global)) (p : Defined Global) (local : ℕ) (offset time : Option ℕ) (v : Values Global) (u w : Vec ℕ Global)
+pub message_rows_are : (before : List (Record Global)) (p : Defined Global) (local : ℕ) (offset time : Option ℕ) (v : Values Global)
     → defined_at (known before) local ≡ Some p → v.local ≡ local → v.offset ≡ offset → length v.fields ≡ length p.definition.fields
-    → time ≡ header_time (previous_time before) offset
-    → HasRows (key_rows (message_key before local p) offset time (v.fields ++ v.dev)) u w → HasRows (data_rows before v) u w
-message_whole before p local offset time v u w place at since long timed put =
+    → time ≡ header_time (previous_time before) offset → key_rows (message_key before local p) offset time (v.fields ++ v.dev) ≡ data_rows before v
+message_rows_are before p local offset time v place at since long timed =
     let global = p.definition.global in
     let fields = p.definition.fields in
     let devs = dev_keys (dev_defs p.definition.dev) p.dev_codes (namings_at before local) in
@@ -78,5 +77,13 @@ message_whole before p local offset time v u w place at since long timed put =
     (λ i. key_rows (record (message_key before local p) { own = record { local = sym at i; global = global; fields = fields } }) (sym since i) (times i)
     (v.fields ++ v.dev))
     ∙ ap (λ rows. data_row v global beyond ∷ rows) values in
-    subst (λ o. HasRows (unwrap_or (option_map (λ q. message_rows v q beyond (namings_at before v.local)) o) []) u w)
-    (sym (ap (defined_at (known before)) at ∙ place)) (subst (λ rows. HasRows rows u w) same put)
+    subst (λ o. key_rows (message_key before local p) offset time (v.fields ++ v.dev)
+    ≡ unwrap_or (option_map (λ q. message_rows v q beyond (namings_at before v.local)) o) [])
+    (sym (ap (defined_at (known before)) at ∙ place)) same
+
+pub message_whole : (before : List (Record Global)) (p : Defined Global) (local : ℕ) (offset time : Option ℕ) (v : Values Global) (u w : Vec ℕ Global)
+    → defined_at (known before) local ≡ Some p → v.local ≡ local → v.offset ≡ offset → length v.fields ≡ length p.definition.fields
+    → time ≡ header_time (previous_time before) offset
+    → HasRows (key_rows (message_key before local p) offset time (v.fields ++ v.dev)) u w → HasRows (data_rows before v) u w
+message_whole before p local offset time v u w place at since long timed put =
+    subst (λ rows. HasRows rows u w) (message_rows_are before p local offset time v place at since long timed) put

@@ -37,3 +37,7 @@ mod BegunRows
 pub mod TableNumbers
 mod RowsInBytes
 mod CurrentFacts
+pub mod CellFacts
+mod CutFacts
+mod BareRows
+mod ExactRows

@@ -6,4 +6,5 @@ pub mod EventTexts
 pub mod ShowLines
 pub mod KeptEvents
 pub mod Laws
+pub mod Quotes
 pub mod inner

@@ -12,3 +12,4 @@ pub mod Several
 pub mod Fronts
 pub mod Frames
 pub mod MessageKeys
+pub mod Bare

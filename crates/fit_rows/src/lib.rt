@@ -1,6 +1,8 @@
 //! The rows of a chain of files, its table and the lines of its events, as text.
 #![tactic(auto)]
 
+pub mod cells;
+mod cut;
 mod floats;
 mod follow;
 mod items;

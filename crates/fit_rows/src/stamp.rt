@@ -1,7 +1,8 @@
 //! A text that is put after many others.
-ghost use Rattle.std.specs.Prelude.{◌≡◌, ◌≤◌, ◌+◌, ◌++◌, IfOk, OnOk, length, take};
+ghost use Rattle.std.specs.Prelude.{◌≡◌, ◌≤◌, ◌+◌, ◌++◌, ℕ, List, IfOk, IsSomeAnd, OnOk, length, take};
 ghost use Rattle.fit_rows.specs.inner.Sheets.{and_sheet};
 
+use crate::cut::after_beginning;
 use crate::sheet::{SHEET_SIZE, Sheet, make_room, put_sheet};
 use std::alloc::AllocError;
 use std::marker::Model;
@@ -94,6 +95,15 @@ impl Stamp {
     /// How many bytes the text has.
     pub(crate) fn len(&self) -> usize {
         self.used
+    }
+
+    /// What comes after it in a text that begins with it.
+    pub(crate) fn after<'a>(&self, text: &'a [u8]) -> Option<&'a [u8]>
+        ensures { (left : List ℕ) → text.now ≡ self.now ++ left
+            → IsSomeAnd result (λ found. found.now ≡ left) }
+    {
+        let (own, _) = self.padded.as_slice().split_at(self.used);
+        after_beginning(text, own)
     }
 
     /// Puts a text that isn't short.

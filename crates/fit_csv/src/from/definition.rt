@@ -10,9 +10,9 @@ ghost use Rattle.fit_csv.specs.inner.Seven.{AsFar, row_of};
 
 use crate::from::cells::{Cells, first_difference, same};
 use crate::from::misfit::Misfit;
-use crate::from::number::{byte_in, number_in};
 use fit_base::{Entries, Order};
 use fit_record::{DevDef, FieldDef};
+use fit_rows::cells::{byte_in, number_in};
 use fit_rows::words::{optional_number, order_word};
 use itoa::Buffer;
 

@@ -1,7 +1,5 @@
 //! The rows of the fields of a data message.
-ghost use Rattle.std.specs.Prelude.{◌≡◌, [], Some, IfErr, IfOk, IfSome, option_and_then, option_map, slice_get, unwrap_or};
-ghost use Rattle.std.specs.Global.{Global};
-ghost use Rattle.fit_base.specs.declared.items.Items.{Items};
+ghost use Rattle.std.specs.Prelude.{◌≡◌, [], IfErr, IfOk, IfSome, option_and_then, option_map, slice_get, unwrap_or};
 ghost use Rattle.fit_base.specs.Fields.{HasShape};
 ghost use Rattle.fit_profile.specs.Described.{namings_at};
 ghost use Rattle.fit_profile.specs.Names.{meaning};
@@ -15,34 +13,11 @@ ghost use Rattle.fit_csv.specs.inner.Seven.{row_of};
 use crate::from::cells::{Cells, first_difference, same};
 use crate::from::misfit::Misfit;
 use fit_base::{Code, Items};
-use fit_cells::cell_items_by;
 use fit_profile::{Info, Label, Stream, field_info, field_label};
 use fit_record::{DevDef, FieldDef};
+use fit_rows::cells::items_in;
 use fit_rows::words::{numbered_label, unit_text};
 use std::alloc::Global;
-use std::str;
-
-/// The items that a cell shows, where it is the cell of some.
-fn items_in(
-    alloc: Global,
-    written: &mut Vec<u8>,
-    shown: &[u8],
-    code: Code,
-    size: u8,
-    info: Option<Info>,
-) -> Result<Option<Items>, Misfit>
-    requires { IfSome info (λ i. IsScale i.scale) }
-    ensures some { IfOk result (λ found. IfSome found (λ items.
-        HasShape code.0 size items × (cell code.0 (option_map meaning info) items ≡ shown.now))) }
-    ensures every { IfOk result (λ found. (items : Items Global) → HasShape code.0 size items
-        → cell code.0 (option_map meaning info) items ≡ shown.now → found ≡ Some items) }
-    ensures memory { IfErr result (λ misfit. misfit ≡ Misfit.NoMemory) }
-{
-    match str::from_utf8(shown) {
-        Ok(text) => Ok(cell_items_by(alloc, written, code, size, info, text)?),
-        Err(_) => Ok(None),
-    }
-}
 
 /// The row of a field with this label, code and size, and with this unit.
 fn value_row(

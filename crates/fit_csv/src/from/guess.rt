@@ -59,7 +59,7 @@ fn take_whole<'a>(
     if !file.is_between_records() {
         return Ok(None);
     }
-    let Some((record_, left)) = reader.whole_record(&file.before, text) else {
+    let Some((record_, left)) = reader.whole_record(&file.before, text)? else {
         return Ok(None);
     };
     is_in_range(&record_);

@@ -11,10 +11,10 @@ ghost use Rattle.fit_csv.specs.inner.Seven.{AsFar, DifferAt, row_of};
 
 use crate::from::cells::{Cells, first_difference, same};
 use crate::from::misfit::Misfit;
-use crate::from::number::{byte_in, number_in};
 use arrayvec::ArrayVec;
 use fit_cells::read_bytes;
 use fit_frame::{Header, HeaderSum};
+use fit_rows::cells::{byte_in, number_in};
 use fit_rows::words::{put_rest, sum_word};
 use itoa::Buffer;
 use std::alloc::{AllocError, Global};

@@ -1,45 +1,19 @@
 //! Rows of data messages.
-ghost use Rattle.std.specs.Prelude.{◌≡◌, ◌<◌, ℕ, Option, Some, codes, decimal, IfErr, IfOk, IfSome, IsSome, is_some};
+ghost use Rattle.std.specs.Prelude.{◌≡◌, ◌<◌, codes, decimal, IfErr, IfOk, IsSome};
 ghost use Rattle.fit_profile.specs.Looks.{known};
 ghost use Rattle.fit_record.specs.Environment.{defined_at};
-ghost use Rattle.fit_record.specs.Records.{DataHeaderFits};
-ghost use Rattle.fit_rows.specs.ChainRows.{optional_number};
 ghost use Rattle.fit_csv.specs.inner.Misfits.{IsMessageOrEnd, IsMessageRow, IsMessageStart, IsCellFault, global_at, message_row};
 ghost use Rattle.fit_csv.specs.inner.Seven.{row_of};
 
-use crate::from::cells::{Cells, first_difference, same};
+use crate::from::cells::{Cells, first_difference};
 use crate::from::misfit::Misfit;
-use crate::from::number::byte_in;
 use fit_base::Entries;
 use fit_profile::{Stream, message_label};
 use fit_record::Values;
+use fit_rows::cells::{defined_local, offset_in};
 use fit_rows::words::{header_time_text, optional_number};
 use itoa::Buffer;
 use std::alloc::Global;
-
-/// Whether a local message type is defined.
-fn is_defined(before: &Stream, local: u8) -> bool
-    ensures { result ≡ is_some (defined_at (known before.now) local) }
-{
-    before.env().definition(local).is_some()
-}
-
-/// The local message type that a cell shows, where it is defined.
-fn defined_local(cell: &[u8], before: &Stream) -> Option<u8>
-    ensures small { IfSome result (λ local. local < 16) }
-    ensures shown { IfSome result (λ local. decimal local ≡ cell.now) }
-    ensures defined { IfSome result (λ local. IsSome (defined_at (known before.now) local)) }
-    ensures every { (n : ℕ) → n < 16 → decimal n ≡ cell.now
-        → IsSome (defined_at (known before.now) n) → result ≡ Some n }
-{
-    let local = byte_in(cell);
-    let mut text = Buffer::new();
-    if local < 16 && is_defined(before, local) && same(text.format(local).as_bytes(), cell) {
-        Some(local)
-    } else {
-        None
-    }
-}
 
 /// The global message number of a local message type, and some number where it isn't defined.
 fn global_at(before: &Stream, local: u8) -> u16
@@ -57,23 +31,6 @@ fn field_count(before: &Stream, local: u8) -> usize {
         Some(definition) => definition.fields.len(),
         None => 0,
     }
-}
-
-/// The time offset that a cell shows, and some one, or none, where it shows none.
-fn offset_in(cell: &[u8], local: u8) -> Option<u8>
-    requires { local < 16 }
-    ensures fits { DataHeaderFits local result }
-    ensures every { (offset : Option ℕ) → DataHeaderFits local offset
-        → optional_number offset ≡ cell.now → result ≡ offset }
-{
-    if cell.is_empty() {
-        return None;
-    }
-    if local >= 4 {
-        return None;
-    }
-    let offset = byte_in(cell);
-    if offset < 32 { Some(offset) } else { None }
 }
 
 /// The first row of a data message whose local message type is known.

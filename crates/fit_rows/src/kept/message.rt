@@ -1,5 +1,5 @@
 //! What is kept of a definition and its developer fields.
-ghost use Rattle.std.specs.Prelude.{◌≡◌, IfOk, IsTrue, Some};
+ghost use Rattle.std.specs.Prelude.{◌≡◌, IfOk, IsTrue, Some, length};
 ghost use Rattle.fit_record.specs.Environment.{defined_at};
 ghost use Rattle.fit_record.specs.Sound.{IsSound};
 ghost use Rattle.fit_profile.specs.Looks.{known};
@@ -60,5 +60,19 @@ impl KeptMessage {
         let dev = dev_slice(&definition.dev);
         let codes = defined.dev_codes.as_slice();
         self.own.is(local, definition) && are_devs(self.devs.as_slice(), stream, local, dev, codes)
+    }
+
+    /// The local message type.
+    pub(crate) fn local(&self) -> u8
+        ensures { result ≡ self.now.own.local }
+    {
+        self.own.local
+    }
+
+    /// How many fields there are that no developer has.
+    pub(crate) fn count(&self) -> usize
+        ensures { result ≡ length self.now.own.fields }
+    {
+        self.own.fields.len()
     }
 }

@@ -11,6 +11,7 @@ ghost use Rattle.fit_cells.specs.Forms.{IsFormOf, IsSmallForm};
 ghost use Rattle.fit_rows.specs.inner.Frames.{field_in_row, two_cells};
 ghost use Rattle.fit_rows.specs.inner.Sheets.{and_sheet};
 
+pub(crate) mod exact;
 pub(crate) mod likely;
 mod made;
 

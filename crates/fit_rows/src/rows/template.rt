@@ -11,6 +11,7 @@ ghost use Rattle.fit_rows.specs.inner.Frames.{HasFields, TakesFields, dev_frame_
 ghost use Rattle.fit_rows.specs.inner.MessageKeys.{message_key};
 ghost use Rattle.fit_rows.specs.inner.Sheets.{and_sheet};
 
+mod exact;
 pub(crate) mod likely;
 
 use crate::items::FieldItems;

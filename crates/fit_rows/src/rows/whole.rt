@@ -1,21 +1,28 @@
-//! Records whose rows stand as `to_csv` writes them, taken whole: what a text shows is guessed, and the rows of the guess are compared
-//! with it.
-ghost use Rattle.std.specs.Prelude.{◌≡◌, ◌++◌, IfSome};
+//! Records whose rows stand as `to_csv` writes them, taken whole: what a text shows is guessed, and read exactly where the guess is
+//! wrong, and the rows of what was found are compared with it.
+ghost use Rattle.std.specs.Prelude.{◌≡◌, ◌++◌, ℕ, List, IfOk, IfSome, IsSome};
+ghost use Rattle.std.specs.Global.{Global};
 ghost use Rattle.fit_record.specs.declared.message.Record.TheVariants.{Values as Data};
+ghost use Rattle.fit_record.specs.declared.message.Values.{Values as Message};
 ghost use Rattle.fit_record.specs.Records.{Fits};
 ghost use Rattle.fit_profile.specs.Looks.{known};
 ghost use Rattle.fit_cells.specs.Rows.{csv_text};
 ghost use Rattle.fit_rows.specs.ChainRows.{data_rows, record_rows};
+ghost use Rattle.fit_rows.specs.Quotes.{HasNoQuotes};
 ghost use Rattle.fit_rows.specs.inner.Current.{AreCurrent};
 ghost use Rattle.fit_rows.specs.inner.MessageKeys.{message_key};
 
+mod exact;
+
+use crate::cut::after_beginning;
 use crate::rows::likely::likely_definition;
 use crate::rows::maker::RowMaker;
 use crate::rows::message::put_record;
 use crate::rows::template::likely::likely_byte;
+use crate::rows::whole::exact::exact_message;
 use fit_profile::Stream;
 use fit_record::{Record, Values};
-use std::alloc::Global;
+use std::alloc::{AllocError, Global};
 use std::marker::Model;
 
 /// The data message whose rows a text may show. Nothing is claimed of it but that it is one.
@@ -55,27 +62,94 @@ fn likely_record(
 
 /// What is left of a text after the rows of a record, where the record fits after the records of a stream and the text begins with its
 /// rows as `to_csv` writes them.
-#[tactic(auto, using(crate::proofs::BeginFacts::stripped))]
 fn after_rows<'a>(
     maker: &mut RowMaker,
     written: &mut Vec<u8>,
     before: &Stream,
     record_: &Record,
     text: &'a [u8],
-) -> Option<&'a [u8]>
+) -> Result<Option<&'a [u8]>, AllocError>
     requires { AreCurrent message_key maker.old.templates before.now }
-    ensures fits { IfSome result (λ left. Fits (known before.now) record_.now) }
-    ensures text { IfSome result (λ left.
-        text.now ≡ csv_text (record_rows before.now record_.now) ++ left.now) }
+    ensures current { AreCurrent message_key maker.new.templates before.now }
+    ensures fits { IfOk result (λ found. IfSome found (λ left.
+        Fits (known before.now) record_.now)) }
+    ensures text { IfOk result (λ found. IfSome found (λ left.
+        text.now ≡ csv_text (record_rows before.now record_.now) ++ left.now)) }
+    ensures found { IfOk result (λ found. (left : List ℕ) → Fits (known before.now) record_.now
+        → text.now ≡ csv_text (record_rows before.now record_.now) ++ left → IsSome found) }
 {
     if before.env().fits(record_).is_err() {
-        return None;
+        return Ok(None);
     }
     written.clear();
-    if put_record(written, maker, before, record_).is_err() {
-        return None;
+    put_record(written, maker, before, record_)?;
+    Ok(after_beginning(text, written.as_slice()))
+}
+
+/// A record and what is left of a text after its rows, in the same way.
+#[inline(always)]
+fn compared<'a>(
+    maker: &mut RowMaker,
+    written: &mut Vec<u8>,
+    before: &Stream,
+    record_: Record,
+    text: &'a [u8],
+) -> Result<Option<(Record, &'a [u8])>, AllocError>
+    requires { AreCurrent message_key maker.old.templates before.now }
+    ensures current { AreCurrent message_key maker.new.templates before.now }
+    ensures fits { IfOk result (λ found. IfSome found (λ p. Fits (known before.now) p.0)) }
+    ensures text { IfOk result (λ found. IfSome found (λ p.
+        text.now ≡ csv_text (record_rows before.now p.0) ++ p.1.now)) }
+    ensures found { IfOk result (λ found. (left : List ℕ) → Fits (known before.now) record_
+        → text.now ≡ csv_text (record_rows before.now record_) ++ left → IsSome found) }
+{
+    match after_rows(maker, written, before, &record_, text)? {
+        Some(left) => Ok(Some((record_, left))),
+        None => Ok(None),
     }
-    text.strip_prefix(written.as_slice())
+}
+
+/// The record that a text is guessed to begin with, and what is left of the text, where the guess is right.
+#[inline(always)]
+fn guessed_record<'a>(
+    maker: &mut RowMaker,
+    written: &mut Vec<u8>,
+    before: &Stream,
+    text: &'a [u8],
+) -> Result<Option<(Record, &'a [u8])>, AllocError>
+    requires { AreCurrent message_key maker.old.templates before.now }
+    ensures current { AreCurrent message_key maker.new.templates before.now }
+    ensures fits { IfOk result (λ found. IfSome found (λ p. Fits (known before.now) p.0)) }
+    ensures text { IfOk result (λ found. IfSome found (λ p.
+        text.now ≡ csv_text (record_rows before.now p.0) ++ p.1.now)) }
+{
+    match likely_record(maker, written, before, text) {
+        Some(record_) => compared(maker, written, before, record_, text),
+        None => Ok(None),
+    }
+}
+
+/// The data message with whose rows a text begins, and what is left of the text. It is found where the rows have no quotation mark.
+#[cold]
+#[inline(never)]
+fn exact_record<'a>(
+    maker: &mut RowMaker,
+    written: &mut Vec<u8>,
+    before: &Stream,
+    text: &'a [u8],
+) -> Result<Option<(Record, &'a [u8])>, AllocError>
+    requires { AreCurrent message_key maker.old.templates before.now }
+    ensures fits { IfOk result (λ found. IfSome found (λ p. Fits (known before.now) p.0)) }
+    ensures text { IfOk result (λ found. IfSome found (λ p.
+        text.now ≡ csv_text (record_rows before.now p.0) ++ p.1.now)) }
+    ensures whole { IfOk result (λ found. (v : Message Global) (left : List ℕ)
+        → Fits (known before.now) (Data v) → text.now ≡ csv_text (data_rows before.now v) ++ left
+        → HasNoQuotes (csv_text (data_rows before.now v)) → IsSome found) }
+{
+    match exact_message(maker, written, before, text)? {
+        Some(values) => compared(maker, written, before, Record::Values(values), text),
+        None => Ok(None),
+    }
 }
 
 /// Reads records from the rows that `to_csv` writes of them. What it keeps from one record to the next only saves time.
@@ -102,20 +176,26 @@ impl MessageReader {
     }
 
     /// The record after the records of a stream with whose rows a text begins, as `to_csv` writes them, and what is left of the text.
-    /// There may be one where `None` is returned: a guess was wrong, or memory was refused.
+    /// A data message is found wherever its rows have no quotation mark; of a definition, or of rows with one, there may be one where
+    /// `None` is returned. Memory that is refused is an error.
     pub fn whole_record<'a>(
         &mut self,
         before: &Stream,
         text: &'a [u8],
-    ) -> Option<(Record, &'a [u8])>
-        ensures fits { IfSome result (λ p. Fits (known before.now) p.0) }
-        ensures text { IfSome result (λ p.
-            text.now ≡ csv_text (record_rows before.now p.0) ++ p.1.now) }
+    ) -> Result<Option<(Record, &'a [u8])>, AllocError>
+        ensures fits { IfOk result (λ found. IfSome found (λ p. Fits (known before.now) p.0)) }
+        ensures text { IfOk result (λ found. IfSome found (λ p.
+            text.now ≡ csv_text (record_rows before.now p.0) ++ p.1.now)) }
+        ensures whole { IfOk result (λ found. (v : Message Global) (left : List ℕ)
+            → Fits (known before.now) (Data v)
+            → text.now ≡ csv_text (data_rows before.now v) ++ left
+            → HasNoQuotes (csv_text (data_rows before.now v)) → IsSome found) }
     {
         self.maker.templates.forget();
-        let record_ = likely_record(&mut self.maker, &mut self.written, before, text)?;
-        let left = after_rows(&mut self.maker, &mut self.written, before, &record_, text)?;
-        Some((record_, left))
+        match guessed_record(&mut self.maker, &mut self.written, before, text)? {
+            Some(found) => Ok(Some(found)),
+            None => exact_record(&mut self.maker, &mut self.written, before, text),
+        }
     }
 
     /// The same where the record is a data message.
@@ -123,18 +203,25 @@ impl MessageReader {
         &mut self,
         before: &Stream,
         text: &'a [u8],
-    ) -> Option<(Values, &'a [u8])>
-        ensures fits { IfSome result (λ p. Fits (known before.now) (Data p.0)) }
-        ensures text { IfSome result (λ p.
-            text.now ≡ csv_text (data_rows before.now p.0) ++ p.1.now) }
+    ) -> Result<Option<(Values, &'a [u8])>, AllocError>
+        ensures fits { IfOk result (λ found. IfSome found (λ p.
+            Fits (known before.now) (Data p.0))) }
+        ensures text { IfOk result (λ found. IfSome found (λ p.
+            text.now ≡ csv_text (data_rows before.now p.0) ++ p.1.now)) }
+        ensures whole { IfOk result (λ found. (v : Message Global) (left : List ℕ)
+            → Fits (known before.now) (Data v)
+            → text.now ≡ csv_text (data_rows before.now v) ++ left
+            → HasNoQuotes (csv_text (data_rows before.now v)) → IsSome found) }
     {
-        if !text.starts_with(b"data,") {
-            return None;
+        if after_beginning(text, b"data,").is_none() {
+            return Ok(None);
         }
-        let (record_, left) = self.whole_record(before, text)?;
+        let Some((record_, left)) = self.whole_record(before, text)? else {
+            return Ok(None);
+        };
         match record_ {
-            Record::Values(values) => Some((values, left)),
-            Record::Define(_definition) => None,
+            Record::Values(values) => Ok(Some((values, left))),
+            Record::Define(_definition) => Ok(None),
         }
     }
 }

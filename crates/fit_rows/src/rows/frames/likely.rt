@@ -1,18 +1,13 @@
 //! Guesses the value that a text shows. Nothing is claimed of a guess: who takes it compares the text with the rows of the guess.
-ghost use Rattle.std.specs.Prelude.{IfSome};
-ghost use Rattle.fit_numbers.specs.Scaled.{IsScale};
-
 mod numbers;
 mod several;
 
+use crate::cells::items_in;
 use crate::rows::frames::Frame;
 use crate::rows::frames::likely::numbers::likely_number;
 use crate::rows::frames::likely::several::{likely_bytes, likely_numbers};
 use fit_base::{Bits, Code, Items};
-use fit_cells::cell_items_by;
-use fit_profile::Info;
 use std::alloc::Global;
-use std::str;
 
 /// What a hexadecimal digit stands for, and any other byte for some number.
 fn digit_value(digit: u8) -> u64 {
@@ -76,23 +71,6 @@ fn likely_string(alloc: Global, size: u8, text: &mut Vec<u8>) -> Option<Items> {
     Some(Items { width: 1, bits })
 }
 
-/// The items of this base type and size whose cell this may be.
-fn likely_items(
-    alloc: Global,
-    written: &mut Vec<u8>,
-    code: Code,
-    size: u8,
-    info: Option<Info>,
-    cell: &[u8],
-) -> Option<Items>
-    requires { IfSome info (λ i. IsScale i.scale) }
-{
-    let Ok(cell) = str::from_utf8(cell) else {
-        return None;
-    };
-    cell_items_by(alloc, written, code, size, info, cell).ok()?
-}
-
 impl Frame {
     /// The items whose cell this may be. The cell is lost.
     fn likely_in(&self, alloc: Global, written: &mut Vec<u8>, cell: &mut Vec<u8>) -> Option<Items> {
@@ -104,14 +82,8 @@ impl Frame {
                 }
             }
         }
-        likely_items(
-            alloc,
-            written,
-            Code(self.code),
-            self.size,
-            self.info,
-            cell.as_slice(),
-        )
+        let shown = cell.as_slice();
+        items_in(alloc, written, shown, Code(self.code), self.size, self.info).ok()?
     }
 
     /// The several numbers or the bytes with which a text may begin, where the value is such, and what comes after them.

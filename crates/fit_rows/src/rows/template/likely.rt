@@ -52,7 +52,7 @@ impl Template {
             Some(_) => after(after_front, b'\n')?,
             None => text.get(self.line.len()..)?,
         };
-        let count = self.kept.own.fields.len();
+        let count = self.kept.count();
         let (frames, dev_frames) = self.frames.as_slice().split_at_checked(count)?;
         let (fields, rest) = likely_items(alloc, written, cell, frames, rest)?;
         let dev = if dev_frames.is_empty() {
@@ -61,7 +61,7 @@ impl Template {
             likely_items(alloc, written, cell, dev_frames, rest)?.0
         };
         Some(Values {
-            local: self.kept.own.local,
+            local: self.kept.local(),
             offset,
             fields,
             dev,

@@ -1,6 +1,6 @@
-use Rattle.fit_csv.proofs.Common.{◌∙◌, length, sym, eqb-true}
-use Rattle.fit_csv.proofs.MessageRows.{no-offset}
-use Rattle.fit_csv.proofs.from.message.offset_in.Goals as goal
+use Rattle.fit_rows.proofs.Common.{◌∙◌, length, sym, eqb-true}
+use Rattle.fit_rows.proofs.CellFacts.{no-offset}
+use Rattle.fit_rows.proofs.cells.offset_in.Goals as goal
 
 pub returns-then-is_empty-clause-every : goal.returns-then-is_empty-clause-every
 returns-then-is_empty-clause-every c offset fits shows =

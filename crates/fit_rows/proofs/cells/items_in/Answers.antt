@@ -1,7 +1,9 @@
-use Rattle.fit_csv.proofs.Common.{subst, IsUtf8, meaning}
+use Rattle.fit_rows.proofs.Common.{subst}
+use Rattle.std.specs.Str.{IsUtf8}
+use Rattle.fit_profile.specs.Names.{meaning}
 use Rattle.std.proofs.Common.{option_map}
 use Rattle.fit_cells.proofs.TextFacts.{utf8-cell}
-use Rattle.fit_csv.proofs.from.fields.items_in.Goals as goal
+use Rattle.fit_rows.proofs.cells.items_in.Goals as goal
 
 pub returns-in-Err-clause-every : goal.returns-in-Err-clause-every
 returns-in-Err-clause-every c items shape e =

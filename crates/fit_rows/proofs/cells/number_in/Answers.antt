@@ -1,8 +1,10 @@
-use Rattle.fit_csv.proofs.Common.{◌≡◌, ◌∙◌, ap, sym, arith, subst, IsUtf8, parse-decimal, IsAscii-decimal}
+use Rattle.fit_rows.proofs.Common.{◌≡◌, ◌∙◌, ap, sym, arith, subst}
+use Rattle.std.specs.Str.{IsUtf8}
+use Rattle.std.proofs.lemmas.Fmt.{parse-decimal, IsAscii-decimal}
 use Rattle.std.specs.Prelude.{Ok, decimal}
 use Rattle.std.specs.Result.{result_unwrap_or}
 use Rattle.std.proofs.lemmas.Str.{IsUtf8-from_ascii}
-use Rattle.fit_csv.proofs.from.number.number_in.Goals as goal
+use Rattle.fit_rows.proofs.cells.number_in.Goals as goal
 
 pub returns-in-Ok : goal.returns-in-Ok
 returns-in-Ok c n small shows =
