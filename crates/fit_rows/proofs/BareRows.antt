@@ -115,7 +115,8 @@ whole frames k all read text left over h =
     (sym (h.1 ∙ ap (λ is. read ++ is) n.0 ∙ append-nil read), n.1)
 
 -- there is a frame for each value
-pub stand_long : (frames : List FrameText) (xs ys : List (Items Global)) (text left : List ℕ) → StandBare frames (xs ++ ys) text left → length xs ≤ length frames
+pub stand_long : (frames : List FrameText) (xs ys : List (Items Global)) (text left : List ℕ) → StandBare frames (xs ++ ys) text left
+    → length xs ≤ length frames
 stand_long frames [] ys text left h = omega arith
 stand_long [] (x ∷ xs) ys text left h = absurd h
 stand_long (f ∷ frames) (x ∷ xs) ys text left h = let more = stand_long frames xs ys h.0 left h.2 in omega (arith, more)
