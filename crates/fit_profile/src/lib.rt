@@ -34,3 +34,4 @@ pub use profile::{Info, field_info, message_name};
 pub use scaled::fixed;
 pub use stream::Stream;
 pub use text::text_len;
+pub use told::Told;

@@ -89,6 +89,17 @@ pub(crate) fn time_in(env: &Env, plans: &Plans, previous: Option<u32>, bytes: &[
     time_of_message(previous, plan_of(plans, &message), &message)
 }
 
+/// What is told of the data message that the bytes are, by the last ones before it.
+pub(crate) fn told_in(env: &Env, plans: &Plans, last: Last, bytes: &[u8]) -> Told
+    requires plans { ArePlanned plans.now.places.items env.now.places }
+    requires message { (v : Values Global) × IsRecord env.now (Data v) bytes.now }
+    ensures { (v : Values Global) → IsRecord env.now (Data v) bytes.now
+        → telling.tell env.now last (Data v) ≡ Some result }
+{
+    let message = message_of(env, bytes);
+    told_of_message(last, plan_of(plans, &message), &message)
+}
+
 /// The speed and the accumulated distance of the data message that the bytes are, by the last ones before it.
 pub(crate) fn speed_and_distance(
     env: &Env,

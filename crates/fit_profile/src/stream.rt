@@ -23,7 +23,7 @@ ghost use Rattle.fit_profile.specs.contracts.stream.Stream.{the_row};
 use crate::Fixed;
 use crate::learn::take_in;
 use crate::message::Message;
-use crate::message_bytes::{record_of, speed_and_distance, take_plain, time_in};
+use crate::message_bytes::{record_of, speed_and_distance, take_plain, time_in, told_in};
 use crate::names::{Names, Texts};
 use crate::plain::{tell_plain, tell_times};
 use crate::plan::Plans;
@@ -152,6 +152,23 @@ impl Stream {
     {
         let (speed, distance) = speed_and_distance(&self.env, &self.plans, self.last, bytes);
         (in_scale(speed, 100), in_scale(distance, 16))
+    }
+
+    /// What is told of the data message in these bytes: its times, and the values accumulated over the file.
+    pub fn message_told(&self, bytes: &[u8]) -> Told
+        requires { (v : Values Global) × IsRecord (known self.now) (Data v) bytes.now }
+        ensures { (v : Values Global) → IsRecord (known self.now) (Data v) bytes.now
+            → result ≡ telling.told self.now v }
+    {
+        told_in(&self.env, &self.plans, self.last, bytes)
+    }
+
+    /// The same of the next record. A definition message has neither.
+    pub fn told(&self, record_: &Record) -> Option<Told>
+        requires { Fits (known self.now) record_.now }
+        ensures { result ≡ told_of self.now record_.now }
+    {
+        tell(&self.env, self.last, record_)
     }
 
     /// The name and the unit of a developer field of a local message type.
