@@ -1,0 +1,111 @@
+//! The items of the fields of a message, made or in their bytes.
+ghost use Rattle.std.specs.Prelude.{◌≡◌, ◌⊎◌, ◌≤◌, ◌*◌, ◌/◌, ◌++◌, All, IfOk, OnOk, drop, flat_map, length};
+ghost use Rattle.std.specs.Global.{Global};
+ghost use Rattle.fit_record.specs.ReadMessages.{field_from, fields_from, numbers_of};
+ghost use Rattle.fit_record.specs.Records.{sizes};
+ghost use Rattle.fit_messages.specs.Blocks.{low, slot};
+
+use crate::bytes::{put_gap, put_number, put_rounded};
+use fit_base::{Code, Items, Order, bits_at, width_of};
+use fit_record::Layout;
+use std::alloc::AllocError;
+
+/// Puts numbers of this width, one after another.
+fn put_numbers(bytes: &mut Vec<u8>, width: u8, numbers: &[u64]) -> Result<(), AllocError>
+    requires { width ≤ 8 }
+    ensures { OnOk result (bytes.new.items
+        ≡ bytes.old.items ++ flat_map (low width) numbers.now) }
+{
+    for number in numbers {
+        put_number(bytes, width, *number)?;
+    }
+    Ok(())
+}
+
+/// Puts the items of a field.
+fn put_made(bytes: &mut Vec<u8>, items: &Items) -> Result<(), AllocError>
+    requires { items.now.width ≤ 8 }
+    ensures { OnOk result (bytes.new.items ≡ bytes.old.items ++ slot items.now) }
+{
+    put_numbers(bytes, items.width, items.bits.as_slice())?;
+    put_gap(bytes, items.bits.len() * items.width as usize)
+}
+
+/// Puts the items of fields.
+pub(crate) fn put_all_made(bytes: &mut Vec<u8>, all: &[Items]) -> Result<(), AllocError>
+    requires { All (λ i. i.width ≤ 8) all.now }
+    ensures { OnOk result (bytes.new.items ≡ bytes.old.items ++ flat_map slot all.now) }
+{
+    for items in all {
+        put_made(bytes, items)?;
+    }
+    Ok(())
+}
+
+/// Puts the numbers of this width that bytes are.
+#[inline(never)]
+fn put_turned(
+    bytes: &mut Vec<u8>,
+    order: Order,
+    width: u8,
+    field: &[u8],
+) -> Result<(), AllocError>
+    requires width { (width ≡ 1) ⊎ (width ≡ 2) ⊎ (width ≡ 4) ⊎ (width ≡ 8) }
+    requires whole { length field.now / width * width ≡ length field.now }
+    ensures { OnOk result (bytes.new.items ≡ bytes.old.items ++ flat_map (low width)
+        (numbers_of order width (length field.now / width) field.now)) }
+{
+    let count = field.len() / width as usize;
+    let mut rest = field;
+    for _ in 0..count {
+        let (number, after) = rest.split_at(width as usize);
+        put_number(bytes, width, bits_at(order, width, number))?;
+        rest = after;
+    }
+    Ok(())
+}
+
+/// Puts the items of a field by its bytes.
+#[inline(always)]
+fn put_read(
+    bytes: &mut Vec<u8>,
+    order: Order,
+    code: u8,
+    size: u8,
+    field: &[u8],
+) -> Result<(), AllocError>
+    requires { length field.now ≡ size }
+    ensures { OnOk result (bytes.new.items
+        ≡ bytes.old.items ++ slot (field_from {A = Global} order (code, size) field.now)) }
+{
+    match order {
+        Order::Little => put_rounded(bytes, field),
+        Order::Big => {
+            put_turned(bytes, order, width_of(Code(code), size), field)?;
+            put_gap(bytes, field.len())
+        }
+    }
+}
+
+/// Puts the items of fields by their bytes. Returns the bytes after them.
+#[inline(always)]
+pub(crate) fn put_all_read<'a>(
+    bytes: &mut Vec<u8>,
+    order: Order,
+    layout: &Layout<'_>,
+    body: &'a [u8],
+) -> Result<&'a [u8], AllocError>
+    requires { sizes layout.now ≤ length body.now }
+    ensures { IfOk result (λ rest. (bytes.new.items ≡ bytes.old.items
+        ++ flat_map slot (fields_from {A = Global} order layout.now body.now))
+        × (rest.now ≡ drop (sizes layout.now) body.now)) }
+{
+    let mut rest = body;
+    for place in 0..layout.len() {
+        let (code, size) = layout.slot(place);
+        let (here, after) = rest.split_at(size as usize);
+        put_read(bytes, order, code, size, here)?;
+        rest = after;
+    }
+    Ok(rest)
+}

@@ -1,0 +1,10 @@
+//! The events of a chain of files as blocks of bytes, which other languages read as they lie in memory.
+#![tactic(auto)]
+
+mod bytes;
+mod definition;
+mod items;
+mod message;
+mod report;
+
+pub use report::MessagesReport;

@@ -1,0 +1,152 @@
+//! The blocks of data messages.
+ghost use Rattle.std.specs.Prelude.{◌≡◌, ◌++◌, [], if◌then◌else◌, IsSomeAnd, OnOk, Some, slice_index_or, unwrap_or};
+ghost use Rattle.std.specs.Global.{Global};
+ghost use Rattle.fit_profile.specs.Looks.{known};
+ghost use Rattle.fit_profile.specs.Told as telling;
+ghost use Rattle.fit_record.specs.Environment.{defined_at};
+ghost use Rattle.fit_record.specs.Records.{Fits, IsRecord};
+ghost use Rattle.fit_record.specs.declared.message.Record.TheVariants.{Values as Data};
+ghost use Rattle.fit_record.specs.declared.message.Values.{Values};
+ghost use Rattle.fit_messages.specs.Blocks as blocks;
+ghost use Rattle.fit_messages.specs.inner.Messages.{message_after, message_head};
+
+use crate::bytes::{Front, Place, put_front, put_number, put_sized};
+use crate::definition::counts;
+use crate::items::{put_all_made, put_all_read};
+use fit_profile::{Stream, Told};
+use fit_record::{Record, Values};
+use std::alloc::AllocError;
+
+/// A bit that says whether there is something.
+#[inline(always)]
+fn bit<T: Copy>(weight: u8, option: Option<T>) -> u8
+    ensures { result ≡ blocks.bit weight option }
+{
+    match option {
+        Some(_) => weight,
+        None => 0,
+    }
+}
+
+/// The bits that say what is told of a message.
+#[inline(always)]
+fn told_bits(told: Told) -> u8
+    ensures { result ≡ blocks.told_bits told }
+{
+    bit(1, told.time)
+        + bit(2, told.header_time)
+        + bit(4, told.speed)
+        + bit(8, told.distance)
+        + bit(16, told.total_cycles)
+        + bit(32, told.accumulated_power)
+}
+
+/// Puts speed, distance, cycles and power.
+fn put_amounts(bytes: &mut Vec<u8>, told: Told) -> Result<(), AllocError>
+    ensures { OnOk result (bytes.new.items ≡ bytes.old.items ++ blocks.amounts told) }
+{
+    put_number(bytes, 8, told.speed.unwrap_or(u64::MAX))?;
+    put_number(bytes, 8, told.distance.unwrap_or(u64::MAX))?;
+    put_number(bytes, 8, told.total_cycles.unwrap_or(u64::MAX))?;
+    put_number(bytes, 8, told.accumulated_power.unwrap_or(u64::MAX))
+}
+
+/// Puts what stands before the items of a message, without its length.
+#[inline(always)]
+fn put_head(
+    bytes: &mut Vec<u8>,
+    place: Place,
+    number: u64,
+    local: u8,
+    offset: Option<u8>,
+    counts: bool,
+    told: Told,
+) -> Result<(), AllocError>
+    ensures { OnOk result (bytes.new.items ≡ bytes.old.items
+        ++ message_head place.file place.place number local offset counts told) }
+{
+    put_front(
+        bytes,
+        Front {
+            kind: 3,
+            a: told_bits(told),
+            b: local,
+            c: offset.unwrap_or(0xFF),
+            file: place.file,
+            n: u64::from(told.time.unwrap_or(u32::MAX)),
+            place: place.place,
+        },
+    )?;
+    put_number(bytes, 8, number)?;
+    put_number(bytes, 8, u64::from(told.header_time.unwrap_or(u32::MAX)))?;
+    if counts {
+        put_amounts(bytes, told)?;
+    }
+    Ok(())
+}
+
+/// Puts the block of a data message after the records of a stream, whose definition is this one of all. `rest` lends its memory.
+pub(crate) fn put_values(
+    text: &mut Vec<u8>,
+    rest: &mut Vec<u8>,
+    stream: &Stream,
+    values: &Values,
+    told: Told,
+    place: Place,
+    number: u64,
+) -> Result<(), AllocError>
+    requires fits { Fits (known stream.now) (Data values.now) }
+    requires told { told ≡ telling.told stream.now values.now }
+    ensures { OnOk result (text.new.items ≡ text.old.items
+        ++ message_after stream.now place.file place.place number values.now) }
+{
+    let Some(defined) = stream.env().defined(values.local) else {
+        unreachable!()
+    };
+    let counts = counts(&defined.definition);
+    rest.clear();
+    put_head(rest, place, number, values.local, values.offset, counts, told)?;
+    put_all_made(rest, values.fields.as_slice())?;
+    put_all_made(rest, values.dev.as_slice())?;
+    put_sized(text, rest.as_slice())
+}
+
+/// The same of the data message that the bytes are.
+pub(crate) fn put_message(
+    text: &mut Vec<u8>,
+    rest: &mut Vec<u8>,
+    stream: &Stream,
+    bytes: &[u8],
+    place: Place,
+    numbers: &[u64; 16],
+) -> Result<(), AllocError>
+    requires { (v : Values Global) × IsRecord (known stream.now) (Data v) bytes.now }
+    ensures { OnOk result ((v : Values Global) → IsRecord (known stream.now) (Data v) bytes.now
+        → text.new.items ≡ text.old.items ++ message_after stream.now place.file place.place
+        (slice_index_or numbers.now v.local 0) v) }
+{
+    let Some(message) = stream.env().message_bytes(bytes) else {
+        unreachable!()
+    };
+    let told = stream.message_told(bytes);
+    let defined = message.defined;
+    let order = defined.definition.order;
+    let counts = counts(&defined.definition);
+    let number = number_at(numbers, message.local);
+    rest.clear();
+    put_head(rest, place, number, message.local, message.offset, counts, told)?;
+    let back = put_all_read(rest, order, &defined.layout(), message.body)?;
+    put_all_read(rest, order, &defined.dev_layout(), back)?;
+    put_sized(text, rest.as_slice())
+}
+
+/// The number of a local message type.
+#[inline(always)]
+pub(crate) fn number_at(numbers: &[u64; 16], local: u8) -> u64
+    ensures { result ≡ slice_index_or numbers.now local 0 }
+{
+    match numbers.get(local as usize) {
+        Some(number) => *number,
+        None => 0,
+    }
+}

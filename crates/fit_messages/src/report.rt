@@ -1,0 +1,301 @@
+//! The reporter of blocks.
+ghost use Rattle.std.specs.Prelude.{◌≡◌, ◌+◌, ◌%◌, ◌^◌, ◌<◌, ◌++◌, ◌∷◌, [], IfOk, OnErr, OnOk, length};
+ghost use Rattle.std.specs.Global.{Global};
+ghost use Rattle.fit_profile.specs.Looks.{known};
+ghost use Rattle.fit_record.specs.Records.{Fits, IsRecord, record_bytes};
+ghost use Rattle.fit_record.specs.declared.message.Record.TheVariants.{Define, Values as Data};
+ghost use Rattle.fit_record.specs.declared.message.Values.{Values};
+ghost use Rattle.fit_chain.specs.Events as events;
+ghost use Rattle.fit_messages.specs.Blocks as blocks;
+ghost use Rattle.fit_messages.specs.Kept.{kept_events};
+ghost use Rattle.fit_messages.specs.inner.Telling.{block_next, kept_next};
+
+use crate::bytes::{Front, Place, put_front, put_number, put_rounded, put_sized};
+use crate::definition::put_definition;
+use crate::message::{number_at, put_message, put_values};
+use fit_decode::{Decoder, Event};
+use fit_frame::{Header, HeaderSum};
+use fit_profile::Stream;
+use fit_profile::laws::looking_back_is_learning;
+use fit_record::{MessageDef, Record, Values};
+use fit_report::Report;
+use fit_report::laws::{heard_are_few, heard_records_fit};
+use std::alloc::{AllocError, Global};
+use std::marker::Model;
+
+/// Makes a block of bytes of each event of a chain of files: of a header, a definition message, a data message, and the end of a file
+/// (`docs/BLOCKS.md`). Clauses see what it keeps of the events that it has heard.
+#[derive(Drop)]
+pub struct MessagesReport {
+    stream: Stream,
+    files: u64,
+    definitions: u64,
+    /// For each local message type, how many definitions had come before its own.
+    numbers: [u64; 16],
+    /// How many bytes the events had. It begins again after 2^64.
+    place: u64,
+    /// Where a block is made.
+    rest: Vec<u8>,
+    alloc: Global,
+}
+
+impl Model for MessagesReport {
+    ghost use Rattle.fit_messages.specs.Kept.{Kept};
+
+    ghost Value = { Kept };
+
+    ghost view = { λ r. record {
+      records = r.stream;
+      files = r.files;
+      definitions = r.definitions;
+      numbers = r.numbers;
+      place = r.place;
+    } };
+}
+
+impl MessagesReport {
+    /// It has heard nothing.
+    pub fn new(alloc: Global) -> Self
+        ensures { result ≡ kept_events [] }
+    {
+        MessagesReport {
+            stream: Stream::new(alloc),
+            files: 0,
+            definitions: 0,
+            numbers: [0; 16],
+            place: 0,
+            rest: Vec::new(alloc),
+            alloc,
+        }
+    }
+}
+
+/// What a checksum of a header is called in a block.
+fn sum_kind(sum: HeaderSum) -> u8
+    ensures { result ≡ blocks.sum_kind sum }
+{
+    match sum {
+        HeaderSum::Absent => 0,
+        HeaderSum::Zero => 1,
+        HeaderSum::True => 2,
+    }
+}
+
+/// Puts the block of a header before that many bytes of data.
+fn put_header(
+    text: &mut Vec<u8>,
+    rest: &mut Vec<u8>,
+    place: Place,
+    header: &Header,
+    size: u32,
+) -> Result<(), AllocError>
+    ensures { OnOk result (text.new.items ≡ text.old.items
+        ++ blocks.header_block place.file place.place header.now size) }
+{
+    rest.clear();
+    put_front(
+        rest,
+        Front {
+            kind: 1,
+            a: header.size,
+            b: header.protocol,
+            c: sum_kind(header.sum),
+            file: place.file,
+            n: u64::from(size),
+            place: place.place,
+        },
+    )?;
+    put_number(rest, 8, u64::from(header.profile))?;
+    put_rounded(rest, header.rest.as_slice())?;
+    put_sized(text, rest.as_slice())
+}
+
+/// Puts the block of the end of a file.
+fn put_end(text: &mut Vec<u8>, rest: &mut Vec<u8>, place: Place) -> Result<(), AllocError>
+    ensures { OnOk result (text.new.items ≡ text.old.items
+        ++ blocks.end_block place.file place.place) }
+{
+    rest.clear();
+    put_front(
+        rest,
+        Front {
+            kind: 4,
+            a: 0,
+            b: 0,
+            c: 0,
+            file: place.file,
+            n: 0,
+            place: place.place,
+        },
+    )?;
+    put_sized(text, rest.as_slice())
+}
+
+/// How many bytes a record has after the records of a stream.
+fn length_of(stream: &Stream, record_: &Record) -> u32
+    requires { Fits (known stream.now) record_.now }
+    ensures { result ≡ length (record_bytes (known stream.now) record_.now) }
+{
+    match stream.env().fits(record_) {
+        Ok(length) => length,
+        Err(_) => unreachable!(),
+    }
+}
+
+impl MessagesReport {
+    /// Takes in a header before that many bytes of data, and puts its block.
+    fn take_header(
+        &mut self,
+        text: &mut Vec<u8>,
+        header: &Header,
+        size: u32,
+    ) -> Result<(), AllocError>
+        requires few { self.old.files < 2 ^ 60 }
+        ensures kept { OnOk result (self.new ≡ kept_next self.old (events.header header.now size)) }
+        ensures text { OnOk result (text.new.items
+            ≡ text.old.items ++ block_next self.old (events.header header.now size)) }
+    {
+        self.stream.begin_file();
+        self.files += 1;
+        let place = self.here();
+        put_header(text, &mut self.rest, place, header, size)?;
+        self.place = self.place.wrapping_add(u64::from(header.size));
+        Ok(())
+    }
+
+    /// Where the next event stands.
+    fn here(&self) -> Place
+        ensures file { result.file ≡ self.now.files }
+        ensures place { result.place ≡ self.now.place }
+    {
+        Place {
+            file: self.files,
+            place: self.place,
+        }
+    }
+
+    /// Takes in the end of a file, and puts its block.
+    fn take_end(&mut self, text: &mut Vec<u8>) -> Result<(), AllocError>
+        ensures kept { OnOk result (self.new ≡ kept_next self.old events.file_end) }
+        ensures text { OnOk result (text.new.items
+            ≡ text.old.items ++ block_next self.old events.file_end) }
+    {
+        let place = self.here();
+        put_end(text, &mut self.rest, place)?;
+        self.place = self.place.wrapping_add(2);
+        Ok(())
+    }
+
+    /// Puts the block of the definition that the stream has just taken in.
+    fn put_defined(&mut self, text: &mut Vec<u8>, local: u8) -> Result<(), AllocError>
+    {
+        let Some(defined) = self.stream.env().defined(local) else {
+            unreachable!()
+        };
+        put_definition(text, self.alloc, &self.stream, defined, self.here(), self.definitions)
+    }
+
+    /// Takes in a definition, and puts its block.
+    fn take_definition(
+        &mut self,
+        text: &mut Vec<u8>,
+        record_: &Record,
+        definition: &MessageDef,
+    ) -> Result<(), AllocError>
+        requires same { record_.now ≡ Define definition.now }
+        requires fits { Fits (known self.old.records) record_.now }
+        requires few { self.old.definitions < 2 ^ 60 }
+        ensures kept { OnOk result (self.new ≡ kept_next self.old (events.item record_.now)) }
+        ensures text { OnOk result (text.new.items
+            ≡ text.old.items ++ block_next self.old (events.item record_.now)) }
+    {
+        let length = length_of(&self.stream, record_);
+        self.stream.take(record_)?;
+        self.put_defined(text, definition.local)?;
+        self.numbers[definition.local as usize] = self.definitions;
+        self.definitions += 1;
+        self.place = self.place.wrapping_add(u64::from(length));
+        Ok(())
+    }
+
+    /// Takes in a data message, and puts its block.
+    fn take_values(
+        &mut self,
+        text: &mut Vec<u8>,
+        record_: &Record,
+        values: &Values,
+    ) -> Result<(), AllocError>
+        requires same { record_.now ≡ Data values.now }
+        requires fits { Fits (known self.old.records) record_.now }
+        ensures kept { OnOk result (self.new ≡ kept_next self.old (events.item record_.now)) }
+        ensures text { OnOk result (text.new.items
+            ≡ text.old.items ++ block_next self.old (events.item record_.now)) }
+    {
+        let length = length_of(&self.stream, record_);
+        let Some(told) = self.stream.told(record_) else {
+            unreachable!()
+        };
+        let place = self.here();
+        let number = number_at(&self.numbers, values.local);
+        put_values(text, &mut self.rest, &self.stream, values, told, place, number)?;
+        self.stream.take(record_)?;
+        self.place = self.place.wrapping_add(u64::from(length));
+        Ok(())
+    }
+
+    /// Takes in the data message that the bytes are, and puts its block.
+    fn take_message(&mut self, text: &mut Vec<u8>, bytes: &[u8]) -> Result<(), AllocError>
+        requires { (v : Values Global) × IsRecord (known self.old.records) (Data v) bytes.now }
+        ensures kept { OnOk result ((v : Values Global)
+            → IsRecord (known self.old.records) (Data v) bytes.now
+            → self.new ≡ kept_next self.old (events.item (Data v))) }
+        ensures text { OnOk result ((v : Values Global)
+            → IsRecord (known self.old.records) (Data v) bytes.now
+            → text.new.items ≡ text.old.items ++ block_next self.old (events.item (Data v))) }
+    {
+        let place = self.here();
+        put_message(text, &mut self.rest, &self.stream, bytes, place, &self.numbers)?;
+        self.stream.take_message(bytes)?;
+        self.place = self.place.wrapping_add(bytes.len() as u64);
+        Ok(())
+    }
+}
+
+impl Report for MessagesReport {
+    ghost use Rattle.fit_messages.specs.Blocks.{event_block};
+    ghost use Rattle.fit_messages.specs.Kept.{kept_events};
+
+    ghost has_heard = { λ r heard. r ≡ kept_events heard };
+
+    ghost line = { event_block };
+
+    fn tell(&mut self, event: &Event, text: &mut Vec<u8>) -> Result<(), AllocError> {
+        heard_records_fit::<Global>();
+        heard_are_few::<Global>();
+        looking_back_is_learning::<Global>();
+        match event {
+            Event::Header(header, size) => self.take_header(text, header, *size),
+            Event::Item(record_) => match record_ {
+                Record::Define(definition) => self.take_definition(text, record_, definition),
+                Record::Values(values) => self.take_values(text, record_, values),
+            },
+            Event::FileEnd => self.take_end(text),
+            Event::More => Ok(()),
+        }
+    }
+
+    fn skip(
+        &mut self,
+        decoder: &mut Decoder,
+        piece: &[u8],
+        text: &mut Vec<u8>,
+    ) -> Result<usize, AllocError> {
+        let used = decoder.skip_message(piece);
+        if used == 0 {
+            return Ok(0);
+        }
+        let (message, _) = piece.split_at(used);
+        self.take_message(text, message)?;
+        Ok(used)
+    }
+}
