@@ -1,1 +1,6 @@
 mod KnownBlocks
+pub mod ByteFacts
+pub mod ItemFacts
+pub mod EntryFacts
+pub mod KnownDefinitions
+pub mod MessageFacts

@@ -17,6 +17,7 @@ use Rattle.fit_record.specs.declared.definition.DevDef.{DevDef}
 use Rattle.fit_record.specs.declared.definition.MessageDef.{MessageDef}
 use Rattle.fit_record.specs.declared.environment.Defined.{Defined}
 use Rattle.fit_record.specs.declared.message.Values.{Values}
+use Rattle.fit_record.specs.declared.message.Record.{Record}
 use Rattle.fit_record.specs.declared.message.Record.TheVariants.{Define, Values as Data}
 use Rattle.fit_record.specs.Environment.{defined_at, defined_by, dev_defs}
 use Rattle.fit_record.specs.Records.{architecture, record_bytes}
@@ -127,14 +128,22 @@ kind_of_class Bytes = 4
 abbrev pub value_kind : ℕ → ℕ → ℕ
 value_kind code size = if item_width code size == (base_type code).width then kind_of_class (base_type code).class else 4
 
--- A field whose items begin at this place of a message's block. Its name begins 32 bytes from here, and then comes its unit.
+-- what a field is: number, developer field or not, index, base type code, kind of value, width and number of items, decimals
+abbrev pub kind_bytes : Column → List ℕ
+kind_bytes c =
+    c.number ∷ c.developer ∷ c.index ∷ c.code ∷ value_kind c.code c.size ∷ item_width c.code c.size ∷ c.size / item_width c.code c.size
+    ∷ decimals c.meaning.scale
+    ∷ []
+
+-- where the items begin in a message's block, scale, offset, and the item that stands for no value
+abbrev pub scale_bytes : ℕ → Column → List ℕ
+scale_bytes at c = low 4 at ++ low 4 c.meaning.scale ++ low 4 c.meaning.offset ++ low 8 (base_type c.code).invalid
+
+-- A field whose items begin at this place. Its name begins 32 bytes from the start of the entry, and then comes its unit.
 abbrev pub entry : ℕ → Column → List ℕ
 entry at c =
     low 2 (32 + length (text c.meaning.name) + length (text c.meaning.unit)) ++ low 2 (32 + length (text c.meaning.name))
-    ++ c.number ∷ c.developer ∷ c.index ∷ c.code ∷ value_kind c.code c.size ∷ item_width c.code c.size ∷ c.size / item_width c.code c.size
-    ∷ decimals c.meaning.scale
-    ∷ low 4 at ++ low 4 c.meaning.scale ++ low 4 c.meaning.offset ++ low 8 (base_type c.code).invalid
-    ++ text c.meaning.name ++ text c.meaning.unit
+    ++ kind_bytes c ++ scale_bytes at c ++ text c.meaning.name ++ text c.meaning.unit
 
 -- fields, of which the items of the first begin at this place
 abbrev pub entries : ℕ → List Column → List ℕ
@@ -153,16 +162,20 @@ items_at d = 40 + (if counts d then 32 else 0)
 abbrev pub message_length : {A : Type 0} → MessageDef A → ℕ
 message_length d = items_at d + sum_by (λ f. whole f.size) d.fields + sum_by (λ f. whole f.size) (dev_defs d.dev)
 
+-- which definition of the stream it is, of which message, how many fields and developer fields it has, and which parts its messages have
+abbrev pub counts_bytes : {A : Type 0} → ℕ → MessageDef A → List ℕ
+counts_bytes number d =
+    low 8 number ++ low 2 d.global ++ low 2 (length d.fields) ++ low 2 (length (dev_defs d.dev)) ++ low 2 (bit 1 d.dev + (if counts d then 2 else 0))
+
+-- what stands before the entries of a definition
+abbrev pub definition_head : {A : Type 0} → ℕ → ℕ → ℕ → MessageDef A → List ℕ
+definition_head file place number d =
+    front 2 d.local (architecture d.order) d.reserved file (message_length d) place ++ counts_bytes number d ++ text (unwrap_or (message_name d.global) [])
+
 -- a definition, which is this one of the stream
 abbrev pub definition_block : {A : Type 0} → ℕ → ℕ → ℕ → Defined A → List Naming → List ℕ
 definition_block file place number p namings =
-    let d = p.definition in
-    sized (
-    front 2 d.local (architecture d.order) d.reserved file (message_length d) place ++ low 8 number
-    ++ low 2 d.global ++ low 2 (length d.fields) ++ low 2 (length (dev_defs d.dev))
-    ++ low 2 (bit 1 d.dev + (if counts d then 2 else 0))
-    ++ text (unwrap_or (message_name d.global) []) ++ entries (items_at d) (columns p namings)
-    )
+    sized (definition_head file place number p.definition ++ entries (items_at p.definition) (columns p namings))
 
 -- ---- messages
 
@@ -183,14 +196,21 @@ amounts t =
     low 8 (unwrap_or t.speed none) ++ low 8 (unwrap_or t.distance none)
     ++ low 8 (unwrap_or t.total_cycles none) ++ low 8 (unwrap_or t.accumulated_power none)
 
+-- what stands before the items of a message
+abbrev pub message_head : ℕ → ℕ → ℕ → ℕ → Option ℕ → Bool → Told → List ℕ
+message_head file place number local offset counted t =
+    front 3 (told_bits t) local (unwrap_or offset 0xFF) file (unwrap_or t.time 0xFFFFFFFF) place ++ low 8 number ++ low 8 (unwrap_or t.header_time 0xFFFFFFFF)
+    ++ (if counted then amounts t else [])
+
 -- a message of a definition, which is this one of the stream
 abbrev pub message_block : {A : Type 0} → ℕ → ℕ → ℕ → Values A → MessageDef A → Told → List ℕ
 message_block file place number v d t =
-    sized (
-    front 3 (told_bits t) v.local (unwrap_or v.offset 0xFF) file (unwrap_or t.time 0xFFFFFFFF) place ++ low 8 number
-    ++ low 8 (unwrap_or t.header_time 0xFFFFFFFF)
-    ++ (if counts d then amounts t else []) ++ flat_map slot v.fields ++ flat_map slot v.dev
-    )
+    sized (message_head file place number v.local v.offset (counts d) t ++ flat_map slot v.fields ++ flat_map slot v.dev)
+
+-- a message after the records before it in its file, latest first
+abbrev pub message_after : {A : Type 0} → List (Record A) → ℕ → ℕ → ℕ → Values A → List ℕ
+message_after before file place number v =
+    unwrap_or (option_map (λ p. message_block file place number v p.definition (told before v)) (defined_at (known before) v.local)) []
 
 -- ---- events, the latest first
 
@@ -230,6 +250,5 @@ event_block heard (item (Define d)) =
     let before = latest_records heard in
     definition_block (files_heard heard) (bytes_heard heard) (definitions_heard heard) (defined_by (known before) d) (namings_at (Define d ∷ before) d.local)
 event_block heard (item (Data v)) =
-    let before = latest_records heard in
-    unwrap_or (option_map (λ p. message_block (files_heard heard) (bytes_heard heard) (slice_index_or (numbers_heard heard) v.local 0) v p.definition (told before v)) (defined_at (known before) v.local)) []
+    message_after (latest_records heard) (files_heard heard) (bytes_heard heard) (slice_index_or (numbers_heard heard) v.local 0) v
 event_block heard file_end = end_block (files_heard heard) (bytes_heard heard)

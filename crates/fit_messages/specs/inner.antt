@@ -1,4 +1,3 @@
 -- Definitions that no public contract cites: what private functions and proofs need.
 pub mod Columns
-pub mod Messages
 pub mod Telling

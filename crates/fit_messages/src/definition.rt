@@ -9,7 +9,7 @@ ghost use Rattle.fit_record.specs.Environment.{defined_at, dev_defs};
 ghost use Rattle.fit_record.specs.Records.{architecture};
 ghost use Rattle.fit_record.specs.Sound.{IsSound};
 ghost use Rattle.fit_messages.specs.Blocks as blocks;
-ghost use Rattle.fit_messages.specs.inner.Columns.{dev_columns, head, kind_bytes, said};
+ghost use Rattle.fit_messages.specs.inner.Columns.{dev_columns, said};
 
 use crate::bytes::{Front, Place, put_front, put_number, put_sized, put_text};
 use fit_base::{Class, Code, Entries, Order, width_of};
@@ -119,6 +119,30 @@ fn whole(size: u8) -> u64
     size + (8 - size % 8) % 8
 }
 
+/// Puts the name and the unit of a field. Returns how long the name is.
+fn put_texts(texts: &mut Vec<u8>, column: Column<'_>) -> Result<usize, AllocError>
+    requires { texts.old.items ≡ [] }
+    ensures texts { IfOk result (λ _. texts.new.items
+        ≡ blocks.text column.entry.name.now ++ blocks.text column.entry.unit.now) }
+    ensures unit { IfOk result (λ n. n ≡ length (blocks.text column.entry.name.now)) }
+{
+    put_text(texts, column.name)?;
+    let unit = texts.len();
+    put_text(texts, column.unit)?;
+    Ok(unit)
+}
+
+/// Puts where the items of a field begin, its scale and its offset, and the item that stands for no value.
+fn put_scale(bytes: &mut Vec<u8>, at: u64, column: Column<'_>) -> Result<(), AllocError>
+    ensures { OnOk result (bytes.new.items
+        ≡ bytes.old.items ++ blocks.scale_bytes at (said column.entry)) }
+{
+    put_number(bytes, 4, at)?;
+    put_number(bytes, 4, u64::from(column.scale))?;
+    put_number(bytes, 4, u64::from(column.offset))?;
+    put_number(bytes, 8, Code(column.code).invalid())
+}
+
 /// Puts the entry of a field whose items begin at this place of a message's block. `texts` lends its memory.
 fn put_entry(
     bytes: &mut Vec<u8>,
@@ -127,26 +151,22 @@ fn put_entry(
     column: Column<'_>,
 ) -> Result<(), AllocError>
     requires { IsScale column.scale }
-    ensures { OnOk result (bytes.new.items ≡ bytes.old.items ++ blocks.entry at (said column.entry)) }
+    ensures { OnOk result (bytes.new.items
+        ≡ bytes.old.items ++ blocks.entry at (said column.entry)) }
 {
     texts.clear();
-    put_text(texts, column.name)?;
-    let unit = texts.len();
-    put_text(texts, column.unit)?;
+    let unit = put_texts(texts, column)?;
     put_number(bytes, 2, 32 + texts.len() as u64)?;
     put_number(bytes, 2, 32 + unit as u64)?;
     put_kind(bytes, column)?;
-    put_number(bytes, 4, at)?;
-    put_number(bytes, 4, u64::from(column.scale))?;
-    put_number(bytes, 4, u64::from(column.offset))?;
-    put_number(bytes, 8, Code(column.code).invalid())?;
+    put_scale(bytes, at, column)?;
     bytes.extend_from_slice(texts.as_slice())
 }
 
 /// Puts the eight bytes of an entry that say what its items are.
 fn put_kind(bytes: &mut Vec<u8>, column: Column<'_>) -> Result<(), AllocError>
     requires { IsScale column.scale }
-    ensures { OnOk result (bytes.new.items ≡ bytes.old.items ++ kind_bytes (said column.entry)) }
+    ensures { OnOk result (bytes.new.items ≡ bytes.old.items ++ blocks.kind_bytes (said column.entry)) }
 {
     let width = width_of(Code(column.code), column.size);
     let kind = [
@@ -241,6 +261,14 @@ pub(crate) fn counts(definition: &MessageDef) -> bool
     definition.global == RECORD && have_counter(definition.fields.as_slice())
 }
 
+/// Where the items of its messages begin in their blocks.
+fn items_at(definition: &MessageDef) -> u64
+    ensures place { result ≡ blocks.items_at definition.now }
+    ensures small { result ≤ 72 }
+{
+    if counts(definition) { 72 } else { 40 }
+}
+
 /// What a byte order is called in a block.
 fn architecture(order: Order) -> u8
     ensures { result ≡ architecture order }
@@ -261,7 +289,7 @@ fn put_head(
 ) -> Result<(), AllocError>
     requires { length ≡ blocks.message_length definition.now }
     ensures { OnOk result (bytes.new.items
-        ≡ bytes.old.items ++ head place.file place.place number definition.now) }
+        ≡ bytes.old.items ++ blocks.definition_head place.file place.place number definition.now) }
 {
     put_front(
         bytes,
@@ -275,12 +303,24 @@ fn put_head(
             place: place.place,
         },
     )?;
+    put_counts(bytes, definition, number)?;
+    put_text(bytes, message_name(definition.global).unwrap_or(""))
+}
+
+/// Puts which definition of all it is, of which message, and how many fields it has.
+fn put_counts(
+    bytes: &mut Vec<u8>,
+    definition: &MessageDef,
+    number: u64,
+) -> Result<(), AllocError>
+    ensures { OnOk result (bytes.new.items
+        ≡ bytes.old.items ++ blocks.counts_bytes number definition.now) }
+{
     put_number(bytes, 8, number)?;
     put_number(bytes, 2, u64::from(definition.global))?;
     put_number(bytes, 2, definition.fields.len() as u64)?;
     put_number(bytes, 2, dev_slice(&definition.dev).len() as u64)?;
-    put_number(bytes, 2, parts(definition))?;
-    put_text(bytes, message_name(definition.global).unwrap_or(""))
+    put_number(bytes, 2, parts(definition))
 }
 
 /// Which parts the messages of a definition have besides their fields.
@@ -310,7 +350,7 @@ pub(crate) fn put_definition(
         (namings_at stream.now defined.now.definition.local)) }
 {
     let definition = &defined.definition;
-    let start = if counts(definition) { 72 } else { 40 };
+    let start = items_at(definition);
     let mut texts = Vec::new(alloc);
     let mut entries = Vec::new(alloc);
     let fields = definition.fields.as_slice();

@@ -8,7 +8,6 @@ ghost use Rattle.fit_record.specs.Records.{Fits, IsRecord};
 ghost use Rattle.fit_record.specs.declared.message.Record.TheVariants.{Values as Data};
 ghost use Rattle.fit_record.specs.declared.message.Values.{Values};
 ghost use Rattle.fit_messages.specs.Blocks as blocks;
-ghost use Rattle.fit_messages.specs.inner.Messages.{message_after, message_head};
 
 use crate::bytes::{Front, Place, put_front, put_number, put_sized};
 use crate::definition::counts;
@@ -63,7 +62,7 @@ fn put_head(
     told: Told,
 ) -> Result<(), AllocError>
     ensures { OnOk result (bytes.new.items ≡ bytes.old.items
-        ++ message_head place.file place.place number local offset counts told) }
+        ++ blocks.message_head place.file place.place number local offset counts told) }
 {
     put_front(
         bytes,
@@ -98,7 +97,7 @@ pub(crate) fn put_values(
     requires fits { Fits (known stream.now) (Data values.now) }
     requires told { told ≡ telling.told stream.now values.now }
     ensures { OnOk result (text.new.items ≡ text.old.items
-        ++ message_after stream.now place.file place.place number values.now) }
+        ++ blocks.message_after stream.now place.file place.place number values.now) }
 {
     let Some(defined) = stream.env().defined(values.local) else {
         unreachable!()
@@ -122,7 +121,7 @@ pub(crate) fn put_message(
 ) -> Result<(), AllocError>
     requires { (v : Values Global) × IsRecord (known stream.now) (Data v) bytes.now }
     ensures { OnOk result ((v : Values Global) → IsRecord (known stream.now) (Data v) bytes.now
-        → text.new.items ≡ text.old.items ++ message_after stream.now place.file place.place
+        → text.new.items ≡ text.old.items ++ blocks.message_after stream.now place.file place.place
         (slice_index_or numbers.now v.local 0) v) }
 {
     let Some(message) = stream.env().message_bytes(bytes) else {

@@ -10,9 +10,8 @@ use Rattle.fit_chain.specs.declared.event.Event.{Event as Answer}
 use Rattle.fit_chain.specs.declared.event.Event.TheVariants as answers
 use Rattle.fit_profile.specs.Described.{namings_at}
 use Rattle.fit_profile.specs.Looks.{known}
-use Rattle.fit_messages.specs.Blocks.{definition_block, end_block, header_block}
+use Rattle.fit_messages.specs.Blocks.{definition_block, end_block, header_block, message_after}
 use Rattle.fit_messages.specs.Kept.{Kept}
-use Rattle.fit_messages.specs.inner.Messages.{message_after}
 
 -- the record of an answer fits after these records
 abbrev pub AnswerFits : {A : Type 0} → List (Record A) → Answer A → Type 0

@@ -1,0 +1,45 @@
+-- The blocks of data messages.
+use Rattle.std.proofs.Common.{◌≡◌, ◌∙◌, ℕ, zero, suc, ◌%◌, ◌<◌, ◌≤◌, List, [], ◌∷◌, ◌++◌, All, true, false, ap, sym, arith, refl, subst, lit<}
+use Rattle.std.specs.Prelude.{◌==◌, IsSomeAnd, Some, flat_map, option_map, unwrap_or}
+use Rattle.fit_base.proofs.Bytes.{found_passes}
+use Rattle.fit_base.proofs.Common.{ltb, cond, base_type, base_types, byte, item_width}
+use borrow.Author.Tests.{ltb-true}
+use Rattle.fit_base.specs.declared.items.Items.{Items}
+use Rattle.fit_record.specs.Environment.{Environment, defined_at}
+use Rattle.fit_record.specs.Records.{DataFits, Fits, HaveShape}
+use Rattle.fit_record.specs.declared.message.Record.TheVariants.{Values as Data}
+use Rattle.fit_record.specs.declared.environment.Defined.{Defined}
+use Rattle.fit_record.specs.declared.message.Record.{Record}
+use Rattle.fit_record.specs.declared.message.Values.{Values}
+use Rattle.fit_profile.specs.Looks.{known}
+use Rattle.fit_profile.specs.Told.{told}
+use Rattle.fit_messages.specs.Blocks.{counts, message_after, message_block, message_head, sized, slot}
+
+-- three parts are put after nothing
+pub parts_put : (h f d b0 b1 b2 b3 : List ℕ) → b0 ≡ [] → b1 ≡ b0 ++ h → b2 ≡ b1 ++ f → b3 ≡ b2 ++ d → b3 ≡ (h ++ f) ++ d
+parts_put h f d b0 b1 b2 b3 none first second third = third ∙ ap (λ b. b ++ d) (second ∙ ap (λ b. b ++ f) (first ∙ ap (λ b. b ++ h) none))
+
+-- the block of a message by the definition of its local message type
+pub message_is : {A : Type 0} (before : List (Record A)) (file place number : ℕ) (v : Values A) (p : Defined A) → Some p ≡ defined_at (known before) v.local
+    → message_block file place number v p.definition (told before v) ≡ message_after before file place number v
+message_is before file place number v p known_ =
+    ap (λ o. unwrap_or (option_map (λ (q : Defined _). message_block file place number v q.definition (told before v)) o) []) known_
+
+width_small : (code : ℕ) → (base_type code).width < 9
+width_small code = ltb-true (base_type code).width 9 (found_passes (λ t. t.code == code) (λ t. ltb t.width 9) byte base_types refl refl)
+
+item_width_small : (code size : ℕ) → item_width code size < 9
+item_width_small code size =
+    elim (size % (base_type code).width == 0) as (λ b. cond b (base_type code).width 1 < 9) [ true ↦ width_small code | false ↦ lit< tt ]
+
+-- the items of fields have at most eight bytes each
+pub widths_small : {A : Type 0} (fs : List (ℕ × ℕ)) (items : List (Items A)) → HaveShape fs items → All (λ (i : Items A). i.width ≤ 8) items
+widths_small [] [] shape k d within = absurd (omega (arith, within))
+widths_small [] (i ∷ items) shape k d within = absurd shape
+widths_small (f ∷ fs) [] shape k d within = absurd shape
+widths_small (f ∷ fs) (i ∷ items) shape zero d within = omega (arith, item_width_small f.0 f.1, shape.0.width)
+widths_small (f ∷ fs) (i ∷ items) shape (suc k) d within = widths_small fs items shape.1 k d (omega (arith, within))
+
+-- the message is one of the definition of its local message type
+pub data_fits : {A : Type 0} (e : Environment A) (v : Values A) (p : Defined A) → Fits e (Data v) → Some p ≡ defined_at e v.local → DataFits v p
+data_fits e v p fits known_ = subst (λ o. IsSomeAnd o (DataFits v)) (sym known_) fits
