@@ -1,5 +1,5 @@
 -- What is known after records, and what they name.
-use Rattle.std.proofs.Common.{◌≡◌, ◌∙◌, ℕ, zero, suc, inl, inr, List, [], ◌∷◌, length, map, replicate, set, get_or, refl, sym, ap, true, false, subst, arith, eqb-true, eq-eqb}
+use Rattle.std.proofs.Common.{◌≡◌, ◌∙◌, ℕ, zero, suc, inl, inr, List, [], ◌∷◌, length, map, replicate, set, get_or, refl, sym, ap, true, false, subst, arith, eqb-true, eq-eqb, ◌<◌}
 use Rattle.std.proofs.Common.{Option, Some, None, ◌==◌}
 use Rattle.std.proofs.lemmas.Bool.{cases_Bool, cases_lt}
 use Rattle.std.proofs.lemmas.List.{get_or_past, get_or-set_same, get_or-set_other, length-map, length-set}
@@ -62,3 +62,14 @@ pub namings_long : {A : Type 0} (before : List (Record A)) (local : ℕ) (p : De
     → length (namings_at before local) ≡ length (dev_defs p.definition.dev)
 namings_long before local p = known-has (λ b p. length (namings_at b local) ≡ length (dev_defs p.definition.dev)) local
     (λ b d same. rw same (length-map (dev_defs d.dev) (λ f. naming_of b f.index f.number))) (λ b d p other h. rw other h) (λ b v p h. h) before p
+
+-- there are sixteen places
+places_16 : {A : Type 0} (before : List (Record A)) → length (known before).places ≡ 16
+places_16 [] = refl
+places_16 (Data v ∷ before) = ap length (same-places (known before) _) ∙ places_16 before
+places_16 (Define d ∷ before) = length-set (known before).places d.local (Some (defined_by (known before) d)) ∙ places_16 before
+
+-- a definition that has just come is in its place
+pub just_defined : {A : Type 0} (before : List (Record A)) (d : MessageDef A) → d.local < 16
+    → defined_at (known (Define d ∷ before)) d.local ≡ Some (defined_by (known before) d)
+just_defined before d few = get_or-set_same (known before).places d.local (Some (defined_by (known before) d)) None (omega (arith, few, places_16 before))

@@ -4,3 +4,6 @@ pub mod ItemFacts
 pub mod EntryFacts
 pub mod KnownDefinitions
 pub mod MessageFacts
+mod SkippedMessages
+pub mod ToldEvents
+pub mod TakenDefinitions

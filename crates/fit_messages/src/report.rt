@@ -1,8 +1,11 @@
 //! The reporter of blocks.
-ghost use Rattle.std.specs.Prelude.{◌≡◌, ◌+◌, ◌%◌, ◌^◌, ◌<◌, ◌++◌, ◌∷◌, [], IfOk, OnErr, OnOk, length};
+ghost use Rattle.std.specs.Prelude.{◌≡◌, ◌+◌, ◌%◌, ◌^◌, ◌<◌, ◌++◌, ◌∷◌, [], IfOk, OnErr, OnOk, Some, length};
 ghost use Rattle.std.specs.Global.{Global};
+ghost use Rattle.fit_profile.specs.Described.{namings_at};
 ghost use Rattle.fit_profile.specs.Looks.{known};
+ghost use Rattle.fit_record.specs.Environment.{defined_at};
 ghost use Rattle.fit_record.specs.Records.{Fits, IsRecord, record_bytes};
+ghost use Rattle.fit_record.specs.declared.environment.Defined.{Defined};
 ghost use Rattle.fit_record.specs.declared.message.Record.TheVariants.{Define, Values as Data};
 ghost use Rattle.fit_record.specs.declared.message.Values.{Values};
 ghost use Rattle.fit_chain.specs.Events as events;
@@ -142,6 +145,27 @@ fn length_of(stream: &Stream, record_: &Record) -> u32
     }
 }
 
+/// Puts the block of the definition that a stream has for this local message type, which is this one of all.
+fn put_taken(
+    text: &mut Vec<u8>,
+    alloc: Global,
+    stream: &Stream,
+    local: u8,
+    place: Place,
+    number: u64,
+) -> Result<(), AllocError>
+    requires { (p : Defined Global) × (defined_at (known stream.now) local ≡ Some p)
+        × (p.definition.local ≡ local) }
+    ensures { OnOk result ((p : Defined Global) → defined_at (known stream.now) local ≡ Some p
+        → text.new.items ≡ text.old.items ++ blocks.definition_block place.file place.place number
+        p (namings_at stream.now local)) }
+{
+    let Some(defined) = stream.env().defined(local) else {
+        unreachable!()
+    };
+    put_definition(text, alloc, stream, defined, place, number)
+}
+
 impl MessagesReport {
     /// Takes in a header before that many bytes of data, and puts its block.
     fn take_header(
@@ -186,15 +210,6 @@ impl MessagesReport {
         Ok(())
     }
 
-    /// Puts the block of the definition that the stream has just taken in.
-    fn put_defined(&mut self, text: &mut Vec<u8>, local: u8) -> Result<(), AllocError>
-    {
-        let Some(defined) = self.stream.env().defined(local) else {
-            unreachable!()
-        };
-        put_definition(text, self.alloc, &self.stream, defined, self.here(), self.definitions)
-    }
-
     /// Takes in a definition, and puts its block.
     fn take_definition(
         &mut self,
@@ -210,8 +225,10 @@ impl MessagesReport {
             ≡ text.old.items ++ block_next self.old (events.item record_.now)) }
     {
         let length = length_of(&self.stream, record_);
+        let place = self.here();
         self.stream.take(record_)?;
-        self.put_defined(text, definition.local)?;
+        let local = definition.local;
+        put_taken(text, self.alloc, &self.stream, local, place, self.definitions)?;
         self.numbers[definition.local as usize] = self.definitions;
         self.definitions += 1;
         self.place = self.place.wrapping_add(u64::from(length));
