@@ -1,14 +1,18 @@
 -- The items of fields as a block has them.
-use Rattle.std.proofs.Common.{◌≡◌, ◌∙◌, ℕ, zero, suc, ◌+◌, ◌-◌, ◌*◌, ◌/◌, ◌<◌, List, [], ◌∷◌, ◌++◌, length, take, drop, refl, sym, ap, subst, arith, replicate}
+use Rattle.std.proofs.Common.{◌≡◌, ◌∙◌, ℕ, zero, suc, ◌+◌, ◌-◌, ◌*◌, ◌/◌, ◌%◌, ◌^◌, ◌<◌, true, List, [], ◌∷◌, ◌++◌, length, take, drop, refl, sym, ap, ap₂, subst, arith, replicate}
 use Rattle.std.proofs.Common.{append_assoc}
-use Rattle.std.proofs.lemmas.List.{length-append, take-append-drop, length-take-le, length-drop}
+use Rattle.std.proofs.lemmas.List.{length-append, take-append-drop, length-take-le, length-drop, take_all, append-nil}
 use Rattle.fit_record.proofs.Common.{suc-mul}
-use Rattle.std.specs.Prelude.{flat_map}
+use Rattle.std.specs.Prelude.{◌==◌, flat_map, if◌then◌else◌}
 use Rattle.std.specs.Global.{Global}
 use Rattle.fit_base.proofs.Bytes.{length-little_bytes}
-use Rattle.fit_base.proofs.NumberLaws.{number_bytes-number}
+use Rattle.fit_base.proofs.NumberLaws.{number-below, number_bytes-number}
 use Rattle.fit_base.proofs.Shapes.{item_width_divides}
-use Rattle.fit_base.specs.BaseTypes.{item_width}
+use Rattle.fit_base.proofs.Bytes.{found_passes}
+use Rattle.fit_base.proofs.Common.{ltb, base_type, base_types, byte, item_width, pow-suc}
+use Rattle.fit_base.proofs.SameItems.{width_positive}
+use borrow.Author.Tests.{ltb-true}
+use Rattle.std.proofs.Math.Nat.{div_self, mod_self}
 use Rattle.fit_base.specs.Fields.{items_bytes}
 use Rattle.fit_base.specs.Numbers.{IsBytes, little_bytes, number}
 use Rattle.fit_base.proofs.ByteLists.{IsBytes-take, IsBytes-drop}
@@ -98,3 +102,51 @@ fields_more o f here next rest old now all more put told =
     ap (λ b. b ++ flat_map slot (fields_from {A = Global} o next (drop f.1 rest))) put
     ∙ append_assoc old (slot (field_from {A = Global} o f (take f.1 rest))) (flat_map slot (fields_from {A = Global} o next (drop f.1 rest)))
     ∙ ap (λ l. old ++ flat_map slot (fields_from {A = Global} o l rest)) (sym more) ∙ told
+
+-- ---- one number
+
+no_bytes : (k : ℕ) → little_bytes k 0 ≡ replicate k 0
+no_bytes zero = refl
+no_bytes (suc k) = ap (λ bytes. 0 ∷ bytes) (no_bytes k)
+
+-- a number of few bytes has zeros after them
+wide : (w k v n : ℕ) → v ≡ w + k → n < 256 ^ w → little_bytes v n ≡ little_bytes w n ++ replicate k 0
+wide zero k v n all few =
+    let none : n ≡ 0 = omega (arith, few) in
+    let same : v ≡ k = omega (arith, all) in
+    ap₂ little_bytes same none ∙ no_bytes k
+wide (suc w) k zero n all few = absurd (omega (arith, all))
+wide (suc w) k (suc v) n all few =
+    let below : n < 256 ^ w * 256 = rw pow-suc at few in
+    ap (λ bytes. n % 256 ∷ bytes) (wide w k v (n / 256) (omega (arith, all)) (omega (arith, below)))
+
+pub width_small : (code : ℕ) → (base_type code).width < 9
+width_small code = ltb-true (base_type code).width 9 (found_passes (λ t. t.code == code) (λ t. ltb t.width 9) byte base_types refl refl)
+
+-- a field as long as its base type is wide holds one number
+one_number : (o : Order) (code size : ℕ) (bytes : List ℕ) → length bytes ≡ size → (base_type code).width ≡ size
+    → field_from {A = Global} o (code, size) bytes ≡ record { width = size; bits = number o bytes ∷ [] }
+one_number o code size bytes long same =
+    let test : (size % (base_type code).width == 0) ≡ true = ap (λ w. size % w == 0) same ∙ ap (λ r. r == 0) (mod_self size) in
+    let wide : item_width code size ≡ size = ap (λ b. if b then (base_type code).width else 1) test ∙ same in
+    let positive : 0 < size = subst (λ w. 0 < w) same (width_positive code) in
+    let first : field_from {A = Global} o (code, size) bytes ≡ record { width = size; bits = numbers_of o size (size / size) bytes } =
+    λ i. record { width = wide i; bits = numbers_of o (wide i) (size / wide i) bytes } in
+    let second : record { width = size; bits = numbers_of o size (size / size) bytes } ≡ record { width = size; bits = number o bytes ∷ [] } =
+    ap (λ n. record { width = size; bits = numbers_of o size n bytes }) (div_self positive)
+    ∙ ap (λ b. record { width = size; bits = number o b ∷ [] }) (take_all size bytes (omega (arith, long))) in
+    first ∙ second
+
+-- the number stands in eight bytes
+pub slot_lone : (o : Order) (code size : ℕ) (bytes : List ℕ) → IsBytes bytes → length bytes ≡ size → (base_type code).width ≡ size
+    → low 8 (number o bytes) ≡ slot (field_from {A = Global} o (code, size) bytes)
+unfolding low
+slot_lone o code size bytes are long same =
+    let n = number o bytes in
+    let positive : 0 < size = subst (λ w. 0 < w) same (width_positive code) in
+    let small : size < 9 = subst (λ w. w < 9) same (width_small code) in
+    let all : 8 ≡ size + gap size = omega (arith, positive, small) in
+    let few : n < 256 ^ size = subst (λ w. n < 256 ^ w) long (number-below o bytes are) in
+    let here : slot {A = Global} (record { width = size; bits = n ∷ [] }) ≡ little_bytes size n ++ replicate (gap size) 0 =
+    ap rounded (append-nil (little_bytes size n)) ∙ ap (λ k. little_bytes size n ++ replicate (gap k) 0) (length-little_bytes size n) in
+    wide size (gap size) 8 n all few ∙ sym here ∙ ap (slot {A = Global}) (sym (one_number o code size bytes long same))

@@ -1,9 +1,7 @@
 -- The blocks of data messages.
 use Rattle.std.proofs.Common.{◌≡◌, ◌∙◌, ℕ, zero, suc, ◌%◌, ◌<◌, ◌≤◌, List, [], ◌∷◌, ◌++◌, All, true, false, ap, sym, arith, refl, subst, lit<}
 use Rattle.std.specs.Prelude.{◌==◌, IsSomeAnd, Some, flat_map, option_map, unwrap_or}
-use Rattle.fit_base.proofs.Bytes.{found_passes}
-use Rattle.fit_base.proofs.Common.{ltb, cond, base_type, base_types, byte, item_width}
-use borrow.Author.Tests.{ltb-true}
+use Rattle.fit_base.proofs.Common.{cond, base_type, item_width}
 use Rattle.fit_base.specs.declared.items.Items.{Items}
 use Rattle.fit_record.specs.Environment.{Environment, defined_at}
 use Rattle.fit_record.specs.Records.{DataFits, Fits, HaveShape}
@@ -13,6 +11,7 @@ use Rattle.fit_record.specs.declared.message.Record.{Record}
 use Rattle.fit_record.specs.declared.message.Values.{Values}
 use Rattle.fit_profile.specs.Looks.{known}
 use Rattle.fit_profile.specs.Told.{told}
+use Rattle.fit_messages.proofs.ItemFacts.{width_small}
 use Rattle.fit_messages.specs.Blocks.{counts, message_after, message_block, message_head, sized, slot}
 
 -- three parts are put after nothing
@@ -24,9 +23,6 @@ pub message_is : {A : Type 0} (before : List (Record A)) (file place number : �
     → message_block file place number v p.definition (told before v) ≡ message_after before file place number v
 message_is before file place number v p known_ =
     ap (λ o. unwrap_or (option_map (λ (q : Defined _). message_block file place number v q.definition (told before v)) o) []) known_
-
-width_small : (code : ℕ) → (base_type code).width < 9
-width_small code = ltb-true (base_type code).width 9 (found_passes (λ t. t.code == code) (λ t. ltb t.width 9) byte base_types refl refl)
 
 item_width_small : (code size : ℕ) → item_width code size < 9
 item_width_small code size =

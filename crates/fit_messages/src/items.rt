@@ -65,9 +65,9 @@ fn put_turned(
     Ok(())
 }
 
-/// Puts the items of a field by its bytes.
-#[inline(always)]
-fn put_read(
+/// Puts the items of a field that isn't one number, by its bytes. It stands apart, since most fields are one.
+#[inline(never)]
+fn put_several(
     bytes: &mut Vec<u8>,
     order: Order,
     code: u8,
@@ -85,6 +85,25 @@ fn put_read(
             put_gap(bytes, field.len())
         }
     }
+}
+
+/// Puts the items of a field by its bytes. One number is put with its zeros at once.
+#[inline(always)]
+fn put_read(
+    bytes: &mut Vec<u8>,
+    order: Order,
+    code: u8,
+    size: u8,
+    field: &[u8],
+) -> Result<(), AllocError>
+    requires { length field.now ≡ size }
+    ensures { OnOk result (bytes.new.items
+        ≡ bytes.old.items ++ slot (field_from {A = Global} order (code, size) field.now)) }
+{
+    if Code(code).width() == size {
+        return put_number(bytes, 8, bits_at(order, size, field));
+    }
+    put_several(bytes, order, code, size, field)
 }
 
 /// Puts the items of fields by their bytes. Returns the bytes after them.
