@@ -1,6 +1,6 @@
 -- The entries of fields, one after another.
 use Rattle.std.proofs.Common.{◌≡◌, ◌∙◌, ℕ, zero, suc, ◌+◌, ◌<◌, List, [], ◌∷◌, ◌++◌, length, map, take, get_or, refl, sym, ap, ap₂, arith, append_assoc}
-use Rattle.std.proofs.lemmas.List.{append-nil, length-append, take_more, map-append}
+use Rattle.std.proofs.lemmas.List.{append-nil, take_more, map-append}
 use Rattle.std.proofs.lemmas.Option.{slice_get-get_or}
 use Rattle.std.specs.Prelude.{Option, Some, None, option_and_then, slice_get, sum_by, unwrap_or}
 use Rattle.fit_record.proofs.Common.{sum_by-append, sum_by-cons}

@@ -1,5 +1,5 @@
 -- The items of fields as a block has them.
-use Rattle.std.proofs.Common.{◌≡◌, ◌∙◌, ℕ, zero, suc, ◌+◌, ◌-◌, ◌*◌, ◌/◌, ◌%◌, ◌^◌, ◌<◌, true, List, [], ◌∷◌, ◌++◌, length, take, drop, refl, sym, ap, ap₂, subst, arith, replicate}
+use Rattle.std.proofs.Common.{◌≡◌, ◌∙◌, ℕ, zero, suc, ◌+◌, ◌*◌, ◌/◌, ◌%◌, ◌^◌, ◌<◌, true, List, [], ◌∷◌, ◌++◌, length, take, drop, refl, sym, ap, ap₂, subst, arith, replicate}
 use Rattle.std.proofs.Common.{append_assoc}
 use Rattle.std.proofs.lemmas.List.{length-append, take-append-drop, length-take-le, length-drop, take_all, append-nil}
 use Rattle.fit_record.proofs.Common.{suc-mul}
@@ -13,12 +13,11 @@ use Rattle.fit_base.proofs.Common.{ltb, base_type, base_types, byte, item_width,
 use Rattle.fit_base.proofs.SameItems.{width_positive}
 use borrow.Author.Tests.{ltb-true}
 use Rattle.std.proofs.Math.Nat.{div_self, mod_self}
-use Rattle.fit_base.specs.Fields.{items_bytes}
 use Rattle.fit_base.specs.Numbers.{IsBytes, little_bytes, number}
 use Rattle.fit_base.proofs.ByteLists.{IsBytes-take, IsBytes-drop}
 use Rattle.fit_base.specs.declared.items.Items.{Items}
 use Rattle.fit_base.specs.declared.number.Order.{Order}
-use Rattle.fit_base.specs.declared.number.Order.TheVariants.{Little, Big}
+use Rattle.fit_base.specs.declared.number.Order.TheVariants.{Little}
 use Rattle.fit_record.specs.ReadMessages.{field_from, fields_from, numbers_of}
 use Rattle.fit_messages.specs.Blocks.{gap, rounded, slot}
 unfoldable use Rattle.fit_messages.specs.Blocks.{low}

@@ -1,5 +1,5 @@
 -- Blocks that are worked by hand from `docs/BLOCKS.md`.
-use Rattle.std.proofs.Common.{◌≡◌, ℕ, List, [], ◌∷◌, refl, reverse}
+use Rattle.std.proofs.Common.{◌≡◌, [], ◌∷◌, refl, reverse}
 use Rattle.fit_record.proofs.KnownFiles.{both_architectures, described_field, empty_file}
 use Rattle.fit_chain.specs.Events.{file_events}
 use Rattle.fit_report.specs.Heard.{text_of}

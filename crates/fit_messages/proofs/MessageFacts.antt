@@ -1,6 +1,6 @@
 -- The blocks of data messages.
-use Rattle.std.proofs.Common.{◌≡◌, ◌∙◌, ℕ, zero, suc, ◌%◌, ◌<◌, ◌≤◌, List, [], ◌∷◌, ◌++◌, All, true, false, ap, sym, arith, refl, subst, lit<}
-use Rattle.std.specs.Prelude.{◌==◌, IsSomeAnd, Some, flat_map, option_map, unwrap_or}
+use Rattle.std.proofs.Common.{◌≡◌, ◌∙◌, ℕ, zero, suc, ◌%◌, ◌<◌, ◌≤◌, List, [], ◌∷◌, ◌++◌, All, true, false, ap, sym, arith, subst, lit<}
+use Rattle.std.specs.Prelude.{◌==◌, IsSomeAnd, Some, option_map, unwrap_or}
 use Rattle.fit_base.proofs.Common.{cond, base_type, item_width}
 use Rattle.fit_base.specs.declared.items.Items.{Items}
 use Rattle.fit_record.specs.Environment.{Environment, defined_at}
@@ -12,7 +12,7 @@ use Rattle.fit_record.specs.declared.message.Values.{Values}
 use Rattle.fit_profile.specs.Looks.{known}
 use Rattle.fit_profile.specs.Told.{told}
 use Rattle.fit_messages.proofs.ItemFacts.{width_small}
-use Rattle.fit_messages.specs.Blocks.{counts, message_after, message_block, message_head, sized, slot}
+use Rattle.fit_messages.specs.Blocks.{message_after, message_block}
 
 -- three parts are put after nothing
 pub parts_put : (h f d b0 b1 b2 b3 : List ℕ) → b0 ≡ [] → b1 ≡ b0 ++ h → b2 ≡ b1 ++ f → b3 ≡ b2 ++ d → b3 ≡ (h ++ f) ++ d

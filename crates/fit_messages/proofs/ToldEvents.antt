@@ -7,10 +7,8 @@ use Rattle.std.specs.Option.{option_map_or}
 use Rattle.std.specs.Prelude.{if◌then◌else◌, flat_map, option_map, slice_index_or, unwrap_or, Some}
 use Rattle.fit_chain.specs.Events.{Event, header, item, file_end, known_after, known_next}
 use Rattle.fit_chain.specs.declared.event.Event.{Event as Answer}
-use Rattle.fit_chain.specs.declared.event.Event.TheVariants as answers
 use Rattle.fit_decode.specs.Answers.{event_of}
-use Rattle.fit_frame.specs.declared.header.Header.{Header}
-use Rattle.fit_profile.specs.Described.{Naming, namings_at}
+use Rattle.fit_profile.specs.Described.{namings_at}
 use Rattle.fit_profile.specs.Laws.{LookingBackIsLearning}
 use Rattle.fit_profile.specs.Looks.{known}
 use Rattle.fit_profile.specs.Names.{message_name}

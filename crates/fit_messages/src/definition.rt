@@ -90,7 +90,12 @@ fn or_empty(text: Option<&str>) -> &str
 }
 
 /// A developer field of this base type code, name and unit.
-fn dev_column<'a>(field: &DevDef, code: u8, name: Option<&'a str>, unit: Option<&'a str>) -> Column<'a>
+fn dev_column<'a>(
+    field: &DevDef,
+    code: u8,
+    name: Option<&'a str>,
+    unit: Option<&'a str>,
+) -> Column<'a>
     ensures same { said result ≡ blocks.dev_column field.now code (record {
       name = option_map (λ s. s.now) name.entry;
       unit = option_map (λ s. s.now) unit.entry;
@@ -308,11 +313,7 @@ fn put_head(
 }
 
 /// Puts which definition of all it is, of which message, and how many fields it has.
-fn put_counts(
-    bytes: &mut Vec<u8>,
-    definition: &MessageDef,
-    number: u64,
-) -> Result<(), AllocError>
+fn put_counts(bytes: &mut Vec<u8>, definition: &MessageDef, number: u64) -> Result<(), AllocError>
     ensures { OnOk result (bytes.new.items
         ≡ bytes.old.items ++ blocks.counts_bytes number definition.now) }
 {

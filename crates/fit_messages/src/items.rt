@@ -44,12 +44,7 @@ pub(crate) fn put_all_made(bytes: &mut Vec<u8>, all: &[Items]) -> Result<(), All
 
 /// Puts the numbers of this width that bytes are.
 #[inline(never)]
-fn put_turned(
-    bytes: &mut Vec<u8>,
-    order: Order,
-    width: u8,
-    field: &[u8],
-) -> Result<(), AllocError>
+fn put_turned(bytes: &mut Vec<u8>, order: Order, width: u8, field: &[u8]) -> Result<(), AllocError>
     requires width { (width ≡ 1) ⊎ (width ≡ 2) ⊎ (width ≡ 4) ⊎ (width ≡ 8) }
     requires whole { length field.now / width * width ≡ length field.now }
     ensures { OnOk result (bytes.new.items ≡ bytes.old.items ++ flat_map (low width)

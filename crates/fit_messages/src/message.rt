@@ -104,7 +104,15 @@ pub(crate) fn put_values(
     };
     let counts = counts(&defined.definition);
     rest.clear();
-    put_head(rest, place, number, values.local, values.offset, counts, told)?;
+    put_head(
+        rest,
+        place,
+        number,
+        values.local,
+        values.offset,
+        counts,
+        told,
+    )?;
     put_all_made(rest, values.fields.as_slice())?;
     put_all_made(rest, values.dev.as_slice())?;
     put_sized(text, rest.as_slice())
@@ -133,7 +141,15 @@ pub(crate) fn put_message(
     let counts = counts(&defined.definition);
     let number = number_at(numbers, message.local);
     rest.clear();
-    put_head(rest, place, number, message.local, message.offset, counts, told)?;
+    put_head(
+        rest,
+        place,
+        number,
+        message.local,
+        message.offset,
+        counts,
+        told,
+    )?;
     let back = put_all_read(rest, order, &defined.layout(), message.body)?;
     put_all_read(rest, order, &defined.dev_layout(), back)?;
     put_sized(text, rest.as_slice())

@@ -228,7 +228,14 @@ impl MessagesReport {
         let place = self.here();
         self.stream.take(record_)?;
         let local = definition.local;
-        put_taken(text, self.alloc, &self.stream, local, place, self.definitions)?;
+        put_taken(
+            text,
+            self.alloc,
+            &self.stream,
+            local,
+            place,
+            self.definitions,
+        )?;
         self.numbers[definition.local as usize] = self.definitions;
         self.definitions += 1;
         self.place = self.place.wrapping_add(u64::from(length));
@@ -254,7 +261,15 @@ impl MessagesReport {
         };
         let place = self.here();
         let number = number_at(&self.numbers, values.local);
-        put_values(text, &mut self.rest, &self.stream, values, told, place, number)?;
+        put_values(
+            text,
+            &mut self.rest,
+            &self.stream,
+            values,
+            told,
+            place,
+            number,
+        )?;
         self.stream.take(record_)?;
         self.place = self.place.wrapping_add(u64::from(length));
         Ok(())
@@ -271,7 +286,14 @@ impl MessagesReport {
             → text.new.items ≡ text.old.items ++ block_next self.old (events.item (Data v))) }
     {
         let place = self.here();
-        put_message(text, &mut self.rest, &self.stream, bytes, place, &self.numbers)?;
+        put_message(
+            text,
+            &mut self.rest,
+            &self.stream,
+            bytes,
+            place,
+            &self.numbers,
+        )?;
         self.stream.take_message(bytes)?;
         self.place = self.place.wrapping_add(bytes.len() as u64);
         Ok(())

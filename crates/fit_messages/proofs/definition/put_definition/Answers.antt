@@ -1,11 +1,11 @@
-use Rattle.std.proofs.Common.{◌≡◌, ◌∙◌, ℕ, List, ◌+◌, ◌++◌, ap, ap₂, length, map, sym}
+use Rattle.std.proofs.Common.{◌∙◌, ℕ, List, ◌+◌, ◌++◌, ap, ap₂, length, map, sym}
 use Rattle.std.proofs.lemmas.Result.{on_ok_weaker}
 use Rattle.std.specs.Prelude.{sum_by}
 use Rattle.fit_profile.specs.Described.{namings_at}
 use Rattle.fit_record.specs.Environment.{dev_defs}
 use Rattle.fit_record.specs.declared.definition.DevDef.{DevDef}
 use Rattle.fit_record.specs.declared.definition.FieldDef.{FieldDef}
-use Rattle.fit_messages.specs.Blocks.{column, columns, definition_head, entries, items_at, sized, whole}
+use Rattle.fit_messages.specs.Blocks.{column, columns, definition_head, entries, sized, whole}
 use Rattle.fit_messages.specs.inner.Columns.{dev_columns}
 use Rattle.fit_messages.proofs.EntryFacts.{both_entries}
 use Rattle.fit_messages.proofs.KnownDefinitions.{namings_long}

@@ -1,4 +1,4 @@
-use Rattle.std.proofs.Common.{◌∙◌, ◌++◌, ap, ap₂, arith, length, get_or}
+use Rattle.std.proofs.Common.{◌∙◌, ◌++◌, ap, ap₂, arith, get_or}
 use Rattle.std.proofs.lemmas.List.{take_all}
 use Rattle.std.specs.Prelude.{slice_get}
 use Rattle.fit_profile.specs.Described.{namings_at}

@@ -1,5 +1,5 @@
-use Rattle.std.proofs.Common.{◌≡◌, ◌∙◌, ◌+◌, ◌++◌, length, drop, ap, sym, arith}
-use Rattle.std.proofs.lemmas.List.{append-nil, length-drop, drop-drop}
+use Rattle.std.proofs.Common.{◌∙◌, ◌+◌, ◌++◌, length, drop, ap, sym, arith}
+use Rattle.std.proofs.lemmas.List.{length-drop, drop-drop}
 use Rattle.std.specs.Prelude.{flat_map}
 use Rattle.std.specs.Global.{Global}
 use Rattle.fit_record.proofs.FirstOfNumber.{dropped}

@@ -1,16 +1,14 @@
-use Rattle.std.proofs.Common.{◌≡◌, ◌∙◌, ◌++◌, [], ap, ap₂, arith, drop, get_or, refl, subst, sym, take}
+use Rattle.std.proofs.Common.{◌≡◌, ◌∙◌, ◌++◌, [], ap, ap₂, drop, get_or, subst, sym}
 use Rattle.std.proofs.lemmas.List.{append-nil}
 use Rattle.std.proofs.lemmas.Result.{on_ok_weaker}
 use Rattle.std.specs.Global.{Global}
 use Rattle.std.specs.Prelude.{flat_map}
-use Rattle.fit_profile.specs.Looks.{known}
 use Rattle.fit_profile.specs.Told.{told}
-use Rattle.fit_record.proofs.FoundMessages.{left_for_dev}
 use Rattle.fit_record.proofs.Gathering.{fields_front}
 use Rattle.fit_record.specs.Environment.{defined_at}
 use Rattle.fit_record.specs.MessageBytes.{message_in}
 use Rattle.fit_record.specs.ReadMessages.{fields_from}
-use Rattle.fit_record.specs.Records.{IsRecord, dev_layout, layout, sizes}
+use Rattle.fit_record.specs.Records.{IsRecord, layout, sizes}
 use Rattle.fit_record.specs.declared.message.Record.TheVariants.{Values as Data}
 use Rattle.fit_messages.specs.Blocks.{counts, message_after, message_head, sized, slot}
 use Rattle.fit_messages.proofs.MessageFacts.{message_is, parts_put}

@@ -1,4 +1,4 @@
-use Rattle.std.proofs.Common.{◌≡◌, ◌∙◌, ◌++◌, ap, ap₂, subst, sym, Some}
+use Rattle.std.proofs.Common.{◌∙◌, ◌++◌, ap, ap₂, sym}
 use Rattle.std.proofs.lemmas.Option.{none-some, same_Some}
 use Rattle.std.proofs.lemmas.Result.{on_ok_weaker}
 use Rattle.fit_profile.specs.Described.{namings_at}

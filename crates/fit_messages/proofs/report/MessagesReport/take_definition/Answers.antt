@@ -1,10 +1,8 @@
-use Rattle.std.proofs.Common.{◌≡◌, ◌∙◌, ◌++◌, ◌∷◌, ap, ap₂, refl, subst, sym, Some}
-use Rattle.std.specs.Global.{Global}
+use Rattle.std.proofs.Common.{◌∙◌, ◌++◌, ◌∷◌, ap, ap₂, refl, subst, sym}
 use Rattle.fit_profile.specs.Described.{namings_at}
 use Rattle.fit_profile.specs.Looks.{known}
-use Rattle.fit_record.specs.Environment.{Environment, defined_at, defined_by}
+use Rattle.fit_record.specs.Environment.{defined_at, defined_by}
 use Rattle.fit_record.specs.Records.{Fits}
-use Rattle.fit_record.specs.declared.message.Record.{Record}
 use Rattle.fit_messages.specs.Blocks.{definition_block}
 use Rattle.fit_messages.specs.Kept.{Kept}
 use Rattle.fit_messages.proofs.KnownDefinitions.{just_defined}

@@ -1,6 +1,4 @@
-use Rattle.std.proofs.Common.{◌≡◌, ◌∙◌, ◌<◌, ◌++◌, ap, subst, arith, take, reverse}
-use Rattle.std.specs.Global.{Global}
-use Rattle.fit_profile.specs.Looks.{known}
+use Rattle.std.proofs.Common.{◌≡◌, ◌∙◌, ◌<◌, ◌++◌, ap, arith, take, reverse}
 use Rattle.fit_chain.specs.Events.{item}
 use Rattle.fit_record.specs.declared.message.Record.TheVariants.{Values as Data}
 use Rattle.fit_messages.specs.Blocks.{event_block}

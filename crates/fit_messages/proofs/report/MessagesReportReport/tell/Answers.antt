@@ -1,12 +1,11 @@
-use Rattle.std.proofs.Common.{◌≡◌, ◌∙◌, ◌<◌, ◌^◌, ap, subst, sym}
+use Rattle.std.proofs.Common.{◌<◌, ◌^◌, ap, subst, sym}
 use Rattle.std.proofs.lemmas.Result.{on_ok_weaker}
 use Rattle.fit_chain.specs.Events.{file_end, header, item}
-use Rattle.fit_chain.specs.declared.event.Event.TheVariants as answers
 use Rattle.fit_decode.specs.Answers.{event_of}
 use Rattle.fit_profile.specs.Looks.{known}
 use Rattle.fit_record.specs.Records.{Fits}
 use Rattle.fit_report.specs.Heard.{AreHeard, hear}
-use Rattle.fit_messages.specs.Kept.{Kept, kept_events}
+use Rattle.fit_messages.specs.Kept.{Kept}
 use Rattle.fit_messages.proofs.ToldEvents.{few_definitions, few_files, record_fits, told_kept, told_text}
 use Rattle.fit_messages.proofs.report.MessagesReportReport.tell.Goals as goal
 
