@@ -1,7 +1,7 @@
 -- The lowest bytes of numbers, and bytes that are put.
 use Rattle.std.proofs.Common.{◌≡◌, ◌∙◌, ℕ, zero, suc, ◌*◌, ◌+◌, ◌/◌, ◌%◌, ◌^◌, ◌<◌, ◌≤◌, List, ◌∷◌, ◌++◌, refl, ap, ap₂, take, arith, append_assoc, lit<}
 use Rattle.std.proofs.Math.Arith.{mod-mul}
-use Rattle.fit_base.proofs.Common.{pow-suc}
+use Rattle.std.proofs.Math.Nat.{pow-suc}
 use Rattle.std.specs.Prelude.{Result, Ok, Err, OnOk, if◌then◌else◌}
 use Rattle.std.specs.Result.{is_ok}
 use Rattle.fit_base.specs.Numbers.{little_bytes}

@@ -3,7 +3,7 @@ use Rattle.std.proofs.Common.{◌≡◌, ◌∙◌, ℕ, zero, suc, ◌+◌, ◌
 use Rattle.std.proofs.lemmas.List.{append-nil, take_more, map-append}
 use Rattle.std.proofs.lemmas.Option.{slice_get-get_or}
 use Rattle.std.specs.Prelude.{Option, Some, None, option_and_then, slice_get, sum_by, unwrap_or}
-use Rattle.fit_record.proofs.Common.{sum_by-append, sum_by-cons}
+use Rattle.std.proofs.lemmas.List.Sums.{sum_by-append, sum_by-cons}
 use Rattle.fit_profile.specs.Described.{Naming, nameless}
 use Rattle.fit_record.specs.declared.definition.DevDef.{DevDef}
 use Rattle.fit_record.specs.declared.definition.FieldDef.{FieldDef}
@@ -151,5 +151,7 @@ pub both_entries : (start middle global : ℕ) (fields : List FieldDef) (devs : 
     → b2 ≡ entries start (map (column global) fields ++ devs)
 both_entries start middle global fields devs b0 b1 b2 none first far second =
     let columns = map (column global) fields in
-    second ∙ ap₂ (λ b m. b ++ entries m devs) (first ∙ ap (λ b. b ++ entries start columns) none) (far ∙ ap (λ n. start + n) (sym (widths_of_fields global fields)))
+    second
+    ∙ ap₂ (λ b m. b ++ entries m devs) (first ∙ ap (λ b. b ++ entries start columns) none)
+    (far ∙ ap (λ n. start + n) (sym (widths_of_fields global fields)))
     ∙ sym (entries-append start columns devs)

@@ -1,18 +1,18 @@
 -- The items of fields as a block has them.
-use Rattle.std.proofs.Common.{◌≡◌, ◌∙◌, ℕ, zero, suc, ◌+◌, ◌*◌, ◌/◌, ◌%◌, ◌^◌, ◌<◌, true, List, [], ◌∷◌, ◌++◌, length, take, drop, refl, sym, ap, ap₂, subst, arith, replicate}
+use Rattle.std.proofs.Common.{◌≡◌, ◌∙◌, ℕ, zero, suc, ◌+◌, ◌*◌, ◌/◌, ◌%◌, ◌^◌, ◌<◌, true, List, [], ◌∷◌, ◌++◌, length, take}
+use Rattle.std.proofs.Common.{drop, refl, sym, ap, ap₂, subst, arith, replicate, ltb}
 use Rattle.std.proofs.Common.{append_assoc}
 use Rattle.std.proofs.lemmas.List.{length-append, take-append-drop, length-take-le, length-drop, take_all, append-nil}
-use Rattle.fit_record.proofs.Common.{suc-mul}
 use Rattle.std.specs.Prelude.{◌==◌, flat_map, if◌then◌else◌}
 use Rattle.std.specs.Global.{Global}
 use Rattle.fit_base.proofs.Bytes.{length-little_bytes}
 use Rattle.fit_base.proofs.NumberLaws.{number-below, number_bytes-number}
 use Rattle.fit_base.proofs.Shapes.{item_width_divides}
 use Rattle.fit_base.proofs.Bytes.{found_passes}
-use Rattle.fit_base.proofs.Common.{ltb, base_type, base_types, byte, item_width, pow-suc}
+use Rattle.fit_base.specs.BaseTypes.{base_type, base_types, byte, item_width}
 use Rattle.fit_base.proofs.SameItems.{width_positive}
 use borrow.Author.Tests.{ltb-true}
-use Rattle.std.proofs.Math.Nat.{div_self, mod_self}
+use Rattle.std.proofs.Math.Nat.{div_self, mod_self, pow-suc, suc-mul}
 use Rattle.fit_base.specs.Numbers.{IsBytes, little_bytes, number}
 use Rattle.fit_base.proofs.ByteLists.{IsBytes-take, IsBytes-drop}
 use Rattle.fit_base.specs.declared.items.Items.{Items}

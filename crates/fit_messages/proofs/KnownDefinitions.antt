@@ -1,5 +1,6 @@
 -- What is known after records, and what they name.
-use Rattle.std.proofs.Common.{◌≡◌, ◌∙◌, ℕ, zero, suc, inl, inr, List, [], ◌∷◌, length, replicate, set, get_or, refl, sym, ap, true, false, subst, arith, eqb-true, eq-eqb, ◌<◌}
+use Rattle.std.proofs.Common.{◌≡◌, ◌∙◌, ℕ, zero, suc, inl, inr, List, [], ◌∷◌, length, replicate, set, get_or}
+use Rattle.std.proofs.Common.{refl, sym, ap, true, false, subst, arith, eqb-true, eq-eqb, ◌<◌}
 use Rattle.std.proofs.Common.{Option, Some, None, ◌==◌}
 use Rattle.std.proofs.lemmas.Bool.{cases_Bool, cases_lt}
 use Rattle.std.proofs.lemmas.List.{get_or_past, get_or-set_same, get_or-set_other, length-map, length-set}

@@ -1,7 +1,7 @@
 -- The blocks of data messages.
-use Rattle.std.proofs.Common.{◌≡◌, ◌∙◌, ℕ, zero, suc, ◌%◌, ◌<◌, ◌≤◌, List, [], ◌∷◌, ◌++◌, All, true, false, ap, sym, arith, subst, lit<}
+use Rattle.std.proofs.Common.{◌≡◌, ◌∙◌, ℕ, zero, suc, ◌%◌, ◌<◌, ◌≤◌, List, [], ◌∷◌, ◌++◌, All, true, false, ap, sym, arith, subst, lit<, cond}
 use Rattle.std.specs.Prelude.{◌==◌, IsSomeAnd, Some, option_map, unwrap_or}
-use Rattle.fit_base.proofs.Common.{cond, base_type, item_width}
+use Rattle.fit_base.specs.BaseTypes.{base_type, item_width}
 use Rattle.fit_base.specs.declared.items.Items.{Items}
 use Rattle.fit_record.specs.Environment.{Environment, defined_at}
 use Rattle.fit_record.specs.Records.{DataFits, Fits, HaveShape}

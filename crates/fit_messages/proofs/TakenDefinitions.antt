@@ -11,10 +11,10 @@ use Rattle.fit_record.specs.declared.definition.MessageDef.{MessageDef}
 use Rattle.fit_record.specs.declared.message.Record.{Record}
 use Rattle.fit_record.specs.declared.message.Record.TheVariants.{Define}
 use Rattle.fit_messages.specs.Blocks.{definition_block}
-use Rattle.fit_messages.specs.Kept.{Kept}
+use Rattle.fit_messages.specs.Kept.{KeptHeard}
 use Rattle.fit_messages.specs.inner.Telling.{block_next, kept_next}
 
-module _ (old_kept kept : Kept) (r : Record Global) (d : MessageDef Global) (stream : List (Record Global)) (view : old_kept ≡ kept) (same : r ≡ Define d)
+module _ (old_kept kept : KeptHeard) (r : Record Global) (d : MessageDef Global) (stream : List (Record Global)) (view : old_kept ≡ kept) (same : r ≡ Define d)
     (taken : stream ≡ r ∷ old_kept.records) where
   pub definition_kept : (n : ℕ) → n ≡ length (record_bytes (known old_kept.records) r)
       → record {
@@ -48,5 +48,6 @@ module _ (old_kept kept : Kept) (r : Record Global) (d : MessageDef Global) (str
   definition_told old new put =
       let next : stream ≡ Define d ∷ old_kept.records = taken ∙ ap (λ x. x ∷ old_kept.records) same in
       put
-      ∙ ap (λ xs. old ++ definition_block old_kept.files old_kept.place old_kept.definitions (defined_by (known old_kept.records) d) (namings_at xs d.local)) next
+      ∙ ap (λ xs. old ++ definition_block old_kept.files old_kept.place old_kept.definitions (defined_by (known old_kept.records) d)
+      (namings_at xs d.local)) next
       ∙ ap (λ x. old ++ block_next old_kept (item x)) (sym same) ∙ ap (λ k. old ++ block_next k (item r)) view

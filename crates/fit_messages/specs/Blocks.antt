@@ -63,9 +63,9 @@ abbrev pub front : ℕ → ℕ → ℕ → ℕ → ℕ → ℕ → ℕ → List 
 front kind a b c file n place = kind ∷ a ∷ b ∷ c ∷ low 4 file ++ low 4 n ++ low 8 place
 
 -- a bit that says whether there is something
-abbrev pub bit : {X : Type 0} → ℕ → Option X → ℕ
-bit weight None = 0
-bit weight (Some x) = weight
+abbrev pub flag : {X : Type 0} → ℕ → Option X → ℕ
+flag weight None = 0
+flag weight (Some x) = weight
 
 -- ---- headers and ends
 
@@ -155,27 +155,27 @@ abbrev pub counts : {A : Type 0} → MessageDef A → Bool
 counts d = d.global == 20 && list_any (λ f. is_counter f.number) d.fields
 
 -- where the items of a message begin in its block
-abbrev pub items_at : {A : Type 0} → MessageDef A → ℕ
-items_at d = 40 + (if counts d then 32 else 0)
+abbrev pub items_begin : {A : Type 0} → MessageDef A → ℕ
+items_begin d = 40 + (if counts d then 32 else 0)
 
 -- the length of the block of each message of a definition
 abbrev pub message_length : {A : Type 0} → MessageDef A → ℕ
-message_length d = items_at d + sum_by (λ f. whole f.size) d.fields + sum_by (λ f. whole f.size) (dev_defs d.dev)
+message_length d = items_begin d + sum_by (λ f. whole f.size) d.fields + sum_by (λ f. whole f.size) (dev_defs d.dev)
 
 -- which definition of the stream it is, of which message, how many fields and developer fields it has, and which parts its messages have
 abbrev pub counts_bytes : {A : Type 0} → ℕ → MessageDef A → List ℕ
 counts_bytes number d =
-    low 8 number ++ low 2 d.global ++ low 2 (length d.fields) ++ low 2 (length (dev_defs d.dev)) ++ low 2 (bit 1 d.dev + (if counts d then 2 else 0))
+    low 8 number ++ low 2 d.global ++ low 2 (length d.fields) ++ low 2 (length (dev_defs d.dev)) ++ low 2 (flag 1 d.dev + (if counts d then 2 else 0))
 
 -- what stands before the entries of a definition
-abbrev pub definition_head : {A : Type 0} → ℕ → ℕ → ℕ → MessageDef A → List ℕ
-definition_head file place number d =
+abbrev pub definition_opening : {A : Type 0} → ℕ → ℕ → ℕ → MessageDef A → List ℕ
+definition_opening file place number d =
     front 2 d.local (architecture d.order) d.reserved file (message_length d) place ++ counts_bytes number d ++ text (unwrap_or (message_name d.global) [])
 
 -- a definition, which is this one of the stream
 abbrev pub definition_block : {A : Type 0} → ℕ → ℕ → ℕ → Defined A → List Naming → List ℕ
 definition_block file place number p namings =
-    sized (definition_head file place number p.definition ++ entries (items_at p.definition) (columns p namings))
+    sized (definition_opening file place number p.definition ++ entries (items_begin p.definition) (columns p namings))
 
 -- ---- messages
 
@@ -185,7 +185,7 @@ slot items = rounded (items_bytes Little items)
 
 -- what is told of a message
 abbrev pub told_bits : Told → ℕ
-told_bits t = bit 1 t.time + bit 2 t.header_time + bit 4 t.speed + bit 8 t.distance + bit 16 t.total_cycles + bit 32 t.accumulated_power
+told_bits t = flag 1 t.time + flag 2 t.header_time + flag 4 t.speed + flag 8 t.distance + flag 16 t.total_cycles + flag 32 t.accumulated_power
 
 -- the greatest number of eight bytes, which stands for none
 abbrev pub none : ℕ
@@ -215,10 +215,10 @@ message_after before file place number v =
 -- ---- events, the latest first
 
 -- how many files have begun
-abbrev pub files_heard : {A : Type 0} → List (Event A) → ℕ
-files_heard [] = 0
-files_heard (header h n ∷ heard) = files_heard heard + 1
-files_heard (x ∷ heard) = files_heard heard
+abbrev pub begun_files : {A : Type 0} → List (Event A) → ℕ
+begun_files [] = 0
+begun_files (header h n ∷ heard) = begun_files heard + 1
+begun_files (x ∷ heard) = begun_files heard
 
 -- how many definitions have come
 abbrev pub definitions_heard : {A : Type 0} → List (Event A) → ℕ
@@ -245,10 +245,10 @@ bytes_heard (x ∷ heard) = bytes_heard heard + event_length heard x
 
 -- The block of an event after those before it.
 abbrev pub event_block : {A : Type 0} → Lines A
-event_block heard (header h n) = header_block (files_heard heard + 1) (bytes_heard heard) h n
+event_block heard (header h n) = header_block (begun_files heard + 1) (bytes_heard heard) h n
 event_block heard (item (Define d)) =
     let before = latest_records heard in
-    definition_block (files_heard heard) (bytes_heard heard) (definitions_heard heard) (defined_by (known before) d) (namings_at (Define d ∷ before) d.local)
+    definition_block (begun_files heard) (bytes_heard heard) (definitions_heard heard) (defined_by (known before) d) (namings_at (Define d ∷ before) d.local)
 event_block heard (item (Data v)) =
-    message_after (latest_records heard) (files_heard heard) (bytes_heard heard) (slice_index_or (numbers_heard heard) v.local 0) v
-event_block heard file_end = end_block (files_heard heard) (bytes_heard heard)
+    message_after (latest_records heard) (begun_files heard) (bytes_heard heard) (slice_index_or (numbers_heard heard) v.local 0) v
+event_block heard file_end = end_block (begun_files heard) (bytes_heard heard)

@@ -4,11 +4,11 @@ use Rattle.std.specs.Global.{Global}
 use Rattle.fit_record.specs.declared.message.Record.{Record}
 use Rattle.fit_chain.specs.Events.{Event}
 use Rattle.fit_report.specs.Heard.{latest_records}
-use Rattle.fit_messages.specs.Blocks.{bytes_heard, definitions_heard, files_heard, numbers_heard}
+use Rattle.fit_messages.specs.Blocks.{bytes_heard, definitions_heard, begun_files, numbers_heard}
 
 -- the records of the file that was begun last, the latest first; how many files have begun, and how many definitions have come; for
 -- each local message type, how many had come before its own; and how many bytes there were, of which eight bytes are kept
-pub record Kept : Type 0 where
+pub record KeptHeard : Type 0 where
   pub records : List (Record Global)
   pub files : ℕ
   pub definitions : ℕ
@@ -16,10 +16,10 @@ pub record Kept : Type 0 where
   pub place : ℕ
 
 -- of these events, the latest first
-abbrev pub kept_events : List (Event Global) → Kept
-kept_events heard = record {
+abbrev pub kept_heard : List (Event Global) → KeptHeard
+kept_heard heard = record {
   records = latest_records heard;
-  files = files_heard heard;
+  files = begun_files heard;
   definitions = definitions_heard heard;
   numbers = numbers_heard heard;
   place = bytes_heard heard % 2 ^ 64;

@@ -171,7 +171,8 @@ fn put_entry(
 /// Puts the eight bytes of an entry that say what its items are.
 fn put_kind(bytes: &mut Vec<u8>, column: Column<'_>) -> Result<(), AllocError>
     requires { IsScale column.scale }
-    ensures { OnOk result (bytes.new.items ≡ bytes.old.items ++ blocks.kind_bytes (said column.entry)) }
+    ensures { OnOk result (bytes.new.items
+        ≡ bytes.old.items ++ blocks.kind_bytes (said column.entry)) }
 {
     let width = width_of(Code(column.code), column.size);
     let kind = [
@@ -267,8 +268,8 @@ pub(crate) fn counts(definition: &MessageDef) -> bool
 }
 
 /// Where the items of its messages begin in their blocks.
-fn items_at(definition: &MessageDef) -> u64
-    ensures place { result ≡ blocks.items_at definition.now }
+fn items_begin(definition: &MessageDef) -> u64
+    ensures place { result ≡ blocks.items_begin definition.now }
     ensures small { result ≤ 72 }
 {
     if counts(definition) { 72 } else { 40 }
@@ -294,7 +295,8 @@ fn put_head(
 ) -> Result<(), AllocError>
     requires { length ≡ blocks.message_length definition.now }
     ensures { OnOk result (bytes.new.items
-        ≡ bytes.old.items ++ blocks.definition_head place.file place.place number definition.now) }
+        ≡ bytes.old.items
+        ++ blocks.definition_opening place.file place.place number definition.now) }
 {
     put_front(
         bytes,
@@ -326,7 +328,7 @@ fn put_counts(bytes: &mut Vec<u8>, definition: &MessageDef, number: u64) -> Resu
 
 /// Which parts the messages of a definition have besides their fields.
 fn parts(definition: &MessageDef) -> u64
-    ensures { result ≡ blocks.bit 1 definition.now.dev
+    ensures { result ≡ blocks.flag 1 definition.now.dev
         + (if blocks.counts definition.now then 2 else 0) }
 {
     let dev = if definition.dev.is_some() { 1 } else { 0 };
@@ -351,7 +353,7 @@ pub(crate) fn put_definition(
         (namings_at stream.now defined.now.definition.local)) }
 {
     let definition = &defined.definition;
-    let start = items_at(definition);
+    let start = items_begin(definition);
     let mut texts = Vec::new(alloc);
     let mut entries = Vec::new(alloc);
     let fields = definition.fields.as_slice();

@@ -19,7 +19,7 @@ use std::alloc::AllocError;
 /// A bit that says whether there is something.
 #[inline(always)]
 fn bit<T: Copy>(weight: u8, option: Option<T>) -> u8
-    ensures { result ≡ blocks.bit weight option }
+    ensures { result ≡ blocks.flag weight option }
 {
     match option {
         Some(_) => weight,

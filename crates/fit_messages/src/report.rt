@@ -10,7 +10,7 @@ ghost use Rattle.fit_record.specs.declared.message.Record.TheVariants.{Define, V
 ghost use Rattle.fit_record.specs.declared.message.Values.{Values};
 ghost use Rattle.fit_chain.specs.Events as events;
 ghost use Rattle.fit_messages.specs.Blocks as blocks;
-ghost use Rattle.fit_messages.specs.Kept.{kept_events};
+ghost use Rattle.fit_messages.specs.Kept.{kept_heard};
 ghost use Rattle.fit_messages.specs.inner.Telling.{block_next, kept_next};
 
 use crate::bytes::{Front, Place, put_front, put_number, put_rounded, put_sized};
@@ -43,9 +43,9 @@ pub struct MessagesReport {
 }
 
 impl Model for MessagesReport {
-    ghost use Rattle.fit_messages.specs.Kept.{Kept};
+    ghost use Rattle.fit_messages.specs.Kept.{KeptHeard};
 
-    ghost Value = { Kept };
+    ghost Value = { KeptHeard };
 
     ghost view = { λ r. record {
       records = r.stream;
@@ -59,7 +59,7 @@ impl Model for MessagesReport {
 impl MessagesReport {
     /// It has heard nothing.
     pub fn new(alloc: Global) -> Self
-        ensures { result ≡ kept_events [] }
+        ensures { result ≡ kept_heard [] }
     {
         MessagesReport {
             stream: Stream::new(alloc),
@@ -302,9 +302,9 @@ impl MessagesReport {
 
 impl Report for MessagesReport {
     ghost use Rattle.fit_messages.specs.Blocks.{event_block};
-    ghost use Rattle.fit_messages.specs.Kept.{kept_events};
+    ghost use Rattle.fit_messages.specs.Kept.{kept_heard};
 
-    ghost has_heard = { λ r heard. r ≡ kept_events heard };
+    ghost has_heard = { λ r heard. r ≡ kept_heard heard };
 
     ghost line = { event_block };
 

@@ -11,7 +11,7 @@ use Rattle.fit_chain.specs.declared.event.Event.TheVariants as answers
 use Rattle.fit_profile.specs.Described.{namings_at}
 use Rattle.fit_profile.specs.Looks.{known}
 use Rattle.fit_messages.specs.Blocks.{definition_block, end_block, header_block, message_after}
-use Rattle.fit_messages.specs.Kept.{Kept}
+use Rattle.fit_messages.specs.Kept.{KeptHeard}
 
 -- the record of an answer fits after these records
 abbrev pub AnswerFits : {A : Type 0} → List (Record A) → Answer A → Type 0
@@ -23,7 +23,7 @@ abbrev pub later : ℕ → ℕ → ℕ
 later place n = (place + n) % 2 ^ 64
 
 -- what is kept after an event
-abbrev pub kept_next : Kept → Event Global → Kept
+abbrev pub kept_next : KeptHeard → Event Global → KeptHeard
 kept_next k (header h n) = record k { records = []; files = k.files + 1; place = later k.place h.size }
 kept_next k (item (Define d)) = record k {
   records = Define d ∷ k.records;
@@ -38,7 +38,7 @@ kept_next k (item (Data v)) = record k {
 kept_next k file_end = record k { place = later k.place 2 }
 
 -- the block of an event by what is kept
-abbrev pub block_next : Kept → Event Global → List ℕ
+abbrev pub block_next : KeptHeard → Event Global → List ℕ
 block_next k (header h n) = header_block (k.files + 1) k.place h n
 block_next k (item (Define d)) =
     definition_block k.files k.place k.definitions (defined_by (known k.records) d) (namings_at (Define d ∷ k.records) d.local)

@@ -5,7 +5,7 @@ use Rattle.fit_profile.specs.Described.{namings_at}
 use Rattle.fit_record.specs.Environment.{dev_defs}
 use Rattle.fit_record.specs.declared.definition.DevDef.{DevDef}
 use Rattle.fit_record.specs.declared.definition.FieldDef.{FieldDef}
-use Rattle.fit_messages.specs.Blocks.{column, columns, definition_head, entries, sized, whole}
+use Rattle.fit_messages.specs.Blocks.{column, columns, definition_opening, entries, sized, whole}
 use Rattle.fit_messages.specs.inner.Columns.{dev_columns}
 use Rattle.fit_messages.proofs.EntryFacts.{both_entries}
 use Rattle.fit_messages.proofs.KnownDefinitions.{namings_long}
@@ -19,7 +19,7 @@ pub put_head-requires : goal.put_head-requires
 put_head-requires c =
     c.in_ok-end.ensures.end
     ∙ ap₂ (λ m fs. m + sum_by (λ (f : DevDef). whole f.size) fs)
-    (c.in_ok-middle.ensures.end ∙ ap₂ (λ s fs. s + sum_by (λ (f : FieldDef). whole f.size) fs) c.items_at-start.ensures.place c.as_slice-fields.ensures)
+    (c.in_ok-middle.ensures.end ∙ ap₂ (λ s fs. s + sum_by (λ (f : FieldDef). whole f.size) fs) c.items_begin-start.ensures.place c.as_slice-fields.ensures)
     c.dev_slice-dev.ensures
 
 pub returns : goal.returns
@@ -30,16 +30,16 @@ returns c = on_ok_weaker c.put_sized.result (λ put.
     let b0 = c.new-entries.result.items in
     let b1 = c.put_fields.new.bytes.items in
     let b2 = c.put_devs.new.bytes.items in
-    let start = c.items_at-start.result in
+    let start = c.items_begin-start.result in
     let middle = c.in_ok-middle.middle in
     let old = c.args.text.now.items in
-    let head = definition_head c.args.place.file c.args.place.place c.args.number d in
+    let head = definition_opening c.args.place.file c.args.place.place c.args.number d in
     let made = both_entries start middle d.global d.fields (dev_columns (dev_defs d.dev) p.dev_codes namings) b0 b1 b2 c.new-entries.ensures.items
     (c.in_ok-middle.ensures.entries ∙ ap (λ fs. b0 ++ entries start (map (column d.global) fs)) c.as_slice-fields.ensures)
     (c.in_ok-middle.ensures.end ∙ ap (λ fs. start + sum_by (λ (f : FieldDef). whole f.size) fs) c.as_slice-fields.ensures)
     (c.in_ok-end.ensures.entries
     ∙ ap₂ (λ fs coded. b1 ++ entries middle (dev_columns fs coded namings)) c.dev_slice-dev.ensures c.as_slice-codes.ensures) in
-    let all = made ∙ ap (λ s. entries s (columns p namings)) c.items_at-start.ensures.place in
+    let all = made ∙ ap (λ s. entries s (columns p namings)) c.items_begin-start.ensures.place in
     let rest = c.in_ok-extend_from_slice.ensures.items
     ∙ ap₂ (λ (a b : List ℕ). a ++ b) (c.in_ok-put_head.ensures ∙ ap (λ b. b ++ head) c.new-rest.ensures.items) (c.as_slice.ensures.value ∙ all) in
     put ∙ ap (λ b. old ++ sized b) (c.as_slice-2.ensures.value ∙ rest)) c.put_sized.ensures

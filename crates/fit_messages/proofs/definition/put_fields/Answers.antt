@@ -16,7 +16,8 @@ loop-field-preserved c =
     let end = c.loop-field.end in
     record {
       told = field_told c.args.global c.args.at fields k none c.args.bytes.now.items bytes c.put_entry.new.bytes.items end c.loop-field-test.true
-          c.loop-field.invariant.told c.loop-field.invariant.far (c.in_ok-put_entry.ensures ∙ ap (λ column. bytes ++ entry end column) c.field_column.ensures.same);
+          c.loop-field.invariant.told c.loop-field.invariant.far
+          (c.in_ok-put_entry.ensures ∙ ap (λ column. bytes ++ entry end column) c.field_column.ensures.same);
       far = omega (
         arith,
         c.loop-field.invariant.far,

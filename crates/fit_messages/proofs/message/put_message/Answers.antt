@@ -41,8 +41,10 @@ returns c = on_ok_weaker c.put_sized.result (λ put v is_record.
     ∙ ap (λ items. b1 ++ flat_map slot items) (fields_front {A = Global} o (layout p) body) in
     let after_ = c.in_ok-back.ensures.1 ∙ ap (λ l. drop (sizes l) body) c.layout.ensures.slots in
     let dev = c.in_ok-put_all_read.ensures.0 ∙ ap₂ (λ l rest. b2 ++ flat_map slot (fields_from {A = Global} o l rest)) c.dev_layout.ensures.slots after_ in
-    let rest = parts_put (message_head file place number m.local m.offset (counts p.definition) (told before w)) (flat_map slot w.fields) (flat_map slot w.dev) c.clear.new.self.items b1 b2 c.put_all_read-2.new.bytes.items c.clear.ensures.items
-    (c.in_ok-put_head.ensures ∙ ap (λ n. c.clear.new.self.items ++ message_head file place n m.local m.offset c.counts-counts.result c.message_told-told.result)
+    let rest = parts_put (message_head file place number m.local m.offset (counts p.definition) (told before w)) (flat_map slot w.fields)
+    (flat_map slot w.dev) c.clear.new.self.items b1 b2 c.put_all_read-2.new.bytes.items c.clear.ensures.items
+    (c.in_ok-put_head.ensures
+    ∙ ap (λ n. c.clear.new.self.items ++ message_head file place n m.local m.offset c.counts-counts.result c.message_told-told.result)
     c.number_at-number.ensures
     ∙ ap₂ (λ counted t. c.clear.new.self.items ++ message_head file place number m.local m.offset counted t) c.counts-counts.ensures told_)
     fields dev in

@@ -5,7 +5,7 @@ use Rattle.fit_decode.specs.Answers.{event_of}
 use Rattle.fit_profile.specs.Looks.{known}
 use Rattle.fit_record.specs.Records.{Fits}
 use Rattle.fit_report.specs.Heard.{AreHeard, hear}
-use Rattle.fit_messages.specs.Kept.{Kept}
+use Rattle.fit_messages.specs.Kept.{KeptHeard}
 use Rattle.fit_messages.proofs.ToldEvents.{few_definitions, few_files, record_fits, told_kept, told_text}
 use Rattle.fit_messages.proofs.report.MessagesReportReport.tell.Goals as goal
 
@@ -15,7 +15,7 @@ take_header-requires c =
     let h = header c.in-Header.header c.in-Header.size in
     let are = subst (λ a. AreHeard (hear a heard)) c.in-Header.is c.requires.2 in
     record {
-      few = subst (λ n. n < 2 ^ 60) (sym (ap (λ (k : Kept). k.files) c.requires.1)) (few_files c.heard_are_few.ensures heard h are);
+      few = subst (λ n. n < 2 ^ 60) (sym (ap (λ (k : KeptHeard). k.files) c.requires.1)) (few_files c.heard_are_few.ensures heard h are);
     }
 
 pub take_definition-requires-clause-fits : goal.take_definition-requires-clause-fits
@@ -23,21 +23,22 @@ take_definition-requires-clause-fits c =
     let heard = c.requires.0 in
     let r = c.in-Item.record_ in
     let are = subst (λ a. AreHeard (hear a heard)) c.in-Item.is c.requires.2 in
-    subst (λ before. Fits (known before) r) (sym (ap (λ (k : Kept). k.records) c.requires.1))
+    subst (λ before. Fits (known before) r) (sym (ap (λ (k : KeptHeard). k.records) c.requires.1))
     (record_fits c.heard_records_fit.ensures c.looking_back_is_learning.ensures heard r are)
 
 pub take_definition-requires-clause-few : goal.take_definition-requires-clause-few
 take_definition-requires-clause-few c =
     let heard = c.requires.0 in
     let are = subst (λ a. AreHeard (hear a heard)) c.in-Item.is c.requires.2 in
-    subst (λ n. n < 2 ^ 60) (sym (ap (λ (k : Kept). k.definitions) c.requires.1)) (few_definitions c.heard_are_few.ensures heard (item c.in-Item.record_) are)
+    subst (λ n. n < 2 ^ 60) (sym (ap (λ (k : KeptHeard). k.definitions) c.requires.1))
+    (few_definitions c.heard_are_few.ensures heard (item c.in-Item.record_) are)
 
 pub take_values-requires-clause-fits : goal.take_values-requires-clause-fits
 take_values-requires-clause-fits c =
     let heard = c.requires.0 in
     let r = c.in-Item.record_ in
     let are = subst (λ a. AreHeard (hear a heard)) c.in-Item.is c.requires.2 in
-    subst (λ before. Fits (known before) r) (sym (ap (λ (k : Kept). k.records) c.requires.1))
+    subst (λ before. Fits (known before) r) (sym (ap (λ (k : KeptHeard). k.records) c.requires.1))
     (record_fits c.heard_records_fit.ensures c.looking_back_is_learning.ensures heard r are)
 
 pub returns-in-Header-clause-heard : goal.returns-in-Header-clause-heard

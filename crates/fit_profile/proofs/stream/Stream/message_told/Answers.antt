@@ -13,5 +13,6 @@ pub returns : goal.returns
 returns c v read =
     let s = c.self.inside in
     let is = kept-record c.args.self.now (Data v) c.args.bytes.now c.self.invariant.0 c.self.view_is read in
-    same_Some _ _ (told-now s.env s.last s.names (reverse s.pushed.items) c.args.self.now (Data v) (Some c.told_in.result) c.self.invariant.0 c.self.view_is read.0
+    same_Some _ _
+    (told-now s.env s.last s.names (reverse s.pushed.items) c.args.self.now (Data v) (Some c.told_in.result) c.self.invariant.0 c.self.view_is read.0
     (sym (c.told_in.ensures v is)))
