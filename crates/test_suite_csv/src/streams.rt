@@ -24,7 +24,7 @@ fn define(
 }
 
 /// A data message of these fields, each of a width and its items.
-fn data(
+pub(crate) fn data(
     alloc: Global,
     local: u8,
     offset: Option<u8>,

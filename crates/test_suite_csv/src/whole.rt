@@ -1,12 +1,15 @@
 //! Records that are read whole from their rows.
-use crate::streams::pushed;
+use crate::streams::{data, push_definition, pushed};
+use fit_base::Order;
+use fit_base::base_type::UINT8;
 use fit_decode::read_one;
 use fit_profile::Stream;
-use fit_record::{Record, Values};
+use fit_record::{FieldDef, Record, Values};
 use fit_rows::MessageReader;
 use std::alloc::Global;
 use std::process::Abort;
 use test_known::fields::{kinds, two_fields};
+use test_known::protocol::{DEVELOPER_DATA_INDEX, FIELD_DESCRIPTION};
 use test_known::{FIRST_ROW, Known, files};
 
 /// What comes after the first line and the row of the header in a text.
@@ -62,20 +65,6 @@ fn no_message(rt: &impl Abort, reader: &mut MessageReader, before: &Stream, text
     assert!(rt; matches!(found, Ok(None)));
 }
 
-/// Asserts that a data message is found where the text ends with its rows, too: a guess looks at more bytes than a short last cell has.
-fn at_the_end(
-    rt: &impl Abort,
-    reader: &mut MessageReader,
-    before: &Stream,
-    values: &Values,
-    text: &[u8],
-    left: &[u8],
-) {
-    let rows = text.get(..text.len() - left.len()).unwrap_or_default();
-    let after = after_message(rt, reader, before, values, rows);
-    assert!(rt; after.is_empty());
-}
-
 /// Asserts that the records of the first file are read one by one from its text.
 fn read_whole(rt: &impl Abort, alloc: Global, known: &Known) {
     let mut source = known.bytes;
@@ -90,7 +79,6 @@ fn read_whole(rt: &impl Abort, alloc: Global, known: &Known) {
             Record::Values(values) => {
                 let after = after_message(rt, &mut reader, &stream, values, text);
                 assert_eq!(rt; after, left);
-                at_the_end(rt, &mut reader, &stream, values, text, left);
             }
         }
         pushed(rt, &mut stream, record_);
@@ -107,6 +95,29 @@ fn each_record_of_known_texts(rt: HostRuntime) {
     for known in [two_fields(), kinds()] {
         read_whole(&rt, rt.alloc(), &known);
     }
+}
+
+/// A guess looks at eight bytes for a number. Where the text ends before that, the message is found all the same.
+#[test]
+fn short_number_at_the_end(rt: HostRuntime) {
+    let alloc = rt.alloc();
+    let fields = [FieldDef::one(DEVELOPER_DATA_INDEX, UINT8)];
+    let mut stream = Stream::new(alloc);
+    let order = Order::Little;
+    push_definition(
+        &rt,
+        alloc,
+        &mut stream,
+        0,
+        order,
+        FIELD_DESCRIPTION,
+        &fields,
+    );
+    let message = data(alloc, 0, None, &[(1, &[5])]).expect(&rt, "memory");
+    let text = "data,0,,field_description,,,\nfield,developer_data_index,5,,,,\n";
+    let mut reader = MessageReader::new(alloc);
+    let left = after_record(&rt, &mut reader, &stream, &message, text.as_bytes());
+    assert!(rt; left.is_empty());
 }
 
 /// A text that begins with no rows of a record has none.
