@@ -7,4 +7,4 @@ mod texts;
 
 pub use answer::FitAnswer;
 pub use check::gazhdor_check;
-pub use texts::{gazhdor_from_csv, gazhdor_show, gazhdor_table, gazhdor_to_csv};
+pub use texts::{gazhdor_from_csv, gazhdor_messages, gazhdor_show, gazhdor_table, gazhdor_to_csv};

@@ -9,6 +9,7 @@ ghost use Rattle.fit_report.specs.Heard.{text_of};
 ghost use Rattle.fit_cells.specs.Rows.{csv_text};
 ghost use Rattle.fit_rows.specs.ChainRows.{chain_rows, rows_of};
 ghost use Rattle.fit_csv.specs.FromText.{IsTextOf};
+ghost use Rattle.fit_messages.specs.Blocks.{event_block};
 ghost use Rattle.fit_rows.specs.ShowLines.{show_line};
 ghost use Rattle.fit_rows.specs.Table.{table_of};
 ghost use Rattle.fit_c.specs.Answers.{IsConverted, IsReported, IsTextRead, IsTextUnlessNoMemory};
@@ -17,7 +18,8 @@ use crate::FitAnswer;
 use crate::answer::{answer_for_conversion, answer_for_report};
 use fit_csv::{ShowReport, from_csv, table, to_csv};
 use fit_encode::WriteSink;
-use fit_report::report;
+use fit_messages::MessagesReport;
+use fit_report::{Report, report};
 use std::alloc::Global;
 
 /// A sink that keeps its bytes in memory, and has none yet.
@@ -73,6 +75,27 @@ pub extern "C" fn gazhdor_to_csv(alloc: Global, bytes: &[u8], text: &mut &'stati
     answer_for_conversion(answered)
 }
 
+/// What a report of a chain of files puts, for good. Where the bytes are none, it is that of the events before the fault.
+fn reported<R: Report>(
+    alloc: Global,
+    bytes: &[u8],
+    reporter: &mut R,
+    text: &mut &'static [u8],
+) -> FitAnswer
+    requires { R.has_heard reporter.old [] }
+    ensures reported { IsReported R.line bytes.now result text.new.now }
+    ensures good { result.status ≡ 0 → AreChain Global bytes.now }
+    ensures chain { (fs : List (FitFile Global)) → IsChain chain_limit fs bytes.now
+        → IsTextUnlessNoMemory (text_of R.line (reverse (flat_map file_events fs)))
+        result text.new.now }
+{
+    let mut source = bytes;
+    let mut sink = memory(alloc);
+    let answered = report(alloc, &mut source, &mut sink, reporter);
+    *text = handed(sink);
+    answer_for_report(answered)
+}
+
 /// The lines of `fit show` of a chain of files, without the last. Where the bytes are none, the text has the lines before the fault.
 #[unsafe(no_mangle)]
 pub extern "C" fn gazhdor_show(alloc: Global, bytes: &[u8], text: &mut &'static [u8]) -> FitAnswer
@@ -82,11 +105,23 @@ pub extern "C" fn gazhdor_show(alloc: Global, bytes: &[u8], text: &mut &'static 
         → IsTextUnlessNoMemory (text_of show_line (reverse (flat_map file_events fs)))
         result text.new.now }
 {
-    let mut source = bytes;
-    let mut sink = memory(alloc);
-    let answered = report(alloc, &mut source, &mut sink, &mut ShowReport::new(alloc));
-    *text = handed(sink);
-    answer_for_report(answered)
+    reported(alloc, bytes, &mut ShowReport::new(alloc), text)
+}
+
+/// The blocks of the events of a chain of files (`docs/BLOCKS.md`). Where the bytes are none, they are those before the fault.
+#[unsafe(no_mangle)]
+pub extern "C" fn gazhdor_messages(
+    alloc: Global,
+    bytes: &[u8],
+    blocks: &mut &'static [u8],
+) -> FitAnswer
+    ensures reported { IsReported event_block bytes.now result blocks.new.now }
+    ensures good { result.status ≡ 0 → AreChain Global bytes.now }
+    ensures chain { (fs : List (FitFile Global)) → IsChain chain_limit fs bytes.now
+        → IsTextUnlessNoMemory (text_of event_block (reverse (flat_map file_events fs)))
+        result blocks.new.now }
+{
+    reported(alloc, bytes, &mut MessagesReport::new(alloc), blocks)
 }
 
 /// The bytes of the chain of files whose rows are those of a text. No bytes where the text is refused, and none where memory is.
