@@ -4,6 +4,7 @@ pub mod ItemFacts
 pub mod EntryFacts
 pub mod KnownDefinitions
 pub mod MessageFacts
+pub mod SheetFacts
 mod SkippedMessages
 pub mod ToldEvents
 pub mod TakenDefinitions

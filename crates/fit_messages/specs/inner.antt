@@ -1,3 +1,4 @@
 -- Definitions that no public contract cites: what private functions and proofs need.
 pub mod Columns
+pub mod Sheets
 pub mod Telling

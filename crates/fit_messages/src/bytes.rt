@@ -30,7 +30,7 @@ pub(crate) struct Front {
 }
 
 /// The eight bytes of a number, the lowest first.
-fn eight_bytes(number: u64) -> [u8; 8]
+pub(crate) fn eight_bytes(number: u64) -> [u8; 8]
     ensures { result ≡ little_bytes 8 number }
 {
     number.to_le_bytes()

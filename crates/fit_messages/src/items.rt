@@ -4,8 +4,10 @@ ghost use Rattle.std.specs.Global.{Global};
 ghost use Rattle.fit_record.specs.ReadMessages.{field_from, fields_from, numbers_of};
 ghost use Rattle.fit_record.specs.Records.{sizes};
 ghost use Rattle.fit_messages.specs.Blocks.{low, slot};
+ghost use Rattle.fit_messages.specs.inner.Sheets.{with_sheet};
 
 use crate::bytes::{put_gap, put_number, put_rounded};
+use crate::sheet::{Sheet, make_room, put_sheet, write_low};
 use fit_base::{Code, Items, Order, bits_at, width_of};
 use fit_record::Layout;
 use std::alloc::AllocError;
@@ -82,44 +84,59 @@ fn put_several(
     }
 }
 
-/// Puts the items of a field by its bytes. One number is put with its zeros at once.
+/// Adds the items of a field by its bytes to what is written in a sheet. One number is written with its zeros. Returns the place after
+/// them.
 #[inline(always)]
-fn put_read(
+fn add_read(
     bytes: &mut Vec<u8>,
+    sheet: &mut Sheet,
+    at: usize,
     order: Order,
     code: u8,
     size: u8,
     field: &[u8],
-) -> Result<(), AllocError>
-    requires { length field.now ≡ size }
-    ensures { OnOk result (bytes.new.items
-        ≡ bytes.old.items ++ slot (field_from {A = Global} order (code, size) field.now)) }
+) -> Result<usize, AllocError>
+    requires place { at ≤ 512 }
+    requires length { length field.now ≡ size }
+    ensures place { IfOk result (λ end. end ≤ 512) }
+    ensures text { IfOk result (λ end. with_sheet bytes.new.items sheet.new end
+        ≡ with_sheet bytes.old.items sheet.old at
+        ++ slot (field_from {A = Global} order (code, size) field.now)) }
 {
     if Code(code).width() == size {
-        return put_number(bytes, 8, bits_at(order, size, field));
+        let at = make_room(bytes, sheet, at)?;
+        return Ok(write_low(sheet, at, 8, bits_at(order, size, field)));
     }
-    put_several(bytes, order, code, size, field)
+    put_sheet(bytes, sheet, at)?;
+    put_several(bytes, order, code, size, field)?;
+    Ok(0)
 }
 
-/// Puts the items of fields by their bytes. Returns the bytes after them.
+/// Adds the items of fields by their bytes to what is written in a sheet. Returns the place after them, and the bytes after theirs.
 #[inline(always)]
-pub(crate) fn put_all_read<'a>(
+pub(crate) fn add_all_read<'a>(
     bytes: &mut Vec<u8>,
+    sheet: &mut Sheet,
+    start: usize,
     order: Order,
     layout: &Layout<'_>,
     body: &'a [u8],
-) -> Result<&'a [u8], AllocError>
-    requires { sizes layout.now ≤ length body.now }
-    ensures { IfOk result (λ rest. (bytes.new.items ≡ bytes.old.items
-        ++ flat_map slot (fields_from {A = Global} order layout.now body.now))
-        × (rest.now ≡ drop (sizes layout.now) body.now)) }
+) -> Result<(usize, &'a [u8]), AllocError>
+    requires place { start ≤ 512 }
+    requires size { sizes layout.now ≤ length body.now }
+    ensures place { IfOk result (λ r. r.0 ≤ 512) }
+    ensures text { IfOk result (λ r. with_sheet bytes.new.items sheet.new r.0
+        ≡ with_sheet bytes.old.items sheet.old start
+        ++ flat_map slot (fields_from {A = Global} order layout.now body.now)) }
+    ensures rest { IfOk result (λ r. r.1.now ≡ drop (sizes layout.now) body.now) }
 {
     let mut rest = body;
+    let mut at = start;
     for place in 0..layout.len() {
         let (code, size) = layout.slot(place);
         let (here, after) = rest.split_at(size as usize);
-        put_read(bytes, order, code, size, here)?;
+        at = add_read(bytes, sheet, at, order, code, size, here)?;
         rest = after;
     }
-    Ok(rest)
+    Ok((at, rest))
 }

@@ -6,5 +6,6 @@ mod definition;
 mod items;
 mod message;
 mod report;
+mod sheet;
 
 pub use report::MessagesReport;

@@ -1,5 +1,5 @@
 //! The blocks of data messages.
-ghost use Rattle.std.specs.Prelude.{◌≡◌, ◌++◌, [], if◌then◌else◌, IsSomeAnd, OnOk, Some, slice_index_or, unwrap_or};
+ghost use Rattle.std.specs.Prelude.{◌≡◌, ◌≤◌, ◌+◌, ◌++◌, [], if◌then◌else◌, IsSomeAnd, OnOk, Some, slice_index_or, take, unwrap_or};
 ghost use Rattle.std.specs.Global.{Global};
 ghost use Rattle.fit_profile.specs.Looks.{known};
 ghost use Rattle.fit_profile.specs.Told as telling;
@@ -9,9 +9,10 @@ ghost use Rattle.fit_record.specs.declared.message.Record.TheVariants.{Values as
 ghost use Rattle.fit_record.specs.declared.message.Values.{Values};
 ghost use Rattle.fit_messages.specs.Blocks as blocks;
 
-use crate::bytes::{Front, Place, put_front, put_number, put_sized};
+use crate::bytes::{Front, Place, put_sized};
 use crate::definition::counts;
-use crate::items::{put_all_made, put_all_read};
+use crate::items::{add_all_read, put_all_made};
+use crate::sheet::{Sheet, put_both, put_sheet, write_front, write_low};
 use fit_profile::{Stream, Told};
 use fit_record::{Record, Values};
 use std::alloc::AllocError;
@@ -40,32 +41,36 @@ fn told_bits(told: Told) -> u8
         + bit(32, told.accumulated_power)
 }
 
-/// Puts speed, distance, cycles and power.
-fn put_amounts(bytes: &mut Vec<u8>, told: Told) -> Result<(), AllocError>
-    ensures { OnOk result (bytes.new.items ≡ bytes.old.items ++ blocks.amounts told) }
+/// Writes speed, distance, cycles and power.
+#[inline(never)]
+fn write_amounts(sheet: &mut Sheet, at: usize, told: Told) -> usize
+    requires room { at ≤ 36 }
+    ensures end { result ≡ at + 32 }
+    ensures text { take result sheet.new ≡ take at sheet.old ++ blocks.amounts told }
 {
-    put_number(bytes, 8, told.speed.unwrap_or(u64::MAX))?;
-    put_number(bytes, 8, told.distance.unwrap_or(u64::MAX))?;
-    put_number(bytes, 8, told.total_cycles.unwrap_or(u64::MAX))?;
-    put_number(bytes, 8, told.accumulated_power.unwrap_or(u64::MAX))
+    let at = write_low(sheet, at, 8, told.speed.unwrap_or(u64::MAX));
+    let at = write_low(sheet, at, 8, told.distance.unwrap_or(u64::MAX));
+    let at = write_low(sheet, at, 8, told.total_cycles.unwrap_or(u64::MAX));
+    write_low(sheet, at, 8, told.accumulated_power.unwrap_or(u64::MAX))
 }
 
-/// Puts what stands before the items of a message, without its length.
+/// Writes what stands before the items of a message, without its length, at the start of a sheet. Returns the place after it.
 #[inline(always)]
-fn put_head(
-    bytes: &mut Vec<u8>,
+fn write_head(
+    sheet: &mut Sheet,
     place: Place,
     number: u64,
     local: u8,
     offset: Option<u8>,
     counts: bool,
     told: Told,
-) -> Result<(), AllocError>
-    ensures { OnOk result (bytes.new.items ≡ bytes.old.items
-        ++ blocks.message_head place.file place.place number local offset counts told) }
+) -> usize
+    ensures place { result ≤ 68 }
+    ensures text { take result sheet.new
+        ≡ blocks.message_head place.file place.place number local offset counts told }
 {
-    put_front(
-        bytes,
+    let at = write_front(
+        sheet,
         Front {
             kind: 3,
             a: told_bits(told),
@@ -75,19 +80,25 @@ fn put_head(
             n: u64::from(told.time.unwrap_or(u32::MAX)),
             place: place.place,
         },
-    )?;
-    put_number(bytes, 8, number)?;
-    put_number(bytes, 8, u64::from(told.header_time.unwrap_or(u32::MAX)))?;
+    );
+    let at = write_low(sheet, at, 8, number);
+    let at = write_low(
+        sheet,
+        at,
+        8,
+        u64::from(told.header_time.unwrap_or(u32::MAX)),
+    );
     if counts {
-        put_amounts(bytes, told)?;
+        return write_amounts(sheet, at, told);
     }
-    Ok(())
+    at
 }
 
 /// Puts the block of a data message after the records of a stream, whose definition is this one of all. `rest` lends its memory.
 pub(crate) fn put_values(
     text: &mut Vec<u8>,
     rest: &mut Vec<u8>,
+    sheet: &mut Sheet,
     stream: &Stream,
     values: &Values,
     told: Told,
@@ -104,15 +115,16 @@ pub(crate) fn put_values(
     };
     let counts = counts(&defined.definition);
     rest.clear();
-    put_head(
-        rest,
+    let at = write_head(
+        sheet,
         place,
         number,
         values.local,
         values.offset,
         counts,
         told,
-    )?;
+    );
+    put_sheet(rest, sheet, at)?;
     put_all_made(rest, values.fields.as_slice())?;
     put_all_made(rest, values.dev.as_slice())?;
     put_sized(text, rest.as_slice())
@@ -122,6 +134,7 @@ pub(crate) fn put_values(
 pub(crate) fn put_message(
     text: &mut Vec<u8>,
     rest: &mut Vec<u8>,
+    sheet: &mut Sheet,
     stream: &Stream,
     bytes: &[u8],
     place: Place,
@@ -138,21 +151,23 @@ pub(crate) fn put_message(
     let told = stream.message_told(bytes);
     let defined = message.defined;
     let order = defined.definition.order;
-    let counts = counts(&defined.definition);
+    let counts = stream.may_count(message.local);
     let number = number_at(numbers, message.local);
     rest.clear();
-    put_head(
-        rest,
+    let at = write_head(
+        sheet,
         place,
         number,
         message.local,
         message.offset,
         counts,
         told,
-    )?;
-    let back = put_all_read(rest, order, &defined.layout(), message.body)?;
-    put_all_read(rest, order, &defined.dev_layout(), back)?;
-    put_sized(text, rest.as_slice())
+    );
+    let layout = defined.layout();
+    let (at, back) = add_all_read(rest, sheet, at, order, &layout, message.body)?;
+    let dev_layout = defined.dev_layout();
+    let (at, _) = add_all_read(rest, sheet, at, order, &dev_layout, back)?;
+    put_both(text, rest.as_slice(), sheet, at)
 }
 
 /// The number of a local message type.

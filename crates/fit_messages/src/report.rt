@@ -16,6 +16,7 @@ ghost use Rattle.fit_messages.specs.inner.Telling.{block_next, kept_next};
 use crate::bytes::{Front, Place, put_front, put_number, put_rounded, put_sized};
 use crate::definition::put_definition;
 use crate::message::{number_at, put_message, put_values};
+use crate::sheet::{SHEET, Sheet};
 use fit_decode::{Decoder, Event};
 use fit_frame::{Header, HeaderSum};
 use fit_profile::Stream;
@@ -39,6 +40,8 @@ pub struct MessagesReport {
     place: u64,
     /// Where a block is made.
     rest: Vec<u8>,
+    /// Where the parts of a message are written first.
+    sheet: Sheet,
     alloc: Global,
 }
 
@@ -68,6 +71,7 @@ impl MessagesReport {
             numbers: [0; 16],
             place: 0,
             rest: Vec::new(alloc),
+            sheet: [0; SHEET],
             alloc,
         }
     }
@@ -264,6 +268,7 @@ impl MessagesReport {
         put_values(
             text,
             &mut self.rest,
+            &mut self.sheet,
             &self.stream,
             values,
             told,
@@ -289,6 +294,7 @@ impl MessagesReport {
         put_message(
             text,
             &mut self.rest,
+            &mut self.sheet,
             &self.stream,
             bytes,
             place,

@@ -2,7 +2,11 @@
 use Rattle.fit_profile.proofs.Common.{◌≡◌, ℕ, zero, suc, List, [], ◌∷◌, ◌++◌, ◌<◌, ◌≤◌, length, take}
 use Rattle.fit_profile.proofs.Common.{get_or, refl, arith, reverse, subst, sym, ap, ◌∙◌, Option, Some, None, none-some}
 use Rattle.fit_profile.proofs.Common.{Defined, Record, Environment, empty_environment, known}
-use Rattle.std.specs.Prelude.{slice_index_or}
+use Rattle.std.specs.Prelude.{slice_index_or, ◌==◌, ◌&&◌, ◌||◌, not, IfSome}
+use Rattle.std.specs.List.{list_any}
+use Rattle.std.proofs.Common.{Bool, true, false, eqb-true, ap₂}
+use Rattle.fit_record.specs.declared.definition.FieldDef.{FieldDef}
+use Rattle.fit_profile.specs.Accumulated.{is_counter}
 use Rattle.std.proofs.lemmas.List.{take_all}
 use Rattle.std.proofs.Common.{set, replicate}
 use Rattle.fit_record.proofs.SixteenPlaces.{sixteen_places}
@@ -57,3 +61,27 @@ filled old new m n short is local =
 -- the environment of a file's records has sixteen places
 pub sixteen_of : (e : Environment Global) (records : List (Record Global)) → e ≡ known (reverse records) → length e.places ≡ 16
 sixteen_of e records env = ap (λ x. length x.places) (env ∙ known_learned records) ∙ sixteen_places records
+
+-- ---- what a plan says of counters
+
+counting_bits : (tells describes a b : Bool) → tells ≡ (a || b) → describes ≡ a → (a ≡ true → b ≡ false) → (tells && not describes) ≡ b
+counting_bits tells describes true b more is one = ap₂ (λ t d. t && not d) more is ∙ sym (one refl)
+counting_bits tells describes false true more is one = ap₂ (λ t d. t && not d) more is
+counting_bits tells describes false false more is one = ap₂ (λ t d. t && not d) more is
+
+no_record : (global : ℕ) (any : Bool) → (global == 206) ≡ true → (global == 20 && any) ≡ false
+no_record global any is = ap (λ g. g == 20 && any) (eqb-true global 206 is)
+
+-- messages may have counters where they tell more than times and describe nothing
+pub may_count_is : (plan : Plan) (q : Option (Defined Global)) → IsPlanned (Some plan) q
+    → IfSome q (λ p. (plan.tells_more && not plan.describes) ≡ (p.definition.global == 20 && list_any (λ f. is_counter f.number) p.definition.fields))
+may_count_is plan None planned = tt
+may_count_is plan (Some p) planned =
+    let d = p.definition in
+    let any = list_any (λ (f : FieldDef). is_counter f.number) d.fields in
+    counting_bits plan.tells_more plan.describes (d.global == 206) (d.global == 20 && any) planned.more planned.describes (no_record d.global any)
+
+-- where there is no plan nothing is defined
+pub none_planned : (q : Option (Defined Global)) (P : Defined Global → Type 0) → IsPlanned None q → IfSome q P
+none_planned None P planned = tt
+none_planned (Some p) P planned = absurd planned

@@ -1,5 +1,5 @@
 //! What is found out once of a definition, so that a stream takes in its data messages quickly, as records or by their bytes.
-ghost use Rattle.std.specs.Prelude.{◌≡◌, ◌==◌, ◌&&◌, ◌≤◌, ◌<◌, ◌+◌, ℕ, List, IfSome, IsOk, OnOk, length, None, option_copied, slice_index_or, slice_set, Some};
+ghost use Rattle.std.specs.Prelude.{◌≡◌, ◌==◌, ◌&&◌, ◌≤◌, ◌<◌, ◌+◌, ℕ, List, IfSome, IsOk, OnOk, length, None, option_copied, slice_index_or, slice_set, Some, not};
 ghost use Rattle.std.specs.List.{list_any};
 ghost use Rattle.fit_base.specs.declared.number.Order.{Order};
 ghost use Rattle.fit_record.specs.Environment.{DescribesNothing, Environment, learn};
@@ -84,6 +84,14 @@ impl Plan {
             counters: CounterPlaces::of(definition, may_count),
             places,
         }
+    }
+
+    /// Whether messages may have counters.
+    #[inline(always)]
+    pub fn may_count(&self) -> bool
+        ensures { result ≡ (self.now.tells_more && not self.now.describes) }
+    {
+        self.tells_more && !self.describes
     }
 
     /// The time in the bytes of the fields.

@@ -1,12 +1,13 @@
 //! The records of a file, one after another, and what each message means by those before it.
-ghost use Rattle.std.specs.Prelude.{◌≡◌, ◌≤◌, ◌∷◌, [], OnOk, OnErr, IfOk, IfSome, IsOk, IsSome, IsSomeAnd, None, ⊤, MatchResult, Some, true, false, drop, option_map, option_and_then, slice_get};
+ghost use Rattle.std.specs.Prelude.{◌≡◌, ◌==◌, ◌&&◌, ◌≤◌, ◌∷◌, [], OnOk, OnErr, IfOk, IfSome, IsOk, IsSome, IsSomeAnd, None, ⊤, MatchResult, Some, true, false, drop, option_map, option_and_then, slice_get};
 ghost use Rattle.std.specs.Borrow.{sem};
 ghost use Rattle.std.specs.declared.alloc.Global.{Global};
 ghost use mathlib.Core.Option.{none};
 ghost use denote.Follow.{follows_so};
 ghost use Rattle.fit_record.specs.Environment.{DescribesNothing, defined_at};
 ghost use Rattle.fit_record.specs.declared.environment.Defined.{Defined};
-ghost use Rattle.fit_profile.specs.Accumulated.{tells_more};
+ghost use Rattle.std.specs.List.{list_any};
+ghost use Rattle.fit_profile.specs.Accumulated.{is_counter, tells_more};
 ghost use Rattle.fit_record.specs.Records.{Fits, IsRecord};
 ghost use Rattle.fit_record.specs.declared.message.Values.{Values};
 ghost use Rattle.fit_record.specs.declared.message.Record.TheVariants.{Values as Data};
@@ -163,7 +164,21 @@ impl Stream {
         told_in(&self.env, &self.plans, self.last, bytes)
     }
 
-    /// The same of the next record. A definition message has neither.
+    /// Whether messages of the definition of this local message type may tell speed, distance, cycles and power: they are records with
+    /// one of the fields from which these come.
+    #[inline(always)]
+    pub fn may_count(&self, local: u8) -> bool
+        ensures { IfSome (defined_at (known self.now) local) (λ p. result
+            ≡ (p.definition.global == 20
+            && list_any (λ f. is_counter f.number) p.definition.fields)) }
+    {
+        match self.plans.at(local) {
+            Some(plan) => plan.may_count(),
+            None => false,
+        }
+    }
+
+    /// What is told of the next record. A definition message has neither times nor values.
     pub fn told(&self, record_: &Record) -> Option<Told>
         requires { Fits (known self.now) record_.now }
         ensures { result ≡ told_of self.now record_.now }

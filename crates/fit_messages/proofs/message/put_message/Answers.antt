@@ -2,15 +2,17 @@ use Rattle.std.proofs.Common.{◌≡◌, ◌∙◌, ◌++◌, [], ap, ap₂, dro
 use Rattle.std.proofs.lemmas.List.{append-nil}
 use Rattle.std.proofs.lemmas.Result.{on_ok_weaker}
 use Rattle.std.specs.Global.{Global}
-use Rattle.std.specs.Prelude.{flat_map}
+use Rattle.std.specs.Prelude.{IfSome, flat_map}
 use Rattle.fit_profile.specs.Told.{told}
 use Rattle.fit_record.proofs.Gathering.{fields_front}
 use Rattle.fit_record.specs.Environment.{defined_at}
 use Rattle.fit_record.specs.MessageBytes.{message_in}
 use Rattle.fit_record.specs.ReadMessages.{fields_from}
 use Rattle.fit_record.specs.Records.{IsRecord, layout, sizes}
+use Rattle.fit_record.specs.declared.environment.Defined.{Defined}
 use Rattle.fit_record.specs.declared.message.Record.TheVariants.{Values as Data}
 use Rattle.fit_messages.specs.Blocks.{counts, message_after, message_head, sized, slot}
+use Rattle.fit_messages.specs.inner.Sheets.{with_sheet}
 use Rattle.fit_messages.proofs.MessageFacts.{message_is, parts_put}
 use Rattle.fit_messages.proofs.message.put_message.Goals as goal
 
@@ -20,7 +22,7 @@ unreachable-requires c =
     (subst (λ e. IsRecord e (Data c.requires.0) c.args.bytes.now) (sym c.env.ensures) c.requires.1)
 
 pub returns : goal.returns
-returns c = on_ok_weaker c.put_sized.result (λ put v is_record.
+returns c = on_ok_weaker c.put_both.result (λ put v is_record.
     let bytes = c.args.bytes.now in
     let before = c.args.stream.now in
     let m = c.in-Some.message in
@@ -34,20 +36,22 @@ returns c = on_ok_weaker c.put_sized.result (λ put v is_record.
     let w = message_in m in
     let found = c.in-Some.ensures.found v bytes [] (sym (append-nil bytes)) (subst (λ e. IsRecord e (Data v) bytes) (sym c.env.ensures) is_record) in
     let known_ = sym c.in-Some.ensures.defined ∙ ap (λ e. defined_at e m.local) c.env.ensures in
+    let counted = subst (λ q. IfSome q (λ (x : Defined Global). c.may_count-counts.result ≡ counts x.definition)) (sym known_) c.may_count-counts.ensures in
     let told_ = c.message_told-told.ensures v is_record ∙ ap (told before) (sym found.0) in
-    let b1 = c.put_head.new.bytes.items in
-    let b2 = c.put_all_read.new.bytes.items in
-    let fields = c.in_ok-back.ensures.0 ∙ ap (λ l. b1 ++ flat_map slot (fields_from {A = Global} o l body)) c.layout.ensures.slots
+    let b0 = c.clear.new.self.items in
+    let b1 = with_sheet b0 c.write_head-at.new.sheet c.write_head-at.result in
+    let b2 = with_sheet c.add_all_read.new.bytes.items c.add_all_read.new.sheet c.in_ok-at.at in
+    let b3 = with_sheet c.add_all_read-2.new.bytes.items c.add_all_read-2.new.sheet c.in_ok-at-2.at in
+    let head = ap (λ b. b0 ++ b) (c.write_head-at.ensures.text
+    ∙ ap (λ n. message_head file place n m.local m.offset c.may_count-counts.result c.message_told-told.result) c.number_at-number.ensures
+    ∙ ap₂ (λ counted t. message_head file place number m.local m.offset counted t) counted told_) in
+    let fields = c.in_ok-at.ensures.text ∙ ap (λ l. b1 ++ flat_map slot (fields_from {A = Global} o l body)) c.layout-layout.ensures.slots
     ∙ ap (λ items. b1 ++ flat_map slot items) (fields_front {A = Global} o (layout p) body) in
-    let after_ = c.in_ok-back.ensures.1 ∙ ap (λ l. drop (sizes l) body) c.layout.ensures.slots in
-    let dev = c.in_ok-put_all_read.ensures.0 ∙ ap₂ (λ l rest. b2 ++ flat_map slot (fields_from {A = Global} o l rest)) c.dev_layout.ensures.slots after_ in
+    let after_ = c.in_ok-at.ensures.rest ∙ ap (λ l. drop (sizes l) body) c.layout-layout.ensures.slots in
+    let dev = c.in_ok-at-2.ensures.text
+    ∙ ap₂ (λ l rest. b2 ++ flat_map slot (fields_from {A = Global} o l rest)) c.dev_layout-dev_layout.ensures.slots after_ in
     let rest = parts_put (message_head file place number m.local m.offset (counts p.definition) (told before w)) (flat_map slot w.fields)
-    (flat_map slot w.dev) c.clear.new.self.items b1 b2 c.put_all_read-2.new.bytes.items c.clear.ensures.items
-    (c.in_ok-put_head.ensures
-    ∙ ap (λ n. c.clear.new.self.items ++ message_head file place n m.local m.offset c.counts-counts.result c.message_told-told.result)
-    c.number_at-number.ensures
-    ∙ ap₂ (λ counted t. c.clear.new.self.items ++ message_head file place number m.local m.offset counted t) c.counts-counts.ensures told_)
-    fields dev in
-    subst (λ x. c.put_sized.new.text.items ≡ old ++ message_after before file place (get_or c.args.numbers.now x.local 0) x) found.0
-    (put ∙ ap (λ b. old ++ sized b) (c.as_slice.ensures.value ∙ rest) ∙ ap (λ b. old ++ b) (message_is before file place number w p known_)))
-    c.put_sized.ensures
+    (flat_map slot w.dev) b0 b1 b2 b3 c.clear.ensures.items head fields dev in
+    subst (λ x. c.put_both.new.text.items ≡ old ++ message_after before file place (get_or c.args.numbers.now x.local 0) x) found.0
+    (put ∙ ap (λ b. old ++ sized b) (ap (λ b. with_sheet b c.add_all_read-2.new.sheet c.in_ok-at-2.at) c.as_slice.ensures.value ∙ rest) ∙ ap (λ b. old ++ b) (message_is before file place number w p known_)))
+    c.put_both.ensures

@@ -34,12 +34,11 @@ returns c = on_ok_weaker c.put_sized.result (λ put.
     let known_ = c.in-Some.ensures.place ∙ ap (λ e. defined_at e v.local) c.env.ensures in
     let rest = parts_put (message_head file place c.args.number v.local v.offset (counts p.definition) (told c.args.stream.now v))
     (flat_map slot v.fields) (flat_map slot v.dev)
-    c.clear.new.self.items c.put_head.new.bytes.items c.put_all_made.new.bytes.items c.put_all_made-2.new.bytes.items
+    c.clear.new.self.items c.put_sheet.new.bytes.items c.put_all_made.new.bytes.items c.put_all_made-2.new.bytes.items
     c.clear.ensures.items
-    (c.in_ok-put_head.ensures
-    ∙ ap₂ (λ counted told. c.clear.new.self.items ++ message_head file place c.args.number v.local v.offset counted told) c.counts-counts.ensures
-    c.requires.told)
-    (c.in_ok-put_all_made.ensures ∙ ap (λ items. c.put_head.new.bytes.items ++ flat_map slot items) c.as_slice.ensures)
+    (c.in_ok-put_sheet.ensures ∙ ap (λ b. c.clear.new.self.items ++ b) (c.write_head-at.ensures.text
+    ∙ ap₂ (λ counted told. message_head file place c.args.number v.local v.offset counted told) c.counts-counts.ensures c.requires.told))
+    (c.in_ok-put_all_made.ensures ∙ ap (λ items. c.put_sheet.new.bytes.items ++ flat_map slot items) c.as_slice.ensures)
     (c.in_ok-put_all_made-2.ensures ∙ ap (λ items. c.put_all_made.new.bytes.items ++ flat_map slot items) c.as_slice-2.ensures) in
     let made = put ∙ ap (λ b. c.args.text.now.items ++ sized b) (c.as_slice-3.ensures.value ∙ rest) in
     let block = message_is c.args.stream.now file place c.args.number v p known_ in

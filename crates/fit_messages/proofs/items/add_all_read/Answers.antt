@@ -8,7 +8,8 @@ use Rattle.fit_record.specs.ReadMessages.{field_from, fields_from}
 use Rattle.fit_record.specs.Records.{sizes}
 use Rattle.fit_messages.proofs.ItemFacts.{fields_more}
 use Rattle.fit_messages.specs.Blocks.{slot}
-use Rattle.fit_messages.proofs.items.put_all_read.Goals as goal
+use Rattle.fit_messages.specs.inner.Sheets.{with_sheet}
+use Rattle.fit_messages.proofs.items.add_all_read.Goals as goal
 
 pub split_at-requires : goal.split_at-requires
 split_at-requires c =
@@ -21,14 +22,15 @@ loop-place-preserved c =
     let rest = c.loop-place.rest.now in
     let f = c.slot-code.result in
     let next = drop (k + 1) c.args.layout.now in
-    let old = c.loop-place.bytes.items in
-    let now = c.put_read.new.bytes.items in
+    let old = with_sheet c.loop-place.bytes.items c.loop-place.sheet c.loop-place.at in
+    let now = with_sheet c.add_read.new.bytes.items c.add_read.new.sheet c.in_ok-at.at in
     let more = sizes_more c.args.layout.now k f c.slot-code.ensures in
     record {
       told = ap (λ r. now ++ flat_map slot (fields_from {A = Global} o next r)) c.split_at.ensures.back
           ∙ fields_more o f _ next rest old now _ (dropped c.args.layout.now k f c.slot-code.ensures)
-          (c.in_ok-put_read.ensures ∙ ap (λ b. old ++ slot (field_from {A = Global} o f b)) c.split_at.ensures.front) c.loop-place.invariant.told;
+          (c.in_ok-at.ensures.text ∙ ap (λ b. old ++ slot (field_from {A = Global} o f b)) c.split_at.ensures.front) c.loop-place.invariant.told;
       enough = omega (arith, more, c.loop-place.invariant.enough, ap length c.split_at.ensures.back ∙ length-drop f.1 rest);
+      small = c.in_ok-at.ensures.place;
       after = ap (drop (sizes next)) c.split_at.ensures.back ∙ drop-drop (sizes next) f.1 rest ∙ ap (λ n. drop n rest) (sym more)
           ∙ c.loop-place.invariant.after;
     }
