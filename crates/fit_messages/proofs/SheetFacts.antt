@@ -1,8 +1,7 @@
 -- What is written in a sheet.
-use Rattle.std.proofs.Common.{◌≡◌, ◌∙◌, ◌+◌, ◌≤◌, ℕ, List, [], ◌∷◌, ◌++◌, length, take, sym, ap, arith, append_assoc}
+use Rattle.std.proofs.Common.{◌≡◌, ◌∙◌, ◌+◌, ◌≤◌, ℕ, List, ◌++◌, length, take, sym, ap, arith, append_assoc}
 use Rattle.std.proofs.Math.Seq.{take-append-add}
-use Rattle.std.proofs.lemmas.List.{append-nil, length-append, length-take-le, take-take}
-use Rattle.fit_base.proofs.Bytes.{length-little_bytes}
+use Rattle.std.proofs.lemmas.List.{append-nil, length-take-le, take-take}
 use Rattle.fit_base.specs.Numbers.{little_bytes}
 use Rattle.fit_messages.proofs.ByteFacts.{low_taken}
 use Rattle.fit_messages.specs.Blocks.{low}
