@@ -17,7 +17,8 @@ returns-clause-reported g c =
       taken,
       heard,
       eaten,
-      subst (λ b. HasTold g.R.Report.line taken source (record { before = b; after = Some c.handed.result.now; failed = failed }) heard r) c.memory-sink.ensures.held
+      subst (λ b. HasTold g.R.Report.line taken source (record { before = b; after = Some c.handed.result.now; failed = failed }) heard r)
+          c.memory-sink.ensures.held
           (subst (λ a. HasTold g.R.Report.line taken source (record { before = c.memory-sink.result.held; after = a; failed = failed }) heard r)
           (sym c.handed.ensures) told),
     )
