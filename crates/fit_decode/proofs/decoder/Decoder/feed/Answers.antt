@@ -53,3 +53,7 @@ returns-in-Some-take_definition-clause-event g c = λ x is.
     let told = rw c.in_default.ensures.none at c.in-Some-take_definition.ensures.item in
     let same : item c.in-Some-take_definition.record ≡ x = cc is in
     (told.some, subst (Least _ c.args.self.now.bytes c.args.piece.now c.in-Some-take_definition.used) same told.least)
+
+-- what was told is no fault
+pub returns-in-Some-clause-memory : goal.returns-in-Some-clause-memory
+returns-in-Some-clause-memory g c = λ used is. cc is
