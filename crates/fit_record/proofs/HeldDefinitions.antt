@@ -1,5 +1,5 @@
 -- A definition without developer fields that is in its place already.
-use Rattle.fit_record.proofs.Common.{◌≡◌, ℕ, List, [], ◌∷◌, length, map, None, Some, sym, ap, ◌∙◌, arith, MessageDef, Defined, FieldDef, Environment}
+use Rattle.fit_record.proofs.Common.{◌≡◌, ℕ, List, [], ◌∷◌, length, map, None, sym, ap, ◌∙◌, arith, MessageDef, Defined, FieldDef, Environment}
 use Rattle.fit_record.proofs.Common.{defined_by, dev_code, dev_defs, IsSound, ◌==◌, ◌&&◌, refl}
 use Rattle.std.proofs.lemmas.Bool.Decides.{Decides-eqb, Decides-and, Decides-like}
 use Rattle.std.specs.Bool.{Decides}

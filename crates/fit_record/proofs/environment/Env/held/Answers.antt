@@ -1,4 +1,5 @@
 use Rattle.fit_record.proofs.Common.{◌≡◌, length, ap, ◌∙◌, arith, sum_by, option_map_or, take_all, entry_count}
+use Rattle.std.proofs.lemmas.Grind.{common_steps}
 use Rattle.fit_record.proofs.environment.Env.held.Goals as goal
 
 pub returns-clause-size : goal.returns-clause-size
@@ -12,3 +13,6 @@ returns-clause-size g c =
 
 pub entries_at-entries-requires : goal.entries_at-entries-requires
 entries_at-entries-requires g c = assumption
+
+pub loop-local-preserved : goal.loop-local-preserved
+loop-local-preserved g c = grind (arith, common_steps)

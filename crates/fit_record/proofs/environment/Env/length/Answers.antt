@@ -1,7 +1,9 @@
-use Rattle.fit_record.proofs.Common.{get_or, sym, ap, ◌∙◌, subst, Some, None, option_map, get_or_from_slice_get, defined_at, MayBeKept, body_length}
+use Rattle.fit_record.proofs.Common.{get_or, sym, ap, ◌∙◌, subst, Some, None, option_map, get_or_from_slice_get, defined_at, MayBeKept, body_length, arith}
 use Rattle.fit_record.proofs.Common.{message_size}
-use Rattle.fit_record.proofs.WrongPlace.{found}
+use Rattle.fit_record.proofs.WrongPlace.{found, not_found}
 use Rattle.fit_record.proofs.MessageSizes.{kept_size}
+use Rattle.std.proofs.lemmas.List.{get_or_past}
+use Rattle.std.proofs.lemmas.Grind.{common_steps}
 use Rattle.fit_record.proofs.environment.Env.length.Goals as goal
 
 pub returns-in-Some-clause-length : goal.returns-in-Some-clause-length
@@ -31,3 +33,17 @@ returns-in-None-clause-places g c = rw (← c.self.view_is) assumption
 
 pub returns-in_err-place-clause-places : goal.returns-in_err-place-clause-places
 returns-in_err-place-clause-places g c = rw (← c.self.view_is) assumption
+
+pub returns-in_err-place-clause-length : goal.returns-in_err-place-clause-length
+returns-in_err-place-clause-length g c =
+    let past = get_or_past c.self.inside.places c.args.local None (not_found c.self.inside.places c.args.local c.in_err-place.ensures.lookup.0) in
+    c.from_residual.ensures ∙ sym (ap (option_map (λ p. body_length p.definition)) past)
+    ∙ ap (λ e. option_map (λ p. body_length p.definition) (defined_at e c.args.local)) c.self.view_is
+
+pub returns-in_err-place-clause-size : goal.returns-in_err-place-clause-size
+returns-in_err-place-clause-size g c =
+    let past = get_or_past c.self.inside.places c.args.local None (not_found c.self.inside.places c.args.local c.in_err-place.ensures.lookup.0) in
+    c.from_residual.ensures ∙ sym (ap (option_map message_size) past) ∙ ap (λ e. option_map message_size (defined_at e c.args.local)) c.self.view_is
+
+pub bounds-self-inside-local : goal.bounds-self-inside-local
+bounds-self-inside-local g c = grind (arith, common_steps)

@@ -2,6 +2,7 @@ use Rattle.fit_record.proofs.Common.{◌+◌, length, sym, ap, ◌∙◌, arith,
 use Rattle.fit_record.proofs.FoundMessages.{first_of, message_spelled, only_message, same_size}
 use Rattle.fit_record.proofs.environment.Env.message_bytes.Goals.{then-has_reserved_bit-via-then-has_reserved_bit}
 use Rattle.fit_record.proofs.environment.Env.message_bytes.Goals.{then-has_reserved_bit-via-else-has_reserved_bit+then-is_definition}
+use Rattle.std.proofs.lemmas.Grind.{common_steps}
 use Rattle.fit_record.proofs.environment.Env.message_bytes.Goals as goal
 
 pub returns-then-has_reserved_bit-clause-found : goal.returns-then-has_reserved_bit-clause-found
@@ -40,3 +41,18 @@ pub returns-clause-found : goal.returns-clause-found
 returns-clause-found g c v front rest at is =
     only_message c.args.self.now _ v (1 + length c.split_at.result.0.now) c.args.bytes.now front rest (returns-clause-spelled g c)
     (omega (arith, ap length c.in_ok-first.ensures.cases.0, c.split_at.ensures.front_len, c.if-rest-size.false)) at is
+
+pub returns-clause-sound : goal.returns-clause-sound
+returns-clause-sound g c = grind (arith, common_steps)
+
+pub returns-clause-size : goal.returns-clause-size
+returns-clause-size g c = grind (arith, common_steps)
+
+pub returns-clause-within : goal.returns-clause-within
+returns-clause-within g c = grind (arith, common_steps)
+
+pub defined-requires : goal.defined-requires
+defined-requires g c = assumption
+
+pub length-requires : goal.length-requires
+length-requires g c = assumption
