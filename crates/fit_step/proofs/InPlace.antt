@@ -5,6 +5,9 @@ use Rattle.fit_step.proofs.Common.{byte, item_width, found_passes, FieldDef, Mes
 use Rattle.fit_step.proofs.Common.{layout, dev_layout, length-dev_layout, Phase, DefinitionPhase, Definition, FieldItems, DevItems, Stop, Refused, NoMemory}
 use Rattle.fit_step.proofs.Common.{Tests, State, Step, definition_in_progress, values_of, step, step_at, RecordPart, in_definition, in_fields, in_dev_fields}
 use Rattle.fit_step.proofs.Common.{TakenFields, IsTaking, IsPart, state_of, width_of, PartFitsRoom, state, Made, Defines, DefinesAt, ReadsAt, IsInField, ◌==◌}
+use Rattle.fit_step.proofs.Common.{Record, RecordHeader, nothing, header_move}
+use Rattle.fit_step.specs.Places.{WantsNone}
+use Rattle.fit_step.specs.inner.Steps.{Enters}
 use Rattle.fit_record.specs.Sound.{IsSound}
 use Rattle.fit_step.proofs.Preconditions.{is_defining, as_defined}
 
@@ -81,6 +84,13 @@ module _ {A : Type 0} (e : Environment A) (phase : Phase) (room : ℕ) (partial 
   pub stands_values : (v : Values A) → PartFitsRoom e (state phase room (Some (Data v)) partial) → ReadsAt e phase v partial
   stands_values v h = message_in v h.part h.is_part h.is
 
+  nothing_in : (f : RecordPart A) → state phase room None partial ≡ state_of room f → (phase ≡ RecordHeader) × (partial ≡ [])
+  nothing_in nothing is = (ap (λ (s : State A). s.phase) is, ap (λ (s : State A). s.partial) is)
+  nothing_in f is = absurd (let other = ap (λ (s : State A). s.in_progress) is in cc)
+
+  pub stands_nothing : PartFitsRoom e (state phase room None partial) → (phase ≡ RecordHeader) × (partial ≡ [])
+  stands_nothing h = nothing_in h.part h.is
+
 -- ---- what the code's steps make of the state
 
 module _ {A : Type 0} (e : Environment A) (tests : Tests A) (phase after : Phase) (room left : ℕ) (partial : List ℕ) (b : ℕ) where
@@ -97,6 +107,35 @@ module _ {A : Type 0} (e : Environment A) (tests : Tests A) (phase after : Phase
   unfolding step
   definition_taken d c result none h =
       defines_is c result _ none (subst (λ p. Defines after left c result (step_at e tests phase (state phase room (Some (Define d)) p) b)) (sym none) h)
+
+  entered_is : (r : Record A) (whole : Bool) (made : Step A) → partial ≡ [] → Enters after left (Ok (r, whole)) made
+      → Made after left (Some r) partial (Ok whole) made
+  entered_is r true made none is = is ∙ ap (λ p. Ok (state after left None p, Some r)) (sym none)
+  entered_is r false made none is = is ∙ ap (λ p. Ok (state after left (Some r) p, None)) (sym none)
+
+  at_header : PartFitsRoom e (state phase room None partial) → header_move e tests room b ≡ step e tests (state phase room None partial) b
+  unfolding step
+  at_header stands = ap (λ k. step_at e tests k (state phase room None partial) b) (sym (stands_nothing e phase room partial stands).0)
+
+  pub header_taken : (r : Record A) (whole : Bool) → PartFitsRoom e (state phase room None partial)
+      → Enters after left (Ok (r, whole)) (header_move e tests room b)
+      → Made after left (Some r) partial (Ok whole) (step e tests (state phase room None partial) b)
+  header_taken r whole stands is =
+      entered_is r whole _ (stands_nothing e phase room partial stands).1 (subst (Enters after left (Ok (r, whole))) (at_header stands) is)
+
+  refused_is : (in_progress : Option (Record A)) (why : Stop) (made : Step A) → Enters after left (Err why) made
+      → Made after left in_progress partial (Err why) made
+  refused_is in_progress (Refused reason) made is = is
+  refused_is in_progress NoMemory made is = is
+
+  pub header_refused : (why : Stop) → PartFitsRoom e (state phase room None partial) → Enters after left (Err why) (header_move e tests room b)
+      → Made after left None partial (Err why) (step e tests (state phase room None partial) b)
+  header_refused why stands is = refused_is None why _ (subst (Enters after left (Err why)) (at_header stands) is)
+
+-- the same of another answer
+pub wants_none : (X Y : Type 0) (why : Stop) → WantsNone {X = X} (Err why) → WantsNone {X = Y} (Err why)
+wants_none X Y (Refused reason) h = h
+wants_none X Y NoMemory h = h
 
 -- ---- at a phase that is known
 

@@ -1,4 +1,5 @@
-use Rattle.fit_step.proofs.Common.{tests_of}
+use Rattle.fit_step.proofs.Common.{refl, tests_of}
+use Rattle.fit_step.proofs.TwoLists.{on_err}
 use Rattle.fit_step.proofs.definition_byte.definition_byte.Goals as goal
 
 pub returns-in-Reserved-clause-made : goal.returns-in-Reserved-clause-made
@@ -59,3 +60,9 @@ at_dev_index-requires-clause-left g c = (rw c.in-DevIndex.is at c.requires.defin
 
 pub at_dev_index-requires-clause-dev : goal.at_dev_index-requires-clause-dev
 at_dev_index-requires-clause-dev g c = (rw c.in-DevIndex.is at c.requires.defining).2
+
+pub returns-in-FieldCount-clause-err : goal.returns-in-FieldCount-clause-err
+returns-in-FieldCount-clause-err g c = on_err c.at_field_count.result (λ same. (same.0, same.1, refl)) c.at_field_count.ensures.err
+
+pub returns-in-DevCount-clause-err : goal.returns-in-DevCount-clause-err
+returns-in-DevCount-clause-err g c = on_err c.at_dev_count.result (λ same. (same.0, same.1, refl)) c.at_dev_count.ensures.err

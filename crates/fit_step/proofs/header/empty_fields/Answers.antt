@@ -1,5 +1,6 @@
-use Rattle.fit_step.proofs.Common.{◌∙◌, ◌++◌, ◌∷◌, [], sym, ap, take, no_items, map}
+use Rattle.fit_step.proofs.Common.{◌∙◌, ◌++◌, ◌∷◌, [], sym, ap, take, no_items, map, arith}
 use Rattle.fit_step.proofs.TwoLists.{one_more_field}
+use Rattle.std.proofs.lemmas.Grind.{common_steps}
 use Rattle.fit_step.proofs.header.empty_fields.Goals as goal
 
 pub loop-place-preserved : goal.loop-place-preserved
@@ -8,3 +9,9 @@ loop-place-preserved g c =
     let k = c.loop-place.place in
     c.in_ok-push.ensures.ok ∙ ap (λ l. l ++ c.in_ok-empty_items.field-0 ∷ []) c.loop-place.invariant
     ∙ ap (λ n. map no_items (take k slots) ++ n ∷ []) c.in_ok-empty_items.ensures ∙ sym (one_more_field slots k c.slot-code.result c.slot-code.ensures)
+
+pub returns-then-len-eq0-clause-made : goal.returns-then-len-eq0-clause-made
+returns-then-len-eq0-clause-made g c = grind (arith, common_steps)
+
+pub returns-clause-made : goal.returns-clause-made
+returns-clause-made g c = grind (arith, common_steps)

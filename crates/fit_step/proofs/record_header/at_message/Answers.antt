@@ -1,5 +1,6 @@
-use Rattle.fit_step.proofs.Common.{◌∙◌, ◌-◌, ap, sym, Ok, Data, entered}
+use Rattle.fit_step.proofs.Common.{◌∙◌, ◌-◌, ap, sym, Ok, Data, entered, arith}
 use Rattle.fit_step.proofs.HeaderSteps.{begun_entered}
+use Rattle.std.proofs.lemmas.Grind.{common_steps}
 use Rattle.fit_step.proofs.record_header.at_message.Goals as goal
 
 pub returns-clause-made : goal.returns-clause-made
@@ -10,3 +11,9 @@ returns-clause-made g c =
     c.in-Ok.ensures.goes
     ∙ ap Ok (c.begin_fields-whole.ensures room _ ∙ begun_entered whole phase room _
     ∙ ap (λ v. entered whole phase room (Data v)) (sym c.in-Ok-new_message.ensures.made))
+
+pub defined_for-requires : goal.defined_for-requires
+defined_for-requires g c = assumption
+
+pub overflow_sub-room : goal.overflow_sub-room
+overflow_sub-room g c = grind (arith, common_steps)

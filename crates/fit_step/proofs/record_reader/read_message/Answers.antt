@@ -1,9 +1,10 @@
-use Rattle.fit_step.proofs.Common.{rules, sym, slice_is_bytes, Data}
+use Rattle.fit_step.proofs.Common.{sym, slice_is_bytes, Data, arith}
 use Rattle.fit_step.proofs.ReadBytes.{whole_at_front}
+use Rattle.std.proofs.lemmas.Grind.{common_steps}
 use Rattle.fit_step.proofs.record_reader.read_message.Goals as goal
 
 pub plain_message-requires : goal.plain_message-requires
-plain_message-requires g c = let (most, front, some, h) = c.requires in (search rules, h.sixteen)
+plain_message-requires g c = let (most, front, some, h) = c.requires in (assumption, h.sixteen)
 
 pub returns-clause-reads : goal.returns-clause-reads
 returns-clause-reads g c =
@@ -23,3 +24,9 @@ returns-in_default-clause-whole g c = λ idle size has large.
 pub returns-clause-whole : goal.returns-clause-whole
 returns-clause-whole g c = λ idle size has large.
     let told = rw c.in-Some-2.is at c.in_ok-values.ensures in told.whole size has large
+
+pub overflow_cast-position : goal.overflow_cast-position
+overflow_cast-position g c = grind (arith, common_steps)
+
+pub overflow_sub-position : goal.overflow_sub-position
+overflow_sub-position g c = grind (arith, common_steps)

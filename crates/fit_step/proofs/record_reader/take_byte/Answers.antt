@@ -1,4 +1,4 @@
-use Rattle.fit_step.proofs.Common.{rules, ◌≡◌, refl, sym, subst, OnErr, step, state_at, tests_of, StandsWithRoom, TakesByte}
+use Rattle.fit_step.proofs.Common.{◌≡◌, refl, sym, subst, OnErr, step, state_at, tests_of, StandsWithRoom, TakesByte}
 use Rattle.fit_step.proofs.record_reader.take_byte.Goals as goal
 
 pub take_inside-requires : goal.take_inside-requires
@@ -9,7 +9,7 @@ returns-then-take_inside-clause-made g c = (refl, c.take_inside.ensures.taken c.
 
 pub take_step-requires : goal.take_step-requires
 take_step-requires g c = (
-  search rules,
+  assumption,
   subst (λ p. StandsWithRoom c.args.env.now (state_at p c.args.in_progress.now)) (sym (c.take_inside.ensures.same c.if-take_inside.false)) c.requires,
 )
 

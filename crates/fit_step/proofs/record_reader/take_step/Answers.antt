@@ -5,7 +5,7 @@ use Rattle.fit_step.proofs.record_reader.take_step.Goals as goal
 
 pub step-requires : goal.step-requires
 step-requires g c = (
-  search rules,
+  assumption,
   c.requires,
 )
 

@@ -1,9 +1,9 @@
-use Rattle.fit_step.proofs.Common.{rules, Data, None, ◌≡◌, ◌-◌, sym, slice_is_bytes, start, state_at}
+use Rattle.fit_step.proofs.Common.{Data, None, ◌≡◌, ◌-◌, sym, slice_is_bytes, start, state_at}
 use Rattle.fit_step.proofs.ReadBytes.{whole_and_next}
 use Rattle.fit_step.proofs.record_reader.take_whole.Goals as goal
 
 pub whole_message-requires : goal.whole_message-requires
-whole_message-requires g c = (search rules, c.requires.0)
+whole_message-requires g c = (assumption, c.requires.0)
 
 pub returns-clause-told : goal.returns-clause-told
 returns-clause-told g c =

@@ -1,5 +1,6 @@
-use Rattle.fit_step.proofs.Common.{◌+◌, cond, sym, ap, ◌∙◌, option_map_or, ne_eqb, Defined, message_size, ◌==◌}
+use Rattle.fit_step.proofs.Common.{◌+◌, cond, sym, ap, ◌∙◌, option_map_or, ne_eqb, Defined, message_size, ◌==◌, arith}
 use Rattle.fit_step.proofs.WholeMessage.{same_size}
+use Rattle.std.proofs.lemmas.Grind.{common_steps}
 use Rattle.fit_step.proofs.skipping.size_to_skip.Goals as goal
 
 pub returns-else-defined-eq-FIELD_DESCRIPTION : goal.returns-else-defined-eq-FIELD_DESCRIPTION
@@ -9,3 +10,21 @@ returns-else-defined-eq-FIELD_DESCRIPTION g c =
     let plain = ne_eqb p.definition.global 206 c.if-defined-eq-FIELD_DESCRIPTION.false in
     ap (λ n. 1 + n) size ∙ ap (λ b. cond b 0 (1 + message_size p)) (sym plain)
     ∙ ap (λ o. option_map_or (λ (q : Defined g.row.A.Denot). cond (q.definition.global == 206) 0 (1 + message_size q)) o 0) c.in-Some.ensures.place
+
+pub defined-requires : goal.defined-requires
+defined-requires g c = assumption
+
+pub returns-in_default : goal.returns-in_default
+returns-in_default g c = grind (arith, common_steps)
+
+pub length-requires : goal.length-requires
+length-requires g c = assumption
+
+pub returns-in_default-length : goal.returns-in_default-length
+returns-in_default-length g c = grind (arith, common_steps)
+
+pub overflow_add-result : goal.overflow_add-result
+overflow_add-result g c = grind (arith, common_steps)
+
+pub returns-then-defined-eq-FIELD_DESCRIPTION : goal.returns-then-defined-eq-FIELD_DESCRIPTION
+returns-then-defined-eq-FIELD_DESCRIPTION g c = grind (arith, common_steps)

@@ -1,7 +1,8 @@
-use Rattle.fit_step.proofs.Common.{ap, ◌∙◌, subst, rules, sym, Define, DefinitionFits, learn, size_to_skip, AreSizesToSkip, slice_set}
+use Rattle.fit_step.proofs.Common.{ap, ◌∙◌, subst, rules, sym, Define, DefinitionFits, learn, size_to_skip, AreSizesToSkip, slice_set, arith}
 use Rattle.fit_step.proofs.SkippedRecords.{sizes_after}
 use Rattle.fit_step.proofs.ReadDefinitions.{read_fits, read_is_record}
 use Rattle.fit_step.specs.inner.Definitions.{definition_of}
+use Rattle.std.proofs.lemmas.Grind.{common_steps}
 use Rattle.fit_step.proofs.skipping.skip_definition.Goals as goal
 
 pub returns-then-is_known-clause-skipped : goal.returns-then-is_known-clause-skipped
@@ -13,7 +14,7 @@ returns-then-is_known-clause-skipped g c = λ some.
 
 pub define-requires : goal.define-requires
 define-requires g c = (
-  search rules,
+  assumption,
   subst DefinitionFits (sym c.with_fields.ensures)
       (read_fits c.in-Some.front c.in-Some.entries.now c.args.bytes.now c.in-Some.ensures.begins c.in-Ok.fields c.in-Ok.ensures),
 )
@@ -41,3 +42,18 @@ returns-clause-skipped g c = λ some.
 
 pub returns-in-Err-clause-sizes : goal.returns-in-Err-clause-sizes
 returns-in-Err-clause-sizes g c = subst (λ f. AreSizesToSkip f c.args.sizes.now) (sym c.in-Err.ensures.err) c.requires
+
+pub definition_bytes-requires : goal.definition_bytes-requires
+definition_bytes-requires g c = assumption
+
+pub overflow_add-size : goal.overflow_add-size
+overflow_add-size g c = grind (arith, common_steps)
+
+pub size_to_skip-requires : goal.size_to_skip-requires
+size_to_skip-requires g c = assumption
+
+pub overflow_cast-sizes : goal.overflow_cast-sizes
+overflow_cast-sizes g c = grind (arith, common_steps)
+
+pub offset_bounds-sizes-front : goal.offset_bounds-sizes-front
+offset_bounds-sizes-front g c = grind (arith, common_steps)

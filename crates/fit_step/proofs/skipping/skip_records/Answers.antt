@@ -1,5 +1,6 @@
 use Rattle.fit_step.proofs.Common.{◌+◌, ◌<◌, ap, take, length, length-drop, subst, arith, IsSkipped, ◌≤◌}
 use Rattle.fit_step.proofs.SkippedRecords.{one_more}
+use Rattle.std.proofs.lemmas.Grind.{common_steps}
 use Rattle.fit_step.proofs.skipping.skip_records.Goals as goal
 
 pub loop-count-preserved : goal.loop-count-preserved
@@ -17,3 +18,12 @@ loop-count-preserved g c =
       records = one_more c.args.env.now c.loop-count.env c.skip_record-size.new.env bytes used size c.loop-count.count within i.records
           (subst (λ l. IsSkipped c.loop-count.env c.skip_record-size.new.env (take size l)) back (c.skip_record-size.ensures.skipped some));
     }
+
+pub sizes_to_skip-sizes-requires : goal.sizes_to_skip-sizes-requires
+sizes_to_skip-sizes-requires g c = assumption
+
+pub skip_record-size-requires : goal.skip_record-size-requires
+skip_record-size-requires g c = assumption
+
+pub overflow_add-used : goal.overflow_add-used
+overflow_add-used g c = grind (arith, common_steps)

@@ -9,3 +9,6 @@ returns-then-is_known-clause-ok g c =
     let same = ap (definition_of c.args.front) (fields_are c.args.front c.args.entries.now fields c.args.definition.now.fields are c.requires.fields)
     ∙ sym c.requires.is in
     sym (subst (λ d. learn c.args.env.now (Define d) ≡ c.args.env.now) same stays)
+
+pub is_known-requires : goal.is_known-requires
+is_known-requires g c = assumption
