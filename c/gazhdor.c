@@ -8,6 +8,7 @@ gazhdor_answer proved_gazhdor_check(const uint8_t *bytes, size_t length);
 gazhdor_answer proved_gazhdor_table(const uint8_t *bytes, size_t length, gazhdor_text *text);
 gazhdor_answer proved_gazhdor_to_csv(const uint8_t *bytes, size_t length, gazhdor_text *text);
 gazhdor_answer proved_gazhdor_show(const uint8_t *bytes, size_t length, gazhdor_text *text);
+gazhdor_answer proved_gazhdor_messages(const uint8_t *bytes, size_t length, gazhdor_text *blocks);
 gazhdor_answer proved_gazhdor_from_csv(const uint8_t *text, size_t length, gazhdor_text *bytes);
 
 static const uint8_t *some(const uint8_t *bytes)
@@ -33,6 +34,11 @@ gazhdor_answer gazhdor_to_csv(const uint8_t *bytes, size_t length, gazhdor_text 
 gazhdor_answer gazhdor_show(const uint8_t *bytes, size_t length, gazhdor_text *text)
 {
     return proved_gazhdor_show(some(bytes), length, text);
+}
+
+gazhdor_answer gazhdor_messages(const uint8_t *bytes, size_t length, gazhdor_text *blocks)
+{
+    return proved_gazhdor_messages(some(bytes), length, blocks);
 }
 
 gazhdor_answer gazhdor_from_csv(const uint8_t *text, size_t length, gazhdor_text *bytes)
