@@ -47,7 +47,7 @@ static double least(text_call call, const uint8_t *bytes, size_t length)
 static void row(const char *name, text_call call, const uint8_t *bytes, size_t length)
 {
     double none = least(call, bytes, 0), all = least(call, bytes, length);
-    printf("%-13s %12.2f %12.2f %8.3f\n", name, none, all, all / (all - none));
+    printf("%-16s %12.2f %12.2f %8.3f\n", name, none, all, all / (all - none));
 }
 
 int main(int argc, char **argv)
@@ -65,11 +65,12 @@ int main(int argc, char **argv)
     }
     fclose(file);
 
-    printf("%-13s %12s %12s %8s\n", "", "no bytes, us", "the file, us", "at most");
+    printf("%-16s %12s %12s %8s\n", "", "no bytes, us", "the file, us", "at most");
     row("gazhdor_check", check, bytes, length);
     row("gazhdor_table", gazhdor_table, bytes, length);
     row("gazhdor_to_csv", gazhdor_to_csv, bytes, length);
     row("gazhdor_show", gazhdor_show, bytes, length);
+    row("gazhdor_messages", gazhdor_messages, bytes, length);
 
     gazhdor_text text = GAZHDOR_NO_TEXT;
     if (gazhdor_to_csv(bytes, length, &text).status == GAZHDOR_GOOD)

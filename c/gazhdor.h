@@ -152,7 +152,7 @@ typedef struct gazhdor_reader {
     gazhdor_block definition; /* of a message its definition, of a definition itself, else none */
     uint32_t message;         /* at a message its global message number, as 20 for record; else GAZHDOR_NO_MESSAGE */
     gazhdor_text left;        /* the blocks that are still to come */
-    gazhdor_block known[16];  /* the last definition of each local message type in the file */
+    gazhdor_block known[16];  /* the last definition of each local message type */
 } gazhdor_reader;
 
 /* A field of the messages of a definition. */
@@ -170,8 +170,7 @@ typedef struct gazhdor_field {
     uint8_t base_type, kind;  /* its code in the file; and an enum gazhdor_items_kind */
     uint8_t width, count;     /* bytes of an item: 1, 2, 4 or 8; and how many items */
     uint8_t decimals;
-    uint32_t which; /* of the fields of its definition, counted from 0 */
-    size_t end;     /* where the next one is described in the block of the definition */
+    size_t end; /* where the next one is described in the block of the definition */
 } gazhdor_field;
 
 /* A number of 1 to 8 bytes in a block, by docs/BLOCKS.md; 0 where the block ends before. */
@@ -223,8 +222,6 @@ static inline int gazhdor_next(gazhdor_reader *reader)
         return 0;
     reader->left.bytes += block.length;
     reader->left.length -= block.length;
-    if (block.kind == GAZHDOR_FILE_HEADER)
-        memset(reader->known, 0, sizeof reader->known);
     if (block.kind == GAZHDOR_DEFINITION)
         reader->definition = reader->known[block.bytes[5] & 15] = block;
     if (block.kind == GAZHDOR_MESSAGE && reader->known[block.bytes[6] & 15].number == block.number)
@@ -249,30 +246,29 @@ static inline const char *gazhdor_message_name(gazhdor_block definition)
 }
 
 /* The field that is described at this place in the block of its definition. For the next two. */
-static inline gazhdor_field gazhdor_field_at(gazhdor_block definition, size_t at, uint32_t which)
+static inline gazhdor_field gazhdor_field_at(gazhdor_block definition, size_t at)
 {
-    static const gazhdor_field none = { 0, "", "", GAZHDOR_NO_DEFINITION, 0, 0, 0, 0, 0, 0, 0, 0, 0, 0, 0, 0, 0, 0 };
+    static const gazhdor_field none = { 0, "", "", GAZHDOR_NO_DEFINITION, 0, 0, 0, 0, 0, 0, 0, 0, 0, 0, 0, 0, 0 };
     size_t length = (size_t)gazhdor_load(definition, at, 2);
-    if (definition.kind != GAZHDOR_DEFINITION || length < 48 || length > definition.length - at
-        || which >= gazhdor_load(definition, 34, 2) + gazhdor_load(definition, 36, 2))
+    if (definition.kind != GAZHDOR_DEFINITION || length < 48 || length > definition.length - at)
         return none;
     const uint8_t *own = definition.bytes + at;
     gazhdor_block entry = { own, length, 0, 0, 0, 0 };
     gazhdor_field field = { 1, gazhdor_name_at(entry, 32), gazhdor_name_at(entry, (size_t)gazhdor_load(entry, 2, 2)),
         definition.number, gazhdor_load(entry, 24, 8), (uint32_t)gazhdor_load(entry, 12, 4), (uint32_t)gazhdor_load(entry, 16, 4),
-        (uint32_t)gazhdor_load(entry, 20, 4), own[4], own[5], own[6], own[7], own[8], own[9], own[10], own[11], which, at + length };
+        (uint32_t)gazhdor_load(entry, 20, 4), own[4], own[5], own[6], own[7], own[8], own[9], own[10], own[11], at + length };
     return field;
 }
 
 /* The first field of a definition, and the one after a field: the fields in their order, and then the developer fields. */
 static inline gazhdor_field gazhdor_first_field(gazhdor_block definition)
 {
-    return gazhdor_field_at(definition, 48 + strlen(gazhdor_message_name(definition)) / 8 * 8, 0);
+    return gazhdor_field_at(definition, 48 + strlen(gazhdor_message_name(definition)) / 8 * 8);
 }
 
 static inline gazhdor_field gazhdor_next_field(gazhdor_block definition, gazhdor_field field)
 {
-    return gazhdor_field_at(definition, field.end, field.which + 1);
+    return gazhdor_field_at(definition, field.end);
 }
 
 /* The first field of a definition that has this name; developer fields have names too. */

@@ -51,8 +51,9 @@ void __wrap_free(void *block)
     } while (0)
 
 typedef gazhdor_answer call(const uint8_t *bytes, size_t length, gazhdor_text *text);
-static call *const calls[] = { gazhdor_table, gazhdor_to_csv, gazhdor_show, gazhdor_from_csv };
-static const char *const names[] = { "table", "to-csv", "show", "from-csv" };
+static call *const calls[] = { gazhdor_table, gazhdor_to_csv, gazhdor_show, gazhdor_messages, gazhdor_from_csv };
+static const char *const names[] = { "table", "to-csv", "show", NULL, "from-csv" };
+enum { CSV = 1, READERS = 4, FROM_CSV = 4, CALLS = 5 };
 
 static int is(gazhdor_answer a, uint32_t status, uint32_t reason, uint64_t place, uint64_t row, uint64_t column, uint64_t files)
 {
@@ -71,17 +72,20 @@ static int begins(gazhdor_text front, gazhdor_text whole)
 
 static uint8_t *ride;
 static size_t length;
-static gazhdor_text texts[4];
+static gazhdor_text texts[CALLS];
 
-/* Each call on the whole ride; and its text is what the program writes, in the files that the folder has. */
+/* Each call on the whole ride; and its text is what the program writes, in the files that the folder has. It writes no blocks; tests/rows.c
+ * reads those. */
 static void whole(const char *folder)
 {
     WANT(is(gazhdor_check(ride, length), GAZHDOR_GOOD, 0, 0, 0, 0, 1));
-    for (int i = 0; i < 4; i++) {
+    for (int i = 0; i < CALLS; i++) {
         gazhdor_text none = GAZHDOR_NO_TEXT;
         texts[i] = none;
-        const uint8_t *given = i == 3 ? texts[1].bytes : ride;
-        WANT(is(calls[i](given, i == 3 ? texts[1].length : length, &texts[i]), GAZHDOR_GOOD, 0, 0, 0, 0, 0));
+        const uint8_t *given = i == FROM_CSV ? texts[CSV].bytes : ride;
+        WANT(is(calls[i](given, i == FROM_CSV ? texts[CSV].length : length, &texts[i]), GAZHDOR_GOOD, 0, 0, 0, 0, 0));
+        if (names[i] == NULL)
+            continue;
         char path[4096];
         snprintf(path, sizeof path, "%s/%s", folder, names[i]);
         FILE *file = fopen(path, "rb");
@@ -92,7 +96,7 @@ static void whole(const char *folder)
         fclose(file);
     }
     gazhdor_text bytes = { ride, length };
-    WANT(same(texts[3], bytes));
+    WANT(same(texts[FROM_CSV], bytes));
 }
 
 /* A front of a file is truncated at its end, and the text of what has come is a front of the text. The block has just that many
@@ -103,7 +107,7 @@ static void fronts(size_t step)
         uint8_t *front = malloc(end + (end == 0));
         memcpy(front, ride, end);
         WANT(is(gazhdor_check(front, end), GAZHDOR_TRUNCATED, 0, end, 0, 0, 0));
-        for (int i = 0; i < 3; i++) {
+        for (int i = 0; i < READERS; i++) {
             gazhdor_text text = GAZHDOR_NO_TEXT;
             WANT(is(calls[i](front, end, &text), GAZHDOR_TRUNCATED, 0, end, 0, 0, 0));
             WANT(begins(text, texts[i]));
@@ -122,7 +126,7 @@ static void changed(size_t step)
         gazhdor_answer found = gazhdor_check(ride, length);
         WANT(found.status == GAZHDOR_REFUSED ? at <= found.place && found.place < length && 1 <= found.reason && found.reason <= 11
                                          : is(found, GAZHDOR_TRUNCATED, 0, length, 0, 0, 0));
-        for (int i = 0; i < 3; i++) {
+        for (int i = 0; i < READERS; i++) {
             gazhdor_text text = GAZHDOR_NO_TEXT;
             WANT(is(calls[i](ride, length, &text), found.status, found.reason, found.place, 0, 0, 0));
             gazhdor_free(text);
@@ -166,10 +170,10 @@ static void others(void)
 static void nothing(void)
 {
     WANT(is(gazhdor_check(NULL, 0), GAZHDOR_TRUNCATED, 0, 0, 0, 0, 0));
-    for (int i = 0; i < 4; i++) {
+    for (int i = 0; i < CALLS; i++) {
         gazhdor_text text = GAZHDOR_NO_TEXT, front = GAZHDOR_NO_TEXT;
         gazhdor_answer answer = calls[i](NULL, 0, &text);
-        WANT(i == 3 ? is(answer, GAZHDOR_TEXT, 0, 0, 1, 0, 0) : is(answer, GAZHDOR_TRUNCATED, 0, 0, 0, 0, 0));
+        WANT(i == FROM_CSV ? is(answer, GAZHDOR_TEXT, 0, 0, 1, 0, 0) : is(answer, GAZHDOR_TRUNCATED, 0, 0, 0, 0, 0));
         calls[i]((const uint8_t *)"", 0, &front);
         WANT(same(text, front));
         gazhdor_free(text);
@@ -202,14 +206,14 @@ static void want(void)
             break;
         WANT(is(a, GAZHDOR_NO_MEMORY, 0, 0, 0, 0, 0) || is(a, GAZHDOR_GOOD, 0, 0, 0, 0, 1));
     }
-    for (int i = 0; i < 4; i++)
+    for (int i = 0; i < CALLS; i++)
         for (refused = 1;; refused++) {
             growths = 0;
             gazhdor_text text = GAZHDOR_NO_TEXT;
-            gazhdor_answer a = calls[i](i == 3 ? texts[1].bytes : ride, i == 3 ? texts[1].length : length, &text);
+            gazhdor_answer a = calls[i](i == FROM_CSV ? texts[CSV].bytes : ride, i == FROM_CSV ? texts[CSV].length : length, &text);
             long made = growths;
             WANT(made < refused || is(a, GAZHDOR_NO_MEMORY, 0, 0, 0, 0, 0) || (a.status == GAZHDOR_GOOD && same(text, texts[i])));
-            WANT(i == 3 && a.status != GAZHDOR_GOOD ? text.length == 0 : begins(text, texts[i]));
+            WANT(i == FROM_CSV && a.status != GAZHDOR_GOOD ? text.length == 0 : begins(text, texts[i]));
             gazhdor_free(text);
             WANT(blocks == before);
             if (made < refused)
@@ -223,8 +227,8 @@ static void *in_thread(void *given)
     for (long i = 0; i < *(long *)given; i++) {
         gazhdor_text text = GAZHDOR_NO_TEXT;
         WANT(is(gazhdor_check(ride, length), GAZHDOR_GOOD, 0, 0, 0, 0, 1));
-        WANT(is(calls[i % 3](ride, length, &text), GAZHDOR_GOOD, 0, 0, 0, 0, 0));
-        WANT(same(text, texts[i % 3]));
+        WANT(is(calls[i % READERS](ride, length, &text), GAZHDOR_GOOD, 0, 0, 0, 0, 0));
+        WANT(same(text, texts[i % READERS]));
         gazhdor_free(text);
     }
     return NULL;
@@ -256,7 +260,7 @@ int main(int argc, char **argv)
     named();
     want();
     threads(600 / (long)step);
-    for (int i = 0; i < 4; i++)
+    for (int i = 0; i < CALLS; i++)
         gazhdor_free(texts[i]);
     free(ride);
     return 0;
