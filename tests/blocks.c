@@ -181,6 +181,10 @@ static void changed_values(gazhdor_text blocks, uint8_t *bytes)
     /* A definition that hasn't come, and lengths that no block has. */
     static const uint8_t lengths[] = { 0, 16, 32, 57, 255 };
     bytes[place + 24] = 9;
+    at = gazhdor_read(blocks);
+    while (at.block.kind != GAZHDOR_MESSAGE)
+        WANT(gazhdor_next(&at));
+    WANT(at.message == GAZHDOR_NO_MESSAGE && at.definition.bytes == NULL);
     blocks.bytes += place;
     blocks.length = 248;
     at = gazhdor_read(blocks);
