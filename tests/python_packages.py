@@ -219,7 +219,7 @@ except ImportError as error:
 
 TYPED = """
 import datetime, gzip, io, pathlib
-from typing import BinaryIO, Iterator, List, Optional, Tuple, Union
+from typing import Any, BinaryIO, Dict, Iterator, List, Optional, Tuple, Union
 import gazhdor
 
 def use(upload: BinaryIO, opened: io.BufferedReader) -> None:
@@ -232,6 +232,15 @@ def use(upload: BinaryIO, opened: io.BufferedReader) -> None:
     rows: Iterator[Tuple[int, Iterator[gazhdor.Row]]] = gazhdor.files(opened)
     text: str = gazhdor.table_text(sources[1]) + gazhdor.to_csv(upload) + gazhdor.show(opened)
     back: bytes = gazhdor.from_csv(text)
+    for message in gazhdor.messages(upload, only=["session", 20], partial=True):
+        time: Union[datetime.datetime, str, None] = message.time
+        seconds: float = message["total_elapsed_time"] + message[0, 2] + message.get(3, 0)
+        told: Tuple[Optional[str], Optional[float], Optional[int], int] = (message.name, message.speed, message.seconds, message.place)
+        for field in message.fields:
+            value: gazhdor.Value = field.value
+            of: Tuple[Optional[str], int, Optional[int], Optional[str]] = (field.name, field.number, field.developer, message.unit("a"))
+    lists: Dict[gazhdor.Key, List[Any]] = gazhdor.lists(opened, "record", ["heart_rate", 3, (0, 1)])
+    arrays: Dict[gazhdor.Key, Any] = gazhdor.columns(opened, 20, partial=True)
     try:
         gazhdor.check(gzip.open("a"))
     except gazhdor.ReadFailed as error:
@@ -240,6 +249,7 @@ def use(upload: BinaryIO, opened: io.BufferedReader) -> None:
         place: Optional[int] = fault.place
 """
 WRONG = ("gazhdor.check(io.StringIO())", "gazhdor.check(5)", "gazhdor.from_csv(pathlib.Path())", "gazhdor.table('a').place", "row: str = gazhdor.check('a').row")
+WRONG += ("gazhdor.messages('a', only=1.5)", "gazhdor.lists('a', 'record', [1.5])", "next(gazhdor.messages('a')).place = 5", "gazhdor.columns('a')")
 
 
 class Types(unittest.TestCase):

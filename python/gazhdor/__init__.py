@@ -7,6 +7,9 @@
         print(answer)                       # refused at byte 3258: FileSum
     for row in gazhdor.table("ride.fit"):
         print(row.timestamp, row.heart_rate)
+    for message in gazhdor.messages("ride.fit", only="session"):
+        print(message.time, message["total_elapsed_time"], message.unit("total_elapsed_time"))
+    columns = gazhdor.columns("ride.fit", "record", ["timestamp", "heart_rate"])    # arrays of numpy
 
 Each call reads the whole file, hands its bytes to the proved library of Gazhdor, and keeps nothing. The library lets other
 threads run meanwhile. A file object is read from where it is to its end, and stays open.
@@ -16,7 +19,7 @@ refused, `ReadFailed` where a read fails, `NotBinary` where a file object gives 
 `import gazhdor` raises a `LibraryError` where the library can't be used. The variable GAZHDOR_LIBRARY names another libgazhdor.so
 than the one beside this file, or in the tree that of release/.
 
-From a shell: python3 -m gazhdor check|show|table|to-csv|from-csv [FILE..]
+From a shell: python3 -m gazhdor check|show|table|json|to-csv|from-csv [FILE..]
 """
 import csv
 import datetime
@@ -24,12 +27,15 @@ import io
 import itertools
 from typing import Any, Iterator, NamedTuple, Optional, Tuple, Union
 
-from ._answers import NO_MEMORY, REFUSED, TRUNCATED, Answer
+from ._answers import Answer
+from ._columns import columns, frame, lists
 from ._library import VERSION as __version__
 from ._library import library as _library
 from ._library import text_of as _text_of
+from ._messages import Field, Message, messages, when
 from ._sources import Readable, Source
 from ._sources import bytes_of as _bytes_of
+from ._values import Key, Value
 from .errors import (
     FitError,
     LibraryError,
@@ -43,6 +49,8 @@ from .errors import (
     WrongMachine,
     WrongVersion,
 )
+from .errors import judge as _judge
+from .errors import judged as _judged
 
 __all__ = [
     "check",
@@ -52,8 +60,17 @@ __all__ = [
     "to_csv",
     "show",
     "from_csv",
+    "messages",
+    "lists",
+    "columns",
+    "frame",
+    "when",
     "Answer",
     "Row",
+    "Message",
+    "Field",
+    "Key",
+    "Value",
     "Source",
     "Readable",
     "FitError",
@@ -98,20 +115,6 @@ class Row(NamedTuple):
     cadence: Optional[float]
     power: Optional[float]
     temperature: Optional[float]
-
-
-def _judge(answer: Answer) -> None:
-    if answer._status == NO_MEMORY:
-        raise MemoryError("gazhdor: out of memory")
-    if not answer.good:
-        kind = {REFUSED: Refused, TRUNCATED: Truncated}.get(answer._status, TextRefused)
-        raise kind(answer)
-
-
-def _judged(answer: Answer, partial: bool) -> None:
-    """Raises what is wrong; of what may be had in part, only that memory was refused."""
-    if answer._status == NO_MEMORY or not partial:
-        _judge(answer)
 
 
 def check(source: Source) -> Answer:

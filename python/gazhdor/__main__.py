@@ -1,14 +1,17 @@
-"""The command: python3 -m gazhdor check|show|table|to-csv|from-csv [FILE..]"""
+"""The command: python3 -m gazhdor check|show|table|json|to-csv|from-csv [FILE..]"""
 import os
 import sys
 from typing import List, Optional, Tuple
 
-from . import FitError, __version__, _judge, check, from_csv
+from . import FitError, __version__, check, from_csv
+from ._json import line
 from ._library import library, text_of
+from ._messages import messages
 from ._sources import bytes_of
+from .errors import judge
 
 _TEXTS = {"show": library.gazhdor_show, "to-csv": library.gazhdor_to_csv, "table": library.gazhdor_table}
-_USAGE = "usage: python3 -m gazhdor check|show|table|to-csv|from-csv [FILE..]"
+_USAGE = "usage: python3 -m gazhdor check|show|table|json|to-csv|from-csv [FILE..]"
 
 
 def _read(path: str) -> bytes:
@@ -29,10 +32,13 @@ def _write(command: str, path: str, data: bytes) -> int:
         return 0 if answer else 1
     if command == "from-csv":
         output.write(from_csv(data))
+    elif command == "json":
+        for message in messages(data, partial=True):
+            output.write(f"{line(message)}\n".encode())
     else:
         answer, text = text_of(_TEXTS[command], data)
         output.write(text)
-        _judge(answer)
+        judge(answer)
     return 0
 
 
@@ -55,7 +61,7 @@ def _main(words: List[str]) -> int:
     if words[:1] == ["--version"]:
         print(f"gazhdor {__version__}")
         return 0
-    if not words or words[0] not in ("check", "from-csv", *_TEXTS):
+    if not words or words[0] not in ("check", "json", "from-csv", *_TEXTS):
         print(_USAGE, file=sys.stderr)
         return 2
     command, paths = words[0], words[2:] if words[1:2] == ["--"] else words[1:]

@@ -77,7 +77,8 @@ def _load(version: str) -> ctypes.CDLL:
         library.gazhdor_version.argtypes, library.gazhdor_version.restype = (), ctypes.c_char_p
         library.gazhdor_check.argtypes, library.gazhdor_check.restype = (ctypes.c_char_p, ctypes.c_size_t), Answer
         library.gazhdor_free.argtypes, library.gazhdor_free.restype = (_Text,), None
-        for call in (library.gazhdor_table, library.gazhdor_to_csv, library.gazhdor_show, library.gazhdor_from_csv):
+        for name in ("table", "to_csv", "show", "from_csv", "messages"):
+            call = getattr(library, f"gazhdor_{name}")
             call.argtypes, call.restype = (ctypes.c_char_p, ctypes.c_size_t, ctypes.POINTER(_Text)), Answer
     except AttributeError as error:
         raise LibraryUnusable(f"{path} isn't a library of gazhdor {version}: {error}", path) from None

@@ -1,7 +1,7 @@
 """What can be wrong: with the bytes or the text (FitError), with what they come from, and with the library itself."""
 from typing import Optional, Tuple, Type
 
-from ._answers import Answer
+from ._answers import NO_MEMORY, REFUSED, TRUNCATED, Answer
 
 
 class FitError(ValueError):
@@ -66,3 +66,18 @@ class WrongVersion(LibraryError):
 
 class WrongMachine(LibraryError):
     """The library is for another processor or system."""
+
+
+def judge(answer: Answer) -> None:
+    """Raises what is wrong."""
+    if answer._status == NO_MEMORY:
+        raise MemoryError("gazhdor: out of memory")
+    if not answer.good:
+        kind = {REFUSED: Refused, TRUNCATED: Truncated}.get(answer._status, TextRefused)
+        raise kind(answer)
+
+
+def judged(answer: Answer, partial: bool) -> None:
+    """Raises what is wrong; of what may be had in part, only that memory was refused."""
+    if answer._status == NO_MEMORY or not partial:
+        judge(answer)

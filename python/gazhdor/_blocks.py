@@ -1,0 +1,89 @@
+"""Walks the blocks of events that the library makes (docs/BLOCKS.md): which messages there are, and of which definitions."""
+import struct
+from typing import Any, Callable, Dict, Iterable, Iterator, NamedTuple, Optional, Tuple, Union
+
+from ._library import library, text_of
+from ._sources import Source, bytes_of
+from ._values import Definition
+from .errors import judge, judged
+
+Kind = Union[str, int]
+Only = Union[None, str, int, Iterable[Kind]]
+
+DEFINITION, MESSAGE = 2, 3
+_FRONT = struct.Struct("<IBBB").unpack_from
+_NUMBER = struct.Struct("<H").unpack_from
+
+
+class Run(NamedTuple):
+    """Messages of one definition that follow one another: where the first block begins, how many there are, and how long each is."""
+
+    definition: Definition
+    first: int
+    messages: int
+    length: int
+
+    def places(self) -> range:
+        return range(self.first, self.first + self.messages * self.length, self.length)
+
+
+def _count(blocks: bytes, first: int, length: int, local: int) -> int:
+    """How many messages of one local message type stand one after another from a place on. No definition is between them, so all are
+    of the same one, and each begins where the one before ends. It looks at one more, at two more, at four more and so on."""
+    kind, local_type = bytes([MESSAGE]), bytes([local])
+    count = piece = 1
+    while True:
+        at = first + count * length
+        end = at + piece * length
+        kinds, locals_ = blocks[at + 4 : end : length], blocks[at + 6 : end : length]
+        same = min(len(kinds) - len(kinds.lstrip(kind)), len(locals_) - len(locals_.lstrip(local_type)))
+        count += same
+        if same < piece:
+            return count
+        piece *= 2
+
+
+def _wants(only: Only) -> Callable[[int, bytes], bool]:
+    """What tells by its number and its name, in bytes, whether a message is asked for."""
+    if only is None:
+        return lambda number, name: True
+    kinds = {only} if isinstance(only, (str, int, bytes)) else set(only)
+    for kind in kinds:
+        if not isinstance(kind, (str, int)):
+            raise TypeError(f"a message is named by its name or its number, and not by {type(kind).__name__}")
+    numbers = {kind for kind in kinds if isinstance(kind, int)}
+    names = {kind.encode("utf-8", "replace") for kind in kinds if isinstance(kind, str) and kind}
+    return lambda number, name: number in numbers or name in names
+
+
+def runs(blocks: bytes, only: Only = None) -> Iterator[Run]:
+    """Yields the messages that are asked for, those that follow one another together."""
+    wants = _wants(only)
+    known: Dict[bytes, Optional[Definition]] = {}
+    # the last definition of each local message type, where it is asked for
+    current: Dict[int, Optional[Definition]] = {}
+    at, end = 0, len(blocks)
+    while at < end:
+        length, kind, first, second = _FRONT(blocks, at)
+        if kind == MESSAGE:
+            count = _count(blocks, at, length, second)
+            definition = current[second]
+            if definition:
+                yield Run(definition, at, count, length)
+            length *= count
+        elif kind == DEFINITION:
+            # All but its place and its number says the same of messages.
+            data = blocks[at : at + length]
+            same = data[12:16] + data[32:]
+            if same not in known:
+                wanted = wants(_NUMBER(data, 32)[0], data[40 : data.index(0, 40)])
+                known[same] = Definition(data) if wanted else None
+            current[first] = known[same]
+        at += length
+
+
+def blocks_of(source: Source, partial: bool) -> Tuple[bytes, Any]:
+    """The blocks of a source, and what raises what is wrong with it: with `partial` later, and else at once."""
+    answer, blocks = text_of(library.gazhdor_messages, bytes_of(source))
+    judged(answer, partial)
+    return blocks, lambda: judge(answer)

@@ -1,0 +1,208 @@
+"""Messages as values, made from their blocks."""
+import datetime
+import struct
+from typing import Any, Dict, Iterator, Optional, Tuple, Union
+
+from ._blocks import Only, blocks_of, runs
+from ._sources import Source
+from ._values import Definition, Entry, Exact, Key, Raw, Value, label, read_exact, read_raw
+
+Time = Union[datetime.datetime, str]
+
+_EPOCH = datetime.datetime(1989, 12, 31, tzinfo=datetime.timezone.utc)
+SYSTEM_TIMES = 0x10000000  # A time below is the device's own, which didn't know the time of day.
+_FILE, _PLACE, _TIME = struct.Struct("<I").unpack_from, struct.Struct("<Q").unpack_from, struct.Struct("<I").unpack_from
+
+
+def when(seconds: int) -> Time:
+    """Returns the time that a field of type date_time stands for, in seconds since 1989-12-31T00:00:00 UTC: an aware datetime in UTC;
+    below 268,435,456 the text 'system+N', as the device didn't know the time."""
+    return f"system+{seconds}" if seconds < SYSTEM_TIMES else _EPOCH + datetime.timedelta(0, seconds)
+
+
+class Field:
+    """A field of a message.
+
+    name       its name in the profile, or that which the file gives to a developer field; None where there is none
+    number     its number
+    developer  of a developer field its developer data index, else None
+    unit       its unit, as 'm/s', or None
+    value      a whole number as an int; a scaled number, in its unit, and float32 and float64 as a float; several numbers as a tuple of
+               these; a text as a str, up to its first zero; bytes as bytes. None stands for a number that is the invalid one of its
+               base type, for an empty text, for bytes of type byte that are all 0xFF, and for a field without bytes
+    exact      `value`, but a scaled whole number as a Decimal, with as many decimals as `to_csv` writes
+    raw        what the file has: an int for each number, unscaled and invalid ones too, of a float its bits; all bytes of a text or of
+               bytes
+    """
+
+    __slots__ = ("_block", "_entry")
+
+    def __init__(self, block: bytes, entry: Entry) -> None:
+        self._block, self._entry = block, entry
+
+    @property
+    def name(self) -> Optional[str]:
+        return self._entry.name
+
+    @property
+    def number(self) -> int:
+        return self._entry.number
+
+    @property
+    def developer(self) -> Optional[int]:
+        return self._entry.index
+
+    @property
+    def unit(self) -> Optional[str]:
+        return self._entry.unit
+
+    @property
+    def value(self) -> Value:
+        return self._entry.read(self._block)
+
+    @property
+    def exact(self) -> Exact:
+        return read_exact(self._entry, self.value, self.raw)
+
+    @property
+    def raw(self) -> Raw:
+        return read_raw(self._entry, self._block)
+
+    def __repr__(self) -> str:
+        return f"<gazhdor.Field {label(self.name or self._entry.key)}={self.value!r}{f' {self.unit}' if self.unit else ''}>"
+
+
+class Message:
+    """A data message. It keeps its own bytes and what its definition says, and makes a value when it is asked for it.
+
+    A field is named by its name, by its number, or, a developer field, by (index, number), the index being its developer data index:
+    `message["heart_rate"]`, `message[3]`, `message["Form power"]`, `message[0, 2]`. The values are those of `Field.value`. Where the
+    message has no such field, that is a KeyError, and `get` returns None. Of several fields of one name the first counts.
+    """
+
+    __slots__ = ("_block", "_definition")
+
+    def __init__(self, block: bytes, definition: Definition) -> None:
+        self._block, self._definition = block, definition
+
+    def __getitem__(self, key: Key) -> Any:
+        return self._definition.readers[key](self._block)
+
+    def __contains__(self, key: object) -> bool:
+        return key in self._definition.readers
+
+    def get(self, key: Key, default: Any = None) -> Any:
+        """Returns the value of a field, or `default` where the message has no such field."""
+        read = self._definition.readers.get(key)
+        return read(self._block) if read else default
+
+    def unit(self, key: Key) -> Optional[str]:
+        """Returns the unit of a field, as 'bpm', or None where nothing names one. It raises KeyError where there is no such field."""
+        return self._definition.by_key[key].unit
+
+    def field(self, key: Key) -> Field:
+        """Returns a field. It raises KeyError where the message has no such field."""
+        return Field(self._block, self._definition.by_key[key])
+
+    @property
+    def fields(self) -> Tuple[Field, ...]:
+        """All fields, in the order of the definition, and then all developer fields."""
+        return tuple(Field(self._block, entry) for entry in self._definition.entries)
+
+    def as_dict(self) -> Dict[str, Value]:
+        """Returns the values by their names; where there is none, by `field_N`, or `dev_I_N`, I being the developer data index."""
+        block = self._block
+        return {name: entry.read(block) for name, entry in self._definition.labels.items()}
+
+    @property
+    def name(self) -> Optional[str]:
+        """The name of the message in the profile, as 'record', or None."""
+        return self._definition.name
+
+    @property
+    def number(self) -> int:
+        """The global message number, as 20 for 'record'."""
+        return self._definition.number
+
+    @property
+    def local(self) -> int:
+        """The local message type, 0 to 15."""
+        return self._block[6]
+
+    @property
+    def file(self) -> int:
+        """The number of the file in the chain, counted from 1."""
+        number: int = _FILE(self._block, 8)[0]
+        return number
+
+    @property
+    def place(self) -> int:
+        """The place of the message's first byte in the source, counted from 0."""
+        place: int = _PLACE(self._block, 16)[0]
+        return place
+
+    @property
+    def time(self) -> Optional[Time]:
+        """The time of the message, as `when` has it: that of field 253 where it is valid, else that of a compressed timestamp header;
+        None where it has none."""
+        return when(_TIME(self._block, 12)[0]) if self._block[5] & 1 else None
+
+    @property
+    def seconds(self) -> Optional[int]:
+        """The time of the message in seconds since 1989-12-31T00:00:00 UTC, or since the device began; None where it has none."""
+        seconds: Optional[int] = _TIME(self._block, 12)[0] if self._block[5] & 1 else None
+        return seconds
+
+    @property
+    def header_time(self) -> Optional[Time]:
+        """The time that a compressed timestamp header gives, as `when` has it, or None."""
+        return when(_PLACE(self._block, 32)[0]) if self._block[5] & 2 else None
+
+    @property
+    def time_offset(self) -> Optional[int]:
+        """The time offset of a compressed timestamp header, 0 to 31; None where the header is a normal one."""
+        offset = self._block[7]
+        return None if offset == 0xFF else offset
+
+    def _amount(self, bit: int, at: int) -> Optional[int]:
+        amount: int = _PLACE(self._block, at)[0] if self._block[5] & bit else None
+        return amount
+
+    @property
+    def speed(self) -> Optional[float]:
+        """Metres a second, of a record with `compressed_speed_distance`; else None."""
+        amount = self._amount(4, 40)
+        return None if amount is None else amount / 100
+
+    @property
+    def distance(self) -> Optional[float]:
+        """Metres, accumulated over the file from `compressed_speed_distance`; None in a message without it."""
+        amount = self._amount(8, 48)
+        return None if amount is None else amount / 16
+
+    @property
+    def total_cycles(self) -> Optional[int]:
+        """Cycles, accumulated over the file; None in a message without them."""
+        return self._amount(16, 56)
+
+    @property
+    def accumulated_power(self) -> Optional[int]:
+        """Watts, accumulated over the file; None in a message without it."""
+        return self._amount(32, 64)
+
+    def __repr__(self) -> str:
+        return f"<gazhdor.Message {self.name or self.number}: {self.as_dict()}>"
+
+    def __reduce__(self) -> Any:
+        return Message, (self._block, self._definition)
+
+
+def messages(source: Source, only: Only = None, partial: bool = False) -> Iterator[Message]:
+    """Yields a Message for each data message; with `only`, a name or a number or several of these, for such messages alone, and makes
+    nothing of the others. The source is read when the first is asked for. With `partial` a fault is raised after the messages before
+    it, else before the first message, as `Refused` or `Truncated`."""
+    blocks, judge = blocks_of(source, partial)
+    for definition, first, count, length in runs(blocks, only):
+        for at in range(first, first + count * length, length):
+            yield Message(blocks[at : at + length], definition)
+    judge()
