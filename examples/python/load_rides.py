@@ -1,52 +1,116 @@
-"""Loads the tables of many rides into a new database of sqlite3: load_rides.py DATABASE PROCESSES FILE..
+"""Loads the record messages of many rides into a new database of sqlite3: load_rides.py DATABASE PROCESSES FILE..
 
-Each process reads and converts files, and this one fills the database: a row of `ride` for each file with what was found of it,
-and a row of `record` for each record message, also of those before a fault. A file that can't be read has no records, and its
-finding says why. Run it with PYTHONPATH naming the folder python/."""
-import datetime
+Each process fills a database of its own, of which this one makes one: a row of `ride` for each file with what was found of it, and
+a row of `record` for each record message, also of those before a fault. A file that can't be read has no records, and its finding
+says why. Run it with PYTHONPATH naming the folder python/."""
+import functools
+import itertools
 import multiprocessing
 import os
 import sqlite3
 import sys
+import tempfile
 import time
 
 import gazhdor
 
+TABLES = (
+    "create table ride (id integer primary key, path text, finding text)",
+    "create table record (ride integer, file integer, timestamp text, position_lat real, position_long real, altitude real,"
+    " distance real, speed real, heart_rate real, cadence real, power real, temperature real)",
+)
+FIELDS = (".file", ".seconds", "position_lat", "position_long", "enhanced_altitude", "altitude", "distance", ".distance")
+FIELDS += ("enhanced_speed", "speed", ".speed", "heart_rate", "cadence", "power", "temperature")
+SECONDS = [f"{second:02}+00:00" for second in range(60)]
 
-def load(path):
-    rows, size = [], 0
+
+@functools.lru_cache(maxsize=1000)
+def minute(number):
+    return str(gazhdor.when(60 * number))[:17]
+
+
+def times(seconds):
+    """Times as text. A minute is made once."""
+    if None in seconds or (seconds and min(seconds) < 2**28):
+        return [None if second is None else str(gazhdor.when(second)) for second in seconds]
+    return [minute(second // 60) + SECONDS[second % 60] for second in seconds]
+
+
+def degrees(semicircles):
+    return [None if number is None else number * (180 / 2**31) for number in semicircles]
+
+
+def either(first, *others):
+    """Of columns of the same thing the first value that is there."""
+    for other in others:
+        if None in first:
+            first = [two if one is None else one for one, two in zip(first, other)]
+    return first
+
+
+def columns(data):
+    """The columns of `record` but its first."""
+    found = gazhdor.lists(data, "record", FIELDS, partial=True)
+    yield found[".file"]
+    yield times(found[".seconds"])
+    yield degrees(found["position_lat"])
+    yield degrees(found["position_long"])
+    yield either(found["enhanced_altitude"], found["altitude"])
+    yield either(found["distance"], found[".distance"])
+    yield either(found["enhanced_speed"], found["speed"], found[".speed"])
+    for name in ("heart_rate", "cadence", "power", "temperature"):
+        yield found[name]
+
+
+def begin(folder):
+    """What a process does first: it makes its own database, which needs no journal."""
+    global into
+    into = sqlite3.connect(os.path.join(folder, f"{os.getpid()}.db"))
+    for statement in ("pragma journal_mode = off", "pragma synchronous = off", *TABLES):
+        into.execute(statement)
+
+
+def load(job):
+    """What a process does with a file. It returns its size, how many records it has, and whether it is good."""
+    number, path = job
+    size = count = 0
     try:
         with open(path, "rb") as file:
             data = file.read()
-        size = len(data)
-        for row in gazhdor.table(data, partial=True):
-            when = row.timestamp
-            rows.append((row.file, when.isoformat(" ") if isinstance(when, datetime.datetime) else when, *row[2:]))
-        return path, size, "ok", rows
-    except (gazhdor.FitError, OSError) as error:
-        return path, size, str(error), rows
+        size, finding = len(data), str(gazhdor.check(data))
+        count = into.executemany("insert into record values (?, ?, ?, ?, ?, ?, ?, ?, ?, ?, ?, ?)", zip(itertools.repeat(number), *columns(data))).rowcount
+    except OSError as error:
+        finding = str(error)
     except MemoryError:
-        return path, size, "out of memory", rows
+        finding = "out of memory"
+    into.execute("insert into ride values (?, ?, ?)", (number, path, finding))
+    into.commit()
+    return size, max(count, 0), finding == "ok"
+
+
+def join(database, folder):
+    """Makes one database of those in a folder."""
+    whole = sqlite3.connect(database)
+    for statement in TABLES:
+        whole.execute(statement)
+    for name in os.listdir(folder):
+        whole.execute("attach ? as part", (os.path.join(folder, name),))
+        with whole:
+            whole.execute("insert into ride select * from part.ride")
+            whole.execute("insert into record select * from part.record")
+        whole.execute("detach part")
+    whole.close()
 
 
 def main(database, processes, paths):
     started = time.perf_counter()
-    into = sqlite3.connect(database)
-    into.execute("create table ride (id integer primary key, path text, finding text)")
-    into.execute(
-        "create table record (ride integer, file integer, timestamp text, position_lat real, position_long real, altitude real,"
-        " distance real, speed real, heart_rate real, cadence real, power real, temperature real)"
-    )
-    count = total = bad = 0
-    with multiprocessing.Pool(processes) as pool:
-        for number, (path, size, finding, rows) in enumerate(pool.imap_unordered(load, paths, chunksize=4)):
-            into.execute("insert into ride values (?, ?, ?)", (number, path, finding))
-            into.executemany("insert into record values (?, ?, ?, ?, ?, ?, ?, ?, ?, ?, ?, ?)", ((number, *row) for row in rows))
-            count, total, bad = count + len(rows), total + size, bad + (finding != "ok")
-    into.commit()
-    into.close()
+    with tempfile.TemporaryDirectory(dir=os.path.dirname(os.path.abspath(database))) as folder:
+        with multiprocessing.Pool(processes, begin, (folder,)) as pool:
+            done = list(pool.imap_unordered(load, enumerate(paths), chunksize=4))
+        join(database, folder)
+    total, count, good = map(sum, zip(*done))
     took = time.perf_counter() - started
-    print(f"{len(paths)} files, {bad} not good, {count} rows, {total / 1e6:.1f} MB in {took:.2f} s with {processes} processes")
+    print(f"{len(paths)} files, {len(paths) - good} not good, {count} rows, {total / 1e6:.1f} MB in {took:.2f} s with {processes} processes")
 
 
 if __name__ == "__main__":
