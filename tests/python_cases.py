@@ -311,8 +311,29 @@ class Shell(unittest.TestCase):
 
 
 class Examples(unittest.TestCase):
+    def compare(self, found, path):
+        """Records of the database with the rows of the table before a fault; these have seven decimals of a degree."""
+        rows = [line.split(",") for line in gazhdor.table_text(path, partial=True).splitlines()[1:]]
+        self.assertEqual(len(found), len(rows))
+        for (_, file, when, lat, lon, *others), row in zip(found, rows):
+            self.assertEqual((str(file), when), (row[0], row[1].replace("T", " ").replace("Z", "+00:00")))
+            self.assertEqual((lat is None, lon is None), (not row[2], not row[3]))
+            self.assertAlmostEqual(lat or 0, float(row[2] or 0), delta=6e-8)
+            self.assertAlmostEqual(lon or 0, float(row[3] or 0), delta=6e-8)
+            self.assertEqual(others, [float(cell) if cell else None for cell in row[4:]])
+
+    def odd(self, size, cell, time):
+        """A file of two records, with a power that sqlite3 has no whole number for, and with one or two heart rates."""
+        rows = ["row,a,b,c,d,e,f", "file,14,32,2065,sum,,", "def,0,0,little,20,3,", "fdef,253,4,134,,,", f"fdef,3,{size},2,,,", "fdef,7,8,143,,,"]
+        for seconds, power in ((time, "18446744073709551614"), (time + 60, "")):
+            rows += ["data,0,,record,,,", f"field,timestamp,{seconds},s,,,", f"field,heart_rate,{cell},bpm,,,", f"field,power,{power},watts,,,"]
+        path = os.path.join(WORK, f"odd{time}{cell}.fit")
+        with open(path, "wb") as file:
+            file.write(gazhdor.from_csv("\n".join([*rows, "end,,,,,,\n"])))
+        return path
+
     def test_many_rides(self):
-        """Ten rides of two minutes, one that is cut, and one that isn't there, loaded by two processes."""
+        """Ten rides of two minutes, one that is cut, one that isn't there, and odd ones, loaded by two processes."""
         folder, database = os.path.join(WORK, "rides"), os.path.join(WORK, "rides.db")
         self.assertEqual(run("examples/python/make_rides.py", folder, "10", "2").returncode, 0)
         paths = sorted(os.path.join(folder, name) for name in os.listdir(folder))
@@ -321,16 +342,20 @@ class Examples(unittest.TestCase):
         with open(paths[0], "rb") as whole, open(cut, "wb") as file:
             file.write(whole.read()[:1000])
         none = os.path.join(WORK, "none.fit")
-        done = run("examples/python/load_rides.py", database, "2", *paths, cut, none)
+        odd = [self.odd(size, cell, time) for size, cell, time in ((1, "60", 77), (2, "60|61", 1000000000), (2, "|60", 1000000000))]
+        done = run("examples/python/load_rides.py", database, "2", *paths, cut, none, *odd)
         self.assertEqual((done.returncode, done.stderr), (0, b""))
-        self.assertIn(b"12 files, 2 not good, ", done.stdout)
+        self.assertIn(b"15 files, 2 not good, 1", done.stdout)
         with sqlite3.connect(database) as into:
-            self.assertEqual(into.execute("select count(*) from ride where finding = 'ok'").fetchone(), (10,))
+            self.assertEqual(into.execute("select count(*) from ride where finding = 'ok'").fetchone(), (13,))
             self.assertEqual(into.execute("select finding from ride where path = ?", (cut,)).fetchone(), ("truncated at byte 1000",))
             finding = into.execute("select finding from ride where path = ?", (none,)).fetchone()[0]
             self.assertIn("No such file or directory", finding)
             counts = into.execute("select count(*) from record join ride on ride.id = record.ride where finding = 'ok' group by record.ride").fetchall()
-            self.assertEqual(counts, 10 * [(120,)])
+            self.assertEqual(sorted(counts), 3 * [(2,)] + 10 * [(120,)])
+            for path in (paths[3], cut, *odd):
+                found = into.execute("select record.* from record join ride on ride.id = record.ride where path = ? order by record.rowid", (path,)).fetchall()
+                self.compare(found, path)
         into.close()
         # It fills no database that is there already.
         done = run("examples/python/load_rides.py", database, "2", cut)

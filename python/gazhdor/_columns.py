@@ -100,9 +100,8 @@ def _part(blocks: bytes, view: memoryview, run: Run, key: Key) -> List[Any]:
     items = _items(view, run, entry.begins, entry.item_code)
     numbers = _items(view, run, entry.begins, entry.float_code) if entry.kind == FLOAT else items
     if value:
-        scale, shift = entry.scale, entry.scale * entry.offset
-        whole = entry.kind != FLOAT and scale != 1
-        numbers = [(number - shift) / scale for number in numbers] if whole else list(map(value, numbers))
+        scale = entry.scale
+        numbers = [number / scale for number in numbers] if entry.offset == 0 and scale != 1 else list(map(value, numbers))
     return [None if item == invalid else number for item, number in zip(items, numbers)] if invalid in items else numbers
 
 
