@@ -450,16 +450,18 @@ KEYS = [".file", ".place", ".local", ".seconds", ".speed", ".distance", ".total_
 class Columns(unittest.TestCase):
     sources = [*MIXED, b"".join(MIXED), 30 * MIXED[0], BYTES, 2 * BYTES]
 
-    def wanted(self, source, key, message="record"):
-        named = isinstance(key, str) and key.startswith(".")
-        return [getattr(m, key[1:]) if named else m.time if key == "timestamp" else m.get(key) for m in gazhdor.messages(source, only=message)]
+    def wanted(self, messages, key):
+        """What a list has of these messages."""
+        if key == "timestamp":
+            return [message.time for message in messages]
+        return [getattr(message, key[1:]) if isinstance(key, str) and key[0] == "." else message.get(key) for message in messages]
 
     def test_lists(self):
         for source in self.sources:
-            found = gazhdor.lists(source, "record", [*KEYS, "timestamp", ".time"])
+            messages, found = list(gazhdor.messages(source, only=20)), gazhdor.lists(source, "record", [*KEYS, "timestamp", ".time"])
             self.assertEqual(list(found), [*KEYS, "timestamp", ".time"])
             for key, column in found.items():
-                self.assertEqual(repr(column), repr(self.wanted(source, key)))
+                self.assertEqual(repr(column), repr(self.wanted(messages, key)))
         self.assertEqual(gazhdor.lists(MIXED[0], 21, [253]), {253: [1000000050]})
 
     def test_all_fields(self):
@@ -471,8 +473,9 @@ class Columns(unittest.TestCase):
         r = random.Random(20260102)
         for _ in range(20):
             source = b"".join(any_file(r) for _ in range(3))
+            messages = list(gazhdor.messages(source, only="record"))
             for key, column in gazhdor.lists(source, "record").items():
-                self.assertEqual(repr(column), repr(self.wanted(source, key)))
+                self.assertEqual(repr(column), repr(self.wanted(messages, key)))
 
     def test_wrong_words(self):
         for message, fields in ((None, None), (["record"], None), ("record", "heart_rate"), ("record", 3)):

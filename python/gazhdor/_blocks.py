@@ -30,8 +30,10 @@ class Run(NamedTuple):
 def _count(blocks: bytes, first: int, length: int, local: int) -> int:
     """How many messages of one local message type stand one after another from a place on. No definition is between them, so all are
     of the same one, and each begins where the one before ends. It looks at one more, at two more, at four more and so on."""
-    kind, local_type = bytes([MESSAGE]), bytes([local])
     count = piece = 1
+    if blocks[first + length + 4 : first + length + 7 : 2] != bytes([MESSAGE, local]):
+        return 1
+    kind, local_type = bytes([MESSAGE]), bytes([local])
     while True:
         at = first + count * length
         end = at + piece * length
