@@ -231,12 +231,10 @@ static inline int gazhdor_next(gazhdor_reader *reader)
     return 1;
 }
 
-/* A text in a block, with the zero that ends it; "" where it doesn't end there. */
+/* A text in bytes of which the last is a zero; "" where it isn't. */
 static inline const char *gazhdor_name_at(gazhdor_block block, size_t at)
 {
-    if (at >= block.length || memchr(block.bytes + at, 0, block.length - at) == NULL)
-        return "";
-    return (const char *)(block.bytes + at);
+    return at < block.length && block.bytes[block.length - 1] == 0 ? (const char *)(block.bytes + at) : "";
 }
 
 /* The name of the messages of a definition, as "record"; "" where the profile has none. */

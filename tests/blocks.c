@@ -171,13 +171,24 @@ static void changed_values(gazhdor_text blocks, uint8_t *bytes)
     gazhdor_field time = gazhdor_first_field(at.definition);
     size_t place = (size_t)(at.block.bytes - bytes);
     WANT(gazhdor_value(time, at.block, 0) == 1000000031 && !gazhdor_developer(at.definition, 0, 253).there);
+    WANT(gazhdor_items(time, at.definition).bytes == NULL && gazhdor_header_time(at.definition) == GAZHDOR_NO_TIME);
+    gazhdor_block other = at.definition;
+    other.kind = GAZHDOR_MESSAGE;
+    WANT(gazhdor_message_name(at.block)[0] == 0 && !gazhdor_first_field(other).there && !gazhdor_field_at(at.definition, 49).there);
     time.scale = 0;
     WANT(isnan(gazhdor_value(time, at.block, 0)));
     time.scale = 1;
     time.kind = GAZHDOR_BYTES;
     WANT(isnan(gazhdor_value(time, at.block, 0)));
+    time.kind = GAZHDOR_FLOAT;
+    WANT(!isnan(gazhdor_value(time, at.block, 0)));
+    time.width = 2;
+    WANT(isnan(gazhdor_value(time, at.block, 0)));
     bytes[place + 5] |= 4 << GAZHDOR_SPEED;
     WANT(isnan(gazhdor_amount(at.block, GAZHDOR_SPEED)));
+    bytes[at.definition.bytes - bytes + 5] = 4;
+    WANT(isnan(gazhdor_amount(at.definition, GAZHDOR_SPEED)));
+    bytes[at.definition.bytes - bytes + 5] = 0;
     /* A definition that hasn't come, and lengths that no block has. */
     static const uint8_t lengths[] = { 0, 16, 32, 57, 255 };
     bytes[place + 24] = 9;

@@ -100,6 +100,17 @@ static void put_string(gazhdor_field field, gazhdor_block message)
     }
 }
 
+/* The bits of a float; gazhdor_value gives the number that has them. Of those that are no number it gives none. */
+static void put_float(gazhdor_field field, gazhdor_block message, size_t k)
+{
+    uint64_t raw, bits = 0;
+    double wide = gazhdor_value(field, message, k);
+    float narrow = (float)wide;
+    gazhdor_raw(field, message, k, &raw);
+    memcpy(&bits, field.width == 8 ? (void *)&wide : (void *)&narrow, field.width);
+    printf("0x%0*llX%s", 2 * field.width, (unsigned long long)raw, bits == raw || isnan(wide) ? "" : " has another value");
+}
+
 static void put_value(gazhdor_field field, gazhdor_block message)
 {
     if (field.kind == GAZHDOR_STRING) {
@@ -110,13 +121,12 @@ static void put_value(gazhdor_field field, gazhdor_block message)
     if (field.kind == GAZHDOR_BYTES)
         put_hex(items.bytes, items.length);
     for (size_t k = 0; k < field.count && field.kind != GAZHDOR_BYTES; k++) {
-        uint64_t raw;
         if (k != 0)
             putchar('|');
-        if (field.kind != GAZHDOR_FLOAT)
+        if (field.kind == GAZHDOR_FLOAT)
+            put_float(field, message, k);
+        else
             put_number(field, message, k);
-        else if (gazhdor_raw(field, message, k, &raw) || items.length != 0)
-            printf("0x%0*llX", 2 * field.width, (unsigned long long)raw);
     }
     putchar(',');
 }
