@@ -162,7 +162,7 @@ static void developer(gazhdor_reader *at)
     WANT(!gazhdor_next(at) && at->block.bytes == NULL && !gazhdor_next(at));
 }
 
-/* What doesn't belong together, or is no block, gives nothing. */
+/* What doesn't belong together gives nothing. */
 static void changed_values(gazhdor_text blocks, uint8_t *bytes)
 {
     gazhdor_reader at = gazhdor_read(blocks);
@@ -189,8 +189,16 @@ static void changed_values(gazhdor_text blocks, uint8_t *bytes)
     bytes[at.definition.bytes - bytes + 5] = 4;
     WANT(isnan(gazhdor_amount(at.definition, GAZHDOR_SPEED)));
     bytes[at.definition.bytes - bytes + 5] = 0;
-    /* A definition that hasn't come, and lengths that no block has. */
+}
+
+/* Nor does a message whose definition hasn't come; and what is no block ends them. */
+static void no_blocks(gazhdor_text blocks, uint8_t *bytes)
+{
     static const uint8_t lengths[] = { 0, 16, 32, 57, 255 };
+    gazhdor_reader at = gazhdor_read(blocks);
+    while (at.message != 20)
+        WANT(gazhdor_next(&at));
+    size_t place = (size_t)(at.block.bytes - bytes);
     bytes[place + 24] = 9;
     at = gazhdor_read(blocks);
     while (at.block.kind != GAZHDOR_MESSAGE)
@@ -222,6 +230,7 @@ static void known_values(void)
     numbers(&at);
     developer(&at);
     changed_values(blocks, bytes);
+    no_blocks(blocks, bytes);
 }
 
 /* ---- blocks with changes, in memory of just their length */
