@@ -12,3 +12,4 @@ mod Planned
 mod ShownFacts
 mod TextFacts
 mod KnownCounters
+pub mod SliceReads
