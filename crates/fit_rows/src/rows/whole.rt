@@ -86,49 +86,6 @@ fn after_rows<'a>(
     Ok(after_beginning(text, written.as_slice()))
 }
 
-/// A record and what is left of a text after its rows, in the same way.
-#[inline(always)]
-fn compared<'a>(
-    maker: &mut RowMaker,
-    written: &mut Vec<u8>,
-    before: &Stream,
-    record_: Record,
-    text: &'a [u8],
-) -> Result<Option<(Record, &'a [u8])>, AllocError>
-    requires { AreCurrent message_key maker.old.templates before.now }
-    ensures current { AreCurrent message_key maker.new.templates before.now }
-    ensures fits { IfOk result (λ found. IfSome found (λ p. Fits (known before.now) p.0)) }
-    ensures text { IfOk result (λ found. IfSome found (λ p.
-        text.now ≡ csv_text (record_rows before.now p.0) ++ p.1.now)) }
-    ensures found { IfOk result (λ found. (left : List ℕ) → Fits (known before.now) record_
-        → text.now ≡ csv_text (record_rows before.now record_) ++ left → IsSome found) }
-{
-    match after_rows(maker, written, before, &record_, text)? {
-        Some(left) => Ok(Some((record_, left))),
-        None => Ok(None),
-    }
-}
-
-/// The record that a text is guessed to begin with, and what is left of the text, where the guess is right.
-#[inline(always)]
-fn guessed_record<'a>(
-    maker: &mut RowMaker,
-    written: &mut Vec<u8>,
-    before: &Stream,
-    text: &'a [u8],
-) -> Result<Option<(Record, &'a [u8])>, AllocError>
-    requires { AreCurrent message_key maker.old.templates before.now }
-    ensures current { AreCurrent message_key maker.new.templates before.now }
-    ensures fits { IfOk result (λ found. IfSome found (λ p. Fits (known before.now) p.0)) }
-    ensures text { IfOk result (λ found. IfSome found (λ p.
-        text.now ≡ csv_text (record_rows before.now p.0) ++ p.1.now)) }
-{
-    match likely_record(maker, written, before, text) {
-        Some(record_) => compared(maker, written, before, record_, text),
-        None => Ok(None),
-    }
-}
-
 /// The data message with whose rows a text begins, and what is left of the text. It is found where the rows have no quotation mark.
 #[cold]
 #[inline(never)]
@@ -146,8 +103,12 @@ fn exact_record<'a>(
         → Fits (known before.now) (Data v) → text.now ≡ csv_text (data_rows before.now v) ++ left
         → HasNoQuotes (csv_text (data_rows before.now v)) → IsSome found) }
 {
-    match exact_message(maker, written, before, text)? {
-        Some(values) => compared(maker, written, before, Record::Values(values), text),
+    let Some(values) = exact_message(maker, written, before, text)? else {
+        return Ok(None);
+    };
+    let record_ = Record::Values(values);
+    match after_rows(maker, written, before, &record_, text)? {
+        Some(left) => Ok(Some((record_, left))),
         None => Ok(None),
     }
 }
@@ -192,8 +153,11 @@ impl MessageReader {
             → HasNoQuotes (csv_text (data_rows before.now v)) → IsSome found) }
     {
         self.maker.templates.forget();
-        match guessed_record(&mut self.maker, &mut self.written, before, text)? {
-            Some(found) => Ok(Some(found)),
+        let Some(record_) = likely_record(&mut self.maker, &mut self.written, before, text) else {
+            return exact_record(&mut self.maker, &mut self.written, before, text);
+        };
+        match after_rows(&mut self.maker, &mut self.written, before, &record_, text)? {
+            Some(left) => Ok(Some((record_, left))),
             None => exact_record(&mut self.maker, &mut self.written, before, text),
         }
     }
