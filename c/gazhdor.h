@@ -116,8 +116,9 @@ const char *gazhdor_version(void);
  *         printf("%lu %g\n", (unsigned long)gazhdor_time(at.block), gazhdor_value(heart, at.block, 0));
  *     }
  *
- * Not proved. None of these reads outside the blocks that it is given, whatever bytes they have and whatever the other arguments are;
- * what isn't there is NAN, 0, "" or NULL, as each says. Names and texts lie in the blocks, and last as long as they do. */
+ * Not proved. None of these reads outside the blocks that it is given, which are memory of their length, whatever bytes they have and
+ * whatever the other numbers are. What isn't there is NAN, 0, "" or NULL, as each says. Names and texts lie in the blocks, and last as
+ * long as they do. */
 
 /* What a block tells. */
 enum gazhdor_kind { GAZHDOR_FILE_HEADER = 1, GAZHDOR_DEFINITION = 2, GAZHDOR_MESSAGE = 3, GAZHDOR_FILE_END = 4 };
