@@ -8,3 +8,4 @@ pub mod SheetFacts
 mod SkippedMessages
 pub mod ToldEvents
 pub mod TakenDefinitions
+pub mod BlockLengths

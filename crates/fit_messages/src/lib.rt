@@ -4,6 +4,7 @@
 mod bytes;
 mod definition;
 mod items;
+pub mod laws;
 mod message;
 mod report;
 mod sheet;

@@ -53,6 +53,7 @@ returns c = on_ok_weaker c.put_both.result (λ put v is_record.
     let rest = parts_put (message_head file place number m.local m.offset (counts p.definition) (told before w)) (flat_map slot w.fields)
     (flat_map slot w.dev) b0 b1 b2 b3 c.clear.ensures.items head fields dev in
     subst (λ x. c.put_both.new.text.items ≡ old ++ message_after before file place (get_or c.args.numbers.now x.local 0) x) found.0
-    (put ∙ ap (λ b. old ++ sized b) (ap (λ b. with_sheet b c.add_all_read-2.new.sheet c.in_ok-at-2.at) c.as_slice.ensures.value ∙ rest)
+    (put ∙ ap (λ b. old ++ sized b)
+    (ap (λ b. with_sheet b c.add_all_read-2.new.sheet c.in_ok-at-2.at) c.as_slice.ensures.value ∙ rest)
     ∙ ap (λ b. old ++ b) (message_is before file place number w p known_)))
     c.put_both.ensures

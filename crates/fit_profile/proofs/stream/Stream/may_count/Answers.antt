@@ -1,4 +1,4 @@
-use Rattle.fit_profile.proofs.Common.{◌≡◌, ◌∙◌, ℕ, ap, subst, sym, false, Some, None, Environment, Defined, defined_at, known, Option}
+use Rattle.fit_profile.proofs.Common.{◌≡◌, ◌∙◌, ap, subst, sym, false, None, Environment, Defined, defined_at, known}
 use Rattle.std.specs.Prelude.{◌==◌, ◌&&◌, IfSome, slice_index_or}
 use Rattle.std.specs.Global.{Global}
 use Rattle.std.specs.List.{list_any}

@@ -1,4 +1,4 @@
-use Rattle.fit_profile.proofs.Common.{reverse, sym, same_Some, Some, told}
+use Rattle.fit_profile.proofs.Common.{reverse, sym, same_Some, Some}
 use Rattle.fit_record.specs.declared.message.Record.TheVariants.{Values as Data}
 use Rattle.fit_profile.proofs.Kept.{kept-record, told-now}
 use Rattle.fit_profile.proofs.stream.Stream.message_told.Goals as goal
