@@ -368,6 +368,8 @@ class Values(unittest.TestCase):
         definition = define(0, 20, [(18, 1, UINT8), (28, 2, UINT16)])
         told = [(m.total_cycles, m.accumulated_power, m.speed, m.distance) for m in gazhdor.messages(fit(definition, b"\0\xfa\xfe\xff", b"\0\4\1\0"))]
         self.assertEqual(told, [(250, 65534, None, None), (260, 65537, None, None)])
+        self.assertEqual([getattr(self.one((18, UINT8, b"\5"), number=20), name) for name in ("total_cycles", "accumulated_power")], [5, None])
+        self.assertEqual([getattr(self.one((28, UINT16, b"\5\0"), number=20), name) for name in ("total_cycles", "accumulated_power")], [None, 5])
 
     def test_one_number_twice(self):
         """Of several fields with one number the first counts; the others are among the fields."""
@@ -543,9 +545,10 @@ class Json(unittest.TestCase):
         found, _ = self.lines(SMALL)
         self.assertEqual((found[1]["speed"], found[1]["distance"], found[1]["fields"]), (1.0, 16.0, {"altitude": 0.0, "compressed_speed_distance": "0x640010"}))
         self.assertEqual((found[0]["time"], "speed" in found[0]), ("2021-09-08T01:47:11Z", False))
-        floats = fit(define(0, 65280, [(253, 4, UINT32), (0, 12, FLOAT32), (1, 2, STRING)]), packed("<BIIIf", 0, 5, 0x7FC00123, 0x7F800000, 0.5) + b"\n\0")
-        self.assertEqual(self.lines(floats)[0][0]["fields"], {"timestamp": 5, "field_0": [None, None, 0.5], "field_1": "\n"})
-        self.assertEqual(self.lines(floats)[0][0]["time"], "system+5")
+        floats = fit(define(0, 65280, [(253, 4, UINT32), (0, 12, FLOAT32), (1, 2, STRING), (2, 2, BYTE)]), packed("<BIIIf", 0, 5, 0x7FC00123, 0x7F800000, 0.5) + b"\n\0\xab\x0c")
+        (line,), _ = self.lines(floats)
+        self.assertEqual(line["fields"], {"timestamp": 5, "field_0": [None, None, 0.5], "field_1": "\n", "field_2": "0xAB0C"})
+        self.assertEqual(line["time"], "system+5")
 
 
 if __name__ == "__main__":

@@ -74,9 +74,8 @@ def runs(blocks: bytes, only: Only = None) -> Iterator[Run]:
                 yield Run(definition, at, count, length)
             length *= count
         elif kind == DEFINITION:
-            # All but its place and its number says the same of messages.
             data = blocks[at : at + length]
-            same = data[12:16] + data[32:]
+            same = data[32:]  # What comes before it says nothing of messages but their length, which is that of their fields.
             if same not in known:
                 wanted = wants(_NUMBER(data, 32)[0], data[40 : data.index(0, 40)])
                 known[same] = Definition(data) if wanted else None
