@@ -26,6 +26,23 @@ returns-in-Table-clause-tables g c = λ command fs b input are chain well good.
     (channel g.E.Sink.contents g.E.Sink.has_failed c.args.faults.now c.end_conversion-in-Table.new.faults)
     c.end_conversion-in-Table.result c.table-answer.result well good (c.table-answer.ensures.chain fs b input are chain) c.end_conversion-in-Table.ensures
 
+-- the pair of how the conversion went and of what was said of it
+pub returns-in-ToCsv-clause-runs : goal.returns-in-ToCsv-clause-runs
+returns-in-ToCsv-clause-runs g c =
+    subst (λ command. RunsCommand command
+    (channel g.S.Source.remaining g.S.Source.has_failed c.args.source.now c.to_csv-answer.new.source)
+    (channel g.K.Sink.contents g.K.Sink.has_failed c.args.output.now c.to_csv-answer.new.sink)
+    (channel g.E.Sink.contents g.E.Sink.has_failed c.args.faults.now c.end_conversion.new.faults)
+    c.end_conversion.result) (sym c.in-ToCsv.is) (c.to_csv-answer.result, c.to_csv-answer.ensures.converts, c.end_conversion.ensures)
+
+pub returns-in-Table-clause-runs : goal.returns-in-Table-clause-runs
+returns-in-Table-clause-runs g c =
+    subst (λ command. RunsCommand command
+    (channel g.S.Source.remaining g.S.Source.has_failed c.args.source.now c.table-answer.new.source)
+    (channel g.K.Sink.contents g.K.Sink.has_failed c.args.output.now c.table-answer.new.sink)
+    (channel g.E.Sink.contents g.E.Sink.has_failed c.args.faults.now c.end_conversion-in-Table.new.faults)
+    c.end_conversion-in-Table.result) (sym c.in-Table.is) (c.table-answer.result, c.table-answer.ensures.converts, c.end_conversion-in-Table.ensures)
+
 pub returns-in-FromCsv-clause-runs : goal.returns-in-FromCsv-clause-runs
 returns-in-FromCsv-clause-runs g c =
     subst (λ command. RunsCommand command
