@@ -55,11 +55,11 @@ def either(first, *others):
 def columns(data):
     """The columns of `record` but its first. It raises TypeError where a field is several numbers in one message, a text or bytes."""
     found = gazhdor.lists(data, "record", FIELDS, partial=True).values()
-    if not all(column.count(None) == len(column) or NUMBERS.issuperset(map(type, column)) for column in found):
-        raise TypeError
     file, seconds, lat, lon, enhanced_altitude, altitude, distance, accumulated, enhanced_speed, speed, compressed, *others = found
-    yield from (file, times(seconds), degrees(lat), degrees(lon), either(enhanced_altitude, altitude))
-    yield from (either(distance, accumulated), either(enhanced_speed, speed, compressed), *others)
+    numbers = (either(enhanced_altitude, altitude), either(distance, accumulated), either(enhanced_speed, speed, compressed), *others)
+    if not all(NUMBERS.issuperset(map(type, column)) for column in numbers):
+        raise TypeError
+    return (file, times(seconds), degrees(lat), degrees(lon), *numbers)
 
 
 def table(data):
@@ -112,10 +112,10 @@ def load(job):
 
 def join(database, folder):
     """Makes one database of those in a folder."""
+    first, *others = os.listdir(folder)
+    os.rename(os.path.join(folder, first), database)
     whole = sqlite3.connect(database)
-    for statement in TABLES:
-        whole.execute(statement)
-    for name in os.listdir(folder):
+    for name in others:
         whole.execute("attach ? as part", (os.path.join(folder, name),))
         with whole:
             whole.execute("insert into ride select * from part.ride")

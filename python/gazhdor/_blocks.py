@@ -2,13 +2,14 @@
 import struct
 from typing import Any, Callable, Dict, Iterable, Iterator, NamedTuple, Optional, Tuple, Union
 
-from ._library import library, text_of
+from ._library import library, memory_of
 from ._sources import Source, bytes_of
 from ._values import Definition
 from .errors import judge, judged
 
 Kind = Union[str, int]
 Only = Union[None, str, int, Iterable[Kind]]
+Blocks = Any  # bytes, or what else has slices that are bytes
 
 DEFINITION, MESSAGE = 2, 3
 _FRONT = struct.Struct("<IBBB").unpack_from
@@ -27,7 +28,7 @@ class Run(NamedTuple):
         return range(self.first, self.first + self.messages * self.length, self.length)
 
 
-def _count(blocks: bytes, first: int, length: int, local: int) -> int:
+def _count(blocks: Blocks, first: int, length: int, local: int) -> int:
     """How many messages of one local message type stand one after another from a place on. No definition is between them, so all are
     of the same one, and each begins where the one before ends. It looks at one more, at two more, at four more and so on."""
     count = piece = 1
@@ -58,7 +59,7 @@ def _wants(only: Only) -> Callable[[int, bytes], bool]:
     return lambda number, name: number in numbers or name in names
 
 
-def runs(blocks: bytes, only: Only = None) -> Iterator[Run]:
+def runs(blocks: Blocks, only: Only = None) -> Iterator[Run]:
     """Yields the messages that are asked for, those that follow one another together."""
     wants = _wants(only)
     known: Dict[bytes, Optional[Definition]] = {}
@@ -83,8 +84,8 @@ def runs(blocks: bytes, only: Only = None) -> Iterator[Run]:
         at += length
 
 
-def blocks_of(source: Source, partial: bool) -> Tuple[bytes, Any]:
+def blocks_of(source: Source, partial: bool) -> Tuple[Blocks, Callable[[], None]]:
     """The blocks of a source, and what raises what is wrong with it: with `partial` later, and else at once."""
-    answer, blocks = text_of(library.gazhdor_messages, bytes_of(source))
+    answer, blocks = memory_of(library.gazhdor_messages, bytes_of(source))
     judged(answer, partial)
     return blocks, lambda: judge(answer)

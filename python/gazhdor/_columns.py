@@ -4,7 +4,7 @@ import importlib
 from itertools import repeat
 from typing import Any, Dict, Iterable, List, NamedTuple, Optional
 
-from ._blocks import Kind, Run, blocks_of, runs
+from ._blocks import Blocks, Kind, Run, blocks_of, runs
 from ._messages import _EPOCH, SYSTEM_TIMES, when
 from ._sources import Source
 from ._values import FLOAT, Definition, Entry, Key, as_value, label, whole_number
@@ -40,7 +40,7 @@ def _needed(name: str) -> Any:
 class _Found(NamedTuple):
     """The blocks of a source, the runs of the messages that are asked for, and the fields of their columns."""
 
-    blocks: bytes
+    blocks: Blocks
     runs: List[Run]
     keys: List[Key]
 
@@ -49,10 +49,11 @@ class _Found(NamedTuple):
         return sum(run.messages for run in self.runs)
 
 
-def _all_keys(blocks: bytes, found: List[Run]) -> List[Key]:
+def _all_keys(blocks: Blocks, found: List[Run]) -> List[Key]:
     """All fields that the messages have, first the time if one of them has a time."""
     keys: Dict[Key, None] = {}
-    if any(blocks[at + 5] & 1 for run in found for at in run.places()):
+    view = memoryview(blocks).cast("B")
+    if any(view[at + 5] & 1 for run in found for at in run.places()):
         keys[TIME] = None
     for run in found:
         # A developer field of this name is there by its numbers.
@@ -87,7 +88,7 @@ def _times(view: memoryview, run: Run) -> List[Any]:
     return [None if second == _NO_TIME else when(second) for second in seconds]
 
 
-def _part(blocks: bytes, view: memoryview, run: Run, key: Key) -> List[Any]:
+def _part(blocks: Blocks, view: memoryview, run: Run, key: Key) -> List[Any]:
     """The values of a field in the messages of a run."""
     entry = _entry(run.definition, key)
     if key in _TIMES:
@@ -114,7 +115,7 @@ def lists(source: Source, message: Kind, fields: Optional[Iterable[Key]] = None,
     ".speed", ".distance", ".total_cycles", ".accumulated_power". Without `fields` it is each field that one of the messages has, by its name
     where it has one. With `partial` it is what comes before a fault; else a fault is raised, as `Refused` or `Truncated`."""
     found = _find(source, message, fields, partial)
-    view = memoryview(found.blocks)
+    view = memoryview(found.blocks).cast("B")
     columns: Dict[Key, List[Any]] = {}
     for key in found.keys:
         columns[key] = []
@@ -129,7 +130,7 @@ def lists(source: Source, message: Kind, fields: Optional[Iterable[Key]] = None,
 class _Group:
     """All messages of one definition: their runs, and how many messages come before each."""
 
-    def __init__(self, numpy: Any, blocks: bytes, definition: Definition) -> None:
+    def __init__(self, numpy: Any, blocks: Blocks, definition: Definition) -> None:
         self.numpy, self.blocks, self.definition = numpy, blocks, definition
         self.runs: List[Run] = []
         self.before: List[int] = []

@@ -4,6 +4,7 @@ import os
 import pkgutil
 import platform
 import sys
+import weakref
 from typing import Any, Optional, Tuple
 
 from ._answers import Answer
@@ -104,13 +105,19 @@ library = _load(VERSION)
 _nothing = ctypes.create_string_buffer(1)
 
 
-def text_of(call: Any, data: bytes) -> Tuple[Answer, bytes]:
-    """What a call makes of some bytes, and its answer."""
+def memory_of(call: Any, data: bytes) -> Tuple[Answer, Any]:
+    """The answer of a call, and what it makes of some bytes: where the library has it, as an array of which slices are bytes. The
+    memory is freed when nothing uses the array any more."""
     text = _Text(ctypes.addressof(_nothing), 0)
     answer: Answer = call(data, len(data), ctypes.byref(text))
     if not text.length:
         return answer, b""
-    try:
-        return answer, ctypes.string_at(text.bytes or 0, text.length)
-    finally:
-        library.gazhdor_free(text)
+    memory = (ctypes.c_char * text.length).from_address(text.bytes or 0)
+    weakref.finalize(memory, library.gazhdor_free, text).atexit = False
+    return answer, memory
+
+
+def text_of(call: Any, data: bytes) -> Tuple[Answer, bytes]:
+    """The same as bytes."""
+    answer, memory = memory_of(call, data)
+    return answer, memory[:]
