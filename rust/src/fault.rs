@@ -111,7 +111,7 @@ impl Display for Reason {
     }
 }
 
-/// What is wrong, with the text of all that comes before it; where memory was refused, with the text of some of that.
+/// What is wrong, with the text or the messages of all that comes before it; where memory was refused, with those of some of that.
 ///
 /// ```
 /// // The first 2,000 bytes as CSV text, and nothing lost of them.
@@ -121,23 +121,23 @@ impl Display for Reason {
 /// assert!(text.starts_with("row,a,b,c,d,e,f\nfile,14,"));
 /// ```
 #[derive(Debug)]
-pub struct Stopped {
+pub struct Stopped<T = Text> {
     /// What is wrong.
     pub fault: Fault,
-    /// The text before it.
-    pub before: Text,
+    /// The text, or the [`Messages`](crate::Messages), before it.
+    pub before: T,
 }
 
-impl Display for Stopped {
+impl<T> Display for Stopped<T> {
     fn fmt(&self, f: &mut Formatter<'_>) -> fmt::Result {
         self.fault.fmt(f)
     }
 }
 
-impl Error for Stopped {}
+impl<T: fmt::Debug> Error for Stopped<T> {}
 
-impl From<Stopped> for Fault {
-    fn from(stopped: Stopped) -> Fault {
+impl<T> From<Stopped<T>> for Fault {
+    fn from(stopped: Stopped<T>) -> Fault {
         stopped.fault
     }
 }

@@ -1,4 +1,4 @@
-//! Checks FIT files, which watches and bicycle computers write, and converts them to text and back.
+//! Checks FIT files, which watches and bicycle computers write, reads their messages, and converts them to text and back.
 //!
 //! Each call works on bytes in memory and keeps nothing, so any number of threads may call at once. What a call returns is proved:
 //! this crate is a wrapper of Gazhdor's library, which is linked in, for x86-64 Linux.
@@ -14,17 +14,25 @@
 //! # }
 //! ```
 //!
-//! [`check`] and [`from_csv`] return a [`Fault`] where the bytes are no FIT file, or where memory is refused. [`table`], [`to_csv`] and
-//! [`show`] return a [`Stopped`], which has the text of all that comes before the fault too; `?` turns it into a [`Fault`].
+//! [`check`] and [`from_csv`] return a [`Fault`] where the bytes are no FIT file, or where memory is refused. [`table`], [`to_csv`],
+//! [`show`] and [`messages`] return a [`Stopped`], which has the text or the messages of all that comes before the fault too; `?` turns
+//! it into a [`Fault`].
 #![deny(missing_docs)]
 #![deny(unsafe_code)]
 
+mod blocks;
 mod fault;
+mod field;
 #[allow(unsafe_code)]
 mod library;
+mod message;
+mod time;
 
 pub use fault::{Fault, Reason, Stopped};
+pub use field::{Field, Raw, Value};
 pub use library::{Bytes, Text};
+pub use message::{Fields, Iter, Message, Messages};
+pub use time::Time;
 
 use fault::found;
 
@@ -110,6 +118,40 @@ pub fn show(files: &[u8]) -> Result<Text, Stopped> {
     whole(found(&answer), text)
 }
 
+/// Returns the messages as values: a [`Message`] for each data message of all files.
+///
+/// ```
+/// # std::env::set_current_dir(env!("GAZHDOR_RIDES")).unwrap();
+/// let ride = std::fs::read("ride.fit").unwrap();
+/// let messages = gazhdor::messages(&ride).unwrap();
+/// let laps = messages.iter().filter(|message| message.name() == Some("lap"));
+/// let metres: Vec<_> = laps.map(|lap| lap.value("total_distance")).collect();
+/// assert_eq!(metres, [Some(8558.46)]);
+///
+/// let first = messages.iter().next().unwrap();
+/// let time = first.field("time_created").unwrap();
+/// assert_eq!((time.number(), time.unit(), time.value(0)), (4, Some("s"), Some(1147937400.0)));
+/// ```
+///
+/// What it makes takes memory, about five times the size of a file of a plain ride.
+///
+/// # Errors
+///
+/// As for [`table`]; the [`Stopped`] has the messages before the fault.
+///
+/// ```
+/// # std::env::set_current_dir(env!("GAZHDOR_RIDES")).unwrap();
+/// # let ride = std::fs::read("ride.fit").unwrap();
+/// // All messages before the end of a ride that was broken off.
+/// let messages = gazhdor::messages(&ride[..2000]).unwrap_or_else(|stopped| stopped.before);
+/// let last = messages.iter().last().unwrap();
+/// assert_eq!((last.place(), last.value("altitude")), (1969, Some(399.4)));
+/// ```
+pub fn messages(files: &[u8]) -> Result<Messages, Stopped<Messages>> {
+    let (answer, blocks) = library::messages(files);
+    whole(found(&answer), Messages::new(blocks))
+}
+
 /// Returns the bytes of the FIT file or files that a CSV text describes, which is in UTF-8.
 ///
 /// ```
@@ -139,9 +181,9 @@ pub fn version() -> &'static str {
     library::version()
 }
 
-fn whole(fault: Option<Fault>, text: Text) -> Result<Text, Stopped> {
+fn whole<T>(fault: Option<Fault>, made: T) -> Result<T, Stopped<T>> {
     match fault {
-        None => Ok(text),
-        Some(fault) => Err(Stopped { fault, before: text }),
+        None => Ok(made),
+        Some(fault) => Err(Stopped { fault, before: made }),
     }
 }

@@ -29,6 +29,7 @@ extern "C" {
     fn gazhdor_table(bytes: *const u8, length: usize, text: *mut Made) -> Answer;
     fn gazhdor_to_csv(bytes: *const u8, length: usize, text: *mut Made) -> Answer;
     fn gazhdor_show(bytes: *const u8, length: usize, text: *mut Made) -> Answer;
+    fn gazhdor_messages(bytes: *const u8, length: usize, blocks: *mut Made) -> Answer;
     fn gazhdor_from_csv(text: *const u8, length: usize, bytes: *mut Made) -> Answer;
     fn gazhdor_free(text: Made);
     fn gazhdor_version() -> *const c_char;
@@ -158,6 +159,10 @@ pub(crate) fn to_csv(files: &[u8]) -> (Answer, Text) {
 
 pub(crate) fn show(files: &[u8]) -> (Answer, Text) {
     text(gazhdor_show, files)
+}
+
+pub(crate) fn messages(files: &[u8]) -> (Answer, Bytes) {
+    made(gazhdor_messages, files)
 }
 
 pub(crate) fn from_csv(text: &[u8]) -> (Answer, Bytes) {

@@ -1,0 +1,115 @@
+//! The blocks of bytes that the library makes of messages, as docs/BLOCKS.md has them. Whatever bytes they have, nothing here panics.
+
+pub(crate) const DEFINITION: u8 = 2;
+pub(crate) const MESSAGE: u8 = 3;
+/// The least length of the block of a definition or of a message, and that of any other.
+const FRONT: usize = 40;
+const LEAST: usize = 24;
+/// The least length of an entry: its numbers, its name and its unit.
+const ENTRY: usize = 48;
+
+/// Some bytes from a place on; none where there aren't so many.
+pub(crate) fn some<const N: usize>(bytes: &[u8], at: usize) -> Option<[u8; N]> {
+    bytes.get(at..at.checked_add(N)?)?.try_into().ok()
+}
+
+/// A number of 2, 4 or 8 bytes; 0 where it isn't there.
+pub(crate) fn two(bytes: &[u8], at: usize) -> u16 {
+    some(bytes, at).map_or(0, u16::from_le_bytes)
+}
+
+pub(crate) fn four(bytes: &[u8], at: usize) -> u32 {
+    some(bytes, at).map_or(0, u32::from_le_bytes)
+}
+
+pub(crate) fn eight(bytes: &[u8], at: usize) -> u64 {
+    some(bytes, at).map_or(0, u64::from_le_bytes)
+}
+
+/// Bytes up to the first zero, and all where there is none.
+pub(crate) fn up_to_zero(bytes: &[u8]) -> &[u8] {
+    &bytes[..bytes.iter().position(|&byte| byte == 0).unwrap_or(bytes.len())]
+}
+
+/// The name or unit that begins at a place; none where it is empty.
+pub(crate) fn text(bytes: &[u8], at: usize) -> Option<&str> {
+    let text = std::str::from_utf8(up_to_zero(bytes.get(at..)?)).ok()?;
+    Some(text).filter(|text| !text.is_empty())
+}
+
+/// The blocks of messages, each with that of its definition.
+#[derive(Debug, Clone)]
+pub(crate) struct Walk<'a> {
+    left: &'a [u8],
+    /// The last definition of each local message type; no bytes where there is none.
+    known: [&'a [u8]; 16],
+}
+
+impl<'a> Walk<'a> {
+    pub(crate) fn new(blocks: &'a [u8]) -> Walk<'a> {
+        Walk { left: blocks, known: [&[]; 16] }
+    }
+
+    /// The next block, of any kind; none where there isn't a whole one.
+    fn block(&mut self) -> Option<&'a [u8]> {
+        let left = std::mem::take(&mut self.left);
+        let length = usize::try_from(four(left, 0)).ok()?;
+        let block = left.get(..length)?;
+        let least = if matches!(block.get(4)?, &DEFINITION | &MESSAGE) { FRONT } else { LEAST };
+        if length < least || length % 8 != 0 {
+            return None;
+        }
+        self.left = &left[length..];
+        Some(block)
+    }
+}
+
+impl<'a> Iterator for Walk<'a> {
+    /// The block of the message, and that of its definition. Both have 40 bytes at least.
+    type Item = (&'a [u8], &'a [u8]);
+
+    fn next(&mut self) -> Option<(&'a [u8], &'a [u8])> {
+        loop {
+            let block = self.block()?;
+            match block[4] {
+                DEFINITION => self.known[usize::from(block[5] & 15)] = block,
+                MESSAGE => {
+                    let definition = self.known[usize::from(block[6] & 15)];
+                    if !definition.is_empty() && definition[24..32] == block[24..32] {
+                        return Some((block, definition));
+                    }
+                }
+                _ => {}
+            }
+        }
+    }
+}
+
+/// The entries of a definition, one for each field.
+#[derive(Debug, Clone)]
+pub(crate) struct Entries<'a> {
+    left: &'a [u8],
+}
+
+impl<'a> Entries<'a> {
+    pub(crate) fn new(definition: &'a [u8]) -> Entries<'a> {
+        let name = up_to_zero(&definition[FRONT..]).len();
+        Entries { left: definition.get(FRONT + 8 + name / 8 * 8..).unwrap_or(&[]) }
+    }
+}
+
+impl<'a> Iterator for Entries<'a> {
+    /// An entry, which has 48 bytes at least.
+    type Item = &'a [u8];
+
+    fn next(&mut self) -> Option<&'a [u8]> {
+        let left = std::mem::take(&mut self.left);
+        let length = usize::from(two(left, 0));
+        if length < ENTRY || length > left.len() {
+            return None;
+        }
+        let (entry, left) = left.split_at(length);
+        self.left = left;
+        Some(entry)
+    }
+}

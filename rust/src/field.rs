@@ -1,0 +1,212 @@
+//! A field of a message, and its values.
+use crate::blocks::{eight, four, some, text, two, up_to_zero};
+use std::fmt::{self, Debug, Formatter};
+use std::str;
+
+/// What the items of a field stand for.
+const SIGNED: u8 = 1;
+const FLOAT: u8 = 2;
+const TEXT: u8 = 3;
+const BYTES: u8 = 4;
+
+/// A field of a message: what its definition says of it, and its items.
+///
+/// An item of a text or of bytes is one byte. `docs/RUST.md` says in a table which field has which value.
+#[derive(Clone, Copy, PartialEq, Eq)]
+pub struct Field<'a> {
+    /// Its entry in the definition, of 48 bytes at least.
+    entry: &'a [u8],
+    /// All its items, in little endian; no bytes where the message doesn't have them.
+    items: &'a [u8],
+}
+
+/// An item of a field, just as it is in the file, also one that stands for no value.
+#[derive(Debug, Clone, Copy, PartialEq, Eq, Hash)]
+pub enum Raw {
+    /// A whole number, without scale and offset.
+    Unsigned(u64),
+    /// The same, of a signed base type.
+    Signed(i64),
+    /// The bits of a number of type float32, of which [`f32::from_bits`] makes the number.
+    Float32(u32),
+    /// The bits of a number of type float64.
+    Float64(u64),
+    /// A byte of a text or of bytes.
+    Byte(u8),
+}
+
+/// What a field, or an item of it, stands for.
+#[derive(Debug, Clone, Copy, PartialEq)]
+pub enum Value<'a> {
+    /// None: the invalid number of the base type, an empty text, bytes of type byte that are all 0xFF, a field of size 0.
+    None,
+    /// A whole number.
+    Unsigned(u64),
+    /// A whole number of a signed base type.
+    Signed(i64),
+    /// A number that the profile scales, in the unit of the field, or one of type float32 or float64.
+    Float(f64),
+    /// A text, up to its first zero.
+    Text(&'a str),
+    /// Bytes; numbers whose size isn't a multiple of their width; a text, up to its first zero, that isn't UTF-8.
+    Bytes(&'a [u8]),
+    /// Several numbers, which [`Field::item`] gives one by one.
+    Several,
+}
+
+impl<'a> Field<'a> {
+    /// The field of an entry of 48 bytes at least, in the block of a message.
+    pub(crate) fn new(entry: &'a [u8], message: &'a [u8]) -> Field<'a> {
+        let first = four(entry, 12) as usize;
+        let end = first.saturating_add(usize::from(entry[9]) * usize::from(entry[10]));
+        Field { entry, items: message.get(first..end).unwrap_or(&[]) }
+    }
+
+    /// Its name in the profile, as `heart_rate`, or that which the file gives to a developer field.
+    pub fn name(&self) -> Option<&'a str> {
+        text(self.entry, 32)
+    }
+
+    /// Its number in the message.
+    pub fn number(&self) -> u8 {
+        self.entry[4]
+    }
+
+    /// Of a developer field its developer data index.
+    pub fn developer(&self) -> Option<u8> {
+        (self.entry[5] != 0).then(|| self.entry[6])
+    }
+
+    /// Its unit, as `m/s`.
+    pub fn unit(&self) -> Option<&'a str> {
+        text(self.entry, two(self.entry, 2).into())
+    }
+
+    /// The code of its base type; of a developer field, that which the file says of it.
+    pub fn base_type(&self) -> u8 {
+        self.entry[7]
+    }
+
+    /// How many items it has.
+    pub fn count(&self) -> usize {
+        self.entry[10].into()
+    }
+
+    /// A whole number `n` of the field stands for `n / scale - offset` units.
+    pub fn scale(&self) -> u32 {
+        four(self.entry, 16)
+    }
+
+    /// See [`scale`](Field::scale).
+    pub fn offset(&self) -> u32 {
+        four(self.entry, 20)
+    }
+
+    /// How many decimals a scaled number has.
+    pub fn decimals(&self) -> u8 {
+        self.entry[11]
+    }
+
+    /// Item `k`, counted from 0, as a number in the field's unit: what a program mostly wants.
+    ///
+    /// It is none where the item says that there is no value, where there is no such item, and of texts and bytes. It is the nearest
+    /// `f64` where the item, and its offset times its scale, have at most 53 bits.
+    pub fn value(&self, k: usize) -> Option<f64> {
+        let number = match self.raw(k).filter(|_| self.is_valid(k))? {
+            Raw::Unsigned(number) => number as f64,
+            Raw::Signed(number) => number as f64,
+            Raw::Float32(bits) => f32::from_bits(bits).into(),
+            Raw::Float64(bits) => f64::from_bits(bits),
+            Raw::Byte(_) => return None,
+        };
+        let (scale, offset) = (f64::from(self.scale()), f64::from(self.offset()));
+        (scale != 0.0).then(|| (number - offset * scale) / scale)
+    }
+
+    /// Item `k`, counted from 0, as the file has it; none where there is no such item.
+    pub fn raw(&self, k: usize) -> Option<Raw> {
+        let (bits, width) = (self.bits(k)?, self.entry[9]);
+        match self.entry[8] {
+            TEXT | BYTES => Some(Raw::Byte(self.items[k])),
+            FLOAT if width == 4 => Some(Raw::Float32(bits as u32)),
+            FLOAT => Some(Raw::Float64(bits)),
+            SIGNED => {
+                let above = 64 - 8 * u32::from(width);
+                Some(Raw::Signed((bits << above) as i64 >> above))
+            }
+            _ => Some(Raw::Unsigned(bits)),
+        }
+    }
+
+    /// Whether there is an item `k` and it stands for a value. Each byte of bytes does, and each of a text but a zero.
+    pub fn is_valid(&self, k: usize) -> bool {
+        let invalid = eight(self.entry, 24);
+        self.bits(k).map_or(false, |bits| self.entry[8] == BYTES || bits != invalid)
+    }
+
+    /// Number `k`, counted from 0, as a whole number where the profile doesn't scale it. It is [`Value::None`] where [`value`](Field::value)
+    /// is none.
+    pub fn item(&self, k: usize) -> Value<'a> {
+        let is_plain = self.scale() == 1 && self.offset() == 0;
+        match self.raw(k).filter(|_| self.is_valid(k)) {
+            Some(Raw::Unsigned(number)) if is_plain => Value::Unsigned(number),
+            Some(Raw::Signed(number)) if is_plain => Value::Signed(number),
+            _ => self.value(k).map_or(Value::None, Value::Float),
+        }
+    }
+
+    /// What the whole field stands for.
+    pub fn whole(&self) -> Value<'a> {
+        match (self.entry[8], self.count()) {
+            (TEXT, _) => match (self.text(), up_to_zero(self.items)) {
+                (Some(text), _) => Value::Text(text),
+                (None, []) => Value::None,
+                (None, bytes) => Value::Bytes(bytes),
+            },
+            (BYTES, _) => {
+                let is_none = eight(self.entry, 24) == 0xFF && self.items.iter().all(|&byte| byte == 0xFF);
+                if is_none || self.items.is_empty() {
+                    Value::None
+                } else {
+                    Value::Bytes(self.items)
+                }
+            }
+            (_, 0) => Value::None,
+            (_, 1) => self.item(0),
+            _ => Value::Several,
+        }
+    }
+
+    /// The text of a text field, up to its first zero; none where it is empty or isn't UTF-8.
+    pub fn text(&self) -> Option<&'a str> {
+        (self.entry[8] == TEXT).then(|| text(self.items, 0)).flatten()
+    }
+
+    /// The bytes of all items, one after another: of numbers in little endian, whatever the file has.
+    pub fn bytes(&self) -> &'a [u8] {
+        self.items
+    }
+
+    /// The bits of an item.
+    fn bits(&self, k: usize) -> Option<u64> {
+        match self.entry[9] {
+            1 => self.items.get(k).map(|&byte| byte.into()),
+            2 => some(self.items, k.checked_mul(2)?).map(|bytes| u16::from_le_bytes(bytes).into()),
+            4 => some(self.items, k.checked_mul(4)?).map(|bytes| u32::from_le_bytes(bytes).into()),
+            8 => some(self.items, k.checked_mul(8)?).map(u64::from_le_bytes),
+            _ => None,
+        }
+    }
+}
+
+impl Debug for Field<'_> {
+    fn fmt(&self, f: &mut Formatter<'_>) -> fmt::Result {
+        let mut all = f.debug_struct("Field");
+        all.field("name", &self.name()).field("number", &self.number()).field("developer", &self.developer());
+        match self.whole() {
+            Value::Several => all.field("value", &(0..self.count()).map(|k| self.item(k)).collect::<Vec<_>>()),
+            value => all.field("value", &value),
+        };
+        all.field("unit", &self.unit()).finish()
+    }
+}

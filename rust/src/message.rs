@@ -1,0 +1,204 @@
+//! The messages of files, and what is read from them.
+use crate::blocks::{eight, four, text, two, Entries, Walk};
+use crate::field::Field;
+use crate::library::Bytes;
+use crate::time::Time;
+use std::fmt::{self, Debug, Formatter};
+use std::iter::FusedIterator;
+
+/// The messages of a file or a chain of files, which [`messages`](crate::messages) has made. They are freed when this is dropped.
+///
+/// A `for` over `&Messages` goes through them in their order.
+pub struct Messages {
+    blocks: Bytes,
+}
+
+impl Messages {
+    pub(crate) fn new(blocks: Bytes) -> Messages {
+        Messages { blocks }
+    }
+
+    /// Goes through the messages in their order.
+    pub fn iter(&self) -> Iter<'_> {
+        Iter::new(&self.blocks)
+    }
+}
+
+impl<'a> IntoIterator for &'a Messages {
+    type Item = Message<'a>;
+    type IntoIter = Iter<'a>;
+
+    fn into_iter(self) -> Iter<'a> {
+        self.iter()
+    }
+}
+
+impl Debug for Messages {
+    fn fmt(&self, f: &mut Formatter<'_>) -> fmt::Result {
+        f.debug_struct("Messages").field("bytes", &self.blocks.len()).finish_non_exhaustive()
+    }
+}
+
+/// Goes through [`Messages`].
+#[derive(Clone)]
+pub struct Iter<'a> {
+    walk: Walk<'a>,
+}
+
+impl<'a> Iter<'a> {
+    /// The messages of any bytes: up to where they are no blocks.
+    pub(crate) fn new(blocks: &'a [u8]) -> Iter<'a> {
+        Iter { walk: Walk::new(blocks) }
+    }
+}
+
+impl<'a> Iterator for Iter<'a> {
+    type Item = Message<'a>;
+
+    fn next(&mut self) -> Option<Message<'a>> {
+        self.walk.next().map(|(block, definition)| Message { block, definition })
+    }
+}
+
+impl FusedIterator for Iter<'_> {}
+
+impl Debug for Iter<'_> {
+    fn fmt(&self, f: &mut Formatter<'_>) -> fmt::Result {
+        f.debug_list().entries(self.clone()).finish()
+    }
+}
+
+/// A data message. What it gives lasts as long as the [`Messages`] that it is of.
+#[derive(Clone, Copy, PartialEq, Eq)]
+pub struct Message<'a> {
+    /// Its block and that of its definition, of 40 bytes at least.
+    block: &'a [u8],
+    definition: &'a [u8],
+}
+
+impl<'a> Message<'a> {
+    /// Its name in the profile, as `record`.
+    pub fn name(&self) -> Option<&'a str> {
+        text(self.definition, 40)
+    }
+
+    /// Its global message number, as 20 for `record`.
+    pub fn number(&self) -> u16 {
+        two(self.definition, 32)
+    }
+
+    /// Its local message type, 0 to 15.
+    pub fn local(&self) -> u8 {
+        self.block[6]
+    }
+
+    /// The number of its file in the chain, counted from 1.
+    pub fn file(&self) -> u32 {
+        four(self.block, 8)
+    }
+
+    /// The place of its first byte among those of the files, counted from 0.
+    pub fn place(&self) -> u64 {
+        eight(self.block, 16)
+    }
+
+    /// Its time: that of field 253 where it is valid, else that of a compressed timestamp header.
+    pub fn time(&self) -> Option<Time> {
+        self.tells(1).then(|| Time::new(four(self.block, 12)))
+    }
+
+    /// The time that a compressed timestamp header gives.
+    pub fn header_time(&self) -> Option<Time> {
+        self.tells(2).then(|| Time::new(four(self.block, 32)))
+    }
+
+    /// The time offset of a compressed timestamp header, 0 to 31; none where the header is a normal one.
+    pub fn time_offset(&self) -> Option<u8> {
+        Some(self.block[7]).filter(|&offset| offset != 0xFF)
+    }
+
+    /// Metres a second, of a record with `compressed_speed_distance`.
+    pub fn speed(&self) -> Option<f64> {
+        self.amount(4, 40).map(|speed| speed as f64 / 100.0)
+    }
+
+    /// Metres, accumulated over the file from `compressed_speed_distance`; none in a message without it.
+    pub fn distance(&self) -> Option<f64> {
+        self.amount(8, 48).map(|distance| distance as f64 / 16.0)
+    }
+
+    /// Cycles, accumulated over the file; none in a message without them.
+    pub fn total_cycles(&self) -> Option<u64> {
+        self.amount(16, 56)
+    }
+
+    /// Watts, accumulated over the file; none in a message without it.
+    pub fn accumulated_power(&self) -> Option<u64> {
+        self.amount(32, 64)
+    }
+
+    /// All fields, in the order of the definition, and then all developer fields.
+    pub fn fields(&self) -> Fields<'a> {
+        Fields { entries: Entries::new(self.definition), message: self.block }
+    }
+
+    /// The first field of this name; developer fields have names too.
+    pub fn field(&self, name: &str) -> Option<Field<'a>> {
+        let is_named = |entry: &&[u8]| entry[32..].starts_with(name.as_bytes()) && text(entry, 32) == Some(name);
+        Entries::new(self.definition).find(is_named).map(|entry| Field::new(entry, self.block))
+    }
+
+    /// The first field with this number, developer fields left out.
+    pub fn numbered(&self, number: u8) -> Option<Field<'a>> {
+        self.fields().find(|field| field.developer().is_none() && field.number() == number)
+    }
+
+    /// The first developer field with this developer data index and this number.
+    pub fn developer(&self, index: u8, number: u8) -> Option<Field<'a>> {
+        self.fields().find(|field| field.developer() == Some(index) && field.number() == number)
+    }
+
+    /// The first number of the first field of this name: `field(name)?.value(0)`.
+    pub fn value(&self, name: &str) -> Option<f64> {
+        self.field(name)?.value(0)
+    }
+
+    fn tells(&self, bit: u8) -> bool {
+        self.block[5] & bit != 0
+    }
+
+    fn amount(&self, bit: u8, at: usize) -> Option<u64> {
+        (self.tells(bit) && self.block.len() >= at + 8).then(|| eight(self.block, at))
+    }
+}
+
+impl Debug for Message<'_> {
+    fn fmt(&self, f: &mut Formatter<'_>) -> fmt::Result {
+        let mut all = f.debug_struct("Message");
+        all.field("name", &self.name()).field("number", &self.number()).field("file", &self.file());
+        all.field("place", &self.place()).field("time", &self.time()).field("fields", &self.fields()).finish()
+    }
+}
+
+/// Goes through the fields of a [`Message`].
+#[derive(Clone)]
+pub struct Fields<'a> {
+    entries: Entries<'a>,
+    message: &'a [u8],
+}
+
+impl<'a> Iterator for Fields<'a> {
+    type Item = Field<'a>;
+
+    fn next(&mut self) -> Option<Field<'a>> {
+        self.entries.next().map(|entry| Field::new(entry, self.message))
+    }
+}
+
+impl FusedIterator for Fields<'_> {}
+
+impl Debug for Fields<'_> {
+    fn fmt(&self, f: &mut Formatter<'_>) -> fmt::Result {
+        f.debug_list().entries(self.clone()).finish()
+    }
+}
