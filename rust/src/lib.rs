@@ -26,6 +26,8 @@ mod field;
 #[allow(unsafe_code)]
 mod library;
 mod message;
+#[cfg(test)]
+mod tests;
 mod time;
 
 pub use fault::{Fault, Reason, Stopped};

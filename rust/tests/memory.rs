@@ -1,5 +1,5 @@
 //! Each growth of memory refused in turn. This program's own malloc and realloc stand before those of the C library.
-use gazhdor::{check, from_csv, show, table, to_csv, Bytes, Fault, Stopped, Text};
+use gazhdor::{check, from_csv, messages, show, table, to_csv, Bytes, Fault, Messages, Stopped, Text};
 use std::cell::Cell;
 use std::ffi::c_void;
 use std::ptr;
@@ -73,6 +73,21 @@ fn see_bytes(result: Result<Bytes, Fault>) {
     }
 }
 
+fn see_messages(whole: &Messages, result: Result<Messages, Stopped<Messages>>) {
+    let made = match result {
+        Ok(made) => {
+            assert_eq!(made.iter().count(), whole.iter().count());
+            made
+        }
+        Err(stopped) => {
+            assert_eq!(stopped.fault, Fault::OutOfMemory);
+            stopped.before
+        }
+    };
+    assert!(made.iter().zip(whole).all(|(made, whole)| made == whole));
+    assert!(made.iter().count() <= whole.iter().count());
+}
+
 #[test]
 fn refused_memory_is_reported() {
     for call in [table, to_csv, show] {
@@ -83,6 +98,8 @@ fn refused_memory_is_reported() {
         grant(None);
         assert_eq!(first, Err(Fault::OutOfMemory));
     }
+    let whole = messages(RIDE).unwrap();
+    assert!(each_refused(|| messages(RIDE), |result| see_messages(&whole, result)) > 0);
     let text = to_csv(RIDE).unwrap();
     assert!(each_refused(|| from_csv(&text), see_bytes) > 0);
     each_refused(|| check(RIDE), |result| assert!(matches!(result, Ok(1) | Err(Fault::OutOfMemory))));
