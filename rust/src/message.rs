@@ -1,5 +1,5 @@
 //! The messages of files, and what is read from them.
-use crate::blocks::{eight, four, text, two, Entries, Walk};
+use crate::blocks::{eight, four, text, two, up_to_zero, Entries, Walk};
 use crate::field::Field;
 use crate::library::Bytes;
 use crate::time::Time;
@@ -144,7 +144,11 @@ impl<'a> Message<'a> {
 
     /// The first field of this name; developer fields have names too.
     pub fn field(&self, name: &str) -> Option<Field<'a>> {
-        let is_named = |entry: &&[u8]| entry[32..].starts_with(name.as_bytes()) && text(entry, 32) == Some(name);
+        let name = name.as_bytes();
+        let is_named = |entry: &&[u8]| entry[32..].starts_with(name) && up_to_zero(&entry[32..]) == name;
+        if name.is_empty() {
+            return None;
+        }
         Entries::new(self.definition).find(is_named).map(|entry| Field::new(entry, self.block))
     }
 
