@@ -12,6 +12,22 @@ const BYTES: u8 = 4;
 /// A field of a message: what its definition says of it, and its items.
 ///
 /// An item of a text or of bytes is one byte. `docs/RUST.md` says in a table which field has which value.
+///
+/// ```
+/// use gazhdor::{Raw, Value};
+///
+/// # std::env::set_current_dir(env!("GAZHDOR_RIDES")).unwrap();
+/// # let ride = std::fs::read("ride.fit").unwrap();
+/// let messages = gazhdor::messages(&ride).unwrap();
+/// let record = messages.iter().find(|message| message.name() == Some("record")).unwrap();
+/// let altitude = record.field("altitude").unwrap();
+/// assert_eq!((altitude.number(), altitude.unit(), altitude.value(0)), (2, Some("m"), Some(408.0)));
+/// assert_eq!((altitude.raw(0), altitude.scale(), altitude.offset()), (Some(Raw::Unsigned(4540)), 5, 500));
+///
+/// // A message and a field that the profile doesn't name.
+/// let course = messages.iter().find(|message| message.number() == 31).unwrap();
+/// assert_eq!(course.numbered(5).unwrap().whole(), Value::Text("Lake loop"));
+/// ```
 #[derive(Clone, Copy, PartialEq, Eq)]
 pub struct Field<'a> {
     /// Its entry in the definition, of 48 bytes at least.
@@ -38,7 +54,7 @@ pub enum Raw {
 /// What a field, or an item of it, stands for.
 #[derive(Debug, Clone, Copy, PartialEq)]
 pub enum Value<'a> {
-    /// None: the invalid number of the base type, an empty text, bytes of type byte that are all 0xFF, a field of size 0.
+    /// No value: the invalid number of the base type, an empty text, bytes of type byte that are all 0xFF, a field of size 0.
     None,
     /// A whole number.
     Unsigned(u64),

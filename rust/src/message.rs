@@ -69,6 +69,18 @@ impl Debug for Iter<'_> {
 }
 
 /// A data message. What it gives lasts as long as the [`Messages`] that it is of.
+///
+/// ```
+/// # std::env::set_current_dir(env!("GAZHDOR_RIDES")).unwrap();
+/// # let ride = std::fs::read("ride.fit").unwrap();
+/// let messages = gazhdor::messages(&ride).unwrap();
+/// let record = messages.iter().find(|message| message.name() == Some("record")).unwrap();
+/// assert_eq!((record.number(), record.file(), record.place()), (20, 1, 226));
+/// assert_eq!(record.time().unwrap().to_string(), "2026-05-17T07:30:00Z");
+/// assert_eq!((record.value("altitude"), record.value("heart_rate")), (Some(408.0), None));
+/// let names: Vec<_> = record.fields().filter_map(|field| field.name()).collect();
+/// assert_eq!(names[..4], ["timestamp", "position_lat", "position_long", "distance"]);
+/// ```
 #[derive(Clone, Copy, PartialEq, Eq)]
 pub struct Message<'a> {
     /// Its block and that of its definition, of 40 bytes at least.

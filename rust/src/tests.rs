@@ -1,5 +1,5 @@
 //! Blocks that are written by hand from docs/BLOCKS.md, and blocks whose bytes are changed, of which nothing must panic.
-use crate::{library, Field, Iter, Message, Value};
+use crate::{library, Field, Iter, Message, Raw, Value};
 
 const RIDE: &[u8] = include_bytes!(concat!(env!("GAZHDOR_RIDES"), "/ride.fit"));
 
@@ -106,6 +106,70 @@ fn all_kinds_by_hand() {
     let several = message.field("several").unwrap();
     assert_eq!([0, 1, 2, 3].map(|k| several.value(k)), [Some(0.01), Some(-327.68), None, Some(-0.01)]);
     assert_eq!(message.developer(7, 2), message.field("Form power"));
+    assert_eq!((message.fields().filter(|field| field.name().is_none()).count(), message.field("")), (1, None));
+}
+
+/// What the bits tell isn't there.
+#[test]
+fn a_message_that_is_too_short() {
+    let mut blocks = kinds_blocks();
+    blocks.truncate(blocks.len() - 96);
+    blocks.extend(block([3, 0xFC, 3, 255], u32::MAX, 99, &[&longs(&[0, NONE])]));
+    let message = Iter::new(&blocks).next().unwrap();
+    assert_eq!((message.speed(), message.distance()), (None, None));
+    assert_eq!((message.total_cycles(), message.accumulated_power()), (None, None));
+    assert!(message.fields().all(|field| field.whole() == Value::None || field.whole() == Value::Several));
+}
+
+/// A scale of 0 gives no value, nor do items that aren't whole in the message.
+#[test]
+fn odd_entries() {
+    let one = Some(Raw::Unsigned(1));
+    let entries = [
+        ([1, 1], [40, 1, 0], Some(1.0), one, 1),
+        ([1, 1], [40, 2, 3], Some(-2.5), one, 1),
+        ([1, 1], [40, 1, 3], Some(-2.0), one, 1),
+        ([1, 1], [40, 0, 3], None, one, 1),
+        ([1, 8], [40, 1, 0], Some(1.0), one, 8),
+        ([1, 9], [40, 1, 0], None, None, 0),
+        ([1, 1], [48, 1, 0], None, None, 0),
+        ([8, 255], [u32::MAX, 1, 0], None, None, 0),
+        ([0, 1], [40, 1, 0], None, None, 0),
+        ([3, 1], [40, 1, 0], None, None, 3),
+    ];
+    for ([width, count], numbers, value, raw, length) in entries {
+        let entry = entry("", "", [0, 0, 0, 2, 0, width, count, 0], numbers, 0);
+        let field = Field::new(&entry, &[1; 48]);
+        assert_eq!((field.value(0), field.raw(0), field.bytes().len()), (value, raw, length));
+        let plain = if numbers[1..] == [1, 0] { Value::Unsigned(1) } else { Value::Float(value.unwrap_or(0.0)) };
+        assert_eq!(field.item(0), if value.is_some() { plain } else { Value::None });
+    }
+    let none = entry("", "", [0, 0, 0, 13, 4, 1, 0, 0], [40, 1, 0], 0);
+    assert_eq!(Field::new(&none, &[1; 48]).whole(), Value::None);
+}
+
+/// What isn't a whole block ends the messages, and those without their definition are passed over.
+#[test]
+fn what_is_no_block() {
+    let mut blocks = kinds_blocks();
+    let first = usize::from(blocks[0]) + 256 * usize::from(blocks[1]);
+    let last = blocks.len();
+    blocks.extend_from_within(first..);
+    let count = |changes: &[(usize, u8)]| {
+        let mut blocks = blocks.clone();
+        changes.iter().for_each(|&(place, byte)| blocks[place] = byte);
+        Iter::new(&blocks).count()
+    };
+    assert_eq!((blocks[first], last - first), (96, 96));
+    assert_eq!((count(&[]), count(&[(first + 6, 0x13)]), count(&[(5, 0xF3)])), (2, 2, 2));
+    // the length of the first message: not a multiple of 8, too short, that of both, and more than there is
+    assert_eq!([95, 100, 0, 16, 32, 192, 200].map(|length| count(&[(first, length)])), [0, 0, 0, 0, 0, 1, 0]);
+    // another kind, a local message type and a number without a definition
+    assert_eq!(
+        [(first + 4, 9), (first + 6, 4), (first + 24, 1), (first + 31, 1)].map(|change| count(&[change])),
+        [1; 4]
+    );
+    assert_eq!((count(&[(4, 9)]), count(&[(5, 4)]), count(&[(24, 1)])), (0, 0, 0));
 }
 
 /// Asks for all that there is, and counts it.

@@ -181,16 +181,19 @@ fn texts_and_bytes() {
             assert_eq!((field.value(0), field.raw(0)), (None, bytes.first().map(|&byte| Raw::Byte(byte))));
         });
     }
-    let bytes: [(u8, &[u8], Value<'_>); 5] = [
+    let bytes: [(u8, &[u8], Value<'_>); 6] = [
         (13, &[0xFF, 0xFF], Value::None),
         (13, &[0xFF, 0], Value::Bytes(&[0xFF, 0])),
         (13, &[], Value::None),
         (200, &[1, 2], Value::Bytes(&[1, 2])),
         (0x84, &[1, 2, 3], Value::Bytes(&[1, 2, 3])),
+        (0x84, &[0xFF; 3], Value::Bytes(&[0xFF; 3])),
     ];
     for (code, bytes, whole) in bytes {
         last(&[define(0, PRIVATE, &[[0, bytes.len() as u8, code]], &[], false), data(0, &[bytes])], |message| {
-            assert_eq!((message.numbered(0).unwrap().whole(), message.fields().next().unwrap().text()), (whole, None));
+            let field = message.numbered(0).unwrap();
+            assert_eq!((field.whole(), field.text()), (whole, None));
+            assert!((0..bytes.len()).all(|k| field.is_valid(k)) && !field.is_valid(bytes.len()));
         });
     }
 }
