@@ -223,7 +223,8 @@ fn each_change() {
     for whole in [small_blocks(), kinds_blocks()] {
         let count = Iter::new(&whole).count();
         for end in 0..whole.len() {
-            assert!(Iter::new(&whole[..end].to_vec()).map(see).count() <= count);
+            let front = whole[..end].to_vec();
+            assert!(Iter::new(&front).map(see).count() <= count);
         }
         for place in 0..whole.len() {
             let mut blocks = whole.clone();

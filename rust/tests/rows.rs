@@ -219,7 +219,9 @@ fn random_files() {
 #[test]
 fn each_front() {
     for end in (0..RIDE.len()).step_by(7) {
-        compare(&RIDE[..end].to_vec());
+        // A block of just these bytes, so that valgrind sees a read past them.
+        let front = RIDE[..end].to_vec();
+        compare(&front);
     }
 }
 
