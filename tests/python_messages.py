@@ -1,11 +1,7 @@
 """What the messages of the module gazhdor must be: those that the rows of `to_csv` tell, read here by docs/CSV.md, of the ride, of recordings
 that bench/recording.c makes, and of files of random definitions and data; and blocks that are written here by docs/BLOCKS.md."""
-import collections
-import csv
 import datetime
-import decimal
 import io
-import json
 import math
 import os
 import pickle
@@ -15,155 +11,15 @@ import struct
 import subprocess
 import sys
 import unittest
-import warnings
 
 import gazhdor
 from gazhdor._library import library, text_of
+from python_fits import *
 
 RIDE = "examples/ride.fit"
 WORK = sys.argv.pop()
 with open(RIDE, "rb") as file:
     BYTES = file.read()
-
-# ---- files, written as the FIT protocol has them
-
-UINT8, STRING, BYTE, SINT16, UINT16, SINT32, UINT32, FLOAT32, FLOAT64, SINT64, UINT64 = 2, 7, 13, 0x83, 0x84, 0x85, 0x86, 0x88, 0x89, 0x8E, 0x8F
-# of each base type its width, its invalid item, and a letter: s signed, u unsigned, t text, f float, b bytes
-TYPES = {0: (1, 0xFF, "u"), 1: (1, 0x7F, "s"), 2: (1, 0xFF, "u"), 7: (1, 0, "t"), 10: (1, 0, "u"), 13: (1, 0xFF, "b")}
-TYPES.update({0x83: (2, 0x7FFF, "s"), 0x84: (2, 0xFFFF, "u"), 0x85: (4, 0x7FFFFFFF, "s"), 0x86: (4, 0xFFFFFFFF, "u")})
-TYPES.update({0x88: (4, 2**32 - 1, "f"), 0x89: (8, 2**64 - 1, "f"), 0x8B: (2, 0, "u"), 0x8C: (4, 0, "u")})
-TYPES.update({0x8E: (8, 2**63 - 1, "s"), 0x8F: (8, 2**64 - 1, "u"), 0x90: (8, 0, "u")})
-
-
-def checksum(data):
-    total = 0
-    for byte in data:
-        total ^= byte
-        for _ in range(8):
-            total = total >> 1 ^ (0xA001 if total & 1 else 0)
-    return struct.pack("<H", total)
-
-
-def fit(*records):
-    data = b"".join(records)
-    head = struct.pack("<BBHI4s", 14, 32, 2132, len(data), b".FIT")
-    head += checksum(head)
-    return head + data + checksum(head + data)
-
-
-def define(local, number, fields, developer=None, big=False):
-    """A definition message of fields (number, size, base type), and of developer fields (number, size, index)."""
-    record = struct.pack(">BBBHB" if big else "<BBBHB", 0x40 | (developer is not None) << 5 | local, 0, big, number, len(fields))
-    record += b"".join(map(bytes, fields))
-    return record if developer is None else record + bytes([len(developer)]) + b"".join(map(bytes, developer))
-
-
-DESCRIBE = define(15, 206, [(0, 1, UINT8), (1, 1, UINT8), (2, 1, UINT8), (3, 12, STRING), (8, 6, STRING)])
-
-
-def describe(index, number, code, name, unit):
-    return bytes([15, index, number, code]) + name.ljust(12, b"\0") + unit.ljust(6, b"\0")
-
-
-def any_bytes(r, size):
-    data = r.choice((bytes(size), b"\xff" * size, b"\xff\x7f" * size, bytes(r.randrange(256) for _ in range(size)), b"R\xc3\xa4der" * size))
-    return data[:size]
-
-
-def any_fields(r, number):
-    known = (253, 0, 1, 2, 3, 4, 5, 6, 7, 8, 13, 18, 28, 73, 78) if number == 20 else (253, 254, 0, 1, 2, 3, 7, 9, 200)
-    fields = []
-    for _ in range(r.randrange(7)):
-        code = r.choice([*TYPES, UINT16, UINT32, 3, 200])
-        fields.append((r.choice(known), r.choice((TYPES.get(code, (1,))[0],) * 4 + (0, 1, 3, 8, 12, 16)), code))
-    return fields
-
-
-def any_file(r):
-    """A file of random definitions, data, compressed headers and developer fields."""
-    records, sizes = [DESCRIBE], {}
-    for index, number, name in ((0, 0, b"Form power"), (0, 1, b"heart_rate"), (1, 0, b""), (1, 7, b"\xff"), (2, 2, b"Form power")):
-        records.append(describe(index, number, r.choice([*TYPES, 99]), name, r.choice((b"", b"W", b"\xc2\xb0C"))))
-    for _ in range(r.randrange(60)):
-        local = r.randrange(15)
-        if local not in sizes or r.random() < 0.1:
-            number = r.choice((20, 20, 20, 18, 0, 31, 65280))
-            fields = any_fields(r, number)
-            developer = [(r.randrange(3), r.choice((1, 2, 4, 8, 3)), r.randrange(3)) for _ in range(r.randrange(4))] if r.random() < 0.5 else None
-            records.append(define(local, number, fields, developer, r.random() < 0.5))
-            sizes[local] = [size for _, size, _ in fields + (developer or [])]
-        for _ in range(r.choice((1, 1, 2, 5, 20))):
-            head = 0x80 | local << 5 | r.randrange(32) if local < 4 and r.random() < 0.5 else local
-            records.append(bytes([head]) + b"".join(any_bytes(r, size) for size in sizes[local]))
-    return fit(*records)
-
-
-# ---- what the rows tell
-
-Cell = collections.namedtuple("Cell", "label unit number index code value exact raw")
-
-
-def from_cell(text, code, size):
-    """The value, the exact value and, where it is known without the scale, the raw one of a cell."""
-    width, invalid, kind = TYPES.get(code, TYPES[BYTE])
-    if size == 0:
-        return None, None, b"" if kind in "tb" else ()
-    if kind == "b" or size % width:
-        data = bytes.fromhex(text[2:])
-        value = None if invalid == 0xFF and data == b"\xff" * size else data
-        return value, value, data
-    if kind == "t":
-        data = bytes.fromhex(text[2:]) if text.startswith("0x") else text.encode().ljust(size, b"\0")
-        value = data.split(b"\0")[0].decode("utf-8", "replace") or None
-        return value, value, data
-    cells = text.split("|")
-    if kind == "f":
-        raw = [int(cell, 16) for cell in cells]
-        form = "<If" if width == 4 else "<Qd"
-        values = exact = [None if bits == invalid else struct.unpack("<" + form[2], struct.pack(form[:2], bits))[0] for bits in raw]
-    else:
-        values = [None if not cell else float(cell) if "." in cell else int(cell) for cell in cells]
-        exact = [None if not cell else decimal.Decimal(cell) if "." in cell else int(cell) for cell in cells]
-        raw = [None if "." in cell else int(cell) if cell else invalid for cell in cells]
-    return tuple(part[0] if len(cells) == 1 else tuple(part) for part in (values, exact, raw))
-
-
-def rows_of(source):
-    """The messages of the rows: (file, place, local, offset, message, header time, cells)."""
-    rows = csv.reader(io.StringIO(gazhdor.to_csv(source), newline=""))
-    next(rows)
-    files = place = 0
-    for kind, *cells in rows:
-        if kind == "file":
-            files, definitions, described = files + 1, {}, {}
-            place += int(cells[0])
-        elif kind == "def":
-            fields = [[int(cell) for cell in next(rows)[1:4]] for _ in range(int(cells[4]))]
-            developer = [[int(cell) for cell in next(rows)[1:4]] for _ in range(int(cells[5] or 0))]
-            known = [(number, None, size, code) for number, size, code in fields]
-            known += [(number, index, size, described.get((index, number), BYTE)) for number, size, index in developer]
-            definitions[int(cells[0])] = known
-            place += 6 + 3 * len(known) + (cells[5] != "")
-        elif kind == "data":
-            local, offset, message, time = int(cells[0]), cells[1], cells[2], cells[3]
-            told = []
-            for number, index, size, code in definitions[local]:
-                _, label, text, unit = next(rows)[:4]
-                told.append(Cell(label, unit, number, index, code, *from_cell(text, code, size)))
-            yield files, place, local, int(offset) if offset else None, message, time, told
-            place += 1 + sum(size for _, _, size, _ in definitions[local])
-            if message == "field_description":
-                described[told[0].value, told[1].value] = told[2].value
-        else:
-            place += 2
-
-
-def as_text(time):
-    return time.strftime("%Y-%m-%dT%H:%M:%SZ") if isinstance(time, datetime.datetime) else time or ""
-
-
-def label_of(field):
-    return field.name or (f"field_{field.number}" if field.developer is None else f"dev_{field.developer}_{field.number}")
 
 
 def zip_all(one, two):
@@ -186,9 +42,11 @@ class Rows(unittest.TestCase):
             self.assertEqual([(label_of(f), f.unit or "", f.number, f.developer) for f in message.fields], [cell[:4] for cell in cells])
             for field, cell in zip(message.fields, cells):
                 self.compare_values(message, field, cell)
-            stamps = [cell.value for cell in cells if cell.number == 253 and cell.index is None][:1]
-            if stamps and isinstance(stamps[0], int) and as_text(message.time) != time:
-                self.assertEqual((message.time, message.seconds), (gazhdor.when(stamps[0]), stamps[0]))
+            stamps = [cell for cell in cells if cell.number == 253 and cell.index is None]
+            if not stamps or stamps[0].value is None:
+                self.assertEqual(as_text(message.time), time)
+            elif stamps[0].code == UINT32 and isinstance(stamps[0].value, int):
+                self.assertEqual((message.time, message.seconds), (gazhdor.when(stamps[0].value), stamps[0].value))
             count += 1
         self.assertEqual(len(list(gazhdor.messages(source))), count)
         return count
@@ -247,13 +105,6 @@ def longs(*numbers):
     return struct.pack(f"<{len(numbers)}Q", *numbers)
 
 
-NONE4, NONE8 = 2**32 - 1, 2**64 - 1
-# the second example of docs/CSV.md
-SMALL = bytes.fromhex(
-    "0E20000024000000 2E464954 9F6E"
-    "40 00 00 1400 02 FD0486 030102  00 1FCA9A3B 78"
-    "41 00 01 0014 02 020284 08030D  A2 09C4 640010  F03B"
-)
 SMALL_BLOCKS = (
     block(1, (14, 32, 2), 1, 36, 0, longs(0)),
     block(
@@ -303,10 +154,6 @@ class Blocks(unittest.TestCase):
 
 
 # ---- values
-
-def packed(form, *numbers):
-    return struct.pack(form, *numbers)
-
 
 class Values(unittest.TestCase):
     def one(self, *fields, number=65280, developer=None, before=(), big=False):
@@ -417,138 +264,6 @@ class Calls(unittest.TestCase):
         self.assertEqual([repr(message) for message in sent], [repr(message) for message in kept])
         self.assertEqual([message.place for message in sent], [message.place for message in kept])
         self.assertLess(len(pickle.dumps(kept)), 60 * len(BYTES))
-
-
-# ---- columns
-
-def numpy_or(case, *names):
-    """The first of these modules. Where one isn't installed the case is left out, which is said."""
-    for name in names:
-        try:
-            with warnings.catch_warnings():
-                warnings.simplefilter("ignore")
-                __import__(name)
-        except ModuleNotFoundError:
-            print(f"tests/python: there is no {name}, so what gazhdor makes for it isn't tried", file=sys.stderr)
-            case.skipTest(name)
-    return sys.modules[names[0]]
-
-
-MIXED = [fit(*records) for records in (
-    (
-        define(0, 20, [(253, 4, UINT32), (3, 1, UINT8), (2, 2, UINT16)]), packed("<BIBH", 0, 1000000000, 60, 2500), packed("<BIBH", 0, 77, 255, 65535),
-        define(1, 20, [(3, 1, 1), (0, 4, SINT32), (8, 3, BYTE), (7, 2, UINT16)]), packed("<BbiBBBH", 0xA0, -1, -90, 0x64, 0, 0x10, 200),
-        define(2, 21, [(253, 4, UINT32)]), packed("<BI", 2, 1000000050), packed("<BIBH", 0, 1000000100, 61, 2510),
-        *(packed("<BIBH", 0, 1000000200 + k, k, 3000 + k) for k in range(40)), *(packed("<BbiBBBH", 1, k, k * k, k, 0x10, k, k) for k in range(40)),
-    ),
-    (
-        DESCRIBE, describe(0, 1, FLOAT32, b"Strain", b"N"), define(0, 20, [(3, 2, UINT8), (5, 4, UINT32)], [(1, 4, 0)]), packed("<BBBIf", 0, 1, 255, 100, 1.5),
-        define(3, 20, [(3, 1, UINT8), (5, 4, FLOAT32)], [(1, 4, 0)]), packed("<BBff", 3, 9, 0.5, -1.5), packed("<BBII", 3, 255, NONE4, NONE4),
-    ),
-)]
-KEYS = [".file", ".place", ".local", ".seconds", ".speed", ".distance", ".total_cycles", 3, 2, "altitude", 0, 253, "power", 5, "Strain", (0, 1), "nothing", 250, (9, 9)]
-
-
-class Columns(unittest.TestCase):
-    sources = [*MIXED, b"".join(MIXED), 30 * MIXED[0], BYTES, 2 * BYTES]
-
-    def wanted(self, messages, key):
-        """What a list has of these messages."""
-        if key == "timestamp":
-            return [message.time for message in messages]
-        return [getattr(message, key[1:]) if isinstance(key, str) and key[0] == "." else message.get(key) for message in messages]
-
-    def test_lists(self):
-        for source in self.sources:
-            messages, found = list(gazhdor.messages(source, only=20)), gazhdor.lists(source, "record", [*KEYS, "timestamp", ".time"])
-            self.assertEqual(list(found), [*KEYS, "timestamp", ".time"])
-            for key, column in found.items():
-                self.assertEqual(repr(column), repr(self.wanted(messages, key)))
-        self.assertEqual(gazhdor.lists(MIXED[0], 21, [253]), {253: [1000000050]})
-
-    def test_all_fields(self):
-        found = gazhdor.lists(MIXED[1] + MIXED[0], "record")
-        self.assertEqual(list(found), ["timestamp", "heart_rate", "distance", "Strain", "altitude", "position_lat", "compressed_speed_distance", "power"])
-        self.assertEqual(gazhdor.lists(BYTES, 31), {5: ["Lake loop"], 4: [0]})
-
-    def test_random(self):
-        r = random.Random(20260102)
-        for _ in range(20):
-            source = b"".join(any_file(r) for _ in range(3))
-            messages = list(gazhdor.messages(source, only="record"))
-            for key, column in gazhdor.lists(source, "record").items():
-                self.assertEqual(repr(column), repr(self.wanted(messages, key)))
-
-    def test_wrong_words(self):
-        for message, fields in ((None, None), (["record"], None), ("record", "heart_rate"), ("record", 3)):
-            with self.assertRaises(TypeError):
-                gazhdor.lists(BYTES, message, fields)
-
-    def test_not_installed(self):
-        for call, name in (("columns", "numpy"), ("frame", "pandas")):
-            program = f"import sys; sys.modules[{name!r}] = None\nimport gazhdor\ntry: gazhdor.{call}({RIDE!r}, 'record')\nexcept ImportError as error: print(error.name, error)"
-            done = subprocess.run([sys.executable, "-c", program], stdout=subprocess.PIPE, check=True)
-            self.assertEqual(done.stdout.decode(), f"{name} this call of gazhdor needs {name}, which isn't installed: pip install {name}\n")
-
-    def compare(self, numpy, column, wanted):
-        """An array with a list: NaN and NaT stand for None, NaT also for 'system+N'."""
-        if column.dtype == object:
-            self.assertEqual(repr(list(column)), repr(wanted))
-        elif column.dtype.kind == "M":
-            found = [None if numpy.isnat(time) else time.astype(object).replace(tzinfo=datetime.timezone.utc) for time in column]
-            self.assertEqual((str(column.dtype), found), ("datetime64[s]", [None if isinstance(value, str) else value for value in wanted]))
-        else:
-            self.assertEqual((str(column.dtype), len(column)), ("float64", len(wanted)))
-            for number, value in zip(column.tolist(), wanted):
-                if value is None or math.isnan(value):
-                    self.assertTrue(math.isnan(number))
-                elif number != value:
-                    # whole numbers over 2^53 are rounded before they are scaled
-                    self.assertTrue(abs(value) > 2**43 and math.isclose(number, value, rel_tol=1e-15))
-
-    def test_columns(self):
-        numpy = numpy_or(self, "numpy")
-        r = random.Random(20260103)
-        for source in [*self.sources, *(b"".join(any_file(r) for _ in range(3)) for _ in range(20))]:
-            for keys in ([*KEYS, "timestamp", ".time"], None):
-                found, lists = gazhdor.columns(source, "record", keys), gazhdor.lists(source, "record", keys)
-                self.assertEqual(list(found), list(lists))
-                for key, column in found.items():
-                    self.compare(numpy, column, lists[key])
-        self.assertEqual(len(gazhdor.columns(fit(), "record", ["heart_rate"])["heart_rate"]), 0)
-
-    def test_frame(self):
-        numpy_or(self, "pandas", "numpy")
-        found = gazhdor.frame(b"".join(MIXED), "record")
-        self.assertEqual(str(found["timestamp"].dtype), "datetime64[ns, UTC]")
-        self.assertEqual((len(found), found["power"].max(), found["timestamp"].iloc[0].isoformat()), (87, 200.0, "2021-09-08T01:46:40+00:00"))
-        self.assertEqual((list(gazhdor.frame(BYTES, 31)), gazhdor.frame(BYTES, "nothing").empty), (["field_5", "field_4"], True))
-        self.assertEqual(list(gazhdor.frame(MIXED[1], 20, [3, "Strain", (0, 2)])), ["field_3", "Strain", "dev_0_2"])
-
-
-class Json(unittest.TestCase):
-    def lines(self, source, status=0):
-        done = subprocess.run([sys.executable, "-m", "gazhdor", "json"], input=source, stdout=subprocess.PIPE, stderr=subprocess.PIPE)
-        self.assertEqual((done.returncode, bool(done.stderr)), (status, bool(status)))
-        return [json.loads(line, parse_constant=self.fail) for line in done.stdout.decode().splitlines()], done.stderr
-
-    def test_ride(self):
-        found, _ = self.lines(BYTES)
-        self.assertEqual(len(found), len(list(gazhdor.messages(BYTES))))
-        self.assertEqual(found[1], {"message": "message_31", "number": 31, "file": 1, "place": 159, "local": 1, "time": None, "fields": {"field_5": "Lake loop", "field_4": 0}, "units": {}})
-        for line, message in zip(found, gazhdor.messages(BYTES)):
-            self.assertEqual((line["place"], line["fields"], line["time"] or ""), (message.place, message.as_dict(), as_text(message.time)))
-            self.assertEqual(line["units"], {label_of(field): field.unit for field in message.fields if field.unit})
-        self.assertEqual(self.lines(BYTES[:2000], 1), (found[: len(self.lines(BYTES[:2000], 1)[0])], b"-: truncated at byte 2000\n"))
-
-    def test_values(self):
-        found, _ = self.lines(SMALL)
-        self.assertEqual((found[1]["speed"], found[1]["distance"], found[1]["fields"]), (1.0, 16.0, {"altitude": 0.0, "compressed_speed_distance": "0x640010"}))
-        self.assertEqual((found[0]["time"], "speed" in found[0]), ("2021-09-08T01:47:11Z", False))
-        floats = fit(define(0, 65280, [(253, 4, UINT32), (0, 12, FLOAT32), (1, 2, STRING), (2, 2, BYTE)]), packed("<BIIIf", 0, 5, 0x7FC00123, 0x7F800000, 0.5) + b"\n\0\xab\x0c")
-        (line,), _ = self.lines(floats)
-        self.assertEqual(line["fields"], {"timestamp": 5, "field_0": [None, None, 0.5], "field_1": "\n", "field_2": "0xAB0C"})
-        self.assertEqual(line["time"], "system+5")
 
 
 if __name__ == "__main__":

@@ -1,0 +1,151 @@
+"""What the lists, the arrays and the lines of JSON of the module gazhdor must be: those of its messages, of which tests/python_messages.py sees
+what they are."""
+import datetime
+import json
+import math
+import random
+import subprocess
+import sys
+import unittest
+import warnings
+
+import gazhdor
+from python_fits import *
+
+RIDE = "examples/ride.fit"
+with open(RIDE, "rb") as file:
+    BYTES = file.read()
+
+
+def numpy_or(case, *names):
+    """The first of these modules. Where one isn't installed the case is left out, which is said."""
+    for name in names:
+        try:
+            with warnings.catch_warnings():
+                warnings.simplefilter("ignore")
+                __import__(name)
+        except ModuleNotFoundError:
+            print(f"tests/python: there is no {name}, so what gazhdor makes for it isn't tried", file=sys.stderr)
+            case.skipTest(name)
+    return sys.modules[names[0]]
+
+
+MIXED = [fit(*records) for records in (
+    (
+        define(0, 20, [(253, 4, UINT32), (3, 1, UINT8), (2, 2, UINT16)]), packed("<BIBH", 0, 1000000000, 60, 2500), packed("<BIBH", 0, 77, 255, 65535),
+        define(1, 20, [(3, 1, 1), (0, 4, SINT32), (8, 3, BYTE), (7, 2, UINT16)]), packed("<BbiBBBH", 0xA0, -1, -90, 0x64, 0, 0x10, 200),
+        define(2, 21, [(253, 4, UINT32)]), packed("<BI", 2, 1000000050), packed("<BIBH", 0, 1000000100, 61, 2510),
+        *(packed("<BIBH", 0, 1000000200 + k, k, 3000 + k) for k in range(40)), *(packed("<BbiBBBH", 1, k, k * k, k, 0x10, k, k) for k in range(40)),
+    ),
+    (
+        DESCRIBE, describe(0, 1, FLOAT32, b"Strain", b"N"), define(0, 20, [(3, 2, UINT8), (5, 4, UINT32)], [(1, 4, 0)]), packed("<BBBIf", 0, 1, 255, 100, 1.5),
+        define(3, 20, [(3, 1, UINT8), (5, 4, FLOAT32)], [(1, 4, 0)]), packed("<BBff", 3, 9, 0.5, -1.5), packed("<BBII", 3, 255, NONE4, NONE4),
+    ),
+)]
+KEYS = [".file", ".place", ".local", ".seconds", ".speed", ".distance", ".total_cycles", 3, 2, "altitude", 0, 253, "power", 5, "Strain", (0, 1), "nothing", 250, (9, 9)]
+
+
+class Columns(unittest.TestCase):
+    sources = [*MIXED, b"".join(MIXED), 30 * MIXED[0], BYTES, 2 * BYTES]
+
+    def wanted(self, messages, key):
+        """What a list has of these messages."""
+        if key == "timestamp":
+            return [message.time for message in messages]
+        return [getattr(message, key[1:]) if isinstance(key, str) and key[0] == "." else message.get(key) for message in messages]
+
+    def test_lists(self):
+        for source in self.sources:
+            messages, found = list(gazhdor.messages(source, only=20)), gazhdor.lists(source, "record", [*KEYS, "timestamp", ".time"])
+            self.assertEqual(list(found), [*KEYS, "timestamp", ".time"])
+            for key, column in found.items():
+                self.assertEqual(repr(column), repr(self.wanted(messages, key)))
+        self.assertEqual(gazhdor.lists(MIXED[0], 21, [253]), {253: [1000000050]})
+
+    def test_all_fields(self):
+        found = gazhdor.lists(MIXED[1] + MIXED[0], "record")
+        self.assertEqual(list(found), ["timestamp", "heart_rate", "distance", "Strain", "altitude", "position_lat", "compressed_speed_distance", "power"])
+        self.assertEqual(gazhdor.lists(BYTES, 31), {5: ["Lake loop"], 4: [0]})
+
+    def test_random(self):
+        r = random.Random(20260102)
+        for _ in range(20):
+            source = b"".join(any_file(r) for _ in range(3))
+            messages = list(gazhdor.messages(source, only="record"))
+            for key, column in gazhdor.lists(source, "record").items():
+                self.assertEqual(repr(column), repr(self.wanted(messages, key)))
+
+    def test_wrong_words(self):
+        for message, fields in ((None, None), (["record"], None), ("record", "heart_rate"), ("record", 3)):
+            with self.assertRaises(TypeError):
+                gazhdor.lists(BYTES, message, fields)
+
+    def test_not_installed(self):
+        for call, name in (("columns", "numpy"), ("frame", "pandas")):
+            program = f"import sys; sys.modules[{name!r}] = None\nimport gazhdor\ntry: gazhdor.{call}({RIDE!r}, 'record')\nexcept ImportError as error: print(error.name, error)"
+            done = subprocess.run([sys.executable, "-c", program], stdout=subprocess.PIPE, check=True)
+            self.assertEqual(done.stdout.decode(), f"{name} this call of gazhdor needs {name}, which isn't installed: pip install {name}\n")
+
+    def compare(self, numpy, column, wanted):
+        """An array with a list: NaN and NaT stand for None, NaT also for 'system+N'."""
+        if column.dtype == object:
+            self.assertEqual(repr(list(column)), repr(wanted))
+        elif column.dtype.kind == "M":
+            found = [None if numpy.isnat(time) else time.astype(object).replace(tzinfo=datetime.timezone.utc) for time in column]
+            self.assertEqual((str(column.dtype), found), ("datetime64[s]", [None if isinstance(value, str) else value for value in wanted]))
+        else:
+            self.assertEqual((str(column.dtype), len(column)), ("float64", len(wanted)))
+            for number, value in zip(column.tolist(), wanted):
+                if value is None or math.isnan(value):
+                    self.assertTrue(math.isnan(number))
+                elif number != value:
+                    # whole numbers over 2^53 are rounded before they are scaled
+                    self.assertTrue(abs(value) > 2**43 and math.isclose(number, value, rel_tol=1e-15))
+
+    def test_columns(self):
+        numpy = numpy_or(self, "numpy")
+        r = random.Random(20260103)
+        for source in [*self.sources, *(b"".join(any_file(r) for _ in range(3)) for _ in range(20))]:
+            for keys in ([*KEYS, "timestamp", ".time"], None):
+                found, lists = gazhdor.columns(source, "record", keys), gazhdor.lists(source, "record", keys)
+                self.assertEqual(list(found), list(lists))
+                for key, column in found.items():
+                    self.compare(numpy, column, lists[key])
+        self.assertEqual(len(gazhdor.columns(fit(), "record", ["heart_rate"])["heart_rate"]), 0)
+
+    def test_frame(self):
+        numpy_or(self, "pandas", "numpy")
+        found = gazhdor.frame(b"".join(MIXED), "record")
+        self.assertEqual(str(found["timestamp"].dtype), "datetime64[ns, UTC]")
+        self.assertEqual((len(found), found["power"].max(), found["timestamp"].iloc[0].isoformat()), (87, 200.0, "2021-09-08T01:46:40+00:00"))
+        self.assertEqual((list(gazhdor.frame(BYTES, 31)), gazhdor.frame(BYTES, "nothing").empty), (["field_5", "field_4"], True))
+        self.assertEqual(list(gazhdor.frame(MIXED[1], 20, [3, "Strain", (0, 2)])), ["field_3", "Strain", "dev_0_2"])
+
+
+class Json(unittest.TestCase):
+    def lines(self, source, status=0):
+        done = subprocess.run([sys.executable, "-m", "gazhdor", "json"], input=source, stdout=subprocess.PIPE, stderr=subprocess.PIPE)
+        self.assertEqual((done.returncode, bool(done.stderr)), (status, bool(status)))
+        return [json.loads(line, parse_constant=self.fail) for line in done.stdout.decode().splitlines()], done.stderr
+
+    def test_ride(self):
+        found, _ = self.lines(BYTES)
+        self.assertEqual(len(found), len(list(gazhdor.messages(BYTES))))
+        self.assertEqual(found[1], {"message": "message_31", "number": 31, "file": 1, "place": 159, "local": 1, "time": None, "fields": {"field_5": "Lake loop", "field_4": 0}, "units": {}})
+        for line, message in zip(found, gazhdor.messages(BYTES)):
+            self.assertEqual((line["place"], line["fields"], line["time"] or ""), (message.place, message.as_dict(), as_text(message.time)))
+            self.assertEqual(line["units"], {label_of(field): field.unit for field in message.fields if field.unit})
+        self.assertEqual(self.lines(BYTES[:2000], 1), (found[: len(self.lines(BYTES[:2000], 1)[0])], b"-: truncated at byte 2000\n"))
+
+    def test_values(self):
+        found, _ = self.lines(SMALL)
+        self.assertEqual((found[1]["speed"], found[1]["distance"], found[1]["fields"]), (1.0, 16.0, {"altitude": 0.0, "compressed_speed_distance": "0x640010"}))
+        self.assertEqual((found[0]["time"], "speed" in found[0]), ("2021-09-08T01:47:11Z", False))
+        floats = fit(define(0, 65280, [(253, 4, UINT32), (0, 12, FLOAT32), (1, 2, STRING), (2, 2, BYTE)]), packed("<BIIIf", 0, 5, 0x7FC00123, 0x7F800000, 0.5) + b"\n\0\xab\x0c")
+        (line,), _ = self.lines(floats)
+        self.assertEqual(line["fields"], {"timestamp": 5, "field_0": [None, None, 0.5], "field_1": "\n", "field_2": "0xAB0C"})
+        self.assertEqual(line["time"], "system+5")
+
+
+if __name__ == "__main__":
+    unittest.main()
