@@ -160,8 +160,8 @@ impl<'a> Field<'a> {
         self.bits(k).map_or(false, |bits| self.entry[8] == BYTES || bits != invalid)
     }
 
-    /// Number `k`, counted from 0, as a whole number where the profile doesn't scale it. It is [`Value::None`] where [`value`](Field::value)
-    /// is none.
+    /// Number `k`, counted from 0, as a whole number where the profile doesn't scale it. It is [`Value::None`] where
+    /// [`value`](Field::value) is none.
     pub fn item(&self, k: usize) -> Value<'a> {
         let is_plain = self.scale() == 1 && self.offset() == 0;
         match self.raw(k).filter(|_| self.is_valid(k)) {

@@ -76,63 +76,40 @@ fn of_a_field() {
     assert_eq!((second.numbered(3), second.developer(0, 2), second.fields().count()), (None, None, 2));
 }
 
+/// Field k of a message in big endian is the k-th of these: its base type, its items, and what it stands for as a whole.
+fn big_fields() -> [(u8, Vec<u8>, Value<'static>); 9] {
+    [
+        (0x83, (-2_i16).to_be_bytes().into(), Value::Signed(-2)),
+        (0x86, [7_u32.to_be_bytes(), u32::MAX.to_be_bytes()].concat(), Value::Several),
+        (0x8E, (-(1_i64 << 40)).to_be_bytes().into(), Value::Signed(-(1 << 40))),
+        (0x89, 0.1_f64.to_be_bytes().into(), Value::Float(0.1)),
+        (0x8F, ((1_u64 << 63) + 1).to_be_bytes().into(), Value::Unsigned((1 << 63) + 1)),
+        (0x84, vec![0xFF, 0xFF], Value::None),
+        (1, vec![0x80], Value::Signed(-128)),
+        (2, vec![], Value::None),
+        (0x88, 1.5_f32.to_be_bytes().into(), Value::Float(1.5)),
+    ]
+}
+
 #[test]
 fn numbers() {
-    let whole = |message: Message<'_>| message.fields().map(|field| format!("{:?}", field.whole())).collect::<Vec<_>>();
-    let fields = [
-        [0, 2, 0x83],
-        [1, 8, 0x86],
-        [2, 8, 0x8E],
-        [3, 8, 0x89],
-        [4, 8, 0x8F],
-        [5, 2, 0x84],
-        [6, 1, 1],
-        [7, 0, 2],
-        [8, 4, 0x88],
-    ];
-    let big = data(
-        0,
-        &[
-            &(-2_i16).to_be_bytes(),
-            &7_u32.to_be_bytes(),
-            &u32::MAX.to_be_bytes(),
-            &(-(1_i64 << 40)).to_be_bytes(),
-            &0.1_f64.to_be_bytes(),
-            &((1_u64 << 63) + 1).to_be_bytes(),
-            &[0xFF, 0xFF],
-            &[0x80],
-            &1.5_f32.to_be_bytes(),
-        ],
-    );
-    let wanted = [
-        "Signed(-2)",
-        "Several",
-        "Signed(-1099511627776)",
-        "Float(0.1)",
-        "Unsigned(9223372036854775809)",
-        "None",
-        "Signed(-128)",
-        "None",
-        "Float(1.5)",
-    ];
-    assert_eq!(last(&[define(0, PRIVATE, &fields, &[], true), big.clone()], whole), wanted);
-    last(&[define(0, PRIVATE, &fields, &[], true), big], |message| {
+    let fields = big_fields();
+    let defined: Vec<_> = (0..).zip(&fields).map(|(k, (code, items, _))| [k, items.len() as u8, *code]).collect();
+    let items: Vec<_> = fields.iter().map(|(_, items, _)| &items[..]).collect();
+    last(&[define(0, PRIVATE, &defined, &[], true), data(0, &items)], |message| {
         assert_eq!((message.name(), message.number(), message.time()), (None, PRIVATE, None));
+        let wanted = fields.iter().map(|(_, _, whole)| *whole);
+        assert_eq!(message.fields().map(|field| field.whole()).collect::<Vec<_>>(), wanted.collect::<Vec<_>>());
         let several = message.numbered(1).unwrap();
+        let [raw, nothing] = [Raw::Unsigned(7), Raw::Unsigned(u32::MAX.into())].map(Some);
         assert_eq!((several.name(), several.unit(), several.count()), (None, None, 2));
         assert_eq!([0, 1, 2].map(|k| several.item(k)), [Value::Unsigned(7), Value::None, Value::None]);
         assert_eq!([0, 1, 2].map(|k| several.value(k)), [Some(7.0), None, None]);
-        assert_eq!(
-            [0, 1, 2].map(|k| several.raw(k)),
-            [Some(Raw::Unsigned(7)), Some(Raw::Unsigned(u32::MAX.into())), None]
-        );
-        assert_eq!(message.numbered(0).unwrap().raw(0), Some(Raw::Signed(-2)));
-        assert_eq!(message.numbered(3).unwrap().raw(0), Some(Raw::Float64(0.1_f64.to_bits())));
-        assert_eq!(message.numbered(8).unwrap().raw(0), Some(Raw::Float32(1.5_f32.to_bits())));
-        assert_eq!(
-            (message.numbered(4).unwrap().value(0), message.numbered(5).unwrap().value(0)),
-            (Some(9_223_372_036_854_775_808.0), None)
-        );
+        assert_eq!([0, 1, 2].map(|k| several.raw(k)), [raw, nothing, None]);
+        let [double, float] = [Raw::Float64(0.1_f64.to_bits()), Raw::Float32(1.5_f32.to_bits())].map(Some);
+        let numbered = |number| message.numbered(number).unwrap();
+        assert_eq!([0, 3, 8].map(|number| numbered(number).raw(0)), [Some(Raw::Signed(-2)), double, float]);
+        assert_eq!([4, 5, 7].map(|number| numbered(number).value(0)), [Some(9_223_372_036_854_775_808.0), None, None]);
     });
 }
 

@@ -1,4 +1,4 @@
-//! Messages against the rows of `to_csv`, which are read here by docs/CSV.md: of the ride, of random files, and of changed copies of both.
+//! Messages against the rows of `to_csv`, which are read here by docs/CSV.md: of the ride, of random files, of changed copies of both.
 mod made;
 
 use gazhdor::{check, messages, to_csv, Field, Message, Raw, Stopped, Time, Value};
