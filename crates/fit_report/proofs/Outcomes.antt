@@ -72,7 +72,7 @@ module _ {A R : Type 0} (has_heard : R → List (Event A) → Type 0) (line : Li
       )
   piece_fault (Decode fault) none = absurd none
   piece_fault NoMemory (k, heard, tells, lacks) = (heard, (told_before k heard tells lacks, good), tt)
-  piece_fault (Write count) (k, heard, are, fails) = (
+  piece_fault (Write count) (k, heard, begins, are, fails) = (
     heard,
     ((length bytes + k, heard, subst (λ t. AreEvents t (reverse heard)) (front k) are, fails), nearly_all, good),
     tt,

@@ -2,7 +2,7 @@
 use Rattle.fit_report.proofs.Common.{◌≡◌, ℕ, ◌+◌, ◌≤◌, List, ◌++◌, length, take, drop, get_or, reverse, Option, Err, refl, sym, ap, ◌∙◌, subst, arith}
 use Rattle.fit_report.proofs.Common.{[], length-append, append_assoc, take-append-drop}
 use Rattle.std.proofs.lemmas.List.{drop-drop}
-use Rattle.fit_report.proofs.Common.{append-nil, length-drop, length-take, get_or-drop, Fault, Seen, fed, Refuses, Event, AreEvents, IsRefused, chain_limit}
+use Rattle.fit_report.proofs.Common.{append-nil, length-drop, length-take, get_or-drop, Fault, Seen, fed, Refuses, Event, AreEvents, IsRefused, chain_limit, IsViable}
 use Rattle.fit_report.proofs.Common.{ReportFault, Decode, NoMemory, Write, Lines, Channel, HasHeard, report_fault, Stands, Stops, fed_on, quiet_for}
 use Rattle.fit_frame.specs.declared.reason.Reason.{Reason}
 use Rattle.fit_chain.specs.declared.event.Fault.TheVariants as faults
@@ -101,4 +101,4 @@ module _ {A R : Type 0} (has_heard : R → List (Event A) → Type 0) (line : Li
   )
   stops_after (Decode fault) none = absurd none
   stops_after NoMemory (k, heard, (are, put), lacks) = (at + k, heard, (so k heard are, put), lacks_on k lacks)
-  stops_after (Write count) (k, heard, are, fails) = (at + k, heard, so k heard are, fails)
+  stops_after (Write count) (k, heard, viable, are, fails) = (at + k, heard, subst (IsViable A chain_limit) (joined k) viable, so k heard are, fails)

@@ -2,7 +2,7 @@
 use Rattle.fit_report.proofs.Common.{◌≡◌, ℕ, ◌+◌, List, [], ◌++◌, length, take, reverse, Option, Some, None, Ok, Err, sym, ap, subst, arith, length-append}
 use Rattle.fit_report.proofs.Common.{Appends}
 use Rattle.fit_report.proofs.Common.{append-nil, take-append-add, Answer, Event, AreEvents, ReportFault, Decode, NoMemory, Write, Lines, hear, line_of, text_of}
-use Rattle.fit_report.proofs.Common.{refl, ◌∙◌, Channel, Stands, Puts, Stops}
+use Rattle.fit_report.proofs.Common.{refl, ◌∙◌, Channel, Stands, Puts, Stops, chain_limit, IsViable}
 use Rattle.fit_chain.specs.declared.event.Event.TheVariants as answers
 use Rattle.fit_encode.proofs.Written.{Appends-on}
 
@@ -43,15 +43,16 @@ module _ {A R : Type 0} {has_heard : R → List (Event A) → Type 0} {line : Li
     counted = omega (arith, s.counted, counted, ap length is, length-append (text_of line s.heard) text);
   }
 
-  pub stops_in : (after : R) (piece : List ℕ) (used new : ℕ) (fault : ReportFault) → AreEvents (bytes ++ take used piece) (reverse now)
-      → Puts text sink old new (Err fault)
+  pub stops_in : (after : R) (piece : List ℕ) (used new : ℕ) (fault : ReportFault) → IsViable A chain_limit (bytes ++ take used piece)
+      → AreEvents (bytes ++ take used piece) (reverse now) → Puts text sink old new (Err fault)
       → Stops has_heard line bytes piece after (record sink { before = start }) fault
-  stops_in after piece used new (Decode fault) are none = absurd none
-  stops_in after piece used new NoMemory are none = absurd none
-  stops_in after piece used new (Write count) are (bad, n, short, put, counted) =
+  stops_in after piece used new (Decode fault) viable are none = absurd none
+  stops_in after piece used new NoMemory viable are none = absurd none
+  stops_in after piece used new (Write count) viable are (bad, n, short, put, counted) =
       let told : List ℕ = text_of line s.heard in (
         used,
         now,
+        viable,
         are,
         (
           bad,

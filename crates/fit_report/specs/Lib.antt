@@ -1,4 +1,5 @@
 pub mod Heard
 pub mod Reports
+pub mod Telling
 pub mod Laws
 pub mod inner

@@ -5,7 +5,9 @@ mod fault;
 mod heard;
 pub mod laws;
 mod reporting;
+mod telling;
 
 pub use fault::ReportFault;
 pub use heard::{Heard, Report};
 pub use reporting::report;
+pub use telling::Telling;

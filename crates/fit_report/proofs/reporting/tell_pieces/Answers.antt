@@ -1,22 +1,24 @@
 -- A report goes on piece by piece.
 use Rattle.fit_report.proofs.Common.{◌++◌, length, sym, ap, subst, arith, length-append, Global, Consumes, err_from_is_err_and, chain_limit, IsViable, Seen}
-use Rattle.fit_report.proofs.Common.{short_bytes, Channel, channel, Consumes-nothing, Consumes-append, nothing_viable}
+use Rattle.fit_report.proofs.Common.{short_bytes, Channel, channel, Consumes-nothing, Consumes-append, nothing_viable, Stands, ToldSoFar}
 use Rattle.fit_report.proofs.Outcomes.{stands_before, piece_fault, end_fault, ate_nothing}
 use Rattle.fit_report.proofs.Pieces.{hears_no_more}
 use Rattle.fit_report.proofs.reporting.tell_pieces.Goals as goal
 
 pub pieces-init : goal.pieces-init
 pieces-init g c =
-    let none = ap (λ (v : Seen). v.bytes) c.new-decoder.ensures in
+    let none = ap (λ (t : ToldSoFar). t.seen.bytes) c.new-telling.ensures in
+    let start = g.K.Sink.contents c.args.sink.now in
     record {
-      fresh = ap (λ (v : Seen). v.refusal) c.new-decoder.ensures;
+      fresh = ap (λ (t : ToldSoFar). t.seen.refusal) c.new-telling.ensures;
       viable = subst (IsViable Global chain_limit) (sym none) (nothing_viable Global);
       counted = ap length (sym none);
       eaten = subst (Consumes (g.S.Source.remaining c.args.source.now) (g.S.Source.remaining c.args.source.now)) (sym none)
           (Consumes-nothing (g.S.Source.remaining c.args.source.now));
       works = λ good. good;
-      stands = stands_before g.R.Report.has_heard g.R.Report.line c.args.reporter.now c.new-decoder.result.bytes (g.K.Sink.contents c.args.sink.now) none
-          c.requires;
+      stands = subst (Stands g.R.Report.has_heard g.R.Report.line c.args.reporter.now c.new-telling.result.seen.bytes start start)
+          (sym (ap (λ (t : ToldSoFar). t.written) c.new-telling.ensures))
+          (stands_before g.R.Report.has_heard g.R.Report.line c.args.reporter.now c.new-telling.result.seen.bytes start none c.requires);
     }
 
 pub returns-in_err-finish-clause-reports : goal.returns-in_err-finish-clause-reports
@@ -26,28 +28,28 @@ returns-in_err-finish-clause-reports g c =
     let s = i.stands in
     let source : Channel = channel g.S.Source.remaining g.S.Source.has_failed c.args.source.now c.take.new.self in
     let sink : Channel = channel g.K.Sink.contents g.K.Sink.has_failed c.args.sink.now c.pieces.sink in (
-      c.pieces.decoder.bytes,
+      c.pieces.telling.seen.bytes,
       s.heard,
-      ate_nothing _ _ _ c.pieces.decoder.bytes _ c.in-Ok.got i.eaten c.in-Ok.ensures.bytes.0 c.if-got-eq0.true,
+      ate_nothing _ _ _ c.pieces.telling.seen.bytes _ c.in-Ok.got i.eaten c.in-Ok.ensures.bytes.0 c.if-got-eq0.true,
       rw (p.1, p.2)
-          (end_fault g.R.Report.line c.pieces.decoder s.heard source sink c.finish.result c.in_err-finish.field-0.0 i.fresh i.viable
+          (end_fault g.R.Report.line c.pieces.telling.seen s.heard source sink c.finish.result c.in_err-finish.field-0.0 i.fresh i.viable
           (c.in-Ok.ensures.bytes.1 c.if-got-eq0.true (omega arith)) c.in-Ok.ensures.good (s.are, s.put) c.finish.ensures.good c.finish.ensures.truncated
           c.in_err-finish.was),
       rw (p.1, p.2) (hears_no_more g.R.Report.has_heard c.pieces.reporter s.heard c.in_err-finish.field-0.0 s.has),
     )
 
-pub returns-in_err-tell_piece-clause-reports : goal.returns-in_err-tell_piece-clause-reports
-returns-in_err-tell_piece-clause-reports g c =
-    let p = err_from_is_err_and c.from_residual-in_err-tell_piece.result c.from_residual-in_err-tell_piece.ensures.1 in
+pub returns-in_err-feed-clause-reports : goal.returns-in_err-feed-clause-reports
+returns-in_err-feed-clause-reports g c =
+    let p = err_from_is_err_and c.from_residual-in_err-feed.result c.from_residual-in_err-feed.ensures.1 in
     let i = c.pieces.invariant in
     let piece = c.split_at.result.0.now in
     let source : Channel = channel g.S.Source.remaining g.S.Source.has_failed c.args.source.now c.take.new.self in
-    let sink : Channel = channel g.K.Sink.contents g.K.Sink.has_failed c.args.sink.now c.tell_piece.new.sink in
-    let told = piece_fault g.R.Report.has_heard g.R.Report.line c.pieces.decoder.bytes piece c.tell_piece.new.reporter source sink (omega arith)
-    c.in-Ok.ensures.good i.viable c.in_err-tell_piece.field-0.0 (c.in_err-tell_piece.ensures.passes (g.K.Sink.contents c.args.sink.now) i.stands) in (
-      c.pieces.decoder.bytes ++ piece,
+    let sink : Channel = channel g.K.Sink.contents g.K.Sink.has_failed c.args.sink.now c.feed.new.sink in
+    let told = piece_fault g.R.Report.has_heard g.R.Report.line c.pieces.telling.seen.bytes piece c.feed.new.reporter source sink (omega arith)
+    c.in-Ok.ensures.good i.viable c.in_err-feed.field-0.0 (c.in_err-feed.ensures.passes (g.K.Sink.contents c.args.sink.now) i.stands) in (
+      c.pieces.telling.seen.bytes ++ piece,
       told.0,
-      Consumes-append _ _ _ c.pieces.decoder.bytes piece i.eaten (rw (← c.split_at.ensures.front) at c.in-Ok.ensures.bytes.0),
+      Consumes-append _ _ _ c.pieces.telling.seen.bytes piece i.eaten (rw (← c.split_at.ensures.front) at c.in-Ok.ensures.bytes.0),
       rw (p.1, p.2) told.1,
       rw (p.1, p.2) told.2,
     )
@@ -56,16 +58,16 @@ pub pieces-preserved : goal.pieces-preserved
 pieces-preserved g c =
     let i = c.pieces.invariant in
     let piece = c.split_at.result.0.now in
-    let now = c.in_ok-tell_piece.ensures.all in
+    let now = c.in_ok-feed.ensures.all in
     let all = ap (λ (v : Seen). v.bytes) now in
     record {
       fresh = ap (λ (v : Seen). v.refusal) now;
-      viable = c.in_ok-tell_piece.ensures.viable;
-      counted = omega (arith, i.counted, ap length all, length-append c.pieces.decoder.bytes piece, c.split_at.ensures.front_len);
+      viable = c.in_ok-feed.ensures.viable;
+      counted = omega (arith, i.counted, ap length all, length-append c.pieces.telling.seen.bytes piece, c.split_at.ensures.front_len);
       eaten = subst (Consumes (g.S.Source.remaining c.args.source.now) (g.S.Source.remaining c.take.new.self)) (sym all)
-          (Consumes-append _ _ _ c.pieces.decoder.bytes piece i.eaten (rw (← c.split_at.ensures.front) at c.in-Ok.ensures.bytes.0));
-      works = λ good. c.in_ok-tell_piece.ensures.works (i.works good);
-      stands = c.in_ok-tell_piece.ensures.passes (g.K.Sink.contents c.args.sink.now) i.stands;
+          (Consumes-append _ _ _ c.pieces.telling.seen.bytes piece i.eaten (rw (← c.split_at.ensures.front) at c.in-Ok.ensures.bytes.0));
+      works = λ good. c.in_ok-feed.ensures.works (i.works good);
+      stands = c.in_ok-feed.ensures.passes (g.K.Sink.contents c.args.sink.now) i.stands;
     }
 
 pub pieces-smaller : goal.pieces-smaller
@@ -73,11 +75,14 @@ pieces-smaller g c =
     let piece = c.split_at.result.0.now in
     omega (
       arith,
-      short_bytes c.tell_piece.new.decoder.bytes c.in_ok-tell_piece.ensures.viable,
-      ap (λ (v : Seen). length v.bytes) c.in_ok-tell_piece.ensures.all,
-      length-append c.pieces.decoder.bytes piece,
+      short_bytes c.feed.new.self.seen.bytes c.in_ok-feed.ensures.viable,
+      ap (λ (v : Seen). length v.bytes) c.in_ok-feed.ensures.all,
+      length-append c.pieces.telling.seen.bytes piece,
       c.split_at.ensures.front_len,
     )
 
-pub tell_piece-requires-clause-told : goal.tell_piece-requires-clause-told
-tell_piece-requires-clause-told g c = (g.K.Sink.contents c.args.sink.now, c.pieces.invariant.stands)
+pub feed-requires-clause-told : goal.feed-requires-clause-told
+feed-requires-clause-told g c = (g.K.Sink.contents c.args.sink.now, c.pieces.invariant.stands)
+
+pub overflow_add-place : goal.overflow_add-place
+overflow_add-place g c = omega (arith, c.pieces.invariant.counted, short_bytes c.pieces.telling.seen.bytes c.pieces.invariant.viable, c.in-Ok.ensures.bound)

@@ -1,5 +1,5 @@
 use Rattle.fit_report.proofs.Common.{◌≡◌, ℕ, ◌-◌, ◌≤◌, List, Option, length, false, Global, chain_limit, IsViable, fed, Stands}
-use Rattle.fit_report.proofs.reporting.tell_piece.Given as goal
+use Rattle.fit_report.proofs.telling.tell_piece.Given as goal
 
 abbrev pub invariant-loop-at : goal.invariant-loop-at
 invariant-loop-at g l = record {

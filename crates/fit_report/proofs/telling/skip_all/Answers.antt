@@ -2,7 +2,7 @@
 use Rattle.fit_report.proofs.Common.{ap, Seen, err_from_is_err_and}
 use Rattle.fit_report.proofs.Pieces.{lacks_after}
 use Rattle.fit_report.proofs.Skipped.{skips_nothing, skips_on}
-use Rattle.fit_report.proofs.reporting.skip_all.Goals as goal
+use Rattle.fit_report.proofs.telling.skip_all.Goals as goal
 
 pub skips-init : goal.skips-init
 skips-init g c = record { skips = skips_nothing; viable = c.requires.viable }

@@ -1,9 +1,9 @@
 -- What is skipped is told.
-use Rattle.fit_report.proofs.Common.{channel, reverse, ap, subst, AreEvents, Seen, err_from_is_err_and}
+use Rattle.fit_report.proofs.Common.{channel, reverse, ap, subst, AreEvents, Seen, err_from_is_err_and, Global, chain_limit, IsViable}
 use Rattle.fit_report.proofs.Pieces.{stops_before}
 use Rattle.fit_report.proofs.Skipped.{fed_so, skips_heard}
 use Rattle.fit_report.proofs.Texts.{stands_on, stops_in}
-use Rattle.fit_report.proofs.reporting.tell_skipped.Goals as goal
+use Rattle.fit_report.proofs.telling.tell_skipped.Goals as goal
 
 pub returns-clause-used : goal.returns-clause-used
 returns-clause-used g c =
@@ -24,6 +24,7 @@ returns-in_err-put_text-clause-passes g c =
     let t = skips_heard skips c.clear.ensures.items c.as_slice.result.now c.as_slice.ensures.value s.heard s.has s.are in
     stops_in (channel g.K.Sink.contents g.K.Sink.has_failed c.args.sink.now c.put_text.new.sink) s t.0 c.as_slice.result.now t.3
     c.skip_all.new.reporter c.args.piece.now c.in-Ok.used c.put_text.new.written c.in_err-put_text.field-0.0
+    (subst (IsViable Global chain_limit) (ap (λ (v : Seen). v.bytes) skips.is_fed) c.skip_all.ensures.viable)
     (subst (λ b. AreEvents b (reverse t.0)) (ap (λ (v : Seen). v.bytes) skips.is_fed) t.2) c.in_err-put_text.ensures.puts)
 
 pub returns-in_default-clause-passes : goal.returns-in_default-clause-passes

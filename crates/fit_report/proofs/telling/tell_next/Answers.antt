@@ -1,9 +1,10 @@
 -- What is fed is told.
 use Rattle.fit_report.proofs.Common.{channel, reverse, ap, ◌∙◌, subst, Err, hear, AreEvents, AreHeard, Seen, err_from_is_err_and}
+use Rattle.fit_report.proofs.Common.{Global, chain_limit, IsViable}
 use Rattle.fit_report.proofs.Hearing.{heard_more, heard_next, not_told, uses_some}
 use Rattle.fit_report.proofs.Pieces.{stops, stops_before}
 use Rattle.fit_report.proofs.Texts.{stands_more, stands_on, stops_in, text_told}
-use Rattle.fit_report.proofs.reporting.tell_next.Goals as goal
+use Rattle.fit_report.proofs.telling.tell_next.Goals as goal
 
 pub returns-in_err-used-clause-passes : goal.returns-in_err-used-clause-passes
 returns-in_err-used-clause-passes g c =
@@ -63,6 +64,7 @@ returns-in_err-put_text-clause-passes g c =
     (text_told g.R.Report.line s.heard event c.clear.new.self.items c.tell.new.text.items c.as_slice.result.now c.clear.ensures.items
     (c.in-Ok.ensures.text s.heard s.has (c.feed.new.self.bytes, fed.viable, are)) c.as_slice.ensures.value)
     c.tell.new.self c.args.piece.now c.in_ok-used.field-0.used c.put_text.new.written c.in_err-put_text.field-0.0
+    (subst (IsViable Global chain_limit) (ap (λ (v : Seen). v.bytes) fed.used.1) fed.viable)
     (subst (λ b. AreEvents b (reverse (hear event s.heard))) (ap (λ (v : Seen). v.bytes) fed.used.1) are) c.in_err-put_text.ensures.puts)
 
 pub returns-in-More-clause-passes : goal.returns-in-More-clause-passes

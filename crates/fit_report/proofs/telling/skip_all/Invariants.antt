@@ -1,5 +1,5 @@
 use Rattle.fit_report.proofs.Common.{◌-◌, length, Global, chain_limit, IsViable, Skips}
-use Rattle.fit_report.proofs.reporting.skip_all.Given as goal
+use Rattle.fit_report.proofs.telling.skip_all.Given as goal
 
 abbrev pub invariant-skips : goal.invariant-skips
 invariant-skips g l = record {

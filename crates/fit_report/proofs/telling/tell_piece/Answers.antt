@@ -1,7 +1,7 @@
 -- A piece is told event by event, but for what the reporter skips.
 use Rattle.fit_report.proofs.Common.{◌+◌, channel, err_from_is_err_and}
 use Rattle.fit_report.proofs.Pieces.{within_after, fed_after, stops_after}
-use Rattle.fit_report.proofs.reporting.tell_piece.Goals as goal
+use Rattle.fit_report.proofs.telling.tell_piece.Goals as goal
 
 pub returns-in_err-at-clause-passes : goal.returns-in_err-at-clause-passes
 returns-in_err-at-clause-passes g c =
