@@ -28,5 +28,5 @@ pub use Rattle.fit_report.specs.Heard.{Lines, text_of, hear, latest_records, Ski
 pub use Rattle.fit_report.specs.Reports.{Channel, Reports, ReportsChain, HasTold, Tells, report_fault, HasHeard, TextFailsIn, channel}
 pub use Rattle.fit_report.specs.declared.fault.ReportFault.{ReportFault}
 pub use Rattle.fit_report.specs.declared.fault.ReportFault.TheVariants.{Decode, NoMemory, Write}
-pub use Rattle.fit_report.specs.Telling.{Stands, Stops, Passes, ToldSoFar}
+pub use Rattle.fit_report.specs.Telling.{Stands, Stops, Passes, TellsMore, ToldSoFar}
 pub use Rattle.fit_report.specs.inner.Passing.{Puts}

@@ -3,7 +3,7 @@ use Rattle.fit_report.proofs.Common.{◌≡◌, ℕ, ◌+◌, ◌≤◌, List, [
 use Rattle.fit_report.proofs.Common.{refl, sym, ap, ◌∙◌, subst, arith, length-append, Consumes, IsAtEnd, append-nil, get_or-append-add, take-append-add}
 use Rattle.fit_report.proofs.Common.{chain_limit, IsViable, Refused, Truncated, Fault, Seen, Event, AreEvents, at_header, IsRefused, no_file_yet}
 use Rattle.fit_report.proofs.Common.{ReportFault, Decode, NoMemory, Write, Lines, Stands, Stops, Channel, Tells, HasTold, HasHeard, report_fault}
-use Rattle.fit_report.proofs.Common.{Consumes-append, drop, append_assoc, take-append-drop, length-drop}
+use Rattle.fit_report.proofs.Common.{Appends, TellsMore, TextFailsIn, Consumes-append, drop, append_assoc, take-append-drop, length-drop}
 use Rattle.std.proofs.Math.Seq.{take-append_seam}
 use Rattle.fit_chain.specs.Memory.{IsAny, MayLackMemoryIn}
 use Rattle.fit_report.specs.Reports.{TellsSome}
@@ -18,11 +18,13 @@ pub nothing_heard : (A : Type 0) → AreEvents {A = A} [] []
 nothing_heard A = ([], at_header [], no_file_yet A, refl)
 
 pub stands_before : {A R : Type 0} (has_heard : R → List (Event A) → Type 0) (line : Lines A) (reporter : R) (bytes : List ℕ) (start : Option (List ℕ))
-    → bytes ≡ [] → has_heard reporter [] → Stands has_heard line reporter bytes start start 0
+    → bytes ≡ [] → has_heard reporter [] → Stands has_heard line reporter bytes [] start start 0
 stands_before {A} has_heard line reporter bytes start none has = record {
   heard = [];
   has = has;
   are = subst (λ b. AreEvents {A = A} b []) (sym none) (nothing_heard A);
+  text = [];
+  is_text = refl;
   put = Appends-nothing start;
   counted = omega arith;
 }
@@ -36,6 +38,10 @@ module _ {A R : Type 0} (has_heard : R → List (Event A) → Type 0) (line : Li
 
   nearly_all : IsNearlyViable A chain_limit (bytes ++ piece)
   nearly_all = nearly chain_limit bytes piece (bytes ++ piece) refl short viable
+
+  -- what was told is all text
+  all_told : (front : List ℕ) (heard : List (Event A)) → TellsMore line front [] heard sink → Tells line front heard sink
+  all_told front heard (are, text, is, put) = (are, subst (Appends sink.before sink.after) (sym is) put)
 
   -- that much was told, and memory was refused after it
   told_before : (k : ℕ) (heard : List (Event A)) → Tells line (bytes ++ take k piece) heard sink
@@ -51,7 +57,7 @@ module _ {A R : Type 0} (has_heard : R → List (Event A) → Type 0) (line : Li
             (λ place after. omega (arith, after, ap length parts, length-append told (drop k piece), length-drop k piece, short)) lacks,
       )
 
-  pub piece_fault : (fault : ReportFault) → Stops has_heard line bytes piece reporter sink fault
+  pub piece_fault : (fault : ReportFault) → Stops has_heard line bytes [] piece reporter sink fault
       → (heard : List (Event A)) × HasTold line (bytes ++ piece) source sink heard (Err fault) × HasHeard has_heard reporter heard (Err fault)
   piece_fault (Decode (Refused place reason)) (k, within, is, why, heard, has, tells) =
       let there : bytes ++ take k piece ≡ take place (bytes ++ piece) = front k ∙ ap (λ n. take n (bytes ++ piece)) (sym is) in
@@ -66,15 +72,25 @@ module _ {A R : Type 0} (has_heard : R → List (Event A) → Type 0) (line : Li
                 (subst (λ t. IsRefused A chain_limit t (get_or piece k 0) reason) there why),
             good,
           ),
-          subst (λ t. Tells line t heard sink) there tells,
+          subst (λ t. Tells line t heard sink) there (all_told (bytes ++ take k piece) heard tells),
         ),
         has,
       )
   piece_fault (Decode fault) none = absurd none
-  piece_fault NoMemory (k, heard, tells, lacks) = (heard, (told_before k heard tells lacks, good), tt)
-  piece_fault (Write count) (k, heard, begins, are, fails) = (
+  piece_fault NoMemory (k, heard, tells, lacks) =
+      (heard, (told_before k heard (all_told (bytes ++ take k piece) heard tells) lacks, good), tt)
+  piece_fault (Write count) (k, heard, begins, are, text, is, bad, n, short_, put, counted) = (
     heard,
-    ((length bytes + k, heard, subst (λ t. AreEvents t (reverse heard)) (front k) are, fails), nearly_all, good),
+    (
+      (
+        length bytes + k,
+        heard,
+        subst (λ t. AreEvents t (reverse heard)) (front k) are,
+        subst (λ t. TextFailsIn t sink count) (sym is) (bad, n, short_, put, omega (arith, counted)),
+      ),
+      nearly_all,
+      good,
+    ),
     tt,
   )
 

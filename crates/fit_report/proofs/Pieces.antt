@@ -25,20 +25,20 @@ pub record Stopped (A : Type 0) (old : Seen) (piece : List ℕ) (new : Seen) (fa
   pub others : (place : ℕ) → (fault ≡ faults.Truncated place → ⊥) × (fault ≡ faults.Read place → ⊥)
 
 -- Nothing of the piece was told.
-module _ {A R : Type 0} {has_heard : R → List (Event A) → Type 0} {line : Lines A} {reporter : R} {start : Option (List ℕ)} {written : ℕ}
-    (old : Seen) (piece : List ℕ) (sink : Channel) (s : Stands has_heard line reporter old.bytes start sink.after written) where
+module _ {A R : Type 0} {has_heard : R → List (Event A) → Type 0} {line : Lines A} {reporter : R} {told : List ℕ} {start : Option (List ℕ)} {written : ℕ}
+    (old : Seen) (piece : List ℕ) (sink : Channel) (s : Stands has_heard line reporter old.bytes told start sink.after written) where
   pub stops_before : (after : R) → MayLackMemoryIn A IsAny old.bytes piece
-      → Stops has_heard line old.bytes piece after (record sink { before = start }) NoMemory
+      → Stops has_heard line old.bytes told piece after (record sink { before = start }) NoMemory
   stops_before after lacks =
       let none : old.bytes ≡ old.bytes ++ [] = sym (append-nil old.bytes) in (
         0,
         s.heard,
-        (subst (λ b. AreEvents b (reverse s.heard)) none s.are, s.put),
+        (subst (λ b. AreEvents b (reverse s.heard)) none s.are, s.text, s.is_text, s.put),
         subst (λ b. MayLackMemoryIn A IsAny b piece) none lacks,
       )
 
   pub stops : (new : Seen) (fault : Fault) → Stopped A old piece new fault
-      → Stops has_heard line old.bytes piece reporter (record sink { before = start }) (report_fault fault)
+      → Stops has_heard line old.bytes told piece reporter (record sink { before = start }) (report_fault fault)
   stops new (faults.Refused place reason) t =
       let refuses = t.refused place reason refl in
       let u : ℕ = refuses.used in (
@@ -48,7 +48,7 @@ module _ {A R : Type 0} {has_heard : R → List (Event A) → Type 0} {line : Li
         refuses.why,
         s.heard,
         s.has,
-        (quiet_for old.bytes piece u refuses.quiet (reverse s.heard) s.are u (omega arith), s.put),
+        (quiet_for old.bytes piece u refuses.quiet (reverse s.heard) s.are u (omega arith), s.text, s.is_text, s.put),
       )
   stops new (faults.NoMemory used) t =
       let wants = t.memory used refl in
@@ -74,7 +74,7 @@ lacks_after old mid piece rest at is left =
     (omega (arith, ap length is, length-append old.bytes (take at piece)))
 
 -- A fault in it is one in the piece.
-module _ {A R : Type 0} (has_heard : R → List (Event A) → Type 0) (line : Lines A) (old mid : Seen) (piece rest : List ℕ) (at : ℕ) (reporter : R)
+module _ {A R : Type 0} (has_heard : R → List (Event A) → Type 0) (line : Lines A) (old mid : Seen) (told piece rest : List ℕ) (at : ℕ) (reporter : R)
     (sink : Channel) (within : at ≤ length piece) (is : mid ≡ fed old piece at) (left : rest ≡ drop at piece) where
   joined : (k : ℕ) → mid.bytes ++ take k rest ≡ old.bytes ++ take (at + k) piece
   joined k = ap (λ (v : Seen). v.bytes) (fed_after old mid (fed mid rest k) piece rest at k is left refl)
@@ -88,8 +88,8 @@ module _ {A R : Type 0} (has_heard : R → List (Event A) → Type 0) (line : Li
       subst (λ b. MayLackMemoryIn A IsAny b (drop (at + k) piece)) (joined k)
       (subst (λ l. MayLackMemoryIn A IsAny (mid.bytes ++ take k rest) l) (ap (drop k) left ∙ drop-drop k at piece) lacks)
 
-  pub stops_after : (fault : ReportFault) → Stops has_heard line mid.bytes rest reporter sink fault → Stops has_heard line old.bytes piece reporter sink fault
-  stops_after (Decode (faults.Refused place reason)) (k, short, stands, why, heard, has, (are, put)) = (
+  pub stops_after : (fault : ReportFault) → Stops has_heard line mid.bytes told rest reporter sink fault → Stops has_heard line old.bytes told piece reporter sink fault
+  stops_after (Decode (faults.Refused place reason)) (k, short, stands, why, heard, has, (are, text, is_text, put)) = (
     at + k,
     omega (arith, short, ap length left, length-drop at piece),
     omega (arith, stands, ap (λ (v : Seen). length v.bytes) is, length-append old.bytes (take at piece), length-take at piece, within),
@@ -97,8 +97,20 @@ module _ {A R : Type 0} (has_heard : R → List (Event A) → Type 0) (line : Li
         (subst (λ x. IsRefused A chain_limit (mid.bytes ++ take k rest) x reason) (ap (λ x. get_or x k 0) left ∙ get_or-drop at piece k 0) why),
     heard,
     has,
-    (so k heard are, put),
+    (so k heard are, text, is_text, put),
   )
   stops_after (Decode fault) none = absurd none
-  stops_after NoMemory (k, heard, (are, put), lacks) = (at + k, heard, (so k heard are, put), lacks_on k lacks)
-  stops_after (Write count) (k, heard, viable, are, fails) = (at + k, heard, subst (IsViable A chain_limit) (joined k) viable, so k heard are, fails)
+  stops_after NoMemory (k, heard, (are, text, is_text, put), lacks) = (at + k, heard, (so k heard are, text, is_text, put), lacks_on k lacks)
+  stops_after (Write count) (k, heard, viable, are, text, is_text, bad, n, short, put, counted) = (
+    at + k,
+    heard,
+    subst (IsViable A chain_limit) (joined k) viable,
+    so k heard are,
+    text,
+    is_text,
+    bad,
+    n,
+    short,
+    put,
+    counted,
+  )

@@ -19,8 +19,8 @@ use fit_encode::{Sink, put_all};
 use std::alloc::{AllocError, Global};
 use std::marker::Model;
 
-/// What tells the events of a chain's bytes to a reporter as they come, in pieces of any length, and puts its text in a sink. The
-/// reporter and the sink are the same in each call; the first reporter has heard nothing.
+/// What tells the events of a chain's bytes to a reporter as they come, in pieces of any length, and puts its text in a sink. It
+/// is the same reporter in each call, and has heard nothing at first; the sink may be another one in each call.
 ///
 /// Clauses see the bytes fed that weren't refused, the refusal if there was one, and how many bytes of text were put.
 #[derive(Drop)]
@@ -69,9 +69,9 @@ impl Telling {
         piece: &[u8],
     ) -> Result<(), ReportFault>
         requires fresh { self.old.seen.refusal ≡ None }
-        // The reporter has heard the events of the bytes fed, and their text was put in the sink.
-        requires told { (start : Option (List ℕ)) × Stands R.has_heard R.line reporter.old
-            self.old.seen.bytes start (K.contents sink.old) self.old.written }
+        // The reporter has heard the events of the bytes fed, and their text was put, the last of it in this sink.
+        requires told { (text : List ℕ) × (start : Option (List ℕ)) × Stands R.has_heard R.line
+            reporter.old self.old.seen.bytes text start (K.contents sink.old) self.old.written }
         ensures all { OnOk result (self.new.seen ≡ record
             { bytes = self.old.seen.bytes ++ piece.now; refusal = None }) }
         ensures passes { Passes R.has_heard R.line reporter.old reporter.new
@@ -166,8 +166,8 @@ fn tell_skipped<K: Sink, R: Report>(
     piece: &[u8],
 ) -> Result<usize, ReportFault>
     requires fresh { decoder.old.refusal ≡ None }
-    requires told { (start : Option (List ℕ)) × Stands R.has_heard R.line reporter.old
-        decoder.old.bytes start (K.contents sink.old) written.old }
+    requires told { (text : List ℕ) × (start : Option (List ℕ)) × Stands R.has_heard
+        R.line reporter.old decoder.old.bytes text start (K.contents sink.old) written.old }
     requires viable { IsViable Global chain_limit decoder.old.bytes }
     ensures used { IfOk result (λ used. (used ≤ length piece.now)
         × (decoder.new ≡ fed decoder.old piece.now used)) }
@@ -195,8 +195,8 @@ fn tell_next<K: Sink, R: Report>(
     piece: &[u8],
 ) -> Result<usize, ReportFault>
     requires fresh { decoder.old.refusal ≡ None }
-    requires told { (start : Option (List ℕ)) × Stands R.has_heard R.line reporter.old
-        decoder.old.bytes start (K.contents sink.old) written.old }
+    requires told { (text : List ℕ) × (start : Option (List ℕ)) × Stands R.has_heard
+        R.line reporter.old decoder.old.bytes text start (K.contents sink.old) written.old }
     ensures used { IfOk result (λ used. (used ≤ length piece.now)
         × (decoder.new ≡ fed decoder.old piece.now used)) }
     ensures some { IfOk result (λ used. 0 < length piece.now → 0 < used) }
@@ -228,8 +228,8 @@ fn tell_piece<K: Sink, R: Report>(
     piece: &[u8],
 ) -> Result<(), ReportFault>
     requires fresh { decoder.old.refusal ≡ None }
-    requires told { (start : Option (List ℕ)) × Stands R.has_heard R.line reporter.old
-        decoder.old.bytes start (K.contents sink.old) written.old }
+    requires told { (text : List ℕ) × (start : Option (List ℕ)) × Stands R.has_heard
+        R.line reporter.old decoder.old.bytes text start (K.contents sink.old) written.old }
     requires viable { IsViable Global chain_limit decoder.old.bytes }
     ensures all { OnOk result (decoder.new ≡ record
         { bytes = decoder.old.bytes ++ piece.now; refusal = None }) }

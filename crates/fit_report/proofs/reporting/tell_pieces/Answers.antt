@@ -1,5 +1,5 @@
 -- A report goes on piece by piece.
-use Rattle.fit_report.proofs.Common.{◌++◌, length, sym, ap, subst, arith, length-append, Global, Consumes, err_from_is_err_and, chain_limit, IsViable, Seen}
+use Rattle.fit_report.proofs.Common.{[], Appends, ◌++◌, length, sym, ap, subst, arith, length-append, Global, Consumes, err_from_is_err_and, chain_limit, IsViable, Seen}
 use Rattle.fit_report.proofs.Common.{short_bytes, Channel, channel, Consumes-nothing, Consumes-append, nothing_viable, Stands, ToldSoFar}
 use Rattle.fit_report.proofs.Outcomes.{stands_before, piece_fault, end_fault, ate_nothing}
 use Rattle.fit_report.proofs.Pieces.{hears_no_more}
@@ -16,7 +16,7 @@ pieces-init g c =
       eaten = subst (Consumes (g.S.Source.remaining c.args.source.now) (g.S.Source.remaining c.args.source.now)) (sym none)
           (Consumes-nothing (g.S.Source.remaining c.args.source.now));
       works = λ good. good;
-      stands = subst (Stands g.R.Report.has_heard g.R.Report.line c.args.reporter.now c.new-telling.result.seen.bytes start start)
+      stands = subst (Stands g.R.Report.has_heard g.R.Report.line c.args.reporter.now c.new-telling.result.seen.bytes [] start start)
           (sym (ap (λ (t : ToldSoFar). t.written) c.new-telling.ensures))
           (stands_before g.R.Report.has_heard g.R.Report.line c.args.reporter.now c.new-telling.result.seen.bytes start none c.requires);
     }
@@ -33,7 +33,7 @@ returns-in_err-finish-clause-reports g c =
       ate_nothing _ _ _ c.pieces.telling.seen.bytes _ c.in-Ok.got i.eaten c.in-Ok.ensures.bytes.0 c.if-got-eq0.true,
       rw (p.1, p.2)
           (end_fault g.R.Report.line c.pieces.telling.seen s.heard source sink c.finish.result c.in_err-finish.field-0.0 i.fresh i.viable
-          (c.in-Ok.ensures.bytes.1 c.if-got-eq0.true (omega arith)) c.in-Ok.ensures.good (s.are, s.put) c.finish.ensures.good c.finish.ensures.truncated
+          (c.in-Ok.ensures.bytes.1 c.if-got-eq0.true (omega arith)) c.in-Ok.ensures.good (s.are, subst (Appends sink.before sink.after) (sym s.is_text) s.put) c.finish.ensures.good c.finish.ensures.truncated
           c.in_err-finish.was),
       rw (p.1, p.2) (hears_no_more g.R.Report.has_heard c.pieces.reporter s.heard c.in_err-finish.field-0.0 s.has),
     )
@@ -46,7 +46,7 @@ returns-in_err-feed-clause-reports g c =
     let source : Channel = channel g.S.Source.remaining g.S.Source.has_failed c.args.source.now c.take.new.self in
     let sink : Channel = channel g.K.Sink.contents g.K.Sink.has_failed c.args.sink.now c.feed.new.sink in
     let told = piece_fault g.R.Report.has_heard g.R.Report.line c.pieces.telling.seen.bytes piece c.feed.new.reporter source sink (omega arith)
-    c.in-Ok.ensures.good i.viable c.in_err-feed.field-0.0 (c.in_err-feed.ensures.passes (g.K.Sink.contents c.args.sink.now) i.stands) in (
+    c.in-Ok.ensures.good i.viable c.in_err-feed.field-0.0 (c.in_err-feed.ensures.passes [] (g.K.Sink.contents c.args.sink.now) i.stands) in (
       c.pieces.telling.seen.bytes ++ piece,
       told.0,
       Consumes-append _ _ _ c.pieces.telling.seen.bytes piece i.eaten (rw (← c.split_at.ensures.front) at c.in-Ok.ensures.bytes.0),
@@ -67,7 +67,7 @@ pieces-preserved g c =
       eaten = subst (Consumes (g.S.Source.remaining c.args.source.now) (g.S.Source.remaining c.take.new.self)) (sym all)
           (Consumes-append _ _ _ c.pieces.telling.seen.bytes piece i.eaten (rw (← c.split_at.ensures.front) at c.in-Ok.ensures.bytes.0));
       works = λ good. c.in_ok-feed.ensures.works (i.works good);
-      stands = c.in_ok-feed.ensures.passes (g.K.Sink.contents c.args.sink.now) i.stands;
+      stands = c.in_ok-feed.ensures.passes [] (g.K.Sink.contents c.args.sink.now) i.stands;
     }
 
 pub pieces-smaller : goal.pieces-smaller
@@ -82,7 +82,7 @@ pieces-smaller g c =
     )
 
 pub feed-requires-clause-told : goal.feed-requires-clause-told
-feed-requires-clause-told g c = (g.K.Sink.contents c.args.sink.now, c.pieces.invariant.stands)
+feed-requires-clause-told g c = ([], g.K.Sink.contents c.args.sink.now, c.pieces.invariant.stands)
 
 pub overflow_add-place : goal.overflow_add-place
 overflow_add-place g c = omega (arith, c.pieces.invariant.counted, short_bytes c.pieces.telling.seen.bytes c.pieces.invariant.viable, c.in-Ok.ensures.bound)

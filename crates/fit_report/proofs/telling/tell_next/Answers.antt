@@ -9,7 +9,7 @@ use Rattle.fit_report.proofs.telling.tell_next.Goals as goal
 pub returns-in_err-used-clause-passes : goal.returns-in_err-used-clause-passes
 returns-in_err-used-clause-passes g c =
     let p = err_from_is_err_and c.from_residual.result c.from_residual.ensures.1 in
-    rw (p.1, p.2) (λ start s.
+    rw (p.1, p.2) (λ told start s.
     stops c.args.decoder.now c.args.piece.now (channel g.K.Sink.contents g.K.Sink.has_failed c.args.sink.now c.args.sink.now) s c.feed.new.self
     c.in_err-used.field-0.0 (record {
       refused = λ place reason is. c.feed.ensures.refused place reason c.requires.fresh (c.in_err-used.was ∙ ap Err is);
@@ -23,7 +23,7 @@ returns-in_err-used-clause-passes g c =
 
 pub tell-requires : goal.tell-requires
 tell-requires g c =
-    let s = c.requires.told.1 in
+    let s = c.requires.told.2 in
     let fed = c.in_ok-used.ensures in (
       s.heard,
       s.has,
@@ -41,7 +41,7 @@ returns-clause-some g c =
     (record { more = c.in_ok-used.ensures.more; event = c.in_ok-used.ensures.event })
 
 pub returns-clause-passes : goal.returns-clause-passes
-returns-clause-passes g c = λ start s.
+returns-clause-passes g c = λ told start s.
     let fed = c.in_ok-used.ensures in
     let event = c.in_ok-used.field-0.event in
     let are = heard_next c.args.decoder.now c.feed.new.self c.args.piece.now c.in_ok-used.field-0.used s.heard event fed.used.1
@@ -57,7 +57,7 @@ returns-in_err-put_text-clause-passes g c =
     let p = err_from_is_err_and c.from_residual-in_err-put_text.result c.from_residual-in_err-put_text.ensures.1 in
     let fed = c.in_ok-used.ensures in
     let event = c.in_ok-used.field-0.event in
-    rw (p.1, p.2) (λ start s.
+    rw (p.1, p.2) (λ told start s.
     let are = heard_next c.args.decoder.now c.feed.new.self c.args.piece.now c.in_ok-used.field-0.used s.heard event fed.used.1
     (record { more = fed.more; event = fed.event }) s.are in
     stops_in (channel g.K.Sink.contents g.K.Sink.has_failed c.args.sink.now c.put_text.new.sink) s (hear event s.heard) c.as_slice.result.now
@@ -68,14 +68,14 @@ returns-in_err-put_text-clause-passes g c =
     (subst (λ b. AreEvents b (reverse (hear event s.heard))) (ap (λ (v : Seen). v.bytes) fed.used.1) are) c.in_err-put_text.ensures.puts)
 
 pub returns-in-More-clause-passes : goal.returns-in-More-clause-passes
-returns-in-More-clause-passes g c = λ start s.
+returns-in-More-clause-passes g c = λ told start s.
     let fed = c.in_ok-used.ensures in
     stands_more c.feed.new.self.bytes
     (heard_more c.args.decoder.now c.feed.new.self c.args.piece.now c.in_ok-used.field-0.used c.in_ok-used.field-0.event c.in-More.is fed.used.1
     (record { more = fed.more; event = fed.event })) s
 
 pub returns-in_default-tell-clause-passes : goal.returns-in_default-tell-clause-passes
-returns-in_default-tell-clause-passes g c = λ start s.
+returns-in_default-tell-clause-passes g c = λ told start s.
     let fed = c.in_ok-used.ensures in
     stops_before c.args.decoder.now c.args.piece.now (channel g.K.Sink.contents g.K.Sink.has_failed c.args.sink.now c.args.sink.now) s c.tell.new.self
     (not_told c.args.decoder.now c.feed.new.self c.args.piece.now c.in_ok-used.field-0.used c.in_ok-used.field-0.event c.in_default.not-More fed.used.1

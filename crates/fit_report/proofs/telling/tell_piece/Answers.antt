@@ -7,10 +7,10 @@ pub returns-in_err-at-clause-passes : goal.returns-in_err-at-clause-passes
 returns-in_err-at-clause-passes g c =
     let p = err_from_is_err_and c.from_residual.result c.from_residual.ensures.1 in
     let i = c.loop-at.invariant in
-    rw (p.1, p.2) (λ start s.
-    stops_after g.R.Report.has_heard g.R.Report.line c.args.decoder.now c.loop-at.decoder c.args.piece.now c.split_at.result.1.now c.loop-at.at
+    rw (p.1, p.2) (λ told start s.
+    stops_after g.R.Report.has_heard g.R.Report.line c.args.decoder.now c.loop-at.decoder told c.args.piece.now c.split_at.result.1.now c.loop-at.at
     c.tell_skipped.new.reporter (record (channel g.K.Sink.contents g.K.Sink.has_failed c.args.sink.now c.tell_skipped.new.sink) { before = start })
-    i.within i.is_fed c.split_at.ensures.back c.in_err-at.field-0.0 (c.in_err-at.ensures.passes start (i.stands start s)))
+    i.within i.is_fed c.split_at.ensures.back c.in_err-at.field-0.0 (c.in_err-at.ensures.passes told start (i.stands told start s)))
 
 pub returns-in_err-at-2-clause-passes : goal.returns-in_err-at-2-clause-passes
 returns-in_err-at-2-clause-passes g c =
@@ -18,14 +18,14 @@ returns-in_err-at-2-clause-passes g c =
     let i = c.loop-at.invariant in
     let piece = c.args.piece.now in
     let used = c.in_ok-at.ensures.used in
-    rw (p.1, p.2) (λ start s.
-    stops_after g.R.Report.has_heard g.R.Report.line c.args.decoder.now c.tell_skipped.new.decoder piece c.split_at-in-loop-at.result.1.now
+    rw (p.1, p.2) (λ told start s.
+    stops_after g.R.Report.has_heard g.R.Report.line c.args.decoder.now c.tell_skipped.new.decoder told piece c.split_at-in-loop-at.result.1.now
     (c.loop-at.at + c.in_ok-at.field-0) c.tell_next.new.reporter
     (record (channel g.K.Sink.contents g.K.Sink.has_failed c.args.sink.now c.tell_next.new.sink) { before = start })
     (within_after piece c.split_at.result.1.now c.loop-at.at c.in_ok-at.field-0 i.within c.split_at.ensures.back used.0)
     (fed_after c.args.decoder.now c.loop-at.decoder c.tell_skipped.new.decoder piece c.split_at.result.1.now c.loop-at.at c.in_ok-at.field-0 i.is_fed
     c.split_at.ensures.back used.1)
-    c.split_at-in-loop-at.ensures.back c.in_err-at-2.field-0.0 (c.in_err-at-2.ensures.passes start (c.in_ok-at.ensures.passes start (i.stands start s))))
+    c.split_at-in-loop-at.ensures.back c.in_err-at-2.field-0.0 (c.in_err-at-2.ensures.passes told start (c.in_ok-at.ensures.passes told start (i.stands told start s))))
 
 pub loop-at-preserved : goal.loop-at-preserved
 loop-at-preserved g c =
@@ -42,7 +42,12 @@ loop-at-preserved g c =
           (fed_after c.args.decoder.now c.loop-at.decoder c.tell_skipped.new.decoder piece c.split_at.result.1.now c.loop-at.at c.in_ok-at.field-0 i.is_fed
           c.split_at.ensures.back skipped.used.1)
           c.split_at-in-loop-at.ensures.back told.used.1;
-      stands = λ start s. told.passes start (skipped.passes start (i.stands start s));
+      stands = λ text start s. told.passes text start (skipped.passes text start (i.stands text start s));
       works = λ good. told.works (skipped.works (i.works good));
       viable = told.viable;
     }
+
+pub tell_next-requires-clause-told : goal.tell_next-requires-clause-told
+tell_next-requires-clause-told g c =
+    let (text, start, s) = c.requires.told in
+    (text, start, c.in_ok-at.ensures.passes text start (c.loop-at.invariant.stands text start s))

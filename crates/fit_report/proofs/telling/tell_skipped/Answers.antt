@@ -11,7 +11,7 @@ returns-clause-used g c =
     (skips.within, fed_so c.args.decoder.now c.skip_all.new.decoder c.args.piece.now c.in-Ok.used skips.is_fed c.requires.fresh)
 
 pub returns-clause-passes : goal.returns-clause-passes
-returns-clause-passes g c = λ start s.
+returns-clause-passes g c = λ told start s.
     let t = skips_heard c.in-Ok.ensures.skips c.clear.ensures.items c.as_slice.result.now c.as_slice.ensures.value s.heard s.has s.are in
     stands_on (channel g.K.Sink.contents g.K.Sink.has_failed c.args.sink.now c.put_text.new.sink) s t.0 c.as_slice.result.now t.3
     c.skip_all.new.reporter c.skip_all.new.decoder.bytes c.put_text.new.written t.1 t.2 c.in_ok-put_text.ensures.puts
@@ -20,7 +20,7 @@ pub returns-in_err-put_text-clause-passes : goal.returns-in_err-put_text-clause-
 returns-in_err-put_text-clause-passes g c =
     let p = err_from_is_err_and c.from_residual.result c.from_residual.ensures.1 in
     let skips = c.in-Ok.ensures.skips in
-    rw (p.1, p.2) (λ start s.
+    rw (p.1, p.2) (λ told start s.
     let t = skips_heard skips c.clear.ensures.items c.as_slice.result.now c.as_slice.ensures.value s.heard s.has s.are in
     stops_in (channel g.K.Sink.contents g.K.Sink.has_failed c.args.sink.now c.put_text.new.sink) s t.0 c.as_slice.result.now t.3
     c.skip_all.new.reporter c.args.piece.now c.in-Ok.used c.put_text.new.written c.in_err-put_text.field-0.0
@@ -28,6 +28,6 @@ returns-in_err-put_text-clause-passes g c =
     (subst (λ b. AreEvents b (reverse t.0)) (ap (λ (v : Seen). v.bytes) skips.is_fed) t.2) c.in_err-put_text.ensures.puts)
 
 pub returns-in_default-clause-passes : goal.returns-in_default-clause-passes
-returns-in_default-clause-passes g c = λ start s.
+returns-in_default-clause-passes g c = λ told start s.
     stops_before c.args.decoder.now c.args.piece.now (channel g.K.Sink.contents g.K.Sink.has_failed c.args.sink.now c.args.sink.now) s
     c.skip_all.new.reporter c.in_default.ensures.wants
