@@ -2,7 +2,8 @@
 use Rattle.fit_report.proofs.Common.{◌≡◌, ℕ, ◌+◌, ◌≤◌, List, ◌++◌, length, take, drop, get_or, reverse, Option, Err, refl, sym, ap, ◌∙◌, subst, arith}
 use Rattle.fit_report.proofs.Common.{[], length-append, append_assoc, take-append-drop}
 use Rattle.std.proofs.lemmas.List.{drop-drop}
-use Rattle.fit_report.proofs.Common.{append-nil, length-drop, length-take, get_or-drop, Fault, Seen, fed, Refuses, Event, AreEvents, IsRefused, chain_limit, IsViable}
+use Rattle.fit_report.proofs.Common.{append-nil, length-drop, length-take, get_or-drop, Fault, Seen, fed, Refuses, Event, AreEvents, IsRefused, chain_limit}
+use Rattle.fit_report.proofs.Common.{IsViable}
 use Rattle.fit_report.proofs.Common.{ReportFault, Decode, NoMemory, Write, Lines, Channel, HasHeard, report_fault, Stands, Stops, fed_on, quiet_for}
 use Rattle.fit_frame.specs.declared.reason.Reason.{Reason}
 use Rattle.fit_chain.specs.declared.event.Fault.TheVariants as faults
@@ -88,7 +89,8 @@ module _ {A R : Type 0} (has_heard : R → List (Event A) → Type 0) (line : Li
       subst (λ b. MayLackMemoryIn A IsAny b (drop (at + k) piece)) (joined k)
       (subst (λ l. MayLackMemoryIn A IsAny (mid.bytes ++ take k rest) l) (ap (drop k) left ∙ drop-drop k at piece) lacks)
 
-  pub stops_after : (fault : ReportFault) → Stops has_heard line mid.bytes told rest reporter sink fault → Stops has_heard line old.bytes told piece reporter sink fault
+  pub stops_after : (fault : ReportFault) → Stops has_heard line mid.bytes told rest reporter sink fault
+      → Stops has_heard line old.bytes told piece reporter sink fault
   stops_after (Decode (faults.Refused place reason)) (k, short, stands, why, heard, has, (are, text, is_text, put)) = (
     at + k,
     omega (arith, short, ap length left, length-drop at piece),

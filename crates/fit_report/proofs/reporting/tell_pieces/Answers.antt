@@ -1,5 +1,6 @@
 -- A report goes on piece by piece.
-use Rattle.fit_report.proofs.Common.{[], Appends, ◌++◌, length, sym, ap, subst, arith, length-append, Global, Consumes, err_from_is_err_and, chain_limit, IsViable, Seen}
+use Rattle.fit_report.proofs.Common.{[], Appends, ◌++◌, length, sym, ap, subst, arith, length-append, Global, Consumes, err_from_is_err_and, chain_limit}
+use Rattle.fit_report.proofs.Common.{IsViable, Seen}
 use Rattle.fit_report.proofs.Common.{short_bytes, Channel, channel, Consumes-nothing, Consumes-append, nothing_viable, Stands, ToldSoFar}
 use Rattle.fit_report.proofs.Outcomes.{stands_before, piece_fault, end_fault, ate_nothing}
 use Rattle.fit_report.proofs.Pieces.{hears_no_more}
@@ -33,7 +34,11 @@ returns-in_err-finish-clause-reports g c =
       ate_nothing _ _ _ c.pieces.telling.seen.bytes _ c.in-Ok.got i.eaten c.in-Ok.ensures.bytes.0 c.if-got-eq0.true,
       rw (p.1, p.2)
           (end_fault g.R.Report.line c.pieces.telling.seen s.heard source sink c.finish.result c.in_err-finish.field-0.0 i.fresh i.viable
-          (c.in-Ok.ensures.bytes.1 c.if-got-eq0.true (omega arith)) c.in-Ok.ensures.good (s.are, subst (Appends sink.before sink.after) (sym s.is_text) s.put) c.finish.ensures.good c.finish.ensures.truncated
+          (c.in-Ok.ensures.bytes.1 c.if-got-eq0.true (omega arith)) c.in-Ok.ensures.good (
+            s.are,
+            subst (Appends sink.before sink.after) (sym s.is_text)
+                s.put,
+          ) c.finish.ensures.good c.finish.ensures.truncated
           c.in_err-finish.was),
       rw (p.1, p.2) (hears_no_more g.R.Report.has_heard c.pieces.reporter s.heard c.in_err-finish.field-0.0 s.has),
     )

@@ -8,7 +8,8 @@ invariant-pieces g l = record {
   counted : l.place ≡ length l.telling.seen.bytes;
   eaten : Consumes (g.S.Source.remaining l.initial.source) (g.S.Source.remaining l.source) l.telling.seen.bytes;
   works : g.K.Sink.has_failed l.initial.sink ≡ false → g.K.Sink.has_failed l.sink ≡ false;
-  stands : Stands g.R.Report.has_heard g.R.Report.line l.reporter l.telling.seen.bytes [] (g.K.Sink.contents l.initial.sink) (g.K.Sink.contents l.sink) l.telling.written;
+  stands : Stands g.R.Report.has_heard g.R.Report.line l.reporter l.telling.seen.bytes [] (g.K.Sink.contents l.initial.sink) (g.K.Sink.contents l.sink)
+      l.telling.written;
 }
 
 abbrev pub decreases-pieces : goal.decreases-pieces

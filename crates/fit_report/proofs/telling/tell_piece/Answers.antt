@@ -25,7 +25,8 @@ returns-in_err-at-2-clause-passes g c =
     (within_after piece c.split_at.result.1.now c.loop-at.at c.in_ok-at.field-0 i.within c.split_at.ensures.back used.0)
     (fed_after c.args.decoder.now c.loop-at.decoder c.tell_skipped.new.decoder piece c.split_at.result.1.now c.loop-at.at c.in_ok-at.field-0 i.is_fed
     c.split_at.ensures.back used.1)
-    c.split_at-in-loop-at.ensures.back c.in_err-at-2.field-0.0 (c.in_err-at-2.ensures.passes told start (c.in_ok-at.ensures.passes told start (i.stands told start s))))
+    c.split_at-in-loop-at.ensures.back c.in_err-at-2.field-0.0 (c.in_err-at-2.ensures.passes told start (c.in_ok-at.ensures.passes told start (i.stands
+    told start s))))
 
 pub loop-at-preserved : goal.loop-at-preserved
 loop-at-preserved g c =

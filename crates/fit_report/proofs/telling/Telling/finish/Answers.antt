@@ -1,0 +1,4 @@
+use Rattle.fit_report.proofs.telling.Telling.finish.Goals as goal
+
+pub returns-clause-good : goal.returns-clause-good
+returns-clause-good c = rw (← c.self.view_is) c.finish.ensures.good
