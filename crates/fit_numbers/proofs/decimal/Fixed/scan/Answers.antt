@@ -12,3 +12,6 @@ returns-else-eq-clause-every c v inside e =
     let differs : Decides false (c.as_str.result.now ≡ c.args.text.now) =
     subst (λ t. Decides t (c.as_str.result.now ≡ c.args.text.now)) (sym c.if-eq.ensures) (bytes_eq-Decides c.as_str.result.now c.args.text.now) in
     absurd (cc (differs.1 same))
+
+pub returns-else-eq-clause-some : goal.returns-else-eq-clause-some
+returns-else-eq-clause-some c = tt
