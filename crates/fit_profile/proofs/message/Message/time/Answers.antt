@@ -1,0 +1,5 @@
+use Rattle.fit_profile.proofs.Common.{refl}
+use Rattle.fit_profile.proofs.message.Message.time.Goals as goal
+
+pub returns : goal.returns
+returns g c = refl
