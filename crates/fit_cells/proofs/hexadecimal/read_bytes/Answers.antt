@@ -1,4 +1,4 @@
-use Rattle.fit_cells.proofs.Common.{◌∙◌, ◌++◌, ◌-◌, ◌+◌, ◌<◌, All, ap₂, subst, sym, All-push, read_pairs}
+use Rattle.fit_cells.proofs.Common.{◌∙◌, ◌++◌, ◌-◌, ◌+◌, ◌<◌, All, ap₂, subst, sym, All-push, read_pairs, rules}
 use Rattle.fit_cells.proofs.ReadFacts.{pairs-more, pairs-end}
 use Rattle.fit_cells.proofs.hexadecimal.read_bytes.Goals as goal
 
@@ -16,3 +16,6 @@ loop-place-preserved c =
 pub returns-clause-value : goal.returns-clause-value
 returns-clause-value c = pairs-end c.loop-place.bits _ c.loop-place.rest.now c.args.count c.loop-place.place c.loop-place-test.false
     c.loop-place.invariant.value
+
+pub loop-place-init : goal.loop-place-init
+loop-place-init c = search rules
