@@ -17,3 +17,9 @@ returns-then-not-plan-clause-plain c _ = (parts c.args.message.now.defined.now.d
 
 pub returns-clause-last : goal.returns-clause-last
 returns-clause-last c _ = c.last_after.ensures ∙ ap (λ t. last_after c.args.last.now (Some t)) c.told_of_message.ensures
+
+pub returns-then-not-plan-clause-kept : goal.returns-then-not-plan-clause-kept
+returns-then-not-plan-clause-kept c = λ wrong. cc wrong
+
+pub returns-then-not-plan-clause-describes : goal.returns-then-not-plan-clause-describes
+returns-then-not-plan-clause-describes c = λ wrong. cc wrong
