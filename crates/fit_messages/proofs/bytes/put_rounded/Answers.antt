@@ -1,0 +1,6 @@
+use Rattle.std.proofs.lemmas.Grind.{common_steps}
+use Rattle.std.proofs.Common.{arith}
+use Rattle.fit_messages.proofs.bytes.put_rounded.Goals as goal
+
+pub returns : goal.returns
+returns c = grind (arith, common_steps)

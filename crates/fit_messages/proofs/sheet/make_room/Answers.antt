@@ -1,0 +1,5 @@
+use Rattle.std.proofs.Common.{rules}
+use Rattle.fit_messages.proofs.sheet.make_room.Goals as goal
+
+pub returns-clause-text : goal.returns-clause-text
+returns-clause-text c = search rules
