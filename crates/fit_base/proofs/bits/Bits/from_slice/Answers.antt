@@ -1,0 +1,10 @@
+use Rattle.fit_base.proofs.Common.{rules}
+use Rattle.fit_base.proofs.bits.Bits.from_slice.Goals as goal
+
+pub returns-in_err-from_slice-in_default-clause-one :
+    goal.returns-in_err-from_slice-in_default-clause-one
+returns-in_err-from_slice-in_default-clause-one g c = search rules
+
+pub returns-in_ok-from_slice-in_default-clause-same :
+    goal.returns-in_ok-from_slice-in_default-clause-same
+returns-in_ok-from_slice-in_default-clause-same g c = search rules

@@ -1,0 +1,5 @@
+use Rattle.fit_base.proofs.Common.{rules}
+use Rattle.fit_base.proofs.number.has_width.Goals as goal
+
+pub returns : goal.returns
+returns c = search rules
