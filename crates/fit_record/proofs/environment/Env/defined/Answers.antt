@@ -1,4 +1,5 @@
-use Rattle.fit_record.proofs.Common.{sym, ap, ◌∙◌, subst, None, IfSome, defined_at, IsSound}
+use Rattle.std.proofs.lemmas.Grind.{common_steps}
+use Rattle.fit_record.proofs.Common.{sym, ap, ◌∙◌, subst, None, IfSome, defined_at, IsSound, arith}
 use Rattle.std.proofs.lemmas.List.{get_or_past}
 use Rattle.std.specs.Option.{option_copied}
 use Rattle.fit_record.proofs.KeptInPlaces.{sound_of}
@@ -16,3 +17,6 @@ pub returns-in_err-place-clause-place : goal.returns-in_err-place-clause-place
 returns-in_err-place-clause-place g c =
     let past = get_or_past c.self.inside.places c.args.local None (not_found c.self.inside.places c.args.local c.in_err-place.ensures.lookup.0) in
     ap option_copied c.from_residual.ensures ∙ sym past ∙ ap (λ e. defined_at e c.args.local) c.self.view_is
+
+pub returns-clause-place : goal.returns-clause-place
+returns-clause-place g c = grind (arith, common_steps)

@@ -1,3 +1,4 @@
+use Rattle.fit_record.proofs.Common.{rules}
 use Rattle.fit_record.proofs.environment.Env.take_in.Goals as goal
 
 pub described_by-requires : goal.described_by-requires
@@ -5,3 +6,6 @@ described_by-requires g c = assumption
 
 pub describe-requires : goal.describe-requires
 describe-requires g c = assumption
+
+pub returns-in-None-clause-free : goal.returns-in-None-clause-free
+returns-in-None-clause-free g c = search rules
