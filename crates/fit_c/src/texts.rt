@@ -10,8 +10,8 @@ ghost use Rattle.fit_cells.specs.Rows.{csv_text};
 ghost use Rattle.fit_rows.specs.ChainRows.{chain_rows, rows_of};
 ghost use Rattle.fit_csv.specs.FromText.{IsTextOf};
 ghost use Rattle.fit_messages.specs.Blocks.{event_block};
-ghost use Rattle.fit_rows.specs.ShowLines.{show_line};
-ghost use Rattle.fit_rows.specs.Table.{table_of};
+ghost use Rattle.fit_show.specs.ShowLines.{show_line};
+ghost use Rattle.fit_table.specs.Table.{table_of};
 ghost use Rattle.fit_c.specs.Answers.{IsConverted, IsReported, IsTextRead, IsTextUnlessNoMemory};
 
 use crate::FitAnswer;

@@ -64,20 +64,23 @@ pub use Rattle.fit_record.specs.declared.message.Record.TheVariants.{Define, Val
 pub use Rattle.fit_record.specs.declared.message.Values.{Values}
 pub use Rattle.fit_report.specs.Heard.{Lines, text_of}
 pub use Rattle.fit_report.specs.Reports.{Channel, TextFailsIn, HasTold, Reports, ReportsChain, Tells, channel}
-pub use Rattle.fit_rows.specs.ChainRows.{optional_number, order_word, row, chain_rows, data_rows, dev_def_row, dev_row, end_row, field_def_row, field_row}
-pub use Rattle.fit_rows.specs.ChainRows.{file_row, file_rows, record_rows, field_rows, rest_text, sum_word, data_row, definition_rows, dev_rows, rows_of}
+pub use Rattle.fit_texts.specs.Words.{optional_number, order_word}
+pub use Rattle.fit_rows.specs.ChainRows.{row, chain_rows, data_rows, dev_def_row, dev_row, end_row, field_def_row, field_row}
+pub use Rattle.fit_rows.specs.ChainRows.{file_row, file_rows, record_rows, field_rows, data_row, definition_rows, dev_rows, rows_of}
+pub use Rattle.fit_texts.specs.Words.{rest_text, sum_word}
 pub use Rattle.fit_rows.specs.ChainRows.{def_row, message_rows, dev_count}
 unfoldable pub use Rattle.fit_rows.specs.ChainRows.{records_rows}
-pub use Rattle.fit_rows.specs.EventTexts.{csv_line, table_text}
+pub use Rattle.fit_rows.specs.EventTexts.{csv_line}
+pub use Rattle.fit_table.specs.EventTexts.{table_text}
 pub use Rattle.fit_csv.specs.Conversions.{Converts, ConvertsTo, HasWritten, RowsOf, WritesRows}
 pub use Rattle.fit_csv.specs.FromText.{Answers, FromTextOf, IsTextOf, IsUnwritable, ReadsText, IsWrong, FromText, IsReadOut, written_fault}
-pub use Rattle.fit_rows.specs.InstantText.{instant_text}
+pub use Rattle.fit_texts.specs.InstantText.{instant_text}
 pub use Rattle.fit_csv.specs.Judged.{Agree, IsBadCell, DevDefInRange, FieldDefInRange, IsFileOfRows, MayGoOn, RecordInRange, CanFollow, HasNoHeader}
 pub use Rattle.fit_csv.specs.Judged.{IsChainOfRows, IsCutOff, IsRefusedRow, DefinitionInRange, HeaderInRange, AreFilesOf, AreWhole, FirstRows, IsRowFault}
 pub use Rattle.fit_csv.specs.Judged.{MayBeOfKind}
 pub use Rattle.fit_csv.specs.Laws.{ChainsHaveOwnRows, TextsHaveOneFinding}
 pub use Rattle.fit_csv.specs.RowKinds.{IsEndRow, IsFileRow, naming_at, IsDevDefRow, IsFieldDefRow, IsDevRow, IsFieldRow, IsDataRow, IsDefinitionRow}
-pub use Rattle.fit_rows.specs.Table.{table_of}
+pub use Rattle.fit_table.specs.Table.{table_of}
 pub use Rattle.fit_csv.specs.declared.fault.CsvFault.{CsvFault}
 pub use Rattle.fit_csv.specs.declared.from.chain.Chain.{Chain}
 pub use Rattle.fit_csv.specs.declared.from.definition.DefinitionHead.{DefinitionHead}

@@ -6,7 +6,7 @@ use Rattle.std.proofs.Common.{ℕ, ◌<◌, List, decimal, Option}
 use Rattle.std.specs.Prelude.{codes, option_map, unwrap_or}
 use Rattle.fit_cells.specs.Rows.{Cell}
 use Rattle.fit_csv.proofs.Closest.{of-kind}
-use Rattle.fit_rows.proofs.CellFacts.{small-local}
+use Rattle.fit_texts.proofs.CellFacts.{small-local}
 
 -- the time of a header as a cell
 abbrev pub time_cell : List (Record Global) → Option ℕ → Cell

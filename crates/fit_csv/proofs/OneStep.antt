@@ -8,7 +8,7 @@ use Rattle.std.specs.Prelude.{IfSome}
 use Rattle.fit_frame.specs.declared.header.HeaderSum.TheVariants.{Absent}
 use Rattle.fit_cells.specs.Rows.{Cell}
 use Rattle.fit_csv.proofs.HeaderRows.{rest-long, rest-shown}
-use Rattle.fit_rows.proofs.CellFacts.{small-local, small-offset}
+use Rattle.fit_texts.proofs.CellFacts.{small-local, small-offset}
 
 -- ---- cells
 

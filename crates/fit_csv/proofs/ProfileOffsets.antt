@@ -7,7 +7,7 @@ use Rattle.std.specs.Prelude.{option_map, IfSome, if◌then◌else◌}
 use Rattle.fit_profile.specs.Profile.{Message}
 use Rattle.fit_cells.proofs.OneCell.{one_cell}
 use Rattle.fit_csv.proofs.OneStep.{cell_at}
-use Rattle.fit_rows.proofs.ProfileScales.{found, known_scale, some_same}
+use Rattle.fit_texts.proofs.ProfileScales.{found, known_scale, some_same}
 
 abbrev is_small : Meaning → Bool
 is_small m = nat_lt m.offset (2 ^ 32)

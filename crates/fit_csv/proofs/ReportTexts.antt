@@ -2,7 +2,7 @@
 use Rattle.fit_csv.proofs.Common.{◌++◌, ap, escaped, fields_text, is_blank, csv_text, csv_line, table_text, rows_of, table_of, HasText}
 use Rattle.std.proofs.Common.{codes}
 use Rattle.fit_rows.proofs.ToldRows.{events_text}
-use Rattle.fit_rows.proofs.ToldTable.{table_events_text}
+use Rattle.fit_table.proofs.ToldTable.{table_events_text}
 
 -- the text of the rows of events is the first line and the lines of the events
 pub rows_text : HasText (codes "row,a,b,c,d,e,f\n") csv_line rows_of

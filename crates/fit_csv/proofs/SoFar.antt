@@ -9,7 +9,7 @@ use Rattle.fit_csv.proofs.Common.{with_items, naming_at, Row, IsSoundDefinition,
 use Rattle.std.proofs.Common.{ℕ, ◌<◌, List, Option, Some, None}
 use Rattle.std.specs.Prelude.{codes, decimal, ◌⊎◌, ◌==◌, reverse, option_map, unwrap_or}
 use Rattle.std.proofs.lemmas.List.{append-nil}
-use Rattle.fit_rows.proofs.NamingFacts.{namings_long}
+use Rattle.fit_texts.proofs.NamingFacts.{namings_long}
 pub use Rattle.fit_base.proofs.Bytes.{both as both-true}
 
 -- ---- lists

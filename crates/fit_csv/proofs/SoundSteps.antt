@@ -11,7 +11,7 @@ use Rattle.std.proofs.Common.{ℕ, ◌<◌, List, Option, Some, None}
 use Rattle.std.specs.Prelude.{◌==◌, ◌⊎◌, option_map, unwrap_or, IfSome}
 use Rattle.std.proofs.lemmas.List.{length-append}
 use Rattle.fit_csv.specs.declared.from.open_file.Part.TheVariants.{Message}
-use Rattle.fit_rows.proofs.KnownDefinitions.{codes-long, fit-last, known-all}
+use Rattle.fit_texts.proofs.KnownDefinitions.{codes-long, fit-last, known-all}
 use Rattle.fit_csv.proofs.SoFar.{both-true, get-zip, some-at}
 
 -- ---- lists

@@ -15,7 +15,8 @@ use Rattle.fit_profile.specs.Described.{Naming, namings_at, nameless}
 use Rattle.fit_profile.specs.Looks.{known}
 use Rattle.fit_profile.specs.Times.{header_time, previous_time}
 use Rattle.fit_cells.specs.Rows.{Row}
-use Rattle.fit_rows.specs.ChainRows.{data_row, dev_def_row, dev_row, end_row, field_row, file_row, field_def_row, optional_number, order_word, row}
+use Rattle.fit_rows.specs.ChainRows.{data_row, dev_def_row, dev_row, end_row, field_row, file_row, field_def_row, row}
+use Rattle.fit_texts.specs.Words.{optional_number, order_word}
 use Rattle.fit_csv.specs.Judged.{DevDefInRange, FieldDefInRange, HeaderInRange}
 
 -- `file`: a header

@@ -9,13 +9,14 @@ ghost use Rattle.fit_report.specs.Reports.{channel};
 ghost use Rattle.fit_rows.specs.ChainRows.{chain_rows, rows_of};
 ghost use Rattle.fit_csv.specs.Conversions.{Converts, ConvertsTo, RowsOf};
 ghost use Rattle.fit_csv.specs.inner.Reporting.{HasText, csv_fault};
-ghost use Rattle.fit_rows.specs.Table.{table_of};
+ghost use Rattle.fit_table.specs.Table.{table_of};
 
 use crate::CsvFault;
 use fit_decode::Source;
 use fit_encode::{Sink, put_all};
 use fit_report::{Report, ReportFault, report};
-use fit_rows::{CsvReport, TableReport};
+use fit_rows::CsvReport;
+use fit_table::TableReport;
 use std::alloc::Global;
 
 /// The first line of the table.

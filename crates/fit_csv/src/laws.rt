@@ -4,10 +4,10 @@ ghost use Rattle.fit_csv.specs.Laws.{ChainsAreOfRows, ChainsHaveOwnRows, ChainsR
 
 use fit_encode::laws::{faults_are_one, good_chains_have_no_fault};
 use fit_numbers::laws::text_has_one_number;
-pub use fit_rows::laws::{
-    chains_have_show_lines, chains_have_tables, degrees_are_nearest, events_have_the_rows,
-    instant_text_is, tables_read_back,
-};
+pub use fit_rows::laws::events_have_the_rows;
+pub use fit_show::laws::chains_have_show_lines;
+pub use fit_table::laws::{chains_have_tables, degrees_are_nearest, tables_read_back};
+pub use fit_texts::laws::instant_text_is;
 use std::alloc::{Allocator, Global};
 
 /// After the same records, a record and its rows determine each other, and no record's rows begin

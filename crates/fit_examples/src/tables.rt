@@ -6,7 +6,7 @@ ghost use Rattle.fit_record.specs.Files.{IsChain, chain_limit};
 ghost use Rattle.fit_chain.specs.Checks.{AreChain};
 ghost use Rattle.fit_chain.specs.Events.{file_events};
 ghost use Rattle.fit_cells.specs.Rows.{csv_text};
-ghost use Rattle.fit_rows.specs.Table.{table_of};
+ghost use Rattle.fit_table.specs.Table.{table_of};
 ghost use Rattle.fit_examples.specs.Tables.{CsvLacksMemory, IsTableFault};
 
 use fit_csv::{CsvFault, table};

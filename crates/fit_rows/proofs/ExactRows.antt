@@ -10,15 +10,16 @@ use Rattle.std.specs.Prelude.{option_map, unwrap_or, IsSome, is_some}
 use Rattle.fit_record.specs.Records.{DataHeaderFits}
 use Rattle.fit_rows.specs.ChainRows.{definition_rows}
 use Rattle.fit_rows.specs.Quotes.{HasNoQuotes}
-use Rattle.fit_rows.specs.inner.Bare.{HasNoCommas, StandBare}
+use Rattle.fit_texts.specs.Commas.{HasNoCommas}
+use Rattle.fit_frames.specs.Bare.{StandBare}
 use Rattle.fit_rows.proofs.BareRows.{both_bare, stand}
-use Rattle.fit_rows.proofs.FieldWalks.{field_slot}
+use Rattle.fit_frames.proofs.FieldWalks.{field_slot}
 use Rattle.fit_rows.proofs.FramedRows.{plain-optional, row_parts}
-use Rattle.fit_rows.proofs.ItemFacts.{shapes_both}
+use Rattle.fit_texts.proofs.ItemFacts.{shapes_both}
 use Rattle.fit_rows.proofs.KeyRows.{message_rows_are, slots_are}
-use Rattle.fit_rows.proofs.KnownDefinitions.{codes-long}
-use Rattle.fit_rows.proofs.NamingFacts.{namings_long}
-use Rattle.fit_rows.proofs.Shapes.{as_long}
+use Rattle.fit_texts.proofs.KnownDefinitions.{codes-long}
+use Rattle.fit_texts.proofs.NamingFacts.{namings_long}
+use Rattle.fit_texts.proofs.Shapes.{as_long}
 
 -- the row with which a message begins
 abbrev pub first_row : MessageKey → Option ℕ → Option ℕ → Row

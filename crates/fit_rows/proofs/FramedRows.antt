@@ -1,8 +1,7 @@
 -- Rows of values between what stands around these.
-use Rattle.fit_rows.proofs.Common.{◌≡◌, ◌∙◌, ◌++◌, ◌∷◌, [], Global, HasRows, ◌+◌, length, take, get_or, map, refl, sym, ap, ap₂, append_assoc}
-use Rattle.fit_rows.proofs.Common.{map-append, take_more, default_writer, escaped, field_text}
-use Rattle.fit_rows.proofs.Common.{fields_text, is_blank, needs_quotes, Items, FieldDef, cell, csv_text, high-decimal, unquoted}
-use Rattle.fit_rows.proofs.Common.{optional_number, row, FrameKey, end_of, field_key, frame_text, frames_of, head_text, tail_text}
+use Rattle.fit_rows.proofs.Common.{◌≡◌, ◌∙◌, ◌++◌, ◌∷◌, [], Global, HasRows, ◌+◌, length, take, get_or, map, refl, sym, ap, ap₂, append_assoc, map-append}
+use Rattle.fit_rows.proofs.Common.{take_more, default_writer, escaped, field_text, fields_text, is_blank, needs_quotes, Items, FieldDef, cell, csv_text}
+use Rattle.fit_rows.proofs.Common.{high-decimal, unquoted, optional_number, row, FrameKey, end_of, field_key, frame_text, frames_of, head_text, tail_text}
 use Rattle.fit_rows.proofs.Common.{false, two_cells, value_row}
 use Rattle.std.proofs.Common.{◌<◌, ℕ, List, codes, decimal, Option, Some, None, Vec}
 use Rattle.std.proofs.lemmas.List.{append-nil}
@@ -24,10 +23,6 @@ pub row_parts : (a b c d e : Cell) → csv_text (row a b c d e [] [] ∷ [])
 row_parts a b c d e = whole_row a b c d e
     ∙ parted (field_text default_writer a) (field_text default_writer b) (field_text default_writer c) (field_text default_writer d)
     (field_text default_writer e)
-
--- two cells put one after the other
-pub two_put : (text a b : List ℕ) → (((text ++ a) ++ (44 ∷ [])) ++ b) ++ (44 ∷ []) ≡ text ++ (a ++ (44 ∷ (b ++ (44 ∷ []))))
-two_put text a b = simp append_assoc refl
 
 -- ---- rows one after another
 

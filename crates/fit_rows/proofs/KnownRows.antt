@@ -1,28 +1,11 @@
 -- Rows of chains that are known from elsewhere.
-use Rattle.fit_rows.proofs.Common.{◌≡◌, ◌++◌, refl, [], ◌∷◌, is_utf8, chars, file_events, last_digits, hex_digits, date_after, date_in_year, instant_text}
-use Rattle.fit_rows.proofs.Common.{csv_text, chain_rows, end_row, field_row, file_row, records_rows, table_events_rows, table_of, escaped}
-use Rattle.fit_rows.proofs.Common.{fields_text, is_blank}
+use Rattle.fit_rows.proofs.Common.{◌≡◌, ◌++◌, refl, [], ◌∷◌, is_utf8, chars, last_digits, hex_digits, date_after, date_in_year, csv_text, chain_rows, end_row}
+use Rattle.fit_rows.proofs.Common.{field_row, file_row, records_rows, escaped, fields_text, is_blank}
 use Rattle.std.proofs.Common.{ℕ, codes}
 use Rattle.std.specs.Fmt.{digits}
 use lib.Utf8.{encode}
-use Rattle.fit_record.proofs.KnownFiles.{both_architectures, described_field, empty_file, one_byte_message}
+use Rattle.fit_record.proofs.KnownFiles.{both_architectures, described_field, empty_file}
 use Rattle.fit_frame.specs.declared.header.HeaderSum.TheVariants as sums
-
-midnight_before : instant_text 1000000000 ≡ codes "2021-09-08T01:46:40Z"
-unfolding date_after date_in_year digits
-midnight_before = refl
-
-first_civil : instant_text 268435456 ≡ codes "1998-07-03T21:24:16Z"
-unfolding date_after date_in_year digits
-first_civil = refl
-
-last_system : instant_text 268435455 ≡ codes "system+268435455"
-unfolding date_after date_in_year digits
-last_system = refl
-
-last_instant : instant_text 4294967295 ≡ codes "2126-02-06T06:28:15Z"
-unfolding date_after date_in_year digits
-last_instant = refl
 
 -- a file without records
 empty_file_rows : csv_text (chain_rows (empty_file ∷ [])) ≡ codes "row,a,b,c,d,e,f\nfile,14,32,0,sum,,\nend,,,,,,\n"
@@ -64,21 +47,3 @@ described_field_rows : csv_text (chain_rows (described_field ∷ []))
     ++ codes "def,1,0,little,20,0,1\nddef,5,2,0,,,\ndata,1,,record,,,\ndev,mo,4660,,,,\nend,,,,,,\n"
 unfolding csv_text records_rows escaped fields_text is_blank digits last_digits hex_digits date_after date_in_year is_utf8 chars encode
 described_field_rows = refl
-
--- ---- tables
-
-empty_file_table : csv_text (table_of (file_events empty_file))
-    ≡ codes "file,timestamp,position_lat,position_long,altitude,distance,speed,heart_rate,cadence,power,temperature\n"
-unfolding csv_text table_events_rows escaped fields_text is_blank
-empty_file_table = refl
-
-one_byte_message_table : csv_text (table_of (file_events one_byte_message))
-    ≡ codes "file,timestamp,position_lat,position_long,altitude,distance,speed,heart_rate,cadence,power,temperature\n1,,,,,,,,,,\n"
-unfolding csv_text table_events_rows escaped fields_text is_blank digits
-one_byte_message_table = refl
-
-both_architectures_table : csv_text (table_of (file_events both_architectures))
-    ≡ codes "file,timestamp,position_lat,position_long,altitude,distance,speed,heart_rate,cadence,power,temperature\n"
-    ++ codes "1,2021-09-08T01:47:11Z,,,,,,120,,,\n1,2021-09-08T01:47:14Z,,,0.0,16.0000,1.00,,,,\n"
-unfolding csv_text table_events_rows escaped fields_text is_blank digits last_digits date_after date_in_year
-both_architectures_table = refl

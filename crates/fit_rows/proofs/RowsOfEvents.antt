@@ -1,9 +1,10 @@
 -- The rows of events, one after another, and those of whole files.
 use Rattle.fit_rows.proofs.Common.{◌≡◌, ◌∙◌, [], ◌∷◌, ◌++◌, map, refl, sym, ap, append_assoc, flat_map, FitFile, Record, Event, item, file_end, file_events}
-use Rattle.fit_rows.proofs.Common.{first_line, chain_rows, end_row, event_rows, events_rows, file_row, file_rows, record_rows, next_records, records_rows}
-use Rattle.fit_rows.proofs.Common.{Row, rows_of}
+use Rattle.fit_rows.proofs.Common.{first_line, chain_rows, end_row, event_rows, events_rows, file_row, file_rows, record_rows, next_records, records_rows, Row}
+use Rattle.fit_rows.proofs.Common.{rows_of}
 use Rattle.std.proofs.Common.{List}
 use Rattle.std.proofs.lemmas.List.{append-nil}
+use Rattle.fit_texts.proofs.HeardEvents.{records_after}
 
 -- ---- the records of a file
 
@@ -37,11 +38,6 @@ rows-of-chain files = ap (λ rows. first_line ∷ rows) (all_files files [])
 
 -- ---- one more event
 
--- the records of the file that was begun last, after events one after another
-abbrev pub records_after : {A : Type 0} → List (Record A) → List (Event A) → List (Record A)
-records_after before [] = before
-records_after before (x ∷ events) = records_after (next_records before x) events
-
 -- one more event has its rows after those of the others
 pub rows-more : {A : Type 0} (before : List (Record A)) (events : List (Event A)) (x : Event A)
     → events_rows before (events ++ (x ∷ [])) ≡ events_rows before events ++ event_rows (records_after before events) x
@@ -50,9 +46,3 @@ rows-more before [] x = append-nil (event_rows before x)
 rows-more before (y ∷ events) x =
     ap (λ rows. event_rows before y ++ rows) (rows-more (next_records before y) events x)
     ∙ sym (append_assoc (event_rows before y) (events_rows (next_records before y) events) (event_rows (records_after (next_records before y) events) x))
-
--- the records after one more event
-pub records-more : {A : Type 0} (before : List (Record A)) (events : List (Event A)) (x : Event A)
-    → records_after before (events ++ (x ∷ [])) ≡ next_records (records_after before events) x
-records-more before [] x = refl
-records-more before (y ∷ events) x = records-more (next_records before y) events x

@@ -1,11 +1,7 @@
 -- The rows of a chain of files, and of the events of a reader.
-use Rattle.std.specs.Prelude.{ℕ, ◌+◌, List, [], ◌∷◌, ◌++◌, length, map, flat_map, zip, option_map, unwrap_or, Option, None, codes, decimal}
+use Rattle.std.specs.Prelude.{ℕ, List, [], ◌∷◌, ◌++◌, length, map, flat_map, zip, option_map, unwrap_or, Option, None, codes, decimal}
 use Rattle.fit_base.specs.declared.items.Items.{Items}
-use Rattle.fit_base.specs.declared.number.Order.{Order}
-use Rattle.fit_base.specs.declared.number.Order.TheVariants.{Little, Big}
 use Rattle.fit_frame.specs.declared.header.Header.{Header}
-use Rattle.fit_frame.specs.declared.header.HeaderSum.{HeaderSum}
-use Rattle.fit_frame.specs.declared.header.HeaderSum.TheVariants.{Absent, Zero, True}
 use Rattle.fit_record.specs.declared.definition.FieldDef.{FieldDef}
 use Rattle.fit_record.specs.declared.definition.DevDef.{DevDef}
 use Rattle.fit_record.specs.declared.definition.MessageDef.{MessageDef}
@@ -16,35 +12,22 @@ use Rattle.fit_record.specs.declared.message.Record.TheVariants.{Define, Values 
 use Rattle.fit_record.specs.declared.file.FitFile.{FitFile}
 use Rattle.fit_record.specs.Environment.{defined_at, dev_defs}
 use Rattle.fit_chain.specs.Events.{Event, header, item, file_end}
-use Rattle.fit_profile.specs.Profile.{Meaning}
 use Rattle.fit_profile.specs.Names.{message_label, field_label}
 use Rattle.fit_profile.specs.Names as names
 use Rattle.fit_profile.specs.Looks.{known}
 use Rattle.fit_profile.specs.Times.{header_time, previous_time}
 use Rattle.fit_profile.specs.Described.{Naming, namings_at}
-use Rattle.fit_cells.specs.Cells.{bytes_text, cell}
+use Rattle.fit_cells.specs.Cells.{cell}
 use Rattle.fit_cells.specs.Rows.{Cell, Row, first_line}
-use Rattle.fit_rows.specs.InstantText.{instant_text}
+use Rattle.fit_texts.specs.InstantText.{instant_text}
+use Rattle.fit_texts.specs.Words.{optional_number, sum_word, rest_text, order_word, unit_text, dev_label}
+use Rattle.fit_texts.specs.KeptEvents.{next_records}
 
 -- A row has seven cells, the first of which says its kind.
 abbrev pub row : Cell → Cell → Cell → Cell → Cell → Cell → Cell → Row
 row kind a b c d e f = kind ∷ a ∷ b ∷ c ∷ d ∷ e ∷ f ∷ []
 
--- a number, or an empty cell
-abbrev pub optional_number : Option ℕ → Cell
-optional_number number = unwrap_or (option_map decimal number) []
-
 -- ---- headers
-
-abbrev pub sum_word : HeaderSum → Cell
-sum_word Absent = codes "none"
-sum_word Zero = codes "zero"
-sum_word True = codes "sum"
-
--- the bytes of a header from place 14 on
-abbrev pub rest_text : List ℕ → Cell
-rest_text [] = []
-rest_text (b ∷ bytes) = bytes_text (b ∷ bytes)
 
 -- size, protocol version, profile version, the word of the sum, the rest
 abbrev pub file_row : Header → Row
@@ -54,10 +37,6 @@ abbrev pub end_row : Row
 end_row = row (codes "end") [] [] [] [] [] []
 
 -- ---- definitions
-
-abbrev pub order_word : Order → Cell
-order_word Little = codes "little"
-order_word Big = codes "big"
 
 -- number, size, base type code
 abbrev pub field_def_row : FieldDef → Row
@@ -86,10 +65,6 @@ abbrev pub data_row : {A : Type 0} → Values A → ℕ → Option ℕ → Row
 data_row v global time = row (codes "data") (decimal v.local) (optional_number v.offset) (message_label global) (unwrap_or (option_map instant_text time) []) []
     []
 
--- what the profile says of a field's unit
-abbrev pub unit_text : Option Meaning → Cell
-unit_text info = unwrap_or (option_map (λ m. m.unit) info) []
-
 -- label, items, unit
 abbrev pub field_row : {A : Type 0} → ℕ → FieldDef → Items A → Row
 field_row global f i = row (codes "field") (field_label global f.number) (cell f.code (names.field global f.number) i) (unit_text (names.field global f.number))
@@ -98,10 +73,6 @@ field_row global f i = row (codes "field") (field_label global f.number) (cell f
 -- the fields of a message, each with its items
 abbrev pub field_rows : {A : Type 0} → ℕ → List FieldDef → List (Items A) → List Row
 field_rows global fields items = map (λ x. field_row global x.0 x.1) (zip fields items)
-
--- the name of a developer field, or else its developer data index and its number
-abbrev pub dev_label : DevDef → Naming → Cell
-dev_label f n = unwrap_or n.name (codes "dev_" ++ decimal f.index ++ codes "_" ++ decimal f.number)
 
 -- label, items by the described code, unit
 abbrev pub dev_row : {A : Type 0} → DevDef → ℕ → Naming → Items A → Row
@@ -150,22 +121,6 @@ abbrev pub event_rows : {A : Type 0} → List (Record A) → Event A → List Ro
 event_rows before (header h n) = file_row h ∷ []
 event_rows before (item r) = record_rows before r
 event_rows before file_end = end_row ∷ []
-
--- the records of the file that was begun last, after an event
-abbrev pub next_records : {A : Type 0} → List (Record A) → Event A → List (Record A)
-next_records before (header h n) = []
-next_records before (item r) = r ∷ before
-next_records before file_end = before
-
--- how many files have begun after an event
-abbrev pub next_files : {A : Type 0} → ℕ → Event A → ℕ
-next_files files (header h n) = files + 1
-next_files files other = files
-
--- the same of events, the latest first
-abbrev pub files_heard : {A : Type 0} → List (Event A) → ℕ
-files_heard [] = 0
-files_heard (x ∷ heard) = next_files (files_heard heard) x
 
 -- events one after another
 unfoldable pub events_rows : {A : Type 0} → List (Record A) → List (Event A) → List Row

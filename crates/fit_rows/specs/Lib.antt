@@ -1,10 +1,5 @@
-pub mod InstantText
-pub mod Degrees
 pub mod ChainRows
-pub mod Table
 pub mod EventTexts
-pub mod ShowLines
-pub mod KeptEvents
 pub mod Laws
 pub mod Quotes
 pub mod inner

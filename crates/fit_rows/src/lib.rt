@@ -1,26 +1,15 @@
-//! The rows of a chain of files, its table and the lines of its events, as text.
+//! The rows of a chain of files, event by event, as text.
 #![tactic(auto)]
 
-pub mod cells;
-mod cut;
-mod floats;
-mod follow;
-mod items;
-mod kept;
+mod definition;
+mod file;
 pub mod laws;
-mod lone;
-mod made;
-mod minutes;
-mod octets;
-mod rows;
-mod several;
-mod sheet;
-mod show;
-mod stamp;
-mod tables;
-pub mod words;
+mod likely;
+mod maker;
+mod message;
+mod report;
+mod template;
+mod whole;
 
-pub use rows::report::CsvReport;
-pub use rows::whole::MessageReader;
-pub use show::ShowReport;
-pub use tables::report::TableReport;
+pub use report::CsvReport;
+pub use whole::MessageReader;

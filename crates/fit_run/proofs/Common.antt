@@ -19,7 +19,7 @@ pub use Rattle.fit_rows.specs.ChainRows.{rows_of, chain_rows}
 pub use Rattle.fit_csv.specs.Conversions.{ConvertsTo, Converts, RowsOf}
 pub use Rattle.fit_csv.specs.FromText.{FromTextOf, IsTextFinding, IsWrong, ReadsText, UnlessWritten}
 pub use Rattle.fit_csv.specs.Laws.{TextsHaveOneFinding}
-pub use Rattle.fit_rows.specs.Table.{table_of}
+pub use Rattle.fit_table.specs.Table.{table_of}
 pub use Rattle.fit_csv.specs.declared.fault.CsvFault.{CsvFault}
 pub use Rattle.fit_csv.specs.declared.fault.CsvFault.TheVariants.{BadCell, BadRow, Decode, Encode, Write}
 pub use Rattle.fit_frame.specs.declared.reason.Reason.{Reason}

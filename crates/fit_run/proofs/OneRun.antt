@@ -5,7 +5,7 @@ use Rattle.fit_run.proofs.Common.{ReasonsAreOne, Lines, text_of, Channel, CsvFau
 use Rattle.fit_run.proofs.Common.{FromCsv, Table, TextsHaveOneFinding, HasRun, RunsAreOne, check_line, ok_line, refused_line, truncated_line, Concludes}
 use Rattle.fit_run.proofs.Common.{ReportFinds, Runs, Says, good_bytes}
 use Rattle.fit_chain.specs.declared.event.Fault.TheVariants.{NoMemory, Read}
-use Rattle.fit_rows.specs.ShowLines.{show_line}
+use Rattle.fit_show.specs.ShowLines.{show_line}
 use Rattle.fit_csv.specs.declared.fault.CsvFault.TheVariants as csv
 use Rattle.fit_run.proofs.OneText.{made, made_alike}
 use Rattle.fit_run.proofs.Findings.{IsFinding, found, one_finding}

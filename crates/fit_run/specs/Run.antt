@@ -18,8 +18,8 @@ use Rattle.fit_csv.specs.declared.fault.CsvFault.TheVariants as csv
 use Rattle.fit_rows.specs.ChainRows.{rows_of}
 use Rattle.fit_csv.specs.Conversions.{Converts, RowsOf}
 use Rattle.fit_csv.specs.FromText.{IsTextOf, ReadsText, UnlessWritten}
-use Rattle.fit_rows.specs.ShowLines.{show_line}
-use Rattle.fit_rows.specs.Table.{table_of}
+use Rattle.fit_show.specs.ShowLines.{show_line}
+use Rattle.fit_table.specs.Table.{table_of}
 use Rattle.fit_run.specs.declared.command_line.Command.{Command}
 use Rattle.fit_run.specs.declared.command_line.Command.TheVariants.{Check, Show, ToCsv, FromCsv, Table}
 use Rattle.fit_run.specs.Lines.{check_line, ok_line, refused_line, truncated_line, read_fault_line, write_fault_line, header_row_line, row_line, cell_line}

@@ -15,7 +15,8 @@ use Rattle.fit_profile.specs.Times.{header_time, previous_time}
 use Rattle.fit_cells.specs.Cells.{cell}
 use Rattle.fit_cells.specs.Rows.{Cell, Row}
 use Rattle.fit_csv.specs.Judged.{IsBadCell, MayBeOfKind}
-use Rattle.fit_rows.specs.ChainRows.{data_row, end_row, optional_number, order_word, row}
+use Rattle.fit_rows.specs.ChainRows.{data_row, end_row, row}
+use Rattle.fit_texts.specs.Words.{optional_number, order_word}
 use Rattle.fit_csv.specs.declared.from.definition.DefinitionHead.{DefinitionHead}
 use Rattle.fit_csv.specs.declared.from.misfit.Misfit.{Misfit}
 use Rattle.fit_csv.specs.declared.from.misfit.Misfit.TheVariants.{Kind, Cell as BadCell, NoMemory}

@@ -1,6 +1,7 @@
 //! Rows of definition messages.
 ghost use Rattle.std.specs.Prelude.{◌≡◌, ◌<◌, ◌^◌, [], ℕ, Option, codes, decimal, IfErr, IfOk, IfSome};
-ghost use Rattle.fit_rows.specs.ChainRows.{dev_def_row, field_def_row, optional_number, order_word, row};
+ghost use Rattle.fit_rows.specs.ChainRows.{dev_def_row, field_def_row, row};
+ghost use Rattle.fit_texts.specs.Words.{optional_number, order_word};
 ghost use Rattle.fit_base.specs.declared.number.Order.{Order};
 ghost use Rattle.fit_csv.specs.inner.Misfits.{HeadInRange, IsHeadRow, IsCellFault, IsRowOfThree, head_row};
 ghost use Rattle.fit_csv.specs.Judged.{DevDefInRange, FieldDefInRange};
@@ -12,8 +13,8 @@ use crate::from::cells::{Cells, first_difference, same};
 use crate::from::misfit::Misfit;
 use fit_base::{Entries, Order};
 use fit_record::{DevDef, FieldDef};
-use fit_rows::cells::{byte_in, number_in};
-use fit_rows::words::{optional_number, order_word};
+use fit_texts::cells::{byte_in, number_in};
+use fit_texts::words::{optional_number, order_word};
 use itoa::Buffer;
 
 /// The first row of a definition message.

@@ -15,8 +15,8 @@ use crate::from::misfit::Misfit;
 use fit_base::{Code, Items};
 use fit_profile::{Info, Label, Stream, field_info, field_label};
 use fit_record::{DevDef, FieldDef};
-use fit_rows::cells::items_in;
-use fit_rows::words::{numbered_label, unit_text};
+use fit_texts::cells::items_in;
+use fit_texts::words::{numbered_label, unit_text};
 use std::alloc::Global;
 
 /// The row of a field with this label, code and size, and with this unit.

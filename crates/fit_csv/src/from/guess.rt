@@ -16,7 +16,7 @@ use crate::from::open_file::OpenFile;
 use crate::from::ranges::is_in_range;
 use fit_record::{MessageDef, Record, Values};
 use fit_rows::MessageReader;
-use fit_rows::words::dev_slice;
+use fit_texts::words::dev_slice;
 
 /// How many rows a definition has.
 fn definition_rows(d: &MessageDef) -> u64

@@ -2,7 +2,7 @@
 ghost use Rattle.std.specs.Prelude.{◌≡◌, ◌≤◌, ◌<◌, ◌-◌, ◌^◌, ℕ, List, All, codes, decimal, IfErr, IfOk, IfSome, IsNone, OnOk, length};
 ghost use Rattle.fit_frame.specs.declared.header.HeaderSum.{HeaderSum};
 ghost use Rattle.fit_rows.specs.ChainRows.{end_row, file_row};
-ghost use Rattle.fit_rows.specs.ChainRows as rows;
+ghost use Rattle.fit_texts.specs.Words as words;
 ghost use Rattle.fit_csv.specs.Judged.{HeaderInRange};
 ghost use Rattle.fit_csv.specs.inner.Misfits.{HasSum, IsHeaderSize, IsCellFault};
 ghost use Rattle.fit_csv.specs.RowKinds.{IsEndRow, IsFileRow};
@@ -14,8 +14,8 @@ use crate::from::misfit::Misfit;
 use arrayvec::ArrayVec;
 use fit_cells::read_bytes;
 use fit_frame::{Header, HeaderSum};
-use fit_rows::cells::{byte_in, number_in};
-use fit_rows::words::{put_rest, sum_word};
+use fit_texts::cells::{byte_in, number_in};
+use fit_texts::words::{put_rest, sum_word};
 use itoa::Buffer;
 use std::alloc::{AllocError, Global};
 
@@ -42,7 +42,7 @@ fn protocol_in(cell: &[u8]) -> u8
 fn sum_in(cell: &[u8], size: u8) -> HeaderSum
     requires { IsHeaderSize size }
     ensures size { HasSum size result }
-    ensures every { (sum : HeaderSum) → HasSum size sum → rows.sum_word sum ≡ cell.now
+    ensures every { (sum : HeaderSum) → HasSum size sum → words.sum_word sum ≡ cell.now
         → result ≡ sum }
 {
     if size == 12 {
@@ -73,7 +73,7 @@ fn rest_in(alloc: Global, cell: &[u8], size: u8) -> Result<ArrayVec<u8, 241>, Al
     ensures size { IfOk result (λ rest. length rest.items ≡ size - 14) }
     ensures small { IfOk result (λ rest. All (λ b. b < 2 ^ 8) rest.items) }
     ensures every { IfOk result (λ rest. (bytes : List ℕ) → length bytes ≡ size - 14
-        → All (λ b. b < 2 ^ 8) bytes → rows.rest_text bytes ≡ cell.now → rest.items ≡ bytes) }
+        → All (λ b. b < 2 ^ 8) bytes → words.rest_text bytes ≡ cell.now → rest.items ≡ bytes) }
 {
     let bytes = read_bytes(alloc, size.saturating_sub(14), cell)?;
     Ok(bytes_of(bytes.as_slice()))
@@ -101,7 +101,7 @@ fn closest_header(alloc: Global, cells: &Cells) -> Result<Header, AllocError>
 /// a row.
 fn difference_by(cells: &Cells, header: &Header, rest: &[u8]) -> Option<u64>
     requires kind { cells.now.kind.now ≡ codes "file" }
-    requires rest { rest.now ≡ rows.rest_text header.now.rest.items }
+    requires rest { rest.now ≡ words.rest_text header.now.rest.items }
     ensures some { IfSome result (λ column. DifferAt column (file_row header.now)
         (row_of cells.now)) }
     ensures none { IsNone result → file_row header.now ≡ row_of cells.now }

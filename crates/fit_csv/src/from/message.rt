@@ -10,8 +10,8 @@ use crate::from::misfit::Misfit;
 use fit_base::Entries;
 use fit_profile::{Stream, message_label};
 use fit_record::Values;
-use fit_rows::cells::{defined_local, offset_in};
-use fit_rows::words::{header_time_text, optional_number};
+use fit_texts::cells::{defined_local, offset_in};
+use fit_texts::words::{header_time_text, optional_number};
 use itoa::Buffer;
 use std::alloc::Global;
 

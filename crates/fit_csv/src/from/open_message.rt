@@ -13,7 +13,7 @@ use crate::from::misfit::Misfit;
 use fit_base::{Entries, Items};
 use fit_profile::Stream;
 use fit_record::{Defined, FieldDef, Values};
-use fit_rows::words::dev_slice;
+use fit_texts::words::dev_slice;
 use std::alloc::Global;
 
 /// Takes the items of one more field.

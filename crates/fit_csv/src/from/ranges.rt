@@ -3,7 +3,7 @@ ghost use Rattle.fit_csv.specs.Judged.{DevDefInRange, FieldDefInRange, RecordInR
 ghost use Rattle.std.specs.Prelude.{All};
 
 use fit_record::{DevDef, FieldDef, Record};
-use fit_rows::words::dev_slice;
+use fit_texts::words::dev_slice;
 
 /// Each number of a field is one of a byte.
 fn field_in_range(field: FieldDef)

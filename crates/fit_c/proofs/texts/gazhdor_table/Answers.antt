@@ -1,6 +1,6 @@
 -- The sink had nothing at first, and what it has is handed over.
 use Rattle.fit_c.proofs.Common.{Some, subst, sym, Channel, given}
-use Rattle.fit_rows.specs.Table.{table_of}
+use Rattle.fit_table.specs.Table.{table_of}
 use Rattle.fit_csv.specs.Conversions.{Converts}
 use Rattle.fit_c.proofs.texts.gazhdor_table.Goals as goal
 

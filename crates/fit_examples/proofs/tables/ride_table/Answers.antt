@@ -1,6 +1,6 @@
 use Rattle.fit_examples.proofs.Common.{false, Some, refl, flat_map, err_from_is_err_and, slice_is_bytes, file_events}
 use Rattle.fit_report.specs.Reports.{Channel}
-use Rattle.fit_rows.specs.Table.{table_of}
+use Rattle.fit_table.specs.Table.{table_of}
 use Rattle.fit_examples.proofs.TableText.{table_fault, wants_memory}
 use Rattle.fit_examples.proofs.tables.ride_table.Goals as goal
 

@@ -1,5 +1,5 @@
 use Rattle.fit_csv.proofs.Common.{◌∙◌, length, sym, eqb-true}
-use Rattle.fit_rows.proofs.CellFacts.{none-shown}
+use Rattle.fit_texts.proofs.CellFacts.{none-shown}
 use Rattle.fit_csv.proofs.from.definition.dev_count_in.Goals as goal
 
 pub returns-then-is_empty : goal.returns-then-is_empty

@@ -1,5 +1,5 @@
 use Rattle.fit_csv.proofs.Common.{◌∙◌, sym, ap, subst, Global, Environment, Fits, known}
-use Rattle.fit_rows.proofs.KnownDefinitions.{known-all}
+use Rattle.fit_texts.proofs.KnownDefinitions.{known-all}
 use Rattle.fit_csv.proofs.from.open_file.OpenFile.add_record.Goals as goal
 
 pub push-requires-clause-known : goal.push-requires-clause-known

@@ -1,0 +1,9 @@
+pub mod Common
+pub mod BareItems
+pub mod FieldWalks
+pub mod FloatCells
+pub mod OctetCells
+pub mod SeveralCells
+pub mod ShownCells
+pub mod TextCells
+pub mod TwoCells

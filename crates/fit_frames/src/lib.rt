@@ -1,0 +1,12 @@
+//! The values of a message's fields, as rows and lines show them, by what is found out once for many messages.
+#![tactic(auto)]
+
+mod frames;
+mod items;
+mod shown;
+
+pub use frames::exact::exact_items;
+pub use frames::likely::after;
+pub use frames::{Frame, put_tail, put_two};
+pub use items::{FieldItems, ItemBytes, MadeItems};
+pub use shown::ShownCell;

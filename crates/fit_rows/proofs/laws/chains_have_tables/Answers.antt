@@ -1,5 +1,0 @@
-use Rattle.fit_rows.proofs.TableRows.{table-of-chain}
-use Rattle.fit_rows.proofs.laws.chains_have_tables.Goals as goal
-
-pub returns : goal.returns
-returns g c = table-of-chain

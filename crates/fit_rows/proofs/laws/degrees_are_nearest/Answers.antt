@@ -1,5 +1,0 @@
-use Rattle.fit_rows.proofs.DegreeFacts.{nearest-degrees}
-use Rattle.fit_rows.proofs.laws.degrees_are_nearest.Goals as goal
-
-pub returns : goal.returns
-returns c = nearest-degrees

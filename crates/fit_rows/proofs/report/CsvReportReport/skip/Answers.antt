@@ -1,0 +1,35 @@
+use Rattle.fit_rows.proofs.Common.{◌≡◌, ◌∙◌, ◌++◌, ◌∷◌, ap, take, arith, Data, csv_text, data_rows, csv_line, latest_records}
+use Rattle.std.proofs.Common.{◌<◌, reverse}
+use Rattle.fit_texts.proofs.SkippedMessages.{skips_message, skips_nothing}
+use Rattle.fit_texts.proofs.HeardEvents.{told_message}
+use Rattle.fit_rows.proofs.report.CsvReportReport.skip.Goals as goal
+
+pub take_message-requires-clause-record_ : goal.take_message-requires-clause-record_
+take_message-requires-clause-record_ c =
+    let heard = c.requires.told.0 in
+    let m = c.skip_message-used.ensures.message (omega (arith, c.if-used-eq0.false)) (reverse heard) c.requires.told.2 in (
+      m.0,
+      told_message heard c.self.inside.stream m.0 (take c.skip_message-used.result c.args.piece.now) c.split_at.result.0.now
+          (c.self.view_is ∙ c.requires.told.1) c.split_at.ensures.front m.1,
+    )
+
+pub returns-then-used-eq0-clause-skips : goal.returns-then-used-eq0-clause-skips
+returns-then-used-eq0-clause-skips c =
+    skips_nothing (λ r heard. r ≡ latest_records heard) csv_line c.args.decoder.now c.skip_message-used.new.self c.args.piece.now
+    c.skip_message-used.result c.skip_message-used.ensures.used c.skip_message-used.ensures.refused c.args.self.now c.args.text.now.items
+    c.if-used-eq0.true
+
+pub returns-clause-skips : goal.returns-clause-skips
+returns-clause-skips c =
+    let used = c.skip_message-used.result in
+    let some : 0 < used = omega (arith, c.if-used-eq0.false) in
+    skips_message (λ r heard. r ≡ latest_records heard) csv_line c.args.decoder.now c.skip_message-used.new.self c.args.piece.now used
+    c.skip_message-used.ensures.used c.skip_message-used.ensures.refused c.args.self.now c.take_message.new.stream c.args.text.now.items
+    c.take_message.new.text.items some c.skip_message-used.ensures.within (c.skip_message-used.ensures.message some)
+    (λ heard v has is.
+    let here = told_message heard c.self.inside.stream v (take used c.args.piece.now) c.split_at.result.0.now (c.self.view_is ∙ has)
+    c.split_at.ensures.front is in (
+      c.in_ok-take_message.ensures.stream v here ∙ ap (λ before. Data v ∷ before) (c.self.view_is ∙ has),
+      (c.in_ok-take_message.ensures.rows v here).text
+          ∙ ap (λ before. c.args.text.now.items ++ csv_text (data_rows before v)) (c.self.view_is ∙ has),
+    ))

@@ -1,5 +1,0 @@
-use Rattle.fit_rows.proofs.SeveralNumbers.{lone_fills}
-use Rattle.fit_rows.proofs.several.field_form.Goals as goal
-
-pub returns-in-Some-clause-whole : goal.returns-in-Some-clause-whole
-returns-in-Some-clause-whole c = lone_fills c.args.size c.in-Some.form c.in-Some.ensures.small c.in-Some.ensures.width

@@ -1,0 +1,353 @@
+//! The rows of the messages of a definition without their values, found out once for many messages.
+ghost use Rattle.std.specs.Prelude.{◌≡◌, ◌≤◌, ◌+◌, ◌++◌, ◌∷◌, [], IfOk, IsTrue, OnOk, Some, codes, decimal, map, option_map, take, unwrap_or};
+ghost use Rattle.fit_record.specs.Environment.{defined_at};
+ghost use Rattle.fit_record.specs.Sound.{IsSound};
+ghost use Rattle.fit_profile.specs.Looks.{known};
+ghost use Rattle.fit_profile.specs.Names.{message_label};
+ghost use Rattle.fit_cells.specs.Rows.{HasRows, csv_text};
+ghost use Rattle.fit_texts.specs.Words as words;
+ghost use Rattle.fit_rows.specs.ChainRows as rows;
+ghost use Rattle.fit_texts.specs.InstantText.{instant_text};
+ghost use Rattle.fit_frames.specs.Frames.{HasFields, TakesFields, two_cells};
+ghost use Rattle.fit_rows.specs.inner.FrameKeys.{dev_frame_key, end_of, field_key, frame_slots, frame_text, frames_of, key_rows, tail_text, values_text};
+ghost use Rattle.fit_texts.specs.MessageKeys.{message_key};
+ghost use Rattle.fit_texts.specs.Sheets.{and_sheet};
+
+mod exact;
+pub(crate) mod likely;
+
+use fit_cells::RowWriter;
+use fit_frames::{FieldItems, Frame, put_tail, put_two};
+use fit_profile::{Stream, field_info, field_label, message_label, write_fixed};
+use fit_record::{Defined, FieldDef};
+use fit_texts::words::unit_text;
+use fit_texts::{KeptDev, KeptMessage, Sheet, Stamp, Times, WIDE, put_sheet, write_text};
+use itoa::Buffer;
+use std::alloc::{AllocError, Global};
+use std::marker::Model;
+
+/// Adds what stands around the value of a field, and sets `end` to the end of its row.
+fn push_field(
+    alloc: Global,
+    writer: &mut RowWriter,
+    frames: &mut Vec<Frame>,
+    end: &mut Vec<u8>,
+    global: u16,
+    field: &FieldDef,
+) -> Result<(), AllocError>
+    ensures frames { OnOk result (frames.new.items ≡ frames.old.items
+        ++ frame_text end.old.items (field_key global field.now) ∷ []) }
+    ensures end { OnOk result (end.new.items ≡ tail_text (field_key global field.now)) }
+{
+    let info = field_info(global, field.number);
+    let label = field_label(global, field.number);
+    let name = label.as_str().as_bytes();
+    let before = end.as_slice();
+    let frame = Frame::new(
+        alloc, writer, before, b"field", name, field.code, field.size, info,
+    )?;
+    frames.push(frame)?;
+    end.clear();
+    put_tail(end, writer, unit_text(info).as_bytes())
+}
+
+/// What stands around the values of fields. It sets `end` to the end of the last row.
+fn field_frames(
+    alloc: Global,
+    writer: &mut RowWriter,
+    end: &mut Vec<u8>,
+    global: u16,
+    fields: &[FieldDef],
+) -> Result<Vec<Frame>, AllocError>
+    requires { end.old.items ≡ [] }
+    ensures frames { IfOk result (λ frames.
+        frames.items ≡ frames_of [] (map (field_key global) fields.now)) }
+    ensures end { OnOk result (end.new.items ≡ end_of [] (map (field_key global) fields.now)) }
+{
+    let mut frames = Vec::new(alloc);
+    for field in fields {
+        push_field(alloc, writer, &mut frames, end, global, field)?;
+    }
+    Ok(frames)
+}
+
+/// Adds what stands around the value of a developer field, and sets `end` to the end of its row.
+fn push_dev(
+    alloc: Global,
+    writer: &mut RowWriter,
+    frames: &mut Vec<Frame>,
+    end: &mut Vec<u8>,
+    dev: &KeptDev,
+) -> Result<(), AllocError>
+    ensures frames { OnOk result (frames.new.items ≡ frames.old.items
+        ++ frame_text end.old.items (dev_frame_key dev.now) ∷ []) }
+    ensures end { OnOk result (end.new.items ≡ tail_text (dev_frame_key dev.now)) }
+{
+    let name = dev.name.as_slice();
+    let before = end.as_slice();
+    let frame = Frame::new(
+        alloc, writer, before, b"dev", name, dev.code, dev.size, None,
+    )?;
+    frames.push(frame)?;
+    end.clear();
+    put_tail(end, writer, dev.unit.as_slice())
+}
+
+/// Adds what stands around the values of developer fields, and sets `end` to the end of the last row.
+fn push_devs(
+    alloc: Global,
+    writer: &mut RowWriter,
+    frames: &mut Vec<Frame>,
+    end: &mut Vec<u8>,
+    devs: &[KeptDev],
+) -> Result<(), AllocError>
+    ensures frames { OnOk result (frames.new.items ≡ frames.old.items
+        ++ frames_of end.old.items (map dev_frame_key devs.now)) }
+    ensures end { OnOk result (end.new.items ≡ end_of end.old.items (map dev_frame_key devs.now)) }
+{
+    for dev in devs {
+        push_dev(alloc, writer, frames, end, dev)?;
+    }
+    Ok(())
+}
+
+/// What stands around the values of fields and of developer fields. It sets `end` to the end of the last row.
+fn all_frames(
+    alloc: Global,
+    writer: &mut RowWriter,
+    end: &mut Vec<u8>,
+    global: u16,
+    fields: &[FieldDef],
+    devs: &[KeptDev],
+) -> Result<Vec<Frame>, AllocError>
+    requires { end.old.items ≡ [] }
+    ensures frames { IfOk result (λ frames. frames.items
+        ≡ frames_of [] (map (field_key global) fields.now ++ map dev_frame_key devs.now)) }
+    ensures end { OnOk result (end.new.items
+        ≡ end_of [] (map (field_key global) fields.now ++ map dev_frame_key devs.now)) }
+{
+    let mut frames = field_frames(alloc, writer, end, global, fields)?;
+    push_devs(alloc, writer, &mut frames, end, devs)?;
+    Ok(frames)
+}
+
+/// Puts what stands before the time offset in the first row of a message.
+fn put_front(text: &mut Vec<u8>, writer: &mut RowWriter, local: u8) -> Result<(), AllocError>
+    ensures { OnOk result (text.new.items
+        ≡ text.old.items ++ two_cells (codes "data") (decimal local)) }
+{
+    let mut locals = Buffer::new();
+    put_two(text, writer, b"data", locals.format(local).as_bytes())
+}
+
+/// Puts what stands between the time offset and the time.
+fn put_label(text: &mut Vec<u8>, writer: &mut RowWriter, global: u16) -> Result<(), AllocError>
+    ensures { OnOk result (text.new.items
+        ≡ text.old.items ++ two_cells [] (message_label global)) }
+{
+    let label = message_label(global);
+    put_two(text, writer, b"", label.as_str().as_bytes())
+}
+
+/// Puts the first row of a message without a time offset.
+fn put_line(
+    text: &mut Vec<u8>,
+    writer: &mut RowWriter,
+    local: u8,
+    global: u16,
+) -> Result<(), AllocError>
+    ensures { OnOk result (HasRows (rows.row (codes "data") (decimal local) []
+        (message_label global) [] [] [] ∷ []) text.old text.new) }
+{
+    put_front(text, writer, local)?;
+    put_label(text, writer, global)?;
+    text.extend_from_slice(b",,\n")?;
+    Ok(())
+}
+
+/// Puts the values of fields one after another, each after what stands before it, and this end. Nothing is left in the sheet.
+fn put_frames<S: FieldItems>(
+    text: &mut Vec<u8>,
+    sheet: &mut Sheet,
+    at: usize,
+    writer: &mut RowWriter,
+    value: &mut Vec<u8>,
+    frames: &[Frame],
+    end: &Stamp,
+    items: &mut S,
+) -> Result<(), AllocError>
+    requires place { at ≤ 1024 }
+    requires fields { HasFields S.has_items items.old (map (λ f. (f.code, f.size)) frames.now) }
+    ensures { OnOk result (TakesFields S.has_items items.old items.new
+        (map (λ f. (f.code, f.size)) frames.now) (λ all. text.new.items
+        ≡ and_sheet text.old.items sheet.old at ++ values_text frames.now end.now all)) }
+{
+    let mut at = at;
+    for frame in frames {
+        at = items.put_next(text, sheet, at, writer, value, frame)?;
+    }
+    let last = end.add(text, sheet, at)?;
+    put_sheet(text, sheet, last)
+}
+
+/// Writes a number in a sheet, where there is one. Returns the place after it.
+#[inline(always)]
+#[tactic(auto, using(fit_texts::proofs::Sheets::whole_number))]
+fn write_optional(sheet: &mut Sheet, at: usize, number: Option<u8>) -> usize
+    requires { at + 32 ≤ 1024 }
+    ensures place { result ≤ 1024 }
+    ensures text { take result sheet.new ≡ take at sheet.old ++ words.optional_number number }
+{
+    match number {
+        Some(number) => write_fixed(sheet, at, i64::from(number), 0),
+        None => at,
+    }
+}
+
+/// The rows of the messages of a definition without their values.
+#[derive(Drop)]
+pub(crate) struct Template {
+    kept: KeptMessage,
+    /// The first row of a message without a time offset.
+    line: Stamp,
+    /// What stands before the time offset.
+    front: Stamp,
+    /// What stands between the time offset and the time.
+    label: Stamp,
+    frames: Vec<Frame>,
+    /// The end of the last row.
+    end: Stamp,
+}
+
+impl Model for Template {
+    ghost use Rattle.std.specs.Prelude.{◌≡◌, ◌∷◌, [], codes, decimal, map};
+    ghost use Rattle.fit_cells.specs.Rows.{csv_text};
+    ghost use Rattle.fit_rows.specs.ChainRows.{row};
+    ghost use Rattle.fit_profile.specs.Names.{message_label};
+    ghost use Rattle.fit_rows.specs.inner.FrameKeys.{end_of, frame_keys, frames_of};
+    ghost use Rattle.fit_frames.specs.Frames.{two_cells};
+    ghost use Rattle.fit_texts.specs.MessageKeys.{MessageKey};
+
+    ghost Value = { MessageKey };
+
+    ghost view = { λ t. t.kept };
+
+    ghost invariant = { λ t. (t.line ≡ csv_text (row (codes "data") (decimal t.kept.own.local) []
+        (message_label t.kept.own.global) [] [] [] ∷ []))
+        × (t.front ≡ two_cells (codes "data") (decimal t.kept.own.local))
+        × (t.label ≡ two_cells [] (message_label t.kept.own.global))
+        × (t.frames.items ≡ frames_of [] (frame_keys t.kept))
+        × (t.end ≡ end_of [] (frame_keys t.kept)) };
+}
+
+impl Template {
+    /// That of the definition of this local message type after the records of a stream.
+    pub(crate) fn new(
+        alloc: Global,
+        writer: &mut RowWriter,
+        stream: &Stream,
+        local: u8,
+        defined: &Defined,
+    ) -> Result<Template, AllocError>
+        requires place { defined_at (known stream.now) local ≡ Some defined.now }
+        requires sound { IsSound defined.now }
+        ensures { IfOk result (λ t. t ≡ message_key stream.now local defined.now) }
+    {
+        let definition = &defined.definition;
+        let global = definition.global;
+        let kept = KeptMessage::new(alloc, stream, local, defined)?;
+        let mut line = Vec::with_capacity(alloc, WIDE)?;
+        put_line(&mut line, writer, local, global)?;
+        let mut front = Vec::with_capacity(alloc, WIDE)?;
+        put_front(&mut front, writer, local)?;
+        let mut label = Vec::with_capacity(alloc, WIDE)?;
+        put_label(&mut label, writer, global)?;
+        let mut end = Vec::with_capacity(alloc, WIDE)?;
+        let fields = definition.fields.as_slice();
+        let devs = kept.devs.as_slice();
+        let frames = all_frames(alloc, writer, &mut end, global, fields, devs)?;
+        Ok(Template {
+            kept,
+            line: Stamp::new(line)?,
+            front: Stamp::new(front)?,
+            label: Stamp::new(label)?,
+            frames,
+            end: Stamp::new(end)?,
+        })
+    }
+
+    /// Whether it is that of the definition of this local message type after the records of a stream.
+    pub(crate) fn is_of(&self, stream: &Stream, local: u8, defined: &Defined) -> bool
+        requires place { defined_at (known stream.now) local ≡ Some defined.now }
+        requires sound { IsSound defined.now }
+        ensures { IsTrue result → self.now ≡ message_key stream.now local defined.now }
+    {
+        self.kept.is(stream, local, defined)
+    }
+
+    /// Puts the row with which a message begins with a time offset or the time of its header. The sheet begins anew.
+    #[inline(never)]
+    fn put_timed(
+        &self,
+        text: &mut Vec<u8>,
+        sheet: &mut Sheet,
+        times: &mut Times,
+        offset: Option<u8>,
+        time: Option<u32>,
+    ) -> Result<usize, AllocError>
+        ensures place { IfOk result (λ end. end ≤ 1024) }
+        ensures rows { IfOk result (λ end. and_sheet text.new.items sheet.new end
+            ≡ text.old.items ++ csv_text (rows.row (codes "data") (decimal self.now.own.local)
+            (words.optional_number offset) (message_label self.now.own.global)
+            (unwrap_or (option_map instant_text time) []) [] [] ∷ [])) }
+    {
+        let before = self.front.add(text, sheet, 0)?;
+        let numbered = write_optional(sheet, before, offset);
+        let labelled = self.label.add(text, sheet, numbered)?;
+        let timed = times.add_cell(text, sheet, labelled, time)?;
+        Ok(write_text(sheet, timed, b",,\n"))
+    }
+
+    /// Puts the row with which a message begins, by the time of its header. The sheet begins anew.
+    #[inline(always)]
+    fn put_first(
+        &self,
+        text: &mut Vec<u8>,
+        sheet: &mut Sheet,
+        times: &mut Times,
+        offset: Option<u8>,
+        time: Option<u32>,
+    ) -> Result<usize, AllocError>
+        ensures place { IfOk result (λ end. end ≤ 1024) }
+        ensures rows { IfOk result (λ end. and_sheet text.new.items sheet.new end
+            ≡ text.old.items ++ csv_text (rows.row (codes "data") (decimal self.now.own.local)
+            (words.optional_number offset) (message_label self.now.own.global)
+            (unwrap_or (option_map instant_text time) []) [] [] ∷ [])) }
+    {
+        if offset.is_some() || time.is_some() {
+            return self.put_timed(text, sheet, times, offset, time);
+        }
+        self.line.add(text, sheet, 0)
+    }
+
+    /// Puts the rows of a message, by the time of its header.
+    pub(crate) fn put<S: FieldItems>(
+        &self,
+        text: &mut Vec<u8>,
+        sheet: &mut Sheet,
+        writer: &mut RowWriter,
+        value: &mut Vec<u8>,
+        times: &mut Times,
+        offset: Option<u8>,
+        time: Option<u32>,
+        items: &mut S,
+    ) -> Result<(), AllocError>
+        requires { HasFields S.has_items items.old (frame_slots self.now) }
+        ensures { OnOk result (TakesFields S.has_items items.old items.new (frame_slots self.now)
+            (λ all. HasRows (key_rows self.now offset time all) text.old text.new)) }
+    {
+        let at = self.put_first(text, sheet, times, offset, time)?;
+        let frames = self.frames.as_slice();
+        put_frames(text, sheet, at, writer, value, frames, &self.end, items)
+    }
+}

@@ -1,0 +1,40 @@
+use Rattle.fit_show.proofs.Common.{◌∙◌, ◌++◌, ◌^◌, sym, ap, ap₂, subst, on_ok_weaker, AnswerFits, KeptEvents, text_with}
+use Rattle.std.proofs.Common.{◌<◌}
+use Rattle.fit_show.proofs.ShownLines.{answer_line}
+use Rattle.fit_texts.proofs.HeardEvents.{kept_next}
+use Rattle.fit_texts.proofs.BothFacts.{both_ok}
+use Rattle.fit_texts.proofs.HeardEvents.{answer_fits}
+use Rattle.fit_texts.proofs.HeardEvents.{few_files}
+use Rattle.fit_show.proofs.report.ShowReportReport.tell.Goals as goal
+
+pub put_event-requires-clause-fits : goal.put_event-requires-clause-fits
+put_event-requires-clause-fits c =
+    subst (λ before. AnswerFits before c.args.event.now) (sym (ap (λ (k : KeptEvents). k.records) (c.self.view_is ∙ c.requires.1)))
+    (answer_fits c.heard_records_fit.ensures c.looking_back_is_learning.ensures c.requires.0 c.args.event.now c.requires.2)
+
+pub put_event-requires-clause-few : goal.put_event-requires-clause-few
+put_event-requires-clause-few c =
+    subst (λ files. files < 2 ^ 60) (sym (ap (λ (k : KeptEvents). k.files) (c.self.view_is ∙ c.requires.1)))
+    (few_files c.heard_are_few.ensures c.requires.0 c.args.event.now c.requires.2)
+
+pub follow_files-requires-clause-fits : goal.follow_files-requires-clause-fits
+follow_files-requires-clause-fits c =
+    subst (λ before. AnswerFits before c.args.event.now) (sym (ap (λ (k : KeptEvents). k.records) (c.self.view_is ∙ c.requires.1)))
+    (answer_fits c.heard_records_fit.ensures c.looking_back_is_learning.ensures c.requires.0 c.args.event.now c.requires.2)
+
+pub follow_files-requires-clause-few : goal.follow_files-requires-clause-few
+follow_files-requires-clause-few c =
+    subst (λ files. files < 2 ^ 60) (sym (ap (λ (k : KeptEvents). k.files) (c.self.view_is ∙ c.requires.1)))
+    (few_files c.heard_are_few.ensures c.requires.0 c.args.event.now c.requires.2)
+
+pub returns-clause-heard : goal.returns-clause-heard
+returns-clause-heard c = both_ok c.follow_files.result (λ records files heard has are.
+    let kept : KeptEvents = record { records = c.self.inside.stream; files = c.self.inside.files } in
+    ap₂ (λ r f. record { records = r; files = f }) records files ∙ kept_next heard c.args.event.now kept (c.self.view_is ∙ has))
+    c.follow_files.ensures.ok c.follow_files.ensures.files
+
+pub returns-clause-text : goal.returns-clause-text
+returns-clause-text c = on_ok_weaker c.follow_files.result (λ followed heard has are.
+    c.in_ok-put_event.ensures.text
+    ∙ ap (λ (k : KeptEvents). c.args.text.now.items ++ text_with k.files k.records c.args.event.now) (c.self.view_is ∙ has)
+    ∙ ap (λ text. c.args.text.now.items ++ text) (answer_line heard c.args.event.now)) c.follow_files.ensures.ok

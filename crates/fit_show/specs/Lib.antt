@@ -1,0 +1,3 @@
+pub mod ShowLines
+pub mod Laws
+pub mod inner

@@ -1,0 +1,217 @@
+//! The lines of headers, definition messages and data messages.
+ghost use Rattle.std.specs.Prelude.{◌≡◌, ◌<◌, ◌^◌, ◌++◌, ◌∷◌, [], List, OnOk, Some, codes, decimal, length};
+ghost use Rattle.std.specs.Global.{Global};
+ghost use Rattle.fit_base.specs.declared.items.Items.{Items};
+ghost use Rattle.fit_record.specs.declared.message.Record.TheVariants.{Values as Data};
+ghost use Rattle.fit_record.specs.declared.message.Values.{Values};
+ghost use Rattle.fit_record.specs.Environment.{defined_at};
+ghost use Rattle.fit_record.specs.Records.{Fits, IsRecord, dev_layout, layout};
+ghost use Rattle.fit_record.specs.Sound.{IsSound};
+ghost use Rattle.fit_profile.specs.Looks.{known};
+ghost use Rattle.fit_profile.specs.Times as times;
+ghost use Rattle.fit_show.specs.ShowLines.{definition_line, header_line, joined, record_line, versions_text};
+ghost use Rattle.fit_texts.specs.Words as words;
+ghost use Rattle.fit_texts.specs.Current.{AreCurrent};
+ghost use Rattle.fit_texts.specs.Reporting.{AnswerFits};
+ghost use Rattle.fit_show.specs.inner.Showing.{text_with};
+ghost use Rattle.fit_texts.specs.MessageKeys.{message_key};
+
+use crate::fields::put_words;
+use crate::template::LineMaker;
+use fit_decode::Event;
+use fit_frame::Header;
+use fit_frames::{FieldItems, ItemBytes, MadeItems};
+use fit_profile::{Stream, message_label};
+use fit_record::{Defined, MessageDef, Record};
+use fit_texts::words::{dev_slice, order_word, sum_word};
+use itoa::Buffer;
+use std::alloc::AllocError;
+
+/// Puts the size and the versions of a header.
+fn put_versions(text: &mut Vec<u8>, header: &Header) -> Result<(), AllocError>
+    ensures { OnOk result (text.new.items ≡ text.old.items ++ versions_text header.now) }
+{
+    let mut sizes = Buffer::new();
+    let mut protocols = Buffer::new();
+    let mut profiles = Buffer::new();
+    let words = [
+        b"header ".as_slice(),
+        sizes.format(header.size).as_bytes(),
+        b", protocol ".as_slice(),
+        protocols.format(header.protocol).as_bytes(),
+        b", profile ".as_slice(),
+        profiles.format(header.profile).as_bytes(),
+    ];
+    put_words(text, words.as_slice())
+}
+
+/// Puts how many bytes of data a file has, and what its header says of its own sum.
+fn put_data_size(text: &mut Vec<u8>, header: &Header, size: u32) -> Result<(), AllocError>
+    ensures { OnOk result (text.new.items ≡ text.old.items
+        ++ joined (codes ", data " ∷ decimal size ∷ codes ", " ∷ words.sum_word header.now.sum
+        ∷ codes "\n" ∷ [])) }
+{
+    let mut sizes = Buffer::new();
+    let words = [
+        b", data ".as_slice(),
+        sizes.format(size).as_bytes(),
+        b", ".as_slice(),
+        sum_word(header.sum).as_bytes(),
+        b"\n".as_slice(),
+    ];
+    put_words(text, words.as_slice())
+}
+
+/// Puts the line of the header of a file, which is this one of the input and has that many bytes of data.
+fn put_header(text: &mut Vec<u8>, file: u64, header: &Header, size: u32) -> Result<(), AllocError>
+    ensures { OnOk result (text.new.items ≡ text.old.items ++ header_line file header.now size) }
+{
+    let mut files = Buffer::new();
+    let words = [
+        b"file ".as_slice(),
+        files.format(file).as_bytes(),
+        b": ".as_slice(),
+    ];
+    put_words(text, words.as_slice())?;
+    put_versions(text, header)?;
+    put_data_size(text, header, size)?;
+    Ok(())
+}
+
+/// Puts the line of a definition message.
+fn put_definition(text: &mut Vec<u8>, definition: &MessageDef) -> Result<(), AllocError>
+    ensures { OnOk result (text.new.items ≡ text.old.items ++ definition_line definition.now) }
+{
+    let mut locals = Buffer::new();
+    let mut fields = Buffer::new();
+    let mut dev = Buffer::new();
+    let label = message_label(definition.global);
+    let words = [
+        b"  define ".as_slice(),
+        locals.format(definition.local).as_bytes(),
+        b" ".as_slice(),
+        label.as_str().as_bytes(),
+        b" ".as_slice(),
+        order_word(definition.order).as_bytes(),
+        b" ".as_slice(),
+        fields.format(definition.fields.len()).as_bytes(),
+        b" ".as_slice(),
+        dev.format(dev_slice(&definition.dev).len()).as_bytes(),
+        b"\n".as_slice(),
+    ];
+    put_words(text, words.as_slice())
+}
+
+/// Puts the line of a data message of this definition after the records of a stream, by its time.
+fn put_values<S: FieldItems>(
+    text: &mut Vec<u8>,
+    maker: &mut LineMaker,
+    stream: &Stream,
+    defined: &Defined,
+    local: u8,
+    time: Option<u32>,
+    items: &mut S,
+) -> Result<(), AllocError>
+    requires place { defined_at (known stream.now) local ≡ Some defined.now }
+    requires sound { IsSound defined.now }
+    requires items { (all : List (Items Global))
+        × S.has_items items.old (layout defined.now ++ dev_layout defined.now) all }
+    requires current { AreCurrent message_key maker.old.templates stream.now }
+    ensures line { OnOk result ((v : Values Global) → v.local ≡ local
+        → length v.fields ≡ length defined.now.definition.fields
+        → time ≡ times.time stream.now (Data v)
+        → S.has_items items.old (layout defined.now ++ dev_layout defined.now) (v.fields ++ v.dev)
+        → text.new.items ≡ text.old.items ++ record_line stream.now (Data v)) }
+    ensures current { AreCurrent message_key maker.new.templates stream.now }
+{
+    maker.keep_template(stream, local, defined)?;
+    let Some(template) = maker.templates.get(local) else {
+        unreachable!()
+    };
+    template.put(text, &mut maker.sheet, &mut maker.times, time, items)
+}
+
+/// Puts the line of a record after the records of a stream.
+fn put_record(
+    text: &mut Vec<u8>,
+    maker: &mut LineMaker,
+    stream: &Stream,
+    record_: &Record,
+) -> Result<(), AllocError>
+    requires fits { Fits (known stream.now) record_.now }
+    requires current { AreCurrent message_key maker.old.templates stream.now }
+    ensures line { OnOk result
+        (text.new.items ≡ text.old.items ++ record_line stream.now record_.now) }
+    ensures current { AreCurrent message_key maker.new.templates stream.now }
+{
+    match record_ {
+        Record::Define(definition) => put_definition(text, definition),
+        Record::Values(values) => match stream.env().defined(values.local) {
+            Some(defined) => {
+                let time = stream.time(record_);
+                let mut items = MadeItems {
+                    fields: values.fields.as_slice(),
+                    dev: values.dev.as_slice(),
+                };
+                put_values(text, maker, stream, defined, values.local, time, &mut items)
+            }
+            None => unreachable!(),
+        },
+    }
+}
+
+/// Puts the line of the data message that the bytes are after the records of a stream.
+pub(crate) fn put_message(
+    text: &mut Vec<u8>,
+    maker: &mut LineMaker,
+    stream: &Stream,
+    bytes: &[u8],
+) -> Result<(), AllocError>
+    requires record_ { (v : Values Global) × IsRecord (known stream.now) (Data v) bytes.now }
+    requires current { AreCurrent message_key maker.old.templates stream.now }
+    ensures line { OnOk result ((v : Values Global) → IsRecord (known stream.now) (Data v) bytes.now
+        → text.new.items ≡ text.old.items ++ record_line stream.now (Data v)) }
+    ensures current { AreCurrent message_key maker.new.templates stream.now }
+{
+    let Some(message) = stream.env().message_bytes(bytes) else {
+        unreachable!()
+    };
+    let time = stream.message_time(bytes);
+    let mut items = ItemBytes {
+        alloc: maker.alloc,
+        order: message.defined.definition.order,
+        rest: message.body,
+    };
+    let local = message.local;
+    put_values(
+        text,
+        maker,
+        stream,
+        message.defined,
+        local,
+        time,
+        &mut items,
+    )
+}
+
+/// Puts the text of an event after the records of a stream, where that many files have begun before it.
+pub(crate) fn put_event(
+    text: &mut Vec<u8>,
+    maker: &mut LineMaker,
+    files: u64,
+    stream: &Stream,
+    event: &Event,
+) -> Result<(), AllocError>
+    requires fits { AnswerFits stream.now event.now }
+    requires few { files < 2 ^ 60 }
+    requires current { AreCurrent message_key maker.old.templates stream.now }
+    ensures text { OnOk result
+        (text.new.items ≡ text.old.items ++ text_with files stream.now event.now) }
+    ensures current { AreCurrent message_key maker.new.templates stream.now }
+{
+    match event {
+        Event::Header(header, size) => put_header(text, files + 1, header, *size),
+        Event::Item(record_) => put_record(text, maker, stream, record_),
+        Event::More | Event::FileEnd => Ok(()),
+    }
+}

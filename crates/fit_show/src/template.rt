@@ -1,0 +1,265 @@
+//! The lines of the messages of a definition without their values, found out once for many messages.
+ghost use Rattle.std.specs.Prelude.{◌≡◌, ◌≤◌, ◌+◌, ◌++◌, IfOk, IsTrue, OnOk, Some, codes, map, slice_get};
+ghost use Rattle.fit_record.specs.Environment.{defined_at};
+ghost use Rattle.fit_record.specs.Sound.{IsSound};
+ghost use Rattle.fit_profile.specs.Looks.{known};
+ghost use Rattle.fit_show.specs.ShowLines as lines;
+ghost use Rattle.fit_texts.specs.Current.{AreCurrent, NoneAreCurrent};
+ghost use Rattle.fit_frames.specs.Frames.{HasFields, TakesFields};
+ghost use Rattle.fit_show.specs.inner.Showing.{keys_text, line_front, line_slots, line_text};
+ghost use Rattle.fit_texts.specs.MessageKeys.{message_key};
+ghost use Rattle.fit_texts.specs.Sheets.{and_sheet};
+
+use crate::fields::put_words;
+use crate::frames::{ShownField, push_devs, put_dev_head, put_head, shown_fields};
+use fit_frames::FieldItems;
+use fit_profile::{Stream, message_label};
+use fit_record::Defined;
+use fit_texts::{ByLocal, KeptMessage, SHEET_SIZE, Sheet, Stamp, Times, WIDE, note, put_sheet};
+use itoa::Buffer;
+use std::alloc::{AllocError, Global};
+use std::marker::Model;
+
+/// Puts what stands before the time of a message.
+fn put_front(text: &mut Vec<u8>, local: u8, global: u16) -> Result<(), AllocError>
+    ensures { OnOk result (text.new.items ≡ text.old.items ++ line_front local global) }
+{
+    let mut locals = Buffer::new();
+    let label = message_label(global);
+    let words = [
+        b"  ".as_slice(),
+        locals.format(local).as_bytes(),
+        b" ".as_slice(),
+        label.as_str().as_bytes(),
+    ];
+    put_words(text, words.as_slice())
+}
+
+/// Puts the next fields, one after another. Nothing is left in the sheet.
+fn put_fields<S: FieldItems>(
+    text: &mut Vec<u8>,
+    sheet: &mut Sheet,
+    at: usize,
+    fields: &[ShownField],
+    items: &mut S,
+) -> Result<(), AllocError>
+    requires room { at + 32 ≤ 1024 }
+    requires fields { HasFields S.has_items items.old (map (λ f. (f.code, f.size)) fields.now) }
+    ensures { OnOk result (TakesFields S.has_items items.old items.new
+        (map (λ f. (f.code, f.size)) fields.now) (λ all. text.new.items
+        ≡ and_sheet text.old.items sheet.old at ++ keys_text fields.now all)) }
+{
+    let mut at = at;
+    for field in fields {
+        at = field.put(text, sheet, at, items)?;
+    }
+    put_sheet(text, sheet, at)
+}
+
+/// What a message without a time begins with.
+fn front(alloc: Global, local: u8, global: u16) -> Result<Stamp, AllocError>
+    ensures { IfOk result (λ s. s ≡ line_front local global) }
+{
+    let mut text = Vec::with_capacity(alloc, WIDE)?;
+    put_front(&mut text, local, global)?;
+    Stamp::new(text)
+}
+
+/// What stands before the time of the others.
+fn timed_front(alloc: Global, local: u8, global: u16) -> Result<Stamp, AllocError>
+    ensures { IfOk result (λ s. s ≡ line_front local global ++ codes " ") }
+{
+    let mut text = Vec::with_capacity(alloc, WIDE)?;
+    put_front(&mut text, local, global)?;
+    text.push(b' ')?;
+    Stamp::new(text)
+}
+
+/// The lines of the messages of a definition without their values.
+#[derive(Drop)]
+pub(crate) struct LineTemplate {
+    kept: KeptMessage,
+    /// What a message without a time begins with.
+    front: Stamp,
+    /// What stands before the time of the others: that and a space.
+    timed: Stamp,
+    /// What stands before the first cell.
+    head: Stamp,
+    /// The fields and the developer fields.
+    fields: Vec<ShownField>,
+}
+
+impl Model for LineTemplate {
+    ghost use Rattle.std.specs.Prelude.{◌≡◌, ◌++◌, codes};
+    ghost use Rattle.fit_show.specs.inner.Showing.{line_front, line_head, line_keys};
+    ghost use Rattle.fit_texts.specs.MessageKeys.{MessageKey};
+
+    ghost Value = { MessageKey };
+
+    ghost view = { λ t. t.kept };
+
+    ghost invariant = { λ t. (t.front ≡ line_front t.kept.own.local t.kept.own.global)
+        × (t.head ≡ line_head t.kept) × (t.fields.items ≡ line_keys t.kept)
+        × (t.timed ≡ line_front t.kept.own.local t.kept.own.global ++ codes " ") };
+}
+
+impl LineTemplate {
+    /// That of the definition of this local message type after the records of a stream.
+    pub(crate) fn new(
+        alloc: Global,
+        stream: &Stream,
+        local: u8,
+        defined: &Defined,
+    ) -> Result<LineTemplate, AllocError>
+        requires place { defined_at (known stream.now) local ≡ Some defined.now }
+        requires sound { IsSound defined.now }
+        ensures { IfOk result (λ t. t ≡ message_key stream.now local defined.now) }
+    {
+        let definition = &defined.definition;
+        let global = definition.global;
+        let kept = KeptMessage::new(alloc, stream, local, defined)?;
+        let devs = kept.devs.as_slice();
+        let fields = definition.fields.as_slice();
+        let mut end = Vec::new(alloc);
+        put_dev_head(&mut end, fields.len(), devs)?;
+        let mut head = Vec::with_capacity(alloc, WIDE)?;
+        put_head(&mut head, 0, global, fields, end.as_slice())?;
+        let mut shown = shown_fields(alloc, global, fields, end.as_slice())?;
+        push_devs(alloc, &mut shown, fields.len(), devs)?;
+        Ok(LineTemplate {
+            kept,
+            front: front(alloc, local, global)?,
+            timed: timed_front(alloc, local, global)?,
+            head: Stamp::new(head)?,
+            fields: shown,
+        })
+    }
+
+    /// Whether it is that of the definition of this local message type after the records of a stream.
+    pub(crate) fn is_of(&self, stream: &Stream, local: u8, defined: &Defined) -> bool
+        requires place { defined_at (known stream.now) local ≡ Some defined.now }
+        requires sound { IsSound defined.now }
+        ensures { IsTrue result → self.now ≡ message_key stream.now local defined.now }
+    {
+        self.kept.is(stream, local, defined)
+    }
+
+    /// Puts what a message with this time begins with. The sheet begins anew.
+    #[inline(always)]
+    fn put_label(
+        &self,
+        text: &mut Vec<u8>,
+        sheet: &mut Sheet,
+        times: &mut Times,
+        time: Option<u32>,
+    ) -> Result<usize, AllocError>
+        ensures place { IfOk result (λ end. end ≤ 1024) }
+        ensures text { IfOk result (λ end. and_sheet text.new.items sheet.new end
+            ≡ text.old.items
+            ++ (line_front self.now.own.local self.now.own.global ++ lines.time_part time)) }
+    {
+        match time {
+            Some(time) => {
+                let at = self.timed.add(text, sheet, 0)?;
+                times.add(text, sheet, at, time)
+            }
+            None => self.front.add(text, sheet, 0),
+        }
+    }
+
+    /// Puts the line of a message with this time.
+    pub(crate) fn put<S: FieldItems>(
+        &self,
+        text: &mut Vec<u8>,
+        sheet: &mut Sheet,
+        times: &mut Times,
+        time: Option<u32>,
+        items: &mut S,
+    ) -> Result<(), AllocError>
+        requires { HasFields S.has_items items.old (line_slots self.now) }
+        ensures { OnOk result (TakesFields S.has_items items.old items.new (line_slots self.now)
+            (λ all. text.new.items ≡ text.old.items ++ line_text self.now time all)) }
+    {
+        let at = self.put_label(text, sheet, times, time)?;
+        let first = self.head.add(text, sheet, at)?;
+        put_fields(text, sheet, first, self.fields.as_slice(), items)
+    }
+}
+
+/// What lines are put with, one after another.
+#[derive(Drop)]
+pub(crate) struct LineMaker {
+    pub alloc: Global,
+    /// What lines are written in first.
+    pub sheet: Sheet,
+    /// That of the last message of each local message type.
+    pub templates: ByLocal<LineTemplate>,
+    pub times: Times,
+}
+
+impl LineMaker {
+    /// It has put no line.
+    pub(crate) fn new(alloc: Global) -> LineMaker
+        ensures { NoneAreCurrent result.templates }
+    {
+        LineMaker {
+            alloc,
+            sheet: [0; SHEET_SIZE],
+            templates: ByLocal::new(alloc),
+            times: Times::new(alloc),
+        }
+    }
+
+    /// Whether the line of the definition of this local message type after the records of a stream is kept.
+    fn keeps(&self, stream: &Stream, local: u8, defined: &Defined) -> bool
+        requires place { defined_at (known stream.now) local ≡ Some defined.now }
+        requires sound { IsSound defined.now }
+        ensures { IsTrue result → slice_get self.now.templates.items.items local
+            ≡ Some (Some (message_key stream.now local defined.now)) }
+    {
+        if let Some(Some(template)) = self.templates.items.as_slice().get(local as usize) {
+            return template.is_of(stream, local, defined);
+        }
+        false
+    }
+
+    /// Keeps the line of the definition of this local message type after the records of a stream, where it isn't kept.
+    #[inline(never)]
+    fn renew(&mut self, stream: &Stream, local: u8, defined: &Defined) -> Result<(), AllocError>
+        requires place { defined_at (known stream.now) local ≡ Some defined.now }
+        requires sound { IsSound defined.now }
+        requires current { AreCurrent message_key self.old.templates stream.now }
+        ensures kept { OnOk result (slice_get self.new.templates.items.items local
+            ≡ Some (Some (message_key stream.now local defined.now))) }
+        ensures current { AreCurrent message_key self.new.templates stream.now }
+    {
+        if self.keeps(stream, local, defined) {
+            note(&mut self.templates.current, local, true);
+            return Ok(());
+        }
+        let template = LineTemplate::new(self.alloc, stream, local, defined)?;
+        self.templates.keep(local, template)
+    }
+
+    /// Keeps the line of the definition of this local message type after the records of a stream, where it isn't known that it is
+    /// kept.
+    #[inline(always)]
+    pub(crate) fn keep_template(
+        &mut self,
+        stream: &Stream,
+        local: u8,
+        defined: &Defined,
+    ) -> Result<(), AllocError>
+        requires place { defined_at (known stream.now) local ≡ Some defined.now }
+        requires sound { IsSound defined.now }
+        requires current { AreCurrent message_key self.old.templates stream.now }
+        ensures kept { OnOk result (slice_get self.new.templates.items.items local
+            ≡ Some (Some (message_key stream.now local defined.now))) }
+        ensures current { AreCurrent message_key self.new.templates stream.now }
+    {
+        if self.templates.is_current(local) {
+            return Ok(());
+        }
+        self.renew(stream, local, defined)
+    }
+}

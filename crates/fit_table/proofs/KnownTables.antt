@@ -1,0 +1,22 @@
+-- Tables of chains that are known from elsewhere.
+use Rattle.fit_table.proofs.Common.{◌≡◌, ◌++◌, refl, file_events, last_digits, date_after, date_in_year, csv_text, table_events_rows, table_of, escaped}
+use Rattle.fit_table.proofs.Common.{fields_text, is_blank}
+use Rattle.std.proofs.Common.{codes}
+use Rattle.std.specs.Fmt.{digits}
+use Rattle.fit_record.proofs.KnownFiles.{both_architectures, empty_file, one_byte_message}
+
+empty_file_table : csv_text (table_of (file_events empty_file))
+    ≡ codes "file,timestamp,position_lat,position_long,altitude,distance,speed,heart_rate,cadence,power,temperature\n"
+unfolding csv_text table_events_rows escaped fields_text is_blank
+empty_file_table = refl
+
+one_byte_message_table : csv_text (table_of (file_events one_byte_message))
+    ≡ codes "file,timestamp,position_lat,position_long,altitude,distance,speed,heart_rate,cadence,power,temperature\n1,,,,,,,,,,\n"
+unfolding csv_text table_events_rows escaped fields_text is_blank digits
+one_byte_message_table = refl
+
+both_architectures_table : csv_text (table_of (file_events both_architectures))
+    ≡ codes "file,timestamp,position_lat,position_long,altitude,distance,speed,heart_rate,cadence,power,temperature\n"
+    ++ codes "1,2021-09-08T01:47:11Z,,,,,,120,,,\n1,2021-09-08T01:47:14Z,,,0.0,16.0000,1.00,,,,\n"
+unfolding csv_text table_events_rows escaped fields_text is_blank digits last_digits date_after date_in_year
+both_architectures_table = refl

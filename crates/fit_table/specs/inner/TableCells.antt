@@ -1,0 +1,66 @@
+-- How the cells of the table are put together. No public contract names these.
+use Rattle.std.specs.Prelude.{◌≡◌, ℕ, Bool, List, [], ◌∷◌, ◌++◌, Vec, is_some, map, option_map, true, unwrap_or, Option, None, Some, pos}
+use Rattle.std.specs.Global.{Global}
+use Rattle.std.specs.Option.{option_map_or}
+use Rattle.csv.specs.Writing.{default_writer, fields_text}
+use Rattle.fit_record.specs.Faults.{or_else}
+use Rattle.fit_record.specs.declared.definition.MessageDef.{MessageDef}
+use Rattle.fit_record.specs.declared.message.Record.{Record}
+use Rattle.fit_record.specs.declared.message.Values.{Values}
+use Rattle.fit_profile.specs.declared.told.Told.{Told}
+use Rattle.fit_chain.specs.declared.event.Event.{Event as Answer}
+use Rattle.fit_decode.specs.Answers.{event_of}
+use Rattle.fit_numbers.specs.declared.decimal.Fixed.{Fixed}
+use Rattle.fit_profile.specs.declared.message.Message.{Message}
+use Rattle.fit_numbers.specs.FixedText.{fixed_text}
+use Rattle.fit_profile.specs.Meant.{shown}
+use Rattle.fit_cells.specs.Rows.{Cell, HasRows, Row}
+use Rattle.fit_table.specs.Table.{amount_text, degrees_text, table_event_rows, table_message_rows, table_row, value_text}
+
+-- the text of a number, where there is one
+abbrev pub shown_text : Option Fixed → Option Cell
+shown_text value = option_map (λ v. fixed_text v.value v.decimals) value
+
+-- The cell was put after a text, where there is one; and whether there is one.
+abbrev pub PutsCell : Option Cell → Bool → List ℕ → List ℕ → Type 0
+PutsCell cell put old new = (put ≡ is_some cell) × (new ≡ old ++ unwrap_or cell [])
+
+-- The cells were put after a text, each after a comma: they aren't the first of their row.
+abbrev pub AddsCells : List (Option Cell) → List ℕ → List ℕ → Type 0
+AddsCells cells old new = new ≡ old ++ fields_text default_writer (map (λ cell. unwrap_or cell []) cells)
+
+abbrev pub AddsCell : Option Cell → List ℕ → List ℕ → Type 0
+AddsCell cell old new = AddsCells (cell ∷ []) old new
+
+-- The cells were put after a text, each after a comma, and after them the end of the line.
+abbrev pub EndsRow : List (Option Cell) → List ℕ → List ℕ → Type 0
+EndsRow cells old new = new ≡ (old ++ fields_text default_writer (map (λ cell. unwrap_or cell []) cells)) ++ (10 ∷ [])
+
+-- the cells of a row from the positions to the distance
+abbrev pub place_cells : {A : Type 0} → MessageDef A → Values A → Told → List (Option Cell)
+place_cells d v t =
+    degrees_text d v 0 ∷ degrees_text d v 1 ∷ or_else (value_text d v 78) (value_text d v 2)
+    ∷ or_else (value_text d v 5) (option_map (λ n. amount_text (pos n) 16 0) t.distance) ∷ []
+
+-- the cells of a row from the speed on
+abbrev pub effort_cells : {A : Type 0} → MessageDef A → Values A → Told → List (Option Cell)
+effort_cells d v t =
+    or_else (value_text d v 73) (or_else (value_text d v 6) (option_map (λ n. amount_text (pos n) 100 0) t.speed))
+    ∷ value_text d v 3 ∷ value_text d v 4 ∷ value_text d v 7 ∷ value_text d v 13 ∷ []
+
+-- There is a record message of a definition and with values that tells something, of which this holds.
+abbrev pub AreSome : (MessageDef Global → Values Global → Told → Type 0) → Type 0
+AreSome Are = (d : MessageDef Global) × (v : Values Global) × (t : Told) × Are d v t
+
+-- If a row was put after a text, it is the row of this message after these records in the file of this number.
+abbrev pub MayPutRow : ℕ → List (Record Global) → Values Global → Bool → Vec ℕ Global → Vec ℕ Global → Type 0
+MayPutRow file before v put old new = put ≡ true → HasRows (table_message_rows file before v) old new
+
+-- the row of a record message in the file of this number, or none
+abbrev pub rows_in : {A : Type 0} → ℕ → Option (Message A) → List Row
+rows_in file None = []
+rows_in file (Some m) = table_row file (shown m).definition (shown m).values (shown m).told ∷ []
+
+-- the rows of what a decoder answers, in the file of this number
+abbrev pub table_answer_rows : {A : Type 0} → ℕ → List (Record A) → Answer A → List Row
+table_answer_rows files before answer = option_map_or (table_event_rows files before) (event_of answer) []

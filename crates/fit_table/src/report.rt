@@ -1,0 +1,257 @@
+//! The rows of the table, told one after another.
+ghost use Rattle.std.specs.Prelude.{◌≡◌, ◌<◌, ◌^◌, ◌++◌, ◌∷◌, [], ℕ, List, IfOk, IfSome, OnOk, false, true};
+ghost use Rattle.std.specs.Global.{Global};
+ghost use Rattle.fit_record.specs.declared.message.Record.{Record};
+ghost use Rattle.fit_record.specs.declared.message.Record.TheVariants.{Values as Data};
+ghost use Rattle.fit_record.specs.declared.message.Values.{Values};
+ghost use Rattle.fit_record.specs.Records.{Fits, IsRecord};
+ghost use Rattle.fit_profile.specs.Looks.{known};
+ghost use Rattle.fit_profile.specs.Meant.{MessageOf, shown};
+ghost use Rattle.fit_cells.specs.Rows.{csv_text};
+ghost use Rattle.fit_texts.specs.KeptEvents.{kept_events};
+ghost use Rattle.fit_texts.specs.Current.{AreCurrent};
+ghost use Rattle.fit_table.specs.inner.TableColumns.{column_fields};
+ghost use Rattle.fit_texts.specs.Reporting.{AnswerFits, records_after_answer};
+ghost use Rattle.fit_table.specs.Table.{table_message_rows, table_record_rows};
+ghost use Rattle.fit_texts.specs.Reporting.{files_after_answer};
+ghost use Rattle.fit_table.specs.inner.TableCells.{rows_in, table_answer_rows};
+
+use crate::maker::{TableMaker, put_message_row, put_table_row};
+use crate::rows::TableRowMaker;
+use fit_decode::{Decoder, Event};
+use fit_profile::laws::looking_back_is_learning;
+use fit_profile::message_number::RECORD;
+use fit_profile::{Message, Stream};
+use fit_record::Record;
+use fit_report::Report;
+use fit_report::laws::{heard_are_few, heard_records_fit};
+use std::alloc::{AllocError, Global};
+use std::marker::Model;
+
+/// A message, where it is a record message.
+fn row_of(message: Option<Message>) -> Option<Message>
+    ensures global { IfSome result (λ m. (shown m).definition.global ≡ 20) }
+    ensures rows { (file : ℕ) (before : List (Record Global)) (r : Record Global)
+        → MessageOf before r message.entry → rows_in file result ≡ table_record_rows file before r }
+{
+    let message = message?;
+    if message.global() != RECORD {
+        return None;
+    }
+    Some(message)
+}
+
+/// Puts the text of the row of a record message, where there is one.
+fn put_text(
+    text: &mut Vec<u8>,
+    rows: &mut TableRowMaker,
+    message: &Option<Message>,
+    file: u64,
+) -> Result<(), AllocError>
+    ensures { OnOk result (text.new.items ≡ text.old.items ++ csv_text (rows_in file message.now)) }
+{
+    match message {
+        Some(message) => put_table_row(text, rows, message, file),
+        None => Ok(()),
+    }
+}
+
+/// Takes a record in, and puts the text of its row in the file of this number.
+fn take_record(
+    text: &mut Vec<u8>,
+    rows: &mut TableRowMaker,
+    stream: &mut Stream,
+    file: u64,
+    record_: &Record,
+) -> Result<(), AllocError>
+    requires { Fits (known stream.old) record_.now }
+    ensures text { OnOk result (text.new.items
+        ≡ text.old.items ++ csv_text (table_record_rows file stream.old record_.now)) }
+    ensures stream { OnOk result (stream.new ≡ record_.now ∷ stream.old) }
+{
+    let message = row_of(stream.push(record_)?);
+    put_text(text, rows, &message, file)
+}
+
+/// Puts the text of the row of the data message that the bytes are, where it can be made of these. Whether it did.
+#[tactic(auto, using(fit_cells::proofs::AddedRows::text_none))]
+fn put_message(
+    text: &mut Vec<u8>,
+    maker: &mut TableMaker,
+    stream: &Stream,
+    file: u64,
+    bytes: &[u8],
+) -> Result<bool, AllocError>
+    requires record_ { (v : Values Global) × IsRecord (known stream.now) (Data v) bytes.now }
+    requires current { AreCurrent column_fields maker.old.columns stream.now }
+    ensures row { IfOk result (λ put. put ≡ true → (v : Values Global)
+        → IsRecord (known stream.now) (Data v) bytes.now → text.new.items
+        ≡ text.old.items ++ csv_text (table_message_rows file stream.now v)) }
+    ensures none { IfOk result (λ put. put ≡ false → text.new.items ≡ text.old.items) }
+    ensures current { AreCurrent column_fields maker.new.columns stream.now }
+{
+    let Some(message) = stream.env().message_bytes(bytes) else {
+        unreachable!()
+    };
+    if message.defined.definition.global != RECORD {
+        return Ok(true);
+    }
+    put_message_row(text, maker, stream, &message, bytes, file)
+}
+
+/// The record that the bytes of a data message are.
+fn record_of(alloc: Global, stream: &Stream, bytes: &[u8]) -> Result<Record, AllocError>
+    requires { (v : Values Global) × IsRecord (known stream.now) (Data v) bytes.now }
+    ensures { IfOk result (λ r. (v : Values Global)
+        → IsRecord (known stream.now) (Data v) bytes.now → r ≡ Data v) }
+{
+    match stream.env().message_bytes(bytes) {
+        Some(message) => Ok(Record::Values(message.values(alloc)?)),
+        None => unreachable!(),
+    }
+}
+
+/// Takes in the data message that the bytes are by the record that they are, and puts the text of its row in the file of this number.
+#[cold]
+#[inline(never)]
+fn take_whole(
+    text: &mut Vec<u8>,
+    maker: &mut TableMaker,
+    stream: &mut Stream,
+    file: u64,
+    bytes: &[u8],
+) -> Result<(), AllocError>
+    requires record_ { (v : Values Global) × IsRecord (known stream.old) (Data v) bytes.now }
+    ensures text { OnOk result ((v : Values Global)
+        → IsRecord (known stream.old) (Data v) bytes.now → text.new.items
+        ≡ text.old.items ++ csv_text (table_message_rows file stream.old v)) }
+    ensures stream { OnOk result ((v : Values Global)
+        → IsRecord (known stream.old) (Data v) bytes.now → stream.new ≡ Data v ∷ stream.old) }
+    ensures current { AreCurrent column_fields maker.new.columns stream.new }
+{
+    maker.columns.forget();
+    let record_ = record_of(maker.alloc, stream, bytes)?;
+    take_record(text, &mut maker.rows, stream, file, &record_)
+}
+
+/// Takes in the data message that the bytes are, and puts the text of its row in the file of this number.
+fn take_message(
+    text: &mut Vec<u8>,
+    maker: &mut TableMaker,
+    stream: &mut Stream,
+    file: u64,
+    bytes: &[u8],
+) -> Result<(), AllocError>
+    requires record_ { (v : Values Global) × IsRecord (known stream.old) (Data v) bytes.now }
+    requires current { AreCurrent column_fields maker.old.columns stream.old }
+    ensures text { OnOk result ((v : Values Global)
+        → IsRecord (known stream.old) (Data v) bytes.now → text.new.items
+        ≡ text.old.items ++ csv_text (table_message_rows file stream.old v)) }
+    ensures stream { OnOk result ((v : Values Global)
+        → IsRecord (known stream.old) (Data v) bytes.now → stream.new ≡ Data v ∷ stream.old) }
+    ensures current { AreCurrent column_fields maker.new.columns stream.new }
+{
+    if put_message(text, maker, stream, file, bytes)? {
+        return stream.take_message(bytes);
+    }
+    take_whole(text, maker, stream, file, bytes)
+}
+
+/// Takes an event in, and puts the text of its row. A header begins a file.
+#[tactic(auto, using(fit_cells::proofs::AddedRows::text_none))]
+fn take_event(
+    text: &mut Vec<u8>,
+    rows: &mut TableRowMaker,
+    stream: &mut Stream,
+    files: &mut u64,
+    event: &Event,
+) -> Result<(), AllocError>
+    requires fits { AnswerFits stream.old event.now }
+    requires few { files.old < 2 ^ 60 }
+    ensures text { OnOk result (text.new.items
+        ≡ text.old.items ++ csv_text (table_answer_rows files.old stream.old event.now)) }
+    ensures stream { OnOk result (stream.new ≡ records_after_answer stream.old event.now) }
+    ensures files { OnOk result (files.new ≡ files_after_answer files.old event.now) }
+{
+    match event {
+        Event::Header(..) => {
+            stream.begin_file();
+            *files += 1;
+            Ok(())
+        }
+        Event::Item(record_) => take_record(text, rows, stream, *files, record_),
+        Event::More | Event::FileEnd => Ok(()),
+    }
+}
+
+/// Makes a row of each record message of a chain of files. Clauses see what it keeps of the events that it has heard: the records of
+/// the file that was begun last, the latest first, and how many files have begun.
+#[derive(Drop)]
+pub struct TableReport {
+    stream: Stream,
+    files: u64,
+    maker: TableMaker,
+}
+
+impl Model for TableReport {
+    ghost use Rattle.fit_texts.specs.KeptEvents.{KeptEvents};
+
+    ghost Value = { KeptEvents };
+
+    ghost view = { λ r. record { records = r.stream; files = r.files } };
+
+    ghost use Rattle.fit_texts.specs.Current.{AreCurrent};
+    ghost use Rattle.fit_table.specs.inner.TableColumns.{column_fields};
+
+    ghost invariant = { λ r. AreCurrent column_fields r.maker.columns r.stream };
+}
+
+impl TableReport {
+    /// It has heard nothing.
+    pub fn new(alloc: Global) -> Self
+        ensures { result ≡ kept_events [] }
+    {
+        TableReport {
+            stream: Stream::new(alloc),
+            files: 0,
+            maker: TableMaker::new(alloc),
+        }
+    }
+}
+
+impl Report for TableReport {
+    ghost use Rattle.fit_table.specs.EventTexts.{table_text};
+
+    ghost has_heard = { λ r heard. r ≡ kept_events heard };
+
+    ghost line = { table_text };
+
+    fn tell(&mut self, event: &Event, text: &mut Vec<u8>) -> Result<(), AllocError> {
+        heard_records_fit::<Global>();
+        heard_are_few::<Global>();
+        looking_back_is_learning::<Global>();
+        self.maker.columns.forget();
+        take_event(
+            text,
+            &mut self.maker.rows,
+            &mut self.stream,
+            &mut self.files,
+            event,
+        )
+    }
+
+    fn skip(
+        &mut self,
+        decoder: &mut Decoder,
+        piece: &[u8],
+        text: &mut Vec<u8>,
+    ) -> Result<usize, AllocError> {
+        let used = decoder.skip_message(piece);
+        if used == 0 {
+            return Ok(0);
+        }
+        let (message, _) = piece.split_at(used);
+        take_message(text, &mut self.maker, &mut self.stream, self.files, message)?;
+        Ok(used)
+    }
+}

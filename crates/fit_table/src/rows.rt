@@ -1,0 +1,281 @@
+//! The rows of the table.
+ghost use Rattle.std.specs.Prelude.{◌≡◌, ◌≤◌, ◌+◌, ◌/◌, ◌++◌, ◌∷◌, [], OnOk, decimal, length, option_map, pos, take, true, unwrap_or};
+ghost use Rattle.std.specs.Global.{Global};
+ghost use Rattle.csv.specs.Writing.{default_writer, fields_text};
+ghost use Rattle.fit_record.specs.Faults.{or_else};
+ghost use Rattle.fit_record.specs.declared.definition.MessageDef.{MessageDef};
+ghost use Rattle.fit_record.specs.declared.message.Values.{Values};
+ghost use Rattle.fit_profile.specs.declared.told.Told.{Told};
+ghost use Rattle.fit_cells.specs.Rows.{HasRows};
+ghost use Rattle.fit_texts.specs.InstantText.{instant_text};
+ghost use Rattle.fit_table.specs.Table as table;
+ghost use Rattle.fit_table.specs.inner.TableCells.{AddsCell, AddsCells, AreSome, EndsRow, effort_cells, place_cells};
+ghost use Rattle.fit_table.specs.inner.TableColumns.{is_tabled};
+
+use crate::front::{Firsts, Front, put_first, write_byte};
+use crate::numbers::RecordNumbers;
+use std::alloc::{AllocError, Global};
+
+/// How many bytes a row has at most, where what it begins with is short.
+const ROW_SIZE: usize = 477;
+
+/// Writes the cell of the first field of this number.
+#[inline(always)]
+fn add_value<N: RecordNumbers>(row: &mut [u8], at: usize, numbers: &N, number: u8) -> usize
+    requires numbers { AreSome (N.are_of numbers.now) }
+    requires tabled { is_tabled number ≡ true }
+    requires room { at + 49 ≤ length row.old }
+    ensures size { length row.new ≡ length row.old }
+    ensures within { result ≤ at + 49 }
+    ensures cell { (d : MessageDef Global) (v : Values Global) (t : Told)
+        → N.are_of numbers.now d v t
+        → AddsCell (table.value_text d v number) (take at row.old) (take result row.new) }
+{
+    let at = write_byte(row, at, b',');
+    numbers.write_value(row, at, number).1
+}
+
+/// Writes the cell of the position in the first field of this number.
+#[inline(always)]
+fn add_position<N: RecordNumbers>(row: &mut [u8], at: usize, numbers: &N, number: u8) -> usize
+    requires numbers { AreSome (N.are_of numbers.now) }
+    requires tabled { is_tabled number ≡ true }
+    requires room { at + 49 ≤ length row.old }
+    ensures size { length row.new ≡ length row.old }
+    ensures within { result ≤ at + 49 }
+    ensures cell { (d : MessageDef Global) (v : Values Global) (t : Told)
+        → N.are_of numbers.now d v t
+        → AddsCell (table.degrees_text d v number) (take at row.old) (take result row.new) }
+{
+    let at = write_byte(row, at, b',');
+    numbers.write_position(row, at, number).1
+}
+
+/// Writes the cell of the altitude.
+#[inline(always)]
+fn add_altitude<N: RecordNumbers>(row: &mut [u8], at: usize, numbers: &N) -> usize
+    requires numbers { AreSome (N.are_of numbers.now) }
+    requires room { at + 49 ≤ length row.old }
+    ensures size { length row.new ≡ length row.old }
+    ensures within { result ≤ at + 49 }
+    ensures cell { (d : MessageDef Global) (v : Values Global) (t : Told)
+        → N.are_of numbers.now d v t
+        → AddsCell (or_else (table.value_text d v 78) (table.value_text d v 2))
+        (take at row.old) (take result row.new) }
+{
+    let at = write_byte(row, at, b',');
+    let (is_enhanced, at) = numbers.write_value(row, at, 78);
+    if is_enhanced {
+        return at;
+    }
+    numbers.write_value(row, at, 2).1
+}
+
+/// Writes the cell of the distance.
+#[inline(always)]
+fn add_distance<N: RecordNumbers>(row: &mut [u8], at: usize, numbers: &N) -> usize
+    requires numbers { AreSome (N.are_of numbers.now) }
+    requires room { at + 49 ≤ length row.old }
+    ensures size { length row.new ≡ length row.old }
+    ensures within { result ≤ at + 49 }
+    ensures cell { (d : MessageDef Global) (v : Values Global) (t : Told)
+        → N.are_of numbers.now d v t
+        → AddsCell (or_else (table.value_text d v 5)
+        (option_map (λ n. table.amount_text (pos n) 16 0) t.distance))
+        (take at row.old) (take result row.new) }
+{
+    let at = write_byte(row, at, b',');
+    let (is_own, at) = numbers.write_value(row, at, 5);
+    if is_own {
+        return at;
+    }
+    numbers.write_distance(row, at).1
+}
+
+/// Writes the cell of the speed.
+#[inline(always)]
+fn add_speed<N: RecordNumbers>(row: &mut [u8], at: usize, numbers: &N) -> usize
+    requires numbers { AreSome (N.are_of numbers.now) }
+    requires room { at + 49 ≤ length row.old }
+    ensures size { length row.new ≡ length row.old }
+    ensures within { result ≤ at + 49 }
+    ensures cell { (d : MessageDef Global) (v : Values Global) (t : Told)
+        → N.are_of numbers.now d v t
+        → AddsCell (or_else (table.value_text d v 73) (or_else (table.value_text d v 6)
+        (option_map (λ n. table.amount_text (pos n) 100 0) t.speed)))
+        (take at row.old) (take result row.new) }
+{
+    let at = write_byte(row, at, b',');
+    let (is_enhanced, at) = numbers.write_value(row, at, 73);
+    if is_enhanced {
+        return at;
+    }
+    let (is_own, at) = numbers.write_value(row, at, 6);
+    if is_own {
+        return at;
+    }
+    numbers.write_speed(row, at).1
+}
+
+/// Writes the cells of the position, the altitude and the distance.
+#[inline(never)]
+fn add_place<N: RecordNumbers>(row: &mut [u8], at: usize, numbers: &N) -> usize
+    requires numbers { AreSome (N.are_of numbers.now) }
+    requires room { at + 196 ≤ length row.old }
+    ensures size { length row.new ≡ length row.old }
+    ensures within { result ≤ at + 196 }
+    ensures cells { (d : MessageDef Global) (v : Values Global) (t : Told)
+        → N.are_of numbers.now d v t
+        → AddsCells (place_cells d v t) (take at row.old) (take result row.new) }
+{
+    let at = add_position(row, at, numbers, 0);
+    let at = add_position(row, at, numbers, 1);
+    let at = add_altitude(row, at, numbers);
+    add_distance(row, at, numbers)
+}
+
+/// Writes the cells of the speed, the heart rate, the cadence, the power and the temperature.
+#[inline(never)]
+fn add_effort<N: RecordNumbers>(row: &mut [u8], at: usize, numbers: &N) -> usize
+    requires numbers { AreSome (N.are_of numbers.now) }
+    requires room { at + 245 ≤ length row.old }
+    ensures size { length row.new ≡ length row.old }
+    ensures within { result ≤ at + 245 }
+    ensures cells { (d : MessageDef Global) (v : Values Global) (t : Told)
+        → N.are_of numbers.now d v t
+        → AddsCells (effort_cells d v t) (take at row.old) (take result row.new) }
+{
+    let at = add_speed(row, at, numbers);
+    let at = add_value(row, at, numbers, 3);
+    let at = add_value(row, at, numbers, 4);
+    let at = add_value(row, at, numbers, 7);
+    add_value(row, at, numbers, 13)
+}
+
+/// Writes the numbers of a row and the end of its line into bytes from a place on. Returns the place after them.
+#[inline(always)]
+fn add_numbers<N: RecordNumbers>(row: &mut [u8], at: usize, numbers: &N) -> usize
+    requires numbers { AreSome (N.are_of numbers.now) }
+    requires room { at + 442 ≤ length row.old }
+    ensures cells { (d : MessageDef Global) (v : Values Global) (t : Told)
+        → N.are_of numbers.now d v t
+        → EndsRow (place_cells d v t ++ effort_cells d v t)
+        (take at row.old) (take result row.new) }
+    ensures size { length row.new ≡ length row.old }
+    ensures within { result ≤ at + 442 }
+{
+    let at = add_place(row, at, numbers);
+    let at = add_effort(row, at, numbers);
+    write_byte(row, at, b'\n')
+}
+
+/// Puts the first bytes of a row after a text.
+#[inline(always)]
+fn put_written(text: &mut Vec<u8>, row: &[u8], end: usize) -> Result<(), AllocError>
+    requires { end ≤ length row.now }
+    ensures { OnOk result (text.new.items ≡ text.old.items ++ take end row.now) }
+{
+    let (written, _) = row.split_at(end);
+    text.extend_from_slice(written)
+}
+
+/// Puts the numbers of a row and the end of its line after a text, by bytes that they are written into first.
+fn put_numbers<N: RecordNumbers>(
+    text: &mut Vec<u8>,
+    row: &mut [u8],
+    numbers: &N,
+) -> Result<(), AllocError>
+    requires numbers { AreSome (N.are_of numbers.now) }
+    requires room { 477 ≤ length row.old }
+    ensures { OnOk result ((d : MessageDef Global) (v : Values Global) (t : Told)
+        → N.are_of numbers.now d v t
+        → EndsRow (place_cells d v t ++ effort_cells d v t) text.old.items text.new.items) }
+{
+    let end = add_numbers(row, 0, numbers);
+    put_written(text, row, end)
+}
+
+/// Puts a row of which it is known what it begins with after a text, by bytes that it is written into first.
+#[inline(always)]
+fn put_begun<N: RecordNumbers>(
+    text: &mut Vec<u8>,
+    row: &mut [u8],
+    front: &Front,
+    time: u32,
+    numbers: &N,
+) -> Result<(), AllocError>
+    requires numbers { AreSome (N.are_of numbers.now) }
+    requires minute { time / 60 ≡ front.now.1 }
+    requires room { 477 ≤ length row.old }
+    ensures { OnOk result ((d : MessageDef Global) (v : Values Global) (t : Told)
+        → N.are_of numbers.now d v t
+        → EndsRow (place_cells d v t ++ effort_cells d v t)
+        (text.old.items ++ (decimal front.now.0 ++ (44 ∷ instant_text time))) text.new.items) }
+{
+    let at = front.write(row, 0, time);
+    let end = add_numbers(row, at, numbers);
+    put_written(text, row, end)
+}
+
+/// What rows are put with, one after another.
+#[derive(Drop)]
+pub(crate) struct TableRowMaker {
+    firsts: Firsts,
+    /// The bytes that a row is written into. They stay as they are until the next one.
+    row: [u8; ROW_SIZE],
+}
+
+impl TableRowMaker {
+    /// It has put no row.
+    pub(crate) fn new(alloc: Global) -> TableRowMaker {
+        TableRowMaker {
+            firsts: Firsts::new(alloc),
+            row: [0; ROW_SIZE],
+        }
+    }
+}
+
+/// Puts the row of a record message of a file after a text, and finds out what the rows of its minute begin with.
+#[cold]
+#[inline(never)]
+fn put_first_row<N: RecordNumbers>(
+    text: &mut Vec<u8>,
+    maker: &mut TableRowMaker,
+    file: u64,
+    time: Option<u32>,
+    numbers: &N,
+) -> Result<(), AllocError>
+    requires { AreSome (N.are_of numbers.now) }
+    ensures { OnOk result ((d : MessageDef Global) (v : Values Global) (t : Told)
+        → N.are_of numbers.now d v t → time ≡ t.time
+        → HasRows (table.table_row file d v t ∷ []) text.old text.new) }
+{
+    if time.is_some() {
+        maker.firsts.renew(file, time)?;
+        if let Some((front, time)) = maker.firsts.front_of(file, time) {
+            return put_begun(text, &mut maker.row, front, time, numbers);
+        }
+    }
+    put_first(text, file, time)?;
+    put_numbers(text, &mut maker.row, numbers)
+}
+
+/// Puts the row of a record message of a file after a text, by its time and its numbers.
+#[inline(always)]
+pub(crate) fn put_row<N: RecordNumbers>(
+    text: &mut Vec<u8>,
+    maker: &mut TableRowMaker,
+    file: u64,
+    time: Option<u32>,
+    numbers: &N,
+) -> Result<(), AllocError>
+    requires { AreSome (N.are_of numbers.now) }
+    ensures { OnOk result ((d : MessageDef Global) (v : Values Global) (t : Told)
+        → N.are_of numbers.now d v t → time ≡ t.time
+        → HasRows (table.table_row file d v t ∷ []) text.old text.new) }
+{
+    if let Some((front, time)) = maker.firsts.front_of(file, time) {
+        return put_begun(text, &mut maker.row, front, time, numbers);
+    }
+    put_first_row(text, maker, file, time, numbers)
+}

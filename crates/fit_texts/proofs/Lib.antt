@@ -1,0 +1,23 @@
+pub mod Common
+pub mod AddedCells
+pub mod BeginFacts
+pub mod BothFacts
+pub mod CellFacts
+pub mod CurrentFacts
+mod CutFacts
+mod DevFields
+pub mod DevKeyFacts
+pub mod HeardEvents
+mod InstantFacts
+pub mod ItemFacts
+pub mod KnownDefinitions
+mod KnownInstants
+pub mod MinuteFacts
+pub mod NamingFacts
+pub mod PlainInstants
+pub mod ProfileScales
+pub mod SeveralNumbers
+pub mod Shapes
+pub mod Sheets
+pub mod SkippedMessages
+pub mod Stamps

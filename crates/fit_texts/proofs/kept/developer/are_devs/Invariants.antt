@@ -1,0 +1,5 @@
+use Rattle.fit_texts.proofs.Common.{◌≡◌, take, dev_keys, namings_at}
+use Rattle.fit_texts.proofs.kept.developer.are_devs.Given as goal
+
+abbrev pub invariant-loop-place : goal.invariant-loop-place
+invariant-loop-place l = take l.place l.kept ≡ take l.place (dev_keys l.fields l.dev_codes (namings_at l.stream l.local))

@@ -1,0 +1,12 @@
+pub mod InstantText
+pub mod Words
+pub mod KeptEvents
+pub mod Reporting
+pub mod Current
+pub mod MessageKeys
+pub mod Minutes
+pub mod Sheets
+pub mod Octets
+pub mod Several
+pub mod Commas
+pub mod Laws

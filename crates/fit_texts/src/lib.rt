@@ -1,0 +1,30 @@
+//! Short texts of which rows, tables and lines are made, and what is kept of the records before them.
+#![tactic(auto)]
+
+pub mod cells;
+mod cut;
+mod floats;
+mod following;
+mod kept;
+pub mod laws;
+mod lone;
+mod made;
+mod minutes;
+mod octets;
+mod several;
+mod sheet;
+mod stamp;
+pub mod words;
+
+pub use cut::{after_beginning, before_comma};
+pub use floats::{add_float, add_made_float, is_lone_float};
+pub use following::{follow, follow_files};
+pub use kept::developer::KeptDev;
+pub use kept::message::KeptMessage;
+pub use kept::{ByLocal, Kept, are_same, keep_at, note};
+pub use made::{add_made_bytes, add_made_numbers};
+pub use minutes::{LAST_SYSTEM_MINUTE, Times};
+pub use octets::{add_bytes, is_of_bytes};
+pub use several::{add_numbers, field_form};
+pub use sheet::{SHEET_SIZE, Sheet, put_sheet};
+pub use stamp::{SHORT, Stamp, WIDE, add_text, write_text};
