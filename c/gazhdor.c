@@ -10,6 +10,10 @@ gazhdor_answer proved_gazhdor_to_csv(const uint8_t *bytes, size_t length, gazhdo
 gazhdor_answer proved_gazhdor_show(const uint8_t *bytes, size_t length, gazhdor_text *text);
 gazhdor_answer proved_gazhdor_messages(const uint8_t *bytes, size_t length, gazhdor_text *blocks);
 gazhdor_answer proved_gazhdor_from_csv(const uint8_t *text, size_t length, gazhdor_text *bytes);
+gazhdor_answer proved_gazhdor_open(gazhdor_stream *stream, uint32_t kind);
+gazhdor_answer proved_gazhdor_feed(gazhdor_stream *stream, const uint8_t *bytes, size_t length, gazhdor_text *text);
+gazhdor_answer proved_gazhdor_finish(gazhdor_stream *stream, gazhdor_text *text);
+void proved_gazhdor_close(gazhdor_stream *stream);
 
 static const uint8_t *some(const uint8_t *bytes)
 {
@@ -46,6 +50,26 @@ gazhdor_answer gazhdor_from_csv(const uint8_t *text, size_t length, gazhdor_text
     return proved_gazhdor_from_csv(some(text), length, bytes);
 }
 
+gazhdor_answer gazhdor_open(gazhdor_stream *stream, uint32_t kind)
+{
+    return proved_gazhdor_open(stream, kind);
+}
+
+gazhdor_answer gazhdor_feed(gazhdor_stream *stream, const uint8_t *bytes, size_t length, gazhdor_text *text)
+{
+    return proved_gazhdor_feed(stream, some(bytes), length, text);
+}
+
+gazhdor_answer gazhdor_finish(gazhdor_stream *stream, gazhdor_text *text)
+{
+    return proved_gazhdor_finish(stream, text);
+}
+
+void gazhdor_close(gazhdor_stream *stream)
+{
+    proved_gazhdor_close(stream);
+}
+
 void gazhdor_free(gazhdor_text text)
 {
     if (text.length != 0)
@@ -61,6 +85,8 @@ const char *gazhdor_status_name(uint32_t status)
     case GAZHDOR_NO_MEMORY: return "out of memory";
     case GAZHDOR_TEXT: return "text refused";
     case GAZHDOR_UNWRITABLE: return "no file has such rows";
+    case GAZHDOR_CLOSED: return "closed";
+    case GAZHDOR_NO_KIND: return "no such kind";
     default: return "unknown";
     }
 }

@@ -184,10 +184,11 @@ static void nothing(void)
 /* The names; tests/c compares those of reasons with what the program prints. */
 static void named(void)
 {
-    static const char *const statuses[] = { "good", "refused", "truncated", "out of memory", "text refused", "no file has such rows" };
-    for (uint32_t status = GAZHDOR_GOOD; status <= GAZHDOR_UNWRITABLE; status++)
+    static const char *const statuses[] = { "good", "refused", "truncated", "out of memory", "text refused", "no file has such rows",
+        "closed", "no such kind" };
+    for (uint32_t status = GAZHDOR_GOOD; status <= GAZHDOR_NO_KIND; status++)
         WANT(strcmp(gazhdor_status_name(status), statuses[status]) == 0);
-    WANT(strcmp(gazhdor_status_name(GAZHDOR_UNWRITABLE + 1), "unknown") == 0);
+    WANT(strcmp(gazhdor_status_name(GAZHDOR_NO_KIND + 1), "unknown") == 0);
     WANT(strcmp(gazhdor_reason_name(0), "unknown") == 0);
     WANT(strcmp(gazhdor_reason_name(GAZHDOR_TOO_MANY_FILES + 1), "unknown") == 0);
     WANT(strcmp(gazhdor_version(), GAZHDOR_VERSION) == 0);

@@ -1,0 +1,350 @@
+/* What reads the blocks of gazhdor_messages, and those of a stream of GAZHDOR_STREAM_MESSAGES. gazhdor.h includes it.
+ *
+ *     gazhdor_reader at = gazhdor_read(blocks);
+ *     while (gazhdor_next(&at)) {
+ *         if (at.message != 20)
+ *             continue;
+ *         gazhdor_field heart = gazhdor_named(at.definition, "heart_rate");
+ *         printf("%lu %g\n", (unsigned long)gazhdor_time(at.block), gazhdor_value(heart, at.block, 0));
+ *     }
+ *
+ * Not proved. None of these reads outside the blocks that it is given, which are memory of their length, whatever bytes they have and
+ * whatever the other numbers are. What isn't there is NAN, 0, "" or NULL, as each says. Names and texts lie in the blocks, and last as
+ * long as they do. */
+#ifndef GAZHDOR_BLOCKS_H
+#define GAZHDOR_BLOCKS_H
+
+#include "gazhdor.h"
+
+#include <math.h>
+#include <stdlib.h>
+#include <string.h>
+
+#ifdef __cplusplus
+extern "C" {
+#endif
+
+/* What a block tells. */
+enum gazhdor_kind { GAZHDOR_FILE_HEADER = 1, GAZHDOR_DEFINITION = 2, GAZHDOR_MESSAGE = 3, GAZHDOR_FILE_END = 4 };
+
+/* What the items of a field stand for. Of a string and of bytes each item is one byte. */
+enum gazhdor_items_kind { GAZHDOR_UNSIGNED = 0, GAZHDOR_SIGNED = 1, GAZHDOR_FLOAT = 2, GAZHDOR_STRING = 3, GAZHDOR_BYTES = 4 };
+
+/* What gazhdor_amount gives. */
+enum gazhdor_amount_kind { GAZHDOR_SPEED = 0, GAZHDOR_DISTANCE = 1, GAZHDOR_CYCLES = 2, GAZHDOR_POWER = 3 };
+
+#define GAZHDOR_NO_MESSAGE 0xFFFFFFFFu
+#define GAZHDOR_NO_TIME 0xFFFFFFFFu
+#define GAZHDOR_NO_DEFINITION 0xFFFFFFFFFFFFFFFFu
+
+/* Add this to a time for seconds since 1970-01-01T00:00:00 UTC. A time below GAZHDOR_SYSTEM_TIME has no date: it counts from when the
+ * device was switched on. */
+#define GAZHDOR_EPOCH 631065600
+#define GAZHDOR_SYSTEM_TIME 268435456u
+
+typedef struct gazhdor_block {
+    const uint8_t *bytes; /* NULL where there is no block; all else is then 0 */
+    size_t length;
+    uint32_t kind;   /* an enum gazhdor_kind */
+    uint32_t file;   /* counted from 1 */
+    uint64_t place;  /* where what it tells begins among the bytes of the files */
+    uint64_t number; /* of a definition and of a message: which definition of all, counted from 0 */
+} gazhdor_block;
+
+/* Goes through the blocks, and knows the definition of each message. */
+typedef struct gazhdor_reader {
+    gazhdor_block block;      /* the one that it is at */
+    gazhdor_block definition; /* of a message its definition, of a definition itself, else none */
+    uint32_t message;         /* at a message its global message number, as 20 for record; else GAZHDOR_NO_MESSAGE */
+    gazhdor_text left;        /* the blocks that are still to come */
+    gazhdor_block known[16];  /* the last definition of each local message type */
+    uint8_t *kept[16];        /* copies of those that lie in blocks of earlier pieces, by gazhdor_keep */
+} gazhdor_reader;
+
+/* A field of the messages of a definition. */
+typedef struct gazhdor_field {
+    int there;           /* 1; or 0 where there is no such field, and all else is then 0, "" or GAZHDOR_NO_DEFINITION */
+    const char *name;    /* as "heart_rate"; "" where nothing names it */
+    const char *unit;    /* as "bpm"; "" where it has none */
+    uint64_t definition; /* the number of its definition */
+    uint64_t invalid;    /* the item that stands for no value */
+    uint32_t at;         /* where its items begin in the block of a message; they follow one another */
+    uint32_t scale;      /* an item stands for item / scale - offset, which has `decimals` decimals */
+    uint32_t offset;
+    uint8_t number;           /* of the field in its message */
+    uint8_t developer, index; /* 1 for a developer field, else 0; and its developer data index */
+    uint8_t base_type, kind;  /* its code in the file; and an enum gazhdor_items_kind */
+    uint8_t width, count;     /* bytes of an item: 1, 2, 4 or 8; and how many items */
+    uint8_t decimals;
+    size_t end; /* where the next one is described in the block of the definition */
+} gazhdor_field;
+
+/* A number of 1 to 8 bytes in a block, by docs/BLOCKS.md; 0 where the block ends before. */
+static inline uint64_t gazhdor_load(gazhdor_block block, uint64_t at, size_t width)
+{
+    uint64_t number = 0;
+    if (width == 0 || width > 8 || at > block.length || width > block.length - at)
+        return 0;
+    memcpy(&number, block.bytes + at, width);
+    return number;
+}
+
+/* The first of some blocks; none where there isn't a whole one. */
+static inline gazhdor_block gazhdor_first(gazhdor_text blocks)
+{
+    gazhdor_block none = { NULL, 0, 0, 0, 0, 0 }, block = { blocks.bytes, blocks.length, 0, 0, 0, 0 };
+    block.length = (size_t)gazhdor_load(block, 0, 4);
+    if (block.length > blocks.length || block.length < 24 || block.length % 8 != 0)
+        return none;
+    block.kind = block.bytes[4];
+    block.file = (uint32_t)gazhdor_load(block, 8, 4);
+    block.place = gazhdor_load(block, 16, 8);
+    if (block.kind == GAZHDOR_DEFINITION || block.kind == GAZHDOR_MESSAGE) {
+        block.number = gazhdor_load(block, 24, 8);
+        if (block.length < 40)
+            return none;
+    }
+    return block;
+}
+
+/* A reader before the first of some blocks, which knows no definition yet. */
+static inline gazhdor_reader gazhdor_read(gazhdor_text blocks)
+{
+    gazhdor_reader reader;
+    memset(&reader, 0, sizeof reader);
+    reader.left = blocks;
+    reader.message = GAZHDOR_NO_MESSAGE;
+    return reader;
+}
+
+/* Goes to the next block: 1, or 0 where there is none. */
+static inline int gazhdor_next(gazhdor_reader *reader)
+{
+    gazhdor_block none = { NULL, 0, 0, 0, 0, 0 }, block = gazhdor_first(reader->left);
+    reader->block = block;
+    reader->definition = none;
+    reader->message = GAZHDOR_NO_MESSAGE;
+    if (block.bytes == NULL)
+        return 0;
+    reader->left.bytes += block.length;
+    reader->left.length -= block.length;
+    if (block.kind == GAZHDOR_DEFINITION)
+        reader->definition = reader->known[block.bytes[5] & 15] = block;
+    if (block.kind == GAZHDOR_MESSAGE && reader->known[block.bytes[6] & 15].number == block.number)
+        reader->definition = reader->known[block.bytes[6] & 15];
+    if (block.kind == GAZHDOR_MESSAGE && reader->definition.bytes != NULL)
+        reader->message = (uint32_t)gazhdor_load(reader->definition, 32, 2);
+    return 1;
+}
+
+/* ---- Blocks of a stream. A message may be of a definition in an earlier piece, so a reader goes on from piece to piece:
+ *
+ *     gazhdor_reader at = gazhdor_read(none);        with a gazhdor_text that is GAZHDOR_NO_TEXT
+ *     .. and with the blocks of each call:
+ *         gazhdor_read_on(&at, blocks);
+ *         while (gazhdor_next(&at)) ..
+ *         int kept = gazhdor_keep(&at);
+ *         gazhdor_free(blocks);
+ *     gazhdor_forget(&at);
+ *
+ * Names and units last as long as the blocks here too: a field is looked up again after gazhdor_keep. */
+
+/* Goes on before the first of the blocks of the next piece. */
+static inline void gazhdor_read_on(gazhdor_reader *reader, gazhdor_text blocks)
+{
+    reader->left = blocks;
+}
+
+/* Copies the definitions that later messages may be of, in memory of malloc, so that the blocks may be freed: 1. Where memory is refused
+ * for one it is 0, and its messages are passed over. */
+static inline int gazhdor_keep(gazhdor_reader *reader)
+{
+    int all = 1;
+    for (size_t i = 0; i < 16; i++) {
+        gazhdor_block *known = &reader->known[i];
+        if (known->bytes == reader->kept[i])
+            continue;
+        uint8_t *copy = (uint8_t *)malloc(known->length);
+        all &= copy != NULL;
+        if (copy != NULL)
+            memcpy(copy, known->bytes, known->length);
+        else
+            memset(known, 0, sizeof *known);
+        free(reader->kept[i]);
+        known->bytes = reader->kept[i] = copy;
+    }
+    gazhdor_block none = { NULL, 0, 0, 0, 0, 0 };
+    reader->block = reader->definition = none;
+    reader->message = GAZHDOR_NO_MESSAGE;
+    return all;
+}
+
+/* Frees these copies. The reader knows no definition any more. */
+static inline void gazhdor_forget(gazhdor_reader *reader)
+{
+    for (size_t i = 0; i < 16; i++)
+        free(reader->kept[i]);
+    memset(reader, 0, sizeof *reader);
+    reader->message = GAZHDOR_NO_MESSAGE;
+}
+
+/* A text in bytes of which the last is a zero; "" where it isn't. */
+static inline const char *gazhdor_name_at(gazhdor_block block, size_t at)
+{
+    return at < block.length && block.bytes[block.length - 1] == 0 ? (const char *)(block.bytes + at) : "";
+}
+
+/* The name of the messages of a definition, as "record"; "" where the profile has none. */
+static inline const char *gazhdor_message_name(gazhdor_block definition)
+{
+    return definition.kind == GAZHDOR_DEFINITION ? gazhdor_name_at(definition, 40) : "";
+}
+
+/* The field that is described at this place in the block of its definition. For the next two. */
+static inline gazhdor_field gazhdor_field_at(gazhdor_block definition, size_t at)
+{
+    static const gazhdor_field none = { 0, "", "", GAZHDOR_NO_DEFINITION, 0, 0, 0, 0, 0, 0, 0, 0, 0, 0, 0, 0, 0 };
+    size_t length = (size_t)gazhdor_load(definition, at, 2);
+    if (definition.kind != GAZHDOR_DEFINITION || length < 48 || length > definition.length - at)
+        return none;
+    const uint8_t *own = definition.bytes + at;
+    gazhdor_block entry = { own, length, 0, 0, 0, 0 };
+    gazhdor_field field = { 1, gazhdor_name_at(entry, 32), gazhdor_name_at(entry, (size_t)gazhdor_load(entry, 2, 2)),
+        definition.number, gazhdor_load(entry, 24, 8), (uint32_t)gazhdor_load(entry, 12, 4), (uint32_t)gazhdor_load(entry, 16, 4),
+        (uint32_t)gazhdor_load(entry, 20, 4), own[4], own[5], own[6], own[7], own[8], own[9], own[10], own[11], at + length };
+    return field;
+}
+
+/* The first field of a definition, and the one after a field: the fields in their order, and then the developer fields. */
+static inline gazhdor_field gazhdor_first_field(gazhdor_block definition)
+{
+    return gazhdor_field_at(definition, 48 + strlen(gazhdor_message_name(definition)) / 8 * 8);
+}
+
+static inline gazhdor_field gazhdor_next_field(gazhdor_block definition, gazhdor_field field)
+{
+    return gazhdor_field_at(definition, field.end);
+}
+
+/* The first field of a definition that has this name; developer fields have names too. */
+static inline gazhdor_field gazhdor_named(gazhdor_block definition, const char *name)
+{
+    gazhdor_field field = gazhdor_first_field(definition);
+    while (field.there && (field.name[0] == 0 || strcmp(field.name, name) != 0))
+        field = gazhdor_next_field(definition, field);
+    return field;
+}
+
+/* The first field of a definition with this number, developer fields left out. */
+static inline gazhdor_field gazhdor_numbered(gazhdor_block definition, uint32_t number)
+{
+    gazhdor_field field = gazhdor_first_field(definition);
+    while (field.there && (field.developer || field.number != number))
+        field = gazhdor_next_field(definition, field);
+    return field;
+}
+
+/* The first developer field of a definition with this developer data index and this number. */
+static inline gazhdor_field gazhdor_developer(gazhdor_block definition, uint32_t index, uint32_t number)
+{
+    gazhdor_field field = gazhdor_first_field(definition);
+    while (field.there && (!field.developer || field.index != index || field.number != number))
+        field = gazhdor_next_field(definition, field);
+    return field;
+}
+
+/* All items of a field in a message, as they follow one another in its block; NULL where the message isn't of the field's definition. */
+static inline gazhdor_text gazhdor_items(gazhdor_field field, gazhdor_block message)
+{
+    gazhdor_text items = { NULL, 0 };
+    size_t length = (size_t)field.count * field.width;
+    if (!field.there || message.kind != GAZHDOR_MESSAGE || message.number != field.definition
+        || field.at > message.length || length > message.length - field.at)
+        return items;
+    items.bytes = message.bytes + field.at;
+    items.length = length;
+    return items;
+}
+
+/* Item k of a field in a message, counted from 0, as it is: of a signed field the number as an int64_t, of a float its bits. Returns
+ * whether it stands for a value; where there is no such item, it is 0. */
+static inline int gazhdor_raw(gazhdor_field field, gazhdor_block message, size_t k, uint64_t *raw)
+{
+    gazhdor_text items = gazhdor_items(field, message);
+    gazhdor_block block = { items.bytes, items.length, 0, 0, 0, 0 };
+    *raw = 0;
+    if (k >= field.count || items.length == 0)
+        return 0;
+    switch (field.width) {
+    case 1: *raw = gazhdor_load(block, k, 1); break;
+    case 2: *raw = gazhdor_load(block, 2 * k, 2); break;
+    case 4: *raw = gazhdor_load(block, 4 * k, 4); break;
+    case 8: *raw = gazhdor_load(block, 8 * k, 8); break;
+    default: return 0;
+    }
+    uint64_t sign = field.kind == GAZHDOR_SIGNED ? (uint64_t)1 << (8 * field.width - 1) : 0;
+    *raw = (*raw ^ sign) - sign;
+    return field.kind == GAZHDOR_BYTES || *raw != field.invalid;
+}
+
+/* The number of a float by its bits, of 4 or 8 bytes. */
+static inline double gazhdor_float(uint64_t bits, uint32_t width)
+{
+    uint32_t few = (uint32_t)bits;
+    float number;
+    double wide;
+    memcpy(&number, &few, 4);
+    memcpy(&wide, &bits, 8);
+    return width == 8 ? wide : width == 4 ? (double)number : NAN;
+}
+
+/* Item k of a field in a message, counted from 0, as a number in the field's unit: what a program mostly wants. NAN where the item says
+ * that there is no value, where there is no such item or field, where the message is of another definition, and of strings and bytes. */
+static inline double gazhdor_value(gazhdor_field field, gazhdor_block message, size_t k)
+{
+    uint64_t raw;
+    if (!gazhdor_raw(field, message, k, &raw) || field.kind > GAZHDOR_FLOAT || field.scale == 0)
+        return NAN;
+    double number = field.kind == GAZHDOR_UNSIGNED ? (double)raw
+        : field.kind == GAZHDOR_SIGNED ? (double)(int64_t)raw : gazhdor_float(raw, field.width);
+    return (number - (double)field.offset * field.scale) / field.scale;
+}
+
+/* The text of a string field in a message, up to its first zero: UTF-8, if the file keeps to the protocol. NULL of other fields. */
+static inline gazhdor_text gazhdor_string(gazhdor_field field, gazhdor_block message)
+{
+    gazhdor_text none = { NULL, 0 }, text = gazhdor_items(field, message);
+    const void *end = text.length == 0 ? NULL : memchr(text.bytes, 0, text.length);
+    if (end != NULL)
+        text.length = (size_t)((const uint8_t *)end - text.bytes);
+    return field.kind == GAZHDOR_STRING ? text : none;
+}
+
+/* When a message was recorded, in seconds since 1989-12-31T00:00:00 UTC: by its timestamp, or else by its compressed header.
+ * GAZHDOR_NO_TIME where neither tells it. */
+static inline uint32_t gazhdor_time(gazhdor_block message)
+{
+    return message.kind == GAZHDOR_MESSAGE ? (uint32_t)gazhdor_load(message, 12, 4) : GAZHDOR_NO_TIME;
+}
+
+/* The time of a compressed header alone. */
+static inline uint32_t gazhdor_header_time(gazhdor_block message)
+{
+    return message.kind == GAZHDOR_MESSAGE ? (uint32_t)gazhdor_load(message, 32, 4) : GAZHDOR_NO_TIME;
+}
+
+/* What a record message tells by a compressed or a short field: GAZHDOR_SPEED, in m/s; or added up over its file, GAZHDOR_DISTANCE, in
+ * m, GAZHDOR_CYCLES, or GAZHDOR_POWER, in W. NAN where it tells none. */
+static inline double gazhdor_amount(gazhdor_block message, uint32_t amount)
+{
+    static const double parts[4] = { 100, 16, 1, 1 };
+    if (message.kind != GAZHDOR_MESSAGE || message.length < 72 || amount > 3 || (message.bytes[5] & (4u << amount)) == 0)
+        return NAN;
+    return (double)gazhdor_load(message, 40 + 8 * amount, 8) / parts[amount];
+}
+
+#ifdef __cplusplus
+}
+#endif
+
+#endif

@@ -1,0 +1,386 @@
+/* Tests of the streams of gazhdor.h, by the calls that take all bytes at once: pieces STEP FILE.. Each FILE is fed in two pieces, at each
+ * STEP-th place, and byte by byte; so are its fronts and copies with a changed byte. Blocks of memory are counted, and each growth is
+ * refused in turn: link with --wrap=malloc, realloc and free. */
+#include "gazhdor.h"
+
+#include <pthread.h>
+#include <stdio.h>
+#include <stdlib.h>
+#include <string.h>
+
+/* ---- memory: how many blocks there are, and which growth is to be refused; 0 for none */
+
+static __thread long blocks, growths, refused;
+
+void *__real_malloc(size_t size);
+void *__real_realloc(void *block, size_t size);
+void __real_free(void *block);
+
+static int refuses(void)
+{
+    return ++growths == refused;
+}
+
+void *__wrap_malloc(size_t size)
+{
+    void *block = refuses() ? NULL : __real_malloc(size);
+    blocks += block != NULL;
+    return block;
+}
+
+void *__wrap_realloc(void *old, size_t size)
+{
+    void *block = refuses() ? NULL : __real_realloc(old, size);
+    blocks += old == NULL && block != NULL;
+    return block;
+}
+
+void __wrap_free(void *block)
+{
+    blocks -= block != NULL;
+    __real_free(block);
+}
+
+/* ---- what is wanted */
+
+#define WANT(what)                                                                  \
+    do {                                                                            \
+        if (!(what)) {                                                              \
+            fprintf(stderr, "pieces.c:%d: not so: %s\n", __LINE__, #what);          \
+            exit(1);                                                                \
+        }                                                                           \
+    } while (0)
+
+enum { KINDS = 5, MOST = 1 << 20 };
+typedef gazhdor_answer call(const uint8_t *bytes, size_t length, gazhdor_text *text);
+
+static gazhdor_answer check(const uint8_t *bytes, size_t length, gazhdor_text *text)
+{
+    (void)text;
+    return gazhdor_check(bytes, length);
+}
+
+static call *const calls[KINDS] = { check, gazhdor_show, gazhdor_table, gazhdor_to_csv, gazhdor_messages };
+
+static int same(gazhdor_answer a, gazhdor_answer b)
+{
+    return a.status == b.status && a.reason == b.reason && a.place == b.place && a.row == b.row && a.column == b.column && a.files == b.files;
+}
+
+static int is(gazhdor_answer a, uint32_t status)
+{
+    gazhdor_answer wanted = { status, 0, 0, 0, 0, 0 };
+    return same(a, wanted);
+}
+
+/* What one call says of all bytes, but with the count of files that the end of a stream gives too; and its text. */
+static gazhdor_answer whole(uint32_t kind, const uint8_t *bytes, size_t length, gazhdor_text *text)
+{
+    gazhdor_answer answer = calls[kind](bytes, length, text);
+    answer.files = gazhdor_check(bytes, length).files;
+    return answer;
+}
+
+/* ---- a stream, and all of its text */
+
+typedef struct {
+    gazhdor_stream stream;
+    gazhdor_answer answer;
+    gazhdor_text wanted; /* the text that all of its own is to be, or to begin */
+    size_t made;
+} feeding;
+
+static feeding opened(uint32_t kind, gazhdor_text wanted)
+{
+    feeding f = { GAZHDOR_CLOSED_STREAM, { 0, 0, 0, 0, 0, 0 }, wanted, 0 };
+    f.answer = gazhdor_open(&f.stream, kind);
+    return f;
+}
+
+static void see(feeding *f, gazhdor_text text)
+{
+    WANT(text.length <= f->wanted.length - f->made && memcmp(text.bytes, f->wanted.bytes + f->made, text.length) == 0);
+    f->made += text.length;
+    gazhdor_free(text);
+}
+
+/* Feeds bytes from a block of just their length, so that a read past them, or later, is seen. */
+static void feed(feeding *f, const uint8_t *bytes, size_t length)
+{
+    uint8_t *piece = __real_malloc(length + (length == 0));
+    gazhdor_text text = GAZHDOR_NO_TEXT;
+    if (length != 0)
+        memcpy(piece, bytes, length);
+    f->answer = gazhdor_feed(&f->stream, length == 0 ? NULL : piece, length, &text);
+    memset(piece, 0x5A, length);
+    __real_free(piece);
+    see(f, text);
+}
+
+static void finish(feeding *f)
+{
+    gazhdor_text text = GAZHDOR_NO_TEXT;
+    f->answer = gazhdor_finish(&f->stream, &text);
+    see(f, text);
+}
+
+/* The whole, in pieces that end at these places and at the end: text and answer are those of one call. A fault comes with the piece that
+ * has the first byte which is refused, and then again and again. */
+static void pieces(uint32_t kind, const uint8_t *bytes, size_t length, const size_t *ends, size_t count)
+{
+    gazhdor_text text = GAZHDOR_NO_TEXT;
+    gazhdor_answer wanted = whole(kind, bytes, length, &text);
+    feeding f = opened(kind, text);
+    WANT(is(f.answer, GAZHDOR_GOOD) && f.stream.at != NULL);
+    size_t at = 0;
+    for (size_t i = 0; i <= count; i++) {
+        size_t end = i < count ? ends[i] : length;
+        feed(&f, bytes + at, end - at);
+        at = end;
+        if (wanted.status == GAZHDOR_REFUSED && wanted.place < end)
+            WANT(same(f.answer, wanted) && f.made == text.length);
+        else
+            WANT(f.answer.status == GAZHDOR_GOOD && f.answer.reason == 0 && f.answer.place == 0);
+    }
+    if (wanted.status == GAZHDOR_GOOD)
+        WANT(f.answer.files == wanted.files && f.made == text.length);
+    finish(&f);
+    WANT(same(f.answer, wanted) && f.made == text.length);
+    gazhdor_close(&f.stream);
+    WANT(f.stream.at == NULL);
+    gazhdor_free(text);
+}
+
+static void byte_by_byte(uint32_t kind, const uint8_t *bytes, size_t length)
+{
+    size_t *ends = __real_malloc((length + 1) * sizeof *ends);
+    for (size_t i = 0; i < length; i++)
+        ends[i] = i + 1;
+    pieces(kind, bytes, length, ends, length);
+    __real_free(ends);
+}
+
+static void in_pieces(uint8_t *bytes, size_t length, size_t step)
+{
+    for (uint32_t kind = 0; kind < KINDS; kind++) {
+        pieces(kind, bytes, length, NULL, 0);
+        byte_by_byte(kind, bytes, length);
+        for (size_t end = 0; end <= length; end += step) {
+            pieces(kind, bytes, length, &end, 1);
+            byte_by_byte(kind, bytes, end < 200 ? end : 0);
+        }
+        for (size_t at = 0; at < length; at += step) {
+            bytes[at] ^= 0x55;
+            pieces(kind, bytes, length, &at, 1);
+            if (length < 200)
+                byte_by_byte(kind, bytes, length);
+            bytes[at] ^= 0x55;
+        }
+    }
+}
+
+/* What is found at the end is asked after each byte, and that ends nothing. */
+static void asked_in_between(uint32_t kind, const uint8_t *bytes, size_t length)
+{
+    gazhdor_text text = GAZHDOR_NO_TEXT;
+    whole(kind, bytes, length, &text);
+    feeding f = opened(kind, text);
+    for (size_t at = 0; at <= length; at++) {
+        gazhdor_text front = GAZHDOR_NO_TEXT;
+        gazhdor_answer wanted = whole(kind, bytes, at, &front);
+        finish(&f);
+        WANT(same(f.answer, wanted) && f.made == front.length);
+        gazhdor_free(front);
+        if (at < length)
+            feed(&f, bytes + at, 1);
+    }
+    WANT(f.made == text.length);
+    gazhdor_close(&f.stream);
+    gazhdor_free(text);
+}
+
+/* How many files have ended, byte for byte, is how many one call finds in a front that is good. */
+static void counted(const uint8_t *bytes, size_t length)
+{
+    gazhdor_text none = GAZHDOR_NO_TEXT;
+    feeding f = opened(GAZHDOR_STREAM_CHECK, none);
+    uint64_t files = 0;
+    for (size_t at = 0; at < length; at++) {
+        gazhdor_answer front = gazhdor_check(bytes, at + 1);
+        feed(&f, bytes + at, 1);
+        files = front.status == GAZHDOR_GOOD ? front.files : files;
+        WANT(f.answer.status == GAZHDOR_GOOD && f.answer.files == files);
+    }
+    gazhdor_close(&f.stream);
+}
+
+/* ---- streams that aren't open */
+
+static void closed(void)
+{
+    gazhdor_text none = GAZHDOR_NO_TEXT;
+    for (uint32_t kind = 0; kind < KINDS + 3; kind++) {
+        feeding f = opened(kind, none);
+        WANT(is(f.answer, kind < KINDS ? GAZHDOR_GOOD : GAZHDOR_NO_KIND) && (f.stream.at != NULL) == (kind < KINDS));
+        gazhdor_close(&f.stream);
+        for (int twice = 0; twice < 2; twice++) {
+            WANT(f.stream.at == NULL);
+            feed(&f, (const uint8_t *)"\x0E", 1);
+            WANT(is(f.answer, GAZHDOR_CLOSED));
+            finish(&f);
+            WANT(is(f.answer, GAZHDOR_CLOSED));
+            gazhdor_close(&f.stream);
+        }
+        /* What is open is closed first, also where it isn't opened again. */
+        WANT(is(gazhdor_open(&f.stream, GAZHDOR_STREAM_CHECK), GAZHDOR_GOOD));
+        feed(&f, (const uint8_t *)"\x0D", 1);
+        WANT(f.answer.status == GAZHDOR_REFUSED && f.answer.reason == GAZHDOR_HEADER_SIZE && f.answer.place == 0);
+        gazhdor_open(&f.stream, kind);
+        WANT((f.stream.at != NULL) == (kind < KINDS));
+        gazhdor_text text = GAZHDOR_NO_TEXT;
+        WANT(is(gazhdor_feed(&f.stream, (const uint8_t *)"\x0E", 1, &text), kind < KINDS ? GAZHDOR_GOOD : GAZHDOR_CLOSED));
+        gazhdor_free(text);
+        gazhdor_close(&f.stream);
+    }
+    WANT(is(gazhdor_open(&(gazhdor_stream)GAZHDOR_CLOSED_STREAM, 0xFFFFFFFF), GAZHDOR_NO_KIND));
+}
+
+/* ---- memory */
+
+/* Each growth refused in turn: no memory, from then on, with a front of the text; or else what it always is. No block is left. */
+static void refusals(uint32_t kind, const uint8_t *bytes, size_t length)
+{
+    gazhdor_text text = GAZHDOR_NO_TEXT;
+    gazhdor_answer wanted = whole(kind, bytes, length, &text);
+    size_t size = length / 10 + 1;
+    for (long turn = 1;; turn++) {
+        long before = blocks;
+        growths = 0, refused = turn;
+        feeding f = opened(kind, text);
+        for (size_t at = 0; at < length; at += size) {
+            int over = f.answer.status != GAZHDOR_GOOD;
+            size_t made = f.made;
+            feed(&f, bytes + at, length - at < size ? length - at : size);
+            WANT(f.answer.status == GAZHDOR_GOOD || is(f.answer, f.stream.at == NULL ? GAZHDOR_CLOSED : GAZHDOR_NO_MEMORY));
+            WANT(!over || (f.answer.status != GAZHDOR_GOOD && f.made == made));
+        }
+        int over = f.answer.status != GAZHDOR_GOOD;
+        finish(&f);
+        WANT(over || is(f.answer, GAZHDOR_NO_MEMORY) || (same(f.answer, wanted) && f.made == text.length));
+        WANT(!over || f.answer.status != GAZHDOR_GOOD);
+        gazhdor_close(&f.stream);
+        refused = 0;
+        WANT(blocks == before);
+        if (growths < turn)
+            break;
+    }
+    gazhdor_free(text);
+}
+
+/* ---- messages whose definitions came with earlier pieces */
+
+/* All that is read of a message, as a number. */
+static uint64_t told(gazhdor_reader *at)
+{
+    uint64_t sum = at->block.place * 31 + at->message + gazhdor_time(at->block), raw;
+    for (gazhdor_field f = gazhdor_first_field(at->definition); f.there; f = gazhdor_next_field(at->definition, f)) {
+        for (const char *name = f.name; *name != 0; name++)
+            sum = sum * 31 + (uint8_t)*name;
+        for (size_t k = 0; k < f.count; k++)
+            sum = sum * 31 + (uint64_t)gazhdor_raw(f, at->block, k, &raw) + raw;
+    }
+    return sum;
+}
+
+static void kept(const uint8_t *bytes, size_t length, size_t size)
+{
+    gazhdor_text all = GAZHDOR_NO_TEXT, none = GAZHDOR_NO_TEXT;
+    gazhdor_messages(bytes, length, &all);
+    long before = blocks;
+    gazhdor_reader wanted = gazhdor_read(all), at = gazhdor_read(none);
+    gazhdor_stream stream = GAZHDOR_CLOSED_STREAM;
+    gazhdor_open(&stream, GAZHDOR_STREAM_MESSAGES);
+    for (size_t begin = 0; begin < length; begin += size) {
+        gazhdor_text text = GAZHDOR_NO_TEXT;
+        gazhdor_feed(&stream, bytes + begin, length - begin < size ? length - begin : size, &text);
+        gazhdor_read_on(&at, text);
+        while (gazhdor_next(&at)) {
+            WANT(gazhdor_next(&wanted) && wanted.message == at.message && wanted.definition.length == at.definition.length);
+            WANT(at.message == GAZHDOR_NO_MESSAGE || told(&at) == told(&wanted));
+        }
+        WANT(at.left.length == 0 && gazhdor_keep(&at) && at.block.bytes == NULL && at.message == GAZHDOR_NO_MESSAGE);
+        gazhdor_free(text);
+    }
+    WANT(!gazhdor_next(&wanted));
+    gazhdor_close(&stream);
+    gazhdor_forget(&at);
+    WANT(blocks == before && !gazhdor_next(&at));
+    gazhdor_free(all);
+}
+
+/* Where memory is refused for a copy, its messages are passed over, and nothing is lost. */
+static void forgotten(const uint8_t *bytes, size_t length)
+{
+    gazhdor_text all = GAZHDOR_NO_TEXT;
+    gazhdor_messages(bytes, length, &all);
+    long before = blocks;
+    gazhdor_reader at = gazhdor_read(all);
+    while (gazhdor_next(&at))
+        ;
+    growths = 0, refused = 1;
+    WANT(!gazhdor_keep(&at));
+    refused = 0;
+    WANT(gazhdor_keep(&at));
+    gazhdor_forget(&at);
+    WANT(blocks == before);
+    gazhdor_free(all);
+}
+
+/* ---- threads, each with a stream of its own */
+
+static uint8_t *given;
+static size_t given_length;
+
+static void *in_thread(void *kind)
+{
+    for (int turn = 0; turn < 20; turn++)
+        byte_by_byte(*(uint32_t *)kind, given, given_length < 500 ? given_length : 500);
+    return NULL;
+}
+
+static void threads(void)
+{
+    static uint32_t kinds[4] = { 1, 2, 3, 4 };
+    pthread_t four[4];
+    for (int i = 0; i < 4; i++)
+        WANT(pthread_create(&four[i], NULL, in_thread, &kinds[i]) == 0);
+    for (int i = 0; i < 4; i++)
+        WANT(pthread_join(four[i], NULL) == 0);
+}
+
+int main(int argc, char **argv)
+{
+    WANT(argc > 2);
+    given = malloc(MOST);
+    closed();
+    for (int i = 2; i < argc; i++) {
+        FILE *file = fopen(argv[i], "rb");
+        WANT(file != NULL);
+        given_length = fread(given, 1, MOST, file);
+        fclose(file);
+        in_pieces(given, given_length, (size_t)atol(argv[1]));
+        counted(given, given_length);
+        for (uint32_t kind = 0; kind < KINDS; kind++) {
+            asked_in_between(kind, given, given_length < 500 ? given_length : 500);
+            refusals(kind, given, given_length < 3000 ? given_length : 3000);
+        }
+        for (size_t size = 1; size < 100; size += 7)
+            kept(given, given_length, size);
+        if (strstr(argv[i], "ride") != NULL)
+            forgotten(given, given_length);
+    }
+    threads();
+    free(given);
+    WANT(blocks == 0);
+    return 0;
+}
