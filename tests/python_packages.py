@@ -145,8 +145,8 @@ except ImportError as error:
         with open(cls.library, "rb") as file:
             cls.bytes = file.read()
 
-    def refused(self, kind, path, what, before="", **variables):
-        done = imported(self.alone, before + self.SAY, **variables)
+    def refused(self, kind, path, what, before="", say=SAY, **variables):
+        done = imported(self.alone, before + say, **variables)
         self.assertEqual(done.stderr, b"")
         module, name, about, found, said = done.stdout.decode().splitlines()
         self.assertEqual((module, name, about, found), ("gazhdor.errors", kind, "gazhdor", str(path)))
@@ -202,6 +202,14 @@ except ImportError as error:
         older = self.written("older.so", self.bytes.replace(b"\0" + VERSION.encode() + b"\0", b"\0" + other.encode() + b"\0"))
         self.refused("WrongVersion", older, f"{older} is version {other}, and the module gazhdor is version {VERSION}", GAZHDOR_LIBRARY=older)
 
+    def test_older(self):
+        """A library of this version from before there were streams: all else is as it is, and what a stream says is plain."""
+        older = self.written("before.so", self.bytes.replace(b"gazhdor_open\0", b"gazhdor_0pen\0"))
+        what = f"{older} is older than the module gazhdor {VERSION}: it has no streams"
+        self.refused("WrongVersion", older, what, GAZHDOR_LIBRARY=older, say=self.SAY.replace("import gazhdor\n", "import gazhdor; gazhdor.Stream('check')\n"))
+        program = f"import gazhdor; print(gazhdor.check({RIDE!r}), len(list(gazhdor.messages({RIDE!r}))), len(list(gazhdor.table({RIDE!r}))))"
+        self.assertEqual(imported(self.alone, program, GAZHDOR_LIBRARY=older).stdout, imported(self.alone, program).stdout)
+
     def test_machine(self):
         """A module that was unpacked on another machine than pip would allow."""
         for name, value, machine in (("machine", "aarch64", "aarch64 Linux"), ("system", "Darwin", "x86_64 Darwin")):
@@ -241,6 +249,11 @@ def use(upload: BinaryIO, opened: io.BufferedReader) -> None:
             of: Tuple[Optional[str], int, Optional[int], Optional[str]] = (field.name, field.number, field.developer, message.unit("a"))
     lists: Dict[gazhdor.Key, List[Any]] = gazhdor.lists(opened, "record", ["heart_rate", 3, (0, 1)])
     arrays: Dict[gazhdor.Key, Any] = gazhdor.columns(opened, 20, partial=True)
+    with gazhdor.Stream("table") as stream:
+        piecewise: str = stream.feed(b"") + stream.feed(bytearray()) + stream.finish()
+    laps: List[gazhdor.Message] = gazhdor.Stream("messages", only="lap").feed(memoryview(b""))
+    blocks: bytes = gazhdor.Stream("blocks").finish()
+    ended: int = stream.files
     try:
         gazhdor.check(gzip.open("a"))
     except gazhdor.ReadFailed as error:
@@ -250,6 +263,7 @@ def use(upload: BinaryIO, opened: io.BufferedReader) -> None:
 """
 WRONG = ("gazhdor.check(io.StringIO())", "gazhdor.check(5)", "gazhdor.from_csv(pathlib.Path())", "gazhdor.table('a').place", "row: str = gazhdor.check('a').row")
 WRONG += ("gazhdor.messages('a', only=1.5)", "gazhdor.lists('a', 'record', [1.5])", "next(gazhdor.messages('a')).place = 5", "gazhdor.columns('a')")
+WRONG += ("gazhdor.Stream('rows')", "gazhdor.Stream('show', only=20)", "gazhdor.Stream('table').feed('a')", "number: int = gazhdor.Stream('table').finish()")
 
 
 class Types(unittest.TestCase):

@@ -10,9 +10,13 @@
     for message in gazhdor.messages("ride.fit", only="session"):
         print(message.time, message["total_elapsed_time"], message.unit("total_elapsed_time"))
     columns = gazhdor.columns("ride.fit", "record", ["timestamp", "heart_rate"])    # arrays of numpy
+    with gazhdor.Stream("to_csv") as stream:                                        # bytes that come in pieces
+        for piece in upload:
+            text.write(stream.feed(piece))
+        text.write(stream.finish())
 
-Each call reads the whole file, hands its bytes to the proved library of Gazhdor, and keeps nothing. The library lets other
-threads run meanwhile. A file object is read from where it is to its end, and stays open.
+Each call hands the bytes of the file to the proved library of Gazhdor. The library lets other threads run meanwhile. A file object is
+read from where it is to its end, or to a fault, and stays open.
 
 All calls but `check` raise `Refused` or `Truncated` where the bytes are no FIT file. Each raises MemoryError where memory is
 refused, `ReadFailed` where a read fails, `NotBinary` where a file object gives text, and OSError where a path can't be opened.
@@ -21,9 +25,7 @@ than the one beside this file, or in the tree that of release/.
 
 From a shell: python3 -m gazhdor check|show|table|json|to-csv|from-csv [FILE..]
 """
-import csv
 import datetime
-import io
 import itertools
 from typing import Any, Iterator, NamedTuple, Optional, Tuple, Union
 
@@ -32,9 +34,12 @@ from ._columns import columns, frame, lists
 from ._library import VERSION as __version__
 from ._library import library as _library
 from ._library import text_of as _text_of
-from ._messages import Field, Message, messages, when
+from ._messages import Field, Message, when
 from ._sources import Readable, Source
 from ._sources import bytes_of as _bytes_of
+from ._streams import Stream, messages
+from ._streams import found as _found
+from ._streams import rows as _rows
 from ._values import Key, Value
 from .errors import (
     FitError,
@@ -65,6 +70,7 @@ __all__ = [
     "columns",
     "frame",
     "when",
+    "Stream",
     "Answer",
     "Row",
     "Message",
@@ -119,9 +125,8 @@ class Row(NamedTuple):
 
 def check(source: Source) -> Answer:
     """Returns whether `source` is a FIT file or several, one after another. It raises nothing where they aren't good: the answer
-    says where and why."""
-    data = _bytes_of(source)
-    answer: Answer = _library.gazhdor_check(data, len(data))
+    says where and why. It reads the source piece by piece, up to that with the first byte that is refused."""
+    answer = _found(source)
     _judged(answer, partial=True)
     return answer
 
@@ -164,15 +169,9 @@ def _when(cell: str) -> Union[datetime.datetime, str, None]:
 
 
 def table(source: Source, partial: bool = False) -> Iterator[Row]:
-    """Yields a Row for each record message. The source is read when the first is asked for. With `partial` a fault is raised after
-    the rows before it, else before the first row, as `Refused` or `Truncated`."""
-    answer, text = _text_of(_library.gazhdor_table, _bytes_of(source))
-    _judged(answer, partial)
-    rows = csv.reader(io.StringIO(text.decode(), newline=""))
-    next(rows, None)
-    for cells in rows:
+    """Yields a Row for each record message. The source is read, piece by piece, as rows are asked for. `partial` as for `messages`."""
+    for cells in _rows(source, partial):
         yield Row(int(cells[0]), _when(cells[1]), *(float(cell) if cell else None for cell in cells[2:]))
-    _judge(answer)
 
 
 def files(source: Source, partial: bool = False) -> Iterator[Tuple[int, Iterator[Row]]]:

@@ -1,57 +1,61 @@
 """The command: python3 -m gazhdor check|show|table|json|to-csv|from-csv [FILE..]"""
+import contextlib
 import os
 import sys
-from typing import List, Optional, Tuple
+from typing import Iterator, List, Optional, Tuple
 
 from . import FitError, __version__, check, from_csv
 from ._json import line
-from ._library import library, text_of
-from ._messages import messages
-from ._sources import bytes_of
-from .errors import judge
+from ._sources import Source, bytes_of
+from ._streams import each, messages
 
-_TEXTS = {"show": library.gazhdor_show, "to-csv": library.gazhdor_to_csv, "table": library.gazhdor_table}
+_TEXTS = {"show": "show", "to-csv": "to_csv", "table": "table"}
 _USAGE = "usage: python3 -m gazhdor check|show|table|json|to-csv|from-csv [FILE..]"
 
 
-def _read(path: str) -> bytes:
-    if path != "-":
-        return bytes_of(path)
-    if sys.stdin is None:
-        raise OSError("there is no standard input")
-    return bytes_of(sys.stdin.buffer)
+class _NotWritten(Exception):
+    """The output failed, and not what is read."""
 
 
-def _write(command: str, path: str, data: bytes) -> int:
-    """Writes what a command makes of the bytes of a file, and raises what is wrong with them."""
-    output = sys.stdout.buffer
+def _made(command: str, path: str, source: Source) -> Iterator[bytes]:
+    """What a command writes of a file, as it is read; what is wrong with the file is raised after that."""
     if command == "check":
-        answer = check(data)
+        answer = check(source)
         count = f", {answer.files} file{'s' * (answer.files > 1)}" if answer else ""
-        output.write(os.fsencode(path) + f": {answer}{count}\n".encode())
-        return 0 if answer else 1
-    if command == "from-csv":
-        output.write(from_csv(data))
+        yield os.fsencode(path) + f": {answer}{count}\n".encode()
+        if not answer:
+            raise FitError(answer)
+    elif command == "from-csv":
+        yield from_csv(bytes_of(source))
     elif command == "json":
-        for message in messages(data, partial=True):
-            output.write(f"{line(message)}\n".encode())
+        for message in messages(source, partial=True):
+            yield f"{line(message)}\n".encode()
     else:
-        answer, text = text_of(_TEXTS[command], data)
-        output.write(text)
-        judge(answer)
-    return 0
+        yield from each(_TEXTS[command], source, partial=True)
+
+
+def _write(command: str, path: str, source: Source) -> None:
+    output = sys.stdout.buffer
+    for part in _made(command, path, source):
+        try:
+            output.write(part)
+        except OSError as error:
+            raise _NotWritten from error
 
 
 def _done(command: str, path: str) -> Tuple[int, Optional[object]]:
     """Does a command on one file, and returns its status, and what standard error is to say of the file."""
     try:
-        data = _read(path)
+        if path == "-" and sys.stdin is None:
+            raise OSError("there is no standard input")
+        with contextlib.ExitStack() as stack:
+            source = sys.stdin.buffer if path == "-" else stack.enter_context(open(path, "rb", buffering=0))
+            _write(command, path, source)
+    except FitError as error:
+        return 1, None if command == "check" else error
     except OSError as error:
         return 4, error.strerror or error
-    try:
-        return _write(command, path, data), None
-    except FitError as error:
-        return 1, error
+    return 0, None
 
 
 def _main(words: List[str]) -> int:
@@ -88,8 +92,9 @@ def _run() -> int:
         status = _main(sys.argv[1:])
         sys.stdout.flush()
         return status
-    except OSError as error:
-        if not isinstance(error, BrokenPipeError):
+    except (OSError, _NotWritten) as failure:
+        error = failure.__cause__ if isinstance(failure, _NotWritten) else failure
+        if isinstance(error, OSError) and not isinstance(error, BrokenPipeError):
             print(f"output: {error.strerror}", file=sys.stderr)
         # What wasn't written isn't tried once more at the end.
         os.dup2(os.open(os.devnull, os.O_WRONLY), sys.stdout.fileno())

@@ -15,7 +15,7 @@ _REASONS = (
     "FileSum",
     "TooManyFiles",
 )
-GOOD, REFUSED, TRUNCATED, NO_MEMORY, TEXT, UNWRITABLE = range(6)
+GOOD, REFUSED, TRUNCATED, NO_MEMORY, TEXT, UNWRITABLE, CLOSED, NO_KIND = range(8)
 
 
 class Answer(ctypes.Structure):
@@ -76,6 +76,8 @@ class Answer(ctypes.Structure):
             "out of memory",
             f"row {self.row} column {self.column} refused" if self.column else f"row {self.row} refused",
             "no file has such rows",
+            "closed",
+            "no such kind",
         )[self._status]
 
     def __repr__(self) -> str:

@@ -2,16 +2,14 @@
 import struct
 from typing import Any, Callable, Dict, Iterable, Iterator, NamedTuple, Optional, Tuple, Union
 
-from ._library import library, memory_of
-from ._sources import Source, bytes_of
 from ._values import Definition
-from .errors import judge, judged
 
 Kind = Union[str, int]
 Only = Union[None, str, int, Iterable[Kind]]
 Blocks = Any  # bytes, or what else has slices that are bytes
 
 DEFINITION, MESSAGE = 2, 3
+_MOST = 1 << 20  # So many bytes of definitions are kept, beside the current ones.
 _FRONT = struct.Struct("<IBBB").unpack_from
 _NUMBER = struct.Struct("<H").unpack_from
 
@@ -59,33 +57,39 @@ def _wants(only: Only) -> Callable[[int, bytes], bool]:
     return lambda number, name: number in numbers or name in names
 
 
-def runs(blocks: Blocks, only: Only = None) -> Iterator[Run]:
-    """Yields the messages that are asked for, those that follow one another together."""
-    wants = _wants(only)
-    known: Dict[bytes, Optional[Definition]] = {}
-    # the last definition of each local message type, where it is asked for
-    current: Dict[int, Optional[Definition]] = {}
-    at, end = 0, len(blocks)
-    while at < end:
-        length, kind, first, second = _FRONT(blocks, at)
-        if kind == MESSAGE:
-            count = _count(blocks, at, length, second)
-            definition = current[second]
-            if definition:
-                yield Run(definition, at, count, length)
-            length *= count
-        elif kind == DEFINITION:
-            data = blocks[at : at + length]
-            same = data[32:]  # What comes before it says nothing of messages but their length, which is that of their fields.
-            if same not in known:
-                wanted = wants(_NUMBER(data, 32)[0], data[40 : data.index(0, 40)])
-                known[same] = Definition(data) if wanted else None
-            current[first] = known[same]
-        at += length
+class Walk:
+    """Goes through blocks, which may come in parts, and knows the definitions that came with earlier ones."""
 
+    def __init__(self, only: Only = None) -> None:
+        self._wants = _wants(only)
+        # the last definition of each local message type, where it is asked for
+        self._current: Dict[int, Optional[Definition]] = {}
+        # what some definitions say, so that one which comes again isn't looked into again
+        self._known: Dict[bytes, Optional[Definition]] = {}
+        self._room = _MOST
 
-def blocks_of(source: Source, partial: bool) -> Tuple[Blocks, Callable[[], None]]:
-    """The blocks of a source, and what raises what is wrong with it: with `partial` later, and else at once."""
-    answer, blocks = memory_of(library.gazhdor_messages, bytes_of(source))
-    judged(answer, partial)
-    return blocks, lambda: judge(answer)
+    def runs(self, blocks: Blocks) -> Iterator[Run]:
+        """Yields the messages that are asked for, those that follow one another together. All have to be taken before the next part."""
+        at, end = 0, len(blocks)
+        while at < end:
+            length, kind, first, second = _FRONT(blocks, at)
+            if kind == MESSAGE:
+                count = _count(blocks, at, length, second)
+                definition = self._current[second]
+                if definition:
+                    yield Run(definition, at, count, length)
+                length *= count
+            elif kind == DEFINITION:
+                self._current[first] = self._definition(blocks[at : at + length])
+            at += length
+
+    def _definition(self, data: bytes) -> Optional[Definition]:
+        same = data[32:]  # What comes before it says nothing of messages but their length, which is that of their fields.
+        if same not in self._known:
+            self._room -= len(same)
+            if self._room < 0:
+                self._known.clear()
+                self._room = _MOST - len(same)
+            wanted = self._wants(_NUMBER(data, 32)[0], data[40 : data.index(0, 40)])
+            self._known[same] = Definition(data) if wanted else None
+        return self._known[same]

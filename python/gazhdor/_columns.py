@@ -2,12 +2,14 @@
 import datetime
 import importlib
 from itertools import repeat
-from typing import Any, Dict, Iterable, List, NamedTuple, Optional
+from typing import Any, Dict, Iterable, Iterator, List, NamedTuple, Optional, Tuple
 
-from ._blocks import Blocks, Kind, Run, blocks_of, runs
+from ._blocks import Blocks, Kind, Run, Walk
 from ._messages import _EPOCH, SYSTEM_TIMES, when
 from ._sources import Source
+from ._streams import each
 from ._values import FLOAT, Definition, Entry, Key, as_value, label, whole_number
+from .errors import FitError
 
 TIME = "timestamp"
 _TIMES = (TIME, ".time")
@@ -38,37 +40,40 @@ def _needed(name: str) -> Any:
 
 
 class _Found(NamedTuple):
-    """The blocks of a source, the runs of the messages that are asked for, and the fields of their columns."""
+    """Some blocks of a source, and the runs of the messages that are asked for."""
 
     blocks: Blocks
     runs: List[Run]
-    keys: List[Key]
-
-    @property
-    def messages(self) -> int:
-        return sum(run.messages for run in self.runs)
 
 
-def _all_keys(blocks: Blocks, found: List[Run]) -> List[Key]:
-    """All fields that the messages have, first the time if one of them has a time."""
-    keys: Dict[Key, None] = {}
-    view = memoryview(blocks).cast("B")
-    if any(view[at + 5] & 1 for run in found for at in run.places()):
-        keys[TIME] = None
-    for run in found:
-        # A developer field of this name is there by its numbers.
-        keys.update((entry.key if key == TIME else key, None) for key, entry in run.definition.keys.items() if entry.key != 253)
-    return list(keys)
-
-
-def _find(source: Source, message: Kind, fields: Optional[Iterable[Key]], partial: bool) -> _Found:
-    if not isinstance(message, (str, int)):
-        raise TypeError(f"a message is named by its name or its number, and not by {type(message).__name__}")
+def _names(fields: Optional[Iterable[Key]]) -> Optional[List[Key]]:
     if isinstance(fields, (str, int)):
         raise TypeError("the fields are a list of names, and not one name")
-    blocks, _ = blocks_of(source, partial)
-    found = list(runs(blocks, message))
-    return _Found(blocks, found, _all_keys(blocks, found) if fields is None else list(fields))
+    return None if fields is None else list(fields)
+
+
+def _find(source: Source, message: Kind, partial: bool) -> Iterator[_Found]:
+    if not isinstance(message, (str, int)):
+        raise TypeError(f"a message is named by its name or its number, and not by {type(message).__name__}")
+    walk = Walk(message)
+    parts = each("blocks", source, partial, ahead=False)
+    while True:
+        try:
+            blocks = next(parts, None)
+        except FitError:
+            if partial:
+                return
+            raise
+        if blocks is None:
+            return
+        runs = list(walk.runs(blocks))
+        if runs:
+            yield _Found(blocks, runs)
+
+
+def _all_keys(definition: Definition) -> List[Key]:
+    """All fields that the messages of a definition have. A developer field with the name of the time is there by its numbers."""
+    return [entry.key if key == TIME else key for key, entry in definition.keys.items() if entry.key != 253]
 
 
 # ---- lists
@@ -106,6 +111,17 @@ def _part(blocks: Blocks, view: memoryview, run: Run, key: Key) -> List[Any]:
     return [None if item == invalid else number for item, number in zip(items, numbers)] if invalid in items else numbers
 
 
+def _earlier(columns: Dict[Key, List[Any]], done: List[Tuple[Definition, int]], key: Key) -> List[Any]:
+    """What the messages up to now have by a key that none of them names its field by, but which may stand for one of their fields."""
+    column: List[Any] = []
+    for definition, messages in done:
+        entry = definition.by_key.get(key)
+        named = [columns[name] for name in _all_keys(definition) if definition.by_key[name] is entry]
+        begin = len(column)
+        column += named[0][begin : begin + messages] if named else messages * [None]
+    return column
+
+
 def lists(source: Source, message: Kind, fields: Optional[Iterable[Key]] = None, partial: bool = False) -> Dict[Key, List[Any]]:
     """Returns a list for each of the fields, with the value in each message of one name or number, in their order: the values are
     those of `Message`, and None where a message has no such field. So `zip(*lists.values())` are rows.
@@ -114,13 +130,22 @@ def lists(source: Source, message: Kind, fields: Optional[Iterable[Key]] = None,
     and 253 the field itself. With a dot before it an attribute of `Message` is named: ".time", ".seconds", ".file", ".place", ".local",
     ".speed", ".distance", ".total_cycles", ".accumulated_power". Without `fields` it is each field that one of the messages has, by its name
     where it has one. With `partial` it is what comes before a fault; else a fault is raised, as `Refused` or `Truncated`."""
-    found = _find(source, message, fields, partial)
-    view = memoryview(found.blocks).cast("B")
-    columns: Dict[Key, List[Any]] = {}
-    for key in found.keys:
-        columns[key] = []
-        for run in found.runs:
-            columns[key] += _part(found.blocks, view, run, key)
+    names = _names(fields)
+    first: List[Key] = [TIME]
+    columns: Dict[Key, List[Any]] = {key: [] for key in (first if names is None else names)}
+    done: List[Tuple[Definition, int]] = []
+    for blocks, runs in _find(source, message, partial):
+        view = memoryview(blocks).cast("B")
+        for run in runs:
+            for key in _all_keys(run.definition) if names is None else ():
+                if key not in columns:
+                    columns[key] = _earlier(columns, done, key)
+            for key, column in columns.items():
+                column += _part(blocks, view, run, key)
+            if names is None:
+                done.append((run.definition, run.messages))
+    if names is None and columns[TIME].count(None) == len(columns[TIME]):
+        del columns[TIME]
     return columns
 
 
@@ -128,46 +153,66 @@ def lists(source: Source, message: Kind, fields: Optional[Iterable[Key]] = None,
 
 
 class _Group:
-    """All messages of one definition: their runs, and how many messages come before each."""
+    """All messages of one definition: of each the numbers that columns are made of, and how many messages come before each run."""
 
-    def __init__(self, numpy: Any, blocks: Blocks, definition: Definition) -> None:
-        self.numpy, self.blocks, self.definition = numpy, blocks, definition
-        self.runs: List[Run] = []
-        self.before: List[int] = []
-        self.rows: Any = None  # the row of each message
+    def __init__(self, numpy: Any, definition: Definition, keys: Iterable[Key]) -> None:
+        self.numpy, self.definition = numpy, definition
+        entries = [entry for entry in (_entry(definition, key) for key in keys) if entry]
+        self._slots = sorted({1} | {entry.begins // 8 for entry in entries if entry.is_number})
+        # the values of the fields that aren't one number
+        self._values: Dict[Entry, List[Any]] = {entry: [] for entry in entries if not entry.is_number}
+        self._tables: List[Any] = []
+        self._before: List[int] = []
+        self._counts: List[int] = []
         self._longs: Dict[int, Any] = {}
 
-    @property
-    def messages(self) -> int:
-        return sum(run.messages for run in self.runs)
-
-    def _spread(self, firsts: List[int], step: int) -> Any:
+    def _spread(self, firsts: List[int], counts: List[int], step: int) -> Any:
         """From the first of each run on, numbers at such steps."""
-        numpy, counts = self.numpy, self.numpy.array([run.messages for run in self.runs])
-        begin = numpy.cumsum(counts) - counts
-        return numpy.repeat(numpy.array(firsts) - step * begin, counts) + step * numpy.arange(counts.sum())
+        numpy, many = self.numpy, self.numpy.array(counts)
+        begin = numpy.cumsum(many) - many
+        return numpy.repeat(numpy.array(firsts) - step * begin, many) + step * numpy.arange(many.sum())
 
-    def take(self, keys: List[Key]) -> None:
-        """Copies what the numbers of these fields, and times, stand in, eight bytes for each message: all of a message together, while
-        its block is at hand."""
-        numpy, entries = self.numpy, [_entry(self.definition, key) for key in keys]
-        slots = sorted({1} | {entry.begins // 8 for entry in entries if entry and entry.is_number})
-        longs, length = numpy.frombuffer(self.blocks, "<u8"), self.runs[0].length // 8
-        table = numpy.empty((len(slots), self.messages), "<u8")
-        if len(self.runs) * _FEW > self.messages:
-            places = self._spread([run.first // 8 for run in self.runs], length)
-            for slot, row in zip(slots, table):
+    def take(self, blocks: Blocks, runs: List[Run], before: List[int]) -> None:
+        """Copies what the numbers, and times, of some messages stand in, eight bytes for each: all of a message together, while its block
+        is at hand."""
+        numpy, counts = self.numpy, [run.messages for run in runs]
+        longs, length = numpy.frombuffer(blocks, "<u8"), runs[0].length // 8
+        table = numpy.empty((len(self._slots), sum(counts)), "<u8")
+        if len(runs) * _FEW > sum(counts):
+            places = self._spread([run.first // 8 for run in runs], counts, length)
+            for slot, row in zip(self._slots, table):
                 row[:] = longs[places + slot]
         else:
             done = 0
-            for run in self.runs:
-                blocks = longs[run.first // 8 : run.first // 8 + run.messages * length].reshape(run.messages, length)
+            for run in runs:
+                messages = longs[run.first // 8 : run.first // 8 + run.messages * length].reshape(run.messages, length)
                 for at in range(0, run.messages, _MANY):
-                    piece = blocks[at : at + _MANY, slots]
+                    piece = messages[at : at + _MANY, self._slots]
                     table[:, done : done + len(piece)] = piece.T
                     done += len(piece)
-        self._longs = dict(zip(slots, table))
-        self.rows = self._spread(self.before, 1)
+        self._tables.append(table)
+        self._before += before
+        self._counts += counts
+        for entry, values in self._values.items():
+            values += [entry.read(blocks[at : at + run.length]) for run in runs for at in run.places()]
+
+    def join(self) -> None:
+        """Makes one of all that was taken."""
+        table = self._tables[0] if len(self._tables) == 1 else self.numpy.concatenate(self._tables, axis=1)
+        self._longs = dict(zip(self._slots, table))
+
+    @property
+    def messages(self) -> int:
+        return sum(self._counts)
+
+    @property
+    def rows(self) -> Any:
+        """The row of each message."""
+        return self._spread(self._before, self._counts, 1)
+
+    @property
+    def has_times(self) -> bool:
+        return bool((self.items(12, "I") != _NO_TIME).any())
 
     def items(self, at: int, code: str) -> Any:
         """The items at a place in each block, of those that were taken."""
@@ -195,25 +240,37 @@ class _Group:
         return times
 
     def objects(self, entry: Entry) -> Any:
-        values = self.numpy.empty(self.messages, object)
-        places = (at for run in self.runs for at in run.places())
-        for row, at in enumerate(places):
-            values[row] = entry.read(self.blocks[at : at + self.runs[0].length])
-        return values
+        """The values of a field as lists have them."""
+        column = self.numpy.empty(self.messages, object)
+        if entry.is_number:
+            value = as_value(entry) if entry.is_scaled else lambda item: item
+            numbers = self.items(entry.begins, entry.float_code).tolist()
+            items = self.items(entry.begins, entry.item_code).tolist()
+            column[:] = [None if item == entry.invalid else value(number) for item, number in zip(items, numbers)]
+        else:
+            # one by one, as tuples would be rows
+            for row, values in enumerate(self._values[entry]):
+                column[row] = values
+        return column
 
 
-def _groups(numpy: Any, found: _Found) -> List[_Group]:
+def _groups(numpy: Any, found: Iterator[_Found], fields: Optional[List[Key]]) -> List[_Group]:
     groups: Dict[int, _Group] = {}
-    before = 0
-    for run in found.runs:
-        if id(run.definition) not in groups:
-            groups[id(run.definition)] = _Group(numpy, found.blocks, run.definition)
-        group = groups[id(run.definition)]
-        group.runs.append(run)
-        group.before.append(before)
-        before += run.messages
+    count = 0
+    for blocks, runs in found:
+        taken: Dict[int, Tuple[List[Run], List[int]]] = {}
+        for run in runs:
+            of, before = taken.setdefault(id(run.definition), ([], []))
+            of.append(run)
+            before.append(count)
+            count += run.messages
+        for key, (of, before) in taken.items():
+            if key not in groups:
+                definition = of[0].definition
+                groups[key] = _Group(numpy, definition, definition.by_key if fields is None else fields)
+            groups[key].take(blocks, of, before)
     for group in groups.values():
-        group.take(found.keys)
+        group.join()
     return list(groups.values())
 
 
@@ -241,9 +298,13 @@ def columns(source: Source, message: Kind, fields: Optional[Iterable[Key]] = Non
     of the messages gives an object array of what `Message` has, None where there is nothing. `fields` and `partial` are as for
     `lists`. It raises ModuleNotFoundError where numpy isn't installed."""
     numpy = _needed("numpy")
-    found = _find(source, message, fields, partial)
-    groups, count = _groups(numpy, found), found.messages
-    return {key: _array(numpy, groups, key, count) for key in found.keys}
+    names = _names(fields)
+    groups = _groups(numpy, _find(source, message, partial), names)
+    if names is None:
+        names = [TIME] if any(group.has_times for group in groups) else []
+        names += [key for group in groups for key in _all_keys(group.definition)]
+    count = sum(group.messages for group in groups)
+    return {key: _array(numpy, groups, key, count) for key in names}
 
 
 def frame(source: Source, message: Kind, fields: Optional[Iterable[Key]] = None, partial: bool = False) -> Any:

@@ -22,6 +22,10 @@ class _Text(ctypes.Structure):
     length: int
 
 
+class _Stream(ctypes.Structure):
+    _fields_ = [("at", ctypes.c_void_p)]
+
+
 def packed(name: str) -> Optional[bytes]:
     """The bytes of a file beside this module, which may be in a folder or a zip file; None where it isn't there."""
     try:
@@ -81,6 +85,12 @@ def _load(version: str) -> ctypes.CDLL:
         for name in ("table", "to_csv", "show", "from_csv", "messages"):
             call = getattr(library, f"gazhdor_{name}")
             call.argtypes, call.restype = (ctypes.c_char_p, ctypes.c_size_t, ctypes.POINTER(_Text)), Answer
+        if hasattr(library, "gazhdor_open"):
+            stream, text = ctypes.POINTER(_Stream), ctypes.POINTER(_Text)
+            library.gazhdor_open.argtypes, library.gazhdor_open.restype = (stream, ctypes.c_uint32), Answer
+            library.gazhdor_feed.argtypes, library.gazhdor_feed.restype = (stream, ctypes.c_char_p, ctypes.c_size_t, text), Answer
+            library.gazhdor_finish.argtypes, library.gazhdor_finish.restype = (stream, text), Answer
+            library.gazhdor_close.argtypes, library.gazhdor_close.restype = (stream,), None
     except AttributeError as error:
         raise LibraryUnusable(f"{path} isn't a library of gazhdor {version}: {error}", path) from None
     told = library.gazhdor_version().decode()
@@ -102,6 +112,8 @@ def _version() -> str:
 
 VERSION = _version()
 library = _load(VERSION)
+# A library of this version that was made before there were streams has none.
+HAS_STREAMS = hasattr(library, "gazhdor_open")
 _nothing = ctypes.create_string_buffer(1)
 
 
@@ -121,3 +133,36 @@ def text_of(call: Any, data: bytes) -> Tuple[Answer, bytes]:
     """The same as bytes."""
     answer, memory = memory_of(call, data)
     return answer, memory[:]
+
+
+class Opened:
+    """A stream of the library, of one of its kinds. It is used by one thread at a time."""
+
+    def __init__(self, kind: int) -> None:
+        if not HAS_STREAMS:
+            path = str(library._name)
+            raise WrongVersion(f"{path} is older than the module gazhdor {VERSION}: it has no streams", path)
+        self._stream = ctypes.pointer(_Stream())
+        self.answer: Answer = library.gazhdor_open(self._stream, kind)
+        self.close = weakref.finalize(self, library.gazhdor_close, self._stream)
+        self.close.atexit = False
+
+    def _made(self, text: _Text) -> bytes:
+        if not text.length:
+            return b""
+        try:
+            return ctypes.string_at(text.bytes or 0, text.length)
+        finally:
+            library.gazhdor_free(text)
+
+    def feed(self, piece: bytes) -> bytes:
+        """What the piece completes; `answer` says what was found."""
+        text = _Text(ctypes.addressof(_nothing), 0)
+        self.answer = library.gazhdor_feed(self._stream, piece, len(piece), ctypes.byref(text))
+        return self._made(text)
+
+    def finish(self) -> bytes:
+        """What is still to come at the end of the bytes."""
+        text = _Text(ctypes.addressof(_nothing), 0)
+        self.answer = library.gazhdor_finish(self._stream, ctypes.byref(text))
+        return self._made(text)

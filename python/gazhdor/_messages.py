@@ -3,8 +3,7 @@ import datetime
 import struct
 from typing import Any, Dict, Iterator, Optional, Tuple, Union
 
-from ._blocks import Only, blocks_of, runs
-from ._sources import Source
+from ._blocks import Blocks, Run
 from ._values import Definition, Entry, Exact, Key, Raw, Value, label, read_exact, read_raw
 
 Time = Union[datetime.datetime, str]
@@ -197,12 +196,8 @@ class Message:
         return Message, (self._block, self._definition)
 
 
-def messages(source: Source, only: Only = None, partial: bool = False) -> Iterator[Message]:
-    """Yields a Message for each data message; with `only`, a name or a number or several of these, for such messages alone, and makes
-    nothing of the others. The source is read when the first is asked for. With `partial` a fault is raised after the messages before
-    it, else before the first message, as `Refused` or `Truncated`."""
-    blocks, judge = blocks_of(source, partial)
-    for definition, first, count, length in runs(blocks, only):
+def messages_of(blocks: Blocks, runs: Iterator[Run]) -> Iterator[Message]:
+    """The messages of some blocks."""
+    for definition, first, count, length in runs:
         for at in range(first, first + count * length, length):
             yield Message(blocks[at : at + length], definition)
-    judge()

@@ -1,7 +1,8 @@
 """The bytes of what a caller names: a path, bytes, or a binary file object."""
+import contextlib
 import io
 import os
-from typing import TYPE_CHECKING, Any, List, Union
+from typing import TYPE_CHECKING, Any, Iterator, Optional, Union
 
 from .errors import NotBinary, ReadFailed
 
@@ -19,42 +20,66 @@ class Readable(Protocol):
 
 Source = Union[str, "os.PathLike[str]", bytes, bytearray, memoryview, Readable]
 
-_PIECE = 1 << 20
+_ALL, PIECE = 1 << 20, 1 << 16
 
 
-def _piece(file: Any, size: int, count: int) -> bytes:
+def _wrapped(count: int, call: Any, *given: Any) -> Any:
+    """What a call of a file object returns; what it raises is a ReadFailed."""
     try:
-        piece = file.read(size)
+        return call(*given)
     except MemoryError:
         raise
     except Exception as error:
         raise ReadFailed(str(error) or type(error).__name__, count) from error
-    if isinstance(piece, (bytes, bytearray, memoryview)):
-        return bytes(piece)
-    if piece is None:
-        raise ReadFailed("it has no bytes yet, and doesn't wait for them", count)
-    raise NotBinary(f"the file object's read returned {type(piece).__name__}, and not bytes")
 
 
-def _rest(file: Any, size: int) -> bytes:
-    pieces: List[bytes] = []
+def pieces(file: Any, size: int = PIECE) -> Iterator[bytes]:
+    """The bytes of a file object from where it is to its end, as many at once as it gives, and at most so many."""
     count = 0
     while True:
-        piece = _piece(file, size, count)
-        if not piece:
-            return pieces[0] if len(pieces) == 1 else b"".join(pieces)
-        pieces.append(piece)
+        piece = _wrapped(count, file.read, size)
+        if piece is None:
+            raise ReadFailed("it has no bytes yet, and doesn't wait for them", count)
+        if not isinstance(piece, (bytes, bytearray, memoryview)):
+            raise NotBinary(f"the file object's read returned {type(piece).__name__}, and not bytes")
+        if not len(piece):
+            return
         count += len(piece)
+        yield bytes(piece)
+
+
+@contextlib.contextmanager
+def opened(source: Source) -> Iterator[Any]:
+    """The file object of a path, which is closed in the end, or a file object as it is."""
+    if isinstance(source, (str, os.PathLike)):
+        with open(source, "rb", buffering=0) as file:
+            yield file
+    elif isinstance(source, io.TextIOBase):
+        raise NotBinary("the file object is opened as text, which has no bytes: open it as 'rb'")
+    elif hasattr(source, "read"):
+        yield source
+    else:
+        raise TypeError(f"a source is a path, bytes or a binary file object, and not {type(source).__name__}")
 
 
 def bytes_of(source: Source) -> bytes:
+    """All bytes of a source."""
     if isinstance(source, (bytes, bytearray, memoryview)):
         return bytes(source)
-    if isinstance(source, (str, os.PathLike)):
-        with open(source, "rb", buffering=0) as file:
-            return _rest(file, max(_PIECE >> 4, os.fstat(file.fileno()).st_size + 1))
-    if isinstance(source, io.TextIOBase):
-        raise NotBinary("the file object is opened as text, which has no bytes: open it as 'rb'")
-    if hasattr(source, "read"):
-        return _rest(source, _PIECE)
-    raise TypeError(f"a source is a path, bytes or a binary file object, and not {type(source).__name__}")
+    with opened(source) as file:
+        size = max(PIECE, os.fstat(file.fileno()).st_size + 1) if isinstance(source, (str, os.PathLike)) else _ALL
+        found = list(pieces(file, size))
+    return found[0] if len(found) == 1 else b"".join(found)
+
+
+def place_of(file: Any) -> Optional[int]:
+    """Where a file object is, if it can go back there."""
+    try:
+        place: Optional[int] = file.tell() if file.seekable() else None
+    except (AttributeError, OSError, ValueError):
+        return None
+    return place
+
+
+def go_back(file: Any, place: int) -> None:
+    _wrapped(0, file.seek, place)

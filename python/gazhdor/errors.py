@@ -1,20 +1,22 @@
 """What can be wrong: with the bytes or the text (FitError), with what they come from, and with the library itself."""
-from typing import Optional, Tuple, Type
+from typing import Any, Dict, Optional, Tuple, Type
 
 from ._answers import NO_MEMORY, REFUSED, TRUNCATED, Answer
 
 
 class FitError(ValueError):
-    """The bytes or the text are no FIT file. `answer` says where and why, and so do `place`, `reason`, `row` and `column`."""
+    """The bytes or the text are no FIT file. `answer` says where and why, and so do `place`, `reason`, `row` and `column`. `before` is
+    what a call of a `Stream` made before it found that, and else None."""
 
     def __init__(self, answer: Answer) -> None:
         super().__init__(str(answer))
         self.answer = answer
         self.place, self.reason, self.row, self.column = answer.place, answer.reason, answer.row, answer.column
+        self.before: Any = None
 
-    def __reduce__(self) -> "Tuple[Type[FitError], Tuple[Answer]]":
+    def __reduce__(self) -> "Tuple[Type[FitError], Tuple[Answer], Dict[str, Any]]":
         # As it is sent from one process to another.
-        return type(self), (self.answer,)
+        return type(self), (self.answer,), {"before": self.before}
 
 
 class Refused(FitError):
@@ -61,7 +63,7 @@ class LibraryUnusable(LibraryError):
 
 
 class WrongVersion(LibraryError):
-    """The library is of another version than the module."""
+    """The library is of another version than the module, or older. A `Stream` raises it too, where the library has none."""
 
 
 class WrongMachine(LibraryError):

@@ -1,0 +1,177 @@
+"""Bytes that come in pieces: what is made of each piece, and of a source that is read piece by piece."""
+import csv
+import itertools
+import threading
+from typing import TYPE_CHECKING, Any, Callable, Generic, Iterator, List, Optional, TypeVar, Union, overload
+
+from ._answers import Answer
+from ._blocks import Blocks, Only, Walk
+from ._library import HAS_STREAMS, Opened, library, memory_of
+from ._messages import Message, messages_of
+from ._sources import Source, bytes_of, go_back, opened, pieces, place_of
+from .errors import FitError, judge, judged
+
+if TYPE_CHECKING:
+    from typing_extensions import Literal
+
+Made = TypeVar("Made", str, bytes, List[Message])
+
+_KINDS = {"check": 0, "show": 1, "table": 2, "to_csv": 3, "blocks": 4, "messages": 4}
+_WHOLE = {"show": library.gazhdor_show, "table": library.gazhdor_table, "to_csv": library.gazhdor_to_csv, "blocks": library.gazhdor_messages}
+
+
+class Stream(Generic[Made]):
+    """FIT files that come in pieces. It keeps what the next piece needs, and no more for more bytes.
+
+    kind   what is made of them: "show", "table" and "to_csv" the text of the functions `show`, `table_text` and `to_csv`, piece by piece;
+           "messages" lists of `Message`, with `only` as for `messages`; "blocks" the bytes of docs/BLOCKS.md; "check" nothing, an empty str
+    files  how many files have ended so far
+
+    All that `feed` and `finish` return, one after another, is what the function makes of all bytes. Where bytes are refused or end too soon,
+    they raise what it raises, `Refused` or `Truncated`; its `before` is what was made before that, and each later call raises the same. After
+    `finish` and `close` a call raises ValueError. Where threads share a stream, one call waits for another.
+    """
+
+    if TYPE_CHECKING:
+
+        @overload
+        def __init__(self: "Stream[str]", kind: Literal["check", "show", "table", "to_csv"]) -> None: ...
+        @overload
+        def __init__(self: "Stream[bytes]", kind: Literal["blocks"]) -> None: ...
+        @overload
+        def __init__(self: "Stream[List[Message]]", kind: Literal["messages"], only: Only = None) -> None: ...
+
+    def __init__(self, kind: str, only: Only = None) -> None:
+        if kind not in _KINDS:
+            raise ValueError(f"a stream is one of {', '.join(_KINDS)}, and not {kind!r}")
+        if only is not None and kind != "messages":
+            raise TypeError(f"a stream of {kind} has no messages of which there may be only some")
+        self._make = _maker(kind, only)
+        self._lock = threading.Lock()
+        self._fault: Optional[Answer] = None
+        self._opened: Optional[Opened] = Opened(_KINDS[kind])
+        self.files = 0
+        self._judge(self._opened, b"")
+
+    def _judge(self, opened: Opened, data: bytes) -> Any:
+        """What was made of the bytes of a call, where its answer is good; else the fault is kept, and the stream closed."""
+        if opened.answer.good:
+            self.files = opened.answer.files
+            return self._make(data)
+        self._fault, self._opened = opened.answer, None
+        opened.close()
+        try:
+            judge(opened.answer)
+        except FitError as fault:
+            fault.before = self._make(data)
+            raise
+
+    def _open(self) -> Opened:
+        if self._fault is not None:
+            judge(self._fault)
+        if self._opened is None:
+            raise ValueError("the stream is closed")
+        return self._opened
+
+    def feed(self, piece: Union[bytes, bytearray, memoryview]) -> Made:
+        """Takes the next bytes, of any length, and returns what they complete: whole lines, whole messages."""
+        if not isinstance(piece, (bytes, bytearray, memoryview)):
+            raise TypeError(f"a piece is bytes, and not {type(piece).__name__}")
+        with self._lock:
+            opened = self._open()
+            made: Made = self._judge(opened, opened.feed(bytes(piece)))
+            return made
+
+    def finish(self) -> Made:
+        """Says that no more bytes come, closes the stream, and returns what is still to come."""
+        with self._lock:
+            opened = self._open()
+            made: Made = self._judge(opened, opened.finish())
+            self._opened = None
+            opened.close()
+            return made
+
+    def close(self) -> None:
+        """Closes the stream, at whatever byte it is. It may be closed twice."""
+        with self._lock:
+            opened, self._opened = self._opened, None
+            if opened:
+                opened.close()
+
+    def __reduce__(self) -> Any:
+        raise TypeError("a stream can't be copied or sent to another process")
+
+    def __enter__(self) -> "Stream[Made]":
+        return self
+
+    def __exit__(self, *error: object) -> None:
+        self.close()
+
+
+def _maker(kind: str, only: Only) -> Callable[[bytes], Any]:
+    """What makes a kind's result of the bytes of the library."""
+    if kind == "blocks":
+        return bytes
+    if kind != "messages":
+        return bytes.decode
+    walk = Walk(only)
+    return lambda blocks: list(messages_of(blocks, walk.runs(blocks)))
+
+
+def found(source: Source) -> Answer:
+    """What is found of a source. It is read up to the piece with the first byte that is refused."""
+    if isinstance(source, (bytes, bytearray, memoryview)) or not HAS_STREAMS:
+        data = bytes_of(source)
+        answer: Answer = library.gazhdor_check(data, len(data))
+        return answer
+    with opened(source) as file:
+        return _found(file)
+
+
+def _found(file: Any) -> Answer:
+    checking = Opened(0)
+    for piece in pieces(file):
+        checking.feed(piece)
+        if not checking.answer.good:
+            return checking.answer
+    checking.finish()
+    return checking.answer
+
+
+def each(kind: str, source: Source, partial: bool, ahead: bool = True) -> Iterator[Blocks]:
+    """What is made of a source, piece by piece; bytes are one piece. A fault is raised after what comes before it. Without `partial`,
+    and unless it needn't be known ahead, it is raised at once where the source can go back."""
+    if isinstance(source, (bytes, bytearray, memoryview)) or not HAS_STREAMS:
+        answer, made = memory_of(_WHOLE[kind], bytes_of(source))
+        judged(answer, partial)
+        yield made
+        judge(answer)
+        return
+    with opened(source) as file:
+        place = place_of(file) if ahead and not partial else None
+        if place is not None:
+            judge(_found(file))
+            go_back(file, place)
+        making = Opened(_KINDS[kind])
+        for piece in itertools.chain(pieces(file), [None]):
+            made = making.finish() if piece is None else making.feed(piece)
+            judged(making.answer, partial=True)
+            yield made
+            judge(making.answer)
+
+
+def messages(source: Source, only: Only = None, partial: bool = False) -> Iterator[Message]:
+    """Yields a Message for each data message; with `only`, a name or a number or several of these, for such messages alone, and makes
+    nothing of the others. The source is read, piece by piece, as messages are asked for. With `partial` a fault is raised after the
+    messages before it, else before the first message, as `Refused` or `Truncated`; of a file object that can't go back to where it was,
+    as a pipe, also after those before it."""
+    walk = Walk(only)
+    for blocks in each("blocks", source, partial):
+        yield from messages_of(blocks, walk.runs(blocks))
+
+
+def rows(source: Source, partial: bool) -> Iterator[List[str]]:
+    """The rows of the table, without the first line."""
+    lines = (line for text in each("table", source, partial) for line in text[:].decode().splitlines())
+    next(lines, None)
+    return csv.reader(lines)
