@@ -1,0 +1,240 @@
+"""What examples/python/upload.py must answer to uploads that come in small pieces over a connection, and what its page draws where
+Chromium is installed."""
+import html
+import json
+import re
+import shutil
+import socket
+import subprocess
+import sys
+import tempfile
+import threading
+import time
+import unittest
+
+import gazhdor
+
+sys.path.insert(0, "examples/python")
+import make_rides
+import upload
+
+RIDE = "examples/ride.fit"
+with open(RIDE, "rb") as file:
+    BYTES = file.read()
+BROWSERS = ("chromium", "chromium-browser", "google-chrome")
+
+
+class Running:
+    """The server, as a program of its own."""
+
+    def __init__(self, *words):
+        self.program = subprocess.Popen([sys.executable, "examples/python/upload.py", "--port", "0", *words], stdout=subprocess.PIPE, stderr=subprocess.DEVNULL)
+        self.port = int(self.program.stdout.readline().decode().split(":")[2].strip("/\n"))
+
+    def __enter__(self):
+        return self
+
+    def __exit__(self, *error):
+        self.program.kill()
+        self.program.wait()
+        self.program.stdout.close()
+
+    def most_memory(self):
+        with open(f"/proc/{self.program.pid}/status") as file:
+            return 1024 * int(re.search(r"VmHWM:\s*(\d+) kB", file.read()).group(1))
+
+    def connected(self):
+        return socket.create_connection(("127.0.0.1", self.port), timeout=60)
+
+    def asked(self, head, pieces=(), ends=False):
+        """Sends a request, and the pieces as long as no answer comes; returns the status, what JSON says, and how many bytes were sent."""
+        sent = 0
+        with self.connected() as connection:
+            connection.setsockopt(socket.IPPROTO_TCP, socket.TCP_NODELAY, 1)
+            connection.sendall(head.encode() + b"\r\n\r\n")
+            for piece in pieces:
+                connection.setblocking(False)
+                try:
+                    if connection.recv(1, socket.MSG_PEEK):
+                        break
+                except BlockingIOError:
+                    pass
+                connection.setblocking(True)
+                connection.settimeout(60)
+                connection.sendall(piece)
+                sent += len(piece)
+            connection.settimeout(60)
+            if ends:
+                connection.shutdown(socket.SHUT_WR)
+            answer = b""
+            while True:
+                more = connection.recv(65536)
+                if not more:
+                    break
+                answer += more
+        front, _, body = answer.partition(b"\r\n\r\n")
+        return int(front.split()[1]), json.loads(body.decode()), sent
+
+    def put(self, data, size=100, length=None, **how):
+        head = f"POST /rides HTTP/1.1\r\nHost: test\r\nContent-Length: {len(data) if length is None else length}"
+        return self.asked(head, [data[at : at + size] for at in range(0, len(data), size)], **how)
+
+
+class Uploads(unittest.TestCase):
+    @classmethod
+    def setUpClass(cls):
+        cls.server = Running("--most", "4000000", "--at-once", "3")
+
+    @classmethod
+    def tearDownClass(cls):
+        cls.server.__exit__()
+
+    def test_good(self):
+        lists = gazhdor.lists(BYTES, "record", [".seconds", "altitude", "speed"])
+        for size in (1, 100, 5000):
+            status, told, _ = self.server.put(BYTES, size)
+            self.assertEqual((status, told["files"], told["counts"]["record"], told["counts"]["lap"]), (200, 1, len(lists["altitude"]), 1))
+            drawn = told["drawn"]
+            self.assertEqual((drawn["altitude"], drawn["speed"], set(drawn["heart_rate"])), (lists["altitude"], lists["speed"], {None}))
+            self.assertEqual(drawn["time"], [seconds + 631065600 for seconds in lists[".seconds"]])
+            self.assertEqual(told["laps"][0]["total_distance"], 8558.46)
+        self.assertEqual(self.server.put(3 * BYTES)[1]["files"], 3)
+
+    def test_long(self):
+        """Of many records some are drawn, from the first to the last; of many laps the first are told."""
+        status, told, _ = self.server.put(210 * BYTES, 20000)
+        count = 210 * len(list(gazhdor.messages(BYTES, only="record")))
+        self.assertEqual((status, told["files"], told["counts"]["record"], told["counts"]["lap"], len(told["laps"])), (200, 210, count, 210, 200))
+        self.assertTrue(1000 <= len(told["drawn"]["time"]) <= 2000)
+        self.assertEqual(len(set(map(len, told["drawn"].values()))), 1)
+
+    def test_cut(self):
+        for end in (0, 1, 14, 2000, len(BYTES) - 1):
+            status, told, _ = self.server.put(BYTES[:end])
+            self.assertEqual((status, told), (422, {"error": f"truncated at byte {end}", "place": end, "reason": None}))
+
+    def test_changed(self):
+        for place in range(0, len(BYTES), 97):
+            data = BYTES[:place] + bytes([BYTES[place] ^ 0x55]) + BYTES[place + 1 :]
+            answer = gazhdor.check(data)
+            status, told, _ = self.server.put(data)
+            self.assertEqual((status, told), (422, {"error": str(answer), "place": answer.place, "reason": answer.reason}))
+
+    def test_before_the_rest(self):
+        """The answer comes with the first byte that is refused, while more is to come; then the connection is closed."""
+        status, told, _ = self.server.put(b"PK\3\4", length=3000000)
+        self.assertEqual((status, told), (422, {"error": "refused at byte 1: Protocol", "place": 1, "reason": "Protocol"}))
+        # A client that goes on sends no more than a part, and still reads the answer.
+        status, told, sent = self.server.put(b"\x0d" + bytes(3999999), 1000)
+        self.assertEqual((status, told["place"], told["reason"]), (422, 0, "HeaderSize"))
+        self.assertLess(sent, 4000000)
+
+    def test_bad_requests(self):
+        post = "POST /rides HTTP/1.1\r\nHost: test"
+        for head, status in (
+            (post, 411), (post + "\r\nTransfer-Encoding: chunked", 411), (post + "\r\nContent-Length: -1", 400), (post + "\r\nContent-Length: 1e3", 400),
+            (post + "\r\nContent-Length: 5\r\nContent-Length: 5", 400), (post + "\r\nContent-Length: 4000001", 413), (post + f"\r\nContent-Length: {'9' * 500}", 413),
+            ("POST /other HTTP/1.1\r\nHost: test\r\nContent-Length: 5", 404), ("GET /other HTTP/1.1\r\nHost: test", 404),
+        ):
+            found, told, _ = self.server.asked(head)
+            self.assertEqual((found, list(told)), (status, ["error"]))
+        status, told, _ = self.server.put(BYTES[:100], length=len(BYTES), ends=True)
+        self.assertEqual((status, told), (400, {"error": f"the upload ended after 100 of {len(BYTES)} bytes"}))
+        self.assertEqual(self.server.put(BYTES)[0], 200)
+
+    def test_at_once(self):
+        """Those that wait don't keep others from being served, up to a number; each gets its own answer."""
+        found = []
+        work = lambda end: found.append(self.server.put(BYTES[:end], 10)[:2])
+        many = [threading.Thread(target=work, args=(end,)) for end in range(1000, 1010)]
+        for thread in many:
+            thread.start()
+        for thread in many:
+            thread.join()
+        self.assertEqual(sorted(told["place"] for status, told in found if status == 422), list(range(1000, 1010)))
+
+    def test_time(self):
+        with Running("--seconds", "0.5") as server:
+            begin = time.monotonic()
+            status, told, _ = server.put(BYTES[:100], length=len(BYTES))
+            self.assertEqual((status, told), (408, {"error": "the upload took more than 0.5 s"}))
+            self.assertTrue(0.4 < time.monotonic() - begin < 30)
+            # One that sends no request, or a part of one, is closed too.
+            for part in (b"", b"POST /rides HTTP/1.1\r\nHost: t"):
+                with server.connected() as connection:
+                    connection.sendall(part)
+                    self.assertEqual(connection.recv(1), b"")
+
+    def test_memory(self):
+        """An upload of 2 MB takes less memory than its messages as values would."""
+        with Running() as server:
+            server.put(BYTES)
+            before = server.most_memory()
+            self.assertEqual(server.put(640 * BYTES, 60000)[0], 200)
+            self.assertLess(server.most_memory() - before, 25000000)
+
+
+class Dropping(upload.Handler):
+    """The page with a script that drops a file on it, whose bytes come from here."""
+
+    data = b""
+    SCRIPT = b"""<script>(async () => {
+        const bytes = await (await fetch("/ride.fit")).arrayBuffer(), files = new DataTransfer();
+        files.items.add(new File([bytes], "a <ride>.fit"));
+        at("drop").dispatchEvent(new DragEvent("drop", { dataTransfer: files, bubbles: true, cancelable: true }));
+    })();</script>"""
+
+    def do_GET(self):
+        if self.path == "/drop":
+            self.answer(200, upload.PAGE + self.SCRIPT, "text/html; charset=utf-8")
+        elif self.path == "/ride.fit":
+            self.answer(200, self.data, "application/octet-stream")
+        else:
+            super().do_GET()
+
+    def log_message(self, *words):
+        pass
+
+
+class Page(unittest.TestCase):
+    def test_page(self):
+        with Running() as server, server.connected() as connection:
+            connection.sendall(b"GET / HTTP/1.1\r\nHost: test\r\n\r\n")
+            self.assertEqual(connection.makefile("rb").read().partition(b"\r\n\r\n")[2], upload.PAGE)
+        self.assertNotRegex(upload.PAGE.decode(), r"(src|href)=|https?://(?!www.w3.org/2000/svg)")
+
+    def dropped(self, data):
+        """The page after these bytes were dropped on it."""
+        browser = next(filter(None, map(shutil.which, BROWSERS)), None)
+        if browser is None:
+            print("tests/python: there is no Chromium, so what the page of uploads draws isn't looked at", file=sys.stderr)
+            self.skipTest("no Chromium")
+        handler = type("Handler", (Dropping,), {"data": data})
+        with upload.Server(("127.0.0.1", 0), 1 << 26, 60, 8, handler) as server, tempfile.TemporaryDirectory() as folder:
+            threading.Thread(target=server.serve_forever, daemon=True).start()
+            words = ["--headless", "--no-sandbox", "--disable-gpu", f"--user-data-dir={folder}", "--virtual-time-budget=20000", "--dump-dom"]
+            said = subprocess.run([browser, *words, f"http://127.0.0.1:{server.server_address[1]}/drop"], stdout=subprocess.PIPE, stderr=subprocess.DEVNULL, timeout=120)
+            server.shutdown()
+        return said.stdout.decode()
+
+    def test_drawn(self):
+        data = make_rides.ride(3, 5)
+        page, lists = self.dropped(data), gazhdor.lists(data, "record", ["altitude", "speed", "heart_rate"])
+        self.assertIn("a &lt;ride&gt;.fit: 1 file(s), 300 records, 0 laps", page)
+        for name, factor, unit in (("altitude", 1, "m"), ("speed", 3.6, "km/h"), ("heart_rate", 1, "bpm")):
+            drawn = re.search(rf'<svg id="{name}".*?<text[^>]*>(.*?)</text><path d="(.*?)">', page, re.S)
+            values = [value * factor for value in lists[name] if value is not None]
+            self.assertIn(f"{min(values):.1f} to {max(values):.1f} {unit}, 299 s", html.unescape(drawn.group(1)))
+            points = [tuple(map(float, point.split())) for point in re.split("[ML]", drawn.group(2))[1:]]
+            self.assertEqual((len(points), points[0][0] <= points[-1][0], points[-1][0]), (len(values), True, 780.0))
+            highest = max(range(len(values)), key=values.__getitem__)
+            self.assertEqual((min(y for _, y in points), points[highest][1], max(y for _, y in points)), (40.0, 40.0, 140.0))
+
+    def test_refused(self):
+        page = self.dropped(BYTES[:2000])
+        self.assertRegex(page, r'<p id="finding"[^>]*class="bad"[^>]*>a &lt;ride&gt;.fit: truncated at byte 2000</p>')
+        self.assertNotIn("<svg", page)
+
+
+if __name__ == "__main__":
+    unittest.main()
