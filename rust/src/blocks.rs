@@ -1,4 +1,5 @@
 //! The blocks of bytes that the library makes of messages, as docs/BLOCKS.md has them. Whatever bytes they have, nothing here panics.
+use std::sync::Arc;
 
 pub(crate) const DEFINITION: u8 = 2;
 pub(crate) const MESSAGE: u8 = 3;
@@ -80,6 +81,34 @@ impl<'a> Iterator for Walk<'a> {
                     }
                 }
                 _ => {}
+            }
+        }
+    }
+}
+
+/// The definitions that came with earlier pieces: the last of each local message type.
+#[derive(Clone, Default)]
+pub struct Known {
+    definitions: [Option<Arc<[u8]>>; 16],
+}
+
+impl Known {
+    pub(crate) fn walk<'a>(&'a self, blocks: &'a [u8]) -> Walk<'a> {
+        let mut walk = Walk::new(blocks);
+        for (known, definition) in walk.known.iter_mut().zip(&self.definitions) {
+            *known = definition.as_deref().unwrap_or(&[]);
+        }
+        walk
+    }
+
+    /// Copies those of some blocks.
+    pub(crate) fn learn(&mut self, blocks: &[u8]) {
+        let before = self.clone();
+        let mut walk = before.walk(blocks);
+        walk.by_ref().for_each(drop);
+        for (definition, known) in self.definitions.iter_mut().zip(walk.known) {
+            if definition.as_deref().map_or(!known.is_empty(), |old| !std::ptr::eq(old, known)) {
+                *definition = Some(known.into());
             }
         }
     }

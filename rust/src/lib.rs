@@ -1,7 +1,7 @@
 //! Checks FIT files, which watches and bicycle computers write, reads their messages, and converts them to text and back.
 //!
-//! Each call works on bytes in memory and keeps nothing, so any number of threads may call at once. What a call returns is proved:
-//! this crate is a wrapper of Gazhdor's library, which is linked in, for x86-64 Linux.
+//! Each function works on bytes in memory and keeps nothing, so any number of threads may call at once; a [`Stream`] takes bytes that
+//! come in pieces. What a call returns is proved: this crate is a wrapper of Gazhdor's library, which is linked in, for x86-64 Linux.
 //!
 //! ```
 //! # fn main() -> Result<(), Box<dyn std::error::Error>> {
@@ -26,6 +26,7 @@ mod field;
 #[allow(unsafe_code)]
 mod library;
 mod message;
+mod streams;
 #[cfg(test)]
 mod tests;
 mod time;
@@ -34,6 +35,7 @@ pub use fault::{Fault, Reason, Stopped};
 pub use field::{Field, Raw, Value};
 pub use library::{Bytes, Text};
 pub use message::{Fields, Iter, Message, Messages};
+pub use streams::{Made, ReadFault, Reading, Stream};
 pub use time::Time;
 
 use fault::found;

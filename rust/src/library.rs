@@ -1,9 +1,9 @@
 //! The library's functions, as c/gazhdor.h declares them, and what they make. All that is unsafe is here.
-use std::ffi::CStr;
+use std::ffi::{c_void, CStr};
 use std::fmt::{self, Debug, Display, Formatter};
 use std::ops::Deref;
 use std::os::raw::c_char;
-use std::{slice, str};
+use std::{ptr, slice, str};
 
 /// The numbers that a function returns. One that has no meaning for the status is 0.
 #[repr(C)]
@@ -22,6 +22,12 @@ struct Made {
     length: usize,
 }
 
+/// A stream, as C has it. Only the library reads what the pointer points to.
+#[repr(C)]
+struct Handle {
+    at: *mut c_void,
+}
+
 type Call = unsafe extern "C" fn(*const u8, usize, *mut Made) -> Answer;
 
 extern "C" {
@@ -31,6 +37,10 @@ extern "C" {
     fn gazhdor_show(bytes: *const u8, length: usize, text: *mut Made) -> Answer;
     fn gazhdor_messages(bytes: *const u8, length: usize, blocks: *mut Made) -> Answer;
     fn gazhdor_from_csv(text: *const u8, length: usize, bytes: *mut Made) -> Answer;
+    fn gazhdor_open(stream: *mut Handle, kind: u32) -> Answer;
+    fn gazhdor_feed(stream: *mut Handle, bytes: *const u8, length: usize, text: *mut Made) -> Answer;
+    fn gazhdor_finish(stream: *mut Handle, text: *mut Made) -> Answer;
+    fn gazhdor_close(stream: *mut Handle);
     fn gazhdor_free(text: Made);
     fn gazhdor_version() -> *const c_char;
     #[cfg(test)]
@@ -89,7 +99,7 @@ pub struct Text {
 
 impl Text {
     /// Where memory was refused, the last character may have lost some of its bytes; then it is left out.
-    fn new(bytes: Bytes) -> Text {
+    pub(crate) fn new(bytes: Bytes) -> Text {
         let length = match str::from_utf8(&bytes) {
             Ok(text) => text.len(),
             Err(cut) if cut.error_len().is_none() => cut.valid_up_to(),
@@ -132,11 +142,16 @@ impl Display for Text {
     }
 }
 
-fn made(call: Call, given: &[u8]) -> (Answer, Bytes) {
+/// The answer of a call, and what it puts into a place that holds nothing.
+fn put(call: impl FnOnce(*mut Made) -> Answer) -> (Answer, Bytes) {
     let mut into = Made { bytes: [].as_ptr(), length: 0 };
-    // SAFETY: the bytes can be read and don't change meanwhile, and `into` holds nothing.
-    let answer = unsafe { call(given.as_ptr(), given.len(), &mut into) };
+    let answer = call(&mut into);
     (answer, Bytes { bytes: into.bytes, length: into.length })
+}
+
+fn made(call: Call, given: &[u8]) -> (Answer, Bytes) {
+    // SAFETY: the bytes can be read and don't change meanwhile, and `into` holds nothing.
+    put(|into| unsafe { call(given.as_ptr(), given.len(), into) })
 }
 
 fn text(call: Call, given: &[u8]) -> (Answer, Text) {
@@ -167,6 +182,38 @@ pub(crate) fn messages(files: &[u8]) -> (Answer, Bytes) {
 
 pub(crate) fn from_csv(text: &[u8]) -> (Answer, Bytes) {
     made(gazhdor_from_csv, text)
+}
+
+/// A stream, which is closed when this is dropped. The pointer in it makes it neither `Send` nor `Sync`.
+pub(crate) struct Opened {
+    handle: Handle,
+}
+
+impl Opened {
+    pub(crate) fn new(kind: u32) -> (Answer, Opened) {
+        let mut opened = Opened { handle: Handle { at: ptr::null_mut() } };
+        // SAFETY: the handle is a closed one. Where the answer isn't good it stays so, and may be used and closed as well.
+        let answer = unsafe { gazhdor_open(&mut opened.handle, kind) };
+        (answer, opened)
+    }
+
+    pub(crate) fn feed(&mut self, piece: &[u8]) -> (Answer, Bytes) {
+        // SAFETY: the handle is as the last call left it, no other call uses it, and this thread opened it. The bytes can be read and
+        // don't change meanwhile, and `into` holds nothing.
+        put(|into| unsafe { gazhdor_feed(&mut self.handle, piece.as_ptr(), piece.len(), into) })
+    }
+
+    pub(crate) fn finish(&mut self) -> (Answer, Bytes) {
+        // SAFETY: as for `feed`.
+        put(|into| unsafe { gazhdor_finish(&mut self.handle, into) })
+    }
+}
+
+impl Drop for Opened {
+    fn drop(&mut self) {
+        // SAFETY: as for `feed`; after this nobody has the handle.
+        unsafe { gazhdor_close(&mut self.handle) }
+    }
 }
 
 pub(crate) fn version() -> &'static str {

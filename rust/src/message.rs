@@ -1,26 +1,33 @@
 //! The messages of files, and what is read from them.
-use crate::blocks::{eight, four, text, two, up_to_zero, Entries, Walk};
+use crate::blocks::{eight, four, text, two, up_to_zero, Entries, Known, Walk};
 use crate::field::Field;
 use crate::library::Bytes;
 use crate::time::Time;
 use std::fmt::{self, Debug, Formatter};
 use std::iter::FusedIterator;
 
-/// The messages of a file or a chain of files, which [`messages`](crate::messages) has made. They are freed when this is dropped.
+/// The messages of a file or a chain of files, which [`messages`](crate::messages) has made, or of a piece of it, by a
+/// [`Stream`](crate::Stream). They are freed when this is dropped.
 ///
 /// A `for` over `&Messages` goes through them in their order.
 pub struct Messages {
     blocks: Bytes,
+    known: Known,
 }
 
 impl Messages {
     pub(crate) fn new(blocks: Bytes) -> Messages {
-        Messages { blocks }
+        Messages::after(Known::default(), blocks)
+    }
+
+    /// Those of a piece, by the definitions that came before it.
+    pub(crate) fn after(known: Known, blocks: Bytes) -> Messages {
+        Messages { blocks, known }
     }
 
     /// Goes through the messages in their order.
     pub fn iter(&self) -> Iter<'_> {
-        Iter::new(&self.blocks)
+        Iter { walk: self.known.walk(&self.blocks) }
     }
 }
 
@@ -47,6 +54,7 @@ pub struct Iter<'a> {
 
 impl<'a> Iter<'a> {
     /// The messages of any bytes: up to where they are no blocks.
+    #[cfg(test)]
     pub(crate) fn new(blocks: &'a [u8]) -> Iter<'a> {
         Iter { walk: Walk::new(blocks) }
     }

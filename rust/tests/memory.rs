@@ -1,5 +1,5 @@
 //! Each growth of memory refused in turn. This program's own malloc and realloc stand before those of the C library.
-use gazhdor::{check, from_csv, messages, show, table, to_csv, Bytes, Fault, Messages, Stopped, Text};
+use gazhdor::{check, from_csv, messages, show, table, to_csv, Bytes, Fault, Messages, Stopped, Stream, Text};
 use std::cell::Cell;
 use std::ffi::c_void;
 use std::ptr;
@@ -103,4 +103,48 @@ fn refused_memory_is_reported() {
     let text = to_csv(RIDE).unwrap();
     assert!(each_refused(|| from_csv(&text), see_bytes) > 0);
     each_refused(|| check(RIDE), |result| assert!(matches!(result, Ok(1) | Err(Fault::OutOfMemory))));
+}
+
+/// A table in pieces, and the fault.
+fn table_in_pieces() -> (Vec<Text>, Option<Fault>) {
+    let mut made = Vec::with_capacity(100);
+    let fault = |stopped: Stopped| stopped.fault;
+    let mut feed = || {
+        let mut stream = Stream::table()?;
+        for piece in RIDE.chunks(100) {
+            made.push(stream.feed(piece).map_err(fault)?);
+        }
+        made.push(stream.finish().map_err(fault)?);
+        Ok(())
+    };
+    let end: Result<(), Fault> = feed();
+    (made, end.err())
+}
+
+#[test]
+fn memory_refused_to_a_stream() {
+    // What this takes itself is granted.
+    let whole = table(RIDE).unwrap();
+    let see = |(made, fault): (Vec<Text>, Option<Fault>)| {
+        let text: String = made.iter().map(|text| &**text).collect();
+        assert!(whole.starts_with(&text));
+        assert!(fault == Some(Fault::OutOfMemory) || (fault.is_none() && text == *whole));
+    };
+    let mut refused = 0;
+    for granted in 1.. {
+        grant(Some(granted));
+        let made = table_in_pieces();
+        if grant(None) <= Some(granted) {
+            break;
+        }
+        see(made);
+        refused += 1;
+    }
+    assert!(refused > 0);
+    let mut stream = Stream::check().unwrap();
+    grant(Some(0));
+    let fed = RIDE.chunks(100).map(|piece| stream.feed(piece).map_err(|stopped| stopped.fault)).find(Result::is_err);
+    let again = stream.feed(RIDE).map_err(|stopped| stopped.fault);
+    grant(None);
+    assert!(fed.is_none() || (fed == Some(Err(Fault::OutOfMemory)) && again == Err(Fault::OutOfMemory)));
 }
