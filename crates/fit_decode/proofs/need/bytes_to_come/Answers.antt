@@ -9,3 +9,6 @@ overflow_add-result c =
     four_bytes_below c.args.header.now c.split_at.result.1.now c.split_at-in-Some.result.0.now c.bits_at.result low c.split_at.ensures.back
     c.split_at-in-Some.ensures.front c.split_at-in-Some.ensures.front_len c.bits_at.ensures in
     omega (arith, small, c.saturating_sub-rest.ensures, c.from.ensures, low zero)
+
+pub returns-in-Data : goal.returns-in-Data
+returns-in-Data c = cc

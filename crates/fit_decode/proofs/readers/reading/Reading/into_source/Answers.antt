@@ -11,3 +11,6 @@ array_drop-self-inside-requires g c =
     let reading : Ty = layout (the_row (S-row g.row.S g.row.A) (A-row g.row.S g.row.A) g.S.Source g.A.Allocator) in
     let decoder : Ty = field_of 3 reading in
     field_is_within 0 (field_of 3 decoder) _ (field_is_within 3 decoder _ (field_is_within 3 reading _ (search rules)))
+
+pub returns : goal.returns
+returns g c = cc

@@ -10,3 +10,6 @@ new-requires g c = field_is_within 3 (layout (the_row (S-row g.row.S g.row.A) (A
 
 pub invariant_of-result : goal.invariant_of-result
 invariant_of-result g c = λ fresh. ([], after_none g.row.A.Denot c.new.result c.new-2.result.items c.new.ensures c.new-2.ensures)
+
+pub returns : goal.returns
+returns g c = cc
