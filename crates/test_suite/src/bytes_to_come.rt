@@ -1,4 +1,5 @@
 //! A file of a definition message and a data message, both without fields.
+use crate::asserts::equal;
 use crate::fed::{feed, feed_each};
 use fit_decode::{Decoder, Fault};
 use fit_frame::Reason;
@@ -15,7 +16,7 @@ fn in_one_piece(rt: HostRuntime) -> Result<(), Fault> {
         (2, (b'e', 0)),
         (0, (b'.', 0)),
     ] {
-        assert_eq!(rt; feed(&mut decoder, piece)?, (used, event));
+        equal(&rt, &feed(&mut decoder, piece)?, &(used, event));
         piece = piece.get(used..).unwrap_or_default();
     }
     decoder.finish()
@@ -26,9 +27,17 @@ fn byte_by_byte(rt: HostRuntime) -> Result<(), Fault> {
     let mut decoder = Decoder::new(rt.alloc());
     let told = *b".............h.....dv.e";
     for i in 0..23 {
-        assert_eq!(rt; decoder.finish(), Err(Fault::Truncated { place: i as u64 }));
+        equal(
+            &rt,
+            &decoder.finish(),
+            &Err(Fault::Truncated { place: i as u64 }),
+        );
         let size = if i == 13 { 7 } else { 0 };
-        assert_eq!(rt; feed(&mut decoder, &FILE[i..i + 1])?, (1, (told[i], size)));
+        equal(
+            &rt,
+            &feed(&mut decoder, &FILE[i..i + 1])?,
+            &(1, (told[i], size)),
+        );
     }
     decoder.finish()
 }
@@ -40,10 +49,10 @@ fn bytes_that_are_missing(rt: HostRuntime) -> Result<(), Fault> {
         14, 15, 14, 13, 12, 11, 10, 9, 15, 14, 13, 12, 11, 10, 9, 8, 7, 6, 5, 4, 3, 2, 1,
     ];
     for i in 0..23 {
-        assert_eq!(rt; decoder.need(), need[i]);
+        equal(&rt, &decoder.need(), &need[i]);
         feed(&mut decoder, &FILE[i..i + 1])?;
     }
-    assert_eq!(rt; decoder.need(), 14);
+    equal(&rt, &decoder.need(), &14);
     Ok(())
 }
 
@@ -56,9 +65,9 @@ fn a_refusal_lasts(rt: HostRuntime) -> Result<(), Fault> {
         reason: Reason::HeaderSize,
     };
     for piece in [b"\x0D\x20".as_slice(), b"\x0E"] {
-        assert_eq!(rt; feed(&mut decoder, piece), Err(refused));
+        equal(&rt, &feed(&mut decoder, piece), &Err(refused));
     }
-    assert_eq!(rt; decoder.finish(), Err(refused));
-    assert_eq!(rt; decoder.need(), 0);
+    equal(&rt, &decoder.finish(), &Err(refused));
+    equal(&rt, &decoder.need(), &0);
     Ok(())
 }

@@ -1,5 +1,6 @@
 //! Inputs cut at each place, and sources and sinks that fail there.
 
+use crate::asserts::{equal, holds_at};
 use crate::reading::has_bytes;
 use fit_decode::{CutSource, Fault, Reading, Source, read_chain, read_one};
 use fit_encode::{CutSink, EncodeFault, Encoder, write_chain, write_one};
@@ -62,11 +63,11 @@ fn read_each<S: Source + Drop>(
     for place in 0..count {
         let size = if place == 0 { known.first } else { rest.len() };
         let (bytes, more) = rest.split_at(size.min(rest.len()));
-        assert!(rt; has_next(alloc, reading, bytes), "{}", known.name);
+        holds_at(rt, has_next(alloc, reading, bytes), &known.name);
         rest = more;
     }
     for _ in 0..2 {
-        assert!(rt; ends(reading, end), "{}", known.name);
+        holds_at(rt, ends(reading, end), &known.name);
     }
 }
 
@@ -107,10 +108,10 @@ fn read_cut(rt: &impl Abort, alloc: Global, known: &Known, cut: &[u8]) {
     let k = cut.len();
     let fault = Fault::Truncated { place: k as u64 };
     let one = read_one(alloc, &mut &cut[..]);
-    assert!(rt;
+    holds_at(
+        rt,
         is_first(alloc, known, cut, one, fault),
-        "{} at {k}",
-        known.name
+        &(known.name, k),
     );
     let end = if k == known.first || k == known.bytes.len() {
         None
@@ -118,10 +119,10 @@ fn read_cut(rt: &impl Abort, alloc: Global, known: &Known, cut: &[u8]) {
         Some(fault)
     };
     let chain = read_chain(alloc, &mut &cut[..]);
-    assert!(rt;
+    holds_at(
+        rt,
         is_chain(alloc, known, cut, chain, end),
-        "{} at {k}",
-        known.name
+        &(known.name, k),
     );
     let mut reading = Reading::new(alloc, cut);
     read_each(rt, alloc, known, &mut reading, whole_files(known, k), end);
@@ -144,18 +145,18 @@ fn read_failing(rt: &impl Abort, alloc: Global, known: &Known, cut: &[u8]) {
     let fault = Fault::Read { place: k as u64 };
     let mut source = CutSource::new(known.bytes, k);
     let one = read_one(alloc, &mut source);
-    assert!(rt; source.failed() == one.is_err(), "{} at {k}", known.name);
-    assert!(rt;
+    holds_at(rt, source.failed() == one.is_err(), &(known.name, k));
+    holds_at(
+        rt,
         is_first(alloc, known, cut, one, fault),
-        "{} at {k}",
-        known.name
+        &(known.name, k),
     );
     let mut source = CutSource::new(known.bytes, k);
     let chain = read_chain(alloc, &mut source);
-    assert!(rt;
+    holds_at(
+        rt,
         is_chain(alloc, known, cut, chain, Some(fault)),
-        "{} at {k}",
-        known.name
+        &(known.name, k),
     );
     let mut reading = Reading::new(alloc, CutSource::new(known.bytes, k));
     read_each(
@@ -187,8 +188,8 @@ fn put(
 ) -> Result<(), EncodeFault> {
     let answer = encoder.put(sink, record_);
     if answer.is_err() {
-        assert_eq!(rt; encoder.put(sink, record_), answer);
-        assert_eq!(rt; encoder.finish(sink), answer);
+        equal(rt, &encoder.put(sink, record_), &answer);
+        equal(rt, &encoder.finish(sink), &answer);
     }
     answer
 }
@@ -201,7 +202,7 @@ fn finish(
 ) -> Result<(), EncodeFault> {
     let answer = encoder.finish(sink);
     if answer.is_err() {
-        assert_eq!(rt; encoder.finish(sink), answer);
+        equal(rt, &encoder.finish(sink), &answer);
     }
     answer
 }
@@ -241,17 +242,17 @@ fn write_first(rt: &impl Abort, alloc: Global, known: &Known, file: &FitFile, cu
     let k = cut.len();
     let mut sink = CutSink::<128>::new(k);
     let answer = write_one(alloc, &mut sink, file);
-    assert!(rt;
+    holds_at(
+        rt,
         is_cut(answer, &sink, known.first, cut),
-        "{} at {k}",
-        known.name
+        &(known.name, k),
     );
     let mut sink = CutSink::<128>::new(k);
     let answer = encode(rt, alloc, &mut sink, file, known.first);
-    assert!(rt;
+    holds_at(
+        rt,
         is_cut(answer, &sink, known.first, cut),
-        "{} at {k}",
-        known.name
+        &(known.name, k),
     );
 }
 
@@ -261,7 +262,7 @@ fn write_cut(rt: &impl Abort, alloc: Global, known: &Known, files: &[FitFile], c
     let mut sink = CutSink::<128>::new(k);
     let answer = write_chain(alloc, &mut sink, files);
     let size = known.bytes.len();
-    assert!(rt; is_cut(answer, &sink, size, cut), "{} at {k}", known.name);
+    holds_at(rt, is_cut(answer, &sink, size, cut), &(known.name, k));
     if let Some(file) = files.first() {
         write_first(rt, alloc, known, file, cut);
     }

@@ -1,5 +1,6 @@
 //! What is known of a developer field after its description.
 
+use crate::asserts::{equal, equal_at};
 use fit_base::base_type::{BYTE, UINT8, UINT16};
 use fit_base::{Entries, Items, Order};
 use fit_decode::read_one;
@@ -73,10 +74,10 @@ fn learned(alloc: Global) -> Result<Env, AllocError> {
 #[test]
 fn a_described_developer_field(rt: HostRuntime) -> Result<(), AllocError> {
     let env = learned(rt.alloc())?;
-    assert_eq!(rt; env.length(1), Some(2));
-    assert_eq!(rt; env.dev_code(1, 0), Some(UINT16));
+    equal(&rt, &env.length(1), &Some(2));
+    equal(&rt, &env.dev_code(1, 0), &Some(UINT16));
     assert!(rt; env.definition(1).is_some_and(|d| d.global == RECORD));
-    assert_eq!(rt; env.fits(&message(rt.alloc())?), Ok(3));
+    equal(&rt, &env.fits(&message(rt.alloc())?), &Ok(3));
     Ok(())
 }
 
@@ -93,9 +94,13 @@ fn codes_in_a_file(rt: HostRuntime) -> Result<(), Fail> {
             1..=4 => Some(BYTE),
             _ => Some(UINT16),
         };
-        assert_eq!(rt; env.dev_code(1, 0), code, "{place}");
-        assert_eq!(rt; (env.dev_code(1, 1), env.dev_code(16, 0)), (None, None));
+        equal_at(&rt, &env.dev_code(1, 0), &code, &place);
+        equal(
+            &rt,
+            &(env.dev_code(1, 1), env.dev_code(16, 0)),
+            &(None, None),
+        );
     }
-    assert_eq!(rt; file.records.len(), 7);
+    equal(&rt, &file.records.len(), &7);
     Ok(())
 }

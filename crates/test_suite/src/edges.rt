@@ -1,5 +1,6 @@
 //! Sources and sinks at their ends: empty buffers and slices, and what has failed after a good result.
 
+use crate::asserts::equal;
 use fit_decode::{CutSource, Fault, ReadSource, Source, SourceFailed, read_one};
 use fit_encode::{
     CutSink, EncodeFault, Encoder, Sink, SinkFailed, WriteSink, put_all, write_chain, write_one,
@@ -26,19 +27,19 @@ impl Read for Broken {
 fn a_source_that_fails_at_once(rt: HostRuntime) {
     let mut buffer = [0u8; 4];
     let mut source = CutSource::new(b"ab", 0);
-    assert_eq!(rt; source.take(&mut []), Ok(0));
+    equal(&rt, &source.take(&mut []), &Ok(0));
     assert!(rt; !source.failed());
-    assert_eq!(rt; source.take(&mut buffer), Err(SourceFailed));
-    assert_eq!(rt; source.take(&mut []), Err(SourceFailed));
+    equal(&rt, &source.take(&mut buffer), &Err(SourceFailed));
+    equal(&rt, &source.take(&mut []), &Err(SourceFailed));
     assert!(rt; source.failed());
 }
 
 /// Takes nothing, all of two bytes, and then nothing again.
 fn take_two<S: Source>(rt: &impl Abort, source: &mut S) {
     let mut buffer = [0u8; 4];
-    assert_eq!(rt; source.take(&mut []), Ok(0));
-    assert_eq!(rt; source.take(&mut buffer), Ok(2));
-    assert_eq!(rt; source.take(&mut buffer), Ok(0));
+    equal(rt, &source.take(&mut []), &Ok(0));
+    equal(rt, &source.take(&mut buffer), &Ok(2));
+    equal(rt, &source.take(&mut buffer), &Ok(0));
     assert!(rt; !source.failed());
 }
 
@@ -57,7 +58,7 @@ fn a_reader_that_fails(rt: HostRuntime) {
     let mut buffer = [0u8; 4];
     let mut source = ReadSource::new(Broken(0));
     for _ in 0..3 {
-        assert_eq!(rt; source.take(&mut buffer), Err(SourceFailed));
+        equal(&rt, &source.take(&mut buffer), &Err(SourceFailed));
         assert!(rt; source.failed());
     }
 }
@@ -85,10 +86,10 @@ impl Write for Narrow {
 #[test]
 fn a_sink_that_fails_at_once(rt: HostRuntime) {
     let mut sink = CutSink::<4>::new(0);
-    assert_eq!(rt; sink.put(&[]), Ok(0));
+    equal(&rt, &sink.put(&[]), &Ok(0));
     assert!(rt; !sink.failed());
-    assert_eq!(rt; sink.put(b"a"), Err(SinkFailed));
-    assert_eq!(rt; sink.put(&[]), Err(SinkFailed));
+    equal(&rt, &sink.put(b"a"), &Err(SinkFailed));
+    equal(&rt, &sink.put(&[]), &Err(SinkFailed));
     assert!(rt; sink.failed());
 }
 
@@ -97,23 +98,23 @@ fn a_writer_that_is_full(rt: HostRuntime) {
     let mut room = [0u8; 2];
     let mut sink = WriteSink::new(room.as_mut_slice());
     for (bytes, count) in [(b"".as_slice(), 0), (b"abc", 2), (b"", 0)] {
-        assert_eq!(rt; sink.put(bytes), Ok(count));
+        equal(&rt, &sink.put(bytes), &Ok(count));
         assert!(rt; !sink.failed());
     }
     // No byte of some is taken.
-    assert_eq!(rt; sink.put(b"c"), Ok(0));
+    equal(&rt, &sink.put(b"c"), &Ok(0));
     assert!(rt; sink.failed());
-    assert_eq!(rt; sink.put(b"c"), Err(SinkFailed));
-    assert_eq!(rt; put_all(&mut sink, b"c"), Err(0));
+    equal(&rt, &sink.put(b"c"), &Err(SinkFailed));
+    equal(&rt, &put_all(&mut sink, b"c"), &Err(0));
 }
 
 #[test]
 fn more_bytes_than_a_writer_takes(rt: HostRuntime) {
     let mut room = [0u8; 2];
     let mut sink = WriteSink::new(room.as_mut_slice());
-    assert_eq!(rt; put_all(&mut sink, b"abc"), Err(2));
+    equal(&rt, &put_all(&mut sink, b"abc"), &Err(2));
     assert!(rt; sink.failed());
-    assert_eq!(rt; put_all(&mut sink, &[]), Ok(()));
+    equal(&rt, &put_all(&mut sink, &[]), &Ok(()));
 }
 
 impl Narrow {
@@ -131,7 +132,7 @@ fn is_good(sink: WriteSink<Narrow>, bytes: &[u8]) -> bool {
 #[test]
 fn all_bytes_put(rt: HostRuntime) {
     let mut sink = Narrow::sink();
-    assert_eq!(rt; put_all(&mut sink, b"abc"), Ok(()));
+    equal(&rt, &put_all(&mut sink, b"abc"), &Ok(()));
     assert!(rt; is_good(sink, b"abc"));
 }
 
@@ -139,7 +140,7 @@ fn all_bytes_put(rt: HostRuntime) {
 fn a_file_written(rt: HostRuntime) -> Result<(), Fault> {
     let file = read_one(rt.alloc(), &mut BOTH_ORDERS.as_slice())?;
     let mut sink = Narrow::sink();
-    assert_eq!(rt; write_one(rt.alloc(), &mut sink, &file), Ok(()));
+    equal(&rt, &write_one(rt.alloc(), &mut sink, &file), &Ok(()));
     assert!(rt; is_good(sink, &BOTH_ORDERS));
     Ok(())
 }
@@ -149,7 +150,7 @@ fn a_chain_written(rt: HostRuntime) -> Result<(), Fault> {
     let file = read_one(rt.alloc(), &mut SHORT.as_slice())?;
     let mut sink = Narrow::sink();
     let answer = write_chain(rt.alloc(), &mut sink, std::slice::from_ref(&file));
-    assert_eq!(rt; answer, Ok(()));
+    equal(&rt, &answer, &Ok(()));
     assert!(rt; is_good(sink, &SHORT));
     Ok(())
 }
@@ -174,7 +175,7 @@ fn encode(
 fn a_file_encoded(rt: HostRuntime) -> Result<(), Fault> {
     let file = read_one(rt.alloc(), &mut BOTH_ORDERS.as_slice())?;
     let mut sink = Narrow::sink();
-    assert_eq!(rt; encode(&rt, rt.alloc(), &mut sink, &file), Ok(()));
+    equal(&rt, &encode(&rt, rt.alloc(), &mut sink, &file), &Ok(()));
     assert!(rt; is_good(sink, &BOTH_ORDERS));
     Ok(())
 }

@@ -1,5 +1,6 @@
 //! Bytes of files fed to a decoder, and what it returns.
 
+use crate::asserts::{equal, equal_at};
 use crate::written;
 use crate::written::define;
 use fit_base::base_type::BYTE;
@@ -41,7 +42,7 @@ pub fn feed<A: Allocator + Copy>(
 /// Feeds some bytes one by one.
 pub fn feed_each(decoder: &mut Decoder, bytes: &[u8]) -> Result<(), Fault> {
     for byte in bytes {
-        decoder.feed(&[*byte])?;
+        feed(decoder, &[*byte])?;
     }
     Ok(())
 }
@@ -71,17 +72,18 @@ fn held_at(place: usize) -> Option<u64> {
 #[test]
 fn byte_by_byte(rt: HostRuntime) -> Result<(), Fault> {
     let mut decoder = Decoder::new(rt.alloc());
-    assert_eq!(rt; decoder.need(), 14);
+    equal(&rt, &decoder.need(), &14);
     for (place, byte) in BOTH_ORDERS.iter().enumerate() {
-        assert_eq!(rt;
-            feed(&mut decoder, &[*byte])?,
-            (1, told_at(place)),
-            "{place}"
+        equal_at(
+            &rt,
+            &feed(&mut decoder, &[*byte])?,
+            &(1, told_at(place)),
+            &place,
         );
         let held = decoder.held();
-        assert_eq!(rt; held_at(place).unwrap_or(held), held, "{place}");
+        equal_at(&rt, &held_at(place).unwrap_or(held), &held, &place);
         if place == 13 {
-            assert_eq!(rt; decoder.need(), 38);
+            equal(&rt, &decoder.need(), &38);
         }
         if place == 28 {
             assert!(rt; held <= 6);
@@ -121,7 +123,7 @@ fn refused_last(alloc: Global, size: u32, data: &[u8], last: u8) -> Option<(u64,
 fn sizes_of_data(rt: HostRuntime) {
     for (size, answer) in [(0, None), (3, Some((7, Reason::NoFit))), (6, None)] {
         let mut decoder = Decoder::new(rt.alloc());
-        assert_eq!(rt; refused(&mut decoder, &header(size)), answer, "{size}");
+        equal_at(&rt, &refused(&mut decoder, &header(size)), &answer, &size);
     }
 }
 
@@ -163,10 +165,11 @@ fn the_last_byte(rt: HostRuntime) {
         (15, small, 2, Some((23, Reason::Overrun))),
     ];
     for (size, data, last, answer) in rows {
-        assert_eq!(rt;
-            refused_last(rt.alloc(), size, data, last),
-            answer,
-            "{size} {last}"
+        equal_at(
+            &rt,
+            &refused_last(rt.alloc(), size, data, last),
+            &answer,
+            &(size, last),
         );
     }
 }
@@ -203,8 +206,8 @@ fn refuse_message(
     assert!(rt; begins(decoder, &piece, 14, &begun)?);
     assert!(rt; begins(decoder, &piece[14..], 9, defined)?);
     let refused = Fault::Refused { place: 23, reason };
-    assert_eq!(rt; feed(decoder, &piece[23..]), Err(refused), "{first}");
-    assert_eq!(rt; decoder.held(), 0);
+    equal_at(rt, &feed(decoder, &piece[23..]), &Err(refused), &first);
+    equal(rt, &decoder.held(), &0);
     Ok(())
 }
 

@@ -1,5 +1,6 @@
 //! Files with described developer fields and with fields of many kinds, whose records are known value by value.
 
+use crate::asserts::{equal, equal_at, holds_at};
 use crate::descriptions::take;
 use crate::reading::{Told, tell_cut};
 use crate::written::fields_of;
@@ -170,32 +171,40 @@ fn fed_in_pieces(rt: HostRuntime) -> Result<(), Fail> {
     Ok(())
 }
 
+/// Whether a data message with these bytes has these values.
+fn has_values(alloc: Global, env: &Env, bytes: &[u8], values: &Values) -> Result<bool, AllocError> {
+    match env.message_bytes(bytes) {
+        Some(found) => Ok(found.values(alloc)? == *values),
+        None => Ok(false),
+    }
+}
+
 /// Takes in the records of a file. Each data message has its values by its bytes.
 fn learn_each(
     rt: &impl Abort,
     alloc: Global,
+    env: &mut Env,
     known: &Known,
     records: &[Record],
-) -> Result<Env, Fail> {
-    let mut env = Env::new(alloc);
+) -> Result<(), AllocError> {
     let mut start = 14;
     for (end, record_) in known.ends.iter().skip(1).zip(records) {
         let bytes = known.bytes.get(start..end.0).unwrap_or_default();
         if let Record::Values(values) = record_ {
-            let found = env.message_bytes(bytes).expect(rt, "a message");
-            assert!(rt; found.values(alloc)? == *values, "at {start}");
+            holds_at(rt, has_values(alloc, env, bytes, values)?, &start);
         }
-        take(&mut env, record_)?;
+        take(env, record_)?;
         start = end.0;
     }
-    Ok(env)
+    Ok(())
 }
 
 #[test]
 fn learned_one_by_one(rt: HostRuntime) -> Result<(), Fail> {
     let alloc = rt.alloc();
     let records = records_of_two_fields(alloc)?;
-    let env = learn_each(&rt, alloc, &two_fields(), records.as_slice())?;
+    let mut env = Env::new(alloc);
+    learn_each(&rt, alloc, &mut env, &two_fields(), records.as_slice())?;
     for (local, place, code) in [
         (0, 0, None),
         (1, 0, Some(UINT16)),
@@ -204,10 +213,11 @@ fn learned_one_by_one(rt: HostRuntime) -> Result<(), Fail> {
         (2, 0, Some(FLOAT32)),
         (2, 1, Some(UINT16)),
     ] {
-        assert_eq!(rt; env.dev_code(local, place), code, "{local} {place}");
+        equal_at(&rt, &env.dev_code(local, place), &code, &(local, place));
     }
     let records = records_of_kinds(alloc)?;
-    let env = learn_each(&rt, alloc, &kinds(), records.as_slice())?;
-    assert_eq!(rt; env.length(1), Some(89));
+    let mut env = Env::new(alloc);
+    learn_each(&rt, alloc, &mut env, &kinds(), records.as_slice())?;
+    equal(&rt, &env.length(1), &Some(89));
     Ok(())
 }

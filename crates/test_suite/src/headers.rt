@@ -1,4 +1,5 @@
 //! Headers and refusals that are known from outside.
+use crate::asserts::{equal, holds_at};
 use arrayvec::ArrayVec;
 use fit_frame::{HeadFault, HeadReader, Header, HeaderSum, PROTOCOL_2_0, Reason, head_bytes};
 
@@ -60,12 +61,13 @@ fn headers_both_ways(rt: HostRuntime) {
     ];
     for (header, bytes) in rows {
         match head_bytes(&header, 0) {
-            Ok(spelled) => assert_eq!(rt; spelled.as_slice(), bytes),
-            Err(fault) => assert!(rt; false, "{fault}"),
+            Ok(spelled) => equal(&rt, &spelled.as_slice(), &bytes),
+            Err(fault) => holds_at(&rt, false, &fault),
         }
-        assert_eq!(rt;
-            last_answer(bytes),
-            (bytes.len() - 1, Ok(Some((header, 0))))
+        equal(
+            &rt,
+            &last_answer(bytes),
+            &(bytes.len() - 1, Ok(Some((header, 0)))),
         );
     }
 }
@@ -73,9 +75,10 @@ fn headers_both_ways(rt: HostRuntime) {
 #[test]
 fn data_size_is_read(rt: HostRuntime) {
     let bytes = b"\x0E\x20\0\0\x07\0\0\0.FIT\xDD\x63";
-    assert_eq!(rt;
-        last_answer(bytes),
-        (13, Ok(Some((header(14, 0, HeaderSum::True, b""), 7))))
+    equal(
+        &rt,
+        &last_answer(bytes),
+        &(13, Ok(Some((header(14, 0, HeaderSum::True, b""), 7)))),
     );
 }
 
@@ -95,7 +98,7 @@ fn refusals(rt: HostRuntime) {
         (b"\x0E\x20\0\0\0\0\0\0.FIT\0\x85", 13, Reason::HeaderSum),
     ];
     for (bytes, place, reason) in rows {
-        assert_eq!(rt; last_answer(bytes), (place, Err(reason)));
+        equal(&rt, &last_answer(bytes), &(place, Err(reason)));
     }
 }
 
@@ -109,17 +112,17 @@ fn not_refused(rt: HostRuntime) {
         b"\xFF\x2F",
     ];
     for bytes in rows {
-        assert_eq!(rt; last_answer(bytes), (bytes.len() - 1, Ok(None)));
+        equal(&rt, &last_answer(bytes), &(bytes.len() - 1, Ok(None)));
     }
 }
 
 #[test]
 fn a_refusal_stays(rt: HostRuntime) {
     let mut reader = HeadReader::new();
-    assert_eq!(rt; reader.put(0x0D), Err(Reason::HeaderSize));
-    assert_eq!(rt; reader.put(0x0E), Err(Reason::HeaderSize));
-    assert_eq!(rt; reader.bytes(), b"".as_slice());
-    assert_eq!(rt; reader.done(), false);
+    equal(&rt, &reader.put(0x0D), &Err(Reason::HeaderSize));
+    equal(&rt, &reader.put(0x0E), &Err(Reason::HeaderSize));
+    equal(&rt, &reader.bytes(), &b"".as_slice());
+    equal(&rt, &reader.done(), &false);
 }
 
 #[test]
@@ -149,6 +152,6 @@ fn headers_without_bytes(rt: HostRuntime) {
 
 #[test]
 fn names(rt: HostRuntime) {
-    assert_eq!(rt; Reason::FileSum.name(), "FileSum");
-    assert_eq!(rt; Reason::HeaderSum.name(), "HeaderSum");
+    equal(&rt, &Reason::FileSum.name(), &"FileSum");
+    equal(&rt, &Reason::HeaderSum.name(), &"HeaderSum");
 }

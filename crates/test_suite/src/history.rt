@@ -1,4 +1,5 @@
 //! What no contract says: a history has no bytes.
+use crate::asserts::equal;
 use fit_history::History;
 
 #[derive(Drop)]
@@ -9,9 +10,9 @@ struct Counted {
 
 #[test]
 fn has_no_bytes(rt: HostRuntime) {
-    assert_eq!(rt; std::mem::size_of::<History<u8>>(), 0);
-    assert_eq!(rt; std::mem::size_of::<History<(u64, u16)>>(), 0);
-    assert_eq!(rt; std::mem::size_of::<Counted>(), 4);
+    equal(&rt, &std::mem::size_of::<History<u8>>(), &0);
+    equal(&rt, &std::mem::size_of::<History<(u64, u16)>>(), &0);
+    equal(&rt, &std::mem::size_of::<Counted>(), &4);
 }
 
 #[test]
@@ -24,5 +25,5 @@ fn is_kept_beside_what_it_tells_of(rt: HostRuntime) {
     counted.count += 1;
     counted.bytes.note(&[8, 9]);
     counted.count += 2;
-    assert_eq!(rt; counted.count, 3);
+    equal(&rt, &counted.count, &3);
 }

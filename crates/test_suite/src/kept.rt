@@ -1,5 +1,6 @@
 //! Known files, written again from records that are kept as their bytes.
 
+use crate::asserts::{equal, equal_at};
 use crate::written::header;
 use fit_decode::read_chain;
 use fit_encode::{CutSink, EncodeFault, SpelledFiles, SpelledRecords, write_spelled};
@@ -34,8 +35,8 @@ fn known_files(rt: HostRuntime) -> Result<(), Fail> {
         }
         let mut sink = CutSink::<256>::new(256);
         let answer = write_spelled(&mut sink, &files);
-        assert_eq!(rt; answer, Ok(()), "{}", known.name);
-        assert_eq!(rt; sink.bytes(), known.bytes, "{}", known.name);
+        equal_at(&rt, &answer, &Ok(()), &known.name);
+        equal_at(&rt, &sink.bytes(), &known.bytes, &known.name);
     }
     Ok(())
 }
@@ -46,15 +47,15 @@ fn first_fault_of_several(rt: HostRuntime) -> Result<(), Fail> {
     let mut files = SpelledFiles::new(alloc);
     let mut none = SpelledRecords::new(alloc);
     let mut sink = CutSink::<64>::new(64);
-    assert_eq!(rt; files.is_empty(), true);
+    equal(&rt, &files.is_empty(), &true);
     let answer = write_spelled(&mut sink, &files);
-    assert_eq!(rt; answer, Err(EncodeFault::ChainLength));
+    equal(&rt, &answer, &Err(EncodeFault::ChainLength));
     files.push(&header(12, 0, HeaderSum::Absent), &mut none)?;
     files.push(&header(14, 46477, HeaderSum::Zero), &mut none)?;
     files.push(&header(13, 0, HeaderSum::True), &mut none)?;
-    assert_eq!(rt; (files.is_empty(), files.has_room()), (false, true));
+    equal(&rt, &(files.is_empty(), files.has_room()), &(false, true));
     let answer = write_spelled(&mut sink, &files);
-    assert_eq!(rt; answer, Err(EncodeFault::ZeroIsSum { file: 2 }));
-    assert_eq!(rt; sink.bytes(), b"".as_slice());
+    equal(&rt, &answer, &Err(EncodeFault::ZeroIsSum { file: 2 }));
+    equal(&rt, &sink.bytes(), &b"".as_slice());
     Ok(())
 }

@@ -1,9 +1,11 @@
 //! Data messages in their bytes.
+use crate::asserts::equal;
 use crate::descriptions::take;
 use fit_base::base_type::{UINT8, UINT16, UINT32};
 use fit_base::{Entries, Items, Order};
 use fit_record::{Env, FieldDef, MessageDef, Record, Values, read_items};
 use std::alloc::{AllocError, Global};
+use std::process::Abort;
 use test_known::protocol::{HEART_RATE, RECORD, TIMESTAMP};
 
 /// Messages of local type 0 with a time and a heart rate are known.
@@ -32,19 +34,31 @@ fn values_of_a_message(rt: HostRuntime) -> Result<(), AllocError> {
     // The last byte is that of the record after it.
     let bytes = [0x00, 0x1F, 0xCA, 0x9A, 0x3B, 0x78, 0x40];
     let found = env.message_bytes(&bytes).expect(&rt, "a message");
-    assert_eq!(rt; (found.local, found.offset, found.body.len()), (0, None, 5));
+    equal(
+        &rt,
+        &(found.local, found.offset, found.body.len()),
+        &(0, None, 5),
+    );
     let values = found.values(rt.alloc())?;
-    assert_eq!(rt; values, message(rt.alloc(), 1_000_000_031, 120)?);
+    equal(&rt, &values, &message(rt.alloc(), 1_000_000_031, 120)?);
     assert!(rt; env.message_bytes(&bytes[..5]).is_none());
+    Ok(())
+}
+
+/// Asserts the items of a field of two numbers in this order.
+fn has_items(
+    rt: &impl Abort,
+    alloc: Global,
+    order: Order,
+    numbers: &[u64],
+) -> Result<(), AllocError> {
+    let found = read_items(alloc, order, UINT16, 4, &[0x01, 0x02, 0x03, 0x04])?;
+    equal(rt, &found, &Items::from_slice(alloc, 2, numbers)?);
     Ok(())
 }
 
 #[test]
 fn items_of_a_field(rt: HostRuntime) -> Result<(), AllocError> {
-    let bytes = [0x01, 0x02, 0x03, 0x04];
-    let found = read_items(rt.alloc(), Order::Big, UINT16, 4, &bytes)?;
-    assert_eq!(rt; found, Items::from_slice(rt.alloc(), 2, &[0x0102, 0x0304])?);
-    let found = read_items(rt.alloc(), Order::Little, UINT16, 4, &bytes)?;
-    assert_eq!(rt; found, Items::from_slice(rt.alloc(), 2, &[0x0201, 0x0403])?);
-    Ok(())
+    has_items(&rt, rt.alloc(), Order::Big, &[0x0102, 0x0304])?;
+    has_items(&rt, rt.alloc(), Order::Little, &[0x0201, 0x0403])
 }

@@ -1,4 +1,5 @@
 //! Base types, numbers and lists: worked values, each function of `fit_base` once.
+use crate::asserts::{equal, equal_at};
 use fit_base::{
     Bits, Class, Code, Entries, Items, Order, base_type, bits_at, has_shape, put_bits, signed,
     width_of,
@@ -20,34 +21,31 @@ const BASE_TYPES: [(u8, u8, u64, Class); 6] = [
 fn base_types(rt: HostRuntime) {
     for (code, width, invalid, class) in BASE_TYPES {
         let code = Code(code);
-        assert_eq!(rt;
-            (code.width(), code.invalid(), code.class()),
-            (width, invalid, class),
-            "code {}",
-            code.0
+        equal_at(
+            &rt,
+            &(code.width(), code.invalid(), code.class()),
+            &(width, invalid, class),
+            &code.0,
         );
     }
-    assert_eq!(rt; base_type::codes()[9], base_type::UINT32);
+    equal(&rt, &base_type::codes()[9], &base_type::UINT32);
 }
 
 #[test]
 fn widths(rt: HostRuntime) {
     for (code, size, width) in [(0x84, 6, 2), (0x84, 3, 1), (0x84, 0, 2), (0x1F, 6, 1)] {
-        assert_eq!(rt;
-            width_of(Code(code), size),
-            width,
-            "code {code}, size {size}"
-        );
+        equal_at(&rt, &width_of(Code(code), size), &width, &(code, size));
     }
 }
 
 #[test]
 fn numbers(rt: HostRuntime) {
-    assert_eq!(rt; bits_at(Order::Big, 2, &[0x09, 0xC4]), 2500);
-    assert_eq!(rt; bits_at(Order::Little, 2, &[0x34, 0x12]), 4660);
-    assert_eq!(rt;
-        bits_at(Order::Little, 4, &[0x1F, 0xCA, 0x9A, 0x3B]),
-        1_000_000_031
+    equal(&rt, &bits_at(Order::Big, 2, &[0x09, 0xC4]), &2500);
+    equal(&rt, &bits_at(Order::Little, 2, &[0x34, 0x12]), &4660);
+    equal(
+        &rt,
+        &bits_at(Order::Little, 4, &[0x1F, 0xCA, 0x9A, 0x3B]),
+        &1_000_000_031,
     );
 }
 
@@ -55,18 +53,18 @@ fn numbers(rt: HostRuntime) {
 fn numbers_put(rt: HostRuntime) {
     let mut bytes = [0; 4];
     put_bits(Order::Little, 4, 1_000_000_031, &mut bytes);
-    assert_eq!(rt; bytes, [0x1F, 0xCA, 0x9A, 0x3B]);
+    equal(&rt, &bytes, &[0x1F, 0xCA, 0x9A, 0x3B]);
     put_bits(Order::Big, 2, 2500, &mut bytes[..2]);
-    assert_eq!(rt; bytes, [0x09, 0xC4, 0x9A, 0x3B]);
+    equal(&rt, &bytes, &[0x09, 0xC4, 0x9A, 0x3B]);
 }
 
 #[test]
 fn signed_numbers(rt: HostRuntime) {
-    assert_eq!(rt; signed(1, 0xFF), -1);
-    assert_eq!(rt; signed(1, 0x7F), 127);
-    assert_eq!(rt; signed(2, 0x8000), -32_768);
-    assert_eq!(rt; signed(4, 0xFFFF_FFFE), -2);
-    assert_eq!(rt; signed(8, 0x8000_0000_0000_0000), i64::MIN);
+    equal(&rt, &signed(1, 0xFF), &-1);
+    equal(&rt, &signed(1, 0x7F), &127);
+    equal(&rt, &signed(2, 0x8000), &-32_768);
+    equal(&rt, &signed(4, 0xFFFF_FFFE), &-2);
+    equal(&rt, &signed(8, 0x8000_0000_0000_0000), &i64::MIN);
 }
 
 const NUMBERS: [u64; 3] = [812, 65_535, 0];
@@ -87,7 +85,7 @@ fn add_numbers(rt: &impl Abort, bits: &mut Bits) -> Result<(), AllocError> {
     assert!(rt; bits.as_slice() == [812].as_slice());
     bits.push(65_535)?;
     bits.push(0)?;
-    assert_eq!(rt; bits.len(), 3);
+    equal(rt, &bits.len(), &3);
     Ok(())
 }
 
@@ -96,7 +94,7 @@ fn lists_of_numbers(rt: HostRuntime) -> Result<(), AllocError> {
     let same = list_of_numbers(rt.alloc())?;
     let mut bits = Bits::new(rt.alloc());
     add_numbers(&rt, &mut bits)?;
-    assert_eq!(rt; bits, same);
+    equal(&rt, &bits, &same);
     Ok(())
 }
 
@@ -105,7 +103,7 @@ fn lists_and_vectors_of_numbers(rt: HostRuntime) -> Result<(), AllocError> {
     let same = list_of_numbers(rt.alloc())?;
     let numbers = list_of_numbers(rt.alloc())?.into_vec()?;
     assert!(rt; numbers.as_slice() == NUMBERS.as_slice());
-    assert_eq!(rt; Bits::from_vec(numbers), same);
+    equal(&rt, &Bits::from_vec(numbers), &same);
     let one = Bits::one(rt.alloc(), 812).into_vec()?;
     assert!(rt; one.as_slice() == [812].as_slice());
     assert!(rt; Bits::new(rt.alloc()).into_vec()?.is_empty());
@@ -131,7 +129,7 @@ fn add_codes(rt: &impl Abort, codes: &mut Entries<u8>) -> Result<(), AllocError>
     assert!(rt; codes.is_empty());
     codes.push(0x84)?;
     codes.push(0x0D)?;
-    assert_eq!(rt; codes.len(), 2);
+    equal(rt, &codes.len(), &2);
     assert!(rt; codes.as_slice() == [0x84, 0x0D].as_slice());
     Ok(())
 }
@@ -142,7 +140,7 @@ fn lists_of_elements(rt: HostRuntime) -> Result<(), AllocError> {
     add_codes(&rt, &mut same)?;
     let mut codes = Entries::with_capacity(rt.alloc(), 2)?;
     add_codes(&rt, &mut codes)?;
-    assert_eq!(rt; Entries::from_vec(codes.into_vec()), same);
+    equal(&rt, &Entries::from_vec(codes.into_vec()), &same);
     Ok(())
 }
 
@@ -150,7 +148,7 @@ fn lists_of_elements(rt: HostRuntime) -> Result<(), AllocError> {
 fn one_item(rt: HostRuntime) -> Result<(), AllocError> {
     let one = Items::from_slice(rt.alloc(), 4, &[1_000_000_000])?;
     assert!(rt; has_shape(Code(base_type::UINT32), 4, &one));
-    assert_eq!(rt; Items::one(rt.alloc(), 4, 1_000_000_000), one);
+    equal(&rt, &Items::one(rt.alloc(), 4, 1_000_000_000), &one);
     Ok(())
 }
 

@@ -1,5 +1,7 @@
 //! Known files, read from sources.
+use crate::asserts::{equal, holds_at};
 use crate::cut::{ends, has_next};
+use crate::fed::feed;
 use crate::sources::OneByOne;
 use crate::written::{both_orders, described, header};
 use fit_decode::{
@@ -48,7 +50,7 @@ fn files_are_read(rt: HostRuntime) -> Result<(), Fault> {
         (BOTH_ORDERS.as_slice(), 4),
         (DEVELOPER_FIELD.as_slice(), 7),
     ] {
-        assert!(rt; is_read(rt.alloc(), bytes, records)?, "{records} records");
+        holds_at(&rt, is_read(rt.alloc(), bytes, records)?, &records);
     }
     Ok(())
 }
@@ -64,7 +66,7 @@ fn files_are_read_in_pieces(rt: HostRuntime) -> Result<(), Fault> {
         for k in 0..bytes.len() {
             let (first, second) = bytes.split_at(k);
             let mut source = ReadSource::new(first.chain(second));
-            assert!(rt; gives(rt.alloc(), &mut source, bytes)?, "cut at {k}");
+            holds_at(&rt, gives(rt.alloc(), &mut source, bytes)?, &k);
         }
     }
     Ok(())
@@ -97,6 +99,24 @@ fn is_event(event: &Event, file: &Told, number: usize, place: usize) -> bool {
     is_next && end.0 == place
 }
 
+/// Feeds some bytes of a file, of which that many events and bytes came before: how many of them are used, and whether there was an event.
+/// It is the one of this number.
+fn tell_next(
+    rt: &impl Abort,
+    decoder: &mut Decoder,
+    file: &Told,
+    bytes: &[u8],
+    number: usize,
+    before: usize,
+) -> Result<(usize, bool), Fault> {
+    let fed = decoder.feed(bytes)?;
+    let place = before.saturating_add(fed.used);
+    let is_told = !matches!(fed.event, Event::More);
+    let is_next = is_event(&fed.event, file, number, place);
+    holds_at(rt, is_next || !is_told, &place);
+    Ok((fed.used, is_told))
+}
+
 /// Feeds a piece of a file, of which that many bytes and events came before. Returns how many events have come then.
 fn tell_piece(
     rt: &impl Abort,
@@ -110,13 +130,12 @@ fn tell_piece(
     let mut place = before;
     let mut number = events;
     for _ in 0..=piece.len() {
-        let fed = decoder.feed(rest)?;
-        rest = rest.get(fed.used..).unwrap_or_default();
-        place = place.saturating_add(fed.used);
-        if let Event::More = fed.event {
+        let (used, is_told) = tell_next(rt, decoder, file, rest, number, place)?;
+        rest = rest.get(used..).unwrap_or_default();
+        place = place.saturating_add(used);
+        if !is_told {
             break;
         }
-        assert!(rt; is_event(&fed.event, file, number, place), "at {place}");
         number = number.saturating_add(1);
     }
     assert!(rt; rest.is_empty());
@@ -132,7 +151,7 @@ fn tell(rt: &impl Abort, alloc: Global, file: &Told, pieces: &[&[u8]]) -> Result
         events = tell_piece(rt, &mut decoder, file, piece, place, events)?;
         place = place.saturating_add(piece.len());
     }
-    assert_eq!(rt; events, file.ends.len());
+    equal(rt, &events, &file.ends.len());
     decoder.finish()
 }
 
@@ -190,9 +209,10 @@ fn a_refused_byte_before_a_failure(rt: HostRuntime) {
         place: 0,
         reason: Reason::HeaderSize,
     };
-    assert_eq!(rt;
-        read_one(rt.alloc(), &mut CutSource::new(b"\x0D", 1)).err(),
-        Some(refused)
+    equal(
+        &rt,
+        &read_one(rt.alloc(), &mut CutSource::new(b"\x0D", 1)).err(),
+        &Some(refused),
     );
 }
 
@@ -201,9 +221,9 @@ fn bytes_after_a_file(rt: HostRuntime) -> Result<(), Fault> {
     let bytes = *b"\x0E\x20\0\0\0\0\0\0.FIT\x9C\x85\0\0\xFF";
     let mut source = bytes.as_slice();
     assert!(rt; gives(rt.alloc(), &mut source, &EMPTY)?);
-    assert_eq!(rt; source, b"\xFF".as_slice());
+    equal(&rt, &source, &b"\xFF".as_slice());
     let fault = read_chain(rt.alloc(), &mut bytes.as_slice()).err();
-    assert_eq!(rt; fault, Some(Fault::Truncated { place: 17 }));
+    equal(&rt, &fault, &Some(Fault::Truncated { place: 17 }));
     Ok(())
 }
 
@@ -216,26 +236,34 @@ fn a_bad_second_file(rt: HostRuntime) {
         place: 37,
         reason: Reason::UndefinedLocal,
     });
-    assert_eq!(rt; read_chain(alloc, &mut bytes.as_slice()).err(), refused);
+    equal(
+        &rt,
+        &read_chain(alloc, &mut bytes.as_slice()).err(),
+        &refused,
+    );
     let mut reading = Reading::new(alloc, bytes.as_slice());
     assert!(rt; has_next(alloc, &mut reading, &ONE_BYTE_MESSAGE));
     assert!(rt; ends(&mut reading, refused));
     assert!(rt; ends(&mut reading, refused));
 }
 
-#[test]
-fn a_chain(rt: HostRuntime) -> Result<(), Fault> {
-    let alloc = rt.alloc();
+/// How many files a chain of two known files has.
+fn files_of_both(alloc: Global) -> Result<usize, Fault> {
     let chain = BOTH_ORDERS.as_slice().chain(DEVELOPER_FIELD.as_slice());
     let files = read_chain(alloc, &mut ReadSource::new(chain))?;
-    assert_eq!(rt; files.len(), 2);
+    Ok(files.len())
+}
+
+#[test]
+fn a_chain(rt: HostRuntime) {
+    let alloc = rt.alloc();
+    equal(&rt, &files_of_both(alloc), &Ok(2));
     let chain = BOTH_ORDERS.as_slice().chain(DEVELOPER_FIELD.as_slice());
     let mut reading = Reading::new(alloc, ReadSource::new(chain));
     assert!(rt; has_next(alloc, &mut reading, &BOTH_ORDERS));
     assert!(rt; has_next(alloc, &mut reading, &DEVELOPER_FIELD));
     assert!(rt; ends(&mut reading, None));
     assert!(rt; ends(&mut reading, None));
-    Ok(())
 }
 
 /// 65,536 files of 14 bytes are fed.
@@ -243,10 +271,10 @@ fn a_chain(rt: HostRuntime) -> Result<(), Fault> {
 fn a_long_chain(rt: HostRuntime) -> Result<(), Fault> {
     let mut decoder = Decoder::new(rt.alloc());
     for _ in 0..65_536 {
-        decoder.feed(&SHORT[..12])?;
-        decoder.feed(&SHORT[12..])?;
+        feed(&mut decoder, &SHORT[..12])?;
+        feed(&mut decoder, &SHORT[12..])?;
     }
-    assert_eq!(rt; decoder.need(), 14);
+    equal(&rt, &decoder.need(), &14);
     decoder.finish()
 }
 
@@ -265,7 +293,7 @@ fn a_long_chain_again(rt: HostRuntime) -> Result<(), Fail> {
     for _ in 0..65_536 {
         bytes.extend_from_slice(&SHORT)?;
     }
-    assert_eq!(rt; bytes.len(), 917_504);
+    equal(&rt, &bytes.len(), &917_504);
     assert!(rt; is_written_again(rt.alloc(), bytes.as_slice(), 65_536)?);
     Ok(())
 }
@@ -273,7 +301,7 @@ fn a_long_chain_again(rt: HostRuntime) -> Result<(), Fail> {
 #[test]
 fn need_of_a_long_header(rt: HostRuntime) -> Result<(), Fault> {
     let mut decoder = Decoder::new(rt.alloc());
-    decoder.feed(&LONG[..1])?;
-    assert_eq!(rt; decoder.need(), 17);
+    feed(&mut decoder, &LONG[..1])?;
+    equal(&rt, &decoder.need(), &17);
     Ok(())
 }

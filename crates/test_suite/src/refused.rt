@@ -1,5 +1,6 @@
 //! Want of memory while a record is taken in.
 
+use crate::asserts::{equal, equal_at, holds_at};
 use crate::built::{description, descriptions, large, small};
 use fit_base::base_type::{BYTE, UINT16};
 use fit_record::{Env, Record};
@@ -63,9 +64,9 @@ fn refusals<A: Allocator + Copy>(
         if !is_refused_beside(env, alloc, most.saturating_sub(16 * blocks), new)? {
             return Ok(blocks);
         }
-        assert!(rt; is_defined(env, old), "{blocks}");
-        assert_eq!(rt; env.length(1), Some(3), "{blocks}");
-        assert_eq!(rt; env.dev_code(1, 0), Some(BYTE), "{blocks}");
+        holds_at(rt, is_defined(env, old), &blocks);
+        equal_at(rt, &env.length(1), &Some(3), &blocks);
+        equal_at(rt, &env.dev_code(1, 0), &Some(BYTE), &blocks);
     }
     Ok(0)
 }
@@ -80,8 +81,8 @@ fn define<A: Allocator + Copy>(
 ) -> Result<(), AllocError> {
     assert!(rt; refusals(rt, env, alloc, old, new)? >= 3);
     assert!(rt; is_defined(env, new));
-    assert_eq!(rt; env.length(1), Some(6));
-    assert_eq!(rt; env.dev_code(1, 1), Some(UINT16));
+    equal(rt, &env.length(1), &Some(6));
+    equal(rt, &env.dev_code(1, 1), &Some(UINT16));
     Ok(())
 }
 
@@ -95,9 +96,9 @@ fn describe<A: Allocator + Copy>(
 ) -> Result<(), AllocError> {
     assert!(rt; is_refused_beside(env, alloc, largest_block(alloc), description)?);
     take(env, old)?;
-    assert_eq!(rt; env.dev_code(1, 0), Some(BYTE));
+    equal(rt, &env.dev_code(1, 0), &Some(BYTE));
     take(env, description)?;
-    assert_eq!(rt; env.dev_code(1, 0), Some(BYTE));
+    equal(rt, &env.dev_code(1, 0), &Some(BYTE));
     Ok(())
 }
 

@@ -1,6 +1,7 @@
 //! Reports of known bytes, by a reporter that puts a dot for each event.
 ghost use Rattle.std.specs.Prelude.{◌≡◌, [], ◌∷◌};
 
+use crate::asserts::{equal, holds_at};
 use fit_decode::{CutSource, Event, Fault, Source};
 use fit_encode::{CutSink, Sink};
 use fit_frame::Reason;
@@ -88,11 +89,12 @@ fn inputs(rt: HostRuntime) -> Result<(), AllocError> {
         (70, 12, Err(refused)),
     ] {
         let mut input = chain.as_slice().get(..size).unwrap_or_default();
-        assert_eq!(rt; input.len(), size);
+        equal(&rt, &input.len(), &size);
         let answer = answer.map_err(ReportFault::Decode);
-        assert!(rt;
+        holds_at(
+            &rt,
             is_reported(rt.alloc(), &mut input, 64, dots, answer),
-            "at {size}"
+            &size,
         );
     }
     Ok(())
@@ -112,9 +114,10 @@ fn failing_sinks(rt: HostRuntime) {
             written: limit as u64,
         };
         let mut input = FILE.as_slice();
-        assert!(rt;
+        holds_at(
+            &rt,
             is_reported(rt.alloc(), &mut input, limit, limit, Err(fault)),
-            "{limit}"
+            &limit,
         );
     }
 }
@@ -146,7 +149,7 @@ fn texts_of_faults(rt: HostRuntime) -> Result<(), Fail> {
         ),
         (Fault::Read { place: 21 }, "read fault at byte 21"),
     ] {
-        assert!(rt; decodes_as(rt.alloc(), fault, text)?, "{text}");
+        holds_at(&rt, decodes_as(rt.alloc(), fault, text)?, &text);
     }
     let write = ReportFault::Write { written: 5 };
     assert!(rt; has_text(rt.alloc(), write, "write fault after 5 bytes")?);

@@ -1,26 +1,32 @@
 //! Rooms, and records that aren't whole, whose results are known from outside.
+use crate::asserts::equal_at;
+use crate::written;
 use fit_base::base_type::BYTE;
-use fit_base::{Entries, Order};
-use fit_record::{Env, FieldDef, MessageDef, Record, can_complete_front};
+use fit_record::{Env, FieldDef, Record, can_complete_front};
 use std::alloc::{AllocError, Global};
 use std::process::Abort;
 use test_known::protocol::RECORD;
 
-/// Defines data messages with that many bytes after the record header.
-fn define(env: &mut Env, alloc: Global, local: u8, size: u8) -> Result<bool, AllocError> {
-    let fields = Entries::from_slice(alloc, &[FieldDef::new(5, size, BYTE)])?;
-    let definition = Record::Define(MessageDef::new(local, Order::Little, RECORD, fields));
-    if env.fits(&definition).is_err() {
+/// Takes a record in where it fits, and says whether it does.
+fn learn(env: &mut Env, record_: &Record) -> Result<bool, AllocError> {
+    if env.fits(record_).is_err() {
         return Ok(false);
     }
-    env.learn(&definition)?;
+    env.learn(record_)?;
     Ok(true)
+}
+
+/// Defines data messages with that many bytes after the record header. Whether the definition fits.
+fn define(env: &mut Env, alloc: Global, local: u8, size: u8) -> Result<bool, AllocError> {
+    let field = FieldDef::new(5, size, BYTE);
+    let definition = Record::Define(written::define(alloc, local, RECORD, &[field])?);
+    learn(env, &definition)
 }
 
 /// Asserts which rooms can be filled.
 fn fill(rt: &impl Abort, env: &Env, rooms: &[(u32, bool)]) {
     for (room, filled) in rooms {
-        assert_eq!(rt; env.can_fill(*room), *filled, "room {room}");
+        equal_at(rt, &env.can_fill(*room), filled, &room);
     }
 }
 

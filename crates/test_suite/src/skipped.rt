@@ -1,5 +1,6 @@
 //! Records that are skipped, beside the same bytes fed.
 
+use crate::asserts::{equal, equal_at, holds_at};
 use crate::fed::{feed, header, same};
 use crate::starved::{fill, is_full};
 use fit_decode::{Decoder, Fault, Fed};
@@ -27,10 +28,11 @@ fn records_of(rt: &impl Abort, decoder: &mut Decoder, bytes: &[u8]) -> Result<u6
 
 /// Asserts that two decoders stand at the same place.
 fn are_alike(rt: &impl Abort, one: &Decoder, other: &Decoder) {
-    assert_eq!(rt; (one.need(), one.held()), (other.need(), other.held()));
-    assert_eq!(rt;
-        (one.files(), one.finish()),
-        (other.files(), other.finish())
+    equal(rt, &(one.need(), one.held()), &(other.need(), other.held()));
+    equal(
+        rt,
+        &(one.files(), one.finish()),
+        &(other.files(), other.finish()),
     );
 }
 
@@ -71,7 +73,7 @@ fn skip_both(
         Skip::Message => skip_messages(skipping, bytes),
     };
     let (front, _) = bytes.split_at(used.min(bytes.len()));
-    assert_eq!(rt; records_of(rt, feeding, front), Ok(count));
+    equal(rt, &records_of(rt, feeding, front), &Ok(count));
     are_alike(rt, skipping, feeding);
     (used, count)
 }
@@ -85,6 +87,14 @@ fn is_same(one: &Result<Fed, Fault>, other: &Result<Fed, Fault>) -> bool {
     }
 }
 
+/// How many bytes a decoder used.
+fn used_of(answer: &Result<Fed, Fault>) -> Result<usize, Fault> {
+    match answer {
+        Ok(fed) => Ok(fed.used),
+        Err(fault) => Err(*fault),
+    }
+}
+
 /// Feeds a piece to two decoders, which say the same of it. Returns how many of its bytes are used.
 fn feed_both(
     rt: &impl Abort,
@@ -95,7 +105,7 @@ fn feed_both(
     let answer = one.feed(piece);
     assert!(rt; is_same(&answer, &other.feed(piece)));
     are_alike(rt, one, other);
-    Ok(answer?.used)
+    used_of(&answer)
 }
 
 /// Gives a piece to two decoders, of which the first skips what it can. Both say the same. Returns how many records were skipped.
@@ -142,11 +152,11 @@ fn known_files_cut_anywhere(rt: HostRuntime) -> Result<(), Fault> {
         let whole = give_cut(&rt, rt.alloc(), Skip::Records, known.bytes, 0)?;
         match known.name {
             "orders" | "developer" | "both" => assert!(rt; whole > 0),
-            _ => assert_eq!(rt; whole, 0),
+            _ => equal(&rt, &whole, &0),
         }
         for k in 0..known.bytes.len() {
             let skipped = give_cut(&rt, rt.alloc(), Skip::Records, known.bytes, k)?;
-            assert!(rt; skipped <= whole, "{} at {k}", known.name);
+            holds_at(&rt, skipped <= whole, &(known.name, k));
         }
     }
     Ok(())
@@ -159,7 +169,7 @@ fn messages_cut_anywhere(rt: HostRuntime) -> Result<(), Fault> {
         let records = give_cut(&rt, rt.alloc(), Skip::Records, known.bytes, 0)?;
         for k in 0..known.bytes.len() {
             let skipped = give_cut(&rt, rt.alloc(), Skip::Message, known.bytes, k)?;
-            assert!(rt; skipped <= records, "{} at {k}", known.name);
+            holds_at(&rt, skipped <= records, &(known.name, k));
         }
     }
     Ok(())
@@ -174,7 +184,7 @@ fn change_each(rt: &impl Abort, alloc: Global, bytes: &mut [u8]) {
             for skip in [Skip::Records, Skip::Message] {
                 match give_cut(rt, alloc, skip, bytes, 0) {
                     Ok(_) | Err(Fault::Refused { .. }) => {}
-                    Err(fault) => assert!(rt; false, "{fault:?} with {bit} at {place}"),
+                    Err(fault) => holds_at(rt, false, &(fault, bit, place)),
                 }
             }
         }
@@ -239,11 +249,11 @@ fn skip_without<A: Allocator + Copy>(
     let _blocks = fill(alloc, heap)?;
     assert!(rt; is_full(heap));
     for hundred in 0..100 {
-        assert_eq!(rt; decoder.skip_records(messages), (600, 100), "{hundred}");
+        equal_at(rt, &decoder.skip_records(messages), &(600, 100), &hundred);
     }
-    assert_eq!(rt; decoder.skip_message(messages), 6);
-    assert_eq!(rt; decoder.skip_records(&ANOTHER), (0, 0));
-    assert_eq!(rt; decoder.held(), 2);
+    equal(rt, &decoder.skip_message(messages), &6);
+    equal(rt, &decoder.skip_records(&ANOTHER), &(0, 0));
+    equal(rt, &decoder.held(), &2);
     Ok(())
 }
 
@@ -256,10 +266,10 @@ fn skip_starved<A: Allocator + Copy>(
 ) -> Result<(), AllocError> {
     let messages = hundred_messages(alloc)?;
     assert!(rt; feed(decoder, &header(100_006)).is_ok());
-    assert_eq!(rt; decoder.skip_records(&DEFINITION), (12, 1));
+    equal(rt, &decoder.skip_records(&DEFINITION), &(12, 1));
     skip_without(rt, alloc, heap, decoder, messages.as_slice())?;
-    assert_eq!(rt; decoder.skip_records(&ANOTHER), (12, 1));
-    assert_eq!(rt; decoder.held(), 4);
+    equal(rt, &decoder.skip_records(&ANOTHER), &(12, 1));
+    equal(rt, &decoder.held(), &4);
     Ok(())
 }
 

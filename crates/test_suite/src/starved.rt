@@ -1,5 +1,6 @@
 //! A decoder whose memory is refused.
 
+use crate::asserts::{equal, equal_at, holds_at};
 use crate::fed::{feed, header, same, told, told_at};
 use fit_decode::{Decoder, Fault, Fed};
 use linked_list_allocator::LocalHeap;
@@ -52,10 +53,10 @@ fn feed_starved<A: Allocator + Copy>(
     let first = told_of(feed_without(alloc, heap, decoder, byte)?);
     if first == Err(Fault::NoMemory { used: 0 }) {
         let again = told_of(decoder.feed(&[byte]));
-        assert_eq!(rt; again, Ok(told_at(place)), "{place}");
+        equal_at(rt, &again, &Ok(told_at(place)), &place);
         return Ok(true);
     }
-    assert_eq!(rt; first, Ok(told_at(place)), "{place}");
+    equal_at(rt, &first, &Ok(told_at(place)), &place);
     Ok(false)
 }
 
@@ -69,12 +70,12 @@ fn starve<A: Allocator + Copy>(
     let mut wanted = 0;
     for (place, byte) in BOTH_ORDERS.iter().enumerate() {
         if feed_starved(rt, alloc, heap, decoder, place, *byte)? {
-            assert!(rt; 14 <= place && place < 50, "{place}");
+            holds_at(rt, 14 <= place && place < 50, &place);
             wanted = place;
         }
     }
-    assert!(rt; wanted >= 44, "{wanted}");
-    assert_eq!(rt; decoder.finish(), Ok(()));
+    holds_at(rt, wanted >= 44, &wanted);
+    equal(rt, &decoder.finish(), &Ok(()));
     Ok(())
 }
 
@@ -86,10 +87,35 @@ fn each_byte_again(rt: HostRuntime) -> Result<(), AllocError> {
 }
 
 /// Whether two decoders told the same of a byte.
-fn is_alike<A: Allocator>(one: Result<Fed<A>, Fault>, other: Result<Fed<A>, Fault>) -> bool {
+fn is_alike<A: Allocator>(one: &Result<Fed<A>, Fault>, other: &Result<Fed<A>, Fault>) -> bool {
     match (one, other) {
         (Ok(fed), Ok(told)) => same(&fed.event, &told.event),
         _ => false,
+    }
+}
+
+/// Feeds a byte to two decoders, to the first while no memory is free where that is wanted, and again where it was refused. Whether they
+/// told the same, and whether memory was refused.
+fn feed_both<A: Allocator + Copy>(
+    alloc: Global,
+    heap: A,
+    decoder: &mut Decoder<A>,
+    ample: &mut Decoder<A>,
+    byte: u8,
+    starved: bool,
+) -> Result<(bool, bool), AllocError> {
+    let answer = if starved {
+        feed_without(alloc, heap, decoder, byte)?
+    } else {
+        decoder.feed(&[byte])
+    };
+    let told = ample.feed(&[byte]);
+    match answer {
+        Ok(_) => Ok((is_alike(&answer, &told), false)),
+        Err(fault) => {
+            let refused = starved && fault == Fault::NoMemory { used: 0 };
+            Ok((refused && is_alike(&decoder.feed(&[byte]), &told), true))
+        }
     }
 }
 
@@ -105,19 +131,11 @@ fn starve_at<A: Allocator + Copy>(
 ) -> Result<bool, AllocError> {
     let mut wanted = false;
     for (at, byte) in BOTH_ORDERS.iter().enumerate() {
-        let mut answer = if at == place {
-            feed_without(alloc, heap, decoder, *byte)?
-        } else {
-            decoder.feed(&[*byte])
-        };
-        if let Err(fault) = answer {
-            assert_eq!(rt; (at, fault), (place, Fault::NoMemory { used: 0 }));
-            wanted = true;
-            answer = decoder.feed(&[*byte]);
-        }
-        assert!(rt; is_alike(answer, ample.feed(&[*byte])), "{place}, {at}");
+        let (alike, refused) = feed_both(alloc, heap, decoder, ample, *byte, at == place)?;
+        holds_at(rt, alike, &(place, at));
+        wanted = wanted || refused;
     }
-    assert_eq!(rt; decoder.finish(), Ok(()));
+    equal(rt, &decoder.finish(), &Ok(()));
     Ok(wanted)
 }
 
@@ -141,7 +159,7 @@ fn one_byte_again(rt: HostRuntime) -> Result<(), AllocError> {
         }
     }
     for count in wanted {
-        assert!(rt; count > 0, "{wanted:?}");
+        holds_at(&rt, count > 0, &wanted);
     }
     Ok(())
 }
@@ -175,14 +193,14 @@ fn empty_messages<A: Allocator + Copy>(
     heap: A,
     decoder: &mut Decoder<A>,
 ) -> Result<(), AllocError> {
-    assert_eq!(rt; messages(decoder, &header(100_006)), 0);
-    assert_eq!(rt; messages(decoder, b"\x40\0\0\x14\0\0"), 0);
+    equal(rt, &messages(decoder, &header(100_006)), &0);
+    equal(rt, &messages(decoder, b"\x40\0\0\x14\0\0"), &0);
     let _blocks = fill(alloc, heap)?;
     assert!(rt; is_full(heap));
     for thousand in 0..100 {
-        assert_eq!(rt; messages(decoder, &[0; 1000]), 1000, "{thousand}");
+        equal_at(rt, &messages(decoder, &[0; 1000]), &1000, &thousand);
     }
-    assert_eq!(rt; feed(decoder, b"\x1F\x0E"), Ok((2, (b'e', 0))));
+    equal(rt, &feed(decoder, b"\x1F\x0E"), &Ok((2, (b'e', 0))));
     Ok(())
 }
 

@@ -1,4 +1,5 @@
 //! Sums that are known from outside.
+use crate::asserts::{equal, equal_at};
 use fit_sum::Sum;
 
 // What catalogues of checksums give for this text.
@@ -8,11 +9,11 @@ fn nine_digits(rt: HostRuntime) {
     for byte in b"123456789" {
         one_by_one.add(*byte);
     }
-    assert_eq!(rt; one_by_one.value(), 0xBB3D);
+    equal(&rt, &one_by_one.value(), &0xBB3D);
 
     let mut together = Sum::new();
     together.add_all(b"123456789");
-    assert_eq!(rt; together.value(), 0xBB3D);
+    equal(&rt, &together.value(), &0xBB3D);
 }
 
 // The expected sums were computed by a Python program, one nibble at a time by the table that the
@@ -32,14 +33,14 @@ fn a_thousand_bytes_in_pieces(rt: HostRuntime) {
     ] {
         let mut whole = Sum::new();
         whole.add_all(&bytes[..len]);
-        assert_eq!(rt; whole.value(), expected, "of {len} bytes");
+        equal_at(&rt, &whole.value(), &expected, &len);
 
         for size in [1, 3, 8, 100, 128, 300] {
             let mut sum = Sum::new();
             for piece in bytes[..len].chunks(size) {
                 sum.add_all(piece);
             }
-            assert_eq!(rt; sum.value(), expected, "of {len} bytes in pieces of {size}");
+            equal_at(&rt, &sum.value(), &expected, &(len, size));
         }
     }
 }

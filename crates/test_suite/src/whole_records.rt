@@ -1,4 +1,5 @@
 //! Records at the front of a piece, each read by one call.
+use crate::asserts::equal;
 use crate::descriptions::take;
 use fit_base::base_type::{UINT8, UINT16};
 use fit_base::{Entries, Items, Order};
@@ -87,17 +88,19 @@ fn records_in_place(rt: HostRuntime) -> Result<(), AllocError> {
     let alloc = rt.alloc();
     let mut env = Env::new(alloc);
     let (answer, record) = in_place(alloc, &mut env, 12, &BYTES);
-    assert_eq!(rt;
-        (answer, record),
-        ((12, Ok(true)), Some(definition(alloc, RECORD)?))
+    equal(
+        &rt,
+        &(answer, record),
+        &((12, Ok(true)), Some(definition(alloc, RECORD)?)),
     );
     let (answer, record) = in_place(alloc, &mut env, 16, &BYTES[12..]);
-    assert_eq!(rt;
-        (answer, record),
-        ((4, Ok(true)), Some(Record::Values(message(alloc)?)))
+    equal(
+        &rt,
+        &(answer, record),
+        &((4, Ok(true)), Some(Record::Values(message(alloc)?))),
     );
     let (answer, _) = in_place(alloc, &mut env, 16, &BYTES[..11]);
-    assert_eq!(rt; answer, (11, Ok(false)));
+    equal(&rt, &answer, &(11, Ok(false)));
     Ok(())
 }
 
@@ -113,7 +116,7 @@ fn refusals(rt: HostRuntime) {
     ];
     for (room, bytes, place, reason) in rows {
         let (answer, _) = in_place(rt.alloc(), &mut Env::new(rt.alloc()), room, bytes);
-        assert_eq!(rt; answer, (place, Err(Stop::Refused(reason))));
+        equal(&rt, &answer, &(place, Err(Stop::Refused(reason))));
     }
 }
 
@@ -123,13 +126,21 @@ fn whole_messages(rt: HostRuntime) -> Result<(), AllocError> {
     let env = known(alloc, RECORD)?;
     let bytes = &BYTES[12..];
     let found = found_message(alloc, &env, 10, bytes)?;
-    assert_eq!(rt; found, (Some((message(alloc)?, 4)), 6));
+    equal(&rt, &found, &(Some((message(alloc)?, 4)), 6));
     // In the last six bytes of the data section, cut, and where another record begins.
-    assert_eq!(rt; found_message(alloc, &env, 9, bytes)?, (None, 9));
-    assert_eq!(rt; found_message(alloc, &env, 10, &bytes[..3])?, (None, 10));
-    assert_eq!(rt; found_message(alloc, &env, 99, &BYTES)?, (None, 99));
+    equal(&rt, &found_message(alloc, &env, 9, bytes)?, &(None, 9));
+    equal(
+        &rt,
+        &found_message(alloc, &env, 10, &bytes[..3])?,
+        &(None, 10),
+    );
+    equal(&rt, &found_message(alloc, &env, 99, &BYTES)?, &(None, 99));
     let described = known(alloc, FIELD_DESCRIPTION)?;
-    assert_eq!(rt; found_message(alloc, &described, 10, bytes)?, (None, 10));
+    equal(
+        &rt,
+        &found_message(alloc, &described, 10, bytes)?,
+        &(None, 10),
+    );
     Ok(())
 }
 
@@ -145,17 +156,18 @@ fn whole_definitions(rt: HostRuntime) -> Result<(), AllocError> {
         (18, &BYTES[12..]),
     ];
     for (room, bytes) in rows {
-        assert_eq!(rt;
-            found_definition(alloc, &mut env, room, bytes)?,
-            (None, room)
+        equal(
+            &rt,
+            &found_definition(alloc, &mut env, room, bytes)?,
+            &(None, room),
         );
     }
     assert!(rt; env.definition(0).is_none());
     let found = found_definition(alloc, &mut env, 18, &BYTES)?;
-    assert_eq!(rt; found, (Some((definition(alloc, RECORD)?, 12)), 6));
-    assert_eq!(rt; env.length(0), Some(3));
+    equal(&rt, &found, &(Some((definition(alloc, RECORD)?, 12)), 6));
+    equal(&rt, &env.length(0), &Some(3));
     // Then another one for the same local message type.
     let found = found_definition(alloc, &mut env, 18, b"\x40\0\0\0\x15\0")?;
-    assert_eq!(rt; (found.1, env.length(0)), (12, Some(0)));
+    equal(&rt, &(found.1, env.length(0)), &(12, Some(0)));
     Ok(())
 }

@@ -1,4 +1,5 @@
 //! Files of which the bytes are known, and the faults that no clause puts at a place.
+use crate::asserts::equal;
 use fit_base::base_type::{BYTE, STRING, UINT8, UINT16, UINT32};
 use fit_base::{Entries, Items, Order};
 use fit_encode::{CutSink, EncodeFault, Encoder, write_chain, write_one};
@@ -167,7 +168,7 @@ fn write_file(
 ) {
     let mut sink = CutSink::<70>::new(limit);
     let answer = write_one(alloc, &mut sink, file);
-    assert_eq!(rt; (answer, sink.bytes()), wanted);
+    equal(rt, &(answer, sink.bytes()), &wanted);
 }
 
 #[test]
@@ -239,10 +240,10 @@ fn a_chain(rt: HostRuntime) -> Result<(), AllocError> {
     ];
     let mut sink = CutSink::<39>::new(39);
     let answer = write_chain(alloc, &mut sink, &files);
-    assert_eq!(rt; answer, Ok(()));
+    equal(&rt, &answer, &Ok(()));
     let bytes = b"\x0E\x20\0\0\0\0\0\0.FIT\x9C\x85\0\0\
                   \x0E\x20\0\0\x07\0\0\0.FIT\xDD\x63\x40\0\0\x14\0\0\0\x44\x34";
-    assert_eq!(rt; sink.bytes(), bytes.as_slice());
+    equal(&rt, &sink.bytes(), &bytes.as_slice());
     Ok(())
 }
 
@@ -289,7 +290,7 @@ fn refused_records(rt: HostRuntime) -> Result<(), AllocError> {
 fn a_chain_of_no_files(rt: HostRuntime) {
     let mut sink = CutSink::<4>::new(4);
     let none = write_chain(rt.alloc(), &mut sink, &[]);
-    assert_eq!(rt; none, Err(EncodeFault::ChainLength));
+    equal(&rt, &none, &Err(EncodeFault::ChainLength));
     assert!(rt; sink.bytes().is_empty());
 }
 
@@ -300,14 +301,14 @@ fn the_one_sum_of_zero(rt: HostRuntime) {
     for profile in 0..=u16::MAX {
         let zeros = header(14, profile, HeaderSum::Zero);
         match head_bytes(&zeros, 0) {
-            Ok(bytes) => assert_eq!(rt; bytes.as_slice().get(12..), Some([0, 0].as_slice())),
+            Ok(bytes) => equal(&rt, &bytes.as_slice().get(12..), &Some([0, 0].as_slice())),
             Err(fault) => {
-                assert_eq!(rt; (profile, fault), (46477, HeadFault::ZeroIsSum));
+                equal(&rt, &(profile, fault), &(46477, HeadFault::ZeroIsSum));
                 count = count.saturating_add(1);
             }
         }
     }
-    assert_eq!(rt; count, 1);
+    equal(&rt, &count, &1);
 }
 
 #[test]
@@ -350,8 +351,8 @@ fn record_by_record(rt: HostRuntime) -> Result<(), Fail> {
     let refused = Err(EncodeFault::DeclaredLength);
     let (found, sink) = answers(alloc, 32, &head, 7, &[put, None, next, next, None, next])?;
     let wanted = [Ok(()), refused, Ok(()), refused, Ok(()), refused];
-    assert_eq!(rt; found.as_slice(), wanted.as_slice());
-    assert_eq!(rt; sink.bytes(), ONE_BYTE_MESSAGE.as_slice());
+    equal(&rt, &found.as_slice(), &wanted.as_slice());
+    equal(&rt, &sink.bytes(), &ONE_BYTE_MESSAGE.as_slice());
     Ok(())
 }
 
@@ -371,8 +372,8 @@ fn files_without_records(rt: HostRuntime) -> Result<(), Fail> {
     ] {
         let head = header(12, 0, HeaderSum::Absent);
         let (found, sink) = answers(alloc, 32, &head, data_len, &[None, Some(&message)])?;
-        assert_eq!(rt; found.as_slice(), wanted.as_slice());
-        assert_eq!(rt; sink.bytes(), bytes);
+        equal(&rt, &found.as_slice(), &wanted.as_slice());
+        equal(&rt, &sink.bytes(), &bytes);
     }
     Ok(())
 }
@@ -385,7 +386,7 @@ fn an_encoder_whose_sink_fails(rt: HostRuntime) -> Result<(), Fail> {
     let head = header(14, 0, HeaderSum::True);
     let (found, sink) = answers(alloc, 16, &head, 7, &[put, put, None])?;
     let failed = Err(EncodeFault::Write { written: 16 });
-    assert_eq!(rt; found.as_slice(), [failed, failed, failed].as_slice());
-    assert_eq!(rt; sink.bytes(), &ONE_BYTE_MESSAGE[..16]);
+    equal(&rt, &found.as_slice(), &[failed, failed, failed].as_slice());
+    equal(&rt, &sink.bytes(), &&ONE_BYTE_MESSAGE[..16]);
     Ok(())
 }
