@@ -1,0 +1,5 @@
+pub mod Common
+pub mod Silence
+pub mod Flowing
+pub mod RowTexts
+pub mod OneFinding

@@ -1,0 +1,5 @@
+pub mod Answers
+pub mod Flows
+pub mod Streams
+pub mod Laws
+pub mod inner
