@@ -1,5 +1,6 @@
 //! The longest message as text, and its cells.
 
+use crate::asserts::equal;
 use fit_base::base_type::BYTE;
 use fit_base::{Code, Items, has_shape};
 use fit_csv::{cell_items, cell_text, from_csv, table, to_csv};
@@ -16,14 +17,14 @@ use test_known::{TABLE_HEAD, longest};
 pub(crate) fn put_text(rt: &impl Abort, alloc: Global, bytes: &[u8], text: &mut Vec<u8>) {
     let mut source = bytes;
     let mut sink = WriteSink::new(text);
-    assert_eq!(rt; to_csv(alloc, &mut source, &mut sink), Ok(()));
+    equal(rt, &to_csv(alloc, &mut source, &mut sink), &Ok(()));
 }
 
 /// Puts the bytes of some text after what is there.
 pub(crate) fn put_bytes(rt: &impl Abort, alloc: Global, text: &[u8], bytes: &mut Vec<u8>) {
     let mut source = text;
     let mut sink = WriteSink::new(bytes);
-    assert_eq!(rt; from_csv(alloc, &mut source, &mut sink), Ok(()));
+    equal(rt, &from_csv(alloc, &mut source, &mut sink), &Ok(()));
 }
 
 #[test]
@@ -34,7 +35,7 @@ fn both_ways(rt: HostRuntime) {
     put_text(&rt, alloc, bytes.as_slice(), &mut text);
     // The first line and four rows of the file and its records, and two rows of each field.
     let lines = text.as_slice().split(|byte| *byte == b'\n').count();
-    assert_eq!(rt; lines, 6 + 1020);
+    equal(&rt, &lines, &(6 + 1020));
     let mut back = Vec::new(alloc);
     put_bytes(&rt, alloc, text.as_slice(), &mut back);
     assert!(rt; back == bytes);
@@ -45,7 +46,7 @@ fn as_a_table(rt: HostRuntime) {
     let bytes = longest(rt.alloc()).expect(&rt, "memory");
     let mut source = bytes.as_slice();
     let mut sink = CutSink::<256>::new(256);
-    assert_eq!(rt; table(rt.alloc(), &mut source, &mut sink), Ok(()));
+    equal(&rt, &table(rt.alloc(), &mut source, &mut sink), &Ok(()));
     let text = sink.bytes();
     let (head, rows) = text.split_at(TABLE_HEAD.len().min(text.len()));
     assert!(rt; head == TABLE_HEAD.as_bytes() && rows == b"1,,,,,,,,,,\n".as_slice());
@@ -62,7 +63,7 @@ fn comes_back(rt: &impl Abort, alloc: Global, number: Option<u8>, items: &Items)
         return;
     }
     let cell = cell_text(alloc, Code(BYTE), info, items).expect(rt, "memory");
-    assert_eq!(rt; cell.as_str().len(), 512);
+    equal(rt, &cell.as_str().len(), &512);
     let read = cell_items(alloc, Code(BYTE), 255, info, cell.as_str()).expect(rt, "memory");
     assert!(rt; read.as_ref() == Some(items));
 }
@@ -105,5 +106,5 @@ fn message_and_cells(rt: HostRuntime) {
     for record_ in file.records.as_slice() {
         cells = cells.saturating_add(cells_of(&rt, alloc, &mut stream, record_));
     }
-    assert_eq!(rt; cells, 510);
+    equal(&rt, &cells, &510);
 }

@@ -1,5 +1,6 @@
 //! Cells and rows that are known from outside.
 
+use crate::asserts::{equal, holds_at};
 use csv::ByteRecord;
 use fit_base::base_type::{
     BYTE, FLOAT32, FLOAT64, SINT8, SINT16, SINT64, STRING, UINT8, UINT16, UINT32, UINT64,
@@ -32,11 +33,11 @@ fn is_cell(rt: &impl Abort, alloc: Global, cell: Cell) {
     let code = Code(code);
     let info = field_info(field.0, field.1);
     let items = Items::from_slice(alloc, width_of(code, size), numbers).expect(rt, "memory");
-    assert!(rt; has_shape(code, size, &items), "at {text}");
+    holds_at(rt, has_shape(code, size, &items), &text);
     let cell = cell_text(alloc, code, info, &items).expect(rt, "memory");
-    assert_eq!(rt; cell.as_str(), text);
+    equal(rt, &cell.as_str(), &text);
     let read = cell_items(alloc, code, size, info, text).expect(rt, "memory");
-    assert!(rt; read == Some(items), "at {text}");
+    holds_at(rt, read == Some(items), &text);
 }
 
 #[test]
@@ -129,14 +130,14 @@ fn a_cell_after_a_text(rt: HostRuntime) {
     assert!(rt; has_shape(code, 2, &items));
     let mut text = Vec::from_slice(rt.alloc(), b"12,").expect(&rt, "memory");
     assert!(rt; put_cell(&mut text, code, info, &items).is_ok());
-    assert_eq!(rt; text.as_slice(), b"12,-0.2".as_slice());
+    equal(&rt, &text.as_slice(), &b"12,-0.2".as_slice());
 }
 
 /// Asserts that this is the cell of no items of a field of this code and size.
 fn is_nobodys(rt: &impl Abort, alloc: Global, field: (u16, u8), code: u8, size: u8, text: &str) {
     let info = field_info(field.0, field.1);
     let read = cell_items(alloc, Code(code), size, info, text).expect(rt, "memory");
-    assert!(rt; read.is_none(), "at {text}");
+    holds_at(rt, read.is_none(), &text);
 }
 
 #[test]
@@ -171,13 +172,17 @@ fn text_of_rows(alloc: Global) -> Result<Vec<u8>, AllocError> {
 fn a_row_alone(rt: HostRuntime) {
     let cells: [&[u8]; 4] = [b"dev", b"a,\"b", b"", b"x\ny"];
     let text = row_text(rt.alloc(), &cells).expect(&rt, "memory");
-    assert_eq!(rt; text.as_slice(), b"dev,\"a,\"\"b\",,\"x\ny\"\n".as_slice());
+    equal(
+        &rt,
+        &text.as_slice(),
+        &b"dev,\"a,\"\"b\",,\"x\ny\"\n".as_slice(),
+    );
 }
 
 /// Asserts the bytes of the cell at a place of a row.
 fn has_cell(rt: &impl Abort, row: &ByteRecord, place: usize, bytes: &[u8]) {
     match row.get(place) {
-        Some(found) => assert_eq!(rt; found, bytes),
+        Some(found) => equal(rt, &found, &bytes),
         None => assert!(rt; false),
     }
 }
@@ -185,9 +190,10 @@ fn has_cell(rt: &impl Abort, row: &ByteRecord, place: usize, bytes: &[u8]) {
 #[test]
 fn rows_both_ways(rt: HostRuntime) {
     let text = text_of_rows(rt.alloc()).expect(&rt, "memory");
-    assert_eq!(rt;
-        text.as_slice(),
-        b"dev,\"a,\"\"b\",,\"x\ny\"\nend,,,\n".as_slice()
+    equal(
+        &rt,
+        &text.as_slice(),
+        &b"dev,\"a,\"\"b\",,\"x\ny\"\nend,,,\n".as_slice(),
     );
     let mut reader = row_reader(rt.alloc(), text.as_slice());
     let mut row = ByteRecord::new(rt.alloc());
@@ -195,7 +201,7 @@ fn rows_both_ways(rt: HostRuntime) {
     has_cell(&rt, &row, 1, b"a,\"b");
     has_cell(&rt, &row, 3, b"x\ny");
     assert!(rt; next_row(&mut reader, &mut row).expect(&rt, "memory"));
-    assert_eq!(rt; row.len(), 4);
+    equal(&rt, &row.len(), &4);
     assert!(rt; !next_row(&mut reader, &mut row).expect(&rt, "memory"));
 }
 
@@ -206,7 +212,7 @@ fn rows_of_any_length(rt: HostRuntime) {
     let mut row = ByteRecord::new(rt.alloc());
     for cells in [3, 1, 8, 2] {
         assert!(rt; next_row(&mut reader, &mut row).expect(&rt, "memory"));
-        assert_eq!(rt; row.len(), cells);
+        equal(&rt, &row.len(), &cells);
     }
     assert!(rt; !next_row(&mut reader, &mut row).expect(&rt, "memory"));
 }

@@ -1,4 +1,5 @@
 //! Tables of record messages of which some columns hold no number.
+use crate::asserts::equal;
 use fit_csv::table;
 use fit_encode::CutSink;
 use test_known::TABLE_HEAD;
@@ -22,10 +23,10 @@ const ROWS: &[u8] = b"1,,,,0.0,123.45,,,,,\n1,,,,0.0,123.45,1.500,,,,\n";
 fn columns_without_numbers(rt: HostRuntime) {
     let mut source = COLUMNS.as_slice();
     let mut sink = CutSink::<256>::new(256);
-    assert_eq!(rt; table(rt.alloc(), &mut source, &mut sink), Ok(()));
+    equal(&rt, &table(rt.alloc(), &mut source, &mut sink), &Ok(()));
     let (head, rows) = sink
         .bytes()
         .split_at(TABLE_HEAD.len().min(sink.bytes().len()));
-    assert_eq!(rt; head, TABLE_HEAD.as_bytes());
-    assert_eq!(rt; rows, ROWS);
+    equal(&rt, &head, &TABLE_HEAD.as_bytes());
+    equal(&rt, &rows, &ROWS);
 }

@@ -1,6 +1,7 @@
 //! Chains of files and their texts, which are known from outside.
 ghost use Rattle.std.specs.Prelude.{Some, false};
 
+use crate::asserts::equal;
 use fit_csv::{table, to_csv};
 use fit_decode::{Source, SourceFailed};
 use fit_encode::CutSink;
@@ -19,8 +20,8 @@ pub(crate) const QUOTED_TEXT: &str =
 fn a_quoted_text(rt: HostRuntime) {
     let mut source = QUOTED.as_slice();
     let mut sink = CutSink::<1024>::new(1024);
-    assert_eq!(rt; to_csv(rt.alloc(), &mut source, &mut sink), Ok(()));
-    assert_eq!(rt; sink.bytes(), QUOTED_TEXT.as_bytes());
+    equal(&rt, &to_csv(rt.alloc(), &mut source, &mut sink), &Ok(()));
+    equal(&rt, &sink.bytes(), &QUOTED_TEXT.as_bytes());
 }
 
 /// Positions, enhanced and accumulated values, and invalid ones.
@@ -64,11 +65,11 @@ impl<'a> Source for OneByOne<'a> {
 /// Asserts that the table of the bytes of a source has these rows after its first line.
 fn gives_table<S: Source>(rt: &impl Abort, alloc: Global, source: &mut S, rows: &str) {
     let mut sink = CutSink::<1024>::new(1024);
-    assert_eq!(rt; table(alloc, source, &mut sink), Ok(()));
+    equal(rt, &table(alloc, source, &mut sink), &Ok(()));
     let text = sink.bytes();
     let (head, rest) = text.split_at(TABLE_HEAD.len().min(text.len()));
-    assert_eq!(rt; head, TABLE_HEAD.as_bytes());
-    assert_eq!(rt; rest, rows.as_bytes());
+    equal(rt, &head, &TABLE_HEAD.as_bytes());
+    equal(rt, &rest, &rows.as_bytes());
 }
 
 /// Asserts that the table of a chain has these rows after its first line, whether the chain comes in one piece or byte by byte.

@@ -1,5 +1,6 @@
 //! Conversions of inputs that are cut at each place, from sources that fail there, and into sinks that do.
 
+use crate::asserts::{equal, equal_at, holds_at};
 use fit_csv::{CsvFault, from_csv, table, to_csv};
 use fit_decode::{CutSource, Fault, Source};
 use fit_encode::{CutSink, Sink};
@@ -51,12 +52,12 @@ fn as_text<S: Source>(
     let (rows, _) = rows_of(known, k);
     let mut sink = CutSink::<2048>::new(2048);
     let found = to_csv(alloc, source, &mut sink);
-    assert_eq!(rt; found, answer, "{} at {k}", known.name);
-    assert_eq!(rt;
-        sink.bytes(),
-        first_lines(known.text, rows),
-        "{} at {k}",
-        known.name
+    equal_at(rt, &found, &answer, &(known.name, k));
+    equal_at(
+        rt,
+        &sink.bytes(),
+        &first_lines(known.text, rows),
+        &(known.name, k),
     );
     assert!(rt; !sink.failed());
 }
@@ -73,9 +74,9 @@ fn as_table<S: Source>(
     let (_, records) = rows_of(known, k);
     let mut sink = CutSink::<2048>::new(2048);
     let found = table(alloc, source, &mut sink);
-    assert_eq!(rt; found, answer, "{} at {k}", known.name);
+    equal_at(rt, &found, &answer, &(known.name, k));
     let written = is_table(sink.bytes(), first_lines(known.table, records));
-    assert!(rt; written, "{} at {k}", known.name);
+    holds_at(rt, written, &(known.name, k));
 }
 
 /// Converts first bytes of an input.
@@ -115,7 +116,7 @@ fn read_failing(rt: &impl Abort, alloc: Global, known: &Known, k: usize) {
     let mut source = CutSource::new(known.text.as_bytes(), k);
     let mut sink = CutSink::<128>::new(128);
     let found = from_csv(alloc, &mut source, &mut sink);
-    assert_eq!(rt; found, Err(CsvFault::Read), "{} at {k}", known.name);
+    equal_at(rt, &found, &Err(CsvFault::Read), &(known.name, k));
     assert!(rt; source.failed() && sink.bytes().is_empty());
 }
 
@@ -141,8 +142,8 @@ fn text_that_fails(rt: &impl Abort, alloc: Global, known: &Known, k: usize) {
     let mut source = known.bytes;
     let mut sink = CutSink::<2048>::new(k);
     let found = to_csv(alloc, &mut source, &mut sink);
-    assert_eq!(rt; found, write_fault(k), "{}", known.name);
-    assert_eq!(rt; Some(sink.bytes()), known.text.as_bytes().get(..k));
+    equal_at(rt, &found, &write_fault(k), &known.name);
+    equal(rt, &Some(sink.bytes()), &known.text.as_bytes().get(..k));
 }
 
 /// Writes first bytes of the table of an input.
@@ -150,13 +151,14 @@ fn table_that_fails(rt: &impl Abort, alloc: Global, known: &Known, k: usize) {
     let mut source = known.bytes;
     let mut sink = CutSink::<2048>::new(k);
     let found = table(alloc, &mut source, &mut sink);
-    assert_eq!(rt; found, write_fault(k), "{}", known.name);
+    equal_at(rt, &found, &write_fault(k), &known.name);
     let head = TABLE_HEAD.len().min(k);
     let (front, rest) = sink.bytes().split_at(head.min(sink.bytes().len()));
-    assert_eq!(rt; front, &TABLE_HEAD.as_bytes()[..head]);
-    assert_eq!(rt;
-        Some(rest),
-        known.table.as_bytes().get(..k.saturating_sub(head))
+    equal(rt, &front, &&TABLE_HEAD.as_bytes()[..head]);
+    equal(
+        rt,
+        &Some(rest),
+        &known.table.as_bytes().get(..k.saturating_sub(head)),
     );
 }
 
@@ -165,8 +167,8 @@ fn file_that_fails(rt: &impl Abort, alloc: Global, known: &Known, k: usize) {
     let mut source = known.text.as_bytes();
     let mut sink = CutSink::<128>::new(k);
     let found = from_csv(alloc, &mut source, &mut sink);
-    assert_eq!(rt; found, write_fault(k), "{}", known.name);
-    assert_eq!(rt; Some(sink.bytes()), known.bytes.get(..k));
+    equal_at(rt, &found, &write_fault(k), &known.name);
+    equal(rt, &Some(sink.bytes()), &known.bytes.get(..k));
 }
 
 #[test]
@@ -188,8 +190,8 @@ fn sinks_that_fail_anywhere(rt: HostRuntime) {
 pub(crate) fn text_back(rt: &impl Abort, alloc: Global, known: &Known) {
     let mut source = known.text.as_bytes();
     let mut sink = CutSink::<512>::new(512);
-    assert_eq!(rt; from_csv(alloc, &mut source, &mut sink), Ok(()));
-    assert_eq!(rt; sink.bytes(), known.bytes);
+    equal(rt, &from_csv(alloc, &mut source, &mut sink), &Ok(()));
+    equal(rt, &sink.bytes(), &known.bytes);
     assert!(rt; source.is_empty() && !sink.failed());
     assert!(rt; known.text.starts_with(FIRST_ROW));
 }

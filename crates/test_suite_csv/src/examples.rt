@@ -1,4 +1,5 @@
 //! What the examples answer where there is memory.
+use crate::asserts::{equal, equal_at};
 use fit_base::Entries;
 use fit_csv::CsvFault;
 use fit_decode::{Fault, read_one};
@@ -78,7 +79,7 @@ fn uploads(rt: HostRuntime) {
     ] {
         assert!(rt; size <= chain.len());
         let upload = &chain.as_slice()[..size];
-        assert_eq!(rt; check_upload(rt.alloc(), upload), answer, "at {size}");
+        equal_at(&rt, &check_upload(rt.alloc(), upload), &answer, &size);
     }
 }
 
@@ -86,12 +87,13 @@ fn uploads(rt: HostRuntime) {
 fn a_damaged_upload(rt: HostRuntime) {
     let mut damaged = BOTH;
     damaged[51] = 0x3C;
-    assert_eq!(rt;
-        check_upload(rt.alloc(), &damaged),
-        Err(Fault::Refused {
+    equal(
+        &rt,
+        &check_upload(rt.alloc(), &damaged),
+        &Err(Fault::Refused {
             place: 51,
             reason: Reason::FileSum,
-        })
+        }),
     );
 }
 
@@ -99,8 +101,8 @@ fn a_damaged_upload(rt: HostRuntime) {
 fn has_table(rt: &impl Abort, alloc: Global, ride: &[u8], rows: &str) {
     let table = ride_table(alloc, ride).expect(rt, "a table");
     let (head, rest) = table.as_slice().split_at(TABLE_HEAD.len().min(table.len()));
-    assert_eq!(rt; head, TABLE_HEAD.as_bytes());
-    assert_eq!(rt; rest, rows.as_bytes());
+    equal(rt, &head, &TABLE_HEAD.as_bytes());
+    equal(rt, &rest, &rows.as_bytes());
 }
 
 #[test]
@@ -139,7 +141,7 @@ fn rides_as_files(rt: HostRuntime) {
         (1_000_000_033, 121),
     ];
     let ride = ride_file(rt.alloc(), &points).expect(&rt, "a ride");
-    assert_eq!(rt; ride.as_slice(), RIDE.as_slice());
+    equal(&rt, &ride.as_slice(), &RIDE.as_slice());
 }
 
 /// When the rides begin.
@@ -154,7 +156,7 @@ fn after(seconds: u32, heart_rate: Option<u8>) -> Moment {
 /// Asserts the moments of a ride.
 fn has_moments(rt: &impl Abort, alloc: Global, ride: &[u8], moments: &[Moment]) {
     let found = heart_rates(alloc, ride).expect(rt, "moments");
-    assert_eq!(rt; found.as_slice(), moments);
+    equal(rt, &found.as_slice(), &moments);
 }
 
 #[test]

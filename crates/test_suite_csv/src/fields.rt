@@ -1,5 +1,6 @@
 //! Files with two described developer fields and with fields of many kinds, which are known from outside.
 
+use crate::asserts::equal;
 use crate::cut::{convert_cut, text_back};
 use crate::streams::pushed;
 use crate::taken::take;
@@ -36,13 +37,13 @@ fn has_dev(
 ) {
     match message.dev(place) {
         Some(field) => {
-            assert_eq!(rt; field.code, code);
-            assert_eq!(rt; field.items.bits.as_slice(), [item].as_slice());
+            equal(rt, &field.code, &code);
+            equal(rt, &field.items.bits.as_slice(), &[item].as_slice());
         }
         None => assert!(rt; false),
     }
-    assert_eq!(rt; message.dev_name(place), Some(texts.0));
-    assert_eq!(rt; message.dev_unit(place), Some(texts.1));
+    equal(rt, &message.dev_name(place), &Some(texts.0));
+    equal(rt, &message.dev_unit(place), &Some(texts.1));
 }
 
 /// Asserts what the message of the record at a place of `two_fields` says.
@@ -54,7 +55,7 @@ fn says(rt: &impl Abort, message: &Message, place: usize) {
         _ => None,
     };
     let found = distance.map(|value| Fixed { value, decimals: 4 });
-    assert_eq!(rt; message.distance(), found);
+    equal(rt, &message.distance(), &found);
     match place {
         4 => {
             has_dev(rt, message, 0, UINT16, 300, left);
@@ -76,7 +77,7 @@ fn says(rt: &impl Abort, message: &Message, place: usize) {
 fn pushed_one_by_one(rt: HostRuntime) {
     let file = read(&rt, rt.alloc());
     let mut stream = Stream::new(rt.alloc());
-    assert_eq!(rt; file.records.len(), 8);
+    equal(&rt, &file.records.len(), &8);
     for (place, record_) in file.records.as_slice().iter().enumerate() {
         match pushed(&rt, &mut stream, record_) {
             Some(message) => says(&rt, &message, place),
@@ -105,13 +106,14 @@ fn taken_one_by_one(rt: HostRuntime) {
         }
         start = end.0;
     }
-    assert_eq!(rt; stream.dev_texts(1, 0), (Some("left"), Some("W")));
-    assert_eq!(rt; stream.dev_texts(2, 0), (Some("lean"), Some("g")));
+    equal(&rt, &stream.dev_texts(1, 0), &(Some("left"), Some("W")));
+    equal(&rt, &stream.dev_texts(2, 0), &(Some("lean"), Some("g")));
     let again = file.records.as_slice().get(4);
     let message = again.and_then(|record_| pushed(&rt, &mut stream, record_));
     let (value, decimals) = (2_720_000, 4);
-    assert_eq!(rt;
-        message.and_then(|m| m.distance()),
-        Some(Fixed { value, decimals })
+    equal(
+        &rt,
+        &message.and_then(|m| m.distance()),
+        &Some(Fixed { value, decimals }),
     );
 }

@@ -1,5 +1,6 @@
 //! Texts and their chains of files, which are known from outside.
 
+use crate::asserts::equal;
 use crate::conversions::{QUOTED, QUOTED_TEXT};
 use fit_csv::{CsvFault, from_csv};
 use fit_encode::{CutSink, EncodeFault};
@@ -12,7 +13,7 @@ fn refuse(rt: &impl Abort, alloc: Global, text: &str, fault: CsvFault) {
     let mut source = text.as_bytes();
     let mut sink = CutSink::<1024>::new(1024);
     let found = from_csv(alloc, &mut source, &mut sink);
-    assert_eq!(rt; found, Err(fault));
+    equal(rt, &found, &Err(fault));
     assert!(rt; sink.bytes().is_empty());
 }
 
@@ -20,8 +21,8 @@ fn refuse(rt: &impl Abort, alloc: Global, text: &str, fault: CsvFault) {
 fn give(rt: &impl Abort, alloc: Global, text: &str, bytes: &[u8]) {
     let mut source = text.as_bytes();
     let mut sink = CutSink::<1024>::new(1024);
-    assert_eq!(rt; from_csv(alloc, &mut source, &mut sink), Ok(()));
-    assert_eq!(rt; sink.bytes(), bytes);
+    equal(rt, &from_csv(alloc, &mut source, &mut sink), &Ok(()));
+    equal(rt, &sink.bytes(), &bytes);
 }
 
 /// A text with one part replaced by another.

@@ -1,4 +1,5 @@
 //! The whole table of the profile: message, field, name, unit, scale and offset.
+use crate::asserts::equal;
 use fit_profile::{Info, field_info, message_name};
 
 const ROWS: &str = "\
@@ -136,7 +137,7 @@ fn each_row_is_read(rt: HostRuntime) {
     for line in ROWS.lines() {
         match row_of(line) {
             Some((global, number, info)) => {
-                assert_eq!(rt; field_info(global, number), Some(info));
+                equal(&rt, &field_info(global, number), &Some(info));
             }
             None => assert!(rt; false),
         }
@@ -154,7 +155,7 @@ fn nothing_else_is_listed(rt: HostRuntime) {
         }
         assert!(rt; field_info(global, 255).is_none());
     }
-    assert_eq!(rt; listed, ROWS.lines().count());
+    equal(&rt, &listed, &ROWS.lines().count());
 }
 
 /// The messages that have names.
@@ -181,8 +182,8 @@ fn messages_with_names(rt: HostRuntime) {
             named = named.wrapping_add(1);
         }
     }
-    assert_eq!(rt; named, MESSAGES.len());
+    equal(&rt, &named, &MESSAGES.len());
     for (global, name) in MESSAGES {
-        assert_eq!(rt; message_name(global), Some(name));
+        equal(&rt, &message_name(global), &Some(name));
     }
 }

@@ -1,4 +1,5 @@
 //! Messages by the records before them.
+use crate::asserts::{equal, equal_at};
 use fit_base::base_type::{BYTE, STRING, UINT8, UINT16, UINT32};
 use fit_base::{Entries, Items, Order};
 use fit_profile::{Fixed, Message, Stream};
@@ -73,13 +74,11 @@ fn has_times(
     own: Option<u32>,
     of_header: Option<u32>,
 ) {
-    match pushed(rt, stream, record_) {
-        Some(message) => {
-            assert_eq!(rt; message.time(), own);
-            assert_eq!(rt; message.header_time(), of_header);
-        }
-        None => assert!(rt; own.is_none() && of_header.is_none()),
-    }
+    let found = match pushed(rt, stream, record_) {
+        Some(message) => (message.time(), message.header_time()),
+        None => (None, None),
+    };
+    equal(rt, &found, &(own, of_header));
 }
 
 /// Asserts the time of a message with this timestamp.
@@ -117,12 +116,17 @@ fn times_of_messages(rt: HostRuntime) {
     push_definition(&rt, alloc, &mut stream, 1, Order::Big, RECORD, &bare);
     push_offset(&rt, alloc, &mut stream, None);
     push_time(&rt, alloc, &mut stream, 1_000_000_031, Some(1_000_000_031));
-    assert_eq!(rt; stream.header_time(2), Some(1_000_000_034));
-    assert_eq!(rt; stream.header_time(31), Some(1_000_000_031));
+    equal(&rt, &stream.header_time(2), &Some(1_000_000_034));
+    equal(&rt, &stream.header_time(31), &Some(1_000_000_031));
     push_offset(&rt, alloc, &mut stream, Some(1_000_000_034));
     push_time(&rt, alloc, &mut stream, 4_294_967_295, None);
     push_time(&rt, alloc, &mut stream, 4_294_967_294, Some(4_294_967_294));
-    assert_eq!(rt; stream.header_time(0), Some(0));
+    equal(&rt, &stream.header_time(0), &Some(0));
+}
+
+/// A number with that many decimals.
+fn decimal(value: i128, decimals: u8) -> Option<Fixed> {
+    Some(Fixed { value, decimals })
 }
 
 /// Asserts the accumulated distance, in units of four decimals, and the speed of a message with this compressed speed and distance.
@@ -135,11 +139,15 @@ pub(crate) fn push_distance(
 ) {
     let record_ = data(alloc, 0, None, &[(1, compressed)]).expect(rt, "memory");
     let message = pushed(rt, stream, &record_);
-    let found = message.as_ref().and_then(|message| message.distance());
-    assert_eq!(rt; found, distance.map(|value| Fixed { value, decimals: 4 }));
-    let found = message.as_ref().and_then(|message| message.speed());
-    let value = 100;
-    assert_eq!(rt; found, distance.map(|_| Fixed { value, decimals: 2 }));
+    let found = match message {
+        Some(message) => (message.distance(), message.speed()),
+        None => (None, None),
+    };
+    let wanted = match distance {
+        Some(value) => (decimal(value, 4), decimal(100, 2)),
+        None => (None, None),
+    };
+    equal(rt, &found, &wanted);
 }
 
 #[test]
@@ -177,16 +185,12 @@ fn push_totals(
     let record_ = data(alloc, local, None, fields).expect(rt, "memory");
     match pushed(rt, stream, &record_) {
         Some(message) => {
-            assert_eq!(rt; message.total_cycles(), totals[0]);
-            assert_eq!(rt; message.accumulated_power(), totals[1]);
-            assert_eq!(rt; message.distance(), totals[2]);
+            let cycles = message.total_cycles();
+            let found = [cycles, message.accumulated_power(), message.distance()];
+            equal(rt, &found, &totals);
         }
         None => assert!(rt; false),
     }
-}
-
-fn whole(value: i128) -> Option<Fixed> {
-    Some(Fixed { value, decimals: 0 })
 }
 
 #[test]
@@ -203,27 +207,24 @@ fn accumulated_cycles_and_power(rt: HostRuntime) {
     push_definition(&rt, alloc, &mut stream, 1, Order::Big, RECORD, &power);
     push_definition(&rt, alloc, &mut stream, 2, Order::Big, RECORD, &both);
     for (local, width, item, totals) in [
-        (0, 1, 250, [whole(250), None, None]),
-        (0, 1, 5, [whole(261), None, None]),
+        (0, 1, 250, [decimal(250, 0), None, None]),
+        (0, 1, 5, [decimal(261, 0), None, None]),
         (0, 1, 255, [None, None, None]),
-        (0, 1, 5, [whole(261), None, None]),
-        (1, 2, 65000, [None, whole(65000), None]),
-        (1, 2, 100, [None, whole(65636), None]),
+        (0, 1, 5, [decimal(261, 0), None, None]),
+        (1, 2, 65000, [None, decimal(65000, 0), None]),
+        (1, 2, 100, [None, decimal(65636, 0), None]),
         (1, 2, 65535, [None, None, None]),
     ] {
         push_totals(&rt, alloc, &mut stream, local, &[(width, &[item])], totals);
     }
     stream.begin_file();
     push_definition(&rt, alloc, &mut stream, 2, Order::Big, RECORD, &both);
-    let far = Some(Fixed {
-        value: 160_000,
-        decimals: 4,
-    });
     let fields: [(u8, &[u64]); 2] = [(1, &[0x64, 0, 0x10]), (1, &[7])];
-    push_totals(&rt, alloc, &mut stream, 2, &fields, [whole(7), None, far]);
+    let totals = [decimal(7, 0), None, decimal(160_000, 4)];
+    push_totals(&rt, alloc, &mut stream, 2, &fields, totals);
     stream.begin_file();
     push_definition(&rt, alloc, &mut stream, 0, Order::Little, RECORD, &cycles);
-    let five = [whole(5), None, None];
+    let five = [decimal(5, 0), None, None];
     push_totals(&rt, alloc, &mut stream, 0, &[(1, &[5])], five);
 }
 
@@ -267,7 +268,7 @@ fn push_description(rt: &impl Abort, alloc: Global, stream: &mut Stream, name: &
     match pushed(rt, stream, &record_) {
         Some(message) => {
             assert!(rt; message.dev(0).is_none());
-            assert_eq!(rt; message.dev_name(0), None);
+            equal(rt, &message.dev_name(0), &None);
         }
         None => assert!(rt; false),
     }
@@ -294,8 +295,8 @@ fn push_dev(
     let record_ = dev_data(alloc, width, bits).expect(rt, "memory");
     match pushed(rt, stream, &record_) {
         Some(message) => {
-            assert_eq!(rt; message.dev(0).map(|field| field.code), Some(code));
-            assert_eq!(rt; message.dev_name(0), name);
+            let found = message.dev(0).map(|field| field.code);
+            equal(rt, &(found, message.dev_name(0)), &(Some(code), name));
         }
         None => assert!(rt; false),
     }
@@ -310,10 +311,10 @@ fn described_developer_field(rt: HostRuntime) {
     push_dev(&rt, alloc, &mut stream, 1, &[0x34, 0x12], BYTE, None);
     push_description(&rt, alloc, &mut stream, &[0x6D, 0x6F, 0]);
     push_dev(&rt, alloc, &mut stream, 1, &[0x34, 0x12], BYTE, None);
-    assert_eq!(rt; stream.dev_name(1, 0), None);
+    equal(&rt, &stream.dev_name(1, 0), &None);
     push_dev_definition(&rt, alloc, &mut stream);
-    assert_eq!(rt; stream.dev_name(1, 0), Some("mo"));
-    assert_eq!(rt; stream.dev_unit(1, 0), None);
+    equal(&rt, &stream.dev_name(1, 0), &Some("mo"));
+    equal(&rt, &stream.dev_unit(1, 0), &None);
     push_dev(&rt, alloc, &mut stream, 2, &[4660], UINT16, Some("mo"));
 }
 
@@ -332,16 +333,15 @@ fn names_that_are_not_shown(rt: HostRuntime) {
 
 /// Asserts the parts of a record message with an altitude and an invalid heart rate.
 fn has_parts(rt: &impl Abort, message: &Message) {
-    assert_eq!(rt; message.global(), RECORD);
-    assert_eq!(rt; message.name(), Some("record"));
-    let (value, decimals) = (-2, 1);
-    assert_eq!(rt; message.value(ALTITUDE), Some(Fixed { value, decimals }));
-    assert_eq!(rt; message.value(HEART_RATE), None);
+    equal(rt, &message.global(), &RECORD);
+    equal(rt, &message.name(), &Some("record"));
+    equal(rt, &message.value(ALTITUDE), &decimal(-2, 1));
+    equal(rt, &message.value(HEART_RATE), &None);
     assert!(rt; message.items(HEART_RATE).is_some());
     assert!(rt; message.items(4).is_none());
     assert!(rt; message.dev(0).is_none());
     match message.field(1) {
-        Some(field) => assert_eq!(rt; (field.number, field.code), (HEART_RATE, UINT8)),
+        Some(field) => equal(rt, &(field.number, field.code), &(HEART_RATE, UINT8)),
         None => assert!(rt; false),
     }
 }
@@ -376,7 +376,7 @@ fn has_value(
     push_definition(rt, alloc, &mut stream, 0, Order::Little, global, &fields);
     let record_ = data(alloc, 0, None, &[(2, &[item])]).expect(rt, "memory");
     match pushed(rt, &mut stream, &record_) {
-        Some(message) => assert_eq!(rt; message.value(number), value, "{global} {item}"),
+        Some(message) => equal_at(rt, &message.value(number), &value, &(global, item)),
         None => assert!(rt; false),
     }
 }

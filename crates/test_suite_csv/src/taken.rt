@@ -5,6 +5,7 @@ ghost use Rattle.fit_record.specs.Records.{IsRecord};
 ghost use Rattle.fit_record.specs.declared.message.Record.TheVariants.{Values as Data};
 ghost use Rattle.fit_record.specs.declared.message.Values.{Values};
 
+use crate::asserts::equal;
 use crate::streams::{push_definition, push_descriptions, push_dev_definition, push_distance};
 use fit_base::Order;
 use fit_base::base_type::{BYTE, UINT32};
@@ -26,7 +27,7 @@ fn is_message(env: &Env, bytes: &[u8]) -> bool
 /// Takes in the data message that the bytes are, and asserts its time.
 pub(crate) fn take(rt: &impl Abort, stream: &mut Stream, bytes: &[u8], time: Option<u32>) {
     if is_message(stream.env(), bytes) {
-        assert_eq!(rt; stream.message_time(bytes), time);
+        equal(rt, &stream.message_time(bytes), &time);
         stream.take_message(bytes).expect(rt, "memory");
         return;
     }
@@ -47,9 +48,9 @@ fn messages_with_a_time(rt: HostRuntime) {
         &[0x01, 0x3B, 0x9A, 0xCA, 0x1F],
         Some(1_000_000_031),
     );
-    assert_eq!(rt; stream.header_time(2), Some(1_000_000_034));
+    equal(&rt, &stream.header_time(2), &Some(1_000_000_034));
     take(&rt, &mut stream, &[0xC2], Some(1_000_000_034));
-    assert_eq!(rt; stream.header_time(1), Some(1_000_000_065));
+    equal(&rt, &stream.header_time(1), &Some(1_000_000_065));
 }
 
 #[test]
@@ -74,8 +75,16 @@ fn take_amounts(
 ) {
     if is_message(stream.env(), bytes) {
         let found = stream.message_amounts(bytes);
-        assert_eq!(rt; found.0, speed.map(|value| Fixed { value, decimals: 2 }));
-        assert_eq!(rt; found.1, distance.map(|value| Fixed { value, decimals: 4 }));
+        equal(
+            rt,
+            &found.0,
+            &speed.map(|value| Fixed { value, decimals: 2 }),
+        );
+        equal(
+            rt,
+            &found.1,
+            &distance.map(|value| Fixed { value, decimals: 4 }),
+        );
         stream.take_message(bytes).expect(rt, "memory");
         return;
     }
@@ -124,5 +133,5 @@ fn a_description(rt: HostRuntime) {
     push_descriptions(&rt, alloc, &mut stream);
     take(&rt, &mut stream, &[0x00, 0, 5, 132, 0x6D, 0x6F, 0], None);
     push_dev_definition(&rt, alloc, &mut stream);
-    assert_eq!(rt; stream.dev_name(1, 0), Some("mo"));
+    equal(&rt, &stream.dev_name(1, 0), &Some("mo"));
 }

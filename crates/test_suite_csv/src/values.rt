@@ -1,4 +1,5 @@
 //! Names, scaled values, positions and instants that are known from outside.
+use crate::asserts::equal;
 use arrayvec::ArrayString;
 use fit_profile::{
     Fixed, degrees, field_info, field_label, fixed, message_label, message_name, utc_text,
@@ -7,17 +8,18 @@ use test_known::protocol::{ALTITUDE, BATTERY_VOLTAGE, DEVICE_INFO, HRV, HRV_TIME
 
 #[test]
 fn names_and_labels(rt: HostRuntime) {
-    assert_eq!(rt; message_name(207), Some("developer_data_id"));
-    assert_eq!(rt; message_name(1), None);
-    assert_eq!(rt; message_label(20).as_str(), "record");
-    assert_eq!(rt; message_label(65535).as_str(), "message_65535");
-    assert_eq!(rt;
-        field_label(20, 28).as_str(),
-        "compressed_accumulated_power"
+    equal(&rt, &message_name(207), &Some("developer_data_id"));
+    equal(&rt, &message_name(1), &None);
+    equal(&rt, &message_label(20).as_str(), &"record");
+    equal(&rt, &message_label(65535).as_str(), &"message_65535");
+    equal(
+        &rt,
+        &field_label(20, 28).as_str(),
+        &"compressed_accumulated_power",
     );
-    assert_eq!(rt; field_label(20, 254).as_str(), "message_index");
-    assert_eq!(rt; field_label(1, 253).as_str(), "timestamp");
-    assert_eq!(rt; field_label(1, 254).as_str(), "field_254");
+    equal(&rt, &field_label(20, 254).as_str(), &"message_index");
+    equal(&rt, &field_label(1, 253).as_str(), &"timestamp");
+    equal(&rt, &field_label(1, 254).as_str(), &"field_254");
 }
 
 /// The text of a raw value of a field.
@@ -37,7 +39,7 @@ fn scaled_values(rt: HostRuntime) {
         (DEVICE_INFO, BATTERY_VOLTAGE, 956, "3.73437500"),
     ] {
         match text_of(global, number, raw) {
-            Some(is) => assert_eq!(rt; is.as_str(), text),
+            Some(is) => equal(&rt, &is.as_str(), &text),
             None => assert!(rt; false),
         }
     }
@@ -48,7 +50,7 @@ fn greatest_scaled_value(rt: HostRuntime) {
     match field_info(DEVICE_INFO, BATTERY_VOLTAGE) {
         Some(voltage) => {
             let value = fixed(i128::from(u64::MAX), voltage);
-            assert_eq!(rt; value.print().as_str(), "72057594037927935.99609375");
+            equal(&rt, &value.print().as_str(), &"72057594037927935.99609375");
         }
         None => assert!(rt; false),
     }
@@ -64,7 +66,7 @@ fn positions(rt: HostRuntime) {
         (2097152, "0.1757813"),
         (-2097152, "-0.1757813"),
     ] {
-        assert_eq!(rt; degrees(semicircles).print().as_str(), text);
+        equal(&rt, &degrees(semicircles).print().as_str(), &text);
     }
 }
 
@@ -76,7 +78,7 @@ fn instants(rt: HostRuntime) {
         (268_435_455, "system+268435455"),
         (4_294_967_295, "2126-02-06T06:28:15Z"),
     ] {
-        assert_eq!(rt; utc_text(instant).as_str(), text);
+        equal(&rt, &utc_text(instant).as_str(), &text);
     }
 }
 
@@ -89,8 +91,8 @@ fn texts_of_numbers(rt: HostRuntime) {
         (i128::MAX, 0, "170141183460469231731687303715884105727"),
     ] {
         let number = Fixed { value, decimals };
-        assert_eq!(rt; number.print().as_str(), text);
-        assert_eq!(rt; Fixed::scan(text, decimals), Some(number));
+        equal(&rt, &number.print().as_str(), &text);
+        equal(&rt, &Fixed::scan(text, decimals), &Some(number));
     }
 }
 
@@ -109,6 +111,6 @@ fn texts_of_no_number(rt: HostRuntime) {
         ("170141183460469231731687303715884105728", 0),
         ("9999999999999999999999999999999999999999999999999", 0),
     ] {
-        assert_eq!(rt; Fixed::scan(text, decimals), None);
+        equal(&rt, &Fixed::scan(text, decimals), &None);
     }
 }

@@ -1,4 +1,5 @@
 //! Records that are read whole from their rows.
+use crate::asserts::{equal, holds_at};
 use crate::streams::{data, push_definition, pushed};
 use fit_base::Order;
 use fit_base::base_type::UINT8;
@@ -78,13 +79,13 @@ fn read_whole(rt: &impl Abort, alloc: Global, known: &Known) {
             Record::Define(_) => no_message(rt, &mut reader, &stream, text),
             Record::Values(values) => {
                 let after = after_message(rt, &mut reader, &stream, values, text);
-                assert_eq!(rt; after, left);
+                equal(rt, &after, &left);
             }
         }
         pushed(rt, &mut stream, record_);
         text = left;
     }
-    assert!(rt; text.starts_with(b"end,,,,,,\n"), "{}", known.name);
+    holds_at(rt, text.starts_with(b"end,,,,,,\n"), &known.name);
 }
 
 #[test]
