@@ -1,5 +1,6 @@
 //! Known inputs by all commands, with what must stand on the output and among the fault lines, and the status.
 
+mod asserts;
 mod cells;
 mod changed;
 mod check;
@@ -11,6 +12,7 @@ mod refused_texts;
 mod show;
 mod streams;
 
+use crate::tests::asserts::equal_at;
 use fit_decode::Source;
 use fit_encode::CutSink;
 use fit_run::{Command, run};
@@ -82,9 +84,9 @@ fn answer_of<S: Source>(alloc: Global, command: Command, source: &mut S, limit: 
 
 /// Asserts the output, the fault lines and the status of a run.
 fn expect(rt: &impl Abort, answer: &Answer, name: &str, output: &[u8], faults: &str, status: u8) {
-    assert_eq!(rt; answer.output.bytes(), output, "at {name}");
-    assert_eq!(rt; answer.faults.bytes(), faults.as_bytes(), "at {name}");
-    assert_eq!(rt; answer.status, status, "at {name}");
+    equal_at(rt, &answer.output.bytes(), &output, &name);
+    equal_at(rt, &answer.faults.bytes(), &faults.as_bytes(), &name);
+    equal_at(rt, &answer.status, &status, &name);
 }
 
 /// Asserts the text of some bytes, and that it gives them back.

@@ -1,5 +1,6 @@
 //! Inputs cut at each byte, and sources and sinks that fail there, by each command.
 
+use crate::tests::asserts::equal_at;
 use crate::tests::{TABLE_HEAD, answer_of, expect};
 use fit_decode::CutSource;
 use fit_encode::{CutSink, Sink};
@@ -217,8 +218,8 @@ fn fault_lines_that_fail(rt: HostRuntime) {
         let mut faults = CutSink::<4>::new(64);
         let source = &mut CutSource::new(&[0x0E], 1);
         let status = run(rt.alloc(), command, source, &mut output, &mut faults);
-        assert_eq!(rt; faults.bytes(), b"read".as_slice(), "{command:?}");
+        equal_at(&rt, &faults.bytes(), &b"read".as_slice(), &command);
         assert!(rt; faults.failed());
-        assert_eq!(rt; status, 4, "{command:?}");
+        equal_at(&rt, &status, &4, &command);
     }
 }

@@ -1,6 +1,7 @@
 //! Outputs that fail, for want of a reader or otherwise.
 
 use crate::output::Output;
+use crate::tests::asserts::equal;
 use std::io;
 use std::io::{ErrorKind, Write};
 use std::test::Fail;
@@ -40,8 +41,8 @@ fn a_pipe_that_nobody_reads(rt: HostRuntime) -> Result<(), Fail> {
         flushes: 1,
         kind,
     });
-    assert_eq!(rt; output.write(b"ab")?, 2);
-    assert_eq!(rt; output.write(b"cd")?, 1);
+    equal(&rt, &output.write(b"ab")?, &2);
+    equal(&rt, &output.write(b"cd")?, &1);
     output.flush()?;
     assert!(rt; !output.is_closed());
     assert!(rt; output.write(b"d").is_err_and(|error| error.kind() == kind));
@@ -55,7 +56,7 @@ fn a_pipe_that_nobody_reads(rt: HostRuntime) -> Result<(), Fail> {
     assert!(rt; unflushed.flush().is_err_and(|error| error.kind() == kind));
     assert!(rt; unflushed.is_closed());
     // what was seen once is not forgotten
-    assert_eq!(rt; unflushed.write(b"ab")?, 2);
+    equal(&rt, &unflushed.write(b"ab")?, &2);
     assert!(rt; unflushed.is_closed());
     Ok(())
 }

@@ -1,5 +1,6 @@
 //! Readers and writers as sources and sinks, and inputs of more than one piece.
 
+use crate::tests::asserts::equal;
 use crate::tests::{SHORT, bytes_of};
 use fit_decode::{ReadSource, Source};
 use fit_encode::{CutSink, Sink, WriteSink};
@@ -43,11 +44,12 @@ fn readers_and_writers(rt: HostRuntime) -> Result<(), Fail> {
         &mut WriteSink::new(&mut text),
         &mut faults,
     );
-    assert_eq!(rt;
-        text.as_slice(),
-        b"file 1: 9006 data bytes, 9001 records\nok\n".as_slice()
+    equal(
+        &rt,
+        &text.as_slice(),
+        &b"file 1: 9006 data bytes, 9001 records\nok\n".as_slice(),
     );
-    assert_eq!(rt; status, 0);
+    equal(&rt, &status, &0);
 
     let front = bytes.as_slice().get(..5000).ok_or("too short")?;
     let mut source = ReadSource::new(BrokenReader(front));
@@ -60,9 +62,13 @@ fn readers_and_writers(rt: HostRuntime) -> Result<(), Fail> {
         &mut output,
         &mut faults,
     );
-    assert_eq!(rt; faults.bytes(), b"read fault at byte 5000\n".as_slice());
+    equal(
+        &rt,
+        &faults.bytes(),
+        &b"read fault at byte 5000\n".as_slice(),
+    );
     assert!(rt; source.failed() && !output.failed());
-    assert_eq!(rt; status, 4);
+    equal(&rt, &status, &4);
 
     let status = run(
         rt.alloc(),
@@ -72,7 +78,7 @@ fn readers_and_writers(rt: HostRuntime) -> Result<(), Fail> {
         &mut faults,
     );
     assert!(rt; output.failed());
-    assert_eq!(rt; status, 4);
+    equal(&rt, &status, &4);
     Ok(())
 }
 
@@ -90,12 +96,12 @@ fn a_long_chain(rt: HostRuntime) -> Result<(), Fail> {
     let mut sink = WriteSink::new(&mut text);
     let source = &mut bytes.as_slice();
     let status = run(rt.alloc(), Command::ToCsv, source, &mut sink, &mut faults);
-    assert_eq!(rt; status, 0);
+    equal(&rt, &status, &0);
     let mut sink = WriteSink::new(&mut back);
     let source = &mut text.as_slice();
     let status = run(rt.alloc(), Command::FromCsv, source, &mut sink, &mut faults);
-    assert_eq!(rt; (status, faults.bytes()), (0, b"".as_slice()));
-    assert_eq!(rt; back.len(), 917_504);
+    equal(&rt, &(status, faults.bytes()), &(0, b"".as_slice()));
+    equal(&rt, &back.len(), &917_504);
     assert!(rt; back.as_slice() == bytes.as_slice());
     Ok(())
 }
