@@ -15,6 +15,7 @@ TIME = "timestamp"
 _TIMES = (TIME, ".time")
 _NO_TIME = 0xFFFFFFFF
 _FEW, _MANY = 8, 1024  # So few messages are read sooner one by one, and so many are taken at once.
+_BATCH = 1 << 20  # So many bytes of blocks are taken at once, at least.
 _UNIX = int(_EPOCH.timestamp())
 
 
@@ -56,19 +57,31 @@ def _find(source: Source, message: Kind, partial: bool) -> Iterator[_Found]:
     if not isinstance(message, (str, int)):
         raise TypeError(f"a message is named by its name or its number, and not by {type(message).__name__}")
     walk = Walk(message)
-    parts = each("blocks", source, partial, ahead=False)
-    while True:
-        try:
-            blocks = next(parts, None)
-        except FitError:
-            if partial:
-                return
-            raise
-        if blocks is None:
-            return
+    for blocks in _batches(each("blocks", source, partial, ahead=False), partial):
         runs = list(walk.runs(blocks))
         if runs:
             yield _Found(blocks, runs)
+
+
+def _batches(parts: Iterator[Blocks], partial: bool) -> Iterator[Blocks]:
+    """Blocks, so many together that what is done once for them takes little of the time. A fault ends them, where that may be."""
+    batch: List[Blocks] = []
+    size = 0
+    while True:
+        try:
+            part = next(parts, None)
+        except FitError:
+            if not partial:
+                raise
+            part = None
+        if part is not None:
+            batch.append(part)
+            size += len(part)
+        if batch and (size >= _BATCH or part is None):
+            yield batch[0] if len(batch) == 1 else b"".join(batch)
+            batch, size = [], 0
+        if part is None:
+            return
 
 
 def _all_keys(definition: Definition) -> List[Key]:
@@ -161,10 +174,9 @@ class _Group:
         self._slots = sorted({1} | {entry.begins // 8 for entry in entries if entry.is_number})
         # the values of the fields that aren't one number
         self._values: Dict[Entry, List[Any]] = {entry: [] for entry in entries if not entry.is_number}
-        self._tables: List[Any] = []
+        self._tables: List[Dict[int, Any]] = []
         self._before: List[int] = []
         self._counts: List[int] = []
-        self._longs: Dict[int, Any] = {}
 
     def _spread(self, firsts: List[int], counts: List[int], step: int) -> Any:
         """From the first of each run on, numbers at such steps."""
@@ -190,16 +202,11 @@ class _Group:
                     piece = messages[at : at + _MANY, self._slots]
                     table[:, done : done + len(piece)] = piece.T
                     done += len(piece)
-        self._tables.append(table)
+        self._tables.append(dict(zip(self._slots, table)))
         self._before += before
         self._counts += counts
         for entry, values in self._values.items():
             values += [entry.read(blocks[at : at + run.length]) for run in runs for at in run.places()]
-
-    def join(self) -> None:
-        """Makes one of all that was taken."""
-        table = self._tables[0] if len(self._tables) == 1 else self.numpy.concatenate(self._tables, axis=1)
-        self._longs = dict(zip(self._slots, table))
 
     @property
     def messages(self) -> int:
@@ -212,18 +219,25 @@ class _Group:
 
     @property
     def has_times(self) -> bool:
-        return bool((self.items(12, "I") != _NO_TIME).any())
+        return any((items != _NO_TIME).any() for items in self.items(12, "I"))
 
-    def items(self, at: int, code: str) -> Any:
-        """The items at a place in each block, of those that were taken."""
+    def items(self, at: int, code: str) -> List[Any]:
+        """The items at a place in each block, of those that were taken: an array for each time."""
         kind = self.numpy.dtype("<" + code)
-        return self._longs[at // 8].view(kind)[at % 8 // kind.itemsize :: 8 // kind.itemsize]
+        return [table[at // 8].view(kind)[at % 8 // kind.itemsize :: 8 // kind.itemsize] for table in self._tables]
+
+    def _joined(self, parts: Iterable[Any]) -> Any:
+        arrays = list(parts)
+        return arrays[0] if len(arrays) == 1 else self.numpy.concatenate(arrays)
 
     def numbers(self, entry: Entry) -> Any:
         """The values of a field of one number each, as float64, and NaN for none."""
-        items = self.items(entry.begins, entry.item_code)
+        items, floats = self.items(entry.begins, entry.item_code), self.items(entry.begins, entry.float_code)
+        return self._joined(self._numbers(entry, *part) for part in zip(items, floats))
+
+    def _numbers(self, entry: Entry, items: Any, floats: Any) -> Any:
         if entry.kind == FLOAT:
-            numbers = self.items(entry.begins, entry.float_code).astype("f8")
+            numbers = floats.astype("f8")
             numbers = numbers / entry.scale - entry.offset if entry.is_scaled else numbers
         else:
             numbers = items.astype("f8")
@@ -234,7 +248,7 @@ class _Group:
         return numbers
 
     def times(self) -> Any:
-        seconds = self.items(12, "I").astype("i8")
+        seconds = self._joined(self.items(12, "I")).astype("i8")
         times = (seconds + _UNIX).astype("M8[s]")
         times[(seconds < SYSTEM_TIMES) | (seconds == _NO_TIME)] = self.numpy.datetime64("NaT")
         return times
@@ -244,8 +258,8 @@ class _Group:
         column = self.numpy.empty(self.messages, object)
         if entry.is_number:
             value = as_value(entry) if entry.is_scaled else lambda item: item
-            numbers = self.items(entry.begins, entry.float_code).tolist()
-            items = self.items(entry.begins, entry.item_code).tolist()
+            numbers = self._joined(self.items(entry.begins, entry.float_code)).tolist()
+            items = self._joined(self.items(entry.begins, entry.item_code)).tolist()
             column[:] = [None if item == entry.invalid else value(number) for item, number in zip(items, numbers)]
         else:
             # one by one, as tuples would be rows
@@ -269,8 +283,6 @@ def _groups(numpy: Any, found: Iterator[_Found], fields: Optional[List[Key]]) ->
                 definition = of[0].definition
                 groups[key] = _Group(numpy, definition, definition.by_key if fields is None else fields)
             groups[key].take(blocks, of, before)
-    for group in groups.values():
-        group.join()
     return list(groups.values())
 
 
