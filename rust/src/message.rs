@@ -12,22 +12,22 @@ use std::iter::FusedIterator;
 /// A `for` over `&Messages` goes through them in their order.
 pub struct Messages {
     blocks: Bytes,
-    known: Known,
+    /// Of a piece the definitions that came before it.
+    known: Option<Box<Known>>,
 }
 
 impl Messages {
     pub(crate) fn new(blocks: Bytes) -> Messages {
-        Messages::after(Known::default(), blocks)
+        Messages { blocks, known: None }
     }
 
-    /// Those of a piece, by the definitions that came before it.
     pub(crate) fn after(known: Known, blocks: Bytes) -> Messages {
-        Messages { blocks, known }
+        Messages { blocks, known: Some(Box::new(known)) }
     }
 
     /// Goes through the messages in their order.
     pub fn iter(&self) -> Iter<'_> {
-        Iter { walk: self.known.walk(&self.blocks) }
+        Iter { walk: self.known.as_ref().map_or_else(|| Walk::new(&self.blocks), |known| known.walk(&self.blocks)) }
     }
 }
 
