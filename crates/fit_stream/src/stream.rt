@@ -34,9 +34,18 @@ pub(crate) enum Lanes {
 /// Checks a chain of FIT files whose bytes come in pieces of any length, and hands out the text that each piece completes.
 ///
 /// Clauses see the kind, and what has flowed through: the bytes fed, all text handed out, and the fault, if there was one.
-#[derive(Drop)]
 pub struct Stream {
     lanes: Lanes,
+}
+
+/// Frees what a stream has.
+fn let_go(_lanes: Lanes) {}
+
+impl Drop for Stream {
+    fn drop(self) {
+        let Stream { lanes } = self;
+        let_go(lanes);
+    }
 }
 
 impl Model for Stream {
