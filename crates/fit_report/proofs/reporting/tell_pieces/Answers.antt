@@ -1,3 +1,4 @@
+use Rattle.std.proofs.Common.{rules}
 -- A report goes on piece by piece.
 use Rattle.fit_report.proofs.Common.{[], Appends, ◌++◌, length, sym, ap, subst, arith, length-append, Global, Consumes, err_from_is_err_and, chain_limit}
 use Rattle.fit_report.proofs.Common.{IsViable, Seen}
@@ -91,3 +92,6 @@ feed-requires-clause-told g c = ([], g.K.Sink.contents c.args.sink.now, c.pieces
 
 pub overflow_add-place : goal.overflow_add-place
 overflow_add-place g c = omega (arith, c.pieces.invariant.counted, short_bytes c.pieces.telling.seen.bytes c.pieces.invariant.viable, c.in-Ok.ensures.bound)
+
+pub returns-then-got-eq0-clause-reports : goal.returns-then-got-eq0-clause-reports
+returns-then-got-eq0-clause-reports g c = search rules
