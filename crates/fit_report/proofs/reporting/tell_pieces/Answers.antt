@@ -95,3 +95,6 @@ overflow_add-place g c = omega (arith, c.pieces.invariant.counted, short_bytes c
 
 pub returns-then-got-eq0-clause-reports : goal.returns-then-got-eq0-clause-reports
 returns-then-got-eq0-clause-reports g c = search rules
+
+pub returns-in_default-clause-reports : goal.returns-in_default-clause-reports
+returns-in_default-clause-reports g c = search rules
