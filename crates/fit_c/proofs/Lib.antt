@@ -1,3 +1,5 @@
 pub mod Common
 pub mod Said
 pub mod Handed
+pub mod LooseBoxes
+pub mod Handles

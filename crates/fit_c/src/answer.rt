@@ -11,7 +11,8 @@ use fit_report::ReportFault;
 #[repr(C)]
 #[derive(Clone, Copy)]
 pub struct FitAnswer {
-    /// 0 good, 1 refused, 2 truncated, 3 out of memory, 4 a row or a cell of a text refused, 5 no file has such rows.
+    /// 0 good, 1 refused, 2 truncated, 3 out of memory, 4 a row or a cell of a text refused, 5 no file has such rows, 6 the stream is
+    /// closed, 7 there is no such kind of stream.
     pub status: u32,
     /// With status 1 the number of the reason.
     pub reason: u32,
@@ -21,12 +22,12 @@ pub struct FitAnswer {
     pub row: u64,
     /// With status 4 the column of a cell, counted from 1; 0 where the row as a whole is refused.
     pub column: u64,
-    /// With status 0 how many files there are, in the answer of `gazhdor_check`.
+    /// With status 0 how many files there are, in the answers of `gazhdor_check`, `gazhdor_feed` and `gazhdor_finish`.
     pub files: u64,
 }
 
 /// An answer that says nothing but its status.
-fn plain(status: u32) -> FitAnswer
+pub(crate) fn plain(status: u32) -> FitAnswer
     ensures { result ≡ status_alone status }
 {
     FitAnswer {

@@ -1,10 +1,15 @@
-//! The calls for C, which `c/gazhdor.h` declares. They keep nothing, and take memory from the C library alone.
+//! The calls for C, which `c/gazhdor.h` declares. They take memory from the C library alone, and keep nothing but what a stream holds.
 #![tactic(auto)]
 
 mod answer;
 mod check;
+mod handle;
+mod loose;
+mod stream;
 mod texts;
 
 pub use answer::FitAnswer;
 pub use check::gazhdor_check;
+pub use handle::FitStream;
+pub use stream::{gazhdor_close, gazhdor_feed, gazhdor_finish, gazhdor_open};
 pub use texts::{gazhdor_from_csv, gazhdor_messages, gazhdor_show, gazhdor_table, gazhdor_to_csv};
