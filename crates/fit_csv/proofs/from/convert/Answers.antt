@@ -1,5 +1,5 @@
 use Rattle.fit_csv.proofs.Common.{Err, sym, subst, Global, err_from_is_err_and, FitFile, channel, Answers, AreFilesOf, IsTextFault, CsvFault}
-use Rattle.std.proofs.Common.{List, ℕ}
+use Rattle.std.proofs.Common.{List, ℕ, rules}
 use Rattle.fit_csv.proofs.Unwritten.{from-fault, from-judged, from-text, from-unread}
 use Rattle.fit_csv.proofs.from.convert.Goals as goal
 
@@ -47,3 +47,6 @@ returns-clause-reads g c =
     (c.in_ok-text.ensures.end, c.in_ok-text.ensures.works)
     c.in-Err.fault c.in-Err.ensures.refused c.in-Err.ensures.written_of_good c.in-Err.ensures.written in
     (whole, c.in_ok-text.ensures.all, subst (λ (fault : CsvFault). Answers whole source sink (Err fault)) (sym c.from_fault.ensures) given)
+
+pub returns-clause-unchanged : goal.returns-clause-unchanged
+returns-clause-unchanged g c = search rules

@@ -1,3 +1,4 @@
+use Rattle.std.proofs.Common.{rules}
 use Rattle.fit_csv.proofs.Common.{◌≡◌, [], refl, sym, subst, HasShape, meaning, cell, row, IsValueRow, Row, DifferAt, row_of}
 use Rattle.std.specs.Prelude.{option_map}
 use Rattle.fit_csv.proofs.Closest.{closest}
@@ -38,3 +39,6 @@ returns-in-Some-first_difference-clause-err c =
     (value-closest cells.kind.now c.args.label.now cells.a.now cells.b.now cells.c.now cells.d.now cells.e.now cells.f.now c.args.code.0 c.args.size info
     c.args.unit.now items same some.1)
     differs
+
+pub returns-in-None-clause-ok : goal.returns-in-None-clause-ok
+returns-in-None-clause-ok c = search rules

@@ -1,6 +1,6 @@
 use Rattle.fit_csv.proofs.Common.{◌≡◌, ◌∙◌, [], refl, sym, ap, subst, message_label, optional_number, row, IsMessageRow, global_at, Row, DifferAt}
 use Rattle.fit_csv.proofs.Common.{row_of}
-use Rattle.std.proofs.Common.{decimal}
+use Rattle.std.proofs.Common.{decimal, rules}
 use Rattle.std.specs.Prelude.{codes}
 use Rattle.fit_csv.proofs.Closest.{closest}
 use Rattle.fit_csv.proofs.SevenCells.{same-cells}
@@ -31,3 +31,6 @@ returns-in-Some-clause-err c =
     (rw c.requires.kind (message-closest before cells.a.now cells.b.now cells.c.now cells.d.now cells.e.now cells.f.now local offset c.requires.small
     c.requires.shown c.offset_in-offset.ensures.every))
     differs
+
+pub returns-in_ok-with_capacity-in-None-clause-ok : goal.returns-in_ok-with_capacity-in-None-clause-ok
+returns-in_ok-with_capacity-in-None-clause-ok c = search rules

@@ -1,5 +1,5 @@
 use Rattle.fit_csv.proofs.Common.{◌≡◌, ◌++◌, inr, take, arith, sym, subst, Consumes, Consumes-trans}
-use Rattle.std.proofs.Common.{List, ℕ}
+use Rattle.std.proofs.Common.{List, ℕ, rules}
 use Rattle.fit_csv.proofs.from.text.read_text.Goals as goal
 
 pub returns-then-is_err-clause-err : goal.returns-then-is_err-clause-err
@@ -22,3 +22,9 @@ returns-then-len-gt-MOST-clause-err g c =
       subst (λ (bytes : List ℕ). Consumes (g.S.Source.remaining c.args.source.now) (g.S.Source.remaining c.take.new.self) bytes) (sym items) both,
       inr (omega (arith, c.len.ensures, c.if-len-gt-MOST.true)),
     )
+
+pub returns-then-got-eq0-clause-all : goal.returns-then-got-eq0-clause-all
+returns-then-got-eq0-clause-all g c = search rules
+
+pub returns-then-got-eq0-clause-end : goal.returns-then-got-eq0-clause-end
+returns-then-got-eq0-clause-end g c = search rules

@@ -1,3 +1,4 @@
+use Rattle.std.proofs.lemmas.Grind.{common_steps}
 use Rattle.fit_csv.proofs.Common.{◌++◌, arith, err_from_is_err_and}
 use Rattle.fit_csv.proofs.JudgedRows.{few-rows, judged-sound}
 use Rattle.fit_csv.proofs.from.judge.RowJudge.take_window.Goals as goal
@@ -26,3 +27,6 @@ unreachable-requires c =
       c.loop-test.false,
       few-rows c.args.whole.now (c.loop.front.now ++ c.loop.back.now) c.loop.self.chain c.loop.self.rows c.loop.invariant.judged,
     )
+
+pub returns-then-is_empty-clause-judged : goal.returns-then-is_empty-clause-judged
+returns-then-is_empty-clause-judged c = grind (arith, common_steps)
