@@ -1,3 +1,4 @@
+use Rattle.std.proofs.Common.{rules}
 -- The counts have room, since few events are heard.
 use Rattle.fit_run.proofs.Common.{arith, hear, heard_are_few}
 use Rattle.fit_run.proofs.Counts.{few_files, few_records}
@@ -18,3 +19,6 @@ overflow_add-self-in-FileEnd c =
     let less = rw c.in-FileEnd.is at few in
     let files = r.1.of_files in
     omega (arith, less, few_files r.0, files)
+
+pub returns-in-Header : goal.returns-in-Header
+returns-in-Header c = search rules
