@@ -92,7 +92,8 @@ gazhdor_answer gazhdor_to_csv(const uint8_t *bytes, size_t length, gazhdor_text 
 /* The messages with their names, units and times, a line each, as `fit show` writes them, without its last line. */
 gazhdor_answer gazhdor_show(const uint8_t *bytes, size_t length, gazhdor_text *text);
 
-/* The messages as blocks of bytes, one for each header, definition, message and end of a file. gazhdor_reader, below, reads them. */
+/* The messages as blocks of bytes, one for each header, definition, message and end of a file. gazhdor_reader, of gazhdor_blocks.h,
+ * reads them. */
 gazhdor_answer gazhdor_messages(const uint8_t *bytes, size_t length, gazhdor_text *blocks);
 
 /* The FIT file or files that a CSV text of `length` bytes describes. There are no bytes where the status isn't GAZHDOR_GOOD. */
@@ -133,9 +134,9 @@ typedef struct gazhdor_stream {
 gazhdor_answer gazhdor_open(gazhdor_stream *stream, uint32_t kind);
 
 /* Takes the next bytes, of any length, and makes the text or the blocks of what they complete: whole lines or rows, and whole blocks.
- * GAZHDOR_GOOD: all bytes so far are good, or begin what is good. GAZHDOR_REFUSED and GAZHDOR_NO_MEMORY are those of the calls above on
- * all bytes so far, and the text is that before the fault. From then on each call returns the same again, and makes no text.
- * The texts of all calls, one after another, are the text of the call above, of all bytes. */
+ * GAZHDOR_GOOD: all bytes so far are good, or begin what is good. GAZHDOR_REFUSED is that of the call above on all bytes so far, and the
+ * text is that before the fault; with GAZHDOR_NO_MEMORY it is that of some of it. From then on each call returns the same again, and
+ * makes no text. The texts of all calls, one after another, are the text of the call above, of all bytes. */
 gazhdor_answer gazhdor_feed(gazhdor_stream *stream, const uint8_t *bytes, size_t length, gazhdor_text *text);
 
 /* Where all bytes have come: returns what the call above does of them, and makes what is still to come of its text. This ends nothing:

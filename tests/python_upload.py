@@ -231,9 +231,11 @@ class Page(unittest.TestCase):
             self.assertEqual((min(y for _, y in points), points[highest][1], max(y for _, y in points)), (40.0, 40.0, 140.0))
 
     def test_refused(self):
-        page = self.dropped(BYTES[:2000])
-        self.assertRegex(page, r'<p id="finding"[^>]*class="bad"[^>]*>a &lt;ride&gt;.fit: truncated at byte 2000</p>')
-        self.assertNotIn("<svg", page)
+        """What is wrong is said, also where the browser has still to send a lot of the file."""
+        for data, finding in ((BYTES[:2000], "truncated at byte 2000"), (b"PK" + bytes(9000000), "refused at byte 1: Protocol")):
+            page = self.dropped(data)
+            self.assertRegex(page, rf'<p id="finding"[^>]*class="bad"[^>]*>a &lt;ride&gt;.fit: {finding}</p>')
+            self.assertNotIn("<svg", page)
 
 
 if __name__ == "__main__":
