@@ -318,6 +318,23 @@ class Sources(unittest.TestCase):
             self.assertEqual(found, count)
         self.assertLess(peaks[1], 1.2 * peaks[0] + 500 * len(BYTES))
 
+    def test_memory_of_the_process(self):
+        """With all that the library takes, a chain of 10 MB needs a few megabytes more than one of a ride, in pieces of a file."""
+        path = os.path.join(WORK, "long.fit")
+        with open(path, "wb") as file:
+            file.write(3000 * BYTES)
+        program = """
+import re, sys, gazhdor
+def most():
+    with open("/proc/self/status") as file:
+        return 1024 * int(re.search(r"VmHWM:\\s*(\\d+) kB", file.read()).group(1))
+before = most()
+print(sum(1 for _ in gazhdor.messages(sys.argv[1], only="lap")), gazhdor.check(sys.argv[1]).files, sum(1 for _ in gazhdor.table(sys.argv[1])), most() - before)
+"""
+        said = subprocess.run([sys.executable, "-c", program, path], stdout=subprocess.PIPE, check=True).stdout.split()
+        self.assertEqual([int(word) for word in said[:3]], [3000, 3000, 3000 * len(list(gazhdor.table(BYTES)))])
+        self.assertLess(int(said[3]), 8000000)
+
     def test_many_definitions(self):
         """Nor with how many definitions come, each another one."""
         definitions, peaks = [define(0, 1000 + k, [(n, 4, UINT32) for n in range(100)]) for k in range(900)], []
