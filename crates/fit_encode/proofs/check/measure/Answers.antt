@@ -1,4 +1,4 @@
-use Rattle.fit_encode.proofs.Common.{◌≡◌, ◌∙◌, inr, take, length, sym, ap, subst, arith, take_all, empty_environment, learn, AllFit, records_bytes}
+use Rattle.fit_encode.proofs.Common.{◌≡◌, ◌∙◌, inr, take, length, sym, ap, subst, arith, take_all, empty_environment, learn, AllFit, records_bytes, rules}
 use Rattle.fit_encode.proofs.FaultSteps.{on_ok_at, shape_at, long_at, measured_past}
 use Rattle.fit_encode.proofs.check.measure.Goals as goal
 
@@ -31,3 +31,6 @@ returns-clause-ok g c =
     let all : take c.loop-index.index c.args.records.now ≡ c.args.records.now = take_all c.loop-index.index c.args.records.now (omega arith) in
     let inv = c.loop-index.invariant in
     (subst (AllFit {A = g.row.A.Denot} empty_environment) all inv.fit, inv.total ∙ ap (λ x. length (records_bytes {A = g.row.A.Denot} empty_environment x)) all)
+
+pub loop-index-init : goal.loop-index-init
+loop-index-init g c = search rules

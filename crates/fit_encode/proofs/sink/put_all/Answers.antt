@@ -11,3 +11,9 @@ loop-written-preserved g c = record {
   works = λ _. c.in-Ok.ensures.some (omega arith);
   none = λ none. absurd (omega arith);
 }
+
+pub returns-in-Ok-eq0-clause-ok : goal.returns-in-Ok-eq0-clause-ok
+returns-in-Ok-eq0-clause-ok g c = cc
+
+pub returns-in-Ok-eq0-clause-works : goal.returns-in-Ok-eq0-clause-works
+returns-in-Ok-eq0-clause-works g c = cc

@@ -1,3 +1,4 @@
+use Rattle.fit_encode.proofs.Common.{rules}
 use Rattle.fit_encode.proofs.Common.{◌∙◌, ◌<◌, List, ℕ, refl, ap, subst, length, arith, little_bytes, checksum, Encoding, IsComplete, IsWhole, closing_bytes}
 use Rattle.fit_encode.proofs.Common.{data_so_far}
 use Rattle.std.proofs.Common.{Global}
@@ -50,3 +51,9 @@ returns-clause-works g c =
     let inv = while_open c.self.inside.finished c.self.inside.failed c.self.invariant c.closed_fault.ensures c.in_default.is in
     let spelled = c.in_default-end.ensures in
     (went_out spelled.sends inv.held spelled.empty).3 (omega arith)
+
+pub invariant_of-self-2 : goal.invariant_of-self-2
+invariant_of-self-2 g c = search rules
+
+pub returns-clause-finished : goal.returns-clause-finished
+returns-clause-finished g c = search rules

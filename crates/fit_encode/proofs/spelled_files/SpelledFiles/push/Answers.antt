@@ -1,0 +1,6 @@
+use Rattle.fit_encode.proofs.Common.{arith}
+use Rattle.std.proofs.lemmas.Grind.{common_steps}
+use Rattle.fit_encode.proofs.spelled_files.SpelledFiles.push.Goals as goal
+
+pub invariant_of-self-2 : goal.invariant_of-self-2
+invariant_of-self-2 c = grind (arith, common_steps)
