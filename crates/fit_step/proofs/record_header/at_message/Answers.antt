@@ -1,4 +1,4 @@
-use Rattle.fit_step.proofs.Common.{◌∙◌, ◌-◌, ap, sym, Ok, Data, entered, arith}
+use Rattle.fit_step.proofs.Common.{◌∙◌, ◌-◌, ap, sym, Ok, Data, entered, arith, rules}
 use Rattle.fit_step.proofs.HeaderSteps.{begun_entered}
 use Rattle.std.proofs.lemmas.Grind.{common_steps}
 use Rattle.fit_step.proofs.record_header.at_message.Goals as goal
@@ -17,3 +17,9 @@ defined_for-requires g c = assumption
 
 pub overflow_sub-room : goal.overflow_sub-room
 overflow_sub-room g c = grind (arith, common_steps)
+
+pub returns-in-Err-clause-made : goal.returns-in-Err-clause-made
+returns-in-Err-clause-made g c = search rules
+
+pub returns-in-Err-clause-free : goal.returns-in-Err-clause-free
+returns-in-Err-clause-free g c = search rules
