@@ -33,7 +33,7 @@ fn is_cell(rt: &impl Abort, alloc: Global, cell: Cell) {
     let code = Code(code);
     let info = field_info(field.0, field.1);
     let items = Items::from_slice(alloc, width_of(code, size), numbers).expect(rt, "memory");
-    holds_at(rt, has_shape(code, size, &items), &text);
+    assert!(rt; has_shape(code, size, &items), "at {text}");
     let cell = cell_text(alloc, code, info, &items).expect(rt, "memory");
     equal(rt, &cell.as_str(), &text);
     let read = cell_items(alloc, code, size, info, text).expect(rt, "memory");
