@@ -20,6 +20,9 @@ impl<T> Model for History<T> {
     ghost also_owns = { λ _. ftrue };
 }
 
+// It has no bytes, whatever `T` is, so any thread may have it.
+unsafe impl<T> Send for History<T> {}
+
 impl<T> History<T> {
     /// A history without values.
     pub fn new() -> Self
