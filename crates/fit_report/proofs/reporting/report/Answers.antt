@@ -14,3 +14,9 @@ returns-clause-heard g c = λ fs b input are chain.
     hears_chain g.R.Report.line fs b are chain g.R.Report.has_heard c.tell_pieces.new.reporter
     (channel g.S.Source.remaining g.S.Source.has_failed c.args.source.now c.tell_pieces.new.source)
     (channel g.K.Sink.contents g.K.Sink.has_failed c.args.sink.now c.tell_pieces.new.sink) c.tell_pieces.result input c.tell_pieces.ensures.reports
+
+pub returns-clause-reports : goal.returns-clause-reports
+returns-clause-reports g c = c.tell_pieces.ensures.reports
+
+pub returns-clause-works : goal.returns-clause-works
+returns-clause-works g c = c.tell_pieces.ensures.works
