@@ -9,3 +9,5 @@ mod SkippedMessages
 pub mod ToldEvents
 pub mod TakenDefinitions
 pub mod BlockLengths
+pub mod FirstEvents
+pub mod EventPlaces
