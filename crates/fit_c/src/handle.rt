@@ -22,6 +22,9 @@ impl Model for FitStream {
     ghost also_owns = { λ h. holds h.at h.value };
 }
 
+// It owns a box or nothing, and neither is bound to a thread.
+unsafe impl Send for FitStream {}
+
 impl FitStream {
     fn closed() -> FitStream
         ensures { result.value ≡ None }

@@ -4,6 +4,7 @@
 mod answer;
 mod check;
 mod handle;
+pub mod laws;
 mod loose;
 mod stream;
 mod texts;
