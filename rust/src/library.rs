@@ -184,10 +184,13 @@ pub(crate) fn from_csv(text: &[u8]) -> (Answer, Bytes) {
     made(gazhdor_from_csv, text)
 }
 
-/// A stream, which is closed when this is dropped. The pointer in it makes it neither `Send` nor `Sync`.
+/// A stream, which is closed when this is dropped. The pointer in it makes it not `Sync`.
 pub(crate) struct Opened {
     handle: Handle,
 }
+
+// SAFETY: that a stream may go to another thread is proved, as `laws::streams_move` of crates/fit_c; nobody else has the pointer.
+unsafe impl Send for Opened {}
 
 impl Opened {
     pub(crate) fn new(kind: u32) -> (Answer, Opened) {
@@ -198,8 +201,8 @@ impl Opened {
     }
 
     pub(crate) fn feed(&mut self, piece: &[u8]) -> (Answer, Bytes) {
-        // SAFETY: the handle is as the last call left it, no other call uses it, and this thread opened it. The bytes can be read and
-        // don't change meanwhile, and `into` holds nothing.
+        // SAFETY: the handle is as the last call left it, and no other call uses it. The bytes can be read and don't change meanwhile,
+        // and `into` holds nothing.
         put(|into| unsafe { gazhdor_feed(&mut self.handle, piece.as_ptr(), piece.len(), into) })
     }
 

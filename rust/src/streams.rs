@@ -70,11 +70,25 @@ impl sealed::Made for Messages {
 /// # Ok::<(), Fault>(())
 /// ```
 ///
-/// It is used in the thread that opened it: that another one may go on with it isn't proved.
+/// It may go to another thread at any time, and goes on there. One call uses it at a time: it is `Send`, and not `Sync`.
+///
+/// ```
+/// # std::env::set_current_dir(env!("GAZHDOR_RIDES")).unwrap();
+/// # let ride = std::fs::read("ride.fit").unwrap();
+/// let (first, rest) = ride.split_at(ride.len() / 2);
+/// let mut stream = gazhdor::Stream::table()?;
+/// let begun = stream.feed(first)?.to_string();
+/// let rest = rest.to_vec();
+/// let ended = std::thread::spawn(move || -> Result<String, gazhdor::Fault> {
+///     Ok(stream.feed(&rest)?.to_string() + &*stream.finish()?)
+/// });
+/// assert_eq!(begun + &ended.join().unwrap()?, *gazhdor::table(&ride)?);
+/// # Ok::<(), gazhdor::Fault>(())
+/// ```
 ///
 /// ```compile_fail
-/// fn send<T: Send>(_: T) {}
-/// send(gazhdor::Stream::check());
+/// fn shared<T: Sync>(_: T) {}
+/// shared(gazhdor::Stream::check());
 /// ```
 pub struct Stream<T> {
     opened: Opened,

@@ -1,5 +1,6 @@
 //! Streams, and sources that are read piece by piece, against the calls on all bytes: in each two pieces, byte by byte, and changed.
 use gazhdor::{check, messages, show, table, to_csv, Fault, Made, Messages, ReadFault, Reason, Stopped, Stream, Text};
+use std::fmt::Debug;
 use std::io::{self, ErrorKind, Read};
 use std::thread;
 
@@ -207,4 +208,36 @@ fn four_threads() {
         let made = thread.join().unwrap();
         assert_eq!(made.iter().map(Told::told).collect::<String>(), wanted);
     }
+}
+
+fn may_move<T: Send>(_: &T) {}
+
+/// One thread opens a stream, two others feed it, and a fourth finishes and drops it.
+fn moved<T: Told + Debug + Send + 'static>(open: fn() -> Result<Stream<T>, Fault>) -> String {
+    let mut stream = thread::spawn(open).join().unwrap().unwrap();
+    let mut told = String::new();
+    for half in [&RIDE[..RIDE.len() / 2], &RIDE[RIDE.len() / 2..]] {
+        let feeding = thread::spawn(move || {
+            let made: Vec<_> = half.chunks(70).map(|piece| stream.feed(piece).unwrap().told()).collect();
+            (stream, made)
+        });
+        let (fed, made) = feeding.join().unwrap();
+        told.extend(made);
+        stream = fed;
+    }
+    told + &thread::spawn(move || stream.finish().unwrap().told()).join().unwrap()
+}
+
+#[test]
+fn goes_on_in_other_threads() {
+    assert_eq!(moved(Stream::check), "");
+    assert_eq!(moved(Stream::show), *show(RIDE).unwrap());
+    assert_eq!(moved(Stream::table), *table(RIDE).unwrap());
+    assert_eq!(moved(Stream::to_csv), *to_csv(RIDE).unwrap());
+    assert_eq!(moved(Stream::messages), messages(RIDE).unwrap().told());
+    let mut reading = Stream::messages().unwrap().read(RIDE);
+    may_move(&reading);
+    let first = reading.next().unwrap().unwrap().told();
+    let rest = thread::spawn(move || reading.map(|made| made.unwrap().told()).collect::<String>()).join().unwrap();
+    assert_eq!(first + &rest, messages(RIDE).unwrap().told());
 }
