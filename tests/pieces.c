@@ -358,6 +358,95 @@ static void threads(void)
         WANT(pthread_join(four[i], NULL) == 0);
 }
 
+/* ---- one stream in several threads, one call at a time */
+
+typedef struct {
+    uint32_t kind;
+    feeding f;
+    size_t at, size; /* how much was fed, and how much is fed at once */
+    pthread_mutex_t turn;
+    pthread_cond_t next;
+    int threads, taken, pieces; /* so many feed it in turn; so many of these have a number; so many pieces were fed */
+    long blocks; /* what these threads took and didn't give back */
+} passing;
+
+static void *opens(void *passed)
+{
+    passing *p = passed;
+    p->f = opened(p->kind, p->f.wanted);
+    WANT(is(p->f.answer, GAZHDOR_GOOD));
+    p->blocks += blocks;
+    return NULL;
+}
+
+/* Feeds each piece whose turn it is, but a tenth of all. */
+static void *feeds(void *passed)
+{
+    passing *p = passed;
+    pthread_mutex_lock(&p->turn);
+    int mine = p->taken++;
+    for (size_t last = given_length - given_length / 10; p->at < last;) {
+        if (p->pieces % p->threads != mine) {
+            pthread_cond_wait(&p->next, &p->turn);
+            continue;
+        }
+        size_t size = last - p->at < p->size ? last - p->at : p->size;
+        feed(&p->f, given + p->at, size);
+        p->at += size;
+        p->pieces++;
+        pthread_cond_broadcast(&p->next);
+    }
+    p->blocks += blocks;
+    pthread_mutex_unlock(&p->turn);
+    return NULL;
+}
+
+/* Feeds the rest. */
+static void *finishes(void *passed)
+{
+    passing *p = passed;
+    feed(&p->f, given + p->at, given_length - p->at);
+    finish(&p->f);
+    p->blocks += blocks;
+    return NULL;
+}
+
+static void *closes(void *passed)
+{
+    passing *p = passed;
+    gazhdor_close(&p->f.stream);
+    WANT(p->f.stream.at == NULL);
+    p->blocks += blocks;
+    return NULL;
+}
+
+/* So many threads at once make a step, and have ended when this returns. */
+static void step(void *(*what)(void *), passing *p, int count)
+{
+    pthread_t threads[4];
+    for (int i = 0; i < count; i++)
+        WANT(pthread_create(&threads[i], NULL, what, p) == 0);
+    for (int i = 0; i < count; i++)
+        WANT(pthread_join(threads[i], NULL) == 0);
+}
+
+/* One thread opens a stream, one or four feed it, another finishes, and yet another closes it: text and answer are those of one call, and
+ * no block is left. */
+static void passed_on(uint32_t kind, int count)
+{
+    gazhdor_text text = GAZHDOR_NO_TEXT;
+    gazhdor_answer wanted = whole(kind, given, given_length, &text);
+    passing p = { .kind = kind, .f = { .wanted = text }, .size = count == 1 ? given_length : 19,
+        .turn = PTHREAD_MUTEX_INITIALIZER, .next = PTHREAD_COND_INITIALIZER, .threads = count };
+    step(opens, &p, 1);
+    step(feeds, &p, count);
+    step(finishes, &p, 1);
+    WANT(same(p.f.answer, wanted) && p.f.made == text.length);
+    step(closes, &p, 1);
+    WANT(p.blocks == 0);
+    gazhdor_free(text);
+}
+
 int main(int argc, char **argv)
 {
     WANT(argc > 2);
@@ -373,6 +462,8 @@ int main(int argc, char **argv)
         for (uint32_t kind = 0; kind < KINDS; kind++) {
             asked_in_between(kind, given, given_length < 500 ? given_length : 500);
             refusals(kind, given, given_length < 3000 ? given_length : 3000);
+            passed_on(kind, 1);
+            passed_on(kind, 4);
         }
         for (size_t size = 1; size < 100; size += 7)
             kept(given, given_length, size);
