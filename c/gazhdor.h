@@ -122,8 +122,9 @@ enum gazhdor_stream_kind {
 };
 
 /* What is kept between the pieces: the definitions of the current file, what has come of a record, and the checksum; so it needs no
- * more memory for more bytes. It begins as GAZHDOR_CLOSED_STREAM. Only the four calls change it, one at a time, in the thread that
- * opened it. It isn't copied, and in the end gazhdor_close gives its memory back. Other threads may use other streams meanwhile. */
+ * more memory for more bytes. It begins as GAZHDOR_CLOSED_STREAM. Only the four calls change it, one at a time. Each of them may be made
+ * in another thread: then a lock, a join or the like comes between. It isn't copied, and in the end gazhdor_close gives its memory back.
+ * Other threads may use other streams meanwhile. */
 typedef struct gazhdor_stream {
     void *at;
 } gazhdor_stream;
