@@ -11,3 +11,6 @@ pub returns-clause-dev_fields : goal.returns-clause-dev_fields
 returns-clause-dev_fields g c =
     let sixteen : length c.args.self.now.places ≡ 16 = rw (← c.self.view_is) assumption in
     dev_fields_answered c.args.self.now c.args.local c.args.to_come c.args.size c.args.room c.completes.result c.requires sixteen c.completes.ensures
+
+pub returns-clause-test : goal.returns-clause-test
+returns-clause-test g c = cc

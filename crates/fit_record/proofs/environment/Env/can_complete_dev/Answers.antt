@@ -6,3 +6,6 @@ pub returns-clause-dev_number : goal.returns-clause-dev_number
 returns-clause-dev_number g c =
     let sixteen : length c.args.self.now.places ≡ 16 = rw (← c.self.view_is) assumption in
     dev_number_answered c.args.self.now c.args.local c.args.to_come c.args.size c.args.room c.completes_dev.result c.requires sixteen c.completes_dev.ensures
+
+pub returns-clause-test : goal.returns-clause-test
+returns-clause-test g c = cc
