@@ -1,4 +1,4 @@
-use Rattle.fit_step.proofs.Common.{◌+◌, ◌<◌, ap, take, length, length-drop, subst, arith, IsSkipped, ◌≤◌}
+use Rattle.fit_step.proofs.Common.{◌≡◌, ◌+◌, ◌<◌, ap, take, length, length-drop, subst, arith, IsSkipped, ◌≤◌}
 use Rattle.fit_step.proofs.SkippedRecords.{one_more}
 use Rattle.std.proofs.lemmas.Grind.{common_steps}
 use Rattle.fit_step.proofs.skipping.skip_records.Goals as goal
@@ -27,3 +27,8 @@ skip_record-size-requires g c = assumption
 
 pub overflow_add-used : goal.overflow_add-used
 overflow_add-used g c = grind (arith, common_steps)
+
+pub returns-then-size-eq0-clause-records : goal.returns-then-size-eq0-clause-records
+returns-then-size-eq0-clause-records g c =
+    let none : c.skip_record-size.result ≡ 0 = omega (arith, c.if-size-eq0.true) in
+    rw (c.skip_record-size.ensures.none none) c.loop-count.invariant.records
