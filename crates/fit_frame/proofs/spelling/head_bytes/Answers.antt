@@ -1,3 +1,4 @@
+use Rattle.std.proofs.Common.{rules}
 use Rattle.fit_frame.proofs.Common.{◌≡◌, true, refl, ap, ◌∙◌, checksum, FormFits, ZeroIsSum}
 use Rattle.fit_frame.proofs.spelling.head_bytes.Goals as goal
 
@@ -17,3 +18,16 @@ returns-clause-ok c =
       },
       λ _. refl,
     )
+
+pub returns-then-not-has_form-clause-bad_header : goal.returns-then-not-has_form-clause-bad_header
+returns-then-not-has_form-clause-bad_header c = search rules
+
+pub returns-then-not-has_form-clause-zero_is_sum :
+    goal.returns-then-not-has_form-clause-zero_is_sum
+returns-then-not-has_form-clause-zero_is_sum c = search rules
+
+pub returns-then-is_zero-clause-bad_header : goal.returns-then-is_zero-clause-bad_header
+returns-then-is_zero-clause-bad_header c = search rules
+
+pub returns-then-is_zero-clause-zero_is_sum : goal.returns-then-is_zero-clause-zero_is_sum
+returns-then-is_zero-clause-zero_is_sum c = search rules

@@ -7,3 +7,6 @@ pub returns-clause-begins : goal.returns-clause-begins
 returns-clause-begins c =
     let fails : IsWholeHeader c.new.result.items → ⊥ = λ w. omega (arith, has_its_size c.new.result.items w, ap length c.new.ensures) in
     (subst BeginsHeader (sym c.new.ensures) (begins [] no_byte), fails)
+
+pub returns-clause-seen : goal.returns-clause-seen
+returns-clause-seen c = cc
