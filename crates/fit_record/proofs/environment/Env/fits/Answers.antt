@@ -1,7 +1,6 @@
-use Rattle.fit_record.proofs.Common.{Data, arith}
+use Rattle.fit_record.proofs.Common.{Data, Define, ◌≡◌, Some, IfErr, subst, sym, first_fault}
 use Rattle.fit_record.proofs.NoFaultWhereFits.{refused_by}
 use Rattle.fit_record.proofs.RecordLengths.{ok_more, length_of_definition, length_of_data}
-use Rattle.std.proofs.lemmas.Grind.{common_steps}
 use Rattle.fit_record.proofs.environment.Env.fits.Goals as goal
 
 pub returns-in-Define-clause-ok : goal.returns-in-Define-clause-ok
@@ -17,7 +16,9 @@ pub returns-in-Values-clause-refused : goal.returns-in-Values-clause-refused
 returns-in-Values-clause-refused g c = refused_by c.args.self.now c.args.r.now (Data c.in-Values.v) c.data_fits.result c.in-Values.is c.data_fits.ensures.err
 
 pub returns-in-Define-clause-err : goal.returns-in-Define-clause-err
-returns-in-Define-clause-err g c = grind (arith, common_steps)
+returns-in-Define-clause-err g c =
+    subst (λ r. IfErr c.definition_fits.result (λ fault. first_fault c.args.self.now r ≡ Some fault)) (sym c.in-Define.is) c.definition_fits.ensures.err
 
 pub returns-in-Define-clause-refused : goal.returns-in-Define-clause-refused
-returns-in-Define-clause-refused g c = grind (arith, common_steps)
+returns-in-Define-clause-refused g c =
+    refused_by c.args.self.now c.args.r.now (Define c.in-Define.d) c.definition_fits.result c.in-Define.is c.definition_fits.ensures.err
