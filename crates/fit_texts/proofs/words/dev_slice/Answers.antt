@@ -1,0 +1,4 @@
+use Rattle.fit_texts.proofs.words.dev_slice.Goals as goal
+
+pub returns-in-Some : goal.returns-in-Some
+returns-in-Some c = cc
