@@ -3,3 +3,4 @@ pub mod Silence
 pub mod Flowing
 pub mod RowTexts
 pub mod OneFinding
+pub mod FoundReports

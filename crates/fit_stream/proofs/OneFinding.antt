@@ -16,7 +16,7 @@ use Rattle.fit_stream.specs.Laws.{HadMemory, StreamsFindOne}
 -- ---- where bytes are refused
 
 -- bytes that begin alike are refused alike
-refused_alike : (x y z : List ℕ) (p : ℕ) (r : Reason) → p < length x → IsFaultOf (x ++ y) (faults.Refused p r) → IsFaultOf (x ++ z) (faults.Refused p r)
+pub refused_alike : (x y z : List ℕ) (p : ℕ) (r : Reason) → p < length x → IsFaultOf (x ++ y) (faults.Refused p r) → IsFaultOf (x ++ z) (faults.Refused p r)
 refused_alike x y z p r within (short, why) =
     let byte : get_or (x ++ y) p 0 ≡ get_or (x ++ z) p 0 = get_or_append_left x y 0 p within ∙ sym (get_or_append_left x z 0 p within) in
     let front : take p (x ++ y) ≡ take p (x ++ z) = take-append-le p x y (omega (arith, within)) ∙ sym (take-append-le p x z (omega (arith, within))) in (
