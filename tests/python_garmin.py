@@ -1,0 +1,98 @@
+"""Whether the messages of the module gazhdor are those that another program reads: the module Garmin::FIT for Perl, which Debian's pytrainer
+has. It is asked for each message and field of the ride, and of recordings that bench/recording.c makes: numbers, names, items, and values
+where its profile has a scale."""
+import math
+import os
+import re
+import shutil
+import struct
+import subprocess
+import sys
+import unittest
+
+import gazhdor
+
+FOLDER, WORK = sys.argv.pop(), sys.argv.pop()
+FLOAT32, FLOAT64 = 8, 9
+# developer_data_id and field_description, which Garmin::FIT reads for itself: it gives the names of developer fields
+KEPT = (207, 206)
+KINDS = ("plain", "developer", "compressed", "turns", "definitions", "strings")
+
+
+def told(path):
+    """The lines of tests/garmin.pl for a file, each as its words."""
+    said = subprocess.run(["perl", "tests/garmin.pl", FOLDER, path], stdout=subprocess.PIPE, check=True, encoding="latin-1").stdout
+    return [line.split("\t") for line in said.splitlines()]
+
+
+def developer_name(name):
+    """The name of a developer field as Garmin::FIT spells it: one underscore for blanks, and the code of each other character."""
+    return re.sub(r"[^\w ]", lambda other: f"_{ord(other[0]):02x}_", re.sub(r"\s+", " ", name), flags=re.A).replace(" ", "_")
+
+
+def items_of(field, kind):
+    """The items of a field as numbers: bytes of a text, floats by their bits."""
+    items = field.raw if isinstance(field.raw, (tuple, bytes)) else (field.raw,)
+    if kind == FLOAT32:
+        return [struct.unpack("<f", struct.pack("<I", item))[0] for item in items]
+    if kind == FLOAT64:
+        return [struct.unpack("<d", struct.pack("<Q", item))[0] for item in items]
+    return list(items)
+
+
+class Garmin(unittest.TestCase):
+    def compare_field(self, field, words):
+        number, index, name, kind, scale, offset, items = words
+        self.assertEqual((field.number, field.developer), (int(number), int(index) if index else None))
+        if field.name and field.developer is not None:
+            self.assertEqual(developer_name(field.name), name)
+        elif field.name:
+            self.assertEqual(field.name, name)
+        numbers = [float(item) if int(kind) in (FLOAT32, FLOAT64) else int(item) for item in items.split()]
+        self.assertEqual(repr(items_of(field, int(kind))), repr(numbers))
+        if field.name and (scale or offset) and field.value is not None:
+            values = field.value if isinstance(field.value, tuple) else (field.value,)
+            for value, item in zip(values, numbers):
+                if value is not None:
+                    self.assertTrue(math.isclose(value, item / float(scale or 1) - float(offset or 0), rel_tol=1e-12, abs_tol=1e-9), (field.name, value, item))
+                    self.scaled += 1
+
+    def compare(self, path):
+        self.scaled = messages = 0
+        lines = iter(told(path))
+        for message in gazhdor.messages(path):
+            if message.number in KEPT:
+                continue
+            word, number, name = next(lines)
+            self.assertEqual((word, message.number), ("message", int(number)))
+            if message.name:
+                self.assertEqual(message.name, name)
+            for field in message.fields:
+                word, *words = next(lines)
+                self.assertEqual(word, "field")
+                self.compare_field(field, words)
+            messages += 1
+        self.assertIsNone(next(lines, None))
+        return messages, self.scaled
+
+    def test_ride(self):
+        messages, scaled = self.compare("examples/ride.fit")
+        self.assertGreater(messages, 100)
+        self.assertGreater(scaled, 100)
+
+    def test_recordings(self):
+        if not shutil.which("cc"):
+            print("tests/python: there is no cc, so no recordings are made", file=sys.stderr)
+            self.skipTest("there is no cc")
+        recording = os.path.join(WORK, "recording")
+        subprocess.run(["cc", "-O1", "-o", recording, "bench/recording.c"], check=True)
+        for kind in KINDS:
+            subprocess.run([recording, kind, "20k", recording + ".fit"], check=True)
+            with self.subTest(kind):
+                messages, scaled = self.compare(recording + ".fit")
+                self.assertGreater(messages, 3)
+                if kind != "strings":
+                    self.assertGreater(scaled, 3)
+
+
+unittest.main()
