@@ -14,8 +14,8 @@ from .errors import FitError
 TIME = "timestamp"
 _TIMES = (TIME, ".time")
 _NO_TIME = 0xFFFFFFFF
-_FEW, _MANY = 8, 1024  # So few messages are read sooner one by one, and so many are taken at once.
-_BATCH = 1 << 20  # So many bytes of blocks are taken at once, at least.
+_FEW, _MANY = 8, 1024  # Fewer messages than the first are read sooner one by one; as many as the second are taken at once.
+_BATCH = 1 << 20  # At least that many bytes of blocks are taken at once.
 _UNIX = int(_EPOCH.timestamp())
 
 
@@ -64,7 +64,7 @@ def _find(source: Source, message: Kind, partial: bool) -> Iterator[_Found]:
 
 
 def _batches(parts: Iterator[Blocks], partial: bool) -> Iterator[Blocks]:
-    """Blocks, so many together that what is done once for them takes little of the time. A fault ends them, where that may be."""
+    """Blocks, enough of them together that what is done once for all takes little of the time. A fault ends them, where that may be."""
     batch: List[Blocks] = []
     size = 0
     while True:

@@ -34,7 +34,7 @@ def _wrapped(count: int, call: Any, *given: Any) -> Any:
 
 
 def pieces(file: Any, size: int = PIECE) -> Iterator[bytes]:
-    """The bytes of a file object from where it is to its end, as many at once as it gives, and at most so many."""
+    """The bytes of a file object from where it is to its end, as many at once as it gives, and at most that many."""
     count = 0
     while True:
         piece = _wrapped(count, file.read, size)

@@ -9,7 +9,7 @@ const LEAST: usize = 24;
 /// The least length of an entry: its numbers, its name and its unit.
 const ENTRY: usize = 48;
 
-/// Some bytes from a place on; none where there aren't so many.
+/// Some bytes from a place on; none where there aren't that many.
 pub(crate) fn some<const N: usize>(bytes: &[u8], at: usize) -> Option<[u8; N]> {
     bytes.get(at..at.checked_add(N)?)?.try_into().ok()
 }

@@ -113,7 +113,7 @@ impl Deref for Text {
     type Target = str;
 
     fn deref(&self) -> &str {
-        // SAFETY: `new` has seen that so many of the bytes are UTF-8, and they don't change.
+        // SAFETY: `new` has seen that these bytes are UTF-8, and they don't change.
         unsafe { str::from_utf8_unchecked(&self.bytes[..self.length]) }
     }
 }
@@ -239,7 +239,7 @@ mod tests {
     }
 
     fn given(from: &[u8]) -> Bytes {
-        // SAFETY: the block has just so many bytes, and nobody else has it.
+        // SAFETY: the block has just that many bytes, and nobody else has it.
         unsafe {
             let block = malloc(from.len());
             block.copy_from_nonoverlapping(from.as_ptr(), from.len());
