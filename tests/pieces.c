@@ -366,7 +366,7 @@ typedef struct {
     size_t at, size; /* how much was fed, and how much is fed at once */
     pthread_mutex_t turn;
     pthread_cond_t next;
-    int threads, taken, pieces; /* so many feed it in turn; so many of these have a number; so many pieces were fed */
+    int threads, taken, pieces; /* how many feed it in turn, how many of these have a number, how many were fed */
     long blocks; /* what these threads took and didn't give back */
 } passing;
 
@@ -420,7 +420,7 @@ static void *closes(void *passed)
     return NULL;
 }
 
-/* So many threads at once make a step, and have ended when this returns. */
+/* That many threads at once make a step, and have ended when this returns. */
 static void step(void *(*what)(void *), passing *p, int count)
 {
     pthread_t threads[4];
