@@ -1,6 +1,7 @@
 pub mod Common
 pub mod Pieces
 pub mod Sections
+pub mod ClosingSums
 pub mod PieceTold
 pub mod Sizes
 pub mod Invariant

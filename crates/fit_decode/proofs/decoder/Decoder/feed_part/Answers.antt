@@ -6,7 +6,8 @@ use Rattle.fit_chain.specs.declared.event.Event.TheVariants as events
 use Rattle.fit_decode.specs.declared.section.Part.TheVariants as parts
 use Rattle.fit_decode.proofs.Sizes.{field_is_within}
 use Rattle.fit_decode.proofs.Advancing.{at_section, header_fresh, header_open, data_reading, sum_few}
-use Rattle.fit_decode.proofs.Sections.{header_fed, data_fed, sum_fed}
+use Rattle.fit_decode.proofs.Sections.{header_fed, data_fed}
+use Rattle.fit_decode.proofs.ClosingSums.{sum_fed}
 use Rattle.fit_decode.specs.inner.Sections.{as_event, left_by}
 use Rattle.fit_decode.proofs.Placed.{left_idle, event_told, stop_told}
 use Rattle.fit_decode.proofs.Feeding.{Took, takes, within, few_bytes, still_kept, refused_kept, not_refused, not_for_memory, was_viable}
