@@ -1,12 +1,12 @@
 use Rattle.fit_decode.proofs.Common.{[], ◌∷◌, refl, ◌∙◌, append-nil, record_bytes, rules, layout, slice_is_bytes}
 use Rattle.fit_decode.specs.contracts.decoder.Decoder.{the_row}
-use Rattle.fit_decode.specs.contracts.decoder.whole.Decoder.skip_message.{A-row}
+use Rattle.fit_decode.specs.contracts.decoder.Decoder.skip_message.{A-row}
 use Rattle.fit_decode.proofs.Sizes.{field_is_within}
 use Rattle.fit_record.specs.declared.message.Record.TheVariants.{Values as Message}
 use Rattle.fit_chain.specs.Events.{known_after}
 use Rattle.fit_decode.proofs.Feeding.{was_viable}
 use Rattle.fit_decode.proofs.Skipping.{fresh, few_skipped, skipped_kept, records_skipped, message_skipped, message_follows, message_completes}
-use Rattle.fit_decode.proofs.decoder.whole.Decoder.skip_message.Goals as goal
+use Rattle.fit_decode.proofs.decoder.Decoder.skip_message.Goals as goal
 
 pub returns-then-is_some-clause-viable : goal.returns-then-is_some-clause-viable
 returns-then-is_some-clause-viable g c = was_viable c.self.inside c.self.invariant c.args.self.now c.self.view_is

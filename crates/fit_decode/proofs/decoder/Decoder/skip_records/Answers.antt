@@ -1,10 +1,10 @@
 use Rattle.fit_decode.proofs.Common.{refl, rules, layout, slice_is_bytes}
 use Rattle.fit_decode.specs.contracts.decoder.Decoder.{the_row}
-use Rattle.fit_decode.specs.contracts.decoder.whole.Decoder.skip_records.{A-row}
+use Rattle.fit_decode.specs.contracts.decoder.Decoder.skip_records.{A-row}
 use Rattle.fit_decode.proofs.Sizes.{field_is_within}
 use Rattle.fit_decode.proofs.Feeding.{was_viable}
 use Rattle.fit_decode.proofs.Skipping.{fresh, few_skipped, skipped_kept, records_skipped}
-use Rattle.fit_decode.proofs.decoder.whole.Decoder.skip_records.Goals as goal
+use Rattle.fit_decode.proofs.decoder.Decoder.skip_records.Goals as goal
 
 pub returns-then-is_some-clause-viable : goal.returns-then-is_some-clause-viable
 returns-then-is_some-clause-viable g c = was_viable c.self.inside c.self.invariant c.args.self.now c.self.view_is
