@@ -14,7 +14,9 @@ ghost use Rattle.fit_profile.specs.inner.Plans.{ArePlanned, IsPlan, IsPlanned};
 
 use crate::plan::{Plan, Plans};
 use crate::time::header_time;
-use crate::told::{DISTANCE, Last, Told, accumulated, counted, last_after, speed, with_time};
+use crate::told::{
+    DISTANCE, Last, Told, accumulated, counted, last_after, speed, uncounted, with_time,
+};
 use fit_history::History;
 use fit_record::{Env, MessageBytes, Record};
 use std::alloc::{AllocError, Global};
@@ -48,8 +50,8 @@ fn time_of_message(previous: Option<u32>, plan: &Plan, message: &MessageBytes<'_
     }
 }
 
-/// What is told of a message by the last ones before it.
-fn told_of_message(last: Last, plan: &Plan, message: &MessageBytes<'_>) -> Told
+/// What is told of a message with counters by the last ones before it.
+fn counted_of_message(last: Last, plan: &Plan, message: &MessageBytes<'_>) -> Told
     requires plan { IsPlan plan.now message.now.defined.now.definition }
     requires size { length message.now.body.now ≡ message_size message.now.defined.now }
     ensures { result ≡ telling.told_at last message.now.defined.now.definition
@@ -63,6 +65,22 @@ fn told_of_message(last: Last, plan: &Plan, message: &MessageBytes<'_>) -> Told
         .counters
         .power_in(message.defined.definition.order, message.body);
     counted(last, time, header_time, distance, cycles, power)
+}
+
+/// What is told of a message by the last ones before it. Most have no counters.
+fn told_of_message(last: Last, plan: &Plan, message: &MessageBytes<'_>) -> Told
+    requires plan { IsPlan plan.now message.now.defined.now.definition }
+    requires size { length message.now.body.now ≡ message_size message.now.defined.now }
+    ensures { result ≡ telling.told_at last message.now.defined.now.definition
+        (message_in message.now) }
+{
+    if plan.tells_more {
+        return counted_of_message(last, plan, message);
+    }
+    uncounted(
+        time_of_message(last.time, plan, message),
+        header_time(last.time, message.offset),
+    )
 }
 
 /// The plan of the definition of a message.
@@ -145,7 +163,7 @@ fn note_plain(last: &mut Last, plan: &Plan, message: &MessageBytes<'_>) -> bool
     if plan.describes {
         return false;
     }
-    *last = last_after(*last, Some(told_of_message(*last, plan, message)));
+    *last = last_after(*last, Some(counted_of_message(*last, plan, message)));
     true
 }
 
@@ -177,6 +195,31 @@ pub(crate) fn take_plain(
         return true;
     }
     false
+}
+
+/// Adds the data message that the bytes are to a history of records, where it is no field description. Whether it did.
+pub(crate) fn add_plain(
+    env: &Env,
+    plans: &Plans,
+    records: &mut History<Record>,
+    bytes: &[u8],
+) -> bool
+    requires plans { ArePlanned plans.now.places.items env.now.places }
+    requires message { (v : Values Global) × IsRecord env.now (Data v) bytes.now }
+    ensures records { result ≡ true → (v : Values Global) → IsRecord env.now (Data v) bytes.now
+        → records.new.items ≡ records.old.items ++ Data v ∷ [] }
+    ensures nothing { result ≡ true → (v : Values Global) → IsRecord env.now (Data v) bytes.now
+        → described_by env.now v ≡ None }
+    ensures kept { result ≡ false → records.new.items ≡ records.old.items }
+    ensures describes { result ≡ false → (v : Values Global) → IsRecord env.now (Data v) bytes.now
+        → IsSomeAnd (defined_at env.now v.local) (λ p. (p.definition.global == 206) ≡ true) }
+{
+    let message = message_of(env, bytes);
+    if plan_of(plans, &message).describes {
+        return false;
+    }
+    add_message(records, &message);
+    true
 }
 
 /// The record that the bytes of a data message are.

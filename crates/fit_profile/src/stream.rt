@@ -21,7 +21,7 @@ mod next;
 
 use crate::learn::take_in;
 use crate::message::Message;
-use crate::message_bytes::{record_of, take_plain};
+use crate::message_bytes::{add_plain, record_of, take_plain};
 use crate::names::Names;
 use crate::plain::{tell_plain, tell_times};
 use crate::plan::Plans;
@@ -288,6 +288,45 @@ impl Stream {
             return Ok(());
         }
         self.take_record_of(bytes)
+    }
+
+    /// Takes in the data message that these bytes are, where it is no field description, given what is told of it. Whether it did.
+    fn note_told(&mut self, bytes: &[u8], told: Told) -> bool
+        requires message { (v : Values Global) × IsRecord (known self.old) (Data v) bytes.now }
+        requires told { (v : Values Global) → IsRecord (known self.old) (Data v) bytes.now
+            → told ≡ telling.told self.old v }
+        ensures taken { result ≡ true → (v : Values Global)
+            → IsRecord (known self.old) (Data v) bytes.now → self.new ≡ Data v ∷ self.old }
+        ensures kept { result ≡ false → self.new ≡ self.old }
+        ensures more { result ≡ false → (v : Values Global)
+            → IsRecord (known self.old) (Data v) bytes.now
+            → IsSomeAnd (defined_at (known self.old) v.local) (λ p. tells_more p.definition ≡ true) }
+    {
+        if !add_plain(&self.env, &self.plans, &mut self.pushed, bytes) {
+            return false;
+        }
+        self.last = last_after(self.last, Some(told));
+        true
+    }
+
+    /// Takes the next record in, as `take_message` does, given what is told of it, as `message_told` gives it. So it isn't told twice.
+    pub fn take_told(&mut self, bytes: &[u8], told: Told) -> Result<(), AllocError>
+        requires message { (v : Values Global) × IsRecord (known self.old) (Data v) bytes.now }
+        requires told { (v : Values Global) → IsRecord (known self.old) (Data v) bytes.now
+            → told ≡ telling.told self.old v }
+        ensures ok { OnOk result ((v : Values Global)
+            → IsRecord (known self.old) (Data v) bytes.now → self.new ≡ Data v ∷ self.old) }
+        ensures err { OnErr result (self.new ≡ self.old) }
+        ensures free { (v : Values Global) (p : Defined Global)
+            → IsRecord (known self.old) (Data v) bytes.now
+            → defined_at (known self.old) v.local ≡ Some p → tells_more p.definition ≡ false
+            → IsOk result }
+    {
+        if self.note_told(bytes, told) {
+            Ok(())
+        } else {
+            self.take_record_of(bytes)
+        }
     }
 
     /// The data message that was just taken in.

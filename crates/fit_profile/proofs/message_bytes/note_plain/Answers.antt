@@ -16,7 +16,7 @@ pub returns-then-not-plan-clause-plain : goal.returns-then-not-plan-clause-plain
 returns-then-not-plan-clause-plain c _ = (parts c.args.message.now.defined.now.definition (sym c.requires.plan.more ∙ c.if-not-plan.true)).0
 
 pub returns-clause-last : goal.returns-clause-last
-returns-clause-last c _ = c.last_after.ensures ∙ ap (λ t. last_after c.args.last.now (Some t)) c.told_of_message.ensures
+returns-clause-last c _ = c.last_after.ensures ∙ ap (λ t. last_after c.args.last.now (Some t)) c.counted_of_message.ensures
 
 pub returns-then-not-plan-clause-kept : goal.returns-then-not-plan-clause-kept
 returns-then-not-plan-clause-kept c = λ wrong. cc wrong
