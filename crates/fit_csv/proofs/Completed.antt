@@ -11,7 +11,7 @@ use Rattle.std.proofs.Common.{ℕ, ◌<◌, List, Option, Some, None}
 use Rattle.std.specs.Prelude.{◌==◌, ◌⊎◌}
 use Rattle.std.proofs.lemmas.List.{append-nil}
 use Rattle.fit_csv.specs.declared.from.open_file.Part.TheVariants.{Message}
-use Rattle.fit_texts.proofs.KnownDefinitions.{codes-long}
+use Rattle.fit_profile.proofs.KnownFacts.{codes-long}
 use Rattle.fit_csv.proofs.MoreRows.{ended-rows, flat-last, record-added}
 use Rattle.fit_csv.proofs.SoFar.{both-true, definition-more, definition-whole, message-more, some-at}
 use Rattle.fit_csv.proofs.SoundSteps.{all-last, at-some, definition-fits, definition-range, definition-sound, length-last, message-fits, message-sound}

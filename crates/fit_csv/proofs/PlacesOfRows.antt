@@ -16,7 +16,7 @@ use Rattle.fit_csv.specs.Follows.{in_record, rows_to}
 use Rattle.fit_csv.specs.declared.from.open_file.Part.TheVariants.{Message}
 use Rattle.fit_csv.proofs.Completed.{complete-definition, complete-message, left, to_come}
 use Rattle.fit_csv.proofs.Following.{NextIn, NextInDefinition, NextInFile, NextInMessage, next-rows}
-use Rattle.fit_texts.proofs.KnownDefinitions.{codes-long}
+use Rattle.fit_profile.proofs.KnownFacts.{codes-long}
 use Rattle.fit_texts.proofs.NamingFacts.{namings_long}
 use Rattle.fit_csv.proofs.SoFar.{both-true, data-rows-at, definition-whole, some-at}
 use Rattle.fit_csv.proofs.SoundSteps.{all-last, at-some, definition-fits, definition-range, dev-layout-long, is-some-at, layout-long}

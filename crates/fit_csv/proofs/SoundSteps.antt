@@ -11,7 +11,7 @@ use Rattle.std.proofs.Common.{ℕ, ◌<◌, List, Option, Some, None}
 use Rattle.std.specs.Prelude.{◌==◌, ◌⊎◌, option_map, unwrap_or, IfSome}
 use Rattle.std.proofs.lemmas.List.{length-append}
 use Rattle.fit_csv.specs.declared.from.open_file.Part.TheVariants.{Message}
-use Rattle.fit_texts.proofs.KnownDefinitions.{codes-long, fit-last, known-all}
+use Rattle.fit_profile.proofs.KnownFacts.{codes-long, fit-last, known_learned}
 use Rattle.fit_csv.proofs.SoFar.{both-true, get-zip, some-at}
 
 -- ---- lists
@@ -215,7 +215,7 @@ pub with-record-sound : (f : OpenFile) (r : Record Global) → IsSoundFile f →
 with-record-sound f r sound fits range = record {
   header = sound.header;
   same_records = ap (λ b. r ∷ b) sound.same_records ∙ sym (reverse-append f.records (r ∷ []));
-  fit = fit-last empty_environment f.records r sound.fit (subst (λ e. Fits e r) (ap known sound.same_records ∙ known-all f.records) fits);
+  fit = fit-last empty_environment f.records r sound.fit (subst (λ e. Fits e r) (ap known sound.same_records ∙ known_learned f.records) fits);
   numbers = all-last RecordInRange f.records r sound.numbers range;
   part = (tt, tt);
 }

@@ -5,7 +5,7 @@ use Rattle.fit_csv.proofs.Common.{csv_text, dev_def_row, dev_row, dev_rows, fiel
 use Rattle.fit_csv.proofs.Common.{RecordInRange, with_record, OpenFile, Nothing}
 use Rattle.std.proofs.Common.{ℕ, ◌<◌, List, Some, length-append}
 use Rattle.fit_csv.specs.inner.Judging.{TakesRows}
-use Rattle.fit_texts.proofs.KnownDefinitions.{codes-long}
+use Rattle.fit_profile.proofs.KnownFacts.{codes-long}
 use Rattle.fit_texts.proofs.NamingFacts.{namings_long}
 use Rattle.fit_texts.proofs.Shapes.{as_long}
 use Rattle.fit_csv.proofs.SevenRows.{none-empty, record-seven}

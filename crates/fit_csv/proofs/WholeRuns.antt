@@ -13,7 +13,7 @@ use Rattle.std.proofs.Common.{ℕ, ◌<◌, List, Option, Some, None}
 use Rattle.std.specs.Prelude.{◌==◌, ◌⊎◌, option_map, unwrap_or, IfSome}
 use Rattle.std.proofs.lemmas.List.{append-nil, length-append}
 use Rattle.fit_csv.specs.declared.from.open_file.Part.TheVariants.{Message}
-use Rattle.fit_texts.proofs.KnownDefinitions.{codes-long}
+use Rattle.fit_profile.proofs.KnownFacts.{codes-long}
 use Rattle.fit_texts.proofs.NamingFacts.{namings_long}
 use Rattle.fit_csv.proofs.OneWay.{run-join, run-one}
 use Rattle.fit_texts.proofs.Shapes.{as_long}

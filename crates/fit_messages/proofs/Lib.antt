@@ -2,10 +2,8 @@ mod KnownBlocks
 pub mod ByteFacts
 pub mod ItemFacts
 pub mod EntryFacts
-pub mod KnownDefinitions
 pub mod MessageFacts
 pub mod SheetFacts
-mod SkippedMessages
 pub mod ToldEvents
 pub mod TakenDefinitions
 pub mod BlockLengths

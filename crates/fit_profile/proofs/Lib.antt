@@ -4,7 +4,7 @@ mod FieldPlaces
 pub mod FirstField
 mod InBytes
 mod Kept
-mod KnownFacts
+pub mod KnownFacts
 mod LeastFacts
 mod NameFacts
 mod NoCounters

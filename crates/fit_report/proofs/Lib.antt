@@ -6,3 +6,4 @@ pub mod Outcomes
 pub mod Chains
 pub mod Records
 pub mod Skipped
+pub mod SkippedMessages

@@ -17,7 +17,7 @@ use Rattle.fit_frames.proofs.FieldWalks.{field_slot}
 use Rattle.fit_rows.proofs.FramedRows.{plain-optional, row_parts}
 use Rattle.fit_texts.proofs.ItemFacts.{shapes_both}
 use Rattle.fit_rows.proofs.KeyRows.{message_rows_are, slots_are}
-use Rattle.fit_texts.proofs.KnownDefinitions.{codes-long}
+use Rattle.fit_profile.proofs.KnownFacts.{codes-long}
 use Rattle.fit_texts.proofs.NamingFacts.{namings_long}
 use Rattle.fit_texts.proofs.Shapes.{as_long}
 

@@ -10,7 +10,6 @@ pub mod DevKeyFacts
 pub mod HeardEvents
 mod InstantFacts
 pub mod ItemFacts
-pub mod KnownDefinitions
 mod KnownInstants
 pub mod MinuteFacts
 pub mod NamingFacts
@@ -19,5 +18,4 @@ pub mod ProfileScales
 pub mod SeveralNumbers
 pub mod Shapes
 pub mod Sheets
-pub mod SkippedMessages
 pub mod Stamps

@@ -1,7 +1,7 @@
 -- There is a naming for each developer field of a definition.
 use Rattle.fit_texts.proofs.Common.{◌≡◌, length, length-map, Defined, Record, defined_at, dev_defs, namings_at, naming_of, known}
 use Rattle.std.proofs.Common.{ℕ, List, Some}
-use Rattle.fit_texts.proofs.KnownDefinitions.{known-has}
+use Rattle.fit_profile.proofs.KnownFacts.{known-has}
 
 pub namings_long : {A : Type 0} (before : List (Record A)) (local : ℕ) (p : Defined A) → defined_at (known before) local ≡ Some p
     → length (namings_at before local) ≡ length (dev_defs p.definition.dev)

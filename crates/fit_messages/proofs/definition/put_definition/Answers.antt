@@ -8,7 +8,7 @@ use Rattle.fit_record.specs.declared.definition.FieldDef.{FieldDef}
 use Rattle.fit_messages.specs.Blocks.{column, columns, definition_opening, entries, sized, whole}
 use Rattle.fit_messages.specs.inner.Columns.{dev_columns}
 use Rattle.fit_messages.proofs.EntryFacts.{both_entries}
-use Rattle.fit_messages.proofs.KnownDefinitions.{namings_long}
+use Rattle.fit_profile.proofs.KnownFacts.{namings_long}
 use Rattle.fit_messages.proofs.definition.put_definition.Goals as goal
 
 pub put_devs-requires-clause-namings : goal.put_devs-requires-clause-namings

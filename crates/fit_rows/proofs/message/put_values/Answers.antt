@@ -1,7 +1,7 @@
 use Rattle.fit_rows.proofs.Common.{◌≡◌, ◌∙◌, ◌++◌, [], sym, subst, on_ok_weaker, dev_layout, layout, frame_slots, message_key}
 use Rattle.std.proofs.lemmas.List.{append-nil}
 use Rattle.fit_rows.proofs.KeyRows.{message_whole, slots_are}
-use Rattle.fit_texts.proofs.KnownDefinitions.{codes-long}
+use Rattle.fit_profile.proofs.KnownFacts.{codes-long}
 use Rattle.fit_texts.proofs.NamingFacts.{namings_long}
 use Rattle.fit_rows.proofs.message.put_values.Goals as goal
 

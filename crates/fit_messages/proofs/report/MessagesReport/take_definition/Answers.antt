@@ -5,7 +5,7 @@ use Rattle.fit_record.specs.Environment.{defined_at, defined_by}
 use Rattle.fit_record.specs.Records.{Fits}
 use Rattle.fit_messages.specs.Blocks.{definition_block}
 use Rattle.fit_messages.specs.Kept.{KeptHeard}
-use Rattle.fit_messages.proofs.KnownDefinitions.{just_defined}
+use Rattle.fit_profile.proofs.KnownFacts.{just_defined}
 use Rattle.fit_messages.proofs.TakenDefinitions.{definition_kept, definition_told}
 use Rattle.fit_messages.proofs.report.MessagesReport.take_definition.Goals as goal
 

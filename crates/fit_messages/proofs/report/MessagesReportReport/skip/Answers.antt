@@ -4,7 +4,7 @@ use Rattle.fit_record.specs.declared.message.Record.TheVariants.{Values as Data}
 use Rattle.fit_messages.specs.Blocks.{event_block}
 use Rattle.fit_messages.specs.Kept.{KeptHeard, kept_heard}
 use Rattle.fit_messages.specs.inner.Telling.{block_next, kept_next}
-use Rattle.fit_messages.proofs.SkippedMessages.{skips_message, skips_nothing}
+use Rattle.fit_report.proofs.SkippedMessages.{skips_message, skips_nothing}
 use Rattle.fit_messages.proofs.ToldEvents.{block_is, kept_is, told_message}
 use Rattle.fit_messages.proofs.report.MessagesReportReport.skip.Goals as goal
 

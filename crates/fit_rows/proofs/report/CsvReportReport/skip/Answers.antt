@@ -1,6 +1,6 @@
 use Rattle.fit_rows.proofs.Common.{◌≡◌, ◌∙◌, ◌++◌, ◌∷◌, ap, take, arith, Data, csv_text, data_rows, csv_line, latest_records}
 use Rattle.std.proofs.Common.{◌<◌, reverse}
-use Rattle.fit_texts.proofs.SkippedMessages.{skips_message, skips_nothing}
+use Rattle.fit_report.proofs.SkippedMessages.{skips_message, skips_nothing}
 use Rattle.fit_texts.proofs.HeardEvents.{told_message}
 use Rattle.fit_rows.proofs.report.CsvReportReport.skip.Goals as goal
 

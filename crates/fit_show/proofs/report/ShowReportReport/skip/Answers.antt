@@ -1,6 +1,6 @@
 use Rattle.fit_show.proofs.Common.{◌≡◌, ◌∙◌, ◌++◌, ◌∷◌, ap, take, arith, Data, KeptEvents, kept_events, record_line, show_line}
 use Rattle.std.proofs.Common.{◌<◌, reverse}
-use Rattle.fit_texts.proofs.SkippedMessages.{skips_message, skips_nothing}
+use Rattle.fit_report.proofs.SkippedMessages.{skips_message, skips_nothing}
 use Rattle.fit_texts.proofs.HeardEvents.{told_message}
 use Rattle.fit_show.proofs.report.ShowReportReport.skip.Goals as goal
 

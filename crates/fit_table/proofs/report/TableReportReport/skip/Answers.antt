@@ -1,6 +1,6 @@
 use Rattle.fit_table.proofs.Common.{◌≡◌, ◌∙◌, ◌++◌, ◌∷◌, ap, take, arith, Data, KeptEvents, csv_text, kept_events, table_message_rows, table_text}
 use Rattle.std.proofs.Common.{◌<◌, reverse}
-use Rattle.fit_texts.proofs.SkippedMessages.{skips_message, skips_nothing}
+use Rattle.fit_report.proofs.SkippedMessages.{skips_message, skips_nothing}
 use Rattle.fit_texts.proofs.HeardEvents.{told_message}
 use Rattle.fit_table.proofs.report.TableReportReport.skip.Goals as goal
 

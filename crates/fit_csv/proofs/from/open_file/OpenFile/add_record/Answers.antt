@@ -1,9 +1,9 @@
 use Rattle.fit_csv.proofs.Common.{◌∙◌, sym, ap, subst, Global, Environment, Fits, known}
-use Rattle.fit_texts.proofs.KnownDefinitions.{known-all}
+use Rattle.fit_profile.proofs.KnownFacts.{known_learned}
 use Rattle.fit_csv.proofs.from.open_file.OpenFile.add_record.Goals as goal
 
 pub push-requires-clause-known : goal.push-requires-clause-known
-push-requires-clause-known c = c.env.ensures ∙ ap known c.requires.same_records ∙ known-all c.args.self.now.records
+push-requires-clause-known c = c.env.ensures ∙ ap known c.requires.same_records ∙ known_learned c.args.self.now.records
 
 pub push-requires-clause-fits : goal.push-requires-clause-fits
 push-requires-clause-fits c = subst (λ (e : Environment Global). Fits e c.args.r) (sym c.env.ensures) c.requires.fits

@@ -1,14 +1,11 @@
--- What the reporter skips: one data message, or nothing.
-use Rattle.std.proofs.Common.{◌≡◌, ◌∙◌, ◌++◌, ◌∷◌, [], ◌<◌, ◌≤◌, ℕ, List, Some, length, reverse, refl, sym, ap, subst, take, arith}
-use Rattle.std.proofs.lemmas.List.{append-nil, reverse-append}
-use Rattle.std.specs.Global.{Global}
-use Rattle.fit_chain.specs.Events.{AreEvents, Event, item, known_after}
-use Rattle.fit_decode.specs.Answers.{Seen}
+-- What a reporter skips: one data message, or nothing.
+use Rattle.fit_report.proofs.Common.{◌≡◌, ◌∙◌, ◌++◌, ◌∷◌, [], ◌<◌, ◌≤◌, ℕ, List, Some, length, reverse, refl, sym, ap, subst, take, arith, append-nil}
+use Rattle.fit_report.proofs.Common.{reverse-append, Global, AreEvents, Event, item, Seen, Lines, Skips, text_of}
+use Rattle.fit_chain.specs.Events.{known_after}
 use Rattle.fit_frame.specs.declared.reason.Reason.{Reason}
 use Rattle.fit_record.specs.Records.{IsRecord}
 use Rattle.fit_record.specs.declared.message.Record.TheVariants.{Values as Data}
 use Rattle.fit_record.specs.declared.message.Values.{Values}
-use Rattle.fit_report.specs.Heard.{Lines, Skips, text_of}
 
 module _ {R : Type 0} (has : R → List (Event Global) → Type 0) (line : Lines Global) (old new : Seen) (piece : List ℕ) (used : ℕ)
     (fed : new ≡ record old { bytes = old.bytes ++ take used piece })
