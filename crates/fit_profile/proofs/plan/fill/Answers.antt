@@ -1,5 +1,4 @@
 use Rattle.fit_profile.proofs.Common.{arith}
-use Rattle.std.specs.Prelude.{length}
 use Rattle.fit_profile.proofs.Planned.{filled}
 use Rattle.fit_profile.proofs.plan.fill.Goals as goal
 

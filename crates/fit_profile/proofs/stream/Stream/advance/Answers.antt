@@ -1,7 +1,7 @@
 use Rattle.fit_profile.proofs.Common.{◌∙◌, ◌∷◌, [], sym, ap, subst, reverse, reverse-append, KeepsRecords, known}
 use Rattle.std.specs.Prelude.{IsOk}
 use Rattle.fit_profile.specs.inner.Plans.{ArePlanned}
-use Rattle.fit_profile.proofs.Kept.{keeps-same, keeps-next}
+use Rattle.fit_profile.proofs.Kept.{keeps-next}
 use Rattle.fit_profile.proofs.Planned.{planned_same, sixteen_of}
 use Rattle.fit_profile.proofs.stream.Stream.advance.Goals as goal
 
