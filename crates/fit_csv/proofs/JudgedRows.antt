@@ -11,13 +11,13 @@ use Rattle.csv.specs.Writing.{default_writer, read_back, row_body, row_text}
 use Rattle.csv.specs.declared.parser.State.{State}
 use Rattle.csv.specs.declared.parser.State.TheVariants as st
 use Rattle.fit_cells.proofs.RowsWithin.{rows-of-text}
+use Rattle.fit_csv_text.proofs.SomeRows.{some-rows}
+use Rattle.fit_csv_text.specs.Reads.{HasRowBefore}
 use Rattle.fit_csv.specs.declared.fault.CsvFault.TheVariants as faults
 use Rattle.fit_csv.specs.declared.from.judge.RowJudge.{RowJudge}
 use Rattle.fit_csv.specs.inner.Judging.{AreBefore, FailsIn, TakesRows, HasJudged, Judges}
-use Rattle.fit_csv.specs.inner.RowReads.{HasRowBefore}
 use Rattle.fit_csv.proofs.Judging.{cut-text, judged, one-more, refused-row, whole-text}
 use Rattle.fit_csv.proofs.OneWay.{run-join, run-none}
-use Rattle.fit_csv.proofs.RowReads.{some-rows}
 
 -- ---- the text
 

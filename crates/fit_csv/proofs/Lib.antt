@@ -29,12 +29,5 @@ mod SevenRows
 mod FromChain
 mod Unwritten
 mod ReportTexts
-mod LooseReads
-mod RowReads
-mod Lanes
-mod LooseTexts
-mod ShortCells
-mod ShortLines
 mod JudgedRows
 mod WholeRecords
-mod Spelled

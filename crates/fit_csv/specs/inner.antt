@@ -5,6 +5,4 @@ pub mod Seven
 pub mod Misfits
 pub mod Progress
 pub mod SoundChain
-pub mod Loose
-pub mod RowReads
 pub mod Judging

@@ -12,16 +12,13 @@ mod fields;
 mod guess;
 mod header;
 mod judge;
-mod loose;
 mod message;
 mod misfit;
 mod open_definition;
 mod open_file;
 mod open_message;
 mod ranges;
-mod reader;
 mod text;
-mod window;
 
 use crate::CsvFault;
 use crate::from::judge::judge;

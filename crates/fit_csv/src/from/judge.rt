@@ -15,11 +15,9 @@ use crate::CsvFault;
 use crate::from::cells::{Cells, cells_of, same};
 use crate::from::chain::Chain;
 use crate::from::guess::take_record;
-use crate::from::loose::without_mark;
 use crate::from::misfit::Misfit;
-use crate::from::reader::RowReader;
-use crate::from::window::{Window, is_loose};
 use csv::ByteRecord;
+use fit_csv_text::{RowReader, Window, is_loose, without_mark};
 use fit_encode::SpelledFiles;
 use fit_numbers::laws::text_has_one_number;
 use fit_rows::MessageReader;
@@ -180,7 +178,10 @@ impl RowJudge {
         ensures err { IfErr result (FailsIn (front.now ++ back.now) self.old) }
     {
         text_has_one_number();
-        let Some(left) = self.reader.read(front, back)? else {
+        let Ok(found) = self.reader.read(front, back) else {
+            return Err(CsvFault::NoMemory);
+        };
+        let Some(left) = found else {
             return Ok(None);
         };
         self.judge_row()?;
@@ -248,7 +249,10 @@ impl RowJudge {
         ensures err { IfErr result (IsTextFault whole.now) }
     {
         text_has_one_number();
-        let Some(rest) = self.reader.read_one(left)? else {
+        let Ok(found) = self.reader.read_one(left) else {
+            return Err(CsvFault::NoMemory);
+        };
+        let Some(rest) = found else {
             return Ok(None);
         };
         self.judge_row()?;
@@ -327,7 +331,10 @@ impl RowJudge {
         ensures err { IfErr result (λ fault. (whole : List ℕ) → strip_bom whole ≡ text.now
             → IsTextFault whole fault) }
     {
-        let Some(left) = self.reader.read_one(text)? else {
+        let Ok(found) = self.reader.read_one(text) else {
+            return Err(CsvFault::NoMemory);
+        };
+        let Some(left) = found else {
             return Err(CsvFault::Header);
         };
         if !is_first_line(&self.reader.row) {

@@ -1,6 +1,0 @@
-use Rattle.std.proofs.Common.{◌++◌, ℕ, List, take, true}
-use Rattle.fit_csv.specs.inner.Loose.{Closes}
-use Rattle.fit_csv.proofs.from.loose.quoted_length.Given as goal
-
-abbrev pub invariant-loop-i : goal.invariant-loop-i
-invariant-loop-i l = (more : List ℕ) → Closes l.is_open more → Closes true (take l.i l.text ++ more)

@@ -1,5 +1,0 @@
-use Rattle.fit_csv.specs.inner.Loose.{WritesOn}
-use Rattle.fit_csv.proofs.from.loose.spell_on.Given as goal
-
-abbrev pub invariant-loop : goal.invariant-loop
-invariant-loop l = WritesOn l.text l.left l.initial.written.items l.written.items

@@ -1,9 +1,0 @@
-use Rattle.std.proofs.Common.{◌∷◌, sym, subst, List, ℕ}
-use Rattle.fit_csv.proofs.LooseTexts.{line-goes-on}
-use Rattle.fit_csv.specs.inner.Loose.{WritesOn}
-use Rattle.fit_csv.proofs.from.loose.take_line.Goals as goal
-
-pub returns : goal.returns
-returns c =
-    subst (λ (w : List ℕ). WritesOn (13 ∷ 10 ∷ c.args.left.now) c.args.left.now c.args.written.now.items w) (sym c.in_ok-put_byte.ensures.text)
-    (line-goes-on c.args.written.now.items c.args.left.now)

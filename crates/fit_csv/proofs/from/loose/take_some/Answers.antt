@@ -1,6 +1,0 @@
-use Rattle.std.proofs.lemmas.Grind.{common_steps}
-use Rattle.fit_csv.proofs.Common.{arith}
-use Rattle.fit_csv.proofs.from.loose.take_some.Goals as goal
-
-pub returns-in-13 : goal.returns-in-13
-returns-in-13 c = grind (arith, common_steps)

@@ -1,0 +1,8 @@
+mod LooseReads
+mod RowReads
+pub mod SomeRows
+mod Lanes
+mod LooseTexts
+mod ShortCells
+mod ShortLines
+mod Spelled
