@@ -1,4 +1,4 @@
-use Rattle.fit_csv.proofs.Common.{Err, sym, subst, Global, err_from_is_err_and, FitFile, channel, Answers, AreFilesOf, IsTextFault, CsvFault}
+use Rattle.fit_csv.proofs.Common.{Err, sym, subst, err_from_is_err_and, channel, Answers, AreFilesOf, IsTextFault, CsvFault}
 use Rattle.std.proofs.Common.{List, ℕ, rules}
 use Rattle.fit_csv.proofs.Unwritten.{from-fault, from-judged, from-text, from-unread}
 use Rattle.fit_csv.proofs.from.convert.Goals as goal
