@@ -1,10 +1,19 @@
 -- Cells that are shown as they are, as that of a lone number.
-use Rattle.fit_frames.proofs.Common.{◌≡◌, ◌∙◌, ◌∷◌, [], refl, sym, ap, subst, arith, AllByRecursion, Bool, true, false, ◌&&◌, not, list_all, nat_tests, Items}
-use Rattle.fit_frames.proofs.Common.{IsFormOf, Meaning, base_type, cell, default_writer, field_text, item_text, shown_cell}
-use Rattle.std.proofs.Common.{◌<◌, ◌==◌, ℕ, List, None, Option, if◌then◌else◌}
+use Rattle.fit_frames.proofs.Common.{◌≡◌, ◌∙◌, ◌++◌, ◌∷◌, [], length, refl, sym, ap, subst, arith, nat_tests}
+use Rattle.fit_frames.proofs.Common.{AllByRecursion, Bool, true, false, ◌&&◌, not, list_all, Global, Items, IsFormOf, Meaning, Order}
+use Rattle.fit_frames.proofs.Common.{and_sheet, base_type, cell, default_writer, field_text, item_text, lone_cell, shown_cell}
+use Rattle.std.proofs.Common.{◌<◌, ◌==◌, ◌⊎◌, ℕ, List, None, Option, Result, if◌then◌else◌}
+use Rattle.std.specs.Prelude.{IfOk}
+use Rattle.std.proofs.lemmas.Result.{IfOk-weaker}
+use Rattle.fit_base.specs.Numbers.{number}
 use Rattle.fit_cells.proofs.PlainFacts.{all-item, formed_cell}
+use Rattle.fit_cells.specs.Forms.{IsSmallForm}
 use Rattle.fit_cells.specs.declared.form.NumberForm.{NumberForm}
 use Rattle.fit_profile.specs.Described.{is_printable}
+use Rattle.fit_record.specs.ReadMessages.{field_from}
+use Rattle.fit_texts.proofs.ItemFacts.{lone_field}
+use Rattle.fit_frames.specs.declared.form.FieldForm.{FieldForm}
+use Rattle.fit_frames.specs.inner.FieldForms.{IsShownAfter, field_meaning}
 
 pub printable : (b : ℕ) → 44 < b → b < 124 → is_printable b ≡ true
 printable b low high = grind (arith, nat_tests)
@@ -35,11 +44,30 @@ pub both_show : {A : Type 0} (code : ℕ) (info : Option Meaning) (items : Items
 both_show code info items text is in_row printed =
     (in_row, printable_shown code info items (ap (list_all is_printable) is ∙ all_printable text printed) ∙ is)
 
-pub lone_shown : {A : Type 0} (f : NumberForm) (code : ℕ) (info : Option Meaning) (items : Items A) (bits : ℕ) → IsFormOf code info f → items.width ≡ f.width
-    → items.bits ≡ bits ∷ [] → shown_cell code info items ≡ item_text (base_type code).class code info f.width bits
-lone_shown f code info items bits form same one =
-    let is = formed_cell f code info items bits form same one in
-    let text = item_text (base_type code).class code info f.width bits in
-    let shown : list_all is_printable (cell code info items) ≡ true = ap (list_all is_printable) is
-    ∙ all_printable text (all-item (λ b. is_printable b ≡ true) printable (base_type code).class code info f.width bits) in
-    printable_shown code info items shown ∙ is
+-- both texts come after another one, where the one text does
+pub put_both : {E : Type 0} (end : Result ℕ E) (f : FieldForm) (o : Order) (bytes text sheet before put : List ℕ)
+    → BothShow f.code.0 (field_meaning f) (field_from {A = Global} o (f.code.0, f.size) bytes) put
+    → IfOk end (λ e. and_sheet text sheet e ≡ before ++ put) → IfOk end (λ e. IsShownAfter f o bytes before (and_sheet text sheet e))
+put_both end f o bytes text sheet before put both =
+    IfOk-weaker end _ _ (λ e is. (is ∙ ap (λ t. before ++ t) (sym both.0), is ∙ ap (λ t. before ++ t) (sym both.1)))
+
+-- ---- a lone number
+
+-- by the items
+pub lone_shown : {A : Type 0} (n : NumberForm) (code : ℕ) (info : Option Meaning) (items : Items A) (bits : ℕ) → IsFormOf code info n
+    → items.width ≡ n.width → items.bits ≡ bits ∷ [] → BothShow code info items (item_text (base_type code).class code info n.width bits)
+lone_shown n code info items bits form same one =
+    both_show code info items (item_text (base_type code).class code info n.width bits) (formed_cell n code info items bits form same one)
+    (lone_cell n code info items bits form same one)
+    (all-item (λ b. is_printable b ≡ true) printable (base_type code).class code info n.width bits)
+
+-- by the bytes
+pub lone_read : (n : NumberForm) (f : FieldForm) (o : Order) (bytes : List ℕ) (bits : ℕ) → IsSmallForm n → n.width ≡ f.size
+    → IsFormOf f.code.0 (field_meaning f) n → length bytes ≡ f.size → bits ≡ number o bytes
+    → BothShow f.code.0 (field_meaning f) (field_from {A = Global} o (f.code.0, f.size) bytes)
+    (item_text (base_type f.code.0).class f.code.0 (field_meaning f) n.width bits)
+lone_read n f o bytes bits small width form long is =
+    let w = subst (λ w. (w ≡ 1) ⊎ (w ≡ 2) ⊎ (w ≡ 4)) width small.width in
+    let lone = lone_field Global o f.code.0 f.size bytes w (sym width ∙ form.width) long in
+    lone_shown n f.code.0 (field_meaning f) (field_from {A = Global} o (f.code.0, f.size) bytes) bits form (lone.0 ∙ sym width)
+    (lone.1 ∙ ap (λ m. m ∷ []) (sym is))

@@ -2,3 +2,4 @@ pub mod Frames
 pub mod Shown
 pub mod CellKeys
 pub mod Bare
+pub mod inner

@@ -1,13 +1,10 @@
 //! What stands around values in their rows, found out once for many messages.
-ghost use Rattle.std.specs.Prelude.{◌≡◌, ◌≤◌, ◌%◌, ◌++◌, [], IfOk, IfSome, OnOk, codes, length, option_map};
+ghost use Rattle.std.specs.Prelude.{◌≡◌, ◌≤◌, ◌++◌, [], IfOk, IfSome, OnOk, codes, length, option_map};
 ghost use Rattle.csv.specs.Writing.{default_writer, field_text, needs_quotes};
-ghost use Rattle.fit_base.specs.BaseTypes.{base_type};
 ghost use Rattle.fit_base.specs.Fields.{HasShape};
-ghost use Rattle.fit_base.specs.declared.code.Class.TheVariants.{Text};
 ghost use Rattle.fit_profile.specs.Names.{meaning};
 ghost use Rattle.fit_numbers.specs.Scaled.{IsScale};
 ghost use Rattle.fit_cells.specs.Cells.{cell};
-ghost use Rattle.fit_cells.specs.Forms.{IsFormOf, IsSmallForm};
 ghost use Rattle.fit_frames.specs.Frames.{field_in_row, two_cells};
 ghost use Rattle.fit_texts.specs.Sheets.{and_sheet};
 
@@ -15,16 +12,14 @@ pub(crate) mod exact;
 pub(crate) mod likely;
 mod made;
 
-use fit_base::{Code, Items, Order, bits_at};
+use crate::form::{FieldForm, FieldKind};
+use fit_base::{Items, Order, bits_at};
 use fit_cells::{
-    NumberForm, RowWriter, ShownText, formed, is_never_quoted, put_cell, shown_text, write_formed,
+    RowWriter, ShownText, formed, is_never_quoted, put_cell, shown_text, write_formed,
 };
 use fit_profile::Info;
 use fit_record::read_items;
-use fit_texts::{
-    Sheet, Stamp, WIDE, add_bytes, add_float, add_numbers, add_text, field_form, is_lone_float,
-    is_of_bytes, put_sheet,
-};
+use fit_texts::{Sheet, Stamp, WIDE, add_text, put_sheet};
 use std::alloc::{AllocError, Global};
 use std::marker::Model;
 
@@ -79,52 +74,27 @@ fn add_shown(
     add_text(text, sheet, at, shown.text)
 }
 
-/// What stands between the value before and one's own, and how one's own is read.
+/// What stands between the value before and one's own, and how one's own is shown.
 #[derive(Drop)]
 pub struct Frame {
     between: Stamp,
-    code: u8,
-    size: u8,
-    /// Whether the value is a lone number of at most four bytes, which are those of the field.
-    is_lone: bool,
-    /// Whether the value is a string.
-    is_text: bool,
-    /// Whether the value is one floating point number.
-    is_float: bool,
-    /// Whether the value is bytes.
-    is_of_bytes: bool,
-    info: Option<Info>,
-    /// The form of the numbers, where the value is one or several of at most four bytes.
-    form: Option<NumberForm>,
+    form: FieldForm,
 }
 
 impl Model for Frame {
-    ghost use Rattle.std.specs.Prelude.{◌≡◌, ◌%◌, IfSome, IsSomeAnd, IsTrue, option_map};
-    ghost use Rattle.fit_base.specs.BaseTypes.{base_type};
-    ghost use Rattle.fit_base.specs.declared.code.Class.TheVariants.{Float, Text};
-    ghost use Rattle.fit_profile.specs.Names.{meaning};
-    ghost use Rattle.fit_numbers.specs.Scaled.{IsScale};
-    ghost use Rattle.fit_cells.specs.Forms.{IsFormOf, IsSmallForm};
     ghost use Rattle.fit_frames.specs.Frames.{FrameText};
-    ghost use Rattle.fit_texts.specs.Octets.{IsOfBytes};
+    ghost use Rattle.fit_frames.specs.inner.FieldForms.{IsFieldForm, field_meaning};
 
     ghost Value = { FrameText };
 
     ghost view = { λ f. record {
       between = f.between;
-      code = f.code;
-      size = f.size;
-      info = option_map meaning f.info;
+      code = f.form.code.0;
+      size = f.form.size;
+      info = field_meaning f.form;
     } };
 
-    ghost invariant = { λ f. IfSome f.info (λ i. IsScale i.scale) × IfSome f.form IsSmallForm
-        × IfSome f.form (λ n. f.size % n.width ≡ 0)
-        × IfSome f.form (IsFormOf f.code (option_map meaning f.info))
-        × (IsTrue f.is_text → (base_type f.code).class ≡ Text)
-        × (IsTrue f.is_float → (base_type f.code).class ≡ Float)
-        × (IsTrue f.is_float → (base_type f.code).width ≡ f.size)
-        × (IsTrue f.is_of_bytes → IsOfBytes f.code f.size)
-        × (IsTrue f.is_lone → IsSomeAnd f.form (λ n. n.width ≡ f.size)) };
+    ghost invariant = { λ f. IsFieldForm f.form };
 }
 
 impl Frame {
@@ -151,17 +121,9 @@ impl Frame {
         let mut between = Vec::with_capacity(alloc, WIDE)?;
         between.extend_from_slice(before)?;
         put_two(&mut between, writer, kind, name)?;
-        let (form, is_lone) = field_form(code, size, info);
         Ok(Frame {
             between: Stamp::new(between)?,
-            code,
-            size,
-            is_lone,
-            is_text: !is_never_quoted(Code(code)),
-            is_float: is_lone_float(Code(code), size),
-            is_of_bytes: is_of_bytes(Code(code), size),
-            info,
-            form,
+            form: FieldForm::new(code, size, info),
         })
     }
 
@@ -170,7 +132,7 @@ impl Frame {
     pub(crate) fn size(&self) -> u8
         ensures { result ≡ self.now.size }
     {
-        self.size
+        self.form.size
     }
 
     /// Puts a value that is no lone number after a text.
@@ -186,12 +148,12 @@ impl Frame {
         ensures { OnOk result (text.new.items ≡ text.old.items
             ++ field_text default_writer (cell self.now.code self.now.info items.now)) }
     {
-        let code = Code(self.code);
+        let FieldForm { code, info, .. } = self.form;
         if is_never_quoted(code) {
-            return put_cell(text, code, self.info, items);
+            return put_cell(text, code, info, items);
         }
         value.clear();
-        put_cell(value, code, self.info, items)?;
+        put_cell(value, code, info, items)?;
         writer.put_lone(text, value.as_slice())
     }
 
@@ -214,93 +176,13 @@ impl Frame {
             ++ field_text default_writer (cell self.now.code self.now.info items.now)) }
     {
         let at = self.between.add(text, sheet, at)?;
-        if let Some((form, bits)) = formed(self.lone(), items) {
+        if let Some((form, bits)) = formed(self.form.lone(), items) {
             return Ok(write_formed(sheet, at, form, bits));
-        }
-        if self.is_text {
-            put_sheet(text, sheet, at)?;
-            self.put_other(text, writer, value, items)?;
-            return Ok(0);
         }
         self.add_made(text, sheet, at, writer, value, items)
     }
 
-    /// The form of a lone number, where its bytes are those of the field.
-    #[inline(always)]
-    fn lone(&self) -> Option<NumberForm>
-        ensures small { IfSome result IsSmallForm }
-        ensures width { IfSome result (λ f. f.width ≡ self.now.size) }
-        ensures form { IfSome result (IsFormOf self.now.code self.now.info) }
-    {
-        if !self.is_lone {
-            return None;
-        }
-        match self.form {
-            Some(form) => Some(form),
-            None => unreachable!(),
-        }
-    }
-
-    /// Puts a value that isn't written in a sheet after a text, by the bytes of its field.
-    #[inline(never)]
-    fn put_rest(
-        &self,
-        text: &mut Vec<u8>,
-        writer: &mut RowWriter,
-        value: &mut Vec<u8>,
-        alloc: Global,
-        order: Order,
-        bytes: &[u8],
-    ) -> Result<(), AllocError>
-        requires { length bytes.now ≡ self.now.size }
-        ensures { OnOk result (text.new.items ≡ text.old.items
-            ++ field_in_row self.now order bytes.now) }
-    {
-        let items = read_items(alloc, order, self.code, self.size, bytes)?;
-        self.put_other(text, writer, value, &items)
-    }
-
-    /// Puts the value of a string, by the bytes of its field.
-    #[inline(never)]
-    fn add_string(
-        &self,
-        text: &mut Vec<u8>,
-        sheet: &mut Sheet,
-        at: usize,
-        writer: &mut RowWriter,
-        value: &mut Vec<u8>,
-        alloc: Global,
-        order: Order,
-        bytes: &[u8],
-    ) -> Result<usize, AllocError>
-        requires place { at ≤ 1024 }
-        requires class { (base_type self.now.code).class ≡ Text }
-        requires length { length bytes.now ≡ self.now.size }
-        ensures place { IfOk result (λ end. end ≤ 1024) }
-        ensures text { IfOk result (λ end. and_sheet text.new.items sheet.new end
-            ≡ and_sheet text.old.items sheet.old at ++ field_in_row self.now order bytes.now) }
-    {
-        match shown_text(bytes) {
-            Some(shown) => add_shown(text, sheet, at, writer, shown),
-            None => {
-                put_sheet(text, sheet, at)?;
-                self.put_rest(text, writer, value, alloc, order, bytes)?;
-                Ok(0)
-            }
-        }
-    }
-
-    /// The form of the numbers, where the value is one or several of at most four bytes.
-    #[inline(always)]
-    fn several(&self) -> Option<NumberForm>
-        ensures small { IfSome result IsSmallForm }
-        ensures whole { IfSome result (λ f. self.now.size % f.width ≡ 0) }
-        ensures form { IfSome result (IsFormOf self.now.code self.now.info) }
-    {
-        self.form
-    }
-
-    /// Adds a value that is neither a lone number of at most four bytes nor a string, by the bytes of its field.
+    /// Adds a value that is no lone number of at most four bytes, by the bytes of its field.
     #[inline(never)]
     fn add_read(
         &self,
@@ -319,17 +201,17 @@ impl Frame {
         ensures text { IfOk result (λ end. and_sheet text.new.items sheet.new end
             ≡ and_sheet text.old.items sheet.old at ++ field_in_row self.now order bytes.now) }
     {
-        if self.is_of_bytes {
-            return add_bytes(text, sheet, at, self.size, bytes);
+        if let Some(end) = self.form.add_others(text, sheet, at, order, bytes) {
+            return end;
         }
-        if self.is_float {
-            return add_float(text, sheet, at, self.size, order, bytes);
-        }
-        if let Some(form) = self.several() {
-            return add_numbers(text, sheet, at, form, order, bytes);
+        if let FieldKind::Text = self.form.kind {
+            if let Some(shown) = shown_text(bytes) {
+                return add_shown(text, sheet, at, writer, shown);
+            }
         }
         put_sheet(text, sheet, at)?;
-        self.put_rest(text, writer, value, alloc, order, bytes)?;
+        let items = read_items(alloc, order, self.form.code.0, self.form.size, bytes)?;
+        self.put_other(text, writer, value, &items)?;
         Ok(0)
     }
 
@@ -354,12 +236,9 @@ impl Frame {
             ++ field_in_row self.now order bytes.now) }
     {
         let at = self.between.add(text, sheet, at)?;
-        if let Some(form) = self.lone() {
+        if let Some(form) = self.form.lone() {
             let bits = bits_at(order, form.width, bytes);
             return Ok(write_formed(sheet, at, form, bits));
-        }
-        if self.is_text {
-            return self.add_string(text, sheet, at, writer, value, alloc, order, bytes);
         }
         self.add_read(text, sheet, at, writer, value, alloc, order, bytes)
     }

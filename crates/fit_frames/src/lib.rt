@@ -1,6 +1,7 @@
 //! The values of a message's fields, as rows and lines show them, by what is found out once for many messages.
 #![tactic(auto)]
 
+mod form;
 mod frames;
 mod items;
 mod shown;

@@ -5,7 +5,7 @@ ghost use Rattle.fit_base.specs.declared.items.Items.{Items};
 ghost use Rattle.fit_frames.specs.Bare.{StandBare, StandsBare};
 
 use crate::frames::Frame;
-use fit_base::{Code, Entries, Items};
+use fit_base::{Entries, Items};
 use fit_texts::before_comma;
 use fit_texts::cells::items_in;
 use std::alloc::{AllocError, Global};
@@ -28,7 +28,8 @@ impl Frame {
         let Some((cell, left)) = before_comma(own) else {
             return Ok(None);
         };
-        match items_in(alloc, written, cell, Code(self.code), self.size, self.info)? {
+        let form = &self.form;
+        match items_in(alloc, written, cell, form.code, form.size, form.info)? {
             Some(items) => Ok(Some((items, left))),
             None => Ok(None),
         }

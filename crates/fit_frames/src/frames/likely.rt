@@ -2,10 +2,11 @@
 mod numbers;
 mod several;
 
+use crate::form::FieldKind;
 use crate::frames::Frame;
 use crate::frames::likely::numbers::likely_number;
 use crate::frames::likely::several::{likely_bytes, likely_numbers};
-use fit_base::{Bits, Code, Items};
+use fit_base::{Bits, Items};
 use fit_texts::cells::items_in;
 use std::alloc::Global;
 
@@ -71,28 +72,49 @@ fn likely_string(alloc: Global, size: u8, text: &mut Vec<u8>) -> Option<Items> {
     Some(Items { width: 1, bits })
 }
 
+/// The floating point number of this size that a text may show, and what comes after it.
+fn likely_float<'a>(alloc: Global, size: u8, text: &'a [u8]) -> Option<(Items, &'a [u8])> {
+    let length = 2 + 2 * size as usize;
+    let bits = likely_hexadecimal(text.get(2..length)?);
+    Some((Items::one(alloc, size, bits), text.get(length..)?))
+}
+
 impl Frame {
     /// The items whose cell this may be. The cell is lost.
     fn likely_in(&self, alloc: Global, written: &mut Vec<u8>, cell: &mut Vec<u8>) -> Option<Items> {
-        match cell.as_slice() {
-            [b'0', b'x', ..] => {}
-            _ => {
-                if self.is_text {
-                    return likely_string(alloc, self.size, cell);
-                }
-            }
+        let form = &self.form;
+        match (form.kind, cell.as_slice()) {
+            (_, [b'0', b'x', ..]) => {}
+            (FieldKind::Text, _) => return likely_string(alloc, form.size, cell),
+            _ => {}
         }
         let shown = cell.as_slice();
-        items_in(alloc, written, shown, Code(self.code), self.size, self.info).ok()?
+        items_in(alloc, written, shown, form.code, form.size, form.info).ok()?
     }
 
-    /// The several numbers or the bytes with which a text may begin, where the value is such, and what comes after them.
-    #[inline(always)]
-    fn likely_several<'a>(&self, alloc: Global, text: &'a [u8]) -> Option<(Items, &'a [u8])> {
-        if self.is_of_bytes {
-            return likely_bytes(alloc, self.size, text);
+    /// The items that a text may show, and what comes after their cell, where they aren't a lone number of at most four bytes.
+    #[inline(never)]
+    fn likely_rest<'a>(
+        &self,
+        alloc: Global,
+        written: &mut Vec<u8>,
+        cell: &mut Vec<u8>,
+        text: &'a [u8],
+    ) -> Option<(Items, &'a [u8])> {
+        let size = self.form.size;
+        let found = match &self.form.kind {
+            FieldKind::Several(form) => likely_numbers(alloc, form, size, text),
+            FieldKind::Float => likely_float(alloc, size, text),
+            FieldKind::Bytes => likely_bytes(alloc, size, text),
+            FieldKind::Lone(_) | FieldKind::Text | FieldKind::Other => None,
+        };
+        if found.is_some() {
+            return found;
         }
-        likely_numbers(alloc, &self.form?, self.size, text)
+        let front = text.get(..LONGEST).unwrap_or(text);
+        let rest = take_cell(cell, front)?;
+        let length = front.len().wrapping_sub(rest.len());
+        Some((self.likely_in(alloc, written, cell)?, text.get(length..)?))
     }
 
     /// The items that a text may show after what stands before them, and what comes after their cell.
@@ -104,22 +126,10 @@ impl Frame {
         text: &'a [u8],
     ) -> Option<(Items, &'a [u8])> {
         let text = text.get(self.between.len()..)?;
-        if self.is_lone {
-            let form = self.form.as_ref()?;
+        if let FieldKind::Lone(form) = &self.form.kind {
             let (bits, length) = likely_number(form, text)?;
             return Some((Items::one(alloc, form.width, bits), text.get(length..)?));
         }
-        if self.is_float {
-            let length = 2 + 2 * self.size as usize;
-            let bits = likely_hexadecimal(text.get(2..length)?);
-            return Some((Items::one(alloc, self.size, bits), text.get(length..)?));
-        }
-        if let Some(found) = self.likely_several(alloc, text) {
-            return Some(found);
-        }
-        let front = text.get(..LONGEST).unwrap_or(text);
-        let rest = take_cell(cell, front)?;
-        let length = front.len().wrapping_sub(rest.len());
-        Some((self.likely_in(alloc, written, cell)?, text.get(length..)?))
+        self.likely_rest(alloc, written, cell, text)
     }
 }

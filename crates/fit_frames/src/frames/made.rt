@@ -5,6 +5,7 @@ ghost use Rattle.fit_base.specs.Fields.{HasShape};
 ghost use Rattle.fit_cells.specs.Cells.{cell};
 ghost use Rattle.fit_texts.specs.Sheets.{and_sheet};
 
+use crate::form::FieldKind;
 use crate::frames::Frame;
 use fit_base::Items;
 use fit_cells::RowWriter;
@@ -31,16 +32,15 @@ impl Frame {
             ++ field_text default_writer (cell self.now.code self.now.info items.now)) }
     {
         let bits = items.bits.as_slice();
-        if self.is_of_bytes {
-            return add_made_bytes(text, sheet, at, value, self.size, bits);
-        }
-        if self.is_float {
-            if let [number] = bits {
-                return add_made_float(text, sheet, at, self.size, *number);
+        match (self.form.kind, bits) {
+            (FieldKind::Several(form), _) => return add_made_numbers(text, sheet, at, form, bits),
+            (FieldKind::Float, [number]) => {
+                return add_made_float(text, sheet, at, self.form.size, *number);
             }
-        }
-        if let Some(form) = self.several() {
-            return add_made_numbers(text, sheet, at, form, bits);
+            (FieldKind::Bytes, _) => {
+                return add_made_bytes(text, sheet, at, value, self.form.size, bits);
+            }
+            _ => {}
         }
         put_sheet(text, sheet, at)?;
         self.put_other(text, writer, value, items)?;

@@ -1,37 +1,16 @@
-use Rattle.fit_frames.proofs.Common.{◌∙◌, ◌%◌, sym, ap, CellKey, Global}
-use Rattle.fit_frames.proofs.FloatCells.{field_width, float_shown}
-use Rattle.fit_frames.proofs.OctetCells.{bytes_shown}
-use Rattle.fit_frames.proofs.SeveralCells.{several_shown}
-use Rattle.fit_texts.proofs.Sheets.{put_as}
+use Rattle.fit_frames.proofs.Common.{◌∙◌, sym, ap, subst, CellKey, Global, HasShape}
+use Rattle.std.proofs.lemmas.Result.{IfOk-weaker}
+use Rattle.fit_base.proofs.ByteLists.{slice_is_bytes}
+use Rattle.fit_texts.proofs.ItemFacts.{field_shape}
 use Rattle.fit_frames.proofs.shown.ShownCell.add_read.Goals as goal
 
-pub returns-then-self-clause-text : goal.returns-then-self-clause-text
-returns-then-self-clause-text c =
-    let f = c.self.inside in
-    let long = c.requires.length ∙ ap (λ (k : CellKey). k.size) (sym c.self.view_is) in
-    let are = c.self.invariant.6 c.if-self.true in
-    rw (sym c.self.view_is)
-    (put_as _ _ _ _ (sym (bytes_shown Global c.args.order f.code f.size _ c.args.bytes.now are long).1) c.add_bytes.ensures.text)
-
-pub add_float-requires-clause-width : goal.add_float-requires-clause-width
-add_float-requires-clause-width c = field_width c.self.inside.code c.self.inside.size (c.self.invariant.5 c.if-self-2.true)
-
-pub returns-then-self-2-clause-text : goal.returns-then-self-2-clause-text
-returns-then-self-2-clause-text c =
-    let f = c.self.inside in
-    let long = c.requires.length ∙ ap (λ (k : CellKey). k.size) (sym c.self.view_is) in
-    let float = c.self.invariant.4 c.if-self-2.true in
-    let own = c.self.invariant.5 c.if-self-2.true in
-    rw (sym c.self.view_is)
-    (put_as _ _ _ _ (sym (float_shown Global c.args.order f.code f.size _ c.args.bytes.now float own long).1) c.add_float.ensures.text)
-
-pub add_numbers-requires-clause-whole : goal.add_numbers-requires-clause-whole
-add_numbers-requires-clause-whole c = ap (λ n. n % c.in-Some.form.width) c.requires.length ∙ c.in-Some.ensures.whole
-
 pub returns-in-Some-clause-text : goal.returns-in-Some-clause-text
-returns-in-Some-clause-text c =
-    let kept : CellKey = c.args.self.now in
-    let known = c.in-Some.ensures.form in
-    let shown =
-    several_shown Global c.in-Some.form c.args.order kept.code kept.size kept.info c.args.bytes.now known c.in-Some.ensures.whole c.requires.length in
-    put_as _ _ _ _ (sym shown.1) (c.add_numbers.ensures.text kept.code kept.info known)
+returns-in-Some-clause-text c = rw (sym c.self.view_is) (IfOk-weaker c.in-Some.end _ _ (λ e both. both.1) c.in-Some.ensures.shown)
+
+pub put_other-requires : goal.put_other-requires
+put_other-requires c =
+    let f = c.self.inside.form in
+    let long = c.requires.length ∙ ap (λ (k : CellKey). k.size) (sym c.self.view_is) in
+    rw (sym c.self.view_is)
+    (subst (HasShape f.code.0 f.size) (sym c.in_ok-items.ensures)
+    (field_shape Global c.args.order f.code.0 f.size c.args.bytes.now (slice_is_bytes c.args.bytes.now c.type_inv.bytes) long))

@@ -1,29 +1,25 @@
-use Rattle.std.proofs.Common.{◌⊎◌}
-use Rattle.fit_frames.proofs.Common.{◌≡◌, ◌∙◌, ◌++◌, ◌∷◌, [], sym, ap, subst, and_sheet, base_type, item_text, CellKey, Global}
+use Rattle.fit_frames.proofs.Common.{◌∙◌, ◌++◌, sym, ap, and_sheet, CellKey}
 use Rattle.fit_base.proofs.ByteLists.{slice_is_bytes}
-use Rattle.fit_record.specs.ReadMessages.{field_from}
-use Rattle.fit_texts.proofs.ItemFacts.{lone_below, lone_field}
+use Rattle.fit_frames.proofs.ShownCells.{lone_read}
+use Rattle.fit_frames.specs.inner.FieldForms.{field_meaning}
+use Rattle.fit_texts.proofs.ItemFacts.{lone_below}
 use Rattle.fit_texts.proofs.Sheets.{more_written}
-use Rattle.fit_frames.proofs.ShownCells.{lone_shown}
 use Rattle.fit_frames.proofs.shown.ShownCell.put_bytes.Goals as goal
 
 pub write_formed-requires-clause-bits : goal.write_formed-requires-clause-bits
 write_formed-requires-clause-bits c =
+    let long = c.requires.length ∙ ap (λ (k : CellKey). k.size) (sym c.self.view_is) in
     lone_below c.args.order c.args.bytes.now c.in-Some.form.width c.bits_at-bits.result (slice_is_bytes c.args.bytes.now c.type_inv.bytes)
-    (c.requires.length ∙ sym c.in-Some.ensures.width) c.bits_at-bits.ensures
+    (long ∙ sym c.in-Some.ensures.width) c.bits_at-bits.ensures
 
 pub returns-in-Some-clause-text : goal.returns-in-Some-clause-text
 returns-in-Some-clause-text c =
-    let kept : CellKey = c.args.self.now in
-    let form = c.in-Some.form in
-    let known = c.in-Some.ensures.form in
+    let f = c.self.inside.form in
     let before = and_sheet c.args.text.now.items c.args.sheet.now c.args.at in
-    let lone = lone_field Global c.args.order kept.code kept.size c.args.bytes.now
-    (subst (λ w. (w ≡ 1) ⊎ (w ≡ 2) ⊎ (w ≡ 4)) c.in-Some.ensures.width c.in-Some.ensures.small.width) (sym c.in-Some.ensures.width ∙ known.width)
-    c.requires.length in
-    let items = field_from {A = Global} c.args.order (kept.code, kept.size) c.args.bytes.now in
-    more_written c.args.text.now.items c.args.sheet.now c.write_formed.new.bytes
-    (item_text (base_type kept.code).class kept.code kept.info form.width c.bits_at-bits.result) c.args.at c.write_formed.result
-    (c.write_formed.ensures.text kept.code kept.info known)
-    ∙ ap (λ t. before ++ t) (sym (lone_shown form kept.code kept.info items c.bits_at-bits.result known (lone.0 ∙ sym c.in-Some.ensures.width)
-    (lone.1 ∙ ap (λ n. n ∷ []) (sym c.bits_at-bits.ensures))))
+    let form = c.in-Some.ensures in
+    let long = c.requires.length ∙ ap (λ (k : CellKey). k.size) (sym c.self.view_is) in
+    let bits = c.bits_at-bits in
+    let both = lone_read c.in-Some.form f c.args.order c.args.bytes.now bits.result form.small form.width form.form long bits.ensures in
+    rw (sym c.self.view_is)
+    (more_written _ _ _ _ c.args.at c.write_formed.result (c.write_formed.ensures.text f.code.0 (field_meaning f) form.form)
+    ∙ ap (λ t. before ++ t) (sym both.1))

@@ -1,0 +1,41 @@
+-- What is kept of a field to show its value, and how rows and lines show it alike. No public contract names these definitions.
+use Rattle.std.specs.Prelude.{◌≡◌, ◌%◌, ◌++◌, ℕ, List, Option, IfSome, option_map}
+use Rattle.std.specs.Global.{Global}
+use Rattle.csv.specs.Writing.{default_writer, field_text}
+use Rattle.fit_base.specs.BaseTypes.{base_type}
+use Rattle.fit_base.specs.declared.code.Class.TheVariants.{Float as FloatClass, Text as TextClass}
+use Rattle.fit_base.specs.declared.number.Order.{Order}
+use Rattle.fit_record.specs.ReadMessages.{field_from}
+use Rattle.fit_profile.specs.Names.{meaning}
+use Rattle.fit_profile.specs.Profile.{Meaning}
+use Rattle.fit_numbers.specs.Scaled.{IsScale}
+use Rattle.fit_cells.specs.Cells.{cell}
+use Rattle.fit_cells.specs.Forms.{IsFormOf, IsSmallForm}
+use Rattle.fit_texts.specs.Octets.{IsOfBytes}
+use Rattle.fit_frames.specs.Shown.{shown_cell}
+use Rattle.fit_frames.specs.declared.form.FieldForm.{FieldForm}
+use Rattle.fit_frames.specs.declared.form.FieldKind.{FieldKind}
+use Rattle.fit_frames.specs.declared.form.FieldKind.TheVariants.{Lone, Several, Float, Bytes, Text, Other}
+
+-- The value of a field of this base type code, size and meaning is of a kind.
+abbrev pub IsFieldKind : ℕ → ℕ → Option Meaning → FieldKind → Type 0
+IsFieldKind code size info (Lone f) = IsSmallForm f × (f.width ≡ size) × IsFormOf code info f
+IsFieldKind code size info (Several f) = IsSmallForm f × (size % f.width ≡ 0) × IsFormOf code info f
+IsFieldKind code size info Float = ((base_type code).class ≡ FloatClass) × ((base_type code).width ≡ size)
+IsFieldKind code size info Bytes = IsOfBytes code size
+IsFieldKind code size info Text = (base_type code).class ≡ TextClass
+IsFieldKind code size info Other = Unit {0}
+
+-- what the profile says of a field
+abbrev pub field_meaning : FieldForm → Option Meaning
+field_meaning f = option_map meaning f.info
+
+-- what a form promises
+pub record IsFieldForm (f : FieldForm) : Type 0 where
+  pub scale : IfSome f.info (λ i. IsScale i.scale)
+  pub kind : IsFieldKind f.code.0 f.size (field_meaning f) f.kind
+
+-- A row and a line show the value of a field by its bytes as the same text, and it comes after another.
+abbrev pub IsShownAfter : FieldForm → Order → List ℕ → List ℕ → List ℕ → Type 0
+IsShownAfter f order bytes old new = let items = field_from {A = Global} order (f.code.0, f.size) bytes in
+    (new ≡ old ++ field_text default_writer (cell f.code.0 (field_meaning f) items)) × (new ≡ old ++ shown_cell f.code.0 (field_meaning f) items)
