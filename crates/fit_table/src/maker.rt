@@ -17,7 +17,7 @@ ghost use Rattle.fit_table.specs.inner.TableColumns.{ArePlaces, TellsAmounts};
 
 use crate::amounts::Amounts;
 use crate::columns::{Columns, Places};
-use crate::numbers::NumbersInBytes;
+use crate::numbers::in_bytes::NumbersInBytes;
 use crate::rows::{TableRowMaker, put_row};
 use fit_profile::{Message, Stream};
 use fit_record::{FieldDef, MessageBytes};

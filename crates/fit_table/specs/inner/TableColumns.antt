@@ -1,6 +1,6 @@
 -- Where the numbers of the table stand in the bytes of record messages of a definition. No public contract names these definitions.
 use Rattle.std.specs.Prelude.{◌≡◌, ◌≤◌, ◌+◌, ◌==◌, ◌||◌, ℕ, Bool, List, Option, None, Some, false, drop, length, map, take, ℤ, pos, IsSomeAnd, IfSome}
-use Rattle.std.specs.Prelude.{option_and_then, option_map}
+use Rattle.std.specs.Prelude.{if◌then◌else◌, option_and_then, option_map}
 use Rattle.std.specs.Global.{Global}
 use Rattle.fit_base.specs.declared.number.Order.{Order}
 use Rattle.fit_base.specs.BaseTypes.{item_width}
@@ -10,14 +10,17 @@ use Rattle.fit_record.specs.Records.{sizes}
 use Rattle.fit_record.specs.declared.definition.FieldDef.{FieldDef}
 use Rattle.fit_record.specs.declared.definition.MessageDef.{MessageDef}
 use Rattle.fit_record.specs.declared.message.Values.{Values}
+use Rattle.fit_numbers.specs.FixedText.{fixed_text}
 use Rattle.fit_profile.specs.declared.told.Told.{Told}
-use Rattle.fit_profile.specs.Looks.{first_field, known}
+use Rattle.fit_profile.specs.Looks.{first_field}
 use Rattle.fit_profile.specs.Names.{field}
+use Rattle.fit_profile.specs.Profile.{Meaning}
 use Rattle.fit_profile.specs.Values.{first_number}
 use Rattle.fit_cells.specs.Forms.{IsFormOf, IsSmallForm}
 use Rattle.fit_table.specs.inner.TableKinds.{IsOfKind}
+use Rattle.fit_table.specs.Degrees.{degrees_of}
 use Rattle.fit_table.specs.Table.{amount_text}
-use Rattle.fit_table.specs.inner.TableCells.{shown_text}
+use Rattle.fit_table.specs.inner.TableCells.{PutsCell, shown_text}
 use Rattle.fit_table.specs.declared.amounts.Amounts.{Amounts}
 use Rattle.fit_table.specs.declared.columns.Place.{Place}
 use Rattle.fit_table.specs.declared.columns.Places.{Places}
@@ -59,6 +62,16 @@ items_from offset f o bytes = field_from o (f.code, f.size) (take f.size (drop o
 -- the items of the field at a place in the bytes of a message
 abbrev pub items_at : Place → Order → List ℕ → Items Global
 items_at p o bytes = items_from p.offset p.field o bytes
+
+-- The number at a place in the bytes of a message was put in a cell, where it is valid; and whether it is.
+abbrev pub PutsValue : Place → Order → List ℕ → Bool → List ℕ → List ℕ → Type 0
+PutsValue p o bytes put old new = (m : Meaning) → IsFormOf p.field.code (Some m) p.form
+    → PutsCell (option_map (λ raw. amount_text raw m.scale m.offset) (first_number p.field (items_at p o bytes))) put old new
+
+-- the same of the position there, where the base type is sint32
+abbrev pub PutsPosition : Place → Order → List ℕ → Bool → List ℕ → List ℕ → Type 0
+PutsPosition p o bytes put old new = let number = first_number p.field (items_at p o bytes) in
+    PutsCell (if p.field.code == 0x85 then option_map (λ s. fixed_text (degrees_of s) 7) number else None) put old new
 
 -- the place of the first field of a number
 pub record IsFirst (fields : List FieldDef) (number : ℕ) (p : Place) : Type 0 where

@@ -2,7 +2,7 @@ use Rattle.fit_table.proofs.Common.{◌∙◌, ap, refl, base_type, first_number
 use Rattle.std.proofs.Common.{Some}
 use Rattle.fit_table.proofs.TableColumnFacts.{amount_in, number_at, value_hidden, value_shown}
 use Rattle.fit_table.proofs.TableNumbers.{puts_none, puts_some}
-use Rattle.fit_table.proofs.numbers.write_value_at.Goals as goal
+use Rattle.fit_table.proofs.numbers.in_bytes.write_value_at.Goals as goal
 
 pub returns-then-bits-place-clause-cell : goal.returns-then-bits-place-clause-cell
 returns-then-bits-place-clause-cell c m is =

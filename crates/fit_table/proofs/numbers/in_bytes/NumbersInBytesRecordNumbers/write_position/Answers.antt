@@ -3,7 +3,7 @@ use Rattle.fit_table.proofs.TableColumnFacts.{first_at, no_degrees, placed_degre
 use Rattle.fit_table.proofs.TableNumbers.{puts_none}
 use Rattle.fit_table.specs.inner.TableColumns.{held_number}
 use Rattle.fit_table.specs.declared.columns.Column.{Column}
-use Rattle.fit_table.proofs.numbers.NumbersInBytesRecordNumbers.write_position.Goals as goal
+use Rattle.fit_table.proofs.numbers.in_bytes.NumbersInBytesRecordNumbers.write_position.Goals as goal
 
 pub write_placed_position-requires-clause-known : goal.write_placed_position-requires-clause-known
 write_placed_position-requires-clause-known c =

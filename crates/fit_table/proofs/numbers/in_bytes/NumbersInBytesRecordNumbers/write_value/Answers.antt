@@ -3,7 +3,7 @@ use Rattle.fit_table.proofs.TableColumnFacts.{no_value, value_in}
 use Rattle.fit_table.proofs.TableNumbers.{puts_none}
 use Rattle.fit_table.specs.inner.TableColumns.{held_number}
 use Rattle.fit_table.specs.declared.columns.Column.{Column}
-use Rattle.fit_table.proofs.numbers.NumbersInBytesRecordNumbers.write_value.Goals as goal
+use Rattle.fit_table.proofs.numbers.in_bytes.NumbersInBytesRecordNumbers.write_value.Goals as goal
 
 pub write_placed-requires-clause-known : goal.write_placed-requires-clause-known
 write_placed-requires-clause-known c =

@@ -2,7 +2,7 @@ use Rattle.fit_table.proofs.Common.{◌∙◌, ap, subst, PutsCell, fixed_text, 
 use Rattle.std.specs.Prelude.{option_map}
 use Rattle.fit_table.specs.Degrees.{degrees_of}
 use Rattle.fit_table.proofs.TableColumnFacts.{position_at}
-use Rattle.fit_table.proofs.numbers.write_position_at.Goals as goal
+use Rattle.fit_table.proofs.numbers.in_bytes.write_position_at.Goals as goal
 
 pub returns-clause-cell : goal.returns-clause-cell
 returns-clause-cell c =
