@@ -1,5 +1,7 @@
 -- The blocks of data messages.
-use Rattle.std.proofs.Common.{◌≡◌, ◌∙◌, ℕ, zero, suc, ◌%◌, ◌<◌, ◌≤◌, List, [], ◌∷◌, ◌++◌, All, true, false, ap, sym, arith, subst, lit<, cond}
+use Rattle.std.proofs.Common.{◌≡◌, ◌∙◌, ℕ, zero, suc, ◌%◌, ◌<◌, ◌≤◌, List, [], ◌∷◌, ◌++◌, All, true, false, ap, sym, arith, subst, lit<, cond, length, drop, append_assoc}
+use Rattle.std.proofs.Math.Seq.{drop-append_seam}
+use Rattle.std.proofs.lemmas.List.{length-append}
 use Rattle.std.specs.Prelude.{◌==◌, IsSomeAnd, Some, option_map, unwrap_or}
 use Rattle.fit_base.specs.BaseTypes.{base_type, item_width}
 use Rattle.fit_base.specs.declared.items.Items.{Items}
@@ -14,9 +16,21 @@ use Rattle.fit_profile.specs.Told.{told}
 use Rattle.fit_messages.proofs.ItemFacts.{width_small}
 use Rattle.fit_messages.specs.Blocks.{message_after, message_block}
 
--- three parts are put after nothing
-pub parts_put : (h f d b0 b1 b2 b3 : List ℕ) → b0 ≡ [] → b1 ≡ b0 ++ h → b2 ≡ b1 ++ f → b3 ≡ b2 ++ d → b3 ≡ (h ++ f) ++ d
-parts_put h f d b0 b1 b2 b3 none first second third = third ∙ ap (λ b. b ++ d) (second ∙ ap (λ b. b ++ f) (first ∙ ap (λ b. b ++ h) none))
+-- room for a length and three parts are put after nothing
+all_put : (room h f d b0 b1 b2 b3 : List ℕ) → b0 ≡ [] → b1 ≡ b0 ++ (room ++ h) → b2 ≡ b1 ++ f → b3 ≡ b2 ++ d → b3 ≡ room ++ ((h ++ f) ++ d)
+all_put room h f d b0 b1 b2 b3 none first second third =
+    third ∙ ap (λ b. b ++ d) (second ∙ ap (λ b. b ++ f) (first ∙ ap (λ b. b ++ (room ++ h)) none))
+    ∙ ap (λ b. b ++ d) (append_assoc room h f) ∙ append_assoc room (h ++ f) d
+
+pub parts_put : (room h f d b0 b1 b2 b3 : List ℕ) → length room ≡ 4 → b0 ≡ [] → b1 ≡ b0 ++ (room ++ h) → b2 ≡ b1 ++ f → b3 ≡ b2 ++ d
+    → drop 4 b3 ≡ (h ++ f) ++ d
+parts_put room h f d b0 b1 b2 b3 long none first second third =
+    ap (drop 4) (all_put room h f d b0 b1 b2 b3 none first second third) ∙ ap (λ k. drop k (room ++ ((h ++ f) ++ d))) (sym long)
+    ∙ drop-append_seam room ((h ++ f) ++ d)
+
+pub room_left : (room h f d b0 b1 b2 b3 : List ℕ) → length room ≡ 4 → b0 ≡ [] → b1 ≡ b0 ++ (room ++ h) → b2 ≡ b1 ++ f → b3 ≡ b2 ++ d → 4 ≤ length b3
+room_left room h f d b0 b1 b2 b3 long none first second third =
+    omega (arith, long, ap length (all_put room h f d b0 b1 b2 b3 none first second third), length-append room ((h ++ f) ++ d))
 
 -- the block of a message by the definition of its local message type
 pub message_is : {A : Type 0} (before : List (Record A)) (file place number : ℕ) (v : Values A) (p : Defined A) → Some p ≡ defined_at (known before) v.local

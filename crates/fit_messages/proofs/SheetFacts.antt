@@ -1,10 +1,12 @@
 -- What is written in a sheet.
-use Rattle.std.proofs.Common.{◌≡◌, ◌∙◌, ◌+◌, ◌≤◌, ℕ, List, ◌++◌, length, take, sym, ap, arith, append_assoc}
+use Rattle.std.proofs.Common.{◌≡◌, ◌∙◌, ◌+◌, ◌≤◌, ℕ, List, ◌++◌, length, take, drop, sym, ap, arith, append_assoc}
 use Rattle.std.proofs.Math.Seq.{take-append-add}
-use Rattle.std.proofs.lemmas.List.{append-nil, length-take-le, take-take}
+use Rattle.std.proofs.lemmas.List.{append-nil, drop-take, length-drop, length-take-le, take-take}
+use Rattle.fit_base.proofs.Bytes.{length-little_bytes}
 use Rattle.fit_base.specs.Numbers.{little_bytes}
 use Rattle.fit_messages.proofs.ByteFacts.{low_taken}
-use Rattle.fit_messages.specs.Blocks.{low}
+unfoldable use Rattle.fit_messages.specs.Blocks.{low}
+use Rattle.fit_messages.specs.Blocks.{sized}
 use Rattle.fit_messages.specs.inner.Sheets.{with_sheet}
 
 -- a number that was written with more bytes after it
@@ -25,3 +27,25 @@ none_written bytes sheet = append-nil bytes
 -- more is written
 pub more_written : (bytes old new more : List ℕ) (at end : ℕ) → take end new ≡ take at old ++ more → with_sheet bytes new end ≡ with_sheet bytes old at ++ more
 more_written bytes old new more at end e = ap (λ w. bytes ++ w) e ∙ sym (append_assoc bytes (take at old) more)
+
+length-low : (w n : ℕ) → length (low w n) ≡ w
+unfolding low
+length-low w n = length-little_bytes w n
+
+-- the length of a block is written where room was left for it
+pub alone_put : (at : ℕ) (old new : List ℕ) → 4 ≤ at → at ≤ length old → new ≡ low 4 at ++ drop 4 old → take at new ≡ sized (drop 4 (take at old))
+alone_put at old new room within is =
+    let rest : List ℕ = drop 4 (take at old) in
+    let n : ℕ = length rest in
+    let long : 4 + n ≡ at = omega (arith, length-drop 4 (take at old), length-take-le at old within, room) in
+    let front : List ℕ = low 4 at in
+    ap (take at) is ∙ ap (λ k. take k (front ++ drop 4 old)) (sym long) ∙ ap (λ k. take (k + n) (front ++ drop 4 old)) (sym (length-low 4 at))
+    ∙ take-append-add front (drop 4 old) n
+    ∙ ap (λ (b : List ℕ). front ++ b) (sym (drop-take 4 n old) ∙ ap (λ k. drop 4 (take k old)) long)
+    ∙ ap (λ k. low 4 k ++ rest) (sym long)
+
+-- four parts are written after room for a length
+pub four_written : (room a b c d w x y z : List ℕ) → w ≡ room ++ a → x ≡ w ++ b → y ≡ x ++ c → z ≡ y ++ d → z ≡ room ++ (((a ++ b) ++ c) ++ d)
+four_written room a b c d w x y z first second third fourth =
+    fourth ∙ ap (λ l. l ++ d) (third ∙ ap (λ l. l ++ c) (second ∙ ap (λ l. l ++ b) first))
+    ∙ ap (λ l. (l ++ c) ++ d) (append_assoc room a b) ∙ ap (λ l. l ++ d) (append_assoc room (a ++ b) c) ∙ append_assoc room ((a ++ b) ++ c) d

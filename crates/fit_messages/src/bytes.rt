@@ -1,5 +1,5 @@
 //! Numbers, texts and fronts, put after other bytes.
-ghost use Rattle.std.specs.Prelude.{◌≡◌, ◌≤◌, ◌++◌, OnOk, replicate};
+ghost use Rattle.std.specs.Prelude.{◌≡◌, ◌≤◌, ◌++◌, OnOk, drop, length, replicate};
 ghost use Rattle.fit_base.specs.Numbers.{little_bytes};
 ghost use Rattle.fit_messages.specs.Blocks as blocks;
 
@@ -96,4 +96,13 @@ pub(crate) fn put_sized(text: &mut Vec<u8>, rest: &[u8]) -> Result<(), AllocErro
 {
     put_number(text, 4, 4 + rest.len() as u64)?;
     text.extend_from_slice(rest)
+}
+
+/// Puts a block. The first four bytes are room for its length.
+pub(crate) fn put_roomed(text: &mut Vec<u8>, bytes: &[u8]) -> Result<(), AllocError>
+    requires { 4 ≤ length bytes.now }
+    ensures { OnOk result (text.new.items ≡ text.old.items ++ blocks.sized (drop 4 bytes.now)) }
+{
+    let (_, rest) = bytes.split_at(4);
+    put_sized(text, rest)
 }

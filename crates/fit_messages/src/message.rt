@@ -9,10 +9,10 @@ ghost use Rattle.fit_record.specs.declared.message.Record.TheVariants.{Values as
 ghost use Rattle.fit_record.specs.declared.message.Values.{Values};
 ghost use Rattle.fit_messages.specs.Blocks as blocks;
 
-use crate::bytes::{Front, Place, put_sized};
+use crate::bytes::{Front, Place, put_roomed};
 use crate::definition::counts;
 use crate::items::{add_all_read, put_all_made};
-use crate::sheet::{Sheet, put_both, put_sheet, write_front, write_low};
+use crate::sheet::{Sheet, put_block, put_sheet, write_front, write_low};
 use fit_profile::{Stream, Told};
 use fit_record::{Record, Values};
 use std::alloc::AllocError;
@@ -44,7 +44,7 @@ fn told_bits(told: Told) -> u8
 /// Writes speed, distance, cycles and power.
 #[inline(never)]
 fn write_amounts(sheet: &mut Sheet, at: usize, told: Told) -> usize
-    requires room { at ≤ 36 }
+    requires room { at ≤ 40 }
     ensures end { result ≡ at + 32 }
     ensures text { take result sheet.new ≡ take at sheet.old ++ blocks.amounts told }
 {
@@ -54,7 +54,7 @@ fn write_amounts(sheet: &mut Sheet, at: usize, told: Told) -> usize
     write_low(sheet, at, 8, told.accumulated_power.unwrap_or(u64::MAX))
 }
 
-/// Writes what stands before the items of a message, without its length, at the start of a sheet. Returns the place after it.
+/// Writes what stands before the items of a message after the room for its length. Returns the place after it.
 #[inline(always)]
 fn write_head(
     sheet: &mut Sheet,
@@ -65,9 +65,9 @@ fn write_head(
     counts: bool,
     told: Told,
 ) -> usize
-    ensures place { result ≤ 68 }
-    ensures text { take result sheet.new
-        ≡ blocks.message_head place.file place.place number local offset counts told }
+    ensures place { result ≤ 72 }
+    ensures text { take result sheet.new ≡ take 4 sheet.old
+        ++ blocks.message_head place.file place.place number local offset counts told }
 {
     let at = write_front(
         sheet,
@@ -127,7 +127,7 @@ pub(crate) fn put_values(
     put_sheet(rest, sheet, at)?;
     put_all_made(rest, values.fields.as_slice())?;
     put_all_made(rest, values.dev.as_slice())?;
-    put_sized(text, rest.as_slice())
+    put_roomed(text, rest.as_slice())
 }
 
 /// The same of the data message that the bytes are.
@@ -167,7 +167,7 @@ pub(crate) fn put_message(
     let (at, back) = add_all_read(rest, sheet, at, order, &layout, message.body)?;
     let dev_layout = defined.dev_layout();
     let (at, _) = add_all_read(rest, sheet, at, order, &dev_layout, back)?;
-    put_both(text, rest.as_slice(), sheet, at)
+    put_block(text, rest, sheet, at)
 }
 
 /// The number of a local message type.

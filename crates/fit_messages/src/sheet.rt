@@ -1,9 +1,10 @@
-//! Bytes of a fixed size in which the parts of a message are written, so that they are put after others at once.
-ghost use Rattle.std.specs.Prelude.{◌≡◌, ◌≤◌, ◌+◌, ◌++◌, ◌∷◌, [], IfOk, OnOk, take};
+//! Bytes of a fixed size in which the parts of a message are written, so that they are put after others at once. The first four are room
+//! for the length of its block.
+ghost use Rattle.std.specs.Prelude.{◌≡◌, ◌≤◌, ◌+◌, ◌++◌, ◌∷◌, [], IfOk, OnOk, drop, length, take};
 ghost use Rattle.fit_messages.specs.Blocks as blocks;
 ghost use Rattle.fit_messages.specs.inner.Sheets.{with_sheet};
 
-use crate::bytes::{Front, eight_bytes, put_number};
+use crate::bytes::{Front, eight_bytes, put_roomed};
 use std::alloc::AllocError;
 
 /// How many bytes a sheet has.
@@ -24,14 +25,24 @@ fn write_eight(sheet: &mut Sheet, at: usize, eight: &[u8; 8]) -> usize
     end
 }
 
-/// Writes the four bytes that a block has after its length, at the start.
+/// Writes the length of a block at the start.
+#[inline(always)]
+fn write_length(sheet: &mut Sheet, length: usize)
+    ensures { sheet.new ≡ blocks.low 4 length ++ drop 4 sheet.old }
+{
+    let eight = eight_bytes(length as u64);
+    let (four, _) = eight.as_slice().split_at(4);
+    sheet[0..4].copy_from_slice(four);
+}
+
+/// Writes the four bytes that a block has after its length.
 #[inline(always)]
 fn write_kind(sheet: &mut Sheet, kind: u8, a: u8, b: u8, c: u8) -> usize
-    ensures end { result ≡ 4 }
-    ensures text { take result sheet.new ≡ kind ∷ a ∷ b ∷ c ∷ [] }
+    ensures end { result ≡ 8 }
+    ensures text { take result sheet.new ≡ take 4 sheet.old ++ kind ∷ a ∷ b ∷ c ∷ [] }
 {
-    write_eight(sheet, 0, &[kind, a, b, c, 0, 0, 0, 0]);
-    4
+    write_eight(sheet, 4, &[kind, a, b, c, 0, 0, 0, 0]);
+    8
 }
 
 /// Writes that many of the lowest bytes of a number, the lowest first. Others come after them, which the next ones replace.
@@ -47,11 +58,11 @@ pub(crate) fn write_low(sheet: &mut Sheet, at: usize, width: u8, number: u64) ->
     at + width as usize
 }
 
-/// Writes what a block has after its length, at the start.
+/// Writes what a block has after its length.
 #[inline(always)]
 pub(crate) fn write_front(sheet: &mut Sheet, front: Front) -> usize
-    ensures end { result ≡ 20 }
-    ensures text { take result sheet.new ≡ blocks.front
+    ensures end { result ≡ 24 }
+    ensures text { take result sheet.new ≡ take 4 sheet.old ++ blocks.front
         front.kind front.a front.b front.c front.file front.n front.place }
 {
     let at = write_kind(sheet, front.kind, front.a, front.b, front.c);
@@ -70,21 +81,37 @@ pub(crate) fn put_sheet(bytes: &mut Vec<u8>, sheet: &Sheet, at: usize) -> Result
     bytes.extend_from_slice(written)
 }
 
-/// Puts the block of bytes and of what is written before a place after them.
+/// Puts the block of what is written before a place, with its length before it.
 #[inline(always)]
-pub(crate) fn put_both(
+fn put_alone(text: &mut Vec<u8>, sheet: &mut Sheet, at: usize) -> Result<(), AllocError>
+    requires room { 4 ≤ at }
+    requires place { at ≤ 512 }
+    ensures { OnOk result (text.new.items
+        ≡ text.old.items ++ blocks.sized (drop 4 (take at sheet.old))) }
+{
+    write_length(sheet, at);
+    put_sheet(text, sheet, at)
+}
+
+/// Puts the block of bytes and of what is written before a place after them. The first four are room for its length. Mostly there are no
+/// others.
+#[inline(always)]
+pub(crate) fn put_block(
     text: &mut Vec<u8>,
-    rest: &[u8],
-    sheet: &Sheet,
+    rest: &mut Vec<u8>,
+    sheet: &mut Sheet,
     at: usize,
 ) -> Result<(), AllocError>
-    requires { at ≤ 512 }
+    requires room { 4 ≤ length (with_sheet rest.old.items sheet.old at) }
+    requires place { at ≤ 512 }
     ensures { OnOk result (text.new.items
-        ≡ text.old.items ++ blocks.sized (with_sheet rest.now sheet.now at)) }
+        ≡ text.old.items ++ blocks.sized (drop 4 (with_sheet rest.old.items sheet.old at))) }
 {
-    put_number(text, 4, 4 + rest.len() as u64 + at as u64)?;
-    text.extend_from_slice(rest)?;
-    put_sheet(text, sheet, at)
+    if rest.is_empty() {
+        return put_alone(text, sheet, at);
+    }
+    put_sheet(rest, sheet, at)?;
+    put_roomed(text, rest.as_slice())
 }
 
 /// The same as `put_sheet` where there is no room for eight bytes after it. Returns the place to go on from.
