@@ -1,8 +1,8 @@
 -- The items of fields as a block has them.
-use Rattle.std.proofs.Common.{◌≡◌, ◌∙◌, ℕ, zero, suc, ◌+◌, ◌*◌, ◌/◌, ◌%◌, ◌^◌, ◌<◌, true, List, [], ◌∷◌, ◌++◌, length, take}
+use Rattle.std.proofs.Common.{◌≡◌, ◌∙◌, ℕ, zero, suc, ◌+◌, ◌*◌, ◌/◌, ◌%◌, ◌^◌, ◌<◌, ◌≤◌, true, List, [], ◌∷◌, ◌++◌, length, take}
 use Rattle.std.proofs.Common.{drop, refl, sym, ap, ap₂, subst, arith, replicate, ltb}
 use Rattle.std.proofs.Common.{append_assoc}
-use Rattle.std.proofs.lemmas.List.{length-append, take-append-drop, length-take-le, length-drop, take_all, append-nil}
+use Rattle.std.proofs.lemmas.List.{length-append, take-append-drop, length-take-le, length-drop, take_all, take-take, append-nil}
 use Rattle.std.specs.Prelude.{◌==◌, flat_map, if◌then◌else◌}
 use Rattle.std.specs.Global.{Global}
 use Rattle.fit_base.proofs.Bytes.{length-little_bytes}
@@ -149,3 +149,12 @@ slot_lone o code size bytes are long same =
     let here : slot {A = Global} (record { width = size; bits = n ∷ [] }) ≡ little_bytes size n ++ replicate (gap size) 0 =
     ap rounded (append-nil (little_bytes size n)) ∙ ap (λ k. little_bytes size n ++ replicate (gap k) 0) (length-little_bytes size n) in
     wide size (gap size) 8 n all few ∙ sym here ∙ ap (slot {A = Global}) (sym (one_number o code size bytes long same))
+
+-- by the eight bytes that begin with it
+pub slot_first : (o : Order) (code width : ℕ) (bytes eight : List ℕ) (n : ℕ) → IsBytes bytes → 8 ≤ length bytes → (base_type code).width ≡ width
+    → eight ≡ take 8 bytes → n ≡ number o (take width eight) → low 8 n ≡ slot (field_from {A = Global} o (code, width) (take width bytes))
+slot_first o code width bytes eight n are enough same first read =
+    let small : width < 9 = subst (λ w. w < 9) same (width_small code) in
+    ap (low 8) read ∙ ap (λ b. low 8 (number o (take width b))) first
+    ∙ ap (λ b. low 8 (number o b)) (take-take width 8 bytes (omega (arith, small)))
+    ∙ slot_lone o code width (take width bytes) (IsBytes-take width bytes are) (length-take-le width bytes (omega (arith, small, enough))) same

@@ -4,6 +4,7 @@ pub mod ItemFacts
 pub mod EntryFacts
 pub mod MessageFacts
 pub mod SheetFacts
+pub mod NumberParts
 pub mod ToldEvents
 pub mod TakenDefinitions
 pub mod BlockLengths

@@ -1,14 +1,16 @@
 //! The items of the fields of a message, made or in their bytes.
-ghost use Rattle.std.specs.Prelude.{◌≡◌, ◌⊎◌, ◌≤◌, ◌*◌, ◌/◌, ◌++◌, All, IfOk, OnOk, drop, flat_map, length};
+ghost use Rattle.std.specs.Prelude.{◌≡◌, ◌⊎◌, ◌≤◌, ◌+◌, ◌*◌, ◌/◌, ◌++◌, All, IfOk, OnOk, drop, flat_map, length, take};
 ghost use Rattle.std.specs.Global.{Global};
+ghost use Rattle.fit_base.specs.BaseTypes.{base_type};
+ghost use Rattle.fit_base.specs.Numbers.{number};
 ghost use Rattle.fit_record.specs.ReadMessages.{field_from, fields_from, numbers_of};
 ghost use Rattle.fit_record.specs.Records.{sizes};
 ghost use Rattle.fit_messages.specs.Blocks.{low, slot};
 ghost use Rattle.fit_messages.specs.inner.Sheets.{with_sheet};
 
 use crate::bytes::{put_gap, put_number, put_rounded};
-use crate::sheet::{Sheet, make_room, put_sheet, write_low};
-use fit_base::{Code, Items, Order, bits_at, width_of};
+use crate::sheet::{SHEET, Sheet, make_room, put_sheet, write_low};
+use fit_base::{Code, Items, Order, bits_at, greatest, width_of};
 use fit_record::Layout;
 use std::alloc::AllocError;
 
@@ -112,7 +114,78 @@ fn add_read(
     Ok(0)
 }
 
-/// Adds the items of fields by their bytes to what is written in a sheet. Returns the place after them, and the bytes after theirs.
+/// The number that as many of eight bytes are as this width says, from the first on.
+#[inline(always)]
+fn first_number(order: Order, width: u8, eight: &[u8]) -> u64
+    requires width { (width ≡ 1) ⊎ (width ≡ 2) ⊎ (width ≡ 4) ⊎ (width ≡ 8) }
+    requires length { length eight.now ≡ 8 }
+    ensures { result ≡ number order (take width eight.now) }
+{
+    let all = bits_at(order, 8, eight);
+    match order {
+        Order::Little => all & greatest(width),
+        Order::Big => all >> (64 - 8 * width),
+    }
+}
+
+/// Writes the item of a field that is one number, by the eight bytes that begin with it, and its zeros. Returns the place after them.
+#[inline(always)]
+fn write_one(sheet: &mut Sheet, at: usize, order: Order, code: u8, width: u8, bytes: &[u8]) -> usize
+    requires room { at + 8 ≤ 512 }
+    requires width { (base_type code).width ≡ width }
+    requires length { 8 ≤ length bytes.now }
+    ensures end { result ≡ at + 8 }
+    ensures text { take result sheet.new ≡ take at sheet.old
+        ++ slot (field_from {A = Global} order (code, width) (take width bytes.now)) }
+{
+    let (eight, _) = bytes.split_at(8);
+    write_low(sheet, at, 8, first_number(order, width, eight))
+}
+
+/// Writes the items of fields by their bytes, up to the first field that isn't one number. Eight bytes are read for each, so that none
+/// are written where fewer come after the bytes of the message, which are that many, or where the sheet might not have room. Returns
+/// how many fields there were, the place after their items, and the bytes after theirs.
+#[inline(always)]
+pub(crate) fn write_lone<'a>(
+    sheet: &mut Sheet,
+    start: usize,
+    order: Order,
+    layout: &Layout<'_>,
+    size: usize,
+    body: &'a [u8],
+) -> (usize, usize, &'a [u8])
+    requires place { start ≤ 512 }
+    requires size { sizes layout.now ≤ size }
+    requires within { size ≤ length body.now }
+    ensures count { result.0 ≤ length layout.now }
+    ensures place { result.1 ≤ 512 }
+    ensures size { sizes (drop result.0 layout.now) ≤ length result.2.now }
+    ensures text { take result.1 sheet.new
+        ++ flat_map slot (fields_from {A = Global} order (drop result.0 layout.now) result.2.now)
+        ≡ take start sheet.old
+        ++ flat_map slot (fields_from {A = Global} order layout.now body.now) }
+    ensures rest { drop (sizes (drop result.0 layout.now)) result.2.now
+        ≡ drop (sizes layout.now) body.now }
+{
+    if body.len() - size < 8 || layout.len() > (SHEET - start) / 8 {
+        return (0, start, body);
+    }
+    let mut rest = body;
+    let mut at = start;
+    for place in 0..layout.len() {
+        let (code, width) = layout.slot(place);
+        if Code(code).width() != width {
+            return (place, at, rest);
+        }
+        at = write_one(sheet, at, order, code, width, rest);
+        let (_, after) = rest.split_at(width as usize);
+        rest = after;
+    }
+    (layout.len(), at, rest)
+}
+
+/// Adds the items of fields by their bytes to what is written in a sheet, without those of that many fields. Returns the place after them,
+/// and the bytes after theirs.
 #[inline(always)]
 pub(crate) fn add_all_read<'a>(
     bytes: &mut Vec<u8>,
@@ -120,19 +193,21 @@ pub(crate) fn add_all_read<'a>(
     start: usize,
     order: Order,
     layout: &Layout<'_>,
+    first: usize,
     body: &'a [u8],
 ) -> Result<(usize, &'a [u8]), AllocError>
     requires place { start ≤ 512 }
-    requires size { sizes layout.now ≤ length body.now }
+    requires first { first ≤ length layout.now }
+    requires size { sizes (drop first layout.now) ≤ length body.now }
     ensures place { IfOk result (λ r. r.0 ≤ 512) }
     ensures text { IfOk result (λ r. with_sheet bytes.new.items sheet.new r.0
         ≡ with_sheet bytes.old.items sheet.old start
-        ++ flat_map slot (fields_from {A = Global} order layout.now body.now)) }
-    ensures rest { IfOk result (λ r. r.1.now ≡ drop (sizes layout.now) body.now) }
+        ++ flat_map slot (fields_from {A = Global} order (drop first layout.now) body.now)) }
+    ensures rest { IfOk result (λ r. r.1.now ≡ drop (sizes (drop first layout.now)) body.now) }
 {
     let mut rest = body;
     let mut at = start;
-    for place in 0..layout.len() {
+    for place in first..layout.len() {
         let (code, size) = layout.slot(place);
         let (here, after) = rest.split_at(size as usize);
         at = add_read(bytes, sheet, at, order, code, size, here)?;

@@ -1,20 +1,23 @@
 //! The blocks of data messages.
-ghost use Rattle.std.specs.Prelude.{◌≡◌, ◌≤◌, ◌+◌, ◌++◌, [], if◌then◌else◌, IsSomeAnd, OnOk, Some, slice_index_or, take, unwrap_or};
+ghost use Rattle.std.specs.Prelude.{◌≡◌, ◌≤◌, ◌+◌, ◌++◌, [], if◌then◌else◌, IfOk, IsSomeAnd, OnOk, Some, length, slice_index_or, take, unwrap_or};
 ghost use Rattle.std.specs.Global.{Global};
 ghost use Rattle.fit_profile.specs.Looks.{known};
 ghost use Rattle.fit_profile.specs.Told as telling;
 ghost use Rattle.fit_record.specs.Environment.{defined_at};
-ghost use Rattle.fit_record.specs.Records.{Fits, IsRecord};
+ghost use Rattle.fit_record.specs.Records.{Fits, message_size};
+ghost use Rattle.fit_record.specs.Sound.{IsSound};
 ghost use Rattle.fit_record.specs.declared.message.Record.TheVariants.{Values as Data};
 ghost use Rattle.fit_record.specs.declared.message.Values.{Values};
 ghost use Rattle.fit_messages.specs.Blocks as blocks;
+ghost use Rattle.fit_messages.specs.inner.Sheets.{slots_from, with_sheet};
+ghost use Rattle.fit_messages.specs.inner.Telling.{BeginWith};
 
 use crate::bytes::{Front, Place, put_roomed};
 use crate::definition::counts;
-use crate::items::{add_all_read, put_all_made};
+use crate::items::{add_all_read, put_all_made, write_lone};
 use crate::sheet::{Sheet, put_block, put_sheet, write_front, write_low};
 use fit_profile::{Stream, Told};
-use fit_record::{Record, Values};
+use fit_record::{Defined, Record, Values};
 use std::alloc::AllocError;
 
 /// A bit that says whether there is something.
@@ -130,7 +133,35 @@ pub(crate) fn put_values(
     put_roomed(text, rest.as_slice())
 }
 
-/// The same of the data message that the bytes are.
+/// Adds the items of a message that has as many bytes after its record header as this size says, and they are the first of these.
+/// Returns the place after them.
+#[inline(always)]
+fn add_fields(
+    rest: &mut Vec<u8>,
+    sheet: &mut Sheet,
+    start: usize,
+    defined: &Defined,
+    size: usize,
+    bytes: &[u8],
+) -> Result<usize, AllocError>
+    requires place { start ≤ 512 }
+    requires sound { IsSound defined.now }
+    requires size { size ≡ message_size defined.now }
+    requires within { size ≤ length bytes.now }
+    ensures place { IfOk result (λ end. end ≤ 512) }
+    ensures text { IfOk result (λ end. with_sheet rest.new.items sheet.new end
+        ≡ with_sheet rest.old.items sheet.old start ++ slots_from defined.now bytes.now) }
+{
+    let order = defined.definition.order;
+    let layout = defined.layout();
+    let (first, at, body) = write_lone(sheet, start, order, &layout, size, bytes);
+    let (at, back) = add_all_read(rest, sheet, at, order, &layout, first, body)?;
+    let dev_layout = defined.dev_layout();
+    let (at, _) = add_all_read(rest, sheet, at, order, &dev_layout, 0, back)?;
+    Ok(at)
+}
+
+/// The same as `put_values` of the data message that bytes begin with. Returns what is told of it.
 pub(crate) fn put_message(
     text: &mut Vec<u8>,
     rest: &mut Vec<u8>,
@@ -139,18 +170,20 @@ pub(crate) fn put_message(
     bytes: &[u8],
     place: Place,
     numbers: &[u64; 16],
-) -> Result<(), AllocError>
-    requires { (v : Values Global) × IsRecord (known stream.now) (Data v) bytes.now }
-    ensures { OnOk result ((v : Values Global) → IsRecord (known stream.now) (Data v) bytes.now
+) -> Result<Told, AllocError>
+    requires { (v : Values Global) × BeginWith (known stream.now) v bytes.now }
+    ensures text { IfOk result (λ _. (v : Values Global) → BeginWith (known stream.now) v bytes.now
         → text.new.items ≡ text.old.items ++ blocks.message_after stream.now place.file place.place
         (slice_index_or numbers.now v.local 0) v) }
+    ensures told { IfOk result (λ told. (v : Values Global)
+        → BeginWith (known stream.now) v bytes.now → told ≡ telling.told stream.now v) }
 {
     let Some(message) = stream.env().message_bytes(bytes) else {
         unreachable!()
     };
-    let told = stream.message_told(bytes);
-    let defined = message.defined;
-    let order = defined.definition.order;
+    let size = message.body.len();
+    let (whole, _) = bytes.split_at(1 + size);
+    let told = stream.message_told(whole);
     let counts = stream.may_count(message.local);
     let number = number_at(numbers, message.local);
     rest.clear();
@@ -163,11 +196,10 @@ pub(crate) fn put_message(
         counts,
         told,
     );
-    let layout = defined.layout();
-    let (at, back) = add_all_read(rest, sheet, at, order, &layout, message.body)?;
-    let dev_layout = defined.dev_layout();
-    let (at, _) = add_all_read(rest, sheet, at, order, &dev_layout, back)?;
-    put_block(text, rest, sheet, at)
+    let (_, after) = bytes.split_at(1);
+    let at = add_fields(rest, sheet, at, message.defined, size, after)?;
+    put_block(text, rest, sheet, at)?;
+    Ok(told)
 }
 
 /// The number of a local message type.

@@ -1,5 +1,5 @@
 //! The reporter of blocks.
-ghost use Rattle.std.specs.Prelude.{◌≡◌, ◌+◌, ◌%◌, ◌^◌, ◌<◌, ◌++◌, ◌∷◌, [], IfOk, OnErr, OnOk, Some, length};
+ghost use Rattle.std.specs.Prelude.{◌≡◌, ◌≤◌, ◌+◌, ◌%◌, ◌^◌, ◌<◌, ◌++◌, ◌∷◌, [], IfOk, OnErr, OnOk, Some, length, take};
 ghost use Rattle.std.specs.Global.{Global};
 ghost use Rattle.fit_profile.specs.Described.{namings_at};
 ghost use Rattle.fit_profile.specs.Looks.{known};
@@ -280,28 +280,36 @@ impl MessagesReport {
         Ok(())
     }
 
-    /// Takes in the data message that the bytes are, and puts its block.
-    fn take_message(&mut self, text: &mut Vec<u8>, bytes: &[u8]) -> Result<(), AllocError>
-        requires { (v : Values Global) × IsRecord (known self.old.records) (Data v) bytes.now }
+    /// Takes in the data message that the first bytes of a piece are, that many, and puts its block.
+    fn take_message(
+        &mut self,
+        text: &mut Vec<u8>,
+        piece: &[u8],
+        size: usize,
+    ) -> Result<(), AllocError>
+        requires size { size ≤ length piece.now }
+        requires message { (v : Values Global)
+            × IsRecord (known self.old.records) (Data v) (take size piece.now) }
         ensures kept { OnOk result ((v : Values Global)
-            → IsRecord (known self.old.records) (Data v) bytes.now
+            → IsRecord (known self.old.records) (Data v) (take size piece.now)
             → self.new ≡ kept_next self.old (events.item (Data v))) }
         ensures text { OnOk result ((v : Values Global)
-            → IsRecord (known self.old.records) (Data v) bytes.now
+            → IsRecord (known self.old.records) (Data v) (take size piece.now)
             → text.new.items ≡ text.old.items ++ block_next self.old (events.item (Data v))) }
     {
         let place = self.here();
-        put_message(
+        let told = put_message(
             text,
             &mut self.rest,
             &mut self.sheet,
             &self.stream,
-            bytes,
+            piece,
             place,
             &self.numbers,
         )?;
-        self.stream.take_message(bytes)?;
-        self.place = self.place.wrapping_add(bytes.len() as u64);
+        let (message, _) = piece.split_at(size);
+        self.stream.take_told(message, told)?;
+        self.place = self.place.wrapping_add(size as u64);
         Ok(())
     }
 }
@@ -339,8 +347,7 @@ impl Report for MessagesReport {
         if used == 0 {
             return Ok(0);
         }
-        let (message, _) = piece.split_at(used);
-        self.take_message(text, message)?;
+        self.take_message(text, piece, used)?;
         Ok(used)
     }
 }
