@@ -45,7 +45,7 @@ fn told_bits(told: Told) -> u8
 }
 
 /// Writes speed, distance, cycles and power.
-#[inline(never)]
+#[inline(always)]
 fn write_amounts(sheet: &mut Sheet, at: usize, told: Told) -> usize
     requires room { at ≤ 40 }
     ensures end { result ≡ at + 32 }
