@@ -18,7 +18,6 @@ unfoldable pub use Rattle.fit_cells.specs.Cells.{hex_digits}
 pub use Rattle.fit_cells.specs.Rows.{Row, first_line, HasRows}
 unfoldable pub use Rattle.fit_cells.specs.Rows.{csv_text}
 pub use Rattle.fit_chain.specs.Events.{Event, file_events, item, file_end}
-pub use Rattle.fit_chain.specs.declared.event.Event.{Event as Answer}
 pub use Rattle.fit_profile.specs.Described.{Naming, namings_at}
 unfoldable pub use Rattle.fit_numbers.specs.FixedText.{last_digits}
 pub use Rattle.fit_profile.specs.Looks.{known}
@@ -34,7 +33,7 @@ pub use Rattle.fit_record.specs.declared.file.FitFile.{FitFile}
 pub use Rattle.fit_record.specs.declared.message.Record.{Record}
 pub use Rattle.fit_record.specs.declared.message.Record.TheVariants.{Values as Data}
 pub use Rattle.fit_record.specs.declared.message.Values.{Values}
-pub use Rattle.fit_report.specs.Heard.{text_of, latest_records, line_of}
+pub use Rattle.fit_report.specs.Heard.{text_of}
 pub use Rattle.fit_texts.specs.Words.{optional_number, order_word}
 pub use Rattle.fit_rows.specs.ChainRows.{row, chain_rows, data_rows, dev_def_row, dev_row, end_row, field_def_row, field_row, file_row, file_rows, record_rows}
 pub use Rattle.fit_rows.specs.ChainRows.{field_rows, data_row, dev_rows, event_rows, rows_of, message_rows, dev_count}
@@ -48,6 +47,4 @@ pub use Rattle.fit_rows.specs.inner.FrameKeys.{frame_keys, frame_slots, key_rows
 pub use Rattle.fit_frames.specs.Frames.{FrameText, two_cells, HasFields, TakesFields}
 pub use Rattle.fit_texts.specs.MessageKeys.{DevKey, MessageKey, dev_keys, message_key}
 pub use Rattle.fit_texts.specs.Sheets.{and_sheet}
-pub use Rattle.fit_texts.specs.Reporting.{AnswerFits, records_after_answer}
-pub use Rattle.fit_rows.specs.inner.AnswerRows.{answer_rows}
 pub use Rattle.fit_texts.specs.Current.{Renews}

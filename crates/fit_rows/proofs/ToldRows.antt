@@ -1,16 +1,9 @@
 -- The rows of what a decoder answers, told one after another.
-use Rattle.fit_rows.proofs.Common.{◌≡◌, ◌∙◌, [], ◌∷◌, ◌++◌, refl, ap, reverse-append, Answer, Event, latest_records, line_of, text_of, Global, csv_text}
-use Rattle.fit_rows.proofs.Common.{event_rows, events_rows, csv_line, answer_rows, text_append}
+use Rattle.fit_rows.proofs.Common.{◌≡◌, ◌∙◌, [], ◌∷◌, ◌++◌, refl, ap, reverse-append, Event, text_of, Global, csv_text}
+use Rattle.fit_rows.proofs.Common.{event_rows, events_rows, csv_line, text_append}
 use Rattle.std.proofs.Common.{List, reverse}
-use Rattle.fit_chain.specs.declared.event.Event.TheVariants as answers
 use Rattle.fit_texts.proofs.HeardEvents.{records_after, latest}
 use Rattle.fit_rows.proofs.RowsOfEvents.{rows-more}
-
--- the text of the rows of an answer is its line
-pub answer_text : (heard : List (Event Global)) (answer : Answer Global) → csv_text (answer_rows (latest_records heard) answer) ≡ line_of csv_line heard answer
-unfolding csv_text
-answer_text heard answers.More = refl
-answer_text heard answer = refl
 
 -- the text of events is that of their rows
 pub events_text : (heard : List (Event Global)) → csv_text (events_rows [] (reverse heard)) ≡ text_of csv_line heard

@@ -1,3 +1,2 @@
 -- Definitions that no public contract cites: what private functions and proofs need.
 pub mod FrameKeys
-pub mod AnswerRows

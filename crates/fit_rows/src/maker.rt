@@ -3,7 +3,7 @@ ghost use Rattle.std.specs.Prelude.{◌≡◌, IsTrue, OnOk, Some, slice_get};
 ghost use Rattle.fit_record.specs.Environment.{defined_at};
 ghost use Rattle.fit_record.specs.Sound.{IsSound};
 ghost use Rattle.fit_profile.specs.Looks.{known};
-ghost use Rattle.fit_texts.specs.Current.{AreCurrent, NoneAreCurrent};
+ghost use Rattle.fit_texts.specs.Current.{AreCurrent};
 ghost use Rattle.fit_texts.specs.MessageKeys.{message_key};
 
 use crate::definition::again::DefinitionRows;
@@ -11,40 +11,25 @@ use crate::template::Template;
 use fit_cells::RowWriter;
 use fit_profile::Stream;
 use fit_record::Defined;
-use fit_texts::{ByLocal, SHEET_SIZE, Sheet, Times, note};
+use fit_texts::{ByLocal, Sheet, Times, note};
 use std::alloc::{AllocError, Global};
 
 /// What rows are put with, one after another.
 #[derive(Drop)]
-pub(crate) struct RowMaker {
-    pub alloc: Global,
+pub struct RowMaker {
+    pub(crate) alloc: Global,
     /// What rows are written in first.
-    pub sheet: Sheet,
-    pub writer: RowWriter,
+    pub(crate) sheet: Sheet,
+    pub(crate) writer: RowWriter,
     /// The memory of a cell.
-    pub value: Vec<u8>,
-    pub times: Times,
-    pub definitions: DefinitionRows,
+    pub(crate) value: Vec<u8>,
+    pub(crate) times: Times,
+    pub(crate) definitions: DefinitionRows,
     /// That of the last message of each local message type.
-    pub templates: ByLocal<Template>,
+    pub(crate) templates: ByLocal<Template>,
 }
 
 impl RowMaker {
-    /// It has put no row.
-    pub(crate) fn new(alloc: Global) -> RowMaker
-        ensures { NoneAreCurrent result.templates }
-    {
-        RowMaker {
-            alloc,
-            sheet: [0; SHEET_SIZE],
-            writer: RowWriter::new(alloc),
-            value: Vec::new(alloc),
-            times: Times::new(alloc),
-            definitions: DefinitionRows::new(alloc),
-            templates: ByLocal::new(alloc),
-        }
-    }
-
     /// Whether the rows of the definition of this local message type after the records of a stream are kept.
     fn keeps(&self, stream: &Stream, local: u8, defined: &Defined) -> bool
         requires place { defined_at (known stream.now) local ≡ Some defined.now }

@@ -21,7 +21,7 @@ use crate::template::likely::likely_byte;
 use crate::whole::exact::exact_message;
 use fit_profile::Stream;
 use fit_record::{Record, Values};
-use fit_texts::after_beginning;
+use fit_texts::{TextMaker, after_beginning};
 use std::alloc::{AllocError, Global};
 use std::marker::Model;
 

@@ -1,5 +1,5 @@
 -- The names of std, of the crates below and of this crate's specs that several proofs use: each proof takes them from here.
-pub use Rattle.std.proofs.Common.{◌≡◌, ◌∙◌, ◌++◌, ◌+◌, length, take, drop, true, false, sym, ap, refl, [], ◌∷◌, arith, subst, zero, suc, ◌≤◌, ap₂, ◌^◌}
+pub use Rattle.std.proofs.Common.{◌≡◌, ◌∙◌, ◌++◌, ◌+◌, length, take, drop, true, false, sym, ap, refl, [], ◌∷◌, arith, subst, zero, suc, ◌≤◌, ap₂}
 pub use Rattle.std.proofs.Common.{append_assoc, eq-eqb, Bool, map, get_or, OnOk}
 pub use Rattle.std.proofs.lemmas.Bool.{ne_eqb}
 pub use Rattle.std.proofs.lemmas.List.{length-map, map-append, take_more, reverse-append, take_all}
@@ -8,7 +8,6 @@ pub use Rattle.std.specs.Global.{Global}
 pub use Rattle.std.specs.Prelude.{flat_map, option_and_then, zip, IsSomeAnd, ◌||◌}
 pub use Rattle.fit_base.specs.declared.items.Items.{Items}
 pub use Rattle.fit_chain.specs.Events.{Event, file_events, header, item, file_end}
-pub use Rattle.fit_chain.specs.declared.event.Event.{Event as Answer}
 pub use Rattle.fit_profile.specs.Described.{Naming, namings_at}
 pub use Rattle.fit_profile.specs.Looks.{known}
 pub use Rattle.fit_profile.specs.Names.{message_label, field}
@@ -23,8 +22,8 @@ pub use Rattle.fit_record.specs.declared.file.FitFile.{FitFile}
 pub use Rattle.fit_record.specs.declared.message.Record.{Record}
 pub use Rattle.fit_record.specs.declared.message.Record.TheVariants.{Values as Data}
 pub use Rattle.fit_record.specs.declared.message.Values.{Values}
-pub use Rattle.fit_report.specs.Heard.{Lines, text_of, latest_records, line_of}
-pub use Rattle.fit_texts.specs.KeptEvents.{files_heard, KeptEvents, kept_events}
+pub use Rattle.fit_report.specs.Heard.{Lines, text_of, latest_records}
+pub use Rattle.fit_texts.specs.KeptEvents.{files_heard}
 pub use Rattle.fit_texts.specs.InstantText.{instant_text}
 pub use Rattle.fit_show.specs.ShowLines.{header_line, record_line, show_line, show_lines, listed, message_line, separator, shown_part, shown_dev, shown_field}
 pub use Rattle.fit_show.specs.ShowLines.{joined, message_front, shown_devs, shown_fields, time_part, unit_part}
@@ -33,7 +32,6 @@ unfoldable pub use Rattle.fit_show.specs.ShowLines.{record_lines, show_files}
 pub use Rattle.fit_frames.specs.Frames.{HasFields, TakesFields}
 pub use Rattle.fit_texts.specs.MessageKeys.{DevKey, MessageKey, dev_keys, message_key}
 pub use Rattle.fit_texts.specs.Sheets.{and_sheet}
-pub use Rattle.fit_texts.specs.Reporting.{AnswerFits}
-pub use Rattle.fit_show.specs.inner.Showing.{text_with, ShownKey, first_head, key_text, keys_text, line_front, shown_key, shown_keys, PartKey, dev_field_part}
+pub use Rattle.fit_show.specs.inner.Showing.{ShownKey, first_head, key_text, keys_text, line_front, shown_key, shown_keys, PartKey, dev_field_part}
 pub use Rattle.fit_show.specs.inner.Showing.{field_part, line_head, line_keys, line_slots, line_text, own_end, own_parts, part_texts}
 pub use Rattle.fit_texts.specs.Current.{Renews}

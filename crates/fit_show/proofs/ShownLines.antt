@@ -1,9 +1,9 @@
 -- The lines of `show`, part by part.
 use Rattle.fit_show.proofs.Common.{◌≡◌, ◌+◌, [], ◌∷◌, ◌++◌, length, map, refl, sym, ap, ap₂, ◌∙◌, arith, append_assoc, subst, get_or, take, drop, zero, suc}
 use Rattle.fit_show.proofs.Common.{◌≤◌, eq-eqb, ne_eqb, length-map, map-append, take_more, Bool, true, false, ◌||◌, zip, Global, Items, FieldDef, DevDef}
-use Rattle.fit_show.proofs.Common.{Naming, Defined, Values, Record, Data, dev_layout, layout, Answer, Event, defined_at, dev_defs, known, namings_at, time}
-use Rattle.fit_show.proofs.Common.{latest_records, line_of, files_heard, instant_text, joined, listed, message_front, message_label, message_line, record_line}
-use Rattle.fit_show.proofs.Common.{separator, show_line, shown_cell, shown_dev, shown_devs, shown_field, shown_fields, shown_part, text_with, time_part}
+use Rattle.fit_show.proofs.Common.{Naming, Defined, Values, Record, Data, dev_layout, layout, defined_at, dev_defs, known, namings_at, time}
+use Rattle.fit_show.proofs.Common.{instant_text, joined, listed, message_front, message_label, message_line, record_line}
+use Rattle.fit_show.proofs.Common.{separator, shown_cell, shown_dev, shown_devs, shown_field, shown_fields, shown_part, time_part}
 use Rattle.fit_show.proofs.Common.{unit_part, DevKey, MessageKey, PartKey, ShownKey, dev_field_part, dev_keys, field_part, first_head, key_text, keys_text}
 use Rattle.fit_show.proofs.Common.{line_front, line_head, message_key, line_keys, line_slots, line_text, own_end, own_parts, part_texts, shown_key, shown_keys}
 use Rattle.fit_show.proofs.Common.{HasFields, TakesFields}
@@ -11,7 +11,6 @@ use Rattle.std.proofs.Common.{◌<◌, ℕ, List}
 use Rattle.std.proofs.Math.Seq.{drop-append_seam}
 use Rattle.std.specs.Prelude.{codes, decimal, option_map, unwrap_or, Option, Some, ◌==◌, if◌then◌else◌}
 use Rattle.std.proofs.lemmas.List.{append-nil, length-append, length-drop}
-use Rattle.fit_chain.specs.declared.event.Event.TheVariants as answers
 use Rattle.fit_frames.proofs.FieldWalks.{KnowsItems}
 use Rattle.fit_texts.proofs.NamingFacts.{namings_long}
 
@@ -22,14 +21,6 @@ listed-append n [] ys = ap (λ k. listed k ys) (omega arith)
 listed-append n (x ∷ xs) ys =
     ap (λ t. separator n ++ x ++ t) (listed-append (n + 1) xs ys) ∙ sym (append_assoc (separator n ++ x) (listed (n + 1) xs) (listed (n + 1 + length xs) ys))
     ∙ ap (λ k. separator n ++ x ++ listed (n + 1) xs ++ listed k ys) (omega arith)
-
--- ---- what is told
-
--- the text of an answer is its line
-pub answer_line : {A : Type 0} (heard : List (Event A)) (answer : Answer A)
-    → text_with (files_heard heard) (latest_records heard) answer ≡ line_of show_line heard answer
-answer_line heard answers.More = refl
-answer_line heard answer = refl
 
 -- ---- the parts of a message
 

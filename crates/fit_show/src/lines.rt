@@ -1,5 +1,5 @@
 //! The lines of headers, definition messages and data messages.
-ghost use Rattle.std.specs.Prelude.{◌≡◌, ◌<◌, ◌^◌, ◌++◌, ◌∷◌, [], List, OnOk, Some, codes, decimal, length};
+ghost use Rattle.std.specs.Prelude.{◌≡◌, ◌++◌, ◌∷◌, [], List, OnOk, Some, codes, decimal, length};
 ghost use Rattle.std.specs.Global.{Global};
 ghost use Rattle.fit_base.specs.declared.items.Items.{Items};
 ghost use Rattle.fit_record.specs.declared.message.Record.TheVariants.{Values as Data};
@@ -12,13 +12,10 @@ ghost use Rattle.fit_profile.specs.Times as times;
 ghost use Rattle.fit_show.specs.ShowLines.{definition_line, header_line, joined, record_line, versions_text};
 ghost use Rattle.fit_texts.specs.Words as words;
 ghost use Rattle.fit_texts.specs.Current.{AreCurrent};
-ghost use Rattle.fit_texts.specs.Reporting.{AnswerFits};
-ghost use Rattle.fit_show.specs.inner.Showing.{text_with};
 ghost use Rattle.fit_texts.specs.MessageKeys.{message_key};
 
 use crate::fields::put_words;
 use crate::template::LineMaker;
-use fit_decode::Event;
 use fit_frame::Header;
 use fit_frames::{FieldItems, ItemBytes, MadeItems};
 use fit_profile::{Stream, message_label};
@@ -63,7 +60,12 @@ fn put_data_size(text: &mut Vec<u8>, header: &Header, size: u32) -> Result<(), A
 }
 
 /// Puts the line of the header of a file, which is this one of the input and has that many bytes of data.
-fn put_header(text: &mut Vec<u8>, file: u64, header: &Header, size: u32) -> Result<(), AllocError>
+pub(crate) fn put_header(
+    text: &mut Vec<u8>,
+    file: u64,
+    header: &Header,
+    size: u32,
+) -> Result<(), AllocError>
     ensures { OnOk result (text.new.items ≡ text.old.items ++ header_line file header.now size) }
 {
     let mut files = Buffer::new();
@@ -132,7 +134,7 @@ fn put_values<S: FieldItems>(
 }
 
 /// Puts the line of a record after the records of a stream.
-fn put_record(
+pub(crate) fn put_record(
     text: &mut Vec<u8>,
     maker: &mut LineMaker,
     stream: &Stream,
@@ -192,26 +194,4 @@ pub(crate) fn put_message(
         time,
         &mut items,
     )
-}
-
-/// Puts the text of an event after the records of a stream, where that many files have begun before it.
-pub(crate) fn put_event(
-    text: &mut Vec<u8>,
-    maker: &mut LineMaker,
-    files: u64,
-    stream: &Stream,
-    event: &Event,
-) -> Result<(), AllocError>
-    requires fits { AnswerFits stream.now event.now }
-    requires few { files < 2 ^ 60 }
-    requires current { AreCurrent message_key maker.old.templates stream.now }
-    ensures text { OnOk result
-        (text.new.items ≡ text.old.items ++ text_with files stream.now event.now) }
-    ensures current { AreCurrent message_key maker.new.templates stream.now }
-{
-    match event {
-        Event::Header(header, size) => put_header(text, files + 1, header, *size),
-        Event::Item(record_) => put_record(text, maker, stream, record_),
-        Event::More | Event::FileEnd => Ok(()),
-    }
 }

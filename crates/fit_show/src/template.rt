@@ -4,7 +4,7 @@ ghost use Rattle.fit_record.specs.Environment.{defined_at};
 ghost use Rattle.fit_record.specs.Sound.{IsSound};
 ghost use Rattle.fit_profile.specs.Looks.{known};
 ghost use Rattle.fit_show.specs.ShowLines as lines;
-ghost use Rattle.fit_texts.specs.Current.{AreCurrent, NoneAreCurrent};
+ghost use Rattle.fit_texts.specs.Current.{AreCurrent};
 ghost use Rattle.fit_frames.specs.Frames.{HasFields, TakesFields};
 ghost use Rattle.fit_show.specs.inner.Showing.{keys_text, line_front, line_slots, line_text};
 ghost use Rattle.fit_texts.specs.MessageKeys.{message_key};
@@ -15,7 +15,7 @@ use crate::frames::{ShownField, push_devs, put_dev_head, put_head, shown_fields}
 use fit_frames::FieldItems;
 use fit_profile::{Stream, message_label};
 use fit_record::Defined;
-use fit_texts::{ByLocal, KeptMessage, SHEET_SIZE, Sheet, Stamp, Times, WIDE, note, put_sheet};
+use fit_texts::{ByLocal, KeptMessage, Sheet, Stamp, Times, WIDE, note, put_sheet};
 use itoa::Buffer;
 use std::alloc::{AllocError, Global};
 use std::marker::Model;
@@ -188,28 +188,16 @@ impl LineTemplate {
 
 /// What lines are put with, one after another.
 #[derive(Drop)]
-pub(crate) struct LineMaker {
-    pub alloc: Global,
+pub struct LineMaker {
+    pub(crate) alloc: Global,
     /// What lines are written in first.
-    pub sheet: Sheet,
+    pub(crate) sheet: Sheet,
     /// That of the last message of each local message type.
-    pub templates: ByLocal<LineTemplate>,
-    pub times: Times,
+    pub(crate) templates: ByLocal<LineTemplate>,
+    pub(crate) times: Times,
 }
 
 impl LineMaker {
-    /// It has put no line.
-    pub(crate) fn new(alloc: Global) -> LineMaker
-        ensures { NoneAreCurrent result.templates }
-    {
-        LineMaker {
-            alloc,
-            sheet: [0; SHEET_SIZE],
-            templates: ByLocal::new(alloc),
-            times: Times::new(alloc),
-        }
-    }
-
     /// Whether the line of the definition of this local message type after the records of a stream is kept.
     fn keeps(&self, stream: &Stream, local: u8, defined: &Defined) -> bool
         requires place { defined_at (known stream.now) local ≡ Some defined.now }

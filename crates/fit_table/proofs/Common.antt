@@ -22,7 +22,6 @@ pub use Rattle.fit_cells.specs.Forms.{IsFormOf}
 pub use Rattle.fit_cells.specs.Rows.{Row, RowsOfText, HasRows}
 unfoldable pub use Rattle.fit_cells.specs.Rows.{csv_text, NoneEmpty}
 pub use Rattle.fit_chain.specs.Events.{Event, file_events, item, file_end}
-pub use Rattle.fit_chain.specs.declared.event.Event.{Event as Answer}
 pub use Rattle.fit_numbers.specs.FixedText.{fixed_text}
 unfoldable pub use Rattle.fit_numbers.specs.FixedText.{last_digits}
 pub use Rattle.fit_profile.specs.Looks.{known, first_field}
@@ -40,8 +39,8 @@ pub use Rattle.fit_record.specs.declared.file.FitFile.{FitFile}
 pub use Rattle.fit_record.specs.declared.message.Record.{Record}
 pub use Rattle.fit_record.specs.declared.message.Record.TheVariants.{Define, Values as Data}
 pub use Rattle.fit_record.specs.declared.message.Values.{Values}
-pub use Rattle.fit_report.specs.Heard.{text_of, latest_records, line_of}
-pub use Rattle.fit_texts.specs.KeptEvents.{files_heard, next_records, next_files, KeptEvents, kept_events}
+pub use Rattle.fit_report.specs.Heard.{text_of}
+pub use Rattle.fit_texts.specs.KeptEvents.{files_heard, next_records, next_files}
 pub use Rattle.fit_table.specs.EventTexts.{table_text}
 pub use Rattle.fit_texts.specs.InstantText.{instant_text}
 unfoldable pub use Rattle.fit_texts.specs.InstantText.{date_after, date_in_year}
@@ -50,6 +49,5 @@ pub use Rattle.fit_table.specs.Table.{table_event_rows}
 unfoldable pub use Rattle.fit_table.specs.Table.{table_events_rows, table_files_rows, table_records_rows}
 pub use Rattle.fit_table.specs.declared.columns.Column.{Column}
 pub use Rattle.fit_texts.specs.Minutes.{seconds_text}
-pub use Rattle.fit_texts.specs.Reporting.{AnswerFits}
-pub use Rattle.fit_table.specs.inner.TableCells.{shown_text, table_answer_rows, rows_in, PutsCell, AddsCell, effort_cells, place_cells}
+pub use Rattle.fit_table.specs.inner.TableCells.{shown_text, rows_in, PutsCell, AddsCell, effort_cells, place_cells}
 pub use Rattle.fit_table.specs.inner.TableColumns.{column_fields, ArePlaces, AreInBytes, TellsAmounts, IsColumn, IsFirst, IsKnown, IsPlaced, items_at, slots}

@@ -1,10 +1,9 @@
 -- The rows of the table, told one after another.
-use Rattle.fit_table.proofs.Common.{◌≡◌, ◌∙◌, [], ◌∷◌, ◌++◌, refl, sym, ap, ap₂, append_assoc, Global, reverse-append, Record, Answer, Event, latest_records}
-use Rattle.fit_table.proofs.Common.{line_of, text_of, csv_text, next_files, files_heard, next_records, table_text, table_event_rows, table_events_rows}
-use Rattle.fit_table.proofs.Common.{table_answer_rows, text_append}
+use Rattle.fit_table.proofs.Common.{◌≡◌, ◌∙◌, [], ◌∷◌, ◌++◌, refl, sym, ap, ap₂, append_assoc, Global, reverse-append, Record, Event}
+use Rattle.fit_table.proofs.Common.{text_of, csv_text, next_files, files_heard, next_records, table_text, table_event_rows, table_events_rows}
+use Rattle.fit_table.proofs.Common.{text_append}
 use Rattle.std.proofs.Common.{ℕ, List, reverse}
 use Rattle.std.proofs.lemmas.List.{append-nil}
-use Rattle.fit_chain.specs.declared.event.Event.TheVariants as answers
 use Rattle.fit_texts.proofs.HeardEvents.{records_after, latest}
 
 -- how many files have begun after events one after another
@@ -42,10 +41,3 @@ table_events_text (x ∷ heard) =
     ∙ text_append (table_events_rows 0 [] (reverse heard)) (table_event_rows (files_after 0 (reverse heard)) (records_after [] (reverse heard)) x)
     ∙ ap (λ text. text ++ csv_text (table_event_rows (files_after 0 (reverse heard)) (records_after [] (reverse heard)) x)) (table_events_text heard)
     ∙ ap₂ (λ files before. text_of table_text heard ++ csv_text (table_event_rows files before x)) (begun heard) (latest heard)
-
--- the text of the rows of an answer is its line
-pub table_answer_text : (heard : List (Event Global)) (answer : Answer Global)
-    → csv_text (table_answer_rows (files_heard heard) (latest_records heard) answer) ≡ line_of table_text heard answer
-unfolding csv_text
-table_answer_text heard answers.More = refl
-table_answer_text heard answer = refl

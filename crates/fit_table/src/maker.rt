@@ -26,22 +26,11 @@ use std::alloc::{AllocError, Global};
 
 /// What the rows of the table are put with, one after another.
 #[derive(Drop)]
-pub(crate) struct TableMaker {
-    pub alloc: Global,
-    pub rows: TableRowMaker,
+pub struct TableMaker {
+    pub(crate) alloc: Global,
+    pub(crate) rows: TableRowMaker,
     /// Those of the last record message of each local message type.
-    pub columns: ByLocal<Columns>,
-}
-
-impl TableMaker {
-    /// It has put no row.
-    pub(crate) fn new(alloc: Global) -> TableMaker {
-        TableMaker {
-            alloc,
-            rows: TableRowMaker::new(alloc),
-            columns: ByLocal::new(alloc),
-        }
-    }
+    pub(crate) columns: ByLocal<Columns>,
 }
 
 /// Puts the row of a record message of a file.

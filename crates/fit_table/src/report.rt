@@ -1,5 +1,5 @@
 //! The rows of the table, told one after another.
-ghost use Rattle.std.specs.Prelude.{◌≡◌, ◌<◌, ◌^◌, ◌++◌, ◌∷◌, [], ℕ, List, IfOk, IfSome, OnOk, false, true};
+ghost use Rattle.std.specs.Prelude.{◌≡◌, ◌++◌, ◌∷◌, ℕ, List, IfOk, IfSome, OnOk, false, true};
 ghost use Rattle.std.specs.Global.{Global};
 ghost use Rattle.fit_record.specs.declared.message.Record.{Record};
 ghost use Rattle.fit_record.specs.declared.message.Record.TheVariants.{Values as Data};
@@ -8,25 +8,19 @@ ghost use Rattle.fit_record.specs.Records.{Fits, IsRecord};
 ghost use Rattle.fit_profile.specs.Looks.{known};
 ghost use Rattle.fit_profile.specs.Meant.{MessageOf, shown};
 ghost use Rattle.fit_cells.specs.Rows.{csv_text};
-ghost use Rattle.fit_texts.specs.KeptEvents.{kept_events};
 ghost use Rattle.fit_texts.specs.Current.{AreCurrent};
 ghost use Rattle.fit_table.specs.inner.TableColumns.{column_fields};
-ghost use Rattle.fit_texts.specs.Reporting.{AnswerFits, records_after_answer};
 ghost use Rattle.fit_table.specs.Table.{table_message_rows, table_record_rows};
-ghost use Rattle.fit_texts.specs.Reporting.{files_after_answer};
-ghost use Rattle.fit_table.specs.inner.TableCells.{rows_in, table_answer_rows};
+ghost use Rattle.fit_table.specs.inner.TableCells.{rows_in};
 
 use crate::maker::{TableMaker, put_message_row, put_table_row};
 use crate::rows::TableRowMaker;
-use fit_decode::{Decoder, Event};
-use fit_profile::laws::looking_back_is_learning;
+use fit_decode::Event;
 use fit_profile::message_number::RECORD;
 use fit_profile::{Message, Stream};
 use fit_record::Record;
-use fit_report::Report;
-use fit_report::laws::{heard_are_few, heard_records_fit};
+use fit_texts::{ByLocal, TextMaker, TextReport};
 use std::alloc::{AllocError, Global};
-use std::marker::Model;
 
 /// A message, where it is a record message.
 fn row_of(message: Option<Message>) -> Option<Message>
@@ -134,124 +128,54 @@ fn take_whole(
     take_record(text, &mut maker.rows, stream, file, &record_)
 }
 
-/// Takes in the data message that the bytes are, and puts the text of its row in the file of this number.
-fn take_message(
-    text: &mut Vec<u8>,
-    maker: &mut TableMaker,
-    stream: &mut Stream,
-    file: u64,
-    bytes: &[u8],
-) -> Result<(), AllocError>
-    requires record_ { (v : Values Global) × IsRecord (known stream.old) (Data v) bytes.now }
-    requires current { AreCurrent column_fields maker.old.columns stream.old }
-    ensures text { OnOk result ((v : Values Global)
-        → IsRecord (known stream.old) (Data v) bytes.now → text.new.items
-        ≡ text.old.items ++ csv_text (table_message_rows file stream.old v)) }
-    ensures stream { OnOk result ((v : Values Global)
-        → IsRecord (known stream.old) (Data v) bytes.now → stream.new ≡ Data v ∷ stream.old) }
-    ensures current { AreCurrent column_fields maker.new.columns stream.new }
-{
-    if put_message(text, maker, stream, file, bytes)? {
-        return stream.take_message(bytes);
-    }
-    take_whole(text, maker, stream, file, bytes)
-}
-
-/// Takes an event in, and puts the text of its row. A header begins a file.
-#[tactic(auto, using(fit_cells::proofs::AddedRows::text_none))]
-fn take_event(
-    text: &mut Vec<u8>,
-    rows: &mut TableRowMaker,
-    stream: &mut Stream,
-    files: &mut u64,
-    event: &Event,
-) -> Result<(), AllocError>
-    requires fits { AnswerFits stream.old event.now }
-    requires few { files.old < 2 ^ 60 }
-    ensures text { OnOk result (text.new.items
-        ≡ text.old.items ++ csv_text (table_answer_rows files.old stream.old event.now)) }
-    ensures stream { OnOk result (stream.new ≡ records_after_answer stream.old event.now) }
-    ensures files { OnOk result (files.new ≡ files_after_answer files.old event.now) }
-{
-    match event {
-        Event::Header(..) => {
-            stream.begin_file();
-            *files += 1;
-            Ok(())
-        }
-        Event::Item(record_) => take_record(text, rows, stream, *files, record_),
-        Event::More | Event::FileEnd => Ok(()),
-    }
-}
-
-/// Makes a row of each record message of a chain of files. Clauses see what it keeps of the events that it has heard: the records of
-/// the file that was begun last, the latest first, and how many files have begun.
-#[derive(Drop)]
-pub struct TableReport {
-    stream: Stream,
-    files: u64,
-    maker: TableMaker,
-}
-
-impl Model for TableReport {
-    ghost use Rattle.fit_texts.specs.KeptEvents.{KeptEvents};
-
-    ghost Value = { KeptEvents };
-
-    ghost view = { λ r. record { records = r.stream; files = r.files } };
-
-    ghost use Rattle.fit_texts.specs.Current.{AreCurrent};
-    ghost use Rattle.fit_table.specs.inner.TableColumns.{column_fields};
-
-    ghost invariant = { λ r. AreCurrent column_fields r.maker.columns r.stream };
-}
-
-impl TableReport {
-    /// It has heard nothing.
-    pub fn new(alloc: Global) -> Self
-        ensures { result ≡ kept_events [] }
-    {
-        TableReport {
-            stream: Stream::new(alloc),
-            files: 0,
-            maker: TableMaker::new(alloc),
-        }
-    }
-}
-
-impl Report for TableReport {
+impl TextMaker for TableMaker {
     ghost use Rattle.fit_table.specs.EventTexts.{table_text};
+    ghost use Rattle.fit_table.specs.inner.TableColumns.{column_fields};
+    ghost use Rattle.fit_texts.specs.Current.{AreCurrent};
 
-    ghost has_heard = { λ r heard. r ≡ kept_events heard };
+    ghost is_current = { λ m before. AreCurrent column_fields m.columns before };
 
     ghost line = { table_text };
 
-    fn tell(&mut self, event: &Event, text: &mut Vec<u8>) -> Result<(), AllocError> {
-        heard_records_fit::<Global>();
-        heard_are_few::<Global>();
-        looking_back_is_learning::<Global>();
-        self.maker.columns.forget();
-        take_event(
-            text,
-            &mut self.maker.rows,
-            &mut self.stream,
-            &mut self.files,
-            event,
-        )
+    fn new(alloc: Global) -> Self {
+        TableMaker {
+            alloc,
+            rows: TableRowMaker::new(alloc),
+            columns: ByLocal::new(alloc),
+        }
     }
 
-    fn skip(
+    fn forget(&mut self) {
+        self.columns.forget();
+    }
+
+    #[tactic(auto, using(fit_cells::proofs::AddedRows::text_none))]
+    fn take_event(
         &mut self,
-        decoder: &mut Decoder,
-        piece: &[u8],
         text: &mut Vec<u8>,
-    ) -> Result<usize, AllocError> {
-        let used = decoder.skip_message(piece);
-        if used == 0 {
-            return Ok(0);
+        stream: &mut Stream,
+        files: u64,
+        event: &Event,
+    ) -> Result<(), AllocError> {
+        match event {
+            Event::Item(record_) => take_record(text, &mut self.rows, stream, files, record_),
+            Event::Header(..) | Event::More | Event::FileEnd => Ok(()),
         }
-        let (message, _) = piece.split_at(used);
-        take_message(text, &mut self.maker, &mut self.stream, self.files, message)?;
-        Ok(used)
+    }
+
+    fn take_message(
+        &mut self,
+        text: &mut Vec<u8>,
+        stream: &mut Stream,
+        files: u64,
+        bytes: &[u8],
+    ) -> Result<(), AllocError> {
+        if put_message(text, self, stream, files, bytes)? {
+            return stream.take_message(bytes);
+        }
+        take_whole(text, self, stream, files, bytes)
     }
 }
+
+/// Makes a row of each record message of a chain of files.
+pub type TableReport = TextReport<TableMaker>;

@@ -1,8 +1,7 @@
 -- What is kept of the events that were heard: the records of the file that was begun last, and how many files have begun.
 use Rattle.fit_texts.proofs.Common.{◌≡◌, ◌∙◌, [], ◌∷◌, ◌++◌, refl, sym, ap, Record, Event, item, file_end, next_records, subst, reverse-append, reverse-reverse}
-use Rattle.fit_texts.proofs.Common.{Fits, Answer, header, LookingBackIsLearning, known, AreHeard, hear, latest_records, HeardRecordsFit, Global, AnswerFits}
-use Rattle.fit_texts.proofs.Common.{records_after_answer, empty_environment, Data, Values, ◌≤◌, ◌^◌, length, arith, HeardAreFew, files_heard, KeptEvents}
-use Rattle.fit_texts.proofs.Common.{files_after_answer, kept_events}
+use Rattle.fit_texts.proofs.Common.{Fits, Answer, header, LookingBackIsLearning, known, AreHeard, hear, latest_records, HeardRecordsFit, AnswerFits}
+use Rattle.fit_texts.proofs.Common.{empty_environment, Data, Values, ◌≤◌, ◌^◌, length, arith, HeardAreFew, files_heard}
 use Rattle.std.proofs.Common.{List, ℕ, reverse, ◌<◌}
 use Rattle.std.proofs.lemmas.List.Sums.{fold_push}
 use Rattle.fit_record.specs.Records.{IsRecord}
@@ -27,14 +26,6 @@ answer_fits fit back heard (answers.Item r) are =
     let before = latest_records heard in
     subst (λ e. Fits e r) (sym (back (reverse before)) ∙ ap known (reverse-reverse before)) (fit heard r are)
 answer_fits fit back heard answer are = tt
-
--- the latest records after an answer
-pub latest_next : {A : Type 0} (heard : List (Event A)) (answer : Answer A)
-    → records_after_answer (latest_records heard) answer ≡ latest_records (hear answer heard)
-latest_next heard answers.More = refl
-latest_next heard (answers.Header h n) = refl
-latest_next heard (answers.Item r) = refl
-latest_next heard answers.FileEnd = refl
 
 -- what is known after events is what their latest records define and describe
 pub known_latest : {A : Type 0} (heard : List (Event A)) → known_after (reverse heard) ≡ known (latest_records heard)
@@ -76,17 +67,3 @@ longer answer heard = omega arith
 
 pub few_files : {A : Type 0} → HeardAreFew A → (heard : List (Event A)) (answer : Answer A) → AreHeard (hear answer heard) → files_heard heard < 2 ^ 60
 few_files few heard answer are = omega (arith, few (hear answer heard) are, longer answer heard, files_within heard)
-
--- what is kept after an answer
-pub kept_next : (heard : List (Event Global)) (answer : Answer Global) (kept : KeptEvents) → kept ≡ kept_events heard
-    → record { records = records_after_answer kept.records answer; files = files_after_answer kept.files answer } ≡ kept_events (hear answer heard)
-kept_next heard answer kept is =
-    ap (λ (k : KeptEvents). record { records = records_after_answer k.records answer; files = files_after_answer k.files answer }) is ∙ beyond answer
-  where
-    beyond : (answer : Answer Global)
-        → record { records = records_after_answer (latest_records heard) answer; files = files_after_answer (files_heard heard) answer }
-        ≡ kept_events (hear answer heard)
-    beyond answers.More = refl
-    beyond (answers.Header h n) = refl
-    beyond (answers.Item r) = refl
-    beyond answers.FileEnd = refl

@@ -1,7 +1,6 @@
 pub mod Common
 pub mod AddedCells
 pub mod BeginFacts
-pub mod BothFacts
 pub mod CellFacts
 pub mod CurrentFacts
 mod CutFacts

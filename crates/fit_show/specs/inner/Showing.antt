@@ -2,21 +2,12 @@
 use Rattle.std.specs.Prelude.{ℕ, ◌+◌, ◌==◌, if◌then◌else◌, List, [], ◌∷◌, ◌++◌, drop, length, map, zip, codes, decimal, Option, None}
 use Rattle.fit_base.specs.declared.items.Items.{Items}
 use Rattle.fit_record.specs.declared.definition.FieldDef.{FieldDef}
-use Rattle.fit_record.specs.declared.message.Record.{Record}
-use Rattle.fit_chain.specs.declared.event.Event.{Event as Answer}
-use Rattle.fit_chain.specs.declared.event.Event.TheVariants as answers
 use Rattle.fit_profile.specs.Profile.{Meaning}
 use Rattle.fit_profile.specs.Names.{field, field_label, message_label}
 use Rattle.fit_texts.specs.Words.{unit_text}
-use Rattle.fit_show.specs.ShowLines.{header_line, joined, listed, message_front, record_line, separator, shown_part}
+use Rattle.fit_show.specs.ShowLines.{joined, listed, message_front, separator, shown_part}
 use Rattle.fit_frames.specs.Shown.{shown_cell}
 use Rattle.fit_texts.specs.MessageKeys.{DevKey, MessageKey, TemplateKey}
-
--- the text of what a decoder answers, by how many files have begun before it and the records before it in its file
-abbrev pub text_with : {A : Type 0} → ℕ → List (Record A) → Answer A → List ℕ
-text_with files before (answers.Header h n) = header_line (files + 1) h n
-text_with files before (answers.Item r) = record_line before r
-text_with files before answer = []
 
 -- ---- what stands around the values in the line of a message
 

@@ -1,21 +1,18 @@
 -- How the cells of the table are put together. No public contract names these.
 use Rattle.std.specs.Prelude.{◌≡◌, ℕ, Bool, List, [], ◌∷◌, ◌++◌, Vec, is_some, map, option_map, true, unwrap_or, Option, None, Some, pos}
 use Rattle.std.specs.Global.{Global}
-use Rattle.std.specs.Option.{option_map_or}
 use Rattle.csv.specs.Writing.{default_writer, fields_text}
 use Rattle.fit_record.specs.Faults.{or_else}
 use Rattle.fit_record.specs.declared.definition.MessageDef.{MessageDef}
 use Rattle.fit_record.specs.declared.message.Record.{Record}
 use Rattle.fit_record.specs.declared.message.Values.{Values}
 use Rattle.fit_profile.specs.declared.told.Told.{Told}
-use Rattle.fit_chain.specs.declared.event.Event.{Event as Answer}
-use Rattle.fit_decode.specs.Answers.{event_of}
 use Rattle.fit_numbers.specs.declared.decimal.Fixed.{Fixed}
 use Rattle.fit_profile.specs.declared.message.Message.{Message}
 use Rattle.fit_numbers.specs.FixedText.{fixed_text}
 use Rattle.fit_profile.specs.Meant.{shown}
 use Rattle.fit_cells.specs.Rows.{Cell, HasRows, Row}
-use Rattle.fit_table.specs.Table.{amount_text, degrees_text, table_event_rows, table_message_rows, table_row, value_text}
+use Rattle.fit_table.specs.Table.{amount_text, degrees_text, table_message_rows, table_row, value_text}
 
 -- the text of a number, where there is one
 abbrev pub shown_text : Option Fixed → Option Cell
@@ -60,7 +57,3 @@ MayPutRow file before v put old new = put ≡ true → HasRows (table_message_ro
 abbrev pub rows_in : {A : Type 0} → ℕ → Option (Message A) → List Row
 rows_in file None = []
 rows_in file (Some m) = table_row file (shown m).definition (shown m).values (shown m).told ∷ []
-
--- the rows of what a decoder answers, in the file of this number
-abbrev pub table_answer_rows : {A : Type 0} → ℕ → List (Record A) → Answer A → List Row
-table_answer_rows files before answer = option_map_or (table_event_rows files before) (event_of answer) []
