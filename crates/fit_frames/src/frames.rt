@@ -182,6 +182,25 @@ impl Frame {
         self.add_made(text, sheet, at, writer, value, items)
     }
 
+    /// Puts a value that isn't written in a sheet after a text, by the bytes of its field.
+    #[inline(never)]
+    fn put_rest(
+        &self,
+        text: &mut Vec<u8>,
+        writer: &mut RowWriter,
+        value: &mut Vec<u8>,
+        alloc: Global,
+        order: Order,
+        bytes: &[u8],
+    ) -> Result<(), AllocError>
+        requires { length bytes.now ≡ self.now.size }
+        ensures { OnOk result (text.new.items ≡ text.old.items
+            ++ field_in_row self.now order bytes.now) }
+    {
+        let items = read_items(alloc, order, self.form.code.0, self.form.size, bytes)?;
+        self.put_other(text, writer, value, &items)
+    }
+
     /// Adds a value that is no lone number of at most four bytes, by the bytes of its field.
     #[inline(never)]
     fn add_read(
@@ -210,8 +229,7 @@ impl Frame {
             }
         }
         put_sheet(text, sheet, at)?;
-        let items = read_items(alloc, order, self.form.code.0, self.form.size, bytes)?;
-        self.put_other(text, writer, value, &items)?;
+        self.put_rest(text, writer, value, alloc, order, bytes)?;
         Ok(0)
     }
 

@@ -124,6 +124,23 @@ impl ShownCell {
         if is_shown(text) { Some(text) } else { None }
     }
 
+    /// Puts the cell of what isn't written in a sheet, by the bytes of the field.
+    #[inline(never)]
+    fn put_read(
+        &self,
+        text: &mut Vec<u8>,
+        alloc: Global,
+        order: Order,
+        bytes: &[u8],
+    ) -> Result<(), AllocError>
+        requires { length bytes.now ≡ self.now.size }
+        ensures { OnOk result (text.new.items ≡ text.old.items
+            ++ field_in_line self.now order bytes.now) }
+    {
+        let items = read_items(alloc, order, self.form.code.0, self.form.size, bytes)?;
+        self.put_other(text, &items)
+    }
+
     /// Puts the cell of what is no lone number of at most four bytes, by the bytes of the field.
     #[inline(never)]
     fn add_read(
@@ -148,8 +165,7 @@ impl ShownCell {
             return add_text(text, sheet, at, shown);
         }
         put_sheet(text, sheet, at)?;
-        let items = read_items(alloc, order, self.form.code.0, self.form.size, bytes)?;
-        self.put_other(text, &items)?;
+        self.put_read(text, alloc, order, bytes)?;
         Ok(0)
     }
 

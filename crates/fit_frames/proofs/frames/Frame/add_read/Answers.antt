@@ -1,9 +1,7 @@
-use Rattle.fit_frames.proofs.Common.{◌∙◌, ◌++◌, refl, sym, ap, subst, and_sheet, field_text, default_writer, FrameText, Global, HasShape}
+use Rattle.fit_frames.proofs.Common.{◌∙◌, ◌++◌, refl, sym, ap, subst, and_sheet, field_text, default_writer, FrameText, Global}
 use Rattle.std.proofs.lemmas.Result.{IfOk-weaker}
-use Rattle.fit_base.proofs.ByteLists.{slice_is_bytes}
 use Rattle.fit_frames.proofs.TextCells.{text_cell}
 use Rattle.fit_frames.specs.inner.FieldForms.{IsFieldKind, field_meaning}
-use Rattle.fit_texts.proofs.ItemFacts.{field_shape}
 use Rattle.fit_frames.proofs.frames.Frame.add_read.Goals as goal
 
 pub returns-in-Some-clause-text : goal.returns-in-Some-clause-text
@@ -19,11 +17,3 @@ returns-in-Some-shown_text-clause-text c =
     rw (sym c.self.view_is)
     (IfOk-weaker c.add_shown.result _ _ (λ e put.
     put ∙ (λ i. and_sheet (same.0 i).items (same.1 i) c.args.at ++ field_text default_writer (is i))) c.add_shown.ensures.text)
-
-pub put_other-requires : goal.put_other-requires
-put_other-requires c =
-    let f = c.self.inside.form in
-    let long = c.requires.length ∙ ap (λ (k : FrameText). k.size) (sym c.self.view_is) in
-    rw (sym c.self.view_is)
-    (subst (HasShape f.code.0 f.size) (sym c.in_ok-items.ensures)
-    (field_shape Global c.args.order f.code.0 f.size c.args.bytes.now (slice_is_bytes c.args.bytes.now c.type_inv.bytes) long))
