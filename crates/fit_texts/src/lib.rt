@@ -1,4 +1,4 @@
-//! Short texts of which rows, tables and lines are made, and what is kept of the records before them.
+//! Short texts of which rows, tables and lines are made, what is kept of the records before them, and the reporter that puts them.
 #![tactic(auto)]
 
 pub mod cells;

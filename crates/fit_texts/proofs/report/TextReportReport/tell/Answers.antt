@@ -15,5 +15,8 @@ take_event-told-requires-clause-few g c =
 
 pub overflow_add-self : goal.overflow_add-self
 overflow_add-self g c =
-    omega (arith, ap (λ (k : KeptEvents). k.files) (c.self.view_is ∙ c.requires.1),
-    few_files c.heard_are_few.ensures c.requires.0 c.args.event.now c.requires.2)
+    omega (
+      arith,
+      ap (λ (k : KeptEvents). k.files) (c.self.view_is ∙ c.requires.1),
+      few_files c.heard_are_few.ensures c.requires.0 c.args.event.now c.requires.2,
+    )
