@@ -163,6 +163,7 @@ impl TextMaker for TableMaker {
         }
     }
 
+    #[inline(always)]
     fn take_message(
         &mut self,
         text: &mut Vec<u8>,
