@@ -1,5 +1,5 @@
-//! Tests over `fit_profile`, `fit_cells`, `fit_rows`, `fit_csv` and `fit_examples`. They stand apart so that the proofs of those crates
-//! stay short.
+//! Tests over `fit_profile`, `fit_cells`, `fit_rows`, `fit_csv`, `fit_stream` and `fit_examples`. They stand apart so that the proofs of
+//! those crates stay short.
 #![tactic(auto)]
 
 #[cfg(test)]
@@ -18,6 +18,8 @@ mod cut;
 mod examples;
 #[cfg(test)]
 mod fields;
+#[cfg(test)]
+mod flows;
 #[cfg(test)]
 mod from_text;
 #[cfg(test)]

@@ -64,8 +64,18 @@ fn messages_that_count(rt: HostRuntime) {
     push_distance(&rt, alloc, &mut stream, &[0x64, 0, 0], Some(2_560_000));
 }
 
+/// Takes in the data message that the bytes are, given what is told of it.
+fn take_told(rt: &impl Abort, stream: &mut Stream, bytes: &[u8]) {
+    if is_message(stream.env(), bytes) {
+        let told = stream.message_told(bytes);
+        stream.take_told(bytes, told).expect(rt, "memory");
+        return;
+    }
+    assert!(rt; false);
+}
+
 /// Asserts the speed, in hundredths, and the accumulated distance, in units of four decimals, of the data message that the bytes are, and
-/// takes it in.
+/// takes it in, given what is told of it.
 fn take_amounts(
     rt: &impl Abort,
     stream: &mut Stream,
@@ -85,10 +95,8 @@ fn take_amounts(
             &found.1,
             &distance.map(|value| Fixed { value, decimals: 4 }),
         );
-        stream.take_message(bytes).expect(rt, "memory");
-        return;
     }
-    assert!(rt; false);
+    take_told(rt, stream, bytes);
 }
 
 /// The lowest twelve bits are hundredths of a metre in a second, the others sixteenths of a metre.
@@ -132,6 +140,16 @@ fn a_description(rt: HostRuntime) {
     let mut stream = Stream::new(alloc);
     push_descriptions(&rt, alloc, &mut stream);
     take(&rt, &mut stream, &[0x00, 0, 5, 132, 0x6D, 0x6F, 0], None);
+    push_dev_definition(&rt, alloc, &mut stream);
+    equal(&rt, &stream.dev_name(1, 0), &Some("mo"));
+}
+
+#[test]
+fn a_told_description(rt: HostRuntime) {
+    let alloc = rt.alloc();
+    let mut stream = Stream::new(alloc);
+    push_descriptions(&rt, alloc, &mut stream);
+    take_told(&rt, &mut stream, &[0x00, 0, 5, 132, 0x6D, 0x6F, 0]);
     push_dev_definition(&rt, alloc, &mut stream);
     equal(&rt, &stream.dev_name(1, 0), &Some("mo"));
 }
