@@ -30,6 +30,7 @@ pub(crate) enum FieldKind {
 }
 
 /// The kind of the value of a field of this base type code, size and meaning.
+#[inline(always)]
 fn field_kind(code: Code, size: u8, info: Option<Info>) -> FieldKind
     requires { IfSome info (λ i. IsScale i.scale) }
     ensures { IsFieldKind code.0 size (option_map meaning info) result }
@@ -55,6 +56,7 @@ pub(crate) struct FieldForm {
 
 impl FieldForm {
     /// That of a field of this base type code, size and meaning.
+    #[inline(always)]
     pub(crate) fn new(code: u8, size: u8, info: Option<Info>) -> FieldForm
         requires { IfSome info (λ i. IsScale i.scale) }
         ensures known { IsFieldForm result }
