@@ -43,9 +43,3 @@ alone_put at old new room within is =
     ∙ take-append-add front (drop 4 old) n
     ∙ ap (λ (b : List ℕ). front ++ b) (sym (drop-take 4 n old) ∙ ap (λ k. drop 4 (take k old)) long)
     ∙ ap (λ k. low 4 k ++ rest) (sym long)
-
--- four parts are written after room for a length
-pub four_written : (room a b c d w x y z : List ℕ) → w ≡ room ++ a → x ≡ w ++ b → y ≡ x ++ c → z ≡ y ++ d → z ≡ room ++ (((a ++ b) ++ c) ++ d)
-four_written room a b c d w x y z first second third fourth =
-    fourth ∙ ap (λ l. l ++ d) (third ∙ ap (λ l. l ++ c) (second ∙ ap (λ l. l ++ b) first))
-    ∙ ap (λ l. (l ++ c) ++ d) (append_assoc room a b) ∙ ap (λ l. l ++ d) (append_assoc room (a ++ b) c) ∙ append_assoc room ((a ++ b) ++ c) d

@@ -4,7 +4,7 @@ use Rattle.std.specs.Global.{Global}
 use Rattle.fit_record.specs.ReadMessages.{fields_from}
 use Rattle.fit_record.specs.Records.{sizes}
 use Rattle.fit_messages.specs.Blocks.{slot}
-use Rattle.fit_messages.proofs.items.write_lone.Given as goal
+use Rattle.fit_messages.proofs.items.write_lone_in.Given as goal
 
 abbrev pub invariant-loop-place : goal.invariant-loop-place
 invariant-loop-place l = record {

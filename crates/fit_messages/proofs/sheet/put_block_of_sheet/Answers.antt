@@ -1,7 +1,7 @@
 use Rattle.std.proofs.Common.{◌∙◌, ◌++◌, ap, arith}
 use Rattle.std.proofs.lemmas.Result.{on_ok_weaker}
 use Rattle.fit_messages.proofs.SheetFacts.{alone_put}
-use Rattle.fit_messages.proofs.sheet.put_alone.Goals as goal
+use Rattle.fit_messages.proofs.sheet.put_block_of_sheet.Goals as goal
 
 pub returns : goal.returns
 returns c = on_ok_weaker c.put_sheet.result (λ put.
