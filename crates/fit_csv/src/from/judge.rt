@@ -17,7 +17,7 @@ use crate::from::chain::Chain;
 use crate::from::guess::take_record;
 use crate::from::misfit::Misfit;
 use csv::ByteRecord;
-use fit_csv_text::{RowReader, Window, is_loose, without_mark};
+use fit_csv_text::{RowReader, Window, without_mark};
 use fit_encode::SpelledFiles;
 use fit_numbers::laws::text_has_one_number;
 use fit_rows::MessageReader;
@@ -274,10 +274,10 @@ impl RowJudge {
         ensures more { IfOk result (λ found. IfSome found (λ rest. self.old.rows < self.new.rows)) }
         ensures err { IfErr result (IsTextFault whole.now) }
     {
-        if !is_loose(left) {
-            return self.take_first(whole, left);
-        }
-        match window.fill(left) {
+        let Ok(found) = window.fill(left) else {
+            return Err(CsvFault::NoMemory);
+        };
+        match found {
             Some(after) => self.take_window(whole, window.bytes.as_slice(), after),
             None => self.take_first(whole, left),
         }
