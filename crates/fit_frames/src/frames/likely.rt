@@ -102,11 +102,11 @@ impl Frame {
         text: &'a [u8],
     ) -> Option<(Items, &'a [u8])> {
         let size = self.form.size;
-        let found = match &self.form.kind {
-            FieldKind::Several(form) => likely_numbers(alloc, form, size, text),
-            FieldKind::Float => likely_float(alloc, size, text),
-            FieldKind::Bytes => likely_bytes(alloc, size, text),
-            FieldKind::Lone(_) | FieldKind::Text | FieldKind::Other => None,
+        let found = match (self.form.several(), self.form.kind) {
+            (Some(form), _) => likely_numbers(alloc, &form, size, text),
+            (_, FieldKind::Float) => likely_float(alloc, size, text),
+            (_, FieldKind::Bytes) => likely_bytes(alloc, size, text),
+            _ => None,
         };
         if found.is_some() {
             return found;
@@ -126,8 +126,8 @@ impl Frame {
         text: &'a [u8],
     ) -> Option<(Items, &'a [u8])> {
         let text = text.get(self.between.len()..)?;
-        if let FieldKind::Lone(form) = &self.form.kind {
-            let (bits, length) = likely_number(form, text)?;
+        if let Some(form) = self.form.lone() {
+            let (bits, length) = likely_number(&form, text)?;
             return Some((Items::one(alloc, form.width, bits), text.get(length..)?));
         }
         self.likely_rest(alloc, written, cell, text)

@@ -32,8 +32,10 @@ impl Frame {
             ++ field_text default_writer (cell self.now.code self.now.info items.now)) }
     {
         let bits = items.bits.as_slice();
+        if let Some(form) = self.form.several() {
+            return add_made_numbers(text, sheet, at, form, bits);
+        }
         match (self.form.kind, bits) {
-            (FieldKind::Several(form), _) => return add_made_numbers(text, sheet, at, form, bits),
             (FieldKind::Float, [number]) => {
                 return add_made_float(text, sheet, at, self.form.size, *number);
             }
