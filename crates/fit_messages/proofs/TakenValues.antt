@@ -1,8 +1,8 @@
 -- A data message that the reporter takes in by its bytes.
-use Rattle.std.proofs.Common.{◌≡◌, ◌∙◌, ◌+◌, ◌≤◌, ◌∷◌, ℕ, List, length, take, ap₂, arith, refl, sym}
+use Rattle.std.proofs.Common.{◌≡◌, ◌∙◌, ◌+◌, ◌≤◌, ◌∷◌, ℕ, List, length, take, ap₂, arith}
 use Rattle.std.proofs.lemmas.List.{length-take-le}
 use Rattle.std.specs.Global.{Global}
-use Rattle.std.specs.Prelude.{Option, Some}
+use Rattle.std.specs.Prelude.{Some}
 use Rattle.fit_base.proofs.ByteLists.{IsBytes-take}
 use Rattle.fit_base.specs.Numbers.{IsBytes}
 use Rattle.fit_record.specs.Environment.{defined_at}

@@ -10,7 +10,7 @@ ghost use Rattle.fit_record.specs.declared.environment.Defined.{Defined};
 ghost use Rattle.fit_messages.specs.Blocks as blocks;
 ghost use Rattle.fit_messages.specs.Blocks.{slot};
 ghost use Rattle.fit_messages.specs.inner.Heads.{TellsTimesAlone, head_bytes, opening_bytes};
-ghost use Rattle.fit_messages.specs.inner.Sheets.{AreLone, IsQuick, slots_from, with_sheet};
+ghost use Rattle.fit_messages.specs.inner.Sheets.{IsQuick, slots_from, with_sheet};
 
 use crate::bytes::{Front, Place, put_block_of_bytes};
 use crate::items::{add_all_read, put_all_made, write_lone};

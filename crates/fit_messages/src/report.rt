@@ -1,5 +1,5 @@
 //! The reporter of blocks.
-ghost use Rattle.std.specs.Prelude.{◌≡◌, ◌≤◌, ◌+◌, ◌%◌, ◌^◌, ◌<◌, ◌++◌, ◌∷◌, [], IfOk, OnErr, OnOk, Some, length, take, true};
+ghost use Rattle.std.specs.Prelude.{◌≡◌, ◌≤◌, ◌+◌, ◌^◌, ◌<◌, ◌++◌, [], OnOk, Some, length, take, true};
 ghost use Rattle.std.specs.Global.{Global};
 ghost use Rattle.fit_profile.specs.Described.{namings_at};
 ghost use Rattle.fit_profile.specs.Looks.{known};

@@ -6,6 +6,7 @@ ghost use Rattle.fit_messages.specs.inner.Sheets.{with_sheet};
 
 use crate::bytes::{Front, eight_bytes, put_block_of_bytes};
 use std::alloc::AllocError;
+use std::simd::Simd;
 
 /// How many bytes a sheet has.
 pub(crate) const SHEET: usize = 512;
@@ -13,16 +14,15 @@ pub(crate) const SHEET: usize = 512;
 /// Those before a place are written.
 pub(crate) type Sheet = [u8; SHEET];
 
-/// Writes eight bytes.
+/// Writes eight bytes, which are one load and one store.
 #[inline(always)]
 fn write_eight(sheet: &mut Sheet, at: usize, eight: &[u8; 8]) -> usize
     requires room { at + 8 ≤ 512 }
     ensures end { result ≡ at + 8 }
     ensures text { take result sheet.new ≡ take at sheet.old ++ eight.now }
 {
-    let end = at + 8;
-    sheet[at..end].copy_from_slice(eight);
-    end
+    Simd::<u8, 8>::from_slice(eight.as_slice()).copy_to_slice(&mut sheet[at..]);
+    at + 8
 }
 
 /// Writes the length of a block at the start.

@@ -1,4 +1,4 @@
-use Rattle.std.proofs.Common.{◌≡◌, ◌∙◌, ◌++◌, ◌≤◌, All, ap, subst, sym, length, take, drop, arith}
+use Rattle.std.proofs.Common.{◌∙◌, ◌++◌, ◌≤◌, All, ap, subst, sym, length, take, drop, arith}
 use Rattle.std.proofs.lemmas.List.{length-take-le}
 use Rattle.std.proofs.lemmas.Result.{on_ok_weaker}
 use Rattle.std.specs.Global.{Global}
