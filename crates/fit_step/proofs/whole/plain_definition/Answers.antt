@@ -4,6 +4,9 @@ use Rattle.fit_step.proofs.whole.plain_definition.Goals as goal
 pub returns-clause-idle : goal.returns-clause-idle
 returns-clause-idle g c = c.in-None.is
 
+pub returns-clause-left : goal.returns-clause-left
+returns-clause-left g c = omega (arith, c.if-size-room.false)
+
 pub returns-in_default-clause-whole : goal.returns-in_default-clause-whole
 returns-in_default-clause-whole g c = λ idle f entries begins large. absurd (c.in_default.ensures.found f entries begins)
 
