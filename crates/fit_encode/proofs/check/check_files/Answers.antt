@@ -29,6 +29,6 @@ returns-clause-ok g c = record {
 
 pub returns-then-is_empty-clause-err : goal.returns-then-is_empty-clause-err
 returns-then-is_empty-clause-err g c = inr (λ allowed. elim c.then-is_empty.branch [
-    | then-is_empty-via-then-is_empty w ↦ omega (arith, eqb-true (length c.args.files.now) 0 (sym c.is_empty.ensures ∙ w.if-is_empty.true), allowed.0)
-    | then-is_empty-via-else-is_empty+then-files w ↦ omega (arith, w.if-files.true, allowed.1)
-  ])
+  | then-is_empty-via-then-is_empty w ↦ omega (arith, eqb-true (length c.args.files.now) 0 (sym c.is_empty.ensures ∙ w.if-is_empty.true), allowed.0)
+  | then-is_empty-via-else-is_empty+then-files w ↦ omega (arith, w.if-files.true, allowed.1)
+])

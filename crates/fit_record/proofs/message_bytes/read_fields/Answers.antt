@@ -28,6 +28,7 @@ loop-place-preserved g c =
 pub returns : goal.returns
 returns g c =
     let rest = c.loop-place.rest.now in
-    let end = drop_all c.loop-place.place c.args.layout.now (omega (arith, c.loop-place-test.false)) in
-    (sym (append-nil c.loop-place.items) ∙ ap (λ l. c.loop-place.items ++ fields_from c.args.order l rest) (sym end) ∙ c.loop-place.invariant.told,
-    ap (λ l. drop (sizes l) rest) (sym end) ∙ c.loop-place.invariant.after)
+    let end = drop_all c.loop-place.place c.args.layout.now (omega (arith, c.loop-place-test.false)) in (
+      sym (append-nil c.loop-place.items) ∙ ap (λ l. c.loop-place.items ++ fields_from c.args.order l rest) (sym end) ∙ c.loop-place.invariant.told,
+      ap (λ l. drop (sizes l) rest) (sym end) ∙ c.loop-place.invariant.after,
+    )
