@@ -1,4 +1,5 @@
-use Rattle.fit_encode.proofs.Common.{◌≡◌, ℕ, ◌<◌, ◌≤◌, List, [], ◌∷◌, ◌++◌, length, take, get_or, sym, ap, ◌∙◌, subst, append-nil, arith, flat_map, AllByRecursion}
+use Rattle.fit_encode.proofs.Common.{◌≡◌, ℕ, ◌<◌, ◌≤◌, List, [], ◌∷◌, ◌++◌, length}
+use Rattle.fit_encode.proofs.Common.{take, get_or, sym, ap, ◌∙◌, subst, append-nil, arith, flat_map, AllByRecursion}
 use Rattle.fit_encode.proofs.Common.{Order, number_bytes, length-number_bytes}
 use Rattle.std.proofs.Common.{◌+◌, ◌^◌}
 use Rattle.fit_encode.proofs.place.place_items.Goals as goal

@@ -21,9 +21,12 @@ loop-items-preserved g c =
 
 pub returns-clause-end : goal.returns-clause-end
 returns-clause-end g c =
-    c.loop-items.invariant.end ∙ ap (λ l. c.args.at + length (flat_map (items_bytes {A = g.row.A.Denot} c.args.order) l)) (take_all c.loop-items.items-index c.args.lists.now (omega arith))
+    c.loop-items.invariant.end
+    ∙ ap (λ l. c.args.at + length (flat_map (items_bytes {A = g.row.A.Denot} c.args.order) l))
+    (take_all c.loop-items.items-index c.args.lists.now (omega arith))
 
 pub returns-clause-text : goal.returns-clause-text
 returns-clause-text g c =
     c.loop-items.invariant.text
-    ∙ ap (λ l. take c.args.at c.args.bytes.now ++ flat_map (items_bytes {A = g.row.A.Denot} c.args.order) l) (take_all c.loop-items.items-index c.args.lists.now (omega arith))
+    ∙ ap (λ l. take c.args.at c.args.bytes.now ++ flat_map (items_bytes {A = g.row.A.Denot} c.args.order) l)
+    (take_all c.loop-items.items-index c.args.lists.now (omega arith))

@@ -23,9 +23,12 @@ loop-bits-preserved c =
 
 pub returns-clause-end : goal.returns-clause-end
 returns-clause-end c =
-    c.loop-bits.invariant.end ∙ ap (λ l. c.args.at + length (flat_map (number_bytes c.args.order c.args.width) l)) (take_all c.loop-bits.bits-index c.args.numbers.now (omega arith))
+    c.loop-bits.invariant.end
+    ∙ ap (λ l. c.args.at + length (flat_map (number_bytes c.args.order c.args.width) l))
+    (take_all c.loop-bits.bits-index c.args.numbers.now (omega arith))
 
 pub returns-clause-text : goal.returns-clause-text
 returns-clause-text c =
     c.loop-bits.invariant.text
-    ∙ ap (λ l. take c.args.at c.args.bytes.now ++ flat_map (number_bytes c.args.order c.args.width) l) (take_all c.loop-bits.bits-index c.args.numbers.now (omega arith))
+    ∙ ap (λ l. take c.args.at c.args.bytes.now ++ flat_map (number_bytes c.args.order c.args.width) l)
+    (take_all c.loop-bits.bits-index c.args.numbers.now (omega arith))

@@ -1,5 +1,6 @@
 use Rattle.fit_record.proofs.FirstOfNumber.{dropped}
-use Rattle.fit_record.proofs.Common.{◌+◌, ◌++◌, ◌∷◌, [], length, take, sym, ap, ◌∙◌, arith, append-nil, drop_all, length-drop, drop-drop, field_from, fields_from, sizes, drop}
+use Rattle.fit_record.proofs.Common.{◌+◌, ◌++◌, ◌∷◌, [], length, take, sym, ap, ◌∙◌}
+use Rattle.fit_record.proofs.Common.{arith, append-nil, drop_all, length-drop, drop-drop, field_from, fields_from, sizes, drop}
 use Rattle.fit_record.proofs.Gathering.{layout_more, sizes_more}
 use Rattle.fit_record.proofs.message_bytes.read_fields.Goals as goal
 

@@ -17,7 +17,8 @@ returns g c =
     rw (fits, without, three) c.can_fill_from.ensures
 
 pub returns-then-room-to_come : goal.returns-then-room-to_come
-returns-then-room-to_come g c = let short : nat_le (c.args.to_come + 1) c.args.room ≡ false = lt-leb _ _ (omega (arith, c.if-room-to_come.true)) in rw short refl
+returns-then-room-to_come g c =
+    let short : nat_le (c.args.to_come + 1) c.args.room ≡ false = lt-leb _ _ (omega (arith, c.if-room-to_come.true)) in rw short refl
 
 pub returns-then-finishes : goal.returns-then-finishes
 returns-then-finishes g c =

@@ -1,4 +1,5 @@
-use Rattle.fit_record.proofs.Common.{length, ltb-true, get_or, sym, ap, ◌∙◌, subst, Some, None, option_map, get_or_from_slice_get, defined_at, MayBeKept, body_length, arith}
+use Rattle.fit_record.proofs.Common.{length, ltb-true, get_or, sym, ap, ◌∙◌, subst}
+use Rattle.fit_record.proofs.Common.{Some, None, option_map, get_or_from_slice_get, defined_at, MayBeKept, body_length, arith}
 use Rattle.fit_record.proofs.Common.{message_size}
 use Rattle.fit_record.proofs.WrongPlace.{found, not_found}
 use Rattle.fit_record.proofs.MessageSizes.{kept_size}
