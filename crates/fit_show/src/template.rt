@@ -1,12 +1,12 @@
 //! The lines of the messages of a definition without their values, found out once for many messages.
-ghost use Rattle.std.specs.Prelude.{◌≡◌, ◌≤◌, ◌+◌, ◌++◌, IfOk, IsTrue, OnOk, Some, codes, map, slice_get};
+ghost use Rattle.std.specs.Prelude.{◌≡◌, ◌<◌, ◌≤◌, ◌+◌, ◌++◌, IfOk, IsTrue, OnOk, Some, codes, length, map, slice_get};
 ghost use Rattle.fit_record.specs.Environment.{defined_at};
 ghost use Rattle.fit_record.specs.Sound.{IsSound};
 ghost use Rattle.fit_profile.specs.Looks.{known};
 ghost use Rattle.fit_show.specs.ShowLines as lines;
 ghost use Rattle.fit_texts.specs.Current.{AreCurrent};
 ghost use Rattle.fit_frames.specs.Frames.{HasFields, TakesFields};
-ghost use Rattle.fit_show.specs.inner.Showing.{keys_text, line_front, line_slots, line_text};
+ghost use Rattle.fit_show.specs.inner.Showing.{dev_field_part, field_part, first_head, keys_text, line_front, line_slots, line_text, shown_keys};
 ghost use Rattle.fit_texts.specs.MessageKeys.{message_key};
 ghost use Rattle.fit_texts.specs.Sheets.{and_sheet};
 
@@ -14,8 +14,8 @@ use crate::fields::put_words;
 use crate::frames::{ShownField, push_devs, put_dev_head, put_head, shown_fields};
 use fit_frames::FieldItems;
 use fit_profile::{Stream, message_label};
-use fit_record::Defined;
-use fit_texts::{ByLocal, KeptMessage, Sheet, Stamp, Times, WIDE, note, put_sheet};
+use fit_record::{Defined, FieldDef};
+use fit_texts::{ByLocal, KeptDev, KeptMessage, Sheet, Stamp, Times, WIDE, note, put_sheet};
 use itoa::Buffer;
 use std::alloc::{AllocError, Global};
 use std::marker::Model;
@@ -75,6 +75,49 @@ fn timed_front(alloc: Global, local: u8, global: u16) -> Result<Stamp, AllocErro
     Stamp::new(text)
 }
 
+/// What a message without a time begins with, and what stands before the time of the others.
+fn fronts(alloc: Global, local: u8, global: u16) -> Result<(Stamp, Stamp), AllocError>
+    ensures front { IfOk result (λ s. s.0 ≡ line_front local global) }
+    ensures timed { IfOk result (λ s. s.1 ≡ line_front local global ++ codes " ") }
+{
+    let front = front(alloc, local, global)?;
+    let timed = timed_front(alloc, local, global)?;
+    Ok((front, timed))
+}
+
+/// What stands before the first cell: that of the first field, or this end where there is none.
+fn head_of(alloc: Global, global: u16, fields: &[FieldDef], end: &[u8]) -> Result<Stamp, AllocError>
+    ensures { IfOk result (λ s. s ≡ first_head 0 (map (field_part global) fields.now) end.now) }
+{
+    let mut head = Vec::with_capacity(alloc, WIDE)?;
+    put_head(&mut head, 0, global, fields, end)?;
+    Stamp::new(head)
+}
+
+/// What stands before the first cell, and the fields and the developer fields with what comes after their cells.
+fn head_and_fields(
+    alloc: Global,
+    global: u16,
+    fields: &[FieldDef],
+    devs: &[KeptDev],
+) -> Result<(Stamp, Vec<ShownField>), AllocError>
+    requires fields { length fields.now < 256 }
+    requires devs { length devs.now < 256 }
+    ensures head { IfOk result (λ p. p.0 ≡ first_head 0 (map (field_part global) fields.now)
+        (first_head (length fields.now) (map dev_field_part devs.now) (codes "\n"))) }
+    ensures shown { IfOk result (λ p. p.1.items
+        ≡ shown_keys 0 (map (field_part global) fields.now)
+        (first_head (length fields.now) (map dev_field_part devs.now) (codes "\n"))
+        ++ shown_keys (length fields.now) (map dev_field_part devs.now) (codes "\n")) }
+{
+    let mut end = Vec::new(alloc);
+    put_dev_head(&mut end, fields.len(), devs)?;
+    let head = head_of(alloc, global, fields, end.as_slice())?;
+    let mut shown = shown_fields(alloc, global, fields, end.as_slice())?;
+    push_devs(alloc, &mut shown, fields.len(), devs)?;
+    Ok((head, shown))
+}
+
 /// The lines of the messages of a definition without their values.
 #[derive(Drop)]
 pub(crate) struct LineTemplate {
@@ -116,22 +159,17 @@ impl LineTemplate {
         ensures { IfOk result (λ t. t ≡ message_key stream.now local defined.now) }
     {
         let definition = &defined.definition;
-        let global = definition.global;
         let kept = KeptMessage::new(alloc, stream, local, defined)?;
         let devs = kept.devs.as_slice();
         let fields = definition.fields.as_slice();
-        let mut end = Vec::new(alloc);
-        put_dev_head(&mut end, fields.len(), devs)?;
-        let mut head = Vec::with_capacity(alloc, WIDE)?;
-        put_head(&mut head, 0, global, fields, end.as_slice())?;
-        let mut shown = shown_fields(alloc, global, fields, end.as_slice())?;
-        push_devs(alloc, &mut shown, fields.len(), devs)?;
+        let (head, fields) = head_and_fields(alloc, definition.global, fields, devs)?;
+        let (front, timed) = fronts(alloc, local, definition.global)?;
         Ok(LineTemplate {
             kept,
-            front: front(alloc, local, global)?,
-            timed: timed_front(alloc, local, global)?,
-            head: Stamp::new(head)?,
-            fields: shown,
+            front,
+            timed,
+            head,
+            fields,
         })
     }
 

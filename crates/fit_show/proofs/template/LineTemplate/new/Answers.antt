@@ -3,8 +3,8 @@ use Rattle.fit_texts.proofs.NamingFacts.{namings_long}
 use Rattle.fit_texts.proofs.DevKeyFacts.{length-dev_keys}
 use Rattle.fit_show.proofs.template.LineTemplate.new.Goals as goal
 
-pub push_devs-requires-clause-few : goal.push_devs-requires-clause-few
-push_devs-requires-clause-few c =
+pub head_and_fields-requires-clause-devs : goal.head_and_fields-requires-clause-devs
+head_and_fields-requires-clause-devs c =
     let p = c.args.defined.now in
     let namings = namings_at c.args.stream.now c.args.local in
     omega (
