@@ -8,21 +8,22 @@ ghost use Rattle.fit_cells.specs.Rows.{HasRows, csv_text};
 ghost use Rattle.fit_texts.specs.Words as words;
 ghost use Rattle.fit_rows.specs.ChainRows as rows;
 ghost use Rattle.fit_texts.specs.InstantText.{instant_text};
-ghost use Rattle.fit_frames.specs.Frames.{HasFields, TakesFields, two_cells};
+ghost use Rattle.fit_frames.specs.Frames.{HasFields, TakesFields};
 ghost use Rattle.fit_rows.specs.inner.FrameKeys.{dev_frame_key, end_of, field_key, frame_slots, frame_text, frames_of, key_rows, tail_text, values_text};
 ghost use Rattle.fit_texts.specs.MessageKeys.{message_key};
 ghost use Rattle.fit_texts.specs.Sheets.{and_sheet};
 
 mod exact;
+mod first_row;
 pub(crate) mod likely;
 
+use crate::template::first_row::first_row;
 use fit_cells::RowWriter;
-use fit_frames::{FieldItems, Frame, put_tail, put_two};
-use fit_profile::{Stream, field_info, field_label, message_label, write_fixed};
+use fit_frames::{FieldItems, Frame, put_tail};
+use fit_profile::{Stream, field_info, field_label, write_fixed};
 use fit_record::{Defined, FieldDef};
 use fit_texts::words::unit_text;
 use fit_texts::{KeptDev, KeptMessage, Sheet, Stamp, Times, WIDE, put_sheet, write_text};
-use itoa::Buffer;
 use std::alloc::{AllocError, Global};
 use std::marker::Model;
 
@@ -131,40 +132,6 @@ fn all_frames(
     Ok(frames)
 }
 
-/// Puts what stands before the time offset in the first row of a message.
-fn put_front(text: &mut Vec<u8>, writer: &mut RowWriter, local: u8) -> Result<(), AllocError>
-    ensures { OnOk result (text.new.items
-        ≡ text.old.items ++ two_cells (codes "data") (decimal local)) }
-{
-    let mut locals = Buffer::new();
-    put_two(text, writer, b"data", locals.format(local).as_bytes())
-}
-
-/// Puts what stands between the time offset and the time.
-fn put_label(text: &mut Vec<u8>, writer: &mut RowWriter, global: u16) -> Result<(), AllocError>
-    ensures { OnOk result (text.new.items
-        ≡ text.old.items ++ two_cells [] (message_label global)) }
-{
-    let label = message_label(global);
-    put_two(text, writer, b"", label.as_str().as_bytes())
-}
-
-/// Puts the first row of a message without a time offset.
-fn put_line(
-    text: &mut Vec<u8>,
-    writer: &mut RowWriter,
-    local: u8,
-    global: u16,
-) -> Result<(), AllocError>
-    ensures { OnOk result (HasRows (rows.row (codes "data") (decimal local) []
-        (message_label global) [] [] [] ∷ []) text.old text.new) }
-{
-    put_front(text, writer, local)?;
-    put_label(text, writer, global)?;
-    text.extend_from_slice(b",,\n")?;
-    Ok(())
-}
-
 /// Puts the values of fields one after another, each after what stands before it, and this end. Nothing is left in the sheet.
 fn put_frames<S: FieldItems>(
     text: &mut Vec<u8>,
@@ -204,6 +171,25 @@ fn write_optional(sheet: &mut Sheet, at: usize, number: Option<u8>) -> usize
     }
 }
 
+/// What stands around the values of fields and of developer fields, and the end of the last row.
+fn frames_and_end(
+    alloc: Global,
+    writer: &mut RowWriter,
+    global: u16,
+    fields: &[FieldDef],
+    devs: &[KeptDev],
+) -> Result<(Vec<Frame>, Stamp), AllocError>
+    ensures frames { IfOk result (λ p. p.0.items
+        ≡ frames_of [] (map (field_key global) fields.now ++ map dev_frame_key devs.now)) }
+    ensures end { IfOk result (λ p. p.1
+        ≡ end_of [] (map (field_key global) fields.now ++ map dev_frame_key devs.now)) }
+{
+    let mut end = Vec::with_capacity(alloc, WIDE)?;
+    let frames = all_frames(alloc, writer, &mut end, global, fields, devs)?;
+    let end = Stamp::new(end)?;
+    Ok((frames, end))
+}
+
 /// The rows of the messages of a definition without their values.
 #[derive(Drop)]
 pub(crate) struct Template {
@@ -221,7 +207,7 @@ pub(crate) struct Template {
 
 impl Model for Template {
     ghost use Rattle.std.specs.Prelude.{◌≡◌, ◌∷◌, [], codes, decimal, map};
-    ghost use Rattle.fit_cells.specs.Rows.{csv_text};
+    ghost use Rattle.fit_cells.specs.Rows.{HasRows, csv_text};
     ghost use Rattle.fit_rows.specs.ChainRows.{row};
     ghost use Rattle.fit_profile.specs.Names.{message_label};
     ghost use Rattle.fit_rows.specs.inner.FrameKeys.{end_of, frame_keys, frames_of};
@@ -256,23 +242,17 @@ impl Template {
         let definition = &defined.definition;
         let global = definition.global;
         let kept = KeptMessage::new(alloc, stream, local, defined)?;
-        let mut line = Vec::with_capacity(alloc, WIDE)?;
-        put_line(&mut line, writer, local, global)?;
-        let mut front = Vec::with_capacity(alloc, WIDE)?;
-        put_front(&mut front, writer, local)?;
-        let mut label = Vec::with_capacity(alloc, WIDE)?;
-        put_label(&mut label, writer, global)?;
-        let mut end = Vec::with_capacity(alloc, WIDE)?;
         let fields = definition.fields.as_slice();
         let devs = kept.devs.as_slice();
-        let frames = all_frames(alloc, writer, &mut end, global, fields, devs)?;
+        let (frames, end) = frames_and_end(alloc, writer, global, fields, devs)?;
+        let (line, front, label) = first_row(alloc, writer, local, global)?;
         Ok(Template {
             kept,
-            line: Stamp::new(line)?,
-            front: Stamp::new(front)?,
-            label: Stamp::new(label)?,
+            line,
+            front,
+            label,
             frames,
-            end: Stamp::new(end)?,
+            end,
         })
     }
 
