@@ -1,7 +1,7 @@
 //! How far a record in progress has come.
 
 /// What the next byte of a definition message is. `left` counts the entries that aren't whole.
-#[derive(Clone, Copy, Debug, PartialEq, Eq)]
+#[derive(Clone, Copy)]
 pub enum DefinitionPhase {
     Reserved,
     Architecture,
@@ -21,7 +21,7 @@ pub enum DefinitionPhase {
 ///
 /// In a data message `place` is that of the field or developer field that is read, `width` the width of its items, and
 /// `left` counts its bytes that are to come.
-#[derive(Clone, Copy, Debug, PartialEq, Eq)]
+#[derive(Clone, Copy)]
 pub enum Phase {
     RecordHeader,
     Definition(DefinitionPhase),

@@ -5,7 +5,7 @@ ghost use Rattle.fit_csv.specs.declared.from.misfit.Misfit.TheVariants as misfit
 use std::alloc::AllocError;
 
 /// Why a row can't stand after the rows before it.
-#[derive(Clone, Copy, Debug, PartialEq, Eq, Drop)]
+#[derive(Clone, Copy, Drop)]
 pub(crate) enum Misfit {
     /// No row of its kind stands there.
     Kind,
