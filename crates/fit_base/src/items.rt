@@ -53,7 +53,7 @@ pub fn has_shape<A: Allocator>(code: Code, size: u8, items: &Items<A>) -> bool
     has_shape_of_any(code, size, items)
 }
 
-/// The same for a field that needn't be a lone number. It stands apart, since most fields are one.
+/// Whether items have the shape of a field that needn't be a lone number. It stands apart, since most fields are one.
 #[inline(never)]
 fn has_shape_of_any<A: Allocator>(code: Code, size: u8, items: &Items<A>) -> bool
     ensures { IsTrue result ↔ HasShape code.0 size items.now }

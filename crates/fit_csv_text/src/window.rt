@@ -35,9 +35,9 @@ impl Window {
         }
     }
 
-    /// Spells anew a beginning of a text that begins with the row of a record, and returns what is left of it. It is at least 2,048 bytes,
-    /// or all of the text, and the next time more. There may be none, where the first row is spelled as `to_csv` spells it, or a row has
-    /// another spelling than spreadsheets write. It fails out of memory.
+    /// Spells anew a beginning of a text that begins with the row of a record, and returns what is left of the text. At least 2,048 bytes
+    /// are written, the next time more, or nothing is left. It returns `None` where the first row is spelled as `to_csv` spells it, or a
+    /// row has another spelling than spreadsheets write. It fails out of memory.
     pub fn fill<'a>(&mut self, text: &'a [u8]) -> Result<Option<&'a [u8]>, AllocError>
         ensures few { IfOk result (λ found. IfSome found (λ left.
             length self.new.bytes.items ≤ 65536)) }

@@ -35,7 +35,7 @@ fn put_parts(bytes: &mut Vec<u8>, head: &[u8], section: &[u8]) -> Result<(), All
     bytes.extend_from_slice(&sum_of(head, section))
 }
 
-/// The same. Out of memory, nothing changes.
+/// Puts a header, data, and the checksum of both after other bytes. Out of memory, nothing changes.
 fn put_whole(bytes: &mut Vec<u8>, head: &[u8], section: &[u8]) -> Result<(), AllocError>
     ensures ok { OnOk result
         (bytes.new.items ≡ bytes.old.items ++ with_sum (head.now ++ section.now)) }

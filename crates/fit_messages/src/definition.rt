@@ -212,7 +212,7 @@ fn put_fields(
     Ok(end)
 }
 
-/// The same of the developer fields of this local message type by their base type codes.
+/// Puts the entries of the developer fields of this local message type, by their base type codes.
 fn put_devs(
     bytes: &mut Vec<u8>,
     texts: &mut Vec<u8>,

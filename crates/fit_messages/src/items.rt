@@ -171,7 +171,8 @@ fn write_lone_in<'a>(
     (at, rest)
 }
 
-/// The same. Either byte order has a loop of its own, which doesn't test it for each field.
+/// Writes the items of fields that are lone numbers, as `write_lone_in` does. Either byte order has a loop of its own, which doesn't test
+/// it for each field.
 #[inline(always)]
 pub(crate) fn write_lone<'a>(
     sheet: &mut Sheet,

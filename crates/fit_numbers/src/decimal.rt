@@ -42,7 +42,7 @@ fn push_small(text: &mut Text, size: u64, decimals: u8)
     push_fraction(text, size % unit, decimals);
 }
 
-/// The same of a number of 128 bits.
+/// The digits of a number of 128 bits, with a point before its decimals.
 fn push_large(text: &mut Text, size: u128, decimals: u8)
     requires few { decimals ≤ 8 }
     requires room { array_string_len text.old ≤ 1 }

@@ -30,7 +30,7 @@ fn put_three(text: &mut Vec<u8>, n: u64) -> Result<(), AllocError>
     Ok(())
 }
 
-/// The same without other bytes.
+/// Puts the digits of a number below 1,000, and writes no other bytes meanwhile.
 fn put_just_three(text: &mut Vec<u8>, n: u64) -> Result<(), AllocError>
     requires { n < 1000 }
     ensures ok { OnOk result (text.new.items ≡ text.old.items ++ decimal n) }

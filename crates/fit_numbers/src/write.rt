@@ -115,7 +115,7 @@ fn write_signed(bytes: &mut [u8], at: usize, value: i64) -> usize
     write_whole(bytes, at, value.unsigned_abs())
 }
 
-/// The same, where most numbers are small.
+/// Writes a number without decimals, where most are small.
 #[inline(always)]
 #[tactic(auto, using(crate::proofs::WriteFacts::whole_alone))]
 fn write_units(bytes: &mut [u8], at: usize, value: i64) -> usize

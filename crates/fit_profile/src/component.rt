@@ -83,7 +83,7 @@ pub(crate) fn number<A: Allocator>(
     number_at(c, items)
 }
 
-/// The same by the places of the fields.
+/// The number of a component in a message, by the places of the fields.
 #[inline(always)]
 pub(crate) fn number_by<A: Allocator>(
     c: Component,

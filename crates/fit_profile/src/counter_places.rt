@@ -54,7 +54,7 @@ fn place_in(c: Component, fields: &[FieldDef]) -> Option<u16>
     None
 }
 
-/// The same by a definition: only record messages have counters.
+/// Where the number of a component begins in the messages of a definition: only record messages have counters.
 fn place_of(c: Component, definition: &MessageDef) -> Option<u16>
     requires width { 0 < c.width }
     requires few { length definition.now.fields < 256 }

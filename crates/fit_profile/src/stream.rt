@@ -259,7 +259,7 @@ impl Stream {
         )
     }
 
-    /// The same by a record of it. It stands apart, since most messages need none.
+    /// Takes a data message in by a record of it. It stands apart, since most messages need none.
     #[cold]
     #[inline(never)]
     fn take_record_of(&mut self, bytes: &[u8]) -> Result<(), AllocError>
@@ -316,7 +316,7 @@ impl Stream {
         )
     }
 
-    /// The same of any data message, by a record of it. It stands apart, since most messages need none.
+    /// Takes any data message in by a record of it, and tells it. It stands apart, since most messages need none.
     #[cold]
     #[inline(never)]
     fn tell_record_of(&mut self, bytes: &[u8]) -> Result<Taken, AllocError>

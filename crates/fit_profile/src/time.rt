@@ -52,7 +52,7 @@ pub(crate) fn field_time<A: Allocator>(
     time_in_field(field, items)
 }
 
-/// The same by the places of the fields.
+/// The time in the timestamp of a data message, by the places of the fields.
 #[inline(always)]
 pub(crate) fn field_time_by<A: Allocator>(
     definition: &MessageDef<A>,

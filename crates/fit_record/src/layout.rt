@@ -71,7 +71,7 @@ fn slot_of_field(fields: &[FieldDef], place: usize) -> (u8, u8)
     (field.code, field.size)
 }
 
-/// The same of a developer field, which has one of these base type codes.
+/// The base type code and the size of the developer field at a place, which has one of these base type codes.
 #[inline(always)]
 fn slot_of_dev_field(codes: &[u8], fields: &[DevDef], place: usize) -> (u8, u8)
     requires codes { length codes.now ≡ length fields.now }
@@ -93,7 +93,7 @@ impl<A: Allocator> Defined<A> {
         }
     }
 
-    /// The same of each developer field. Without developer fields there is none.
+    /// Base type code and size of each developer field. Without developer fields there is none.
     #[inline(always)]
     pub fn dev_layout(&self) -> Layout<'_>
         requires { IsSound self.now }

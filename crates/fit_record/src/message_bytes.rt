@@ -126,7 +126,7 @@ fn push_field<A: Allocator + Copy>(
     push_numbers(items, alloc, order, code, size, bytes)
 }
 
-/// The same for a field that needn't be a lone number. It stands apart, since most fields are one.
+/// Pushes the items of a field that needn't be a lone number. It stands apart, since most fields are one.
 #[cold]
 #[inline(never)]
 fn push_numbers<A: Allocator + Copy>(

@@ -48,7 +48,7 @@ impl<A: Allocator> Env<A> {
         false
     }
 
-    /// The same of data messages of another local message type than this.
+    /// Whether some defined data messages of another local message type than this have this length.
     fn others_have(&self, local: u8, n: u32) -> bool
         requires { local < 16 }
         ensures { result ≡ others_have self.now local n }

@@ -24,7 +24,7 @@ fn take_number(text: &[u8]) -> Option<(u16, &[u8])> {
     None
 }
 
-/// The same for a number of one byte.
+/// A number of one byte with which a text may begin, and what comes after the byte that ends it.
 #[inline(always)]
 fn take_byte(text: &[u8]) -> Option<(u8, &[u8])> {
     let (number, rest) = take_number(text)?;

@@ -163,7 +163,7 @@ pub(crate) fn at_field_items<A: Allocator + Copy>(
     Ok(begin_fields(defined, field.place as usize + 1, phase))
 }
 
-/// The same of a developer field.
+/// A byte of a developer field. Whether the message is whole. The caller counts the room.
 #[tactic(auto, unfolding(crate::specs::Machine::dev_move))]
 pub(crate) fn at_dev_items<A: Allocator + Copy>(
     alloc: A,

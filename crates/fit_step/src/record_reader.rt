@@ -56,7 +56,7 @@ fn take_byte<A: Allocator + Copy>(
     take_step(alloc, env, position, in_progress, byte)
 }
 
-/// The same of a byte that may end a number, or stand outside of one.
+/// Takes a byte that may end a number, or stand outside of one.
 #[inline(never)]
 fn take_step<A: Allocator + Copy>(
     alloc: A,
@@ -88,7 +88,7 @@ fn take_step<A: Allocator + Copy>(
     }
 }
 
-/// The same of all bytes up to the one with which the record is whole: how many they are, and whether it is.
+/// Takes all bytes up to the one with which the record is whole: how many they are, and whether it is.
 #[inline(never)]
 fn scan_bytes<A: Allocator + Copy>(
     alloc: A,

@@ -85,7 +85,7 @@ fn are_fields(fields: &[FieldDef], bytes: &[u8]) -> bool
     are_few(left, rest)
 }
 
-/// The same, one by one.
+/// Whether these fields are those of the bytes, looked at one by one.
 #[inline(always)]
 fn are_few(fields: &[FieldDef], bytes: &[u8]) -> bool
     requires { length bytes.now ≡ 3 * length fields.now }

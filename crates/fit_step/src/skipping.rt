@@ -30,7 +30,7 @@ fn size_to_skip<A: Allocator>(env: &Env<A>, local: u8) -> u32
     }
 }
 
-/// The same for each local message type.
+/// How many bytes a data message of each local message type has, or 0 as of one.
 fn sizes_to_skip<A: Allocator>(env: &Env<A>) -> [u32; 16]
     ensures { AreSizesToSkip env.now result }
 {

@@ -172,7 +172,7 @@ impl Times {
         Ok(0)
     }
 
-    /// The same for a cell, which is empty where there is no time.
+    /// Adds the text of a time as a cell, which is empty where there is no time.
     #[inline(always)]
     pub fn add_cell(
         &mut self,

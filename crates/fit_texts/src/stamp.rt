@@ -26,7 +26,7 @@ pub fn write_text(bytes: &mut [u8], at: usize, text: &[u8]) -> usize
     end
 }
 
-/// The same of an array, all of which is read before any of it is written.
+/// Writes an array into bytes from a place on, all of which is read before any of it is written. Returns the place after it.
 #[inline(always)]
 fn write_array<const COUNT: usize>(bytes: &mut [u8], at: usize, array: [u8; COUNT]) -> usize
     requires { at + COUNT ≤ length bytes.old }

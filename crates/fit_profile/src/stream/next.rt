@@ -41,7 +41,7 @@ impl Stream {
         time_of(&self.env, self.last.time, record_)
     }
 
-    /// The same of the data message in these bytes.
+    /// The time of the data message in these bytes, in seconds since 1989-12-31T00:00:00 UTC, as of `time`.
     pub fn message_time(&self, bytes: &[u8]) -> Option<u32>
         requires { (v : Values Global) × IsRecord (known self.now) (Data v) bytes.now }
         ensures { (v : Values Global) → IsRecord (known self.now) (Data v) bytes.now

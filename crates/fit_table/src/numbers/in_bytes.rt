@@ -36,7 +36,7 @@ fn write_value_at(
     (true, write_formed(row, at, place.form, bits))
 }
 
-/// The same, not inlined.
+/// Writes the number at a place as `write_value_at` does, and isn't inlined.
 #[inline(never)]
 fn write_other_at(
     row: &mut [u8],
@@ -57,7 +57,7 @@ fn write_other_at(
     write_value_at(row, at, place, order, bytes)
 }
 
-/// The same where most recordings have numbers of one kind: it is that of the fields of this number.
+/// Writes the number at a place, where most recordings have numbers of one kind: it is that of the fields of this number.
 #[inline(always)]
 fn write_placed(
     row: &mut [u8],
@@ -109,7 +109,7 @@ fn write_position_at(
     write_degrees(row, at, semicircles(place.form.width, bits))
 }
 
-/// The same, not inlined.
+/// Writes the position at a place as `write_position_at` does, and isn't inlined.
 #[inline(never)]
 fn write_other_position(
     row: &mut [u8],
@@ -130,7 +130,7 @@ fn write_other_position(
     write_position_at(row, at, place, order, bytes)
 }
 
-/// The same where most recordings have positions of the usual kind.
+/// Writes the position at a place, where most recordings have positions of the usual kind.
 #[inline(always)]
 fn write_placed_position(
     row: &mut [u8],
