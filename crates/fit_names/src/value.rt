@@ -1,4 +1,4 @@
-//! The numbers that fields hold.
+//! The numbers that items of fields hold.
 ghost use Rattle.std.specs.Prelude.{◌≡◌, ◌⊎◌, ◌+◌, ◌≤◌, ◌<◌, ◌^◌, ◌≤ℤ◌, ◌<ℤ◌, ◌==◌, ◌&&◌, not, nat_lt, if◌then◌else◌, IfSome, option_and_then, option_map, pos, neg_ℤ};
 ghost use Rattle.fit_base.specs.Numbers.{twos_complement};
 ghost use Rattle.fit_numbers.specs.Scaled.{IsScale};
@@ -120,7 +120,8 @@ fn first_number<A: Allocator>(field: &FieldDef, items: &Items<A>) -> Option<i128
     }
 }
 
-/// The number of a field of a message, scaled by the profile.
+/// The number of the first item of field `number` of a message, scaled as the profile says, where it lists the field, and the item
+/// is a valid number.
 #[inline(always)]
 pub fn value_in<A: Allocator>(
     global: u16,
