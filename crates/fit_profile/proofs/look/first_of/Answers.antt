@@ -21,7 +21,9 @@ returns-then-i-items g c =
 
 pub returns-then-field-number : goal.returns-then-field-number
 returns-then-field-number g c =
-    let field = get_or c.args.fields.now c.loop-i.i nothing in
+    let fields = c.args.fields.now in
+    let i = c.loop-i.i in
+    let field = get_or fields i nothing in
     sym (c.loop-i.invariant
-    ∙ here c.args.fields.now c.args.items.now c.args.number c.loop-i.i nothing c.index-items-i.result c.loop-i-test.true c.if-field-number.true c.if-i-items.false
+    ∙ here fields c.args.items.now c.args.number i nothing c.index-items-i.result c.loop-i-test.true c.if-field-number.true c.if-i-items.false
     ∙ ap (λ x. Some (field, x)) (sym c.index-items-i.is))
