@@ -1,5 +1,5 @@
-pub mod Profile
-pub mod Names
+pub use Rattle.fit_names.specs.Profile
+pub use Rattle.fit_names.specs.Names
 pub mod Laws
 pub mod Least
 pub mod Looks

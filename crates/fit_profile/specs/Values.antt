@@ -1,52 +1,14 @@
--- The number that a field of a message holds (FIT protocol, "Base Type", and FIT SDK, Profile, columns "Scale" and "Offset").
-use Rattle.std.specs.Prelude.{◌≡◌, ℕ, ◌^◌, ◌==◌, ◌&&◌, not, nat_lt, if◌then◌else◌, slice_get, Option, Some, None, option_and_then, option_map, ℤ, pos}
-use Rattle.fit_base.specs.declared.items.Items.{Items}
-use Rattle.fit_base.specs.declared.code.Class.{Class}
-use Rattle.fit_base.specs.declared.code.Class.TheVariants.{Signed, Unsigned, Text, Float, Bytes}
-use Rattle.fit_base.specs.BaseTypes.{base_type}
-use Rattle.fit_base.specs.Numbers.{twos_complement}
-use Rattle.fit_record.specs.declared.definition.FieldDef.{FieldDef}
+-- The number that a field of a message holds, with what the profile says of the field.
+use Rattle.std.specs.Prelude.{ℕ, Option, option_and_then, option_map, ℤ}
 use Rattle.fit_record.specs.declared.definition.MessageDef.{MessageDef}
 use Rattle.fit_record.specs.declared.message.Values.{Values}
-use Rattle.fit_numbers.specs.declared.decimal.Fixed.{Fixed}
-use Rattle.fit_profile.specs.Profile.{Meaning}
-use Rattle.fit_profile.specs.Names.{field}
-use Rattle.fit_numbers.specs.Scaled.{decimals, IsScaled}
+use Rattle.fit_names.specs.Profile.{Meaning}
+use Rattle.fit_names.specs.Names.{field}
+pub use Rattle.fit_names.specs.Values.{number_of_class, valid_number, first_number, IsValueOf, IsAmount}
 use Rattle.fit_profile.specs.Looks.{first_field}
-
--- the number that an item stands for, where its class is one of numbers
-abbrev pub number_of_class : Class → ℕ → ℕ → Option ℤ
-number_of_class Signed width bits = Some (twos_complement width bits)
-number_of_class Unsigned width bits = Some (pos bits)
-number_of_class Text width bits = None
-number_of_class Float width bits = None
-number_of_class Bytes width bits = None
-
--- an item of its code's width holds a value where it isn't the invalid one
-abbrev pub valid_number : ℕ → ℕ → ℕ → Option ℤ
-valid_number code width bits =
-    if (width == (base_type code).width && nat_lt bits (256 ^ width)) && not (bits == (base_type code).invalid) then number_of_class (base_type code).class
-    width bits
-    else None
-
--- the number of a field's first item
-abbrev pub first_number : {A : Type 0} → FieldDef → Items A → Option ℤ
-first_number f i = option_and_then (valid_number f.code i.width) (slice_get i.bits 0)
 
 -- the number of the first field of this number, with what the profile says of the field
 abbrev pub known_number : {A : Type 0} → MessageDef A → Values A → ℕ → Option (ℤ × Meaning)
 known_number d v number =
     option_and_then (λ f. option_and_then (λ raw. option_map (λ m. (raw, m)) (field d.global number)) (first_number f.0 f.1))
     (first_field d.fields v.fields number)
-
--- the number that a raw value of a field stands for, where there is one
-abbrev pub IsValueOf : Option (ℤ × Meaning) → Option Fixed → Type 0
-IsValueOf None None = Unit {0}
-IsValueOf (Some (raw, m)) (Some v) = (v.decimals ≡ decimals m.scale) × IsScaled raw m.scale m.offset v.value
-IsValueOf _ _ = ⊥
-
--- a number of units of which `scale` are one, where there is one
-abbrev pub IsAmount : ℕ → Option ℕ → Option Fixed → Type 0
-IsAmount scale None None = Unit {0}
-IsAmount scale (Some n) (Some v) = (v.decimals ≡ decimals scale) × IsScaled (pos n) scale 0 v.value
-IsAmount scale _ _ = ⊥

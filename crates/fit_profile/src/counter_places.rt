@@ -11,9 +11,9 @@ ghost use Rattle.fit_profile.specs.inner.InBytes.{slots};
 ghost use Rattle.fit_profile.specs.inner.Places.{AreFieldPlaces};
 
 use crate::component::Component;
-use crate::message_number::RECORD;
 use crate::told::{ACCUMULATED_POWER, DISTANCE, TOTAL_CYCLES};
 use fit_base::{Code, Order, bits_at, width_of};
+use fit_names::message_number::RECORD;
 use fit_record::{FieldDef, MessageDef};
 
 /// Where the number of each counter begins in the bytes of the fields. None where no message of the definition has that number.

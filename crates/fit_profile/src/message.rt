@@ -5,9 +5,9 @@ use crate::names::{Names, Texts};
 use crate::places::first_at;
 use crate::plan::Plans;
 use crate::told::Told;
-use crate::value::{in_scale, value_in};
-use crate::{Fixed, message_name};
 use fit_base::Items;
+use fit_names::{in_scale, message_name, value_in};
+use fit_numbers::Fixed;
 use fit_record::{Defined, Env, FieldDef, MessageDef, Values};
 use std::alloc::{Allocator, Global};
 
@@ -35,10 +35,11 @@ pub struct Message<'a, A: Allocator = Global> {
 impl<'a, A: Allocator> Message<'a, A> {
     ghost use Rattle.std.specs.Prelude.{◌≡◌, ◌≤◌, IfSome, option_map, option_and_then, option_copied, slice_get};
     ghost use Rattle.fit_record.specs.Environment.{first_items};
-    ghost use Rattle.fit_profile.specs.Names as names;
+    ghost use Rattle.fit_names.specs.Names as names;
     ghost use Rattle.fit_profile.specs.Looks.{first_field};
     ghost use Rattle.fit_profile.specs.Meant.{shown, part_of, first_part, field_at, dev_field_at};
-    ghost use Rattle.fit_profile.specs.Values.{IsAmount, IsValueOf, known_number};
+    ghost use Rattle.fit_names.specs.Values.{IsAmount, IsValueOf};
+    ghost use Rattle.fit_profile.specs.Values.{known_number};
 
     /// The global message number.
     pub fn global(&self) -> u16

@@ -13,11 +13,11 @@ ghost use Rattle.fit_profile.specs.inner.Plans.{ArePlanned, HasRoomFor, IsPlan};
 ghost use Rattle.std.specs.Global.{Global};
 
 use crate::counter_places::{CounterPlaces, may_count_by};
-use crate::field_number::TIMESTAMP;
 use crate::places::places_of;
 use crate::time::valid_time;
 use fit_base::base_type::UINT32;
 use fit_base::{Code, Order, bits_at};
+use fit_names::field_number::TIMESTAMP;
 use fit_record::{FIELD_DESCRIPTION, FieldDef, MessageDef, Record};
 use std::alloc::{AllocError, Global};
 

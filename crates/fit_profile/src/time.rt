@@ -4,12 +4,12 @@ ghost use Rattle.fit_profile.specs.Least.{least_from};
 ghost use Rattle.fit_profile.specs.Times as times;
 ghost use Rattle.fit_profile.specs.inner.Places.{AreFieldPlaces};
 
-use crate::field_number::TIMESTAMP;
 use crate::least::steps_to;
 use crate::look::{first_of, only_item};
 use crate::places::first_at;
 use fit_base::Items;
 use fit_base::base_type::UINT32;
+use fit_names::field_number::TIMESTAMP;
 use fit_record::{FieldDef, MessageDef, Values};
 use std::alloc::Allocator;
 

@@ -12,15 +12,15 @@ ghost use Rattle.fit_profile.specs.Looks.{known};
 ghost use Rattle.fit_profile.specs.Times as times;
 ghost use Rattle.fit_profile.specs.Told.{told_of};
 ghost use Rattle.fit_profile.specs.Told as telling;
-ghost use Rattle.fit_profile.specs.Values.{IsAmount};
+ghost use Rattle.fit_names.specs.Values.{IsAmount};
 
 use super::Stream;
-use crate::Fixed;
 use crate::message_bytes::{speed_and_distance, time_in};
 use crate::names::Texts;
 use crate::time::header_time;
 use crate::told::{Told, tell, time_of};
-use crate::value::in_scale;
+use fit_names::in_scale;
+use fit_numbers::Fixed;
 use fit_record::Record;
 
 impl Stream {

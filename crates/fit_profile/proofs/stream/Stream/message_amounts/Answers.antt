@@ -1,6 +1,6 @@
 use Rattle.fit_profile.proofs.Common.{◌≡◌, reverse, refl, subst, tell, IsSomeAnd}
 use Rattle.fit_record.specs.declared.message.Record.TheVariants.{Values as Data}
-use Rattle.fit_profile.specs.Values.{IsAmount}
+use Rattle.fit_names.specs.Values.{IsAmount}
 use Rattle.fit_profile.proofs.Kept.{kept-record, told-now}
 use Rattle.fit_profile.proofs.stream.Stream.message_amounts.Goals as goal
 

@@ -1,5 +1,0 @@
-use Rattle.fit_profile.proofs.Common.{rules}
-use Rattle.fit_profile.proofs.label.field_label.Goals as goal
-
-pub returns-in-None : goal.returns-in-None
-returns-in-None c = search rules

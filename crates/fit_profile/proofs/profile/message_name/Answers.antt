@@ -1,5 +1,0 @@
-use Rattle.fit_profile.proofs.Common.{rules}
-use Rattle.fit_profile.proofs.profile.message_name.Goals as goal
-
-pub returns-clause-table : goal.returns-clause-table
-returns-clause-table c = search rules

@@ -1,5 +1,0 @@
-use Rattle.fit_profile.proofs.Common.{rules}
-use Rattle.fit_profile.proofs.value.below.Goals as goal
-
-pub returns-then-bits-greatest-clause-number : goal.returns-then-bits-greatest-clause-number
-returns-then-bits-greatest-clause-number c = search rules
