@@ -14,7 +14,8 @@ pub defined-requires : goal.defined-requires
 defined-requires g c = assumption
 
 pub returns-in_default : goal.returns-in_default
-returns-in_default g c = ap (λ o. option_map_or (λ (q : Defined g.row.A.Denot). cond (q.definition.global == 206) 0 (1 + message_size q)) o 0) c.in_default.ensures.place
+returns-in_default g c =
+    ap (λ o. option_map_or (λ (q : Defined g.row.A.Denot). cond (q.definition.global == 206) 0 (1 + message_size q)) o 0) c.in_default.ensures.place
 
 pub length-requires : goal.length-requires
 length-requires g c = assumption
@@ -22,7 +23,8 @@ length-requires g c = assumption
 pub returns-in_default-length : goal.returns-in_default-length
 returns-in_default-length g c =
     let p = c.in-Some.defined.now in
-    let none : None ≡ Some (message_size p) = c.in_default-length.ensures.size ∙ ap (option_map message_size) (sym c.in-Some.ensures.place) in absurd (cc none)
+    let none : None ≡ Some (message_size p) = c.in_default-length.ensures.size ∙ ap (option_map message_size) (sym c.in-Some.ensures.place) in
+    absurd (cc none)
 
 pub overflow_add-result : goal.overflow_add-result
 overflow_add-result g c = omega (arith, c.in-Some-length.ensures.small)
