@@ -45,10 +45,10 @@ returns-clause-entries c =
 
 pub loop-place-init : goal.loop-place-init
 loop-place-init c = record {
-      told = sym (append-nil c.args.bytes.now.items);
-      far = omega arith;
-      small = omega (arith, c.requires.at);
-    }
+  told = sym (append-nil c.args.bytes.now.items);
+  far = omega arith;
+  small = omega (arith, c.requires.at);
+}
 
 pub returns-clause-end : goal.returns-clause-end
 returns-clause-end c =

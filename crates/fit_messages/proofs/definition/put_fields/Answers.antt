@@ -32,10 +32,10 @@ loop-field-preserved c =
 
 pub loop-field-init : goal.loop-field-init
 loop-field-init c = record {
-      told = sym (append-nil c.args.bytes.now.items);
-      far = omega arith;
-      small = omega (arith, c.requires.at);
-    }
+  told = sym (append-nil c.args.bytes.now.items);
+  far = omega arith;
+  small = omega (arith, c.requires.at);
+}
 
 pub returns-clause-end : goal.returns-clause-end
 returns-clause-end c =
