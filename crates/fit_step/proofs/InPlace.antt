@@ -7,7 +7,7 @@ use Rattle.fit_step.proofs.Common.{Tests, State, Step, definition_in_progress, v
 use Rattle.fit_step.proofs.Common.{TakenFields, IsTaking, IsPart, state_of, width_of, PartFitsRoom, state, Made, Defines, DefinesAt, ReadsAt, IsInField, ◌==◌}
 use Rattle.fit_step.proofs.Common.{Record, RecordHeader, nothing, header_move}
 use Rattle.fit_step.specs.Places.{WantsNone}
-use Rattle.fit_step.specs.inner.Steps.{Enters}
+use Rattle.fit_step.specs.inner.Steps.{Enters, DefinesOn}
 use Rattle.fit_record.specs.Sound.{IsSound}
 use Rattle.fit_step.proofs.Preconditions.{is_defining, as_defined}
 
@@ -131,6 +131,12 @@ module _ {A : Type 0} (e : Environment A) (tests : Tests A) (phase after : Phase
   pub header_refused : (why : Stop) → PartFitsRoom e (state phase room None partial) → Enters after left (Err why) (header_move e tests room b)
       → Made after left None partial (Err why) (step e tests (state phase room None partial) b)
   header_refused why stands is = refused_is None why _ (subst (Enters after left (Err why)) (at_header stands) is)
+
+-- a byte of a definition message that isn't taken: the same whether an answer could have told that the message is whole
+pub definition_refused : {A : Type 0} (phase : Phase) (room : ℕ) (d : MessageDef A) (why : Stop) (made : Step A) → DefinesOn phase room d (Err why) made
+    → Defines phase room d (Err why) made
+definition_refused phase room d (Refused reason) made is = is
+definition_refused phase room d NoMemory made is = is
 
 -- the same of another answer
 pub wants_none : (X Y : Type 0) (why : Stop) → WantsNone {X = X} (Err why) → WantsNone {X = Y} (Err why)

@@ -1,7 +1,7 @@
 -- Where a reader of records stands, a step leaves it standing.
 use Rattle.fit_step.proofs.Common.{◌≡◌, ℕ, ◌+◌, ◌-◌, ◌<◌, Bool, true, false, List, refl, sym, ap, ◌∙◌, subst, arith, Some, None, Ok, Option, IsSomeAnd, Record}
 use Rattle.fit_step.proofs.Common.{Environment, Fits, Position, Tests, State, Step, start, step, least_rest, RecordPart, nothing, HasBegun, state_of}
-use Rattle.fit_step.proofs.Common.{BeginningsStand, state_at, PartFitsRoom, Steps, KeepsPart, state, Made, ◌≤◌}
+use Rattle.fit_step.proofs.Common.{BeginningsStand, state_at, PartFitsRoom, Steps, KeepsPart, state, Made, ◌≤◌, Err, Phase, Stop, Refused, NoMemory}
 use Rattle.fit_step.proofs.Rest.{keeps, KeepsRoom, takes_more}
 use Rattle.fit_step.proofs.Runs.{step_goes, step_ends}
 
@@ -24,6 +24,12 @@ made_steps : {A : Type 0} (p : Position) (whole : Bool) (after : Option (Record 
     → Steps after (Ok (p, whole)) made
 made_steps p true after made h = h
 made_steps p false after made h = h
+
+-- the same of an answer that takes no byte
+pub stops_alike : {A : Type 0} (phase : Phase) (room : ℕ) (partial : List ℕ) (why : Stop) (after : Option (Record A)) (made : Step A)
+    → Made phase room after partial (Err why) made → Steps after (Err why) made
+stops_alike phase room partial (Refused reason) after made h = h
+stops_alike phase room partial NoMemory after made h = h
 
 module _ {A : Type 0} (e : Environment A) (tests : Tests A) (b : ℕ) (low : b < 256) where
   at_part : (s : State A) (h : PartFitsRoom e s) (made : Step A) → step e tests s b ≡ made → step e tests (state_of s.room h.part) b ≡ made
@@ -73,11 +79,18 @@ module _ {A : Type 0} (e : Environment A) (tests : Tests A) (b : ℕ) (low : b <
       omega (arith, left, some)
   step_room s p false after some h made = (left_of s h (Ok (state_at p after, None)) made).0
 
-  -- what a step of the code leaves, by its parts
+  -- what a step of the code made, by its parts
+  pub step_made : (p q : Position) (before after : Option (Record A)) (l : List ℕ) (whole : Bool) → l ≡ p.partial
+      → Made q.phase q.room after q.partial (Ok whole) (step e tests (state p.phase p.room before l) b)
+      → Steps after (Ok (q, whole)) (step e tests (state_at p before) b)
+  step_made p q before after l whole same made =
+      made_steps q whole after (step e tests (state_at p before) b)
+      (subst (λ k. Made q.phase q.room after q.partial (Ok whole) (step e tests (state p.phase p.room before k) b)) same made)
+
+  -- and what it leaves
   pub step_leaves : (p q : Position) (before after : Option (Record A)) (l : List ℕ) (whole : Bool) → l ≡ p.partial → 0 < p.room
       → PartFitsRoom e (state_at p before) → Made q.phase q.room after q.partial (Ok whole) (step e tests (state p.phase p.room before l) b)
       → KeepsPart e after (q, whole) × (q.room + 1 ≡ p.room)
   step_leaves p q before after l whole same some h made =
-      let steps = made_steps q whole after (step e tests (state_at p before) b)
-      (subst (λ k. Made q.phase q.room after q.partial (Ok whole) (step e tests (state p.phase p.room before k) b)) same made) in
+      let steps = step_made p q before after l whole same made in
       (step_keeps (state_at p before) q whole after h steps, step_room (state_at p before) q whole after some h steps)

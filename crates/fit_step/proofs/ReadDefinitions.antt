@@ -2,6 +2,8 @@
 use Rattle.fit_step.proofs.Common.{◌≡◌, ℕ, ◌+◌, ◌*◌, ◌<◌, List, [], ◌∷◌, ◌++◌, length, take, sym, ap, ◌∙◌, subst, arith, lit<, flat_map, option_map}
 use Rattle.fit_step.proofs.Common.{unwrap_or, append-nil, length-take-le, number_bytes, FieldDef, Define, Environment, architecture, field_bytes}
 use Rattle.fit_step.proofs.Common.{definition_bytes, definition_header, DefinitionFits, IsRecord, length-fields}
+use Rattle.fit_step.proofs.Common.{suc, get_or, refl, append_assoc, flat_map_more, Order, Little, Big}
+use Rattle.std.proofs.lemmas.List.{get_or-take}
 use Rattle.fit_record.proofs.OneRecord.{same_fields}
 use Rattle.fit_record.proofs.RecordLengths.{length-definition}
 use Rattle.fit_record.specs.DefinitionLengths.{dev_length}
@@ -25,10 +27,45 @@ module _ {A : Type 0} (f : Front) (entries bytes : List ℕ) (begins : Begins f 
         λ i. header i ∷ f.reserved ∷ architecture f.order ∷ number_bytes f.order 2 f.global ++ sym are.0 i ∷ sym are.1 i in
         (read_fits, begins.is ∙ says ∙ ap (λ l. (0x40 + f.local + 0) ∷ l) (sym (append-nil body)))
 
+-- three bytes are one field more
+three_bytes : (entry : List ℕ) → length entry ≡ 3 → get_or entry 0 0 ∷ get_or entry 1 0 ∷ get_or entry 2 0 ∷ [] ≡ entry
+three_bytes (a ∷ b ∷ c ∷ []) long = refl
+three_bytes (a ∷ b ∷ c ∷ d ∷ more) long = absurd (omega (arith, long))
+three_bytes (a ∷ b ∷ []) long = absurd (omega (arith, long))
+three_bytes (a ∷ []) long = absurd (omega (arith, long))
+three_bytes [] long = absurd (omega (arith, long))
+
+pub field_more : (fields after : List FieldDef) (bytes rest entry left : List ℕ) (f : FieldDef)
+    → f ≡ (record { number = get_or entry 0 0; size = get_or entry 1 0; code = get_or entry 2 0 }) → after ≡ fields ++ f ∷ []
+    → rest ≡ entry ++ left → length entry ≡ 3 → flat_map field_bytes fields ++ rest ≡ bytes → flat_map field_bytes after ++ left ≡ bytes
+field_more fields after bytes rest entry left f is more parts long told =
+    ap (λ l. flat_map field_bytes l ++ left) more ∙ ap (λ l. l ++ left) (sym (flat_map_more field_bytes [] fields f))
+    ∙ append_assoc (flat_map field_bytes fields) (field_bytes f) left
+    ∙ ap (λ l. flat_map field_bytes fields ++ l) (ap (λ g. field_bytes g ++ left) is ∙ ap (λ l. l ++ left) (three_bytes entry long) ∙ sym parts) ∙ told
+
 -- only these are its fields
 pub fields_are : (f : Front) (entries : List ℕ) (fs gs : List FieldDef) → AreFields f entries fs → AreFields f entries gs → fs ≡ gs
 fields_are f entries fs gs some others =
     (same_fields fs gs [] [] (some.0 ∙ sym others.0) (ap (λ l. l ++ []) (some.1 ∙ sym others.1))).0
+
+-- ---- its bytes
+
+-- one of the five bytes after the first
+pub byte_at : (f : Front) (entries bytes rest five : List ℕ) (b k : ℕ) → Begins f entries bytes → bytes ≡ b ∷ rest → five ≡ take 5 rest → k < 5
+    → get_or five k 0 ≡ get_or (definition_spelled f entries) (suc k) 0
+byte_at f entries bytes rest five b k h first front few =
+    ap (λ l. get_or l k 0) front ∙ get_or-take 5 rest k 0 few ∙ ap (λ l. get_or l (suc k) 0) (sym first)
+    ∙ sym (get_or-take (6 + length entries) bytes (suc k) 0 (omega arith)) ∙ ap (λ l. get_or l (suc k) 0) h.is
+
+-- the last of them is the number of fields
+after_global : (o : Order) (global count : ℕ) (entries : List ℕ) → get_or (number_bytes o 2 global ++ count ∷ entries) 2 0 ≡ count
+after_global Little global count entries = refl
+after_global Big global count entries = refl
+
+pub count_at : (f : Front) (entries bytes rest five : List ℕ) (b : ℕ) → Begins f entries bytes → bytes ≡ b ∷ rest → five ≡ take 5 rest
+    → get_or five 4 0 ≡ f.count
+count_at f entries bytes rest five b h first front =
+    byte_at f entries bytes rest five b 4 h first front (lit< tt) ∙ after_global f.order f.global f.count entries
 
 -- ---- where a definition message stands
 

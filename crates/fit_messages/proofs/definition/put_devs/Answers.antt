@@ -1,6 +1,7 @@
-use Rattle.std.proofs.Common.{◌∙◌, ◌++◌, ap, ap₂, arith, get_or}
-use Rattle.std.proofs.lemmas.List.{take_all}
-use Rattle.std.specs.Prelude.{slice_get}
+use Rattle.std.proofs.Common.{◌∙◌, ◌+◌, ◌++◌, ap, ap₂, sym, arith, get_or}
+use Rattle.std.proofs.lemmas.List.{append-nil, take_all}
+use Rattle.std.proofs.lemmas.Result.{IfOk-from_err}
+use Rattle.std.specs.Prelude.{slice_get, sum_by}
 use Rattle.fit_profile.specs.Described.{namings_at}
 use Rattle.fit_record.specs.declared.definition.DevDef.{DevDef}
 use Rattle.fit_messages.specs.Blocks.{dev_column, entries, whole}
@@ -41,3 +42,22 @@ returns-clause-entries c =
     ∙ ap (λ columns. c.args.bytes.now.items ++ entries c.args.at columns)
     (take_all c.loop-place.place (dev_columns fields coded namings)
     (omega (arith, c.loop-place-test.false, length-dev_columns fields coded namings c.requires.codes c.requires.namings)))
+
+pub loop-place-init : goal.loop-place-init
+loop-place-init c = record {
+  told = sym (append-nil c.args.bytes.now.items);
+  far = omega arith;
+  small = omega (arith, c.requires.at);
+}
+
+pub returns-clause-end : goal.returns-clause-end
+returns-clause-end c =
+    let fields = c.args.fields.now in
+    c.loop-place.invariant.far
+    ∙ ap (λ l. c.args.at + sum_by (λ (f : DevDef). whole f.size) l) (take_all c.loop-place.place fields (omega (arith, c.loop-place-test.false)))
+
+pub returns-in_err-put_entry-clause-end : goal.returns-in_err-put_entry-clause-end
+returns-in_err-put_entry-clause-end c = IfOk-from_err c.from_residual.result _ c.from_residual.ensures.0
+
+pub returns-in_err-put_entry-clause-entries : goal.returns-in_err-put_entry-clause-entries
+returns-in_err-put_entry-clause-entries c = IfOk-from_err c.from_residual.result _ c.from_residual.ensures.0

@@ -1,6 +1,9 @@
-use Rattle.std.proofs.Common.{◌∙◌, ◌++◌, ap, arith}
+use Rattle.std.proofs.Common.{◌∙◌, ◌+◌, ◌++◌, ap, sym, map, arith}
+use Rattle.std.proofs.lemmas.List.{append-nil, take_all}
+use Rattle.std.proofs.lemmas.Result.{IfOk-from_err}
+use Rattle.std.specs.Prelude.{sum_by}
 use Rattle.fit_record.specs.declared.definition.FieldDef.{FieldDef}
-use Rattle.fit_messages.specs.Blocks.{entry, whole}
+use Rattle.fit_messages.specs.Blocks.{column, entries, entry, whole}
 use Rattle.fit_messages.proofs.EntryFacts.{field_told, sum_taken}
 use Rattle.fit_messages.proofs.definition.put_fields.Goals as goal
 
@@ -26,3 +29,32 @@ loop-field-preserved c =
       );
       small = omega (arith, c.loop-field.invariant.small, c.whole-end.ensures.small);
     }
+
+pub loop-field-init : goal.loop-field-init
+loop-field-init c = record {
+  told = sym (append-nil c.args.bytes.now.items);
+  far = omega arith;
+  small = omega (arith, c.requires.at);
+}
+
+pub returns-clause-end : goal.returns-clause-end
+returns-clause-end c =
+    let fields = c.args.fields.now in
+    c.loop-field.invariant.far
+    ∙ ap (λ l. c.args.at + sum_by (λ (f : FieldDef). whole f.size) l) (take_all c.loop-field.field-index fields (omega (arith, c.loop-field-test.false)))
+
+pub returns-clause-entries : goal.returns-clause-entries
+returns-clause-entries c =
+    let fields = c.args.fields.now in
+    c.loop-field.invariant.told
+    ∙ ap (λ l. c.args.bytes.now.items ++ entries c.args.at (map (column c.args.global) l))
+    (take_all c.loop-field.field-index fields (omega (arith, c.loop-field-test.false)))
+
+pub returns-in_err-put_entry-clause-small : goal.returns-in_err-put_entry-clause-small
+returns-in_err-put_entry-clause-small c = IfOk-from_err c.from_residual.result _ c.from_residual.ensures.0
+
+pub returns-in_err-put_entry-clause-end : goal.returns-in_err-put_entry-clause-end
+returns-in_err-put_entry-clause-end c = IfOk-from_err c.from_residual.result _ c.from_residual.ensures.0
+
+pub returns-in_err-put_entry-clause-entries : goal.returns-in_err-put_entry-clause-entries
+returns-in_err-put_entry-clause-entries c = IfOk-from_err c.from_residual.result _ c.from_residual.ensures.0

@@ -1,5 +1,6 @@
-use Rattle.std.proofs.Common.{◌∙◌, ◌+◌, ◌++◌, length, drop, ap, sym, arith}
-use Rattle.std.proofs.lemmas.List.{length-drop, drop-drop}
+use Rattle.std.proofs.Common.{◌∙◌, ◌+◌, ◌++◌, length, drop, refl, ap, sym, arith}
+use Rattle.std.proofs.lemmas.List.{append-nil, drop_all, length-drop, drop-drop}
+use Rattle.std.proofs.lemmas.Result.{IfOk-from_err}
 use Rattle.std.specs.Prelude.{flat_map}
 use Rattle.std.specs.Global.{Global}
 use Rattle.fit_record.proofs.FirstOfNumber.{dropped}
@@ -34,3 +35,31 @@ loop-place-preserved c =
       after = ap (drop (sizes next)) c.split_at.ensures.back ∙ drop-drop (sizes next) f.1 rest ∙ ap (λ n. drop n rest) (sym more)
           ∙ c.loop-place.invariant.after;
     }
+
+pub loop-place-init : goal.loop-place-init
+loop-place-init c = record { told = refl; enough = c.requires.size; small = c.requires.place; after = refl }
+
+pub returns-clause-place : goal.returns-clause-place
+returns-clause-place c = c.loop-place.invariant.small
+
+pub returns-clause-text : goal.returns-clause-text
+returns-clause-text c =
+    let l = c.loop-place in
+    let end = drop_all l.place c.args.layout.now (omega (arith, c.loop-place-test.false)) in
+    sym (append-nil (with_sheet l.bytes.items l.sheet l.at))
+    ∙ ap (λ slots. with_sheet l.bytes.items l.sheet l.at ++ flat_map slot (fields_from {A = Global} c.args.order slots l.rest.now)) (sym end)
+    ∙ l.invariant.told
+
+pub returns-clause-rest : goal.returns-clause-rest
+returns-clause-rest c =
+    let end = drop_all c.loop-place.place c.args.layout.now (omega (arith, c.loop-place-test.false)) in
+    ap (λ slots. drop (sizes slots) c.loop-place.rest.now) (sym end) ∙ c.loop-place.invariant.after
+
+pub returns-in_err-at-clause-place : goal.returns-in_err-at-clause-place
+returns-in_err-at-clause-place c = IfOk-from_err c.from_residual.result _ c.from_residual.ensures.0
+
+pub returns-in_err-at-clause-text : goal.returns-in_err-at-clause-text
+returns-in_err-at-clause-text c = IfOk-from_err c.from_residual.result _ c.from_residual.ensures.0
+
+pub returns-in_err-at-clause-rest : goal.returns-in_err-at-clause-rest
+returns-in_err-at-clause-rest c = IfOk-from_err c.from_residual.result _ c.from_residual.ensures.0

@@ -1,5 +1,7 @@
-use Rattle.fit_step.proofs.Common.{refl, tests_of}
+use Rattle.fit_step.proofs.Common.{Bool, [], refl, subst, tests_of, Definition, TakesNone}
+use Rattle.fit_step.proofs.InPlace.{definition_refused, wants_none}
 use Rattle.fit_step.proofs.TwoLists.{on_err}
+use Rattle.std.proofs.lemmas.Result.{MatchResult-from_err, err_from_is_err_and}
 use Rattle.fit_step.proofs.definition_byte.definition_byte.Goals as goal
 
 pub returns-in-Reserved-clause-made : goal.returns-in-Reserved-clause-made
@@ -66,3 +68,130 @@ returns-in-FieldCount-clause-err g c = on_err c.at_field_count.result (λ same. 
 
 pub returns-in-DevCount-clause-err : goal.returns-in-DevCount-clause-err
 returns-in-DevCount-clause-err g c = on_err c.at_dev_count.result (λ same. (same.0, same.1, refl)) c.at_dev_count.ensures.err
+
+pub returns-in_err-at_architecture-in-Architecture-clause-made : goal.returns-in_err-at_architecture-in-Architecture-clause-made
+returns-in_err-at_architecture-in-Architecture-clause-made g c =
+    let refused = c.in_err-at_architecture-in-Architecture in
+    let after = c.at_architecture.new in
+    let exit = c.from_residual in
+    let is = err_from_is_err_and exit.result exit.ensures.1 in
+    rw (is.1, is.2, c.in-Architecture.is)
+    (definition_refused after.phase after.room after.definition refused.field-0.0 _ (refused.ensures.made (tests_of c.args.env.now)))
+
+pub returns-in_err-at_architecture-in-Architecture-clause-err : goal.returns-in_err-at_architecture-in-Architecture-clause-err
+returns-in_err-at_architecture-in-Architecture-clause-err g c =
+    let same = c.in_err-at_architecture-in-Architecture.ensures.err in
+    let exit = c.from_residual in MatchResult-from_err exit.result _ _ exit.ensures.0 (λ _. same)
+
+pub returns-in_err-at_architecture-in-Architecture-clause-free : goal.returns-in_err-at_architecture-in-Architecture-clause-free
+returns-in_err-at_architecture-in-Architecture-clause-free g c = λ _.
+    let refused = c.in_err-at_architecture-in-Architecture in
+    let exit = c.from_residual in
+    let is = err_from_is_err_and exit.result exit.ensures.1 in
+    rw (is.1, is.2) (wants_none (Unit {0}) Bool refused.field-0.0 refused.ensures.free)
+
+pub returns-in_err-at_field_size-in-FieldSize-clause-made : goal.returns-in_err-at_field_size-in-FieldSize-clause-made
+returns-in_err-at_field_size-in-FieldSize-clause-made g c =
+    let refused = c.in_err-at_field_size-in-FieldSize in
+    let after = c.at_field_size.new in
+    let exit = c.from_residual-in_err-at_field_size-in-FieldSize in
+    let is = err_from_is_err_and exit.result exit.ensures.1 in
+    rw (is.1, is.2, c.in-FieldSize.is) (definition_refused after.phase after.room c.args.definition.now refused.field-0.0 _ refused.ensures.made)
+
+pub returns-in_err-at_field_size-in-FieldSize-clause-err : goal.returns-in_err-at_field_size-in-FieldSize-clause-err
+returns-in_err-at_field_size-in-FieldSize-clause-err g c =
+    let same = c.in_err-at_field_size-in-FieldSize.ensures.err in
+    let exit = c.from_residual-in_err-at_field_size-in-FieldSize in MatchResult-from_err exit.result _ _ exit.ensures.0 (λ _. (same.0, same.1, refl))
+
+pub returns-in_err-at_field_size-in-FieldSize-clause-free : goal.returns-in_err-at_field_size-in-FieldSize-clause-free
+returns-in_err-at_field_size-in-FieldSize-clause-free g c = λ _.
+    let refused = c.in_err-at_field_size-in-FieldSize in
+    let exit = c.from_residual-in_err-at_field_size-in-FieldSize in
+    let is = err_from_is_err_and exit.result exit.ensures.1 in
+    rw (is.1, is.2) (wants_none (Unit {0}) Bool refused.field-0.0 refused.ensures.free)
+
+pub returns-in_err-at_dev_size-in-DevSize-clause-made : goal.returns-in_err-at_dev_size-in-DevSize-clause-made
+returns-in_err-at_dev_size-in-DevSize-clause-made g c =
+    let refused = c.in_err-at_dev_size-in-DevSize in
+    let after = c.at_dev_size.new in
+    let exit = c.from_residual-in_err-at_dev_size-in-DevSize in
+    let is = err_from_is_err_and exit.result exit.ensures.1 in
+    rw (is.1, is.2, c.in-DevSize.is) (definition_refused after.phase after.room c.args.definition.now refused.field-0.0 _ refused.ensures.made)
+
+pub returns-in_err-at_dev_size-in-DevSize-clause-err : goal.returns-in_err-at_dev_size-in-DevSize-clause-err
+returns-in_err-at_dev_size-in-DevSize-clause-err g c =
+    let same = c.in_err-at_dev_size-in-DevSize.ensures.err in
+    let exit = c.from_residual-in_err-at_dev_size-in-DevSize in MatchResult-from_err exit.result _ _ exit.ensures.0 (λ _. (same.0, same.1, refl))
+
+pub returns-in_err-at_dev_size-in-DevSize-clause-free : goal.returns-in_err-at_dev_size-in-DevSize-clause-free
+returns-in_err-at_dev_size-in-DevSize-clause-free g c = λ _.
+    let refused = c.in_err-at_dev_size-in-DevSize in
+    let exit = c.from_residual-in_err-at_dev_size-in-DevSize in
+    let is = err_from_is_err_and exit.result exit.ensures.1 in
+    rw (is.1, is.2) (wants_none (Unit {0}) Bool refused.field-0.0 refused.ensures.free)
+
+pub returns-in-Reserved-clause-err : goal.returns-in-Reserved-clause-err
+returns-in-Reserved-clause-err g c = tt
+
+pub returns-in-Reserved-clause-free : goal.returns-in-Reserved-clause-free
+returns-in-Reserved-clause-free g c = λ _. tt
+
+pub returns-in-GlobalFirst-clause-err : goal.returns-in-GlobalFirst-clause-err
+returns-in-GlobalFirst-clause-err g c = tt
+
+pub returns-in-GlobalFirst-clause-free : goal.returns-in-GlobalFirst-clause-free
+returns-in-GlobalFirst-clause-free g c = λ _. tt
+
+pub returns-in-GlobalSecond-clause-err : goal.returns-in-GlobalSecond-clause-err
+returns-in-GlobalSecond-clause-err g c = tt
+
+pub returns-in-GlobalSecond-clause-free : goal.returns-in-GlobalSecond-clause-free
+returns-in-GlobalSecond-clause-free g c = λ _. tt
+
+pub returns-in-FieldNumber-clause-err : goal.returns-in-FieldNumber-clause-err
+returns-in-FieldNumber-clause-err g c = tt
+
+pub returns-in-FieldNumber-clause-free : goal.returns-in-FieldNumber-clause-free
+returns-in-FieldNumber-clause-free g c = λ _. tt
+
+pub returns-in-DevNumber-clause-err : goal.returns-in-DevNumber-clause-err
+returns-in-DevNumber-clause-err g c = tt
+
+pub returns-in-DevNumber-clause-free : goal.returns-in-DevNumber-clause-free
+returns-in-DevNumber-clause-free g c = λ _. tt
+
+pub returns-in_ok-at_architecture-in-Architecture-clause-err : goal.returns-in_ok-at_architecture-in-Architecture-clause-err
+returns-in_ok-at_architecture-in-Architecture-clause-err g c = tt
+
+pub returns-in_ok-at_architecture-in-Architecture-clause-free : goal.returns-in_ok-at_architecture-in-Architecture-clause-free
+returns-in_ok-at_architecture-in-Architecture-clause-free g c = λ _. tt
+
+pub returns-in_ok-at_field_size-in-FieldSize-clause-err : goal.returns-in_ok-at_field_size-in-FieldSize-clause-err
+returns-in_ok-at_field_size-in-FieldSize-clause-err g c = tt
+
+pub returns-in_ok-at_field_size-in-FieldSize-clause-free : goal.returns-in_ok-at_field_size-in-FieldSize-clause-free
+returns-in_ok-at_field_size-in-FieldSize-clause-free g c = λ _. tt
+
+pub returns-in_ok-at_dev_size-in-DevSize-clause-err : goal.returns-in_ok-at_dev_size-in-DevSize-clause-err
+returns-in_ok-at_dev_size-in-DevSize-clause-err g c = tt
+
+pub returns-in_ok-at_dev_size-in-DevSize-clause-free : goal.returns-in_ok-at_dev_size-in-DevSize-clause-free
+returns-in_ok-at_dev_size-in-DevSize-clause-free g c = λ _. tt
+
+pub returns-in-FieldCount-clause-free : goal.returns-in-FieldCount-clause-free
+returns-in-FieldCount-clause-free g c = λ _. c.at_field_count.ensures.free
+
+pub returns-in-DevCount-clause-free : goal.returns-in-DevCount-clause-free
+returns-in-DevCount-clause-free g c = λ _. c.at_dev_count.ensures.free
+
+pub returns-in-FieldCode-clause-err : goal.returns-in-FieldCode-clause-err
+returns-in-FieldCode-clause-err g c = c.at_field_code.ensures.err
+
+pub returns-in-FieldCode-clause-free : goal.returns-in-FieldCode-clause-free
+returns-in-FieldCode-clause-free g c = λ none. absurd (subst (λ k. TakesNone c.args.env.now (Definition k) [] c.args.byte) c.in-FieldCode.is none)
+
+pub returns-in-DevIndex-clause-err : goal.returns-in-DevIndex-clause-err
+returns-in-DevIndex-clause-err g c = c.at_dev_index.ensures.err
+
+pub returns-in-DevIndex-clause-free : goal.returns-in-DevIndex-clause-free
+returns-in-DevIndex-clause-free g c = λ none. absurd (subst (λ k. TakesNone c.args.env.now (Definition k) [] c.args.byte) c.in-DevIndex.is none)

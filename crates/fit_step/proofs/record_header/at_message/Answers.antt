@@ -1,6 +1,6 @@
-use Rattle.fit_step.proofs.Common.{◌∙◌, ◌-◌, ap, sym, Ok, Data, entered, arith, rules}
+use Rattle.fit_step.proofs.Common.{◌∙◌, ◌-◌, ap, sym, Ok, Data, entered, arith, subst, IsSomeAnd}
 use Rattle.fit_step.proofs.HeaderSteps.{begun_entered}
-use Rattle.std.proofs.lemmas.Grind.{common_steps}
+use Rattle.fit_record.specs.Sizes.{HasNoFields}
 use Rattle.fit_step.proofs.record_header.at_message.Goals as goal
 
 pub returns-clause-made : goal.returns-clause-made
@@ -16,10 +16,17 @@ pub defined_for-requires : goal.defined_for-requires
 defined_for-requires g c = assumption
 
 pub overflow_sub-room : goal.overflow_sub-room
-overflow_sub-room g c = grind (arith, common_steps)
+overflow_sub-room g c = omega (arith, c.requires.room)
 
 pub returns-in-Err-clause-made : goal.returns-in-Err-clause-made
-returns-in-Err-clause-made g c = search rules
+returns-in-Err-clause-made g c = c.in-Err.ensures.err
 
 pub returns-in-Err-clause-free : goal.returns-in-Err-clause-free
-returns-in-Err-clause-free g c = search rules
+returns-in-Err-clause-free g c = λ _. tt
+
+pub returns-clause-free : goal.returns-clause-free
+returns-clause-free g c = λ _. tt
+
+pub returns-in_default-clause-free : goal.returns-in_default-clause-free
+returns-in_default-clause-free g c = λ none.
+    let refused = c.in_default.ensures.free (subst (λ o. IsSomeAnd o (λ p. HasNoFields p.definition)) c.in-Ok.ensures.ok.0 none) in cc

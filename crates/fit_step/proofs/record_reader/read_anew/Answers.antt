@@ -1,4 +1,4 @@
-use Rattle.fit_step.proofs.Common.{rules, state_at, StandsWithRoom, refl}
+use Rattle.fit_step.proofs.Common.{state_at, StandsWithRoom, refl}
 use Rattle.fit_step.proofs.ReadBytes.{from_old}
 use Rattle.fit_step.proofs.record_reader.read_anew.Goals as goal
 
@@ -6,7 +6,7 @@ pub scan_bytes-requires : goal.scan_bytes-requires
 scan_bytes-requires g c =
     let same = c.in-None.ensures.none in
     let here : StandsWithRoom c.args.env.now (state_at c.args.position.now c.args.in_progress.now) = c.requires in
-    (search rules, rw (same.0, same.1) here)
+    (assumption, rw (same.0, same.1) here)
 
 pub returns-in-None-clause-reads : goal.returns-in-None-clause-reads
 returns-in-None-clause-reads g c =
@@ -17,3 +17,9 @@ returns-in-None-clause-reads g c =
 
 pub returns-in-Some-clause-reads : goal.returns-in-Some-clause-reads
 returns-in-Some-clause-reads g c = (c.in-Some.record, refl, c.in-Some.ensures.told)
+
+pub returns-in-None-clause-within : goal.returns-in-None-clause-within
+returns-in-None-clause-within g c = c.scan_bytes.ensures.within
+
+pub returns-in-Some-clause-within : goal.returns-in-Some-clause-within
+returns-in-Some-clause-within g c = c.in-Some.ensures.within

@@ -1,9 +1,9 @@
-use Rattle.fit_step.proofs.Common.{◌+◌, ap, ◌∙◌, subst, rules, sym, refl, length, take, flat_map, field_bytes, Define, DefinitionFits, IsRecord, arith}
+use Rattle.fit_step.proofs.Common.{◌+◌, ap, ◌∙◌, subst, sym, refl, length, take, flat_map, field_bytes, Define, DefinitionFits, IsRecord, arith}
 use Rattle.fit_step.proofs.ReadBytes.{whole_at_front}
 use Rattle.fit_step.proofs.ReadDefinitions.{definition_stands, read_fits, read_is_record}
 use Rattle.fit_step.proofs.SkippedRecords.{plain_stands}
 use Rattle.fit_step.specs.inner.Definitions.{definition_of}
-use Rattle.std.proofs.lemmas.Grind.{common_steps}
+use Rattle.std.proofs.lemmas.Result.{IfOk-from_err, MatchResult-from_err}
 use Rattle.fit_step.proofs.record_reader.read_whole_definition.Goals as goal
 
 pub learn_copy-requires : goal.learn_copy-requires
@@ -12,7 +12,7 @@ learn_copy-requires g c =
     let are = c.in_ok-read_fields.ensures in
     let is = c.with_fields-definition.ensures in
     let same = ap (λ d. d.fields) is in (
-      search rules,
+      assumption,
       (
         found.ensures.begins.long,
         (
@@ -62,7 +62,70 @@ returns-clause-whole g c = λ idle size has large.
     ap (λ n. 6 + n) (c.in-Some.ensures.whole idle f entries begins (omega (arith, large, all))) ∙ all
 
 pub overflow_cast-position : goal.overflow_cast-position
-overflow_cast-position g c = grind (arith, common_steps)
+overflow_cast-position g c = omega (arith, c.in-Some.ensures.left)
 
 pub overflow_sub-position : goal.overflow_sub-position
-overflow_sub-position g c = grind (arith, common_steps)
+overflow_sub-position g c = omega (arith, c.in-Some.ensures.left)
+
+pub returns-clause-left : goal.returns-clause-left
+returns-clause-left g c = omega (arith, c.in-Some.ensures.left)
+
+pub returns-clause-none : goal.returns-clause-none
+returns-clause-none g c = tt
+
+pub returns-clause-err : goal.returns-clause-err
+returns-clause-err g c = tt
+
+pub returns-in_default-clause-reads : goal.returns-in_default-clause-reads
+returns-in_default-clause-reads g c = tt
+
+pub returns-in_default-clause-definition : goal.returns-in_default-clause-definition
+returns-in_default-clause-definition g c = tt
+
+pub returns-in_default-clause-left : goal.returns-in_default-clause-left
+returns-in_default-clause-left g c = tt
+
+pub returns-in_default-clause-err : goal.returns-in_default-clause-err
+returns-in_default-clause-err g c = tt
+
+pub returns-in_default-clause-none : goal.returns-in_default-clause-none
+returns-in_default-clause-none g c = (refl, refl)
+
+pub returns-in_err-read_fields-clause-reads : goal.returns-in_err-read_fields-clause-reads
+returns-in_err-read_fields-clause-reads g c = IfOk-from_err c.from_residual.result _ c.from_residual.ensures.0
+
+pub returns-in_err-read_fields-clause-definition : goal.returns-in_err-read_fields-clause-definition
+returns-in_err-read_fields-clause-definition g c = IfOk-from_err c.from_residual.result _ c.from_residual.ensures.0
+
+pub returns-in_err-read_fields-clause-left : goal.returns-in_err-read_fields-clause-left
+returns-in_err-read_fields-clause-left g c = IfOk-from_err c.from_residual.result _ c.from_residual.ensures.0
+
+pub returns-in_err-read_fields-clause-none : goal.returns-in_err-read_fields-clause-none
+returns-in_err-read_fields-clause-none g c = IfOk-from_err c.from_residual.result _ c.from_residual.ensures.0
+
+pub returns-in_err-read_fields-clause-whole : goal.returns-in_err-read_fields-clause-whole
+returns-in_err-read_fields-clause-whole g c = λ idle size has large. IfOk-from_err c.from_residual.result _ c.from_residual.ensures.0
+
+pub returns-in_err-read_fields-clause-err : goal.returns-in_err-read_fields-clause-err
+returns-in_err-read_fields-clause-err g c = MatchResult-from_err c.from_residual.result _ _ c.from_residual.ensures.0 (λ _. (refl, refl))
+
+pub returns-in_err-learn_copy-clause-reads : goal.returns-in_err-learn_copy-clause-reads
+returns-in_err-learn_copy-clause-reads g c = IfOk-from_err c.from_residual-in_err-learn_copy.result _ c.from_residual-in_err-learn_copy.ensures.0
+
+pub returns-in_err-learn_copy-clause-definition : goal.returns-in_err-learn_copy-clause-definition
+returns-in_err-learn_copy-clause-definition g c = IfOk-from_err c.from_residual-in_err-learn_copy.result _ c.from_residual-in_err-learn_copy.ensures.0
+
+pub returns-in_err-learn_copy-clause-left : goal.returns-in_err-learn_copy-clause-left
+returns-in_err-learn_copy-clause-left g c = IfOk-from_err c.from_residual-in_err-learn_copy.result _ c.from_residual-in_err-learn_copy.ensures.0
+
+pub returns-in_err-learn_copy-clause-none : goal.returns-in_err-learn_copy-clause-none
+returns-in_err-learn_copy-clause-none g c = IfOk-from_err c.from_residual-in_err-learn_copy.result _ c.from_residual-in_err-learn_copy.ensures.0
+
+pub returns-in_err-learn_copy-clause-whole : goal.returns-in_err-learn_copy-clause-whole
+returns-in_err-learn_copy-clause-whole g c = λ idle size has large.
+    IfOk-from_err c.from_residual-in_err-learn_copy.result _ c.from_residual-in_err-learn_copy.ensures.0
+
+pub returns-in_err-learn_copy-clause-err : goal.returns-in_err-learn_copy-clause-err
+returns-in_err-learn_copy-clause-err g c =
+    MatchResult-from_err c.from_residual-in_err-learn_copy.result _ _ c.from_residual-in_err-learn_copy.ensures.0
+    (λ _. (c.in_err-learn_copy.ensures.err, refl))

@@ -1,4 +1,4 @@
-use Rattle.fit_step.proofs.Common.{rules, None, sym, ap, subst, arith, IsOk, both_ways, step, state_at, tests_of}
+use Rattle.fit_step.proofs.Common.{None, refl, sym, ap, subst, arith, IsOk, both_ways, step, state_at, tests_of}
 use Rattle.fit_step.proofs.EmptyMessages.{describes_nothing, record_stopped}
 use Rattle.fit_step.proofs.ReadBytes.{step_whole}
 use Rattle.fit_step.proofs.record_reader.take_step.Goals as goal
@@ -43,10 +43,19 @@ returns-then-not-is_learned-clause-made g c =
     let w = step_whole e c.step.new.in_progress next c.in-Ok-default-true.field-0-1 (step e (tests_of e) before c.args.byte) c.in-Ok-default-true.field-0-1-test
     c.in-Ok-default-true.ensures.made c.in-Ok-default-true.ensures.kept in
     let learned = c.is_learned.ensures.free w.0 w.1 in
-    let is_ok : IsOk (step e (tests_of e) before c.args.byte) = subst IsOk (sym w.3) (search rules) in (
+    let is_ok : IsOk (step e (tests_of e) before c.args.byte) = subst IsOk (sym w.3) refl in (
       c.is_learned.ensures.same c.if-not-is_learned.true,
       is_ok,
       λ at heads.
           let yes = learned (describes_nothing e (tests_of e) before (state_at next None) c.args.byte w.0 at heads w.3) in
           absurd (both_ways c.is_learned.result c.if-not-is_learned.true yes),
     )
+
+pub returns-in-Err-clause-err : goal.returns-in-Err-clause-err
+returns-in-Err-clause-err g c = ap (state_at c.args.position.now) c.in-Err.ensures.err
+
+pub returns-in-Ok-default-false-clause-err : goal.returns-in-Ok-default-false-clause-err
+returns-in-Ok-default-false-clause-err g c = tt
+
+pub returns-else-not-is_learned-clause-err : goal.returns-else-not-is_learned-clause-err
+returns-else-not-is_learned-clause-err g c = tt

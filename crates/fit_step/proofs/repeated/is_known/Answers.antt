@@ -15,3 +15,9 @@ returns g c = λ yes.
     let sound : IsSound p = subst (λ o. IfSome o IsSound) known c.in-Some.ensures.sound in
     known_again c.args.env.now p c.args.front c.args.entries.now known sound (c.begins_as.ensures c.if-not-begins_as.false)
     (ap (flat_map field_bytes) (sym c.as_slice.ensures) ∙ c.are_fields.ensures yes)
+
+pub returns-in_default : goal.returns-in_default
+returns-in_default g c = λ yes. absurd (cc yes)
+
+pub returns-then-not-begins_as : goal.returns-then-not-begins_as
+returns-then-not-begins_as g c = λ yes. absurd (cc yes)

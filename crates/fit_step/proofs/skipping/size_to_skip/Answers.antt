@@ -1,6 +1,5 @@
-use Rattle.fit_step.proofs.Common.{◌+◌, cond, sym, ap, ◌∙◌, option_map_or, ne_eqb, Defined, message_size, ◌==◌, arith}
+use Rattle.fit_step.proofs.Common.{◌≡◌, ◌+◌, None, Some, cond, sym, ap, ◌∙◌, option_map, option_map_or, eq-eqb, ne_eqb, Defined, message_size, ◌==◌, arith}
 use Rattle.fit_step.proofs.WholeMessage.{same_size}
-use Rattle.std.proofs.lemmas.Grind.{common_steps}
 use Rattle.fit_step.proofs.skipping.size_to_skip.Goals as goal
 
 pub returns-else-defined-eq-FIELD_DESCRIPTION : goal.returns-else-defined-eq-FIELD_DESCRIPTION
@@ -15,16 +14,24 @@ pub defined-requires : goal.defined-requires
 defined-requires g c = assumption
 
 pub returns-in_default : goal.returns-in_default
-returns-in_default g c = grind (arith, common_steps)
+returns-in_default g c =
+    ap (λ o. option_map_or (λ (q : Defined g.row.A.Denot). cond (q.definition.global == 206) 0 (1 + message_size q)) o 0) c.in_default.ensures.place
 
 pub length-requires : goal.length-requires
 length-requires g c = assumption
 
 pub returns-in_default-length : goal.returns-in_default-length
-returns-in_default-length g c = grind (arith, common_steps)
+returns-in_default-length g c =
+    let p = c.in-Some.defined.now in
+    let none : None ≡ Some (message_size p) = c.in_default-length.ensures.size ∙ ap (option_map message_size) (sym c.in-Some.ensures.place) in
+    absurd (cc none)
 
 pub overflow_add-result : goal.overflow_add-result
-overflow_add-result g c = grind (arith, common_steps)
+overflow_add-result g c = omega (arith, c.in-Some-length.ensures.small)
 
 pub returns-then-defined-eq-FIELD_DESCRIPTION : goal.returns-then-defined-eq-FIELD_DESCRIPTION
-returns-then-defined-eq-FIELD_DESCRIPTION g c = grind (arith, common_steps)
+returns-then-defined-eq-FIELD_DESCRIPTION g c =
+    let p = c.in-Some.defined.now in
+    let description = eq-eqb p.definition.global 206 c.if-defined-eq-FIELD_DESCRIPTION.true in
+    ap (λ b. cond b 0 (1 + message_size p)) (sym description)
+    ∙ ap (λ o. option_map_or (λ (q : Defined g.row.A.Denot). cond (q.definition.global == 206) 0 (1 + message_size q)) o 0) c.in-Some.ensures.place

@@ -1,4 +1,4 @@
-use Rattle.fit_step.proofs.Common.{arith, rules}
+use Rattle.fit_step.proofs.Common.{arith, refl, rules}
 use Rattle.fit_step.proofs.SkippedRecords.{table_more}
 use Rattle.fit_step.proofs.skipping.sizes_to_skip.Goals as goal
 
@@ -11,3 +11,15 @@ loop-local-preserved g c = record {
 
 pub returns : goal.returns
 returns g c = λ local low. c.loop-local.invariant.told local (omega (arith, low, c.loop-local-test.false))
+
+pub bounds-sizes-local : goal.bounds-sizes-local
+bounds-sizes-local g c = c.loop-local-test.true
+
+pub offset_bounds-sizes-local : goal.offset_bounds-sizes-local
+offset_bounds-sizes-local g c = omega (arith, c.loop-local-test.true)
+
+pub overflow_cast-sizes : goal.overflow_cast-sizes
+overflow_cast-sizes g c = omega (arith, c.loop-local-test.true)
+
+pub loop-local-init : goal.loop-local-init
+loop-local-init g c = record { long = refl; told = λ k low. absurd (omega (arith, low)) }

@@ -1,8 +1,7 @@
-use Rattle.fit_step.proofs.Common.{ap, ◌∙◌, subst, rules, sym, Define, DefinitionFits, learn, size_to_skip, AreSizesToSkip, slice_set, arith}
+use Rattle.fit_step.proofs.Common.{ap, ◌∙◌, subst, rules, sym, Define, DefinitionFits, learn, size_to_skip, AreSizesToSkip, slice_set, arith, refl}
 use Rattle.fit_step.proofs.SkippedRecords.{sizes_after}
 use Rattle.fit_step.proofs.ReadDefinitions.{read_fits, read_is_record}
 use Rattle.fit_step.specs.inner.Definitions.{definition_of}
-use Rattle.std.proofs.lemmas.Grind.{common_steps}
 use Rattle.fit_step.proofs.skipping.skip_definition.Goals as goal
 
 pub returns-then-is_known-clause-skipped : goal.returns-then-is_known-clause-skipped
@@ -47,13 +46,61 @@ pub definition_bytes-requires : goal.definition_bytes-requires
 definition_bytes-requires g c = assumption
 
 pub overflow_add-size : goal.overflow_add-size
-overflow_add-size g c = grind (arith, common_steps)
+overflow_add-size g c = omega (arith, c.in-Some.ensures.begins.within)
 
 pub size_to_skip-requires : goal.size_to_skip-requires
 size_to_skip-requires g c = assumption
 
 pub overflow_cast-sizes : goal.overflow_cast-sizes
-overflow_cast-sizes g c = grind (arith, common_steps)
+overflow_cast-sizes g c = omega (arith, c.in-Some.ensures.begins.local)
 
 pub offset_bounds-sizes-front : goal.offset_bounds-sizes-front
-offset_bounds-sizes-front g c = grind (arith, common_steps)
+offset_bounds-sizes-front g c = omega (arith, c.in-Some.ensures.begins.local)
+
+pub returns-clause-none : goal.returns-clause-none
+returns-clause-none g c = λ none. absurd (omega (arith, none))
+
+pub returns-clause-within : goal.returns-clause-within
+returns-clause-within g c = c.in-Some.ensures.begins.within
+
+pub returns-then-is_known-clause-none : goal.returns-then-is_known-clause-none
+returns-then-is_known-clause-none g c = λ _. refl
+
+pub returns-then-is_known-clause-within : goal.returns-then-is_known-clause-within
+returns-then-is_known-clause-within g c = c.in-Some.ensures.begins.within
+
+pub returns-then-is_known-clause-sizes : goal.returns-then-is_known-clause-sizes
+returns-then-is_known-clause-sizes g c = c.requires
+
+pub returns-in-Err-clause-none : goal.returns-in-Err-clause-none
+returns-in-Err-clause-none g c = λ _. c.in-Err.ensures.err
+
+pub returns-in_default-clause-none : goal.returns-in_default-clause-none
+returns-in_default-clause-none g c = λ _. refl
+
+pub returns-in_default-clause-sizes : goal.returns-in_default-clause-sizes
+returns-in_default-clause-sizes g c = c.requires
+
+pub returns-in_default-read_fields-clause-none : goal.returns-in_default-read_fields-clause-none
+returns-in_default-read_fields-clause-none g c = λ _. refl
+
+pub returns-in_default-read_fields-clause-sizes : goal.returns-in_default-read_fields-clause-sizes
+returns-in_default-read_fields-clause-sizes g c = c.requires
+
+pub returns-in_default-clause-within : goal.returns-in_default-clause-within
+returns-in_default-clause-within g c = omega arith
+
+pub returns-in_default-clause-skipped : goal.returns-in_default-clause-skipped
+returns-in_default-clause-skipped g c = λ some. absurd (omega (arith, some))
+
+pub returns-in_default-read_fields-clause-within : goal.returns-in_default-read_fields-clause-within
+returns-in_default-read_fields-clause-within g c = omega arith
+
+pub returns-in_default-read_fields-clause-skipped : goal.returns-in_default-read_fields-clause-skipped
+returns-in_default-read_fields-clause-skipped g c = λ some. absurd (omega (arith, some))
+
+pub returns-in-Err-clause-within : goal.returns-in-Err-clause-within
+returns-in-Err-clause-within g c = omega arith
+
+pub returns-in-Err-clause-skipped : goal.returns-in-Err-clause-skipped
+returns-in-Err-clause-skipped g c = λ some. absurd (omega (arith, some))

@@ -22,3 +22,9 @@ returns-clause-skips g c =
       count,
       skipped_after c.args.env.now s.new.env c.args.position.now c.args.in_progress.now piece used records c.in-None.is large all,
     )
+
+pub returns-in-Some-clause-within : goal.returns-in-Some-clause-within
+returns-in-Some-clause-within g c = omega arith
+
+pub returns-then-position-lt6-clause-within : goal.returns-then-position-lt6-clause-within
+returns-then-position-lt6-clause-within g c = omega arith

@@ -1,7 +1,6 @@
-use Rattle.fit_step.proofs.Common.{◌+◌, [], ◌∷◌, length, Data, arith}
+use Rattle.fit_step.proofs.Common.{◌+◌, [], ◌∷◌, length, refl, Data, arith}
 use Rattle.fit_record.specs.MessageBytes.{message_in}
 use Rattle.fit_step.proofs.SkippedRecords.{skipped_after, one_learned}
-use Rattle.std.proofs.lemmas.Grind.{common_steps}
 use Rattle.fit_step.proofs.skipping.skip_message_in_section.Goals as goal
 
 pub returns-clause-within : goal.returns-clause-within
@@ -24,7 +23,19 @@ pub returns-clause-whole : goal.returns-clause-whole
 returns-clause-whole g c = λ idle size has large. c.in-Some.ensures.whole idle size has large
 
 pub overflow_cast-position : goal.overflow_cast-position
-overflow_cast-position g c = grind (arith, common_steps)
+overflow_cast-position g c = omega (arith, c.in-Some.ensures.left)
 
 pub overflow_sub-position : goal.overflow_sub-position
-overflow_sub-position g c = grind (arith, common_steps)
+overflow_sub-position g c = omega (arith, c.in-Some.ensures.left)
+
+pub returns-clause-none : goal.returns-clause-none
+returns-clause-none g c = λ none. absurd (omega (arith, none))
+
+pub returns-in_default-clause-within : goal.returns-in_default-clause-within
+returns-in_default-clause-within g c = omega arith
+
+pub returns-in_default-clause-none : goal.returns-in_default-clause-none
+returns-in_default-clause-none g c = λ _. refl
+
+pub returns-in_default-clause-message : goal.returns-in_default-clause-message
+returns-in_default-clause-message g c = λ some. absurd (omega (arith, some))

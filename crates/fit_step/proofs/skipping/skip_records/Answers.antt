@@ -1,6 +1,5 @@
 use Rattle.fit_step.proofs.Common.{◌≡◌, ◌+◌, ◌<◌, ap, take, length, length-drop, subst, arith, IsSkipped, ◌≤◌}
 use Rattle.fit_step.proofs.SkippedRecords.{one_more}
-use Rattle.std.proofs.lemmas.Grind.{common_steps}
 use Rattle.fit_step.proofs.skipping.skip_records.Goals as goal
 
 pub loop-count-preserved : goal.loop-count-preserved
@@ -26,9 +25,15 @@ pub skip_record-size-requires : goal.skip_record-size-requires
 skip_record-size-requires g c = assumption
 
 pub overflow_add-used : goal.overflow_add-used
-overflow_add-used g c = grind (arith, common_steps)
+overflow_add-used g c = omega (arith, c.skip_record-size.ensures.within, c.split_at.ensures.back_len, c.loop-count.invariant.within)
 
 pub returns-then-size-eq0-clause-records : goal.returns-then-size-eq0-clause-records
 returns-then-size-eq0-clause-records g c =
     let none : c.skip_record-size.result ≡ 0 = omega (arith, c.if-size-eq0.true) in
     rw (c.skip_record-size.ensures.none none) c.loop-count.invariant.records
+
+pub returns-then-size-eq0-clause-within : goal.returns-then-size-eq0-clause-within
+returns-then-size-eq0-clause-within g c = c.loop-count.invariant.within
+
+pub returns-clause-within : goal.returns-clause-within
+returns-clause-within g c = c.loop-count.invariant.within

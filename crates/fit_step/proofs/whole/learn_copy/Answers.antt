@@ -1,6 +1,7 @@
-use Rattle.fit_step.proofs.Common.{◌≡◌, ap, ◌∙◌, subst, sym, Define, learn}
+use Rattle.fit_step.proofs.Common.{◌≡◌, ap, ◌∙◌, subst, sym, refl, Define, learn}
 use Rattle.fit_step.proofs.ReadDefinitions.{fields_are}
 use Rattle.fit_step.specs.inner.Definitions.{definition_of}
+use Rattle.std.proofs.lemmas.Result.{IfOk-from_err, MatchResult-from_err}
 use Rattle.fit_step.proofs.whole.learn_copy.Goals as goal
 
 pub returns-then-is_known-clause-ok : goal.returns-then-is_known-clause-ok
@@ -12,3 +13,15 @@ returns-then-is_known-clause-ok g c =
 
 pub is_known-requires : goal.is_known-requires
 is_known-requires g c = assumption
+
+pub returns-then-is_known-clause-err : goal.returns-then-is_known-clause-err
+returns-then-is_known-clause-err g c = tt
+
+pub returns-in_err-fields-clause-ok : goal.returns-in_err-fields-clause-ok
+returns-in_err-fields-clause-ok g c = IfOk-from_err c.from_residual.result _ c.from_residual.ensures.0
+
+pub returns-in_err-fields-clause-err : goal.returns-in_err-fields-clause-err
+returns-in_err-fields-clause-err g c = MatchResult-from_err c.from_residual.result _ _ c.from_residual.ensures.0 (λ _. refl)
+
+pub returns-clause-err : goal.returns-clause-err
+returns-clause-err g c = c.define.ensures.err

@@ -17,10 +17,19 @@ pub message_bytes-requires : goal.message_bytes-requires
 message_bytes-requires g c = assumption
 
 pub overflow_sub-room : goal.overflow_sub-room
-overflow_sub-room g c = grind (arith, common_steps)
+overflow_sub-room g c = omega (arith, c.requires)
 
 pub can_carry-requires : goal.can_carry-requires
 can_carry-requires g c = assumption
 
 pub overflow_add-result : goal.overflow_add-result
 overflow_add-result g c = grind (arith, common_steps)
+
+pub returns-in_default : goal.returns-in_default
+returns-in_default g c = tt
+
+pub returns-in_err-message : goal.returns-in_err-message
+returns-in_err-message g c = rw c.from_residual.ensures tt
+
+pub returns-then-not-can_carry : goal.returns-then-not-can_carry
+returns-then-not-can_carry g c = tt
