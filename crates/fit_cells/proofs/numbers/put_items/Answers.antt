@@ -1,6 +1,6 @@
 -- The items before are still there, and one more stands after them.
-use Rattle.fit_cells.proofs.Common.{◌≡◌, ◌<◌, ◌+◌, ◌∙◌, ◌++◌, ◌∷◌, [], ℕ, List, length, map, flat_map, take, get_or, sym, ap, arith, append_assoc, take_all, take_more}
-use Rattle.fit_cells.proofs.Common.{option_map, meaning, barred, item_text, more_put, on_err_always, part_put}
+use Rattle.fit_cells.proofs.Common.{◌≡◌, ◌<◌, ◌+◌, ◌∙◌, ◌++◌, ◌∷◌, [], ℕ, List, length, map, flat_map, take, get_or, sym, ap, arith, append_assoc}
+use Rattle.fit_cells.proofs.Common.{take_all, take_more, option_map, meaning, barred, item_text, more_put, on_err_always, part_put}
 use Rattle.std.proofs.Common.{append-nil, length-take-le}
 use Rattle.std.proofs.lemmas.Result.{IfOk-from_err}
 use Rattle.fit_cells.specs.Steps.{bar}

@@ -1,5 +1,5 @@
-use Rattle.fit_cells.proofs.Common.{◌≡◌, ◌∙◌, ◌<◌, ◌^◌, ℕ, List, All, length, drop, map, sym, ap, subst, option_map, IfOk-weaker, Bytes, Text, base_type, meaning}
-use Rattle.fit_cells.proofs.Common.{barred, class_of, item_text, items_text, read_pairs, string_text}
+use Rattle.fit_cells.proofs.Common.{◌≡◌, ◌∙◌, ◌<◌, ◌^◌, ℕ, List, All, length, drop, map, sym, ap, subst, option_map, IfOk-weaker, Bytes, Text}
+use Rattle.fit_cells.proofs.Common.{base_type, meaning, barred, class_of, item_text, items_text, read_pairs, string_text}
 use Rattle.fit_cells.proofs.ClassFacts.{bytes_width, own_width, side_by_side, text_width}
 use Rattle.fit_cells.proofs.ReadFacts.{bytes-shown, length-pairs}
 use Rattle.fit_cells.proofs.scan.read_bits.Goals as goal

@@ -1,6 +1,6 @@
 -- What is written of a chain, and the text that `from-csv` reads.
-use Rattle.fit_run.proofs.Common.{◌≡◌, ◌++◌, ◌∙◌, ℕ, false, refl, sym, ap, subst, flat_map, Global, file_events, channel, chain_rows, table_of, ok_line, IsWritten}
-use Rattle.fit_run.proofs.Common.{◌==◌, RunsCommand, Command, Check, Show, ToCsv, FromCsv, Table}
+use Rattle.fit_run.proofs.Common.{◌≡◌, ◌++◌, ◌∙◌, ℕ, false, refl, sym, ap, subst, flat_map, Global, file_events, channel, chain_rows, table_of, ok_line}
+use Rattle.fit_run.proofs.Common.{IsWritten, ◌==◌, RunsCommand, Command, Check, Show, ToCsv, FromCsv, Table}
 use Rattle.std.proofs.Common.{eq-eqb}
 use Rattle.std.proofs.lemmas.Bool.{true≢false}
 use Rattle.fit_run.proofs.Concluded.{concluded, good_status, text_concluded}
