@@ -1,5 +1,6 @@
-use Rattle.std.proofs.Common.{arith}
-use Rattle.std.proofs.lemmas.Result.{MatchResult-weaker, err_from_is_err_and}
+use Rattle.std.proofs.Common.{arith, length}
+use Rattle.std.proofs.lemmas.Result.{IfOk-from_err, MatchResult-weaker, err_from_is_err_and}
+use Rattle.fit_csv_text.proofs.PlainTexts.{some-left}
 use Rattle.fit_csv_text.proofs.loose.take_more.Goals as goal
 
 pub returns-in_err-left-clause-room : goal.returns-in_err-left-clause-room
@@ -16,3 +17,35 @@ returns-clause-few c fits = MatchResult-weaker c.take_some.result c.take_some.en
 
 pub returns-clause-lines : goal.returns-clause-lines
 returns-clause-lines c plain = c.take_some.ensures.lines (c.in_ok-left.ensures.lines plain)
+
+pub returns-in_err-left-clause-goes : goal.returns-in_err-left-clause-goes
+returns-in_err-left-clause-goes c = IfOk-from_err c.from_residual.result _ c.from_residual.ensures.0
+
+pub returns-in_err-left-clause-more : goal.returns-in_err-left-clause-more
+returns-in_err-left-clause-more c = λ small. IfOk-from_err c.from_residual.result _ c.from_residual.ensures.0
+
+pub returns-in_err-left-clause-few : goal.returns-in_err-left-clause-few
+returns-in_err-left-clause-few c = λ fits. IfOk-from_err c.from_residual.result _ c.from_residual.ensures.0
+
+pub returns-in_err-left-clause-lines : goal.returns-in_err-left-clause-lines
+returns-in_err-left-clause-lines c = λ plain. IfOk-from_err c.from_residual.result _ c.from_residual.ensures.0
+
+pub returns-then-is_empty-clause-goes : goal.returns-then-is_empty-clause-goes
+returns-then-is_empty-clause-goes c = c.in_ok-left.ensures.goes
+
+pub returns-then-is_empty-clause-few : goal.returns-then-is_empty-clause-few
+returns-then-is_empty-clause-few c = c.in_ok-left.ensures.few
+
+pub returns-then-is_empty-clause-lines : goal.returns-then-is_empty-clause-lines
+returns-then-is_empty-clause-lines c = c.in_ok-left.ensures.lines
+
+pub returns-clause-goes : goal.returns-clause-goes
+returns-clause-goes c =
+    MatchResult-weaker c.take_some.result c.take_some.ensures.goes
+    (λ left h text rows ends stands. h text rows ends (c.in_ok-left.ensures.goes text rows ends stands)) (λ e p. p)
+
+pub returns-clause-room : goal.returns-clause-room
+returns-clause-room c plain small most =
+    c.take_some.ensures.room (c.in_ok-left.ensures.lines plain)
+    (some-left (length c.in_ok-left.left.now) c.is_empty.result c.is_empty.ensures c.if-is_empty.false)
+    (omega (arith, most, c.len.ensures, c.if-len-many.false))

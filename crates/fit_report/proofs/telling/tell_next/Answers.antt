@@ -1,6 +1,7 @@
 -- What is fed is told.
 use Rattle.fit_report.proofs.Common.{channel, reverse, ap, ◌∙◌, subst, Err, hear, AreEvents, AreHeard, Seen, err_from_is_err_and}
 use Rattle.fit_report.proofs.Common.{Global, chain_limit, IsViable}
+use Rattle.std.proofs.lemmas.Result.{IfOk-from_err}
 use Rattle.fit_report.proofs.Hearing.{heard_more, heard_next, not_told, uses_some}
 use Rattle.fit_report.proofs.Pieces.{stops, stops_before}
 use Rattle.fit_report.proofs.Texts.{stands_more, stands_on, stops_in, text_told}
@@ -80,3 +81,35 @@ returns-in_default-tell-clause-passes g c = λ told start s.
     stops_before c.args.decoder.now c.args.piece.now (channel g.K.Sink.contents g.K.Sink.has_failed c.args.sink.now c.args.sink.now) s c.tell.new.self
     (not_told c.args.decoder.now c.feed.new.self c.args.piece.now c.in_ok-used.field-0.used c.in_ok-used.field-0.event c.in_default.not-More fed.used.1
     fed.used.0 (record { more = fed.more; event = fed.event }) fed.viable)
+
+pub returns-in-More-clause-used : goal.returns-in-More-clause-used
+returns-in-More-clause-used g c = c.in_ok-used.ensures.used
+
+pub returns-in-More-clause-some : goal.returns-in-More-clause-some
+returns-in-More-clause-some g c =
+    uses_some c.args.decoder.now.bytes c.args.piece.now c.in_ok-used.field-0.used c.in_ok-used.field-0.event
+    (record { more = c.in_ok-used.ensures.more; event = c.in_ok-used.ensures.event })
+
+pub returns-clause-used : goal.returns-clause-used
+returns-clause-used g c = c.in_ok-used.ensures.used
+
+pub returns-clause-works : goal.returns-clause-works
+returns-clause-works g c = c.in_ok-put_text.ensures.works
+
+pub returns-in_err-used-clause-used : goal.returns-in_err-used-clause-used
+returns-in_err-used-clause-used g c = IfOk-from_err c.from_residual.result _ c.from_residual.ensures.0
+
+pub returns-in_err-put_text-clause-used : goal.returns-in_err-put_text-clause-used
+returns-in_err-put_text-clause-used g c = IfOk-from_err c.from_residual-in_err-put_text.result _ c.from_residual-in_err-put_text.ensures.0
+
+pub returns-in_err-used-clause-some : goal.returns-in_err-used-clause-some
+returns-in_err-used-clause-some g c = IfOk-from_err c.from_residual.result _ c.from_residual.ensures.0
+
+pub returns-in_err-put_text-clause-some : goal.returns-in_err-put_text-clause-some
+returns-in_err-put_text-clause-some g c = IfOk-from_err c.from_residual-in_err-put_text.result _ c.from_residual-in_err-put_text.ensures.0
+
+pub returns-in_err-used-clause-works : goal.returns-in_err-used-clause-works
+returns-in_err-used-clause-works g c = IfOk-from_err c.from_residual.result _ c.from_residual.ensures.0
+
+pub returns-in_err-put_text-clause-works : goal.returns-in_err-put_text-clause-works
+returns-in_err-put_text-clause-works g c = IfOk-from_err c.from_residual-in_err-put_text.result _ c.from_residual-in_err-put_text.ensures.0

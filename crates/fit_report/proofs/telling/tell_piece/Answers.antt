@@ -1,6 +1,9 @@
 -- A piece is told event by event, but for what the reporter skips.
-use Rattle.fit_report.proofs.Common.{◌+◌, channel, err_from_is_err_and}
+use Rattle.fit_report.proofs.Common.{◌+◌, ◌++◌, ◌∙◌, List, ℕ, None, sym, ap, arith, append-nil, Seen, channel, err_from_is_err_and}
+use Rattle.std.proofs.lemmas.List.{take_all}
+use Rattle.std.proofs.lemmas.Result.{IfOk-from_err}
 use Rattle.fit_report.proofs.Pieces.{within_after, fed_after, stops_after}
+use Rattle.fit_report.proofs.Skipped.{fed_so}
 use Rattle.fit_report.proofs.telling.tell_piece.Goals as goal
 
 pub returns-in_err-at-clause-passes : goal.returns-in_err-at-clause-passes
@@ -52,3 +55,43 @@ pub tell_next-requires-clause-told : goal.tell_next-requires-clause-told
 tell_next-requires-clause-told g c =
     let (text, start, s) = c.requires.told in
     (text, start, c.in_ok-at.ensures.passes text start (c.loop-at.invariant.stands text start s))
+
+pub loop-at-init : goal.loop-at-init
+loop-at-init g c =
+    let old : Seen = c.args.decoder.now in
+    record {
+      within = omega arith;
+      is_fed = fed_so old old c.args.piece.now 0 (ap (λ (b : List ℕ). record old { bytes = b }) (sym (append-nil old.bytes))) c.requires.fresh;
+      stands = λ text start s. s;
+      works = λ good. good;
+      viable = c.requires.viable;
+    }
+
+pub tell_skipped-requires-clause-fresh : goal.tell_skipped-requires-clause-fresh
+tell_skipped-requires-clause-fresh g c = ap (λ (v : Seen). v.refusal) c.loop-at.invariant.is_fed
+
+pub tell_skipped-requires-clause-told : goal.tell_skipped-requires-clause-told
+tell_skipped-requires-clause-told g c = let (text, start, s) = c.requires.told in (text, start, c.loop-at.invariant.stands text start s)
+
+pub tell_next-requires-clause-fresh : goal.tell_next-requires-clause-fresh
+tell_next-requires-clause-fresh g c = ap (λ (v : Seen). v.refusal) c.in_ok-at.ensures.used.1
+
+pub returns-clause-all : goal.returns-clause-all
+returns-clause-all g c =
+    let whole : List ℕ → Seen = λ l. record { bytes = c.args.decoder.now.bytes ++ l; refusal = None } in
+    c.loop-at.invariant.is_fed ∙ ap whole (take_all c.loop-at.at c.args.piece.now c.loop-at-test.false)
+
+pub returns-clause-passes : goal.returns-clause-passes
+returns-clause-passes g c = c.loop-at.invariant.stands
+
+pub returns-in_err-at-clause-all : goal.returns-in_err-at-clause-all
+returns-in_err-at-clause-all g c = IfOk-from_err c.from_residual.result _ c.from_residual.ensures.0
+
+pub returns-in_err-at-2-clause-all : goal.returns-in_err-at-2-clause-all
+returns-in_err-at-2-clause-all g c = IfOk-from_err c.from_residual-in_err-at-2.result _ c.from_residual-in_err-at-2.ensures.0
+
+pub returns-in_err-at-clause-works : goal.returns-in_err-at-clause-works
+returns-in_err-at-clause-works g c = IfOk-from_err c.from_residual.result _ c.from_residual.ensures.0
+
+pub returns-in_err-at-2-clause-works : goal.returns-in_err-at-2-clause-works
+returns-in_err-at-2-clause-works g c = IfOk-from_err c.from_residual-in_err-at-2.result _ c.from_residual-in_err-at-2.ensures.0

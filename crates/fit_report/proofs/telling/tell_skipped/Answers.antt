@@ -1,5 +1,6 @@
 -- What is skipped is told.
 use Rattle.fit_report.proofs.Common.{channel, reverse, ap, subst, AreEvents, Seen, err_from_is_err_and, Global, chain_limit, IsViable}
+use Rattle.std.proofs.lemmas.Result.{IfOk-from_err}
 use Rattle.fit_report.proofs.Pieces.{stops_before}
 use Rattle.fit_report.proofs.Skipped.{fed_so, skips_heard}
 use Rattle.fit_report.proofs.Texts.{stands_on, stops_in}
@@ -31,3 +32,15 @@ pub returns-in_default-clause-passes : goal.returns-in_default-clause-passes
 returns-in_default-clause-passes g c = λ told start s.
     stops_before c.args.decoder.now c.args.piece.now (channel g.K.Sink.contents g.K.Sink.has_failed c.args.sink.now c.args.sink.now) s
     c.skip_all.new.reporter c.in_default.ensures.wants
+
+pub skip_all-requires-clause-told : goal.skip_all-requires-clause-told
+skip_all-requires-clause-told g c = let s = c.requires.told.2 in (s.heard, s.has, s.are)
+
+pub returns-clause-works : goal.returns-clause-works
+returns-clause-works g c = c.in_ok-put_text.ensures.works
+
+pub returns-in_err-put_text-clause-used : goal.returns-in_err-put_text-clause-used
+returns-in_err-put_text-clause-used g c = IfOk-from_err c.from_residual.result _ c.from_residual.ensures.0
+
+pub returns-in_err-put_text-clause-works : goal.returns-in_err-put_text-clause-works
+returns-in_err-put_text-clause-works g c = IfOk-from_err c.from_residual.result _ c.from_residual.ensures.0
