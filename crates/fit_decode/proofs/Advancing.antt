@@ -5,9 +5,9 @@ use Rattle.fit_decode.proofs.Common.{Inside, IsSoundDecoder, fields_inside}
 use Rattle.fit_frame.specs.Beginning.{Seen}
 use Rattle.fit_decode.specs.declared.section.Section.TheVariants.{Header}
 
-module _ {A : Type 0} {d : Inside A} (k : IsSoundDecoder d) (none : d.refusal ≡ None) where
+module _ {A : Type 0} {d : Inside A} (k : IsSoundDecoder d) where
   pub at_section : {s : Section} → d.stage.section ≡ s → HoldsAt s (fields_inside d) d.history.items
-  at_section at = subst (λ c. HoldsAt c (fields_inside d) d.history.items) at (k.holds none)
+  at_section at = subst (λ c. HoldsAt c (fields_inside d) d.history.items) at k.holds
 
   pub header_fresh : d.stage.section ≡ Header → d.reader.refusal ≡ None
   header_fresh at = ap (λ (r : Seen). r.refusal) (at_section at).read

@@ -6,10 +6,11 @@ use Rattle.fit_decode.proofs.Common.{empty_environment, records_bytes, chain_lim
 use Rattle.fit_decode.proofs.Common.{Stop, Stage}
 use Rattle.fit_decode.proofs.Common.{Answer, ClosingSum, at_header, at_data, HasCome}
 use Rattle.fit_decode.proofs.Common.{IsRefused, ChainGoesOn, half_sum, SumFed, Fields}
-use Rattle.fit_decode.proofs.Common.{InSum, Holds, HoldsAt, NextAnswer}
+use Rattle.fit_decode.proofs.Common.{InSum, Holds, HoldsAt, NextAnswer, refusal_of}
 use Rattle.std.proofs.Common.{Bool}
 use Rattle.std.specs.Prelude.{Result}
 use Rattle.fit_step.specs.declared.stop.Stop.TheVariants.{Refused}
+use Rattle.fit_decode.proofs.Sections.{in_section}
 use Rattle.fit_chain.proofs.SumFed.{sum_fronts, sum_quiet, sum_viable, file_come, file_goes, file_viable, file_least, sum_refuses}
 use Rattle.fit_chain.specs.declared.event.Event.TheVariants as answers
 
@@ -69,6 +70,7 @@ module _ {A : Type 0} (d : Fields A) (at : d.stage.section ≡ ClosingSum) (byte
               over = k.over;
               idle = k.idle;
             }));
+        fresh = λ _. in_section d.stage stage (ap (λ (s : Stage). s.section) stays) (ap refusal_of at);
       }
   sum_fed stage env sum used (Ok answers.FileEnd) ((some, within, whole, joined), none, known, goes_on) =
       let is = joined ∙ sums in
@@ -89,6 +91,7 @@ module _ {A : Type 0} (d : Fields A) (at : d.stage.section ≡ ClosingSum) (byte
               known = known;
               idle = k.idle;
             });
+        fresh = λ _. ap (λ (s : Stage). refusal_of s.section) goes_on;
       }
   sum_fed stage env sum used (Err (Refused reason)) ((is, within, joined, differs), covered, same, stays) =
       let begins = begins_sum stage.half used joined in
@@ -103,5 +106,6 @@ module _ {A : Type 0} (d : Fields A) (at : d.stage.section ≡ ClosingSum) (byte
         );
         viable = why.viable;
         holds = λ never. absurd never;
+        fresh = λ never. absurd never;
       }
   sum_fed stage env sum used answer fed = absurd fed

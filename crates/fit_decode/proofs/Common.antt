@@ -60,11 +60,11 @@ pub use Rattle.fit_decode.specs.Reads.{Channel, BeginsWithFile, ReadsOne, IsInNe
 pub use Rattle.fit_decode.specs.declared.decoder.Decoder.TheInside.{Inside}
 pub use Rattle.fit_decode.specs.declared.section.Section.{Section}
 pub use Rattle.fit_decode.specs.declared.section.Stage.{Stage}
-pub use Rattle.fit_decode.specs.declared.section.Section.TheVariants.{Data, ClosingSum, Data as InSection}
+pub use Rattle.fit_decode.specs.declared.section.Section.TheVariants.{Data, ClosingSum, Latched, Data as InSection}
 pub use Rattle.fit_decode.specs.inner.Between.{IsAfter, IsEnd}
-pub use Rattle.fit_decode.specs.inner.Invariant.{IsSoundDecoder, fields_inside}
+pub use Rattle.fit_decode.specs.inner.Invariant.{IsSoundDecoder, fields_inside, seen_in}
 pub use Rattle.fit_decode.specs.inner.Kept.{Fields, InHeader, InData, InSum, HoldsAt, Holds, Advanced, NotRefused, NextAnswer}
-pub use Rattle.fit_decode.specs.inner.Kept.{to_come, to_come_in}
+pub use Rattle.fit_decode.specs.inner.Kept.{to_come, to_come_in, refusal_of}
 pub use Rattle.fit_decode.specs.inner.Scans.{IsHeaderPart, half_sum, HeaderScanned, SumScanned}
 pub use Rattle.fit_decode.specs.inner.Sections.{HeaderFed, DataFed, SumFed, section_of}
 pub use Rattle.fit_decode.specs.inner.Turns.{FileRead, FileTold, LastPiece, Turned, FaultIn, Eaten, unrefused, PieceFed, TurnTold}

@@ -1,7 +1,7 @@
 -- The bytes that have come are a chain exactly where files have ended, and no byte has come of a next one.
 use Rattle.fit_decode.proofs.Common.{◌≡◌, ℕ, ◌<◌, ◌≤◌, List, [], ◌++◌, length, refl, sym, ap, ◌∙◌, subst, arith, append-nil, FitFile, chain_bytes, chain_limit}
 use Rattle.fit_decode.proofs.Common.{Section, Data, ClosingSum, Progress, at_header, at_data, HasCome, files_begun, AreChain, Fields, InHeader, Holds, HoldsAt}
-use Rattle.fit_decode.proofs.Common.{one_place, chain_come}
+use Rattle.fit_decode.proofs.Common.{one_place, chain_come, Latched, refusal_of, None}
 use Rattle.fit_frame.specs.Beginning.{Seen}
 use Rattle.fit_decode.specs.declared.section.Section.TheVariants.{Header}
 
@@ -24,13 +24,14 @@ module _ {A : Type 0} (d : Fields A) (bytes : List ℕ) where
   no_data : {P : Type 0} (files : List (FitFile A)) (g : Progress A) → HasCome files g bytes → AreChain A bytes → (g ≡ at_header [] → P) → P
   no_data files g come chain go = go (one_place files chain.0 g (at_header []) bytes come (chain_come bytes chain)).1
 
-  chain_at : (s : Section) → HoldsAt s d bytes → d.stage.section ≡ s → AreChain A bytes → HasEnded d
-  chain_at Header k at chain =
+  pub chain_at : (s : Section) → HoldsAt s d bytes → d.stage.section ≡ s → refusal_of s ≡ None → AreChain A bytes → HasEnded d
+  chain_at Header k at fresh chain =
       let same = one_place k.files chain.0 (at_header d.sum) (at_header []) bytes k.come (chain_come bytes chain) in
       let empty : d.sum ≡ [] = cc same.1 in
       (at, omega (arith, chain.1.0.some, k.counted, ap length same.0), ap (λ (r : Seen). r.bytes) k.read ∙ empty)
-  chain_at Data k at chain = no_data k.files (at_data k.header k.size k.records k.part) k.come chain (λ e. absurd cc)
-  chain_at ClosingSum k at chain = no_data k.files _ k.come chain (λ e. absurd cc)
+  chain_at Data k at fresh chain = no_data k.files (at_data k.header k.size k.records k.part) k.come chain (λ e. absurd cc)
+  chain_at ClosingSum k at fresh chain = no_data k.files _ k.come chain (λ e. absurd cc)
+  chain_at (Latched reason) k at fresh chain = absurd cc
 
-  pub chain_ended : Holds d bytes → AreChain A bytes → HasEnded d
-  chain_ended holds chain = chain_at d.stage.section holds refl chain
+  pub chain_ended : Holds d bytes → refusal_of d.stage.section ≡ None → AreChain A bytes → HasEnded d
+  chain_ended holds fresh chain = chain_at d.stage.section holds refl fresh chain

@@ -1,7 +1,8 @@
 -- What a caller of `feed` sees: that the invariant is kept, and what is told of the bytes used.
-use Rattle.fit_decode.proofs.Common.{◌≡◌, ℕ, ◌+◌, ◌<◌, ◌≤◌, List, ◌++◌, length, take, slice_index, refl, sym, ap, ◌∙◌, subst, arith, length-append, Fits, w64}
-use Rattle.fit_decode.proofs.Common.{Some, None, Ok, Err, length-take-le, IsBytes, IsBytes-append, IsBytes-take, Reason, empty_environment}
-use Rattle.fit_decode.proofs.Common.{Stop, Record, Inside, Answer, Event, header, item, file_end, event_of, Refuses, Wants, Quiet, Least, AreChain, IsRefused}
+use Rattle.fit_decode.proofs.Common.{◌≡◌, ℕ, ◌+◌, ◌<◌, ◌≤◌, List, ◌++◌, length, take, slice_index, refl, sym, ap, ◌∙◌, subst, arith, length-append}
+use Rattle.fit_decode.proofs.Common.{Some, None, Ok, Err, length-take-le, IsBytes, IsBytes-append, IsBytes-take, Reason}
+use Rattle.fit_decode.proofs.Common.{empty_environment, ◌^◌, seen_in, refusal_of, Latched, HoldsAt, Section, Record}
+use Rattle.fit_decode.proofs.Common.{Stop, Inside, Answer, Event, header, item, file_end, event_of, Refuses, Wants, Quiet, Least, AreChain, IsRefused}
 use Rattle.fit_decode.proofs.Common.{Advanced, NotRefused, NextAnswer, Holds, IsSoundDecoder, fields_inside, short_bytes, chain_limit, IsViable}
 use Rattle.std.specs.Prelude.{Option, Result}
 use Rattle.fit_step.specs.declared.stop.Stop.TheVariants.{Refused, NoMemory}
@@ -44,62 +45,62 @@ module _ {A : Type 0} {d : Inside A} (k : IsSoundDecoder d) (piece : List ℕ) (
   more_bytes : length (d.history.items ++ take used piece) ≡ d.count + used
   more_bytes = omega (arith, length-append d.history.items (take used piece), k.counted, length-take-le used piece within)
 
-  pub few_more : Fits w64 (d.count + used)
+  pub few_more : d.count + used < 2 ^ 64
   few_more = omega (arith, more_bytes, short_bytes (d.history.items ++ take used piece) viable)
 
   pub sound_after : (n : Inside A) → n.history.items ≡ d.history.items ++ take used piece → n.count ≡ d.count + used
-      → (n.refusal ≡ None → Holds (fields_inside n) (d.history.items ++ take used piece))
-      → ((reason : Reason) → n.refusal ≡ Some reason → (n.env ≡ empty_environment) × (n.in_progress ≡ None)) → IsSoundDecoder n
-  sound_after n took counted holds let_go = record {
+      → Holds (fields_inside n) (d.history.items ++ take used piece) → IsSoundDecoder n
+  sound_after n took counted holds = record {
     viable = subst (IsViable A chain_limit) (sym took) viable;
     are = subst IsBytes (sym took) (IsBytes-append d.history.items (take used piece) k.are (IsBytes-take used piece low));
     counted = counted ∙ sym more_bytes ∙ ap length (sym took);
-    holds = λ fresh. subst (Holds (fields_inside n)) (sym took) (holds fresh);
-    let_go = let_go;
+    holds = subst (Holds (fields_inside n)) (sym took) holds;
   }
 
 pub fresh_holds_all : {P : Type 0} (refusal : Option Reason) → refusal ≡ None → (reason : Reason) → refusal ≡ Some reason → P
 fresh_holds_all refusal fresh reason is = absurd (let both : Some reason ≡ None = sym is ∙ fresh in cc)
 
+pub not_latched : (section : Section) → ((reason : Reason) → section ≡ Latched reason → ⊥) → refusal_of section ≡ None
+not_latched (Latched reason) not = absurd (not reason refl)
+not_latched section not = refl
+
 -- What a piece makes of a decoder, before its bytes are counted.
 pub record Took {A : Type 0} (d now : Inside A) (piece : List ℕ) (used : ℕ) (answer : Result (Answer A) Stop) : Type 0 where
   pub sound : IsSoundDecoder d
-  pub was : d.refusal ≡ None
+  pub was : refusal_of d.stage.section ≡ None
   pub low : IsBytes piece
   pub next : NextAnswer (fields_inside now) d.history.items piece used answer
   pub counted : now.count ≡ d.count
-  pub fresh : now.refusal ≡ None
   pub items : now.history.items ≡ d.history.items
 
-pub takes : {A : Type 0} {d now : Inside A} {piece : List ℕ} {used : ℕ} {answer : Result (Answer A) Stop} → IsSoundDecoder d → d.refusal ≡ None → IsBytes piece
-    → NextAnswer (fields_inside now) d.history.items piece used answer → now.count ≡ d.count → now.refusal ≡ d.refusal → now.history.items ≡ d.history.items
-    → Took d now piece used answer
-takes sound none low next counted kept items =
-    record { sound = sound; was = none; low = low; next = next; counted = counted; fresh = kept ∙ none; items = items }
+pub takes : {A : Type 0} {d now : Inside A} {piece : List ℕ} {used : ℕ} {answer : Result (Answer A) Stop} → IsSoundDecoder d
+    → refusal_of d.stage.section ≡ None → IsBytes piece → NextAnswer (fields_inside now) d.history.items piece used answer → now.count ≡ d.count
+    → now.history.items ≡ d.history.items → Took d now piece used answer
+takes sound none low next counted items = record { sound = sound; was = none; low = low; next = next; counted = counted; items = items }
 
 module _ {A : Type 0} {d now : Inside A} {piece : List ℕ} {used : ℕ} {answer : Result (Answer A) Stop} (t : Took d now piece used answer) where
   pub within : used ≤ length piece
   within = used_at_most d.history.items piece used answer t.next.told
 
-  pub few_bytes : Fits w64 (now.count + used)
+  pub few_bytes : now.count + used < 2 ^ 64
   few_bytes = omega (arith, t.counted, few_more t.sound piece used t.low within t.next.viable)
 
   all_items : (bytes : List ℕ) → bytes ≡ now.history.items ++ take used piece → bytes ≡ d.history.items ++ take used piece
   all_items bytes noted = noted ∙ ap (λ b. b ++ take used piece) t.items
 
   module _ (n : Inside A) (noted : n.history.items ≡ now.history.items ++ take used piece) (counted : n.count ≡ now.count + used) where
-    pub still_kept : fields_inside n ≡ fields_inside now → NotRefused answer → n.refusal ≡ now.refusal → IsSoundDecoder n
-    still_kept same taken kept = sound_after t.sound piece used t.low within t.next.viable n (all_items n.history.items noted)
-        (counted ∙ ap (λ m. m + used) t.counted) (λ _. subst (λ f. Holds f (d.history.items ++ take used piece)) (sym same) (t.next.holds taken))
-        (fresh_holds_all n.refusal (kept ∙ t.fresh))
+    pub still_kept : fields_inside n ≡ fields_inside now → NotRefused answer → IsSoundDecoder n
+    still_kept same taken = sound_after t.sound piece used t.low within t.next.viable n (all_items n.history.items noted)
+        (counted ∙ ap (λ m. m + used) t.counted) (subst (λ f. Holds f (d.history.items ++ take used piece)) (sym same) (t.next.holds taken))
 
-    pub refused_kept : (reason : Reason) → n.refusal ≡ Some reason → n.env ≡ empty_environment → n.in_progress ≡ None → IsSoundDecoder n
+    pub refused_kept : (reason : Reason) → n.stage.section ≡ Latched reason → n.env ≡ empty_environment → n.in_progress ≡ None → IsSoundDecoder n
     refused_kept reason is known idle = sound_after t.sound piece used t.low within t.next.viable n (all_items n.history.items noted)
-        (counted ∙ ap (λ m. m + used) t.counted) (λ fresh. fresh_holds_all n.refusal fresh reason is) (λ _ _. (known, idle))
+        (counted ∙ ap (λ m. m + used) t.counted)
+        (subst (λ s. HoldsAt s (fields_inside n) (d.history.items ++ take used piece)) (sym is) (known, idle))
 
 -- ---- the clauses
 
-module _ {A : Type 0} (d : Inside A) (k : IsSoundDecoder d) (old : Seen) (seen : record { bytes = d.history.items; refusal = d.refusal } ≡ old) where
+module _ {A : Type 0} (d : Inside A) (k : IsSoundDecoder d) (old : Seen) (seen : seen_in d ≡ old) where
   bytes_seen : d.history.items ≡ old.bytes
   bytes_seen = ap (λ (s : Seen). s.bytes) seen
 
@@ -109,13 +110,17 @@ module _ {A : Type 0} (d : Inside A) (k : IsSoundDecoder d) (old : Seen) (seen :
   pub place_seen : d.count ≡ length old.bytes
   place_seen = k.counted ∙ ap length bytes_seen
 
-  pub reason_seen : (was reason : Reason) → d.refusal ≡ Some was → old.refusal ≡ Some reason → was ≡ reason
-  reason_seen was reason kept is = let both : Some was ≡ Some reason = sym kept ∙ ap (λ (s : Seen). s.refusal) seen ∙ is in cc
+  pub reason_seen : (was reason : Reason) → d.stage.section ≡ Latched was → old.refusal ≡ Some reason → was ≡ reason
+  reason_seen was reason kept is = let both : Some was ≡ Some reason = sym (ap refusal_of kept) ∙ ap (λ (s : Seen). s.refusal) seen ∙ is in cc
 
-  pub reason_kept : (was : Reason) → d.refusal ≡ Some was → old.refusal ≡ None → ⊥
-  reason_kept was kept fresh = let both : Some was ≡ None = sym kept ∙ ap (λ (s : Seen). s.refusal) seen ∙ fresh in cc
+  pub reason_kept : (was : Reason) → d.stage.section ≡ Latched was → old.refusal ≡ None → ⊥
+  reason_kept was kept fresh = let both : Some was ≡ None = sym (ap refusal_of kept) ∙ ap (λ (s : Seen). s.refusal) seen ∙ fresh in cc
 
-  pub feeds_latched : (piece : List ℕ) (was : Reason) → d.refusal ≡ Some was → Feeds A old piece old (Err (faults.Refused d.count was))
+  -- where no byte was refused
+  pub none_refused : {P : Type 0} → refusal_of d.stage.section ≡ None → (reason : Reason) → old.refusal ≡ Some reason → P
+  none_refused fresh = fresh_holds_all old.refusal (ap (λ (s : Seen). s.refusal) (sym seen) ∙ fresh)
+
+  pub feeds_latched : (piece : List ℕ) (was : Reason) → d.stage.section ≡ Latched was → Feeds A old piece old (Err (faults.Refused d.count was))
   feeds_latched piece was kept = record {
     latched = λ reason is. ((λ i. Err (faults.Refused (place_seen i) (reason_seen was reason kept is i))), refl);
     used = tt;
@@ -126,18 +131,18 @@ module _ {A : Type 0} (d : Inside A) (k : IsSoundDecoder d) (old : Seen) (seen :
     others = λ _. ((λ is. absurd cc), (λ is. absurd cc));
   }
 
-  module _ (none : d.refusal ≡ None) where
+  module _ (none : refusal_of d.stage.section ≡ None) where
     pub chain_fed : HasEnded (fields_inside d) → (old.refusal ≡ None) × AreChain A old.bytes
     chain_fed ended = (
       ap (λ (s : Seen). s.refusal) (sym seen) ∙ none,
-      subst (AreChain A) bytes_seen (ended_chain (fields_inside d) d.history.items (k.holds none) ended),
+      subst (AreChain A) bytes_seen (ended_chain (fields_inside d) d.history.items k.holds ended),
     )
 
     pub ends_with_chain : AreChain A old.bytes → HasEnded (fields_inside d)
-    ends_with_chain chain = chain_ended (fields_inside d) d.history.items (k.holds none) (subst (AreChain A) (sym bytes_seen) chain)
+    ends_with_chain chain = chain_ended (fields_inside d) d.history.items k.holds none (subst (AreChain A) (sym bytes_seen) chain)
 
 module _ {A : Type 0} {d now : Inside A} {piece : List ℕ} {used : ℕ} {answer : Result (Answer A) Stop} (t : Took d now piece used answer) {old : Seen}
-    (seen : record { bytes = d.history.items; refusal = d.refusal } ≡ old) where
+    (seen : seen_in d ≡ old) where
   same_bytes : d.history.items ≡ old.bytes
   same_bytes = ap (λ (s : Seen). s.bytes) seen
 
@@ -147,9 +152,9 @@ module _ {A : Type 0} {d now : Inside A} {piece : List ℕ} {used : ℕ} {answer
   all_seen : (bytes : List ℕ) → bytes ≡ now.history.items ++ take used piece → bytes ≡ old.bytes ++ take used piece
   all_seen bytes noted = all_items t bytes noted ∙ ap (λ b. b ++ take used piece) same_bytes
 
-  pub bytes_fed : (bytes : List ℕ) → bytes ≡ now.history.items ++ take used piece
-      → (used ≤ length piece) × (record { bytes = bytes; refusal = now.refusal } ≡ fed old piece used)
-  bytes_fed bytes noted = (within t, λ i. record { bytes = all_seen bytes noted i; refusal = t.fresh i })
+  bytes_fed : NotRefused answer → (bytes : List ℕ) → bytes ≡ now.history.items ++ take used piece
+      → (used ≤ length piece) × (record { bytes = bytes; refusal = refusal_of now.stage.section } ≡ fed old piece used)
+  bytes_fed taken bytes noted = (within t, λ i. record { bytes = all_seen bytes noted i; refusal = t.next.fresh taken i })
 
   pub no_event : (event : Answer A) → answer ≡ Ok event → event_of event ≡ None → (used ≡ length piece) × Quiet A old.bytes piece used
   no_event event is = tells_none old.bytes piece used event (seen_told (Ok event) is)
@@ -171,12 +176,12 @@ module _ {A : Type 0} {d now : Inside A} {piece : List ℕ} {used : ℕ} {answer
       }
 
   pub wants : answer ≡ Err NoMemory → (bytes : List ℕ) → bytes ≡ now.history.items ++ take used piece → (count : ℕ) → used ≡ count
-      → Wants A old piece (record { bytes = bytes; refusal = now.refusal }) count
+      → Wants A old piece (record { bytes = bytes; refusal = refusal_of now.stage.section }) count
   wants is bytes noted count same =
       let told = seen_told (Err NoMemory) is in
-      subst (Wants A old piece (record { bytes = bytes; refusal = now.refusal })) same (record {
+      subst (Wants A old piece (record { bytes = bytes; refusal = refusal_of now.stage.section })) same (record {
         within = told.0;
-        after = (bytes_fed bytes noted).1;
+        after = (bytes_fed (not_for_memory answer is) bytes noted).1;
         quiet = told.1;
         next = told.2;
         takes = told.3;
@@ -187,10 +192,10 @@ module _ {A : Type 0} {d now : Inside A} {piece : List ℕ} {used : ℕ} {answer
 
   module _ (bytes : List ℕ) (noted : bytes ≡ now.history.items ++ take used piece) where
     pub feeds_event : (event : Answer A) → answer ≡ Ok event
-        → Feeds A old piece (record { bytes = bytes; refusal = now.refusal }) (Ok (record { used = used; event = event }))
+        → Feeds A old piece (record { bytes = bytes; refusal = refusal_of now.stage.section }) (Ok (record { used = used; event = event }))
     feeds_event event is = record {
       latched = λ reason refused. fresh_holds_all old.refusal fresh_seen reason refused;
-      used = bytes_fed bytes noted;
+      used = bytes_fed (not_refused answer event is) bytes noted;
       more = no_event event is;
       event = one_event event is;
       refused = λ _ _ _ never. absurd cc;
@@ -198,22 +203,23 @@ module _ {A : Type 0} {d now : Inside A} {piece : List ℕ} {used : ℕ} {answer
       others = λ _. ((λ never. absurd cc), (λ never. absurd cc));
     }
 
-    pub feeds_refusal : (reason : Reason) → answer ≡ Err (Refused reason)
-        → Feeds A old piece (record { bytes = bytes; refusal = Some reason }) (Err (faults.Refused (now.count + used) reason))
-    feeds_refusal reason is = record {
+    pub feeds_refusal : (reason : Reason) → answer ≡ Err (Refused reason) → (count : ℕ) → count ≡ now.count + used
+        → Feeds A old piece (record { bytes = bytes; refusal = Some reason }) (Err (faults.Refused count reason))
+    feeds_refusal reason is count counted = record {
       latched = λ was refused. fresh_holds_all old.refusal fresh_seen was refused;
       used = tt;
       more = tt;
       event = tt;
       refused = λ place why _ both.
-          let at : now.count + used ≡ place = cc both in
+          let at : count ≡ place = cc both in
           let same : reason ≡ why = cc both in
-          refuses reason is bytes noted place why at same;
+          refuses reason is bytes noted place why (sym counted ∙ at) same;
       memory = λ _ never. absurd cc;
       others = λ _. ((λ never. absurd cc), (λ never. absurd cc));
     }
 
-    pub feeds_want : answer ≡ Err NoMemory → Feeds A old piece (record { bytes = bytes; refusal = now.refusal }) (Err (faults.NoMemory used))
+    pub feeds_want : answer ≡ Err NoMemory
+        → Feeds A old piece (record { bytes = bytes; refusal = refusal_of now.stage.section }) (Err (faults.NoMemory used))
     feeds_want is = record {
       latched = λ was refused. fresh_holds_all old.refusal fresh_seen was refused;
       used = tt;
@@ -226,8 +232,8 @@ module _ {A : Type 0} {d now : Inside A} {piece : List ℕ} {used : ℕ} {answer
 
 -- a record is told
 pub item_told : {A : Type 0} {d now : Inside A} {piece : List ℕ} {used : ℕ} {r : Record A} → Took d now piece used (Ok (answers.Item r)) → {old : Seen}
-    → record { bytes = d.history.items; refusal = d.refusal } ≡ old → (bytes : List ℕ) → bytes ≡ now.history.items ++ take used piece
-    → TellsItem A old piece (record { bytes = bytes; refusal = now.refusal }) used r
+    → seen_in d ≡ old → (bytes : List ℕ) → bytes ≡ now.history.items ++ take used piece
+    → TellsItem A old piece (record { bytes = bytes; refusal = refusal_of now.stage.section }) used r
 item_told {r = r} t seen bytes noted =
     let one = one_event t seen (answers.Item r) refl (item r) refl in
-    record { fresh = fresh_seen t seen; some = one.0; within = within t; after = (bytes_fed t seen bytes noted).1; least = one.1 }
+    record { fresh = fresh_seen t seen; some = one.0; within = within t; after = (bytes_fed t seen tt bytes noted).1; least = one.1 }

@@ -2,8 +2,7 @@
 use Rattle.fit_decode.proofs.Common.{◌≡◌, cond, false, ℕ, ◌+◌, ◌-◌, ◌≤◌, List, length, refl, sym, ap, ◌∙◌, subst, arith, Some, None, ◌==◌, cond-true}
 use Rattle.fit_decode.proofs.Common.{cond-false, eq-eqb, ne_eqb, IsBytes, checksum, Reason, Environment, empty_environment, learn_all, records_bytes}
 use Rattle.fit_decode.proofs.Common.{in_progress_size, IsCountable, IsInProgress, idle_between_records, Inside, Section, Data, ClosingSum, at_header, at_data}
-use Rattle.fit_decode.proofs.Common.{AreChain, Fields, InData, InHeader, HoldsAt, IsSoundDecoder, fields_inside, half_sum}
-use Rattle.std.specs.Prelude.{Option}
+use Rattle.fit_decode.proofs.Common.{AreChain, Fields, InData, HoldsAt, IsSoundDecoder, fields_inside, half_sum, Latched, refusal_of, seen_in}
 use Rattle.fit_record.specs.Sizes.{environment_size}
 use Rattle.fit_step.specs.Held.{held_of_record, part_size}
 use Rattle.fit_step.proofs.HeldInProgress.{held_is_of_bytes}
@@ -11,7 +10,7 @@ use Rattle.fit_decode.specs.declared.section.Section.TheVariants.{Header}
 use Rattle.fit_decode.specs.Answers.{Seen}
 use Rattle.fit_chain.specs.Held.{IsHeld, bound_limit}
 use Rattle.fit_chain.proofs.HeldLimit.{limited_bound, records_are}
-use Rattle.fit_decode.proofs.Ended.{chain_ended}
+use Rattle.fit_decode.proofs.Ended.{chain_at}
 
 nothing_known : (A : Type 0) → environment_size {A = A} empty_environment ≡ 0
 nothing_known A = refl
@@ -31,11 +30,12 @@ module _ {A : Type 0} (d : Fields A) (bytes : List ℕ) (are : IsBytes bytes) wh
       (records_are k.files k.header k.size k.records k.part bytes k.come are)
       (subst (λ e. IsInProgress e room k.part d.position d.in_progress) k.known k.in_record)
 
-  held_at : (s : Section) → HoldsAt s d bytes → IsHeld A bytes (environment_size d.env + in_progress_size d.in_progress)
-  held_at Header k =
+  held_at : (s : Section) → HoldsAt s d bytes → refusal_of s ≡ None → IsHeld A bytes (environment_size d.env + in_progress_size d.in_progress)
+  held_at (Latched reason) k fresh = absurd cc
+  held_at Header k fresh =
       let none = nothing_held k.known k.idle in
       record { files = k.files; progress = at_header d.sum; come = k.come; is = none; within = omega (arith, none); all = λ _. none }
-  held_at Data k =
+  held_at Data k fresh =
       let e : Environment A = learn_all empty_environment k.records in
       let kept = kept_in_data k in
       let known = ap environment_size k.known in
@@ -56,7 +56,7 @@ module _ {A : Type 0} (d : Fields A) (bytes : List ℕ) (are : IsBytes bytes) wh
             let no_part : part_size e k.part ≡ 0 = ap (part_size e) idle in
             omega (arith, known, none, no_part, counted);
       }
-  held_at ClosingSum k =
+  held_at ClosingSum k fresh =
       let known = ap environment_size k.known in
       let none : in_progress_size d.in_progress ≡ 0 = ap in_progress_size k.idle in
       let over = eq-eqb (length (records_bytes empty_environment k.records)) k.size (let less = k.come.next.2 in let all = k.over in omega (arith, less, all))
@@ -83,49 +83,50 @@ module _ {A : Type 0} (d : Fields A) (bytes : List ℕ) (are : IsBytes bytes) wh
   small_at Header k = subst IsCountable (sym k.idle) tt
   small_at ClosingSum k = subst IsCountable (sym k.idle) tt
   small_at Data k = (kept_in_data k).0
+  small_at (Latched reason) k = subst IsCountable (sym k.1) tt
+
+  limited_at : (s : Section) → HoldsAt s d bytes → environment_size d.env + in_progress_size d.in_progress ≤ bound_limit
+  limited_at (Latched reason) k = omega (arith, nothing_held k.0 k.1)
+  limited_at s k = let h = held_at s k refl in omega (arith, h.within, limited_bound h.files h.progress bytes h.come are)
+
+  let_go_at : (s : Section) → HoldsAt s d bytes → (reason : Reason) → refusal_of s ≡ Some reason
+      → environment_size d.env + in_progress_size d.in_progress ≡ 0
+  let_go_at (Latched was) k reason is = nothing_held k.0 k.1
+  let_go_at s k reason is = absurd cc
+
+  held_after_chain : (s : Section) → HoldsAt s d bytes → d.stage.section ≡ s → AreChain A bytes
+      → environment_size d.env + in_progress_size d.in_progress ≡ 0
+  held_after_chain (Latched reason) k at chain = nothing_held k.0 k.1
+  held_after_chain Header k at chain = nothing_held k.known k.idle
+  held_after_chain s k at chain = let ended = (chain_at d bytes s k at refl chain).0 in absurd cc
 
 -- ---- what a caller sees
 
 pub small_seen : {A : Type 0} (d : Inside A) → IsSoundDecoder d → IsCountable d.in_progress
-small_seen {A} d k = go d.refusal refl
-  where
-    go : (o : Option Reason) → d.refusal ≡ o → IsCountable d.in_progress
-    go None is = small_at (fields_inside d) d.history.items k.are d.stage.section (k.holds is)
-    go (Some reason) is = subst IsCountable (sym (k.let_go reason is).1) tt
+small_seen d k = small_at (fields_inside d) d.history.items k.are d.stage.section k.holds
 
 module _ {A : Type 0} (d : Inside A) (k : IsSoundDecoder d) (n m : ℕ) (env : n ≡ environment_size d.env) (in_progress : m ≡ in_progress_size d.in_progress)
   where
-    fresh_held : d.refusal ≡ None → IsHeld A d.history.items (n + m)
-    fresh_held none =
-        let count : environment_size d.env + in_progress_size d.in_progress ≡ n + m = omega (arith, env, in_progress) in
-        subst (IsHeld A d.history.items) count (held_at (fields_inside d) d.history.items k.are d.stage.section (k.holds none))
-
-    let_go : (reason : Reason) → d.refusal ≡ Some reason → n + m ≡ 0
-    let_go reason is = let gone = k.let_go reason is in omega (arith, env, in_progress, nothing_held (fields_inside d) d.history.items k.are gone.0 gone.1)
+    count : environment_size d.env + in_progress_size d.in_progress ≡ n + m
+    count = omega (arith, env, in_progress)
 
     pub limited_seen : n + m ≤ bound_limit
-    limited_seen = go d.refusal refl
-      where
-        go : (o : Option Reason) → d.refusal ≡ o → n + m ≤ bound_limit
-        go None is = let h = fresh_held is in omega (arith, h.within, limited_bound h.files h.progress d.history.items h.come k.are)
-        go (Some reason) is = omega (arith, let_go reason is)
+    limited_seen = omega (arith, count, limited_at (fields_inside d) d.history.items k.are d.stage.section k.holds)
 
-    module _ (old : Seen) (seen : record { bytes = d.history.items; refusal = d.refusal } ≡ old) where
+    module _ (old : Seen) (seen : seen_in d ≡ old) where
       pub held_seen : old.refusal ≡ None → IsHeld A old.bytes (n + m)
-      held_seen fresh = subst (λ b. IsHeld A b (n + m)) (ap (λ (s : Seen). s.bytes) seen) (fresh_held (ap (λ (s : Seen). s.refusal) seen ∙ fresh))
+      held_seen fresh =
+          subst (λ b. IsHeld A b (n + m)) (ap (λ (s : Seen). s.bytes) seen)
+          (subst (IsHeld A d.history.items) count
+          (held_at (fields_inside d) d.history.items k.are d.stage.section k.holds (ap (λ (s : Seen). s.refusal) seen ∙ fresh)))
 
       pub let_go_seen : (reason : Reason) → old.refusal ≡ Some reason → n + m ≡ 0
-      let_go_seen reason is = let_go reason (ap (λ (s : Seen). s.refusal) seen ∙ is)
+      let_go_seen reason is =
+          sym count
+          ∙ let_go_at (fields_inside d) d.history.items k.are d.stage.section k.holds reason (ap (λ (s : Seen). s.refusal) seen ∙ is)
 
       pub ended_seen : AreChain A old.bytes → n + m ≡ 0
-      ended_seen chain = go d.refusal refl
-        where
-          at_end : d.refusal ≡ None → n + m ≡ 0
-          at_end none =
-              let ended = chain_ended (fields_inside d) d.history.items (k.holds none) (subst (AreChain A) (sym (ap (λ (s : Seen). s.bytes) seen)) chain) in
-              let h : InHeader (fields_inside d) d.history.items = subst (λ s. HoldsAt s (fields_inside d) d.history.items) ended.0 (k.holds none) in
-              omega (arith, env, in_progress, nothing_held (fields_inside d) d.history.items k.are h.known h.idle)
-
-          go : (o : Option Reason) → d.refusal ≡ o → n + m ≡ 0
-          go None is = at_end is
-          go (Some reason) is = let_go reason is
+      ended_seen chain =
+          sym count
+          ∙ held_after_chain (fields_inside d) d.history.items k.are d.stage.section k.holds refl
+          (subst (AreChain A) (sym (ap (λ (s : Seen). s.bytes) seen)) chain)

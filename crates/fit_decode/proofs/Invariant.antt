@@ -19,7 +19,7 @@ begins_kept {A} d at whole read none known idle no_files no_bytes nothing =
       viable = subst (IsViable A chain_limit) (sym nothing) (nothing_viable A);
       are = subst IsBytes (sym nothing) IsBytes-none;
       counted = no_bytes ∙ ap length (sym nothing);
-      holds = λ _. subst (λ s. HoldsAt s (fields_inside d) d.history.items) (sym at) (record {
+      holds = subst (λ s. HoldsAt s (fields_inside d) d.history.items) (sym at) (record {
         files = [];
         come = come;
         goes = goes;
@@ -29,5 +29,4 @@ begins_kept {A} d at whole read none known idle no_files no_bytes nothing =
         known = known;
         idle = idle;
       });
-      let_go = λ _ _. (known, idle);
     }

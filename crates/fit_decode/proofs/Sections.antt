@@ -8,7 +8,8 @@ use Rattle.fit_decode.proofs.Common.{idle_between_records, record_fills, records
 use Rattle.fit_decode.proofs.Common.{AreEvents, IsRefused, files_begun, ChainGoesOn, IsHeaderPart, half_sum, section_of, HeaderFed, DataFed, Fields}
 use Rattle.fit_decode.proofs.Common.{InHeader, InData, Holds, HoldsAt, NextAnswer, goes_viable, fill_data, whole_header, quiet_of, begun_header}
 use Rattle.fit_decode.proofs.Common.{InRecords, data_starts, data_quiet, data_come, data_viable, left_after, item_come, item_least, data_refuses, data_wants}
-use Rattle.fit_decode.proofs.Common.{data_takes}
+use Rattle.fit_decode.proofs.Common.{data_takes, refusal_of, ◌==◌, true}
+use Rattle.std.proofs.Common.{Bool}
 use Rattle.std.specs.Prelude.{Option, Result}
 use Rattle.std.proofs.lemmas.Bool.Decides.{eqb_tells}
 use Rattle.fit_frame.specs.Beginning.{Seen}
@@ -22,6 +23,18 @@ use Rattle.fit_decode.specs.declared.section.Part.TheVariants as parts
 use Rattle.fit_decode.specs.inner.Sections.{as_event, header_of}
 
 -- ---- where records begin
+
+fresh_section : (over : Bool) → refusal_of (cond over ClosingSum Data) ≡ None
+fresh_section true = refl
+fresh_section false = refl
+
+-- after a header or a record the next byte is awaited
+after_part : (was now : Stage) (room : ℕ) → now ≡ record was { section = section_of room } → refusal_of now.section ≡ None
+after_part was now room goes_on = ap (λ (s : Stage). refusal_of s.section) goes_on ∙ fresh_section (room == 0)
+
+-- within a section it is too
+pub in_section : (was now : Stage) → now.section ≡ was.section → refusal_of was.section ≡ None → refusal_of now.section ≡ None
+in_section was now stays fresh = ap refusal_of stays ∙ fresh
 
 pub begins_records : {A : Type 0} (files : List (FitFile A)) (d : Fields A) (bytes : List ℕ) (h : FileHeader) (n : ℕ) (records : List (Record A))
     → HasCome files (at_data h n records []) bytes
@@ -115,6 +128,7 @@ module _ {A : Type 0} (d : Fields A) (at : d.stage.section ≡ Header) (bytes pi
               known = k.known;
               idle = k.idle;
             }));
+        fresh = λ _. in_section d.stage stage (ap (λ (s : Stage). s.section) same) (ap refusal_of at);
       }
   header_fed stage reader position sum head used (Ok (parts.Header n)) (h, stands, few, some, within, whole, fresh, covered, goes_on, begins, room) =
       let is : IsFileHeader h n (d.sum ++ take used piece) = subst (λ l. IsFileHeader h n (l ++ take used piece)) front_is whole in
@@ -139,6 +153,7 @@ module _ {A : Type 0} (d : Fields A) (at : d.stage.section ≡ Header) (bytes pi
         holds = λ _. subst (λ s. Holds (record d { stage = s; reader = reader; sum = sum; position = position }) (bytes ++ take used piece)) (sym goes_on)
             (subst (λ m. HoldsAt (section_of m) now (bytes ++ take used piece)) (sym same)
             (begins_records k.files now (bytes ++ take used piece) h n [] come less k.counted k.whole fresh all k.known here));
+        fresh = λ _. after_part d.stage stage n goes_on;
       })
   header_fed stage reader position sum head used (Err (Refused reason)) (inl (full, some, none, is)) =
       let all : length k.files ≡ chain_limit = omega (arith, full, k.counted, at_most (d.sum) k.goes.1) in
@@ -156,6 +171,7 @@ module _ {A : Type 0} (d : Fields A) (at : d.stage.section ≡ Header) (bytes pi
         );
         viable = subst (IsViable A chain_limit) here viable;
         holds = λ never. absurd never;
+        fresh = λ never. absurd never;
       }
   header_fed stage reader position sum head used (Err (Refused reason)) (inr (few, within, begun, refuses)) =
       let open_ : IsHeaderPart (d.sum ++ take used piece) = subst (λ l. IsHeaderPart (l ++ take used piece)) front_is begun in
@@ -168,6 +184,7 @@ module _ {A : Type 0} (d : Fields A) (at : d.stage.section ≡ Header) (bytes pi
         told = (within, header_quiet k.files d.sum bytes piece k.come used (omega (arith, within)) none, why);
         viable = why.viable;
         holds = λ never. absurd never;
+        fresh = λ never. absurd never;
       }
   header_fed stage reader position sum head used answer fed = absurd fed
 
@@ -268,6 +285,7 @@ module _ {A : Type 0} (d : Fields A) (at : d.stage.section ≡ Data) (bytes piec
               told = (all, data_quiet bytes piece here_in are low used within goes.0);
               viable = data_viable bytes piece here_in are low used goes.1;
               holds = λ _. within_record covered within same here goes_on;
+              fresh = λ _. in_section d.stage stage (ap (λ (s : Stage). s.section) goes_on) (ap refusal_of at);
             }
         told_of (Ok (answers.Item r)) (reads, covered, goes_on) =
             let (some, within, same, is, fits, here) = reads room k.part before in
@@ -278,6 +296,7 @@ module _ {A : Type 0} (d : Fields A) (at : d.stage.section ≡ Data) (bytes piec
               told = (some, within, item_least bytes piece here_in are low used r within is fits);
               viable = data_viable bytes piece here_in are low used (record_fills known room r (k.part ++ take used piece) is fits goes);
               holds = λ _. after_record covered r within same is fits here goes_on;
+              fresh = λ _. after_part d.stage stage position.room goes_on;
             }
         told_of (Err (Refused reason)) (reads, covered, goes_on) =
             let (within, same, here, because, ends) = reads room k.part before in
@@ -288,6 +307,7 @@ module _ {A : Type 0} (d : Fields A) (at : d.stage.section ≡ Data) (bytes piec
               told = (within, data_quiet bytes piece here_in are low used upto goes.0, why);
               viable = why.viable;
               holds = λ never. absurd never;
+              fresh = λ never. absurd never;
             }
         told_of (Err NoMemory) (reads, covered, goes_on) =
             let (within, same, here, fill, heads) = reads room k.part before in
@@ -302,5 +322,6 @@ module _ {A : Type 0} (d : Fields A) (at : d.stage.section ≡ Data) (bytes piec
               );
               viable = data_viable bytes piece here_in are low used goes.1;
               holds = λ _. within_record covered upto same here goes_on;
+              fresh = λ _. in_section d.stage stage (ap (λ (s : Stage). s.section) goes_on) (ap refusal_of at);
             }
         told_of answer fed = absurd fed

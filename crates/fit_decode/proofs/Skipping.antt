@@ -1,14 +1,13 @@
 -- What the skipping of records makes of the fields and of the events.
-use Rattle.fit_decode.proofs.Common.{◌≡◌, cond, inl, inr, ℕ, ◌+◌, ◌-◌, ◌≤◌, true, false, List, [], ◌++◌, length, take, refl, sym, ap, ◌∙◌, subst, arith}
-use Rattle.fit_decode.proofs.Common.{append_assoc, length-append, Fits, w64, Some, None, is_some, map, ne_eqb, append-nil, length-take-le, IsBytes}
+use Rattle.fit_decode.proofs.Common.{◌≡◌, cond, inl, inr, ℕ, ◌+◌, ◌-◌, ◌≤◌, List, [], ◌++◌, length, take, refl, sym, ap, ◌∙◌, subst, arith}
+use Rattle.fit_decode.proofs.Common.{append_assoc, length-append, None, map, ◌^◌, ne_eqb, append-nil, length-take-le, IsBytes}
 use Rattle.fit_decode.proofs.Common.{IsBytes-append, IsBytes-take, header_bytes, FitFile, Record, Environment, empty_environment, learn_all, chain_limit}
 use Rattle.fit_decode.proofs.Common.{IsViable, AllFit, records_bytes, all_fit-append, records_bytes-append, learn_all-append, Position, FillFrom, IsInProgress}
-use Rattle.fit_decode.proofs.Common.{records_in_progress, Reason, Inside, IsSoundDecoder, fields_inside, InSection, ClosingSum}
+use Rattle.fit_decode.proofs.Common.{records_in_progress, Inside, IsSoundDecoder, fields_inside, seen_in, refusal_of, InSection, ClosingSum, Latched}
 use Rattle.fit_decode.proofs.Common.{at_data, HasCome, Event, item, AreEvents, Fields, InData, Holds, HoldsAt, section_of, goes_viable, data_starts, more_of}
 use Rattle.fit_decode.proofs.Common.{items_told, all_told, partial_nothing, known_in_data, zero, suc, ◌<◌, ◌∷◌}
 use Rattle.fit_decode.proofs.Common.{one_place, idle_between_records, Section, at_header, FileHeader, Least, IsRecord, record_bytes, item_least}
 use Rattle.fit_decode.proofs.Common.{IsAny, MayLackMemoryIn, lacks_for_event}
-use Rattle.std.proofs.Common.{Bool}
 use Rattle.std.specs.Prelude.{Option}
 use Rattle.fit_record.specs.declared.message.Values.{Values}
 use Rattle.fit_record.specs.declared.message.Record.TheVariants.{Values as Message}
@@ -19,7 +18,7 @@ use Rattle.fit_decode.specs.Answers.{Seen, MessageFollows}
 use Rattle.fit_decode.specs.declared.section.Section.TheVariants.{Header}
 use Rattle.fit_decode.specs.inner.Skips.{Skipped}
 use Rattle.fit_decode.proofs.Sections.{begins_records}
-use Rattle.fit_decode.proofs.Feeding.{few_more, sound_after, fresh_holds_all}
+use Rattle.fit_decode.proofs.Feeding.{few_more, sound_after}
 
 -- ---- records after records
 
@@ -193,49 +192,39 @@ module _ {A : Type 0} (d : Fields A) (bytes piece : List ℕ) (after : Environme
 
 -- ---- what a caller of a decoder sees
 
-pub fresh : (refusal : Option Reason) (some : Bool) → some ≡ is_some refusal → some ≡ false → refusal ≡ None
-fresh None some is isnt = refl
-fresh (Some reason) some is isnt = absurd (let both : true ≡ false = sym is ∙ isnt in cc)
-
-module _ {A : Type 0} (d : Inside A) (k : IsSoundDecoder d) (none : d.refusal ≡ None) (at : d.stage.section ≡ InSection) (piece : List ℕ)
-    (after : Environment A) (sum : List ℕ) (position : Position) (used : ℕ) (records : List (Record A)) (low : IsBytes piece) (within : used ≤ length piece)
-    (skip : SkipsInSection d.env d.position d.in_progress after position piece used records) (front : List ℕ) (is : front ≡ take used piece)
-    (summed : sum ≡ d.sum ++ front) where
+module _ {A : Type 0} (d : Inside A) (k : IsSoundDecoder d) (at : d.stage.section ≡ InSection) (piece : List ℕ) (after : Environment A) (sum : List ℕ)
+    (position : Position) (used : ℕ) (records : List (Record A)) (low : IsBytes piece) (within : used ≤ length piece)
+    (skip : SkipsInSection d.env d.position d.in_progress after position piece used records) (summed : sum ≡ d.sum ++ take used piece) where
   abbrev beyond : Fields A
   beyond = record (fields_inside d) { env = after; sum = sum; position = position }
 
   skipped : Skipped beyond d.history.items piece used records
-  skipped = skips (fields_inside d) d.history.items piece after sum position used records k.are low at within skip (summed ∙ ap (λ l. d.sum ++ l) is) k.viable
-      (k.holds none)
+  skipped = skips (fields_inside d) d.history.items piece after sum position used records k.are low at within skip summed k.viable k.holds
 
-  taken_is : (bytes : List ℕ) → bytes ≡ d.history.items ++ front → bytes ≡ d.history.items ++ take used piece
-  taken_is bytes took = took ∙ ap (λ l. d.history.items ++ l) is
-
-  pub few_skipped : Fits w64 (d.count + used)
+  pub few_skipped : d.count + used < 2 ^ 64
   few_skipped = few_more k piece used low within skipped.viable
 
-  pub skipped_kept : (n : Inside A) → n.history.items ≡ d.history.items ++ front → fields_inside n ≡ beyond → n.count ≡ d.count + used
-      → n.refusal ≡ None → IsSoundDecoder n
-  skipped_kept n took same counted fresh = sound_after k piece used low within skipped.viable n (taken_is _ took) counted
-      (λ _. subst (λ f. Holds f (d.history.items ++ take used piece)) (sym same) skipped.holds) (fresh_holds_all n.refusal fresh)
+  pub skipped_kept : (n : Inside A) → n.history.items ≡ d.history.items ++ take used piece → fields_inside n ≡ beyond → n.count ≡ d.count + used
+      → IsSoundDecoder n
+  skipped_kept n took same counted = sound_after k piece used low within skipped.viable n took counted
+      (subst (λ f. Holds f (d.history.items ++ take used piece)) (sym same) skipped.holds)
 
-  pub records_skipped : (old : Seen) → record { bytes = d.history.items; refusal = d.refusal } ≡ old → (bytes : List ℕ)
-      → bytes ≡ d.history.items ++ front → (events : List (Event A)) → AreEvents old.bytes events
+  pub records_skipped : (old : Seen) → seen_in d ≡ old → (bytes : List ℕ) → bytes ≡ d.history.items ++ take used piece
+      → (events : List (Event A)) → AreEvents old.bytes events
       → AreRecords (known_after events) records (take used piece) × AreEvents bytes (events ++ map item records)
   records_skipped old seen bytes took events are_told =
       let told = skipped.told events (subst (λ b. AreEvents b events) (sym (ap (λ (o : Seen). o.bytes) seen)) are_told) in
-      (told.0, subst (λ b. AreEvents b (events ++ map item records)) (sym (taken_is bytes took)) told.1)
+      (told.0, subst (λ b. AreEvents b (events ++ map item records)) (sym took) told.1)
 
 -- with the last byte of a message an event is complete
-pub message_completes : {A : Type 0} (d : Inside A) (k : IsSoundDecoder d) → d.refusal ≡ None → d.stage.section ≡ InSection → (piece : List ℕ)
+pub message_completes : {A : Type 0} (d : Inside A) (k : IsSoundDecoder d) → d.stage.section ≡ InSection → (piece : List ℕ)
     (position : Position) (used : ℕ) (v : Values A) → IsBytes piece → used ≤ length piece
     → SkipsInSection d.env d.position d.in_progress d.env position piece used (Message v ∷ [])
-    → (old : Seen) → record { bytes = d.history.items; refusal = d.refusal } ≡ old → 0 < used → MayLackMemoryIn A IsAny old.bytes piece
-message_completes {A} d k none at piece position used v low within skip old seen some =
+    → (old : Seen) → seen_in d ≡ old → 0 < used → MayLackMemoryIn A IsAny old.bytes piece
+message_completes {A} d k at piece position used v low within skip old seen some =
     let sum : List ℕ = d.sum ++ take used piece in
-    let held = k.holds none in
-    let all = skips (fields_inside d) d.history.items piece d.env sum position used (Message v ∷ []) k.are low at within skip refl k.viable held in
-    let least = message_least (fields_inside d) d.history.items piece d.env sum position used (Message v ∷ []) k.are low v at within skip held some in
+    let all = skips (fields_inside d) d.history.items piece d.env sum position used (Message v ∷ []) k.are low at within skip refl k.viable k.holds in
+    let least = message_least (fields_inside d) d.history.items piece d.env sum position used (Message v ∷ []) k.are low v at within skip k.holds some in
     subst (λ b. MayLackMemoryIn A IsAny b piece) (ap (λ (o : Seen). o.bytes) seen)
     (lacks_for_event IsAny d.history.items piece used (item (Message v)) tt some within all.viable least)
 
@@ -260,8 +249,10 @@ module _ {A : Type 0} (d : Fields A) (bytes piece : List ℕ) (size : ℕ) (fs :
       (whole, cc, λ i. sizes i - length (records_bytes empty_environment (whole i)))
 
   -- where its bytes come to, the section is a data section
-  follows_at : (s : Section) → HoldsAt s d bytes → (s ≡ InSection) × HasMessage d.env piece size × (d.in_progress ≡ None) × (size + 6 ≤ d.position.room)
-  follows_at InSection k =
+  follows_at : (s : Section) → HoldsAt s d bytes → refusal_of s ≡ None
+      → (s ≡ InSection) × HasMessage d.env piece size × (d.in_progress ≡ None) × (size + 6 ≤ d.position.room)
+  follows_at (Latched reason) k fresh = absurd cc
+  follows_at InSection k fresh =
       let (whole, no_part, left) = data_here k.files k.header k.size k.records k.part k.come in
       let room = k.size - length (records_bytes empty_environment k.records) in (
         refl,
@@ -269,13 +260,13 @@ module _ {A : Type 0} (d : Fields A) (bytes piece : List ℕ) (size : ℕ) (fs :
         (idle_between_records d.env room k.part d.position d.in_progress k.in_record).1 no_part,
         omega (arith, (records_in_progress d.env room k.part d.position d.in_progress k.in_record).2, ap length no_part, large, left),
       )
-  follows_at ClosingSum k = absurd (omega (arith, k.over, large, (data_here k.files k.header k.size k.records _ k.come).2))
-  follows_at Header k = let same = (one_place k.files fs (at_header d.sum) (at_data h n records []) bytes k.come come).1 in absurd cc
+  follows_at ClosingSum k fresh = absurd (omega (arith, k.over, large, (data_here k.files k.header k.size k.records _ k.come).2))
+  follows_at Header k fresh = let same = (one_place k.files fs (at_header d.sum) (at_data h n records []) bytes k.come come).1 in absurd cc
 
-pub message_follows : {A : Type 0} (d : Inside A) → IsSoundDecoder d → (old : Seen) → record { bytes = d.history.items; refusal = d.refusal } ≡ old
+pub message_follows : {A : Type 0} (d : Inside A) → IsSoundDecoder d → (old : Seen) → seen_in d ≡ old
     → old.refusal ≡ None → (piece : List ℕ) (size : ℕ) → MessageFollows A old.bytes piece size
     → (d.stage.section ≡ InSection) × HasMessage d.env piece size × (d.in_progress ≡ None) × (size + 6 ≤ d.position.room)
 message_follows {A} d k old seen none piece size (fs, h, n, records, come, has, large) =
     follows_at (fields_inside d) d.history.items piece size fs h n records
     (subst (HasCome fs (at_data h n records [])) (sym (ap (λ (o : Seen). o.bytes) seen)) come) has large d.stage.section
-    (k.holds (ap (λ (o : Seen). o.refusal) seen ∙ none))
+    k.holds (ap (λ (o : Seen). o.refusal) seen ∙ none)

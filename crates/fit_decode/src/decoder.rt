@@ -1,5 +1,5 @@
 //! The resumable decoder.
-ghost use Rattle.std.specs.Prelude.{◌≡◌, ◌↔◌, ℕ, ◌<◌, ◌≤◌, List, [], length, Some, None, Err, IfOk, IsErr, IsOk, IsTrue};
+ghost use Rattle.std.specs.Prelude.{◌≡◌, ◌↔◌, ℕ, ◌+◌, ◌<◌, ◌≤◌, List, [], ◌++◌, ◌^◌, length, take, Some, None, Err, IfOk, IsErr, IsOk, IsTrue};
 ghost use Rattle.fit_frame.specs.declared.reason.Reason.{Reason};
 ghost use Rattle.fit_record.specs.Files.{chain_limit, IsViable};
 ghost use Rattle.fit_record.specs.Environment.{empty_environment};
@@ -39,17 +39,16 @@ pub struct Decoder<A: Allocator + Copy = Global> {
     stage: Stage,
     position: Position,
     count: u64,
-    refusal: Option<Reason>,
     history: History<u8>,
 }
 
 impl<A: Allocator + Copy> Model for Decoder<A> {
     ghost use Rattle.fit_decode.specs.Answers.{Seen};
-    ghost use Rattle.fit_decode.specs.inner.Invariant.{IsSoundDecoder};
+    ghost use Rattle.fit_decode.specs.inner.Invariant.{IsSoundDecoder, seen_in};
 
     ghost Value = { Seen };
 
-    ghost view = { λ d. record { bytes = d.history.items; refusal = d.refusal } };
+    ghost view = { seen_in };
 
     ghost invariant = { IsSoundDecoder };
 }
@@ -61,7 +60,7 @@ fn has_ended(stage: &Stage, reader: &HeadReader) -> bool
 {
     match stage.section {
         Section::Header => stage.files > 0 && reader.bytes().is_empty(),
-        Section::Data | Section::ClosingSum => false,
+        Section::Data | Section::ClosingSum | Section::Latched(_) => false,
     }
 }
 
@@ -83,7 +82,6 @@ impl<A: Allocator + Copy> Decoder<A> {
             },
             position: Position::new(0),
             count: 0,
-            refusal: None,
             history: History::new(),
         }
     }
@@ -151,10 +149,6 @@ impl<A: Allocator + Copy> Decoder<A> {
         ensures feeds { Feeds A self.old piece.now self.new result }
         ensures viable { IsViable A chain_limit self.new.bytes }
     {
-        if let Some(reason) = self.refusal {
-            let place = self.count;
-            return Err(Fault::Refused { place, reason });
-        }
         let mut head: Option<Header> = None;
         let (used, answer) = match self.stage.section {
             Section::Header => {
@@ -178,10 +172,12 @@ impl<A: Allocator + Copy> Decoder<A> {
                 self.stage
                     .feed_sum(self.alloc, &mut self.env, &mut self.sum, piece)
             }
+            Section::Latched(reason) => {
+                let place = self.count;
+                return Err(Fault::Refused { place, reason });
+            }
         };
-        let (taken, _) = piece.split_at(used);
-        self.history.note(taken);
-        self.count += used as u64;
+        count_fed(&mut self.history, &mut self.count, piece, used);
         match answer {
             Ok(Part::More) => Ok(Fed {
                 used,
@@ -193,7 +189,7 @@ impl<A: Allocator + Copy> Decoder<A> {
             }
             Err(stop) => match stop {
                 Stop::Refused(reason) => {
-                    self.refusal = Some(reason);
+                    self.stage.section = Section::Latched(reason);
                     let_go(self.alloc, &mut self.env, &mut self.in_progress);
                     let place = self.count;
                     Err(Fault::Refused { place, reason })
@@ -212,7 +208,7 @@ impl<A: Allocator + Copy> Decoder<A> {
         ensures refused { (reason : Reason) → self.now.refusal ≡ Some reason
             → result ≡ Err (Fault.Refused (length self.now.bytes) reason) }
     {
-        if let Some(reason) = self.refusal {
+        if let Section::Latched(reason) = self.stage.section {
             return Err(Fault::Refused {
                 place: self.count,
                 reason,
@@ -232,7 +228,7 @@ impl<A: Allocator + Copy> Decoder<A> {
             → HasCome fs g self.now.bytes → result ≡ length fs }
         ensures refused { (reason : Reason) → self.now.refusal ≡ Some reason → result ≡ 0 }
     {
-        if self.refusal.is_some() {
+        if let Section::Latched(_) = self.stage.section {
             return 0;
         }
         u64::from(self.stage.files)
@@ -245,9 +241,6 @@ impl<A: Allocator + Copy> Decoder<A> {
         ensures need { self.now.refusal ≡ None → Needs A self.now.bytes result }
         ensures least { self.now.refusal ≡ None → NoFileEndsBefore A self.now.bytes result }
     {
-        if self.refusal.is_some() {
-            return 0;
-        }
         bytes_to_come(&self.stage, self.reader.bytes(), self.position.room)
     }
 
@@ -275,7 +268,6 @@ impl<A: Allocator + Copy> Decoder<A> {
             },
             position,
             count,
-            refusal,
             history,
         } = self;
         let _alloc: &A = alloc;
@@ -286,7 +278,6 @@ impl<A: Allocator + Copy> Decoder<A> {
         let (_files, _section, _half): (&u32, &Section, &bool) = (files, section, half);
         let _position: &Position = position;
         let _count: &u64 = count;
-        let _refusal: &Option<Reason> = refusal;
         let _history: &History<u8> = history;
         env.held() + in_progress_size(in_progress)
     }
@@ -301,4 +292,31 @@ fn let_go<A: Allocator + Copy>(alloc: A, env: &mut Env<A>, in_progress: &mut Opt
 {
     *env = Env::new(alloc);
     *in_progress = None;
+}
+
+/// Counts the first bytes of the piece as fed.
+#[inline(always)]
+fn count_fed(history: &mut History<u8>, count: &mut u64, piece: &[u8], used: usize)
+    requires within { used ≤ length piece.now }
+    requires fits { count.old + used < 2 ^ 64 }
+    ensures noted { history.new.items ≡ history.old.items ++ take used piece.now }
+    ensures counted { count.new ≡ count.old + used }
+{
+    let (taken, _) = piece.split_at(used);
+    history.note(taken);
+    *count += used as u64;
+}
+
+/// Counts the first bytes of the piece as fed, and covers them by the closing checksum.
+#[inline(always)]
+fn cover(sum: &mut Sum, history: &mut History<u8>, count: &mut u64, piece: &[u8], used: usize)
+    requires within { used ≤ length piece.now }
+    requires fits { count.old + used < 2 ^ 64 }
+    ensures covered { sum.new ≡ sum.old ++ take used piece.now }
+    ensures noted { history.new.items ≡ history.old.items ++ take used piece.now }
+    ensures counted { count.new ≡ count.old + used }
+{
+    let (covered, _) = piece.split_at(used);
+    sum.add_all(covered);
+    count_fed(history, count, piece, used);
 }

@@ -6,7 +6,7 @@ use crate::section::{Section, Stage};
 use fit_base::{Order, bits_at};
 use fit_record::CHAIN_LIMIT;
 
-/// How many bytes are to come at least. `header` is what there is of a header, and `room` how many bytes of data are to come.
+/// How many bytes are to come at least; after a refusal 0. `header` is what there is of a header, and `room` how many bytes of data are to come.
 pub(crate) fn bytes_to_come(stage: &Stage, header: &[u8], room: u32) -> u64
     ensures { result ≡ to_come stage.now header.now room }
 {
@@ -25,5 +25,6 @@ pub(crate) fn bytes_to_come(stage: &Stage, header: &[u8], room: u32) -> u64
         },
         Section::Data => u64::from(room) + 2,
         Section::ClosingSum => if stage.half { 1 } else { 2 },
+        Section::Latched(_) => 0,
     }
 }

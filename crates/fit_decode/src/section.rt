@@ -15,12 +15,14 @@ use fit_step::{Position, Stop, read_in_place};
 use fit_sum::Sum;
 use std::alloc::Allocator;
 
-/// The section of a file that the next byte belongs to.
+/// The section of a file that the next byte belongs to, or why none is taken any more.
 #[derive(Clone, Copy, Drop)]
 pub(crate) enum Section {
     Header,
     Data,
     ClosingSum,
+    /// A byte was refused.
+    Latched(Reason),
 }
 
 /// What the last byte that was used completed.
@@ -65,7 +67,7 @@ pub(crate) fn take_event<A: Allocator>(
 pub(crate) struct Stage {
     /// How many files have ended.
     pub(crate) files: u32,
-    /// The section that the next byte belongs to.
+    /// The section that the next byte belongs to, or the refusal of one.
     pub(crate) section: Section,
     /// Whether one byte of a closing checksum has come.
     pub(crate) half: bool,

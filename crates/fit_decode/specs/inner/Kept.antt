@@ -1,8 +1,9 @@
 -- What holds of a decoder's fields after the bytes fed. No public contract names these.
 use Rattle.std.specs.Prelude.{◌≡◌, ℕ, ◌-◌, ◌<◌, ◌≤◌, false, if◌then◌else◌, List, [], ◌++◌, length, take, slice_index, Option, None, Result, Ok, Err}
-use Rattle.std.specs.Prelude.{◌+◌}
+use Rattle.std.specs.Prelude.{◌+◌, Some}
 use Rattle.fit_sum.specs.Checksum.{checksum}
 use Rattle.fit_frame.specs.declared.header.Header.{Header as FileHeader}
+use Rattle.fit_frame.specs.declared.reason.Reason.{Reason}
 use Rattle.fit_frame.specs.Header.{header_bytes}
 use Rattle.fit_frame.specs.Beginning.{Seen as HeaderSeen}
 use Rattle.fit_record.specs.declared.file.FitFile.{FitFile}
@@ -15,7 +16,7 @@ use Rattle.fit_step.specs.declared.stop.Stop.TheVariants.{Refused, NoMemory}
 use Rattle.fit_step.specs.InProgress.{IsInProgress}
 use Rattle.fit_step.specs.declared.position.Position.{Position}
 use Rattle.fit_decode.specs.declared.section.Section.{Section}
-use Rattle.fit_decode.specs.declared.section.Section.TheVariants.{Header, Data, ClosingSum}
+use Rattle.fit_decode.specs.declared.section.Section.TheVariants.{Header, Data, ClosingSum, Latched}
 use Rattle.fit_decode.specs.declared.section.Stage.{Stage}
 use Rattle.fit_chain.specs.declared.event.Event.{Event as Answer}
 use Rattle.fit_chain.specs.declared.event.Event.TheVariants as answers
@@ -28,7 +29,12 @@ use Rattle.fit_chain.specs.Pieces.{Quiet, Least}
 use Rattle.fit_chain.specs.Needs.{missing}
 use Rattle.fit_decode.specs.inner.Scans.{half_sum}
 
--- A decoder's fields, but for the count of the bytes and the refusal: how far they have come, the reader of the header, the
+-- why a byte was refused, if one was
+abbrev pub refusal_of : Section → Option Reason
+refusal_of (Latched reason) = Some reason
+refusal_of section = None
+
+-- A decoder's fields, but for the count of the bytes: how far they have come, the reader of the header, the
 -- bytes that the closing checksum covers so far, what is known, where in a record it is, and the record in progress.
 pub record Fields (A : Type 0) : Type 0 where
   pub stage : Stage
@@ -85,8 +91,9 @@ abbrev pub HoldsAt : {A : Type 0} → Section → Fields A → List ℕ → Type
 HoldsAt Header d bytes = InHeader d bytes
 HoldsAt Data d bytes = InData d bytes
 HoldsAt ClosingSum d bytes = InSum d bytes
+HoldsAt (Latched reason) d bytes = (d.env ≡ empty_environment) × (d.in_progress ≡ None)
 
--- The fields are those after these bytes.
+-- The fields are those after these bytes. After a refusal no more is said than that nothing is kept.
 abbrev pub Holds : {A : Type 0} → Fields A → List ℕ → Type 0
 Holds d bytes = HoldsAt d.stage.section d bytes
 
@@ -107,17 +114,20 @@ abbrev pub NotRefused : {A : Type 0} → Result (Answer A) Stop → Type 0
 NotRefused (Err (Refused reason)) = ⊥
 NotRefused answer = Unit {0}
 
--- What the bytes used tell, and that a chain begins with them; and unless a byte was refused, the fields are those after them.
+-- What the bytes used tell, and that a chain begins with them; and unless a byte was refused, the fields are those after them, and
+-- the next byte is awaited.
 pub record NextAnswer {A : Type 0} (d : Fields A) (bytes piece : List ℕ) (used : ℕ) (answer : Result (Answer A) Stop) : Type 0 where
   pub told : Advanced bytes piece used answer
   pub viable : IsViable A chain_limit (bytes ++ take used piece)
   pub holds : NotRefused answer → Holds d (bytes ++ take used piece)
+  pub fresh : NotRefused answer → refusal_of d.stage.section ≡ None
 
 -- How many bytes are to come, by the fields; front is what there is of a header.
 abbrev pub to_come_in : Section → Stage → List ℕ → ℕ → ℕ
 to_come_in Header s front room = missing {A = Unit {0}} s.files (at_header front)
 to_come_in Data s front room = room + 2
 to_come_in ClosingSum s front room = if s.half then 1 else 2
+to_come_in (Latched reason) s front room = 0
 
 abbrev pub to_come : Stage → List ℕ → ℕ → ℕ
 to_come s front room = to_come_in s.section s front room

@@ -7,11 +7,11 @@ ghost use Rattle.fit_record.specs.declared.message.Values.{Values};
 ghost use Rattle.fit_record.specs.declared.message.Record.TheVariants.{Values as Data};
 ghost use Rattle.fit_chain.specs.Events.{Event as Told, AreEvents, item, known_after};
 ghost use Rattle.fit_chain.specs.Memory.{IsAny, MayLackMemoryIn};
-ghost use Rattle.fit_decode.specs.Answers.{fed, MessageFollows};
+ghost use Rattle.fit_decode.specs.Answers.{MessageFollows};
 ghost use Rattle.fit_chain.specs.Pieces.{TellsRecords};
 ghost use Rattle.fit_decode.specs.inner.Feeds.{TellsItem};
 
-use super::Decoder;
+use super::{Decoder, cover};
 use crate::section::Section;
 use fit_record::{Record, Values};
 use fit_step::{read_message, read_whole_definition, skip_in_section, skip_message_in_section};
@@ -27,9 +27,6 @@ impl<A: Allocator + Copy> Decoder<A> {
         ensures none { IfNone result (self.new ≡ self.old) }
         ensures viable { IsViable A chain_limit self.new.bytes }
     {
-        if self.refusal.is_some() {
-            return None;
-        }
         let Section::Data = self.stage.section else {
             return None;
         };
@@ -43,10 +40,13 @@ impl<A: Allocator + Copy> Decoder<A> {
             return None;
         };
         let (values, length) = found?;
-        let (whole, _) = piece.split_at(length);
-        self.sum.add_all(whole);
-        self.history.note(whole);
-        self.count += length as u64;
+        cover(
+            &mut self.sum,
+            &mut self.history,
+            &mut self.count,
+            piece,
+            length,
+        );
         Some((values, length))
     }
 
@@ -59,9 +59,6 @@ impl<A: Allocator + Copy> Decoder<A> {
         ensures none { IfNone result (self.new ≡ self.old) }
         ensures viable { IsViable A chain_limit self.new.bytes }
     {
-        if self.refusal.is_some() {
-            return None;
-        }
         let Section::Data = self.stage.section else {
             return None;
         };
@@ -74,12 +71,15 @@ impl<A: Allocator + Copy> Decoder<A> {
         ) else {
             return None;
         };
-        let (record, size) = found?;
-        let (bytes, _) = piece.split_at(size);
-        self.sum.add_all(bytes);
-        self.history.note(bytes);
-        self.count += size as u64;
-        Some((record, size))
+        let (record, length) = found?;
+        cover(
+            &mut self.sum,
+            &mut self.history,
+            &mut self.count,
+            piece,
+            length,
+        );
+        Some((record, length))
     }
 
     /// Skips records at the front of the piece: they count as fed, what they define is learned, and no event is made of them.
@@ -101,9 +101,6 @@ impl<A: Allocator + Copy> Decoder<A> {
             → (result ≡ (0, 0)) × (self.new ≡ self.old) }
         ensures viable { IsViable A chain_limit self.new.bytes }
     {
-        if self.refusal.is_some() {
-            return (0, 0);
-        }
         let Section::Data = self.stage.section else {
             return (0, 0);
         };
@@ -114,10 +111,13 @@ impl<A: Allocator + Copy> Decoder<A> {
             &self.in_progress,
             piece,
         );
-        let (taken, _) = piece.split_at(skipped);
-        self.sum.add_all(taken);
-        self.history.note(taken);
-        self.count += skipped as u64;
+        cover(
+            &mut self.sum,
+            &mut self.history,
+            &mut self.count,
+            piece,
+            skipped,
+        );
         (skipped, count)
     }
 
@@ -142,17 +142,17 @@ impl<A: Allocator + Copy> Decoder<A> {
             → (result ≡ 0) × (self.new ≡ self.old) }
         ensures viable { IsViable A chain_limit self.new.bytes }
     {
-        if self.refusal.is_some() {
-            return 0;
-        }
         let Section::Data = self.stage.section else {
             return 0;
         };
         let size = skip_message_in_section(&self.env, &mut self.position, &self.in_progress, piece);
-        let (message, _) = piece.split_at(size);
-        self.sum.add_all(message);
-        self.history.note(message);
-        self.count += size as u64;
+        cover(
+            &mut self.sum,
+            &mut self.history,
+            &mut self.count,
+            piece,
+            size,
+        );
         size
     }
 }

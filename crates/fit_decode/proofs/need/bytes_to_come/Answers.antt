@@ -1,4 +1,4 @@
-use Rattle.fit_decode.proofs.Common.{zero, ◌<◌, arith, slice_is_bytes}
+use Rattle.fit_decode.proofs.Common.{zero, ◌<◌, ◌+◌, ◌∙◌, ap, sym, arith, slice_is_bytes, to_come_in}
 use Rattle.fit_decode.proofs.Needed.{four_bytes_below}
 use Rattle.fit_decode.proofs.need.bytes_to_come.Goals as goal
 
@@ -11,4 +11,5 @@ overflow_add-result c =
     omega (arith, small, c.saturating_sub-rest.ensures, c.from.ensures, low zero)
 
 pub returns-in-Data : goal.returns-in-Data
-returns-in-Data c = cc
+returns-in-Data c =
+    ap (λ n. n + 2) c.from-in-Data.ensures ∙ ap (λ s. to_come_in s c.args.stage.now c.args.header.now c.args.room) (sym c.in-Data.is)

@@ -1,4 +1,4 @@
-use Rattle.fit_decode.proofs.Common.{◌++◌, None, Ok, refl, sym, ap, ◌∙◌, rules, layout, slice_is_bytes, fields_inside}
+use Rattle.fit_decode.proofs.Common.{None, Ok, refl, sym, ap, ◌∙◌, rules, layout, slice_is_bytes, fields_inside, refusal_of}
 use Rattle.fit_decode.specs.contracts.decoder.Decoder.{the_row}
 use Rattle.fit_decode.specs.contracts.decoder.Decoder.feed_part.{A-row}
 use Rattle.fit_step.specs.declared.stop.Stop.TheVariants as stops
@@ -14,128 +14,130 @@ use Rattle.fit_decode.proofs.Feeding.{Took, takes, within, few_bytes, still_kept
 use Rattle.fit_decode.proofs.Feeding.{feeds_latched, feeds_event, feeds_refusal, feeds_want}
 use Rattle.fit_decode.proofs.decoder.Decoder.feed_part.Given as given
 use Rattle.fit_decode.proofs.decoder.Decoder.feed_part.Goals as goal
-use Rattle.fit_decode.proofs.decoder.Decoder.feed_part.Goals.{Joined-self-2, in-Header, in-Data, in-ClosingSum}
+use Rattle.fit_decode.proofs.decoder.Decoder.feed_part.Goals.{Joined-self, in-Header, in-Data, in-ClosingSum}
 
 -- where the sections meet
-took : (g : given.Over) (c : Joined-self-2 g)
-    → Took c.self.inside (record c.match-self-2.self-inside { in_progress = left_by c.match-self-2.self-inside.in_progress c.match-self-2.used.1 })
-    c.args.piece.now c.match-self-2.used.0 (as_event c.match-self-2.self-inside.in_progress c.match-self-2.head
-    c.match-self-2.used.1)
+took : (g : given.Over) (c : Joined-self g)
+    → Took c.self.inside (record c.match-self.self-inside { in_progress = left_by c.match-self.self-inside.in_progress c.match-self.used.1 })
+    c.args.piece.now c.match-self.used.0 (as_event c.match-self.self-inside.in_progress c.match-self.head
+    c.match-self.used.1)
 took g c =
     let k = c.self.invariant in
-    let fresh = c.in_default.is in
     let low = slice_is_bytes c.args.piece.now c.type_inv.piece in
     let d = fields_inside c.self.inside in
-    elim c.match-self-2.branch [
+    elim c.match-self.branch [
       | in-Header w ↦
           let f = w.feed_header in
-          rw (w.used-is, w.self-inside-is, w.head-is, left_idle d.in_progress f.result.1 (at_section k fresh w.in-Header.is).idle) (takes k fresh low
-          (header_fed d w.in-Header.is c.self.inside.history.items c.args.piece.now (at_section k fresh w.in-Header.is) k.are low
-          f.new.self f.new.reader f.new.position f.new.sum f.new.head f.result.0 f.result.1 f.ensures) refl refl refl)
+          rw (w.used-is, w.self-inside-is, w.head-is, left_idle d.in_progress f.result.1 (at_section k w.in-Header.is).idle)
+          (takes k (ap refusal_of w.in-Header.is) low
+          (header_fed d w.in-Header.is c.self.inside.history.items c.args.piece.now (at_section k w.in-Header.is) k.are low
+          f.new.self f.new.reader f.new.position f.new.sum f.new.head f.result.0 f.result.1 f.ensures) refl refl)
       | in-Data w ↦
           let f = w.feed_data in
-          rw (w.used-is, w.self-inside-is, w.head-is) (takes k fresh low
-          (data_fed d w.in-Data.is c.self.inside.history.items c.args.piece.now (at_section k fresh w.in-Data.is) k.are low
+          rw (w.used-is, w.self-inside-is, w.head-is) (takes k (ap refusal_of w.in-Data.is) low
+          (data_fed d w.in-Data.is c.self.inside.history.items c.args.piece.now (at_section k w.in-Data.is) k.are low
           f.new.self f.new.env f.new.position (left_by f.new.in_progress f.result.1) f.new.sum f.result.0
           (as_event f.new.in_progress None f.result.1)
           (f.ensures None))
-          refl refl refl)
+          refl refl)
       | in-ClosingSum w ↦
           let f = w.feed_sum in
-          rw (w.used-is, w.self-inside-is, w.head-is, left_idle d.in_progress f.result.1 (at_section k fresh w.in-ClosingSum.is).idle) (takes k fresh low
-          (sum_fed d w.in-ClosingSum.is c.self.inside.history.items c.args.piece.now (at_section k fresh w.in-ClosingSum.is) k.are low
+          rw (w.used-is, w.self-inside-is, w.head-is, left_idle d.in_progress f.result.1 (at_section k w.in-ClosingSum.is).idle)
+          (takes k (ap refusal_of w.in-ClosingSum.is) low
+          (sum_fed d w.in-ClosingSum.is c.self.inside.history.items c.args.piece.now (at_section k w.in-ClosingSum.is) k.are low
           f.new.self f.new.env f.new.sum f.result.0 (as_event d.in_progress None f.result.1)
-          (f.ensures d.in_progress None)) refl refl refl)
+          (f.ensures d.in_progress None)) refl refl)
     ]
 
-pub returns-in-Some-clause-feeds : goal.returns-in-Some-clause-feeds
-returns-in-Some-clause-feeds g c = feeds_latched c.self.inside c.self.invariant c.args.self.now c.self.view_is c.args.piece.now c.in-Some.reason c.in-Some.is
+pub returns-in-Latched-clause-feeds : goal.returns-in-Latched-clause-feeds
+returns-in-Latched-clause-feeds g c =
+    feeds_latched c.self.inside c.self.invariant c.args.self.now c.self.view_is c.args.piece.now c.in-Latched.reason c.in-Latched.is
 
-pub returns-in-Some-clause-viable : goal.returns-in-Some-clause-viable
-returns-in-Some-clause-viable g c = was_viable c.self.inside c.self.invariant c.args.self.now c.self.view_is
+pub returns-in-Latched-clause-viable : goal.returns-in-Latched-clause-viable
+returns-in-Latched-clause-viable g c = was_viable c.self.inside c.self.invariant c.args.self.now c.self.view_is
 
 pub feed_header-requires-clause-fresh : goal.feed_header-requires-clause-fresh
-feed_header-requires-clause-fresh g c = header_fresh c.self.invariant c.in_default.is c.in-Header.is
+feed_header-requires-clause-fresh g c = header_fresh c.self.invariant c.in-Header.is
 
 pub feed_header-requires-clause-begun : goal.feed_header-requires-clause-begun
-feed_header-requires-clause-begun g c = header_open c.self.invariant c.in_default.is c.in-Header.is
+feed_header-requires-clause-begun g c = header_open c.self.invariant c.in-Header.is
 
 pub feed_data-requires : goal.feed_data-requires
 feed_data-requires g c = (
   field_is_within 3 (layout (the_row (A-row g.row.A) g.A.Allocator)) _ (search rules),
-  data_reading c.self.invariant c.in_default.is c.in-Data.is,
+  data_reading c.self.invariant c.in-Data.is,
 )
 
 pub feed_sum-requires : goal.feed_sum-requires
 feed_sum-requires g c = (
   field_is_within 3 (layout (the_row (A-row g.row.A) g.A.Allocator)) _ (search rules),
-  sum_few c.self.invariant c.in_default.is c.in-ClosingSum.is,
+  sum_few c.self.invariant c.in-ClosingSum.is,
 )
 
 pub let_go-requires : goal.let_go-requires
 let_go-requires g c = field_is_within 3 (layout (the_row (A-row g.row.A) g.A.Allocator)) _ (search rules)
 
-pub split_at-requires : goal.split_at-requires
-split_at-requires g c = within (took g (goal.at.split_at-requires g c).Joined-self-2)
+pub count_fed-requires-clause-within : goal.count_fed-requires-clause-within
+count_fed-requires-clause-within g c = within (took g (goal.at.count_fed-requires-clause-within g c).Joined-self)
 
-pub overflow_add-self : goal.overflow_add-self
-overflow_add-self g c = few_bytes (took g (goal.at.overflow_add-self g c).Joined-self-2)
+pub count_fed-requires-clause-fits : goal.count_fed-requires-clause-fits
+count_fed-requires-clause-fits g c = few_bytes (took g (goal.at.count_fed-requires-clause-fits g c).Joined-self)
 
 pub invariant_of-self : goal.invariant_of-self
 invariant_of-self g c =
     let same = c.in-Ok-More.is ∙ ap Ok (rw c.in-Ok-More.is at c.in-Ok-More.field-0-is) in
-    still_kept (took g (goal.at.invariant_of-self g c).Joined-self-2) _
-    (c.note.ensures ∙ ap (λ b. c.match-self-2.self-inside.history.items ++ b) c.split_at.ensures.front) refl
-    (λ i. record (fields_inside c.match-self-2.self-inside) { in_progress = ap (left_by c.match-self-2.self-inside.in_progress) (sym same) i })
-    (not_refused (as_event c.match-self-2.self-inside.in_progress c.match-self-2.head
-    c.match-self-2.used.1) events.More
-    (event_told c.match-self-2.self-inside.in_progress c.match-self-2.head c.match-self-2.used.1 parts.More events.More same refl)) refl
+    still_kept (took g (goal.at.invariant_of-self g c).Joined-self) _
+    c.count_fed.ensures.noted c.count_fed.ensures.counted
+    (λ i. record (fields_inside c.match-self.self-inside) { in_progress = ap (left_by c.match-self.self-inside.in_progress) (sym same) i })
+    (not_refused (as_event c.match-self.self-inside.in_progress c.match-self.head
+    c.match-self.used.1) events.More
+    (event_told c.match-self.self-inside.in_progress c.match-self.head c.match-self.used.1 parts.More events.More same refl))
 
 pub invariant_of-self-in-Ok : goal.invariant_of-self-in-Ok
 invariant_of-self-in-Ok g c =
-    still_kept (took g (goal.at.invariant_of-self-in-Ok g c).Joined-self-2) _
-    (c.note.ensures ∙ ap (λ b. c.match-self-2.self-inside.history.items ++ b) c.split_at.ensures.front) refl
-    (λ i. record (fields_inside c.match-self-2.self-inside) {
-      in_progress = (c.take_event-event.ensures.left ∙ ap (left_by c.match-self-2.self-inside.in_progress) (sym c.in-Ok.is)) i;
+    still_kept (took g (goal.at.invariant_of-self-in-Ok g c).Joined-self) _
+    c.count_fed.ensures.noted c.count_fed.ensures.counted
+    (λ i. record (fields_inside c.match-self.self-inside) {
+      in_progress = (c.take_event-event.ensures.left ∙ ap (left_by c.match-self.self-inside.in_progress) (sym c.in-Ok.is)) i;
     })
-    (not_refused (as_event c.match-self-2.self-inside.in_progress c.match-self-2.head
-    c.match-self-2.used.1) c.take_event-event.result
-    (event_told c.match-self-2.self-inside.in_progress c.match-self-2.head c.match-self-2.used.1 c.in-Ok.part
-    c.take_event-event.result c.in-Ok.is c.take_event-event.ensures.event)) refl
+    (not_refused (as_event c.match-self.self-inside.in_progress c.match-self.head
+    c.match-self.used.1) c.take_event-event.result
+    (event_told c.match-self.self-inside.in_progress c.match-self.head c.match-self.used.1 c.in-Ok.part
+    c.take_event-event.result c.in-Ok.is c.take_event-event.ensures.event))
 
 pub invariant_of-self-in-Refused : goal.invariant_of-self-in-Refused
 invariant_of-self-in-Refused g c =
-    refused_kept (took g (goal.at.invariant_of-self-in-Refused g c).Joined-self-2) _
-    (c.note.ensures ∙ ap (λ b. c.match-self-2.self-inside.history.items ++ b) c.split_at.ensures.front) refl c.in-Refused.reason refl c.let_go.ensures.known
+    refused_kept (took g (goal.at.invariant_of-self-in-Refused g c).Joined-self) _
+    c.count_fed.ensures.noted c.count_fed.ensures.counted c.in-Refused.reason refl c.let_go.ensures.known
     c.let_go.ensures.idle
 
 pub invariant_of-self-in-NoMemory : goal.invariant_of-self-in-NoMemory
 invariant_of-self-in-NoMemory g c =
-    still_kept (took g (goal.at.invariant_of-self-in-NoMemory g c).Joined-self-2) _
-    (c.note.ensures ∙ ap (λ b. c.match-self-2.self-inside.history.items ++ b) c.split_at.ensures.front) refl
-    (λ i. record (fields_inside c.match-self-2.self-inside) {
-      in_progress = ap (left_by c.match-self-2.self-inside.in_progress) (sym c.in-Err.is) i;
+    still_kept (took g (goal.at.invariant_of-self-in-NoMemory g c).Joined-self) _
+    c.count_fed.ensures.noted c.count_fed.ensures.counted
+    (λ i. record (fields_inside c.match-self.self-inside) {
+      in_progress = ap (left_by c.match-self.self-inside.in_progress) (sym c.in-Err.is) i;
     })
-    (not_for_memory (as_event c.match-self-2.self-inside.in_progress c.match-self-2.head
-    c.match-self-2.used.1)
-    (stop_told c.match-self-2.self-inside.in_progress c.match-self-2.head c.match-self-2.used.1
-    c.in-Err.stop stops.NoMemory c.in-Err.is c.in-NoMemory.is)) refl
+    (not_for_memory (as_event c.match-self.self-inside.in_progress c.match-self.head
+    c.match-self.used.1)
+    (stop_told c.match-self.self-inside.in_progress c.match-self.head c.match-self.used.1
+    c.in-Err.stop stops.NoMemory c.in-Err.is c.in-NoMemory.is))
 
 pub returns-in-Ok-More-clause-feeds : goal.returns-in-Ok-More-clause-feeds
 returns-in-Ok-More-clause-feeds g c =
     let same = c.in-Ok-More.is ∙ ap Ok (rw c.in-Ok-More.is at c.in-Ok-More.field-0-is) in
-    feeds_event (took g (goal.at.returns-in-Ok-More-clause-feeds g c).Joined-self-2) c.self.view_is c.note.new.self.items
-    (c.note.ensures ∙ ap (λ b. c.match-self-2.self-inside.history.items ++ b) c.split_at.ensures.front) events.More
-    (event_told c.match-self-2.self-inside.in_progress c.match-self-2.head c.match-self-2.used.1 parts.More events.More same refl)
+    feeds_event (took g (goal.at.returns-in-Ok-More-clause-feeds g c).Joined-self) c.self.view_is c.count_fed.new.history.items
+    c.count_fed.ensures.noted events.More
+    (event_told c.match-self.self-inside.in_progress c.match-self.head c.match-self.used.1 parts.More events.More same refl)
 
 pub returns-in-Ok-More-clause-viable : goal.returns-in-Ok-More-clause-viable
 returns-in-Ok-More-clause-viable g c = (invariant_of-self g c).viable
 
 pub returns-in-Ok-clause-feeds : goal.returns-in-Ok-clause-feeds
 returns-in-Ok-clause-feeds g c =
-    feeds_event (took g (goal.at.returns-in-Ok-clause-feeds g c).Joined-self-2) c.self.view_is c.note.new.self.items
-    (c.note.ensures ∙ ap (λ b. c.match-self-2.self-inside.history.items ++ b) c.split_at.ensures.front) c.take_event-event.result
-    (event_told c.match-self-2.self-inside.in_progress c.match-self-2.head c.match-self-2.used.1 c.in-Ok.part
+    feeds_event (took g (goal.at.returns-in-Ok-clause-feeds g c).Joined-self) c.self.view_is c.count_fed.new.history.items
+    c.count_fed.ensures.noted c.take_event-event.result
+    (event_told c.match-self.self-inside.in_progress c.match-self.head c.match-self.used.1 c.in-Ok.part
     c.take_event-event.result c.in-Ok.is c.take_event-event.ensures.event)
 
 pub returns-in-Ok-clause-viable : goal.returns-in-Ok-clause-viable
@@ -143,19 +145,19 @@ returns-in-Ok-clause-viable g c = (invariant_of-self-in-Ok g c).viable
 
 pub returns-in-Refused-clause-feeds : goal.returns-in-Refused-clause-feeds
 returns-in-Refused-clause-feeds g c =
-    feeds_refusal (took g (goal.at.returns-in-Refused-clause-feeds g c).Joined-self-2) c.self.view_is c.note.new.self.items
-    (c.note.ensures ∙ ap (λ b. c.match-self-2.self-inside.history.items ++ b) c.split_at.ensures.front) c.in-Refused.reason
-    (stop_told c.match-self-2.self-inside.in_progress c.match-self-2.head c.match-self-2.used.1
-    c.in-Err.stop (stops.Refused c.in-Refused.reason) c.in-Err.is c.in-Refused.is)
+    feeds_refusal (took g (goal.at.returns-in-Refused-clause-feeds g c).Joined-self) c.self.view_is c.count_fed.new.history.items
+    c.count_fed.ensures.noted c.in-Refused.reason
+    (stop_told c.match-self.self-inside.in_progress c.match-self.head c.match-self.used.1
+    c.in-Err.stop (stops.Refused c.in-Refused.reason) c.in-Err.is c.in-Refused.is) c.count_fed.new.count c.count_fed.ensures.counted
 
 pub returns-in-Refused-clause-viable : goal.returns-in-Refused-clause-viable
 returns-in-Refused-clause-viable g c = (invariant_of-self-in-Refused g c).viable
 
 pub returns-in-NoMemory-clause-feeds : goal.returns-in-NoMemory-clause-feeds
 returns-in-NoMemory-clause-feeds g c =
-    feeds_want (took g (goal.at.returns-in-NoMemory-clause-feeds g c).Joined-self-2) c.self.view_is c.note.new.self.items
-    (c.note.ensures ∙ ap (λ b. c.match-self-2.self-inside.history.items ++ b) c.split_at.ensures.front)
-    (stop_told c.match-self-2.self-inside.in_progress c.match-self-2.head c.match-self-2.used.1
+    feeds_want (took g (goal.at.returns-in-NoMemory-clause-feeds g c).Joined-self) c.self.view_is c.count_fed.new.history.items
+    c.count_fed.ensures.noted
+    (stop_told c.match-self.self-inside.in_progress c.match-self.head c.match-self.used.1
     c.in-Err.stop stops.NoMemory c.in-Err.is c.in-NoMemory.is)
 
 pub returns-in-NoMemory-clause-viable : goal.returns-in-NoMemory-clause-viable
