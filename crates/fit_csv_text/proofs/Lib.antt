@@ -3,6 +3,7 @@ mod RowReads
 pub mod SomeRows
 mod Lanes
 mod LooseTexts
+mod PlainTexts
 mod ShortCells
 mod ShortLines
 mod Spelled

@@ -7,4 +7,4 @@ mod window;
 
 pub use loose::without_mark;
 pub use reader::RowReader;
-pub use window::{Window, is_loose};
+pub use window::Window;

@@ -1,8 +1,10 @@
 //! Texts as spreadsheets write them, spelled anew as `to_csv` spells: CR LF at the ends of lines, cells in quotes that need none,
 //! a byte order mark at the start.
-ghost use Rattle.std.specs.Prelude.{◌≡◌, ◌++◌, ◌∷◌, ◌≤◌, [], ℕ, List, IfSome, MatchOption, IsTrue, length, take, true};
+ghost use Rattle.std.specs.Prelude.{◌≡◌, ◌+◌, ◌++◌, ◌∷◌, ◌<◌, ◌≤◌, [], ℕ, List, IfOk, IfSome, IsOkUnless, IsTrue, MatchOption, OnOk};
+ghost use Rattle.std.specs.Prelude.{false, length, slice_index, take, true};
 ghost use Rattle.csv.specs.Reading.{strip_bom};
-ghost use Rattle.fit_csv_text.specs.inner.Loose.{Closes, EndsCell, EndsLine, Opens, WritesOn, may_open, spot_after, spot_from};
+ghost use Rattle.fit_csv_text.specs.Spellings.{HasPlainLines};
+ghost use Rattle.fit_csv_text.specs.inner.Loose.{Closes, EndsCell, EndsLine, Grows, Opens, WritesOn, is_mark, may_open, spot_after, spot_from};
 
 mod cells;
 mod lines;
@@ -10,15 +12,24 @@ mod runs;
 mod sheet;
 
 use crate::loose::cells::put_cells;
-use crate::loose::lines::{LINE_SIZE, put_some};
-use crate::loose::runs::{bare_length, run_length};
+use crate::loose::lines::{LINE_SIZE, after_return, put_some};
+use crate::loose::runs::{bare_length, mark, run_length};
 use crate::loose::sheet::{SHEET_SIZE, Sheet};
 
 /// How far one step of the spelling looks ahead. A cell of a FIT file is shorter, and a longer one in quotes is not spelled anew.
 pub(crate) const STEP_SIZE: usize = 4_096;
 
 /// How many bytes are written at most. A step writes a sheet or what it looks at, and two bytes more.
-pub(crate) const MOST: usize = 65_536;
+const MOST: usize = 65_536;
+
+/// Why a text isn't spelled anew.
+#[derive(Clone, Copy)]
+pub(crate) enum Unspelled {
+    /// It has another spelling than spreadsheets write, or there is no room for it.
+    Other,
+    /// Memory was refused.
+    NoMemory,
+}
 
 /// Where a text stands outside of quotes.
 #[derive(Clone, Copy)]
@@ -68,31 +79,36 @@ fn quoted_length(text: &[u8]) -> Option<usize>
 }
 
 /// Writes bytes after what was written, where there is room for them.
-fn put(written: &mut Vec<u8>, bytes: &[u8]) -> Option<()>
-    ensures text { IfSome result (λ done. written.new.items ≡ written.old.items ++ bytes.now) }
-    ensures few { IfSome result (λ done. length written.new.items ≤ 65536) }
+fn put(written: &mut Vec<u8>, bytes: &[u8]) -> Result<(), Unspelled>
+    ensures text { OnOk result (written.new.items ≡ written.old.items ++ bytes.now) }
+    ensures long { OnOk result
+        (length written.new.items ≡ length written.old.items + length bytes.now) }
+    ensures few { OnOk result (length written.new.items ≤ 65536) }
+    ensures room { length written.old.items + length bytes.now ≤ 65536
+        → IsOkUnless result Unspelled.NoMemory }
 {
     if written.len() + bytes.len() > MOST {
-        return None;
+        return Err(Unspelled::Other);
     }
     match written.extend_from_slice(bytes) {
-        Ok(()) => Some(()),
-        Err(_) => None,
+        Ok(()) => Ok(()),
+        Err(_) => Err(Unspelled::NoMemory),
     }
 }
 
 /// Writes a byte after what was written, where there is room for it.
 #[inline(always)]
-fn put_byte(written: &mut Vec<u8>, byte: u8) -> Option<()>
-    ensures text { IfSome result (λ done. written.new.items ≡ written.old.items ++ byte ∷ []) }
-    ensures few { IfSome result (λ done. length written.new.items ≤ 65536) }
+fn put_byte(written: &mut Vec<u8>, byte: u8) -> Result<(), Unspelled>
+    ensures text { OnOk result (written.new.items ≡ written.old.items ++ byte ∷ []) }
+    ensures grows { OnOk result (Grows written.old.items written.new.items) }
+    ensures room { length written.old.items < 65536 → IsOkUnless result Unspelled.NoMemory }
 {
     if written.len() >= MOST {
-        return None;
+        return Err(Unspelled::Other);
     }
     match written.push(byte) {
-        Ok(()) => Some(()),
-        Err(_) => None,
+        Ok(()) => Ok(()),
+        Err(_) => Err(Unspelled::NoMemory),
     }
 }
 
@@ -109,17 +125,20 @@ fn after_row(text: &[u8]) -> Option<&[u8]>
 }
 
 /// Writes what comes after a cell in quotes, and returns what is left.
-fn end_cell<'a>(written: &mut Vec<u8>, text: &'a [u8]) -> Option<&'a [u8]>
-    ensures { IfSome result (λ left. (spelled : List ℕ) × EndsCell text.now left.now spelled
+fn end_cell<'a>(written: &mut Vec<u8>, text: &'a [u8]) -> Result<&'a [u8], Unspelled>
+    ensures ends { IfOk result (λ left. (spelled : List ℕ) × EndsCell text.now left.now spelled
         × (written.new.items ≡ written.old.items ++ spelled)) }
+    ensures grows { IfOk result (λ left. Grows written.old.items written.new.items) }
 {
     if let [b',', left @ ..] = text {
         put_byte(written, b',')?;
-        return Some(left);
+        return Ok(left);
     }
-    let left = after_row(text)?;
+    let Some(left) = after_row(text) else {
+        return Err(Unspelled::Other);
+    };
     put_byte(written, b'\n')?;
-    Some(left)
+    Ok(left)
 }
 
 /// Whether a cell that shows some bytes, or none, may begin at a spot without quotes.
@@ -142,7 +161,8 @@ fn opens(written: &[u8]) -> bool
 
 /// What comes after a byte with which a text begins.
 pub(crate) fn after_byte(text: &[u8], byte: u8) -> Option<&[u8]>
-    ensures { IfSome result (λ left. text.now ≡ byte ∷ left.now) }
+    ensures { MatchOption result ((left : List ℕ) → text.now ≡ byte ∷ left → ⊥)
+        (λ left. text.now ≡ byte ∷ left.now) }
 {
     let (first, left) = text.split_first()?;
     if *first == byte { Some(left) } else { None }
@@ -166,26 +186,33 @@ fn after_bare(spot: Spot, text: &[u8], shown: usize) -> Option<&[u8]>
 }
 
 /// Writes a cell with its quotes, and what comes after it.
-fn take_kept<'a>(written: &mut Vec<u8>, text: &'a [u8]) -> Option<&'a [u8]>
-    ensures { IfSome result (λ left.
+fn take_kept<'a>(written: &mut Vec<u8>, text: &'a [u8]) -> Result<&'a [u8], Unspelled>
+    ensures goes { IfOk result (λ left.
         WritesOn (34 ∷ text.now) left.now written.old.items written.new.items) }
+    ensures grows { IfOk result (λ left. Grows written.old.items written.new.items) }
 {
     if !opens(written.as_slice()) {
-        return None;
+        return Err(Unspelled::Other);
     }
-    let (kept, after) = text.split_at(quoted_length(text)?);
+    let Some(size) = quoted_length(text) else {
+        return Err(Unspelled::Other);
+    };
+    let (kept, after) = text.split_at(size);
     put_byte(written, b'"')?;
     put(written, kept)?;
     end_cell(written, after)
 }
 
 /// Spells anew a cell whose opening quote came before the text, and returns what is left.
-fn take_quoted<'a>(written: &mut Vec<u8>, text: &'a [u8]) -> Option<&'a [u8]>
-    ensures { IfSome result (λ left.
+fn take_quoted<'a>(written: &mut Vec<u8>, text: &'a [u8]) -> Result<&'a [u8], Unspelled>
+    ensures goes { IfOk result (λ left.
         WritesOn (34 ∷ text.now) left.now written.old.items written.new.items) }
+    ensures grows { IfOk result (λ left. Grows written.old.items written.new.items) }
 {
     let spot = spot_of(written.as_slice());
-    let shown = bare_length(text)?;
+    let Some(shown) = bare_length(text) else {
+        return Err(Unspelled::Other);
+    };
     if let Some(after) = after_bare(spot, text, shown) {
         put(written, &text[..shown])?;
         return end_cell(written, after);
@@ -193,37 +220,65 @@ fn take_quoted<'a>(written: &mut Vec<u8>, text: &'a [u8]) -> Option<&'a [u8]>
     take_kept(written, text)
 }
 
-/// Writes what one step finds before the first quote or carriage return.
-fn take_run<'a>(written: &mut Vec<u8>, text: &'a [u8]) -> Option<&'a [u8]>
-    ensures { IfSome result (λ left.
+/// Writes what one step finds before the next quote or carriage return, where a text begins with neither.
+fn take_run<'a>(written: &mut Vec<u8>, text: &'a [u8]) -> Result<&'a [u8], Unspelled>
+    ensures goes { IfOk result (λ left.
         WritesOn text.now left.now written.old.items written.new.items) }
+    ensures grows { IfOk result (λ left. Grows written.old.items written.new.items) }
+    ensures lines { HasPlainLines text.now → IfOk result (λ left. HasPlainLines left.now) }
+    ensures room { 0 < length text.now → is_mark (slice_index text.now 0) ≡ false
+        → length written.old.items + 4097 ≤ 65536 → IsOkUnless result Unspelled.NoMemory }
 {
-    let (run, left) = text.split_at(run_length(text));
-    if run.is_empty() {
-        return None;
+    let Some((first, rest)) = text.split_first() else {
+        return Err(Unspelled::Other);
+    };
+    if mark(*first) {
+        return Err(Unspelled::Other);
     }
+    let (run, left) = text.split_at(run_length(rest) + 1);
     put(written, run)?;
-    Some(left)
+    Ok(left)
 }
 
 /// Writes a line feed for a carriage return and a line feed.
-fn take_line<'a>(written: &mut Vec<u8>, left: &'a [u8]) -> Option<&'a [u8]>
-    ensures { IfSome result (λ l.
+fn take_line<'a>(written: &mut Vec<u8>, left: &'a [u8]) -> Result<&'a [u8], Unspelled>
+    ensures goes { IfOk result (λ l.
         WritesOn (13 ∷ 10 ∷ left.now) l.now written.old.items written.new.items) }
+    ensures grows { IfOk result (λ l. Grows written.old.items written.new.items) }
+    ensures same { IfOk result (λ l. l.now ≡ left.now) }
+    ensures room { length written.old.items < 65536 → IsOkUnless result Unspelled.NoMemory }
 {
     put_byte(written, b'\n')?;
-    Some(left)
+    Ok(left)
+}
+
+/// Spells anew a beginning of a text that begins with no quote, and returns what is left.
+fn take_unquoted<'a>(written: &mut Vec<u8>, text: &'a [u8]) -> Result<&'a [u8], Unspelled>
+    ensures goes { IfOk result (λ left.
+        WritesOn text.now left.now written.old.items written.new.items) }
+    ensures grows { IfOk result (λ left. Grows written.old.items written.new.items) }
+    ensures lines { HasPlainLines text.now → IfOk result (λ left. HasPlainLines left.now) }
+    ensures room { HasPlainLines text.now → 0 < length text.now
+        → length written.old.items + 4097 ≤ 65536 → IsOkUnless result Unspelled.NoMemory }
+{
+    match after_return(text) {
+        Some(left) => take_line(written, left),
+        None => take_run(written, text),
+    }
 }
 
 /// Spells anew a beginning of a text, and returns what is left.
-fn take_some<'a>(written: &mut Vec<u8>, text: &'a [u8]) -> Option<&'a [u8]>
-    ensures { IfSome result (λ left.
+fn take_some<'a>(written: &mut Vec<u8>, text: &'a [u8]) -> Result<&'a [u8], Unspelled>
+    ensures goes { IfOk result (λ left.
         WritesOn text.now left.now written.old.items written.new.items) }
+    ensures grows { IfOk result (λ left. Grows written.old.items written.new.items) }
+    ensures lines { HasPlainLines text.now → IfOk result (λ left. HasPlainLines left.now) }
+    ensures room { HasPlainLines text.now → 0 < length text.now
+        → length written.old.items + 4097 ≤ 65536 → IsOkUnless result Unspelled.NoMemory }
 {
-    match text {
-        [b'"', rest @ ..] => take_quoted(written, rest),
-        [b'\r', b'\n', left @ ..] => take_line(written, left),
-        _ => take_run(written, text),
+    match after_byte(text, b'"') {
+        Some(rest) => take_quoted(written, rest),
+        None => take_unquoted(written, text),
     }
 }
 
@@ -234,9 +289,15 @@ fn take_short<'a>(
     sheet: &mut Sheet,
     text: &'a [u8],
     many: usize,
-) -> Option<&'a [u8]>
-    ensures { IfSome result (λ left.
+) -> Result<&'a [u8], Unspelled>
+    ensures goes { IfOk result (λ left.
         WritesOn text.now left.now written.old.items written.new.items) }
+    ensures long { IfOk result (λ left. length written.old.items ≤ length written.new.items) }
+    ensures few { length written.old.items ≤ 65536
+        → IfOk result (λ left. length written.new.items ≤ 65536) }
+    ensures lines { HasPlainLines text.now → IfOk result (λ left. HasPlainLines left.now) }
+    ensures room { length written.old.items + 2048 ≤ 65536
+        → IsOkUnless result Unspelled.NoMemory }
 {
     let stop = many.saturating_sub(written.len());
     let limit = stop.min(SHEET_SIZE - LINE_SIZE);
@@ -256,7 +317,7 @@ fn take_short<'a>(
     if at > 0 {
         put(written, &sheet[..at])?;
     }
-    Some(left)
+    Ok(left)
 }
 
 /// Spells anew short lines and cells at the front of a text, and what comes then, unless that many bytes are written. Returns what is left.
@@ -265,31 +326,47 @@ fn take_more<'a>(
     sheet: &mut Sheet,
     text: &'a [u8],
     many: usize,
-) -> Option<&'a [u8]>
-    ensures { IfSome result (λ left.
+) -> Result<&'a [u8], Unspelled>
+    ensures goes { IfOk result (λ left.
         WritesOn text.now left.now written.old.items written.new.items) }
+    ensures more { length written.old.items < many → IfOk result (λ left.
+        0 < length left.now → length written.old.items < length written.new.items) }
+    ensures few { length written.old.items ≤ 65536
+        → IfOk result (λ left. length written.new.items ≤ 65536) }
+    ensures lines { HasPlainLines text.now → IfOk result (λ left. HasPlainLines left.now) }
+    ensures room { HasPlainLines text.now → length written.old.items ≤ many → many ≤ 60000
+        → IsOkUnless result Unspelled.NoMemory }
 {
     let left = take_short(written, sheet, text, many)?;
     if left.is_empty() || written.len() >= many {
-        return Some(left);
+        return Ok(left);
     }
     take_some(written, left)
 }
 
 /// Spells a text anew until that many bytes are written or nothing is left of it, and returns what is left.
-pub(crate) fn spell_on<'a>(written: &mut Vec<u8>, text: &'a [u8], many: usize) -> Option<&'a [u8]>
-    ensures { IfSome result (λ left.
+pub(crate) fn spell_on<'a>(
+    written: &mut Vec<u8>,
+    text: &'a [u8],
+    many: usize,
+) -> Result<&'a [u8], Unspelled>
+    ensures goes { IfOk result (λ left.
         WritesOn text.now left.now written.old.items written.new.items) }
+    ensures many { IfOk result (λ left. 0 < length left.now → many ≤ length written.new.items) }
+    ensures few { length written.old.items ≤ 65536
+        → IfOk result (λ left. length written.new.items ≤ 65536) }
+    ensures room { HasPlainLines text.now → many ≤ 60000
+        → IsOkUnless result Unspelled.NoMemory }
 {
     let mut sheet = [0; SHEET_SIZE];
     let mut left = text;
     for _ in 0..many {
         if left.is_empty() || written.len() >= many {
-            return Some(left);
+            return Ok(left);
         }
         left = take_more(written, &mut sheet, left, many)?;
     }
-    Some(left)
+    Ok(left)
 }
 
 /// What comes after a byte order mark at the start of a text.

@@ -1,11 +1,12 @@
 //! Spells a text anew as `to_csv` spells, some rows at a time, so that records can be taken whole from what spreadsheets write.
-ghost use Rattle.std.specs.Prelude.{◌++◌, ◌≤◌, IfSome, List, length};
+ghost use Rattle.std.specs.Prelude.{◌≡◌, ◌++◌, ◌<◌, ◌≤◌, [], IfOk, IfSome, IsSome, IsTrue, List, length};
 ghost use Rattle.csv.specs.Reading.{AreRecords, default_config};
 ghost use Rattle.csv.specs.declared.parser.State.TheVariants as st;
 ghost use Rattle.fit_cells.specs.Rows.{Row};
+ghost use Rattle.fit_csv_text.specs.Spellings.{EndsInReturn, HasPlainRows};
 
-use crate::loose::{MOST, spell_on};
-use std::alloc::Global;
+use crate::loose::{Unspelled, spell_on};
+use std::alloc::{AllocError, Global};
 
 /// How many bytes are spelled anew at first.
 const FEW: usize = 2_048;
@@ -20,51 +21,74 @@ pub struct Window {
     pub bytes: Vec<u8>,
     /// How many bytes are spelled anew next.
     size: usize,
+    ghost sized: { (2048 ≤ size) × (size ≤ 60000) },
 }
 
 impl Window {
     /// Nothing was spelled anew.
-    pub fn new(alloc: Global) -> Window {
+    pub fn new(alloc: Global) -> Window
+        ensures { result.bytes.items ≡ [] }
+    {
         Window {
             bytes: Vec::new(alloc),
             size: FEW,
         }
     }
 
-    /// Spells anew a beginning of a text, and returns what is left of it. The next time it is a longer one. There may be none, where a
-    /// row of it has another spelling than spreadsheets write, or out of memory.
-    pub fn fill<'a>(&mut self, text: &'a [u8]) -> Option<&'a [u8]>
-        ensures few { IfSome result (λ left. length self.new.bytes.items ≤ 65536) }
-        ensures rows { IfSome result (λ left. (rows : List Row)
+    /// Spells anew a beginning of a text that begins with the row of a record, and returns what is left of it. It is at least 2,048 bytes,
+    /// or all of the text, and the next time more. There may be none, where the first row is spelled as `to_csv` spells it, or a row has
+    /// another spelling than spreadsheets write. It fails out of memory.
+    pub fn fill<'a>(&mut self, text: &'a [u8]) -> Result<Option<&'a [u8]>, AllocError>
+        ensures few { IfOk result (λ found. IfSome found (λ left.
+            length self.new.bytes.items ≤ 65536)) }
+        ensures many { IfOk result (λ found. IfSome found (λ left.
+            0 < length left.now → 2048 ≤ length self.new.bytes.items)) }
+        ensures plain { IfOk result (λ found. HasPlainRows text.now → IsSome found) }
+        ensures rows { IfOk result (λ found. IfSome found (λ left. (rows : List Row)
             → AreRecords default_config st.StartRecord (self.new.bytes.items ++ left.now) rows
-            → AreRecords default_config st.StartRecord text.now rows) }
+            → AreRecords default_config st.StartRecord text.now rows)) }
     {
-        let size = self.size.min(MANY);
+        if !is_loose(text) {
+            return Ok(None);
+        }
+        let size = self.size;
         self.size = FEW;
         self.bytes.clear();
-        let left = spell_on(&mut self.bytes, text, size)?;
-        if self.bytes.len() > MOST {
-            return None;
+        match spell_on(&mut self.bytes, text, size) {
+            Ok(left) => {
+                self.size = size.saturating_mul(4).min(MANY);
+                Ok(Some(left))
+            }
+            Err(Unspelled::Other) => Ok(None),
+            Err(Unspelled::NoMemory) => Err(AllocError),
         }
-        self.size = size.saturating_mul(4);
-        Some(left)
     }
 }
 
 /// Whether a text that begins with a row of a record may be worth spelling anew: the row begins with a quote, or ends with a carriage
 /// return and a line feed.
-pub fn is_loose(text: &[u8]) -> bool {
-    match text {
-        [b'"', b'd', ..] => true,
-        [b'd', ..] => ends_in_return(text),
-        _ => false,
+fn is_loose(text: &[u8]) -> bool
+    ensures { HasPlainRows text.now → IsTrue result }
+{
+    if text.len() < 2 {
+        return false;
     }
+    if text[0] == b'd' {
+        return ends_in_return(text);
+    }
+    text[0] == b'"' && text[1] == b'd'
 }
 
-/// Whether a carriage return comes before the first line feed.
-fn ends_in_return(text: &[u8]) -> bool {
-    match text.iter().position(|b| *b == b'\n') {
-        Some(place) => place > 0 && text[place - 1] == b'\r',
-        None => false,
+/// Whether a carriage return comes right before the first line feed.
+fn ends_in_return(text: &[u8]) -> bool
+    ensures { EndsInReturn text.now → IsTrue result }
+{
+    let mut before = 0;
+    for b in text {
+        if *b == b'\n' {
+            return before == b'\r';
+        }
+        before = *b;
     }
+    false
 }

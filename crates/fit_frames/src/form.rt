@@ -1,6 +1,5 @@
 //! How the value of a field is shown in rows and in lines, found out once for many messages.
-ghost use Rattle.std.specs.Prelude.{◌≡◌, ◌≤◌, IfOk, IfSome, IsNone, length, option_map};
-ghost use Rattle.fit_profile.specs.Names.{meaning};
+ghost use Rattle.std.specs.Prelude.{◌≡◌, ◌≤◌, ◌%◌, IfOk, IfSome, IsNone, IsTrue, length};
 ghost use Rattle.fit_numbers.specs.Scaled.{IsScale};
 ghost use Rattle.fit_cells.specs.Forms.{IsFormOf, IsSmallForm};
 ghost use Rattle.fit_texts.specs.Sheets.{and_sheet};
@@ -16,9 +15,9 @@ use std::alloc::AllocError;
 #[derive(Clone, Copy)]
 pub(crate) enum FieldKind {
     /// A number of at most four bytes, which are those of the field.
-    Lone(NumberForm),
+    Lone,
     /// Several numbers of at most four bytes, or none.
-    Several(NumberForm),
+    Several,
     /// One floating point number.
     Float,
     /// Bytes.
@@ -29,20 +28,28 @@ pub(crate) enum FieldKind {
     Other,
 }
 
-/// The kind of the value of a field of this base type code, size and meaning.
+/// The kind of the value of a field of this base type code and size, by whether it is numbers that have a form, and a lone one.
 #[inline(always)]
-fn field_kind(code: Code, size: u8, info: Option<Info>) -> FieldKind
-    requires { IfSome info (λ i. IsScale i.scale) }
-    ensures { IsFieldKind code.0 size (option_map meaning info) result }
+fn field_kind(code: Code, size: u8, is_formed: bool, is_lone: bool) -> FieldKind
+    ensures lone { result ≡ FieldKind.Lone → IsTrue is_lone }
+    ensures kind { IsFieldKind code.0 size result }
 {
-    match field_form(code.0, size, info) {
-        (Some(form), true) => FieldKind::Lone(form),
-        (Some(form), false) => FieldKind::Several(form),
-        (None, _) if !is_never_quoted(code) => FieldKind::Text,
-        (None, _) if is_of_bytes(code, size) => FieldKind::Bytes,
-        (None, _) if is_lone_float(code, size) => FieldKind::Float,
-        (None, _) => FieldKind::Other,
+    if is_lone {
+        return FieldKind::Lone;
     }
+    if is_formed {
+        return FieldKind::Several;
+    }
+    if !is_never_quoted(code) {
+        return FieldKind::Text;
+    }
+    if is_of_bytes(code, size) {
+        return FieldKind::Bytes;
+    }
+    if is_lone_float(code, size) {
+        return FieldKind::Float;
+    }
+    FieldKind::Other
 }
 
 /// How the value of a field is shown.
@@ -52,6 +59,8 @@ pub(crate) struct FieldForm {
     pub size: u8,
     pub info: Option<Info>,
     pub kind: FieldKind,
+    /// The form of the numbers, where the value is one or several of at most four bytes.
+    number: Option<NumberForm>,
 }
 
 impl FieldForm {
@@ -62,11 +71,13 @@ impl FieldForm {
         ensures known { IsFieldForm result }
         ensures same { (result.code.0 ≡ code) × (result.size ≡ size) × (result.info ≡ info) }
     {
+        let (number, is_lone) = field_form(code, size, info);
         FieldForm {
             code: Code(code),
             size,
             info,
-            kind: field_kind(Code(code), size, info),
+            kind: field_kind(Code(code), size, number.is_some(), is_lone),
+            number,
         }
     }
 
@@ -79,7 +90,21 @@ impl FieldForm {
         ensures form { IfSome result (IsFormOf self.now.code.0 (field_meaning self.now)) }
     {
         match self.kind {
-            FieldKind::Lone(form) => Some(form),
+            FieldKind::Lone => self.number,
+            _ => None,
+        }
+    }
+
+    /// The form of several numbers of at most four bytes.
+    #[inline(always)]
+    pub(crate) fn several(&self) -> Option<NumberForm>
+        requires { IsFieldForm self.now }
+        ensures small { IfSome result IsSmallForm }
+        ensures whole { IfSome result (λ f. self.now.size % f.width ≡ 0) }
+        ensures form { IfSome result (IsFormOf self.now.code.0 (field_meaning self.now)) }
+    {
+        match self.kind {
+            FieldKind::Several => self.number,
             _ => None,
         }
     }
@@ -87,7 +112,7 @@ impl FieldForm {
     /// Adds several numbers, a floating point number or bytes to what is written in a sheet, by the bytes of the field, where the value
     /// is such. Returns the place after them.
     #[inline(always)]
-    pub(crate) fn add_others(
+    pub(crate) fn add_from_bytes(
         &self,
         text: &mut Vec<u8>,
         sheet: &mut Sheet,
@@ -103,11 +128,13 @@ impl FieldForm {
         ensures shown { IfSome result (λ r. IfOk r (λ end. IsShownAfter self.now order bytes.now
             (and_sheet text.old.items sheet.old at) (and_sheet text.new.items sheet.new end))) }
     {
+        if let Some(form) = self.several() {
+            return Some(add_numbers(text, sheet, at, form, order, bytes));
+        }
         match self.kind {
-            FieldKind::Several(form) => Some(add_numbers(text, sheet, at, form, order, bytes)),
             FieldKind::Float => Some(add_float(text, sheet, at, self.size, order, bytes)),
             FieldKind::Bytes => Some(add_bytes(text, sheet, at, self.size, bytes)),
-            FieldKind::Lone(_) | FieldKind::Text | FieldKind::Other => None,
+            _ => None,
         }
     }
 }

@@ -189,7 +189,7 @@ impl Frame {
         ensures text { IfOk result (λ end. and_sheet text.new.items sheet.new end
             ≡ and_sheet text.old.items sheet.old at ++ field_in_row self.now order bytes.now) }
     {
-        if let Some(end) = self.form.add_others(text, sheet, at, order, bytes) {
+        if let Some(end) = self.form.add_from_bytes(text, sheet, at, order, bytes) {
             return end;
         }
         if let FieldKind::Text = self.form.kind {

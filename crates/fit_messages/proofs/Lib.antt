@@ -7,6 +7,7 @@ pub mod SheetFacts
 pub mod NumberParts
 pub mod ToldEvents
 pub mod TakenDefinitions
+pub mod TakenValues
 pub mod BlockLengths
 pub mod FirstEvents
 pub mod EventPlaces

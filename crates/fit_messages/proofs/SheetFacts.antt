@@ -1,6 +1,8 @@
 -- What is written in a sheet.
 use Rattle.std.proofs.Common.{◌≡◌, ◌∙◌, ◌+◌, ◌≤◌, ℕ, List, ◌++◌, length, take, drop, sym, ap, arith, append_assoc}
 use Rattle.std.proofs.Math.Seq.{take-append-add}
+use lib.Lanes.{put_chunk}
+use Rattle.std.proofs.lemmas.Simd.{put_chunk_is}
 use Rattle.std.proofs.lemmas.List.{append-nil, drop-take, length-drop, length-take-le, take-take}
 use Rattle.fit_base.proofs.Bytes.{length-little_bytes}
 use Rattle.fit_base.specs.Numbers.{little_bytes}
@@ -19,6 +21,21 @@ number_written w n at end old new eight small room is ends written =
     ∙ ap (λ (xs : List ℕ). take (at + w) (front ++ xs)) is
     ∙ ap (λ m. take (m + w) (front ++ little_bytes 8 n)) (sym long) ∙ take-append-add front (little_bytes 8 n) w
     ∙ ap (λ (xs : List ℕ). front ++ xs) (low_taken w n small)
+
+-- eight bytes take the place of those from a place on
+pub eight_written : (at : ℕ) (sheet tail rest eight : List ℕ) → at ≤ length sheet → length eight ≡ 8 → 8 ≤ length tail
+    → take (at + 8) (take at sheet ++ (put_chunk 0 tail eight ++ rest)) ≡ take at sheet ++ eight
+eight_written at sheet tail rest eight within wide room =
+    let front : List ℕ = take at sheet in
+    let others : List ℕ = drop (length eight) tail in
+    let long : length front ≡ at = length-take-le at sheet within in
+    let whole : 8 ≡ length eight + 0 = omega (arith, wide) in
+    ap (λ b. take (at + 8) (front ++ (b ++ rest))) (put_chunk_is 0 tail eight (omega (arith, wide, room)))
+    ∙ ap (λ k. take (k + 8) (front ++ ((eight ++ others) ++ rest))) (sym long)
+    ∙ take-append-add front ((eight ++ others) ++ rest) 8
+    ∙ ap (λ b. front ++ take 8 b) (append_assoc eight others rest)
+    ∙ ap (λ k. front ++ take k (eight ++ (others ++ rest))) whole
+    ∙ ap (λ b. front ++ b) (take-append-add eight (others ++ rest) 0 ∙ append-nil eight)
 
 -- nothing is written
 pub none_written : (bytes sheet : List ℕ) → with_sheet bytes sheet 0 ≡ bytes
@@ -43,9 +60,3 @@ alone_put at old new room within is =
     ∙ take-append-add front (drop 4 old) n
     ∙ ap (λ (b : List ℕ). front ++ b) (sym (drop-take 4 n old) ∙ ap (λ k. drop 4 (take k old)) long)
     ∙ ap (λ k. low 4 k ++ rest) (sym long)
-
--- four parts are written after room for a length
-pub four_written : (room a b c d w x y z : List ℕ) → w ≡ room ++ a → x ≡ w ++ b → y ≡ x ++ c → z ≡ y ++ d → z ≡ room ++ (((a ++ b) ++ c) ++ d)
-four_written room a b c d w x y z first second third fourth =
-    fourth ∙ ap (λ l. l ++ d) (third ∙ ap (λ l. l ++ c) (second ∙ ap (λ l. l ++ b) first))
-    ∙ ap (λ l. (l ++ c) ++ d) (append_assoc room a b) ∙ ap (λ l. l ++ d) (append_assoc room (a ++ b) c) ∙ append_assoc room ((a ++ b) ++ c) d

@@ -98,8 +98,8 @@ pub(crate) fn put_sized(text: &mut Vec<u8>, rest: &[u8]) -> Result<(), AllocErro
     text.extend_from_slice(rest)
 }
 
-/// Puts a block. The first four bytes are room for its length.
-pub(crate) fn put_roomed(text: &mut Vec<u8>, bytes: &[u8]) -> Result<(), AllocError>
+/// Puts the block of bytes. The first four are room for its length.
+pub(crate) fn put_block_of_bytes(text: &mut Vec<u8>, bytes: &[u8]) -> Result<(), AllocError>
     requires { 4 ≤ length bytes.now }
     ensures { OnOk result (text.new.items ≡ text.old.items ++ blocks.sized (drop 4 bytes.now)) }
 {

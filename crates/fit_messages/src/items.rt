@@ -6,10 +6,10 @@ ghost use Rattle.fit_base.specs.Numbers.{number};
 ghost use Rattle.fit_record.specs.ReadMessages.{field_from, fields_from, numbers_of};
 ghost use Rattle.fit_record.specs.Records.{sizes};
 ghost use Rattle.fit_messages.specs.Blocks.{low, slot};
-ghost use Rattle.fit_messages.specs.inner.Sheets.{with_sheet};
+ghost use Rattle.fit_messages.specs.inner.Sheets.{AreLone, with_sheet};
 
 use crate::bytes::{put_gap, put_number, put_rounded};
-use crate::sheet::{SHEET, Sheet, make_room, put_sheet, write_low};
+use crate::sheet::{Sheet, make_room, put_sheet, write_low};
 use fit_base::{Code, Items, Order, bits_at, greatest, width_of};
 use fit_record::Layout;
 use std::alloc::AllocError;
@@ -142,50 +142,59 @@ fn write_one(sheet: &mut Sheet, at: usize, order: Order, code: u8, width: u8, by
     write_low(sheet, at, 8, first_number(order, width, eight))
 }
 
-/// Writes the items of fields by their bytes, up to the first field that isn't one number. Eight bytes are read for each, so that none
-/// are written where fewer come after the bytes of the message, which are that many, or where the sheet might not have room. Returns
-/// how many fields there were, the place after their items, and the bytes after theirs.
+/// Writes the items of fields by their bytes, each of which is one number. Eight bytes are read for each, so eight more than theirs are
+/// there. Returns the place after the items, and the bytes after theirs.
+#[inline(always)]
+fn write_lone_in<'a>(
+    sheet: &mut Sheet,
+    start: usize,
+    order: Order,
+    layout: &Layout<'_>,
+    body: &'a [u8],
+) -> (usize, &'a [u8])
+    requires room { start + 8 * length layout.now ≤ 512 }
+    requires lone { AreLone layout.now }
+    requires more { sizes layout.now + 8 ≤ length body.now }
+    ensures place { result.0 ≤ 512 }
+    ensures text { take result.0 sheet.new ≡ take start sheet.old
+        ++ flat_map slot (fields_from {A = Global} order layout.now body.now) }
+    ensures rest { result.1.now ≡ drop (sizes layout.now) body.now }
+{
+    let mut rest = body;
+    let mut at = start;
+    for place in 0..layout.len() {
+        let (code, width) = layout.slot(place);
+        at = write_one(sheet, at, order, code, width, rest);
+        let (_, after) = rest.split_at(width as usize);
+        rest = after;
+    }
+    (at, rest)
+}
+
+/// The same. Either byte order has a loop of its own, which doesn't test it for each field.
 #[inline(always)]
 pub(crate) fn write_lone<'a>(
     sheet: &mut Sheet,
     start: usize,
     order: Order,
     layout: &Layout<'_>,
-    size: usize,
     body: &'a [u8],
-) -> (usize, usize, &'a [u8])
-    requires place { start ≤ 512 }
-    requires size { sizes layout.now ≤ size }
-    requires within { size ≤ length body.now }
-    ensures count { result.0 ≤ length layout.now }
-    ensures place { result.1 ≤ 512 }
-    ensures size { sizes (drop result.0 layout.now) ≤ length result.2.now }
-    ensures text { take result.1 sheet.new
-        ++ flat_map slot (fields_from {A = Global} order (drop result.0 layout.now) result.2.now)
-        ≡ take start sheet.old
+) -> (usize, &'a [u8])
+    requires room { start + 8 * length layout.now ≤ 512 }
+    requires lone { AreLone layout.now }
+    requires more { sizes layout.now + 8 ≤ length body.now }
+    ensures place { result.0 ≤ 512 }
+    ensures text { take result.0 sheet.new ≡ take start sheet.old
         ++ flat_map slot (fields_from {A = Global} order layout.now body.now) }
-    ensures rest { drop (sizes (drop result.0 layout.now)) result.2.now
-        ≡ drop (sizes layout.now) body.now }
+    ensures rest { result.1.now ≡ drop (sizes layout.now) body.now }
 {
-    if body.len() - size < 8 || layout.len() > (SHEET - start) / 8 {
-        return (0, start, body);
+    match order {
+        Order::Little => write_lone_in(sheet, start, Order::Little, layout, body),
+        Order::Big => write_lone_in(sheet, start, Order::Big, layout, body),
     }
-    let mut rest = body;
-    let mut at = start;
-    for place in 0..layout.len() {
-        let (code, width) = layout.slot(place);
-        if Code(code).width() != width {
-            return (place, at, rest);
-        }
-        at = write_one(sheet, at, order, code, width, rest);
-        let (_, after) = rest.split_at(width as usize);
-        rest = after;
-    }
-    (layout.len(), at, rest)
 }
 
-/// Adds the items of fields by their bytes to what is written in a sheet, without those of that many fields. Returns the place after them,
-/// and the bytes after theirs.
+/// Adds the items of fields by their bytes to what is written in a sheet. Returns the place after them, and the bytes after theirs.
 #[inline(always)]
 pub(crate) fn add_all_read<'a>(
     bytes: &mut Vec<u8>,
@@ -193,21 +202,19 @@ pub(crate) fn add_all_read<'a>(
     start: usize,
     order: Order,
     layout: &Layout<'_>,
-    first: usize,
     body: &'a [u8],
 ) -> Result<(usize, &'a [u8]), AllocError>
     requires place { start ≤ 512 }
-    requires first { first ≤ length layout.now }
-    requires size { sizes (drop first layout.now) ≤ length body.now }
+    requires size { sizes layout.now ≤ length body.now }
     ensures place { IfOk result (λ r. r.0 ≤ 512) }
     ensures text { IfOk result (λ r. with_sheet bytes.new.items sheet.new r.0
         ≡ with_sheet bytes.old.items sheet.old start
-        ++ flat_map slot (fields_from {A = Global} order (drop first layout.now) body.now)) }
-    ensures rest { IfOk result (λ r. r.1.now ≡ drop (sizes (drop first layout.now)) body.now) }
+        ++ flat_map slot (fields_from {A = Global} order layout.now body.now)) }
+    ensures rest { IfOk result (λ r. r.1.now ≡ drop (sizes layout.now) body.now) }
 {
     let mut rest = body;
     let mut at = start;
-    for place in first..layout.len() {
+    for place in 0..layout.len() {
         let (code, size) = layout.slot(place);
         let (here, after) = rest.split_at(size as usize);
         at = add_read(bytes, sheet, at, order, code, size, here)?;

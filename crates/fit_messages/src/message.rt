@@ -1,24 +1,38 @@
 //! The blocks of data messages.
-ghost use Rattle.std.specs.Prelude.{◌≡◌, ◌≤◌, ◌+◌, ◌++◌, [], if◌then◌else◌, IfOk, IsSomeAnd, OnOk, Some, length, slice_index_or, take, unwrap_or};
+ghost use Rattle.std.specs.Prelude.{◌≡◌, ◌≤◌, ◌+◌, ◌++◌, All, IfOk, OnOk, Some, drop, flat_map, length, slice_index_or, take, true};
 ghost use Rattle.std.specs.Global.{Global};
 ghost use Rattle.fit_profile.specs.Looks.{known};
-ghost use Rattle.fit_profile.specs.Told as telling;
 ghost use Rattle.fit_record.specs.Environment.{defined_at};
-ghost use Rattle.fit_record.specs.Records.{Fits, message_size};
+ghost use Rattle.fit_record.specs.ReadMessages.{fields_from};
+ghost use Rattle.fit_record.specs.Records.{layout, message_size, sizes};
 ghost use Rattle.fit_record.specs.Sound.{IsSound};
-ghost use Rattle.fit_record.specs.declared.message.Record.TheVariants.{Values as Data};
-ghost use Rattle.fit_record.specs.declared.message.Values.{Values};
+ghost use Rattle.fit_record.specs.declared.environment.Defined.{Defined};
 ghost use Rattle.fit_messages.specs.Blocks as blocks;
-ghost use Rattle.fit_messages.specs.inner.Sheets.{slots_from, with_sheet};
-ghost use Rattle.fit_messages.specs.inner.Telling.{BeginWith};
+ghost use Rattle.fit_messages.specs.Blocks.{slot};
+ghost use Rattle.fit_messages.specs.inner.Heads.{TellsTimesAlone, head_bytes, opening_bytes};
+ghost use Rattle.fit_messages.specs.inner.Sheets.{IsQuick, slots_from, with_sheet};
 
-use crate::bytes::{Front, Place, put_roomed};
-use crate::definition::counts;
+use crate::bytes::{Front, Place, put_block_of_bytes};
 use crate::items::{add_all_read, put_all_made, write_lone};
-use crate::sheet::{Sheet, put_block, put_sheet, write_front, write_low};
+use crate::sheet::{SHEET, Sheet, put_block, put_sheet, write_front, write_low};
 use fit_profile::{Stream, Told};
-use fit_record::{Defined, Record, Values};
+use fit_record::{Defined, Layout, Values};
 use std::alloc::AllocError;
+
+/// What stands before the items of a message after the length of its block.
+#[derive(Clone, Copy)]
+pub(crate) struct Head {
+    pub place: Place,
+    /// Which definition of all it is of.
+    pub number: u64,
+    /// The local message type.
+    pub local: u8,
+    /// The time offset of a compressed header.
+    pub offset: Option<u8>,
+    /// Whether speed, distance, cycles and power stand there.
+    pub counts: bool,
+    pub told: Told,
+}
 
 /// A bit that says whether there is something.
 #[inline(always)]
@@ -44,6 +58,14 @@ fn told_bits(told: Told) -> u8
         + bit(32, told.accumulated_power)
 }
 
+/// Those that say which times are told of it.
+#[inline(always)]
+fn time_bits(told: Told) -> u8
+    ensures { result ≡ blocks.flag 1 told.time + blocks.flag 2 told.header_time }
+{
+    bit(1, told.time) + bit(2, told.header_time)
+}
+
 /// Writes speed, distance, cycles and power.
 #[inline(always)]
 fn write_amounts(sheet: &mut Sheet, at: usize, told: Told) -> usize
@@ -57,149 +79,165 @@ fn write_amounts(sheet: &mut Sheet, at: usize, told: Told) -> usize
     write_low(sheet, at, 8, told.accumulated_power.unwrap_or(u64::MAX))
 }
 
-/// Writes what stands before the items of a message after the room for its length. Returns the place after it.
+/// Writes what stands before the amounts of a message, or else its items. These bits say what is told of it. Returns the place after it.
 #[inline(always)]
-fn write_head(
-    sheet: &mut Sheet,
-    place: Place,
-    number: u64,
-    local: u8,
-    offset: Option<u8>,
-    counts: bool,
-    told: Told,
-) -> usize
-    ensures place { result ≤ 72 }
-    ensures text { take result sheet.new ≡ take 4 sheet.old
-        ++ blocks.message_head place.file place.place number local offset counts told }
+fn write_opening(sheet: &mut Sheet, head: Head, bits: u8) -> usize
+    requires { bits ≡ blocks.told_bits head.told }
+    ensures end { result ≡ 40 }
+    ensures text { take result sheet.new ≡ take 4 sheet.old ++ opening_bytes head }
 {
     let at = write_front(
         sheet,
         Front {
             kind: 3,
-            a: told_bits(told),
-            b: local,
-            c: offset.unwrap_or(0xFF),
-            file: place.file,
-            n: u64::from(told.time.unwrap_or(u32::MAX)),
-            place: place.place,
+            a: bits,
+            b: head.local,
+            c: head.offset.unwrap_or(0xFF),
+            file: head.place.file,
+            n: u64::from(head.told.time.unwrap_or(u32::MAX)),
+            place: head.place.place,
         },
     );
-    let at = write_low(sheet, at, 8, number);
-    let at = write_low(
+    let at = write_low(sheet, at, 8, head.number);
+    write_low(
         sheet,
         at,
         8,
-        u64::from(told.header_time.unwrap_or(u32::MAX)),
-    );
-    if counts {
-        return write_amounts(sheet, at, told);
-    }
-    at
+        u64::from(head.told.header_time.unwrap_or(u32::MAX)),
+    )
 }
 
-/// Puts the block of a data message after the records of a stream, whose definition is this one of all. `rest` lends its memory.
+/// Writes what stands before the items of a message after the room for its length. Most have no amounts. Returns the place after it.
+#[inline(always)]
+fn write_head(sheet: &mut Sheet, head: Head) -> usize
+    requires { TellsTimesAlone head }
+    ensures place { result ≤ 72 }
+    ensures text { take result sheet.new ≡ take 4 sheet.old ++ head_bytes head }
+{
+    if head.counts {
+        let at = write_opening(sheet, head, told_bits(head.told));
+        return write_amounts(sheet, at, head.told);
+    }
+    write_opening(sheet, head, time_bits(head.told))
+}
+
+/// Puts the block of a message of which this stands before its items. `rest` lends its memory.
 pub(crate) fn put_values(
     text: &mut Vec<u8>,
     rest: &mut Vec<u8>,
     sheet: &mut Sheet,
-    stream: &Stream,
+    head: Head,
     values: &Values,
-    told: Told,
-    place: Place,
-    number: u64,
 ) -> Result<(), AllocError>
-    requires fits { Fits (known stream.now) (Data values.now) }
-    requires told { told ≡ telling.told stream.now values.now }
-    ensures { OnOk result (text.new.items ≡ text.old.items
-        ++ blocks.message_after stream.now place.file place.place number values.now) }
+    requires head { TellsTimesAlone head }
+    requires fields { All (λ i. i.width ≤ 8) values.now.fields }
+    requires dev { All (λ i. i.width ≤ 8) values.now.dev }
+    ensures { OnOk result (text.new.items ≡ text.old.items ++ blocks.sized
+        (head_bytes head ++ flat_map slot values.now.fields ++ flat_map slot values.now.dev)) }
 {
-    let Some(defined) = stream.env().defined(values.local) else {
-        unreachable!()
-    };
-    let counts = counts(&defined.definition);
     rest.clear();
-    let at = write_head(
-        sheet,
-        place,
-        number,
-        values.local,
-        values.offset,
-        counts,
-        told,
-    );
+    let at = write_head(sheet, head);
     put_sheet(rest, sheet, at)?;
     put_all_made(rest, values.fields.as_slice())?;
     put_all_made(rest, values.dev.as_slice())?;
-    put_roomed(text, rest.as_slice())
+    put_block_of_bytes(text, rest.as_slice())
 }
 
-/// Adds the items of a message that has as many bytes after its record header as this size says, and they are the first of these.
-/// Returns the place after them.
+/// How many fields of one number have room in a sheet after what stands before them.
+const FEW: usize = (SHEET - 72) / 8;
+
+/// Whether the items of fields are written without a test of each, where that can be but for how many they are.
 #[inline(always)]
-fn add_fields(
+fn are_quick(quick: bool, layout: &Layout<'_>) -> bool
+    ensures quick { result ≡ true → quick ≡ true }
+    ensures few { result ≡ true → length layout.now ≤ 55 }
+{
+    quick && layout.len() <= FEW
+}
+
+/// Adds the items of the fields, but for developer fields, that these bytes begin with. Where it is quick, each is one number, and eight
+/// bytes more than those of the message are there. Returns the place after the items, and the bytes after theirs.
+#[inline(always)]
+fn add_fields<'a>(
     rest: &mut Vec<u8>,
     sheet: &mut Sheet,
     start: usize,
     defined: &Defined,
-    size: usize,
+    quick: bool,
+    bytes: &'a [u8],
+) -> Result<(usize, &'a [u8]), AllocError>
+    requires place { start ≤ 72 }
+    requires size { sizes (layout defined.now) ≤ length bytes.now }
+    requires quick { quick ≡ true → IsQuick defined.now bytes.now }
+    ensures place { IfOk result (λ r. r.0 ≤ 512) }
+    ensures text { IfOk result (λ r. with_sheet rest.new.items sheet.new r.0
+        ≡ with_sheet rest.old.items sheet.old start ++ flat_map slot (fields_from {A = Global}
+        defined.now.definition.order (layout defined.now) bytes.now)) }
+    ensures rest { IfOk result (λ r. r.1.now ≡ drop (sizes (layout defined.now)) bytes.now) }
+{
+    let order = defined.definition.order;
+    let layout = defined.layout();
+    if are_quick(quick, &layout) {
+        return Ok(write_lone(sheet, start, order, &layout, bytes));
+    }
+    add_all_read(rest, sheet, start, order, &layout, bytes)
+}
+
+/// Adds the items of a message that these bytes begin with, quickly or not. Returns the place after them.
+#[inline(always)]
+fn add_items(
+    rest: &mut Vec<u8>,
+    sheet: &mut Sheet,
+    start: usize,
+    defined: &Defined,
+    quick: bool,
     bytes: &[u8],
 ) -> Result<usize, AllocError>
-    requires place { start ≤ 512 }
+    requires place { start ≤ 72 }
     requires sound { IsSound defined.now }
-    requires size { size ≡ message_size defined.now }
-    requires within { size ≤ length bytes.now }
+    requires within { message_size defined.now ≤ length bytes.now }
+    requires quick { quick ≡ true → IsQuick defined.now bytes.now }
     ensures place { IfOk result (λ end. end ≤ 512) }
     ensures text { IfOk result (λ end. with_sheet rest.new.items sheet.new end
         ≡ with_sheet rest.old.items sheet.old start ++ slots_from defined.now bytes.now) }
 {
-    let order = defined.definition.order;
-    let layout = defined.layout();
-    let (first, at, body) = write_lone(sheet, start, order, &layout, size, bytes);
-    let (at, back) = add_all_read(rest, sheet, at, order, &layout, first, body)?;
+    let (at, back) = add_fields(rest, sheet, start, defined, quick, bytes)?;
     let dev_layout = defined.dev_layout();
-    let (at, _) = add_all_read(rest, sheet, at, order, &dev_layout, 0, back)?;
+    let order = defined.definition.order;
+    let (at, _) = add_all_read(rest, sheet, at, order, &dev_layout, back)?;
     Ok(at)
 }
 
-/// The same as `put_values` of the data message that bytes begin with. Returns what is told of it.
+/// Puts the block of a message of which this stands before its items, which these bytes begin with, by the definition that a stream has for
+/// its local message type. Where it is quick, each field but for developer fields is one number, and eight bytes more than those of the
+/// message are there. `rest` lends its memory.
+#[inline(always)]
 pub(crate) fn put_message(
     text: &mut Vec<u8>,
     rest: &mut Vec<u8>,
     sheet: &mut Sheet,
     stream: &Stream,
+    head: Head,
+    quick: bool,
     bytes: &[u8],
-    place: Place,
-    numbers: &[u64; 16],
-) -> Result<Told, AllocError>
-    requires { (v : Values Global) × BeginWith (known stream.now) v bytes.now }
-    ensures text { IfOk result (λ _. (v : Values Global) → BeginWith (known stream.now) v bytes.now
-        → text.new.items ≡ text.old.items ++ blocks.message_after stream.now place.file place.place
-        (slice_index_or numbers.now v.local 0) v) }
-    ensures told { IfOk result (λ told. (v : Values Global)
-        → BeginWith (known stream.now) v bytes.now → told ≡ telling.told stream.now v) }
+) -> Result<(), AllocError>
+    requires head { TellsTimesAlone head }
+    requires defined { (p : Defined Global)
+        × (defined_at (known stream.now) head.local ≡ Some p) × (message_size p ≤ length bytes.now) }
+    requires quick { quick ≡ true → (p : Defined Global)
+        → defined_at (known stream.now) head.local ≡ Some p → IsQuick p bytes.now }
+    ensures { OnOk result ((p : Defined Global)
+        → defined_at (known stream.now) head.local ≡ Some p
+        → text.new.items ≡ text.old.items
+        ++ blocks.sized (head_bytes head ++ slots_from p bytes.now)) }
 {
-    let Some(message) = stream.env().message_bytes(bytes) else {
+    let Some(defined) = stream.env().defined(head.local) else {
         unreachable!()
     };
-    let size = message.body.len();
-    let (whole, _) = bytes.split_at(1 + size);
-    let told = stream.message_told(whole);
-    let counts = stream.may_count(message.local);
-    let number = number_at(numbers, message.local);
     rest.clear();
-    let at = write_head(
-        sheet,
-        place,
-        number,
-        message.local,
-        message.offset,
-        counts,
-        told,
-    );
-    let (_, after) = bytes.split_at(1);
-    let at = add_fields(rest, sheet, at, message.defined, size, after)?;
-    put_block(text, rest, sheet, at)?;
-    Ok(told)
+    let at = write_head(sheet, head);
+    let at = add_items(rest, sheet, at, defined, quick, bytes)?;
+    put_block(text, rest, sheet, at)
 }
 
 /// The number of a local message type.

@@ -1,5 +1,5 @@
 //! The reporter of blocks.
-ghost use Rattle.std.specs.Prelude.{◌≡◌, ◌≤◌, ◌+◌, ◌%◌, ◌^◌, ◌<◌, ◌++◌, ◌∷◌, [], IfOk, OnErr, OnOk, Some, length, take};
+ghost use Rattle.std.specs.Prelude.{◌≡◌, ◌≤◌, ◌+◌, ◌^◌, ◌<◌, ◌++◌, [], OnOk, Some, length, take, true};
 ghost use Rattle.std.specs.Global.{Global};
 ghost use Rattle.fit_profile.specs.Described.{namings_at};
 ghost use Rattle.fit_profile.specs.Looks.{known};
@@ -15,7 +15,7 @@ ghost use Rattle.fit_messages.specs.inner.Telling.{block_next, kept_next};
 
 use crate::bytes::{Front, Place, put_front, put_number, put_rounded, put_sized};
 use crate::definition::put_definition;
-use crate::message::{number_at, put_message, put_values};
+use crate::message::{Head, number_at, put_message, put_values};
 use crate::sheet::{SHEET, Sheet};
 use fit_decode::{Decoder, Event};
 use fit_frame::{Header, HeaderSum};
@@ -170,6 +170,15 @@ fn put_taken(
     put_definition(text, alloc, stream, defined, place, number)
 }
 
+/// Whether the items of fields are read by eight bytes each: each field is one number, and that many bytes come after the message.
+#[inline(always)]
+fn is_quick(lone: bool, more: usize) -> bool
+    ensures lone { result ≡ true → lone ≡ true }
+    ensures more { result ≡ true → 8 ≤ more }
+{
+    lone && more >= 8
+}
+
 impl MessagesReport {
     /// Takes in a header before that many bytes of data, and puts its block.
     fn take_header(
@@ -265,16 +274,16 @@ impl MessagesReport {
         };
         let place = self.here();
         let number = number_at(&self.numbers, values.local);
-        put_values(
-            text,
-            &mut self.rest,
-            &mut self.sheet,
-            &self.stream,
-            values,
-            told,
+        let counts = self.stream.may_count(values.local);
+        let head = Head {
             place,
             number,
-        )?;
+            local: values.local,
+            offset: values.offset,
+            counts,
+            told,
+        };
+        put_values(text, &mut self.rest, &mut self.sheet, head, values)?;
         self.stream.take(record_)?;
         self.place = self.place.wrapping_add(u64::from(length));
         Ok(())
@@ -298,17 +307,27 @@ impl MessagesReport {
             → text.new.items ≡ text.old.items ++ block_next self.old (events.item (Data v))) }
     {
         let place = self.here();
-        let told = put_message(
+        let (message, _) = piece.split_at(size);
+        let taken = self.stream.take_and_tell(message)?;
+        let head = Head {
+            place,
+            number: number_at(&self.numbers, taken.local),
+            local: taken.local,
+            offset: taken.offset,
+            counts: taken.may_count,
+            told: taken.told,
+        };
+        let quick = is_quick(taken.has_lone_fields, piece.len() - size);
+        let (_, body) = piece.split_at(1);
+        put_message(
             text,
             &mut self.rest,
             &mut self.sheet,
             &self.stream,
-            piece,
-            place,
-            &self.numbers,
+            head,
+            quick,
+            body,
         )?;
-        let (message, _) = piece.split_at(size);
-        self.stream.take_told(message, told)?;
         self.place = self.place.wrapping_add(size as u64);
         Ok(())
     }

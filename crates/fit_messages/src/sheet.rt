@@ -4,8 +4,9 @@ ghost use Rattle.std.specs.Prelude.{◌≡◌, ◌≤◌, ◌+◌, ◌++◌, ◌
 ghost use Rattle.fit_messages.specs.Blocks as blocks;
 ghost use Rattle.fit_messages.specs.inner.Sheets.{with_sheet};
 
-use crate::bytes::{Front, eight_bytes, put_roomed};
+use crate::bytes::{Front, eight_bytes, put_block_of_bytes};
 use std::alloc::AllocError;
+use std::simd::Simd;
 
 /// How many bytes a sheet has.
 pub(crate) const SHEET: usize = 512;
@@ -13,16 +14,15 @@ pub(crate) const SHEET: usize = 512;
 /// Those before a place are written.
 pub(crate) type Sheet = [u8; SHEET];
 
-/// Writes eight bytes.
+/// Writes eight bytes, which are one load and one store.
 #[inline(always)]
 fn write_eight(sheet: &mut Sheet, at: usize, eight: &[u8; 8]) -> usize
     requires room { at + 8 ≤ 512 }
     ensures end { result ≡ at + 8 }
     ensures text { take result sheet.new ≡ take at sheet.old ++ eight.now }
 {
-    let end = at + 8;
-    sheet[at..end].copy_from_slice(eight);
-    end
+    Simd::<u8, 8>::from_slice(eight.as_slice()).copy_to_slice(&mut sheet[at..]);
+    at + 8
 }
 
 /// Writes the length of a block at the start.
@@ -81,9 +81,9 @@ pub(crate) fn put_sheet(bytes: &mut Vec<u8>, sheet: &Sheet, at: usize) -> Result
     bytes.extend_from_slice(written)
 }
 
-/// Puts the block of what is written before a place, with its length before it.
+/// Puts the block of what is written before a place. The first four bytes are room for its length.
 #[inline(always)]
-fn put_alone(text: &mut Vec<u8>, sheet: &mut Sheet, at: usize) -> Result<(), AllocError>
+fn put_block_of_sheet(text: &mut Vec<u8>, sheet: &mut Sheet, at: usize) -> Result<(), AllocError>
     requires room { 4 ≤ at }
     requires place { at ≤ 512 }
     ensures { OnOk result (text.new.items
@@ -108,10 +108,10 @@ pub(crate) fn put_block(
         ≡ text.old.items ++ blocks.sized (drop 4 (with_sheet rest.old.items sheet.old at))) }
 {
     if rest.is_empty() {
-        return put_alone(text, sheet, at);
+        return put_block_of_sheet(text, sheet, at);
     }
     put_sheet(rest, sheet, at)?;
-    put_roomed(text, rest.as_slice())
+    put_block_of_bytes(text, rest.as_slice())
 }
 
 /// The same as `put_sheet` where there is no room for eight bytes after it. Returns the place to go on from.

@@ -10,6 +10,7 @@ mod NameFacts
 mod NoCounters
 mod Planned
 mod ShownFacts
+pub mod TakenMessages
 mod TextFacts
 mod KnownCounters
 pub mod SliceReads

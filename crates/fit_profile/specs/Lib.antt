@@ -9,4 +9,5 @@ pub mod Told
 pub mod Described
 pub mod Values
 pub mod Meant
+pub mod Taken
 pub mod inner

@@ -30,6 +30,7 @@ pub use fit_numbers::{
 };
 pub use label::{field_label, message_label};
 pub use message::{FieldView, Message};
+pub use message_bytes::Taken;
 pub use profile::{Info, field_info, message_name};
 pub use scaled::fixed;
 pub use stream::Stream;

@@ -1,13 +1,17 @@
 //! Data messages that a stream takes in by their bytes.
-ghost use Rattle.std.specs.Prelude.{◌≡◌, ◌==◌, ◌++◌, ◌∷◌, [], length, true, false, IfOk, IfSome, IsSomeAnd, None, Some, slice_index_or};
+ghost use Rattle.std.specs.Prelude.{◌≡◌, ◌==◌, ◌&&◌, ◌++◌, ◌∷◌, [], length, true, false, IfOk, IfSome, IsSome, IsSomeAnd, None, Some, slice_index_or};
+ghost use Rattle.std.specs.List.{list_any};
 ghost use Rattle.std.specs.declared.alloc.Global.{Global};
 ghost use Rattle.fit_record.specs.Environment.{defined_at, described_by};
 ghost use Rattle.fit_record.specs.Faults.{or_else};
 ghost use Rattle.fit_record.specs.MessageBytes.{message_in};
 ghost use Rattle.fit_record.specs.Records.{message_size, IsRecord};
 ghost use Rattle.fit_record.specs.Sound.{IsSound};
+ghost use Rattle.fit_record.specs.declared.environment.Defined.{Defined};
 ghost use Rattle.fit_record.specs.declared.message.Record.TheVariants.{Values as Data};
 ghost use Rattle.fit_record.specs.declared.message.Values.{Values};
+ghost use Rattle.fit_profile.specs.Accumulated.{is_counter};
+ghost use Rattle.fit_profile.specs.Taken.{IsTaken, has_lone_fields};
 ghost use Rattle.fit_profile.specs.Times as times;
 ghost use Rattle.fit_profile.specs.Told as telling;
 ghost use Rattle.fit_profile.specs.inner.Plans.{ArePlanned, IsPlan, IsPlanned};
@@ -20,6 +24,21 @@ use crate::told::{
 use fit_history::History;
 use fit_record::{Env, MessageBytes, Record};
 use std::alloc::{AllocError, Global};
+
+/// What a stream says of a data message that it takes in by its bytes.
+#[derive(Clone, Copy)]
+pub struct Taken {
+    /// The local message type.
+    pub local: u8,
+    /// The time offset of a compressed timestamp header, in seconds, below 32.
+    pub offset: Option<u8>,
+    /// Whether messages of its definition may tell speed, distance, cycles and power, as those of `Stream::may_count`.
+    pub may_count: bool,
+    /// Whether each of its fields, but for developer fields, is one number, which is as long as its base type is wide.
+    pub has_lone_fields: bool,
+    /// Its times, and the values accumulated over the file.
+    pub told: Told,
+}
 
 /// The data message that the bytes are.
 fn message_of<'a>(env: &'a Env, bytes: &'a [u8]) -> MessageBytes<'a>
@@ -51,6 +70,7 @@ fn time_of_message(previous: Option<u32>, plan: &Plan, message: &MessageBytes<'_
 }
 
 /// What is told of a message with counters by the last ones before it.
+#[inline(always)]
 fn counted_of_message(last: Last, plan: &Plan, message: &MessageBytes<'_>) -> Told
     requires plan { IsPlan plan.now message.now.defined.now.definition }
     requires size { length message.now.body.now ≡ message_size message.now.defined.now }
@@ -107,15 +127,35 @@ pub(crate) fn time_in(env: &Env, plans: &Plans, previous: Option<u32>, bytes: &[
     time_of_message(previous, plan_of(plans, &message), &message)
 }
 
-/// What is told of the data message that the bytes are, by the last ones before it.
-pub(crate) fn told_in(env: &Env, plans: &Plans, last: Last, bytes: &[u8]) -> Told
+/// What a stream says of a message of which this is told.
+#[inline(always)]
+fn said_of(message: &MessageBytes<'_>, may_count: bool, lone: bool, told: Told) -> Taken
+    requires counts { may_count ≡ (message.now.defined.now.definition.global == 20
+        && list_any (λ f. is_counter f.number) message.now.defined.now.definition.fields) }
+    requires lone { lone ≡ has_lone_fields message.now.defined.now.definition }
+    ensures { IsTaken told (message_in message.now) message.now.defined.now.definition result }
+{
+    Taken {
+        local: message.local,
+        offset: message.offset,
+        may_count,
+        has_lone_fields: lone,
+        told,
+    }
+}
+
+/// What a stream says of the data message that the bytes are, by the last ones before it.
+pub(crate) fn said_in(env: &Env, plans: &Plans, last: Last, bytes: &[u8]) -> Taken
     requires plans { ArePlanned plans.now.places.items env.now.places }
     requires message { (v : Values Global) × IsRecord env.now (Data v) bytes.now }
-    ensures { (v : Values Global) → IsRecord env.now (Data v) bytes.now
-        → telling.tell env.now last (Data v) ≡ Some result }
+    ensures { (v : Values Global) (p : Defined Global) → IsRecord env.now (Data v) bytes.now
+        → defined_at env.now v.local ≡ Some p
+        → IsTaken (telling.told_at last p.definition v) v p.definition result }
 {
     let message = message_of(env, bytes);
-    told_of_message(last, plan_of(plans, &message), &message)
+    let plan = plan_of(plans, &message);
+    let told = told_of_message(last, plan, &message);
+    said_of(&message, plan.may_count(), plan.has_lone_fields, told)
 }
 
 /// The speed and the accumulated distance of the data message that the bytes are, by the last ones before it.
@@ -197,29 +237,63 @@ pub(crate) fn take_plain(
     false
 }
 
-/// Adds the data message that the bytes are to a history of records, where it is no field description. Whether it did.
-pub(crate) fn add_plain(
+/// Changes the last ones to those after a message, and says what is told of it. Most have no counters.
+#[inline(always)]
+fn tell_next(last: &mut Last, plan: &Plan, message: &MessageBytes<'_>) -> Told
+    requires plan { IsPlan plan.now message.now.defined.now.definition }
+    requires size { length message.now.body.now ≡ message_size message.now.defined.now }
+    ensures told { result ≡ telling.told_at last.old message.now.defined.now.definition
+        (message_in message.now) }
+    ensures last { last.new ≡ telling.last_after last.old (Some
+        (telling.told_at last.old message.now.defined.now.definition (message_in message.now))) }
+{
+    if plan.tells_more {
+        let told = counted_of_message(*last, plan, message);
+        *last = last_after(*last, Some(told));
+        return told;
+    }
+    let time = time_of_message(last.time, plan, message);
+    let header_time = header_time(last.time, message.offset);
+    *last = with_time(*last, time);
+    uncounted(time, header_time)
+}
+
+/// Takes in the data message that the bytes are, and says what is told of it, where it is no field description. None of a field
+/// description, which is left.
+#[inline(always)]
+pub(crate) fn take_telling(
     env: &Env,
     plans: &Plans,
+    last: &mut Last,
     records: &mut History<Record>,
     bytes: &[u8],
-) -> bool
+) -> Option<Taken>
     requires plans { ArePlanned plans.now.places.items env.now.places }
     requires message { (v : Values Global) × IsRecord env.now (Data v) bytes.now }
-    ensures records { result ≡ true → (v : Values Global) → IsRecord env.now (Data v) bytes.now
+    ensures said { IfSome result (λ t. (v : Values Global) (p : Defined Global)
+        → IsRecord env.now (Data v) bytes.now → defined_at env.now v.local ≡ Some p
+        → IsTaken (telling.told_at last.old p.definition v) v p.definition t) }
+    ensures last { IsSome result → (v : Values Global) → IsRecord env.now (Data v) bytes.now
+        → last.new ≡ telling.last_after last.old (telling.tell env.now last.old (Data v)) }
+    ensures records { IsSome result → (v : Values Global) → IsRecord env.now (Data v) bytes.now
         → records.new.items ≡ records.old.items ++ Data v ∷ [] }
-    ensures nothing { result ≡ true → (v : Values Global) → IsRecord env.now (Data v) bytes.now
+    ensures nothing { IsSome result → (v : Values Global) → IsRecord env.now (Data v) bytes.now
         → described_by env.now v ≡ None }
-    ensures kept { result ≡ false → records.new.items ≡ records.old.items }
-    ensures describes { result ≡ false → (v : Values Global) → IsRecord env.now (Data v) bytes.now
+    ensures last_kept { result ≡ None → last.new ≡ last.old }
+    ensures records_kept { result ≡ None → records.new.items ≡ records.old.items }
+    ensures describes { result ≡ None → (v : Values Global) → IsRecord env.now (Data v) bytes.now
         → IsSomeAnd (defined_at env.now v.local) (λ p. (p.definition.global == 206) ≡ true) }
 {
     let message = message_of(env, bytes);
-    if plan_of(plans, &message).describes {
-        return false;
+    let plan = plan_of(plans, &message);
+    if plan.describes {
+        return None;
     }
+    let may_count = plan.may_count();
+    let lone = plan.has_lone_fields;
+    let told = tell_next(last, plan, &message);
     add_message(records, &message);
-    true
+    Some(said_of(&message, may_count, lone, told))
 }
 
 /// The record that the bytes of a data message are.

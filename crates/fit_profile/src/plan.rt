@@ -1,6 +1,7 @@
 //! What is found out once of a definition, so that a stream takes in its data messages quickly, as records or by their bytes.
 ghost use Rattle.std.specs.Prelude.{◌≡◌, ◌==◌, ◌&&◌, ◌≤◌, ◌<◌, ◌+◌, ℕ, List, IfSome, IsOk, OnOk, length, None, option_copied, slice_index_or, slice_set, Some, not};
-ghost use Rattle.std.specs.List.{list_any};
+ghost use Rattle.std.specs.List.{list_all, list_any};
+ghost use Rattle.fit_base.specs.BaseTypes.{base_type};
 ghost use Rattle.fit_base.specs.declared.number.Order.{Order};
 ghost use Rattle.fit_record.specs.Environment.{DescribesNothing, Environment, learn};
 ghost use Rattle.fit_record.specs.Records.{Fits, sizes};
@@ -16,7 +17,7 @@ use crate::field_number::TIMESTAMP;
 use crate::places::places_of;
 use crate::time::valid_time;
 use fit_base::base_type::UINT32;
-use fit_base::{Order, bits_at};
+use fit_base::{Code, Order, bits_at};
 use fit_record::{FIELD_DESCRIPTION, FieldDef, MessageDef, Record};
 use std::alloc::{AllocError, Global};
 
@@ -27,6 +28,8 @@ pub(crate) struct Plan {
     pub tells_more: bool,
     /// They are field descriptions.
     pub describes: bool,
+    /// Each of their fields is one number.
+    pub has_lone_fields: bool,
     /// Where the four bytes of their timestamp begin in those of their fields.
     pub time_place: Option<u16>,
     /// Where their counters do.
@@ -68,6 +71,20 @@ fn tells_more(definition: &MessageDef, may_count: bool) -> bool
     definition.global == FIELD_DESCRIPTION || may_count
 }
 
+/// Whether a field is one number, which is as long as its base type is wide.
+fn is_lone(field: &FieldDef) -> bool
+    ensures { result ≡ ((base_type field.now.code).width == field.now.size) }
+{
+    Code(field.code).width() == field.size
+}
+
+/// Whether each of these fields is.
+fn are_lone(fields: &[FieldDef]) -> bool
+    ensures { result ≡ list_all (λ f. (base_type f.code).width == f.size) fields.now }
+{
+    fields.iter().all(|field| is_lone(field))
+}
+
 impl Plan {
     /// That of a definition.
     fn of(definition: &MessageDef) -> Plan
@@ -80,6 +97,7 @@ impl Plan {
         Plan {
             tells_more: tells_more(definition, may_count),
             describes: definition.global == FIELD_DESCRIPTION,
+            has_lone_fields: are_lone(fields),
             time_place: time_place(fields, &places),
             counters: CounterPlaces::of(definition, may_count),
             places,

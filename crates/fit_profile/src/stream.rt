@@ -12,6 +12,7 @@ ghost use Rattle.fit_record.specs.declared.message.Values.{Values};
 ghost use Rattle.fit_record.specs.declared.message.Record.TheVariants.{Values as Data};
 ghost use Rattle.fit_profile.specs.Looks.{known};
 ghost use Rattle.fit_profile.specs.Meant.{MessageOf};
+ghost use Rattle.fit_profile.specs.Taken.{IsTaken};
 ghost use Rattle.fit_profile.specs.Told.{told_of};
 ghost use Rattle.fit_profile.specs.Told as telling;
 ghost use Rattle.fit_profile.specs.inner.Alone.{times_alone};
@@ -21,7 +22,7 @@ mod next;
 
 use crate::learn::take_in;
 use crate::message::Message;
-use crate::message_bytes::{add_plain, record_of, take_plain};
+use crate::message_bytes::{Taken, record_of, said_in, take_plain, take_telling};
 use crate::names::Names;
 use crate::plain::{tell_plain, tell_times};
 use crate::plan::Plans;
@@ -290,42 +291,73 @@ impl Stream {
         self.take_record_of(bytes)
     }
 
-    /// Takes in the data message that these bytes are, where it is no field description, given what is told of it. Whether it did.
-    fn note_told(&mut self, bytes: &[u8], told: Told) -> bool
-        requires message { (v : Values Global) × IsRecord (known self.old) (Data v) bytes.now }
-        requires told { (v : Values Global) → IsRecord (known self.old) (Data v) bytes.now
-            → told ≡ telling.told self.old v }
-        ensures taken { result ≡ true → (v : Values Global)
+    /// Takes in the data message that these bytes are, and says what is told of it, where it is no field description. None of a field
+    /// description, which is left.
+    #[inline(always)]
+    fn take_telling(&mut self, bytes: &[u8]) -> Option<Taken>
+        requires { (v : Values Global) × IsRecord (known self.old) (Data v) bytes.now }
+        ensures said { IfSome result (λ t. (v : Values Global) (p : Defined Global)
+            → IsRecord (known self.old) (Data v) bytes.now
+            → defined_at (known self.old) v.local ≡ Some p
+            → IsTaken (telling.told self.old v) v p.definition t) }
+        ensures taken { IsSome result → (v : Values Global)
             → IsRecord (known self.old) (Data v) bytes.now → self.new ≡ Data v ∷ self.old }
-        ensures kept { result ≡ false → self.new ≡ self.old }
-        ensures more { result ≡ false → (v : Values Global)
+        ensures kept { result ≡ None → self.new ≡ self.old }
+        ensures more { result ≡ None → (v : Values Global)
             → IsRecord (known self.old) (Data v) bytes.now
             → IsSomeAnd (defined_at (known self.old) v.local) (λ p. tells_more p.definition ≡ true) }
     {
-        if !add_plain(&self.env, &self.plans, &mut self.pushed, bytes) {
-            return false;
-        }
-        self.last = last_after(self.last, Some(told));
-        true
+        take_telling(
+            &self.env,
+            &self.plans,
+            &mut self.last,
+            &mut self.pushed,
+            bytes,
+        )
     }
 
-    /// Takes the next record in, as `take_message` does, given what is told of it, as `message_told` gives it. So it isn't told twice.
-    pub fn take_told(&mut self, bytes: &[u8], told: Told) -> Result<(), AllocError>
-        requires message { (v : Values Global) × IsRecord (known self.old) (Data v) bytes.now }
-        requires told { (v : Values Global) → IsRecord (known self.old) (Data v) bytes.now
-            → told ≡ telling.told self.old v }
+    /// The same of any data message, by a record of it. It stands apart, since most messages need none.
+    #[cold]
+    #[inline(never)]
+    fn tell_record_of(&mut self, bytes: &[u8]) -> Result<Taken, AllocError>
+        requires { (v : Values Global) × IsRecord (known self.old) (Data v) bytes.now }
         ensures ok { OnOk result ((v : Values Global)
             → IsRecord (known self.old) (Data v) bytes.now → self.new ≡ Data v ∷ self.old) }
         ensures err { OnErr result (self.new ≡ self.old) }
+        ensures said { IfOk result (λ t. (v : Values Global) (p : Defined Global)
+            → IsRecord (known self.old) (Data v) bytes.now
+            → defined_at (known self.old) v.local ≡ Some p
+            → IsTaken (telling.told self.old v) v p.definition t) }
+    {
+        let taken = said_in(&self.env, &self.plans, self.last, bytes);
+        self.take_record_of(bytes)?;
+        Ok(taken)
+    }
+
+    /// Takes the next record in, as `take_message` does, and returns what it is by its record header and its definition, and its times and
+    /// accumulated values by the records before it.
+    #[inline(always)]
+    pub fn take_and_tell(&mut self, bytes: &[u8]) -> Result<Taken, AllocError>
+        requires { (v : Values Global) × IsRecord (known self.old) (Data v) bytes.now }
+        ensures ok { OnOk result ((v : Values Global)
+            → IsRecord (known self.old) (Data v) bytes.now → self.new ≡ Data v ∷ self.old) }
+        ensures err { OnErr result (self.new ≡ self.old) }
+        ensures said { IfOk result (λ t. (v : Values Global) (p : Defined Global)
+            → IsRecord (known self.old) (Data v) bytes.now
+            → defined_at (known self.old) v.local ≡ Some p
+            → IsTaken (telling.told self.old v) v p.definition t) }
         ensures free { (v : Values Global) (p : Defined Global)
             → IsRecord (known self.old) (Data v) bytes.now
             → defined_at (known self.old) v.local ≡ Some p → tells_more p.definition ≡ false
             → IsOk result }
     {
-        if self.note_told(bytes, told) {
-            Ok(())
-        } else {
-            self.take_record_of(bytes)
+        match self.take_telling(bytes) {
+            Some(taken) => Ok(taken),
+            // What that call writes has a place of its own, which is cleared only there.
+            None => {
+                let taken = self.tell_record_of(bytes)?;
+                Ok(taken)
+            }
         }
     }
 

@@ -68,7 +68,7 @@ pub use Rattle.fit_step.specs.Parts.{IsDefinitionPart, IsShut, RecordPart, nothi
 pub use Rattle.fit_step.specs.Parts.{width_of, all_items, IsTaking, HasBegun}
 pub use Rattle.fit_step.specs.Places.{state_at, Steps, TakesNone, WantsNone, PartFitsRoom, KeepsPart, Begins}
 pub use Rattle.fit_step.specs.Reasons.{definition_reason, overrun_or_no_fit, record_reason, least_definition}
-pub use Rattle.fit_step.specs.Skipping.{HasMessage, AreSkipped, size_to_skip, AreSizesToSkip, HeadsMessage, IsSkipped, IsSkippedMessage, Learns, SkipsInSection}
+pub use Rattle.fit_step.specs.Skipping.{HasMessage, AreSkipped, size_to_skip, AreSizesToSkip, HeadsMessage, IsSkipped, Learns, SkipsInSection}
 pub use Rattle.fit_step.specs.Tests.{tests_of, entries_complete}
 pub use Rattle.fit_step.specs.declared.phase.DefinitionPhase.{DefinitionPhase}
 pub use Rattle.fit_step.specs.declared.phase.DefinitionPhase.TheVariants.{Reserved, Architecture as AtArchitecture, GlobalFirst, GlobalSecond, FieldCount}

@@ -1,13 +1,14 @@
 -- What a byte of a piece makes of a record in progress, and what was read of the piece.
 use Rattle.fit_step.proofs.Common.{◌≡◌, ℕ, ◌+◌, ◌-◌, ◌<◌, append_assoc, Bool, true, false, List, [], ◌∷◌, ◌++◌, length, take, refl, sym, ap, ◌∙◌, subst, arith}
 use Rattle.fit_step.proofs.Common.{Some, None, Ok, Err, Option, Result, OnOk, OnErr, take_more, Record, Environment, learn, Fits, Position, Stop, Refused}
-use Rattle.fit_step.proofs.Common.{NoMemory, State, Step, start, step, RecordPart, nothing, state_of, state_at, Steps, KeepsPart, tests_of}
-use Rattle.fit_step.proofs.Common.{StandsAfter, IsInProgress, ReadsRecord, StandsWithRoom, RecordByte, TakesByte, ◌≤◌, slice_index, Ends, IsBytes, IsBytes-take}
+use Rattle.fit_step.proofs.Common.{NoMemory, State, Step, step, state_at, Steps, KeepsPart, tests_of, CanFill, IsRecord, length-take-le}
+use Rattle.fit_step.proofs.Common.{StandsAfter, IsInProgress, ReadsRecord, StandsWithRoom, RecordByte, TakesByte, ◌≤◌, slice_index}
 use Rattle.fit_step.specs.InProgress.{Reads, ReadsInPlace}
+use Rattle.fit_step.specs.inner.Whole.{StandsWhole}
 use Rattle.std.specs.Result.{is_ok}
 use Rattle.fit_step.proofs.Kept.{still_stands, still_room}
 use Rattle.fit_step.proofs.RecordsInProgress.{EndsWithRecord, starts_after, sixteen_learned, starts_where_none, goes_after, ends_after, wants_after}
-use Rattle.fit_step.proofs.RecordsInProgress.{refused_after, ends_further}
+use Rattle.fit_step.proofs.RecordsInProgress.{refused_after, none_come, all_left, next_begins}
 
 -- what holds of a good answer, and of a fault
 pub when_ok : {X Y P : Type 0} (r : Result X Y) → OnOk r P → is_ok r ≡ true → P
@@ -17,15 +18,6 @@ when_ok (Err y) h is = absurd cc
 pub when_err : {X Y P : Type 0} (r : Result X Y) → OnErr r P → is_ok r ≡ false → P
 when_err (Ok x) h is = absurd cc
 when_err (Err y) h is = h
-
--- where no record is in progress one begins
-begins_where_none : {A : Type 0} (e : Environment A) (room : ℕ) (bytes : List ℕ) (s : State A) → StandsAfter e room bytes s → s.in_progress ≡ None
-    → s ≡ start s.room
-begins_where_none {A} e room bytes s h none = go h.part h.is
-  where
-    go : (f : RecordPart A) → s ≡ state_of s.room f → s ≡ start s.room
-    go nothing is = is
-    go f is = absurd (let some = sym none ∙ ap (λ (t : State A). t.in_progress) is in cc)
 
 pub stands_on : {A : Type 0} (e : Environment A) (s t : State A) (b : ℕ) → b < 256 → StandsWithRoom e s → step e (tests_of e) s b ≡ Ok (t, None)
     → StandsWithRoom e t
@@ -68,27 +60,24 @@ whole_read e env room bytes piece used p in_progress r some within sixteen learn
       (starts_after (learn e r) (room - length (bytes ++ take used piece)) (sixteen_learned e r sixteen) k.filled)),
 )
 
--- a record of which all bytes stand at the front of the piece, where none is in progress
-module _ {A : Type 0} (e env : Environment A) (p : Position) (in_progress : Option (Record A)) (none : in_progress ≡ None) (piece : List ℕ) (used : ℕ)
-    (r : Record A) (are : IsBytes piece) (some : 0 < used) (within : used ≤ length piece) (learned : env ≡ learn e r)
-    (ends : Ends e (tests_of e) (start p.room) (take used piece) (start (p.room - used)) r) where
-  -- the next record begins at `q`
-  pub whole_and_next : (q : Position) (after : Option (Record A)) → start (p.room - used) ≡ state_at q after
-      → Reads e p in_progress env q after piece used (Ok (Some r))
-  whole_and_next q after next room bytes h =
-      let begins = begins_where_none e room bytes (state_at p in_progress) h none in
-      let made : Ends e (tests_of e) (state_at p in_progress) (take used piece) (state_at q after) r =
-      subst (λ s. Ends e (tests_of e) s (take used piece) (state_at q after) r) (sym begins)
-      (subst (λ t. Ends e (tests_of e) (start p.room) (take used piece) t r) next ends) in
-      whole_read e env room bytes piece used q after r some within h.sixteen learned
-      (ends_further e room bytes (take used piece) (state_at p in_progress) (state_at q after) r h (IsBytes-take used piece are) made)
-
-  -- the next record begins at `p`, with less room
-  pub whole_at_front : Reads e p in_progress env (record p { room = p.room - used }) in_progress piece used (Ok (Some r))
-  whole_at_front room bytes h =
-      let begins = begins_where_none e room bytes (state_at p in_progress) h none in
-      let next = ap (λ (s : State A). record s { room = p.room - used }) (sym begins) in
-      whole_and_next (record p { room = p.room - used }) in_progress next room bytes h
+-- a record that is whole at the front of the piece, where none is in progress: the next one begins at `p`, with less room
+pub whole_at_front : {A : Type 0} (e env : Environment A) (p : Position) (in_progress : Option (Record A)) (piece : List ℕ) (r : Record A) (used : ℕ)
+    → in_progress ≡ None → StandsWhole e p.room piece r used → env ≡ learn e r
+    → Reads e p in_progress env (record p { room = p.room - used }) in_progress piece used (Ok (Some r))
+whole_at_front {A} e env p in_progress piece r used idle k learned room bytes h =
+    let all = all_left e room bytes p in_progress h idle in
+    let whole : take used piece ≡ bytes ++ take used piece = ap (λ y. y ++ take used piece) (sym (none_come e room bytes p in_progress h idle)) in
+    let size : length (bytes ++ take used piece) ≡ used = ap length (sym whole) ∙ length-take-le used piece k.within in
+    let sixteen : length env.places ≡ 16 = subst (λ (f : Environment A). length f.places ≡ 16) (sym learned) (sixteen_learned e r h.sixteen) in
+    let fills = subst (λ (f : Environment A). CanFill f (p.room - used)) (sym learned) (k.fills h.sixteen) in (
+      k.some,
+      k.within,
+      learned,
+      subst (IsRecord e r) whole k.spelled,
+      omega (arith, size, all, k.enough),
+      subst (λ n. IsInProgress env (room - n) [] (record p { room = p.room - used }) in_progress) (sym size)
+          (next_begins e room bytes p in_progress h idle env used sixteen fills),
+    )
 
 -- a byte of the piece, after those of which this is the state
 module _ {A : Type 0} (e now env : Environment A) (room : ℕ) (bytes piece : List ℕ) (i : ℕ) (p q : Position) (before after : Option (Record A))

@@ -1,9 +1,7 @@
 -- The definition message that bytes spell.
-use Rattle.fit_step.proofs.Common.{◌≡◌, ℕ, ◌+◌, ◌-◌, ◌*◌, ◌<◌, List, [], ◌∷◌, ◌++◌, length, take, sym, ap, ◌∙◌, subst, arith, lit<, flat_map, option_map}
-use Rattle.fit_step.proofs.Common.{unwrap_or, append-nil, length-take-le, length-set, Some, IsBytes, IsBytes-take, number_bytes, FieldDef, MessageDef, Define}
-use Rattle.fit_step.proofs.Common.{Environment, defined_by, learn, CanFill, architecture, field_bytes, definition_bytes, definition_header, DefinitionFits}
-use Rattle.fit_step.proofs.Common.{IsRecord, six_and_more, start, Ends, tests_of, ◌≤◌, length-fields}
-use Rattle.fit_step.proofs.TakenAndRefusedBytes.{records_end}
+use Rattle.fit_step.proofs.Common.{◌≡◌, ℕ, ◌+◌, ◌*◌, ◌<◌, List, [], ◌∷◌, ◌++◌, length, take, sym, ap, ◌∙◌, subst, arith, lit<, flat_map, option_map}
+use Rattle.fit_step.proofs.Common.{unwrap_or, append-nil, length-take-le, number_bytes, FieldDef, Define, Environment, architecture, field_bytes}
+use Rattle.fit_step.proofs.Common.{definition_bytes, definition_header, DefinitionFits, IsRecord, length-fields}
 use Rattle.fit_record.proofs.OneRecord.{same_fields}
 use Rattle.fit_record.proofs.RecordLengths.{length-definition}
 use Rattle.fit_record.specs.DefinitionLengths.{dev_length}
@@ -59,17 +57,3 @@ definition_stands e bytes size (d, within, (fits, is), no_dev) =
       },
       all,
     )
-
--- where six bytes or more are to come after it, records can fill them
-pub definition_ends : {A : Type 0} (e : Environment A) (d : MessageDef A) (used room : ℕ) (piece : List ℕ) → length e.places ≡ 16 → IsBytes piece
-    → used ≤ length piece → 6 ≤ room → used ≤ room - 6 → IsRecord e (Define d) (take used piece)
-    → Ends e (tests_of e) (start room) (take used piece) (start (room - used)) (Define d)
-definition_ends e d used room piece sixteen are within six less is =
-    let bytes = take used piece in
-    let after = learn e (Define d) in
-    let same : length after.places ≡ length e.places = length-set e.places d.local (Some (defined_by e d)) in
-    let total : length bytes + (room - used) ≡ room = omega (arith, length-take-le used piece within, six, less) in
-    let rest : 6 + (room - used - 6) ≡ room - used = omega (arith, six, less) in
-    let filled : CanFill after (room - used) = subst (CanFill after) rest (six_and_more after (room - used - 6) (omega (arith, same, sixteen))) in
-    subst (λ n. Ends e (tests_of e) (start n) bytes (start (room - used)) (Define d)) total
-    (records_end e (Define d) bytes (room - used) sixteen is (IsBytes-take used piece are) filled)

@@ -5,7 +5,7 @@ use Rattle.fit_step.proofs.Common.{IsBytes-back, IsBytes-none, IsBytes-tail, Rea
 use Rattle.fit_step.proofs.Common.{records_bytes, can_fill_is, same_places, MessageDef, DefinitionPhase, Reserved, Position, goes_on, Continues, NoRecord}
 use Rattle.fit_step.proofs.Common.{FillFrom, StandsAfter, IsInProgress, RecordsInProgress, IdleIsBetweenRecords, RefusedBytesHaveReasons, CanBecomeRecord}
 use Rattle.fit_step.proofs.Common.{State, Step, start, step, least_rest, Ends, RecordPart, nothing, in_definition, definition_part, part_bytes, IsPart}
-use Rattle.fit_step.proofs.Common.{state_of, state_at, Begins, record_reason, tests_of, StandsWithRoom, ◌≤◌}
+use Rattle.fit_step.proofs.Common.{state_of, state_at, Begins, record_reason, tests_of, StandsWithRoom, ◌≤◌, Option}
 use Rattle.fit_step.proofs.Rest.{takes_more, keeps, KeepsRoom}
 use Rattle.fit_step.proofs.RecordFronts.{part_of_record}
 use Rattle.fit_step.proofs.Runs.{one_more}
@@ -199,16 +199,6 @@ wants_after {A} e room bytes s h b low ok = go (step e (tests_of e) s b) refl ok
         record_fills e room r (bytes ++ b ∷ []) k.is_record k.within (fill_nothing (learn e r) (room - length (bytes ++ b ∷ [])) k.filled)
     go (Err reason) made ok = absurd cc
 
--- a record's end, some bytes further on
-pub ends_further : {A : Type 0} (e : Environment A) (room : ℕ) (bytes more : List ℕ) (s t : State A) (r : Record A) → StandsAfter e room bytes s
-    → IsBytes more → Ends e (tests_of e) s more t r → EndsWithRecord e room (bytes ++ more) r t
-ends_further e room bytes [] s t r h low ends = absurd ends
-ends_further e room bytes (b ∷ more) s t r h low (inl (none, made)) =
-    subst (λ z. EndsWithRecord e room (bytes ++ b ∷ z) r t) (sym none) (ends_after e room bytes s h b (low zero) t r made)
-ends_further e room bytes (b ∷ more) s t r h low (inr (u, made, ends)) =
-    subst (λ z. EndsWithRecord e room z r t) (one_more bytes b more)
-    (ends_further e room (bytes ++ b ∷ []) more u t r (goes_after e room bytes s h b (low zero) u made) (IsBytes-tail b more low) ends)
-
 -- ---- where nothing has come
 
 some_bytes : {A : Type 0} (k : DefinitionPhase) (d : MessageDef A) → definition_part k d ≡ [] → ⊥
@@ -234,6 +224,24 @@ idle_between_records {A} e room bytes p in_progress h = (
     go : (f : RecordPart A) → state_at p in_progress ≡ state_of p.room f → part_bytes e f ≡ bytes → in_progress ≡ None → bytes ≡ []
     go nothing is spelled idle = sym spelled
     go f is spelled idle = absurd (let some = sym idle ∙ ap (λ (t : State A). t.in_progress) is in cc)
+
+-- The next record begins after some records of which all bytes came at once.
+module _ {A : Type 0} (e : Environment A) (room : ℕ) (bytes : List ℕ) (p : Position) (in_progress : Option (Record A))
+    (h : IsInProgress e room bytes p in_progress) (idle : in_progress ≡ None) where
+  pub none_come : bytes ≡ []
+  none_come = (idle_between_records e room bytes p in_progress h).0 idle
+
+  pub all_left : p.room ≡ room
+  all_left = omega (arith, h.total, ap length none_come)
+
+  pub next_begins : (known : Environment A) (used : ℕ) → length known.places ≡ 16 → CanFill known (p.room - used)
+      → IsInProgress known (room - used) [] (record p { room = p.room - used }) in_progress
+  next_begins known used sixteen fills =
+      let q : Position = record p { room = p.room - used } in
+      let starts = starts_where_none e room bytes (state_at p in_progress) h none_come in
+      let begins : Begins q = record { phase = ap (λ (s : State A). s.phase) starts; partial = ap (λ (s : State A). s.partial) starts } in
+      subst (λ o. IsInProgress known (room - used) [] q o) (sym idle)
+      (subst (λ n. IsInProgress known (n - used) [] q None) all_left (begins_record known q sixteen begins fills))
 
 pub records_in_progress : {A : Type 0} → RecordsInProgress A
 records_in_progress e room bytes p in_progress h =

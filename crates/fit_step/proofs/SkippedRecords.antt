@@ -2,27 +2,33 @@
 use Rattle.fit_step.proofs.Common.{◌≡◌, cond, ℕ, zero, suc, ◌+◌, ◌<◌, ◌%◌, ◌/◌, inl, inr, Bool, true, false, List, [], ◌∷◌, ◌++◌, length, take, refl, sym, ap}
 use Rattle.fit_step.proofs.Common.{◌∙◌, subst, arith, length-append, Some, None, Option, option_and_then, option_map_or, take-add, eqb_tells, append-nil}
 use Rattle.fit_step.proofs.Common.{length-take-le, get_or-set_other, IsBytes, IsBytes-take, IsBytes-tail, IsBytes-cons, Defined, MessageDef, Define, Data}
-use Rattle.fit_step.proofs.Common.{Values, Environment, defined_at, defined_by, describe, description, learn, bit, has_reserved_bit, is_definition, local_type}
-use Rattle.fit_step.proofs.Common.{message_size, AllFit, record_bytes, records_bytes, IsRecord, size_to_skip, AreSizesToSkip, HeadsMessage, IsSkipped}
-use Rattle.fit_step.proofs.Common.{IsSkippedMessage, Learns, SkipsInSection, AreSkipped, HasMessage, IsSomeAnd, IfSome, option_map, DataFits, data_header}
-use Rattle.fit_step.proofs.Common.{data_bytes, order_at, length-data, ne_eqb, ◌≤◌, ◌==◌, drop, slice_index, slice_set, ◌-◌, Record, learn_all, CanFill}
-use Rattle.fit_step.proofs.Common.{six_and_more, Position, Begins, IsInProgress}
-use Rattle.fit_step.proofs.HeaderBits.{data_bits}
-use Rattle.std.proofs.lemmas.List.{take-append-drop}
+use Rattle.fit_step.proofs.Common.{Values, Environment, defined_at, defined_by, describe, described_by, description, learn, bit, has_reserved_bit}
+use Rattle.fit_step.proofs.Common.{is_definition, local_type, message_size, AllFit, record_bytes, records_bytes, IsRecord, size_to_skip, AreSizesToSkip}
+use Rattle.fit_step.proofs.Common.{HeadsMessage, IsSkipped, Learns, SkipsInSection, AreSkipped, ◌≤◌, ◌==◌, drop, slice_index, slice_set, ◌-◌, Record}
+use Rattle.fit_step.proofs.Common.{learn_all, CanFill, six_and_more, Position}
 use Rattle.std.proofs.lemmas.Grind.{get_or-set_at}
 use Rattle.fit_record.proofs.RecordLists.{all_fit-append, records_bytes-append, learn_all-append}
 use Rattle.fit_step.proofs.WholeMessage.{data_read, data_record}
-use Rattle.fit_step.proofs.RecordsInProgress.{begins_record, idle_between_records, sixteen_learned}
+use Rattle.fit_step.proofs.RecordsInProgress.{sixteen_learned, none_come, all_left, next_begins}
+use Rattle.fit_step.specs.inner.Whole.{StandsWhole}
 
 -- ---- one message
 
 off : {X : Type 0} (c : Bool) (x : Option X) → c ≡ false → cond c x None ≡ None
 off {X} c x is = ap (λ (d : Bool). cond d x None) is
 
+-- one that is no field description describes nothing
+pub learns_nothing : {A : Type 0} (e : Environment A) (v : Values A) (p : Defined A) → defined_at e v.local ≡ Some p
+    → (p.definition.global == 206) ≡ false → learn e (Data v) ≡ e
+learns_nothing {A} e v p known plain =
+    let nothing : described_by e v ≡ None =
+    ap (λ o. option_and_then (λ (q : Defined A). description q.definition v) o) known ∙ off (p.definition.global == 206) _ plain in
+    ap (describe e) nothing
+
 module _ {A : Type 0} (e : Environment A) (b : ℕ) (rest : List ℕ) (are : IsBytes (b ∷ rest)) (clean : has_reserved_bit b ≡ false)
     (kind : is_definition b ≡ false) where
   one_of : (p : Defined A) → defined_at e (local_type b) ≡ Some p → (p.definition.global == 206) ≡ false → (size : ℕ) → size ≡ 1 + message_size p
-      → size ≤ length (b ∷ rest) → IsSkippedMessage e (take size (b ∷ rest))
+      → size ≤ length (b ∷ rest) → IsSkipped e e (take size (b ∷ rest))
   one_of p known plain size long within =
       let n = message_size p in
       let body : List ℕ = take n rest in
@@ -30,20 +36,18 @@ module _ {A : Type 0} (e : Environment A) (b : ℕ) (rest : List ℕ) (are : IsB
       let whole = data_record e p b body (IsBytes-cons b body (are zero) (IsBytes-take n rest (IsBytes-tail b rest are))) clean kind known
       (length-take-le n rest (omega (arith, long, within))) in
       let message : Values A = data_read p b body in
-      let nothing : option_and_then (λ q. description q.definition message) (defined_at e (local_type b)) ≡ None =
-      ap (λ o. option_and_then (λ (q : Defined A). description q.definition message) o) known ∙ off (p.definition.global == 206) _ plain in
-      (message, subst (IsRecord e (Data message)) all whole, ap (describe e) nothing)
+      (Data message, subst (IsRecord e (Data message)) all whole, learns_nothing e message p known plain)
 
-  one_skipped : (size : ℕ) → 0 < size → size ≡ size_to_skip e (local_type b) → size ≤ length (b ∷ rest) → IsSkippedMessage e (take size (b ∷ rest))
+  one_skipped : (size : ℕ) → 0 < size → size ≡ size_to_skip e (local_type b) → size ≤ length (b ∷ rest) → IsSkipped e e (take size (b ∷ rest))
   one_skipped size some is within = go (defined_at e (local_type b)) refl is
     where
       at : (p : Defined A) → defined_at e (local_type b) ≡ Some p → (c : Bool) → (p.definition.global == 206) ≡ c → size ≡ cond c 0 (1 + message_size p)
-          → IsSkippedMessage e (take size (b ∷ rest))
+          → IsSkipped e e (take size (b ∷ rest))
       at p known true describes long = absurd (omega (arith, some, long))
       at p known false plain long = one_of p known plain size long within
 
       go : (o : Option (Defined A)) → defined_at e (local_type b) ≡ o → size ≡ option_map_or (λ p. cond (p.definition.global == 206) 0 (1 + message_size p)) o 0
-          → IsSkippedMessage e (take size (b ∷ rest))
+          → IsSkipped e e (take size (b ∷ rest))
       go None known none = absurd (omega (arith, some, none))
       go (Some p) known long = at p known (p.definition.global == 206) refl long
 
@@ -69,43 +73,6 @@ one_more e f after bytes used size count within (rs, (are, same), long) (r, is, 
 pub one_learned : {A : Type 0} (e : Environment A) (v : Values A) (y : List ℕ) → IsRecord e (Data v) y → learn e (Data v) ≡ e → Learns e e y (Data v ∷ [])
 one_learned e v y is stays = (((is.0, tt), is.1 ∙ sym (append-nil (record_bytes e (Data v)))), stays)
 
-pub message_skipped : {A : Type 0} (e : Environment A) (bytes : List ℕ) (size local : ℕ) → IsBytes bytes → 0 < size → size ≤ length bytes
-    → HeadsMessage bytes local → size ≡ size_to_skip e local → IsSkippedMessage e (take size bytes)
-message_skipped e bytes size local are some fits (b, rest, begins, clean, kind, same) is =
-    subst (λ l. IsSkippedMessage e (take size l)) (sym begins)
-    (one_skipped e b rest (subst IsBytes begins are) clean kind size some (is ∙ ap (size_to_skip e) same) (omega (arith, fits, ap length begins)))
-
--- ---- what is at the front of the bytes
-
-one_head : (bytes : List ℕ) (l m : ℕ) → HeadsMessage bytes l → HeadsMessage bytes m → l ≡ m
-one_head bytes l m (b, rest, begins, clean, kind, is) (c, others, begin, clear, sort, same) =
-    let first : b ≡ c = cc in
-    is ∙ ap local_type first ∙ sym same
-
-pub message_stands : {A : Type 0} (e : Environment A) (bytes : List ℕ) (size : ℕ) → HasMessage e bytes size
-    → (local : ℕ) × HeadsMessage bytes local × (size_to_skip e local ≡ size)
-message_stands {A} e bytes size (v, within, (fits, spelled), plain) = go (defined_at e v.local) refl fits plain
-  where
-    go : (o : Option (Defined A)) → defined_at e v.local ≡ o → IsSomeAnd o (DataFits v) → IfSome (option_map (λ p. p.definition) o) (λ d. d.global ≡ 206 → ⊥)
-        → (local : ℕ) × HeadsMessage bytes local × (size_to_skip e local ≡ size)
-    go None is fits plain = absurd fits
-    go (Some p) is fits plain =
-        let bits = data_bits (data_header v.local v.offset) v.local v.offset refl fits.header in
-        let begins = sym (take-append-drop size bytes) ∙ ap (λ y. y ++ drop size bytes) spelled in
-        let long : 1 + message_size p ≡ size =
-        omega (arith, length-take-le size bytes within, ap length spelled, length-data (order_at e v.local) v p fits) in (
-          v.local,
-          (data_header v.local v.offset, data_bytes (order_at e v.local) v ++ drop size bytes, begins, bits.clean, bits.kind, sym bits.type),
-          ap (λ o. option_map_or (λ (q : Defined A). cond (q.definition.global == 206) 0 (1 + message_size q)) o 0) is
-              ∙ ap (λ c. cond c 0 (1 + message_size p)) (ne_eqb p.definition.global 206 plain) ∙ long,
-        )
-
-pub size_stands : {A : Type 0} (e : Environment A) (bytes : List ℕ) (size local n : ℕ) → HeadsMessage bytes local → n ≡ size_to_skip e local
-    → HasMessage e bytes size → n ≡ size
-size_stands e bytes size local n heads is has =
-    let (own, begins, long) = message_stands e bytes size has in
-    is ∙ ap (size_to_skip e) (one_head bytes local own heads begins) ∙ long
-
 -- ---- by the table of sizes
 
 low_local : (c : Bool) (b : ℕ) → cond c (b / 32 % 4) (b % 16) < 16
@@ -114,11 +81,11 @@ low_local false b = omega arith
 
 pub table_skipped : {A : Type 0} (e : Environment A) (sizes bytes : List ℕ) (size local : ℕ) → IsBytes bytes → AreSizesToSkip e sizes → 0 < size
     → size ≤ length bytes → HeadsMessage bytes local → size ≡ slice_index sizes local → IsSkipped e e (take size bytes)
-table_skipped e sizes bytes size local are told some fits heads is =
-    let (b, rest, begins, clean, kind, same) = heads in
+table_skipped e sizes bytes size local are told some fits (b, rest, begins, clean, kind, same) is =
     let low : local < 16 = subst (λ n. n < 16) (sym same) (low_local (bit 7 b) b) in
-    let m = message_skipped e bytes size local are some fits heads (is ∙ told local low) in
-    (Data m.0, m.1, m.2)
+    subst (λ l. IsSkipped e e (take size l)) (sym begins)
+    (one_skipped e b rest (subst IsBytes begins are) clean kind size some (is ∙ told local low ∙ ap (size_to_skip e) same)
+    (omega (arith, fits, ap length begins)))
 
 pub table_more : {A : Type 0} (e : Environment A) (sizes : List ℕ) (local size : ℕ) → length sizes ≡ 16 → local < 16 → size ≡ size_to_skip e local
     → ((k : ℕ) → k < local → slice_index sizes k ≡ size_to_skip e k)
@@ -153,20 +120,28 @@ large_fill e room sixteen large =
     let same : 6 + (room - 6) ≡ room = omega (arith, large) in
     subst (CanFill e) same (six_and_more e (room - 6) (omega (arith, sixteen)))
 
-pub skipped_after : {A : Type 0} (e known : Environment A) (p q : Position) (in_progress : Option (Record A)) (piece : List ℕ) (used : ℕ)
-    (records : List (Record A)) → in_progress ≡ None → used + 6 ≤ p.room → Learns e known (take used piece) records → Begins q → q.room ≡ p.room - used
-    → SkipsInSection e p in_progress known q piece used records
-skipped_after e known p q in_progress piece used records idle large learns begins left room bytes h =
-    let none : bytes ≡ [] = (idle_between_records e room bytes p in_progress h).0 idle in
-    let all : p.room ≡ room = omega (arith, h.total, ap length none) in
+-- so a record with that much room after it stands whole
+pub plain_stands : {A : Type 0} (e : Environment A) (room : ℕ) (piece : List ℕ) (r : Record A) (used : ℕ) → 0 < used → used ≤ length piece
+    → used + 6 ≤ room → IsRecord e r (take used piece) → StandsWhole e room piece r used
+plain_stands e room piece r used some within large spelled = record {
+  some = some;
+  within = within;
+  enough = omega (arith, large);
+  spelled = spelled;
+  fills = λ sixteen. large_fill (learn e r) (room - used) (sixteen_learned e r sixteen) (omega (arith, large));
+}
+
+pub skipped_after : {A : Type 0} (e known : Environment A) (p : Position) (in_progress : Option (Record A)) (piece : List ℕ) (used : ℕ)
+    (records : List (Record A)) → in_progress ≡ None → used + 6 ≤ p.room → Learns e known (take used piece) records
+    → SkipsInSection e p in_progress known (record p { room = p.room - used }) piece used records
+skipped_after e known p in_progress piece used records idle large learns room bytes h =
+    let all = all_left e room bytes p in_progress h idle in
     let sixteen : length known.places ≡ 16 = subst (λ k. length k.places ≡ 16) learns.1 (sixteen_all e records h.sixteen) in
-    let here = begins_record known q sixteen begins (large_fill known q.room sixteen (omega (arith, left, large))) in
-    let same : q.room ≡ room - used = omega (arith, left, all) in
     inr (
-      none,
+      none_come e room bytes p in_progress h idle,
       omega (arith, large, all),
       learns,
-      subst (λ o. IsInProgress known (room - used) [] q o) (sym idle) (subst (λ n. IsInProgress known n [] q None) same here),
+      next_begins e room bytes p in_progress h idle known used sixteen (large_fill known (p.room - used) sixteen (omega (arith, large))),
     )
 
 pub none_skipped : {A : Type 0} (e : Environment A) (p : Position) (in_progress : Option (Record A)) (piece : List ℕ)

@@ -51,10 +51,6 @@ AreSizesToSkip e sizes = (local : ℕ) → local < 16 → slice_index sizes loca
 abbrev pub IsSkipped : {A : Type 0} → Environment A → Environment A → List ℕ → Type 0
 IsSkipped {A} e after bytes = (r : Record A) × IsRecord e r bytes × (learn e r ≡ after)
 
--- They are those of one data message, and what is known stays.
-abbrev pub IsSkippedMessage : {A : Type 0} → Environment A → List ℕ → Type 0
-IsSkippedMessage {A} e bytes = (v : Values A) × IsRecord e (Data v) bytes × (learn e (Data v) ≡ e)
-
 -- They are those of that many records.
 abbrev pub AreSkipped : {A : Type 0} → Environment A → Environment A → List ℕ → ℕ → Type 0
 AreSkipped {A} e after bytes count = (records : List (Record A)) × Learns e after bytes records × (length records ≡ count)

@@ -5,3 +5,4 @@ pub mod Undone
 pub mod Scans
 pub mod Repeated
 pub mod Definitions
+pub mod Whole

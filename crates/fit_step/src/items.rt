@@ -1,5 +1,5 @@
 //! The bytes of a data message after its record header, one by one (FIT protocol, "Data Message").
-ghost use Rattle.std.specs.Prelude.{◌≡◌, ℕ, ◌+◌, ◌<◌, ◌≤◌, ◌⊎◌, IsOk, OnOk, OnErr, Some, [], ◌∷◌, ◌++◌, length, drop};
+ghost use Rattle.std.specs.Prelude.{◌≡◌, ℕ, ◌+◌, ◌-◌, ◌<◌, ◌≤◌, ◌⊎◌, IsOk, OnOk, OnErr, Some, [], ◌∷◌, ◌++◌, length, drop};
 ghost use Rattle.fit_record.specs.declared.message.Values.{Values};
 ghost use Rattle.fit_record.specs.declared.message.Record.TheVariants.{Values as Data};
 ghost use Rattle.fit_record.specs.Sound.{IsSound};
@@ -15,6 +15,14 @@ use fit_base::{Code, Entries, Items, Order, bits_at, width_of};
 use fit_record::{Defined, Layout, Values};
 use std::alloc::{AllocError, Allocator};
 use std::mem;
+
+/// The field of a data message that is read: its place, the width of its items, and how many of its bytes are to come.
+#[derive(Clone, Copy)]
+pub(crate) struct FieldInProgress {
+    pub(crate) place: u8,
+    pub(crate) width: u8,
+    pub(crate) left: u8,
+}
 
 /// Puts a number at the end of a field.
 pub(crate) fn add_number<A: Allocator + Copy>(
@@ -37,28 +45,27 @@ pub(crate) fn add_number<A: Allocator + Copy>(
 fn take_byte<A: Allocator + Copy>(
     alloc: A,
     order: Order,
-    width: u8,
-    place: u8,
+    field: FieldInProgress,
     fields: &mut Entries<Items<A>, A>,
     partial: &mut Partial,
     byte: u8,
 ) -> Result<(), AllocError>
-    requires width { (width ≡ 1) ⊎ (width ≡ 2) ⊎ (width ≡ 4) ⊎ (width ≡ 8) }
-    requires place { place < length fields.old }
-    requires short { length partial.old < width }
-    ensures ok { OnOk result ((fields.new ≡ with_number order width place fields.old
+    requires width { (field.width ≡ 1) ⊎ (field.width ≡ 2) ⊎ (field.width ≡ 4) ⊎ (field.width ≡ 8) }
+    requires place { field.place < length fields.old }
+    requires short { length partial.old < field.width }
+    ensures ok { OnOk result ((fields.new ≡ with_number order field.width field.place fields.old
         (partial.old ++ byte ∷ [])) × (partial.new
-        ≡ beyond_number width (partial.old ++ byte ∷ []))) }
+        ≡ beyond_number field.width (partial.old ++ byte ∷ []))) }
     ensures err { OnErr result ((fields.new ≡ fields.old) × (partial.new ≡ partial.old)) }
-    ensures free { length partial.old + 1 < width → IsOk result }
+    ensures free { length partial.old + 1 < field.width → IsOk result }
 {
     let bytes = partial.with(byte);
-    if bytes.len() < width as usize {
+    if bytes.len() < field.width as usize {
         *partial = bytes;
         return Ok(());
     }
-    let number = bits_at(order, width, bytes.as_slice());
-    add_number(alloc, fields, place, number)?;
+    let number = bits_at(order, field.width, bytes.as_slice());
+    add_number(alloc, fields, field.place, number)?;
     *partial = Partial::new();
     Ok(())
 }
@@ -118,98 +125,78 @@ pub(crate) fn begin_fields<A: Allocator>(
     }
 }
 
-/// A byte of a field. Whether the message is whole.
+/// A byte of a field. Whether the message is whole. The caller counts the room.
 #[tactic(auto, unfolding(crate::specs::Machine::field_move))]
 pub(crate) fn at_field_items<A: Allocator + Copy>(
     alloc: A,
     defined: &Defined<A>,
     phase: &mut Phase,
-    room: &mut u32,
     partial: &mut Partial,
     values: &mut Values<A>,
-    place: u8,
-    width: u8,
-    left: u8,
+    field: FieldInProgress,
     byte: u8,
 ) -> Result<bool, Stop>
-    requires room { 0 < room.old }
     requires sound { IsSound defined.now }
-    requires reading { IsInField (length defined.now.definition.fields) place width left
-        partial.old }
+    requires reading { IsInField (length defined.now.definition.fields) field.place field.width
+        field.left partial.old }
     requires fields { length values.old.fields ≡ length defined.now.definition.fields }
-    ensures made { (e : Environment A) → defined_at e values.old.local ≡ Some defined.now
-        → Made phase.new room.new (Some (Data values.new)) partial.new result
-        (field_move e place width left room.old values.old partial.old byte) }
-    ensures err { OnErr result ((phase.new ≡ phase.old) × (room.new ≡ room.old)
-        × (partial.new ≡ partial.old) × (values.new ≡ values.old)) }
-    ensures free { length partial.old + 1 < width → WantsNone result }
+    ensures made { (e : Environment A) (room : ℕ) → defined_at e values.old.local ≡ Some defined.now
+        → Made phase.new (room - 1) (Some (Data values.new)) partial.new result
+        (field_move e field.place field.width field.left room values.old partial.old byte) }
+    ensures err { OnErr result ((phase.new ≡ phase.old) × (partial.new ≡ partial.old)
+        × (values.new ≡ values.old)) }
+    ensures free { length partial.old + 1 < field.width → WantsNone result }
 {
     let order = defined.definition.order;
-    if take_byte(
-        alloc,
-        order,
-        width,
-        place,
-        &mut values.fields,
-        partial,
-        byte,
-    )
-    .is_err()
-    {
+    if take_byte(alloc, order, field, &mut values.fields, partial, byte).is_err() {
         return Err(Stop::NoMemory);
     }
-    *room -= 1;
-    if left > 1 {
+    if field.left > 1 {
         *phase = Phase::FieldItems {
-            place,
-            width,
-            left: left - 1,
+            place: field.place,
+            width: field.width,
+            left: field.left - 1,
         };
         return Ok(false);
     }
     *partial = Partial::new();
-    Ok(begin_fields(defined, place as usize + 1, phase))
+    Ok(begin_fields(defined, field.place as usize + 1, phase))
 }
 
-/// A byte of a developer field. Whether the message is whole.
+/// The same of a developer field.
 #[tactic(auto, unfolding(crate::specs::Machine::dev_move))]
 pub(crate) fn at_dev_items<A: Allocator + Copy>(
     alloc: A,
     defined: &Defined<A>,
     phase: &mut Phase,
-    room: &mut u32,
     partial: &mut Partial,
     values: &mut Values<A>,
-    place: u8,
-    width: u8,
-    left: u8,
+    field: FieldInProgress,
     byte: u8,
 ) -> Result<bool, Stop>
-    requires room { 0 < room.old }
     requires sound { IsSound defined.now }
-    requires reading { IsInField (length (dev_defs defined.now.definition.dev)) place width left
-        partial.old }
+    requires reading { IsInField (length (dev_defs defined.now.definition.dev)) field.place
+        field.width field.left partial.old }
     requires dev { length values.old.dev ≡ length (dev_defs defined.now.definition.dev) }
-    ensures made { (e : Environment A) → defined_at e values.old.local ≡ Some defined.now
-        → Made phase.new room.new (Some (Data values.new)) partial.new result
-        (dev_move e place width left room.old values.old partial.old byte) }
-    ensures err { OnErr result ((phase.new ≡ phase.old) × (room.new ≡ room.old)
-        × (partial.new ≡ partial.old) × (values.new ≡ values.old)) }
-    ensures free { length partial.old + 1 < width → WantsNone result }
+    ensures made { (e : Environment A) (room : ℕ) → defined_at e values.old.local ≡ Some defined.now
+        → Made phase.new (room - 1) (Some (Data values.new)) partial.new result
+        (dev_move e field.place field.width field.left room values.old partial.old byte) }
+    ensures err { OnErr result ((phase.new ≡ phase.old) × (partial.new ≡ partial.old)
+        × (values.new ≡ values.old)) }
+    ensures free { length partial.old + 1 < field.width → WantsNone result }
 {
     let order = defined.definition.order;
-    if take_byte(alloc, order, width, place, &mut values.dev, partial, byte).is_err() {
+    if take_byte(alloc, order, field, &mut values.dev, partial, byte).is_err() {
         return Err(Stop::NoMemory);
     }
-    *room -= 1;
-    if left > 1 {
+    if field.left > 1 {
         *phase = Phase::DevItems {
-            place,
-            width,
-            left: left - 1,
+            place: field.place,
+            width: field.width,
+            left: field.left - 1,
         };
         return Ok(false);
     }
     *partial = Partial::new();
-    Ok(begin_dev(defined, place as usize + 1, phase))
+    Ok(begin_dev(defined, field.place as usize + 1, phase))
 }

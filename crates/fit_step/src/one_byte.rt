@@ -7,7 +7,7 @@ ghost use Rattle.fit_step.specs.inner.Steps.{state, Defines, DefinesAt, Made, Re
 ghost use Rattle.fit_step.specs.Tests.{tests_of};
 
 use crate::definition_byte::definition_byte;
-use crate::items::{at_dev_items, at_field_items};
+use crate::items::{FieldInProgress, at_dev_items, at_field_items};
 use crate::record_header::at_record_header;
 use crate::{Partial, Phase, Position, Stop};
 use fit_record::{Env, MessageDef, Record, Values};
@@ -131,13 +131,16 @@ fn in_message<A: Allocator + Copy>(
     let Some(defined) = env.defined(values.local) else {
         unreachable!()
     };
+    *room -= 1;
     match *phase {
-        Phase::FieldItems { place, width, left } => at_field_items(
-            alloc, defined, phase, room, partial, values, place, width, left, byte,
-        ),
-        Phase::DevItems { place, width, left } => at_dev_items(
-            alloc, defined, phase, room, partial, values, place, width, left, byte,
-        ),
+        Phase::FieldItems { place, width, left } => {
+            let field = FieldInProgress { place, width, left };
+            at_field_items(alloc, defined, phase, partial, values, field, byte)
+        }
+        Phase::DevItems { place, width, left } => {
+            let field = FieldInProgress { place, width, left };
+            at_dev_items(alloc, defined, phase, partial, values, field, byte)
+        }
         _ => unreachable!(),
     }
 }

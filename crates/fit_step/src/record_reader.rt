@@ -13,8 +13,9 @@ ghost use Rattle.fit_step.specs.inner.Scans.{StandsWithRoom, TakesByte};
 
 use crate::inside::take_inside;
 use crate::one_byte::step;
+use crate::read_definition::{read_fields, with_fields};
 use crate::undone::undo;
-use crate::whole::{plain_definition, plain_message, whole_message};
+use crate::whole::{learn_copy, plain_definition, plain_message, whole_message};
 use crate::{Position, Stop};
 use fit_record::{Env, Record, Values};
 use std::alloc::{AllocError, Allocator};
@@ -136,7 +137,7 @@ fn take_whole<A: Allocator + Copy>(
         Ok(()) => {}
         Err(_) => return None,
     }
-    *position = Position::new(position.room - used as u32);
+    position.room -= used as u32;
     Some((record, used))
 }
 
@@ -167,13 +168,11 @@ pub fn read_message<A: Allocator + Copy>(
     ensures whole { in_progress.now ≡ None → (size : ℕ) → HasMessage env.now piece.now size
         → size + 6 ≤ position.old.room → IfOk result (λ o. IsSomeAnd o (λ found. found.1 ≡ size)) }
 {
-    match in_progress {
-        Some(_) => return Ok(None),
-        None => {}
-    }
-    let Some((values, used)) = plain_message(alloc, env, position.room, piece)? else {
+    let Some(message) = plain_message(env, position.room, in_progress, piece) else {
         return Ok(None);
     };
+    let values = message.values(alloc)?;
+    let used = 1 + message.body.len();
     position.room -= used as u32;
     Ok(Some((values, used)))
 }
@@ -206,13 +205,12 @@ pub fn read_whole_definition<A: Allocator + Copy>(
     ensures whole { in_progress.now ≡ None → (size : ℕ) → HasDefinition env.old piece.now size
         → size + 6 ≤ position.old.room → IfOk result (λ o. IsSomeAnd o (λ found. found.1 ≡ size)) }
 {
-    match in_progress {
-        Some(_) => return Ok(None),
-        None => {}
-    }
-    let Some((definition, used)) = plain_definition(alloc, env, position.room, piece)? else {
+    let Some((front, entries)) = plain_definition(position.room, in_progress, piece) else {
         return Ok(None);
     };
+    let definition = with_fields(front, read_fields(alloc, front.count, entries)?);
+    learn_copy(alloc, env, front, entries, &definition)?;
+    let used = 6 + entries.len();
     position.room -= used as u32;
     Ok(Some((Record::Define(definition), used)))
 }

@@ -3,12 +3,13 @@ ghost use Rattle.std.specs.Prelude.{◌≡◌, ℕ, ◌<◌, ◌≤◌, ◌+◌,
 ghost use Rattle.fit_record.specs.declared.message.Values.{Values};
 ghost use Rattle.fit_record.specs.declared.message.Record.{Record};
 ghost use Rattle.fit_record.specs.declared.message.Record.TheVariants.{Values as Data};
-ghost use Rattle.fit_step.specs.Skipping.{size_to_skip, AreSizesToSkip, HeadsMessage, HasMessage, IsSkipped, IsSkippedMessage, AreSkipped, SkipsInSection};
+ghost use Rattle.fit_step.specs.Skipping.{size_to_skip, AreSizesToSkip, HeadsMessage, HasMessage, IsSkipped, AreSkipped, SkipsInSection};
 
 use crate::Position;
 use crate::header::{has_reserved_bit, is_definition, local_type};
 use crate::read_definition::{definition_bytes, read_fields, with_fields};
 use crate::repeated::is_known;
+use crate::whole::plain_message;
 use fit_record::{Env, FIELD_DESCRIPTION, Record};
 use std::alloc::Allocator;
 
@@ -43,8 +44,7 @@ fn sizes_to_skip<A: Allocator>(env: &Env<A>) -> [u32; 16]
 /// The local message type of the data message that the first byte heads, if it heads one.
 #[inline]
 fn message_type(bytes: &[u8]) -> Option<u8>
-    ensures heads { IfSome result (HeadsMessage bytes.now) }
-    ensures none { result ≡ None → (local : ℕ) → HeadsMessage bytes.now local → ⊥ }
+    ensures { IfSome result (HeadsMessage bytes.now) }
 {
     let byte = *bytes.first()?;
     if has_reserved_bit(byte) || is_definition(byte) {
@@ -142,22 +142,6 @@ fn skip_records<A: Allocator + Copy>(alloc: A, env: &mut Env<A>, bytes: &[u8]) -
     (used, bytes.len() as u64)
 }
 
-/// How many bytes the data message has that begins these bytes, where it may be skipped and all of it stands there, or else 0.
-fn next_message<A: Allocator>(env: &Env<A>, bytes: &[u8]) -> usize
-    ensures within { result ≤ length bytes.now }
-    ensures message { 0 < result → IsSkippedMessage env.now (take result bytes.now) }
-    ensures whole { (size : ℕ) → HasMessage env.now bytes.now size → result ≡ size }
-{
-    let Some(local) = message_type(bytes) else {
-        return 0;
-    };
-    let size = size_to_skip(env, local) as usize;
-    if size > bytes.len() {
-        return 0;
-    }
-    size
-}
-
 /// Skips complete records at the front of the piece, where a record begins and at least six bytes of the data section are to come
 /// after them: how many bytes they have, and how many they are. What they define is learned.
 ///
@@ -184,7 +168,7 @@ pub fn skip_in_section<A: Allocator + Copy>(
     let most = piece.len().min((position.room - 6) as usize);
     let (front, _) = piece.split_at(most);
     let (used, count) = skip_records(alloc, env, front);
-    *position = Position::new(position.room - used as u32);
+    position.room -= used as u32;
     (used, count)
 }
 
@@ -206,14 +190,10 @@ pub fn skip_message_in_section<A: Allocator + Copy>(
     ensures whole { in_progress.now ≡ None → (size : ℕ) → HasMessage env.now piece.now size
         → size + 6 ≤ position.old.room → result ≡ size }
 {
-    match in_progress {
-        Some(_) => return 0,
-        None => {}
-    }
-    let size = next_message(env, piece);
-    if size == 0 || size > position.room.saturating_sub(6) as usize {
+    let Some(message) = plain_message(env, position.room, in_progress, piece) else {
         return 0;
-    }
-    *position = Position::new(position.room - size as u32);
-    size
+    };
+    let used = 1 + message.body.len();
+    position.room -= used as u32;
+    used
 }

@@ -1,17 +1,19 @@
 //! Records of which all bytes are in one piece.
-ghost use Rattle.std.specs.Prelude.{◌≡◌, ℕ, ◌+◌, ◌-◌, ◌*◌, ◌<◌, ◌≤◌, IfNone, IfOk, IfSome, IsSomeAnd, OnErr, OnOk, length, take};
+ghost use Rattle.std.specs.Prelude.{◌≡◌, ℕ, List, ◌+◌, ◌*◌, ◌<◌, ◌≤◌, IfSome, IsSomeAnd, None, OnErr, OnOk, length};
 ghost use Rattle.fit_record.specs.declared.message.Record.TheVariants.{Define, Values as Data};
 ghost use Rattle.fit_record.specs.Environment.{learn};
-ghost use Rattle.fit_record.specs.Records.{DefinitionFits, Fits};
-ghost use Rattle.fit_step.specs.Machine.{start, Ends};
-ghost use Rattle.fit_step.specs.Skipping.{HasDefinition, HasMessage};
-ghost use Rattle.fit_step.specs.Tests.{tests_of};
-ghost use Rattle.fit_step.specs.inner.Definitions.{AreFields, definition_of};
+ghost use Rattle.fit_record.specs.MessageBytes.{message_in};
+ghost use Rattle.fit_record.specs.Records.{DefinitionFits, message_size};
+ghost use Rattle.fit_record.specs.Sound.{IsSound};
+ghost use Rattle.fit_step.specs.Skipping.{HasMessage};
+ghost use Rattle.fit_step.specs.declared.read_definition.Front.{Front as Fronts};
+ghost use Rattle.fit_step.specs.inner.Definitions.{AreFields, Begins, definition_of};
+ghost use Rattle.fit_step.specs.inner.Whole.{StandsWhole};
 
-use crate::read_definition::{Front, definition_bytes, read_fields, with_fields};
+use crate::read_definition::{Front, definition_bytes, with_fields};
 use crate::repeated::is_known;
 use fit_base::Entries;
-use fit_record::{Env, FIELD_DESCRIPTION, MessageDef, Record, Values};
+use fit_record::{Env, FIELD_DESCRIPTION, MessageBytes, MessageDef, Record, Values};
 use std::alloc::{AllocError, Allocator};
 
 /// The data message that begins the piece, where all its bytes stand there, and how many they are. There is none where a byte is
@@ -24,11 +26,7 @@ pub(crate) fn whole_message<A: Allocator + Copy>(
     piece: &[u8],
 ) -> Option<(Values<A>, usize)>
     requires { 0 < room }
-    ensures within { IfSome result (λ found. (0 < found.1) × (found.1 ≤ length piece.now)
-        × (found.1 ≤ room)) }
-    ensures fits { IfSome result (λ found. Fits env.now (Data found.0)) }
-    ensures ends { IfSome result (λ found. Ends env.now (tests_of env.now) (start room)
-        (take found.1 piece.now) (start (room - found.1)) (Data found.0)) }
+    ensures { IfSome result (λ found. StandsWhole env.now room piece.now (Data found.0) found.1) }
 {
     let message = env.message_bytes(piece)?;
     if !env.can_carry(message.local, room - 1) {
@@ -40,45 +38,77 @@ pub(crate) fn whole_message<A: Allocator + Copy>(
     Some((values, 1 + message.body.len()))
 }
 
-/// The data message that begins the piece, and how many its bytes are, where all of them stand there, it is no field description, and
-/// six bytes or more of the data section are to come after it: nothing is learned of it, and records can fill them, whatever is
+/// The data message that begins the piece, where no byte of a record has come, all its bytes stand there, it is no field description,
+/// and six bytes or more of the data section are to come after it: nothing is learned of it, and records can fill them, whatever is
 /// defined.
 #[inline(always)]
-pub(crate) fn plain_message<A: Allocator + Copy>(
-    alloc: A,
-    env: &Env<A>,
+pub(crate) fn plain_message<'a, A: Allocator>(
+    env: &'a Env<A>,
     room: u32,
-    piece: &[u8],
-) -> Result<Option<(Values<A>, usize)>, AllocError>
-    requires { length env.now.places ≡ 16 }
-    ensures within { IfOk result (λ o. IfSome o (λ found. (0 < found.1)
-        × (found.1 ≤ length piece.now) × (found.1 + 6 ≤ room))) }
-    ensures learned { IfOk result (λ o. IfSome o (λ found.
-        learn env.now (Data found.0) ≡ env.now)) }
-    ensures message { IfOk result (λ o. IfSome o (λ found.
-        HasMessage env.now piece.now found.1)) }
-    ensures ends { IfOk result (λ o. IfSome o (λ found. Ends env.now (tests_of env.now) (start room)
-        (take found.1 piece.now) (start (room - found.1)) (Data found.0))) }
-    ensures whole { (size : ℕ) → HasMessage env.now piece.now size → size + 6 ≤ room
-        → IfOk result (λ o. IsSomeAnd o (λ found. found.1 ≡ size)) }
+    in_progress: &Option<Record<A>>,
+    piece: &'a [u8],
+) -> Option<MessageBytes<'a, A>>
+    ensures idle { IfSome result (λ m. in_progress.now ≡ None) }
+    ensures sound { IfSome result (λ m. IsSound m.defined.now) }
+    ensures size { IfSome result (λ m. length m.body.now ≡ message_size m.defined.now) }
+    ensures stands { IfSome result (λ m. StandsWhole env.now room piece.now
+        (Data (message_in m)) (1 + length m.body.now)) }
+    ensures left { IfSome result (λ m. 1 + length m.body.now + 6 ≤ room) }
+    ensures message { IfSome result (λ m.
+        HasMessage env.now piece.now (1 + length m.body.now)) }
+    ensures learned { IfSome result (λ m. learn env.now (Data (message_in m)) ≡ env.now) }
+    ensures whole { in_progress.now ≡ None → (size : ℕ) → HasMessage env.now piece.now size
+        → size + 6 ≤ room → IsSomeAnd result (λ m. 1 + length m.body.now ≡ size) }
 {
+    match in_progress {
+        Some(_) => return None,
+        None => {}
+    }
     let Some(message) = env.message_bytes(piece) else {
-        return Ok(None);
+        return None;
     };
-    let used = 1 + message.body.len();
     if message.defined.definition.global == FIELD_DESCRIPTION {
-        return Ok(None);
+        return None;
     }
+    let used = 1 + message.body.len();
     if used + 6 > room as usize {
-        return Ok(None);
+        return None;
     }
-    let values = message.values(alloc)?;
-    Ok(Some((values, used)))
+    Some(message)
+}
+
+/// The definition message without developer fields that begins the piece, where no byte of a record has come, all its bytes stand there,
+/// and six bytes or more of the data section are to come after it: what it says before its fields, and their bytes.
+#[inline(always)]
+pub(crate) fn plain_definition<'a, A: Allocator>(
+    room: u32,
+    in_progress: &Option<Record<A>>,
+    piece: &'a [u8],
+) -> Option<(Front, &'a [u8])>
+    ensures idle { IfSome result (λ found. in_progress.now ≡ None) }
+    ensures begins { IfSome result (λ found. Begins found.0 found.1.now piece.now) }
+    ensures left { IfSome result (λ found. 6 + length found.1.now + 6 ≤ room) }
+    ensures whole { in_progress.now ≡ None → (f : Fronts) (entries : List ℕ)
+        → Begins f entries piece.now → 6 + length entries + 6 ≤ room
+        → IsSomeAnd result (λ found. length found.1.now ≡ length entries) }
+{
+    match in_progress {
+        Some(_) => return None,
+        None => {}
+    }
+    let Some((front, entries)) = definition_bytes(piece) else {
+        return None;
+    };
+    let size = 6 + entries.len();
+    if size + 6 > room as usize {
+        return None;
+    }
+    Some((front, entries))
 }
 
 /// Learns a definition that these bytes spell, with memory of its own where it isn't known already.
 #[inline(always)]
-fn learn_copy<A: Allocator + Copy>(
+pub(crate) fn learn_copy<A: Allocator + Copy>(
     alloc: A,
     env: &mut Env<A>,
     front: Front,
@@ -97,39 +127,4 @@ fn learn_copy<A: Allocator + Copy>(
     }
     let fields = Entries::from_slice(alloc, definition.fields.as_slice())?;
     env.define(with_fields(front, fields))
-}
-
-/// The definition message without developer fields that begins the piece, and how many its bytes are, where all of them stand there and
-/// six bytes or more of the data section are to come after it. It is learned.
-#[inline(always)]
-pub(crate) fn plain_definition<A: Allocator + Copy>(
-    alloc: A,
-    env: &mut Env<A>,
-    room: u32,
-    piece: &[u8],
-) -> Result<Option<(MessageDef<A>, usize)>, AllocError>
-    requires { length env.old.places ≡ 16 }
-    ensures within { IfOk result (λ o. IfSome o (λ found. (0 < found.1)
-        × (found.1 ≤ length piece.now) × (found.1 + 6 ≤ room))) }
-    ensures learned { IfOk result (λ o. IfSome o (λ found.
-        env.new ≡ learn env.old (Define found.0))) }
-    ensures ends { IfOk result (λ o. IfSome o (λ found. Ends env.old (tests_of env.old) (start room)
-        (take found.1 piece.now) (start (room - found.1)) (Define found.0))) }
-    ensures definition { IfOk result (λ o. IfSome o (λ found.
-        HasDefinition env.old piece.now found.1)) }
-    ensures none { IfOk result (λ o. IfNone o (env.new ≡ env.old)) }
-    ensures err { OnErr result (env.new ≡ env.old) }
-    ensures whole { (size : ℕ) → HasDefinition env.old piece.now size → size + 6 ≤ room
-        → IfOk result (λ o. IsSomeAnd o (λ found. found.1 ≡ size)) }
-{
-    let Some((front, entries)) = definition_bytes(piece) else {
-        return Ok(None);
-    };
-    let size = 6 + entries.len();
-    if size + 6 > room as usize {
-        return Ok(None);
-    }
-    let definition = with_fields(front, read_fields(alloc, front.count, entries)?);
-    learn_copy(alloc, env, front, entries, &definition)?;
-    Ok(Some((definition, size)))
 }

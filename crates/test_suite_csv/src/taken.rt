@@ -9,7 +9,7 @@ use crate::asserts::equal;
 use crate::streams::{push_definition, push_descriptions, push_dev_definition, push_distance};
 use fit_base::Order;
 use fit_base::base_type::{BYTE, UINT32};
-use fit_profile::{Fixed, Stream};
+use fit_profile::{Fixed, Stream, Taken};
 use fit_record::{Env, FieldDef};
 use std::process::Abort;
 use test_known::protocol::{COMPRESSED_SPEED_DISTANCE, RECORD, TIMESTAMP};
@@ -64,18 +64,17 @@ fn messages_that_count(rt: HostRuntime) {
     push_distance(&rt, alloc, &mut stream, &[0x64, 0, 0], Some(2_560_000));
 }
 
-/// Takes in the data message that the bytes are, given what is told of it.
-fn take_told(rt: &impl Abort, stream: &mut Stream, bytes: &[u8]) {
+/// Takes in the data message that the bytes are, and returns what the stream says of it.
+fn take_told(rt: &impl Abort, stream: &mut Stream, bytes: &[u8]) -> Option<Taken> {
     if is_message(stream.env(), bytes) {
-        let told = stream.message_told(bytes);
-        stream.take_told(bytes, told).expect(rt, "memory");
-        return;
+        return Some(stream.take_and_tell(bytes).expect(rt, "memory"));
     }
     assert!(rt; false);
+    None
 }
 
 /// Asserts the speed, in hundredths, and the accumulated distance, in units of four decimals, of the data message that the bytes are, and
-/// takes it in, given what is told of it.
+/// takes it in. Those of local message type 0 may count, the others have lone fields.
 fn take_amounts(
     rt: &impl Abort,
     stream: &mut Stream,
@@ -96,7 +95,17 @@ fn take_amounts(
             &distance.map(|value| Fixed { value, decimals: 4 }),
         );
     }
-    take_told(rt, stream, bytes);
+    if let Some(taken) = take_told(rt, stream, bytes) {
+        let told = taken.told;
+        equal(rt, &told.speed.map(|value| i128::from(value)), &speed);
+        equal(
+            rt,
+            &told.distance.map(|value| 625 * i128::from(value)),
+            &distance,
+        );
+        equal(rt, &taken.may_count, &(taken.local == 0));
+        equal(rt, &taken.has_lone_fields, &(taken.local == 1));
+    }
 }
 
 /// The lowest twelve bits are hundredths of a metre in a second, the others sixteenths of a metre.

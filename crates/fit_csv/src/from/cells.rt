@@ -4,6 +4,7 @@ ghost use Rattle.csv.specs.Records.{field_at, fields_of};
 ghost use Rattle.fit_csv.specs.inner.Seven.{row_of, DifferAt};
 
 use csv::ByteRecord;
+use std::alloc::Global;
 
 /// The seven cells of a row, named as in the first line of a text.
 #[derive(Clone, Copy)]
@@ -15,6 +16,24 @@ pub(crate) struct Cells<'a> {
     pub d: &'a [u8],
     pub e: &'a [u8],
     pub f: &'a [u8],
+}
+
+/// What the values of fields are read back from their cells with.
+#[derive(Drop)]
+pub(crate) struct ValueReader {
+    pub alloc: Global,
+    /// The memory of a cell that a row may have.
+    pub written: Vec<u8>,
+}
+
+impl ValueReader {
+    /// No cell has been read.
+    pub(crate) fn new(alloc: Global) -> ValueReader {
+        ValueReader {
+            alloc,
+            written: Vec::new(alloc),
+        }
+    }
 }
 
 /// The cell at a place of a row.

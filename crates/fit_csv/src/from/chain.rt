@@ -7,7 +7,7 @@ ghost use Rattle.fit_csv.specs.inner.Progress.{ChainStep, nothing_yet};
 ghost use Rattle.fit_csv.specs.inner.Seven.{row_of};
 ghost use Rattle.fit_csv.specs.inner.SoundChain.{IsSoundChain};
 
-use crate::from::cells::{Cells, same};
+use crate::from::cells::{Cells, ValueReader, same};
 use crate::from::header::{file_end, file_header};
 use crate::from::misfit::Misfit;
 use crate::from::open_file::{OpenFile, Part};
@@ -87,12 +87,7 @@ impl Chain {
     }
 
     /// Takes the next row.
-    pub(crate) fn take_row(
-        &mut self,
-        alloc: Global,
-        written: &mut Vec<u8>,
-        cells: &Cells,
-    ) -> Result<(), Misfit>
+    pub(crate) fn take_row(&mut self, reader: &mut ValueReader, cells: &Cells) -> Result<(), Misfit>
         requires { IsSoundChain self.old }
         ensures ok { OnOk result (ChainStep self.old (row_of cells.now) self.new) }
         ensures err { IfErr result (IsMisfit (λ r. (t : Chain) × ChainStep self.old r t)
@@ -102,8 +97,8 @@ impl Chain {
             return self.end_file(cells);
         }
         match &mut self.current {
-            Some(file) => file.take_row(alloc, written, cells),
-            None => self.begin_file(alloc, cells),
+            Some(file) => file.take_row(reader, cells),
+            None => self.begin_file(reader.alloc, cells),
         }
     }
 }

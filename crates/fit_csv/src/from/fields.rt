@@ -10,19 +10,17 @@ ghost use Rattle.fit_csv.specs.RowKinds.{IsDevRow, IsFieldRow, naming_at};
 ghost use Rattle.fit_csv.specs.inner.Misfits.{IsCellFault, IsMisfit, IsValueRow};
 ghost use Rattle.fit_csv.specs.inner.Seven.{row_of};
 
-use crate::from::cells::{Cells, first_difference, same};
+use crate::from::cells::{Cells, ValueReader, first_difference, same};
 use crate::from::misfit::Misfit;
 use fit_base::{Code, Items};
 use fit_profile::{Info, Label, Stream, field_info, field_label};
 use fit_record::{DevDef, FieldDef};
 use fit_texts::cells::items_in;
 use fit_texts::words::{numbered_label, unit_text};
-use std::alloc::Global;
 
 /// The row of a field with this label, code and size, and with this unit.
 fn value_row(
-    alloc: Global,
-    written: &mut Vec<u8>,
+    reader: &mut ValueReader,
     cells: &Cells,
     label: &[u8],
     code: Code,
@@ -40,7 +38,7 @@ fn value_row(
     if !same(cells.a, label) {
         return Err(Misfit::Cell(2));
     }
-    let Some(items) = items_in(alloc, written, cells.b, code, size, info)? else {
+    let Some(items) = items_in(reader.alloc, &mut reader.written, cells.b, code, size, info)? else {
         return Err(Misfit::Cell(3));
     };
     let shown = Cells {
@@ -60,8 +58,7 @@ fn value_row(
 
 /// The row of a field of a message.
 pub(crate) fn field_items(
-    alloc: Global,
-    written: &mut Vec<u8>,
+    reader: &mut ValueReader,
     cells: &Cells,
     global: u16,
     field: FieldDef,
@@ -79,8 +76,7 @@ pub(crate) fn field_items(
         Some(known) => {
             let label = known.name.as_bytes();
             value_row(
-                alloc,
-                written,
+                reader,
                 cells,
                 label,
                 Code(field.code),
@@ -93,8 +89,7 @@ pub(crate) fn field_items(
             let label = field_label(global, field.number);
             let label = label.as_str().as_bytes();
             value_row(
-                alloc,
-                written,
+                reader,
                 cells,
                 label,
                 Code(field.code),
@@ -130,8 +125,7 @@ fn dev_unit(stream: &Stream, local: u8, place: u8) -> &str
 
 /// The row of a developer field of this code in a message of a local message type.
 pub(crate) fn dev_items(
-    alloc: Global,
-    written: &mut Vec<u8>,
+    reader: &mut ValueReader,
     cells: &Cells,
     before: &Stream,
     local: u8,
@@ -151,14 +145,5 @@ pub(crate) fn dev_items(
     let numbered = numbered_label(&field);
     let label = dev_name(before, local, place, &numbered).as_bytes();
     let unit = dev_unit(before, local, place).as_bytes();
-    value_row(
-        alloc,
-        written,
-        cells,
-        label,
-        Code(code),
-        field.size,
-        None,
-        unit,
-    )
+    value_row(reader, cells, label, Code(code), field.size, None, unit)
 }

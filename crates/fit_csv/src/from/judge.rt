@@ -12,12 +12,12 @@ ghost use Rattle.fit_csv.specs.inner.Seven.{row_of};
 ghost use Rattle.fit_csv.specs.inner.SoundChain.{IsSoundChain};
 
 use crate::CsvFault;
-use crate::from::cells::{Cells, cells_of, same};
+use crate::from::cells::{Cells, ValueReader, cells_of, same};
 use crate::from::chain::Chain;
 use crate::from::guess::take_record;
 use crate::from::misfit::Misfit;
 use csv::ByteRecord;
-use fit_csv_text::{RowReader, Window, is_loose, without_mark};
+use fit_csv_text::{RowReader, Window, without_mark};
 use fit_encode::SpelledFiles;
 use fit_numbers::laws::text_has_one_number;
 use fit_rows::MessageReader;
@@ -48,8 +48,7 @@ fn is_first_line(row: &ByteRecord) -> bool
 
 /// Judges the row of this number.
 fn judge_row(
-    alloc: Global,
-    written: &mut Vec<u8>,
+    values: &mut ValueReader,
     chain: &mut Chain,
     row: &ByteRecord,
     number: u64,
@@ -62,7 +61,7 @@ fn judge_row(
     let Some(cells) = cells_of(row) else {
         return Err(CsvFault::BadRow { row: number });
     };
-    match chain.take_row(alloc, written, &cells) {
+    match chain.take_row(values, &cells) {
         Ok(()) => Ok(()),
         Err(Misfit::Kind) => Err(CsvFault::BadRow { row: number }),
         Err(Misfit::Cell(column)) => Err(CsvFault::BadCell {
@@ -93,14 +92,12 @@ fn whole_files(chain: Chain, rows: u64) -> Result<SpelledFiles, CsvFault>
 /// The rows of a text that were judged, and what judges the next ones.
 #[derive(Drop)]
 pub(crate) struct RowJudge {
-    alloc: Global,
     pub chain: Chain,
     /// How many rows have come, the first line too.
     pub rows: u64,
     guesser: MessageReader,
     reader: RowReader,
-    /// The memory of a cell that a row may have.
-    written: Vec<u8>,
+    values: ValueReader,
 }
 
 impl RowJudge {
@@ -110,12 +107,11 @@ impl RowJudge {
         ensures rows { result.rows ≡ 1 }
     {
         RowJudge {
-            alloc,
             chain: Chain::new(alloc),
             rows: 1,
             guesser: MessageReader::new(alloc),
             reader: RowReader::new(alloc),
-            written: Vec::new(alloc),
+            values: ValueReader::new(alloc),
         }
     }
 
@@ -152,13 +148,7 @@ impl RowJudge {
             (fields_of self.old.reader.row) (self.old.rows + 1)) }
     {
         let number = self.rows + 1;
-        judge_row(
-            self.alloc,
-            &mut self.written,
-            &mut self.chain,
-            &self.reader.row,
-            number,
-        )?;
+        judge_row(&mut self.values, &mut self.chain, &self.reader.row, number)?;
         self.rows = number;
         Ok(())
     }
@@ -274,10 +264,10 @@ impl RowJudge {
         ensures more { IfOk result (λ found. IfSome found (λ rest. self.old.rows < self.new.rows)) }
         ensures err { IfErr result (IsTextFault whole.now) }
     {
-        if !is_loose(left) {
-            return self.take_first(whole, left);
-        }
-        match window.fill(left) {
+        let Ok(found) = window.fill(left) else {
+            return Err(CsvFault::NoMemory);
+        };
+        match found {
             Some(after) => self.take_window(whole, window.bytes.as_slice(), after),
             None => self.take_first(whole, left),
         }
@@ -311,7 +301,7 @@ impl RowJudge {
         ensures err { IfErr result (IsTextFault whole.now) }
     {
         text_has_one_number();
-        let mut window = Window::new(self.alloc);
+        let mut window = Window::new(self.values.alloc);
         let mut left = left;
         for _ in 0..whole.len() + 1 {
             let Some(rest) = self.take_some(&mut window, whole, left)? else {

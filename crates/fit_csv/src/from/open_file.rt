@@ -11,7 +11,7 @@ ghost use Rattle.fit_csv.specs.inner.Progress.{CanStandNext, FileStep, FitsOnceW
 ghost use Rattle.fit_csv.specs.inner.Seven.{row_of};
 ghost use Rattle.fit_csv.specs.inner.SoundChain.{IsSoundFile};
 
-use crate::from::cells::{Cells, same};
+use crate::from::cells::{Cells, ValueReader, same};
 use crate::from::definition::{OpenDefinition, definition_head};
 use crate::from::message::message_head;
 use crate::from::misfit::Misfit;
@@ -88,8 +88,7 @@ fn begin_record(alloc: Global, before: &Stream, cells: &Cells) -> Result<Part, M
 
 /// Takes the next row of a record. It isn't one in which a file ends.
 fn next_part(
-    alloc: Global,
-    written: &mut Vec<u8>,
+    reader: &mut ValueReader,
     before: &Stream,
     part: Part,
     cells: &Cells,
@@ -100,13 +99,13 @@ fn next_part(
     ensures err { IfErr result (IsMisfit (CanStandNext before.now part) (row_of cells.now)) }
 {
     match part {
-        Part::Nothing => begin_record(alloc, before, cells),
+        Part::Nothing => begin_record(reader.alloc, before, cells),
         Part::Definition(mut definition) => {
             take_definition(&mut definition, cells)?;
             Ok(Part::Definition(definition))
         }
         Part::Message(mut values) => {
-            take_message(alloc, written, cells, before, &mut values)?;
+            take_message(reader, cells, before, &mut values)?;
             Ok(Part::Message(values))
         }
     }
@@ -179,12 +178,7 @@ impl OpenFile {
 
     /// Takes the next row. It isn't one in which the file ends.
     #[inline(never)]
-    pub(crate) fn take_row(
-        &mut self,
-        alloc: Global,
-        written: &mut Vec<u8>,
-        cells: &Cells,
-    ) -> Result<(), Misfit>
+    pub(crate) fn take_row(&mut self, reader: &mut ValueReader, cells: &Cells) -> Result<(), Misfit>
         requires sound { IsSoundFile self.old }
         requires kind { self.old.part ≡ Part.Nothing → cells.now.kind.now ≡ codes "end" → ⊥ }
         ensures ok { OnOk result (FileStep self.old (row_of cells.now) self.new) }
@@ -192,7 +186,7 @@ impl OpenFile {
             (row_of cells.now)) }
     {
         let part = mem::replace(&mut self.part, Part::Nothing);
-        let part = next_part(alloc, written, &self.before, part, cells)?;
+        let part = next_part(reader, &self.before, part, cells)?;
         self.settle(part)
     }
 }

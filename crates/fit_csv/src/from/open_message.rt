@@ -7,14 +7,13 @@ ghost use Rattle.fit_csv.specs.inner.Misfits.{IsMisfit};
 ghost use Rattle.fit_csv.specs.inner.Progress.{DevStep, FieldStep, HasRoom, MessageStep, is_whole_message};
 ghost use Rattle.fit_csv.specs.inner.Seven.{row_of};
 
-use crate::from::cells::Cells;
+use crate::from::cells::{Cells, ValueReader};
 use crate::from::fields::{dev_items, field_items};
 use crate::from::misfit::Misfit;
 use fit_base::{Entries, Items};
 use fit_profile::Stream;
 use fit_record::{Defined, FieldDef, Values};
 use fit_texts::words::dev_slice;
-use std::alloc::Global;
 
 /// Takes the items of one more field.
 fn add(list: &mut Entries<Items>, items: Items) -> Result<(), Misfit>
@@ -29,8 +28,7 @@ fn add(list: &mut Entries<Items>, items: Items) -> Result<(), Misfit>
 
 /// Takes the row of a field.
 fn take_field(
-    alloc: Global,
-    written: &mut Vec<u8>,
+    reader: &mut ValueReader,
     cells: &Cells,
     defined: &Defined,
     values: &mut Values,
@@ -41,14 +39,13 @@ fn take_field(
     ensures err { IfErr result (IsMisfit (λ r.
         (w : Values Global) × FieldStep defined.now values.old r w) (row_of cells.now)) }
 {
-    let items = field_items(alloc, written, cells, defined.definition.global, field)?;
+    let items = field_items(reader, cells, defined.definition.global, field)?;
     add(&mut values.fields, items)
 }
 
 /// Takes the row of a developer field.
 fn take_dev_field(
-    alloc: Global,
-    written: &mut Vec<u8>,
+    reader: &mut ValueReader,
     cells: &Cells,
     before: &Stream,
     defined: &Defined,
@@ -69,8 +66,7 @@ fn take_dev_field(
         return Err(Misfit::Kind);
     };
     let items = dev_items(
-        alloc,
-        written,
+        reader,
         cells,
         before,
         values.local,
@@ -83,8 +79,7 @@ fn take_dev_field(
 
 /// Takes the next row of a data message of this definition.
 fn take_by(
-    alloc: Global,
-    written: &mut Vec<u8>,
+    reader: &mut ValueReader,
     cells: &Cells,
     before: &Stream,
     defined: &Defined,
@@ -104,15 +99,14 @@ fn take_by(
         .as_slice()
         .get(values.fields.len())
     {
-        Some(field) => take_field(alloc, written, cells, defined, values, *field),
-        None => take_dev_field(alloc, written, cells, before, defined, values),
+        Some(field) => take_field(reader, cells, defined, values, *field),
+        None => take_dev_field(reader, cells, before, defined, values),
     }
 }
 
 /// Takes the next row of a data message after the records of a stream.
 pub(crate) fn take_message(
-    alloc: Global,
-    written: &mut Vec<u8>,
+    reader: &mut ValueReader,
     cells: &Cells,
     before: &Stream,
     values: &mut Values,
@@ -123,7 +117,7 @@ pub(crate) fn take_message(
         (w : Values Global) × MessageStep before.now values.old r w) (row_of cells.now)) }
 {
     match before.env().defined(values.local) {
-        Some(defined) => take_by(alloc, written, cells, before, defined, values),
+        Some(defined) => take_by(reader, cells, before, defined, values),
         None => Err(Misfit::Kind),
     }
 }

@@ -1,4 +1,5 @@
-//! The numbers of a record, which are in their ranges by their types. Nothing of this is left in the program.
+//! The numbers of a record, which are in their ranges by their types. Contracts see them as numbers of any size, and the range of one in a
+//! list is known only where a body reads it: so each is read here. Nothing of this is left in the program.
 ghost use Rattle.fit_csv.specs.Judged.{DevDefInRange, FieldDefInRange, RecordInRange};
 ghost use Rattle.std.specs.Prelude.{All};
 

@@ -1,5 +1,6 @@
 -- When a text that was spelled anew has the rows of the text that it was made from. No public contract names these.
-use Rattle.std.specs.Prelude.{◌≡◌, ◌≤◌, ◌+◌, drop, length, take, ◌++◌, ◌∷◌, ◌==◌, ◌||◌, ◌⊎◌, [], ℕ, List, Bool, true, false, not, Some, None, if◌then◌else◌}
+use Rattle.std.specs.Prelude.{◌≡◌, ◌<◌, ◌≤◌, ◌+◌, ◌++◌, ◌∷◌, ◌==◌, ◌||◌, ◌⊎◌, [], if◌then◌else◌}
+use Rattle.std.specs.Prelude.{drop, length, take, ℕ, List, Bool, true, false, not, Some, None}
 use Rattle.csv.specs.Machine.{Read, next_record}
 use Rattle.csv.specs.Reading.{AreRecords, default_config}
 use Rattle.csv.specs.declared.parser.State.{State}
@@ -55,6 +56,10 @@ pub record StandsFor (text left written : List ℕ) : Type 0 where
 abbrev pub WritesOn : List ℕ → List ℕ → List ℕ → List ℕ → Type 0
 WritesOn from left written more = (text rows : List ℕ) → spot_from RowStart rows ≡ RowStart → StandsFor text from (rows ++ written)
     → StandsFor text left (rows ++ more)
+
+-- Some bytes are written after others, and there was room for them.
+abbrev pub Grows : List ℕ → List ℕ → Type 0
+Grows written more = (length written < length more) × (length more ≤ 65536)
 
 -- The text begins with the end of a row, also that of its last one, and this comes after it.
 abbrev pub EndsLine : List ℕ → List ℕ → Type 0

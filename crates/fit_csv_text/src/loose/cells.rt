@@ -1,5 +1,6 @@
 //! Short cells in quotes that need none, one after another.
 ghost use Rattle.std.specs.Prelude.{◌≡◌, ◌⊎◌, ◌+◌, ◌++◌, ◌∷◌, ◌<◌, ◌≤◌, [], ℕ, IfSome, drop, false, length, slice_index, take};
+ghost use Rattle.fit_csv_text.specs.Spellings.{HasPlainLines};
 ghost use Rattle.fit_csv_text.specs.inner.Loose.{IsShortCell, WritesOn, is_special, spot_after, spot_from};
 
 use crate::loose::runs::{LANES, before_special};
@@ -117,6 +118,7 @@ pub(crate) fn put_cells<'a>(
     ensures place { (at ≤ result.0) × (result.0 ≤ 2048) }
     ensures goes { WritesOn text.now result.1.now
         (written.now ++ take at sheet.old) (written.now ++ take result.0 sheet.new) }
+    ensures lines { HasPlainLines text.now → HasPlainLines result.1.now }
 {
     let mut spot = spot_on(written, sheet, at);
     let mut left = text;

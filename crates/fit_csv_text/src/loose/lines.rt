@@ -1,7 +1,9 @@
 //! Short lines without quotes, and what of a line comes before a quote.
-ghost use Rattle.std.specs.Prelude.{◌≡◌, ◌+◌, ◌++◌, ◌∷◌, ◌<◌, ◌≤◌, ℕ, List, IfSome, false, length, slice_index, take};
+ghost use Rattle.std.specs.Prelude.{◌≡◌, ◌+◌, ◌++◌, ◌∷◌, ◌<◌, ◌≤◌, ℕ, List, MatchOption, false, length, slice_index, take};
+ghost use Rattle.fit_csv_text.specs.Spellings.{HasPlainLines};
 ghost use Rattle.fit_csv_text.specs.inner.Loose.{WritesOn, is_mark};
 
+use crate::loose::after_byte;
 use crate::loose::runs::{LANES, before_mark};
 use crate::loose::sheet::{Sheet, put_lanes};
 
@@ -31,13 +33,12 @@ fn put_line(sheet: &mut Sheet, at: usize, text: &[u8]) -> usize
 
 /// What comes after a carriage return and a line feed.
 #[inline(always)]
-fn after_return(text: &[u8]) -> Option<&[u8]>
-    ensures { IfSome result (λ left. text.now ≡ 13 ∷ 10 ∷ left.now) }
+pub(crate) fn after_return(text: &[u8]) -> Option<&[u8]>
+    ensures { MatchOption result ((left : List ℕ) → text.now ≡ 13 ∷ 10 ∷ left → ⊥)
+        (λ left. text.now ≡ 13 ∷ 10 ∷ left.now) }
 {
-    match text {
-        [b'\r', b'\n', left @ ..] => Some(left),
-        _ => None,
-    }
+    let rest = after_byte(text, b'\r')?;
+    after_byte(rest, b'\n')
 }
 
 /// Spells anew a short line, or what of it comes before a quote or before the place where writing stops. Returns the place after what is
@@ -53,6 +54,7 @@ pub(crate) fn put_some<'a>(
     ensures place { (at ≤ result.0) × (result.0 ≤ 2048) }
     ensures goes { (old : List ℕ) → WritesOn text.now result.1.now
         (old ++ take at sheet.old) (old ++ take result.0 sheet.new) }
+    ensures lines { HasPlainLines text.now → HasPlainLines result.1.now }
 {
     if text.len() < LINE_SIZE {
         return (at, text);

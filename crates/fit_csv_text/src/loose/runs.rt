@@ -25,7 +25,7 @@ fn special(b: u8) -> bool
 
 /// Whether a byte is a quote or a carriage return.
 #[inline(always)]
-fn mark(b: u8) -> bool
+pub(crate) fn mark(b: u8) -> bool
     ensures { result ≡ is_mark b }
 {
     if b > b'"' {
@@ -73,6 +73,7 @@ pub(crate) fn before_mark(text: &[u8]) -> usize
 /// How many bytes of one step come before the first quote or carriage return.
 pub(crate) fn run_length(text: &[u8]) -> usize
     ensures within { result ≤ length text.now }
+    ensures few { result ≤ 4096 }
     ensures none { (k : ℕ) → k < result → is_mark (slice_index text.now k) ≡ false }
 {
     let end = text.len().min(STEP_SIZE);

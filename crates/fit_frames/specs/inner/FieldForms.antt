@@ -17,14 +17,14 @@ use Rattle.fit_frames.specs.declared.form.FieldForm.{FieldForm}
 use Rattle.fit_frames.specs.declared.form.FieldKind.{FieldKind}
 use Rattle.fit_frames.specs.declared.form.FieldKind.TheVariants.{Lone, Several, Float, Bytes, Text, Other}
 
--- The value of a field of this base type code, size and meaning is of a kind.
-abbrev pub IsFieldKind : ℕ → ℕ → Option Meaning → FieldKind → Type 0
-IsFieldKind code size info (Lone f) = IsSmallForm f × (f.width ≡ size) × IsFormOf code info f
-IsFieldKind code size info (Several f) = IsSmallForm f × (size % f.width ≡ 0) × IsFormOf code info f
-IsFieldKind code size info Float = ((base_type code).class ≡ FloatClass) × ((base_type code).width ≡ size)
-IsFieldKind code size info Bytes = IsOfBytes code size
-IsFieldKind code size info Text = (base_type code).class ≡ TextClass
-IsFieldKind code size info Other = Unit {0}
+-- The value of a field of this base type code and size is of a kind. Of numbers their form says it.
+abbrev pub IsFieldKind : ℕ → ℕ → FieldKind → Type 0
+IsFieldKind code size Lone = Unit {0}
+IsFieldKind code size Several = Unit {0}
+IsFieldKind code size Float = ((base_type code).class ≡ FloatClass) × ((base_type code).width ≡ size)
+IsFieldKind code size Bytes = IsOfBytes code size
+IsFieldKind code size Text = (base_type code).class ≡ TextClass
+IsFieldKind code size Other = Unit {0}
 
 -- what the profile says of a field
 abbrev pub field_meaning : FieldForm → Option Meaning
@@ -33,7 +33,11 @@ field_meaning f = option_map meaning f.info
 -- what a form promises
 pub record IsFieldForm (f : FieldForm) : Type 0 where
   pub scale : IfSome f.info (λ i. IsScale i.scale)
-  pub kind : IsFieldKind f.code.0 f.size (field_meaning f) f.kind
+  pub small : IfSome f.number IsSmallForm
+  pub whole : IfSome f.number (λ n. f.size % n.width ≡ 0)
+  pub form : IfSome f.number (IsFormOf f.code.0 (field_meaning f))
+  pub lone : f.kind ≡ Lone → IfSome f.number (λ n. n.width ≡ f.size)
+  pub kind : IsFieldKind f.code.0 f.size f.kind
 
 -- A row and a line show the value of a field by its bytes as the same text, and it comes after another.
 abbrev pub IsShownAfter : FieldForm → Order → List ℕ → List ℕ → List ℕ → Type 0

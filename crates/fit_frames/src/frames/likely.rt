@@ -141,11 +141,11 @@ impl Frame {
     ) -> Option<&'a [u8]> {
         let start = bytes.len();
         let size = self.form.size;
-        let found = match &self.form.kind {
-            FieldKind::Several(form) => likely_numbers(bytes, order, form, size, text),
-            FieldKind::Float => likely_float(bytes, order, size, text),
-            FieldKind::Bytes => likely_bytes(bytes, size, text),
-            FieldKind::Lone(_) | FieldKind::Text | FieldKind::Other => None,
+        let found = match (self.form.several(), self.form.kind) {
+            (Some(form), _) => likely_numbers(bytes, order, &form, size, text),
+            (_, FieldKind::Float) => likely_float(bytes, order, size, text),
+            (_, FieldKind::Bytes) => likely_bytes(bytes, size, text),
+            _ => None,
         };
         if found.is_some() {
             return found;
@@ -170,8 +170,8 @@ impl Frame {
         text: &'a [u8],
     ) -> Option<&'a [u8]> {
         let text = text.get(self.between.len()..)?;
-        if let FieldKind::Lone(form) = &self.form.kind {
-            let (bits, length) = likely_number(form, text)?;
+        if let Some(form) = self.form.lone() {
+            let (bits, length) = likely_number(&form, text)?;
             put_number(bytes, order, form.width, bits).ok()?;
             return text.get(length..);
         }

@@ -1,11 +1,10 @@
 -- What the reporter does with an event, by what it keeps of those before it. No public contract names these.
-use Rattle.std.specs.Prelude.{◌≡◌, ℕ, ◌+◌, ◌%◌, ◌^◌, List, [], ◌∷◌, ◌++◌, length, slice_index_or, slice_set}
+use Rattle.std.specs.Prelude.{ℕ, ◌+◌, ◌%◌, ◌^◌, List, [], ◌∷◌, length, slice_index_or, slice_set}
 use Rattle.std.specs.Global.{Global}
 use Rattle.fit_record.specs.declared.message.Record.{Record}
 use Rattle.fit_record.specs.declared.message.Record.TheVariants.{Define, Values as Data}
-use Rattle.fit_record.specs.Environment.{Environment, defined_by}
-use Rattle.fit_record.specs.Records.{Fits, IsRecord, record_bytes}
-use Rattle.fit_record.specs.declared.message.Values.{Values}
+use Rattle.fit_record.specs.Environment.{defined_by}
+use Rattle.fit_record.specs.Records.{Fits, record_bytes}
 use Rattle.fit_chain.specs.Events.{Event, header, item, file_end}
 use Rattle.fit_chain.specs.declared.event.Event.{Event as Answer}
 use Rattle.fit_chain.specs.declared.event.Event.TheVariants as answers
@@ -18,10 +17,6 @@ use Rattle.fit_messages.specs.Kept.{KeptHeard}
 abbrev pub AnswerFits : {A : Type 0} → List (Record A) → Answer A → Type 0
 AnswerFits before (answers.Item r) = Fits (known before) r
 AnswerFits before other = Unit {0}
-
--- bytes begin with those of a data message
-abbrev pub BeginWith : {A : Type 0} → Environment A → Values A → List ℕ → Type 0
-BeginWith e v bytes = (front : List ℕ) × (after : List ℕ) × (bytes ≡ front ++ after) × IsRecord e (Data v) front
 
 -- a place after that many bytes more
 abbrev pub later : ℕ → ℕ → ℕ

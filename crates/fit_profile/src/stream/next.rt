@@ -16,7 +16,7 @@ ghost use Rattle.fit_profile.specs.Values.{IsAmount};
 
 use super::Stream;
 use crate::Fixed;
-use crate::message_bytes::{speed_and_distance, time_in, told_in};
+use crate::message_bytes::{speed_and_distance, time_in};
 use crate::names::Texts;
 use crate::time::header_time;
 use crate::told::{Told, tell, time_of};
@@ -63,15 +63,6 @@ impl Stream {
     {
         let (speed, distance) = speed_and_distance(&self.env, &self.plans, self.last, bytes);
         (in_scale(speed, 100), in_scale(distance, 16))
-    }
-
-    /// What is told of the data message in these bytes: its times, and the values accumulated over the file.
-    pub fn message_told(&self, bytes: &[u8]) -> Told
-        requires { (v : Values Global) × IsRecord (known self.now) (Data v) bytes.now }
-        ensures { (v : Values Global) → IsRecord (known self.now) (Data v) bytes.now
-            → result ≡ telling.told self.now v }
-    {
-        told_in(&self.env, &self.plans, self.last, bytes)
     }
 
     /// Whether messages of the definition of this local message type may tell speed, distance, cycles and power: they are records with

@@ -1,5 +1,6 @@
-use Rattle.fit_encode.proofs.Common.{inr, length, refl, ap, ◌∙◌, err_from_is_err_and, empty_environment, records_bytes}
+use Rattle.fit_encode.proofs.Common.{sym, inr, length, refl, ap, ◌∙◌, err_from_is_err_and, empty_environment, records_bytes}
 use Rattle.std.proofs.Common.{Err}
+use Rattle.std.proofs.lemmas.Bool.{true≢false}
 use Rattle.fit_encode.proofs.FaultSteps.{record_or, good_file, zero_fault}
 use Rattle.fit_encode.proofs.check.check_file.Goals as goal
 
@@ -24,3 +25,9 @@ returns-in-Err-ZeroIsSum-clause-err g c =
     let zero = zero_fault c.args.file.now _ _ c.as_slice.ensures measured.ok.0 measured.ok.1 measured.small
     (c.in-Err-ZeroIsSum.ensures.zero_is_sum.0 (ap Err c.in-Err-ZeroIsSum.field-0-is)) in
     inr (refl, zero.0, zero.1, zero.2, zero.3)
+
+pub returns-in_err-length-clause-ok : goal.returns-in_err-length-clause-ok
+returns-in_err-length-clause-ok g c = let p = err_from_is_err_and c.from_residual.result c.from_residual.ensures.1 in rw p.1 tt
+
+pub returns-then-not-has_form-clause-err : goal.returns-then-not-has_form-clause-err
+returns-then-not-has_form-clause-err g c = inr (refl, λ fits. true≢false (sym (c.has_form.ensures.1 fits) ∙ c.if-not-has_form.true))

@@ -1,4 +1,5 @@
-use Rattle.fit_encode.proofs.Common.{take, refl, arith, field_bytes}
+use Rattle.fit_encode.proofs.Common.{take, refl, arith, field_bytes, ◌++◌, ◌∙◌, ap, length, take_all, flat_map}
+use Rattle.std.proofs.Common.{◌+◌}
 use Rattle.fit_encode.proofs.Places.{part_within, part_end, part_written}
 use Rattle.fit_encode.proofs.place.place_fields.Goals as goal
 
@@ -17,3 +18,12 @@ loop-f-preserved c =
           (take c.args.at c.args.bytes.now) (take c.loop-f.at c.loop-f.bytes) _ (omega arith) refl
           c.loop-f.invariant.text placed.text;
     }
+
+pub returns-clause-end : goal.returns-clause-end
+returns-clause-end c =
+    c.loop-f.invariant.end ∙ ap (λ l. c.args.at + length (flat_map field_bytes l)) (take_all c.loop-f.f-index c.args.fields.now (omega arith))
+
+pub returns-clause-text : goal.returns-clause-text
+returns-clause-text c =
+    c.loop-f.invariant.text
+    ∙ ap (λ l. take c.args.at c.args.bytes.now ++ flat_map field_bytes l) (take_all c.loop-f.f-index c.args.fields.now (omega arith))

@@ -1,4 +1,5 @@
-use Rattle.fit_encode.proofs.Common.{take, arith, items_bytes}
+use Rattle.fit_encode.proofs.Common.{take, arith, items_bytes, ◌++◌, ◌∙◌, ap, length, take_all, flat_map}
+use Rattle.std.proofs.Common.{◌+◌}
 use Rattle.fit_encode.proofs.Places.{part_within, part_end, part_written}
 use Rattle.fit_encode.proofs.place.place_lists.Goals as goal
 
@@ -17,3 +18,15 @@ loop-items-preserved g c =
           c.items-item.result (take c.args.at c.args.bytes.now) (take c.loop-items.at c.loop-items.bytes) _ (omega arith) c.items-item.is
           c.loop-items.invariant.text placed.text;
     }
+
+pub returns-clause-end : goal.returns-clause-end
+returns-clause-end g c =
+    c.loop-items.invariant.end
+    ∙ ap (λ l. c.args.at + length (flat_map (items_bytes {A = g.row.A.Denot} c.args.order) l))
+    (take_all c.loop-items.items-index c.args.lists.now (omega arith))
+
+pub returns-clause-text : goal.returns-clause-text
+returns-clause-text g c =
+    c.loop-items.invariant.text
+    ∙ ap (λ l. take c.args.at c.args.bytes.now ++ flat_map (items_bytes {A = g.row.A.Denot} c.args.order) l)
+    (take_all c.loop-items.items-index c.args.lists.now (omega arith))

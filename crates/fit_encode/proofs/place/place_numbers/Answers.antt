@@ -1,4 +1,5 @@
-use Rattle.fit_encode.proofs.Common.{take, refl, arith, number_bytes, length-number_bytes, get_or}
+use Rattle.fit_encode.proofs.Common.{take, refl, arith, number_bytes, length-number_bytes, get_or, ◌++◌, ◌∙◌, ap, length, take_all, flat_map}
+use Rattle.std.proofs.Common.{◌+◌}
 use Rattle.fit_encode.proofs.Places.{part_within, part_end, part_written}
 use Rattle.fit_encode.proofs.place.place_numbers.Goals as goal
 
@@ -19,3 +20,15 @@ loop-bits-preserved c =
           (take c.loop-bits.at c.loop-bits.bytes) _ (omega arith) refl
           c.loop-bits.invariant.text placed.text;
     }
+
+pub returns-clause-end : goal.returns-clause-end
+returns-clause-end c =
+    c.loop-bits.invariant.end
+    ∙ ap (λ l. c.args.at + length (flat_map (number_bytes c.args.order c.args.width) l))
+    (take_all c.loop-bits.bits-index c.args.numbers.now (omega arith))
+
+pub returns-clause-text : goal.returns-clause-text
+returns-clause-text c =
+    c.loop-bits.invariant.text
+    ∙ ap (λ l. take c.args.at c.args.bytes.now ++ flat_map (number_bytes c.args.order c.args.width) l)
+    (take_all c.loop-bits.bits-index c.args.numbers.now (omega arith))

@@ -40,3 +40,9 @@ loop-file-preserved g c =
 
 pub returns-clause-works : goal.returns-clause-works
 returns-clause-works g c = c.loop-file.invariant.works (omega (arith, c.requires.some))
+
+pub returns-in_err-count-clause-ok : goal.returns-in_err-count-clause-ok
+returns-in_err-count-clause-ok g c = let p = err_from_is_err_and c.from_residual.result c.from_residual.ensures.1 in rw p.1 tt
+
+pub returns-in_err-count-clause-works : goal.returns-in_err-count-clause-works
+returns-in_err-count-clause-works g c = let p = err_from_is_err_and c.from_residual.result c.from_residual.ensures.1 in rw p.1 tt

@@ -33,5 +33,4 @@ loop-place-preserved c =
       small = c.in_ok-at.ensures.place;
       after = ap (drop (sizes next)) c.split_at.ensures.back ∙ drop-drop (sizes next) f.1 rest ∙ ap (λ n. drop n rest) (sym more)
           ∙ c.loop-place.invariant.after;
-      begun = omega (arith, c.loop-place.invariant.begun);
     }

@@ -1,5 +1,6 @@
 use Rattle.fit_record.proofs.FirstOfNumber.{dropped}
-use Rattle.fit_record.proofs.Common.{◌+◌, ◌++◌, ◌∷◌, [], length, take, sym, ap, ◌∙◌, arith, length-drop, drop-drop, field_from, fields_from, sizes, drop}
+use Rattle.fit_record.proofs.Common.{◌+◌, ◌++◌, ◌∷◌, [], length, take, sym, ap, ◌∙◌}
+use Rattle.fit_record.proofs.Common.{arith, append-nil, drop_all, length-drop, drop-drop, field_from, fields_from, sizes, drop}
 use Rattle.fit_record.proofs.Gathering.{layout_more, sizes_more}
 use Rattle.fit_record.proofs.message_bytes.read_fields.Goals as goal
 
@@ -24,3 +25,11 @@ loop-place-preserved g c =
       after = ap (drop (sizes next)) c.split_at.ensures.back ∙ drop-drop (sizes next) f.1 rest ∙ ap (λ n. drop n rest) (sym more)
           ∙ c.loop-place.invariant.after;
     }
+
+pub returns : goal.returns
+returns g c =
+    let rest = c.loop-place.rest.now in
+    let end = drop_all c.loop-place.place c.args.layout.now (omega (arith, c.loop-place-test.false)) in (
+      sym (append-nil c.loop-place.items) ∙ ap (λ l. c.loop-place.items ++ fields_from c.args.order l rest) (sym end) ∙ c.loop-place.invariant.told,
+      ap (λ l. drop (sizes l) rest) (sym end) ∙ c.loop-place.invariant.after,
+    )

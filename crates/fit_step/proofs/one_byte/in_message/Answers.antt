@@ -8,7 +8,6 @@ unreachable-requires g c = reads_defined c.args.env.now c.args.phase.now c.args.
 
 pub at_field_items-requires : goal.at_field_items-requires
 at_field_items-requires g c = record {
-  room = c.requires.room;
   sound = sound_of c.in-Some.ensures.place c.in-Some.ensures.sound;
   reading =
       fields_read c.args.env.now c.args.phase.now c.args.values.now c.args.partial.now c.in-FieldItems.place c.in-FieldItems.width c.in-FieldItems.left
@@ -19,7 +18,6 @@ at_field_items-requires g c = record {
 
 pub at_dev_items-requires : goal.at_dev_items-requires
 at_dev_items-requires g c = record {
-  room = c.requires.room;
   sound = sound_of c.in-Some.ensures.place c.in-Some.ensures.sound;
   reading =
       (dev_read c.args.env.now c.args.phase.now c.args.values.now c.args.partial.now c.in-DevItems.place c.in-DevItems.width c.in-DevItems.left
@@ -37,16 +35,16 @@ unreachable-requires-in_default-phase g c =
     c.in_default-phase.not-DevItems
 
 pub returns-in-FieldItems-clause-made : goal.returns-in-FieldItems-clause-made
-returns-in-FieldItems-clause-made g c = rw c.in-FieldItems.is (c.at_field_items.ensures.made c.args.env.now (sym c.in-Some.ensures.place))
+returns-in-FieldItems-clause-made g c = rw c.in-FieldItems.is (c.at_field_items.ensures.made c.args.env.now c.args.room.now (sym c.in-Some.ensures.place))
 
 pub returns-in-FieldItems-clause-err : goal.returns-in-FieldItems-clause-err
-returns-in-FieldItems-clause-err g c = on_err c.at_field_items.result (λ same. same.3) c.at_field_items.ensures.err
+returns-in-FieldItems-clause-err g c = on_err c.at_field_items.result (λ same. same.2) c.at_field_items.ensures.err
 
 pub returns-in-DevItems-clause-made : goal.returns-in-DevItems-clause-made
-returns-in-DevItems-clause-made g c = rw c.in-DevItems.is (c.at_dev_items.ensures.made c.args.env.now (sym c.in-Some.ensures.place))
+returns-in-DevItems-clause-made g c = rw c.in-DevItems.is (c.at_dev_items.ensures.made c.args.env.now c.args.room.now (sym c.in-Some.ensures.place))
 
 pub returns-in-DevItems-clause-err : goal.returns-in-DevItems-clause-err
-returns-in-DevItems-clause-err g c = on_err c.at_dev_items.result (λ same. same.3) c.at_dev_items.ensures.err
+returns-in-DevItems-clause-err g c = on_err c.at_dev_items.result (λ same. same.2) c.at_dev_items.ensures.err
 
 pub defined-requires : goal.defined-requires
 defined-requires g c = assumption

@@ -1,20 +1,20 @@
-use Rattle.fit_step.proofs.Common.{Data, None, ◌≡◌, ◌-◌, sym, slice_is_bytes, start, state_at}
-use Rattle.fit_step.proofs.ReadBytes.{whole_and_next}
+use Rattle.fit_step.proofs.Common.{Data, Ok, Some, ◌-◌, subst}
+use Rattle.fit_step.proofs.ReadBytes.{whole_at_front}
+use Rattle.fit_step.specs.InProgress.{Reads}
 use Rattle.fit_step.proofs.record_reader.take_whole.Goals as goal
 
 pub whole_message-requires : goal.whole_message-requires
 whole_message-requires g c = (assumption, c.requires.0)
 
+pub learn-requires : goal.learn-requires
+learn-requires g c = (assumption, c.in_ok-values.ensures.spelled.0)
+
 pub returns-clause-told : goal.returns-clause-told
 returns-clause-told g c =
+    let e = c.args.env.now in
+    let p = c.args.position.now in
+    let idle = c.args.in_progress.now in
     let read = c.in_ok-values in
-    let next : start (c.args.position.now.room - read.used) ≡ state_at c.new.result None =
-    λ i. record {
-      phase = sym c.new.ensures.begins.phase i;
-      room = sym c.new.ensures.room i;
-      in_progress = None;
-      partial = sym c.new.ensures.begins.partial i;
-    } in
-    whole_and_next c.args.env.now c.learn.new.self c.args.position.now c.args.in_progress.now c.in-None.is c.args.piece.now read.used (Data read.values)
-    (slice_is_bytes c.args.piece.now c.type_inv.piece) read.ensures.within.0 read.ensures.within.1 c.in-Ok.ensures.ok read.ensures.ends
-    c.new.result None next
+    let after = c.learn.new.self in
+    subst (λ o. Reads e p idle after (record p { room = p.room - read.used }) o c.args.piece.now read.used (Ok (Some (Data read.values)))) c.in-None.is
+    (whole_at_front e after p idle c.args.piece.now (Data read.values) read.used c.in-None.is read.ensures c.in-Ok.ensures.ok)

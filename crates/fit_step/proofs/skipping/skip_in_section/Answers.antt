@@ -20,6 +20,5 @@ returns-clause-skips g c =
     let all = subst (λ y. Learns c.args.env.now s.new.env y records) same learns in (
       records,
       count,
-      skipped_after c.args.env.now s.new.env c.args.position.now c.new.result c.args.in_progress.now piece used records c.in-None.is large all
-          c.new.ensures.begins c.new.ensures.room,
+      skipped_after c.args.env.now s.new.env c.args.position.now c.args.in_progress.now piece used records c.in-None.is large all,
     )

@@ -1,3 +1,5 @@
+use Rattle.std.proofs.Common.{sym, ◌∙◌, arith}
+use Rattle.std.proofs.lemmas.List.{nil_from_length}
 use Rattle.fit_base.proofs.Common.{rules}
 use Rattle.fit_base.proofs.bits.Bits.from_slice.Goals as goal
 
@@ -8,3 +10,6 @@ returns-in_err-from_slice-in_default-clause-one g c = search rules
 pub returns-in_ok-from_slice-in_default-clause-same :
     goal.returns-in_ok-from_slice-in_default-clause-same
 returns-in_ok-from_slice-in_default-clause-same g c = search rules
+
+pub returns-in-empty-clause-same : goal.returns-in-empty-clause-same
+returns-in-empty-clause-same g c = c.new.ensures ∙ sym (nil_from_length c.args.numbers.now (omega arith))

@@ -2,6 +2,7 @@ use Rattle.std.proofs.Common.{◌∙◌, ◌++◌, ◌+◌, List, ℕ, arith, dr
 use Rattle.std.proofs.lemmas.List.{length-drop, length-take-le, take_rest}
 use Rattle.fit_csv_text.specs.declared.loose.Spot.{Spot}
 use Rattle.fit_csv_text.specs.inner.Loose.{Opens, WritesOn}
+use Rattle.fit_csv_text.proofs.PlainTexts.{plain-left}
 use Rattle.fit_csv_text.proofs.ShortCells.{end-byte, more-cells, short-goes-on}
 use Rattle.fit_csv_text.proofs.loose.cells.put_cells.Goals as goal
 
@@ -31,4 +32,5 @@ loop-place-preserved c =
       );
       spot = c.end_spot-spot.ensures ∙ goes.0;
       goes = subst (λ (l : List ℕ). WritesOn c.args.text.now l start (written ++ more)) (sym (take_rest left cell.size)) goes.1;
+      lines = λ plain. plain-left left cell.size (c.loop-place.invariant.lines plain);
     }

@@ -11,7 +11,7 @@ pub returns-in-Some-shown_text-clause-text : goal.returns-in-Some-shown_text-cla
 returns-in-Some-shown_text-clause-text c =
     let f = c.self.inside.form in
     let long = c.requires.length ∙ ap (λ (k : FrameText). k.size) (sym c.self.view_is) in
-    let class = subst (IsFieldKind f.code.0 f.size (field_meaning f)) c.in-Text.is c.self.invariant.kind in
+    let class = subst (IsFieldKind f.code.0 f.size) c.in-Text.is c.self.invariant.kind in
     let is = c.in-Some-shown_text.ensures.text ∙ sym (text_cell Global c.args.order f.code.0 f.size (field_meaning f) c.args.bytes.now class long) in
     let same = c.in_default.ensures.none refl in
     rw (sym c.self.view_is)

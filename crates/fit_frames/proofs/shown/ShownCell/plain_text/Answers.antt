@@ -11,7 +11,7 @@ returns-then-is_shown c order =
     let f = c.self.inside.form in
     let shown = c.in_ok-text.ensures.text in
     let long = c.requires ∙ ap (λ (k : CellKey). k.size) (sym c.self.view_is) in
-    let class = subst (IsFieldKind f.code.0 f.size (field_meaning f)) c.in-Text.is c.self.invariant.kind in
+    let class = subst (IsFieldKind f.code.0 f.size) c.in-Text.is c.self.invariant.kind in
     let is = text_cell Global order f.code.0 f.size (field_meaning f) c.args.bytes.now class long in
     let plain = ap (list_all is_printable) (is ∙ sym shown) ∙ sym c.is_shown.ensures ∙ c.if-is_shown.true in
     rw (sym c.self.view_is)

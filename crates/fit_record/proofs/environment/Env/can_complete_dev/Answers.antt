@@ -9,3 +9,6 @@ returns-clause-dev_number g c =
 
 pub returns-clause-test : goal.returns-clause-test
 returns-clause-test g c = cc
+
+pub completes_dev-requires : goal.completes_dev-requires
+completes_dev-requires g c = assumption

@@ -1,4 +1,4 @@
-use Rattle.fit_record.proofs.Common.{sym, ap, ◌∙◌, subst, IfSome, option_map_or, entry_count, IsSound}
+use Rattle.fit_record.proofs.Common.{lit≤, sym, ap, ◌∙◌, subst, IfSome, option_map_or, entry_count, IsSound}
 use Rattle.fit_record.proofs.environment.Env.entries_at.Goals as goal
 
 pub defined-requires : goal.defined-requires
@@ -21,3 +21,9 @@ returns-in-Some-clause-places g c = rw (← c.self.view_is) assumption
 
 pub returns-in-None-clause-places : goal.returns-in-None-clause-places
 returns-in-None-clause-places g c = rw (← c.self.view_is) assumption
+
+pub returns-in-None-clause-count : goal.returns-in-None-clause-count
+returns-in-None-clause-count g c = ap (λ o. option_map_or (λ p. entry_count p.definition) o 0) c.in-None.ensures.place
+
+pub returns-in-None-clause-small : goal.returns-in-None-clause-small
+returns-in-None-clause-small g c = lit≤ tt

@@ -22,3 +22,7 @@ returns-in-Define-clause-err g c =
 pub returns-in-Define-clause-refused : goal.returns-in-Define-clause-refused
 returns-in-Define-clause-refused g c =
     refused_by c.args.self.now c.args.r.now (Define c.in-Define.d) c.definition_fits.result c.in-Define.is c.definition_fits.ensures.err
+
+pub returns-in-Values-clause-err : goal.returns-in-Values-clause-err
+returns-in-Values-clause-err g c =
+    subst (λ r. IfErr c.data_fits.result (λ fault. first_fault c.args.self.now r ≡ Some fault)) (sym c.in-Values.is) c.data_fits.ensures.err

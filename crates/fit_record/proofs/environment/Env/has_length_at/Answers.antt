@@ -1,6 +1,5 @@
 use Rattle.fit_record.proofs.Common.{◌≡◌, ℕ, ◌+◌, ◌==◌, false, refl, ap, ◌∙◌, arith, Option, Some, None}
 use Rattle.fit_record.proofs.Common.{option_map, option_map_or, Defined, message_size, has_length_at}
-use Rattle.std.proofs.lemmas.Grind.{common_steps}
 use Rattle.fit_record.proofs.environment.Env.has_length_at.Goals as goal
 
 pub length-requires : goal.length-requires
@@ -18,4 +17,4 @@ pub returns-in-None-clause-value : goal.returns-in-None-clause-value
 returns-in-None-clause-value g c = ap (λ o. option_map_or (λ size. 1 + size == c.args.n) o false) c.in-None.ensures.size ∙ by_size _ c.args.n
 
 pub overflow_add-result : goal.overflow_add-result
-overflow_add-result g c = grind (arith, common_steps)
+overflow_add-result g c = omega (arith, c.in-Some.ensures.small)

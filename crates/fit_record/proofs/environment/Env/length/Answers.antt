@@ -1,9 +1,9 @@
-use Rattle.fit_record.proofs.Common.{get_or, sym, ap, ◌∙◌, subst, Some, None, option_map, get_or_from_slice_get, defined_at, MayBeKept, body_length, arith}
+use Rattle.fit_record.proofs.Common.{length, ltb-true, get_or, sym, ap, ◌∙◌, subst}
+use Rattle.fit_record.proofs.Common.{Some, None, option_map, get_or_from_slice_get, defined_at, MayBeKept, body_length, arith}
 use Rattle.fit_record.proofs.Common.{message_size}
 use Rattle.fit_record.proofs.WrongPlace.{found, not_found}
 use Rattle.fit_record.proofs.MessageSizes.{kept_size}
 use Rattle.std.proofs.lemmas.List.{get_or_past}
-use Rattle.std.proofs.lemmas.Grind.{common_steps}
 use Rattle.fit_record.proofs.environment.Env.length.Goals as goal
 
 pub returns-in-Some-clause-length : goal.returns-in-Some-clause-length
@@ -46,4 +46,4 @@ returns-in_err-place-clause-size g c =
     c.from_residual.ensures ∙ sym (ap (option_map message_size) past) ∙ ap (λ e. option_map message_size (defined_at e c.args.local)) c.self.view_is
 
 pub bounds-self-inside-local : goal.bounds-self-inside-local
-bounds-self-inside-local g c = grind (arith, common_steps)
+bounds-self-inside-local g c = omega (arith, ltb-true c.args.local (length c.self.inside.places) (sym c.in_ok-place.ensures.lookup.0))

@@ -1,8 +1,7 @@
-use Rattle.fit_record.proofs.Common.{◌+◌, length, sym, ap, ◌∙◌, arith, none-some, both_ways, defined_at, slice_is_bytes}
+use Rattle.fit_record.proofs.Common.{◌+◌, length, sym, ap, ◌∙◌, arith, none-some, both_ways, defined_at, slice_is_bytes, subst, IfSome, IsSound}
 use Rattle.fit_record.proofs.FoundMessages.{first_of, message_spelled, only_message, same_size}
 use Rattle.fit_record.proofs.environment.Env.message_bytes.Goals.{then-has_reserved_bit-via-then-has_reserved_bit}
 use Rattle.fit_record.proofs.environment.Env.message_bytes.Goals.{then-has_reserved_bit-via-else-has_reserved_bit+then-is_definition}
-use Rattle.std.proofs.lemmas.Grind.{common_steps}
 use Rattle.fit_record.proofs.environment.Env.message_bytes.Goals as goal
 
 pub returns-then-has_reserved_bit-clause-found : goal.returns-then-has_reserved_bit-clause-found
@@ -43,13 +42,15 @@ returns-clause-found g c v front rest at is =
     (omega (arith, ap length c.in_ok-first.ensures.cases.0, c.split_at.ensures.front_len, c.if-rest-size.false)) at is
 
 pub returns-clause-sound : goal.returns-clause-sound
-returns-clause-sound g c = grind (arith, common_steps)
+returns-clause-sound g c = subst (λ o. IfSome o IsSound) (sym c.in_ok-defined.ensures.place) c.in_ok-defined.ensures.sound
 
 pub returns-clause-size : goal.returns-clause-size
-returns-clause-size g c = grind (arith, common_steps)
+returns-clause-size g c =
+    c.split_at.ensures.front_len
+    ∙ same_size c.in_ok-defined.defined.now _ c.in_ok-size.field-0 c.in_ok-defined.ensures.place c.in_ok-size.ensures.size
 
 pub returns-clause-within : goal.returns-clause-within
-returns-clause-within g c = grind (arith, common_steps)
+returns-clause-within g c = omega (arith, ap length c.in_ok-first.ensures.cases.0, c.split_at.ensures.front_len, c.if-rest-size.false)
 
 pub defined-requires : goal.defined-requires
 defined-requires g c = assumption

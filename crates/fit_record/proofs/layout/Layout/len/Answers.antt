@@ -1,5 +1,4 @@
-use Rattle.std.proofs.lemmas.Grind.{common_steps}
-use Rattle.fit_record.proofs.Common.{◌∙◌, sym, ap, subst, length, arith}
+use Rattle.fit_record.proofs.Common.{◌∙◌, sym, ap, subst, length, length-map}
 use Rattle.fit_record.proofs.WrongPlace.{length-dev_layout}
 use Rattle.fit_record.specs.inner.SlotLists.{slots_of, HaveCodes}
 use Rattle.fit_record.proofs.layout.Layout.len.Goals as goal
@@ -11,4 +10,5 @@ returns-in-DevFields c =
     ∙ length-dev_layout d.field-0.now d.fields.now (subst HaveCodes d.is c.self.invariant))
 
 pub returns-in-Fields : goal.returns-in-Fields
-returns-in-Fields c = grind (arith, common_steps)
+returns-in-Fields c =
+    sym (ap length (sym c.self.view_is ∙ ap slots_of c.in-Fields.is) ∙ length-map _ (λ f. (f.code, f.size)))

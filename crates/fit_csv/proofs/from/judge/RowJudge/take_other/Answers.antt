@@ -8,4 +8,4 @@ pub take_window-requires : goal.take_window-requires
 take_window-requires c =
     subst (λ (l : List ℕ). HasJudged c.args.whole.now (l ++ c.in-Some.after.now) c.args.self.now.chain c.args.self.now.rows) (sym c.as_slice.ensures.value)
     (spelled-left c.args.whole.now c.args.left.now (c.fill.new.self.bytes.items ++ c.in-Some.after.now) c.args.self.now.chain c.args.self.now.rows c.requires
-    c.in-Some.ensures.rows)
+    (rw c.in-Some.is at c.in-Ok.ensures.rows))

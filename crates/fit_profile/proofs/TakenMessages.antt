@@ -1,0 +1,67 @@
+-- Data messages that a stream takes in by their bytes, and what it says of them.
+use Rattle.fit_profile.proofs.Common.{◌≡◌, ◌∙◌, List, ◌∷◌, inl, inr, false, refl, sym, ap, subst, Option, Some, None, IsSome, same_Some, list_any}
+use Rattle.fit_profile.proofs.Common.{Defined, Environment, KeepsRecords, Record, Values, defined_at, known, last_of, told, told_at}
+use Rattle.std.specs.Global.{Global}
+use Rattle.std.specs.Prelude.{◌⊎◌, ◌==◌, ◌&&◌}
+use Rattle.fit_record.specs.MessageBytes.{message_in}
+use Rattle.fit_record.specs.declared.message.Record.TheVariants.{Values as Data}
+use Rattle.fit_record.specs.declared.message_bytes.MessageBytes.{MessageBytes}
+use Rattle.fit_record.specs.Faults.{or_else}
+use Rattle.fit_profile.specs.Accumulated.{is_counter}
+use Rattle.fit_profile.specs.Taken.{IsTaken}
+use Rattle.fit_profile.specs.Times.{field_time, header_time}
+use Rattle.fit_profile.specs.declared.message_bytes.Taken.{Taken}
+use Rattle.fit_profile.specs.declared.names.Names.{Names}
+use Rattle.fit_profile.specs.declared.told.Last.{Last}
+use Rattle.fit_profile.specs.declared.told.Told.{Told}
+use Rattle.fit_profile.specs.inner.Alone.{times_alone}
+use Rattle.fit_profile.proofs.Kept.{same-definition, told-placed}
+use Rattle.fit_profile.proofs.NoCounters.{told-uncounted}
+
+pub some_or_none : {X : Type 0} (o : Option X) → IsSome o ⊎ (o ≡ None)
+some_or_none None = inr refl
+some_or_none (Some x) = inl refl
+
+-- what is said of the message in its bytes
+pub said_of_it : (e : Environment Global) (last : Last) (m : MessageBytes Global) (t : Told) (s : Taken) → defined_at e m.local ≡ Some m.defined.now
+    → t ≡ told_at last m.defined.now.definition (message_in m) → IsTaken t (message_in m) m.defined.now.definition s
+    → (v : Values Global) (p : Defined Global) → message_in m ≡ v → defined_at e v.local ≡ Some p → IsTaken (told_at last p.definition v) v p.definition s
+said_of_it e last m t s here tells is v p same known_ =
+    let w = message_in m in
+    let d = m.defined.now.definition in
+    let one : m.defined.now ≡ p = same_Some m.defined.now p (sym here ∙ ap (λ (x : Values Global). defined_at e x.local) same ∙ known_) in
+    let first : IsTaken (told_at last d w) w d s = subst (λ x. IsTaken x w d s) tells is in
+    let second : IsTaken (told_at last d v) v d s = subst (λ x. IsTaken (told_at last d x) x d s) same first in
+    subst (λ (q : Defined Global). IsTaken (told_at last q.definition v) v q.definition s) one second
+
+-- the same by the records of which the last ones are kept
+pub said_now : {e : Environment Global} {l : Last} {n : Names Global} {xs : List (Record Global)} (now : List (Record Global)) (v : Values Global)
+    (p : Defined Global) (s : Taken) → KeepsRecords e l n xs → xs ≡ now → defined_at (known now) v.local ≡ Some p
+    → IsTaken (told_at l p.definition v) v p.definition s → IsTaken (told now v) v p.definition s
+said_now now v p s k view known_ is =
+    subst (λ t. IsTaken t v p.definition s) (ap (λ x. told_at x p.definition v) (k.last_is ∙ ap last_of view) ∙ told-placed now v p known_) is
+
+pub defined_inside : {e : Environment Global} {l : Last} {n : Names Global} {xs : List (Record Global)} (now : List (Record Global)) (v : Values Global)
+    (p : Defined Global) → KeepsRecords e l n xs → xs ≡ now → defined_at (known now) v.local ≡ Some p → defined_at e v.local ≡ Some p
+defined_inside now v p k view known_ = ap (λ x. defined_at x v.local) (k.env_is ∙ ap known view) ∙ known_
+
+-- a message that was taken in moves no definition
+pub still_defined : {A : Type 0} (earlier : List (Record A)) (v : Values A)
+    → defined_at (known (Data v ∷ earlier)) v.local ≡ defined_at (known earlier) v.local
+still_defined earlier v = same-definition earlier v
+
+-- of a message without counters nothing is told but times
+pub times_told : {A : Type 0} (earlier : List (Record A)) (v : Values A) (p : Defined A) → defined_at (known earlier) v.local ≡ Some p
+    → (p.definition.global == 20 && list_any (λ f. is_counter f.number) p.definition.fields) ≡ false
+    → ((told earlier v).speed ≡ None) × ((told earlier v).distance ≡ None) × ((told earlier v).total_cycles ≡ None)
+    × ((told earlier v).accumulated_power ≡ None)
+times_told earlier v p known_ none =
+    let d = p.definition in
+    let last = last_of earlier in
+    let t : Told = times_alone (or_else (field_time d v) (header_time last.time v.offset)) (header_time last.time v.offset) in
+    let all : told earlier v ≡ t = sym (told-uncounted last d v t none refl ∙ told-placed earlier v p known_) in (
+      ap (λ (x : Told). x.speed) all,
+      ap (λ (x : Told). x.distance) all,
+      ap (λ (x : Told). x.total_cycles) all,
+      ap (λ (x : Told). x.accumulated_power) all,
+    )

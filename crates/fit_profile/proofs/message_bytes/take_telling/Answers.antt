@@ -1,0 +1,47 @@
+use Rattle.fit_profile.proofs.Common.{◌≡◌, ◌∙◌, ◌++◌, ◌∷◌, [], sym, ap, subst, true, IsSomeAnd, None, Some}
+use Rattle.fit_profile.proofs.Common.{defined_at, described_by, tell, last_after}
+use Rattle.std.proofs.Common.{◌==◌}
+use Rattle.fit_record.specs.MessageBytes.{message_in}
+use Rattle.fit_record.specs.declared.message.Record.TheVariants.{Values as Data}
+use Rattle.fit_profile.proofs.NoCounters.{tells, describes-nothing}
+use Rattle.fit_profile.proofs.Planned.{may_count_is}
+use Rattle.fit_profile.proofs.TakenMessages.{said_of_it}
+use Rattle.fit_profile.proofs.message_bytes.take_telling.Goals as goal
+
+pub said_of-requires-clause-counts : goal.said_of-requires-clause-counts
+said_of-requires-clause-counts c =
+    let m = c.message_of-message.result in
+    c.may_count-may_count.ensures ∙ may_count_is c.plan_of-plan.result.now (Some m.defined.now) c.plan_of-plan.ensures
+
+pub returns-clause-said : goal.returns-clause-said
+returns-clause-said c v p is known_ =
+    said_of_it c.args.env.now c.args.last.now c.message_of-message.result c.tell_next-told.result c.said_of.result
+    c.message_of-message.ensures.defined c.tell_next-told.ensures.told c.said_of.ensures v p (c.message_of-message.ensures.read v is) known_
+
+pub returns-clause-last : goal.returns-clause-last
+returns-clause-last c _ v is =
+    let m = c.message_of-message.result in
+    let e = c.args.env.now in
+    let last = c.args.last.now in
+    subst (λ w. c.tell_next-told.new.last ≡ last_after last (tell e last (Data w))) (c.message_of-message.ensures.read v is)
+    (c.tell_next-told.ensures.last
+    ∙ sym (ap (last_after last) (tells e m.defined.now last (message_in m) c.message_of-message.ensures.defined)))
+
+pub returns-clause-records : goal.returns-clause-records
+returns-clause-records c _ v is =
+    c.add_message.ensures ∙ ap (λ w. c.args.records.now.items ++ Data w ∷ []) (c.message_of-message.ensures.read v is)
+
+pub returns-clause-nothing : goal.returns-clause-nothing
+returns-clause-nothing c _ v is =
+    let m = c.message_of-message.result in
+    subst (λ w. described_by c.args.env.now w ≡ None) (c.message_of-message.ensures.read v is)
+    (describes-nothing c.args.env.now m.defined.now (message_in m) c.message_of-message.ensures.defined
+    (sym c.plan_of-plan.ensures.describes ∙ c.if-plan.false))
+
+pub returns-then-plan-clause-describes : goal.returns-then-plan-clause-describes
+returns-then-plan-clause-describes c _ v is =
+    let m = c.message_of-message.result in
+    let e = c.args.env.now in
+    subst (λ w. IsSomeAnd (defined_at e w.local) (λ p. (p.definition.global == 206) ≡ true)) (c.message_of-message.ensures.read v is)
+    (subst (λ o. IsSomeAnd o (λ p. (p.definition.global == 206) ≡ true)) (sym c.message_of-message.ensures.defined)
+    (sym c.plan_of-plan.ensures.describes ∙ c.if-plan.true))
