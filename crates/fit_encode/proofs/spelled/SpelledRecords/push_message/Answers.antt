@@ -21,7 +21,7 @@ invariant_of-self-then-more-len c =
     let short = (c.self.invariant.all c.if-self.false).short in
     rw c.add_message-then-more-len.ensures
     (long-now s.bytes.items c.args.bytes.now s.count s.too_long s.records.items c.args.env.now r
-    c.self.invariant c.if-self.false may c.message_of-message.ensures.spelled (omega (arith, short, c.len.ensures, c.len-more.ensures, c.if-more-len.true)))
+    c.self.invariant c.if-self.false may c.message_of-message.ensures.spelled (omega (arith, short, c.len.ensures, c.if-more-len.true)))
 
 pub invariant_of-self-2 : goal.invariant_of-self-2
 invariant_of-self-2 c =
@@ -32,7 +32,7 @@ invariant_of-self-2 c =
     let short = (c.self.invariant.all c.if-self.false).short in
     rw (c.add_message-2.ensures, c.in_ok-extend_from_slice.ensures.items)
     (kept-more s.bytes.items c.args.bytes.now s.count s.too_long s.records.items c.args.env.now r
-    c.self.invariant c.if-self.false may c.message_of-message.ensures.spelled (omega (arith, short, c.len.ensures, c.len-more.ensures, c.if-more-len.false)))
+    c.self.invariant c.if-self.false may c.message_of-message.ensures.spelled (omega (arith, short, c.len.ensures, c.if-more-len.false)))
 
 pub returns-then-self-clause-ok : goal.returns-then-self-clause-ok
 returns-then-self-clause-ok c v is =
