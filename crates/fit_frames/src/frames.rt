@@ -14,9 +14,7 @@ pub(crate) mod likely;
 use crate::form::{FieldForm, FieldKind};
 use crate::pen::Pen;
 use fit_base::{Items, Order, bits_at};
-use fit_cells::{
-    RowWriter, ShownText, is_never_quoted, put_cell, shown_text, write_formed,
-};
+use fit_cells::{RowWriter, ShownText, is_never_quoted, put_cell, shown_text, write_formed};
 use fit_profile::Info;
 use fit_record::read_items;
 use fit_texts::{Sheet, Stamp, WIDE, add_text, put_sheet};
@@ -136,12 +134,7 @@ impl Frame {
 
     /// Puts a value that is no lone number after a text.
     #[inline(never)]
-    fn put_other(
-        &self,
-        text: &mut Vec<u8>,
-        pen: &mut Pen,
-        items: &Items,
-    ) -> Result<(), AllocError>
+    fn put_other(&self, text: &mut Vec<u8>, pen: &mut Pen, items: &Items) -> Result<(), AllocError>
         requires { HasShape self.now.code self.now.size items.now }
         ensures { OnOk result (text.new.items ≡ text.old.items
             ++ field_text default_writer (cell self.now.code self.now.info items.now)) }

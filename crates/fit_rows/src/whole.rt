@@ -1,6 +1,6 @@
 //! Records whose rows stand as `to_csv` writes them, taken whole: what a text shows is guessed, and read exactly where the guess is
 //! wrong, and the rows of what was found are compared with it.
-ghost use Rattle.std.specs.Prelude.{◌≡◌, ◌++◌, ℕ, List, IfOk, IfSome, IsSome};
+ghost use Rattle.std.specs.Prelude.{◌≡◌, ◌++◌, [], ℕ, List, IfOk, IfSome, IsSome};
 ghost use Rattle.std.specs.Global.{Global};
 ghost use Rattle.fit_record.specs.declared.message.Record.TheVariants.{Values as Data};
 ghost use Rattle.fit_record.specs.declared.message.Values.{Values as Message};

@@ -12,18 +12,18 @@ returns-in_default-clause-found c v left is text =
     let bytes = c.args.bytes.now in
     absurd (c.in_default.ensures.found v bytes [] (sym (append-nil bytes)) (subst (λ e. IsRecord e (Data v) bytes) (sym c.env.ensures) is))
 
-pub returns-then-size-ne-len-clause-found : goal.returns-then-size-ne-len-clause-found
-returns-then-size-ne-len-clause-found c v left is text =
+pub returns-then-size-bytes-clause-found : goal.returns-then-size-bytes-clause-found
+returns-then-size-bytes-clause-found c v left is text =
     let bytes = c.args.bytes.now in
     let found = c.in-Some.ensures.found v bytes [] (sym (append-nil bytes)) (subst (λ e. IsRecord e (Data v) bytes) (sym c.env.ensures) is) in
-    absurd (c.if-size-ne-len.true (omega (arith, found.1, c.len.ensures, c.len-2.ensures)))
+    absurd (c.if-size-bytes.true (omega (arith, found.1)))
 
 pub put_message-requires-clause-record_ : goal.put_message-requires-clause-record_
 put_message-requires-clause-record_ c =
     let bytes = c.args.bytes.now in
     let m = c.in-Some.message in
     let whole : take (1 + length m.body.now) bytes ≡ bytes =
-    take_all (1 + length m.body.now) bytes (omega (arith, c.len.ensures, c.len-2.ensures, c.if-size-ne-len.false)) in
+    take_all (1 + length m.body.now) bytes (omega (arith, c.if-size-bytes.false)) in
     (message_in m, subst (λ e. IsRecord e (Data (message_in m)) bytes) c.env.ensures
     (subst (λ b. IsRecord c.env.result.now (Data (message_in m)) b) whole c.in-Some.ensures.spelled))
 
@@ -33,7 +33,7 @@ returns-clause-read c = IfSome_then c.after_beginning.result c.after_beginning.e
     let m = c.in-Some.message in
     let v = message_in m in
     let whole : take (1 + length m.body.now) bytes ≡ bytes =
-    take_all (1 + length m.body.now) bytes (omega (arith, c.len.ensures, c.len-2.ensures, c.if-size-ne-len.false)) in
+    take_all (1 + length m.body.now) bytes (omega (arith, c.if-size-bytes.false)) in
     let is = subst (λ e. IsRecord e (Data v) bytes) c.env.ensures
     (subst (λ b. IsRecord c.env.result.now (Data v) b) whole c.in-Some.ensures.spelled) in
     let rows : c.put_message.new.text.items ≡ csv_text (data_rows c.args.before.now v) = (c.in_ok-put_message.ensures.rows v is).text

@@ -6,4 +6,4 @@ pub returns-in-Some-clause-read : goal.returns-in-Some-clause-read
 returns-in-Some-clause-read c =
     subst (λ b. (v : Values Global) × IsRecord (known c.args.before.now) (Data v) b
     × (c.args.text.now ≡ csv_text (data_rows c.args.before.now v) ++ c.in-Some.left.now)) c.as_slice.ensures.value
-    (rw c.in-Some.is at c.in_ok-after_message.ensures.read)
+    (rw c.in-Some.is at c.in_ok-left.ensures.read)
