@@ -16,7 +16,7 @@ pub returns-then-is_err-clause-whole : goal.returns-then-is_err-clause-whole
 returns-then-is_err-clause-whole c v left fits text plain =
     let same : c.in-Some.values ≡ v = same_Some c.in-Some.values v (rw c.in-Some.is at (c.in_ok-values.ensures.found v left fits text plain)) in
     let own = subst (λ e. Fits e (Data c.in-Some.values)) (sym c.env.ensures) (subst (λ w. Fits (known c.args.before.now) (Data w)) (sym same) fits) in
-    absurd (where_err c.fits.result _ c.fits.ensures.refused (sym c.is_err.ensures ∙ c.if-is_err.true) own)
+    absurd (where_err c.fits.result _ c.fits.ensures.refused (sym c.is_err.ensures.value ∙ c.if-is_err.true) own)
 
 pub returns-clause-whole : goal.returns-clause-whole
 returns-clause-whole c = IfOk-weaker c.after_message.result _ _ (λ found read v left fits text plain.
