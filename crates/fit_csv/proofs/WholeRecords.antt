@@ -1,5 +1,5 @@
 -- A chain goes on with the rows of a record.
-use Rattle.fit_csv.proofs.Common.{◌≡◌, ◌∙◌, ◌+◌, ◌++◌, length, map, ap, arith, zip, Global, length-map, length-zip, FitFile, Record}
+use Rattle.fit_csv.proofs.Common.{◌≡◌, ◌∙◌, ◌+◌, ◌++◌, length, map, ap, arith, subst, zip, Defined, Global, IsSomeAnd, length-map, length-zip, FitFile, Record}
 use Rattle.fit_csv.proofs.Common.{Define, Data, Values, MessageDef, DataFits, Fits, defined_at, dev_defs, known, namings_at, layout, dev_layout}
 use Rattle.fit_csv.proofs.Common.{csv_text, dev_def_row, dev_row, dev_rows, field_def_row, field_row, field_rows, record_rows}
 use Rattle.fit_csv.proofs.Common.{RecordInRange, with_record, OpenFile, Nothing}
@@ -46,6 +46,18 @@ message-long before v fits =
       length-append (field_rows p.definition.global p.definition.fields v.fields) (dev_rows (dev_defs p.definition.dev) p.dev_codes namings v.dev),
       length-map (zip p.definition.fields v.fields) (λ x. field_row p.definition.global x.0 x.1),
       length-map (zip (zip devs p.dev_codes) (zip namings v.dev)) (λ x. dev_row {A = Global} x.0.0 x.0.1 x.1.0 x.1.1),
+    )
+
+-- a data message has as many rows as its definition
+pub message-as-long : (before : List (Record Global)) (v : Values Global) (p : Defined Global) → defined_at (known before) v.local ≡ Some p
+    → Fits (known before) (Data v) → 1 + length p.definition.fields + length (dev_defs p.definition.dev) ≡ length (record_rows before (Data v))
+message-as-long before v p is fits =
+    let of : DataFits v p = subst (λ o. IsSomeAnd o (DataFits v)) is fits in
+    omega (
+      arith,
+      message-long before v fits,
+      as_long (layout p) v.fields of.fields ∙ layout-long p,
+      as_long (dev_layout p) v.dev of.dev_fields ∙ dev-layout-long p (codes-long before v.local p is),
     )
 
 some-rows : (before : List (Record Global)) (r : Record Global) → Fits (known before) r → 0 < length (record_rows before r)

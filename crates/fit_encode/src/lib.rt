@@ -18,6 +18,6 @@ mod write;
 pub use encoder::Encoder;
 pub use fault::EncodeFault;
 pub use sink::{CutSink, Sink, SinkFailed, WriteSink, put_all};
-pub use spelled::SpelledRecords;
+pub use spelled::{SpelledRecords, spell};
 pub use spelled_files::{SpelledFiles, write_spelled};
 pub use write::{write_chain, write_one};

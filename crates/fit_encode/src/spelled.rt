@@ -1,7 +1,12 @@
 //! Records that are kept as their bytes.
 ghost use Rattle.std.specs.Prelude.{◌≡◌, ◌+◌, ◌<◌, ◌≤◌, ◌^◌, [], ◌∷◌, ◌++◌, OnOk, OnErr, IfOk, IfSome, None, length, take};
+ghost use Rattle.std.specs.Global.{Global};
 ghost use Rattle.fit_record.specs.Environment.{empty_environment, learn_all};
-ghost use Rattle.fit_record.specs.Records.{AllFit, Fits, record_bytes, records_bytes};
+ghost use Rattle.fit_record.specs.MessageBytes.{message_in};
+ghost use Rattle.fit_record.specs.Records.{AllFit, Fits, IsRecord, record_bytes, records_bytes};
+ghost use Rattle.fit_record.specs.Sizes.{body_limit};
+ghost use Rattle.fit_record.specs.declared.message.Record.TheVariants.{Values as Data};
+ghost use Rattle.fit_record.specs.declared.message.Values.{Values};
 ghost use Rattle.fit_encode.specs.inner.Kept.{AreTooLong, with_sum};
 ghost use Rattle.fit_encode.specs.inner.Spelling.{bytes_in_order, IsSpellable};
 
@@ -11,7 +16,7 @@ use crate::length::definition_length;
 use crate::place::place_record;
 use fit_base::Order;
 use fit_history::History;
-use fit_record::{Env, Record};
+use fit_record::{Env, MessageBytes, Record};
 use std::alloc::{AllocError, Global};
 use std::marker::Model;
 use std::mem;
@@ -113,6 +118,31 @@ impl SpelledRecords {
         Ok(())
     }
 
+    /// Puts the data message that these bytes are at the end, as `push` does.
+    pub fn push_message(&mut self, env: &Env, bytes: &[u8]) -> Result<(), AllocError>
+        requires known { env.now ≡ learn_all empty_environment self.old }
+        requires message { (v : Values Global) × IsRecord env.now (Data v) bytes.now }
+        ensures ok { OnOk result ((v : Values Global) → IsRecord env.now (Data v) bytes.now
+            → self.new ≡ self.old ++ Data v ∷ []) }
+        ensures err { OnErr result (self.new ≡ self.old) }
+    {
+        let message = message_of(env, bytes);
+        if self.too_long {
+            add_message(&mut self.records, &message);
+            return Ok(());
+        }
+        let more = bytes.len();
+        if more > MOST - self.bytes.len() {
+            self.too_long = true;
+            add_message(&mut self.records, &message);
+            return Ok(());
+        }
+        self.bytes.extend_from_slice(bytes)?;
+        self.count += 1;
+        add_message(&mut self.records, &message);
+        Ok(())
+    }
+
     /// The place of the first record with which they have more bytes than a data section may have.
     pub(crate) fn too_long(&self) -> Option<u64>
         ensures fit { AllFit empty_environment self.now }
@@ -136,10 +166,42 @@ impl SpelledRecords {
     }
 }
 
+/// The data message that the bytes are.
+fn message_of<'a>(env: &'a Env, bytes: &'a [u8]) -> MessageBytes<'a>
+    requires { (v : Values Global) × IsRecord env.now (Data v) bytes.now }
+    ensures read { (v : Values Global) → IsRecord env.now (Data v) bytes.now
+        → message_in result ≡ v }
+    ensures fits { Fits env.now (Data (message_in result)) }
+    ensures spelled { bytes.now ≡ record_bytes env.now (Data (message_in result)) }
+{
+    match env.message_bytes(bytes) {
+        Some(message) => message,
+        None => unreachable!(),
+    }
+}
+
+/// Puts a message in a history of records.
+fn add_message(records: &mut History<Record>, message: &MessageBytes<'_>)
+    ensures { records.new.items ≡ records.old.items ++ Data (message_in message.now) ∷ [] }
+{
+    records.add_from(message);
+}
+
+/// Makes bytes those of a record that fits where this is known. The only error is out of memory.
+pub fn spell(bytes: &mut Vec<u8>, env: &Env, r: &Record) -> Result<(), AllocError>
+    requires { Fits env.now r.now }
+    ensures { OnOk result (bytes.new.items ≡ record_bytes env.now r.now) }
+{
+    bytes.clear();
+    let size = record_size(env, r);
+    put_record(bytes, order_of(env, r), size, r)
+}
+
 /// How many bytes a record has that fits.
 fn record_size(env: &Env, r: &Record) -> usize
     requires { Fits env.now r.now }
-    ensures { result ≡ length (record_bytes env.now r.now) }
+    ensures length { result ≡ length (record_bytes env.now r.now) }
+    ensures small { result ≤ 1 + body_limit }
 {
     match r {
         Record::Define(d) => definition_length(d),

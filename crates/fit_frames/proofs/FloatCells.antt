@@ -1,6 +1,6 @@
 -- The cells of floating point numbers by the bytes of their fields.
 use Rattle.fit_frames.proofs.Common.{◌≡◌, ◌∙◌, ◌*◌, ◌/◌, ◌%◌, ◌++◌, [], ◌∷◌, length, refl, sym, ap, arith, subst, base_type, item_width, eq-eqb, Order, cell}
-use Rattle.fit_frames.proofs.Common.{true, take_all, hex_digits, inl, inr, Items, HasShape, field_text, default_writer}
+use Rattle.fit_frames.proofs.Common.{true, take_all, hex_digits, inl, inr, Items}
 use Rattle.std.proofs.Common.{ℕ, List, Option, if◌then◌else◌, ◌==◌, ◌⊎◌, codes}
 use Rattle.std.proofs.lemmas.List.{append-nil}
 use Rattle.fit_base.specs.Numbers.{number}
@@ -58,10 +58,3 @@ float_shown A o code size info bytes float own long =
     let is = float_text A o code size info bytes float own long in
     both_show code info items (codes "0x" ++ hex_digits (2 * size) (number o bytes)) is (plain_cell code info items (λ e. cc (sym float ∙ e)) ∙ is)
     (all-item (λ b. is_printable b ≡ true) printable Float code info size (number o bytes))
-
--- the same in a row by items that are made
-pub float_made : {A : Type 0} (code size : ℕ) (info : Option Meaning) (items : Items A) (n : ℕ) → (base_type code).class ≡ Float
-    → (base_type code).width ≡ size → HasShape code size items → items.bits ≡ n ∷ []
-    → field_text default_writer (cell code info items) ≡ codes "0x" ++ hex_digits (2 * size) n
-float_made code size info items n float own shape bits =
-    plain_cell code info items (λ e. cc (sym float ∙ e)) ∙ float_cell code size info items n float own shape.width bits

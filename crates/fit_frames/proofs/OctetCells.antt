@@ -1,5 +1,5 @@
 -- The cells of bytes, by the items of their fields and by the bytes.
-use Rattle.fit_frames.proofs.Common.{◌≡◌, ◌∙◌, ◌*◌, ◌/◌, [], length, refl, sym, ap, arith, Items, Order, HasShape, cell, field_text, default_writer, item_width}
+use Rattle.fit_frames.proofs.Common.{◌≡◌, ◌∙◌, ◌/◌, [], length, refl, sym, ap, arith, Items, Order, cell, field_text, default_writer, item_width}
 use Rattle.fit_frames.proofs.Common.{ne_eqb, unquoted}
 use Rattle.std.proofs.Common.{ℕ, List, Option, if◌then◌else◌, ◌==◌, ◌<◌, true, false}
 use Rattle.fit_base.specs.declared.code.Class.TheVariants.{Bytes}
@@ -29,13 +29,6 @@ octets_shown code size info items bytes are same bits long =
     both_show code info items (bytes_text bytes) is
     (ap (field_text default_writer) is ∙ unquoted (bytes_text bytes) (all-bytes (λ b. 44 < b) (λ b h _. h) bytes))
     (all-bytes (λ b. is_printable b ≡ true) printable bytes)
-
--- by the items
-pub bytes_items : {A : Type 0} (code size : ℕ) (info : Option Meaning) (items : Items A) → IsOfBytes code size → HasShape code size items
-    → BothShow code info items (bytes_text items.bits)
-bytes_items code size info items are shape =
-    let whole : length items.bits * 1 ≡ size = ap (λ w. length items.bits * w) (sym (shape.width ∙ octet_width code size are)) ∙ shape.whole in
-    octets_shown code size info items items.bits are shape.width refl (omega (arith, whole))
 
 -- by the bytes
 pub bytes_shown : (A : Type 0) (o : Order) (code size : ℕ) (info : Option Meaning) (bytes : List ℕ) → IsOfBytes code size → length bytes ≡ size

@@ -4,10 +4,12 @@ use Rattle.std.specs.Global.{Global}
 use Rattle.csv.specs.Writing.{default_writer, field_text}
 use Rattle.fit_base.specs.declared.items.Items.{Items}
 use Rattle.fit_base.specs.declared.number.Order.{Order}
-use Rattle.fit_record.specs.ReadMessages.{field_from}
+use Rattle.fit_record.specs.ReadMessages.{field_from, fields_from}
+use Rattle.fit_record.specs.Records.{sizes}
 use Rattle.fit_profile.specs.Profile.{Meaning}
 use Rattle.fit_cells.specs.Cells.{cell}
 use Rattle.fit_cells.specs.Rows.{Cell}
+use Rattle.fit_frames.specs.declared.items.ItemBytes.{ItemBytes}
 
 -- two cells, each with a comma after it
 abbrev pub two_cells : Cell → Cell → List ℕ
@@ -25,6 +27,10 @@ abbrev pub field_in_row : FrameText → Order → List ℕ → List ℕ
 field_in_row f order bytes = field_text default_writer (cell f.code f.info (field_from {A = Global} order (f.code, f.size) bytes))
 
 -- ---- the items of fields, one field after another, where they are known by a relation with the codes and sizes of the fields
+
+-- The bytes are those of fields with these codes and sizes, and these are the items.
+abbrev pub HasItems : ItemBytes → List (ℕ × ℕ) → List (Items Global) → Type 0
+HasItems s fields items = (length s.rest.now ≡ sizes fields) × (items ≡ fields_from s.order fields s.rest.now)
 
 -- The next fields have these codes and sizes.
 abbrev pub HasFields : {S : Type 0} → (S → List (ℕ × ℕ) → List (Items Global) → Type 0) → S → List (ℕ × ℕ) → Type 0

@@ -10,17 +10,15 @@ ghost use Rattle.fit_texts.specs.Sheets.{and_sheet};
 
 pub(crate) mod exact;
 pub(crate) mod likely;
-mod made;
 
 use crate::form::{FieldForm, FieldKind};
+use crate::pen::Pen;
 use fit_base::{Items, Order, bits_at};
-use fit_cells::{
-    RowWriter, ShownText, formed, is_never_quoted, put_cell, shown_text, write_formed,
-};
+use fit_cells::{RowWriter, ShownText, is_never_quoted, put_cell, shown_text, write_formed};
 use fit_profile::Info;
 use fit_record::read_items;
 use fit_texts::{Sheet, Stamp, WIDE, add_text, put_sheet};
-use std::alloc::{AllocError, Global};
+use std::alloc::AllocError;
 use std::marker::Model;
 
 /// Puts two cells after a text, each with a comma after it.
@@ -100,8 +98,7 @@ impl Model for Frame {
 impl Frame {
     /// What stands around a value of this code, size and meaning after a row with this end.
     pub fn new<'a>(
-        alloc: Global,
-        writer: &mut RowWriter,
+        pen: &mut Pen,
         before: &[u8],
         kind: &'a [u8],
         name: &'a [u8],
@@ -118,9 +115,9 @@ impl Frame {
           info = option_map meaning info;
         }) }
     {
-        let mut between = Vec::with_capacity(alloc, WIDE)?;
+        let mut between = Vec::with_capacity(pen.alloc, WIDE)?;
         between.extend_from_slice(before)?;
-        put_two(&mut between, writer, kind, name)?;
+        put_two(&mut between, &mut pen.writer, kind, name)?;
         Ok(Frame {
             between: Stamp::new(between)?,
             form: FieldForm::new(code, size, info),
@@ -137,13 +134,7 @@ impl Frame {
 
     /// Puts a value that is no lone number after a text.
     #[inline(never)]
-    fn put_other(
-        &self,
-        text: &mut Vec<u8>,
-        writer: &mut RowWriter,
-        value: &mut Vec<u8>,
-        items: &Items,
-    ) -> Result<(), AllocError>
+    fn put_other(&self, text: &mut Vec<u8>, pen: &mut Pen, items: &Items) -> Result<(), AllocError>
         requires { HasShape self.now.code self.now.size items.now }
         ensures { OnOk result (text.new.items ≡ text.old.items
             ++ field_text default_writer (cell self.now.code self.now.info items.now)) }
@@ -152,34 +143,9 @@ impl Frame {
         if is_never_quoted(code) {
             return put_cell(text, code, info, items);
         }
-        value.clear();
-        put_cell(value, code, info, items)?;
-        writer.put_lone(text, value.as_slice())
-    }
-
-    /// Puts what stands before the value, and the value.
-    #[inline(always)]
-    pub(crate) fn put(
-        &self,
-        text: &mut Vec<u8>,
-        sheet: &mut Sheet,
-        at: usize,
-        writer: &mut RowWriter,
-        value: &mut Vec<u8>,
-        items: &Items,
-    ) -> Result<usize, AllocError>
-        requires place { at ≤ 1024 }
-        requires shape { HasShape self.now.code self.now.size items.now }
-        ensures place { IfOk result (λ end. end ≤ 1024) }
-        ensures text { IfOk result (λ end. and_sheet text.new.items sheet.new end
-            ≡ (and_sheet text.old.items sheet.old at ++ self.now.between)
-            ++ field_text default_writer (cell self.now.code self.now.info items.now)) }
-    {
-        let at = self.between.add(text, sheet, at)?;
-        if let Some((form, bits)) = formed(self.form.lone(), items) {
-            return Ok(write_formed(sheet, at, form, bits));
-        }
-        self.add_made(text, sheet, at, writer, value, items)
+        pen.value.clear();
+        put_cell(&mut pen.value, code, info, items)?;
+        pen.writer.put_lone(text, pen.value.as_slice())
     }
 
     /// Puts a value that isn't written in a sheet after a text, by the bytes of its field.
@@ -187,9 +153,7 @@ impl Frame {
     fn put_rest(
         &self,
         text: &mut Vec<u8>,
-        writer: &mut RowWriter,
-        value: &mut Vec<u8>,
-        alloc: Global,
+        pen: &mut Pen,
         order: Order,
         bytes: &[u8],
     ) -> Result<(), AllocError>
@@ -197,8 +161,8 @@ impl Frame {
         ensures { OnOk result (text.new.items ≡ text.old.items
             ++ field_in_row self.now order bytes.now) }
     {
-        let items = read_items(alloc, order, self.form.code.0, self.form.size, bytes)?;
-        self.put_other(text, writer, value, &items)
+        let items = read_items(pen.alloc, order, self.form.code.0, self.form.size, bytes)?;
+        self.put_other(text, pen, &items)
     }
 
     /// Adds a value that is no lone number of at most four bytes, by the bytes of its field.
@@ -208,9 +172,7 @@ impl Frame {
         text: &mut Vec<u8>,
         sheet: &mut Sheet,
         at: usize,
-        writer: &mut RowWriter,
-        value: &mut Vec<u8>,
-        alloc: Global,
+        pen: &mut Pen,
         order: Order,
         bytes: &[u8],
     ) -> Result<usize, AllocError>
@@ -225,24 +187,22 @@ impl Frame {
         }
         if let FieldKind::Text = self.form.kind {
             if let Some(shown) = shown_text(bytes) {
-                return add_shown(text, sheet, at, writer, shown);
+                return add_shown(text, sheet, at, &mut pen.writer, shown);
             }
         }
         put_sheet(text, sheet, at)?;
-        self.put_rest(text, writer, value, alloc, order, bytes)?;
+        self.put_rest(text, pen, order, bytes)?;
         Ok(0)
     }
 
-    /// The same as `put`, by the bytes of the field.
+    /// Puts what stands before the value, and the value, by the bytes of its field.
     #[inline(always)]
     pub(crate) fn put_bytes(
         &self,
         text: &mut Vec<u8>,
         sheet: &mut Sheet,
         at: usize,
-        writer: &mut RowWriter,
-        value: &mut Vec<u8>,
-        alloc: Global,
+        pen: &mut Pen,
         order: Order,
         bytes: &[u8],
     ) -> Result<usize, AllocError>
@@ -258,6 +218,6 @@ impl Frame {
             let bits = bits_at(order, form.width, bytes);
             return Ok(write_formed(sheet, at, form, bits));
         }
-        self.add_read(text, sheet, at, writer, value, alloc, order, bytes)
+        self.add_read(text, sheet, at, pen, order, bytes)
     }
 }

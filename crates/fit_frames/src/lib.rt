@@ -4,10 +4,12 @@
 mod form;
 mod frames;
 mod items;
+mod pen;
 mod shown;
 
 pub use frames::exact::exact_items;
 pub use frames::likely::after;
 pub use frames::{Frame, put_tail, put_two};
-pub use items::{FieldItems, ItemBytes, MadeItems};
+pub use items::ItemBytes;
+pub use pen::Pen;
 pub use shown::ShownCell;

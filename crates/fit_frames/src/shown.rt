@@ -12,7 +12,7 @@ ghost use Rattle.fit_frames.specs.CellKeys.{field_in_line};
 use crate::form::{FieldForm, FieldKind};
 use fit_base::base_type::BYTE;
 use fit_base::{Code, Items, Order, bits_at};
-use fit_cells::{formed, put_cell, shown_text, write_formed};
+use fit_cells::{put_cell, shown_text, write_formed};
 use fit_profile::Info;
 use fit_record::read_items;
 use fit_texts::{Sheet, add_text, put_sheet};
@@ -87,30 +87,6 @@ impl ShownCell {
         put_cell(text, Code(BYTE), None, items)
     }
 
-    /// Puts the cell: a lone number by its form, which has no control character.
-    #[inline(always)]
-    pub(crate) fn put(
-        &self,
-        text: &mut Vec<u8>,
-        sheet: &mut Sheet,
-        at: usize,
-        items: &Items,
-    ) -> Result<usize, AllocError>
-        requires room { at + 32 ≤ 1024 }
-        requires shape { HasShape self.now.code self.now.size items.now }
-        ensures place { IfOk result (λ end. end ≤ 1024) }
-        ensures text { IfOk result (λ end. and_sheet text.new.items sheet.new end
-            ≡ and_sheet text.old.items sheet.old at
-            ++ shown_cell self.now.code self.now.info items.now) }
-    {
-        if let Some((form, bits)) = formed(self.form.lone(), items) {
-            return Ok(write_formed(sheet, at, form, bits));
-        }
-        put_sheet(text, sheet, at)?;
-        self.put_other(text, items)?;
-        Ok(0)
-    }
-
     /// The text of a string by the bytes of the field, where it is shown as it is.
     fn plain_text<'a>(&self, bytes: &'a [u8]) -> Option<&'a [u8]>
         requires { length bytes.now ≡ self.now.size }
@@ -169,7 +145,7 @@ impl ShownCell {
         Ok(0)
     }
 
-    /// Puts the cell by the bytes of the field.
+    /// Puts the cell by the bytes of the field: a lone number by its form, which has no control character.
     #[inline(always)]
     pub(crate) fn put_bytes(
         &self,

@@ -5,10 +5,9 @@ use Rattle.fit_rows.proofs.Common.{previous_time, DataFits, Fits, HaveShape, def
 use Rattle.fit_rows.proofs.Common.{unquoted, optional_number}
 use Rattle.fit_rows.proofs.Common.{row, Row, message_label, instant_text, data_rows, MessageKey, end_of, frame_keys, frame_slots}
 use Rattle.fit_rows.proofs.Common.{frames_of, key_rows, message_key, value_rows}
-use Rattle.std.proofs.Common.{ℕ, List, Option, Some, None, codes, decimal}
-use Rattle.std.specs.Prelude.{option_map, unwrap_or, IsSome, is_some}
+use Rattle.std.proofs.Common.{ℕ, List, Option, Some, None, Result, Ok, Err, codes, decimal, true}
+use Rattle.std.specs.Prelude.{option_map, unwrap_or, IsSome, OnErr, is_err}
 use Rattle.fit_record.specs.Records.{DataHeaderFits}
-use Rattle.fit_rows.specs.ChainRows.{definition_rows}
 use Rattle.fit_rows.specs.Quotes.{HasNoQuotes}
 use Rattle.fit_texts.specs.Commas.{HasNoCommas}
 use Rattle.fit_frames.specs.Bare.{StandBare}
@@ -122,18 +121,18 @@ message_given before p local offset time v text left place at since timed fits i
       subst (λ r. HasNoQuotes (csv_text r)) (sym rows) plain,
     )
 
--- rows of a definition are none of a data message
-pub no_definition : (d : MessageDef Global) (text more left : List ℕ) → text ≡ codes "data," ++ more → text ≡ csv_text (definition_rows d) ++ left → ⊥
-unfolding csv_text
-no_definition d text more left of_data of_def = absurd (omega (arith, ap (λ t. get_or t 1 0) (sym of_data ∙ of_def)))
-
 -- what is found of a text by what is kept of a definition
 abbrev pub IsReadBy : MessageKey → Option ℕ → Option ℕ → List ℕ → Option (Values Global) → Type 0
 IsReadBy k offset time text found = (v : Values Global) (left : List ℕ) → v.local ≡ k.own.local → v.offset ≡ offset → length v.fields ≡ length k.own.fields
     → HaveShape (frame_slots k) (v.fields ++ v.dev) → text ≡ csv_text (key_rows k offset time (v.fields ++ v.dev)) ++ left
     → HasNoQuotes (csv_text (key_rows k offset time (v.fields ++ v.dev))) → found ≡ Some v
 
+-- what is returned without an error, and with one
+pub where_err : {X E : Type 0} (r : Result X E) (P : Type 0) → OnErr r P → is_err r ≡ true → P
+where_err (Ok x) P h e = cc e
+where_err (Err x) P h e = h
+
 -- what is found is some
-pub is_found : {X : Type 0} (o : Option X) (P : X → Type 0) → IsSomeAnd o P → is_some o ≡ false → ⊥
-is_found None P h e = h
-is_found (Some x) P h e = cc e
+pub is_found : {X : Type 0} (o : Option X) (P : X → Type 0) → IsSomeAnd o P → IsSome o
+is_found None P h = absurd h
+is_found (Some x) P h = refl

@@ -8,22 +8,36 @@ ghost use Rattle.fit_texts.specs.MessageKeys.{message_key};
 
 use crate::definition::again::DefinitionRows;
 use crate::template::Template;
-use fit_cells::RowWriter;
+use fit_frames::Pen;
 use fit_profile::Stream;
 use fit_record::Defined;
-use fit_texts::{ByLocal, Sheet, Times, note};
+use fit_texts::{ByLocal, SHEET_SIZE, Sheet, Times, note};
 use std::alloc::{AllocError, Global};
 
 /// What rows are put with, one after another.
 #[derive(Drop)]
-pub struct RowMaker {
-    pub(crate) alloc: Global,
+pub(crate) struct RowTools {
     /// What rows are written in first.
-    pub(crate) sheet: Sheet,
-    pub(crate) writer: RowWriter,
-    /// The memory of a cell.
-    pub(crate) value: Vec<u8>,
-    pub(crate) times: Times,
+    pub sheet: Sheet,
+    pub pen: Pen,
+    pub times: Times,
+}
+
+impl RowTools {
+    /// They have put no row.
+    pub(crate) fn new(alloc: Global) -> RowTools {
+        RowTools {
+            sheet: [0; SHEET_SIZE],
+            pen: Pen::new(alloc),
+            times: Times::new(alloc),
+        }
+    }
+}
+
+/// What makes rows, and what is kept from one to the next.
+#[derive(Drop)]
+pub struct RowMaker {
+    pub(crate) tools: RowTools,
     pub(crate) definitions: DefinitionRows,
     /// That of the last message of each local message type.
     pub(crate) templates: ByLocal<Template>,
@@ -57,8 +71,7 @@ impl RowMaker {
             note(&mut self.templates.current, local, true);
             return Ok(());
         }
-        let writer = &mut self.writer;
-        let template = Template::new(self.alloc, writer, stream, local, defined)?;
+        let template = Template::new(&mut self.tools.pen, stream, local, defined)?;
         self.templates.keep(local, template)
     }
 

@@ -5,116 +5,49 @@ ghost use Rattle.fit_base.specs.declared.items.Items.{Items};
 ghost use Rattle.fit_record.specs.declared.message.Values.{Values};
 ghost use Rattle.fit_record.specs.Environment.{defined_at};
 ghost use Rattle.fit_record.specs.declared.message.Record.TheVariants.{Values as Data};
-ghost use Rattle.fit_record.specs.Records.{Fits, IsRecord, dev_layout, layout};
+ghost use Rattle.fit_record.specs.Records.{IsRecord, dev_layout, layout};
 ghost use Rattle.fit_record.specs.Sound.{IsSound};
 ghost use Rattle.fit_profile.specs.Looks.{known};
 ghost use Rattle.fit_cells.specs.Rows.{HasRows};
 ghost use Rattle.fit_rows.specs.ChainRows as rows;
 ghost use Rattle.fit_texts.specs.Current.{AreCurrent};
-ghost use Rattle.fit_frames.specs.Frames.{HasFields, TakesFields};
-ghost use Rattle.fit_rows.specs.inner.FrameKeys.{frame_slots, key_rows};
+ghost use Rattle.fit_frames.specs.Frames.{HasItems};
 ghost use Rattle.fit_texts.specs.MessageKeys.{message_key};
 
 use crate::maker::RowMaker;
-use fit_frames::{FieldItems, ItemBytes, MadeItems};
+use fit_frames::ItemBytes;
 use fit_profile::Stream;
-use fit_record::{Defined, Record};
+use fit_record::Defined;
 use fit_texts::words::header_time;
 use std::alloc::AllocError;
 
-/// Puts the rows of a data message of this definition after the records of a stream, by the time of its header.
-fn put_by<S: FieldItems>(
+/// Puts the rows of a data message of this definition after the records of a stream.
+fn put_values(
     text: &mut Vec<u8>,
     maker: &mut RowMaker,
     stream: &Stream,
     defined: &Defined,
     local: u8,
     offset: Option<u8>,
-    time: Option<u32>,
-    items: &mut S,
+    items: &mut ItemBytes<'_>,
 ) -> Result<(), AllocError>
     requires place { defined_at (known stream.now) local ≡ Some defined.now }
     requires sound { IsSound defined.now }
     requires current { AreCurrent message_key maker.old.templates stream.now }
-    requires items { HasFields S.has_items items.old
-        (frame_slots (message_key stream.now local defined.now)) }
-    ensures rows { OnOk result (TakesFields S.has_items items.old items.new
-        (frame_slots (message_key stream.now local defined.now))
-        (λ all. HasRows (key_rows (message_key stream.now local defined.now) offset time all)
-        text.old text.new)) }
+    requires items { (all : List (Items Global))
+        × HasItems items.old (layout defined.now ++ dev_layout defined.now) all }
+    ensures rows { OnOk result ((v : Values Global) → v.local ≡ local → v.offset ≡ offset
+        → length v.fields ≡ length defined.now.definition.fields
+        → HasItems items.old (layout defined.now ++ dev_layout defined.now) (v.fields ++ v.dev)
+        → HasRows (rows.data_rows stream.now v) text.old text.new) }
     ensures current { AreCurrent message_key maker.new.templates stream.now }
 {
     maker.keep_template(stream, local, defined)?;
     let Some(template) = maker.templates.get(local) else {
         unreachable!()
     };
-    let sheet = &mut maker.sheet;
-    let writer = &mut maker.writer;
-    let value = &mut maker.value;
-    let times = &mut maker.times;
-    template.put(text, sheet, writer, value, times, offset, time, items)
-}
-
-/// Puts the rows of a data message of this definition after the records of a stream.
-fn put_values<S: FieldItems>(
-    text: &mut Vec<u8>,
-    maker: &mut RowMaker,
-    stream: &Stream,
-    defined: &Defined,
-    local: u8,
-    offset: Option<u8>,
-    items: &mut S,
-) -> Result<(), AllocError>
-    requires place { defined_at (known stream.now) local ≡ Some defined.now }
-    requires sound { IsSound defined.now }
-    requires current { AreCurrent message_key maker.old.templates stream.now }
-    requires items { (all : List (Items Global))
-        × S.has_items items.old (layout defined.now ++ dev_layout defined.now) all }
-    ensures rows { OnOk result ((v : Values Global) → v.local ≡ local → v.offset ≡ offset
-        → length v.fields ≡ length defined.now.definition.fields
-        → S.has_items items.old (layout defined.now ++ dev_layout defined.now) (v.fields ++ v.dev)
-        → HasRows (rows.data_rows stream.now v) text.old text.new) }
-    ensures current { AreCurrent message_key maker.new.templates stream.now }
-{
     let time = header_time(stream, offset);
-    put_by(text, maker, stream, defined, local, offset, time, items)
-}
-
-/// Puts the rows of a record after the records of a stream.
-pub(crate) fn put_record(
-    text: &mut Vec<u8>,
-    maker: &mut RowMaker,
-    stream: &Stream,
-    record_: &Record,
-) -> Result<(), AllocError>
-    requires fits { Fits (known stream.now) record_.now }
-    requires current { AreCurrent message_key maker.old.templates stream.now }
-    ensures rows { OnOk result (HasRows (rows.record_rows stream.now record_.now)
-        text.old text.new) }
-    ensures current { AreCurrent message_key maker.new.templates stream.now }
-{
-    match record_ {
-        Record::Define(definition) => maker.definitions.put(text, definition),
-        Record::Values(values) => match stream.env().defined(values.local) {
-            Some(defined) => {
-                let mut items = MadeItems {
-                    fields: values.fields.as_slice(),
-                    dev: values.dev.as_slice(),
-                };
-                let local = values.local;
-                put_values(
-                    text,
-                    maker,
-                    stream,
-                    defined,
-                    local,
-                    values.offset,
-                    &mut items,
-                )
-            }
-            None => unreachable!(),
-        },
-    }
+    template.put(text, &mut maker.tools, offset, time, items)
 }
 
 /// Puts the rows of the data message that the bytes are after the records of a stream.
@@ -134,7 +67,7 @@ pub(crate) fn put_message(
         unreachable!()
     };
     let mut items = ItemBytes {
-        alloc: maker.alloc,
+        alloc: maker.tools.pen.alloc,
         order: message.defined.definition.order,
         rest: message.body,
     };

@@ -3,12 +3,12 @@ ghost use Rattle.std.specs.Prelude.{◌≡◌, ◌++◌};
 
 use crate::definition::again::DefinitionRows;
 use crate::file::{put_end_row, put_file_row};
-use crate::maker::RowMaker;
-use crate::message::{put_message, put_record};
-use fit_cells::RowWriter;
-use fit_decode::Event;
+use crate::maker::{RowMaker, RowTools};
+use crate::message::put_message;
+use fit_frame::Header;
 use fit_profile::Stream;
-use fit_texts::{ByLocal, SHEET_SIZE, TextMaker, TextReport, Times};
+use fit_record::MessageDef;
+use fit_texts::{ByLocal, TextMaker, TextReport};
 use std::alloc::{AllocError, Global};
 
 impl TextMaker for RowMaker {
@@ -22,11 +22,7 @@ impl TextMaker for RowMaker {
 
     fn new(alloc: Global) -> Self {
         RowMaker {
-            alloc,
-            sheet: [0; SHEET_SIZE],
-            writer: RowWriter::new(alloc),
-            value: Vec::new(alloc),
-            times: Times::new(alloc),
+            tools: RowTools::new(alloc),
             definitions: DefinitionRows::new(alloc),
             templates: ByLocal::new(alloc),
         }
@@ -36,24 +32,27 @@ impl TextMaker for RowMaker {
         self.templates.forget();
     }
 
-    fn take_event(
+    fn put_header(
         &mut self,
         text: &mut Vec<u8>,
-        stream: &mut Stream,
         _files: u64,
-        event: &Event,
+        header: &Header,
+        _size: u32,
     ) -> Result<(), AllocError> {
-        match event {
-            Event::Header(header, _) => {
-                put_file_row(text, &mut self.writer, &mut self.value, header)
-            }
-            Event::Item(record_) => {
-                put_record(text, self, stream, record_)?;
-                stream.take(record_)
-            }
-            Event::FileEnd => put_end_row(text),
-            Event::More => Ok(()),
-        }
+        let pen = &mut self.tools.pen;
+        put_file_row(text, &mut pen.writer, &mut pen.value, header)
+    }
+
+    fn put_definition(
+        &mut self,
+        text: &mut Vec<u8>,
+        definition: &MessageDef,
+    ) -> Result<(), AllocError> {
+        self.definitions.put(text, definition)
+    }
+
+    fn put_end(&mut self, text: &mut Vec<u8>) -> Result<(), AllocError> {
+        put_end_row(text)
     }
 
     fn take_message(

@@ -8,7 +8,7 @@ ghost use Rattle.fit_cells.specs.Rows.{HasRows, csv_text};
 ghost use Rattle.fit_texts.specs.Words as words;
 ghost use Rattle.fit_rows.specs.ChainRows as rows;
 ghost use Rattle.fit_texts.specs.InstantText.{instant_text};
-ghost use Rattle.fit_frames.specs.Frames.{HasFields, TakesFields};
+ghost use Rattle.fit_frames.specs.Frames.{HasFields, HasItems, TakesFields};
 ghost use Rattle.fit_rows.specs.inner.FrameKeys.{dev_frame_key, end_of, field_key, frame_slots, frame_text, frames_of, key_rows, tail_text, values_text};
 ghost use Rattle.fit_texts.specs.MessageKeys.{message_key};
 ghost use Rattle.fit_texts.specs.Sheets.{and_sheet};
@@ -17,20 +17,19 @@ mod exact;
 mod first_row;
 pub(crate) mod likely;
 
+use crate::maker::RowTools;
 use crate::template::first_row::first_row;
-use fit_cells::RowWriter;
-use fit_frames::{FieldItems, Frame, put_tail};
+use fit_frames::{Frame, ItemBytes, Pen, put_tail};
 use fit_profile::{Stream, field_info, field_label, write_fixed};
 use fit_record::{Defined, FieldDef};
 use fit_texts::words::unit_text;
 use fit_texts::{KeptDev, KeptMessage, Sheet, Stamp, Times, WIDE, put_sheet, write_text};
-use std::alloc::{AllocError, Global};
+use std::alloc::AllocError;
 use std::marker::Model;
 
 /// Adds what stands around the value of a field, and sets `end` to the end of its row.
 fn push_field(
-    alloc: Global,
-    writer: &mut RowWriter,
+    pen: &mut Pen,
     frames: &mut Vec<Frame>,
     end: &mut Vec<u8>,
     global: u16,
@@ -44,18 +43,15 @@ fn push_field(
     let label = field_label(global, field.number);
     let name = label.as_str().as_bytes();
     let before = end.as_slice();
-    let frame = Frame::new(
-        alloc, writer, before, b"field", name, field.code, field.size, info,
-    )?;
+    let frame = Frame::new(pen, before, b"field", name, field.code, field.size, info)?;
     frames.push(frame)?;
     end.clear();
-    put_tail(end, writer, unit_text(info).as_bytes())
+    put_tail(end, &mut pen.writer, unit_text(info).as_bytes())
 }
 
 /// What stands around the values of fields. It sets `end` to the end of the last row.
 fn field_frames(
-    alloc: Global,
-    writer: &mut RowWriter,
+    pen: &mut Pen,
     end: &mut Vec<u8>,
     global: u16,
     fields: &[FieldDef],
@@ -65,17 +61,16 @@ fn field_frames(
         frames.items ≡ frames_of [] (map (field_key global) fields.now)) }
     ensures end { OnOk result (end.new.items ≡ end_of [] (map (field_key global) fields.now)) }
 {
-    let mut frames = Vec::new(alloc);
+    let mut frames = Vec::new(pen.alloc);
     for field in fields {
-        push_field(alloc, writer, &mut frames, end, global, field)?;
+        push_field(pen, &mut frames, end, global, field)?;
     }
     Ok(frames)
 }
 
 /// Adds what stands around the value of a developer field, and sets `end` to the end of its row.
 fn push_dev(
-    alloc: Global,
-    writer: &mut RowWriter,
+    pen: &mut Pen,
     frames: &mut Vec<Frame>,
     end: &mut Vec<u8>,
     dev: &KeptDev,
@@ -86,18 +81,15 @@ fn push_dev(
 {
     let name = dev.name.as_slice();
     let before = end.as_slice();
-    let frame = Frame::new(
-        alloc, writer, before, b"dev", name, dev.code, dev.size, None,
-    )?;
+    let frame = Frame::new(pen, before, b"dev", name, dev.code, dev.size, None)?;
     frames.push(frame)?;
     end.clear();
-    put_tail(end, writer, dev.unit.as_slice())
+    put_tail(end, &mut pen.writer, dev.unit.as_slice())
 }
 
 /// Adds what stands around the values of developer fields, and sets `end` to the end of the last row.
 fn push_devs(
-    alloc: Global,
-    writer: &mut RowWriter,
+    pen: &mut Pen,
     frames: &mut Vec<Frame>,
     end: &mut Vec<u8>,
     devs: &[KeptDev],
@@ -107,15 +99,14 @@ fn push_devs(
     ensures end { OnOk result (end.new.items ≡ end_of end.old.items (map dev_frame_key devs.now)) }
 {
     for dev in devs {
-        push_dev(alloc, writer, frames, end, dev)?;
+        push_dev(pen, frames, end, dev)?;
     }
     Ok(())
 }
 
 /// What stands around the values of fields and of developer fields. It sets `end` to the end of the last row.
 fn all_frames(
-    alloc: Global,
-    writer: &mut RowWriter,
+    pen: &mut Pen,
     end: &mut Vec<u8>,
     global: u16,
     fields: &[FieldDef],
@@ -127,31 +118,30 @@ fn all_frames(
     ensures end { OnOk result (end.new.items
         ≡ end_of [] (map (field_key global) fields.now ++ map dev_frame_key devs.now)) }
 {
-    let mut frames = field_frames(alloc, writer, end, global, fields)?;
-    push_devs(alloc, writer, &mut frames, end, devs)?;
+    let mut frames = field_frames(pen, end, global, fields)?;
+    push_devs(pen, &mut frames, end, devs)?;
     Ok(frames)
 }
 
 /// Puts the values of fields one after another, each after what stands before it, and this end. Nothing is left in the sheet.
-fn put_frames<S: FieldItems>(
+fn put_frames(
     text: &mut Vec<u8>,
     sheet: &mut Sheet,
     at: usize,
-    writer: &mut RowWriter,
-    value: &mut Vec<u8>,
+    pen: &mut Pen,
     frames: &[Frame],
     end: &Stamp,
-    items: &mut S,
+    items: &mut ItemBytes<'_>,
 ) -> Result<(), AllocError>
     requires place { at ≤ 1024 }
-    requires fields { HasFields S.has_items items.old (map (λ f. (f.code, f.size)) frames.now) }
-    ensures { OnOk result (TakesFields S.has_items items.old items.new
+    requires fields { HasFields HasItems items.old (map (λ f. (f.code, f.size)) frames.now) }
+    ensures { OnOk result (TakesFields HasItems items.old items.new
         (map (λ f. (f.code, f.size)) frames.now) (λ all. text.new.items
         ≡ and_sheet text.old.items sheet.old at ++ values_text frames.now end.now all)) }
 {
     let mut at = at;
     for frame in frames {
-        at = items.put_next(text, sheet, at, writer, value, frame)?;
+        at = items.put_next(text, sheet, at, pen, frame)?;
     }
     let last = end.add(text, sheet, at)?;
     put_sheet(text, sheet, last)
@@ -173,8 +163,7 @@ fn write_optional(sheet: &mut Sheet, at: usize, number: Option<u8>) -> usize
 
 /// What stands around the values of fields and of developer fields, and the end of the last row.
 fn frames_and_end(
-    alloc: Global,
-    writer: &mut RowWriter,
+    pen: &mut Pen,
     global: u16,
     fields: &[FieldDef],
     devs: &[KeptDev],
@@ -184,8 +173,8 @@ fn frames_and_end(
     ensures end { IfOk result (λ p. p.1
         ≡ end_of [] (map (field_key global) fields.now ++ map dev_frame_key devs.now)) }
 {
-    let mut end = Vec::with_capacity(alloc, WIDE)?;
-    let frames = all_frames(alloc, writer, &mut end, global, fields, devs)?;
+    let mut end = Vec::with_capacity(pen.alloc, WIDE)?;
+    let frames = all_frames(pen, &mut end, global, fields, devs)?;
     let end = Stamp::new(end)?;
     Ok((frames, end))
 }
@@ -229,8 +218,7 @@ impl Model for Template {
 impl Template {
     /// That of the definition of this local message type after the records of a stream.
     pub(crate) fn new(
-        alloc: Global,
-        writer: &mut RowWriter,
+        pen: &mut Pen,
         stream: &Stream,
         local: u8,
         defined: &Defined,
@@ -239,13 +227,14 @@ impl Template {
         requires sound { IsSound defined.now }
         ensures { IfOk result (λ t. t ≡ message_key stream.now local defined.now) }
     {
+        let alloc = pen.alloc;
         let definition = &defined.definition;
         let global = definition.global;
         let kept = KeptMessage::new(alloc, stream, local, defined)?;
         let fields = definition.fields.as_slice();
         let devs = kept.devs.as_slice();
-        let (frames, end) = frames_and_end(alloc, writer, global, fields, devs)?;
-        let (line, front, label) = first_row(alloc, writer, local, global)?;
+        let (frames, end) = frames_and_end(pen, global, fields, devs)?;
+        let (line, front, label) = first_row(pen, local, global)?;
         Ok(Template {
             kept,
             line,
@@ -311,23 +300,21 @@ impl Template {
     }
 
     /// Puts the rows of a message, by the time of its header.
-    pub(crate) fn put<S: FieldItems>(
+    pub(crate) fn put(
         &self,
         text: &mut Vec<u8>,
-        sheet: &mut Sheet,
-        writer: &mut RowWriter,
-        value: &mut Vec<u8>,
-        times: &mut Times,
+        tools: &mut RowTools,
         offset: Option<u8>,
         time: Option<u32>,
-        items: &mut S,
+        items: &mut ItemBytes<'_>,
     ) -> Result<(), AllocError>
-        requires { HasFields S.has_items items.old (frame_slots self.now) }
-        ensures { OnOk result (TakesFields S.has_items items.old items.new (frame_slots self.now)
+        requires { HasFields HasItems items.old (frame_slots self.now) }
+        ensures { OnOk result (TakesFields HasItems items.old items.new (frame_slots self.now)
             (λ all. HasRows (key_rows self.now offset time all) text.old text.new)) }
     {
-        let at = self.put_first(text, sheet, times, offset, time)?;
+        let at = self.put_first(text, &mut tools.sheet, &mut tools.times, offset, time)?;
         let frames = self.frames.as_slice();
-        put_frames(text, sheet, at, writer, value, frames, &self.end, items)
+        let sheet = &mut tools.sheet;
+        put_frames(text, sheet, at, &mut tools.pen, frames, &self.end, items)
     }
 }

@@ -2,12 +2,12 @@
 ghost use Rattle.std.specs.Prelude.{◌≡◌, ◌≤◌, ◌<◌, ◌+◌, ◌++◌, ◌∷◌, [], if◌then◌else◌, IfOk, IfSome, OnOk, codes, length, map, option_map};
 ghost use Rattle.fit_profile.specs.Names.{meaning};
 ghost use Rattle.fit_numbers.specs.Scaled.{IsScale};
-ghost use Rattle.fit_frames.specs.Frames.{HasFields, TakesField};
+ghost use Rattle.fit_frames.specs.Frames.{HasFields, HasItems, TakesField};
 ghost use Rattle.fit_texts.specs.Sheets.{and_sheet};
 ghost use Rattle.fit_show.specs.inner.Showing.{dev_field_part, field_part, first_head, key_text, shown_keys, spaced};
 
 use crate::fields::{put_name, put_words, separator};
-use fit_frames::{FieldItems, ShownCell};
+use fit_frames::{ItemBytes, ShownCell};
 use fit_profile::{Info, field_info, field_label};
 use fit_record::FieldDef;
 use fit_texts::words::unit_text;
@@ -127,17 +127,17 @@ impl ShownField {
 
     /// Puts the next cell, and what stands between it and the one after it.
     #[inline(always)]
-    pub(crate) fn put<S: FieldItems>(
+    pub(crate) fn put(
         &self,
         text: &mut Vec<u8>,
         sheet: &mut Sheet,
         at: usize,
-        items: &mut S,
+        items: &mut ItemBytes<'_>,
     ) -> Result<usize, AllocError>
         requires room { at + 32 ≤ 1024 }
-        requires fields { HasFields S.has_items items.old ((self.now.code, self.now.size) ∷ []) }
+        requires fields { HasFields HasItems items.old ((self.now.code, self.now.size) ∷ []) }
         ensures room { IfOk result (λ end. end + 32 ≤ 1024) }
-        ensures fields { IfOk result (λ end. TakesField S.has_items items.old items.new
+        ensures fields { IfOk result (λ end. TakesField HasItems items.old items.new
             (self.now.code, self.now.size) (λ i. and_sheet text.new.items sheet.new end
             ≡ and_sheet text.old.items sheet.old at ++ key_text self.now i)) }
     {

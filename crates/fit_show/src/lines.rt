@@ -5,10 +5,11 @@ ghost use Rattle.fit_base.specs.declared.items.Items.{Items};
 ghost use Rattle.fit_record.specs.declared.message.Record.TheVariants.{Values as Data};
 ghost use Rattle.fit_record.specs.declared.message.Values.{Values};
 ghost use Rattle.fit_record.specs.Environment.{defined_at};
-ghost use Rattle.fit_record.specs.Records.{Fits, IsRecord, dev_layout, layout};
+ghost use Rattle.fit_record.specs.Records.{IsRecord, dev_layout, layout};
 ghost use Rattle.fit_record.specs.Sound.{IsSound};
 ghost use Rattle.fit_profile.specs.Looks.{known};
 ghost use Rattle.fit_profile.specs.Times as times;
+ghost use Rattle.fit_frames.specs.Frames.{HasItems};
 ghost use Rattle.fit_show.specs.ShowLines.{definition_line, header_line, joined, record_line, versions_text};
 ghost use Rattle.fit_texts.specs.Words as words;
 ghost use Rattle.fit_texts.specs.Current.{AreCurrent};
@@ -17,9 +18,9 @@ ghost use Rattle.fit_texts.specs.MessageKeys.{message_key};
 use crate::fields::put_words;
 use crate::template::LineMaker;
 use fit_frame::Header;
-use fit_frames::{FieldItems, ItemBytes, MadeItems};
+use fit_frames::ItemBytes;
 use fit_profile::{Stream, message_label};
-use fit_record::{Defined, MessageDef, Record};
+use fit_record::{Defined, MessageDef};
 use fit_texts::words::{dev_slice, order_word, sum_word};
 use itoa::Buffer;
 use std::alloc::AllocError;
@@ -81,7 +82,7 @@ pub(crate) fn put_header(
 }
 
 /// Puts the line of a definition message.
-fn put_definition(text: &mut Vec<u8>, definition: &MessageDef) -> Result<(), AllocError>
+pub(crate) fn put_definition(text: &mut Vec<u8>, definition: &MessageDef) -> Result<(), AllocError>
     ensures { OnOk result (text.new.items ≡ text.old.items ++ definition_line definition.now) }
 {
     let mut locals = Buffer::new();
@@ -105,24 +106,24 @@ fn put_definition(text: &mut Vec<u8>, definition: &MessageDef) -> Result<(), All
 }
 
 /// Puts the line of a data message of this definition after the records of a stream, by its time.
-fn put_values<S: FieldItems>(
+fn put_values(
     text: &mut Vec<u8>,
     maker: &mut LineMaker,
     stream: &Stream,
     defined: &Defined,
     local: u8,
     time: Option<u32>,
-    items: &mut S,
+    items: &mut ItemBytes<'_>,
 ) -> Result<(), AllocError>
     requires place { defined_at (known stream.now) local ≡ Some defined.now }
     requires sound { IsSound defined.now }
     requires items { (all : List (Items Global))
-        × S.has_items items.old (layout defined.now ++ dev_layout defined.now) all }
+        × HasItems items.old (layout defined.now ++ dev_layout defined.now) all }
     requires current { AreCurrent message_key maker.old.templates stream.now }
     ensures line { OnOk result ((v : Values Global) → v.local ≡ local
         → length v.fields ≡ length defined.now.definition.fields
         → time ≡ times.time stream.now (Data v)
-        → S.has_items items.old (layout defined.now ++ dev_layout defined.now) (v.fields ++ v.dev)
+        → HasItems items.old (layout defined.now ++ dev_layout defined.now) (v.fields ++ v.dev)
         → text.new.items ≡ text.old.items ++ record_line stream.now (Data v)) }
     ensures current { AreCurrent message_key maker.new.templates stream.now }
 {
@@ -131,35 +132,6 @@ fn put_values<S: FieldItems>(
         unreachable!()
     };
     template.put(text, &mut maker.sheet, &mut maker.times, time, items)
-}
-
-/// Puts the line of a record after the records of a stream.
-pub(crate) fn put_record(
-    text: &mut Vec<u8>,
-    maker: &mut LineMaker,
-    stream: &Stream,
-    record_: &Record,
-) -> Result<(), AllocError>
-    requires fits { Fits (known stream.now) record_.now }
-    requires current { AreCurrent message_key maker.old.templates stream.now }
-    ensures line { OnOk result
-        (text.new.items ≡ text.old.items ++ record_line stream.now record_.now) }
-    ensures current { AreCurrent message_key maker.new.templates stream.now }
-{
-    match record_ {
-        Record::Define(definition) => put_definition(text, definition),
-        Record::Values(values) => match stream.env().defined(values.local) {
-            Some(defined) => {
-                let time = stream.time(record_);
-                let mut items = MadeItems {
-                    fields: values.fields.as_slice(),
-                    dev: values.dev.as_slice(),
-                };
-                put_values(text, maker, stream, defined, values.local, time, &mut items)
-            }
-            None => unreachable!(),
-        },
-    }
 }
 
 /// Puts the line of the data message that the bytes are after the records of a stream.

@@ -1,10 +1,11 @@
 //! The lines of `show`, told event by event.
 ghost use Rattle.std.specs.Prelude.{◌≡◌, ◌++◌};
 
-use crate::lines::{put_header, put_message, put_record};
+use crate::lines::{put_definition, put_header, put_message};
 use crate::template::LineMaker;
-use fit_decode::Event;
+use fit_frame::Header;
 use fit_profile::Stream;
+use fit_record::MessageDef;
 use fit_texts::{ByLocal, SHEET_SIZE, TextMaker, TextReport, Times};
 use std::alloc::{AllocError, Global};
 
@@ -30,21 +31,26 @@ impl TextMaker for LineMaker {
         self.templates.forget();
     }
 
-    fn take_event(
+    fn put_header(
         &mut self,
         text: &mut Vec<u8>,
-        stream: &mut Stream,
         files: u64,
-        event: &Event,
+        header: &Header,
+        size: u32,
     ) -> Result<(), AllocError> {
-        match event {
-            Event::Header(header, size) => put_header(text, files + 1, header, *size),
-            Event::Item(record_) => {
-                put_record(text, self, stream, record_)?;
-                stream.take(record_)
-            }
-            Event::More | Event::FileEnd => Ok(()),
-        }
+        put_header(text, files + 1, header, size)
+    }
+
+    fn put_definition(
+        &mut self,
+        text: &mut Vec<u8>,
+        definition: &MessageDef,
+    ) -> Result<(), AllocError> {
+        put_definition(text, definition)
+    }
+
+    fn put_end(&mut self, _text: &mut Vec<u8>) -> Result<(), AllocError> {
+        Ok(())
     }
 
     fn take_message(

@@ -5,14 +5,14 @@ ghost use Rattle.fit_record.specs.Sound.{IsSound};
 ghost use Rattle.fit_profile.specs.Looks.{known};
 ghost use Rattle.fit_show.specs.ShowLines as lines;
 ghost use Rattle.fit_texts.specs.Current.{AreCurrent};
-ghost use Rattle.fit_frames.specs.Frames.{HasFields, TakesFields};
+ghost use Rattle.fit_frames.specs.Frames.{HasFields, HasItems, TakesFields};
 ghost use Rattle.fit_show.specs.inner.Showing.{dev_field_part, field_part, first_head, keys_text, line_front, line_slots, line_text, shown_keys};
 ghost use Rattle.fit_texts.specs.MessageKeys.{message_key};
 ghost use Rattle.fit_texts.specs.Sheets.{and_sheet};
 
 use crate::fields::put_words;
 use crate::frames::{ShownField, push_devs, put_dev_head, put_head, shown_fields};
-use fit_frames::FieldItems;
+use fit_frames::ItemBytes;
 use fit_profile::{Stream, message_label};
 use fit_record::{Defined, FieldDef};
 use fit_texts::{ByLocal, KeptDev, KeptMessage, Sheet, Stamp, Times, WIDE, note, put_sheet};
@@ -36,16 +36,16 @@ fn put_front(text: &mut Vec<u8>, local: u8, global: u16) -> Result<(), AllocErro
 }
 
 /// Puts the next fields, one after another. Nothing is left in the sheet.
-fn put_fields<S: FieldItems>(
+fn put_fields(
     text: &mut Vec<u8>,
     sheet: &mut Sheet,
     at: usize,
     fields: &[ShownField],
-    items: &mut S,
+    items: &mut ItemBytes<'_>,
 ) -> Result<(), AllocError>
     requires room { at + 32 ≤ 1024 }
-    requires fields { HasFields S.has_items items.old (map (λ f. (f.code, f.size)) fields.now) }
-    ensures { OnOk result (TakesFields S.has_items items.old items.new
+    requires fields { HasFields HasItems items.old (map (λ f. (f.code, f.size)) fields.now) }
+    ensures { OnOk result (TakesFields HasItems items.old items.new
         (map (λ f. (f.code, f.size)) fields.now) (λ all. text.new.items
         ≡ and_sheet text.old.items sheet.old at ++ keys_text fields.now all)) }
 {
@@ -206,16 +206,16 @@ impl LineTemplate {
     }
 
     /// Puts the line of a message with this time.
-    pub(crate) fn put<S: FieldItems>(
+    pub(crate) fn put(
         &self,
         text: &mut Vec<u8>,
         sheet: &mut Sheet,
         times: &mut Times,
         time: Option<u32>,
-        items: &mut S,
+        items: &mut ItemBytes<'_>,
     ) -> Result<(), AllocError>
-        requires { HasFields S.has_items items.old (line_slots self.now) }
-        ensures { OnOk result (TakesFields S.has_items items.old items.new (line_slots self.now)
+        requires { HasFields HasItems items.old (line_slots self.now) }
+        ensures { OnOk result (TakesFields HasItems items.old items.new (line_slots self.now)
             (λ all. text.new.items ≡ text.old.items ++ line_text self.now time all)) }
     {
         let at = self.put_label(text, sheet, times, time)?;

@@ -15,10 +15,10 @@ ghost use Rattle.fit_table.specs.inner.TableCells.{rows_in};
 
 use crate::maker::{TableMaker, put_message_row, put_table_row};
 use crate::rows::TableRowMaker;
-use fit_decode::Event;
+use fit_frame::Header;
 use fit_profile::message_number::RECORD;
 use fit_profile::{Message, Stream};
-use fit_record::Record;
+use fit_record::{MessageDef, Record};
 use fit_texts::{ByLocal, TextMaker, TextReport};
 use std::alloc::{AllocError, Global};
 
@@ -150,17 +150,28 @@ impl TextMaker for TableMaker {
     }
 
     #[tactic(auto, using(fit_cells::proofs::AddedRows::text_none))]
-    fn take_event(
+    fn put_header(
         &mut self,
-        text: &mut Vec<u8>,
-        stream: &mut Stream,
-        files: u64,
-        event: &Event,
+        _text: &mut Vec<u8>,
+        _files: u64,
+        _header: &Header,
+        _size: u32,
     ) -> Result<(), AllocError> {
-        match event {
-            Event::Item(record_) => take_record(text, &mut self.rows, stream, files, record_),
-            Event::Header(..) | Event::More | Event::FileEnd => Ok(()),
-        }
+        Ok(())
+    }
+
+    #[tactic(auto, using(fit_cells::proofs::AddedRows::text_none))]
+    fn put_definition(
+        &mut self,
+        _text: &mut Vec<u8>,
+        _definition: &MessageDef,
+    ) -> Result<(), AllocError> {
+        Ok(())
+    }
+
+    #[tactic(auto, using(fit_cells::proofs::AddedRows::text_none))]
+    fn put_end(&mut self, _text: &mut Vec<u8>) -> Result<(), AllocError> {
+        Ok(())
     }
 
     #[inline(always)]

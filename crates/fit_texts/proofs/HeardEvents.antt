@@ -1,6 +1,6 @@
 -- What is kept of the events that were heard: the records of the file that was begun last, and how many files have begun.
 use Rattle.fit_texts.proofs.Common.{◌≡◌, ◌∙◌, [], ◌∷◌, ◌++◌, refl, sym, ap, Record, Event, item, file_end, next_records, subst, reverse-append, reverse-reverse}
-use Rattle.fit_texts.proofs.Common.{Fits, Answer, header, LookingBackIsLearning, known, AreHeard, hear, latest_records, HeardRecordsFit, AnswerFits}
+use Rattle.fit_texts.proofs.Common.{Fits, Answer, header, LookingBackIsLearning, known, AreHeard, hear, latest_records, HeardRecordsFit}
 use Rattle.fit_texts.proofs.Common.{empty_environment, Data, Values, ◌≤◌, ◌^◌, length, arith, HeardAreFew, files_heard}
 use Rattle.std.proofs.Common.{List, ℕ, reverse, ◌<◌}
 use Rattle.std.proofs.lemmas.List.Sums.{fold_push}
@@ -20,12 +20,11 @@ records-more before [] x = refl
 records-more before (y ∷ events) x = records-more (next_records before y) events x
 
 -- a record that is heard fits after the latest records
-pub answer_fits : {A : Type 0} → HeardRecordsFit A → LookingBackIsLearning A → (heard : List (Event A)) (answer : Answer A) → AreHeard (hear answer heard)
-    → AnswerFits (latest_records heard) answer
-answer_fits fit back heard (answers.Item r) are =
+pub record_fits : {A : Type 0} → HeardRecordsFit A → LookingBackIsLearning A → (heard : List (Event A)) (r : Record A) → AreHeard (item r ∷ heard)
+    → Fits (known (latest_records heard)) r
+record_fits fit back heard r are =
     let before = latest_records heard in
     subst (λ e. Fits e r) (sym (back (reverse before)) ∙ ap known (reverse-reverse before)) (fit heard r are)
-answer_fits fit back heard answer are = tt
 
 -- what is known after events is what their latest records define and describe
 pub known_latest : {A : Type 0} (heard : List (Event A)) → known_after (reverse heard) ≡ known (latest_records heard)

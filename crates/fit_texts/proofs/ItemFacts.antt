@@ -1,4 +1,4 @@
--- The items of the next field, made or in their bytes.
+-- The items of fields, made or in their bytes.
 use Rattle.fit_texts.proofs.Common.{◌≡◌, ◌∙◌, ◌≤◌, ◌+◌, ◌/◌, ◌%◌, ◌^◌, ◌++◌, ◌∷◌, [], suc, length, take, drop, refl, sym, ap, subst, arith}
 use Rattle.fit_texts.proofs.Common.{take_all}
 use Rattle.fit_texts.proofs.Common.{Order, Items, HasShape, HaveShape, Defined, base_type, item_width}
@@ -14,12 +14,6 @@ use Rattle.fit_record.specs.ReadMessages.{field_from, fields_from, numbers_of}
 use Rattle.fit_record.specs.Records.{sizes}
 
 -- ---- made
-
--- the first items have the shape of the first field
-pub first_made : {A : Type 0} (f : ℕ × ℕ) (fields : List (ℕ × ℕ)) (items : List (Items A)) → HaveShape (f ∷ fields) items
-    → (i : Items A) × (rest : List (Items A)) × (items ≡ i ∷ rest) × HasShape f.0 f.1 i × HaveShape fields rest
-first_made f fields [] have = absurd have
-first_made f fields (i ∷ rest) have = (i, rest, refl, have.0, have.1)
 
 -- the shapes of two lists of fields, one after the other
 pub shapes_both : {A : Type 0} (a b : List (ℕ × ℕ)) (xs ys : List (Items A)) → HaveShape a xs → HaveShape b ys → HaveShape (a ++ b) (xs ++ ys)

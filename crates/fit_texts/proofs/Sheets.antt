@@ -17,11 +17,6 @@ length-and_sheet text sheet at within = length-append text (take at sheet) ∙ a
 pub more_written : (text old new more : List ℕ) (at end : ℕ) → take end new ≡ take at old ++ more → and_sheet text new end ≡ and_sheet text old at ++ more
 more_written text old new more at end e = ap (λ w. text ++ w) e ∙ sym (append_assoc text (take at old) more)
 
--- what was put is this text too
-pub put_as : {E : Type 0} (end : Result ℕ E) (text sheet before : List ℕ) {put is : List ℕ} → put ≡ is
-    → IfOk end (λ e. and_sheet text sheet e ≡ before ++ put) → IfOk end (λ e. and_sheet text sheet e ≡ before ++ is)
-put_as end text sheet before same holds = subst (λ (t : List ℕ). IfOk end (λ e. and_sheet text sheet e ≡ before ++ t)) same holds
-
 -- rows after the first one
 pub rows_after : (old first new : List ℕ) (row : Row) (rows : List Row) → first ≡ old ++ csv_text (row ∷ []) → new ≡ first ++ csv_text rows
     → new ≡ old ++ csv_text (row ∷ rows)

@@ -1,7 +1,6 @@
 pub mod InstantText
 pub mod Words
 pub mod KeptEvents
-pub mod Reporting
 pub mod Current
 pub mod MessageKeys
 pub mod Minutes

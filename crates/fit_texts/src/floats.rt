@@ -19,26 +19,7 @@ pub fn is_lone_float(code: Code, size: u8) -> bool
     code.class() == Class::Float && code.width() == size
 }
 
-/// Adds a floating point number of this width to what is written in a sheet. Returns the place after it.
-#[inline(always)]
-pub fn add_made_float(
-    text: &mut Vec<u8>,
-    sheet: &mut Sheet,
-    at: usize,
-    width: u8,
-    bits: u64,
-) -> Result<usize, AllocError>
-    requires place { at ≤ 1024 }
-    requires width { width ≤ 8 }
-    ensures place { IfOk result (λ end. end ≤ 1024) }
-    ensures text { IfOk result (λ end. and_sheet text.new.items sheet.new end
-        ≡ and_sheet text.old.items sheet.old at ++ (codes "0x" ++ hex_digits (2 * width) bits)) }
-{
-    let at = make_room(text, sheet, at)?;
-    Ok(write_float(sheet, at, width, bits))
-}
-
-/// The same by the bytes of the number.
+/// Adds a floating point number of this width to what is written in a sheet, by its bytes. Returns the place after it.
 #[inline(never)]
 pub fn add_float(
     text: &mut Vec<u8>,
@@ -56,5 +37,7 @@ pub fn add_float(
         ≡ and_sheet text.old.items sheet.old at
         ++ (codes "0x" ++ hex_digits (2 * width) (number order bytes.now))) }
 {
-    add_made_float(text, sheet, at, width, bits_at(order, width, bytes))
+    let bits = bits_at(order, width, bytes);
+    let at = make_room(text, sheet, at)?;
+    Ok(write_float(sheet, at, width, bits))
 }

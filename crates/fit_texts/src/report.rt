@@ -1,19 +1,21 @@
 //! A reporter of texts that depend on few of the events before them.
 ghost use Rattle.std.specs.Prelude.{◌≡◌, ◌<◌, ◌^◌, ◌++◌, ◌∷◌, [], ℕ, List, OnOk};
 ghost use Rattle.std.specs.Global.{Global};
-ghost use Rattle.fit_chain.specs.Events.{Event as Told, item};
+ghost use Rattle.fit_chain.specs.Events.{Event as Told, file_end, header as begins, item};
 ghost use Rattle.fit_record.specs.declared.message.Record.{Record};
-ghost use Rattle.fit_record.specs.declared.message.Record.TheVariants.{Values as Data};
+ghost use Rattle.fit_record.specs.declared.message.Record.TheVariants.{Define, Values as Data};
 ghost use Rattle.fit_record.specs.declared.message.Values.{Values};
-ghost use Rattle.fit_record.specs.Records.{IsRecord};
+ghost use Rattle.fit_record.specs.Records.{Fits, IsRecord};
 ghost use Rattle.fit_profile.specs.Looks.{known};
-ghost use Rattle.fit_report.specs.Heard.{latest_records, line_of};
+ghost use Rattle.fit_report.specs.Heard.{latest_records};
 ghost use Rattle.fit_texts.specs.KeptEvents.{files_heard, kept_events};
-ghost use Rattle.fit_texts.specs.Reporting.{AnswerFits, and_record};
 
 use fit_decode::{Decoder, Event};
+use fit_encode::spell;
+use fit_frame::Header;
 use fit_profile::Stream;
 use fit_profile::laws::looking_back_is_learning;
+use fit_record::{MessageDef, Record};
 use fit_report::Report;
 use fit_report::laws::{heard_are_few, heard_records_fit};
 use std::alloc::{AllocError, Global};
@@ -35,21 +37,31 @@ pub trait TextMaker: Drop {
     fn forget(&mut self)
         ensures { (before : List (Record Global)) → is_current self.new before };
 
-    /// Puts the text of an event after the records of a stream, where that many files have begun before it, and takes in its record.
-    fn take_event(
+    /// Puts the text of the header of a file with that many bytes of data, where that many files have begun before it.
+    fn put_header(
         &mut self,
         text: &mut Vec<u8>,
-        stream: &mut Stream,
         files: u64,
-        event: &Event,
+        header: &Header,
+        size: u32,
     ) -> Result<(), AllocError>
-        requires fits { AnswerFits stream.old event.now }
-        requires few { files < 2 ^ 60 }
-        requires current { is_current self.old stream.old }
-        ensures text { OnOk result ((heard : List (Told Global))
-            → stream.old ≡ latest_records heard → files ≡ files_heard heard
-            → text.new.items ≡ text.old.items ++ line_of line heard event.now) }
-        ensures stream { OnOk result (stream.new ≡ and_record stream.old event.now) };
+        requires { files < 2 ^ 60 }
+        ensures { OnOk result ((heard : List (Told Global)) → files ≡ files_heard heard
+            → text.new.items ≡ text.old.items ++ line heard (begins header.now size)) };
+
+    /// Puts the text of a definition message.
+    fn put_definition(
+        &mut self,
+        text: &mut Vec<u8>,
+        definition: &MessageDef,
+    ) -> Result<(), AllocError>
+        ensures { OnOk result ((heard : List (Told Global)) → text.new.items
+            ≡ text.old.items ++ line heard (item (Define definition.now))) };
+
+    /// Puts the text of the end of a file.
+    fn put_end(&mut self, text: &mut Vec<u8>) -> Result<(), AllocError>
+        ensures { OnOk result ((heard : List (Told Global))
+            → text.new.items ≡ text.old.items ++ line heard file_end) };
 
     /// Takes in the data message that the bytes are after the records of a stream, where that many files have begun, and puts its text.
     fn take_message(
@@ -77,6 +89,8 @@ pub struct TextReport<M: TextMaker> {
     stream: Stream,
     files: u64,
     maker: M,
+    /// The memory of the bytes of a data message that came in pieces.
+    bytes: Vec<u8>,
 }
 
 impl<M: TextMaker> Model for TextReport<M> {
@@ -98,7 +112,65 @@ impl<M: TextMaker> TextReport<M> {
             stream: Stream::new(alloc),
             files: 0,
             maker: M::new(alloc),
+            bytes: Vec::new(alloc),
         }
+    }
+
+    /// Takes in the header of a file, and puts its text.
+    fn take_header(
+        &mut self,
+        text: &mut Vec<u8>,
+        header: &Header,
+        size: u32,
+    ) -> Result<(), AllocError>
+        requires { self.old.files < 2 ^ 60 }
+        ensures heard { OnOk result ((heard : List (Told Global)) → self.old ≡ kept_events heard
+            → self.new ≡ kept_events (begins header.now size ∷ heard)) }
+        ensures text { OnOk result ((heard : List (Told Global)) → self.old ≡ kept_events heard
+            → text.new.items ≡ text.old.items ++ M.line heard (begins header.now size)) }
+    {
+        let put = self.maker.put_header(text, self.files, header, size);
+        self.maker.forget();
+        put?;
+        self.stream.begin_file();
+        self.files += 1;
+        Ok(())
+    }
+
+    /// Takes in a record, and puts its text: that of a data message by its bytes, as where it is skipped.
+    fn take_record(&mut self, text: &mut Vec<u8>, record_: &Record) -> Result<(), AllocError>
+        requires { Fits (known self.old.records) record_.now }
+        ensures heard { OnOk result ((heard : List (Told Global)) → self.old ≡ kept_events heard
+            → self.new ≡ kept_events (item record_.now ∷ heard)) }
+        ensures text { OnOk result ((heard : List (Told Global)) → self.old ≡ kept_events heard
+            → text.new.items ≡ text.old.items ++ M.line heard (item record_.now)) }
+    {
+        match record_ {
+            Record::Define(definition) => {
+                let put = self.maker.put_definition(text, definition);
+                self.maker.forget();
+                put?;
+                self.stream.take(record_)
+            }
+            Record::Values(_values) => {
+                spell(&mut self.bytes, self.stream.env(), record_)?;
+                let bytes = self.bytes.as_slice();
+                self.maker
+                    .take_message(text, &mut self.stream, self.files, bytes)
+            }
+        }
+    }
+
+    /// Takes in the end of a file, and puts its text.
+    fn take_end(&mut self, text: &mut Vec<u8>) -> Result<(), AllocError>
+        ensures heard { OnOk result ((heard : List (Told Global)) → self.old ≡ kept_events heard
+            → self.new ≡ kept_events (file_end ∷ heard)) }
+        ensures text { OnOk result ((heard : List (Told Global)) → self.old ≡ kept_events heard
+            → text.new.items ≡ text.old.items ++ M.line heard file_end) }
+    {
+        let put = self.maker.put_end(text);
+        self.maker.forget();
+        put
     }
 }
 
@@ -111,16 +183,12 @@ impl<M: TextMaker> Report for TextReport<M> {
         heard_records_fit::<Global>();
         heard_are_few::<Global>();
         looking_back_is_learning::<Global>();
-        let told = self
-            .maker
-            .take_event(text, &mut self.stream, self.files, event);
-        self.maker.forget();
-        told?;
-        if let Event::Header(..) = event {
-            self.stream.begin_file();
-            self.files += 1;
+        match event {
+            Event::Header(header, size) => self.take_header(text, header, *size),
+            Event::Item(record_) => self.take_record(text, record_),
+            Event::FileEnd => self.take_end(text),
+            Event::More => Ok(()),
         }
-        Ok(())
     }
 
     fn skip(

@@ -1,11 +1,11 @@
 //! Records that are read whole from their rows.
-use crate::asserts::{equal, holds_at};
+use crate::asserts::holds_at;
 use crate::streams::{data, push_definition, pushed};
 use fit_base::Order;
 use fit_base::base_type::UINT8;
 use fit_decode::read_one;
 use fit_profile::Stream;
-use fit_record::{FieldDef, Record, Values};
+use fit_record::{FieldDef, MessageDef, Record, Values};
 use fit_rows::MessageReader;
 use std::alloc::Global;
 use std::process::Abort;
@@ -23,14 +23,35 @@ fn after_header(text: &str) -> &[u8] {
 /// Asserts that a text begins with the rows of a data message, and returns what comes after them.
 fn after_message<'a>(
     rt: &impl Abort,
+    alloc: Global,
     reader: &mut MessageReader,
     before: &Stream,
     values: &Values,
     text: &'a [u8],
 ) -> &'a [u8] {
-    match reader.whole_message(before, text) {
-        Ok(Some((found, left))) => {
+    let left = reader.whole_message(before, text).expect(rt, "memory");
+    let left = left.expect(rt, "a message");
+    match before.env().message_bytes(reader.bytes()) {
+        Some(message) => {
+            let found = message.values(alloc).expect(rt, "memory");
             assert!(rt; found == *values);
+        }
+        None => assert!(rt; false),
+    }
+    left
+}
+
+/// The same of a definition message.
+fn after_definition<'a>(
+    rt: &impl Abort,
+    reader: &mut MessageReader,
+    before: &Stream,
+    definition: &MessageDef,
+    text: &'a [u8],
+) -> &'a [u8] {
+    match reader.whole_definition(before, text) {
+        Ok(Some((found, left))) => {
+            assert!(rt; found == *definition);
             left
         }
         _ => {
@@ -43,20 +64,15 @@ fn after_message<'a>(
 /// The same of any record.
 fn after_record<'a>(
     rt: &impl Abort,
+    alloc: Global,
     reader: &mut MessageReader,
     before: &Stream,
     record_: &Record,
     text: &'a [u8],
 ) -> &'a [u8] {
-    match reader.whole_record(before, text) {
-        Ok(Some((found, left))) => {
-            assert!(rt; found == *record_);
-            left
-        }
-        _ => {
-            assert!(rt; false);
-            text
-        }
+    match record_ {
+        Record::Define(definition) => after_definition(rt, reader, before, definition, text),
+        Record::Values(values) => after_message(rt, alloc, reader, before, values, text),
     }
 }
 
@@ -74,13 +90,9 @@ fn read_whole(rt: &impl Abort, alloc: Global, known: &Known) {
     let mut stream = Stream::new(alloc);
     let mut text = after_header(known.text);
     for record_ in file.records.as_slice() {
-        let left = after_record(rt, &mut reader, &stream, record_, text);
-        match record_ {
-            Record::Define(_) => no_message(rt, &mut reader, &stream, text),
-            Record::Values(values) => {
-                let after = after_message(rt, &mut reader, &stream, values, text);
-                equal(rt, &after, &left);
-            }
+        let left = after_record(rt, alloc, &mut reader, &stream, record_, text);
+        if let Record::Define(_) = record_ {
+            no_message(rt, &mut reader, &stream, text);
         }
         pushed(rt, &mut stream, record_);
         text = left;
@@ -117,7 +129,7 @@ fn short_number_at_the_end(rt: HostRuntime) {
     let message = data(alloc, 0, None, &[(1, &[5])]).expect(&rt, "memory");
     let text = "data,0,,field_description,,,\nfield,developer_data_index,5,,,,\n";
     let mut reader = MessageReader::new(alloc);
-    let left = after_record(&rt, &mut reader, &stream, &message, text.as_bytes());
+    let left = after_record(&rt, alloc, &mut reader, &stream, &message, text.as_bytes());
     assert!(rt; left.is_empty());
 }
 
@@ -134,7 +146,7 @@ fn no_record(rt: HostRuntime) {
         "def,000000",
         "def,0,0",
     ] {
-        let found = reader.whole_record(&stream, text.as_bytes());
+        let found = reader.whole_definition(&stream, text.as_bytes());
         assert!(rt; matches!(found, Ok(None)));
         no_message(&rt, &mut reader, &stream, text.as_bytes());
     }

@@ -2,9 +2,10 @@
 ghost use Rattle.std.specs.Prelude.{◌≡◌, ◌+◌, IfOk, IfSome, IsNone, List, Some, length, reverse};
 ghost use Rattle.std.specs.Global.{Global};
 ghost use Rattle.fit_record.specs.declared.file.FitFile.{FitFile};
-ghost use Rattle.fit_record.specs.declared.message.Record.{Record};
+ghost use Rattle.fit_record.specs.declared.message.Record.TheVariants.{Values as Data};
+ghost use Rattle.fit_record.specs.declared.message.Values.{Values};
 ghost use Rattle.fit_record.specs.Environment.{dev_defs};
-ghost use Rattle.fit_record.specs.Records.{Fits};
+ghost use Rattle.fit_record.specs.Records.{IsRecord};
 ghost use Rattle.fit_profile.specs.Looks.{known};
 ghost use Rattle.fit_rows.specs.ChainRows.{record_rows};
 ghost use Rattle.fit_csv.specs.inner.Judging.{TakesRows};
@@ -12,39 +13,79 @@ ghost use Rattle.fit_csv.specs.inner.SoundChain.{IsSoundChain};
 
 use crate::from::chain::Chain;
 use crate::from::misfit::Misfit;
-use crate::from::open_file::OpenFile;
+use crate::from::open_file::{OpenFile, Part};
 use crate::from::ranges::is_in_range;
-use fit_record::{MessageDef, Record, Values};
+use fit_profile::Stream;
+use fit_record::{MessageDef, Record};
 use fit_rows::MessageReader;
 use fit_texts::words::dev_slice;
 
-/// How many rows a definition has.
+/// How many rows a definition has, and each of its data messages.
 fn definition_rows(d: &MessageDef) -> u64
     ensures { result ≡ 1 + length d.now.fields + length (dev_defs d.now.dev) }
 {
     1 + d.fields.as_slice().len() as u64 + dev_slice(&d.dev).len() as u64
 }
 
-/// How many rows a data message has that fits.
-fn message_rows(v: &Values) -> u64
-    ensures { result ≡ 1 + length v.now.fields + length v.now.dev }
+/// How many rows the data message has that the bytes are after the records of a stream.
+fn message_rows(before: &Stream, bytes: &[u8]) -> u64
+    requires { (v : Values Global) × IsRecord (known before.now) (Data v) bytes.now }
+    ensures { (v : Values Global) → IsRecord (known before.now) (Data v) bytes.now
+        → result ≡ length (record_rows before.now (Data v)) }
 {
-    1 + v.fields.as_slice().len() as u64 + v.dev.as_slice().len() as u64
-}
-
-/// How many rows a record has.
-fn count_rows(record_: &Record) -> u64
-    ensures { (before : List (Record Global)) → Fits (known before) record_.now
-        → result ≡ length (record_rows before record_.now) }
-{
-    match record_ {
-        Record::Define(d) => definition_rows(d),
-        Record::Values(v) => message_rows(v),
+    match before.env().message_bytes(bytes) {
+        Some(message) => definition_rows(&message.defined.definition),
+        None => unreachable!(),
     }
 }
 
-/// Takes the record with whose rows a text begins, as `to_csv` writes them, into a file, and returns how many rows they are and what is
-/// left. There may be one where it takes none, and then nothing changes.
+/// Takes the definition message with whose rows a text begins, as `to_csv` writes them, into a file, and returns how many rows they are
+/// and what is left. There may be one where it takes none, and then nothing changes.
+fn take_definition<'a>(
+    file: &mut OpenFile,
+    reader: &mut MessageReader,
+    text: &'a [u8],
+) -> Result<Option<(u64, &'a [u8])>, Misfit>
+    requires between { file.old.part ≡ Part.Nothing }
+    requires same_records { file.old.before ≡ reverse file.old.records }
+    ensures rows { IfOk result (λ found. IfSome found (λ p. (files : List (FitFile Global))
+        → TakesRows text.now p.1.now p.0 (record { files = files; current = Some file.old })
+        (record { files = files; current = Some file.new }))) }
+    ensures same { IfOk result (λ found. IsNone found → file.new ≡ file.old) }
+{
+    let Some((definition, rest)) = reader.whole_definition(&file.before, text)? else {
+        return Ok(None);
+    };
+    let count = definition_rows(&definition);
+    let record_ = Record::Define(definition);
+    is_in_range(&record_);
+    file.add_record(record_)?;
+    Ok(Some((count, rest)))
+}
+
+/// The same for a data message.
+fn take_message<'a>(
+    file: &mut OpenFile,
+    reader: &mut MessageReader,
+    text: &'a [u8],
+) -> Result<Option<(u64, &'a [u8])>, Misfit>
+    requires between { file.old.part ≡ Part.Nothing }
+    requires same_records { file.old.before ≡ reverse file.old.records }
+    ensures rows { IfOk result (λ found. IfSome found (λ p. (files : List (FitFile Global))
+        → TakesRows text.now p.1.now p.0 (record { files = files; current = Some file.old })
+        (record { files = files; current = Some file.new }))) }
+    ensures same { IfOk result (λ found. IsNone found → file.new ≡ file.old) }
+{
+    let Some(left) = reader.whole_message(&file.before, text)? else {
+        return Ok(None);
+    };
+    let bytes = reader.bytes();
+    let count = message_rows(&file.before, bytes);
+    file.add_message(bytes)?;
+    Ok(Some((count, left)))
+}
+
+/// The same for a record, where a file may end here.
 fn take_whole<'a>(
     file: &mut OpenFile,
     reader: &mut MessageReader,
@@ -59,13 +100,10 @@ fn take_whole<'a>(
     if !file.is_between_records() {
         return Ok(None);
     }
-    let Some((record_, left)) = reader.whole_record(&file.before, text)? else {
-        return Ok(None);
-    };
-    is_in_range(&record_);
-    let count = count_rows(&record_);
-    file.add_record(record_)?;
-    Ok(Some((count, left)))
+    if text.starts_with(b"de") {
+        return take_definition(file, reader, text);
+    }
+    take_message(file, reader, text)
 }
 
 /// The same of the current file of a chain.

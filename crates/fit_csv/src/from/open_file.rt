@@ -1,6 +1,9 @@
 //! A file of which not all rows have come.
 ghost use Rattle.std.specs.Prelude.{◌≡◌, ◌↔◌, IfErr, IfOk, IsTrue, OnOk, codes, reverse};
-ghost use Rattle.fit_record.specs.Records.{Fits};
+ghost use Rattle.std.specs.Global.{Global};
+ghost use Rattle.fit_record.specs.declared.message.Record.TheVariants.{Values as Data};
+ghost use Rattle.fit_record.specs.declared.message.Values.{Values as Message};
+ghost use Rattle.fit_record.specs.Records.{Fits, IsRecord};
 ghost use Rattle.fit_profile.specs.Looks.{known};
 ghost use Rattle.fit_csv.specs.declared.from.open_file.Part.{Part};
 ghost use Rattle.fit_csv.specs.inner.Misfits.{IsMisfit};
@@ -119,6 +122,22 @@ impl OpenFile {
         self.part = Part::Nothing;
         self.records.push(self.before.env(), &r)?;
         self.before.take(&r)?;
+        Ok(())
+    }
+
+    /// A data message is whole, which these bytes are.
+    pub(crate) fn add_message(&mut self, bytes: &[u8]) -> Result<(), Misfit>
+        requires same_records { self.old.before ≡ reverse self.old.records }
+        requires message { (v : Message Global)
+            × IsRecord (known self.old.before) (Data v) bytes.now }
+        ensures ok { OnOk result ((v : Message Global)
+            → IsRecord (known self.old.before) (Data v) bytes.now
+            → self.new ≡ with_record self.old (Data v)) }
+        ensures err { IfErr result (λ misfit. misfit ≡ Misfit.NoMemory) }
+    {
+        self.part = Part::Nothing;
+        self.records.push_message(self.before.env(), bytes)?;
+        self.before.take_message(bytes)?;
         Ok(())
     }
 

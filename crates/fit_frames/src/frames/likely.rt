@@ -1,4 +1,5 @@
-//! Guesses the value that a text shows. Nothing is claimed of a guess: who takes it compares the text with the rows of the guess.
+//! Guesses the bytes of the value that a text shows. Nothing is claimed of a guess: who takes it compares the text with the rows of the
+//! guess.
 mod numbers;
 mod several;
 
@@ -6,9 +7,9 @@ use crate::form::FieldKind;
 use crate::frames::Frame;
 use crate::frames::likely::numbers::likely_number;
 use crate::frames::likely::several::{likely_bytes, likely_numbers};
-use fit_base::{Bits, Items};
+use fit_base::Order;
 use fit_texts::cells::items_in;
-use std::alloc::Global;
+use std::alloc::{AllocError, Global};
 
 /// What a hexadecimal digit stands for, and any other byte for some number.
 fn digit_value(digit: u8) -> u64 {
@@ -23,6 +24,23 @@ fn likely_hexadecimal(digits: &[u8]) -> u64 {
         number = number.wrapping_mul(16).wrapping_add(digit_value(*digit));
     }
     number
+}
+
+/// Puts the lowest bytes of a number after others, that many, of at most eight: by a copy of eight bytes, of which those after them are
+/// cut off.
+#[inline(always)]
+fn put_number(bytes: &mut Vec<u8>, order: Order, width: u8, bits: u64) -> Result<(), AllocError> {
+    let end = bytes.len().wrapping_add(width as usize);
+    let eight = match order {
+        Order::Little => bits.to_le_bytes(),
+        Order::Big => {
+            let others = 64u32.wrapping_sub(8 * u32::from(width));
+            bits.wrapping_shl(others).to_be_bytes()
+        }
+    };
+    bytes.extend_from_slice(&eight)?;
+    bytes.truncate(end);
+    Ok(())
 }
 
 /// What comes after the first byte of this kind in a text.
@@ -61,75 +79,102 @@ fn take_cell<'a>(cell: &mut Vec<u8>, text: &'a [u8]) -> Option<&'a [u8]> {
     text.get(length..)
 }
 
-/// The items of a string of this size that may have this text. The text is lost.
-fn likely_string(alloc: Global, size: u8, text: &mut Vec<u8>) -> Option<Items> {
+/// Puts the bytes of a string of this size that may have this text after others.
+fn put_string(bytes: &mut Vec<u8>, size: u8, text: &[u8]) -> Option<()> {
     let size = size as usize;
     if text.len() > size {
         return None;
     }
-    text.resize(size, 0).ok()?;
-    let bits = Bits::from_bytes(alloc, text.as_slice()).ok()?;
-    Some(Items { width: 1, bits })
+    let end = bytes.len().wrapping_add(size);
+    bytes.extend_from_slice(text).ok()?;
+    bytes.resize(end, 0).ok()
 }
 
-/// The floating point number of this size that a text may show, and what comes after it.
-fn likely_float<'a>(alloc: Global, size: u8, text: &'a [u8]) -> Option<(Items, &'a [u8])> {
+/// Puts the bytes of the floating point number of this size that a text may show after others, and returns what comes after it.
+fn likely_float<'a>(
+    bytes: &mut Vec<u8>,
+    order: Order,
+    size: u8,
+    text: &'a [u8],
+) -> Option<&'a [u8]> {
     let length = 2 + 2 * size as usize;
     let bits = likely_hexadecimal(text.get(2..length)?);
-    Some((Items::one(alloc, size, bits), text.get(length..)?))
+    put_number(bytes, order, size, bits).ok()?;
+    text.get(length..)
 }
 
 impl Frame {
-    /// The items whose cell this may be. The cell is lost.
-    fn likely_in(&self, alloc: Global, written: &mut Vec<u8>, cell: &mut Vec<u8>) -> Option<Items> {
+    /// Puts the bytes of the value whose cell this may be after others.
+    fn likely_in(
+        &self,
+        alloc: Global,
+        written: &mut Vec<u8>,
+        cell: &[u8],
+        order: Order,
+        bytes: &mut Vec<u8>,
+    ) -> Option<()> {
         let form = &self.form;
-        match (form.kind, cell.as_slice()) {
+        match (form.kind, cell) {
             (_, [b'0', b'x', ..]) => {}
-            (FieldKind::Text, _) => return likely_string(alloc, form.size, cell),
+            (FieldKind::Text, _) => return put_string(bytes, form.size, cell),
             _ => {}
         }
-        let shown = cell.as_slice();
-        items_in(alloc, written, shown, form.code, form.size, form.info).ok()?
+        let found = items_in(alloc, written, cell, form.code, form.size, form.info).ok()?;
+        let items = found?;
+        for bits in items.bits.as_slice() {
+            put_number(bytes, order, items.width, *bits).ok()?;
+        }
+        Some(())
     }
 
-    /// The items that a text may show, and what comes after their cell, where they aren't a lone number of at most four bytes.
+    /// Puts the bytes of the value that a text may show after others, and returns what comes after its cell, where the value isn't a lone
+    /// number of at most four bytes.
     #[inline(never)]
     fn likely_rest<'a>(
         &self,
         alloc: Global,
         written: &mut Vec<u8>,
         cell: &mut Vec<u8>,
+        order: Order,
+        bytes: &mut Vec<u8>,
         text: &'a [u8],
-    ) -> Option<(Items, &'a [u8])> {
+    ) -> Option<&'a [u8]> {
+        let start = bytes.len();
         let size = self.form.size;
         let found = match (self.form.several(), self.form.kind) {
-            (Some(form), _) => likely_numbers(alloc, &form, size, text),
-            (_, FieldKind::Float) => likely_float(alloc, size, text),
-            (_, FieldKind::Bytes) => likely_bytes(alloc, size, text),
+            (Some(form), _) => likely_numbers(bytes, order, &form, size, text),
+            (_, FieldKind::Float) => likely_float(bytes, order, size, text),
+            (_, FieldKind::Bytes) => likely_bytes(bytes, size, text),
             _ => None,
         };
         if found.is_some() {
             return found;
         }
+        bytes.truncate(start);
         let front = text.get(..LONGEST).unwrap_or(text);
         let rest = take_cell(cell, front)?;
         let length = front.len().wrapping_sub(rest.len());
-        Some((self.likely_in(alloc, written, cell)?, text.get(length..)?))
+        self.likely_in(alloc, written, cell.as_slice(), order, bytes)?;
+        text.get(length..)
     }
 
-    /// The items that a text may show after what stands before them, and what comes after their cell.
+    /// Puts the bytes of the value that a text may show after what stands before it after others, and returns what comes after its cell.
+    /// `written` and `cell` lend their memory; their texts are lost.
     pub fn likely<'a>(
         &self,
         alloc: Global,
         written: &mut Vec<u8>,
         cell: &mut Vec<u8>,
+        order: Order,
+        bytes: &mut Vec<u8>,
         text: &'a [u8],
-    ) -> Option<(Items, &'a [u8])> {
+    ) -> Option<&'a [u8]> {
         let text = text.get(self.between.len()..)?;
         if let Some(form) = self.form.lone() {
             let (bits, length) = likely_number(&form, text)?;
-            return Some((Items::one(alloc, form.width, bits), text.get(length..)?));
+            put_number(bytes, order, form.width, bits).ok()?;
+            return text.get(length..);
         }
-        self.likely_rest(alloc, written, cell, text)
+        self.likely_rest(alloc, written, cell, order, bytes, text)
     }
 }

@@ -12,10 +12,11 @@ ghost use Rattle.fit_rows.specs.Quotes.{HasNoQuotes};
 ghost use Rattle.fit_frames.specs.Bare.{StandBare};
 ghost use Rattle.fit_rows.specs.inner.FrameKeys.{frame_slots, key_rows};
 
+use crate::maker::RowTools;
 use crate::template::Template;
 use fit_frames::{Frame, exact_items};
 use fit_record::Values;
-use fit_texts::{Sheet, Times, after_beginning, put_sheet};
+use fit_texts::{after_beginning, put_sheet};
 use std::alloc::{AllocError, Global};
 
 /// The message of this local message type and time offset with whose values a text may go on, by what stands around its values, of which
@@ -55,8 +56,7 @@ impl Template {
     fn after_first<'a>(
         &self,
         written: &mut Vec<u8>,
-        sheet: &mut Sheet,
-        times: &mut Times,
+        tools: &mut RowTools,
         offset: Option<u8>,
         time: Option<u32>,
         text: &'a [u8],
@@ -68,8 +68,8 @@ impl Template {
             → IsSomeAnd found (λ rest. rest.now ≡ left)) }
     {
         written.clear();
-        let at = self.put_first(written, sheet, times, offset, time)?;
-        put_sheet(written, sheet, at)?;
+        let at = self.put_first(written, &mut tools.sheet, &mut tools.times, offset, time)?;
+        put_sheet(written, &tools.sheet, at)?;
         Ok(after_beginning(text, written.as_slice()))
     }
 
@@ -77,10 +77,8 @@ impl Template {
     /// lost.
     pub(crate) fn exact(
         &self,
-        alloc: Global,
         written: &mut Vec<u8>,
-        sheet: &mut Sheet,
-        times: &mut Times,
+        tools: &mut RowTools,
         offset: Option<u8>,
         time: Option<u32>,
         text: &[u8],
@@ -93,9 +91,10 @@ impl Template {
             → HasNoQuotes (csv_text (key_rows self.now offset time (v.fields ++ v.dev)))
             → found ≡ Some v) }
     {
-        let Some(rest) = self.after_first(written, sheet, times, offset, time, text)? else {
+        let Some(rest) = self.after_first(written, tools, offset, time, text)? else {
             return Ok(None);
         };
+        let alloc = tools.pen.alloc;
         let frames = self.frames.as_slice();
         let (local, count) = (self.kept.local(), self.kept.count());
         exact_values(alloc, written, frames, count, local, offset, rest)

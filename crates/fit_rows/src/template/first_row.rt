@@ -6,11 +6,11 @@ ghost use Rattle.fit_profile.specs.Names.{message_label};
 ghost use Rattle.fit_rows.specs.ChainRows as rows;
 
 use fit_cells::RowWriter;
-use fit_frames::put_two;
+use fit_frames::{Pen, put_two};
 use fit_profile::message_label;
 use fit_texts::{Stamp, WIDE};
 use itoa::Buffer;
-use std::alloc::{AllocError, Global};
+use std::alloc::AllocError;
 
 /// Puts what stands before the time offset in the first row of a message.
 fn put_front(text: &mut Vec<u8>, writer: &mut RowWriter, local: u8) -> Result<(), AllocError>
@@ -47,42 +47,36 @@ fn put_line(
 }
 
 /// The first row of a message without a time offset.
-fn line_of(
-    alloc: Global,
-    writer: &mut RowWriter,
-    local: u8,
-    global: u16,
-) -> Result<Stamp, AllocError>
+fn line_of(pen: &mut Pen, local: u8, global: u16) -> Result<Stamp, AllocError>
     ensures { IfOk result (λ s. s ≡ csv_text (rows.row (codes "data") (decimal local) []
         (message_label global) [] [] [] ∷ [])) }
 {
-    let mut line = Vec::with_capacity(alloc, WIDE)?;
-    put_line(&mut line, writer, local, global)?;
+    let mut line = Vec::with_capacity(pen.alloc, WIDE)?;
+    put_line(&mut line, &mut pen.writer, local, global)?;
     Stamp::new(line)
 }
 
 /// What stands before the time offset.
-fn front_of(alloc: Global, writer: &mut RowWriter, local: u8) -> Result<Stamp, AllocError>
+fn front_of(pen: &mut Pen, local: u8) -> Result<Stamp, AllocError>
     ensures { IfOk result (λ s. s ≡ two_cells (codes "data") (decimal local)) }
 {
-    let mut front = Vec::with_capacity(alloc, WIDE)?;
-    put_front(&mut front, writer, local)?;
+    let mut front = Vec::with_capacity(pen.alloc, WIDE)?;
+    put_front(&mut front, &mut pen.writer, local)?;
     Stamp::new(front)
 }
 
 /// What stands between the time offset and the time.
-fn label_of(alloc: Global, writer: &mut RowWriter, global: u16) -> Result<Stamp, AllocError>
+fn label_of(pen: &mut Pen, global: u16) -> Result<Stamp, AllocError>
     ensures { IfOk result (λ s. s ≡ two_cells [] (message_label global)) }
 {
-    let mut label = Vec::with_capacity(alloc, WIDE)?;
-    put_label(&mut label, writer, global)?;
+    let mut label = Vec::with_capacity(pen.alloc, WIDE)?;
+    put_label(&mut label, &mut pen.writer, global)?;
     Stamp::new(label)
 }
 
 /// The first row of a message without a time offset; what stands before the time offset, and between it and the time.
 pub(super) fn first_row(
-    alloc: Global,
-    writer: &mut RowWriter,
+    pen: &mut Pen,
     local: u8,
     global: u16,
 ) -> Result<(Stamp, Stamp, Stamp), AllocError>
@@ -91,8 +85,8 @@ pub(super) fn first_row(
     ensures front { IfOk result (λ t. t.1 ≡ two_cells (codes "data") (decimal local)) }
     ensures label { IfOk result (λ t. t.2 ≡ two_cells [] (message_label global)) }
 {
-    let line = line_of(alloc, writer, local, global)?;
-    let front = front_of(alloc, writer, local)?;
-    let label = label_of(alloc, writer, global)?;
+    let line = line_of(pen, local, global)?;
+    let front = front_of(pen, local)?;
+    let label = label_of(pen, global)?;
     Ok((line, front, label))
 }

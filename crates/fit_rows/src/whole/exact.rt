@@ -59,7 +59,5 @@ pub(crate) fn exact_message(
         return Ok(None);
     };
     let time = header_time(before, offset);
-    let sheet = &mut maker.sheet;
-    let times = &mut maker.times;
-    template.exact(maker.alloc, written, sheet, times, offset, time, text)
+    template.exact(written, &mut maker.tools, offset, time, text)
 }

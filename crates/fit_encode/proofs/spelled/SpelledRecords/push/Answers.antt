@@ -15,7 +15,7 @@ pub put_record-requires : goal.put_record-requires
 put_record-requires c =
     let short = (c.self.invariant.all c.if-self.false).short in record {
       spellable = spellable c.args.env.now c.args.r.now c.requires.fits;
-      size = c.record_size-size.ensures ∙ ap length (sym c.order_of.ensures);
+      size = c.record_size-size.ensures.length ∙ ap length (sym c.order_of.ensures);
       small = omega (arith, short, c.len.ensures, c.if-size-len.false);
     }
 
@@ -27,7 +27,7 @@ invariant_of-self-then-size-len c =
     let short = (c.self.invariant.all c.if-self.false).short in
     rw c.add-then-size-len.ensures
     (long-now s.bytes.items (record_bytes c.args.env.now c.args.r.now) s.count s.too_long s.records.items c.args.env.now c.args.r.now
-    c.self.invariant c.if-self.false may refl (omega (arith, short, c.len.ensures, c.record_size-size.ensures, c.if-size-len.true)))
+    c.self.invariant c.if-self.false may refl (omega (arith, short, c.len.ensures, c.record_size-size.ensures.length, c.if-size-len.true)))
 
 pub invariant_of-self-2 : goal.invariant_of-self-2
 invariant_of-self-2 c =
@@ -38,4 +38,4 @@ invariant_of-self-2 c =
     let one = c.order_of.ensures in
     rw (c.add-2.ensures, c.in_ok-put_record.ensures.ok)
     (kept-more s.bytes.items (bytes_in_order c.order_of.result c.args.r.now) s.count s.too_long s.records.items c.args.env.now c.args.r.now
-    c.self.invariant c.if-self.false may one (omega (arith, short, c.len.ensures, c.record_size-size.ensures, ap length one, c.if-size-len.false)))
+    c.self.invariant c.if-self.false may one (omega (arith, short, c.len.ensures, c.record_size-size.ensures.length, ap length one, c.if-size-len.false)))

@@ -1,5 +1,5 @@
 use Rattle.fit_show.proofs.Common.{◌≤◌, ◌∙◌, ◌++◌, length, length-map, map, drop, refl, sym, ap, subst, append_assoc, arith, on_ok_weaker}
-use Rattle.fit_show.proofs.Common.{MessageKey, and_sheet, keys_text, line_front, line_head, line_keys, time_part}
+use Rattle.fit_show.proofs.Common.{HasItems, MessageKey, and_sheet, keys_text, line_front, line_head, line_keys, time_part}
 use Rattle.std.proofs.Common.{◌+◌, ℕ, List}
 use Rattle.std.proofs.lemmas.List.{length-append}
 use Rattle.fit_frames.proofs.FieldWalks.{field_slot}
@@ -7,14 +7,14 @@ use Rattle.fit_show.proofs.ShownLines.{dev_slot, key_slot, line_parts, shown_slo
 use Rattle.fit_show.proofs.template.LineTemplate.put.Goals as goal
 
 pub put_fields-requires-clause-fields : goal.put_fields-requires-clause-fields
-put_fields-requires-clause-fields g c =
+put_fields-requires-clause-fields c =
     let key : MessageKey = c.args.self.now in
     let fields = c.as_slice.ensures.value ∙ c.self.invariant.2 ∙ ap line_keys c.self.view_is in
     let same = ap (map key_slot) fields ∙ shown_slots key in
-    (c.requires.0, c.requires.1, subst (λ fs. g.S.FieldItems.has_items c.args.items.now (fs ++ c.requires.0) c.requires.1) (sym same) c.requires.2)
+    (c.requires.0, c.requires.1, subst (λ fs. HasItems c.args.items.now (fs ++ c.requires.0) c.requires.1) (sym same) c.requires.2)
 
 pub returns : goal.returns
-returns g c = on_ok_weaker c.put_fields.result (λ takes more all h.
+returns c = on_ok_weaker c.put_fields.result (λ takes more all h.
     let key : MessageKey = c.args.self.now in
     let old = c.args.text.now.items in
     let front = line_front key.own.local key.own.global in
@@ -23,7 +23,7 @@ returns g c = on_ok_weaker c.put_fields.result (λ takes more all h.
     let head = c.self.invariant.1 ∙ ap line_head c.self.view_is in
     let fields = c.as_slice.ensures.value ∙ c.self.invariant.2 ∙ ap line_keys c.self.view_is in
     let same = ap (map key_slot) fields ∙ shown_slots key in
-    let t = takes more all (subst (λ fs. g.S.FieldItems.has_items c.args.items.now (fs ++ more) all) (sym same) h) in
+    let t = takes more all (subst (λ fs. HasItems c.args.items.now (fs ++ more) all) (sym same) h) in
     let long = subst (λ (fs : List (ℕ × ℕ)). length fs ≤ length all) same t.0 in
     let many : length key.own.fields + length key.devs ≤ length all = omega (
       arith,
@@ -33,7 +33,7 @@ returns g c = on_ok_weaker c.put_fields.result (λ takes more all h.
       length-map key.devs dev_slot,
     ) in (
       long,
-      subst (λ (fs : List (ℕ × ℕ)). g.S.FieldItems.has_items c.put_fields.new.items more (drop (length fs) all)) same t.1,
+      subst (λ (fs : List (ℕ × ℕ)). HasItems c.put_fields.new.items more (drop (length fs) all)) same t.1,
       line_parts key c.args.time all old (old ++ front) labelled begun c.put_fields.new.text.items refl
           (c.in_ok-at.ensures.text ∙ sym (append_assoc old front (time_part c.args.time)))
           (c.in_ok-first.ensures.text ∙ ap (λ u. labelled ++ u) head) (t.2 ∙ ap (λ fs. begun ++ keys_text fs all) fields) many,
