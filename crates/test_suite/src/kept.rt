@@ -42,7 +42,7 @@ fn known_files(rt: HostRuntime) -> Result<(), Fail> {
 }
 
 #[test]
-fn first_fault_of_several(rt: HostRuntime) -> Result<(), Fail> {
+fn first_fault_of_several(rt: HostRuntime) {
     let alloc = rt.alloc();
     let mut files = SpelledFiles::new(alloc);
     let mut none = SpelledRecords::new(alloc);
@@ -50,12 +50,15 @@ fn first_fault_of_several(rt: HostRuntime) -> Result<(), Fail> {
     equal(&rt, &files.is_empty(), &true);
     let answer = write_spelled(&mut sink, &files);
     equal(&rt, &answer, &Err(EncodeFault::ChainLength));
-    files.push(&header(12, 0, HeaderSum::Absent), &mut none)?;
-    files.push(&header(14, 46477, HeaderSum::Zero), &mut none)?;
-    files.push(&header(13, 0, HeaderSum::True), &mut none)?;
+    for header in [
+        header(12, 0, HeaderSum::Absent),
+        header(14, 46477, HeaderSum::Zero),
+        header(13, 0, HeaderSum::True),
+    ] {
+        files.push(&header, &mut none).expect(&rt, "memory");
+    }
     equal(&rt, &(files.is_empty(), files.has_room()), &(false, true));
     let answer = write_spelled(&mut sink, &files);
     equal(&rt, &answer, &Err(EncodeFault::ZeroIsSum { file: 2 }));
     equal(&rt, &sink.bytes(), &b"".as_slice());
-    Ok(())
 }
