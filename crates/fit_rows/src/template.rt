@@ -162,7 +162,6 @@ fn write_optional(sheet: &mut Sheet, at: usize, number: Option<u8>) -> usize
 }
 
 /// What stands around the values of fields and of developer fields, and the end of the last row.
-#[inline(always)]
 fn frames_and_end(
     pen: &mut Pen,
     global: u16,

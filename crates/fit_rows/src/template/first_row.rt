@@ -47,7 +47,6 @@ fn put_line(
 }
 
 /// The first row of a message without a time offset.
-#[inline(always)]
 fn line_of(pen: &mut Pen, local: u8, global: u16) -> Result<Stamp, AllocError>
     ensures { IfOk result (λ s. s ≡ csv_text (rows.row (codes "data") (decimal local) []
         (message_label global) [] [] [] ∷ [])) }
@@ -58,7 +57,6 @@ fn line_of(pen: &mut Pen, local: u8, global: u16) -> Result<Stamp, AllocError>
 }
 
 /// What stands before the time offset.
-#[inline(always)]
 fn front_of(pen: &mut Pen, local: u8) -> Result<Stamp, AllocError>
     ensures { IfOk result (λ s. s ≡ two_cells (codes "data") (decimal local)) }
 {
@@ -68,7 +66,6 @@ fn front_of(pen: &mut Pen, local: u8) -> Result<Stamp, AllocError>
 }
 
 /// What stands between the time offset and the time.
-#[inline(always)]
 fn label_of(pen: &mut Pen, global: u16) -> Result<Stamp, AllocError>
     ensures { IfOk result (λ s. s ≡ two_cells [] (message_label global)) }
 {
@@ -78,7 +75,6 @@ fn label_of(pen: &mut Pen, global: u16) -> Result<Stamp, AllocError>
 }
 
 /// The first row of a message without a time offset; what stands before the time offset, and between it and the time.
-#[inline(always)]
 pub(super) fn first_row(
     pen: &mut Pen,
     local: u8,
