@@ -231,10 +231,10 @@ impl Template {
         let definition = &defined.definition;
         let global = definition.global;
         let kept = KeptMessage::new(alloc, stream, local, defined)?;
+        let (line, front, label) = first_row(pen, local, global)?;
         let fields = definition.fields.as_slice();
         let devs = kept.devs.as_slice();
         let (frames, end) = frames_and_end(pen, global, fields, devs)?;
-        let (line, front, label) = first_row(pen, local, global)?;
         Ok(Template {
             kept,
             line,
