@@ -58,12 +58,6 @@ returns-clause-counted g c = omega (arith, ap length c.note.ensures, length-appe
 pub split_at-requires : goal.split_at-requires
 split_at-requires g c = omega (arith, c.in-Ok.ensures.bound, c.min-wanted.ensures, c.take_some.ensures.room)
 
-pub take_piece-requires : goal.take_piece-requires
-take_piece-requires g c = (
-  search rules,
-  (c.requires.fresh, (c.requires.viable, omega (arith, c.requires.counted, c.split_at.ensures.front_len))),
-)
-
 pub returns-in_default-clause-viable : goal.returns-in_default-clause-viable
 returns-in_default-clause-viable g c = c.requires.viable
 
