@@ -1,6 +1,7 @@
 -- Bytes in memory are fed to a decoder from their front: what was fed, and the rest.
 use Rattle.fit_decode.proofs.Common.{◌≡◌, ℕ, ◌+◌, ◌-◌, ◌^◌, ◌<◌, min, List, [], ◌∷◌, ◌++◌, length, take, drop, None, Ok, Err, refl, sym, ap, ◌∙◌, subst}
-use Rattle.fit_decode.proofs.Common.{◌≤◌, ◌==◌, false, Some, length-drop, append_assoc, length-append, arith, IsErr, IsOk, ◌↔◌, Global, append-nil, length-take-le, take-append-drop}
+use Rattle.fit_decode.proofs.Common.{◌≤◌, ◌==◌, false, Some, length-drop, append_assoc, length-append, arith, IsErr, IsOk, ◌↔◌, Global, append-nil}
+use Rattle.fit_decode.proofs.Common.{length-take-le, take-append-drop}
 use Rattle.fit_decode.proofs.Common.{take-append_seam, Reason, FitFile, IsViable, chain_limit, Fault, Truncated, Read, Progress, at_header, HasCome, AreChain}
 use Rattle.fit_decode.proofs.Common.{AreFiles, IsFaultOf, LacksMemoryAt, fault_after, Refuses, Wants, fed, chain_come, refused_in, wants_in}
 use Rattle.std.proofs.Common.{Option, Result}

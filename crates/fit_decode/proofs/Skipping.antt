@@ -277,7 +277,7 @@ pub used_more : {A : Type 0} (d : Inside A) (seen : Seen) → seen_in d ≡ seen
     → ◌≡◌ {A = Seen} (record { bytes = items; refusal = refusal_of d.stage.section }) (record { bytes = seen.bytes ++ used; refusal = seen.refusal })
 used_more d seen is items used noted =
     let longer : ◌≡◌ {A = Seen} (record { bytes = items; refusal = refusal_of d.stage.section })
-        (record { bytes = d.history.items ++ used; refusal = refusal_of d.stage.section }) =
+    (record { bytes = d.history.items ++ used; refusal = refusal_of d.stage.section }) =
     λ i. record { bytes = noted i; refusal = refusal_of d.stage.section } in
     longer ∙ ap (λ (v : Seen). record { bytes = v.bytes ++ used; refusal = v.refusal }) is
 

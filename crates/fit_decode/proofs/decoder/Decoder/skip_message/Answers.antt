@@ -66,7 +66,9 @@ returns-clause-whole g c = λ none size follows.
     c.skip_message_in_section-size.ensures.whole idle size has large
 
 pub returns-clause-used : goal.returns-clause-used
-returns-clause-used g c = used_more c.self.inside c.args.self.now c.self.view_is c.cover.new.history.items (take c.skip_message_in_section-size.result c.args.piece.now) c.cover.ensures.noted
+returns-clause-used g c =
+    used_more c.self.inside c.args.self.now c.self.view_is
+    c.cover.new.history.items (take c.skip_message_in_section-size.result c.args.piece.now) c.cover.ensures.noted
 
 pub returns-in_default-clause-used : goal.returns-in_default-clause-used
 returns-in_default-clause-used g c = used_none c.args.self.now

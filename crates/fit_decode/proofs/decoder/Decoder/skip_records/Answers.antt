@@ -45,7 +45,9 @@ pub returns-clause-viable : goal.returns-clause-viable
 returns-clause-viable g c = (invariant_of-self g c).viable
 
 pub returns-clause-used : goal.returns-clause-used
-returns-clause-used g c = used_more c.self.inside c.args.self.now c.self.view_is c.cover.new.history.items (take c.skip_in_section-skipped.result.0 c.args.piece.now) c.cover.ensures.noted
+returns-clause-used g c =
+    used_more c.self.inside c.args.self.now c.self.view_is
+    c.cover.new.history.items (take c.skip_in_section-skipped.result.0 c.args.piece.now) c.cover.ensures.noted
 
 pub returns-in_default-clause-used : goal.returns-in_default-clause-used
 returns-in_default-clause-used g c = used_none c.args.self.now

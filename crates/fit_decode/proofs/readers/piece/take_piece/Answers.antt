@@ -1,5 +1,6 @@
 -- A piece is fed event by event.
-use Rattle.fit_decode.proofs.Common.{◌^◌, ◌<◌, length, drop, Some, Err, sym, ap, ◌∙◌, subst, arith, rules, length-drop, append-nil, event_of, unrefused, ComesToRecords}
+use Rattle.fit_decode.proofs.Common.{◌^◌, ◌<◌, length, drop, Some, Err, sym, ap, ◌∙◌, subst, arith, rules, length-drop, append-nil, event_of, unrefused}
+use Rattle.fit_decode.proofs.Common.{ComesToRecords}
 use Rattle.fit_decode.specs.Answers.{Seen}
 use Rattle.fit_decode.proofs.PieceTold.{fed_on, feeds_header, feeds_item, piece_over, piece_more, piece_end, piece_refused, piece_wants, piece_not_kept}
 use Rattle.fit_decode.proofs.readers.piece.take_piece.Goals as goal
