@@ -1,7 +1,6 @@
 -- What was passed over and fed is a front of the bytes, and at the end all of them.
 use Rattle.fit_decode.proofs.Common.{◌^◌, ◌<◌, length, length-append, arith, ap, event_of, rules, subst, sym, ◌∙◌, Global, eqb-true, slice_is_bytes, AreChain}
-use Rattle.fit_decode.proofs.Common.{IsFaultOf, LacksMemoryAt, chain_end}
-use Rattle.fit_decode.proofs.Common.{fault_of_chain}
+use Rattle.fit_decode.proofs.Common.{IsFaultOf, LacksMemoryAt, chain_end, fault_of_chain}
 use Rattle.std.proofs.Common.{IfErr, OnOk}
 use Rattle.std.proofs.lemmas.Result.{IfOk-from_err, err_from_is_err_and}
 use Rattle.fit_decode.proofs.Checking.{bad_end, bad_place, counted_end, fed_after, feeds_first, good_end, less_left, passed_over, stopped, stopped_at, stops}

@@ -1,4 +1,4 @@
-use Rattle.fit_decode.proofs.Common.{refl, arith, true, false, Ok, Err, ap, ◌∙◌, subst, SumScanned}
+use Rattle.fit_decode.proofs.Common.{refl, arith}
 use Rattle.fit_decode.proofs.section.Stage.feed_sum.Goals as goal
 
 pub returns-in-Err : goal.returns-in-Err
