@@ -1,12 +1,14 @@
 -- Bytes in memory are fed to a decoder from their front: what was fed, and the rest.
 use Rattle.fit_decode.proofs.Common.{◌≡◌, ℕ, ◌+◌, ◌-◌, ◌^◌, ◌<◌, min, List, [], ◌∷◌, ◌++◌, length, take, drop, None, Ok, Err, refl, sym, ap, ◌∙◌, subst}
-use Rattle.fit_decode.proofs.Common.{append_assoc, length-append, arith, IsErr, IsOk, ◌↔◌, Global, append-nil, length-take-le, take-append-drop}
+use Rattle.fit_decode.proofs.Common.{◌≤◌, ◌==◌, false, Some, length-drop, append_assoc, length-append, arith, IsErr, IsOk, ◌↔◌, Global, append-nil}
+use Rattle.fit_decode.proofs.Common.{length-take-le, take-append-drop}
 use Rattle.fit_decode.proofs.Common.{take-append_seam, Reason, FitFile, IsViable, chain_limit, Fault, Truncated, Read, Progress, at_header, HasCome, AreChain}
 use Rattle.fit_decode.proofs.Common.{AreFiles, IsFaultOf, LacksMemoryAt, fault_after, Refuses, Wants, fed, chain_come, refused_in, wants_in}
-use Rattle.std.proofs.Common.{Result}
+use Rattle.std.proofs.Common.{Option, Result}
 use Rattle.std.specs.Prelude.{IfErr, OnOk}
 use Rattle.fit_chain.specs.declared.event.Fault.TheVariants.{Refused, NoMemory}
 use Rattle.fit_decode.specs.Answers.{Seen}
+use Rattle.fit_decode.proofs.FileRead.{nothing_viable}
 
 -- ---- feeding
 
@@ -27,6 +29,10 @@ feeds_on upload old new rest used f after viable = record {
   viable = viable;
 }
 
+pub feeds_first : (upload : List ℕ) (new : Seen) → new ≡ record { bytes = []; refusal = None } → Feeds upload new upload
+feeds_first upload new none =
+    subst (λ s. Feeds upload s upload) (sym none) (record { joined = refl; fresh = refl; viable = nothing_viable Global })
+
 -- what was passed over counts as fed
 pub feeds_over : (upload : List ℕ) (old new : Seen) (rest : List ℕ) (used : ℕ) → Feeds upload old rest
     → new ≡ record old { bytes = old.bytes ++ take used rest }
@@ -38,6 +44,25 @@ feeds_over upload old new rest used f after viable =
 pub passed_over : (upload : List ℕ) (old new : Seen) (rest left : List ℕ) (used : ℕ) → Feeds upload old rest
     → new ≡ record old { bytes = old.bytes ++ take used rest } → IsViable Global chain_limit new.bytes → left ≡ drop used rest → Feeds upload new left
 passed_over upload old new rest left used f after viable is = subst (Feeds upload new) (sym is) (feeds_over upload old new rest used f after viable)
+
+-- then the piece that is left is fed
+pub fed_after : (upload : List ℕ) (mid new : Seen) (left after : List ℕ) (used : ℕ) → Feeds upload mid left
+    → (used ≤ length left) × (new ≡ fed mid left used) → IsViable Global chain_limit new.bytes → after ≡ drop used left → Feeds upload new after
+fed_after upload mid new left after used passed takes viable is =
+    subst (Feeds upload new) (sym is) (feeds_on upload mid new left used passed takes.1 viable)
+
+some_left : (rest : List ℕ) → (length rest == 0) ≡ false → 0 < length rest
+some_left [] some = absurd (cc some)
+some_left (b ∷ rest) some = omega arith
+
+-- an event is told by some bytes, and without one all are used
+pub less_left : {X Q : Type 0} {R : X → Type 0} (rest left after : List ℕ) (passed used : ℕ) (event : Option X) → (length rest == 0) ≡ false
+    → left ≡ drop passed rest → after ≡ drop used left → (event ≡ None → (used ≡ length left) × Q) → ((x : X) → event ≡ Some x → (0 < used) × R x)
+    → length after < length rest
+less_left rest left after passed used None some is then more told =
+    omega (arith, some_left rest some, ap length then, length-drop used left, (more refl).0)
+less_left rest left after passed used (Some x) some is then more told =
+    omega (arith, some_left rest some, ap length is, length-drop passed rest, ap length then, length-drop used left, (told x refl).0)
 
 -- ---- faults
 
@@ -134,6 +159,13 @@ bad_end upload seen rest (Err fault) f none e =
     let same : fault ≡ Truncated (length seen.bytes) = let t = e.truncated f.fresh refl in cc in
     let whole : IsFaultOf seen.bytes (Truncated (length seen.bytes)) = (refl, f.viable, λ done. let ok = e.good.1 (f.fresh, done) in absurd cc) in
     rw same (subst (λ bytes. IsFaultOf bytes (Truncated (length seen.bytes))) all whole)
+
+-- it isn't memory that the end lacks
+pub bad_place : (upload : List ℕ) (seen : Seen) (result : Result (Unit {0}) Fault) → seen.refusal ≡ None → Finishes seen result
+    → IfErr result (LacksMemoryAt upload)
+bad_place upload seen (Ok u) fresh e = tt
+bad_place upload seen (Err fault) fresh e =
+    let same : fault ≡ Truncated (length seen.bytes) = let t = e.truncated fresh refl in cc in rw same tt
 
 -- the files that have ended are all files of the chain
 pub counted_end : (upload : List ℕ) (seen : Seen) (rest : List ℕ) (count : ℕ) → Feeds upload seen rest → length rest ≡ 0 → AreChain Global upload

@@ -1,5 +1,5 @@
 -- What the bytes used of a piece leave in the fields in a closing checksum, as in the other sections.
-use Rattle.fit_decode.proofs.Common.{◌≡◌, ℕ, ◌-◌, ◌/◌, ◌%◌, ◌<◌, ◌≤◌, true, false, List, [], ◌∷◌, ◌++◌, length, take, slice_index, refl}
+use Rattle.fit_decode.proofs.Common.{◌≡◌, ℕ, ◌/◌, ◌%◌, ◌<◌, ◌≤◌, true, false, List, [], ◌∷◌, ◌++◌, length, take, slice_index, refl}
 use Rattle.fit_decode.proofs.Common.{sym, ap, ◌∙◌, subst, arith, length-append, None, Ok, Err, IsBytes, little_bytes}
 use Rattle.fit_decode.proofs.Common.{checksum, header_bytes, FitFile, Environment}
 use Rattle.fit_decode.proofs.Common.{empty_environment, records_bytes, chain_limit}

@@ -1,12 +1,20 @@
 -- A record that is whole in a piece: what its bytes leave in a decoder.
-use Rattle.fit_decode.proofs.Common.{◌≡◌, ◌++◌, ◌<◌, cond, ℕ, List, take, refl, sym, ap, ◌∙◌, arith, Some, Ok, IsBytes, ne_eqb, Position, Reads, Inside}
+use Rattle.fit_decode.proofs.Common.{◌≡◌, ◌++◌, ◌<◌, cond, ℕ, List, take, refl, sym, ap, ◌∙◌, arith, None, Some, Ok, IsBytes, ne_eqb, Position, Reads, Inside}
 use Rattle.fit_decode.proofs.Common.{IsSoundDecoder, fields_inside, InSection, ClosingSum, section_of, Record, Environment, refusal_of, item, Least, subst}
+use Rattle.std.specs.Prelude.{Option, IfNone, IfSome}
 use Rattle.fit_chain.specs.declared.event.Event.TheVariants.{Item}
 use Rattle.fit_decode.proofs.Advancing.{at_section}
 use Rattle.fit_decode.proofs.Sections.{data_fed}
 use Rattle.fit_decode.proofs.Feeding.{Took, takes, fresh_holds_all}
 use Rattle.fit_decode.specs.Answers.{Seen}
 use Rattle.fit_decode.specs.inner.Feeds.{Feeds, TellsItem}
+
+pub none_holds : {X : Type 0} (r : Option X) (P : X → Type 0) → r ≡ None → IfSome r P
+none_holds r P none = subst (λ o. IfSome o P) (sym none) tt
+
+pub if_none : {X : Type 0} (r : Option X) (P : Type 0) → P → IfNone r P
+if_none None P holds = holds
+if_none (Some x) P holds = tt
 
 -- after a record with which the section isn't over, it goes on
 pub record_taken : {A : Type 0} (d : Inside A) → IsSoundDecoder d → d.stage.section ≡ InSection → (piece : List ℕ) → IsBytes piece

@@ -270,3 +270,16 @@ message_follows {A} d k old seen none piece size (fs, h, n, records, come, has, 
     follows_at (fields_inside d) d.history.items piece size fs h n records
     (subst (HasCome fs (at_data h n records [])) (sym (ap (λ (o : Seen). o.bytes) seen)) come) has large d.stage.section
     k.holds (ap (λ (o : Seen). o.refusal) seen ∙ none)
+
+-- ---- what a caller sees
+
+pub used_more : {A : Type 0} (d : Inside A) (seen : Seen) → seen_in d ≡ seen → (items used : List ℕ) → items ≡ d.history.items ++ used
+    → ◌≡◌ {A = Seen} (record { bytes = items; refusal = refusal_of d.stage.section }) (record { bytes = seen.bytes ++ used; refusal = seen.refusal })
+used_more d seen is items used noted =
+    let longer : ◌≡◌ {A = Seen} (record { bytes = items; refusal = refusal_of d.stage.section })
+    (record { bytes = d.history.items ++ used; refusal = refusal_of d.stage.section }) =
+    λ i. record { bytes = noted i; refusal = refusal_of d.stage.section } in
+    longer ∙ ap (λ (v : Seen). record { bytes = v.bytes ++ used; refusal = v.refusal }) is
+
+pub used_none : (seen : Seen) → seen ≡ record { bytes = seen.bytes ++ []; refusal = seen.refusal }
+used_none seen = λ i. record { bytes = sym (append-nil seen.bytes) i; refusal = seen.refusal }

@@ -1,9 +1,9 @@
 -- What was passed over and fed is a front of the bytes, and at the end all of them.
-use Rattle.fit_decode.proofs.Common.{◌^◌, ◌<◌, length, rules, subst, sym, ◌∙◌, Global, eqb-true, slice_is_bytes, AreChain, IsFaultOf, LacksMemoryAt, chain_end}
-use Rattle.fit_decode.proofs.Common.{fault_of_chain}
+use Rattle.fit_decode.proofs.Common.{◌^◌, ◌<◌, length, length-append, arith, ap, event_of, rules, subst, sym, ◌∙◌, Global, eqb-true, slice_is_bytes, AreChain}
+use Rattle.fit_decode.proofs.Common.{IsFaultOf, LacksMemoryAt, chain_end, fault_of_chain}
 use Rattle.std.proofs.Common.{IfErr, OnOk}
-use Rattle.std.proofs.lemmas.Result.{err_from_is_err_and}
-use Rattle.fit_decode.proofs.Checking.{bad_end, counted_end, good_end, passed_over, stopped, stopped_at, stops}
+use Rattle.std.proofs.lemmas.Result.{IfOk-from_err, err_from_is_err_and}
+use Rattle.fit_decode.proofs.Checking.{bad_end, bad_place, counted_end, fed_after, feeds_first, good_end, less_left, passed_over, stopped, stopped_at, stops}
 use Rattle.fit_decode.proofs.check.check_bytes.Goals as goal
 
 pub returns-in-Err-clause-fault : goal.returns-in-Err-clause-fault
@@ -50,3 +50,81 @@ returns-clause-files c =
     (good_end c.args.bytes.now c.loop-rest.decoder c.loop-rest.rest.now c.finish.result c.loop-rest.invariant none
     (record { good = c.finish.ensures.good; truncated = c.finish.ensures.truncated })) in
     counted_end c.args.bytes.now c.loop-rest.decoder c.loop-rest.rest.now c.files.result c.loop-rest.invariant none chain c.files.ensures.files
+
+pub loop-rest-init : goal.loop-rest-init
+loop-rest-init c = feeds_first c.args.bytes.now c.new-decoder.result c.new-decoder.ensures
+
+pub split_at-requires : goal.split_at-requires
+split_at-requires c = c.skip_records-passed.ensures.within
+
+pub overflow_sub-before : goal.overflow_sub-before
+overflow_sub-before c =
+    let passed = passed_over c.args.bytes.now c.loop-rest.decoder c.skip_records-passed.new.self c.loop-rest.rest.now c.split_at.result.1.now
+    c.skip_records-passed.result.0 c.loop-rest.invariant c.skip_records-passed.ensures.used c.skip_records-passed.ensures.viable c.split_at.ensures.back in
+    omega (arith, ap length passed.joined, length-append c.skip_records-passed.new.self.bytes c.split_at.result.1.now)
+
+pub split_at-requires-in-Ok : goal.split_at-requires-in-Ok
+split_at-requires-in-Ok c = c.in-Ok.ensures.used.0
+
+pub loop-rest-preserved : goal.loop-rest-preserved
+loop-rest-preserved c =
+    let passed = passed_over c.args.bytes.now c.loop-rest.decoder c.skip_records-passed.new.self c.loop-rest.rest.now c.split_at.result.1.now
+    c.skip_records-passed.result.0 c.loop-rest.invariant c.skip_records-passed.ensures.used c.skip_records-passed.ensures.viable c.split_at.ensures.back in
+    fed_after c.args.bytes.now c.skip_records-passed.new.self c.feed.new.self c.split_at.result.1.now c.split_at-in-Ok.result.1.now c.in-Ok.fed.used
+    passed c.in-Ok.ensures.used c.in-Ok.ensures.viable c.split_at-in-Ok.ensures.back
+
+pub loop-rest-smaller : goal.loop-rest-smaller
+loop-rest-smaller c =
+    less_left c.loop-rest.rest.now c.split_at.result.1.now c.split_at-in-Ok.result.1.now c.skip_records-passed.result.0 c.in-Ok.fed.used
+    (event_of c.in-Ok.fed.event) (sym c.is_empty.ensures ∙ c.loop-rest-test.true) c.split_at.ensures.back c.split_at-in-Ok.ensures.back
+    c.in-Ok.ensures.more c.in-Ok.ensures.event
+
+pub loop-rest-preserved-in-Ok : goal.loop-rest-preserved-in-Ok
+loop-rest-preserved-in-Ok c =
+    let passed = passed_over c.args.bytes.now c.loop-rest.decoder c.skip_records-passed.new.self c.loop-rest.rest.now c.split_at.result.1.now
+    c.skip_records-passed.result.0 c.loop-rest.invariant c.skip_records-passed.ensures.used c.skip_records-passed.ensures.viable c.split_at.ensures.back in
+    fed_after c.args.bytes.now c.skip_records-passed.new.self c.feed.new.self c.split_at.result.1.now c.split_at-in-Ok.result.1.now c.in-Ok.fed.used
+    passed c.in-Ok.ensures.used c.in-Ok.ensures.viable c.split_at-in-Ok.ensures.back
+
+pub loop-rest-smaller-in-Ok : goal.loop-rest-smaller-in-Ok
+loop-rest-smaller-in-Ok c =
+    less_left c.loop-rest.rest.now c.split_at.result.1.now c.split_at-in-Ok.result.1.now c.skip_records-passed.result.0 c.in-Ok.fed.used
+    (event_of c.in-Ok.fed.event) (sym c.is_empty.ensures ∙ c.loop-rest-test.true) c.split_at.ensures.back c.split_at-in-Ok.ensures.back
+    c.in-Ok.ensures.more c.in-Ok.ensures.event
+
+pub loop-rest-preserved-in-Ok-2 : goal.loop-rest-preserved-in-Ok-2
+loop-rest-preserved-in-Ok-2 c =
+    let passed = passed_over c.args.bytes.now c.loop-rest.decoder c.skip_records-passed.new.self c.loop-rest.rest.now c.split_at.result.1.now
+    c.skip_records-passed.result.0 c.loop-rest.invariant c.skip_records-passed.ensures.used c.skip_records-passed.ensures.viable c.split_at.ensures.back in
+    fed_after c.args.bytes.now c.skip_records-passed.new.self c.feed.new.self c.split_at.result.1.now c.split_at-in-Ok.result.1.now c.in-Ok.fed.used
+    passed c.in-Ok.ensures.used c.in-Ok.ensures.viable c.split_at-in-Ok.ensures.back
+
+pub loop-rest-smaller-in-Ok-2 : goal.loop-rest-smaller-in-Ok-2
+loop-rest-smaller-in-Ok-2 c =
+    less_left c.loop-rest.rest.now c.split_at.result.1.now c.split_at-in-Ok.result.1.now c.skip_records-passed.result.0 c.in-Ok.fed.used
+    (event_of c.in-Ok.fed.event) (sym c.is_empty.ensures ∙ c.loop-rest-test.true) c.split_at.ensures.back c.split_at-in-Ok.ensures.back
+    c.in-Ok.ensures.more c.in-Ok.ensures.event
+
+pub loop-rest-preserved-in-Ok-3 : goal.loop-rest-preserved-in-Ok-3
+loop-rest-preserved-in-Ok-3 c =
+    let passed = passed_over c.args.bytes.now c.loop-rest.decoder c.skip_records-passed.new.self c.loop-rest.rest.now c.split_at.result.1.now
+    c.skip_records-passed.result.0 c.loop-rest.invariant c.skip_records-passed.ensures.used c.skip_records-passed.ensures.viable c.split_at.ensures.back in
+    fed_after c.args.bytes.now c.skip_records-passed.new.self c.feed.new.self c.split_at.result.1.now c.split_at-in-Ok.result.1.now c.in-Ok.fed.used
+    passed c.in-Ok.ensures.used c.in-Ok.ensures.viable c.split_at-in-Ok.ensures.back
+
+pub loop-rest-smaller-in-Ok-3 : goal.loop-rest-smaller-in-Ok-3
+loop-rest-smaller-in-Ok-3 c =
+    less_left c.loop-rest.rest.now c.split_at.result.1.now c.split_at-in-Ok.result.1.now c.skip_records-passed.result.0 c.in-Ok.fed.used
+    (event_of c.in-Ok.fed.event) (sym c.is_empty.ensures ∙ c.loop-rest-test.true) c.split_at.ensures.back c.split_at-in-Ok.ensures.back
+    c.in-Ok.ensures.more c.in-Ok.ensures.event
+
+pub returns-in_err-finish-clause-files : goal.returns-in_err-finish-clause-files
+returns-in_err-finish-clause-files c = IfOk-from_err c.from_residual.result _ c.from_residual.ensures.0
+
+pub returns-in_err-finish-clause-place : goal.returns-in_err-finish-clause-place
+returns-in_err-finish-clause-place c =
+    let p = err_from_is_err_and c.from_residual.result c.from_residual.ensures.1 in
+    rw (p.1, p.2)
+    (subst (λ r. IfErr r (LacksMemoryAt c.args.bytes.now)) c.in_err-finish.was
+    (bad_place c.args.bytes.now c.loop-rest.decoder c.finish.result c.loop-rest.invariant.fresh
+    (record { good = c.finish.ensures.good; truncated = c.finish.ensures.truncated })))

@@ -1,4 +1,4 @@
-use Rattle.fit_decode.proofs.Common.{◌∙◌}
+use Rattle.fit_decode.proofs.Common.{◌∙◌, refl}
 use Rattle.fit_decode.proofs.FilesEnded.{files_ended}
 use Rattle.fit_decode.proofs.Feeding.{none_refused, not_latched, reason_kept}
 use Rattle.fit_decode.proofs.decoder.Decoder.files.Goals as goal
@@ -12,3 +12,6 @@ returns-clause-refused g c =
 
 pub returns-clause-files : goal.returns-clause-files
 returns-clause-files g c = λ fresh fs k come. c.from.ensures ∙ files_ended c.self.inside c.self.invariant c.args.self.now c.self.view_is fresh fs k come
+
+pub returns-in-Latched-clause-refused : goal.returns-in-Latched-clause-refused
+returns-in-Latched-clause-refused g c = λ reason is. refl

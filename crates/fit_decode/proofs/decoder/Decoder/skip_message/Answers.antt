@@ -1,11 +1,11 @@
-use Rattle.fit_decode.proofs.Common.{[], ◌∷◌, ◌++◌, refl, ap, ◌∙◌, take, append-nil, record_bytes, rules, layout, slice_is_bytes, refusal_of}
+use Rattle.fit_decode.proofs.Common.{[], ◌∷◌, ◌++◌, refl, ap, ◌∙◌, take, arith, append-nil, record_bytes, rules, layout, slice_is_bytes, refusal_of}
 use Rattle.fit_decode.specs.contracts.decoder.Decoder.{the_row}
 use Rattle.fit_decode.specs.contracts.decoder.Decoder.skip_message.{A-row}
 use Rattle.fit_decode.proofs.Sizes.{field_is_within}
 use Rattle.fit_record.specs.declared.message.Record.TheVariants.{Values as Message}
 use Rattle.fit_chain.specs.Events.{known_after}
 use Rattle.fit_decode.proofs.Feeding.{none_refused, was_viable}
-use Rattle.fit_decode.proofs.Skipping.{few_skipped, skipped_kept, records_skipped, message_skipped, message_follows, message_completes}
+use Rattle.fit_decode.proofs.Skipping.{few_skipped, skipped_kept, records_skipped, message_skipped, message_follows, message_completes, used_more, used_none}
 use Rattle.fit_decode.proofs.decoder.Decoder.skip_message.Goals as goal
 
 pub returns-in_default-clause-viable : goal.returns-in_default-clause-viable
@@ -64,3 +64,20 @@ pub returns-clause-whole : goal.returns-clause-whole
 returns-clause-whole g c = λ none size follows.
     let (at, has, idle, large) = message_follows c.self.inside c.self.invariant c.args.self.now c.self.view_is none c.args.piece.now size follows in
     c.skip_message_in_section-size.ensures.whole idle size has large
+
+pub returns-clause-used : goal.returns-clause-used
+returns-clause-used g c =
+    used_more c.self.inside c.args.self.now c.self.view_is
+    c.cover.new.history.items (take c.skip_message_in_section-size.result c.args.piece.now) c.cover.ensures.noted
+
+pub returns-in_default-clause-used : goal.returns-in_default-clause-used
+returns-in_default-clause-used g c = used_none c.args.self.now
+
+pub returns-in_default-clause-message : goal.returns-in_default-clause-message
+returns-in_default-clause-message g c = λ some. absurd (omega (arith, some))
+
+pub returns-in_default-clause-completes : goal.returns-in_default-clause-completes
+returns-in_default-clause-completes g c = λ some. absurd (omega (arith, some))
+
+pub returns-in_default-clause-refused : goal.returns-in_default-clause-refused
+returns-in_default-clause-refused g c = λ reason is. (refl, refl)

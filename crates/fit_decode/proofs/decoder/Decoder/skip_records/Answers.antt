@@ -1,9 +1,9 @@
-use Rattle.fit_decode.proofs.Common.{◌++◌, take, refl, ap, rules, layout, slice_is_bytes, refusal_of}
+use Rattle.fit_decode.proofs.Common.{[], ◌++◌, take, refl, ap, sym, subst, append-nil, AreEvents, rules, layout, slice_is_bytes, refusal_of}
 use Rattle.fit_decode.specs.contracts.decoder.Decoder.{the_row}
 use Rattle.fit_decode.specs.contracts.decoder.Decoder.skip_records.{A-row}
 use Rattle.fit_decode.proofs.Sizes.{field_is_within}
 use Rattle.fit_decode.proofs.Feeding.{none_refused, was_viable}
-use Rattle.fit_decode.proofs.Skipping.{few_skipped, skipped_kept, records_skipped}
+use Rattle.fit_decode.proofs.Skipping.{few_skipped, skipped_kept, records_skipped, used_more, used_none}
 use Rattle.fit_decode.proofs.decoder.Decoder.skip_records.Goals as goal
 
 pub returns-in_default-clause-viable : goal.returns-in_default-clause-viable
@@ -43,3 +43,17 @@ returns-clause-refused g c = none_refused c.self.inside c.self.invariant c.args.
 
 pub returns-clause-viable : goal.returns-clause-viable
 returns-clause-viable g c = (invariant_of-self g c).viable
+
+pub returns-clause-used : goal.returns-clause-used
+returns-clause-used g c =
+    used_more c.self.inside c.args.self.now c.self.view_is
+    c.cover.new.history.items (take c.skip_in_section-skipped.result.0 c.args.piece.now) c.cover.ensures.noted
+
+pub returns-in_default-clause-used : goal.returns-in_default-clause-used
+returns-in_default-clause-used g c = used_none c.args.self.now
+
+pub returns-in_default-clause-records : goal.returns-in_default-clause-records
+returns-in_default-clause-records g c = λ events are. ([], refl, subst (AreEvents c.args.self.now.bytes) (sym (append-nil events)) are)
+
+pub returns-in_default-clause-refused : goal.returns-in_default-clause-refused
+returns-in_default-clause-refused g c = λ reason is. (refl, refl)

@@ -5,7 +5,7 @@ use Rattle.fit_decode.proofs.Sizes.{field_is_within}
 use Rattle.fit_decode.proofs.Advancing.{data_reading}
 use Rattle.fit_decode.proofs.Feeding.{few_bytes, still_kept, was_viable, within, item_told}
 use Rattle.fit_record.specs.declared.message.Record.TheVariants.{Values as Message}
-use Rattle.fit_decode.proofs.Items.{record_taken}
+use Rattle.fit_decode.proofs.Items.{if_none, none_holds, record_taken}
 use Rattle.fit_decode.proofs.decoder.Decoder.take_message.Goals as goal
 
 pub returns-in_default : goal.returns-in_default
@@ -59,3 +59,13 @@ returns-clause-item g c =
 
 pub returns-clause-viable : goal.returns-clause-viable
 returns-clause-viable g c = (invariant_of-self-2 g c).viable
+
+pub returns-in_default-read_message : goal.returns-in_default-read_message
+returns-in_default-read_message g c = record { item = tt; none = c.self.view_is; viable = c.self.invariant.viable }
+
+pub returns-in_err-values : goal.returns-in_err-values
+returns-in_err-values g c = record {
+  item = none_holds c.from_residual.result _ c.from_residual.ensures;
+  none = if_none c.from_residual.result _ c.self.view_is;
+  viable = c.self.invariant.viable;
+}

@@ -1,7 +1,9 @@
 -- Each turn takes one file, or ends the reading.
-use Rattle.fit_decode.proofs.Common.{Ok, Err, sym, subst, arith, Global, IsAfter, IsEnd, short_bytes}
+use Rattle.fit_decode.proofs.Common.{length, Ok, Err, sym, ap, ◌∙◌, subst, arith, Global, Consumes, IsViable, chain_limit, IsAfter, IsEnd, short_bytes}
 use Rattle.fit_decode.proofs.ChainRead.{chain_ended, chain_stopped, gives_chain, one_longer, one_more, pushed}
-use Rattle.fit_decode.proofs.NextRead.{comes_after, file_not_kept, next_good}
+use Rattle.fit_decode.specs.Answers.{Seen}
+use Rattle.fit_decode.proofs.Consumed.{Consumes-nothing}
+use Rattle.fit_decode.proofs.NextRead.{after_none, comes_after, file_not_kept, next_good}
 use Rattle.fit_decode.proofs.readers.chain.read_chain.Goals as goal
 
 pub returns-then-is_err-clause-exact : goal.returns-then-is_err-clause-exact
@@ -65,3 +67,31 @@ returns-in-Err-clause-exact g c =
 pub returns-in-Err-clause-chain : goal.returns-in-Err-clause-chain
 returns-in-Err-clause-chain g c = λ fs b input are chain.
     gives_chain fs b _ _ (g.S.Source.has_failed c.read_file.new.source) (Err c.in-Err.fault) input are chain (returns-in-Err-clause-exact g c)
+
+pub files-init : goal.files-init
+files-init g c =
+    let had = g.S.Source.remaining c.args.source.now in
+    record {
+      beyond = subst (λ fs. IsAfter fs c.new-decoder.result 0 c.new-taken.result.items) (sym c.new-files.ensures.items)
+          (after_none Global c.new-decoder.result c.new-taken.result.items c.new-decoder.ensures c.new-taken.ensures);
+      eats = subst (Consumes had had) (sym c.new-taken.ensures) (Consumes-nothing had);
+    }
+
+pub read_file-requires : goal.read_file-requires
+read_file-requires g c =
+    let beyond = c.files.invariant.beyond in (
+      omega arith,
+      (
+        ap (λ (v : Seen). v.refusal) beyond.fed,
+        (
+          subst (λ (v : Seen). IsViable Global chain_limit v.bytes) (sym beyond.fed) beyond.viable,
+          (beyond.counted ∙ ap (λ (v : Seen). length v.bytes) (sym beyond.fed), (c.files.files.items, comes_after c.files.files.items _ _ _ beyond)),
+        ),
+      ),
+    )
+
+pub is_end-requires : goal.is_end-requires
+is_end-requires g c = omega arith
+
+pub returns-then-is_err-clause-chain : goal.returns-then-is_err-clause-chain
+returns-then-is_err-clause-chain g c = λ fs b input are chain. tt

@@ -1,5 +1,5 @@
 -- A turn takes at most the bytes that are missing, so a file's end is the end of a piece.
-use Rattle.fit_decode.proofs.Common.{rules, ◌≡◌, ◌≤◌, length, [], sym, ap, arith, length-append, append-nil, short_bytes, needs_some, needs_no_sooner}
+use Rattle.fit_decode.proofs.Common.{rules, ◌≡◌, ◌≤◌, length, [], refl, sym, ap, arith, length-append, append-nil, short_bytes, needs_some, needs_no_sooner}
 use Rattle.fit_decode.proofs.Consumed.{Consumes-keeps}
 use Rattle.fit_decode.proofs.PieceTaken.{turn_of, turn_ends, turn_fails}
 use Rattle.fit_decode.proofs.readers.file.turn.Goals as goal
@@ -54,3 +54,21 @@ returns-clause-turned g c = λ files stands.
 
 pub returns-clause-counted : goal.returns-clause-counted
 returns-clause-counted g c = omega (arith, ap length c.note.ensures, length-append c.args.taken.now.items c.split_at.result.0.now, c.split_at.ensures.front_len)
+
+pub split_at-requires : goal.split_at-requires
+split_at-requires g c = omega (arith, c.in-Ok.ensures.bound, c.min-wanted.ensures, c.take_some.ensures.room)
+
+pub returns-in_default-clause-viable : goal.returns-in_default-clause-viable
+returns-in_default-clause-viable g c = c.requires.viable
+
+pub returns-in_default-clause-counted : goal.returns-in_default-clause-counted
+returns-in_default-clause-counted g c = refl
+
+pub returns-then-got-eq0-clause-viable : goal.returns-then-got-eq0-clause-viable
+returns-then-got-eq0-clause-viable g c = c.requires.viable
+
+pub returns-then-got-eq0-clause-counted : goal.returns-then-got-eq0-clause-counted
+returns-then-got-eq0-clause-counted g c = refl
+
+pub returns-clause-viable : goal.returns-clause-viable
+returns-clause-viable g c = c.take_piece.ensures.viable

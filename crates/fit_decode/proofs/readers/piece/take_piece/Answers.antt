@@ -1,5 +1,6 @@
 -- A piece is fed event by event.
-use Rattle.fit_decode.proofs.Common.{length, drop, Some, Err, sym, ap, ◌∙◌, subst, arith, length-drop, event_of, ComesToRecords}
+use Rattle.fit_decode.proofs.Common.{◌^◌, ◌<◌, length, drop, Some, Err, sym, ap, ◌∙◌, subst, arith, rules, length-drop, append-nil, event_of, unrefused}
+use Rattle.fit_decode.proofs.Common.{ComesToRecords}
 use Rattle.fit_decode.specs.Answers.{Seen}
 use Rattle.fit_decode.proofs.PieceTold.{fed_on, feeds_header, feeds_item, piece_over, piece_more, piece_end, piece_refused, piece_wants, piece_not_kept}
 use Rattle.fit_decode.proofs.readers.piece.take_piece.Goals as goal
@@ -89,3 +90,34 @@ unreachable-requires g c = (c.feed.ensures.others _).0 (c.in-Err-Truncated.is �
 
 pub unreachable-requires-in-Err-Read : goal.unreachable-requires-in-Err-Read
 unreachable-requires-in-Err-Read g c = (c.feed.ensures.others _).1 (c.in-Err-Read.is ∙ ap Err c.in-Err-Read.field-0-is)
+
+pub loop-at-init : goal.loop-at-init
+loop-at-init g c = record {
+  within = omega arith;
+  is_fed = (λ i. record { bytes = c.args.decoder.now.bytes; refusal = c.requires.fresh i }) ∙ ap unrefused (sym (append-nil c.args.decoder.now.bytes));
+  stands = λ files stands. stands;
+  viable = c.requires.viable;
+}
+
+pub overflow_add-at : goal.overflow_add-at
+overflow_add-at g c =
+    let short : length c.args.piece.now < 2 ^ 64 = search rules in
+    omega (arith, c.in-Ok.ensures.used.0, c.split_at.ensures.back_len, c.loop-at-test.true, short)
+
+pub returns-in-More-clause-viable : goal.returns-in-More-clause-viable
+returns-in-More-clause-viable g c = c.in-Ok.ensures.viable
+
+pub returns-in-FileEnd-clause-viable : goal.returns-in-FileEnd-clause-viable
+returns-in-FileEnd-clause-viable g c = c.in-Ok.ensures.viable
+
+pub returns-then-not-is_kept-clause-viable : goal.returns-then-not-is_kept-clause-viable
+returns-then-not-is_kept-clause-viable g c = c.in-Ok.ensures.viable
+
+pub returns-in-Err-Refused-clause-viable : goal.returns-in-Err-Refused-clause-viable
+returns-in-Err-Refused-clause-viable g c = c.feed.ensures.viable
+
+pub returns-in-Err-NoMemory-clause-viable : goal.returns-in-Err-NoMemory-clause-viable
+returns-in-Err-NoMemory-clause-viable g c = c.feed.ensures.viable
+
+pub returns-clause-viable : goal.returns-clause-viable
+returns-clause-viable g c = c.loop-at.invariant.viable
