@@ -1,4 +1,4 @@
-use Rattle.fit_profile.proofs.Common.{◌≡◌, ◌∙◌, ℕ, sym, ap, ap₂, cond, eq-eqb, ne_eqb, None, Some, Option, Items, FieldDef, MessageDef, Values}
+use Rattle.fit_profile.proofs.Common.{◌≡◌, ◌∙◌, sym, ap, ap₂, cond, eq-eqb, ne_eqb, None, Some, Option, Items, FieldDef, MessageDef, Values}
 use Rattle.fit_profile.proofs.Common.{first_field, number_in, number_of, option_and_then, subst}
 use Rattle.fit_profile.specs.inner.Places.{AreFieldPlaces}
 use Rattle.fit_profile.specs.declared.component.Component.{Component}

@@ -1,4 +1,4 @@
-use Rattle.fit_profile.proofs.Common.{◌≡◌, ◌∙◌, ℕ, true, false, List, length, get_or, sym, ap, None, Some, Option, slice_get, is_some}
+use Rattle.fit_profile.proofs.Common.{◌≡◌, ◌∙◌, ℕ, List, length, get_or, sym, ap, None, Some, Option, slice_get, is_some}
 use Rattle.std.proofs.Common.{ltb, option_map}
 use Rattle.std.specs.Borrow.{Bor}
 use Rattle.std.specs.Option.{IfSome}
