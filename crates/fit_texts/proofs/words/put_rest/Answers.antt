@@ -1,5 +1,4 @@
-use Rattle.fit_texts.proofs.Common.{◌≡◌, ◌∙◌, ◌++◌, ◌∷◌, [], arith, eqb-true, length, true, false, refl, sym, ap}
-use Rattle.fit_texts.proofs.Common.{get_or, take, take_all, take_more, flat_map, hex_digits}
+use Rattle.fit_texts.proofs.Common.{◌≡◌, ◌∙◌, ◌++◌, ◌∷◌, [], length, false, refl, sym, ap, get_or, take, take_all, take_more, flat_map, hex_digits}
 use Rattle.std.proofs.Common.{ℕ, List, codes}
 use Rattle.std.proofs.lemmas.List.{append-nil}
 use Rattle.std.proofs.lemmas.List.Concat.{flat_map-append}
@@ -8,16 +7,9 @@ use Rattle.std.specs.Prelude.{◌==◌}
 use Rattle.fit_texts.specs.Words.{rest_text}
 use Rattle.fit_texts.proofs.words.put_rest.Goals as goal
 
-no_rest : (rest : List ℕ) → (length rest == 0) ≡ true → rest_text rest ≡ []
-no_rest [] e = refl
-no_rest (b ∷ rest) e = absurd (omega (arith, eqb-true (length (b ∷ rest)) 0 e))
-
 some_rest : (rest : List ℕ) → (length rest == 0) ≡ false → rest_text rest ≡ codes "0x" ++ flat_map (λ b. hex_digits 2 b) rest
 some_rest [] e = cc
 some_rest (b ∷ rest) e = refl
-
-pub loop-byte-init : goal.loop-byte-init
-loop-byte-init c = c.in_ok-extend_from_slice.ensures.items ∙ ap (λ l. l ++ codes "0x") c.clear.ensures.items
 
 pub loop-byte-preserved : goal.loop-byte-preserved
 loop-byte-preserved c =
@@ -40,6 +32,3 @@ returns-in_err-extend_from_slice c = IfOk-from_err c.from_residual.result _ c.fr
 
 pub returns-in_err-put_digits : goal.returns-in_err-put_digits
 returns-in_err-put_digits c = IfOk-from_err c.from_residual-in_err-put_digits.result _ c.from_residual-in_err-put_digits.ensures.0
-
-pub returns-then-is_empty : goal.returns-then-is_empty
-returns-then-is_empty c = c.clear.ensures.items ∙ sym (no_rest c.args.rest.now (sym c.is_empty.ensures ∙ c.if-is_empty.true))
