@@ -15,3 +15,6 @@ returns-in-None g c =
     ap (telling.last_after c.args.last) (map-none (λ (p : Defined g.row.A.Denot). p.definition)
     (λ (p : Defined g.row.A.Denot). telling.told_at c.args.last p.definition c.args.values.now)
     (defined_at c.args.env.now c.args.values.now.local) c.in-None.ensures)
+
+pub last_at-requires : goal.last_at-requires
+last_at-requires g c = λ κs h. h

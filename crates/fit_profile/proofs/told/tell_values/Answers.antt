@@ -13,3 +13,6 @@ pub returns-in-None : goal.returns-in-None
 returns-in-None g c =
     map-none (λ (p : Defined g.row.A.Denot). p.definition) (λ (p : Defined g.row.A.Denot). telling.told_at c.args.last p.definition c.args.values.now)
     (defined_at c.args.env.now c.args.values.now.local) c.in-None.ensures
+
+pub told_at-requires : goal.told_at-requires
+told_at-requires g c = λ κs h. h

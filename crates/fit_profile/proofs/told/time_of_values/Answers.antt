@@ -17,3 +17,6 @@ returns-in-None g c =
     ∙ ap (λ t. or_else t (header_time c.args.previous c.args.values.now.offset)) (through-none (λ (p : Defined g.row.A.Denot). p.definition)
     (λ (d : MessageDef g.row.A.Denot). field_time d c.args.values.now)
     (defined_at c.args.env.now c.args.values.now.local) c.in-None.ensures)
+
+pub time-requires : goal.time-requires
+time-requires g c = λ κs h. h
