@@ -2,15 +2,14 @@
 
 use crate::asserts::equal;
 use crate::descriptions::take;
-use crate::fed::feed;
+use crate::fed::told_by;
 use fit_base::Items;
 use fit_base::base_type::BYTE;
-use fit_decode::{Decoder, Fault, Reading, Source, read_chain, read_one};
-use fit_encode::{EncodeFault, Encoder, WriteSink, write_chain, write_one};
+use fit_decode::{Decoder, Reading, Source, read_chain, read_one};
+use fit_encode::{Encoder, WriteSink, write_chain, write_one};
 use fit_record::{Env, FitFile, MessageDef, Record, Values};
 use std::alloc::Global;
 use std::process::Abort;
-use std::test::Fail;
 use test_known::{LONGEST, longest};
 
 /// Whether these are 255 fields of 255 bytes each.
@@ -54,18 +53,17 @@ fn has_longest(file: &FitFile) -> bool {
 }
 
 /// The longest message in a file, and its bytes.
-fn read_longest(alloc: Global) -> Result<(Vec<u8>, FitFile), Fail> {
-    let bytes = longest(alloc)?;
-    let file = read_one(alloc, &mut bytes.as_slice())?;
-    Ok((bytes, file))
+fn read_longest(rt: &impl Abort, alloc: Global) -> (Vec<u8>, FitFile) {
+    let bytes = longest(alloc).expect(rt, "memory");
+    let file = read_one(alloc, &mut bytes.as_slice()).expect(rt, "a file");
+    (bytes, file)
 }
 
 #[test]
-fn read_alone(rt: HostRuntime) -> Result<(), Fail> {
-    let (bytes, file) = read_longest(rt.alloc())?;
+fn read_alone(rt: HostRuntime) {
+    let (bytes, file) = read_longest(&rt, rt.alloc());
     equal(&rt, &bytes.len(), &131_604);
     assert!(rt; has_longest(&file));
-    Ok(())
 }
 
 /// Whether this is the next file of a reading.
@@ -77,81 +75,76 @@ fn gives_next<S: Source + Drop>(reading: &mut Reading<S>, file: &FitFile) -> boo
 }
 
 #[test]
-fn read_next(rt: HostRuntime) -> Result<(), Fail> {
-    let (bytes, file) = read_longest(rt.alloc())?;
+fn read_next(rt: HostRuntime) {
+    let (bytes, file) = read_longest(&rt, rt.alloc());
     let mut reading = Reading::new(rt.alloc(), bytes.as_slice());
     assert!(rt; gives_next(&mut reading, &file));
-    Ok(())
 }
 
 #[test]
-fn read_as_a_chain(rt: HostRuntime) -> Result<(), Fail> {
-    let (bytes, file) = read_longest(rt.alloc())?;
-    let files = read_chain(rt.alloc(), &mut bytes.as_slice())?;
+fn read_as_a_chain(rt: HostRuntime) {
+    let (bytes, file) = read_longest(&rt, rt.alloc());
+    let files = read_chain(rt.alloc(), &mut bytes.as_slice()).expect(&rt, "a chain");
     assert!(rt; files.as_slice() == std::slice::from_ref(&file));
-    Ok(())
 }
 
 #[test]
-fn written_alone(rt: HostRuntime) -> Result<(), Fail> {
+fn written_alone(rt: HostRuntime) {
     let alloc = rt.alloc();
-    let (bytes, file) = read_longest(alloc)?;
+    let (bytes, file) = read_longest(&rt, alloc);
     let mut sink = WriteSink::new(Vec::new(alloc));
-    write_one(alloc, &mut sink, &file)?;
+    equal(&rt, &write_one(alloc, &mut sink, &file), &Ok(()));
     assert!(rt; sink.into_inner() == bytes);
-    Ok(())
 }
 
 #[test]
-fn written_as_a_chain(rt: HostRuntime) -> Result<(), Fail> {
+fn written_as_a_chain(rt: HostRuntime) {
     let alloc = rt.alloc();
-    let (bytes, file) = read_longest(alloc)?;
+    let (bytes, file) = read_longest(&rt, alloc);
     let mut sink = WriteSink::new(Vec::new(alloc));
-    write_chain(alloc, &mut sink, std::slice::from_ref(&file))?;
+    let answer = write_chain(alloc, &mut sink, std::slice::from_ref(&file));
+    equal(&rt, &answer, &Ok(()));
     assert!(rt; sink.into_inner() == bytes);
-    Ok(())
 }
 
 /// Writes a file of the longest message record by record.
-fn encode(alloc: Global, sink: &mut WriteSink<Vec<u8>>, file: &FitFile) -> Result<(), EncodeFault> {
-    let mut encoder = Encoder::begin(alloc, sink, &file.header, LONGEST)?;
+fn encode(rt: &impl Abort, alloc: Global, sink: &mut WriteSink<Vec<u8>>, file: &FitFile) {
+    let mut encoder = Encoder::begin(alloc, sink, &file.header, LONGEST).expect(rt, "an encoder");
     for record_ in file.records.as_slice() {
-        encoder.put(sink, record_)?;
+        equal(rt, &encoder.put(sink, record_), &Ok(()));
     }
-    encoder.finish(sink)
+    equal(rt, &encoder.finish(sink), &Ok(()));
 }
 
 #[test]
-fn encoded(rt: HostRuntime) -> Result<(), Fail> {
+fn encoded(rt: HostRuntime) {
     let alloc = rt.alloc();
-    let (bytes, file) = read_longest(alloc)?;
+    let (bytes, file) = read_longest(&rt, alloc);
     let mut sink = WriteSink::new(Vec::new(alloc));
-    encode(alloc, &mut sink, &file)?;
+    encode(&rt, alloc, &mut sink, &file);
     assert!(rt; sink.into_inner() == bytes);
-    Ok(())
 }
 
 #[test]
-fn learned(rt: HostRuntime) -> Result<(), Fail> {
-    let (_, file) = read_longest(rt.alloc())?;
+fn learned(rt: HostRuntime) {
+    let (_, file) = read_longest(&rt, rt.alloc());
     let mut env = Env::new(rt.alloc());
     for record_ in file.records.as_slice() {
-        take(&mut env, record_)?;
+        take(&rt, &mut env, record_);
     }
     equal(
         &rt,
         &(env.length(0), env.dev_code(0, 254)),
         &(Some(130_050), Some(BYTE)),
     );
-    Ok(())
 }
 
 /// Feeds the file byte by byte. Of the definition its 510 entries are held, and with the last byte but one of the message these, its 510
 /// fields and its items.
-fn feed_longest(rt: &impl Abort, decoder: &mut Decoder, bytes: &[u8]) -> Result<(), Fault> {
+fn feed_longest(rt: &impl Abort, decoder: &mut Decoder, bytes: &[u8]) {
     let mut items = 0u32;
     for (place, byte) in bytes.iter().enumerate() {
-        let (_, (letter, _)) = feed(decoder, &[*byte])?;
+        let (_, (letter, _)) = told_by(rt, decoder, &[*byte]);
         if letter == b'd' || letter == b'v' {
             items = items.saturating_add(1);
             equal(rt, &decoder.held(), &510);
@@ -161,13 +154,12 @@ fn feed_longest(rt: &impl Abort, decoder: &mut Decoder, bytes: &[u8]) -> Result<
         }
     }
     equal(rt, &items, &2);
-    decoder.finish()
+    equal(rt, &decoder.finish(), &Ok(()));
 }
 
 #[test]
-fn byte_by_byte(rt: HostRuntime) -> Result<(), Fail> {
-    let bytes = longest(rt.alloc())?;
+fn byte_by_byte(rt: HostRuntime) {
+    let bytes = longest(rt.alloc()).expect(&rt, "memory");
     let mut decoder = Decoder::new(rt.alloc());
-    feed_longest(&rt, &mut decoder, bytes.as_slice())?;
-    Ok(())
+    feed_longest(&rt, &mut decoder, bytes.as_slice());
 }

@@ -7,42 +7,41 @@ use fit_encode::{CutSink, EncodeFault, SpelledFiles, SpelledRecords, write_spell
 use fit_frame::HeaderSum;
 use fit_record::{Env, FitFile, Record};
 use std::alloc::Global;
-use std::test::Fail;
+use std::process::Abort;
 use test_known::files;
 
 /// Keeps the records of a file.
-fn keep(alloc: Global, records: &[Record]) -> Result<SpelledRecords, Fail> {
+fn keep(rt: &impl Abort, alloc: Global, records: &[Record]) -> SpelledRecords {
     let mut env = Env::new(alloc);
     let mut kept = SpelledRecords::new(alloc);
     for r in records {
-        env.fits(r)?;
-        kept.push(&env, r)?;
-        env.learn(r)?;
+        env.fits(r).expect(rt, "a record that fits");
+        kept.push(&env, r).expect(rt, "memory");
+        env.learn(r).expect(rt, "memory");
     }
-    Ok(kept)
+    kept
 }
 
 #[test]
-fn known_files(rt: HostRuntime) -> Result<(), Fail> {
+fn known_files(rt: HostRuntime) {
     let alloc = rt.alloc();
     for known in files() {
         let mut source = known.bytes;
         let mut files = SpelledFiles::new(alloc);
-        for file in read_chain(alloc, &mut source)? {
+        for file in read_chain(alloc, &mut source).expect(&rt, "files") {
             let FitFile { header, records } = file;
-            let mut kept = keep(alloc, records.as_slice())?;
-            files.push(&header, &mut kept)?;
+            let mut kept = keep(&rt, alloc, records.as_slice());
+            files.push(&header, &mut kept).expect(&rt, "memory");
         }
         let mut sink = CutSink::<256>::new(256);
         let answer = write_spelled(&mut sink, &files);
         equal_at(&rt, &answer, &Ok(()), &known.name);
         equal_at(&rt, &sink.bytes(), &known.bytes, &known.name);
     }
-    Ok(())
 }
 
 #[test]
-fn first_fault_of_several(rt: HostRuntime) -> Result<(), Fail> {
+fn first_fault_of_several(rt: HostRuntime) {
     let alloc = rt.alloc();
     let mut files = SpelledFiles::new(alloc);
     let mut none = SpelledRecords::new(alloc);
@@ -50,12 +49,15 @@ fn first_fault_of_several(rt: HostRuntime) -> Result<(), Fail> {
     equal(&rt, &files.is_empty(), &true);
     let answer = write_spelled(&mut sink, &files);
     equal(&rt, &answer, &Err(EncodeFault::ChainLength));
-    files.push(&header(12, 0, HeaderSum::Absent), &mut none)?;
-    files.push(&header(14, 46477, HeaderSum::Zero), &mut none)?;
-    files.push(&header(13, 0, HeaderSum::True), &mut none)?;
+    for header in [
+        header(12, 0, HeaderSum::Absent),
+        header(14, 46477, HeaderSum::Zero),
+        header(13, 0, HeaderSum::True),
+    ] {
+        files.push(&header, &mut none).expect(&rt, "memory");
+    }
     equal(&rt, &(files.is_empty(), files.has_room()), &(false, true));
     let answer = write_spelled(&mut sink, &files);
     equal(&rt, &answer, &Err(EncodeFault::ZeroIsSum { file: 2 }));
     equal(&rt, &sink.bytes(), &b"".as_slice());
-    Ok(())
 }

@@ -4,7 +4,7 @@ use fit_base::{
     Bits, Class, Code, Entries, Items, Order, base_type, bits_at, has_shape, put_bits, signed,
     width_of,
 };
-use std::alloc::{AllocError, Global};
+use std::alloc::Global;
 use std::process::Abort;
 
 /// Width, invalid value and class, of a code that the protocol names and of two that it doesn't
@@ -70,49 +70,51 @@ fn signed_numbers(rt: HostRuntime) {
 const NUMBERS: [u64; 3] = [812, 65_535, 0];
 
 /// A list with room for these numbers, to which they are added.
-fn list_of_numbers(alloc: Global) -> Result<Bits, AllocError> {
-    let mut bits = Bits::with_capacity(alloc, 3)?;
+fn list_of_numbers(rt: &impl Abort, alloc: Global) -> Bits {
+    let mut bits = Bits::with_capacity(alloc, 3).expect(rt, "memory");
     for number in NUMBERS {
-        bits.push(number)?;
+        bits.push(number).expect(rt, "memory");
     }
-    Ok(bits)
+    bits
 }
 
 /// Adds the numbers to a list without any.
-fn add_numbers(rt: &impl Abort, bits: &mut Bits) -> Result<(), AllocError> {
+fn add_numbers(rt: &impl Abort, bits: &mut Bits) {
     assert!(rt; bits.is_empty());
-    bits.push(812)?;
+    bits.push(812).expect(rt, "memory");
     assert!(rt; bits.as_slice() == [812].as_slice());
-    bits.push(65_535)?;
-    bits.push(0)?;
+    bits.push(65_535).expect(rt, "memory");
+    bits.push(0).expect(rt, "memory");
     equal(rt, &bits.len(), &3);
-    Ok(())
 }
 
 #[test]
-fn lists_of_numbers(rt: HostRuntime) -> Result<(), AllocError> {
-    let same = list_of_numbers(rt.alloc())?;
+fn lists_of_numbers(rt: HostRuntime) {
+    let same = list_of_numbers(&rt, rt.alloc());
     let mut bits = Bits::new(rt.alloc());
-    add_numbers(&rt, &mut bits)?;
+    add_numbers(&rt, &mut bits);
     equal(&rt, &bits, &same);
-    Ok(())
+}
+
+/// Asserts the numbers of a list that becomes a vector, which is returned.
+fn has_numbers(rt: &impl Abort, bits: Bits, numbers: &[u64]) -> Vec<u64> {
+    let found = bits.into_vec().expect(rt, "memory");
+    equal(rt, &found.as_slice(), &numbers);
+    found
 }
 
 #[test]
-fn lists_and_vectors_of_numbers(rt: HostRuntime) -> Result<(), AllocError> {
-    let same = list_of_numbers(rt.alloc())?;
-    let numbers = list_of_numbers(rt.alloc())?.into_vec()?;
-    assert!(rt; numbers.as_slice() == NUMBERS.as_slice());
+fn lists_and_vectors_of_numbers(rt: HostRuntime) {
+    let numbers = has_numbers(&rt, list_of_numbers(&rt, rt.alloc()), &NUMBERS);
+    let same = list_of_numbers(&rt, rt.alloc());
     equal(&rt, &Bits::from_vec(numbers), &same);
-    let one = Bits::one(rt.alloc(), 812).into_vec()?;
-    assert!(rt; one.as_slice() == [812].as_slice());
-    assert!(rt; Bits::new(rt.alloc()).into_vec()?.is_empty());
-    Ok(())
+    has_numbers(&rt, Bits::one(rt.alloc(), 812), &[812]);
+    has_numbers(&rt, Bits::new(rt.alloc()), &[]);
 }
 
 #[test]
-fn shapes(rt: HostRuntime) -> Result<(), AllocError> {
-    let items = Items::from_slice(rt.alloc(), 2, &[0xFE, 0x100])?;
+fn shapes(rt: HostRuntime) {
+    let items = Items::from_slice(rt.alloc(), 2, &[0xFE, 0x100]).expect(&rt, "memory");
     assert!(rt; has_shape(Code(0x84), 4, &items));
     assert!(rt; !has_shape(Code(0x84), 2, &items));
     assert!(rt; !has_shape(Code(0x02), 4, &items));
@@ -121,49 +123,44 @@ fn shapes(rt: HostRuntime) -> Result<(), AllocError> {
         bits: items.bits,
     };
     assert!(rt; !has_shape(Code(0x02), 2, &bytes));
-    Ok(())
 }
 
 /// Adds two base types to a list without any.
-fn add_codes(rt: &impl Abort, codes: &mut Entries<u8>) -> Result<(), AllocError> {
+fn add_codes(rt: &impl Abort, codes: &mut Entries<u8>) {
     assert!(rt; codes.is_empty());
-    codes.push(0x84)?;
-    codes.push(0x0D)?;
+    codes.push(0x84).expect(rt, "memory");
+    codes.push(0x0D).expect(rt, "memory");
     equal(rt, &codes.len(), &2);
     assert!(rt; codes.as_slice() == [0x84, 0x0D].as_slice());
-    Ok(())
 }
 
 #[test]
-fn lists_of_elements(rt: HostRuntime) -> Result<(), AllocError> {
+fn lists_of_elements(rt: HostRuntime) {
     let mut same = Entries::new(rt.alloc());
-    add_codes(&rt, &mut same)?;
-    let mut codes = Entries::with_capacity(rt.alloc(), 2)?;
-    add_codes(&rt, &mut codes)?;
+    add_codes(&rt, &mut same);
+    let mut codes = Entries::with_capacity(rt.alloc(), 2).expect(&rt, "memory");
+    add_codes(&rt, &mut codes);
     equal(&rt, &Entries::from_vec(codes.into_vec()), &same);
-    Ok(())
 }
 
 #[test]
-fn one_item(rt: HostRuntime) -> Result<(), AllocError> {
-    let one = Items::from_slice(rt.alloc(), 4, &[1_000_000_000])?;
+fn one_item(rt: HostRuntime) {
+    let one = Items::from_slice(rt.alloc(), 4, &[1_000_000_000]).expect(&rt, "memory");
     assert!(rt; has_shape(Code(base_type::UINT32), 4, &one));
     equal(&rt, &Items::one(rt.alloc(), 4, 1_000_000_000), &one);
-    Ok(())
 }
 
 #[test]
-fn no_items(rt: HostRuntime) -> Result<(), AllocError> {
-    let empty = Items::from_slice(rt.alloc(), 2, &[])?;
+fn no_items(rt: HostRuntime) {
+    let empty = Items::from_slice(rt.alloc(), 2, &[]).expect(&rt, "memory");
     assert!(rt; has_shape(Code(base_type::UINT16), 0, &empty));
-    Ok(())
 }
 
 #[test]
-fn made_of_slices(rt: HostRuntime) -> Result<(), AllocError> {
-    let three = Items::from_slice(rt.alloc(), 2, &NUMBERS)?;
+fn made_of_slices(rt: HostRuntime) {
+    let three = Items::from_slice(rt.alloc(), 2, &NUMBERS).expect(&rt, "memory");
     assert!(rt; three.bits.as_slice() == NUMBERS.as_slice());
-    let codes = Entries::from_slice(rt.alloc(), &[base_type::UINT16, base_type::BYTE])?;
+    let codes = [base_type::UINT16, base_type::BYTE];
+    let codes = Entries::from_slice(rt.alloc(), &codes).expect(&rt, "memory");
     assert!(rt; codes.as_slice() == [0x84, 0x0D].as_slice());
-    Ok(())
 }

@@ -1,7 +1,7 @@
 //! Known files, read from sources.
 use crate::asserts::{equal, holds_at};
 use crate::cut::{ends, has_next};
-use crate::fed::feed;
+use crate::fed::told_by;
 use crate::sources::OneByOne;
 use crate::written::{both_orders, described, header};
 use fit_decode::{
@@ -13,7 +13,6 @@ use fit_record::{FitFile, Record};
 use std::alloc::Global;
 use std::io::Read;
 use std::process::Abort;
-use std::test::*;
 use test_known::{
     BOTH_ORDERS, DEVELOPER_FIELD, EMPTY, End, Known, LONG, ONE_BYTE_MESSAGE, SHORT, TRUE_ZERO,
     files,
@@ -26,21 +25,23 @@ pub fn has_bytes(alloc: Global, file: &FitFile, bytes: &[u8]) -> bool {
 }
 
 /// Whether a source gives the file with these bytes.
-fn gives<S: Source>(alloc: Global, source: &mut S, bytes: &[u8]) -> Result<bool, Fault> {
-    let file = read_one(alloc, source)?;
-    Ok(has_bytes(alloc, &file, bytes))
+fn gives<S: Source>(alloc: Global, source: &mut S, bytes: &[u8]) -> bool {
+    match read_one(alloc, source) {
+        Ok(file) => has_bytes(alloc, &file, bytes),
+        Err(_) => false,
+    }
 }
 
 /// Whether a file with these bytes is read, with that many records, and none of its bytes are left.
-fn is_read(alloc: Global, bytes: &[u8], records: usize) -> Result<bool, Fault> {
+fn is_read(rt: &impl Abort, alloc: Global, bytes: &[u8], records: usize) -> bool {
     let mut source = bytes;
-    let file = read_one(alloc, &mut source)?;
+    let file = read_one(alloc, &mut source).expect(rt, "a file");
     let whole = file.records.len() == records && source.is_empty();
-    Ok(whole && has_bytes(alloc, &file, bytes))
+    whole && has_bytes(alloc, &file, bytes)
 }
 
 #[test]
-fn files_are_read(rt: HostRuntime) -> Result<(), Fault> {
+fn files_are_read(rt: HostRuntime) {
     for (bytes, records) in [
         (EMPTY.as_slice(), 0),
         (SHORT.as_slice(), 0),
@@ -50,26 +51,24 @@ fn files_are_read(rt: HostRuntime) -> Result<(), Fault> {
         (BOTH_ORDERS.as_slice(), 4),
         (DEVELOPER_FIELD.as_slice(), 7),
     ] {
-        holds_at(&rt, is_read(rt.alloc(), bytes, records)?, &records);
+        holds_at(&rt, is_read(&rt, rt.alloc(), bytes, records), &records);
     }
-    Ok(())
 }
 
 #[test]
-fn files_are_read_in_pieces(rt: HostRuntime) -> Result<(), Fault> {
+fn files_are_read_in_pieces(rt: HostRuntime) {
     for bytes in [
         ONE_BYTE_MESSAGE.as_slice(),
         BOTH_ORDERS.as_slice(),
         DEVELOPER_FIELD.as_slice(),
     ] {
-        assert!(rt; gives(rt.alloc(), &mut OneByOne::new(bytes), bytes)?);
+        assert!(rt; gives(rt.alloc(), &mut OneByOne::new(bytes), bytes));
         for k in 0..bytes.len() {
             let (first, second) = bytes.split_at(k);
             let mut source = ReadSource::new(first.chain(second));
-            holds_at(&rt, gives(rt.alloc(), &mut source, bytes)?, &k);
+            holds_at(&rt, gives(rt.alloc(), &mut source, bytes), &k);
         }
     }
-    Ok(())
 }
 
 /// What is known of a file: where its events end, how many bytes of data its header announces, and its records.
@@ -108,13 +107,13 @@ fn tell_next(
     bytes: &[u8],
     number: usize,
     before: usize,
-) -> Result<(usize, bool), Fault> {
-    let fed = decoder.feed(bytes)?;
+) -> (usize, bool) {
+    let fed = decoder.feed(bytes).expect(rt, "no fault");
     let place = before.saturating_add(fed.used);
     let is_told = !matches!(fed.event, Event::More);
     let is_next = is_event(&fed.event, file, number, place);
     holds_at(rt, is_next || !is_told, &place);
-    Ok((fed.used, is_told))
+    (fed.used, is_told)
 }
 
 /// Feeds a piece of a file, of which that many bytes and events came before. Returns how many events have come then.
@@ -125,12 +124,12 @@ fn tell_piece(
     piece: &[u8],
     before: usize,
     events: usize,
-) -> Result<usize, Fault> {
+) -> usize {
     let mut rest = piece;
     let mut place = before;
     let mut number = events;
     for _ in 0..=piece.len() {
-        let (used, is_told) = tell_next(rt, decoder, file, rest, number, place)?;
+        let (used, is_told) = tell_next(rt, decoder, file, rest, number, place);
         rest = rest.get(used..).unwrap_or_default();
         place = place.saturating_add(used);
         if !is_told {
@@ -139,44 +138,37 @@ fn tell_piece(
         number = number.saturating_add(1);
     }
     assert!(rt; rest.is_empty());
-    Ok(number)
+    number
 }
 
 /// Feeds a file in some pieces.
-fn tell(rt: &impl Abort, alloc: Global, file: &Told, pieces: &[&[u8]]) -> Result<(), Fault> {
+fn tell(rt: &impl Abort, alloc: Global, file: &Told, pieces: &[&[u8]]) {
     let mut decoder = Decoder::new(alloc);
     let mut place = 0usize;
     let mut events = 0;
     for piece in pieces {
-        events = tell_piece(rt, &mut decoder, file, piece, place, events)?;
+        events = tell_piece(rt, &mut decoder, file, piece, place, events);
         place = place.saturating_add(piece.len());
     }
     equal(rt, &events, &file.ends.len());
-    decoder.finish()
+    equal(rt, &decoder.finish(), &Ok(()));
 }
 
 /// Feeds the bytes of a file in one piece, in two, and byte by byte.
-pub fn tell_cut(rt: &impl Abort, alloc: Global, file: &Told, bytes: &[u8]) -> Result<(), Fail> {
+pub fn tell_cut(rt: &impl Abort, alloc: Global, file: &Told, bytes: &[u8]) {
     for k in 0..bytes.len() {
         let (first, second) = bytes.split_at(k);
-        tell(rt, alloc, file, &[first, second])?;
+        tell(rt, alloc, file, &[first, second]);
     }
     let mut single = Vec::new(alloc);
     for byte in bytes.chunks(1) {
-        single.push(byte)?;
+        single.push(byte).expect(rt, "memory");
     }
-    tell(rt, alloc, file, single.as_slice())?;
-    Ok(())
+    tell(rt, alloc, file, single.as_slice());
 }
 
 /// Feeds the known file of this name.
-fn tell_known(
-    rt: &impl Abort,
-    alloc: Global,
-    name: &str,
-    size: u32,
-    records: &[Record],
-) -> Result<(), Fail> {
+fn tell_known(rt: &impl Abort, alloc: Global, name: &str, size: u32, records: &[Record]) {
     let mut found = false;
     for known in files() {
         if known.name == name {
@@ -185,22 +177,21 @@ fn tell_known(
                 size,
                 records,
             };
-            tell_cut(rt, alloc, &file, known.bytes)?;
+            tell_cut(rt, alloc, &file, known.bytes);
             found = true;
         }
     }
     assert!(rt; found);
-    Ok(())
 }
 
 /// The events of two files are the same however they are cut.
 #[test]
-fn events_end_anywhere(rt: HostRuntime) -> Result<(), Fail> {
+fn events_end_anywhere(rt: HostRuntime) {
     let alloc = rt.alloc();
-    let orders = both_orders(alloc, 120)?;
-    tell_known(&rt, alloc, "orders", 36, orders.as_slice())?;
-    let developer = described(alloc)?;
-    tell_known(&rt, alloc, "developer", 54, developer.as_slice())
+    let orders = both_orders(&rt, alloc, 120);
+    tell_known(&rt, alloc, "orders", 36, orders.as_slice());
+    let developer = described(&rt, alloc);
+    tell_known(&rt, alloc, "developer", 54, developer.as_slice());
 }
 
 #[test]
@@ -217,14 +208,13 @@ fn a_refused_byte_before_a_failure(rt: HostRuntime) {
 }
 
 #[test]
-fn bytes_after_a_file(rt: HostRuntime) -> Result<(), Fault> {
+fn bytes_after_a_file(rt: HostRuntime) {
     let bytes = *b"\x0E\x20\0\0\0\0\0\0.FIT\x9C\x85\0\0\xFF";
     let mut source = bytes.as_slice();
-    assert!(rt; gives(rt.alloc(), &mut source, &EMPTY)?);
+    assert!(rt; gives(rt.alloc(), &mut source, &EMPTY));
     equal(&rt, &source, &b"\xFF".as_slice());
     let fault = read_chain(rt.alloc(), &mut bytes.as_slice()).err();
     equal(&rt, &fault, &Some(Fault::Truncated { place: 17 }));
-    Ok(())
 }
 
 #[test]
@@ -248,16 +238,16 @@ fn a_bad_second_file(rt: HostRuntime) {
 }
 
 /// How many files a chain of two known files has.
-fn files_of_both(alloc: Global) -> Result<usize, Fault> {
+fn files_of_both(rt: &impl Abort, alloc: Global) -> usize {
     let chain = BOTH_ORDERS.as_slice().chain(DEVELOPER_FIELD.as_slice());
-    let files = read_chain(alloc, &mut ReadSource::new(chain))?;
-    Ok(files.len())
+    let files = read_chain(alloc, &mut ReadSource::new(chain)).expect(rt, "a chain");
+    files.len()
 }
 
 #[test]
 fn a_chain(rt: HostRuntime) {
     let alloc = rt.alloc();
-    equal(&rt, &files_of_both(alloc), &Ok(2));
+    equal(&rt, &files_of_both(&rt, alloc), &2);
     let chain = BOTH_ORDERS.as_slice().chain(DEVELOPER_FIELD.as_slice());
     let mut reading = Reading::new(alloc, ReadSource::new(chain));
     assert!(rt; has_next(alloc, &mut reading, &BOTH_ORDERS));
@@ -268,40 +258,38 @@ fn a_chain(rt: HostRuntime) {
 
 /// 65,536 files of 14 bytes are fed.
 #[test]
-fn a_long_chain(rt: HostRuntime) -> Result<(), Fault> {
+fn a_long_chain(rt: HostRuntime) {
     let mut decoder = Decoder::new(rt.alloc());
     for _ in 0..65_536 {
-        feed(&mut decoder, &SHORT[..12])?;
-        feed(&mut decoder, &SHORT[12..])?;
+        told_by(&rt, &mut decoder, &SHORT[..12]);
+        told_by(&rt, &mut decoder, &SHORT[12..]);
     }
     equal(&rt, &decoder.need(), &14);
-    decoder.finish()
+    equal(&rt, &decoder.finish(), &Ok(()));
 }
 
 /// Whether the files that these bytes have are that many, and are written as these bytes.
-fn is_written_again(alloc: Global, bytes: &[u8], count: usize) -> Result<bool, Fail> {
-    let files = read_chain(alloc, &mut &bytes[..])?;
+fn is_written_again(rt: &impl Abort, alloc: Global, bytes: &[u8], count: usize) -> bool {
+    let files = read_chain(alloc, &mut &bytes[..]).expect(rt, "a chain");
     let mut sink = WriteSink::new(Vec::new(alloc));
-    write_chain(alloc, &mut sink, files.as_slice())?;
-    Ok(files.len() == count && sink.into_inner().as_slice() == bytes)
+    let answer = write_chain(alloc, &mut sink, files.as_slice());
+    answer.is_ok() && files.len() == count && sink.into_inner().as_slice() == bytes
 }
 
 /// The same files, read and written again.
 #[test]
-fn a_long_chain_again(rt: HostRuntime) -> Result<(), Fail> {
+fn a_long_chain_again(rt: HostRuntime) {
     let mut bytes = Vec::new(rt.alloc());
     for _ in 0..65_536 {
-        bytes.extend_from_slice(&SHORT)?;
+        bytes.extend_from_slice(&SHORT).expect(&rt, "memory");
     }
     equal(&rt, &bytes.len(), &917_504);
-    assert!(rt; is_written_again(rt.alloc(), bytes.as_slice(), 65_536)?);
-    Ok(())
+    assert!(rt; is_written_again(&rt, rt.alloc(), bytes.as_slice(), 65_536));
 }
 
 #[test]
-fn need_of_a_long_header(rt: HostRuntime) -> Result<(), Fault> {
+fn need_of_a_long_header(rt: HostRuntime) {
     let mut decoder = Decoder::new(rt.alloc());
-    feed(&mut decoder, &LONG[..1])?;
+    told_by(&rt, &mut decoder, &LONG[..1]);
     equal(&rt, &decoder.need(), &17);
-    Ok(())
 }

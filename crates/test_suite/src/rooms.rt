@@ -3,24 +3,24 @@ use crate::asserts::equal_at;
 use crate::written;
 use fit_base::base_type::BYTE;
 use fit_record::{Env, FieldDef, Record, can_complete_front};
-use std::alloc::{AllocError, Global};
+use std::alloc::Global;
 use std::process::Abort;
 use test_known::protocol::RECORD;
 
 /// Takes a record in where it fits, and says whether it does.
-fn learn(env: &mut Env, record_: &Record) -> Result<bool, AllocError> {
+fn learn(rt: &impl Abort, env: &mut Env, record_: &Record) -> bool {
     if env.fits(record_).is_err() {
-        return Ok(false);
+        return false;
     }
-    env.learn(record_)?;
-    Ok(true)
+    env.learn(record_).expect(rt, "memory");
+    true
 }
 
 /// Defines data messages with that many bytes after the record header. Whether the definition fits.
-fn define(env: &mut Env, alloc: Global, local: u8, size: u8) -> Result<bool, AllocError> {
+fn define(rt: &impl Abort, env: &mut Env, alloc: Global, local: u8, size: u8) -> bool {
     let field = FieldDef::new(5, size, BYTE);
-    let definition = Record::Define(written::define(alloc, local, RECORD, &[field])?);
-    learn(env, &definition)
+    let definition = Record::Define(written::define(rt, alloc, local, RECORD, &[field]));
+    learn(rt, env, &definition)
 }
 
 /// Asserts which rooms can be filled.
@@ -31,18 +31,17 @@ fn fill(rt: &impl Abort, env: &Env, rooms: &[(u32, bool)]) {
 }
 
 #[test]
-fn rooms(rt: HostRuntime) -> Result<(), AllocError> {
+fn rooms(rt: HostRuntime) {
     let mut env = Env::new(rt.alloc());
-    assert!(rt; define(&mut env, rt.alloc(), 0, 3)?);
+    assert!(rt; define(&rt, &mut env, rt.alloc(), 0, 3));
     let one = [(0, true), (1, false), (4, true), (5, false), (6, true)];
     fill(&rt, &env, &one);
-    assert!(rt; define(&mut env, rt.alloc(), 15, 2)?);
+    assert!(rt; define(&rt, &mut env, rt.alloc(), 15, 2));
     fill(&rt, &env, &[(1, false), (2, false), (3, true), (5, false)]);
     // A message of four bytes leaves three of seven, which one of three bytes fills.
     assert!(rt; env.can_carry(0, 6));
     assert!(rt; !env.can_carry(0, 5));
     assert!(rt; !env.can_carry(1, 9));
-    Ok(())
 }
 
 #[test]

@@ -5,9 +5,8 @@ use fit_base::{Entries, Items, Order};
 use fit_encode::{CutSink, EncodeFault, Encoder, write_chain, write_one};
 use fit_frame::{HeadFault, Header, HeaderSum, PROTOCOL_2_0, head_bytes};
 use fit_record::{DevDef, FieldDef, FitFile, MessageDef, Record, Values};
-use std::alloc::{AllocError, Global};
+use std::alloc::Global;
 use std::process::Abort;
-use std::test::Fail;
 use test_known::protocol::{
     ALTITUDE, COMPRESSED_SPEED_DISTANCE, DEVELOPER_DATA_INDEX, FIELD_DEFINITION_NUMBER,
     FIELD_DESCRIPTION, FIELD_NAME, FIT_BASE_TYPE_ID, HEART_RATE, RECORD, TIMESTAMP,
@@ -26,128 +25,117 @@ pub fn header(size: u8, profile: u16, sum: HeaderSum) -> Header {
 
 /// A definition message, little endian, of these fields. It has no developer fields.
 pub fn define(
+    rt: &impl Abort,
     alloc: Global,
     local: u8,
     global: u16,
     fields: &[FieldDef],
-) -> Result<MessageDef, AllocError> {
-    let fields = Entries::from_slice(alloc, fields)?;
-    Ok(MessageDef::new(local, Order::Little, global, fields))
+) -> MessageDef {
+    let fields = Entries::from_slice(alloc, fields).expect(rt, "memory");
+    MessageDef::new(local, Order::Little, global, fields)
 }
 
 /// A definition message without fields, and its data message of one byte.
-fn with_message(alloc: Global, definition: MessageDef) -> Result<Vec<Record>, AllocError> {
-    let mut records = Vec::new(alloc);
-    records.push(Record::Define(definition))?;
-    records.push(values(alloc, 0, None, &[])?)?;
-    Ok(records)
+fn with_message(rt: &impl Abort, alloc: Global, definition: MessageDef) -> Vec<Record> {
+    let message = values(rt, alloc, 0, None, &[]);
+    let records = [Record::Define(definition), message];
+    Vec::from_array(alloc, records).expect(rt, "memory")
 }
 
 /// The items of fields, by their width.
-pub fn fields_of(alloc: Global, fields: &[(u8, &[u64])]) -> Result<Entries<Items>, AllocError> {
+pub fn fields_of(rt: &impl Abort, alloc: Global, fields: &[(u8, &[u64])]) -> Entries<Items> {
     let mut list = Entries::new(alloc);
     for (width, numbers) in fields {
-        list.push(Items::from_slice(alloc, *width, numbers)?)?;
+        let items = Items::from_slice(alloc, *width, numbers).expect(rt, "memory");
+        list.push(items).expect(rt, "memory");
     }
-    Ok(list)
+    list
 }
 
 /// A data message without developer fields.
 fn values(
+    rt: &impl Abort,
     alloc: Global,
     local: u8,
     offset: Option<u8>,
     fields: &[(u8, &[u64])],
-) -> Result<Record, AllocError> {
-    let mut message = Values::new(alloc, local, fields_of(alloc, fields)?);
+) -> Record {
+    let mut message = Values::new(alloc, local, fields_of(rt, alloc, fields));
     message.offset = offset;
-    Ok(Record::Values(message))
+    Record::Values(message)
 }
 
-/// Adds the definition messages and data messages of `orders`: little endian first, and then big endian with a compressed timestamp
-/// header.
-fn add_both_orders(
-    alloc: Global,
-    records: &mut Vec<Record>,
-    heart_rate: u64,
-) -> Result<(), AllocError> {
+/// Messages in both architectures: little endian first, and then big endian with a compressed timestamp header.
+pub fn both_orders(rt: &impl Abort, alloc: Global, heart_rate: u64) -> Vec<Record> {
     let fields = [
         FieldDef::one(TIMESTAMP, UINT32),
         FieldDef::one(HEART_RATE, UINT8),
     ];
-    records.push(Record::Define(define(alloc, 0, RECORD, &fields)?))?;
-    let numbers: [(u8, &[u64]); 2] = [(4, &[1_000_000_031]), (1, &[heart_rate])];
-    records.push(values(alloc, 0, None, &numbers)?)?;
+    let first = define(rt, alloc, 0, RECORD, &fields);
     let fields = [
         FieldDef::one(ALTITUDE, UINT16),
         FieldDef::new(COMPRESSED_SPEED_DISTANCE, 3, BYTE),
     ];
-    let mut second = define(alloc, 1, RECORD, &fields)?;
+    let mut second = define(rt, alloc, 1, RECORD, &fields);
     second.order = Order::Big;
-    records.push(Record::Define(second))?;
+    let numbers: [(u8, &[u64]); 2] = [(4, &[1_000_000_031]), (1, &[heart_rate])];
+    let rate = values(rt, alloc, 0, None, &numbers);
     let numbers: [(u8, &[u64]); 2] = [(2, &[2500]), (1, &[0x64, 0, 0x10])];
-    records.push(values(alloc, 1, Some(2), &numbers)?)?;
-    Ok(())
-}
-
-/// Messages in both architectures, one of them with a compressed timestamp header.
-pub fn both_orders(alloc: Global, heart_rate: u64) -> Result<Vec<Record>, AllocError> {
-    let mut records = Vec::new(alloc);
-    add_both_orders(alloc, &mut records, heart_rate)?;
-    Ok(records)
+    let altitude = values(rt, alloc, 1, Some(2), &numbers);
+    let records = [
+        Record::Define(first),
+        rate,
+        Record::Define(second),
+        altitude,
+    ];
+    Vec::from_array(alloc, records).expect(rt, "memory")
 }
 
 /// A definition message with developer field 5 of index 0, of two bytes.
-fn define_dev(alloc: Global) -> Result<Record, AllocError> {
-    let definition = define(alloc, 1, RECORD, &[])?;
-    let dev = Entries::from_slice(alloc, &[DevDef::new(5, 2, 0)])?;
-    Ok(Record::Define(definition.with_dev(dev)))
+fn define_dev(rt: &impl Abort, alloc: Global) -> Record {
+    let definition = define(rt, alloc, 1, RECORD, &[]);
+    let dev = Entries::from_slice(alloc, &[DevDef::new(5, 2, 0)]).expect(rt, "memory");
+    Record::Define(definition.with_dev(dev))
 }
 
 /// A message that has the developer field alone.
-fn dev_values(alloc: Global, width: u8, numbers: &[u64]) -> Result<Record, AllocError> {
-    let dev = fields_of(alloc, &[(width, numbers)])?;
+fn dev_values(rt: &impl Abort, alloc: Global, width: u8, numbers: &[u64]) -> Record {
+    let dev = fields_of(rt, alloc, &[(width, numbers)]);
     let message = Values::new(alloc, 1, Entries::new(alloc));
-    Ok(Record::Values(message.with_dev(dev)))
+    Record::Values(message.with_dev(dev))
 }
 
 /// The definition message of the description: its index, its number, its base type and its name.
-fn define_description(alloc: Global) -> Result<Record, AllocError> {
+fn define_description(rt: &impl Abort, alloc: Global) -> Record {
     let fields = [
         FieldDef::one(DEVELOPER_DATA_INDEX, UINT8),
         FieldDef::one(FIELD_DEFINITION_NUMBER, UINT8),
         FieldDef::one(FIT_BASE_TYPE_ID, UINT8),
         FieldDef::new(FIELD_NAME, 3, STRING),
     ];
-    let definition = define(alloc, 0, FIELD_DESCRIPTION, &fields)?;
-    Ok(Record::Define(definition))
+    Record::Define(define(rt, alloc, 0, FIELD_DESCRIPTION, &fields))
 }
 
 /// Developer field 5 of index 0 is a uint16 with a name of two letters.
-fn describe(alloc: Global) -> Result<Record, AllocError> {
+fn describe(rt: &impl Abort, alloc: Global) -> Record {
     let code = [u64::from(UINT16)];
     let name = [0x6D, 0x6F, 0];
     let numbers: [(u8, &[u64]); 4] = [(1, &[0]), (1, &[5]), (1, &code), (1, &name)];
-    values(alloc, 0, None, &numbers)
+    values(rt, alloc, 0, None, &numbers)
 }
 
-/// Adds the records of `developer`.
-fn add_described(alloc: Global, records: &mut Vec<Record>) -> Result<(), AllocError> {
-    records.push(define_description(alloc)?)?;
-    records.push(define_dev(alloc)?)?;
-    records.push(dev_values(alloc, 1, &[0x34, 0x12])?)?;
-    records.push(describe(alloc)?)?;
-    records.push(dev_values(alloc, 1, &[0x34, 0x12])?)?;
-    records.push(define_dev(alloc)?)?;
-    records.push(dev_values(alloc, 2, &[4660])?)?;
-    Ok(())
-}
-
-/// A developer field before and after its description, and defined again.
-pub fn described(alloc: Global) -> Result<Vec<Record>, AllocError> {
-    let mut records = Vec::new(alloc);
-    add_described(alloc, &mut records)?;
-    Ok(records)
+/// The records of `developer`: a developer field before and after its description, and defined again.
+pub fn described(rt: &impl Abort, alloc: Global) -> Vec<Record> {
+    let records = [
+        define_description(rt, alloc),
+        define_dev(rt, alloc),
+        dev_values(rt, alloc, 1, &[0x34, 0x12]),
+        describe(rt, alloc),
+        dev_values(rt, alloc, 1, &[0x34, 0x12]),
+        define_dev(rt, alloc),
+        dev_values(rt, alloc, 2, &[4660]),
+    ];
+    Vec::from_array(alloc, records).expect(rt, "memory")
 }
 
 /// A file of these.
@@ -195,45 +183,41 @@ fn write_records(rt: &impl Abort, alloc: Global, records: Vec<Record>, bytes: &[
 }
 
 #[test]
-fn files_with_records(rt: HostRuntime) -> Result<(), AllocError> {
+fn files_with_records(rt: HostRuntime) {
     let alloc = rt.alloc();
-    write_records(&rt, alloc, both_orders(alloc, 120)?, &BOTH_ORDERS);
-    write_records(&rt, alloc, described(alloc)?, &DEVELOPER_FIELD);
-    Ok(())
+    write_records(&rt, alloc, both_orders(&rt, alloc, 120), &BOTH_ORDERS);
+    write_records(&rt, alloc, described(&rt, alloc), &DEVELOPER_FIELD);
 }
 
 #[test]
-fn a_message_of_one_byte(rt: HostRuntime) -> Result<(), AllocError> {
+fn a_message_of_one_byte(rt: HostRuntime) {
     let alloc = rt.alloc();
-    let records = with_message(alloc, define(alloc, 0, RECORD, &[])?)?;
+    let records = with_message(&rt, alloc, define(&rt, alloc, 0, RECORD, &[]));
     write_records(&rt, alloc, records, &ONE_BYTE_MESSAGE);
-    Ok(())
 }
 
 #[test]
-fn a_reserved_byte(rt: HostRuntime) -> Result<(), AllocError> {
+fn a_reserved_byte(rt: HostRuntime) {
     let alloc = rt.alloc();
-    let mut definition = define(alloc, 0, RECORD, &[])?;
+    let mut definition = define(&rt, alloc, 0, RECORD, &[]);
     definition.reserved = 7;
     let bytes = b"\x0E\x20\0\0\x07\0\0\0.FIT\xDD\x63\x40\x07\0\x14\0\0\0\x45\x83";
-    write_records(&rt, alloc, with_message(alloc, definition)?, bytes);
-    Ok(())
+    write_records(&rt, alloc, with_message(&rt, alloc, definition), bytes);
 }
 
 #[test]
-fn an_empty_list_of_developer_fields(rt: HostRuntime) -> Result<(), AllocError> {
+fn an_empty_list_of_developer_fields(rt: HostRuntime) {
     let alloc = rt.alloc();
-    let definition = define(alloc, 0, RECORD, &[])?.with_dev(Entries::new(alloc));
+    let definition = define(&rt, alloc, 0, RECORD, &[]).with_dev(Entries::new(alloc));
     let bytes = b"\x0E\x20\0\0\x08\0\0\0.FIT\x9D\x23\x60\0\0\x14\0\0\0\0\x36\x2B";
-    write_records(&rt, alloc, with_message(alloc, definition)?, bytes);
-    Ok(())
+    write_records(&rt, alloc, with_message(&rt, alloc, definition), bytes);
 }
 
 /// A file without records, and one of two.
 #[test]
-fn a_chain(rt: HostRuntime) -> Result<(), AllocError> {
+fn a_chain(rt: HostRuntime) {
     let alloc = rt.alloc();
-    let message = with_message(alloc, define(alloc, 0, RECORD, &[])?)?;
+    let message = with_message(&rt, alloc, define(&rt, alloc, 0, RECORD, &[]));
     let files = [
         file_of(header(14, 0, HeaderSum::True), Vec::new(alloc)),
         file_of(header(14, 0, HeaderSum::True), message),
@@ -244,7 +228,6 @@ fn a_chain(rt: HostRuntime) -> Result<(), AllocError> {
     let bytes = b"\x0E\x20\0\0\0\0\0\0.FIT\x9C\x85\0\0\
                   \x0E\x20\0\0\x07\0\0\0.FIT\xDD\x63\x40\0\0\x14\0\0\0\x44\x34";
     equal(&rt, &sink.bytes(), &bytes.as_slice());
-    Ok(())
 }
 
 #[test]
@@ -271,10 +254,10 @@ fn refuse_records(rt: &impl Abort, alloc: Global, records: Vec<Record>, fault: E
 }
 
 #[test]
-fn refused_records(rt: HostRuntime) -> Result<(), AllocError> {
+fn refused_records(rt: HostRuntime) {
     let alloc = rt.alloc();
-    let mut undefined = Vec::new(alloc);
-    undefined.push(values(alloc, 0, None, &[])?)?;
+    let message = values(&rt, alloc, 0, None, &[]);
+    let undefined = Vec::from_array(alloc, [message]).expect(&rt, "memory");
     let fault = EncodeFault::UndefinedLocal { file: 1, index: 0 };
     refuse_records(&rt, alloc, undefined, fault);
     let fault = EncodeFault::WrongShape {
@@ -282,8 +265,7 @@ fn refused_records(rt: HostRuntime) -> Result<(), AllocError> {
         index: 1,
         field: 1,
     };
-    refuse_records(&rt, alloc, both_orders(alloc, 256)?, fault);
-    Ok(())
+    refuse_records(&rt, alloc, both_orders(&rt, alloc, 256), fault);
 }
 
 #[test]
@@ -322,44 +304,45 @@ fn a_sink_that_fails(rt: HostRuntime) {
 /// What an encoder returns for calls, of which one with a record puts it and one without finishes the
 /// file. The sink takes that many bytes.
 fn answers(
+    rt: &impl Abort,
     alloc: Global,
     limit: usize,
     header: &Header,
     data_len: u32,
     calls: &[Option<&Record>],
-) -> Result<(Vec<Result<(), EncodeFault>>, CutSink<32>), Fail> {
+) -> (Vec<Result<(), EncodeFault>>, CutSink<32>) {
     let mut sink = CutSink::new(limit);
-    let mut encoder = Encoder::begin(alloc, &mut sink, header, data_len)?;
+    let mut encoder = Encoder::begin(alloc, &mut sink, header, data_len).expect(rt, "an encoder");
     let mut answers = Vec::new(alloc);
     for call in calls {
         let answer = match call {
             Some(r) => encoder.put(&mut sink, r),
             None => encoder.finish(&mut sink),
         };
-        answers.push(answer)?;
+        answers.push(answer).expect(rt, "memory");
     }
-    Ok((answers, sink))
+    (answers, sink)
 }
 
 #[test]
-fn record_by_record(rt: HostRuntime) -> Result<(), Fail> {
+fn record_by_record(rt: HostRuntime) {
     let alloc = rt.alloc();
-    let definition = Record::Define(define(alloc, 0, RECORD, &[])?);
-    let message = values(alloc, 0, None, &[])?;
+    let definition = Record::Define(define(&rt, alloc, 0, RECORD, &[]));
+    let message = values(&rt, alloc, 0, None, &[]);
     let (put, next) = (Some(&definition), Some(&message));
     let head = header(14, 0, HeaderSum::True);
     let refused = Err(EncodeFault::DeclaredLength);
-    let (found, sink) = answers(alloc, 32, &head, 7, &[put, None, next, next, None, next])?;
+    let calls = [put, None, next, next, None, next];
+    let (found, sink) = answers(&rt, alloc, 32, &head, 7, &calls);
     let wanted = [Ok(()), refused, Ok(()), refused, Ok(()), refused];
     equal(&rt, &found.as_slice(), &wanted.as_slice());
     equal(&rt, &sink.bytes(), &ONE_BYTE_MESSAGE.as_slice());
-    Ok(())
 }
 
 #[test]
-fn files_without_records(rt: HostRuntime) -> Result<(), Fail> {
+fn files_without_records(rt: HostRuntime) {
     let alloc = rt.alloc();
-    let message = values(alloc, 0, None, &[])?;
+    let message = values(&rt, alloc, 0, None, &[]);
     let refused = Err(EncodeFault::DeclaredLength);
     let undefined = Err(EncodeFault::UndefinedLocal { file: 1, index: 0 });
     for (data_len, wanted, bytes) in [
@@ -371,22 +354,21 @@ fn files_without_records(rt: HostRuntime) -> Result<(), Fail> {
         (3, [refused, undefined], b"\x0C\x20\0\0\x03\0\0\0.FIT"),
     ] {
         let head = header(12, 0, HeaderSum::Absent);
-        let (found, sink) = answers(alloc, 32, &head, data_len, &[None, Some(&message)])?;
+        let calls = [None, Some(&message)];
+        let (found, sink) = answers(&rt, alloc, 32, &head, data_len, &calls);
         equal(&rt, &found.as_slice(), &wanted.as_slice());
         equal(&rt, &sink.bytes(), &bytes);
     }
-    Ok(())
 }
 
 #[test]
-fn an_encoder_whose_sink_fails(rt: HostRuntime) -> Result<(), Fail> {
+fn an_encoder_whose_sink_fails(rt: HostRuntime) {
     let alloc = rt.alloc();
-    let definition = Record::Define(define(alloc, 0, RECORD, &[])?);
+    let definition = Record::Define(define(&rt, alloc, 0, RECORD, &[]));
     let put = Some(&definition);
     let head = header(14, 0, HeaderSum::True);
-    let (found, sink) = answers(alloc, 16, &head, 7, &[put, put, None])?;
+    let (found, sink) = answers(&rt, alloc, 16, &head, 7, &[put, put, None]);
     let failed = Err(EncodeFault::Write { written: 16 });
     equal(&rt, &found.as_slice(), &[failed, failed, failed].as_slice());
     equal(&rt, &sink.bytes(), &&ONE_BYTE_MESSAGE[..16]);
-    Ok(())
 }
