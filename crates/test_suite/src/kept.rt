@@ -7,37 +7,38 @@ use fit_encode::{CutSink, EncodeFault, SpelledFiles, SpelledRecords, write_spell
 use fit_frame::HeaderSum;
 use fit_record::{Env, FitFile, Record};
 use std::alloc::Global;
-use std::process::Abort;
+use std::test::Fail;
 use test_known::files;
 
 /// Keeps the records of a file.
-fn keep(rt: &impl Abort, alloc: Global, records: &[Record]) -> SpelledRecords {
+fn keep(alloc: Global, records: &[Record]) -> Result<SpelledRecords, Fail> {
     let mut env = Env::new(alloc);
     let mut kept = SpelledRecords::new(alloc);
     for r in records {
-        env.fits(r).expect(rt, "a record that fits");
-        kept.push(&env, r).expect(rt, "memory");
-        env.learn(r).expect(rt, "memory");
+        env.fits(r)?;
+        kept.push(&env, r)?;
+        env.learn(r)?;
     }
-    kept
+    Ok(kept)
 }
 
 #[test]
-fn known_files(rt: HostRuntime) {
+fn known_files(rt: HostRuntime) -> Result<(), Fail> {
     let alloc = rt.alloc();
     for known in files() {
         let mut source = known.bytes;
         let mut files = SpelledFiles::new(alloc);
-        for file in read_chain(alloc, &mut source).expect(&rt, "files") {
+        for file in read_chain(alloc, &mut source)? {
             let FitFile { header, records } = file;
-            let mut kept = keep(&rt, alloc, records.as_slice());
-            files.push(&header, &mut kept).expect(&rt, "memory");
+            let mut kept = keep(alloc, records.as_slice())?;
+            files.push(&header, &mut kept)?;
         }
         let mut sink = CutSink::<256>::new(256);
         let answer = write_spelled(&mut sink, &files);
         equal_at(&rt, &answer, &Ok(()), &known.name);
         equal_at(&rt, &sink.bytes(), &known.bytes, &known.name);
     }
+    Ok(())
 }
 
 #[test]
