@@ -1,19 +1,20 @@
 //! Command lines.
 
 use fit_run::{Command, LineFault, parse_line};
-use std::alloc::{AllocError, Global};
-use std::test::Fail;
+use std::alloc::Global;
+use std::process::Abort;
 
-fn words(alloc: Global, line: &str) -> Result<Vec<String>, AllocError> {
+fn words(rt: &impl Abort, alloc: Global, line: &str) -> Vec<String> {
     let mut words = Vec::new(alloc);
     for word in line.split(' ') {
-        words.push(String::from_str(alloc, word)?)?;
+        let word = String::from_str(alloc, word).expect(rt, "memory");
+        words.push(word).expect(rt, "memory");
     }
-    Ok(words)
+    words
 }
 
 #[test]
-fn lines(rt: HostRuntime) -> Result<(), Fail> {
+fn lines(rt: HostRuntime) {
     for (line, want) in [
         ("fit check", Ok((Command::Check, None))),
         ("fit check a.fit", Ok((Command::Check, Some("a.fit")))),
@@ -36,7 +37,7 @@ fn lines(rt: HostRuntime) -> Result<(), Fail> {
         ("fit check -- -a", Ok((Command::Check, Some("-a")))),
         ("fit check -", Ok((Command::Check, Some("-")))),
     ] {
-        let words = words(rt.alloc(), line)?;
+        let words = words(&rt, rt.alloc(), line);
         let found = parse_line(rt.alloc(), words.as_slice());
         match &found {
             Ok(found) => {
@@ -46,5 +47,4 @@ fn lines(rt: HostRuntime) -> Result<(), Fail> {
             Err(fault) => assert!(rt; want == Err(*fault), "at {line}"),
         }
     }
-    Ok(())
 }
