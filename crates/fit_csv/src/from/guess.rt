@@ -63,7 +63,8 @@ fn take_definition<'a>(
     Ok(Some((count, rest)))
 }
 
-/// The same for a data message.
+/// Takes the data message with whose rows a text begins, as `to_csv` writes them, into a file, and returns how many rows they are and
+/// what is left. There may be one where it takes none, and then nothing changes.
 fn take_message<'a>(
     file: &mut OpenFile,
     reader: &mut MessageReader,
@@ -85,7 +86,8 @@ fn take_message<'a>(
     Ok(Some((count, left)))
 }
 
-/// The same for a record, where a file may end here.
+/// Takes the record with whose rows a text begins, as `to_csv` writes them, into a file that may end here, and returns how many rows they
+/// are and what is left. There may be one where it takes none, and then nothing changes.
 fn take_whole<'a>(
     file: &mut OpenFile,
     reader: &mut MessageReader,
@@ -106,7 +108,7 @@ fn take_whole<'a>(
     take_message(file, reader, text)
 }
 
-/// The same of the current file of a chain.
+/// Takes the record with whose rows a text begins into the current file of a chain, as `take_whole` into a file.
 pub(crate) fn take_record<'a>(
     chain: &mut Chain,
     reader: &mut MessageReader,

@@ -39,7 +39,7 @@ pub(crate) struct OpenFile {
     pub header: Header,
     /// The records that are whole.
     pub records: SpelledRecords,
-    /// The same records, as the rows of data messages need them.
+    /// What these records have defined and told, as the rows of data messages need it.
     pub before: Stream,
     pub part: Part,
 }
