@@ -1,13 +1,13 @@
 //! Files of which one byte is changed.
 
 use crate::tests::{
-    DEVELOPER_FIELD, EMPTY, EMPTY_WITH_ZEROS, LONG, ONE_BYTE_MESSAGE, SHORT, TWO_MESSAGES,
-    bytes_of, chain_of,
+    DEVELOPER_FIELD, EMPTY, EMPTY_WITH_ZEROS, LONG, ONE_BYTE_MESSAGE, SHORT, TWO_MESSAGES, bytes_of,
 };
 use fit_decode::{Fault, read_chain};
 use fit_encode::{CutSink, write_chain};
 use std::alloc::Global;
 use std::process::Abort;
+use std::test::Fail;
 
 /// Whether bytes of which the one at a place is changed are read as what has these bytes, end too soon at their end, or are
 /// refused no sooner than there.
@@ -37,7 +37,7 @@ fn change_each(rt: &impl Abort, alloc: Global, bytes: &mut [u8]) {
 }
 
 #[test]
-fn one_byte(rt: HostRuntime) {
+fn one_byte(rt: HostRuntime) -> Result<(), Fail> {
     for input in [
         EMPTY,
         EMPTY_WITH_ZEROS,
@@ -47,13 +47,16 @@ fn one_byte(rt: HostRuntime) {
         TWO_MESSAGES,
         DEVELOPER_FIELD,
     ] {
-        let mut bytes = bytes_of(&rt, rt.alloc(), input);
+        let mut bytes = bytes_of(rt.alloc(), input)?;
         change_each(&rt, rt.alloc(), bytes.as_mut_slice());
     }
+    Ok(())
 }
 
 #[test]
-fn one_byte_of_a_chain(rt: HostRuntime) {
-    let mut bytes = chain_of(&rt, rt.alloc(), &[TWO_MESSAGES, DEVELOPER_FIELD]);
+fn one_byte_of_a_chain(rt: HostRuntime) -> Result<(), Fail> {
+    let mut bytes = bytes_of(rt.alloc(), TWO_MESSAGES)?;
+    bytes.extend_from_slice(bytes_of(rt.alloc(), DEVELOPER_FIELD)?.as_slice())?;
     change_each(&rt, rt.alloc(), bytes.as_mut_slice());
+    Ok(())
 }

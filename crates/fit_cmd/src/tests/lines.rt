@@ -1,20 +1,19 @@
 //! Command lines.
 
 use fit_run::{Command, LineFault, parse_line};
-use std::alloc::Global;
-use std::process::Abort;
+use std::alloc::{AllocError, Global};
+use std::test::Fail;
 
-fn words(rt: &impl Abort, alloc: Global, line: &str) -> Vec<String> {
+fn words(alloc: Global, line: &str) -> Result<Vec<String>, AllocError> {
     let mut words = Vec::new(alloc);
     for word in line.split(' ') {
-        let word = String::from_str(alloc, word).expect(rt, "memory");
-        words.push(word).expect(rt, "memory");
+        words.push(String::from_str(alloc, word)?)?;
     }
-    words
+    Ok(words)
 }
 
 #[test]
-fn lines(rt: HostRuntime) {
+fn lines(rt: HostRuntime) -> Result<(), Fail> {
     for (line, want) in [
         ("fit check", Ok((Command::Check, None))),
         ("fit check a.fit", Ok((Command::Check, Some("a.fit")))),
@@ -37,7 +36,7 @@ fn lines(rt: HostRuntime) {
         ("fit check -- -a", Ok((Command::Check, Some("-a")))),
         ("fit check -", Ok((Command::Check, Some("-")))),
     ] {
-        let words = words(&rt, rt.alloc(), line);
+        let words = words(rt.alloc(), line)?;
         let found = parse_line(rt.alloc(), words.as_slice());
         match &found {
             Ok(found) => {
@@ -47,4 +46,5 @@ fn lines(rt: HostRuntime) {
             Err(fault) => assert!(rt; want == Err(*fault), "at {line}"),
         }
     }
+    Ok(())
 }

@@ -4,6 +4,7 @@ use crate::output::Output;
 use crate::tests::asserts::equal;
 use std::io;
 use std::io::{ErrorKind, Write};
+use std::test::Fail;
 
 /// Takes that many bytes and that many flushes, and then fails in this way.
 #[derive(Drop)]
@@ -33,16 +34,16 @@ impl Write for Failing {
 }
 
 #[test]
-fn a_pipe_that_nobody_reads(rt: HostRuntime) {
+fn a_pipe_that_nobody_reads(rt: HostRuntime) -> Result<(), Fail> {
     let kind = ErrorKind::BrokenPipe;
     let mut output = Output::new(Failing {
         bytes: 3,
         flushes: 1,
         kind,
     });
-    equal(&rt, &output.write(b"ab").expect(&rt, "a write"), &2);
-    equal(&rt, &output.write(b"cd").expect(&rt, "a write"), &1);
-    output.flush().expect(&rt, "a flush");
+    equal(&rt, &output.write(b"ab")?, &2);
+    equal(&rt, &output.write(b"cd")?, &1);
+    output.flush()?;
     assert!(rt; !output.is_closed());
     assert!(rt; output.write(b"d").is_err_and(|error| error.kind() == kind));
     assert!(rt; output.is_closed());
@@ -55,12 +56,13 @@ fn a_pipe_that_nobody_reads(rt: HostRuntime) {
     assert!(rt; unflushed.flush().is_err_and(|error| error.kind() == kind));
     assert!(rt; unflushed.is_closed());
     // what was seen once is not forgotten
-    equal(&rt, &unflushed.write(b"ab").expect(&rt, "a write"), &2);
+    equal(&rt, &unflushed.write(b"ab")?, &2);
     assert!(rt; unflushed.is_closed());
+    Ok(())
 }
 
 #[test]
-fn another_fault(rt: HostRuntime) {
+fn another_fault(rt: HostRuntime) -> Result<(), Fail> {
     let kind = ErrorKind::Other;
     let mut output = Output::new(Failing {
         bytes: 0,
@@ -70,4 +72,5 @@ fn another_fault(rt: HostRuntime) {
     assert!(rt; output.write(b"ab").is_err_and(|error| error.kind() == kind));
     assert!(rt; output.flush().is_err_and(|error| error.kind() == kind));
     assert!(rt; !output.is_closed());
+    Ok(())
 }

@@ -5,10 +5,9 @@ use crate::tests::{SHORT, bytes_of};
 use fit_decode::{ReadSource, Source};
 use fit_encode::{CutSink, Sink, WriteSink};
 use fit_run::{Command, run};
-use std::alloc::Global;
 use std::io;
 use std::io::{ErrorKind, Read};
-use std::process::Abort;
+use std::test::Fail;
 
 /// Gives some bytes, and then an error.
 #[derive(Drop)]
@@ -23,18 +22,18 @@ impl Read for BrokenReader<'_> {
     }
 }
 
-/// A definition message without fields, and more than two pieces of data messages of one byte. The checksum is that of another program.
-fn many_messages(rt: &impl Abort, alloc: Global) -> Vec<u8> {
-    let front = "0E 20 00 00 2E 23 00 00 2E 46 49 54 00 00 40 00 00 14 00 00";
-    let mut bytes = bytes_of(rt, alloc, front);
-    bytes.extend_from_slice(&[0; 9000]).expect(rt, "memory");
-    bytes.extend_from_slice(&[0x0C, 0xDC]).expect(rt, "memory");
-    bytes
-}
-
 #[test]
-fn readers_and_writers(rt: HostRuntime) {
-    let bytes = many_messages(&rt, rt.alloc());
+fn readers_and_writers(rt: HostRuntime) -> Result<(), Fail> {
+    // A definition message without fields, and more than two pieces of data messages of one byte. The checksum is that of another
+    // program.
+    let mut bytes = bytes_of(
+        rt.alloc(),
+        "0E 20 00 00 2E 23 00 00 2E 46 49 54 00 00 40 00 00 14 00 00",
+    )?;
+    for _ in 0..9000 {
+        bytes.push(0)?;
+    }
+    bytes.extend_from_slice(&[0x0C, 0xDC])?;
     let mut text = Vec::new(rt.alloc());
     let mut faults = CutSink::<128>::new(128);
     let mut source = ReadSource::new(bytes.as_slice());
@@ -52,7 +51,7 @@ fn readers_and_writers(rt: HostRuntime) {
     );
     equal(&rt, &status, &0);
 
-    let front = bytes.as_slice().get(..5000).expect(&rt, "pieces");
+    let front = bytes.as_slice().get(..5000).ok_or("too short")?;
     let mut source = ReadSource::new(BrokenReader(front));
     let mut room = [0u8; 8];
     let mut output = WriteSink::new(room.as_mut_slice());
@@ -80,24 +79,17 @@ fn readers_and_writers(rt: HostRuntime) {
     );
     assert!(rt; output.failed());
     equal(&rt, &status, &4);
+    Ok(())
 }
 
-/// 65,536 files of 14 bytes.
-fn chain_of_short(rt: &impl Abort, alloc: Global) -> Vec<u8> {
-    let short = bytes_of(rt, alloc, SHORT);
-    let mut bytes = Vec::new(alloc);
-    for _ in 0..65_536 {
-        bytes
-            .extend_from_slice(short.as_slice())
-            .expect(rt, "memory");
-    }
-    bytes
-}
-
-/// They have a text that gives the same bytes.
+/// 65,536 files of 14 bytes, as text that gives the same bytes.
 #[test]
-fn a_long_chain(rt: HostRuntime) {
-    let bytes = chain_of_short(&rt, rt.alloc());
+fn a_long_chain(rt: HostRuntime) -> Result<(), Fail> {
+    let short = bytes_of(rt.alloc(), SHORT)?;
+    let mut bytes = Vec::new(rt.alloc());
+    for _ in 0..65_536 {
+        bytes.extend_from_slice(short.as_slice())?;
+    }
     let mut text = Vec::new(rt.alloc());
     let mut back = Vec::new(rt.alloc());
     let mut faults = CutSink::<128>::new(128);
@@ -111,4 +103,5 @@ fn a_long_chain(rt: HostRuntime) {
     equal(&rt, &(status, faults.bytes()), &(0, b"".as_slice()));
     equal(&rt, &back.len(), &917_504);
     assert!(rt; back.as_slice() == bytes.as_slice());
+    Ok(())
 }
