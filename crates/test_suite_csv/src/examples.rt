@@ -7,7 +7,7 @@ use fit_encode::EncodeFault;
 use fit_examples::{Moment, check_upload, heart_rates, ride_file, ride_table, written_and_read};
 use fit_frame::{Header, HeaderSum, PROTOCOL_2_0, Reason};
 use fit_record::FitFile;
-use std::alloc::{AllocError, Global};
+use std::alloc::Global;
 use std::process::Abort;
 use test_known::TABLE_HEAD;
 

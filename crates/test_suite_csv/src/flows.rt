@@ -1,6 +1,6 @@
 //! What flows through streams of each kind, with ample memory.
 
-use crate::asserts::{equal, equal_at};
+use crate::asserts::equal_at;
 use fit_decode::Fault;
 use fit_frame::Reason;
 use fit_report::ReportFault;
