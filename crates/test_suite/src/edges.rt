@@ -1,10 +1,8 @@
 //! Sources and sinks at their ends: empty buffers and slices, and what has failed after a good result.
 
 use crate::asserts::equal;
-use fit_decode::{CutSource, Fault, ReadSource, Source, SourceFailed, read_one};
-use fit_encode::{
-    CutSink, EncodeFault, Encoder, Sink, SinkFailed, WriteSink, put_all, write_chain, write_one,
-};
+use fit_decode::{CutSource, ReadSource, Source, SourceFailed, read_one};
+use fit_encode::{CutSink, Encoder, Sink, SinkFailed, WriteSink, put_all, write_chain, write_one};
 use fit_record::FitFile;
 use std::alloc::Global;
 use std::io;
@@ -136,46 +134,43 @@ fn all_bytes_put(rt: HostRuntime) {
     assert!(rt; is_good(sink, b"abc"));
 }
 
-#[test]
-fn a_file_written(rt: HostRuntime) -> Result<(), Fault> {
-    let file = read_one(rt.alloc(), &mut BOTH_ORDERS.as_slice())?;
-    let mut sink = Narrow::sink();
-    equal(&rt, &write_one(rt.alloc(), &mut sink, &file), &Ok(()));
-    assert!(rt; is_good(sink, &BOTH_ORDERS));
-    Ok(())
+/// The first file of some bytes.
+fn file_of(rt: &impl Abort, alloc: Global, bytes: &[u8]) -> FitFile {
+    read_one(alloc, &mut &bytes[..]).expect(rt, "a file")
 }
 
 #[test]
-fn a_chain_written(rt: HostRuntime) -> Result<(), Fault> {
-    let file = read_one(rt.alloc(), &mut SHORT.as_slice())?;
+fn a_file_written(rt: HostRuntime) {
+    let file = file_of(&rt, rt.alloc(), &BOTH_ORDERS);
+    let mut sink = Narrow::sink();
+    equal(&rt, &write_one(rt.alloc(), &mut sink, &file), &Ok(()));
+    assert!(rt; is_good(sink, &BOTH_ORDERS));
+}
+
+#[test]
+fn a_chain_written(rt: HostRuntime) {
+    let file = file_of(&rt, rt.alloc(), &SHORT);
     let mut sink = Narrow::sink();
     let answer = write_chain(rt.alloc(), &mut sink, std::slice::from_ref(&file));
     equal(&rt, &answer, &Ok(()));
     assert!(rt; is_good(sink, &SHORT));
-    Ok(())
 }
 
 /// Writes a file of 36 bytes of data record by record. The sink has not failed after any call.
-fn encode(
-    rt: &impl Abort,
-    alloc: Global,
-    sink: &mut WriteSink<Narrow>,
-    file: &FitFile,
-) -> Result<(), EncodeFault> {
-    let mut encoder = Encoder::begin(alloc, sink, &file.header, 36)?;
+fn encode(rt: &impl Abort, alloc: Global, sink: &mut WriteSink<Narrow>, file: &FitFile) {
+    let mut encoder = Encoder::begin(alloc, sink, &file.header, 36).expect(rt, "an encoder");
     assert!(rt; !sink.failed());
     for record_ in file.records.as_slice() {
-        encoder.put(sink, record_)?;
+        equal(rt, &encoder.put(sink, record_), &Ok(()));
         assert!(rt; !sink.failed());
     }
-    encoder.finish(sink)
+    equal(rt, &encoder.finish(sink), &Ok(()));
 }
 
 #[test]
-fn a_file_encoded(rt: HostRuntime) -> Result<(), Fault> {
-    let file = read_one(rt.alloc(), &mut BOTH_ORDERS.as_slice())?;
+fn a_file_encoded(rt: HostRuntime) {
+    let file = file_of(&rt, rt.alloc(), &BOTH_ORDERS);
     let mut sink = Narrow::sink();
-    equal(&rt, &encode(&rt, rt.alloc(), &mut sink, &file), &Ok(()));
+    encode(&rt, rt.alloc(), &mut sink, &file);
     assert!(rt; is_good(sink, &BOTH_ORDERS));
-    Ok(())
 }

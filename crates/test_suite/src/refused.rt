@@ -7,7 +7,6 @@ use fit_record::{Env, Record};
 use linked_list_allocator::LocalHeap;
 use std::alloc::{AllocError, Allocator};
 use std::process::Abort;
-use std::test::*;
 
 /// Takes a record in where it fits.
 fn take<A: Allocator + Copy>(env: &mut Env<A>, r: &Record<A>) -> Result<(), AllocError> {
@@ -28,15 +27,16 @@ fn largest_block<A: Allocator + Copy>(alloc: A) -> usize {
     0
 }
 
-/// Whether memory is refused to a record while that much is held. An error is of what is held.
+/// Whether memory is refused to a record while that much is held.
 fn is_refused_beside<A: Allocator + Copy>(
+    rt: &impl Abort,
     env: &mut Env<A>,
     alloc: A,
     held: usize,
     r: &Record<A>,
-) -> Result<bool, AllocError> {
-    let _held: Vec<u8, A> = Vec::with_capacity(alloc, held)?;
-    Ok(take(env, r).is_err())
+) -> bool {
+    let _held: Vec<u8, A> = Vec::with_capacity(alloc, held).expect(rt, "a block");
+    take(env, r).is_err()
 }
 
 /// Whether this definition is in its place.
@@ -58,17 +58,17 @@ fn refusals<A: Allocator + Copy>(
     alloc: A,
     old: &Record<A>,
     new: &Record<A>,
-) -> Result<usize, AllocError> {
+) -> usize {
     let most = largest_block(alloc);
     for blocks in 0..64usize {
-        if !is_refused_beside(env, alloc, most.saturating_sub(16 * blocks), new)? {
-            return Ok(blocks);
+        if !is_refused_beside(rt, env, alloc, most.saturating_sub(16 * blocks), new) {
+            return blocks;
         }
         holds_at(rt, is_defined(env, old), &blocks);
         equal_at(rt, &env.length(1), &Some(3), &blocks);
         equal_at(rt, &env.dev_code(1, 0), &Some(BYTE), &blocks);
     }
-    Ok(0)
+    0
 }
 
 /// The codes, the fields and the developer fields each find no room once, and then all do.
@@ -78,12 +78,11 @@ fn define<A: Allocator + Copy>(
     alloc: A,
     old: &Record<A>,
     new: &Record<A>,
-) -> Result<(), AllocError> {
-    assert!(rt; refusals(rt, env, alloc, old, new)? >= 3);
+) {
+    assert!(rt; refusals(rt, env, alloc, old, new) >= 3);
     assert!(rt; is_defined(env, new));
     equal(rt, &env.length(1), &Some(6));
     equal(rt, &env.dev_code(1, 1), &Some(UINT16));
-    Ok(())
 }
 
 /// A description finds no room, and then it does. The definition before it keeps its code.
@@ -93,13 +92,12 @@ fn describe<A: Allocator + Copy>(
     alloc: A,
     old: &Record<A>,
     description: &Record<A>,
-) -> Result<(), AllocError> {
-    assert!(rt; is_refused_beside(env, alloc, largest_block(alloc), description)?);
-    take(env, old)?;
-    equal(rt, &env.dev_code(1, 0), &Some(BYTE));
-    take(env, description)?;
-    equal(rt, &env.dev_code(1, 0), &Some(BYTE));
-    Ok(())
+) {
+    assert!(rt; is_refused_beside(rt, env, alloc, largest_block(alloc), description));
+    for record_ in [old, description] {
+        take(env, record_).expect(rt, "memory");
+        equal(rt, &env.dev_code(1, 0), &Some(BYTE));
+    }
 }
 
 /// A description of a developer field is refused, and then a definition with it.
@@ -108,27 +106,23 @@ fn refuse<A: Allocator + Copy>(
     env: &mut Env<A>,
     alloc: A,
     description: &Record<A>,
-) -> Result<(), AllocError> {
-    let old = small(alloc)?;
-    let new = large(alloc)?;
-    describe(rt, env, alloc, &old, description)?;
-    define(rt, env, alloc, &old, &new)
+) {
+    let old = small(rt, alloc);
+    let new = large(rt, alloc);
+    describe(rt, env, alloc, &old, description);
+    define(rt, env, alloc, &old, &new);
 }
 
 /// All records stay, so that no memory is free but the one block at the end.
-fn refuse_in<A: Allocator + Copy>(
-    rt: &impl Abort,
-    mut env: Env<A>,
-    alloc: A,
-) -> Result<(), AllocError> {
-    let descriptions = descriptions(alloc)?;
-    take(&mut env, &descriptions)?;
-    let description = description(alloc)?;
-    refuse(rt, &mut env, alloc, &description)
+fn refuse_in<A: Allocator + Copy>(rt: &impl Abort, mut env: Env<A>, alloc: A) {
+    let descriptions = descriptions(rt, alloc);
+    take(&mut env, &descriptions).expect(rt, "memory");
+    let description = description(rt, alloc);
+    refuse(rt, &mut env, alloc, &description);
 }
 
 #[test]
-fn a_refused_record_changes_nothing(rt: HostRuntime) -> Result<(), AllocError> {
-    let heap = LocalHeap::new(rt.alloc(), 4096)?;
-    refuse_in(&rt, Env::new(&heap), &heap)
+fn a_refused_record_changes_nothing(rt: HostRuntime) {
+    let heap = LocalHeap::new(rt.alloc(), 4096).expect(&rt, "memory");
+    refuse_in(&rt, Env::new(&heap), &heap);
 }

@@ -7,7 +7,7 @@ use fit_encode::{CutSink, Sink};
 use fit_frame::Reason;
 use fit_report::{Heard, Report, ReportFault, report};
 use std::alloc::{AllocError, Global};
-use std::test::Fail;
+use std::process::Abort;
 
 /// A header, a definition message without fields, a data message of one byte, and the checksum.
 const FILE: [u8; 23] = *b"\x0E\x20\0\0\x07\0\0\0.FIT\xDD\x63\x40\0\0\x14\0\0\0\x44\x34";
@@ -61,19 +61,19 @@ fn is_reported<S: Source>(
 }
 
 /// Three files, and a byte that is no header.
-fn chain(alloc: Global) -> Result<Vec<u8>, AllocError> {
+fn chain(rt: &impl Abort, alloc: Global) -> Vec<u8> {
     let mut bytes = Vec::new(alloc);
     for _ in 0..3 {
-        bytes.extend_from_slice(&FILE)?;
+        bytes.extend_from_slice(&FILE).expect(rt, "memory");
     }
-    bytes.push(0)?;
-    Ok(bytes)
+    bytes.push(0).expect(rt, "memory");
+    bytes
 }
 
 /// A report of that many bytes of a chain ends so, after that many dots.
 #[test]
-fn inputs(rt: HostRuntime) -> Result<(), AllocError> {
-    let chain = chain(rt.alloc())?;
+fn inputs(rt: HostRuntime) {
+    let chain = chain(&rt, rt.alloc());
     let refused = Fault::Refused {
         place: 69,
         reason: Reason::HeaderSize,
@@ -97,7 +97,6 @@ fn inputs(rt: HostRuntime) -> Result<(), AllocError> {
             &size,
         );
     }
-    Ok(())
 }
 
 #[test]
@@ -122,20 +121,21 @@ fn failing_sinks(rt: HostRuntime) {
     }
 }
 
-/// Whether a fault has this text.
-fn has_text(alloc: Global, fault: ReportFault, text: &str) -> Result<bool, AllocError> {
-    let told = format!(in alloc; "{fault}")?;
-    Ok(told.as_str() == text)
+/// Asserts the text of a fault.
+fn has_text(rt: &impl Abort, alloc: Global, fault: ReportFault, text: &str) {
+    let told = format!(in alloc; "{fault}").expect(rt, "memory");
+    equal(rt, &told.as_str(), &text);
 }
 
-/// Whether a fault of a decoder has this text, alone and in a report.
-fn decodes_as(alloc: Global, fault: Fault, text: &str) -> Result<bool, AllocError> {
-    let told = format!(in alloc; "{fault}")?;
-    Ok(told.as_str() == text && has_text(alloc, ReportFault::Decode(fault), text)?)
+/// Asserts the text of a fault of a decoder, alone and in a report.
+fn decodes_as(rt: &impl Abort, alloc: Global, fault: Fault, text: &str) {
+    let told = format!(in alloc; "{fault}").expect(rt, "memory");
+    equal(rt, &told.as_str(), &text);
+    has_text(rt, alloc, ReportFault::Decode(fault), text);
 }
 
 #[test]
-fn texts_of_faults(rt: HostRuntime) -> Result<(), Fail> {
+fn texts_of_faults(rt: HostRuntime) {
     let refused = Fault::Refused {
         place: 37,
         reason: Reason::UndefinedLocal,
@@ -149,9 +149,8 @@ fn texts_of_faults(rt: HostRuntime) -> Result<(), Fail> {
         ),
         (Fault::Read { place: 21 }, "read fault at byte 21"),
     ] {
-        holds_at(&rt, decodes_as(rt.alloc(), fault, text)?, &text);
+        decodes_as(&rt, rt.alloc(), fault, text);
     }
     let write = ReportFault::Write { written: 5 };
-    assert!(rt; has_text(rt.alloc(), write, "write fault after 5 bytes")?);
-    Ok(())
+    has_text(&rt, rt.alloc(), write, "write fault after 5 bytes");
 }

@@ -5,9 +5,8 @@ use crate::fed::{feed, header, same};
 use crate::starved::{fill, is_full};
 use fit_decode::{Decoder, Fault, Fed};
 use linked_list_allocator::LocalHeap;
-use std::alloc::{AllocError, Allocator, Global};
+use std::alloc::{Allocator, Global};
 use std::process::Abort;
-use std::test::Fail;
 use test_known::files;
 
 /// How many records a decoder reports of bytes that another has skipped. It reports nothing else.
@@ -139,40 +138,47 @@ fn give_cut(
     let mut skipping = Decoder::new(alloc);
     let mut feeding = Decoder::new(alloc);
     let (first, second) = bytes.split_at(k.min(bytes.len()));
-    let skipped = give(rt, skip, &mut skipping, &mut feeding, first)?;
-    let more = give(rt, skip, &mut skipping, &mut feeding, second)?;
-    Ok(skipped.saturating_add(more))
+    match give(rt, skip, &mut skipping, &mut feeding, first) {
+        Err(fault) => Err(fault),
+        Ok(skipped) => match give(rt, skip, &mut skipping, &mut feeding, second) {
+            Err(fault) => Err(fault),
+            Ok(more) => Ok(skipped.saturating_add(more)),
+        },
+    }
+}
+
+/// Gives two decoders bytes of good files in two pieces. Returns how many records were skipped.
+fn skipped_of(rt: &impl Abort, alloc: Global, skip: Skip, bytes: &[u8], k: usize) -> u64 {
+    give_cut(rt, alloc, skip, bytes, k).expect(rt, "good files")
 }
 
 /// In one piece, the definition messages of `orders` and `developer` and the data messages that describe nothing are skipped where six
 /// bytes of data follow them.
 #[test]
-fn known_files_cut_anywhere(rt: HostRuntime) -> Result<(), Fault> {
+fn known_files_cut_anywhere(rt: HostRuntime) {
     for known in files() {
-        let whole = give_cut(&rt, rt.alloc(), Skip::Records, known.bytes, 0)?;
+        let whole = skipped_of(&rt, rt.alloc(), Skip::Records, known.bytes, 0);
         match known.name {
             "orders" | "developer" | "both" => assert!(rt; whole > 0),
             _ => equal(&rt, &whole, &0),
         }
         for k in 0..known.bytes.len() {
-            let skipped = give_cut(&rt, rt.alloc(), Skip::Records, known.bytes, k)?;
+            let skipped = skipped_of(&rt, rt.alloc(), Skip::Records, known.bytes, k);
             holds_at(&rt, skipped <= whole, &(known.name, k));
         }
     }
-    Ok(())
 }
 
 /// Of data messages alone no more are skipped than of all records, wherever the files are cut.
 #[test]
-fn messages_cut_anywhere(rt: HostRuntime) -> Result<(), Fault> {
+fn messages_cut_anywhere(rt: HostRuntime) {
     for known in files() {
-        let records = give_cut(&rt, rt.alloc(), Skip::Records, known.bytes, 0)?;
+        let records = skipped_of(&rt, rt.alloc(), Skip::Records, known.bytes, 0);
         for k in 0..known.bytes.len() {
-            let skipped = give_cut(&rt, rt.alloc(), Skip::Message, known.bytes, k)?;
+            let skipped = skipped_of(&rt, rt.alloc(), Skip::Message, known.bytes, k);
             holds_at(&rt, skipped <= records, &(known.name, k));
         }
     }
-    Ok(())
 }
 
 /// Changes each bit of some bytes.
@@ -194,43 +200,40 @@ fn change_each(rt: &impl Abort, alloc: Global, bytes: &mut [u8]) {
 
 /// What is refused is refused at the same byte, whether the records before it are skipped or fed.
 #[test]
-fn changed_files(rt: HostRuntime) -> Result<(), AllocError> {
+fn changed_files(rt: HostRuntime) {
     for known in files() {
-        let mut bytes = Vec::from_slice(rt.alloc(), known.bytes)?;
+        let mut bytes = Vec::from_slice(rt.alloc(), known.bytes).expect(&rt, "memory");
         change_each(&rt, rt.alloc(), bytes.as_mut_slice());
     }
-    Ok(())
 }
 
 /// A definition message without fields, and 9000 data messages of one byte. The closing checksum is that of another program.
-fn file_of_many(alloc: Global) -> Result<Vec<u8>, AllocError> {
-    let mut bytes = Vec::from_slice(alloc, &header(9006))?;
-    bytes.extend_from_slice(b"\x40\0\0\x14\0\0")?;
-    for _ in 0..9000 {
-        bytes.push(0)?;
+fn file_of_many(rt: &impl Abort, alloc: Global) -> Vec<u8> {
+    let mut bytes = Vec::from_slice(alloc, &header(9006)).expect(rt, "memory");
+    for part in [b"\x40\0\0\x14\0\0".as_slice(), &[0; 9000], &[0x0C, 0xDC]] {
+        bytes.extend_from_slice(part).expect(rt, "memory");
     }
-    bytes.extend_from_slice(&[0x0C, 0xDC])?;
-    Ok(bytes)
+    bytes
 }
 
 #[test]
-fn many_messages(rt: HostRuntime) -> Result<(), Fail> {
-    let bytes = file_of_many(rt.alloc())?;
+fn many_messages(rt: HostRuntime) {
+    let bytes = file_of_many(&rt, rt.alloc());
     for skip in [Skip::Records, Skip::Message] {
         for k in [0, 4096] {
-            assert!(rt; give_cut(&rt, rt.alloc(), skip, bytes.as_slice(), k)? >= 8990);
+            assert!(rt; skipped_of(&rt, rt.alloc(), skip, bytes.as_slice(), k) >= 8990);
         }
     }
-    Ok(())
 }
 
 /// A hundred data messages of local type 0.
-fn hundred_messages(alloc: Global) -> Result<Vec<u8>, AllocError> {
+fn hundred_messages(rt: &impl Abort, alloc: Global) -> Vec<u8> {
     let mut messages = Vec::new(alloc);
     for _ in 0..100 {
-        messages.extend_from_slice(b"\0\x1F\xCA\x9A\x3B\x78")?;
+        let message = b"\0\x1F\xCA\x9A\x3B\x78";
+        messages.extend_from_slice(message).expect(rt, "memory");
     }
-    Ok(messages)
+    messages
 }
 
 /// Two definition messages of six bytes of data: of local type 0 and of local type 1.
@@ -245,8 +248,8 @@ fn skip_without<A: Allocator + Copy>(
     heap: A,
     decoder: &mut Decoder<A>,
     messages: &[u8],
-) -> Result<(), AllocError> {
-    let _blocks = fill(alloc, heap)?;
+) {
+    let _blocks = fill(rt, alloc, heap);
     assert!(rt; is_full(heap));
     for hundred in 0..100 {
         equal_at(rt, &decoder.skip_records(messages), &(600, 100), &hundred);
@@ -254,7 +257,6 @@ fn skip_without<A: Allocator + Copy>(
     equal(rt, &decoder.skip_message(messages), &6);
     equal(rt, &decoder.skip_records(&ANOTHER), &(0, 0));
     equal(rt, &decoder.held(), &2);
-    Ok(())
 }
 
 /// Data messages are skipped while no memory is free. The definition message after them is not, and it is when there is memory.
@@ -263,19 +265,18 @@ fn skip_starved<A: Allocator + Copy>(
     alloc: Global,
     heap: A,
     decoder: &mut Decoder<A>,
-) -> Result<(), AllocError> {
-    let messages = hundred_messages(alloc)?;
+) {
+    let messages = hundred_messages(rt, alloc);
     assert!(rt; feed(decoder, &header(100_006)).is_ok());
     equal(rt, &decoder.skip_records(&DEFINITION), &(12, 1));
-    skip_without(rt, alloc, heap, decoder, messages.as_slice())?;
+    skip_without(rt, alloc, heap, decoder, messages.as_slice());
     equal(rt, &decoder.skip_records(&ANOTHER), &(12, 1));
     equal(rt, &decoder.held(), &4);
-    Ok(())
 }
 
 #[test]
-fn skipping_takes_no_memory(rt: HostRuntime) -> Result<(), AllocError> {
-    let heap = LocalHeap::new(rt.alloc(), 8192)?;
+fn skipping_takes_no_memory(rt: HostRuntime) {
+    let heap = LocalHeap::new(rt.alloc(), 8192).expect(&rt, "memory");
     let mut decoder = Decoder::new(&heap);
-    skip_starved(&rt, rt.alloc(), &heap, &mut decoder)
+    skip_starved(&rt, rt.alloc(), &heap, &mut decoder);
 }
