@@ -41,7 +41,7 @@ fn after_message<'a>(
     left
 }
 
-/// The same of a definition message.
+/// Asserts that a text begins with the rows of a definition message, and returns what comes after them.
 fn after_definition<'a>(
     rt: &impl Abort,
     reader: &mut MessageReader,
@@ -61,7 +61,7 @@ fn after_definition<'a>(
     }
 }
 
-/// The same of any record.
+/// Asserts that a text begins with the rows of any record, and returns what comes after them.
 fn after_record<'a>(
     rt: &impl Abort,
     alloc: Global,
