@@ -1,3 +1,4 @@
+use Rattle.std.proofs.Common.{rules}
 use Rattle.fit_texts.proofs.Common.{◌≡◌, ◌∙◌, ◌++◌, ◌∷◌, [], length, false, refl, sym, ap, get_or, take, take_all, take_more, flat_map, hex_digits}
 use Rattle.std.proofs.Common.{ℕ, List, codes}
 use Rattle.std.proofs.lemmas.List.{append-nil}
@@ -32,3 +33,6 @@ returns-in_err-extend_from_slice c = IfOk-from_err c.from_residual.result _ c.fr
 
 pub returns-in_err-put_digits : goal.returns-in_err-put_digits
 returns-in_err-put_digits c = IfOk-from_err c.from_residual-in_err-put_digits.result _ c.from_residual-in_err-put_digits.ensures.0
+
+pub returns-then-is_empty : goal.returns-then-is_empty
+returns-then-is_empty c = search rules

@@ -1,3 +1,4 @@
+use Rattle.std.proofs.Common.{rules}
 use Rattle.fit_texts.proofs.Common.{◌^◌, sym, ap, arith, subst, KeptEvents}
 use Rattle.std.proofs.Common.{◌<◌}
 use Rattle.fit_texts.proofs.report.TextReport.take_header.Goals as goal
@@ -7,3 +8,6 @@ put_header-put-requires g c = subst (λ files. files < 2 ^ 60) (sym (ap (λ (k :
 
 pub overflow_add-self : goal.overflow_add-self
 overflow_add-self g c = omega (arith, ap (λ (k : KeptEvents). k.files) c.self.view_is, c.requires)
+
+pub returns-clause-heard : goal.returns-clause-heard
+returns-clause-heard g c = search rules
